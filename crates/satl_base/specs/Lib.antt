@@ -1,0 +1,11 @@
+pub mod Blocks
+pub mod Cells
+pub mod Chains
+pub mod Codes
+pub mod Fields
+pub mod Identify
+pub mod Lending
+pub mod Lists
+pub mod Losses
+pub mod Moves
+pub mod Places

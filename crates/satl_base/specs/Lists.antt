@@ -1,0 +1,29 @@
+-- Words on lists.
+use Rattle.std.specs.Prelude.{◌≡◌, ◌⊎◌, ℕ, ◌+◌, ◌==◌, Bool, true, false, if◌then◌else◌, List, [], ◌∷◌}
+
+-- the list but for the first element that passes
+abbrev pub remove_first : {X : Type 0} → (X → Bool) → List X → List X
+remove_first p [] = []
+remove_first p (x ∷ xs) = if p x then xs else x ∷ remove_first p xs
+
+-- one of these
+abbrev pub IsIn : {X : Type 0} → X → List X → Type 0
+IsIn x [] = ⊥
+IsIn x (y ∷ ys) = (x ≡ y) ⊎ IsIn x ys
+
+-- whether a number is one of these
+abbrev pub is_in : ℕ → List ℕ → Bool
+is_in n [] = false
+is_in n (x ∷ xs) = if n == x then true else is_in n xs
+
+-- how many pass
+abbrev pub how_many : {X : Type 0} → (X → Bool) → List X → ℕ
+how_many p [] = 0
+how_many p (x ∷ xs) = (if p x then 1 else 0) + how_many p xs
+
+-- the second list is the first but for entries that were left out
+abbrev pub LeavesOut : {X : Type 0} → List X → List X → Type 0
+LeavesOut [] [] = Unit {0}
+LeavesOut [] (y ∷ ys) = ⊥
+LeavesOut (x ∷ xs) [] = Unit {0}
+LeavesOut (x ∷ xs) (y ∷ ys) = LeavesOut xs (y ∷ ys) ⊎ ((x ≡ y) × LeavesOut xs ys)

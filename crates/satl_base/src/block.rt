@@ -1,0 +1,34 @@
+// Logical blocks and ranges of them.
+
+/// A logical block of 512 bytes (SBC-3 4.5; the size is fixed by the profile).
+#[derive(Clone, Copy, Debug, PartialEq, Eq)]
+pub struct Block {
+    pub bytes: [u8; 512],
+}
+
+impl Block {
+    ghost use Rattle.std.specs.Prelude.{◌≡◌, length};
+    ghost use Rattle.satl_base.specs.Blocks.{zero_block};
+
+    /// 512 bytes of zero.
+    pub fn zero() -> Block
+        ensures { result ≡ zero_block }
+    {
+        Block { bytes: [0; 512] }
+    }
+
+    /// The 512 bytes.
+    pub fn as_bytes(&self) -> &[u8]
+        ensures value { result.now ≡ self.now.bytes }
+        ensures size { length self.now.bytes ≡ 512 }
+    {
+        &self.bytes
+    }
+}
+
+/// `count` blocks from the address `lba` on (SBC-3, LBA and NUMBER OF LOGICAL BLOCKS).
+#[derive(Clone, Copy, Debug, Default, PartialEq, Eq)]
+pub struct Range {
+    pub lba: u64,
+    pub count: u32,
+}

@@ -1,0 +1,23 @@
+//! Values that every layer shares: blocks and pages, requests and replies, bench events, mode values and steps. Beside
+//! them, in `specs/`, stand the words of the byte tables, of IDENTIFY data and of the cells of a medium.
+#![tactic(auto)]
+
+mod bench;
+mod block;
+mod chain;
+pub mod laws;
+mod lender;
+mod modes;
+mod pages;
+mod reply;
+mod request;
+mod steps;
+
+pub use bench::{BenchEvent, OrderBytes, Which};
+pub use block::{Block, Range};
+pub use lender::Lender;
+pub use modes::{ModeChange, Modes};
+pub use pages::{Blocks, NoMemory, Page, Pages};
+pub use reply::{Replies, Reply, Response, Scsi, SenseBytes};
+pub use request::{Attr, Manage, Nexus, Request, Tag};
+pub use steps::Steps;

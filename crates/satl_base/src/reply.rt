@@ -1,0 +1,141 @@
+// What a host is answered.
+ghost use Rattle.std.specs.Prelude.{◌≡◌, ◌<◌, ◌≤◌, ◌++◌, ◌∷◌, [], ◌↔◌, IsSome, length, option_to_list};
+ghost use Rattle.satl_base.specs.Codes.{response_code, scsi_code};
+
+use crate::pages::Pages;
+use crate::request::{Nexus, Tag};
+use arrayvec::ArrayVec;
+use std::alloc::Global;
+use std::default::MadeWith;
+use std::marker::Model;
+
+/// The status of a command (SAM-5 5.3.1).
+#[derive(Clone, Copy, Debug, PartialEq, Eq)]
+pub enum Scsi {
+    Good,
+    CheckCondition,
+    TaskSetFull,
+}
+
+impl Scsi {
+    /// The status code: 00h, 02h or 28h.
+    pub fn code(&self) -> u8
+        ensures { result ≡ scsi_code self.now }
+    {
+        match self {
+            Scsi::Good => 0x00,
+            Scsi::CheckCondition => 0x02,
+            Scsi::TaskSetFull => 0x28,
+        }
+    }
+}
+
+/// The answer to a task management function (SAM-5 7.1).
+#[derive(Clone, Copy, Debug, PartialEq, Eq)]
+pub enum Response {
+    Complete,
+    Rejected,
+    Succeeded,
+    IncorrectLun,
+}
+
+impl Response {
+    /// The response code: 00h, 04h, 08h or 09h (profile).
+    pub fn code(&self) -> u8
+        ensures { result ≡ response_code self.now }
+    {
+        match self {
+            Response::Complete => 0x00,
+            Response::Rejected => 0x04,
+            Response::Succeeded => 0x08,
+            Response::IncorrectLun => 0x09,
+        }
+    }
+}
+
+/// Sense data of at most 32 bytes (SPC-4 4.5).
+pub type SenseBytes = ArrayVec<u8, 32>;
+
+/// The answer to one command.
+#[derive(Drop)]
+pub struct Reply {
+    pub nexus: Nexus,
+    pub tag: Tag,
+    pub status: Scsi,
+    pub sense: SenseBytes,
+    /// The data-in.
+    pub body: Pages,
+    /// The number of bytes of the data-in.
+    pub data_len: u32,
+    /// How many bytes of data-in the host takes, where the command said so.
+    pub expected: Option<u32>,
+}
+
+// What an empty place of a list of replies holds.
+impl MadeWith<Global> for Reply {
+    fn made_with(alloc: Global) -> Reply {
+        Reply {
+            nexus: Nexus::default(),
+            tag: Tag::default(),
+            status: Scsi::Good,
+            sense: ArrayVec::new(),
+            body: Pages::none(alloc),
+            data_len: 0,
+            expected: None,
+        }
+    }
+}
+
+/// At most 65 replies, in order. It takes no memory of its own.
+#[derive(Drop)]
+pub struct Replies {
+    replies: ArrayVec<Reply, 65, Global>,
+}
+
+impl Model for Replies {
+    ghost use Rattle.std.specs.Prelude.{List};
+    ghost use Rattle.satl_base.specs.declared.reply.Reply.{Reply};
+
+    ghost Value = { List Reply };
+
+    ghost view = { λ r. r.replies.items };
+}
+
+impl Replies {
+    /// No reply.
+    pub fn new(alloc: Global) -> Replies
+        ensures { result ≡ [] }
+    {
+        Replies {
+            replies: ArrayVec::new_in(alloc),
+        }
+    }
+
+    /// Appends a reply.
+    pub fn push(&mut self, reply: Reply)
+        requires { length self.old < 65 }
+        ensures { self.new ≡ self.old ++ reply ∷ [] }
+    {
+        self.replies.push(reply);
+    }
+
+    /// Takes the first reply. None exactly where there is none.
+    pub fn pop_first(&mut self) -> Option<Reply>
+        ensures items { self.old ≡ option_to_list result ++ self.new }
+        ensures variant { IsSome result ↔ (0 < length self.old) }
+    {
+        if self.replies.is_empty() {
+            None
+        } else {
+            Some(self.replies.remove(0))
+        }
+    }
+
+    /// The number of replies, at most 65.
+    pub fn len(&self) -> usize
+        ensures count { result ≡ length self.now }
+        ensures few { length self.now ≤ 65 }
+    {
+        self.replies.len()
+    }
+}

@@ -1,0 +1,92 @@
+// What a host sends: commands and task management functions.
+ghost use Rattle.std.specs.Prelude.{◌≡◌, ◌≤◌, SomeIff};
+
+use crate::pages::Pages;
+use std::marker::Model;
+
+/// The number of an I_T nexus, 0 to 3 (SAM-5 4.7; that there are four is the profile's).
+#[derive(Clone, Copy, Debug, PartialEq, Eq)]
+pub struct Nexus {
+    number: u8,
+}
+
+impl Model for Nexus {
+    ghost use Rattle.std.specs.Prelude.{ℕ, ◌≤◌};
+
+    ghost Value = { ℕ };
+
+    ghost view = { λ n. n.number };
+
+    ghost invariant = { λ n. n.number ≤ 3 };
+
+    ghost inverse = { λ n. record { number = n } };
+}
+
+impl Nexus {
+    /// The nexus of that number. None exactly where it exceeds 3.
+    pub fn new(number: u8) -> Option<Nexus>
+        ensures { SomeIff result (number ≤ 3) number }
+    {
+        if number <= 3 {
+            Some(Nexus { number })
+        } else {
+            None
+        }
+    }
+
+    /// The number, 0 to 3.
+    pub fn number(&self) -> u8
+        ensures value { result ≡ self.now }
+        ensures small { self.now ≤ 3 }
+    {
+        self.number
+    }
+}
+
+impl Default for Nexus {
+    ghost use Rattle.std.specs.Prelude.{◌≡◌};
+
+    ghost is_default = { λ n. n ≡ 0 };
+
+    /// Nexus 0.
+    fn default() -> Nexus {
+        Nexus { number: 0 }
+    }
+}
+
+/// A command identifier of 32 bits (SAM-5 4.9).
+#[derive(Clone, Copy, Debug, Default, PartialEq, Eq)]
+pub struct Tag(pub u32);
+
+/// The task attribute of a command (SAM-5 8.6). HEAD OF QUEUE and ACA are left out by the profile.
+#[derive(Clone, Copy, Debug, PartialEq, Eq)]
+pub enum Attr {
+    Simple,
+    Ordered,
+}
+
+/// A SCSI command as it arrives (SAM-5 5.1, Execute Command).
+#[derive(Drop)]
+pub struct Request {
+    pub nexus: Nexus,
+    pub attr: Attr,
+    pub lun: [u8; 8],
+    pub tag: Tag,
+    /// A CDB shorter than 16 bytes stands at the front.
+    pub cdb: [u8; 16],
+    /// The data-out, in as many pages as were free.
+    pub body: Pages,
+    /// The number of bytes of the data-out.
+    pub data_len: u32,
+    /// How many bytes of data-in the host takes, where it says so: at most 2,097,152.
+    pub expected: Option<u32>,
+}
+
+/// A task management function as it arrives (SAM-5 7). The codes are the profile's.
+#[derive(Clone, Copy, Debug, PartialEq, Eq)]
+pub struct Manage {
+    pub nexus: Nexus,
+    pub function: u8,
+    pub lun: [u8; 8],
+    pub tag: Tag,
+}

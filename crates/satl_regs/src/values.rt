@@ -1,0 +1,68 @@
+// Registers, and the commands that they spell.
+
+/// What a host writes to start a command (ACS-3 7.1). LBA has 48 bits.
+#[derive(Clone, Copy, Debug, PartialEq, Eq)]
+pub struct Registers {
+    pub features: u16,
+    pub count: u16,
+    pub lba: u64,
+    pub device: u8,
+    pub command: u8,
+}
+
+/// What the drive answers at the end of a command (ACS-3 9). LBA has 48 bits.
+#[derive(Clone, Copy, Debug, PartialEq, Eq)]
+pub struct Taskfile {
+    pub error: u8,
+    pub count: u16,
+    pub lba: u64,
+    pub device: u8,
+    pub status: u8,
+}
+
+/// What a queued command does (ACS-3 7.16, 7.63; the queued trim is the profile's form of SEND FPDMA QUEUED).
+#[derive(Clone, Copy, Debug, PartialEq, Eq)]
+pub enum QueuedKind {
+    Read,
+    Write,
+    Trim,
+}
+
+/// A queued command: 1 to 65,536 sectors from a 48-bit address on, with a tag from 0 to 31. A trim has address 0 and one
+/// sector, its payload.
+#[derive(Clone, Copy, Debug, PartialEq, Eq)]
+pub struct Queued {
+    pub kind: QueuedKind,
+    pub lba: u64,
+    pub sectors: u32,
+    pub tag: u8,
+    pub fua: bool,
+}
+
+/// How the data of a command move: PIO or DMA, with a 28-bit or a 48-bit address.
+#[derive(Clone, Copy, Debug, PartialEq, Eq)]
+pub enum How {
+    Pio,
+    PioExt,
+    Dma,
+    DmaExt,
+}
+
+/// An ATA command that is not queued (ACS-3 7). Sectors and blocks are of 512 bytes, 1 to 65,536 of them, or 1 to 256 with
+/// a 28-bit address.
+#[derive(Clone, Copy, Debug, PartialEq, Eq)]
+pub enum AtaCommand {
+    Read { how: How, lba: u64, sectors: u32 },
+    Write { how: How, lba: u64, sectors: u32 },
+    Verify { ext: bool, lba: u64, sectors: u32 },
+    Flush { ext: bool },
+    Identify,
+    SetFeatures { what: u8 },
+    Standby,
+    Idle,
+    CheckPower,
+    ReadLog { log: u8, page: u16, blocks: u32 },
+    Trim { blocks: u32 },
+    SmartStatus,
+    Other { code: u8 },
+}
