@@ -21,3 +21,6 @@ pub use pages::{Blocks, NoMemory, Page, Pages};
 pub use reply::{Replies, Reply, Response, Scsi, SenseBytes};
 pub use request::{Attr, Manage, Nexus, Request, Tag};
 pub use steps::Steps;
+
+#[cfg(test)]
+mod tests;

@@ -1,0 +1,48 @@
+use crate::{Block, Nexus, Page, Pages, Replies, Reply, Scsi, SenseBytes, Tag};
+use std::alloc::Global;
+use std::test::Fail;
+
+#[test]
+fn pages_are_taken_split_and_kept(rt: HostRuntime) -> Result<(), Fail> {
+    let mut pages = Pages::zeroed(rt.alloc(), 3)?;
+    pages.set_block(2, &Block { bytes: [7; 512] });
+    let rest = pages.split(1);
+    assert_eq!(rt; pages.blocks(), 1);
+    assert_eq!(rt; rest.blocks(), 2);
+    assert_eq!(rt; rest.iter().count(), 2);
+    let mut page = Page::zeroed(rt.alloc())?;
+    page.set(&Block { bytes: [9; 512] });
+    pages.push_first(page);
+    pages.reverse();
+    pages.keep(1);
+    assert_eq!(rt; *pages.block(0), Block::zero());
+    Ok(())
+}
+
+#[test]
+fn a_long_chain_is_dropped(rt: HostRuntime) -> Result<(), Fail> {
+    let pages = Pages::zeroed(rt.alloc(), 32_960)?;
+    assert_eq!(rt; pages.blocks(), 32_960);
+    Ok(())
+}
+
+fn reply(alloc: Global, tag: u32) -> Reply {
+    Reply {
+        nexus: Nexus::default(),
+        tag: Tag(tag),
+        status: Scsi::Good,
+        sense: SenseBytes::new(),
+        body: Pages::none(alloc),
+        data_len: 0,
+        expected: None,
+    }
+}
+
+#[test]
+fn replies_come_in_order(rt: HostRuntime) {
+    let mut replies = Replies::new(rt.alloc());
+    replies.push(reply(rt.alloc(), 7));
+    replies.push(reply(rt.alloc(), 8));
+    assert_eq!(rt; replies.len(), 2);
+    assert!(rt; replies.pop_first().is_some_and(|reply| reply.tag == Tag(7)));
+}
