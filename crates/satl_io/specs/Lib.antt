@@ -1,0 +1,4 @@
+pub mod Causes
+pub mod Known
+pub mod Memory
+pub mod Streams

@@ -1,0 +1,27 @@
+// A source of bytes.
+ghost use Rattle.std.specs.Prelude.{◌<◌, List, ℕ, length};
+ghost use Rattle.std.specs.declared.option.Option.{Option};
+ghost use Rattle.std.specs.Io.{ReadsAtMost};
+ghost use Rattle.std.specs.Io.KnownBytes.{ReadConsumes};
+ghost use Rattle.satl_io.specs.Causes.{HasCause};
+
+/// A read or a write failed: it took or wrote nothing, and the count of faults rose (profile).
+#[derive(Clone, Copy, Debug, PartialEq, Eq)]
+pub struct Failed;
+
+/// Bytes that come in pieces (profile).
+pub trait Source {
+    /// The bytes that are left, where the source tells them.
+    ghost left: { Self → Option (List ℕ) };
+
+    /// How often a read has failed. The count never falls, and stands still at 2^64 - 1.
+    ghost faults: { Self → ℕ };
+
+    /// `Ok(n)` takes the first n bytes that are left and puts them in front in `buf`; n is 0 only where
+    /// no byte is left. `Failed` takes none.
+    fn read(&mut self, buf: &mut [u8]) -> Result<usize, Failed>
+        requires { 0 < length buf.old }
+        ensures bound { ReadsAtMost result buf.new }
+        ensures bytes { ReadConsumes (left self.old) (left self.new) result buf.new }
+        ensures cause { HasCause (faults self.old) (faults self.new) result };
+}

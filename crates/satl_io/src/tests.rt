@@ -1,0 +1,40 @@
+use crate::{Failed, MemorySink, MemorySource, NeverFails, Sink, Source, StdSink, StdSource};
+use std::test::Fail;
+
+// Six bytes in pieces of four; the second call fails, and then so do writes without room.
+#[test]
+fn streams_in_memory(rt: HostRuntime) -> Result<(), Fail> {
+    let alloc = rt.alloc();
+    let mut second = Vec::new(alloc);
+    second.push(1)?;
+    let mut source = MemorySource::new(b"framed".to_vec(alloc)?, 4, second);
+    let mut sink = MemorySink::new(alloc, 5, 4, Vec::new(alloc))?;
+    let mut buf = [0; 8];
+    assert_eq!(rt; source.read(&mut buf), Ok(4));
+    assert_eq!(rt; source.read(&mut buf), Err(Failed));
+    assert_eq!(rt; sink.write(&buf[..4]), Ok(4));
+    assert_eq!(rt; source.read(&mut buf), Ok(2));
+    assert_eq!(rt; source.read(&mut buf), Ok(0));
+    assert_eq!(rt; sink.write(&buf[..2]), Ok(1));
+    assert_eq!(rt; sink.write(b"d"), Err(Failed));
+    assert_eq!(rt; sink.written(), b"frame".as_slice());
+    let mut sure = NeverFails::new(b"all".to_vec(alloc)?);
+    assert_eq!(rt; sure.read(&mut buf), Ok(3));
+    assert_eq!(rt; sure.read(&mut buf), Ok(0));
+    Ok(())
+}
+
+// A slice as reader and as writer; a writer that takes no byte has failed.
+#[test]
+fn streams_of_std(rt: HostRuntime) -> Result<(), Fail> {
+    let mut source = StdSource::new(b"framed".as_slice());
+    let mut buf = [0; 4];
+    assert_eq!(rt; source.read(&mut buf), Ok(4));
+    assert_eq!(rt; source.read(&mut buf), Ok(2));
+    assert_eq!(rt; source.read(&mut buf), Ok(0));
+    let mut room = [0; 3];
+    let mut sink = StdSink::new(room.as_mut_slice());
+    assert_eq!(rt; sink.write(b"frame"), Ok(3));
+    assert_eq!(rt; sink.write(b"me"), Err(Failed));
+    Ok(())
+}
