@@ -1,0 +1,3 @@
+pub mod Trims
+pub mod Commands
+pub mod Addresses

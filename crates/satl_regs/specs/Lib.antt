@@ -1,0 +1,5 @@
+pub mod Fields
+pub mod QueuedCommands
+pub mod Commands
+pub mod Spelling
+pub mod Trim

@@ -1,6 +1,17 @@
 //! The registers of ATA commands, queued and not, and the payload of a trim.
 #![tactic(auto)]
 
+mod fields;
+mod queued;
+mod reading;
+#[cfg(test)]
+mod tests;
+mod trim;
 mod values;
+mod writing;
 
+pub use queued::{put_queued, queued_of};
+pub use reading::command_of;
+pub use trim::{read_trim, trim_bytes};
 pub use values::{AtaCommand, How, Queued, QueuedKind, Registers, Taskfile};
+pub use writing::put_command;
