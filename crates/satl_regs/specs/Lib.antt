@@ -3,3 +3,4 @@ pub mod QueuedCommands
 pub mod Commands
 pub mod Spelling
 pub mod Trim
+pub mod Effects

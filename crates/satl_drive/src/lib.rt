@@ -1,0 +1,7 @@
+//! What the layer asks of a drive: the calls, and the rules that every drive keeps.
+#![tactic(auto)]
+
+mod drive;
+
+pub use drive::{Bench, Drive, LinkDown};
+pub use satl_regs::{Registers, Taskfile};
