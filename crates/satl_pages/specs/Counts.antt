@@ -1,0 +1,11 @@
+-- How the pages of a pool are counted.
+use Rattle.std.specs.Prelude.{ℕ, ◌+◌}
+
+-- how many pages of a pool are free, and how many are out (profile)
+pub record Counts : Type 0 where
+  pub free : ℕ
+  pub out : ℕ
+
+-- the number of a pool: each of its pages is free or out (profile)
+abbrev pub number_of : Counts → ℕ
+number_of counts = counts.free + counts.out

@@ -1,0 +1,8 @@
+//! A pool of pages that loses none, and the slots through which a drive reaches pages.
+#![tactic(auto)]
+
+mod dma;
+mod pool;
+
+pub use dma::Dma;
+pub use pool::Pool;

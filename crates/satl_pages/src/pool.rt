@@ -1,0 +1,168 @@
+// A pool of pages.
+ghost use Rattle.std.specs.Prelude.{◌≡◌, ◌≤◌, ◌<◌, ◌+◌, ◌↔◌, IfOk, IfSome, IfNone, IsNone, OnSome, length, vec_len, vec_capacity};
+ghost use Rattle.satl_pages.specs.Counts.{number_of};
+
+use satl_base::{Lender, NoMemory, Page, Pages};
+use std::alloc::Global;
+use std::marker::Model;
+
+/// A fixed number of pages of 512 bytes, each of which is free or out (profile). Clauses see how many are free and
+/// how many are out; their sum is the pool's number, which no call changes.
+#[derive(Drop)]
+pub struct Pool {
+    // Made with room for all pages, so that it never grows.
+    free: Vec<Page>,
+    number: u32,
+}
+
+impl Model for Pool {
+    ghost use Rattle.std.specs.Prelude.{◌≤◌, ◌<◌, ◌-◌, ◌^◌, length, vec_capacity};
+    ghost use Rattle.satl_pages.specs.Counts.{Counts};
+
+    ghost Value = { Counts };
+
+    ghost view = { λ p. record { free = length p.free.items; out = p.number - length p.free.items } };
+
+    ghost invariant = { λ p. (length p.free.items ≤ p.number) × (p.number ≤ vec_capacity p.free) × (p.number < 2 ^ 32) };
+}
+
+impl Pool {
+    /// A pool of `n` pages, all of them free. The error is want of memory (profile).
+    pub fn new(alloc: Global, n: u32) -> Result<Pool, NoMemory>
+        ensures free { IfOk result (λ pool. pool.free ≡ n) }
+        ensures out { IfOk result (λ pool. pool.out ≡ 0) }
+    {
+        let mut free = Vec::with_capacity(alloc, n as usize)?;
+        for _ in 0..n {
+            let page = Page::zeroed(alloc)?;
+            let Ok(()) = free.push(page) else {
+                unreachable!();
+            };
+        }
+        Ok(Pool { free, number: n })
+    }
+
+    /// How many pages the pool has, free or out (profile).
+    pub fn number(&self) -> u32
+        ensures { result ≡ number_of self.now }
+    {
+        self.number
+    }
+
+    /// How many pages are free (profile).
+    pub fn free(&self) -> u32
+        ensures { result ≡ self.now.free }
+    {
+        self.free.len() as u32
+    }
+
+    /// Takes `n` pages, with whatever they hold. None exactly where fewer are free. It takes no memory (profile).
+    pub fn take(&mut self, n: u32) -> Option<Pages>
+        ensures fewer { IsNone result ↔ (self.old.free < n) }
+        ensures none { IfNone result (self.new ≡ self.old) }
+
+        ensures pages { IfSome result (λ pages. length pages ≡ n) }
+        ensures free { OnSome result (self.new.free + n ≡ self.old.free) }
+        ensures out { OnSome result (self.new.out ≡ self.old.out + n) }
+        ensures none_lost { number_of self.new ≡ number_of self.old }
+    {
+        if self.free() < n {
+            return None;
+        }
+        Some(take_from(&mut self.free, n))
+    }
+
+    /// Takes pages back, at most as many as are out. It takes no memory (profile).
+    pub fn give(&mut self, pages: Pages)
+        requires { length pages ≤ self.old.out }
+        ensures free { self.new.free ≡ self.old.free + length pages }
+        ensures out { self.new.out + length pages ≡ self.old.out }
+        ensures none_lost { number_of self.new ≡ number_of self.old }
+    {
+        give_to(&mut self.free, pages);
+    }
+}
+
+/// Links `n` pages off the end of the vector.
+fn take_from(free: &mut Vec<Page>, n: u32) -> Pages
+    requires { n ≤ vec_len free.old }
+    ensures pages { length result ≡ n }
+    ensures free { vec_len free.new + n ≡ vec_len free.old }
+    ensures capacity { vec_capacity free.new ≡ vec_capacity free.old }
+{
+    let mut pages = Pages::default();
+    for _ in 0..n {
+        let Some(page) = free.pop() else {
+            unreachable!();
+        };
+        pages.push_first(page);
+    }
+    pages
+}
+
+/// Unlinks the pages onto the end of the vector, which has the room.
+fn give_to(free: &mut Vec<Page>, mut pages: Pages)
+    requires { vec_len free.old + length pages ≤ vec_capacity free.old }
+    ensures free { vec_len free.new ≡ vec_len free.old + length pages }
+    ensures capacity { vec_capacity free.old ≤ vec_capacity free.new }
+{
+    for _ in 0..pages.blocks() {
+        let Some(page) = pages.pop_first() else {
+            unreachable!();
+        };
+        let Ok(()) = free.push(page) else {
+            unreachable!();
+        };
+    }
+}
+
+/// A pool keeps nothing beside its pages (profile).
+impl Lender for Pool {
+    type Rest = ();
+
+    ghost free = { λ p. p.free };
+
+    ghost out = { λ p. p.out };
+
+    ghost rest = { λ _. tt };
+
+    fn room(&self) -> u32 {
+        self.free()
+    }
+
+    fn lend(&mut self, n: u32) -> Pages {
+        let Some(pages) = self.take(n) else {
+            unreachable!();
+        };
+        pages
+    }
+
+    fn give_back(&mut self, pages: Pages) {
+        self.give(pages);
+    }
+}
+
+#[cfg(test)]
+mod tests {
+    use super::*;
+    use std::test::Fail;
+
+    #[test]
+    fn takes_all_and_no_more(rt: HostRuntime) -> Result<(), Fail> {
+        // The second is as long as a chain gets: all pages of the layer at once.
+        for number in [4, 32960] {
+            let mut pool = Pool::new(rt.alloc(), number)?;
+            assert!(rt; pool.take(number + 1).is_none());
+            let pages = pool.take(number).expect(&rt, "pages");
+            assert_eq!(rt;
+                (pages.blocks(), pool.free(), pool.number()),
+                (number, 0, number)
+            );
+            assert!(rt; pool.take(1).is_none());
+            pool.give(pages);
+            assert_eq!(rt; pool.free(), number);
+            drop(pool.lend(number));
+        }
+        Ok(())
+    }
+}
