@@ -1,0 +1,4 @@
+pub mod DescriptorSteps
+pub mod Limits
+pub mod ReadBack
+pub mod Texts

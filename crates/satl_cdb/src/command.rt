@@ -94,3 +94,80 @@ pub struct Illegal {
     pub pointer: Option<u16>,
     pub in_cdb: bool,
 }
+
+impl Illegal {
+    ghost use Rattle.std.specs.Prelude.{◌≡◌};
+    ghost use Rattle.satl_cdb.specs.Refusals.{invalid_operation_code, invalid_field, saving_not_supported, list_length_error, invalid_list_field, list_out_of_range};
+
+    /// INVALID COMMAND OPERATION CODE.
+    pub fn invalid_operation_code() -> Illegal
+        ensures { result ≡ invalid_operation_code }
+    {
+        Illegal {
+            asc: 0x20,
+            ascq: 0,
+            pointer: None,
+            in_cdb: true,
+        }
+    }
+
+    /// INVALID FIELD IN CDB, at a byte of it.
+    pub fn invalid_field(byte: u16) -> Illegal
+        ensures { result ≡ invalid_field byte }
+    {
+        Illegal {
+            asc: 0x24,
+            ascq: 0,
+            pointer: Some(byte),
+            in_cdb: true,
+        }
+    }
+
+    /// SAVING PARAMETERS NOT SUPPORTED.
+    pub fn saving_not_supported() -> Illegal
+        ensures { result ≡ saving_not_supported }
+    {
+        Illegal {
+            asc: 0x39,
+            ascq: 0,
+            pointer: None,
+            in_cdb: true,
+        }
+    }
+
+    /// PARAMETER LIST LENGTH ERROR.
+    pub fn list_length_error() -> Illegal
+        ensures { result ≡ list_length_error }
+    {
+        Illegal {
+            asc: 0x1A,
+            ascq: 0,
+            pointer: None,
+            in_cdb: false,
+        }
+    }
+
+    /// INVALID FIELD IN PARAMETER LIST, at a byte of it.
+    pub fn invalid_list_field(byte: u16) -> Illegal
+        ensures { result ≡ invalid_list_field byte }
+    {
+        Illegal {
+            asc: 0x26,
+            ascq: 0,
+            pointer: Some(byte),
+            in_cdb: false,
+        }
+    }
+
+    /// LOGICAL BLOCK ADDRESS OUT OF RANGE, of a descriptor in a parameter list.
+    pub fn list_out_of_range() -> Illegal
+        ensures { result ≡ list_out_of_range }
+    {
+        Illegal {
+            asc: 0x21,
+            ascq: 0,
+            pointer: None,
+            in_cdb: false,
+        }
+    }
+}

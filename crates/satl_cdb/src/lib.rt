@@ -1,6 +1,20 @@
-//! Command descriptor blocks and the parameter list of UNMAP.
+//! Command descriptor blocks and the parameter list of UNMAP: the table of operation codes, both ways (SPC-4, SBC-3 and
+//! SAT-3; which values are refused is the profile's).
 #![tactic(auto)]
 
+mod block;
 mod command;
+mod fields;
+pub mod laws;
+mod primary;
+mod reading;
+mod unmap;
+mod writing;
 
 pub use command::{Command, Form, Illegal};
+pub use reading::read_cdb;
+pub use unmap::read_unmap_list;
+pub use writing::write_cdb;
+
+#[cfg(test)]
+mod tests;

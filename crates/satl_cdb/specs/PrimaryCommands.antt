@@ -1,0 +1,64 @@
+-- The commands of all device types: fields, rules and commands (SPC-4; the values that are refused are the profile's).
+use Rattle.std.specs.Prelude.{ℕ, Bool, true, false, List, [], ◌∷◌, Some, None, if◌then◌else◌}
+use Rattle.satl_base.specs.Fields.{Field, Flag, bytes, bits, bit}
+use Rattle.satl_cdb.specs.declared.command.Command.TheVariants as commands
+use Rattle.satl_cdb.specs.Refusals.{saving_not_supported}
+use Rattle.satl_cdb.specs.Rows.{Format, at, is, is_above, is_none_of, never}
+
+-- SPC-4, TEST UNIT READY command
+abbrev pub test_unit_ready : Format
+test_unit_ready = record { rules = []; command = λ cdb. commands.TestUnitReady }
+
+-- SPC-4, REQUEST SENSE command: DESC byte 1 bit 0, ALLOCATION LENGTH byte 4
+abbrev pub request_sense : Format
+request_sense = record { rules = []; command = λ cdb. commands.RequestSense (bit 1 0 cdb) (bytes 4 4 cdb) }
+
+-- the pages of vital product data (profile)
+abbrev pub vital_pages : List ℕ
+vital_pages = 0x00 ∷ 0x80 ∷ 0x83 ∷ 0x89 ∷ 0xB0 ∷ 0xB1 ∷ 0xB2 ∷ []
+
+-- SPC-4, INQUIRY command: EVPD byte 1 bit 0, PAGE CODE byte 2, ALLOCATION LENGTH bytes 3 to 4
+abbrev pub inquiry : Format
+inquiry = record {
+  rules = at 2 (λ cdb. is_none_of (if bit 1 0 cdb then vital_pages else 0x00 ∷ []) (bytes 2 2) cdb) ∷ [];
+  command = λ cdb. commands.Inquiry (if bit 1 0 cdb then Some (bytes 2 2 cdb) else None) (bytes 3 4 cdb);
+}
+
+-- PARAMETER LIST LENGTH and ALLOCATION LENGTH of the mode commands: byte 4 of 6, bytes 7 to 8 of 10
+abbrev pub mode_length : Bool → Field
+mode_length false = bytes 4 4
+mode_length true = bytes 7 8
+
+-- SPC-4, MODE SELECT (6) and (10) commands: PF byte 1 bit 4, SP byte 1 bit 0
+abbrev pub mode_select : Bool → Format
+mode_select ten = record {
+  rules = at 1 (is 0 (bits 1 4 4)) ∷ at 1 (bit 1 0) ∷ [];
+  command = λ cdb. commands.ModeSelect ten (mode_length ten cdb);
+}
+
+-- the mode pages, 3Fh for all of them (profile)
+abbrev pub mode_pages : List ℕ
+mode_pages = 0x01 ∷ 0x08 ∷ 0x0A ∷ 0x1C ∷ 0x3F ∷ []
+
+-- LLBAA, which MODE SENSE (10) alone has: byte 1 bit 4
+abbrev pub long_lba : Bool → Flag
+long_lba false = never
+long_lba true = bit 1 4
+
+-- SPC-4, MODE SENSE (6) and (10) commands: DBD byte 1 bit 3, PC byte 2 bits 7 to 6, PAGE CODE byte 2 bits 5 to 0, SUBPAGE CODE byte 3
+abbrev pub mode_sense : Bool → Format
+mode_sense ten = record {
+  rules =
+      record { place = 2; breaks = is 3 (bits 2 7 6); refusal = saving_not_supported }
+      ∷ at 2 (is_none_of mode_pages (bits 2 5 0))
+      ∷ at 3 (λ cdb. is_none_of (if is 0x3F (bits 2 5 0) cdb then 0x00 ∷ 0xFF ∷ [] else 0x00 ∷ []) (bytes 3 3) cdb)
+      ∷ [];
+  command = λ cdb. commands.ModeSense ten (long_lba ten cdb) (bit 1 3 cdb) (bits 2 7 6 cdb) (bits 2 5 0 cdb) (mode_length ten cdb);
+}
+
+-- SPC-4, REPORT LUNS command: SELECT REPORT byte 2, ALLOCATION LENGTH bytes 6 to 9
+abbrev pub report_luns : Format
+report_luns = record {
+  rules = at 2 (is_above 0x02 (bytes 2 2)) ∷ [];
+  command = λ cdb. commands.ReportLuns (bytes 2 2 cdb) (bytes 6 9 cdb);
+}

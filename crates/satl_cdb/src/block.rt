@@ -1,0 +1,164 @@
+// Commands of block devices (SBC-3).
+
+ghost use Rattle.std.specs.Prelude.{◌≡◌, Ok};
+ghost use Rattle.satl_cdb.specs.Rows.{format_says, unless_broken};
+ghost use Rattle.satl_cdb.specs.BlockCommands.{layout_of, read, read_6, write, write_6, transfer_rules, verify, synchronize_cache, write_same, unmap, start_stop, read_capacity_16};
+
+use crate::command::{Command, Form, Illegal};
+use crate::fields::{count_of, count_place, flag, lba_of, u16_at, u32_at};
+
+/// The most blocks that one command moves.
+const TRANSFER_LIMIT: u32 = 4096;
+
+/// The most blocks that one command verifies without data, or writes the same.
+const MEDIUM_LIMIT: u32 = 65_536;
+
+pub fn read_6_of(cdb: &[u8; 16]) -> Command
+    ensures { format_says read_6 cdb.now ≡ Ok result }
+{
+    Command::Read {
+        form: Form::Six,
+        lba: lba_of(cdb, Form::Six),
+        count: count_of(cdb, Form::Six),
+        fua: false,
+    }
+}
+
+pub fn write_6_of(cdb: &[u8; 16]) -> Command
+    ensures { format_says write_6 cdb.now ≡ Ok result }
+{
+    Command::Write {
+        form: Form::Six,
+        lba: lba_of(cdb, Form::Six),
+        count: count_of(cdb, Form::Six),
+        fua: false,
+    }
+}
+
+/// Checks what READ and WRITE have in common.
+fn check_transfer(cdb: &[u8; 16], form: Form) -> Result<(), Illegal>
+    ensures { result ≡ unless_broken (transfer_rules (layout_of form)) cdb.now tt }
+{
+    if cdb[1] >> 5 != 0 {
+        return Err(Illegal::invalid_field(1));
+    }
+    if count_of(cdb, form) > TRANSFER_LIMIT {
+        return Err(Illegal::invalid_field(count_place(form)));
+    }
+    Ok(())
+}
+
+pub fn read_of(cdb: &[u8; 16], form: Form) -> Result<Command, Illegal>
+    ensures { result ≡ format_says (read (layout_of form)) cdb.now }
+{
+    check_transfer(cdb, form)?;
+    Ok(Command::Read {
+        form,
+        lba: lba_of(cdb, form),
+        count: count_of(cdb, form),
+        fua: flag(cdb, 1, 3),
+    })
+}
+
+pub fn write_of(cdb: &[u8; 16], form: Form) -> Result<Command, Illegal>
+    ensures { result ≡ format_says (write (layout_of form)) cdb.now }
+{
+    check_transfer(cdb, form)?;
+    Ok(Command::Write {
+        form,
+        lba: lba_of(cdb, form),
+        count: count_of(cdb, form),
+        fua: flag(cdb, 1, 3),
+    })
+}
+
+pub fn verify_of(cdb: &[u8; 16], form: Form) -> Result<Command, Illegal>
+    ensures { result ≡ format_says (verify (layout_of form)) cdb.now }
+{
+    let check = cdb[1] >> 1 & 3;
+    if cdb[1] >> 5 != 0 || check > 1 {
+        return Err(Illegal::invalid_field(1));
+    }
+    let compare = check == 1;
+    let limit = if compare {
+        TRANSFER_LIMIT
+    } else {
+        MEDIUM_LIMIT
+    };
+    let count = count_of(cdb, form);
+    if count > limit {
+        return Err(Illegal::invalid_field(count_place(form)));
+    }
+    Ok(Command::Verify {
+        form,
+        lba: lba_of(cdb, form),
+        count,
+        compare,
+    })
+}
+
+pub fn synchronize_cache_of(cdb: &[u8; 16], form: Form) -> Command
+    ensures { format_says (synchronize_cache (layout_of form)) cdb.now ≡ Ok result }
+{
+    Command::Flush {
+        form,
+        lba: lba_of(cdb, form),
+        count: count_of(cdb, form),
+    }
+}
+
+pub fn write_same_of(cdb: &[u8; 16], trim: bool, form: Form) -> Result<Command, Illegal>
+    ensures { result ≡ format_says (write_same trim (layout_of form)) cdb.now }
+{
+    let unmap = flag(cdb, 1, 3);
+    if cdb[1] >> 5 != 0 || flag(cdb, 1, 4) || cdb[1] & 7 != 0 || unmap && !trim {
+        return Err(Illegal::invalid_field(1));
+    }
+    let count = count_of(cdb, form);
+    if count == 0 || count > MEDIUM_LIMIT {
+        return Err(Illegal::invalid_field(count_place(form)));
+    }
+    Ok(Command::WriteSame {
+        form,
+        lba: lba_of(cdb, form),
+        count,
+        unmap,
+    })
+}
+
+pub fn unmap_of(cdb: &[u8; 16], trim: bool) -> Result<Command, Illegal>
+    ensures { result ≡ format_says (unmap trim) cdb.now }
+{
+    if !trim {
+        return Err(Illegal::invalid_operation_code());
+    }
+    if flag(cdb, 1, 0) {
+        return Err(Illegal::invalid_field(1));
+    }
+    Ok(Command::Unmap {
+        length: u16_at(cdb, 7),
+    })
+}
+
+pub fn start_stop_of(cdb: &[u8; 16]) -> Result<Command, Illegal>
+    ensures { result ≡ format_says start_stop cdb.now }
+{
+    if cdb[4] >> 4 != 0 || flag(cdb, 4, 1) {
+        return Err(Illegal::invalid_field(4));
+    }
+    Ok(Command::StartStop {
+        start: flag(cdb, 4, 0),
+        no_flush: flag(cdb, 4, 2),
+    })
+}
+
+pub fn read_capacity_16_of(cdb: &[u8; 16]) -> Result<Command, Illegal>
+    ensures { result ≡ format_says read_capacity_16 cdb.now }
+{
+    if cdb[1] & 0x1F != 0x10 {
+        return Err(Illegal::invalid_field(1));
+    }
+    Ok(Command::ReadCapacity16 {
+        alloc: u32_at(cdb, 10),
+    })
+}

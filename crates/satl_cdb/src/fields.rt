@@ -1,0 +1,93 @@
+// Fields of a command descriptor block.
+
+ghost use Rattle.std.specs.Prelude.{◌≡◌, ◌+◌, ◌≤◌, ◌<◌};
+ghost use Rattle.byteorder.specs.Endian.{big_from};
+ghost use Rattle.satl_base.specs.Fields.{bit};
+ghost use Rattle.satl_cdb.specs.BlockCommands.{layout_of, six};
+ghost use Rattle.satl_cdb.specs.PrimaryCommands.{mode_length};
+
+use crate::command::Form;
+use byteorder::{BigEndian, ByteOrder};
+
+pub fn u16_at(cdb: &[u8; 16], at: usize) -> u16
+    requires { at + 2 ≤ 16 }
+    ensures { result ≡ big_from at 2 cdb.now }
+{
+    BigEndian::read_u16(&cdb[at..])
+}
+
+pub fn u32_at(cdb: &[u8; 16], at: usize) -> u32
+    requires { at + 4 ≤ 16 }
+    ensures { result ≡ big_from at 4 cdb.now }
+{
+    BigEndian::read_u32(&cdb[at..])
+}
+
+pub fn u64_at(cdb: &[u8; 16], at: usize) -> u64
+    requires { at + 8 ≤ 16 }
+    ensures { result ≡ big_from at 8 cdb.now }
+{
+    BigEndian::read_u64(&cdb[at..])
+}
+
+pub fn flag(cdb: &[u8; 16], place: usize, low: u8) -> bool
+    requires place { place < 16 }
+    requires low { low < 8 }
+    ensures { result ≡ bit place low cdb.now }
+{
+    cdb[place] >> low & 1 == 1
+}
+
+pub fn lba_of(cdb: &[u8; 16], form: Form) -> u64
+    ensures { result ≡ (layout_of form).lba cdb.now }
+{
+    match form {
+        Form::Six => u64::from(cdb[1] & 0x1F) << 16 | u64::from(u16_at(cdb, 2)),
+        Form::Ten | Form::Twelve => u64::from(u32_at(cdb, 2)),
+        Form::Sixteen => u64_at(cdb, 2),
+    }
+}
+
+pub fn count_of(cdb: &[u8; 16], form: Form) -> u32
+    ensures { result ≡ (layout_of form).count cdb.now }
+{
+    match form {
+        Form::Six => short_count(cdb),
+        Form::Ten => u32::from(u16_at(cdb, 7)),
+        Form::Twelve => u32_at(cdb, 6),
+        Form::Sixteen => u32_at(cdb, 10),
+    }
+}
+
+/// 0 stands for 256 blocks.
+fn short_count(cdb: &[u8; 16]) -> u32
+    ensures { result ≡ six.count cdb.now }
+{
+    match cdb[4] {
+        0 => 256,
+        count => u32::from(count),
+    }
+}
+
+/// The first byte of the count.
+pub fn count_place(form: Form) -> u16
+    ensures { result ≡ (layout_of form).count_place }
+{
+    match form {
+        Form::Six => 4,
+        Form::Ten => 7,
+        Form::Twelve => 6,
+        Form::Sixteen => 10,
+    }
+}
+
+/// The length in a mode command.
+pub fn mode_length_of(cdb: &[u8; 16], ten: bool) -> u16
+    ensures { result ≡ mode_length ten cdb.now }
+{
+    if ten {
+        u16_at(cdb, 7)
+    } else {
+        u16::from(cdb[4])
+    }
+}

@@ -1,0 +1,137 @@
+// The parameter list of UNMAP (SBC-3).
+
+ghost use Rattle.std.specs.Prelude.{◌≡◌, ◌≢◌, ◌<◌, ◌≤◌, ◌+◌, ◌*◌, ◌/◌, ◌++◌, [], ◌∷◌, IfOk, IfErr, IfSome, Some, None, MatchOption, MatchResult, filter, length, nat_lt, ◌==◌};
+ghost use Rattle.arrayvec.specs.ArrayVec.{array_vec_len};
+ghost use Rattle.satl_base.specs.Blocks.{byte_at};
+ghost use Rattle.satl_cdb.specs.Unmap.{descriptor, descriptors_from, descriptor_fault, is_used, list_fault, number_at, ranges_of};
+
+use crate::command::Illegal;
+use arrayvec::ArrayVec;
+use byteorder::{BigEndian, ByteOrder};
+use satl_base::{Pages, Range};
+
+/// The most blocks that one list trims.
+const LIMIT: u32 = 65_536;
+
+fn byte_of(list: &Pages, place: usize) -> u8
+    requires place { place < 2048 }
+    requires room { place < 512 * length list.now }
+    ensures { result ≡ byte_at list.now place }
+{
+    list.block((place / 512) as u32).bytes[place % 512]
+}
+
+fn u16_at(list: &Pages, place: usize) -> u16
+    requires place { place + 2 ≤ 2048 }
+    requires room { place + 2 ≤ 512 * length list.now }
+    ensures { result ≡ number_at place 2 list.now }
+{
+    BigEndian::read_u16(&[byte_of(list, place), byte_of(list, place + 1)])
+}
+
+fn u32_at(list: &Pages, place: usize) -> u32
+    requires place { place + 4 ≤ 2048 }
+    requires room { place + 4 ≤ 512 * length list.now }
+    ensures { result ≡ number_at place 4 list.now }
+{
+    BigEndian::read_u32(&[
+        byte_of(list, place),
+        byte_of(list, place + 1),
+        byte_of(list, place + 2),
+        byte_of(list, place + 3),
+    ])
+}
+
+fn u64_at(list: &Pages, place: usize) -> u64
+    requires place { place + 8 ≤ 2048 }
+    requires room { place + 8 ≤ 512 * length list.now }
+    ensures { result ≡ number_at place 8 list.now }
+{
+    BigEndian::read_u64(&[
+        byte_of(list, place),
+        byte_of(list, place + 1),
+        byte_of(list, place + 2),
+        byte_of(list, place + 3),
+        byte_of(list, place + 4),
+        byte_of(list, place + 5),
+        byte_of(list, place + 6),
+        byte_of(list, place + 7),
+    ])
+}
+
+#[tactic(auto, unfolding(crate::specs::Unmap::descriptor))]
+fn descriptor_at(list: &Pages, i: usize) -> Range
+    requires i { i < 64 }
+    requires room { 8 + 16 * (i + 1) ≤ 512 * length list.now }
+    ensures { result ≡ descriptor list.now i }
+{
+    Range {
+        lba: u64_at(list, 8 + 16 * i),
+        count: u32_at(list, 16 + 16 * i),
+    }
+}
+
+fn exceeds(range: Range, capacity: u64) -> bool
+    ensures { result ≡ nat_lt capacity (range.lba + range.count) }
+{
+    u64::from(range.count) > capacity || range.lba > capacity - u64::from(range.count)
+}
+
+fn push_used(ranges: &mut ArrayVec<Range, 64>, range: Range)
+    requires { array_vec_len ranges.old < 64 }
+    ensures items { ranges.new.items ≡ ranges.old.items ++ filter is_used (range ∷ []) }
+    ensures len { array_vec_len ranges.new ≤ array_vec_len ranges.old + 1 }
+{
+    if range.count != 0 {
+        ranges.push(range);
+    }
+}
+
+/// The ranges of the first `count` descriptors, or the first fault of one.
+fn ranges_up_to(list: &Pages, count: usize, capacity: u64) -> Result<ArrayVec<Range, 64>, Illegal>
+    requires count { count ≤ 64 }
+    requires room { 8 + 16 * count ≤ 512 * length list.now }
+    ensures ranges { IfOk result (λ ranges. (descriptor_fault capacity 0 0 (descriptors_from 0 count list.now) ≡ None) × (ranges.items ≡ filter is_used (descriptors_from 0 count list.now))) }
+    ensures refusal { IfErr result (λ refusal. descriptor_fault capacity 0 0 (descriptors_from 0 count list.now) ≡ Some refusal) }
+{
+    let mut ranges = ArrayVec::new();
+    let mut sum = 0;
+    for i in 0..count {
+        let range = descriptor_at(list, i);
+        if exceeds(range, capacity) {
+            return Err(Illegal::list_out_of_range());
+        }
+        if range.count > LIMIT - sum {
+            return Err(Illegal::invalid_list_field(16 + 16 * i as u16));
+        }
+        sum += range.count;
+        push_used(&mut ranges, range);
+    }
+    Ok(ranges)
+}
+
+/// The ranges of a parameter list of UNMAP of `list_length` bytes, in the order of its descriptors and without those of no
+/// block, for a medium of `capacity` blocks. `Err` has the first fault: PARAMETER LIST LENGTH ERROR where the block
+/// descriptors exceed the list, INVALID FIELD IN PARAMETER LIST at byte 2 where more than 64 are whole, and then by
+/// descriptor LOGICAL BLOCK ADDRESS OUT OF RANGE, or INVALID FIELD IN PARAMETER LIST at the count with which the sum of
+/// counts exceeds 65,536 (SBC-3, UNMAP command; the limits are the profile's).
+pub fn read_unmap_list(
+    list: &Pages,
+    list_length: u16,
+    capacity: u64,
+) -> Result<ArrayVec<Range, 64>, Illegal>
+    requires header { 8 ≤ list_length }
+    requires whole { list_length ≤ 512 * length list.now }
+    ensures ranges { IfOk result (λ ranges. (list_fault list.now list_length capacity ≡ None) × (ranges.items ≡ ranges_of list.now)) }
+    ensures refusal { IfErr result (λ refusal. list_fault list.now list_length capacity ≡ Some refusal) }
+{
+    let descriptors_length = u16_at(list, 2);
+    if u32::from(descriptors_length) + 8 > u32::from(list_length) {
+        return Err(Illegal::list_length_error());
+    }
+    let count = descriptors_length / 16;
+    if count > 64 {
+        return Err(Illegal::invalid_list_field(2));
+    }
+    ranges_up_to(list, usize::from(count), capacity)
+}

@@ -1,0 +1,254 @@
+// Writing command descriptor blocks.
+
+ghost use Rattle.std.specs.Prelude.{◌≡◌, ◌<◌, ℕ, Bool, true, false, Ok, List, [], ◌∷◌};
+ghost use Rattle.satl_base.specs.Fields.{IsBytes};
+ghost use Rattle.satl_base.specs.Places.{laid, text};
+ghost use Rattle.satl_cdb.specs.Table.{says};
+ghost use Rattle.satl_cdb.specs.Spelling.{bit_of, page_byte, short, sixteen, spelled, ten, twelve};
+
+use crate::command::{Command, Form};
+
+fn flag_byte(place: u8, set: bool) -> u8
+    requires { place < 8 }
+    ensures { result ≡ bit_of place set }
+{
+    if set { 1 << place } else { 0 }
+}
+
+fn six_bytes(code: u8, one: u8, two: u8, three: u8, four: u8) -> [u8; 16]
+    ensures { result ≡ laid 16 (text 0 (code ∷ one ∷ two ∷ three ∷ four ∷ []) ∷ []) }
+{
+    [code, one, two, three, four, 0, 0, 0, 0, 0, 0, 0, 0, 0, 0, 0]
+}
+
+fn short_bytes(code: u8, lba: u64, count: u32) -> [u8; 16]
+    ensures { result ≡ laid 16 (short code lba count) }
+{
+    let [.., high, middle, low] = lba.to_be_bytes();
+    let [.., count] = count.to_be_bytes();
+    six_bytes(code, high & 0x1F, middle, low, count)
+}
+
+fn ten_bytes(code: u8, one: u8, lba: u64, count: u32) -> [u8; 16]
+    ensures { result ≡ laid 16 (ten code one lba count) }
+{
+    let mut cdb = [0u8; 16];
+    cdb[0] = code;
+    cdb[1] = one;
+    cdb[2..6].copy_from_slice(&lba.to_be_bytes()[4..]);
+    cdb[7..9].copy_from_slice(&count.to_be_bytes()[2..]);
+    cdb
+}
+
+fn twelve_bytes(code: u8, one: u8, lba: u64, count: u32) -> [u8; 16]
+    ensures { result ≡ laid 16 (twelve code one lba count) }
+{
+    let mut cdb = [0u8; 16];
+    cdb[0] = code;
+    cdb[1] = one;
+    cdb[2..6].copy_from_slice(&lba.to_be_bytes()[4..]);
+    cdb[6..10].copy_from_slice(&count.to_be_bytes());
+    cdb
+}
+
+fn sixteen_bytes(code: u8, one: u8, lba: u64, count: u32) -> [u8; 16]
+    ensures { result ≡ laid 16 (sixteen code one lba count) }
+{
+    let mut cdb = [0u8; 16];
+    cdb[0] = code;
+    cdb[1] = one;
+    cdb[2..10].copy_from_slice(&lba.to_be_bytes());
+    cdb[10..14].copy_from_slice(&count.to_be_bytes());
+    cdb
+}
+
+#[tactic(auto, unfolding(crate::specs::Spelling::spelled))]
+fn inquiry_bytes(page: Option<u8>, alloc: u16) -> [u8; 16]
+    ensures { result ≡ spelled (Command.Inquiry page alloc) }
+{
+    let [high, low] = alloc.to_be_bytes();
+    match page {
+        None => six_bytes(0x12, 0, 0, high, low),
+        Some(page) => six_bytes(0x12, 1, page, high, low),
+    }
+}
+
+fn page_byte(control: u8, page: u8) -> u8
+    ensures { result ≡ page_byte control page }
+{
+    (control & 3) << 6 | page & 0x3F
+}
+
+#[tactic(auto, unfolding(crate::specs::Spelling::spelled))]
+fn mode_sense_bytes(
+    ten: bool,
+    long_lba: bool,
+    no_descriptor: bool,
+    control: u8,
+    page: u8,
+    alloc: u16,
+) -> [u8; 16]
+    ensures { result ≡ spelled (Command.ModeSense ten long_lba no_descriptor control page alloc) }
+{
+    let two = page_byte(control, page);
+    let [_, low] = alloc.to_be_bytes();
+    if !ten {
+        return six_bytes(0x1A, flag_byte(3, no_descriptor), two, 0, low);
+    }
+    let one = flag_byte(4, long_lba) | flag_byte(3, no_descriptor);
+    let mut cdb = ten_bytes(0x5A, one, 0, u32::from(alloc));
+    cdb[2] = two;
+    cdb
+}
+
+#[tactic(auto, unfolding(crate::specs::Spelling::spelled))]
+fn mode_select_bytes(ten: bool, length: u16) -> [u8; 16]
+    ensures { result ≡ spelled (Command.ModeSelect ten length) }
+{
+    let [_, low] = length.to_be_bytes();
+    if ten {
+        ten_bytes(0x55, 0x10, 0, u32::from(length))
+    } else {
+        six_bytes(0x15, 0x10, 0, 0, low)
+    }
+}
+
+#[tactic(auto, unfolding(crate::specs::Spelling::spelled))]
+fn report_luns_bytes(select: u8, alloc: u32) -> [u8; 16]
+    ensures { result ≡ spelled (Command.ReportLuns select alloc) }
+{
+    let mut cdb = twelve_bytes(0xA0, 0, 0, alloc);
+    cdb[2] = select;
+    cdb
+}
+
+#[tactic(auto, unfolding(crate::specs::Spelling::spelled))]
+fn read_bytes(form: Form, lba: u64, count: u32, fua: bool) -> [u8; 16]
+    ensures { result ≡ spelled (Command.Read form lba count fua) }
+{
+    let one = flag_byte(3, fua);
+    match form {
+        Form::Six => short_bytes(0x08, lba, count),
+        Form::Ten => ten_bytes(0x28, one, lba, count),
+        Form::Twelve => twelve_bytes(0xA8, one, lba, count),
+        Form::Sixteen => sixteen_bytes(0x88, one, lba, count),
+    }
+}
+
+#[tactic(auto, unfolding(crate::specs::Spelling::spelled))]
+fn write_bytes(form: Form, lba: u64, count: u32, fua: bool) -> [u8; 16]
+    ensures { result ≡ spelled (Command.Write form lba count fua) }
+{
+    let one = flag_byte(3, fua);
+    match form {
+        Form::Six => short_bytes(0x0A, lba, count),
+        Form::Ten => ten_bytes(0x2A, one, lba, count),
+        Form::Twelve => twelve_bytes(0xAA, one, lba, count),
+        Form::Sixteen => sixteen_bytes(0x8A, one, lba, count),
+    }
+}
+
+#[tactic(auto, unfolding(crate::specs::Spelling::spelled))]
+fn verify_bytes(form: Form, lba: u64, count: u32, compare: bool) -> [u8; 16]
+    ensures { result ≡ spelled (Command.Verify form lba count compare) }
+{
+    let one = flag_byte(1, compare);
+    match form {
+        Form::Ten => ten_bytes(0x2F, one, lba, count),
+        Form::Twelve => twelve_bytes(0xAF, one, lba, count),
+        Form::Six | Form::Sixteen => sixteen_bytes(0x8F, one, lba, count),
+    }
+}
+
+#[tactic(auto, unfolding(crate::specs::Spelling::spelled))]
+fn synchronize_cache_bytes(form: Form, lba: u64, count: u32) -> [u8; 16]
+    ensures { result ≡ spelled (Command.Flush form lba count) }
+{
+    match form {
+        Form::Ten => ten_bytes(0x35, 0, lba, count),
+        Form::Six | Form::Twelve | Form::Sixteen => sixteen_bytes(0x91, 0, lba, count),
+    }
+}
+
+#[tactic(auto, unfolding(crate::specs::Spelling::spelled))]
+fn write_same_bytes(form: Form, lba: u64, count: u32, unmap: bool) -> [u8; 16]
+    ensures { result ≡ spelled (Command.WriteSame form lba count unmap) }
+{
+    let one = flag_byte(3, unmap);
+    match form {
+        Form::Ten => ten_bytes(0x41, one, lba, count),
+        Form::Six | Form::Twelve | Form::Sixteen => sixteen_bytes(0x93, one, lba, count),
+    }
+}
+
+fn pass_bytes(cdb: &[u8; 16]) -> [u8; 16]
+    ensures { result ≡ laid 16 (text 0 cdb.now ∷ []) }
+{
+    *cdb
+}
+
+#[tactic(auto, unfolding(crate::specs::Spelling::spelled))]
+fn bytes_of(command: &Command) -> [u8; 16]
+    ensures { result ≡ spelled command.now }
+{
+    match *command {
+        Command::TestUnitReady => [0; 16],
+        Command::RequestSense { descriptor, alloc } => {
+            six_bytes(0x03, flag_byte(0, descriptor), 0, 0, alloc)
+        }
+        Command::Inquiry { page, alloc } => inquiry_bytes(page, alloc),
+        Command::ModeSense {
+            ten,
+            long_lba,
+            no_descriptor,
+            control,
+            page,
+            alloc,
+        } => mode_sense_bytes(ten, long_lba, no_descriptor, control, page, alloc),
+        Command::ModeSelect { ten, length } => mode_select_bytes(ten, length),
+        Command::StartStop { start, no_flush } => {
+            let four = flag_byte(2, no_flush) | flag_byte(0, start);
+            six_bytes(0x1B, 0, 0, 0, four)
+        }
+        Command::ReadCapacity10 => six_bytes(0x25, 0, 0, 0, 0),
+        Command::ReadCapacity16 { alloc } => sixteen_bytes(0x9E, 0x10, 0, alloc),
+        Command::ReportLuns { select, alloc } => report_luns_bytes(select, alloc),
+        Command::Read {
+            form,
+            lba,
+            count,
+            fua,
+        } => read_bytes(form, lba, count, fua),
+        Command::Write {
+            form,
+            lba,
+            count,
+            fua,
+        } => write_bytes(form, lba, count, fua),
+        Command::Verify {
+            form,
+            lba,
+            count,
+            compare,
+        } => verify_bytes(form, lba, count, compare),
+        Command::Flush { form, lba, count } => synchronize_cache_bytes(form, lba, count),
+        Command::WriteSame {
+            form,
+            lba,
+            count,
+            unmap,
+        } => write_same_bytes(form, lba, count, unmap),
+        Command::Unmap { length } => ten_bytes(0x42, 0, 0, u32::from(length)),
+        Command::Pass { cdb } => pass_bytes(&cdb),
+    }
+}
+
+/// The bytes of a command, with zeros after the end of its form. Reserved bits, DPO, IMMED and the control byte are 0,
+/// PF is 1; a number is cut to its field, and a form that the command does not have is written as the one of 16 bytes. Each
+/// command that `read_cdb` gives is read back as it was (SPC-4, SBC-3, SAT-3).
+pub fn write_cdb(command: &Command) -> [u8; 16]
+    ensures written { result ≡ spelled command.now }
+    ensures read_back { (cdb : List ℕ) (trim : Bool) → IsBytes cdb → says cdb trim ≡ Ok command.now → says result true ≡ Ok command.now }
+{
+    bytes_of(command)
+}
