@@ -1,6 +1,7 @@
 -- The table of operation codes.
-use Rattle.std.specs.Prelude.{ℕ, zero, suc, ◌+◌, ◌*◌, Bool, true, false, List, [], ◌∷◌, ◌++◌, Result, slice_index, replicate}
+use Rattle.std.specs.Prelude.{ℕ, ◌*◌, Bool, true, false, List, [], ◌∷◌, ◌++◌, Result, slice_index, replicate}
 use Rattle.satl_base.specs.Fields.{bits}
+use Rattle.satl_base.specs.Places.{places}
 use Rattle.satl_cdb.specs.declared.command.Command.{Command}
 use Rattle.satl_cdb.specs.declared.command.Command.TheVariants as commands
 use Rattle.satl_cdb.specs.declared.command.Illegal.{Illegal}
@@ -8,23 +9,18 @@ use Rattle.satl_cdb.specs.Rows.{Format, Row, row, format_of, found_says}
 use Rattle.satl_cdb.specs.PrimaryCommands.{test_unit_ready, request_sense, inquiry, mode_select, mode_sense, report_luns}
 use Rattle.satl_cdb.specs.BlockCommands.{ten, twelve, sixteen, read_6, write_6, read, write, verify, synchronize_cache, write_same, unmap, start_stop, read_capacity_10, read_capacity_16}
 
--- n bytes from a place on
-abbrev pub copied : ℕ → ℕ → List ℕ → List ℕ
-copied first zero cdb = []
-copied first (suc n) cdb = slice_index cdb first ∷ copied (first + 1) n cdb
-
 -- SAT-3, ATA PASS-THROUGH (12) command: its bytes without bit 0 of byte 1, which is reserved, and without the control byte
 abbrev pub pass_through_12 : Format
 pass_through_12 = record {
   rules = [];
-  command = λ cdb. commands.Pass (slice_index cdb 0 ∷ bits 1 7 1 cdb * 2 ∷ (copied 2 8 cdb ++ replicate 6 0));
+  command = λ cdb. commands.Pass (slice_index cdb 0 ∷ bits 1 7 1 cdb * 2 ∷ (places 2 8 (slice_index cdb) ++ replicate 6 0));
 }
 
 -- SAT-3, ATA PASS-THROUGH (16) command: its bytes without the control byte
 abbrev pub pass_through_16 : Format
 pass_through_16 = record {
   rules = [];
-  command = λ cdb. commands.Pass (copied 0 15 cdb ++ 0 ∷ []);
+  command = λ cdb. commands.Pass (places 0 15 (slice_index cdb) ++ 0 ∷ []);
 }
 
 -- The operation codes of the profile, on a drive with or without trim.
