@@ -1,0 +1,4 @@
+pub mod Descriptor
+pub mod Fixed
+pub mod Fields
+pub mod Reading
