@@ -2,5 +2,12 @@
 #![tactic(auto)]
 
 mod identity;
+mod reading;
+#[cfg(test)]
+mod tests;
+mod words;
+mod writing;
 
 pub use identity::{Identity, IdentityFault};
+pub use reading::read_identity;
+pub use writing::identity_bytes;

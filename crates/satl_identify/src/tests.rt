@@ -1,0 +1,129 @@
+use super::*;
+use byteorder::{ByteOrder, LittleEndian};
+use std::test::*;
+
+// The words that are not 0 of a drive of 8,192 sectors.
+const WORDS: [(usize, u16); 56] = [
+    (0, 0x0040),
+    (10, 0x5341),
+    (11, 0x544C),
+    (12, 0x3030),
+    (13, 0x3030),
+    (14, 0x3030),
+    (15, 0x3030),
+    (16, 0x3030),
+    (17, 0x3030),
+    (18, 0x3030),
+    (19, 0x3031),
+    (23, 0x4657),
+    (24, 0x3031),
+    (25, 0x3032),
+    (26, 0x3033),
+    (27, 0x4D4F),
+    (28, 0x4445),
+    (29, 0x4C20),
+    (30, 0x4E43),
+    (31, 0x5120),
+    (32, 0x4449),
+    (33, 0x534B),
+    (34, 0x2020),
+    (35, 0x2020),
+    (36, 0x2020),
+    (37, 0x2020),
+    (38, 0x2020),
+    (39, 0x2020),
+    (40, 0x2020),
+    (41, 0x2020),
+    (42, 0x2020),
+    (43, 0x2020),
+    (44, 0x2020),
+    (45, 0x2020),
+    (46, 0x2020),
+    (49, 0x0300),
+    (60, 0x2000),
+    (69, 0x4020),
+    (75, 0x001F),
+    (76, 0x0100),
+    (77, 0x0040),
+    (82, 0x0061),
+    (83, 0x7400),
+    (84, 0x4120),
+    (85, 0x0061),
+    (86, 0x3400),
+    (87, 0x4120),
+    (100, 0x2000),
+    (105, 0x0008),
+    (106, 0x6003),
+    (108, 0x5000),
+    (111, 0x0001),
+    (168, 0x0003),
+    (169, 0x0001),
+    (217, 0x0001),
+    (255, 0x35A5),
+];
+
+fn set_word(bytes: &mut [u8; 512], place: usize, value: u16) {
+    if place < 256 {
+        LittleEndian::write_u16(&mut bytes[2 * place..], value);
+    }
+}
+
+fn drive_data() -> [u8; 512] {
+    let mut bytes = [0; 512];
+    for (place, value) in WORDS.iter() {
+        set_word(&mut bytes, *place, *value);
+    }
+    bytes
+}
+
+#[test]
+fn identity_and_settings(rt: HostRuntime) {
+    let bytes = drive_data();
+    let identity = Identity {
+        bytes,
+        capacity: 8_192,
+        exponent: 3,
+        trim: true,
+        queued_trim: true,
+        cache: true,
+        look: true,
+        cache_on: true,
+        look_on: true,
+    };
+    assert_eq!(rt; read_identity(&bytes), Ok(identity));
+    assert_eq!(rt; identity_bytes(&identity, true, true), bytes);
+
+    // The write cache off: 20h less in word 85, and so much more in the integrity byte.
+    let mut off = bytes;
+    set_word(&mut off, 85, 0x0041);
+    set_word(&mut off, 255, 0x55A5);
+    assert_eq!(rt; identity_bytes(&identity, false, true), off);
+}
+
+#[test]
+fn refusals(rt: HostRuntime) {
+    // Words that are changed one after the other, from the last refusal to the first, and what is then answered.
+    let changes = [
+        (106, 0x5000, IdentityFault::NotBlock512),
+        (103, 0x0001, IdentityFault::NoCapacity),
+        (75, 0x001E, IdentityFault::NoNcq),
+        (83, 0x5400, IdentityFault::NoLba48),
+        (255, 0x01A5, IdentityFault::BadIntegrity),
+        (0, 0x8000, IdentityFault::NotAta),
+    ];
+    let mut bytes = drive_data();
+    set_word(&mut bytes, 255, 0);
+    for (place, value, fault) in changes.iter() {
+        set_word(&mut bytes, *place, *value);
+        assert_eq!(rt; read_identity(&bytes), Err(*fault));
+    }
+    // Without bit 6 of word 77 a trim is not queued.
+    let mut unqueued = drive_data();
+    set_word(&mut unqueued, 255, 0);
+    set_word(&mut unqueued, 77, 0xFFBF);
+    let read = read_identity(&unqueued);
+    assert_eq!(rt;
+        read.map(|identity| (identity.trim, identity.queued_trim)),
+        Ok((true, false))
+    );
+}

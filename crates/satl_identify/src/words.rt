@@ -1,0 +1,40 @@
+// The words of the data.
+ghost use Rattle.std.specs.Prelude.{◌≡◌, ◌<◌};
+ghost use Rattle.satl_base.specs.Identify.{checksum, four_words, word, word_bit};
+
+use byteorder::{ByteOrder, LittleEndian};
+
+pub fn word_at(bytes: &[u8; 512], place: usize) -> u16
+    requires { place < 256 }
+    ensures { result ≡ word place bytes.now }
+{
+    LittleEndian::read_u16(&bytes[2 * place..])
+}
+
+pub fn bit_at(bytes: &[u8; 512], place: usize, low: u8) -> bool
+    requires place { place < 256 }
+    requires low { low < 16 }
+    ensures { result ≡ word_bit place low bytes.now }
+{
+    word_at(bytes, place) >> low & 1 == 1
+}
+
+// A number in four words, the lowest first.
+pub fn number_at(bytes: &[u8; 512], place: usize) -> u64
+    requires { place < 253 }
+    ensures { result ≡ four_words place bytes.now }
+{
+    LittleEndian::read_u64(&bytes[2 * place..])
+}
+
+// The sum of all bytes modulo 256.
+#[tactic(auto, unfolding(satl_base::specs::Identify::checksum))]
+pub fn checksum_of(bytes: &[u8; 512]) -> u8
+    ensures { result ≡ checksum bytes.now }
+{
+    let mut sum = 0u8;
+    for byte in bytes {
+        sum = sum.wrapping_add(*byte);
+    }
+    sum
+}

@@ -1,0 +1,45 @@
+// Writing the data.
+ghost use Rattle.std.specs.Prelude.{◌≡◌, ◌==◌, IsTrue, Ok};
+ghost use Rattle.satl_base.specs.Identify.{checksum, word_bits};
+ghost use Rattle.satl_identify.specs.Data.{identity_data, settings_byte, with_integrity};
+ghost use Rattle.satl_identify.specs.Refusals.{IsIdentity, identity_of};
+
+use crate::identity::Identity;
+use crate::words::checksum_of;
+
+// The place of the low byte of word 85, which has the settings.
+const SETTINGS: usize = 2 * 85;
+
+// The place of the high byte of word 255.
+const INTEGRITY: usize = 2 * 255 + 1;
+
+fn settings_of(byte: u8, cache_on: bool, look_on: bool) -> u8
+    ensures { result ≡ settings_byte byte cache_on look_on }
+{
+    let look = if look_on { 0x40 } else { 0 };
+    let cache = if cache_on { 0x20 } else { 0 };
+    (byte >> 7 << 7) + look + cache + (byte & 0x1F)
+}
+
+fn mend(bytes: &mut [u8; 512])
+    ensures { bytes.new ≡ with_integrity bytes.old }
+{
+    if bytes[510] == 0xA5 {
+        bytes[INTEGRITY] = 0;
+        bytes[INTEGRITY] = checksum_of(bytes).wrapping_neg();
+    }
+}
+
+/// The data of an identity with these settings: bits 5 and 6 of word 85 as given, and where the integrity word is there
+/// (bits 7:0 of word 255 are A5h) its high byte so that all bytes sum to 0 modulo 256 (ACS-3 7.12.7). All else stays.
+pub fn identity_bytes(identity: &Identity, cache_on: bool, look_on: bool) -> [u8; 512]
+    ensures exact { result ≡ identity_data identity.now.bytes cache_on look_on }
+    ensures sum { IsTrue (word_bits 255 7 0 identity.now.bytes == 0xA5) → checksum result ≡ 0 }
+    // An identity stays one, with the new settings and all else as it was.
+    ensures passes { IsIdentity identity.now → identity_of result ≡ Ok (record identity.now { bytes = result; cache_on = cache_on; look_on = look_on }) }
+{
+    let mut bytes = identity.bytes;
+    bytes[SETTINGS] = settings_of(bytes[SETTINGS], cache_on, look_on);
+    mend(&mut bytes);
+    bytes
+}
