@@ -1,0 +1,4 @@
+pub mod Filled
+pub mod FieldBytes
+pub mod Lacking
+pub mod Paging

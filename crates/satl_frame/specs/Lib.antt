@@ -1,0 +1,10 @@
+pub mod DataPages
+pub mod Faults
+pub mod Frames
+pub mod Gathering
+pub mod Inputs
+pub mod Magic
+pub mod Output
+pub mod Pulls
+pub mod Reading
+pub mod Steps

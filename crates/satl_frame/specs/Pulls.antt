@@ -1,0 +1,94 @@
+-- What pulling a stated number of bytes from a source leaves.
+use Rattle.std.specs.Prelude.{ℕ, ◌+◌, ◌<◌, ◌≤◌, ◌≡◌, Bool, true, List, ◌++◌, length, take, reverse, IfSome, IsErrOf, Option, Some, None}
+use Rattle.std.specs.declared.result.Result.{Result}
+use Rattle.std.specs.declared.result.Result.TheVariants.{Ok, Err}
+use Rattle.satl_io.specs.Causes.{Rose}
+use Rattle.satl_io.specs.Known.{Took}
+use Rattle.satl_base.specs.declared.block.Block.{Block}
+use Rattle.satl_base.specs.declared.request.Request.{Request}
+use Rattle.satl_frame.specs.DataPages.{pages_of}
+use Rattle.satl_frame.specs.Faults.{has_bad_field}
+use Rattle.satl_frame.specs.Frames.{kind, payload_bytes, IsFrame}
+use Rattle.satl_frame.specs.declared.frames.Version.{Version}
+use Rattle.satl_frame.specs.declared.frames.Frame.{Frame}
+use Rattle.satl_frame.specs.declared.frames.Frame.TheVariants as frames
+use Rattle.satl_frame.specs.declared.pull.PullError.{PullError}
+use Rattle.satl_frame.specs.declared.pull.PullError.TheVariants.{Short, Failed}
+
+-- fewer bytes than this were left, and all of them were taken
+pub record Lacks (left left' : Option (List ℕ)) (n : ℕ) : Type 0 where
+  pub known : IfSome left (λ bytes. (length bytes < n) × Took left left' bytes)
+
+-- bytes are short only where the source had fewer, and a read failed only where the count rose
+pub record PullCauses {T : Type 0} (left left' : Option (List ℕ)) (n before now : ℕ) (result : Result T PullError) : Type 0 where
+  pub later : before ≤ now
+  pub short : IsErrOf result Short → Lacks left left' n
+  pub failed : IsErrOf result Failed → Rose before now
+
+-- so many bytes were taken
+pub record TookCount (left left' : Option (List ℕ)) (n : ℕ) : Type 0 where
+  pub taken : List ℕ
+  pub took : Took left left' taken
+  pub size : length taken ≡ n
+
+-- so many bytes were taken, and stand in order in as many of the pages as there were
+pub record TookPages (left left' : Option (List ℕ)) (n room : ℕ) (pages : List Block) : Type 0 where
+  pub taken : List ℕ
+  pub took : Took left left' taken
+  pub size : length taken ≡ n
+  pub pages_are : pages ≡ take room (pages_of taken)
+
+-- pages were filled from the front of some and put in reverse before others
+pub record Placed (left left' : Option (List ℕ)) (n room : ℕ) (old new : List Block) : Type 0 where
+  pub taken : List ℕ
+  pub took : Took left left' taken
+  pub size : length taken ≡ n
+  pub placed : reverse new ≡ reverse old ++ take room (pages_of taken)
+
+-- a frame of which no more pages than these are kept
+abbrev pub cut_to : ℕ → Frame → Frame
+cut_to room (frames.Request r) = frames.Request (record r { body = take room r.body })
+cut_to room (frames.Manage m) = frames.Manage m
+cut_to room (frames.Turn count) = frames.Turn count
+cut_to room (frames.Bench event) = frames.Bench event
+cut_to room frames.End = frames.End
+
+-- the payload of a whole frame of this kind and length was taken, and this is the frame with the pages that were free
+pub record TookPayload (left left' : Option (List ℕ)) (version : Version) (k len room : ℕ) (frame : Frame) : Type 0 where
+  pub whole : Frame
+  pub is_frame : IsFrame version whole
+  pub cut : frame ≡ cut_to room whole
+  pub took : Took left left' (payload_bytes whole)
+  pub kind_is : kind whole ≡ k
+  pub length_is : length (payload_bytes whole) ≡ len
+
+-- the data-out of a request was taken, and this is the request with the pages that were free
+pub record TookRest (left left' : Option (List ℕ)) (request : Request) (len room : ℕ) (frame : Frame) : Type 0 where
+  pub taken : List ℕ
+  pub took : Took left left' taken
+  pub size : length taken ≡ len
+  pub frame_is : frame ≡ frames.Request (record request { body = take room (pages_of taken); data_len = len })
+
+-- a payload of this kind and length was taken, and a field of it is bad
+pub record TookBadField (left left' : Option (List ℕ)) (version : Version) (k len : ℕ) : Type 0 where
+  pub taken : List ℕ
+  pub took : Took left left' taken
+  pub length_is : length taken ≡ len
+  pub bad : has_bad_field version k taken ≡ true
+
+-- the pages of a frame
+abbrev pub frame_pages : Frame → ℕ
+frame_pages (frames.Request r) = length r.body
+frame_pages (frames.Manage m) = 0
+frame_pages (frames.Turn count) = 0
+frame_pages (frames.Bench event) = 0
+frame_pages frames.End = 0
+
+abbrev pub found_pages : Option Frame → ℕ
+found_pages None = 0
+found_pages (Some f) = frame_pages f
+
+-- the pages that a call gives away: none where it fails
+abbrev pub given_pages : {T E : Type 0} → (T → ℕ) → Result T E → ℕ
+given_pages pages (Ok x) = pages x
+given_pages pages (Err e) = 0

@@ -1,0 +1,147 @@
+// Judgements on the first bytes of an input and of a frame.
+ghost use Rattle.std.specs.Prelude.{◌≡◌, ◌≤◌, ◌<◌, ◌+◌, ◌&&◌, ℕ, nat_le, true, length, take, drop, slice_index};
+ghost use Rattle.byteorder.specs.Endian.{big_bytes, big_from};
+ghost use Rattle.satl_frame.specs.Faults.{head_fault, told_length};
+ghost use Rattle.satl_frame.specs.Frames.{head_size, frame_rows, has_code, allows};
+ghost use Rattle.satl_frame.specs.Magic.{names_version, version_of, magic_fault};
+
+use crate::frames::{Reason, Version};
+use byteorder::{BigEndian, ByteOrder};
+
+const MAGIC_NAME: [u8; 7] = *b"SATLRPL";
+const LONGEST_DATA: u32 = 2_097_152;
+
+/// The number in the four bytes from a place on.
+pub fn number_4(bytes: &[u8], at: usize) -> u32
+    requires { at + 4 ≤ length bytes.now }
+    ensures value { result ≡ big_from at 4 bytes.now }
+    ensures spelled { big_bytes 4 result ≡ take 4 (drop at bytes.now) }
+{
+    BigEndian::read_u32(&bytes[at..])
+}
+
+/// The number in the eight bytes from a place on.
+pub fn number_8(bytes: &[u8], at: usize) -> u64
+    requires { at + 8 ≤ length bytes.now }
+    ensures value { result ≡ big_from at 8 bytes.now }
+    ensures spelled { big_bytes 8 result ≡ take 8 (drop at bytes.now) }
+{
+    BigEndian::read_u64(&bytes[at..])
+}
+
+/// The bytes of a request before its data-out.
+pub fn head_size(version: Version) -> u32
+    ensures { result ≡ head_size version }
+{
+    match version {
+        Version::One => 30,
+        Version::Two => 34,
+    }
+}
+
+fn is_kind(version: Version, kind: u8) -> bool
+    ensures { result ≡ has_code (frame_rows version) kind }
+{
+    kind == 1 || kind == 2 || kind == 3 || kind == 4 || kind == 5
+}
+
+/// The shortest and the longest payload of a kind.
+fn lengths(version: Version, kind: u8) -> (u32, u32)
+    requires { has_code (frame_rows version) kind ≡ true }
+    ensures { (len : ℕ) → allows (frame_rows version) kind len ≡ (nat_le result.0 len && nat_le len result.1) }
+{
+    match kind {
+        1 => (head_size(version), head_size(version) + LONGEST_DATA),
+        2 => (14, 14),
+        3 => (2, 2),
+        4 => (1, 257),
+        _ => (0, 0),
+    }
+}
+
+fn is_length(version: Version, kind: u8, len: u32) -> bool
+    requires { has_code (frame_rows version) kind ≡ true }
+    ensures { result ≡ allows (frame_rows version) kind len }
+{
+    let (shortest, longest) = lengths(version, kind);
+    shortest <= len && len <= longest
+}
+
+/// The length of the payload that a head tells.
+pub fn told_length(head: &[u8]) -> u32
+    requires { length head.now ≡ 5 }
+    ensures value { result ≡ told_length head.now }
+    ensures bytes { big_bytes 4 result ≡ drop 1 head.now }
+{
+    BigEndian::read_u32(&head[1..])
+}
+
+/// Why the first five bytes of what stands at an offset, or as many as there are, begin no frame.
+pub fn head_fault(
+    version: Version,
+    limit: u64,
+    offset: u64,
+    head: &[u8],
+    count: usize,
+) -> Option<Reason>
+    requires long { length head.now ≡ 5 }
+    requires part { count ≤ 5 }
+    ensures { result ≡ head_fault version limit offset (take count head.now) }
+{
+    if count == 0 {
+        return Some(Reason::Truncated);
+    }
+    if !is_kind(version, head[0]) {
+        return Some(Reason::BadKind);
+    }
+    if count < 5 {
+        return Some(Reason::Truncated);
+    }
+    let length = told_length(head);
+    if !is_length(version, head[0], length) {
+        return Some(Reason::BadLength);
+    }
+    if limit.saturating_sub(offset) < 5 + u64::from(length) {
+        return Some(Reason::TooLong);
+    }
+    None
+}
+
+fn names_version(newest: Version, code: u8) -> bool
+    ensures { result ≡ names_version newest code }
+{
+    match newest {
+        Version::One => code == b'1',
+        Version::Two => code == b'1' || code == b'2',
+    }
+}
+
+/// Why the first bytes, at most eight, are not the magic of a version up to the newest one.
+pub fn magic_fault(newest: Version, front: &[u8]) -> Option<Reason>
+    requires { length front.now ≤ 8 }
+    ensures { result ≡ magic_fault newest front.now }
+{
+    let named = front.len().min(7);
+    if !MAGIC_NAME.starts_with(&front[..named]) {
+        return Some(Reason::BadMagic);
+    }
+    if front.len() < 8 {
+        return Some(Reason::Truncated);
+    }
+    if !names_version(newest, front[7]) {
+        return Some(Reason::BadMagic);
+    }
+    None
+}
+
+/// The version that a magic names.
+pub fn version_of(magic: &[u8]) -> Version
+    requires { length magic.now ≡ 8 }
+    ensures { result ≡ version_of magic.now }
+{
+    if magic[7] == b'2' {
+        Version::Two
+    } else {
+        Version::One
+    }
+}

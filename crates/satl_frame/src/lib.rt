@@ -1,0 +1,15 @@
+//! The framing of the program's input and output (profile): bytes to frames however the reads are cut, and frames to bytes.
+#![tactic(auto)]
+
+mod frames;
+mod judge;
+mod payloads;
+mod pull;
+mod refill;
+mod reader;
+mod writing;
+
+
+pub use frames::{Frame, FrameFault, OutFrame, Place, Reason, Version, WriteFault};
+pub use reader::FrameReader;
+pub use writing::write_frame;

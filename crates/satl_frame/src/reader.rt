@@ -1,0 +1,323 @@
+// The reader of frames.
+ghost use Rattle.std.specs.Prelude.{◌≡◌, ◌<◌, ◌≤◌, ◌+◌, ◌^◌, ℕ, true, IfOk, IfErr, IfSome, IfNone, Some, None, Err, length, slice_index};
+ghost use Rattle.satl_frame.specs.Faults.{told_length};
+ghost use Rattle.satl_frame.specs.Frames.{frame_rows, has_code, allows};
+ghost use Rattle.satl_frame.specs.Pulls.{PullCauses, TookPayload, TookRest, TookBadField, found_pages, frame_pages, given_pages};
+ghost use Rattle.satl_frame.specs.Reading.{Reading, Gave, Blames, ReadCauses};
+ghost use Rattle.satl_frame.specs.Steps.{Began, BlamesMagic, StoodAt, StoodBehind, BlamesAt, BlamesPayload};
+
+use crate::frames::{Frame, FrameFault, Place, Reason, Version};
+use crate::judge::{head_fault, head_size, magic_fault, told_length, version_of};
+use crate::payloads::{request_of, small_frame};
+use crate::pull::{PullError, fill, pull};
+use crate::refill::{pull_data, skip};
+use satl_base::{Lender, Request};
+use satl_io::{Failed, Source};
+use std::alloc::Global;
+use std::marker::Model;
+
+/// Pulls the data-out of a request.
+fn pull_rest<S: Source, P: Lender>(
+    source: &mut S,
+    lender: &mut P,
+    request: Request,
+    len: u32,
+) -> Result<Frame, PullError>
+    ensures frame { IfOk result (TookRest (S.left source.old) (S.left source.new) request len (P.free lender.old)) }
+    ensures causes { PullCauses (S.left source.old) (S.left source.new) len (S.faults source.old) (S.faults source.new) result }
+    ensures free { P.free lender.new + given_pages frame_pages result ≡ P.free lender.old }
+    ensures out { P.out lender.new ≡ P.out lender.old + given_pages frame_pages result }
+    ensures rest { P.rest lender.new ≡ P.rest lender.old }
+{
+    match pull_data(source, lender, len) {
+        Ok(body) => Ok(Frame::Request(Request {
+            body,
+            data_len: len,
+            ..request
+        })),
+        Err(error) => Err(error),
+    }
+}
+
+/// Pulls the payload of a request. None where a field of it is bad.
+fn pull_request<S: Source, P: Lender>(
+    source: &mut S,
+    lender: &mut P,
+    version: Version,
+    len: u32,
+) -> Result<Option<Frame>, PullError>
+    requires { allows (frame_rows version) 1 len ≡ true }
+    ensures frame { IfOk result (λ found. IfSome found (TookPayload (S.left source.old) (S.left source.new) version 1 len (P.free lender.old))) }
+    ensures none { IfOk result (λ found. IfNone found (TookBadField (S.left source.old) (S.left source.new) version 1 len)) }
+    ensures causes { PullCauses (S.left source.old) (S.left source.new) len (S.faults source.old) (S.faults source.new) result }
+    ensures free { P.free lender.new + given_pages found_pages result ≡ P.free lender.old }
+    ensures out { P.out lender.new ≡ P.out lender.old + given_pages found_pages result }
+    ensures rest { P.rest lender.new ≡ P.rest lender.old }
+{
+    let size = head_size(version);
+    let mut buffer = [0; 34];
+    let head = &mut buffer[..size as usize];
+    pull(source, head)?;
+    match request_of(version, head) {
+        Some(request) => match pull_rest(source, lender, request, len - size) {
+            Ok(frame) => Ok(Some(frame)),
+            Err(error) => Err(error),
+        },
+        None => match skip(source, len - size) {
+            Ok(()) => Ok(None),
+            Err(error) => Err(error),
+        },
+    }
+}
+
+/// Pulls the payload of a frame of another kind. None where a field of it is bad.
+fn pull_small<S: Source>(
+    source: &mut S,
+    version: Version,
+    code: u8,
+    len: u32,
+) -> Result<Option<Frame>, PullError>
+    requires known { has_code (frame_rows version) code ≡ true }
+    requires allowed { allows (frame_rows version) code len ≡ true }
+    requires other { 1 < code }
+    ensures frame { (room : ℕ) → IfOk result (λ found. IfSome found (TookPayload (S.left source.old) (S.left source.new) version code len room)) }
+    ensures none { IfOk result (λ found. IfNone found (TookBadField (S.left source.old) (S.left source.new) version code len)) }
+    ensures causes { PullCauses (S.left source.old) (S.left source.new) len (S.faults source.old) (S.faults source.new) result }
+    ensures pages { given_pages found_pages result ≡ 0 }
+{
+    let mut buffer = [0; 257];
+    let payload = &mut buffer[..len as usize];
+    pull(source, payload)?;
+    match small_frame(version, code, payload) {
+        Some(frame) => Ok(Some(frame)),
+        None => Ok(None),
+    }
+}
+
+/// Pulls the payload of a frame of this kind and length. None where a field of it is bad.
+fn pull_payload<S: Source, P: Lender>(
+    source: &mut S,
+    lender: &mut P,
+    version: Version,
+    code: u8,
+    len: u32,
+) -> Result<Option<Frame>, PullError>
+    requires known { has_code (frame_rows version) code ≡ true }
+    requires allowed { allows (frame_rows version) code len ≡ true }
+    ensures frame { IfOk result (λ found. IfSome found (TookPayload (S.left source.old) (S.left source.new) version code len (P.free lender.old))) }
+    ensures none { IfOk result (λ found. IfNone found (TookBadField (S.left source.old) (S.left source.new) version code len)) }
+    ensures causes { PullCauses (S.left source.old) (S.left source.new) len (S.faults source.old) (S.faults source.new) result }
+    ensures free { P.free lender.new + given_pages found_pages result ≡ P.free lender.old }
+    ensures out { P.out lender.new ≡ P.out lender.old + given_pages found_pages result }
+    ensures rest { P.rest lender.new ≡ P.rest lender.old }
+{
+    if code == 1 {
+        return pull_request(source, lender, version, len);
+    }
+    pull_small(source, version, code, len)
+}
+
+/// Reads the payload behind a good head, and gives the offset behind the frame too.
+fn read_payload<S: Source, P: Lender>(
+    source: &mut S,
+    lender: &mut P,
+    head: &[u8],
+    place: Place,
+) -> Result<(Frame, u64), FrameFault>
+    requires long { length head.now ≡ 5 }
+    requires known { has_code (frame_rows place.version) (slice_index head.now 0) ≡ true }
+    requires allowed { allows (frame_rows place.version) (slice_index head.now 0) (told_length head.now) ≡ true }
+    requires within { place.offset + 5 + told_length head.now < 2 ^ 64 }
+    ensures frame { IfOk result (λ x. StoodBehind place.version head.now (S.left source.old) (S.left source.new) (P.free lender.old) x.0) }
+    ensures next { IfOk result (λ x. x.1 ≡ place.offset + 5 + told_length head.now) }
+    ensures fault { IfErr result (BlamesPayload place.version head.now place.offset (S.left source.old) (S.left source.new)) }
+    ensures causes { ReadCauses (S.faults source.old) (S.faults source.new) result }
+    ensures free { P.free lender.new + given_pages (λ x. frame_pages x.0) result ≡ P.free lender.old }
+    ensures out { P.out lender.new ≡ P.out lender.old + given_pages (λ x. frame_pages x.0) result }
+    ensures rest { P.rest lender.new ≡ P.rest lender.old }
+{
+    let len = told_length(head);
+    let offset = place.offset;
+    match pull_payload(source, lender, place.version, head[0], len) {
+        Ok(Some(frame)) => Ok((frame, offset + 5 + u64::from(len))),
+        Ok(None) => Err(FrameFault::Bad {
+            reason: Reason::BadField,
+            offset,
+        }),
+        Err(PullError::Short) => Err(FrameFault::Bad {
+            reason: Reason::Truncated,
+            offset,
+        }),
+        Err(PullError::Failed) => Err(FrameFault::ReadFault),
+    }
+}
+
+/// Reads the frame at a place, and gives the offset behind it too.
+fn read_frame<S: Source, P: Lender>(
+    source: &mut S,
+    lender: &mut P,
+    limit: u64,
+    place: Place,
+) -> Result<(Frame, u64), FrameFault>
+    ensures frame { IfOk result (λ x. StoodAt limit place (S.left source.old) (S.left source.new) (P.free lender.old) x.0 x.1) }
+    ensures fault { IfErr result (BlamesAt limit place (S.left source.old) (S.left source.new)) }
+    ensures causes { ReadCauses (S.faults source.old) (S.faults source.new) result }
+    ensures free { P.free lender.new + given_pages (λ x. frame_pages x.0) result ≡ P.free lender.old }
+    ensures out { P.out lender.new ≡ P.out lender.old + given_pages (λ x. frame_pages x.0) result }
+    ensures rest { P.rest lender.new ≡ P.rest lender.old }
+{
+    let mut head = [0; 5];
+    let count = match fill(source, &mut head) {
+        Ok(count) => count,
+        Err(Failed) => return Err(FrameFault::ReadFault),
+    };
+    match head_fault(place.version, limit, place.offset, &head, count) {
+        Some(reason) => Err(FrameFault::Bad {
+            reason,
+            offset: place.offset,
+        }),
+        None => read_payload(source, lender, &head, place),
+    }
+}
+
+/// Reads the magic, and gives the version that it names.
+fn read_magic<S: Source>(source: &mut S, newest: Version) -> Result<Place, FrameFault>
+    ensures began { IfOk result (Began newest None (S.left source.old) (S.left source.new)) }
+    ensures fault { IfErr result (BlamesMagic newest (S.left source.old) (S.left source.new)) }
+    ensures causes { ReadCauses (S.faults source.old) (S.faults source.new) result }
+{
+    let mut front = [0; 8];
+    let count = match fill(source, &mut front) {
+        Ok(count) => count,
+        Err(Failed) => return Err(FrameFault::ReadFault),
+    };
+    match magic_fault(newest, &front[..count]) {
+        Some(reason) => Err(FrameFault::Bad { reason, offset: 0 }),
+        None => Ok(Place {
+            version: version_of(&front),
+            offset: 8,
+        }),
+    }
+}
+
+/// Reads the magic unless that was done, and gives the place of the next frame.
+fn begin<S: Source>(
+    source: &mut S,
+    newest: Version,
+    place: Option<Place>,
+) -> Result<Place, FrameFault>
+    ensures began { IfOk result (Began newest place (S.left source.old) (S.left source.new)) }
+    ensures fault { IfErr result (λ e. (place ≡ None) × BlamesMagic newest (S.left source.old) (S.left source.new) e) }
+    ensures causes { ReadCauses (S.faults source.old) (S.faults source.new) result }
+{
+    match place {
+        Some(place) => Ok(place),
+        None => read_magic(source, newest),
+    }
+}
+
+/// Reads frames from a source, one at a time (profile). It takes no memory. The limit is the number of bytes within
+/// which each frame of the input has to end.
+#[derive(Drop)]
+pub struct FrameReader {
+    limit: u64,
+    newest: Version,
+    place: Option<Place>,
+    refused: Option<FrameFault>,
+}
+
+impl Model for FrameReader {
+    ghost use Rattle.satl_frame.specs.Reading.{Reading};
+
+    ghost Value = { Reading };
+
+    ghost view = { λ r. record { limit = r.limit; newest = r.newest; place = r.place; refused = r.refused } };
+}
+
+impl FrameReader {
+    ghost use Rattle.satl_frame.specs.declared.frames.Version.TheVariants.{One, Two};
+
+    /// Reads an input of version 1 or 2.
+    pub fn new(_alloc: Global, limit: u64) -> Self
+        ensures { result ≡ record { limit = limit; newest = Two; place = None; refused = None } }
+    {
+        FrameReader {
+            limit,
+            newest: Version::Two,
+            place: None,
+            refused: None,
+        }
+    }
+
+    /// Reads an input of version 1 alone: the magic of version 2 is a bad one.
+    pub fn first_only(_alloc: Global, limit: u64) -> Self
+        ensures { result ≡ record { limit = limit; newest = One; place = None; refused = None } }
+    {
+        FrameReader {
+            limit,
+            newest: Version::One,
+            place: None,
+            refused: None,
+        }
+    }
+
+    /// The next frame of a reader that has refused none.
+    fn advance<S: Source, P: Lender>(
+        &mut self,
+        source: &mut S,
+        lender: &mut P,
+    ) -> Result<Frame, FrameFault>
+        ensures gave { IfOk result (λ f. Gave self.old (P.free lender.old) f self.new (S.left source.old) (S.left source.new)) }
+        ensures blames { IfErr result (λ e. Blames self.old (S.left source.old) (S.left source.new) e × (self.new ≡ self.old)) }
+        ensures causes { ReadCauses (S.faults source.old) (S.faults source.new) result }
+        ensures free { P.free lender.new + given_pages frame_pages result ≡ P.free lender.old }
+        ensures out { P.out lender.new ≡ P.out lender.old + given_pages frame_pages result }
+        ensures rest { P.rest lender.new ≡ P.rest lender.old }
+    {
+        let place = match begin(source, self.newest, self.place) {
+            Ok(place) => place,
+            Err(fault) => return Err(fault),
+        };
+        match read_frame(source, lender, self.limit, place) {
+            Ok((frame, offset)) => {
+                self.place = Some(Place { offset, ..place });
+                Ok(frame)
+            }
+            Err(fault) => Err(fault),
+        }
+    }
+
+    /// The next frame, and before the first one the magic. Exactly its bytes are taken from the source. Its data-out stands in
+    /// the first pages that the lender has free: bytes that do not fit are taken and dropped, and `data_len` is the
+    /// length of all. `Bad` says why and where the input is refused; `ReadFault` that a read failed. Either is
+    /// answered again from then on, and nothing more is read.
+    pub fn next<S: Source, P: Lender>(
+        &mut self,
+        source: &mut S,
+        lender: &mut P,
+    ) -> Result<Frame, FrameFault>
+        ensures gave { IfOk result (λ f. Gave self.old (P.free lender.old) f self.new (S.left source.old) (S.left source.new)) }
+
+        // A refusal is repeated; a first one is that of the bytes left, or a read has failed.
+        ensures repeats { IfSome self.old.refused (λ fault. (result ≡ Err fault) × (self.new ≡ self.old) × (source.new ≡ source.old)) }
+        ensures blames { self.old.refused ≡ None → IfErr result (Blames self.old (S.left source.old) (S.left source.new)) }
+        ensures keeps { IfErr result (λ fault. self.new ≡ record self.old { refused = Some fault }) }
+        ensures causes { self.old.refused ≡ None → ReadCauses (S.faults source.old) (S.faults source.new) result }
+
+        // As many pages are lent as the frame has.
+        ensures free { P.free lender.new + given_pages frame_pages result ≡ P.free lender.old }
+        ensures out { P.out lender.new ≡ P.out lender.old + given_pages frame_pages result }
+        ensures rest { P.rest lender.new ≡ P.rest lender.old }
+    {
+        if let Some(fault) = self.refused {
+            return Err(fault);
+        }
+        match self.advance(source, lender) {
+            Ok(frame) => Ok(frame),
+            Err(fault) => {
+                self.refused = Some(fault);
+                Err(fault)
+            }
+        }
+    }
+}

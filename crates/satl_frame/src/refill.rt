@@ -1,0 +1,124 @@
+// Data-out from the source into pages, in large reads.
+ghost use Rattle.std.specs.Prelude.{◌≡◌, ◌<◌, ◌≤◌, ◌+◌, ◌*◌, ◌^◌, ◌++◌, [], IfOk, OnOk, length, take, drop, reverse};
+ghost use Rattle.satl_base.specs.Blocks.{zero_block};
+ghost use Rattle.satl_frame.specs.DataPages.{page_count, padded_block, pages_from, zeros};
+ghost use Rattle.satl_frame.specs.Pulls.{PullCauses, TookCount, TookPages, Placed, given_pages};
+
+use crate::pull::{PullError, pull};
+use satl_base::{Block, Lender, Pages};
+use satl_io::Source;
+
+/// The most bytes that one pull asks for: eight pages.
+const CHUNK: usize = 4096;
+
+fn empty_chunk() -> [u8; CHUNK]
+    ensures { result ≡ zeros 4096 }
+{
+    [0; CHUNK]
+}
+
+/// The block at a place of a buffer.
+fn block_at(buffer: &[u8], i: u32) -> Block
+    requires { 512 * i + 512 ≤ length buffer.now }
+    ensures { result ≡ padded_block (drop (512 * i) buffer.now) }
+{
+    let first = 512 * i as usize;
+    let mut bytes = [0; 512];
+    bytes.copy_from_slice(&buffer[first..first + 512]);
+    Block { bytes }
+}
+
+/// Fills n pages from a buffer, and moves them from the front of `todo` to that of `done`.
+fn place_blocks(buffer: &[u8], n: u32, todo: &mut Pages, done: &mut Pages)
+    requires long { 512 * n ≤ length buffer.now }
+    requires room { n ≤ length todo.old }
+    requires few { length todo.old + length done.old < 2 ^ 32 }
+    ensures placed { reverse done.new ≡ reverse done.old ++ pages_from n buffer.now }
+    ensures left { length todo.new + n ≡ length todo.old }
+{
+    for i in 0..n {
+        let Some(mut page) = todo.pop_first() else {
+            unreachable!();
+        };
+        page.set(&block_at(buffer, i));
+        done.push_first(page);
+    }
+}
+
+/// Takes at most a chunk of bytes into as many of the pages as there are.
+fn pull_chunk<S: Source>(
+    source: &mut S,
+    count: usize,
+    todo: &mut Pages,
+    done: &mut Pages,
+) -> Result<(), PullError>
+    requires short { count ≤ 4096 }
+    requires few { length todo.old + length done.old < 2 ^ 32 }
+    ensures placed { OnOk result (Placed (S.left source.old) (S.left source.new) count (length todo.old) done.old done.new) }
+    ensures same { length todo.new + length done.new ≡ length todo.old + length done.old }
+    ensures causes { PullCauses (S.left source.old) (S.left source.new) count (S.faults source.old) (S.faults source.new) result }
+{
+    let mut buffer = empty_chunk();
+    pull(source, &mut buffer[..count])?;
+    let pages = count.div_ceil(512) as u32;
+    place_blocks(&buffer, pages.min(todo.blocks()), todo, done);
+    Ok(())
+}
+
+/// Takes bytes into as many of the pages as there are, and moves the filled ones in reverse to `done`.
+fn fill_pages<S: Source>(
+    source: &mut S,
+    len: u32,
+    todo: &mut Pages,
+    done: &mut Pages,
+) -> Result<(), PullError>
+    requires none { done.old ≡ [] }
+    requires few { length todo.old < 2 ^ 32 }
+    ensures filled { OnOk result (TookPages (S.left source.old) (S.left source.new) len (length todo.old) (reverse done.new)) }
+    ensures same { length todo.new + length done.new ≡ length todo.old }
+    ensures causes { PullCauses (S.left source.old) (S.left source.new) len (S.faults source.old) (S.faults source.new) result }
+{
+    let len = len as usize;
+    let mut at = 0;
+    while at < len {
+        let count = (len - at).min(CHUNK);
+        pull_chunk(source, count, todo, done)?;
+        at += count;
+    }
+    Ok(())
+}
+
+/// Takes bytes from the source, and drops them.
+pub fn skip<S: Source>(source: &mut S, len: u32) -> Result<(), PullError>
+    ensures bytes { OnOk result (TookCount (S.left source.old) (S.left source.new) len) }
+    ensures causes { PullCauses (S.left source.old) (S.left source.new) len (S.faults source.old) (S.faults source.new) result }
+{
+    fill_pages(source, len, &mut Pages::default(), &mut Pages::default())
+}
+
+/// Takes bytes into the first pages that are free. What does not fit is dropped.
+pub fn pull_data<S: Source, P: Lender>(
+    source: &mut S,
+    lender: &mut P,
+    len: u32,
+) -> Result<Pages, PullError>
+    ensures filled { IfOk result (TookPages (S.left source.old) (S.left source.new) len (P.free lender.old)) }
+    ensures causes { PullCauses (S.left source.old) (S.left source.new) len (S.faults source.old) (S.faults source.new) result }
+    ensures free { P.free lender.new + given_pages length result ≡ P.free lender.old }
+    ensures out { P.out lender.new ≡ P.out lender.old + given_pages length result }
+    ensures rest { P.rest lender.new ≡ P.rest lender.old }
+{
+    let mut todo = lender.lend(len.div_ceil(512).min(lender.room()));
+    let mut done = Pages::default();
+    match fill_pages(source, len, &mut todo, &mut done) {
+        Ok(()) => {
+            done.reverse();
+            Ok(done)
+        }
+        Err(error) => {
+            lender.give_back(todo);
+            lender.give_back(done);
+            Err(error)
+        }
+    }
+}

@@ -1,0 +1,214 @@
+// Bytes of frames into a sink, gathered into few writes.
+ghost use Rattle.std.specs.Prelude.{◌≡◌, ◌≤◌, ◌+◌, ◌*◌, ◌++◌, None, Some, OnOk, OnErr, is_ok, length};
+ghost use Rattle.arrayvec.specs.ArrayVec.{array_vec_len};
+ghost use Rattle.byteorder.specs.Endian.{big_bytes};
+ghost use Rattle.satl_base.specs.Blocks.{first_bytes};
+ghost use Rattle.satl_io.specs.Causes.{HasCause};
+ghost use Rattle.satl_io.specs.Known.{Wrote, WrotePart};
+ghost use Rattle.satl_frame.specs.Gathering.{Gathers};
+ghost use Rattle.satl_frame.specs.Output.{sent_len, residual, reply_kind, reply_fields, reply_len, framed, reply_bytes, written_bytes, CanWrite, IsWritable};
+
+use crate::frames::{OutFrame, WriteFault};
+use arrayvec::ArrayVec;
+use satl_base::{Pages, Reply};
+use satl_io::{Failed, Sink};
+
+/// The bytes of a frame that wait to be written. A reply with 4 KiB of data fits whole.
+type Gathered = ArrayVec<u8, 8192>;
+
+/// Writes all the bytes. After a failure some front of them was written.
+fn push<K: Sink>(sink: &mut K, bytes: &[u8]) -> Result<(), Failed>
+    ensures all { OnOk result (Wrote (K.written sink.old) (K.written sink.new) bytes.now) }
+    ensures part { OnErr result (WrotePart (K.written sink.old) (K.written sink.new) bytes.now) }
+    ensures cause { HasCause (K.faults sink.old) (K.faults sink.new) result }
+{
+    let mut at = 0;
+    while at < bytes.len() {
+        match sink.write(&bytes[at..]) {
+            Ok(count) => at += count,
+            Err(Failed) => return Err(Failed),
+        }
+    }
+    Ok(())
+}
+
+fn append(gathered: &mut Gathered, bytes: &[u8])
+    requires { array_vec_len gathered.old + length bytes.now ≤ 8192 }
+    ensures { gathered.new.items ≡ gathered.old.items ++ bytes.now }
+{
+    match gathered.try_extend_from_slice(bytes) {
+        Ok(()) => {}
+        Err(_) => unreachable!(),
+    }
+}
+
+/// Gathers bytes. Where they do not fit, those that were gathered before are written first.
+fn gather<K: Sink>(sink: &mut K, gathered: &mut Gathered, bytes: &[u8]) -> Result<(), Failed>
+    requires { length bytes.now ≤ 8192 }
+    ensures all { OnOk result (Gathers (K.written sink.old) (K.written sink.new) gathered.old.items gathered.new.items bytes.now) }
+    ensures part { OnErr result (WrotePart (K.written sink.old) (K.written sink.new) (gathered.old.items ++ bytes.now)) }
+    ensures cause { HasCause (K.faults sink.old) (K.faults sink.new) result }
+{
+    if let Ok(()) = gathered.try_extend_from_slice(bytes) {
+        return Ok(());
+    }
+    match push(sink, gathered.as_slice()) {
+        Ok(()) => {}
+        Err(Failed) => return Err(Failed),
+    }
+    gathered.clear();
+    append(gathered, bytes);
+    Ok(())
+}
+
+/// Gathers the first bytes that the pages hold.
+fn gather_data<K: Sink>(
+    sink: &mut K,
+    gathered: &mut Gathered,
+    pages: &Pages,
+    len: u32,
+) -> Result<(), Failed>
+    requires { len ≤ 512 * length pages.now }
+    ensures all { OnOk result (Gathers (K.written sink.old) (K.written sink.new) gathered.old.items gathered.new.items (first_bytes len pages.now)) }
+    ensures part { OnErr result (WrotePart (K.written sink.old) (K.written sink.new) (gathered.old.items ++ first_bytes len pages.now)) }
+    ensures cause { HasCause (K.faults sink.old) (K.faults sink.new) result }
+{
+    let mut left = len as usize;
+    for block in pages.iter() {
+        let count = left.min(512);
+        match gather(sink, gathered, &block.bytes[..count]) {
+            Ok(()) => left -= count,
+            Err(Failed) => return Err(Failed),
+        }
+    }
+    Ok(())
+}
+
+/// How much of the data the host takes.
+fn sent_len(expected: Option<u32>, len: u32) -> u32
+    ensures { result ≡ sent_len expected len }
+{
+    match expected {
+        None => len,
+        Some(expected) => expected.min(len),
+    }
+}
+
+fn residual(expected: u32, len: u32) -> u32
+    requires expected { expected ≤ 2097152 }
+    requires short { len ≤ 2097152 }
+    ensures { result ≡ residual expected len }
+{
+    (expected as i32 - len as i32) as u32
+}
+
+/// A reply of version 1 up to its sense.
+fn first_head(reply: &Reply) -> [u8; 12]
+    requires version { reply.now.expected ≡ None }
+    requires short { reply.now.data_len ≤ 2097152 }
+    ensures { result ≡ framed 0x81 (reply_len reply.now) (reply_fields reply.now) }
+{
+    let sense = reply.sense.len() as u8;
+    let [a, b, c, d] = (7 + u32::from(sense) + reply.data_len).to_be_bytes();
+    let [e, f, g, h] = reply.tag.0.to_be_bytes();
+    let status = reply.status.code();
+    [0x81, a, b, c, d, reply.nexus.number(), status, e, f, g, h, sense]
+}
+
+/// A reply of version 2 up to its sense.
+fn second_head(reply: &Reply, expected: u32) -> [u8; 16]
+    requires version { reply.now.expected ≡ Some expected }
+    requires expected { expected ≤ 2097152 }
+    requires short { reply.now.data_len ≤ 2097152 }
+    ensures { result ≡ framed 0x83 (reply_len reply.now) (reply_fields reply.now) }
+{
+    let sense = reply.sense.len() as u8;
+    let [a, b, c, d] = (11 + u32::from(sense) + expected.min(reply.data_len)).to_be_bytes();
+    let [e, f, g, h] = reply.tag.0.to_be_bytes();
+    let [r, s, t, u] = residual(expected, reply.data_len).to_be_bytes();
+    let status = reply.status.code();
+    [
+        0x83, a, b, c, d, reply.nexus.number(), status, e, f, g, h, r, s, t, u, sense,
+    ]
+}
+
+/// A reply up to its sense, gathered.
+fn gathered_fields(reply: &Reply) -> Gathered
+    requires { IsWritable reply.now }
+    ensures bytes { result.items ≡ framed (reply_kind reply.now.expected) (reply_len reply.now) (reply_fields reply.now) }
+    ensures few { array_vec_len result ≤ 16 }
+{
+    let mut gathered = Gathered::new();
+    match reply.expected {
+        None => {
+            append(&mut gathered, &first_head(reply));
+            gathered
+        }
+        Some(expected) => {
+            append(&mut gathered, &second_head(reply, expected));
+            gathered
+        }
+    }
+}
+
+fn write_reply<K: Sink>(sink: &mut K, reply: &Reply) -> Result<(), Failed>
+    requires { IsWritable reply.now }
+    ensures all { OnOk result (Wrote (K.written sink.old) (K.written sink.new) (reply_bytes reply.now)) }
+    ensures part { OnErr result (WrotePart (K.written sink.old) (K.written sink.new) (reply_bytes reply.now)) }
+    ensures cause { HasCause (K.faults sink.old) (K.faults sink.new) result }
+{
+    let mut gathered = gathered_fields(reply);
+    append(&mut gathered, reply.sense.as_slice());
+    let len = sent_len(reply.expected, reply.data_len);
+    match gather_data(sink, &mut gathered, &reply.body, len) {
+        Ok(()) => push(sink, gathered.as_slice()),
+        Err(Failed) => Err(Failed),
+    }
+}
+
+/// Appends exactly the bytes of the frame to those of the sink (profile). A reply with an `expected` goes out as one of
+/// version 2, with its data cut to that many bytes. A reply with up to 4 KiB of data takes one or two write calls if
+/// the sink takes all that it is given. After a fault some front of the bytes was appended.
+pub fn write_frame<K: Sink>(frame: OutFrame, sink: &mut K) -> Result<(), WriteFault>
+    requires { CanWrite frame }
+    ensures all { OnOk result (Wrote (K.written sink.old) (K.written sink.new) (written_bytes frame.entry)) }
+    ensures part { OnErr result (WrotePart (K.written sink.old) (K.written sink.new) (written_bytes frame.entry)) }
+    ensures cause { HasCause (K.faults sink.old) (K.faults sink.new) result }
+{
+    match frame {
+        OutFrame::Magic => told(push(sink, b"SATLRSP1")),
+        OutFrame::Reply(reply) => told(write_reply(sink, reply)),
+        OutFrame::Managed {
+            nexus,
+            function,
+            response,
+            tag,
+        } => {
+            let [a, b, c, d] = tag.0.to_be_bytes();
+            let code = response.code();
+            told(push(
+                sink,
+                &[0x82, 0, 0, 0, 7, nexus.number(), function, code, a, b, c, d],
+            ))
+        }
+        OutFrame::End => told(push(sink, &[0x85, 0, 0, 0, 0])),
+        OutFrame::Fault { reason, offset } => {
+            let [a, b, c, d, e, f, g, h] = offset.to_be_bytes();
+            let code = reason.code();
+            told(push(
+                sink,
+                &[0x8F, 0, 0, 0, 9, code, a, b, c, d, e, f, g, h],
+            ))
+        }
+    }
+}
+
+/// The same, as a fault of the frame.
+fn told(done: Result<(), Failed>) -> Result<(), WriteFault>
+    ensures { is_ok result ≡ is_ok done }
+{
+    match done {
+        Ok(()) => Ok(()),
+        Err(Failed) => Err(WriteFault),
+    }
+}
