@@ -10,4 +10,4 @@ mod writing;
 
 pub use identity::{Identity, IdentityFault};
 pub use reading::read_identity;
-pub use writing::identity_bytes;
+pub use writing::{identity_bytes, mend};

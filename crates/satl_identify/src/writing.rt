@@ -21,7 +21,9 @@ fn settings_of(byte: u8, cache_on: bool, look_on: bool) -> u8
     (byte >> 7 << 7) + look + cache + (byte & 0x1F)
 }
 
-fn mend(bytes: &mut [u8; 512])
+/// Brings the integrity byte up to date: where bits 7:0 of word 255 are A5h, its high byte makes the 512 bytes sum to 0
+/// modulo 256 (ACS-3 7.12.7).
+pub fn mend(bytes: &mut [u8; 512])
     ensures { bytes.new ≡ with_integrity bytes.old }
 {
     if bytes[510] == 0xA5 {

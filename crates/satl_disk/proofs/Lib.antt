@@ -1,0 +1,3 @@
+pub mod IdentifyLemmas
+pub mod RunLemmas
+pub mod SectorsLemmas

@@ -1,0 +1,47 @@
+-- The sectors of the modelled drive, and the bytes that steer its choices (profile).
+use Rattle.std.specs.Prelude.{◌==◌, ℕ, zero, suc, ◌+◌, ◌/◌, ◌%◌, ◌^◌, Bool, true, false, ◌&&◌, not, if◌then◌else◌, List, [], ◌∷◌, Option, Some, None, map, drop}
+use Rattle.satl_base.specs.declared.block.Block.{Block}
+use Rattle.satl_base.specs.Cells.{Cell}
+use Rattle.satl_disk.specs.declared.sectors.Sector.{Sector}
+
+-- a sector as a cell: a loss of power leaves the stable block or the last one where it is dirty
+abbrev pub cell_of : Sector → Cell
+cell_of s = record { now = s.now; may = (if s.dirty then s.stable ∷ s.now ∷ [] else s.now ∷ []); read_flaw = s.read_flaw; write_flaw = s.write_flaw }
+
+abbrev pub cells_of : List Sector → List Cell
+cells_of sectors = map cell_of sectors
+
+-- a sector that was written, through the cache or past it
+abbrev pub written : Sector → Block → Bool → Sector
+written s v cached = record { now = v; stable = (if cached then (if s.dirty then s.stable else s.now) else v); dirty = cached; read_flaw = false; write_flaw = s.write_flaw }
+
+abbrev pub write_at : List Sector → ℕ → Block → Bool → List Sector
+write_at [] lba v cached = []
+write_at (s ∷ ss) zero v cached = written s v cached ∷ ss
+write_at (s ∷ ss) (suc lba) v cached = s ∷ write_at ss lba v cached
+
+-- whether a sector has a write flaw
+abbrev pub is_stuck : List Sector → ℕ → Bool
+is_stuck [] lba = false
+is_stuck (s ∷ ss) zero = s.write_flaw
+is_stuck (s ∷ ss) (suc lba) = is_stuck ss lba
+
+-- bit i mod 8 of a mask
+abbrev pub has_bit : ℕ → ℕ → Bool
+has_bit mask i = (mask / 2 ^ (i % 8)) % 2 == 1
+
+-- without a mask each sector of a command is written; with one, sector i where its bit is 1 and it has no write flaw
+abbrev pub is_taken : Option ℕ → ℕ → Bool → Bool
+is_taken None i stuck = true
+is_taken (Some mask) i stuck = has_bit mask i && not stuck
+
+-- blocks written from lba on, the first of them sector i of its command
+abbrev pub blocks_put : Option ℕ → Bool → ℕ → ℕ → List Block → List Sector → List Sector
+blocks_put mask cached i lba [] ss = ss
+blocks_put mask cached i lba (v ∷ vs) ss =
+    blocks_put mask cached (i + 1) (lba + 1) vs (if is_taken mask i (is_stuck ss lba) then write_at ss lba v cached else ss)
+
+-- the order byte in front, 0 where there is none
+abbrev pub byte_of : List ℕ → ℕ
+byte_of [] = 0
+byte_of (b ∷ bs) = b

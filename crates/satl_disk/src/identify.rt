@@ -1,0 +1,119 @@
+// The IDENTIFY DEVICE data of the modelled drive.
+ghost use Rattle.std.specs.Prelude.{◌≡◌, ◌≤◌, ◌/◌, ◌%◌, ◌^◌};
+ghost use Rattle.satl_disk.specs.Data.{fixed_words, identify_data, set_word, set_words};
+
+use satl_identify::mend;
+
+/// A word of IDENTIFY DEVICE data: its place from 0 to 255, and its value.
+type Word = (u8, u16);
+
+/// The words that are not 0 and do not depend on the number of sectors.
+const FIXED_WORDS: [Word; 54] = [
+    (0, 0x0040),
+    (10, 0x5341),
+    (11, 0x544C),
+    (12, 0x3030),
+    (13, 0x3030),
+    (14, 0x3030),
+    (15, 0x3030),
+    (16, 0x3030),
+    (17, 0x3030),
+    (18, 0x3030),
+    (19, 0x3031),
+    (23, 0x4657),
+    (24, 0x3031),
+    (25, 0x3032),
+    (26, 0x3033),
+    (27, 0x4D4F),
+    (28, 0x4445),
+    (29, 0x4C20),
+    (30, 0x4E43),
+    (31, 0x5120),
+    (32, 0x4449),
+    (33, 0x534B),
+    (34, 0x2020),
+    (35, 0x2020),
+    (36, 0x2020),
+    (37, 0x2020),
+    (38, 0x2020),
+    (39, 0x2020),
+    (40, 0x2020),
+    (41, 0x2020),
+    (42, 0x2020),
+    (43, 0x2020),
+    (44, 0x2020),
+    (45, 0x2020),
+    (46, 0x2020),
+    (49, 0x0300),
+    (69, 0x4020),
+    (75, 0x001F),
+    (76, 0x0100),
+    (77, 0x0040),
+    (82, 0x0061),
+    (83, 0x7400),
+    (84, 0x4120),
+    (85, 0x0061),
+    (86, 0x3400),
+    (87, 0x4120),
+    (105, 0x0008),
+    (106, 0x6003),
+    (108, 0x5000),
+    (111, 0x0001),
+    (168, 0x0003),
+    (169, 0x0001),
+    (217, 0x0001),
+    (255, 0x00A5),
+];
+
+fn write_word(data_bytes: &mut [u8; 512], word: Word)
+    ensures { data_bytes.new ≡ set_word word data_bytes.old }
+{
+    let [low, high] = word.1.to_le_bytes();
+    let place = 2 * usize::from(word.0);
+    data_bytes[place] = low;
+    data_bytes[place + 1] = high;
+}
+
+fn write_words(data_bytes: &mut [u8; 512], words: &[Word])
+    ensures { data_bytes.new ≡ set_words words.now data_bytes.old }
+{
+    for word in words {
+        write_word(data_bytes, *word);
+    }
+}
+
+fn write_fixed_words(data_bytes: &mut [u8; 512])
+    ensures { data_bytes.new ≡ set_words fixed_words data_bytes.old }
+{
+    write_words(data_bytes, &FIXED_WORDS);
+}
+
+fn low_half(number: u32) -> u16
+    ensures { result ≡ number % 2 ^ 16 }
+{
+    (number & 0xFFFF) as u16
+}
+
+fn high_half(number: u32) -> u16
+    ensures { result ≡ number / 2 ^ 16 }
+{
+    (number >> 16) as u16
+}
+
+/// The data of a drive of so many sectors, with write cache and look-ahead on.
+#[tactic(auto, unfolding(crate::specs::Data::identify_data))]
+pub fn identify_bytes(sectors: u32) -> [u8; 512]
+    requires { sectors ≤ 65536 }
+    ensures { result ≡ identify_data sectors }
+{
+    let low = low_half(sectors);
+    let high = high_half(sectors);
+    let mut data_bytes = [0; 512];
+    write_fixed_words(&mut data_bytes);
+    write_words(
+        &mut data_bytes,
+        &[(60, low), (61, high), (100, low), (101, high)],
+    );
+    mend(&mut data_bytes);
+    data_bytes
+}

@@ -1,0 +1,10 @@
+//! The modelled drive: sectors in memory, whose free choices are steered by order bytes.
+#![tactic(auto)]
+
+mod data_in;
+mod drive;
+mod identify;
+mod sectors;
+
+pub use drive::ModelDrive;
+pub use sectors::Sector;

@@ -1,0 +1,165 @@
+// The sectors of the modelled drive.
+ghost use Rattle.std.specs.Prelude.{◌≡◌, ◌+◌, false, if◌then◌else◌, drop, take, slice_index_or, map, vec_len};
+ghost use Rattle.circular_buffer.specs.Buffer.{buffer};
+ghost use Rattle.satl_base.specs.Cells.{has_flaw, first_flaw};
+ghost use Rattle.satl_disk.specs.Sectors.{cell_of, cells_of, write_at, is_stuck, has_bit, is_taken, blocks_put, byte_of};
+
+use circular_buffer::HeapCircularBuffer;
+use satl_base::{Block, Pages, Which};
+
+/// A sector: its block, the block that a loss of power may leave where it is dirty, and its flaws.
+#[derive(Clone, Copy, Debug, PartialEq, Eq)]
+pub struct Sector {
+    pub now: Block,
+    pub stable: Block,
+    pub dirty: bool,
+    pub read_flaw: bool,
+    pub write_flaw: bool,
+}
+
+impl Sector {
+    ghost use Rattle.satl_disk.specs.Disk.{blank_sector};
+    ghost use Rattle.satl_disk.specs.Sectors.{written};
+
+    /// Zeros, without flaws.
+    pub fn blank() -> Sector
+        ensures { result ≡ blank_sector }
+    {
+        Sector {
+            now: Block::zero(),
+            stable: Block::zero(),
+            dirty: false,
+            read_flaw: false,
+            write_flaw: false,
+        }
+    }
+
+    /// Writes the sector, through the cache or past it.
+    fn write(&mut self, block: &Block, cached: bool)
+        ensures { self.new ≡ written self.old block.now cached }
+    {
+        if !cached {
+            self.stable = *block;
+        } else if !self.dirty {
+            self.stable = self.now;
+        }
+        self.now = *block;
+        self.dirty = cached;
+        self.read_flaw = false;
+    }
+}
+
+/// Takes the order byte in front, or 0.
+pub fn draw(ring: &mut HeapCircularBuffer<u8>) -> u8
+    ensures byte { result ≡ byte_of ring.old.items }
+    ensures rest { ring.new ≡ buffer (drop 1 ring.old.items) ring.old.capacity }
+{
+    ring.pop_front().unwrap_or(0)
+}
+
+fn bit(mask: u8, i: u32) -> bool
+    ensures { result ≡ has_bit mask i }
+{
+    mask >> (i % 8) & 1 == 1
+}
+
+fn taken(mask: Option<u8>, i: u32, stuck: bool) -> bool
+    ensures { result ≡ is_taken mask i stuck }
+{
+    match mask {
+        None => true,
+        Some(mask) => bit(mask, i) && !stuck,
+    }
+}
+
+fn stuck(sectors: &Vec<Sector>, place: usize) -> bool
+    ensures { result ≡ is_stuck sectors.now.items place }
+{
+    if place < sectors.len() {
+        sectors[place].write_flaw
+    } else {
+        false
+    }
+}
+
+fn write_sector(sectors: &mut Vec<Sector>, place: usize, block: &Block, cached: bool)
+    ensures size { vec_len sectors.new ≡ vec_len sectors.old }
+    ensures value { sectors.new.items ≡ write_at sectors.old.items place block.now cached }
+{
+    if place < sectors.len() {
+        let sector = &mut sectors[place];
+        sector.write(block, cached);
+    }
+}
+
+/// Writes one sector if the mask takes it.
+fn write_taken(
+    sectors: &mut Vec<Sector>,
+    mask: Option<u8>,
+    i: u32,
+    place: usize,
+    block: &Block,
+    cached: bool,
+)
+    ensures size { vec_len sectors.new ≡ vec_len sectors.old }
+    ensures value { sectors.new.items ≡ (if is_taken mask i (is_stuck sectors.old.items place) then write_at sectors.old.items place block.now cached else sectors.old.items) }
+{
+    if taken(mask, i, stuck(sectors, place)) {
+        write_sector(sectors, place, block, cached);
+    }
+}
+
+/// Writes the first blocks of the pages that the mask takes.
+pub fn put_blocks(
+    sectors: &mut Vec<Sector>,
+    mask: Option<u8>,
+    cached: bool,
+    lba: u32,
+    pages: &Pages,
+    count: u32,
+)
+    ensures size { vec_len sectors.new ≡ vec_len sectors.old }
+    ensures value { sectors.new.items ≡ blocks_put mask cached 0 lba (take count pages.now) sectors.old.items }
+{
+    let mut i = 0;
+    for block in pages.iter() {
+        if i == count {
+            return;
+        }
+        let place = lba as usize + i as usize;
+        write_taken(sectors, mask, i, place, block, cached);
+        i += 1;
+    }
+}
+
+fn flawed(sectors: &Vec<Sector>, which: Which, place: usize) -> bool
+    ensures { result ≡ slice_index_or (map (has_flaw which) (cells_of sectors.now.items)) place false }
+{
+    if place < sectors.len() {
+        flaw_of(&sectors[place], which)
+    } else {
+        false
+    }
+}
+
+fn flaw_of(sector: &Sector, which: Which) -> bool
+    ensures { result ≡ has_flaw which (cell_of sector.entry.now) }
+{
+    match which {
+        Which::Read => sector.read_flaw,
+        Which::Write => sector.write_flaw,
+    }
+}
+
+/// The lowest sector of the range with a flaw of this kind.
+pub fn flaw_in(sectors: &Vec<Sector>, which: Which, lba: u32, count: u32) -> Option<u64>
+    ensures { result ≡ first_flaw which (cells_of sectors.now.items) lba count }
+{
+    for i in 0..count {
+        let place = lba as usize + i as usize;
+        if flawed(sectors, which, place) {
+            return Some(place as u64);
+        }
+    }
+    None
+}
