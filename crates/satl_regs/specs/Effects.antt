@@ -116,8 +116,8 @@ Carries r t old given ended taken new =
     MatchBool (nat_lt (length old.cells) (t.lba + t.sectors))
     (IsRefused r idnf r.lba old given ended taken new)
     (MatchOption (first_flaw t.stopped_by old.cells t.lba t.sectors)
-        (IsCarriedOut r t old given ended taken new ⊎ IsGarbled r t old given ended taken new)
-        (λ at. IsFlawed r t at old given ended taken new))
+    (IsCarriedOut r t old given ended taken new ⊎ IsGarbled r t old given ended taken new)
+    (λ at. IsFlawed r t at old given ended taken new))
 
 -- IDENTIFY DEVICE: the data stand in the first page (ACS-3 7.12)
 pub record IsIdentified (r : Registers) (old : Medium) (given : List Block) (ended : Taskfile) (taken : List Block) (new : Medium) : Type 0 where
