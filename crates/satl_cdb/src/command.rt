@@ -99,7 +99,7 @@ impl Illegal {
     ghost use Rattle.std.specs.Prelude.{◌≡◌};
     ghost use Rattle.satl_cdb.specs.Refusals.{invalid_operation_code, invalid_field, saving_not_supported, list_length_error, invalid_list_field, list_out_of_range};
 
-    /// INVALID COMMAND OPERATION CODE.
+    /// INVALID COMMAND OPERATION CODE (SPC-4 4.5.6).
     pub fn invalid_operation_code() -> Illegal
         ensures { result ≡ invalid_operation_code }
     {
@@ -111,7 +111,7 @@ impl Illegal {
         }
     }
 
-    /// INVALID FIELD IN CDB, at a byte of it.
+    /// INVALID FIELD IN CDB, with a pointer to its byte (SPC-4 4.5.6).
     pub fn invalid_field(byte: u16) -> Illegal
         ensures { result ≡ invalid_field byte }
     {
@@ -123,7 +123,7 @@ impl Illegal {
         }
     }
 
-    /// SAVING PARAMETERS NOT SUPPORTED.
+    /// SAVING PARAMETERS NOT SUPPORTED (SPC-4 4.5.6).
     pub fn saving_not_supported() -> Illegal
         ensures { result ≡ saving_not_supported }
     {
@@ -135,7 +135,7 @@ impl Illegal {
         }
     }
 
-    /// PARAMETER LIST LENGTH ERROR.
+    /// PARAMETER LIST LENGTH ERROR (SPC-4 4.5.6).
     pub fn list_length_error() -> Illegal
         ensures { result ≡ list_length_error }
     {
@@ -147,7 +147,7 @@ impl Illegal {
         }
     }
 
-    /// INVALID FIELD IN PARAMETER LIST, at a byte of it.
+    /// INVALID FIELD IN PARAMETER LIST, with a pointer to its byte (SPC-4 4.5.6).
     pub fn invalid_list_field(byte: u16) -> Illegal
         ensures { result ≡ invalid_list_field byte }
     {
@@ -159,7 +159,7 @@ impl Illegal {
         }
     }
 
-    /// LOGICAL BLOCK ADDRESS OUT OF RANGE, of a descriptor in a parameter list.
+    /// LOGICAL BLOCK ADDRESS OUT OF RANGE, of a descriptor in a parameter list (SPC-4 4.5.6).
     pub fn list_out_of_range() -> Illegal
         ensures { result ≡ list_out_of_range }
     {

@@ -10,7 +10,7 @@ use crate::writing::sense_bytes;
 use byteorder::{BigEndian, ByteOrder};
 
 /// The first byte at which a text is no sense data in the descriptor form: its length where it ends early, and the first
-/// byte past the end where it goes on.
+/// byte past the end where it goes on (SPC-4 4.5.2).
 #[derive(Clone, Copy, Debug, PartialEq, Eq)]
 pub struct NotSense {
     pub byte: u16,
