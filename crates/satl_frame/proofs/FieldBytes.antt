@@ -1,10 +1,11 @@
 -- Fields and the bytes that they were read from.
-use Rattle.std.proofs.Common.{◌≡◌, ℕ, zero, suc, ◌+◌, ◌-◌, ◌<◌, ◌≤◌, List, [], ◌∷◌, ◌++◌, length, take, drop, get_or, refl, ◌∙◌, ap, sym, arith, append_assoc, Option, Some, None}
+use Rattle.std.proofs.Common.{◌≡◌, ℕ, zero, suc, ◌+◌, ◌-◌, ◌<◌, ◌≤◌, List, [], ◌∷◌, ◌++◌, length, take, drop, get_or, refl, ◌∙◌, ap, sym, arith, append_assoc, Option, Some, None, Bool, true, false}
+use Rattle.std.proofs.lemmas.Bool.{leb-true}
 use Rattle.std.proofs.lemmas.List.{take-append-drop, drop-drop, length-drop, get_or-drop, take_all}
 use Rattle.std.proofs.lemmas.Nat.{be_bytes_4, be_bytes_8}
 use Rattle.byteorder.specs.Endian.{big_from, big_bytes}
 use Rattle.satl_base.specs.Fields.{IsBytes}
-use Rattle.satl_frame.specs.Frames.{head_size, expected_in, expected_field}
+use Rattle.satl_frame.specs.Frames.{head_size, expected_in, expected_field, is_expectable, HasExpected}
 use Rattle.satl_frame.specs.declared.frames.Version.{Version}
 use Rattle.satl_frame.specs.declared.frames.Version.TheVariants.{One, Two}
 
@@ -12,10 +13,9 @@ use Rattle.satl_frame.specs.declared.frames.Version.TheVariants.{One, Two}
 big_from-drop : (i j n : ℕ) (h : List ℕ) → big_from (i + j) n h ≡ big_from j n (drop i h)
 big_from-drop i j zero h = refl
 big_from-drop i j (suc n) h =
-    rw (get_or-drop i h j 0, big_from_next i j n h) refl
-  where
-    big_from_next : (i j n : ℕ) (h : List ℕ) → big_from (suc (i + j)) n h ≡ big_from (suc j) n (drop i h)
-    big_from_next i j n h = let e : suc (i + j) ≡ i + suc j = omega arith in rw e (big_from-drop i (suc j) n h)
+    let e : suc (i + j) ≡ i + suc j = omega arith in
+    let next : big_from (suc (i + j)) n h ≡ big_from (suc j) n (drop i h) = rw e (big_from-drop i (suc j) n h) in
+    rw (get_or-drop i h j 0, next) refl
 
 -- the first four bytes are those of the number that they tell
 four_first : (h : List ℕ) → 4 ≤ length h → IsBytes h → big_bytes 4 (big_from 0 4 h) ≡ take 4 h
@@ -65,10 +65,17 @@ four_at i h l b =
     let e : big_from i 4 h ≡ big_from 0 4 (drop i h) = ap (λ k. big_from k 4 h) (omega arith) ∙ big_from-drop i 0 4 h in
     ap (λ n. big_bytes 4 n) e ∙ four_first (drop i h) (omega (arith, length-drop i h)) (behind_are_bytes i h b)
 
-pub eight_at : (i : ℕ) (h : List ℕ) → i + 8 ≤ length h → IsBytes h → big_bytes 8 (big_from i 8 h) ≡ take 8 (drop i h)
-eight_at i h l b =
-    let e : big_from i 8 h ≡ big_from 0 8 (drop i h) = ap (λ k. big_from k 8 h) (omega arith) ∙ big_from-drop i 0 8 h in
-    ap (λ n. big_bytes 8 n) e ∙ eight_first (drop i h) (omega (arith, length-drop i h)) (behind_are_bytes i h b)
+-- the same, of a number that was read from the rest of a buffer
+all_behind : (i : ℕ) (h : List ℕ) → take (length h - i) (drop i h) ≡ drop i h
+all_behind i h = take_all (length h - i) (drop i h) (omega (arith, length-drop i h))
+
+pub four_read : (i n : ℕ) (h : List ℕ) → i + 4 ≤ length h → IsBytes h → n ≡ big_from 0 4 (take (length h - i) (drop i h)) → big_bytes 4 n ≡ take 4 (drop i h)
+four_read i n h l b e =
+    ap (λ k. big_bytes 4 k) (e ∙ ap (λ s. big_from 0 4 s) (all_behind i h)) ∙ four_first (drop i h) (omega (arith, length-drop i h)) (behind_are_bytes i h b)
+
+pub eight_read : (i n : ℕ) (h : List ℕ) → i + 8 ≤ length h → IsBytes h → n ≡ big_from 0 8 (take (length h - i) (drop i h)) → big_bytes 8 n ≡ take 8 (drop i h)
+eight_read i n h l b e =
+    ap (λ k. big_bytes 8 k) (e ∙ ap (λ s. big_from 0 8 s) (all_behind i h)) ∙ eight_first (drop i h) (omega (arith, length-drop i h)) (behind_are_bytes i h b)
 
 -- the first of a list, and the rest
 pub first_of : (h : List ℕ) → 1 ≤ length h → get_or h 0 0 ∷ drop 1 h ≡ h
@@ -123,3 +130,18 @@ request_is version h lun cdb tag nexus attr expected l b n a u t d e =
     let further : tag ++ (cdb ++ expected_field expected) ≡ drop 10 h = rw (t, behind) (part_of 10 4 h) in
     let rest : lun ++ (tag ++ (cdb ++ expected_field expected)) ≡ drop 2 h = rw (u, further) (part_of 2 8 h) in
     rw (n, a) (ap (λ r. get_or h 0 0 ∷ get_or h 1 0 ∷ r) rest ∙ first_two h (omega (arith, at_least_30 version)))
+
+-- event and LBA
+pub mend_is : (h lba : List ℕ) → length h ≡ 9 → get_or h 0 0 ≡ 2 → lba ≡ take 8 (drop 1 h) → 2 ∷ lba ≡ h
+mend_is h lba l e is = rw (is, last_of 1 8 h l, ← e) (first_of h (omega arith))
+
+-- event, which and LBA
+pub strike_is : (h lba : List ℕ) (which : ℕ) → length h ≡ 10 → get_or h 0 0 ≡ 1 → which ≡ get_or h 1 0 → lba ≡ take 8 (drop 2 h) → 1 ∷ which ∷ lba ≡ h
+strike_is h lba which l e w is =
+    rw (is, last_of 2 8 h l, w) (ap (λ k. k ∷ get_or h 1 0 ∷ drop 2 h) (sym e) ∙ first_two h (omega arith))
+
+-- what is expected fits
+pub has_expected : (version : Version) (h : List ℕ) (expected : Option ℕ) → expected ≡ expected_in version h → is_expectable expected ≡ true → HasExpected version expected
+has_expected One h expected e t = e
+has_expected Two h None e t = cc
+has_expected Two h (Some n) e t = leb-true n 2097152 t

@@ -117,29 +117,26 @@ fn pull_payload<S: Source, P: Lender>(
     pull_small(source, version, code, len)
 }
 
-/// Reads the payload behind a good head, and gives the offset behind the frame too.
+/// Reads the payload behind a good head.
 fn read_payload<S: Source, P: Lender>(
     source: &mut S,
     lender: &mut P,
     head: &[u8],
     place: Place,
-) -> Result<(Frame, u64), FrameFault>
+) -> Result<Frame, FrameFault>
     requires long { length head.now ≡ 5 }
     requires known { has_code (frame_rows place.version) (slice_index head.now 0) ≡ true }
     requires allowed { allows (frame_rows place.version) (slice_index head.now 0) (told_length head.now) ≡ true }
-    requires within { place.offset + 5 + told_length head.now < 2 ^ 64 }
-    ensures frame { IfOk result (λ x. StoodBehind place.version head.now (S.left source.old) (S.left source.new) (P.free lender.old) x.0) }
-    ensures next { IfOk result (λ x. x.1 ≡ place.offset + 5 + told_length head.now) }
+    ensures frame { IfOk result (StoodBehind place.version head.now (S.left source.old) (S.left source.new) (P.free lender.old)) }
     ensures fault { IfErr result (BlamesPayload place.version head.now place.offset (S.left source.old) (S.left source.new)) }
     ensures causes { ReadCauses (S.faults source.old) (S.faults source.new) result }
-    ensures free { P.free lender.new + given_pages (λ x. frame_pages x.0) result ≡ P.free lender.old }
-    ensures out { P.out lender.new ≡ P.out lender.old + given_pages (λ x. frame_pages x.0) result }
+    ensures free { P.free lender.new + given_pages frame_pages result ≡ P.free lender.old }
+    ensures out { P.out lender.new ≡ P.out lender.old + given_pages frame_pages result }
     ensures rest { P.rest lender.new ≡ P.rest lender.old }
 {
-    let len = told_length(head);
     let offset = place.offset;
-    match pull_payload(source, lender, place.version, head[0], len) {
-        Ok(Some(frame)) => Ok((frame, offset + 5 + u64::from(len))),
+    match pull_payload(source, lender, place.version, head[0], told_length(head)) {
+        Ok(Some(frame)) => Ok(frame),
         Ok(None) => Err(FrameFault::Bad {
             reason: Reason::BadField,
             offset,
@@ -171,12 +168,13 @@ fn read_frame<S: Source, P: Lender>(
         Ok(count) => count,
         Err(Failed) => return Err(FrameFault::ReadFault),
     };
-    match head_fault(place.version, limit, place.offset, &head, count) {
-        Some(reason) => Err(FrameFault::Bad {
-            reason,
-            offset: place.offset,
-        }),
-        None => read_payload(source, lender, &head, place),
+    let offset = place.offset;
+    match head_fault(place.version, limit, offset, &head, count) {
+        Some(reason) => Err(FrameFault::Bad { reason, offset }),
+        None => match read_payload(source, lender, &head, place) {
+            Ok(frame) => Ok((frame, offset + 5 + u64::from(told_length(&head)))),
+            Err(fault) => Err(fault),
+        },
     }
 }
 
