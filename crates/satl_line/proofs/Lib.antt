@@ -1,0 +1,4 @@
+pub mod MasksLemmas
+pub mod SlotsLemmas
+pub mod EligibleLemmas
+pub mod EndingLemmas

@@ -1,0 +1,16 @@
+use Rattle.std.proofs.Common.{arith}
+use Rattle.satl_line.proofs.SlotsLemmas.{free_more, sound_new}
+use Rattle.satl_line.proofs.set.TaskSet.new.Goals as goal
+
+pub loop-slot-preserved : goal.loop-slot-preserved
+loop-slot-preserved c = record {
+  slots = omega (arith, c.in-Ok.ensures.len, c.loop-slot.invariant.slots);
+  room = omega (arith, c.in-Ok.ensures.capacity, c.loop-slot.invariant.room);
+  free = omega (arith, c.push-in-loop-slot.ensures.len, c.loop-slot.invariant.free);
+  up_to = free_more c.loop-slot.slot c.loop-slot.free.items c.push-in-loop-slot.new.self.items c.loop-slot-test.true c.push-in-loop-slot.ensures.items c.loop-slot.invariant.up_to;
+}
+
+pub invariant_of-result : goal.invariant_of-result
+invariant_of-result c =
+    sound_new c.loop-slot.slots.items c.loop-slot.free.items c.no_masks.result c.new.result.items (omega (arith, c.loop-slot.invariant.slots)) c.new.ensures c.no_masks.ensures (omega (arith, c.loop-slot.invariant.free))
+    c.loop-slot.invariant.up_to.small (λ q lt. c.loop-slot.invariant.up_to.once q (omega arith))

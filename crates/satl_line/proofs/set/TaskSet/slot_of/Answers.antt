@@ -1,0 +1,20 @@
+use Rattle.std.proofs.Common.{ap, sym, ◌∙◌, arith, length, ◌≡◌}
+use Rattle.std.specs.Prelude.{slice_get}
+use Rattle.satl_line.specs.Tasks.{slots_of}
+use Rattle.std.proofs.lemmas.List.{length-map}
+use Rattle.std.proofs.lemmas.Option.{slice_get-get_or}
+use Rattle.satl_line.proofs.SlotsLemmas.{slots_of_tasks, slot_alone}
+use Rattle.satl_line.proofs.set.TaskSet.slot_of.Goals as goal
+
+pub returns-clause-value : goal.returns-clause-value
+returns-clause-value c =
+    let same : slots_of c.args.self.now ≡ c.deref.result.now = ap slots_of (sym c.self.view_is) ∙ slots_of_tasks c.self.inside.slots.items c.self.inside.order.items ∙ sym c.deref.ensures.0 in
+    ap (λ l. slice_get l c.args.place) same ∙ slice_get-get_or c.deref.result.now c.args.place 0 (omega (arith, ap length same, length-map c.args.self.now (λ held. held.slot), c.requires))
+
+pub returns-clause-small : goal.returns-clause-small
+returns-clause-small c =
+    (slot_alone c.self.inside.slots.items c.self.inside.order.items c.self.inside.free.items c.self.inside.masks c.self.inside.blocks c.args.self.now c.args.place c.deref.result.now c.self.invariant c.self.view_is c.requires c.deref.ensures.0).0
+
+pub returns-clause-alone : goal.returns-clause-alone
+returns-clause-alone c =
+    (slot_alone c.self.inside.slots.items c.self.inside.order.items c.self.inside.free.items c.self.inside.masks c.self.inside.blocks c.args.self.now c.args.place c.deref.result.now c.self.invariant c.self.view_is c.requires c.deref.ensures.0).1

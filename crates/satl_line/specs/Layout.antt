@@ -1,0 +1,92 @@
+-- How a set of tasks lies in memory: slots, the order of arrival, the free slots, and the masks (profile, all of it).
+use Rattle.std.specs.Prelude.{◌≡◌, ℕ, ◌+◌, ◌*◌, ◌%◌, ◌^◌, ◌<◌, ◌≤◌, ◌==◌, Bool, true, false, ◌&&◌, if◌then◌else◌, nat_lt, List, [], ◌∷◌, ◌++◌, map, length, slice_index_or, slice_set, Option, Some, None, is_some, bit_and}
+use Rattle.std.specs.Int.{bit_at, bit_not, w64}
+use Rattle.std.specs.List.{list_any, AllByRecursion}
+use Rattle.satl_cdb.specs.declared.command.Command.TheVariants.{TestUnitReady}
+use Rattle.satl_line.specs.declared.entry.Entry.{Entry}
+use Rattle.satl_line.specs.declared.entry.Kind.TheVariants.{Barrier}
+use Rattle.satl_line.specs.Conflict.{Access, access_of, accesses_conflict}
+use Rattle.satl_line.specs.Tasks.{Held, count_of, slots_of, total_blocks}
+
+-- what stands for the task of an empty slot
+abbrev pub no_entry : Entry
+no_entry = record {
+  nexus = 0;
+  tag = record { 0 = 0 };
+  kind = Barrier;
+  ordered = false;
+  blocks = 0;
+  command = TestUnitReady;
+  body = [];
+  ranges = record { items = [] };
+  modes = None;
+  expected = None;
+}
+
+-- the task of a slot, or what stands for one
+abbrev pub entry_or : Option Entry → Entry
+entry_or None = no_entry
+entry_or (Some entry) = entry
+
+-- the task in a slot
+abbrev pub held_in : List (Option Entry) → ℕ → Held
+held_in slots slot = record { slot = slot; entry = entry_or (slice_index_or slots slot None) }
+
+-- the tasks in these slots
+abbrev pub tasks_in : List (Option Entry) → List ℕ → List Held
+tasks_in slots order = map (held_in slots) order
+
+-- the slot is there, and filled
+abbrev pub IsFilled : List (Option Entry) → ℕ → Type 0
+IsFilled slots slot = (slot < 64) × (is_some (slice_index_or slots slot None) ≡ true)
+
+-- a slot, and the access of its task
+pub record Mark : Type 0 where
+  pub slot : ℕ
+  pub access : Access
+
+-- the mark of a task in its slot
+abbrev pub mark_of : Held → Mark
+mark_of held = record { slot = held.slot; access = access_of held.entry }
+
+-- whether an earlier task in this slot conflicts
+abbrev pub is_marked : List Mark → Access → ℕ → Bool
+is_marked earlier access slot = list_any (λ mark. mark.slot == slot && accesses_conflict mark.access access) earlier
+
+-- the mask has the slots of the earlier tasks that conflict
+abbrev pub IsMask : List Mark → Access → ℕ → Type 0
+IsMask earlier access mask = (q : ℕ) → q < 64 → bit_at mask q ≡ (if is_marked earlier access q then 1 else 0)
+
+-- each task after these has its mask in its slot
+abbrev pub HaveMasks : List Mark → List Mark → List ℕ → Type 0
+HaveMasks earlier [] masks = Unit {0}
+HaveMasks earlier (mark ∷ rest) masks = IsMask earlier mark.access (slice_index_or masks mark.slot 0) × HaveMasks (earlier ++ mark ∷ []) rest masks
+
+-- the masks of these tasks, and 0 where a slot has none
+pub record IsMasked (tasks : List Held) (masks : List ℕ) : Type 0 where
+  pub full : HaveMasks [] (map mark_of tasks) masks
+  pub empty : (q : ℕ) → count_of q (slots_of tasks) ≡ 0 → slice_index_or masks q 0 ≡ 0
+
+-- a mask without a slot
+abbrev pub clear_bit : ℕ → ℕ → ℕ
+clear_bit slot mask = bit_and mask (bit_not w64 (1 * 2 ^ slot % 2 ^ 64))
+
+-- the masks without a slot, whose own mask becomes 0
+abbrev pub cleared : List ℕ → ℕ → List ℕ
+cleared masks slot = slice_set (map (clear_bit slot) masks) slot 0
+
+-- whether the mask of the task at a place is 0
+abbrev pub is_unbarred_at : List ℕ → List ℕ → ℕ → Bool
+is_unbarred_at masks order place = nat_lt place (length order) && (slice_index_or masks (slice_index_or order place 0) 0 == 0)
+
+-- the slots, the filled ones in order of arrival, the free ones, the masks and the number of blocks fit together
+pub record IsSound (slots : List (Option Entry)) (order free masks : List ℕ) (blocks : ℕ) : Type 0 where
+  pub room : length slots ≡ 64
+  pub wide : length masks ≡ 64
+  pub filled : AllByRecursion (IsFilled slots) order
+  pub small : AllByRecursion (λ slot. slot < 64) free
+  pub once : (slot : ℕ) → slot < 64 → count_of slot order + count_of slot free ≡ 1
+  pub count : length order + length free ≡ 64
+  pub masked : IsMasked (tasks_in slots order) masks
+  pub total : total_blocks (tasks_in slots order) ≡ blocks
+  pub few : blocks ≤ 32768

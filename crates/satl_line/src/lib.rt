@@ -1,0 +1,10 @@
+//! The tasks that wait, in order of arrival, and which of them may be carried out.
+#![tactic(auto)]
+
+mod conflict;
+mod entry;
+pub mod laws;
+mod set;
+
+pub use entry::{Entry, Kind};
+pub use set::TaskSet;

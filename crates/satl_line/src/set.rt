@@ -1,0 +1,400 @@
+// The tasks in order of arrival, each in a slot of its own.
+ghost use Rattle.std.specs.Prelude.{◌≡◌, ◌≤◌, ◌<◌, ◌==◌, ◌^◌, ◌&&◌, if◌then◌else◌, ℕ, [], map, length, remove, replicate, Some, None, IfOk, IfErr, OnOk, OnErr, is_err, slice_get, slice_index, slice_index_or, slice_set};
+ghost use Rattle.std.specs.Int.{bit_at};
+ghost use Rattle.std.specs.Option.{option_copied, option_map};
+ghost use Rattle.std.specs.List.{AllByRecursion, position_from};
+ghost use Rattle.satl_line.specs.Conflict.{access_of};
+ghost use Rattle.satl_line.specs.Eligible.{eligible_at};
+ghost use Rattle.satl_line.specs.Tasks.{Adds, AreMasks, IsReady, change_at, count_of, entries_of, entry_at, is_named, is_too_much, slots_of, total_blocks, with_body};
+ghost use Rattle.satl_line.specs.Layout.{IsFilled, IsMask, cleared, entry_or, held_in, is_unbarred_at, mark_of, tasks_in};
+
+use crate::conflict::conflict;
+use crate::entry::Entry;
+use arrayvec::ArrayVec;
+use satl_base::{Nexus, NoMemory, Pages, Tag};
+use std::alloc::Global;
+use std::marker::Model;
+use std::mem;
+
+/// At most 64 tasks in order of arrival (SAM-5, task set; the figure is the profile's). Each lies in one of 64 slots
+/// from its arrival until it leaves, and each slot has a mask of the earlier tasks that its task conflicts with.
+/// Clauses see the list of the tasks, each with its slot.
+#[derive(Drop)]
+pub struct TaskSet {
+    slots: Vec<Option<Entry>>,
+    order: ArrayVec<u8, 64>,
+    free: ArrayVec<u8, 64>,
+    masks: [u64; 64],
+    blocks: u32,
+}
+
+impl Model for TaskSet {
+    ghost use Rattle.std.specs.Prelude.{List};
+    ghost use Rattle.satl_line.specs.Tasks.{Held};
+    ghost use Rattle.satl_line.specs.Layout.{IsSound, tasks_in};
+
+    ghost Value = { List Held };
+
+    ghost view = { λ s. tasks_in s.slots.items s.order.items };
+
+    ghost invariant = { λ s. IsSound s.slots.items s.order.items s.free.items s.masks s.blocks };
+}
+
+impl TaskSet {
+    /// An empty set. It takes all memory that the set ever needs, and the error is want of it (profile).
+    pub fn new(alloc: Global) -> Result<TaskSet, NoMemory>
+        ensures { IfOk result (λ set. set ≡ []) }
+    {
+        let mut slots = Vec::with_capacity(alloc, 64)?;
+        let mut free = ArrayVec::new();
+        for slot in 0..64u8 {
+            let Ok(()) = slots.push(None) else {
+                unreachable!();
+            };
+            free.push(slot);
+        }
+        Ok(TaskSet {
+            slots,
+            order: ArrayVec::new(),
+            free,
+            masks: no_masks(),
+            blocks: 0,
+        })
+    }
+
+    /// How many tasks are held: at most 64, which hold room for at most 32,768 blocks (profile).
+    pub fn len(&self) -> usize
+        ensures value { result ≡ length self.now }
+        ensures few { length self.now ≤ 64 }
+        ensures blocks { total_blocks self.now ≤ 32768 }
+    {
+        self.order.len()
+    }
+
+    /// Whether no task is held (profile).
+    pub fn is_empty(&self) -> bool
+        ensures { result ≡ (length self.now == 0) }
+    {
+        self.order.is_empty()
+    }
+
+    /// Adds a task at the end. The error is the task itself, exactly where 64 are held or their blocks and its own
+    /// would exceed 32,768 (SAM-5, TASK SET FULL; the figures are the profile's).
+    pub fn add(&mut self, entry: Entry) -> Result<(), Entry>
+        ensures full { is_err result ≡ is_too_much self.old entry }
+        ensures ok { OnOk result (Adds self.old entry self.new) }
+        ensures back { IfErr result (λ refused. refused ≡ entry) }
+        ensures kept { OnErr result (self.new ≡ self.old) }
+    {
+        if self.order.len() == 64 || entry.blocks as u64 + self.blocks as u64 > 32768 {
+            return Err(entry);
+        }
+        let Some(slot) = self.free.pop() else {
+            unreachable!();
+        };
+        self.masks[slot as usize] = mask_against(&self.slots, &self.order, &entry);
+        self.blocks += entry.blocks;
+        self.slots[slot as usize] = Some(entry);
+        self.order.push(slot);
+        Ok(())
+    }
+
+    /// Takes the task at a place out (profile).
+    pub fn remove(&mut self, place: usize) -> Entry
+        requires { place < length self.old }
+        ensures value { entry_at self.old place ≡ Some result }
+        ensures others { self.new ≡ remove self.old place }
+    {
+        let slot = self.order.remove(place);
+        let Some(entry) = self.slots[slot as usize].take() else {
+            unreachable!();
+        };
+        clear_slot(&mut self.masks, slot);
+        self.free.push(slot);
+        self.blocks -= entry.blocks;
+        entry
+    }
+
+    /// Whether no earlier task conflicts with the one at a place (profile).
+    pub fn eligible(&self, place: usize) -> bool
+        requires { place < length self.now }
+        ensures { result ≡ eligible_at (entries_of self.now) place }
+    {
+        mask_at(&self.masks, self.order[place]) == 0
+    }
+
+    /// The places with an eligible task, as the bits of a number, the lowest for place 0 (profile).
+    pub fn ready(&self) -> u64
+        ensures { IsReady self.now result }
+    {
+        ready_places(&self.masks, &self.order)
+    }
+
+    /// The place of the first task of this nexus and tag. None exactly where there is none (profile).
+    pub fn find(&self, nexus: Nexus, tag: Tag) -> Option<usize>
+        ensures { result ≡ position_from (is_named nexus tag) 0 self.now }
+    {
+        find_in(&self.slots, &self.order, nexus, tag)
+    }
+
+    /// The first task. None exactly where there is none (profile).
+    pub fn first(&self) -> Option<&Entry>
+        ensures { option_copied result ≡ entry_at self.now 0 }
+    {
+        if self.is_empty() {
+            None
+        } else {
+            Some(entry_in(&self.slots, self.order[0]))
+        }
+    }
+
+    /// The task at a place (profile).
+    pub fn entry(&self, place: usize) -> &Entry
+        requires { place < length self.now }
+        ensures { entry_at self.now place ≡ Some result.now }
+    {
+        entry_in(&self.slots, self.order[place])
+    }
+
+    /// Takes the pages of the task at a place, which then has none (profile).
+    pub fn take_data(&mut self, place: usize) -> Pages
+        requires { place < length self.old }
+        ensures value { option_map (λ entry. entry.body) (entry_at self.old place) ≡ Some result }
+        ensures emptied { option_map (λ entry. entry.body) (entry_at self.new place) ≡ Some [] }
+        ensures others { self.new ≡ change_at (with_body []) self.old place }
+    {
+        let slot = self.order[place];
+        swap_body(&mut self.slots, slot, Pages::default())
+    }
+
+    /// Puts pages into the task at a place, which has none (profile).
+    pub fn put_data(&mut self, place: usize, body: Pages)
+        requires within { place < length self.old }
+        requires none { option_map (λ entry. entry.body) (entry_at self.old place) ≡ Some [] }
+        ensures { self.new ≡ change_at (with_body body) self.old place }
+    {
+        let slot = self.order[place];
+        swap_body(&mut self.slots, slot, body);
+    }
+
+    /// The slot of the task at a place, which no other task has (profile).
+    pub fn slot_of(&self, place: usize) -> u8
+        requires { place < length self.now }
+        ensures value { slice_get (slots_of self.now) place ≡ Some result }
+        ensures small { result < 64 }
+        ensures alone { count_of result (slots_of self.now) ≡ 1 }
+    {
+        self.order[place]
+    }
+
+    /// The place of the task in a slot. None exactly where the slot is empty, or where there is no such slot (profile).
+    pub fn place_of(&self, slot: u8) -> Option<usize>
+        ensures { result ≡ position_from (λ held. held.slot == slot) 0 self.now }
+    {
+        place_in(&self.order, slot)
+    }
+
+    /// For each slot the slots of the earlier tasks that its task conflicts with, as the bits of a number; 0 for an
+    /// empty slot (profile).
+    pub fn masks(&self) -> &[u64; 64]
+        ensures { AreMasks self.now result.now }
+    {
+        &self.masks
+    }
+}
+
+fn no_masks() -> [u64; 64]
+    ensures { result ≡ replicate 64 0 }
+{
+    [0; 64]
+}
+
+fn mask_at(masks: &[u64], slot: u8) -> u64
+    requires small { slot < 64 }
+    requires room { length masks.now ≡ 64 }
+    ensures value { result ≡ slice_index masks.now slot }
+    ensures fits { slice_index masks.now slot < 2 ^ 64 }
+{
+    masks[slot as usize]
+}
+
+/// The slots of the tasks that conflict with this one, as the bits of a number.
+fn mask_against(slots: &[Option<Entry>], order: &[u8], entry: &Entry) -> u64
+    requires room { length slots.now ≡ 64 }
+    requires filled { AllByRecursion (IsFilled slots.now) order.now }
+    ensures { IsMask (map mark_of (tasks_in slots.now order.now)) (access_of entry.now) result }
+{
+    let mut mask = 0u64;
+    for slot in order {
+        if conflict(entry_in(slots, *slot), entry) {
+            mask |= 1 << *slot;
+        }
+    }
+    mask
+}
+
+/// Takes a slot out of all masks, and makes its own 0.
+fn clear_slot(masks: &mut [u64], slot: u8)
+    requires small { slot < 64 }
+    requires room { length masks.old ≡ 64 }
+    ensures { masks.new ≡ cleared masks.old slot }
+{
+    for mask in masks.iter_mut() {
+        *mask &= !(1 << slot);
+    }
+    masks[slot as usize] = 0;
+}
+
+/// The places whose task has a mask of 0, as the bits of a number.
+fn ready_places(masks: &[u64], order: &[u8]) -> u64
+    requires room { length masks.now ≡ 64 }
+    requires few { length order.now ≤ 64 }
+    requires small { AllByRecursion (λ slot. slot < 64) order.now }
+    ensures bits { (p : ℕ) → p < 64 → bit_at result p ≡ (if is_unbarred_at masks.now order.now p then 1 else 0) }
+    ensures fits { (q : ℕ) → slice_index masks.now q < 2 ^ 64 }
+{
+    let mut ready = 0u64;
+    for place in 0..order.len() {
+        if mask_at(masks, order[place]) == 0 {
+            ready |= 1 << place;
+        }
+    }
+    ready
+}
+
+fn place_in(order: &[u8], slot: u8) -> Option<usize>
+    ensures { result ≡ position_from (λ other. other == slot) 0 order.now }
+{
+    order.iter().position(|other| *other == slot)
+}
+
+fn find_in(slots: &[Option<Entry>], order: &[u8], nexus: Nexus, tag: Tag) -> Option<usize>
+    requires room { length slots.now ≡ 64 }
+    requires filled { AllByRecursion (IsFilled slots.now) order.now }
+    ensures { result ≡ position_from (is_named nexus tag) 0 (tasks_in slots.now order.now) }
+{
+    for (place, slot) in order.iter().enumerate() {
+        if has_name(entry_in(slots, *slot), nexus, tag) {
+            return Some(place);
+        }
+    }
+    None
+}
+
+fn has_name(entry: &Entry, nexus: Nexus, tag: Tag) -> bool
+    ensures { result ≡ (entry.now.nexus == nexus && entry.now.tag.0 == tag.0) }
+{
+    entry.nexus == nexus && entry.tag == tag
+}
+
+fn entry_in(slots: &[Option<Entry>], slot: u8) -> &Entry
+    requires filled { IsFilled slots.now slot }
+    requires room { length slots.now ≡ 64 }
+    ensures { slice_index_or slots.now slot None ≡ Some result.now }
+{
+    match &slots[slot as usize] {
+        Some(entry) => entry,
+        None => unreachable!(),
+    }
+}
+
+/// Puts pages into the task in a slot, and gives those that it had.
+fn swap_body(slots: &mut Vec<Option<Entry>>, slot: u8, body: Pages) -> Pages
+    requires room { length slots.old.items ≡ 64 }
+    requires filled { IsFilled slots.old.items slot }
+    ensures value { result ≡ (entry_or (slice_index_or slots.old.items slot None)).body }
+    ensures items { slots.new.items ≡ slice_set slots.old.items slot (Some (with_body body (held_in slots.old.items slot)).entry) }
+{
+    match &mut slots[slot as usize] {
+        Some(entry) => mem::replace(&mut entry.body, body),
+        None => unreachable!(),
+    }
+}
+
+#[cfg(test)]
+mod tests {
+    use super::*;
+    use crate::entry::Kind;
+    use satl_base::Range;
+    use satl_cdb::Command;
+    use std::test::Fail;
+
+    const READ: Kind = Kind::Ranged { write: false };
+
+    const WRITE: Kind = Kind::Ranged { write: true };
+
+    fn task(number: u32, kind: Kind, ordered: bool, range: Range, blocks: u32) -> Entry {
+        let mut ranges = ArrayVec::new();
+        ranges.push(Range { lba: 900, count: 0 });
+        ranges.push(range);
+        Entry {
+            nexus: Nexus::default(),
+            tag: Tag(number),
+            kind,
+            ordered,
+            blocks,
+            command: Command::Unmap { length: 40 },
+            body: Pages::default(),
+            ranges,
+            modes: None,
+            expected: None,
+        }
+    }
+
+    #[test]
+    fn waits_for_what_conflicts(rt: HostRuntime) -> Result<(), Fail> {
+        // A task of 8 blocks from 100 on, one that stands behind it, and whether that one is eligible.
+        let cases = [
+            (READ, false, READ, false, 100, 8, true),
+            (READ, false, WRITE, false, 108, 8, true),
+            (READ, false, WRITE, false, 92, 8, true),
+            (READ, false, WRITE, false, 107, 1, false),
+            (WRITE, false, READ, false, 93, 8, false),
+            (WRITE, false, WRITE, false, 103, 0, true),
+            (READ, true, READ, false, 200, 8, false),
+            (READ, false, READ, true, 200, 8, false),
+            (Kind::Barrier, false, READ, false, 200, 8, false),
+            (READ, false, Kind::Barrier, false, 200, 8, false),
+        ];
+        for (kind, ordered, other, behind, lba, count, passes) in cases {
+            let mut set = TaskSet::new(rt.alloc())?;
+            let first = task(1, kind, ordered, Range { lba: 100, count: 8 }, 8);
+            let second = task(2, other, behind, Range { lba, count }, 8);
+            assert!(rt; set.add(first).is_ok() && set.add(second).is_ok());
+            assert_eq!(rt; set.len(), 2);
+            assert_eq!(rt; set.eligible(1), passes, "at {lba}");
+            assert_eq!(rt; set.ready(), if passes { 3 } else { 1 });
+            assert_eq!(rt; set.remove(0).tag, Tag(1));
+            assert_eq!(rt; set.ready(), 1);
+        }
+        Ok(())
+    }
+
+    #[test]
+    fn full_at_64_tasks_and_32768_blocks(rt: HostRuntime) -> Result<(), Fail> {
+        let range = Range { lba: 0, count: 1 };
+        for (blocks, tasks) in [(0, 64), (512, 64), (4096, 8), (4095, 8), (32768, 1)] {
+            let mut set = TaskSet::new(rt.alloc())?;
+            for number in 0..tasks {
+                assert!(rt; set.add(task(number, READ, false, range, blocks)).is_ok());
+            }
+            let refused = set.add(task(99, WRITE, true, range, 513));
+            assert_eq!(rt; refused.map_err(|entry| entry.tag), Err(Tag(99)));
+            assert_eq!(rt; set.len(), tasks as usize);
+            assert_eq!(rt; set.first().map(|entry| entry.tag), Some(Tag(0)));
+            let last = Tag(tasks - 1);
+            assert_eq!(rt; set.find(Nexus::default(), last), Some(tasks as usize - 1));
+        }
+        let mut set = TaskSet::new(rt.alloc())?;
+        assert!(rt; set.add(task(1, WRITE, false, range, 2)).is_ok());
+        assert!(rt; set.add(task(2, WRITE, false, range, 2)).is_ok());
+        assert_eq!(rt; set.len(), 2);
+        let (first, second) = (set.slot_of(0), set.slot_of(1));
+        assert_eq!(rt; set.masks()[second as usize], 1 << first);
+        assert_eq!(rt; set.place_of(second), Some(1));
+        assert_eq!(rt; set.take_data(1).blocks(), 0);
+        set.put_data(1, Pages::zeroed(rt.alloc(), 2)?);
+        assert_eq!(rt; set.entry(1).body.blocks(), 2);
+        Ok(())
+    }
+}
