@@ -75,8 +75,9 @@ fn gather_data<K: Sink>(
 {
     let mut left = len as usize;
     for block in pages.iter() {
+        let bytes = block.as_bytes();
         let count = left.min(512);
-        match gather(sink, gathered, &block.bytes[..count]) {
+        match gather(sink, gathered, &bytes[..count]) {
             Ok(()) => left -= count,
             Err(Failed) => return Err(Failed),
         }
@@ -99,7 +100,7 @@ fn residual(expected: u32, len: u32) -> u32
     requires short { len ≤ 2097152 }
     ensures { result ≡ residual expected len }
 {
-    (expected as i32 - len as i32) as u32
+    (expected as i32 - len as i32).cast_unsigned()
 }
 
 /// A reply of version 1 up to its sense.
@@ -161,7 +162,10 @@ fn write_reply<K: Sink>(sink: &mut K, reply: &Reply) -> Result<(), Failed>
     append(&mut gathered, reply.sense.as_slice());
     let len = sent_len(reply.expected, reply.data_len);
     match gather_data(sink, &mut gathered, &reply.body, len) {
-        Ok(()) => push(sink, gathered.as_slice()),
+        Ok(()) => match push(sink, gathered.as_slice()) {
+            Ok(()) => Ok(()),
+            Err(Failed) => Err(Failed),
+        },
         Err(Failed) => Err(Failed),
     }
 }
