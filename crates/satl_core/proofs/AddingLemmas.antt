@@ -1,0 +1,69 @@
+-- A request becomes the last task.
+use Rattle.std.proofs.Common.{◌≡◌, ◌⊎◌, ⊎_elim, refl, sym, ap, subst, ◌∙◌, arith, ℕ, suc, ◌+◌, ◌-◌, ◌*◌, ◌≤◌, Bool, true, false, List, [], ◌∷◌, ◌++◌, length, map, take, Some}
+use Rattle.std.specs.Prelude.{Result, MatchBool, slice_get}
+use Rattle.std.specs.Option.{option_map}
+use Rattle.std.specs.List.{AllByRecursion}
+use Rattle.satl_base.specs.declared.block.Block.{Block}
+use Rattle.satl_base.specs.declared.reply.Reply.{Reply}
+use Rattle.satl_base.specs.declared.request.Request.{Request}
+use Rattle.satl_cdb.specs.declared.command.Command.{Command}
+use Rattle.satl_identify.specs.declared.identity.Identity.{Identity}
+use Rattle.satl_identify.specs.Refusals.{IsIdentity}
+use Rattle.satl_line.specs.declared.entry.Entry.{Entry}
+use Rattle.satl_line.specs.Tasks.{Adds, Held, change_at, entries_of, entry_at, is_too_much, total_blocks, with_body}
+use Rattle.satl_line.proofs.SlotsLemmas.{All-append, total-append}
+use Rattle.satl_pages.specs.Counts.{Counts, number_of}
+use Rattle.satl_direct.specs.Device.{data_out, task_of}
+use Rattle.satl_direct.specs.Arrival.{held_blocks, needed}
+use Rattle.satl_core.specs.Layer.{IsExpectable, IsKept, IsSoundLayer, IsTransfer, Layer, held_pages}
+use Rattle.satl_core.specs.Submitting.{Becomes, IsAdded, task_without_pages}
+use Rattle.satl_core.proofs.HeldLemmas.{held-append, held_is, last_at, last_changed, length-push}
+
+-- the blocks of all tasks with one more
+pub total_with : (old new : List Held) (entry : Entry) → Adds old entry new → total_blocks new ≡ total_blocks old + entry.blocks
+total_with old new entry a =
+    let both = total-append old (record { slot = a.slot; entry = entry } ∷ []) in
+    let same = ap total_blocks a.last in
+    omega (arith, both, same)
+
+pub count_with : (old new : List Held) (entry : Entry) → Adds old entry new → length new ≡ suc (length old)
+count_with old new entry a = ap length a.last ∙ length-push old (record { slot = a.slot; entry = entry })
+
+pub last_body : (old new : List Held) (entry : Entry) (place : ℕ) → Adds old entry new → place ≡ length old → option_map (λ (e : Entry). e.body) (entry_at new place) ≡ Some entry.body
+last_body old new entry place a is =
+    ap (λ t. option_map (λ (e : Entry). e.body) (entry_at t place)) a.last ∙ ap (λ o. option_map (λ (e : Entry). e.body) (option_map (λ (h : Held). h.entry) o)) (last_at old (record { slot = a.slot; entry = entry }) place is)
+
+-- the tasks once the last one has its pages
+pub record HasPages (old : List Held) (entry : Entry) (body : List Block) (new : List Held) : Type 0 where
+  pub slot : ℕ
+  pub are : new ≡ old ++ record { slot = slot; entry = record entry { body = body } } ∷ []
+
+pub given_pages : (old mid new : List Held) (entry : Entry) (body : List Block) (place : ℕ) → Adds old entry mid → place ≡ length old → new ≡ change_at (with_body body) mid place → HasPages old entry body new
+given_pages old mid new entry body place a at is = record {
+  slot = a.slot;
+  are = is ∙ (ap (λ t. change_at (with_body body) t place) a.last ∙ last_changed (with_body body) old (record { slot = a.slot; entry = entry }) place at);
+}
+
+pub held_with : (old new : List Held) (entry : Entry) (body : List Block) → HasPages old entry body new → held_pages new ≡ held_pages old + length body
+held_with old new entry body h =
+    let both = held-append old (record { slot = h.slot; entry = record entry { body = body } } ∷ []) in
+    let same = ap held_pages h.are in
+    omega (arith, both, same)
+
+pub kept_with : (capacity : ℕ) (old new : List Held) (entry : Entry) (body : List Block) → AllByRecursion (IsKept capacity) old → length body ≡ entry.blocks → IsTransfer capacity entry.command entry.blocks → IsExpectable entry.expected → HasPages old entry body new
+    → AllByRecursion (IsKept capacity) new
+kept_with capacity old new entry body all size transfer expected h =
+    subst (λ t. AllByRecursion (IsKept capacity) t) (sym h.are) (All-append (IsKept capacity) old (record { slot = h.slot; entry = record entry { body = body } } ∷ []) all (record { pages = size; transfer = transfer; expected = expected }, tt))
+
+push_tasks : (old : List Held) (h : Held) → map task_of (entries_of (old ++ h ∷ [])) ≡ map task_of (entries_of old) ++ task_of h.entry ∷ []
+push_tasks [] h = refl
+push_tasks (x ∷ old) h = ap (λ l. task_of x.entry ∷ l) (push_tasks old h)
+
+pub tasks_with : (old new : List Held) (r : Request) (c : Command) (queued_trim : Bool) (body : List Block) → data_out c body ≡ data_out c (take (held_blocks c) r.body) → HasPages old (task_without_pages r c queued_trim) body new
+    → map task_of (entries_of new) ≡ map task_of (entries_of old) ++ record (task_without_pages r c queued_trim) { body = data_out c (take (held_blocks c) r.body) } ∷ []
+tasks_with old new r c queued_trim body same h =
+    ap (λ t. map task_of (entries_of t)) h.are ∙ (push_tasks old (record { slot = h.slot; entry = record (task_without_pages r c queued_trim) { body = body } })
+    ∙ ap (λ b. map task_of (entries_of old) ++ record (task_without_pages r c queued_trim) { body = b } ∷ []) same)
+
+pub becomes_added : (r : Request) (c : Command) (old : Layer) (replies : List Reply) (new : Layer) → is_too_much old.tasks (task_without_pages r c old.identity.queued_trim) ≡ false → IsAdded r c old replies new → Becomes r c old replies new
+becomes_added r c old replies new fits added = rw fits added

@@ -1,0 +1,234 @@
+-- What the layer judges of a request is what the device does with it.
+use Rattle.std.proofs.Common.{◌≡◌, ◌⊎◌, inl, inr, refl, sym, ap, subst, ◌∙◌, arith, eqb, cond, ℕ, zero, suc, ◌+◌, ◌-◌, ◌*◌, ◌<◌, ◌≤◌, ◌^◌, Bool, true, false, List, [], ◌∷◌, ◌++◌, length, map, take, Option, Some, None}
+use Rattle.std.specs.Prelude.{Result, Ok, Err, OnOk, is_err, not, ◌||◌, ◌==◌, nat_lt, slice_index, slice_get, MatchBool}
+use Rattle.std.proofs.lemmas.Bool.{eqb-false, eqb-true, ltb-false}
+use Rattle.std.specs.List.{AllByRecursion}
+use Rattle.satl_base.specs.declared.block.Block.{Block}
+use Rattle.satl_base.specs.declared.reply.Reply.{Reply}
+use Rattle.satl_base.specs.declared.reply.Scsi.TheVariants as statuses
+use Rattle.satl_base.specs.declared.request.Request.{Request}
+use Rattle.satl_base.specs.Fields.{bits}
+use Rattle.satl_base.specs.Lists.{is_in}
+use Rattle.satl_cdb.specs.declared.command.Form.TheVariants.{Ten}
+use Rattle.satl_cdb.specs.declared.command.Command.{Command}
+use Rattle.satl_cdb.specs.declared.command.Command.TheVariants as cdbs
+use Rattle.satl_cdb.specs.declared.command.Illegal.{Illegal}
+use Rattle.satl_cdb.specs.Refusals.{invalid_field}
+use Rattle.satl_cdb.specs.Rows.{Rule, found_says, format_of, unless_broken}
+use Rattle.satl_cdb.specs.BlockCommands.{read, ten, transfer_rules, write}
+use Rattle.satl_cdb.specs.Table.{says, table}
+use Rattle.satl_identify.specs.declared.identity.Identity.{Identity}
+use Rattle.satl_identify.specs.Refusals.{IsIdentity}
+use Rattle.satl_identify.proofs.Judging.{capacity_bounds}
+use Rattle.satl_line.specs.declared.entry.Entry.{Entry}
+use Rattle.satl_line.specs.Tasks.{Held, entries_of, is_too_much, total_blocks}
+use Rattle.satl_drive.specs.State.{DriveState}
+use Rattle.satl_direct.specs.Device.{Device, data_out, task_of}
+use Rattle.satl_direct.specs.Senses.{link_lost, not_ready, out_of_range, refusal, short_data, unknown_operation, unknown_unit}
+use Rattle.satl_direct.specs.Arrival as direct
+use Rattle.satl_direct.specs.Arrival.{Arrival, ArrivesAs, Arrives, answered, waits, arrival, built, cdb_arrival, command_arrival, held_blocks, held_by, is_full, is_unit_0, needed, range_of, task_for}
+use Rattle.satl_core.specs.declared.submitting.AtOnce.{AtOnce}
+use Rattle.satl_core.specs.declared.submitting.AtOnce.TheVariants as at_once
+use Rattle.satl_core.specs.Layer.{IsTransfer, Layer, view}
+use Rattle.satl_core.specs.Submitting.{Becomes, IsAdded, IsAnswered, cdb_answer, command_answer, judged, readiness, reply_at_once, task_without_pages}
+
+-- ---- the commands that are served
+
+-- READ(10) and WRITE(10) with at most 4,096 blocks
+abbrev pub IsTen : Command → Type 0
+IsTen (cdbs.Read form lba count fua) = count ≤ 4096
+IsTen (cdbs.Write form lba count fua) = count ≤ 4096
+IsTen _ = ⊥
+
+-- a transfer's rules are kept
+of_rules : (cdb : List ℕ) (c d : Command) → unless_broken (transfer_rules ten) cdb c ≡ Ok d → (c ≡ d) × (ten.count cdb ≤ 4096)
+of_rules cdb c d e =
+    (elim (not (bits 1 7 5 cdb == 0)) as (λ b. cond b (Err (invalid_field 1)) (cond (nat_lt 4096 (ten.count cdb)) (Err (invalid_field 7)) (Ok c)) ≡ Ok d → (c ≡ d) × (ten.count cdb ≤ 4096)) [
+      | true ↦ λ f. absurd cc
+      | false ↦ λ f. (elim (nat_lt 4096 (ten.count cdb)) as (λ b. nat_lt 4096 (ten.count cdb) ≡ b → cond b (Err (invalid_field 7)) (Ok c) ≡ Ok d → (c ≡ d) × (ten.count cdb ≤ 4096)) [
+        | true ↦ λ is g. absurd cc
+        | false ↦ λ is g. let most = ltb-false 4096 (ten.count cdb) is in (cc, omega (arith, most))
+      ]) refl f
+    ]) e
+
+read_ten : (cdb : List ℕ) (trim : Bool) (c : Command) → found_says (format_of (table trim) 0x28) cdb ≡ Ok c → IsTen c
+read_ten cdb trim c e = let r = of_rules cdb ((read ten).command cdb) c e in subst IsTen r.0 r.1
+
+write_ten : (cdb : List ℕ) (trim : Bool) (c : Command) → found_says (format_of (table trim) 0x2A) cdb ≡ Ok c → IsTen c
+write_ten cdb trim c e = let r = of_rules cdb ((write ten).command cdb) c e in subst IsTen r.0 r.1
+
+ten_by : (cdb : List ℕ) (trim : Bool) (c : Command) (code : ℕ) → is_in code built ≡ true → found_says (format_of (table trim) code) cdb ≡ Ok c → IsTen c
+ten_by cdb trim c code in_it e =
+    (elim (eqb code 0x28) as (λ b. eqb code 0x28 ≡ b → cond b true (cond (eqb code 0x2A) true false) ≡ true → IsTen c) [
+      | true ↦ λ is f. read_ten cdb trim c (subst (λ x. found_says (format_of (table trim) x) cdb ≡ Ok c) (eqb-true code 0x28 is) e)
+      | false ↦ λ is f. (elim (eqb code 0x2A) as (λ b. eqb code 0x2A ≡ b → cond b true false ≡ true → IsTen c) [
+        | true ↦ λ is' g. write_ten cdb trim c (subst (λ x. found_says (format_of (table trim) x) cdb ≡ Ok c) (eqb-true code 0x2A is') e)
+        | false ↦ λ is' g. absurd cc
+      ]) refl f
+    ]) refl in_it
+
+ten_of : (cdb : List ℕ) (trim : Bool) (c : Command) → is_in (slice_index cdb 0) built ≡ true → says cdb trim ≡ Ok c → IsTen c
+unfolding says
+ten_of cdb trim c in_it e = ten_by cdb trim c (slice_index cdb 0) in_it e
+
+-- a command that is not answered at once is within the capacity and goes over some block
+command_ok : (l : Layer) (n : ℕ) (c d : Command) → command_answer l n c ≡ Ok d
+    → (c ≡ d) × (nat_lt l.identity.capacity ((range_of c).lba + (range_of c).count) ≡ false) × (nat_lt n (needed c) ≡ false) × (((range_of c).count == 0) ≡ false)
+command_ok l n c d e =
+    (elim (nat_lt l.identity.capacity ((range_of c).lba + (range_of c).count)) as (λ b. cond b (Err (at_once.Check out_of_range)) (cond (nat_lt n (needed c)) (Err (at_once.Check short_data)) (cond ((range_of c).count == 0) (Err (readiness l)) (Ok c))) ≡ Ok d → (c ≡ d) × (b ≡ false) × (nat_lt n (needed c) ≡ false) × (((range_of c).count == 0) ≡ false)) [
+      | true ↦ λ f. absurd cc
+      | false ↦ λ f. (elim (nat_lt n (needed c)) as (λ b. cond b (Err (at_once.Check short_data)) (cond ((range_of c).count == 0) (Err (readiness l)) (Ok c)) ≡ Ok d → (c ≡ d) × (false ≡ false) × (b ≡ false) × (((range_of c).count == 0) ≡ false)) [
+        | true ↦ λ g. absurd cc
+        | false ↦ λ g. (elim ((range_of c).count == 0) as (λ b. cond b (Err (readiness l)) (Ok c) ≡ Ok d → (c ≡ d) × (false ≡ false) × (false ≡ false) × (b ≡ false)) [
+          | true ↦ λ h. absurd cc
+          | false ↦ λ h. (cc, refl, refl, refl)
+        ]) g
+      ]) f
+    ]) e
+
+-- what is known of a command that may become a task
+pub record IsJudged (l : Layer) (r : Request) (c : Command) : Type 0 where
+  pub served : is_in (slice_index r.cdb 0) built ≡ true
+  pub said : says r.cdb l.identity.trim ≡ Ok c
+  pub within : nat_lt l.identity.capacity ((range_of c).lba + (range_of c).count) ≡ false
+  pub long : nat_lt r.data_len (needed c) ≡ false
+  pub some : ((range_of c).count == 0) ≡ false
+
+cdb_ok : (l : Layer) (r : Request) (c : Command) (found : Result Command Illegal) → is_in (slice_index r.cdb 0) built ≡ true → says r.cdb l.identity.trim ≡ found → cdb_answer l r.data_len found ≡ Ok c → IsJudged l r c
+cdb_ok l r c (Err why) served said e = absurd cc
+cdb_ok l r c (Ok d) served said e =
+    let k = command_ok l r.data_len d c e in
+    subst (IsJudged l r) k.0 (record { served = served; said = said; within = k.1; long = k.2; some = k.3 })
+
+pub judged_ok : (l : Layer) (r : Request) (c : Command) → judged l r ≡ Ok c → IsJudged l r c
+judged_ok l r c e =
+    (elim (is_unit_0 r.lun) as (λ b. cond (not b) (Err (at_once.Check unknown_unit)) (cond (not (is_in (slice_index r.cdb 0) built)) (Err (at_once.Check unknown_operation)) (cdb_answer l r.data_len (says r.cdb l.identity.trim))) ≡ Ok c → IsJudged l r c) [
+      | false ↦ λ f. absurd cc
+      | true ↦ λ f. (elim (is_in (slice_index r.cdb 0) built) as (λ b. is_in (slice_index r.cdb 0) built ≡ b → cond (not b) (Err (at_once.Check unknown_operation)) (cdb_answer l r.data_len (says r.cdb l.identity.trim)) ≡ Ok c → IsJudged l r c) [
+        | false ↦ λ is g. absurd cc
+        | true ↦ λ is g. cdb_ok l r c (says r.cdb l.identity.trim) is refl g
+      ]) refl f
+    ]) e
+
+ten_transfer : (capacity : ℕ) (c : Command) → IsTen c → capacity < 2 ^ 48 → nat_lt capacity ((range_of c).lba + (range_of c).count) ≡ false → ((range_of c).count == 0) ≡ false → IsTransfer capacity c (held_blocks c)
+ten_transfer capacity (cdbs.Read form lba count fua) ten small within some =
+    let in_it = ltb-false capacity (lba + count) within in
+    let one = eqb-false count 0 some in
+    (refl, omega (arith, in_it, small, one), omega (arith, one), ten, omega (arith, in_it))
+ten_transfer capacity (cdbs.Write form lba count fua) ten small within some =
+    let in_it = ltb-false capacity (lba + count) within in
+    let one = eqb-false count 0 some in
+    (refl, omega (arith, in_it, small, one), omega (arith, one), ten, omega (arith, in_it))
+ten_transfer capacity cdbs.TestUnitReady ten small within some = absurd ten
+ten_transfer capacity (cdbs.RequestSense a b) ten small within some = absurd ten
+ten_transfer capacity (cdbs.Inquiry a b) ten small within some = absurd ten
+ten_transfer capacity (cdbs.ModeSense a b e f g h) ten small within some = absurd ten
+ten_transfer capacity (cdbs.ModeSelect a b) ten small within some = absurd ten
+ten_transfer capacity (cdbs.StartStop a b) ten small within some = absurd ten
+ten_transfer capacity cdbs.ReadCapacity10 ten small within some = absurd ten
+ten_transfer capacity (cdbs.ReadCapacity16 a) ten small within some = absurd ten
+ten_transfer capacity (cdbs.ReportLuns a b) ten small within some = absurd ten
+ten_transfer capacity (cdbs.Verify a b e f) ten small within some = absurd ten
+ten_transfer capacity (cdbs.Flush a b e) ten small within some = absurd ten
+ten_transfer capacity (cdbs.WriteSame a b e f) ten small within some = absurd ten
+ten_transfer capacity (cdbs.Unmap a) ten small within some = absurd ten
+ten_transfer capacity (cdbs.Pass a) ten small within some = absurd ten
+
+pub judged_transfer : (l : Layer) (r : Request) (c : Command) → IsIdentity l.identity → judged l r ≡ Ok c → IsTransfer l.identity.capacity c (held_blocks c)
+judged_transfer l r c is e =
+    let j = judged_ok l r c e in
+    ten_transfer l.identity.capacity c (ten_of r.cdb l.identity.trim c j.served j.said) (capacity_bounds l.identity is).1 j.within j.some
+
+-- a request has all the data-out that its command needs
+pub long_enough : (l : Layer) (r : Request) (c : Command) → judged l r ≡ Ok c → needed c ≤ r.data_len
+long_enough l r c e = let long = ltb-false r.data_len (needed c) (judged_ok l r c e).long in omega (arith, long)
+
+-- ---- the arrival
+
+-- two choices by one test
+cond_is : {A B : Type 0} (b : Bool) (x y v : A) (p q z : B) → (x ≡ v → p ≡ z) → (y ≡ v → q ≡ z) → cond b x y ≡ v → cond b p q ≡ z
+cond_is true x y v p q z f g e = f e
+cond_is false x y v p q z f g e = g e
+
+abbrev refused : AtOnce → Result Command AtOnce
+refused x = Err x
+
+abbrev kept : Command → Result Command AtOnce
+kept c = Ok c
+
+err_is : (x y : AtOnce) → refused x ≡ refused y → x ≡ y
+err_is x y e = cc
+
+readiness_is : (l : Layer) (d : DriveState) (r : Request) → l.down ≡ d.down → direct.readiness (view l d) r ≡ reply_at_once r (readiness l) l.modes.d_sense
+readiness_is l d r mark =
+    (elim l.down as (λ b. l.down ≡ b → direct.readiness (view l d) r ≡ reply_at_once r (readiness l) l.modes.d_sense) [
+      | true ↦ λ is. rw (sym mark, is) refl
+      | false ↦ λ is. (elim l.started as (λ b. l.started ≡ b → direct.readiness (view l d) r ≡ reply_at_once r (readiness l) l.modes.d_sense) [
+        | true ↦ λ on. rw (sym mark, is, on) refl
+        | false ↦ λ on. rw (sym mark, is, on) refl
+      ]) refl
+    ]) refl
+
+-- a request that is answered at once
+same_answer : (l : Layer) (d : DriveState) (r : Request) (x a : AtOnce) (reply : Reply) → reply ≡ reply_at_once r x l.modes.d_sense → refused x ≡ refused a → answered reply ≡ answered (reply_at_once r a l.modes.d_sense)
+same_answer l d r x a reply is e = ap answered is ∙ ap (λ y. answered (reply_at_once r y l.modes.d_sense)) (err_is x a e)
+
+command_at_once : (l : Layer) (d : DriveState) (r : Request) (a : AtOnce) (c : Command) → l.down ≡ d.down → command_answer l r.data_len c ≡ Err a → command_arrival (view l d) r c ≡ answered (reply_at_once r a l.modes.d_sense)
+command_at_once l d r a c mark =
+    cond_is (nat_lt l.identity.capacity ((range_of c).lba + (range_of c).count)) _ _ _ _ _ _ (same_answer l d r (at_once.Check out_of_range) a _ refl)
+    (cond_is (nat_lt r.data_len (needed c)) _ _ _ _ _ _ (same_answer l d r (at_once.Check short_data) a _ refl)
+    (cond_is ((range_of c).count == 0) _ _ _ _ _ _ (same_answer l d r (readiness l) a _ (readiness_is l d r mark)) (λ e. absurd cc)))
+
+cdb_at_once : (l : Layer) (d : DriveState) (r : Request) (a : AtOnce) (found : Result Command Illegal) → l.down ≡ d.down → cdb_answer l r.data_len found ≡ Err a → cdb_arrival (view l d) r found ≡ answered (reply_at_once r a l.modes.d_sense)
+cdb_at_once l d r a (Err why) mark e = same_answer l d r (at_once.Check (refusal why)) a _ refl e
+cdb_at_once l d r a (Ok c) mark e = command_at_once l d r a c mark e
+
+at_once_arrival : (l : Layer) (d : DriveState) (r : Request) (a : AtOnce) → l.down ≡ d.down → judged l r ≡ Err a → arrival (view l d) r ≡ answered (reply_at_once r a l.modes.d_sense)
+at_once_arrival l d r a mark =
+    cond_is (not (is_unit_0 r.lun)) _ _ _ _ _ _ (same_answer l d r (at_once.Check unknown_unit) a _ refl)
+    (cond_is (not (is_in (slice_index r.cdb 0) built)) _ _ _ _ _ _ (same_answer l d r (at_once.Check unknown_operation) a _ refl)
+    (cdb_at_once l d r a (says r.cdb l.identity.trim) mark))
+
+pub answers_at_once : (l new : Layer) (d : DriveState) (r : Request) (a : AtOnce) (replies : List Reply) → l.down ≡ d.down → judged l r ≡ Err a → replies ≡ reply_at_once r a l.modes.d_sense ∷ [] → view new d ≡ view l d → Arrives r (view l d) replies (view new d)
+answers_at_once l new d r a replies mark e is same = subst (λ x. ArrivesAs x (view l d) replies (view new d)) (sym (at_once_arrival l d r a mark e)) (is, same)
+
+-- a request that becomes a task, or meets a full task set
+abbrev pub full_or_waits : Layer → DriveState → Request → Command → Arrival
+full_or_waits l d r c = cond (is_full (map task_of (entries_of l.tasks)) c) (answered (direct.reply_to r statuses.TaskSetFull [])) (waits (task_for (view l d) r c))
+
+ok_is : (x y : Command) → kept x ≡ kept y → x ≡ y
+ok_is x y e = cc
+
+command_waits : (l : Layer) (d : DriveState) (r : Request) (c k : Command) → command_answer l r.data_len k ≡ Ok c → command_arrival (view l d) r k ≡ full_or_waits l d r c
+command_waits l d r c k =
+    cond_is (nat_lt l.identity.capacity ((range_of k).lba + (range_of k).count)) _ _ _ _ _ _ (λ e. absurd cc)
+    (cond_is (nat_lt r.data_len (needed k)) _ _ _ _ _ _ (λ e. absurd cc)
+    (cond_is ((range_of k).count == 0) _ _ _ _ _ _ (λ e. absurd cc) (λ e. ap (full_or_waits l d r) (ok_is k c e))))
+
+cdb_waits : (l : Layer) (d : DriveState) (r : Request) (c : Command) (found : Result Command Illegal) → cdb_answer l r.data_len found ≡ Ok c → cdb_arrival (view l d) r found ≡ full_or_waits l d r c
+cdb_waits l d r c (Err why) e = absurd cc
+cdb_waits l d r c (Ok k) e = command_waits l d r c k e
+
+waits_arrival : (l : Layer) (d : DriveState) (r : Request) (c : Command) → judged l r ≡ Ok c → arrival (view l d) r ≡ full_or_waits l d r c
+waits_arrival l d r c =
+    cond_is (not (is_unit_0 r.lun)) _ _ _ _ _ _ (λ e. absurd cc)
+    (cond_is (not (is_in (slice_index r.cdb 0) built)) _ _ _ _ _ _ (λ e. absurd cc) (cdb_waits l d r c (says r.cdb l.identity.trim)))
+
+held_by_is : (tasks : List Held) → held_by (map task_of (entries_of tasks)) ≡ total_blocks tasks
+held_by_is [] = refl
+held_by_is (h ∷ tasks) = ap (λ n. h.entry.blocks + n) (held_by_is tasks)
+
+count_is : (tasks : List Held) → length (map task_of (entries_of tasks)) ≡ length tasks
+count_is [] = refl
+count_is (h ∷ tasks) = ap suc (count_is tasks)
+
+full_is : (tasks : List Held) (r : Request) (c : Command) (queued_trim : Bool) → is_full (map task_of (entries_of tasks)) c ≡ is_too_much tasks (task_without_pages r c queued_trim)
+full_is tasks r c queued_trim = rw (count_is tasks, held_by_is tasks) refl
+
+pub becomes_arrives : (l new : Layer) (d : DriveState) (r : Request) (c : Command) (replies : List Reply) → judged l r ≡ Ok c → Becomes r c l replies new → Arrives r (view l d) replies (view new d)
+becomes_arrives l new d r c replies e b =
+    subst (λ x. ArrivesAs x (view l d) replies (view new d)) (sym (waits_arrival l d r c e))
+    ((elim (is_too_much l.tasks (task_without_pages r c l.identity.queued_trim)) as (λ t. is_full (map task_of (entries_of l.tasks)) c ≡ t → MatchBool t (IsAnswered r at_once.Full l replies new) (IsAdded r c l replies new) → ArrivesAs (full_or_waits l d r c) (view l d) replies (view new d)) [
+      | true ↦ λ is a. rw is (a.reply, ap (λ x. view x d) a.stays)
+      | false ↦ λ is a. rw is (a.none, ap (λ x. view x d) a.stays ∙ ap (λ t. record (view l d) { tasks = t }) a.last)
+    ]) (full_is l.tasks r c l.identity.queued_trim) b)

@@ -1,0 +1,115 @@
+-- The tasks of the layer and their pages.
+use Rattle.std.proofs.Common.{◌≡◌, refl, sym, ap, subst, ◌∙◌, arith, ℕ, zero, suc, ◌+◌, ◌-◌, ◌*◌, ◌<◌, ◌≤◌, Bool, true, false, cond, List, [], ◌∷◌, ◌++◌, length, map, Option, Some, None}
+use Rattle.std.specs.Prelude.{Result, Ok, Err, OnOk, is_err, remove, slice_get, ◌||◌, ◌==◌, nat_lt}
+use Rattle.std.specs.Option.{option_map}
+use Rattle.std.specs.List.{AllByRecursion}
+use Rattle.satl_base.specs.declared.block.Block.{Block}
+use Rattle.satl_base.specs.declared.reply.Reply.{Reply}
+use Rattle.satl_line.specs.declared.entry.Entry.{Entry}
+use Rattle.satl_line.specs.Tasks.{Held, change_at, entries_of, entry_at, is_too_much, total_blocks, with_body}
+use Rattle.satl_line.proofs.SlotsLemmas.{total-append}
+use Rattle.satl_core.specs.declared.turning.Ending.TheVariants as endings
+use Rattle.satl_direct.specs.Senses.{link_lost}
+use Rattle.satl_core.specs.Layer.{IsExpectable, IsKept, IsTransfer, held_pages, reply_pages}
+use Rattle.satl_core.specs.Turning.{ended_reply, lost_replies}
+
+-- ---- the first task
+
+-- a task is kept, whatever its slot
+pub record IsKeptEntry (capacity : ℕ) (e : Entry) : Type 0 where
+  pub pages : length e.body ≡ e.blocks
+  pub transfer : IsTransfer capacity e.command e.blocks
+  pub expected : IsExpectable e.expected
+
+-- the first task is this one, and the others are these
+pub record IsFirst (tasks : List Held) (entry : Entry) (rest : List Held) : Type 0 where
+  pub held : Held
+  pub are : tasks ≡ held ∷ rest
+  pub entry_is : held.entry ≡ entry
+
+pub first_of : (tasks rest : List Held) (entry : Entry) → entry_at tasks 0 ≡ Some entry → rest ≡ remove tasks 0 → IsFirst tasks entry rest
+first_of [] rest entry at left = absurd cc
+first_of (held ∷ more) rest entry at left = record { held = held; are = ap (λ x. held ∷ x) (sym left); entry_is = cc }
+
+pub first_pages : (tasks rest : List Held) (entry : Entry) → IsFirst tasks entry rest → held_pages tasks ≡ length entry.body + held_pages rest
+first_pages tasks rest entry first = rw first.are (ap (λ (e : Entry). length e.body + held_pages rest) first.entry_is)
+
+pub first_count : (tasks rest : List Held) (entry : Entry) → IsFirst tasks entry rest → length tasks ≡ suc (length rest)
+first_count tasks rest entry first = ap length first.are
+
+pub first_all : (P : Entry → Type 0) (tasks rest : List Held) (entry : Entry) → AllByRecursion (λ h. P h.entry) tasks → IsFirst tasks entry rest → P entry × AllByRecursion (λ h. P h.entry) rest
+first_all P tasks rest entry all first =
+    let both : P first.held.entry × AllByRecursion (λ h. P h.entry) rest = subst (λ x. AllByRecursion (λ h. P h.entry) x) first.are all in
+    (subst P first.entry_is both.0, both.1)
+
+pub first_kept : (capacity : ℕ) (tasks rest : List Held) (entry : Entry) → AllByRecursion (IsKept capacity) tasks → IsFirst tasks entry rest → IsKeptEntry capacity entry × AllByRecursion (IsKept capacity) rest
+first_kept capacity tasks rest entry all first =
+    let both : IsKept capacity first.held × AllByRecursion (IsKept capacity) rest = subst (λ x. AllByRecursion (IsKept capacity) x) first.are all in
+    (subst (IsKeptEntry capacity) first.entry_is (record { pages = both.0.pages; transfer = both.0.transfer; expected = both.0.expected }), both.1)
+
+app-assoc : {X : Type 0} (xs ys zs : List X) → (xs ++ ys) ++ zs ≡ xs ++ (ys ++ zs)
+app-assoc [] ys zs = refl
+app-assoc (x ∷ xs) ys zs = ap (λ l. x ∷ l) (app-assoc xs ys zs)
+
+-- answering the first task leaves the answers of all as they are
+pub first_lost : (descriptor : Bool) (tasks rest : List Held) (entry : Entry) (replies replies' all : List Reply) → IsFirst tasks entry rest → replies ++ lost_replies descriptor tasks ≡ all
+    → replies' ≡ replies ++ ended_reply entry (endings.Check link_lost) descriptor ∷ [] → replies' ++ lost_replies descriptor rest ≡ all
+first_lost descriptor tasks rest entry replies replies' all first whole pushed =
+    let r = ended_reply entry (endings.Check link_lost) descriptor in
+    ap (λ l. l ++ lost_replies descriptor rest) pushed ∙ (app-assoc replies (r ∷ []) (lost_replies descriptor rest) ∙ (ap (λ l. replies ++ l) here ∙ whole))
+  where
+    here : ended_reply entry (endings.Check link_lost) descriptor ∷ lost_replies descriptor rest ≡ lost_replies descriptor tasks
+    here = rw first.are (ap (λ (e : Entry). ended_reply e (endings.Check link_lost) descriptor ∷ lost_replies descriptor rest) (sym first.entry_is))
+
+pub app-none : {X : Type 0} (xs : List X) → xs ++ [] ≡ xs
+app-none [] = refl
+app-none (x ∷ xs) = ap (λ l. x ∷ l) (app-none xs)
+
+pub none_left : (tasks : List Held) → length tasks ≡ 0 → tasks ≡ []
+none_left [] e = refl
+none_left (h ∷ tasks) e = absurd cc
+
+-- ---- pages
+
+pub held-append : (xs ys : List Held) → held_pages (xs ++ ys) ≡ held_pages xs + held_pages ys
+held-append [] ys = omega arith
+held-append (x ∷ xs) ys = let rest = held-append xs ys in omega (arith, rest)
+
+-- tasks hold as many pages as blocks
+pub held_is : (capacity : ℕ) (tasks : List Held) → AllByRecursion (IsKept capacity) tasks → held_pages tasks ≡ total_blocks tasks
+held_is capacity [] all = refl
+held_is capacity (h ∷ tasks) all =
+    let here = all.0.pages in
+    let rest = held_is capacity tasks all.1 in
+    omega (arith, here, rest)
+
+pub reply_pages-append : (xs ys : List Reply) → reply_pages (xs ++ ys) ≡ reply_pages xs + reply_pages ys
+reply_pages-append [] ys = omega arith
+reply_pages-append (x ∷ xs) ys = let rest = reply_pages-append xs ys in omega (arith, rest)
+
+-- ---- the last task
+
+pub last_at : (tasks : List Held) (h : Held) (n : ℕ) → n ≡ length tasks → slice_get (tasks ++ h ∷ []) n ≡ Some h
+last_at [] h n e = rw e refl
+last_at (t ∷ tasks) h n e = rw e (last_at tasks h (length tasks) refl)
+
+pub last_changed : (change : Held → Held) (tasks : List Held) (h : Held) (n : ℕ) → n ≡ length tasks → change_at change (tasks ++ h ∷ []) n ≡ tasks ++ change h ∷ []
+last_changed change [] h n e = rw e refl
+last_changed change (t ∷ tasks) h n e = rw e (ap (λ l. t ∷ l) (last_changed change tasks h (length tasks) refl))
+
+pub length-push : (tasks : List Held) (h : Held) → length (tasks ++ h ∷ []) ≡ suc (length tasks)
+length-push [] h = refl
+length-push (t ∷ tasks) h = ap suc (length-push tasks h)
+
+-- what an Ok says
+pub on_ok : {A E : Type 0} (r : Result A E) (P : Type 0) → is_err r ≡ false → OnOk r P → P
+on_ok (Ok a) P e p = p
+on_ok (Err x) P e p = absurd cc
+
+-- one reply more
+pub pushed : (replies replies' : List Reply) (r : Reply) → replies' ≡ replies ++ r ∷ [] → length replies' ≡ suc (length replies)
+pushed replies replies' r is = ap length is ∙ count replies
+  where
+    count : (l : List Reply) → length (l ++ r ∷ []) ≡ suc (length l)
+    count [] = refl
+    count (x ∷ l) = ap suc (count l)

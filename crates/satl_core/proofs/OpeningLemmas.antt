@@ -1,0 +1,52 @@
+-- What opening the layer gives.
+use Rattle.std.proofs.Common.{◌≡◌, refl, sym, ap, subst, ◌∙◌, ℕ, true, false, List, [], ◌∷◌, drop, map}
+use Rattle.std.specs.Prelude.{Result, Ok, slice_index_or}
+use Rattle.satl_base.specs.declared.block.Block.{Block}
+use Rattle.satl_base.specs.declared.modes.Modes.{Modes}
+use Rattle.satl_base.specs.Cells.{AreSound}
+use Rattle.satl_base.specs.Identify.{cache_is_on, capacity}
+use Rattle.satl_base.proofs.LossesLemmas.{loses-nows, loses-sound}
+use Rattle.satl_identify.specs.declared.identity.Identity.{Identity}
+use Rattle.satl_identify.specs.declared.identity.IdentityFault.{IdentityFault}
+use Rattle.satl_identify.specs.Refusals.{identity_of}
+use Rattle.satl_identify.proofs.Judging.{unbroken}
+use Rattle.satl_line.specs.Tasks.{Held}
+use Rattle.satl_drive.specs.State.{DriveState, IsFit}
+use Rattle.satl_core.specs.Layer.{Layer, Tied}
+use Rattle.satl_core.specs.Opening.{IsOpened, IsTold}
+
+pub told_nows : (old new : DriveState) (given taken : List Block) → IsTold old given taken new → map (λ c. c.now) new.cells ≡ map (λ c. c.now) old.cells
+told_nows old new given taken told = loses-nows old.cells new.cells told.lost
+
+-- what is read in the first page is what the drive says
+pub judged_as_told : (old new : DriveState) (given taken : List Block) (block : Block) (found : Result Identity IdentityFault) → IsTold old given taken new → block ≡ slice_index_or taken 0 block → found ≡ identity_of block.bytes
+    → found ≡ identity_of old.identify
+judged_as_told old new given taken block found told is judged = judged ∙ ap (λ (b : Block). identity_of b.bytes) (is ∙ ap (λ pages. slice_index_or pages 0 block) told.pages)
+
+tied : (old new : DriveState) (given taken : List Block) (i : Identity) (modes : Modes) (free : ℕ) → old.outstanding ≡ [] → IsTold old given taken new → IsFit old → IsFit new → identity_of old.identify ≡ Ok i → modes.wce ≡ i.cache_on
+    → Tied (record { identity = i; modes = modes; started = true; down = false; tasks = []; free = free; out = 0 }) new
+tied old new given taken i modes free idle told fit fit' judged wce =
+    let say = (unbroken old.identify i judged).1 in
+    record {
+      mark = sym told.was_up ∙ sym (ap (λ (d : DriveState). d.down) told.stays);
+      idle = ap (λ (d : DriveState). d.outstanding) told.stays ∙ idle;
+      fit = fit';
+      capacity = ap (λ (d : DriveState). d.capacity) told.stays ∙ (sym fit.told ∙ ap (λ (j : Identity). j.capacity) say);
+      cache = λ up. ap (λ (d : DriveState). d.cache) told.stays ∙ (sym fit.cache_told ∙ (ap (λ (j : Identity). j.cache_on) say ∙ sym wce));
+      sound = loses-sound old.cells new.cells told.lost;
+    }
+
+pub opened : (old new : DriveState) (given taken : List Block) (i : Identity) (modes : Modes) (tasks : List Held) (free out : ℕ) → old.outstanding ≡ [] → IsTold old given taken new → IsFit old → IsFit new → identity_of old.identify ≡ Ok i
+    → modes.wce ≡ i.cache_on → modes.d_sense ≡ false → tasks ≡ [] → out ≡ 0 → IsOpened old (record { identity = i; modes = modes; started = true; down = false; tasks = tasks; free = free; out = out }) new
+opened old new given taken i modes tasks free out idle told fit fit' judged wce d_sense none in_all = record {
+  identity = judged;
+  tasks = none;
+  wce = wce;
+  d_sense = d_sense;
+  started = refl;
+  up = refl;
+  out = in_all;
+  tied = rw (none, in_all) (tied old new given taken i modes free idle told fit fit' judged wce);
+  lost = told.lost;
+  stays = told.stays;
+}

@@ -1,0 +1,94 @@
+-- What a turn leaves of a drive, and the answers to tasks.
+use Rattle.std.proofs.Common.{◌≡◌, ⊎_elim, refl, sym, ap, subst, ◌∙◌, arith, ℕ, ◌+◌, ◌*◌, ◌≤◌, true, false, Bool, List, [], ◌∷◌, ◌++◌, length}
+use Rattle.std.specs.Prelude.{MatchBool, MatchOption, nat_lt, Option, Some, None, ◌⊎◌}
+use Rattle.std.specs.List.{AllByRecursion}
+use Rattle.satl_base.specs.declared.block.Block.{Block}
+use Rattle.satl_base.specs.declared.reply.Reply.{Reply}
+use Rattle.satl_base.specs.Cells.{AreSound, first_flaw}
+use Rattle.satl_base.proofs.LossesLemmas.{loses-sound}
+use Rattle.satl_cdb.specs.declared.command.Command.{Command}
+use Rattle.satl_cdb.specs.declared.command.Command.TheVariants as cdbs
+use Rattle.satl_regs.specs.declared.values.Registers.{Registers}
+use Rattle.satl_regs.specs.declared.values.Taskfile.{Taskfile}
+use Rattle.satl_regs.specs.declared.values.AtaCommand.{AtaCommand}
+use Rattle.satl_regs.specs.declared.values.How.TheVariants.{DmaExt}
+use Rattle.satl_regs.specs.Commands.{command_in}
+use Rattle.satl_regs.specs.Effects.{Medium, Transfer, Carries, Does, IsCarriedOut, IsFlawed, IsGarbled, IsRefused, idnf, reading, writing}
+use Rattle.satl_drive.specs.State.{DriveState, medium_of}
+use Rattle.satl_drive.specs.Rules.{IsRun, IsRunCutOff}
+use Rattle.satl_frame.specs.Output.{IsWritable}
+use Rattle.satl_sense.specs.declared.sense.Sense.{Sense}
+use Rattle.satl_line.specs.declared.entry.Entry.{Entry}
+use Rattle.satl_line.specs.Tasks.{Held}
+use Rattle.satl_line.proofs.SlotsLemmas.{All-append}
+use Rattle.satl_direct.specs.Senses.{link_lost}
+use Rattle.satl_core.specs.declared.turning.Ending.TheVariants as endings
+use Rattle.satl_core.specs.Layer.{IsExpectable, IsKept, IsTransfer, reply_pages}
+use Rattle.satl_core.proofs.HeldLemmas.{app-none}
+use Rattle.satl_core.proofs.Transfers.{of_transfer, transfer_few}
+use Rattle.satl_core.specs.Turning.{Stays, ata_command, ended_reply, lost_replies}
+
+-- a transfer leaves the cache on or off
+carries_cache : (r : Registers) (t : Transfer) (old : Medium) (given : List Block) (ended : Taskfile) (taken : List Block) (new : Medium) → Carries r t old given ended taken new → new.cache ≡ old.cache
+carries_cache r t old given ended taken new =
+    elim (nat_lt (length old.cells) (t.lba + t.sectors)) as (λ b. MatchBool b (IsRefused r idnf r.lba old given ended taken new) (MatchOption (first_flaw t.stopped_by old.cells t.lba t.sectors) (IsCarriedOut r t old given ended taken new ⊎ IsGarbled r t old given ended taken new) (λ at. IsFlawed r t at old given ended taken new)) → new.cache ≡ old.cache) [
+      | true ↦ λ x. ap (λ (m : Medium). m.cache) x.medium
+      | false ↦
+          elim (first_flaw t.stopped_by old.cells t.lba t.sectors) as (λ o. MatchOption o (IsCarriedOut r t old given ended taken new ⊎ IsGarbled r t old given ended taken new) (λ at. IsFlawed r t at old given ended taken new) → new.cache ≡ old.cache) [
+            | None ↦ λ h. ⊎_elim (λ x. ap (λ (m : Medium). m.cache) x.medium) (λ x. ap (λ (m : Medium). m.cache) x.medium) h
+            | Some at ↦ λ x. ap (λ (m : Medium). m.cache) x.medium
+          ]
+    ]
+
+does_cache : (command : Command) (capacity n : ℕ) (r : Registers) (old : Medium) (given : List Block) (ended : Taskfile) (taken : List Block) (new : Medium) → IsTransfer capacity command n → Does (ata_command command) r old given ended taken new → new.cache ≡ old.cache
+does_cache command capacity n r old given ended taken new t =
+    of_transfer (λ c. Does (ata_command c) r old given ended taken new → new.cache ≡ old.cache) capacity n command
+    (λ form lba count fua t. carries_cache r (reading DmaExt lba count old) old given ended taken new)
+    (λ form lba count fua t. carries_cache r (writing DmaExt lba count given old) old given ended taken new) t
+
+pub run_stays : (old new : DriveState) (command : Command) (r : Registers) (given taken : List Block) (ended : Taskfile) (capacity n : ℕ) → old.outstanding ≡ [] → IsTransfer capacity command n → command_in r ≡ ata_command command
+    → IsRun old r given ended taken new → Stays old new
+run_stays old new command r given taken ended capacity n idle t again run =
+    let does = subst (λ x. Does x r (medium_of old) given ended taken run.after) again run.does in
+    record {
+      capacity = ap (λ (d : DriveState). d.capacity) run.stays;
+      cache = ap (λ (d : DriveState). d.cache) run.stays ∙ does_cache command capacity n r (medium_of old) given ended taken run.after t does;
+      idle = ap (λ (d : DriveState). d.outstanding) run.stays ∙ idle;
+      sound = loses-sound run.after.cells new.cells run.lost;
+    }
+
+pub cut_stays : (old new : DriveState) (r : Registers) (given : List Block) → IsRunCutOff old r given new → Stays old new
+cut_stays old new r given cut = record {
+  capacity = ap (λ (d : DriveState). d.capacity) cut.stays;
+  cache = ap (λ (d : DriveState). d.cache) cut.stays;
+  idle = ap (λ (d : DriveState). d.outstanding) cut.stays;
+  sound = loses-sound cut.mid new.cells cut.lost;
+}
+
+pub same_stays : (d : DriveState) → d.outstanding ≡ [] → AreSound d.cells → Stays d d
+same_stays d idle sound = record { capacity = refl; cache = refl; idle = idle; sound = sound }
+
+-- the answers at a lost link hold no page and can be written
+pub lost_pages : (descriptor : Bool) (tasks : List Held) → reply_pages (lost_replies descriptor tasks) ≡ 0
+lost_pages descriptor [] = refl
+lost_pages descriptor (h ∷ tasks) = let rest = lost_pages descriptor tasks in omega (arith, rest)
+
+pub lost_writable : (descriptor : Bool) (capacity : ℕ) (tasks : List Held) → AllByRecursion (IsKept capacity) tasks → AllByRecursion IsWritable (lost_replies descriptor tasks)
+lost_writable descriptor capacity [] all = tt
+lost_writable descriptor capacity (h ∷ tasks) all = (record { holds = omega arith; short = omega arith; expected = all.0.expected }, lost_writable descriptor capacity tasks all.1)
+
+pub checked_writable : (entry : Entry) (sense : Sense) (descriptor : Bool) → IsExpectable entry.expected → IsWritable (ended_reply entry (endings.Check sense) descriptor)
+checked_writable entry sense descriptor expected = record { holds = omega arith; short = omega arith; expected = expected }
+
+pub kept_few : (capacity : ℕ) (tasks : List Held) → AllByRecursion (IsKept capacity) tasks → AllByRecursion (λ h. length h.entry.body ≤ 4096) tasks
+kept_few capacity [] all = tt
+kept_few capacity (h ∷ tasks) all =
+    let few = transfer_few capacity h.entry.blocks h.entry.command all.0.transfer in
+    (omega (arith, all.0.pages, few), kept_few capacity tasks all.1)
+
+-- a reply that was pushed and those behind it can be written
+pub all_writable : (given pushed all more : List Reply) (r : Reply) → given ≡ [] → pushed ≡ given ++ r ∷ [] → all ≡ pushed ++ more → IsWritable r → AllByRecursion IsWritable more → AllByRecursion IsWritable all
+all_writable given pushed all more r none push is one rest = rw (is, push, none) (one, rest)
+
+pub all_pages : (given pushed all more : List Reply) (r : Reply) → given ≡ [] → pushed ≡ given ++ r ∷ [] → all ≡ pushed ++ more → reply_pages all ≡ length r.body + reply_pages more
+all_pages given pushed all more r none push is = rw (is, push, none) refl

@@ -1,0 +1,83 @@
+-- What the layer holds, and the direct device that it and its drive are.
+use Rattle.std.specs.Prelude.{◌≡◌, ℕ, ◌+◌, ◌≤◌, ◌<◌, ◌^◌, Bool, false, List, [], ◌∷◌, map, length, Option, IfSome}
+use Rattle.std.specs.List.{AllByRecursion}
+use Rattle.satl_base.specs.declared.modes.Modes.{Modes}
+use Rattle.satl_base.specs.declared.reply.Reply.{Reply}
+use Rattle.satl_base.specs.Cells.{AreSound}
+use Rattle.satl_cdb.specs.declared.command.Command.{Command}
+use Rattle.satl_cdb.specs.declared.command.Command.TheVariants.{Read, Write}
+use Rattle.satl_identify.specs.declared.identity.Identity.{Identity}
+use Rattle.satl_identify.specs.Refusals.{IsIdentity}
+use Rattle.satl_line.specs.declared.entry.Entry.{Entry}
+use Rattle.satl_line.specs.Tasks.{Held, entries_of}
+use Rattle.satl_pages.specs.Counts.{Counts, number_of}
+use Rattle.satl_drive.specs.State.{DriveState, IsFit}
+use Rattle.satl_direct.specs.Device.{Device, task_of}
+
+-- the layer: what its drive says of itself, the mode values, whether the unit is started, its mark of a lost link, its tasks in
+-- their slots, and how many pages are free and out (a task's pages are neither)
+pub record Layer : Type 0 where
+  pub identity : Identity
+  pub modes : Modes
+  pub started : Bool
+  pub down : Bool
+  pub tasks : List Held
+  pub free : ℕ
+  pub out : ℕ
+
+-- the pages that tasks hold
+abbrev pub held_pages : List Held → ℕ
+held_pages [] = 0
+held_pages (h ∷ hs) = length h.entry.body + held_pages hs
+
+-- a READ or a WRITE of 1 to 4,096 blocks within the capacity and the 48 bits of an address
+abbrev pub IsTransfer : ℕ → Command → ℕ → Type 0
+IsTransfer capacity (Read form lba count fua) blocks = (blocks ≡ count) × (lba < 2 ^ 48) × (1 ≤ count) × (count ≤ 4096) × (lba + count ≤ capacity)
+IsTransfer capacity (Write form lba count fua) blocks = (blocks ≡ count) × (lba < 2 ^ 48) × (1 ≤ count) × (count ≤ 4096) × (lba + count ≤ capacity)
+IsTransfer capacity _ blocks = ⊥
+
+-- a number of bytes that a host may take: at most 2,097,152
+abbrev pub IsExpectable : Option ℕ → Type 0
+IsExpectable expected = IfSome expected (λ count. count ≤ 2097152)
+
+-- a task holds as many pages as blocks, and goes over its range of the drive
+pub record IsKept (capacity : ℕ) (h : Held) : Type 0 where
+  pub pages : length h.entry.body ≡ h.entry.blocks
+  pub transfer : IsTransfer capacity h.entry.command h.entry.blocks
+  pub expected : IsExpectable h.entry.expected
+
+-- the direct device that the layer and its drive are
+abbrev pub view : Layer → DriveState → Device
+view l d = record {
+  cells = d.cells;
+  tasks = map task_of (entries_of l.tasks);
+  modes = l.modes;
+  started = l.started;
+  active = d.active;
+  down = d.down;
+  glitches = d.glitches;
+  identity = l.identity;
+}
+
+-- the layer's record of its drive is right: nothing is outstanding, the data are those of the identity, the cache is on where WCE
+-- is, the sectors are sound, and the mark of a lost link is set where the link is lost
+pub record Tied (l : Layer) (d : DriveState) : Type 0 where
+  pub mark : l.down ≡ d.down
+  pub idle : d.outstanding ≡ []
+  pub fit : IsFit d
+  pub capacity : d.capacity ≡ l.identity.capacity
+  pub cache : l.down ≡ false → d.cache ≡ l.modes.wce
+  pub sound : AreSound d.cells
+
+-- the pages in replies
+abbrev pub reply_pages : List Reply → ℕ
+reply_pages [] = 0
+reply_pages (r ∷ rs) = length r.body + reply_pages rs
+
+-- the parts of the layer fit together: the pool's 32,960 pages are free, in tasks, or out; each task is kept; the identity is one
+-- that a drive's data give
+pub record IsSoundLayer (identity : Identity) (tasks : List Held) (pool : Counts) : Type 0 where
+  pub held : held_pages tasks ≤ pool.out
+  pub all : number_of pool ≡ 32960
+  pub kept : AllByRecursion (IsKept identity.capacity) tasks
+  pub identity_is : IsIdentity identity

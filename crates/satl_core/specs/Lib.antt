@@ -1,0 +1,4 @@
+pub mod Layer
+pub mod Opening
+pub mod Submitting
+pub mod Turning

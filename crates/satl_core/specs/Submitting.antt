@@ -1,0 +1,100 @@
+-- What the layer is asked with, and what becomes of it.
+use Rattle.std.specs.Prelude.{◌≡◌, ◌⊎◌, ℕ, ◌*◌, ◌+◌, ◌≤◌, ◌==◌, not, nat_lt, Bool, if◌then◌else◌, Option, Some, None, Result, Ok, Err, List, [], ◌∷◌, ◌++◌, length, map, take, slice_index, MatchBool}
+use Rattle.satl_base.specs.declared.request.Request.{Request}
+use Rattle.satl_base.specs.declared.reply.Reply.{Reply}
+use Rattle.satl_base.specs.declared.reply.Scsi.{Scsi}
+use Rattle.satl_base.specs.declared.reply.Scsi.TheVariants as statuses
+use Rattle.satl_base.specs.Lists.{is_in}
+use Rattle.satl_cdb.specs.declared.command.Command.{Command}
+use Rattle.satl_cdb.specs.declared.command.Illegal.{Illegal}
+use Rattle.satl_cdb.specs.Table.{says}
+use Rattle.satl_sense.specs.Descriptor.{descriptor_form}
+use Rattle.satl_sense.specs.Fixed.{fixed_form}
+use Rattle.satl_line.specs.declared.entry.Entry.{Entry}
+use Rattle.satl_line.specs.Kinds.{kind_of}
+use Rattle.satl_direct.specs.Arrival.{built, held_blocks, is_ordered, is_unit_0, needed, range_of}
+use Rattle.satl_direct.specs.Senses.{link_lost, not_ready, out_of_range, refusal, short_data, unknown_operation, unknown_unit}
+use Rattle.satl_core.specs.declared.submitting.AtOnce.{AtOnce}
+use Rattle.satl_core.specs.declared.submitting.AtOnce.TheVariants as at_once
+use Rattle.satl_line.specs.Tasks.{entries_of, is_too_much}
+use Rattle.satl_direct.specs.Device.{data_out, task_of}
+use Rattle.satl_core.specs.Layer.{IsExpectable, Layer}
+
+-- the pages out are the request's, which hold all of its data-out, or no page was free for more
+pub record CanSubmit (r : Request) (free out : ℕ) : Type 0 where
+  pub pages : out ≡ length r.body
+  pub all : (r.data_len ≤ 512 * length r.body) ⊎ (free ≡ 0)
+  pub expected : IsExpectable r.expected
+
+-- the task that a request becomes, without its pages
+abbrev pub task_without_pages : Request → Command → Bool → Entry
+task_without_pages r command queued_trim = record {
+  nexus = r.nexus;
+  tag = r.tag;
+  kind = kind_of command queued_trim;
+  ordered = is_ordered r.attr;
+  blocks = held_blocks command;
+  command = command;
+  body = [];
+  ranges = record { items = range_of command ∷ [] };
+  modes = None;
+  expected = r.expected;
+}
+
+abbrev pub status_at_once : AtOnce → Scsi
+status_at_once at_once.Good = statuses.Good
+status_at_once at_once.Full = statuses.TaskSetFull
+status_at_once (at_once.Check sense) = statuses.CheckCondition
+
+abbrev pub sense_at_once : AtOnce → Bool → List ℕ
+sense_at_once at_once.Good descriptor = []
+sense_at_once at_once.Full descriptor = []
+sense_at_once (at_once.Check sense) descriptor = if descriptor then descriptor_form sense else fixed_form sense
+
+-- the answer to a request that is answered at once
+abbrev pub reply_at_once : Request → AtOnce → Bool → Reply
+reply_at_once r answer descriptor = record { nexus = r.nexus; tag = r.tag; status = status_at_once answer; sense = record { items = sense_at_once answer descriptor }; body = []; data_len = 0; expected = r.expected }
+
+-- TEST UNIT READY, and commands that go over no block
+abbrev pub readiness : Layer → AtOnce
+readiness l =
+    if l.down then at_once.Check link_lost
+    else if not l.started then at_once.Check not_ready
+    else at_once.Good
+
+-- why a command whose fields are good is answered at once, but for a full task set
+abbrev pub command_answer : Layer → ℕ → Command → Result Command AtOnce
+command_answer l data_len command =
+    if nat_lt l.identity.capacity ((range_of command).lba + (range_of command).count) then Err (at_once.Check out_of_range)
+    else if nat_lt data_len (needed command) then Err (at_once.Check short_data)
+    else if (range_of command).count == 0 then Err (readiness l)
+    else Ok command
+
+abbrev pub cdb_answer : Layer → ℕ → Result Command Illegal → Result Command AtOnce
+cdb_answer l data_len (Err why) = Err (at_once.Check (refusal why))
+cdb_answer l data_len (Ok command) = command_answer l data_len command
+
+-- the command of a request that may become a task, or why it is answered at once
+abbrev pub judged : Layer → Request → Result Command AtOnce
+judged l r =
+    if not (is_unit_0 r.lun) then Err (at_once.Check unknown_unit)
+    else if not (is_in (slice_index r.cdb 0) built) then Err (at_once.Check unknown_operation)
+    else cdb_answer l r.data_len (says r.cdb l.identity.trim)
+
+-- a request is answered at once: nothing else changes, and no page is out
+pub record IsAnswered (r : Request) (answer : AtOnce) (old : Layer) (replies : List Reply) (new : Layer) : Type 0 where
+  pub reply : replies ≡ reply_at_once r answer old.modes.d_sense ∷ []
+  pub stays : new ≡ record old { free = new.free; out = 0 }
+
+-- a request becomes the last task, and no page is out
+pub record IsAdded (r : Request) (command : Command) (old : Layer) (replies : List Reply) (new : Layer) : Type 0 where
+  pub none : replies ≡ []
+  pub last : map task_of (entries_of new.tasks) ≡ map task_of (entries_of old.tasks) ++ record (task_without_pages r command old.identity.queued_trim) { body = data_out command (take (held_blocks command) r.body) } ∷ []
+  pub stays : new ≡ record old { tasks = new.tasks; free = new.free; out = 0 }
+
+-- a command becomes a task, but for a full task set
+abbrev pub Becomes : Request → Command → Layer → List Reply → Layer → Type 0
+Becomes r command old replies new =
+    MatchBool (is_too_much old.tasks (task_without_pages r command old.identity.queued_trim))
+    (IsAnswered r at_once.Full old replies new)
+    (IsAdded r command old replies new)

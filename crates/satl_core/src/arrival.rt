@@ -1,0 +1,95 @@
+// What becomes of a request, judged in the order of the steps.
+ghost use Rattle.std.specs.Prelude.{◌≡◌, ◌+◌, nat_lt};
+ghost use Rattle.satl_base.specs.Lists.{is_in};
+ghost use Rattle.satl_direct.specs.Arrival.{built, is_ordered, is_unit_0, needed, range_of};
+ghost use Rattle.satl_direct.specs.Senses.{out_of_range, plain, refusal, short_data, unknown_operation, unknown_unit};
+
+use satl_base::{Attr, Range};
+use satl_cdb::{Command, Illegal};
+use satl_sense::{Extra, Sense};
+
+/// The operation codes that are served so far: READ(10) and WRITE(10).
+pub fn is_built(code: u8) -> bool
+    ensures { result ≡ is_in code built }
+{
+    matches!(code, 0x28 | 0x2A)
+}
+
+/// Whether a LUN is that of logical unit 0.
+pub fn is_unit_0(lun: &[u8; 8]) -> bool
+    ensures { result ≡ is_unit_0 lun.now }
+{
+    lun.iter().all(|byte| *byte == 0)
+}
+
+pub fn is_ordered(attr: Attr) -> bool
+    ensures { result ≡ is_ordered attr }
+{
+    match attr {
+        Attr::Simple => false,
+        Attr::Ordered => true,
+    }
+}
+
+/// The blocks that a command goes over.
+pub fn range_of(command: &Command) -> Range
+    ensures { result ≡ range_of command.now }
+{
+    match *command {
+        Command::Read { lba, count, .. } | Command::Write { lba, count, .. } => Range {
+            lba,
+            count,
+        },
+        _ => Range::default(),
+    }
+}
+
+/// The bytes of data-out that a command needs.
+pub fn needed(command: &Command) -> u64
+    ensures { result ≡ needed command.now }
+{
+    match *command {
+        Command::Write { count, .. } => 512 * u64::from(count),
+        _ => 0,
+    }
+}
+
+/// Whether a range goes past the last sector.
+pub fn is_outside(range: Range, capacity: u64) -> bool
+    ensures { result ≡ nat_lt capacity (range.lba + range.count) }
+{
+    u64::from(range.count) > capacity || range.lba > capacity - u64::from(range.count)
+}
+
+/// Sense data without an extra.
+pub fn plain(key: u8, asc: u8, ascq: u8) -> Sense
+    ensures { result ≡ plain key asc ascq }
+{
+    Sense {
+        key,
+        asc,
+        ascq,
+        extra: Extra::None,
+    }
+}
+
+fn pointer_to(in_cdb: bool, pointer: Option<u16>) -> Extra
+    ensures { result ≡ Rattle.satl_direct.specs.Senses.pointer_to in_cdb pointer }
+{
+    match pointer {
+        None => Extra::None,
+        Some(byte) => Extra::Pointer { in_cdb, byte },
+    }
+}
+
+/// The sense data of a refused command.
+pub fn refusal(why: Illegal) -> Sense
+    ensures { result ≡ refusal why }
+{
+    Sense {
+        key: 0x5,
+        asc: why.asc,
+        ascq: why.ascq,
+        extra: pointer_to(why.in_cdb, why.pointer),
+    }
+}

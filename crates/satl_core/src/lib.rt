@@ -1,0 +1,10 @@
+//! The layer: it serves a SCSI block device on an ATA drive.
+#![tactic(auto)]
+
+mod arrival;
+mod commands;
+mod satl;
+mod submitting;
+mod turning;
+
+pub use satl::{OpenFault, Satl};

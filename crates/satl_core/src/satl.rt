@@ -1,0 +1,274 @@
+// The layer: what it holds, how it is opened, and the pages that it lends.
+ghost use Rattle.std.specs.Prelude.{◌≡◌, ◌≤◌, ◌+◌, ◌-◌, ◌<◌, ◌↔◌, [], Ok, IfOk, IfErr, IfSome, IfNone, IsNone, OnSome, map, length};
+ghost use Rattle.std.specs.List.{AllByRecursion};
+ghost use Rattle.satl_drive.specs.State.{IsFit};
+ghost use Rattle.satl_frame.specs.Output.{IsWritable};
+ghost use Rattle.satl_direct.specs.Arrival.{Arrives, held_blocks};
+ghost use Rattle.satl_core.specs.Layer.{IsTransfer, Tied, reply_pages, view};
+ghost use Rattle.satl_core.specs.Opening.{IsCause, IsOpened};
+ghost use Rattle.satl_core.specs.Submitting.{Becomes, CanSubmit, judged};
+
+use crate::commands::tell_identity;
+use crate::submitting::{AtOnce, answer_at_once, judge, own_pages, task_without_pages};
+use crate::turning::{end_task, link_lost, lose_tasks, run_task};
+use satl_base::{Lender, Modes, NoMemory, Pages, Replies, Request, Steps};
+use satl_cdb::Command;
+use satl_drive::{Drive, LinkDown};
+use satl_identify::{Identity, IdentityFault, read_identity};
+use satl_line::TaskSet;
+use satl_pages::Pool;
+use std::alloc::Global;
+use std::marker::Model;
+use std::sync::ledger::Ledger;
+use thiserror::Error;
+
+/// How many pages the layer takes when it is opened: 32,768 for tasks, 64 for pieces of commands, 64 for replies and 64 for
+/// trims.
+const POOL_PAGES: u32 = 32_960;
+
+/// Why the layer is not opened.
+#[derive(Clone, Copy, Debug, PartialEq, Eq, Error)]
+pub enum OpenFault {
+    #[error("the layer does not serve this drive")]
+    Identity(IdentityFault),
+    #[error("the link to the drive is lost")]
+    LinkDown,
+    #[error("out of memory")]
+    NoMemory,
+}
+
+impl From<NoMemory> for OpenFault {
+    ghost use Rattle.std.specs.Prelude.{◌≡◌};
+    ghost use Rattle.satl_core.specs.declared.satl.OpenFault.TheVariants as faults;
+
+    ghost from_gives = { λ _ e. e ≡ faults.NoMemory };
+
+    fn from(_: NoMemory) -> OpenFault {
+        OpenFault::NoMemory
+    }
+}
+
+/// The SCSI/ATA translation layer of one drive (SAT-3). All its memory is taken when it is opened.
+#[derive(Drop)]
+pub struct Satl {
+    pub(crate) identity: Identity,
+    pub(crate) modes: Modes,
+    pub(crate) started: bool,
+    pub(crate) down: bool,
+    pub(crate) tasks: TaskSet,
+    pub(crate) pool: Pool,
+}
+
+impl Model for Satl {
+    ghost use Rattle.std.specs.Prelude.{◌-◌};
+    ghost use Rattle.satl_core.specs.Layer.{IsSoundLayer, Layer, held_pages};
+
+    ghost Value = { Layer };
+
+    ghost view = { λ s. record { identity = s.identity; modes = s.modes; started = s.started; down = s.down; tasks = s.tasks; free = s.pool.free; out = s.pool.out - held_pages s.tasks } };
+
+    ghost invariant = { λ s. IsSoundLayer s.identity s.tasks s.pool };
+}
+
+impl Satl {
+    /// Opens the layer on a drive with nothing outstanding: it asks the drive for its IDENTIFY DEVICE data once, and takes all
+    /// memory that it will use. `Identity`: the layer does not serve such a drive. `LinkDown`: the drive's link is lost.
+    /// `NoMemory` may come before or after the drive is asked.
+    pub fn open<D: Drive, L: Ledger>(
+        alloc: Global,
+        drive: &mut D,
+        steps: &mut Steps<L>,
+    ) -> Result<Satl, OpenFault>
+        requires idle { (D.state drive.old).outstanding ≡ [] }
+        requires fit { IsFit (D.state drive.old) }
+        ensures opened { IfOk result (λ s. IsOpened (D.state drive.old) s (D.state drive.new)) }
+        ensures cause { IfErr result (IsCause (D.state drive.old) (D.state drive.new)) }
+        ensures nows { map (λ c. c.now) (D.state drive.new).cells ≡ map (λ c. c.now) (D.state drive.old).cells }
+        ensures steps { steps.new ≤ steps.old + 1 }
+    {
+        let tasks = TaskSet::new(alloc)?;
+        let mut pool = Pool::new(alloc, POOL_PAGES)?;
+        let Some(mut pages) = pool.take(1) else {
+            unreachable!();
+        };
+        match tell_identity(drive, &mut pages, steps) {
+            Ok(()) => {}
+            Err(LinkDown) => return Err(OpenFault::LinkDown),
+        }
+        let identity = match read_identity(&pages.block(0).bytes) {
+            Ok(identity) => identity,
+            Err(fault) => return Err(OpenFault::Identity(fault)),
+        };
+        pool.give(pages);
+        Ok(Satl {
+            identity,
+            modes: first_modes(&identity),
+            started: true,
+            down: false,
+            tasks,
+            pool,
+        })
+    }
+
+    /// A command arrives: it is answered at once, or waits as a task. Its pages become the task's or are given back (SAM-5 5;
+    /// the order of the tests: profile).
+    pub fn submit<D: Drive, L: Ledger>(
+        &mut self,
+        request: Request,
+        drive: &mut D,
+        replies: &mut Replies,
+        steps: &mut Steps<L>,
+    )
+        requires can { CanSubmit request self.old.free self.old.out }
+        requires empty { replies.old ≡ [] }
+        requires tied { Tied self.old (D.state drive.old) }
+        ensures arrives { Arrives request (view self.old (D.state drive.old)) replies.new (view self.new (D.state drive.new)) }
+        ensures drive { drive.new ≡ drive.old }
+        ensures tied { Tied self.new (D.state drive.new) }
+        ensures pages { self.new.out ≡ reply_pages replies.new }
+        ensures writable { AllByRecursion IsWritable replies.new }
+        ensures steps { steps.new ≡ steps.old }
+    {
+        match judge(self, &request) {
+            Ok(command) => self.add_task(request, command, replies),
+            Err(answer) => answer_at_once(
+                &mut self.pool,
+                request,
+                answer,
+                self.modes.d_sense,
+                replies,
+            ),
+        }
+    }
+
+    /// A command becomes a task, or the task set is full.
+    fn add_task(&mut self, request: Request, command: Command, replies: &mut Replies)
+        requires can { CanSubmit request self.old.free self.old.out }
+        requires judged { judged self.old request ≡ Ok command }
+        requires transfer { IsTransfer self.old.identity.capacity command (held_blocks command) }
+        requires empty { replies.old ≡ [] }
+        ensures { Becomes request command self.old replies.new self.new }
+    {
+        let task = task_without_pages(&request, command, self.identity.queued_trim);
+        if self.tasks.add(task).is_err() {
+            answer_at_once(
+                &mut self.pool,
+                request,
+                AtOnce::Full,
+                self.modes.d_sense,
+                replies,
+            );
+            return;
+        }
+        let place = self.tasks.len() - 1;
+        let body = own_pages(&mut self.pool, &command, request.body);
+        self.tasks.put_data(place, body);
+    }
+
+    /// One turn: the first task ends, if there is one. At a lost link all tasks are answered, in order of arrival (SAM-5 5;
+    /// lost links: profile).
+    pub fn turn<D: Drive, L: Ledger>(
+        &mut self,
+        drive: &mut D,
+        replies: &mut Replies,
+        steps: &mut Steps<L>,
+    )
+        requires empty { replies.old ≡ [] }
+        requires all_in { self.old.out ≡ 0 }
+        requires tied { Tied self.old (D.state drive.old) }
+        ensures tied { Tied self.new (D.state drive.new) }
+        ensures pages { self.new.out ≡ reply_pages replies.new }
+        ensures writable { AllByRecursion IsWritable replies.new }
+        ensures fewer { length self.new.tasks ≤ length self.old.tasks - 1 }
+        ensures steps { steps.new ≤ steps.old + 1 }
+    {
+        if self.pending() == 0 {
+            return;
+        }
+        let mut task = self.tasks.remove(0);
+        let command = task.command;
+        let descriptor = self.modes.d_sense;
+        match run_task(
+            self.down,
+            self.started,
+            drive,
+            &command,
+            &mut task.body,
+            steps,
+        ) {
+            Ok(ending) => replies.push(end_task(&mut self.pool, task, ending, descriptor)),
+            Err(LinkDown) => {
+                self.down = true;
+                replies.push(end_task(&mut self.pool, task, link_lost(), descriptor));
+                lose_tasks(&mut self.tasks, &mut self.pool, descriptor, replies);
+            }
+        }
+    }
+
+    /// The number of tasks that wait, at most 64.
+    pub fn pending(&self) -> usize
+        ensures count { result ≡ length self.now.tasks }
+        ensures few { length self.now.tasks ≤ 64 }
+    {
+        self.tasks.len()
+    }
+
+    /// Hands pages out, with whatever they hold. None exactly where fewer are free.
+    pub fn take_pages(&mut self, n: u32) -> Option<Pages>
+        ensures fewer { IsNone result ↔ (self.old.free < n) }
+        ensures pages { IfSome result (λ pages. length pages ≡ n) }
+        ensures taken { OnSome result (self.new ≡ record self.old { free = self.new.free; out = self.old.out + n }) }
+        ensures free { OnSome result (self.new.free + n ≡ self.old.free) }
+        ensures none { IfNone result (self.new ≡ self.old) }
+    {
+        self.pool.take(n)
+    }
+
+    /// Takes pages back, at most as many as are out.
+    pub fn recycle(&mut self, pages: Pages)
+        requires { length pages ≤ self.old.out }
+        ensures given { self.new ≡ record self.old { free = self.old.free + length pages; out = self.new.out } }
+        ensures out { self.new.out + length pages ≡ self.old.out }
+    {
+        self.pool.give(pages);
+    }
+}
+
+/// The layer keeps all but its free pages beside them.
+impl Lender for Satl {
+    type Rest = Satl;
+
+    ghost free = { λ s. s.free };
+
+    ghost out = { λ s. s.out };
+
+    ghost rest = { λ s. record s { free = 0; out = 0 } };
+
+    fn room(&self) -> u32 {
+        self.pool.free()
+    }
+
+    fn lend(&mut self, n: u32) -> Pages {
+        let Some(pages) = self.take_pages(n) else {
+            unreachable!();
+        };
+        pages
+    }
+
+    fn give_back(&mut self, pages: Pages) {
+        self.recycle(pages);
+    }
+}
+
+/// The mode values of a drive that was just opened: its settings, and the fixed form of sense data.
+fn first_modes(identity: &Identity) -> Modes
+    ensures wce { result.wce ≡ identity.now.cache_on }
+    ensures dra { result.dra ≡ Rattle.std.specs.Prelude.not identity.now.look_on }
+    ensures d_sense { result.d_sense ≡ Rattle.std.specs.Prelude.false }
+{
+    Modes {
+        wce: identity.cache_on,
+        dra: !identity.look_on,
+        d_sense: false,
+    }
+}

@@ -1,0 +1,150 @@
+// A command arrives.
+ghost use Rattle.std.specs.Prelude.{◌≡◌, ◌≤◌, ◌+◌, ◌*◌, ◌∷◌, [], length, take};
+ghost use Rattle.satl_direct.specs.Device.{data_out};
+ghost use Rattle.satl_direct.specs.Arrival.{held_blocks, needed};
+ghost use Rattle.satl_core.specs.Submitting.{command_answer, judged, readiness, reply_at_once, task_without_pages};
+
+use crate::arrival::{
+    is_built, is_ordered, is_outside, is_unit_0, needed, plain, range_of, refusal,
+};
+use crate::satl::Satl;
+use arrayvec::ArrayVec;
+use satl_base::{Pages, Replies, Reply, Request, Scsi};
+use satl_cdb::{Command, read_cdb};
+use satl_line::{Entry, Kind};
+use satl_pages::Pool;
+use satl_sense::{Sense, sense_bytes};
+
+/// Why a command is answered at once: GOOD, TASK SET FULL, or CHECK CONDITION with its sense data.
+#[derive(Clone, Copy, Debug, PartialEq, Eq)]
+pub enum AtOnce {
+    Good,
+    Full,
+    Check(Sense),
+}
+
+/// The command of a request that may become a task, or why it is answered at once.
+pub fn judge(satl: &Satl, request: &Request) -> Result<Command, AtOnce>
+    ensures { result ≡ judged satl.now request.now }
+{
+    if !is_unit_0(&request.lun) {
+        return Err(AtOnce::Check(plain(0x5, 0x25, 0x00)));
+    }
+    if !is_built(request.cdb[0]) {
+        return Err(AtOnce::Check(plain(0x5, 0x20, 0x00)));
+    }
+    match read_cdb(&request.cdb, satl.identity.trim) {
+        Ok(command) => judge_command(satl, request.data_len, command),
+        Err(why) => Err(AtOnce::Check(refusal(why))),
+    }
+}
+
+fn judge_command(satl: &Satl, data_len: u32, command: Command) -> Result<Command, AtOnce>
+    ensures { result ≡ command_answer satl.now data_len command }
+{
+    let range = range_of(&command);
+    if is_outside(range, satl.identity.capacity) {
+        return Err(AtOnce::Check(plain(0x5, 0x21, 0x00)));
+    }
+    if u64::from(data_len) < needed(&command) {
+        return Err(AtOnce::Check(plain(0xB, 0x4B, 0x00)));
+    }
+    if range.count == 0 {
+        return Err(readiness(satl));
+    }
+    Ok(command)
+}
+
+fn readiness(satl: &Satl) -> AtOnce
+    ensures { result ≡ readiness satl.now }
+{
+    if satl.down {
+        return AtOnce::Check(plain(0x4, 0x08, 0x00));
+    }
+    if !satl.started {
+        return AtOnce::Check(plain(0x2, 0x04, 0x02));
+    }
+    AtOnce::Good
+}
+
+/// The task that a request becomes, still without its pages.
+pub fn task_without_pages(request: &Request, command: Command, queued_trim: bool) -> Entry
+    ensures { result ≡ task_without_pages request.now command queued_trim }
+{
+    let range = range_of(&command);
+    let mut ranges = ArrayVec::new();
+    ranges.push(range);
+    Entry {
+        nexus: request.nexus,
+        tag: request.tag,
+        kind: Kind::of(&command, queued_trim),
+        ordered: is_ordered(request.attr),
+        blocks: range.count,
+        command,
+        body: Pages::default(),
+        ranges,
+        modes: None,
+        expected: request.expected,
+    }
+}
+
+/// The pages of a task: a WRITE keeps the first ones of its data-out, and a READ takes pages for its data-in. The others are
+/// given back.
+pub fn own_pages(pool: &mut Pool, command: &Command, body: Pages) -> Pages
+    requires out { length body ≤ pool.old.out }
+    requires room { held_blocks command.now ≤ pool.old.free + length body }
+    requires written { needed command.now ≤ 512 * length body }
+    ensures size { length result ≡ held_blocks command.now }
+    ensures data { data_out command.now result ≡ data_out command.now (take (held_blocks command.now) body) }
+    ensures free { pool.new.free + held_blocks command.now ≡ pool.old.free + length body }
+    ensures out { pool.new.out + length body ≡ pool.old.out + held_blocks command.now }
+{
+    let count = range_of(command).count;
+    if let Command::Write { .. } = *command {
+        let mut body = body;
+        pool.give(body.split(count));
+        return body;
+    }
+    pool.give(body);
+    let Some(pages) = pool.take(count) else {
+        unreachable!();
+    };
+    pages
+}
+
+/// Answers a request at once, and gives its pages back.
+pub fn answer_at_once(
+    pool: &mut Pool,
+    request: Request,
+    answer: AtOnce,
+    descriptor: bool,
+    replies: &mut Replies,
+)
+    requires out { length request.body ≤ pool.old.out }
+    requires empty { replies.old ≡ [] }
+    ensures reply { replies.new ≡ reply_at_once request answer descriptor ∷ [] }
+    ensures free { pool.new.free ≡ pool.old.free + length request.body }
+    ensures out { pool.new.out + length request.body ≡ pool.old.out }
+{
+    replies.push(reply_at_once(&request, answer, descriptor));
+    pool.give(request.body);
+}
+
+fn reply_at_once(request: &Request, answer: AtOnce, descriptor: bool) -> Reply
+    ensures { result ≡ reply_at_once request.now answer descriptor }
+{
+    let (status, sense) = match answer {
+        AtOnce::Good => (Scsi::Good, ArrayVec::new()),
+        AtOnce::Full => (Scsi::TaskSetFull, ArrayVec::new()),
+        AtOnce::Check(sense) => (Scsi::CheckCondition, sense_bytes(&sense, descriptor)),
+    };
+    Reply {
+        nexus: request.nexus,
+        tag: request.tag,
+        status,
+        sense,
+        body: Pages::default(),
+        data_len: 0,
+        expected: request.expected,
+    }
+}

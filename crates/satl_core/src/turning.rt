@@ -1,0 +1,201 @@
+// A task ends.
+ghost use Rattle.std.specs.Prelude.{◌≡◌, ◌≤◌, ◌<◌, ◌+◌, ◌*◌, ◌-◌, ◌++◌, ◌∷◌, [], length, true, IfOk, OnOk, OnErr};
+ghost use Rattle.std.specs.List.{AllByRecursion};
+ghost use Rattle.satl_frame.specs.Output.{IsWritable};
+ghost use Rattle.satl_drive.specs.State.{IsFit};
+ghost use Rattle.satl_drive.specs.Rules.{IsRun, IsRunCutOff};
+ghost use Rattle.satl_base.specs.Cells.{AreSound};
+ghost use Rattle.satl_regs.specs.Commands.{command_in};
+ghost use Rattle.satl_regs.specs.Spelling.{command_registers};
+ghost use Rattle.satl_direct.specs.Senses;
+ghost use Rattle.satl_core.specs.Layer.{IsTransfer, held_pages};
+ghost use Rattle.satl_core.specs.Turning;
+ghost use Rattle.satl_core.specs.Turning.{Stays, ata_command, ended_reply, lost_replies};
+
+use crate::arrival::plain;
+use arrayvec::ArrayVec;
+use satl_base::{Pages, Replies, Reply, Scsi, Steps};
+use satl_cdb::Command;
+use satl_drive::{Drive, LinkDown};
+use satl_line::{Entry, TaskSet};
+use satl_pages::Pool;
+use satl_regs::{AtaCommand, How, Taskfile, put_command};
+use satl_sense::{Extra, Sense, sense_bytes};
+use std::sync::ledger::Ledger;
+
+/// How a task ends: with GOOD, or with CHECK CONDITION and its sense data.
+#[derive(Clone, Copy, Debug, PartialEq, Eq)]
+pub enum Ending {
+    Good,
+    Check(Sense),
+}
+
+/// The ATA command of a READ or a WRITE (SAT-3 9).
+fn ata_command(command: &Command) -> AtaCommand
+    ensures { result ≡ ata_command command.now }
+{
+    match *command {
+        Command::Read { lba, count, .. } => AtaCommand::Read {
+            how: How::DmaExt,
+            lba,
+            sectors: count,
+        },
+        Command::Write { lba, count, .. } => AtaCommand::Write {
+            how: How::DmaExt,
+            lba,
+            sectors: count,
+        },
+        _ => AtaCommand::Identify,
+    }
+}
+
+/// Carries out the command of a task on the drive, with the task's pages.
+pub fn run_command<D: Drive, L: Ledger>(
+    drive: &mut D,
+    command: &Command,
+    body: &mut Pages,
+    steps: &mut Steps<L>,
+) -> Result<Taskfile, LinkDown>
+    requires idle { (D.state drive.old).outstanding ≡ [] }
+    requires transfer { IsTransfer (D.state drive.old).capacity command.now (length body.old) }
+    ensures ok { IfOk result (λ ended. IsRun (D.state drive.old) (command_registers (ata_command command.now)) body.old ended body.new (D.state drive.new)) }
+    ensures err { OnErr result (IsRunCutOff (D.state drive.old) (command_registers (ata_command command.now)) body.old (D.state drive.new)) }
+    ensures again { command_in (command_registers (ata_command command.now)) ≡ ata_command command.now }
+    ensures size { length body.new ≡ length body.old }
+    ensures fit { IsFit (D.state drive.old) → IsFit (D.state drive.new) }
+    ensures step { steps.new ≡ steps.old + 1 }
+{
+    let regs = put_command(&ata_command(command));
+    drive.run(&regs, body, steps)
+}
+
+/// How the task ends whose turn it is: the first that holds decides, a lost link, a unit that is stopped, and the drive.
+pub fn run_task<D: Drive, L: Ledger>(
+    down: bool,
+    started: bool,
+    drive: &mut D,
+    command: &Command,
+    body: &mut Pages,
+    steps: &mut Steps<L>,
+) -> Result<Ending, LinkDown>
+    requires idle { (D.state drive.old).outstanding ≡ [] }
+    requires transfer { IsTransfer (D.state drive.old).capacity command.now (length body.old) }
+    requires sound { AreSound (D.state drive.old).cells }
+    requires mark { down ≡ (D.state drive.old).down }
+    ensures stays { Stays (D.state drive.old) (D.state drive.new) }
+    ensures up { OnOk result ((D.state drive.new).down ≡ down) }
+    ensures lost { OnErr result ((D.state drive.new).down ≡ true) }
+    ensures size { length body.new ≡ length body.old }
+    ensures fit { IsFit (D.state drive.old) → IsFit (D.state drive.new) }
+    ensures step { steps.new ≤ steps.old + 1 }
+{
+    if down {
+        return Ok(link_lost());
+    }
+    if !started {
+        return Ok(Ending::Check(plain(0x2, 0x04, 0x02)));
+    }
+    let ended = run_command(drive, command, body, steps)?;
+    Ok(ending_of(command, &ended))
+}
+
+/// LOGICAL UNIT COMMUNICATION FAILURE (SPC-4 4.5.6).
+pub fn link_lost() -> Ending
+    ensures { result ≡ Ending.Check Senses.link_lost }
+{
+    Ending::Check(plain(0x4, 0x08, 0x00))
+}
+
+/// Answers all tasks in order of arrival: the link is lost.
+pub fn lose_tasks(tasks: &mut TaskSet, pool: &mut Pool, descriptor: bool, replies: &mut Replies)
+    requires held { held_pages tasks.old ≤ pool.old.out }
+    requires few { AllByRecursion (λ h. length h.entry.body ≤ 4096) tasks.old }
+    requires room { length replies.old + length tasks.old ≤ 65 }
+    ensures none { tasks.new ≡ [] }
+    ensures answers { replies.new ≡ replies.old ++ lost_replies descriptor tasks.old }
+    ensures free { pool.new.free ≡ pool.old.free + held_pages tasks.old }
+    ensures out { pool.new.out + held_pages tasks.old ≡ pool.old.out }
+{
+    for _ in 0..tasks.len() {
+        let task = tasks.remove(0);
+        replies.push(end_task(pool, task, link_lost(), descriptor));
+    }
+}
+
+/// How a task ends by the end of its command: GOOD, or by the first bit that is set in ERROR, a CRC error, a medium error at
+/// the address, an address out of range, or an abort (SAT-3 11; for the address and a WRITE: profile).
+pub fn ending_of(command: &Command, ended: &Taskfile) -> Ending {
+    if ended.status & 0x01 == 0 {
+        return Ending::Good;
+    }
+    if ended.error & 0x80 != 0 {
+        return Ending::Check(plain(0xB, 0x47, 0x03));
+    }
+    if ended.error & 0x40 != 0 {
+        return Ending::Check(medium_error(command, ended.lba));
+    }
+    if ended.error & 0x10 != 0 {
+        return Ending::Check(plain(0x5, 0x21, 0x00));
+    }
+    Ending::Check(plain(0xB, 0x00, 0x00))
+}
+
+fn medium_error(command: &Command, lba: u64) -> Sense {
+    let (asc, ascq) = match command {
+        Command::Write { .. } => (0x0C, 0x02),
+        _ => (0x11, 0x00),
+    };
+    Sense {
+        key: 0x3,
+        asc,
+        ascq,
+        extra: Extra::Information(lba),
+    }
+}
+
+/// Answers a task. A READ that is done gives its pages as data-in; all other pages are given back.
+pub fn end_task(pool: &mut Pool, task: Entry, ending: Ending, descriptor: bool) -> Reply
+    requires held { length task.body ≤ pool.old.out }
+    requires few { length task.body ≤ 4096 }
+    ensures reply { result ≡ ended_reply task ending descriptor }
+    ensures free { pool.new.free + length result.body ≡ pool.old.free + length task.body }
+    ensures out { pool.new.out + length task.body ≡ pool.old.out + length result.body }
+{
+    let Entry {
+        nexus,
+        tag,
+        command,
+        body,
+        expected,
+        ..
+    } = task;
+    let (status, sense) = match ending {
+        Ending::Good => (Scsi::Good, ArrayVec::new()),
+        Ending::Check(sense) => (Scsi::CheckCondition, sense_bytes(&sense, descriptor)),
+    };
+    let body = data_in(pool, &command, ending, body);
+    Reply {
+        nexus,
+        tag,
+        status,
+        sense,
+        data_len: 512 * body.blocks(),
+        body,
+        expected,
+    }
+}
+
+fn data_in(pool: &mut Pool, command: &Command, ending: Ending, body: Pages) -> Pages
+    requires { length body ≤ pool.old.out }
+    ensures data { result ≡ Turning.data_in ending command.now body }
+    ensures free { pool.new.free + length result ≡ pool.old.free + length body }
+    ensures out { pool.new.out + length body ≡ pool.old.out + length result }
+{
+    match (command, ending) {
+        (Command::Read { .. }, Ending::Good) => body,
+        _ => {
+            pool.give(body);
+            Pages::default()
+        }
+    }
+}

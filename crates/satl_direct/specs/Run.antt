@@ -1,0 +1,112 @@
+-- Runs of the device over the frames of an input (profile).
+use Rattle.std.specs.Prelude.{◌≡◌, ◌≤◌, ◌<◌, ℕ, zero, suc, ◌+◌, max, min, Bool, true, false, not, ◌||◌, if◌then◌else◌, List, [], ◌∷◌, ◌++◌, map, length}
+use Rattle.std.specs.List.{filter}
+use Rattle.satl_base.specs.declared.reply.Reply.{Reply}
+use Rattle.satl_frame.specs.declared.frames.Frame.{Frame}
+use Rattle.satl_frame.specs.declared.frames.Frame.TheVariants as frames
+use Rattle.satl_frame.specs.Output.{Answer}
+use Rattle.satl_frame.specs.Output.Answer.{replied, ended}
+use Rattle.satl_line.specs.declared.entry.Entry.{Entry}
+use Rattle.satl_line.specs.declared.entry.Kind.{Kind}
+use Rattle.satl_line.specs.declared.entry.Kind.TheVariants.{Ranged, Barrier}
+use Rattle.satl_line.specs.Conflict.{conflicts}
+use Rattle.satl_direct.specs.Device.{Device}
+use Rattle.satl_direct.specs.Arrival.{Arrives}
+use Rattle.satl_direct.specs.Quiet.{Quiet, Around}
+use Rattle.satl_direct.specs.Turn.{Turn, Loss}
+
+-- the eligible tasks of a list
+abbrev pub eligibles : List Entry → List Entry
+eligibles [] = []
+eligibles (t ∷ ts) = t ∷ filter (λ u. not (conflicts t u)) (eligibles ts)
+
+abbrev pub is_ranged : Entry → Bool
+is_ranged t = by_kind t.kind
+  where
+    by_kind : Kind → Bool
+    by_kind (Ranged write) = true
+    by_kind Barrier = false
+
+-- how many commands the device lets a drive hold at once: its eligible ranged tasks, 32 at most, and none while it is down or stopped
+abbrev pub depth : Device → ℕ
+depth s = if s.down || not s.started then 0 else min 32 (length (filter is_ranged (eligibles s.tasks)))
+
+-- a step, or a step and then a loss of the link
+pub data MayLose (Step : Device → List Reply → Device → Type 0) (old : Device) : List Reply → Device → Type 0 where
+  keeps : {answers : List Reply} {new : Device} → Step old answers new → MayLose Step old answers new
+  loses : {answers more : List Reply} {mid after new : Device} → Step old answers mid → Quiet mid after → Loss after more new → MayLose Step old (answers ++ more) new
+
+-- n turns with quiet moves around each, and the greatest depth after one of them
+pub data TurnsOf : ℕ → Device → List Reply → Device → ℕ → Type 0 where
+  none : {s : Device} → TurnsOf 0 s [] s 0
+  more : {n deep : ℕ} {s mid new : Device} {first rest : List Reply} → TurnsOf n s first mid deep → Around Turn mid rest new → TurnsOf (suc n) s (first ++ rest) new (max deep (depth new))
+
+-- turns until no task is left
+pub record Drains (s : Device) (answers : List Reply) (new : Device) (deep : ℕ) : Type 0 where
+  pub count : ℕ
+  pub turns : TurnsOf count s answers new deep
+  pub empty : new.tasks ≡ []
+
+-- what an event does: its answers, the device after it, and the greatest depth after it or after one of its turns. A request
+-- arrives; so many turns are taken; at the end turns are taken until no task is left. The other events are not built yet.
+abbrev pub Does : Frame → Device → List Answer → Device → ℕ → Type 0
+Does (frames.Request r) s answers new deep =
+    (replies : List Reply) × (answers ≡ map replied replies) × Around (MayLose (Arrives r)) s replies new × (deep ≡ depth new)
+Does (frames.Manage m) s answers new deep = ⊥
+Does (frames.Turn n) s answers new deep = (replies : List Reply) × (answers ≡ map replied replies) × TurnsOf n s replies new deep
+Does (frames.Bench event) s answers new deep = ⊥
+Does frames.End s answers new deep = (replies : List Reply) × (answers ≡ map replied replies ++ ended ∷ []) × Drains s replies new deep
+
+-- whether the link was lost between the two
+abbrev pub losses_of : Device → Device → ℕ
+losses_of old new = if old.down then 0 else (if new.down then 1 else 0)
+
+-- the events one after the other: a group of answers for each, the number of losses, the last device, and the greatest depth
+-- after an event or a turn
+pub data RunDeep (first : Device) : List Frame → List (List Answer) → ℕ → Device → ℕ → Type 0 where
+  start : RunDeep first [] [] 0 first 0
+  step : {events : List Frame} {groups : List (List Answer)} {losses deep : ℕ} {s new : Device} (event : Frame) (now : List Answer) (d : ℕ)
+      → RunDeep first events groups losses s deep → Does event s now new d
+      → RunDeep first (events ++ event ∷ []) (groups ++ now ∷ []) (losses + losses_of s new) new (max deep d)
+
+-- the groups one after the other
+abbrev pub joined : List (List Answer) → List Answer
+joined [] = []
+joined (group ∷ groups) = group ++ joined groups
+
+-- a run: events, answers, losses and the last device
+pub record Run (first : Device) (events : List Frame) (losses : ℕ) (answers : List Answer) (last : Device) : Type 0 where
+  pub groups : List (List Answer)
+  pub deep : ℕ
+  pub answer : answers ≡ joined groups
+  pub run : RunDeep first events groups losses last deep
+
+-- the turns that an event asks for, where it asks for some
+abbrev pub CutTurns : Frame → ℕ → Type 0
+CutTurns (frames.Request r) count = ⊥
+CutTurns (frames.Manage m) count = ⊥
+CutTurns (frames.Turn n) count = count ≤ n
+CutTurns (frames.Bench event) count = ⊥
+CutTurns frames.End count = Unit {0}
+
+-- a run whose last event has made as many turns as this, and not all that it asks for, and has no END
+pub record CutShort (first : Device) (events : List Frame) (losses : ℕ) (answers : List Answer) (last : Device) : Type 0 where
+  pub before : List Frame
+  pub event : Frame
+  pub events_are : events ≡ before ++ event ∷ []
+  pub earlier : List Answer
+  pub lost : ℕ
+  pub mid : Device
+  pub run : Run first before lost earlier mid
+  pub count : ℕ
+  pub asked : CutTurns event count
+  pub replies : List Reply
+  pub deep : ℕ
+  pub turns : TurnsOf count mid replies last deep
+  pub answer : answers ≡ earlier ++ map replied replies
+  pub losses_are : losses ≡ lost + losses_of mid last
+
+-- a run, or one that was cut short in its last event
+pub data RunCut (first : Device) (events : List Frame) (losses : ℕ) (answers : List Answer) (last : Device) : Type 0 where
+  whole_run : Run first events losses answers last → RunCut first events losses answers last
+  cut_run : CutShort first events losses answers last → RunCut first events losses answers last

@@ -1,0 +1,57 @@
+-- The sense data that the device gives (SPC-4 4.5.6, sense keys and additional sense codes).
+use Rattle.std.specs.Prelude.{ℕ, Bool, Option, Some, None, List, if◌then◌else◌}
+use Rattle.satl_base.specs.declared.modes.Modes.{Modes}
+use Rattle.satl_cdb.specs.declared.command.Illegal.{Illegal}
+use Rattle.satl_sense.specs.declared.sense.Sense.{Sense}
+use Rattle.satl_sense.specs.declared.sense.Extra.{Extra}
+use Rattle.satl_sense.specs.declared.sense.Extra.TheVariants as extras
+use Rattle.satl_sense.specs.Descriptor.{descriptor_form}
+use Rattle.satl_sense.specs.Fixed.{fixed_form}
+
+abbrev pub plain : ℕ → ℕ → ℕ → Sense
+plain key asc ascq = record { key = key; asc = asc; ascq = ascq; extra = extras.None }
+
+-- at an address
+abbrev pub at : ℕ → ℕ → ℕ → ℕ → Sense
+at key asc ascq lba = record { key = key; asc = asc; ascq = ascq; extra = extras.Information lba }
+
+abbrev pub not_ready : Sense
+not_ready = plain 0x2 0x04 0x02
+
+abbrev pub read_error : ℕ → Sense
+read_error lba = at 0x3 0x11 0x00 lba
+
+abbrev pub write_error : ℕ → Sense
+write_error lba = at 0x3 0x0C 0x02 lba
+
+-- LOGICAL UNIT COMMUNICATION FAILURE
+abbrev pub link_lost : Sense
+link_lost = plain 0x4 0x08 0x00
+
+abbrev pub unknown_operation : Sense
+unknown_operation = plain 0x5 0x20 0x00
+
+abbrev pub out_of_range : Sense
+out_of_range = plain 0x5 0x21 0x00
+
+abbrev pub unknown_unit : Sense
+unknown_unit = plain 0x5 0x25 0x00
+
+abbrev pub crc_error : Sense
+crc_error = plain 0xB 0x47 0x03
+
+abbrev pub short_data : Sense
+short_data = plain 0xB 0x4B 0x00
+
+-- what a pointer points to (SPC-4 4.5.2.4.2)
+abbrev pub pointer_to : Bool → Option ℕ → Extra
+pointer_to in_cdb None = extras.None
+pointer_to in_cdb (Some byte) = extras.Pointer in_cdb byte
+
+-- a command or a list that is refused
+abbrev pub refusal : Illegal → Sense
+refusal why = record { key = 0x5; asc = why.asc; ascq = why.ascq; extra = pointer_to why.in_cdb why.pointer }
+
+-- sense data in the form that D_SENSE chooses (SPC-4 7.5.8)
+abbrev pub sense_text : Modes → Sense → List ℕ
+sense_text modes sense = if modes.d_sense then descriptor_form sense else fixed_form sense

@@ -1,0 +1,47 @@
+-- Turns of the device, and the loss of its drive's link (SAM-5 5; lost links and glitches: profile).
+use Rattle.std.specs.Prelude.{◌≡◌, ◌⊎◌, ℕ, ◌+◌, Bool, true, false, not, ◌||◌, List, [], ◌∷◌, map, MatchBool}
+use Rattle.satl_base.specs.declared.reply.Reply.{Reply}
+use Rattle.satl_line.specs.declared.entry.Entry.{Entry}
+use Rattle.satl_line.specs.Eligible.{IsEligible}
+use Rattle.satl_direct.specs.Device.{Device}
+use Rattle.satl_direct.specs.Ending.{Ends, task_check}
+use Rattle.satl_direct.specs.Quiet.{Quiet}
+use Rattle.satl_direct.specs.Senses.{link_lost}
+
+-- each task in order of arrival is answered that the link is lost
+abbrev pub lost_replies : Device → List Reply
+lost_replies s = map (λ t. task_check s t link_lost) s.tasks
+
+-- the link is lost: all tasks are answered, and none is left
+pub record Loss (old : Device) (answers : List Reply) (new : Device) : Type 0 where
+  pub was_up : old.down ≡ false
+  pub answer : answers ≡ lost_replies old
+  pub stays : new ≡ record old { tasks = []; down = true }
+
+-- in a turn a glitch may go with the link, and the drive may be active or not
+pub record TurnLoss (old : Device) (answers : List Reply) (new : Device) : Type 0 where
+  pub was_up : old.down ≡ false
+  pub answer : answers ≡ lost_replies old
+  pub glitches : (new.glitches ≡ old.glitches) ⊎ (new.glitches + 1 ≡ old.glitches)
+  pub stays : new ≡ record old { tasks = []; down = true; glitches = new.glitches; active = new.active }
+
+-- the tasks of which one may end: the first where the unit is down or stopped, else each that is eligible
+abbrev pub IsFirst : List Entry → Entry → Type 0
+IsFirst [] t = ⊥
+IsFirst (u ∷ us) t = u ≡ t
+
+abbrev pub MayEnd : Device → Entry → Type 0
+MayEnd s t = MatchBool (s.down || not s.started) (IsFirst s.tasks t) (IsEligible s.tasks t)
+
+-- one task ends
+pub record OneEnds (s : Device) (reply : Reply) (new : Device) : Type 0 where
+  pub task : Entry
+  pub may : MayEnd s task
+  pub ends : Ends s task reply new
+
+-- a turn: with no task nothing happens; else one ends, or the link is lost, or one ends and then the link is lost
+pub data Turn (s : Device) : List Reply → Device → Type 0 where
+  idle : s.tasks ≡ [] → Turn s [] s
+  ends : {new : Device} (reply : Reply) → OneEnds s reply new → Turn s (reply ∷ []) new
+  loses : {new : Device} {answers : List Reply} → TurnLoss s answers new → Turn s answers new
+  ends_and_loses : {mid after new : Device} {answers : List Reply} (reply : Reply) → OneEnds s reply mid → Quiet mid after → TurnLoss after answers new → Turn s (reply ∷ answers) new
