@@ -10,7 +10,7 @@ use Rattle.satl_frame.specs.declared.frames.Version.{Version}
 use Rattle.satl_frame.specs.declared.frames.Version.TheVariants.{One, Two}
 
 -- a number further on stands at the front of the rest
-big_from-drop : (i j n : ℕ) (h : List ℕ) → big_from (i + j) n h ≡ big_from j n (drop i h)
+pub big_from-drop : (i j n : ℕ) (h : List ℕ) → big_from (i + j) n h ≡ big_from j n (drop i h)
 big_from-drop i j zero h = refl
 big_from-drop i j (suc n) h =
     let e : suc (i + j) ≡ i + suc j = omega arith in
@@ -64,6 +64,11 @@ pub four_at : (i : ℕ) (h : List ℕ) → i + 4 ≤ length h → IsBytes h → 
 four_at i h l b =
     let e : big_from i 4 h ≡ big_from 0 4 (drop i h) = ap (λ k. big_from k 4 h) (omega arith) ∙ big_from-drop i 0 4 h in
     ap (λ n. big_bytes 4 n) e ∙ four_first (drop i h) (omega (arith, length-drop i h)) (behind_are_bytes i h b)
+
+pub eight_at : (i : ℕ) (h : List ℕ) → i + 8 ≤ length h → IsBytes h → big_bytes 8 (big_from i 8 h) ≡ take 8 (drop i h)
+eight_at i h l b =
+    let e : big_from i 8 h ≡ big_from 0 8 (drop i h) = ap (λ k. big_from k 8 h) (omega arith) ∙ big_from-drop i 0 8 h in
+    ap (λ n. big_bytes 8 n) e ∙ eight_first (drop i h) (omega (arith, length-drop i h)) (behind_are_bytes i h b)
 
 -- the same, of a number that was read from the rest of a buffer
 all_behind : (i : ℕ) (h : List ℕ) → take (length h - i) (drop i h) ≡ drop i h

@@ -1,7 +1,10 @@
-pub mod Filled
 pub mod FieldBytes
+pub mod FieldSizes
+pub mod Filled
 pub mod GatheringLemmas
 pub mod Lacking
+pub mod OneReading
 pub mod Paging
 pub mod Refusals
 pub mod Requested
+pub mod Standing

@@ -66,7 +66,7 @@ pub record GoodHead (version : Version) (limit offset : ℕ) (h : List ℕ) : Ty
   pub within : offset + 5 + told_length h ≤ limit
   pub none : head_fault version limit offset h ≡ None
 
-good_head : (version : Version) (limit offset : ℕ) (h : List ℕ) → length h ≤ 5 → head_fault version limit offset h ≡ None → GoodHead version limit offset h
+pub good_head : (version : Version) (limit offset : ℕ) (h : List ℕ) → length h ≤ 5 → head_fault version limit offset h ≡ None → GoodHead version limit offset h
 good_head version limit offset h short f =
     let second = (refused_not (length h == 0) Truncated _ f).1 in
     let kinds = refused_not (not (has_code (frame_rows version) (slice_index h 0))) BadKind _ second in

@@ -71,6 +71,7 @@ pub struct Place {
 }
 
 /// A frame of the output (profile).
+#[derive(Clone, Copy)]
 pub enum OutFrame<'a> {
     /// What stands before all frames.
     Magic,

@@ -3,9 +3,12 @@
 
 mod frames;
 mod judge;
+pub mod laws;
 mod payloads;
 mod pull;
 mod refill;
+#[cfg(test)]
+mod tests;
 mod reader;
 mod writing;
 

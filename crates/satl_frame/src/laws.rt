@@ -1,0 +1,16 @@
+//! Laws of the framing: what holds of the definitions alone.
+ghost use Rattle.satl_frame.specs.Inputs.{FrameOrRefusal, NotBoth, OneWay};
+
+/// Of any bytes from an offset behind the magic on, a whole frame stands there or a reason refuses them, and never both (profile).
+pub fn frame_or_refusal()
+    ensures either { FrameOrRefusal }
+    ensures not_both { NotBoth }
+{
+}
+
+/// No input is read in two ways: as many frames of it are the same frames, of the same version, and the same bytes
+/// follow them (profile).
+pub fn read_in_one_way()
+    ensures { OneWay }
+{
+}

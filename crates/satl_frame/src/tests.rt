@@ -1,0 +1,228 @@
+ghost use Rattle.std.specs.Prelude.{◌≡◌, ◌≤◌, ◌<◌, ◌+◌, ◌^◌, IfOk, IfSome, length};
+ghost use Rattle.satl_frame.specs.Output.{IsWritable};
+
+use crate::{Frame, FrameFault, FrameReader, OutFrame, Reason, WriteFault, write_frame};
+use arrayvec::ArrayVec;
+use satl_base::{Block, Lender, NoMemory, Nexus, Pages, Reply, Response, Scsi, Tag};
+use satl_io::{MemorySink, MemorySource};
+use std::alloc::Global;
+use std::mem;
+use std::test::Fail;
+
+/// Pages to lend.
+#[derive(Drop)]
+struct Shelf {
+    free: Pages,
+    out: u32,
+    ghost bounded: { length free + out < 2 ^ 32 },
+}
+
+impl Shelf {
+    fn new(alloc: Global) -> Result<Shelf, NoMemory> {
+        Ok(Shelf {
+            free: Pages::zeroed(alloc, 2)?,
+            out: 0,
+        })
+    }
+}
+
+/// Puts pages before others.
+fn put_before(pages: Pages, others: &mut Pages)
+    requires { length pages + length others.old < 2 ^ 32 }
+    ensures { length others.new ≡ length others.old + length pages }
+{
+    let mut pages = pages;
+    for _ in 0..pages.blocks() {
+        let Some(page) = pages.pop_first() else {
+            unreachable!();
+        };
+        others.push_first(page);
+    }
+}
+
+impl Lender for Shelf {
+    type Rest = ();
+
+    ghost free = { λ s. length s.free };
+
+    ghost out = { λ s. s.out };
+
+    ghost rest = { λ _. tt };
+
+    fn room(&self) -> u32 {
+        self.free.blocks()
+    }
+
+    fn lend(&mut self, n: u32) -> Pages {
+        let rest = self.free.split(n);
+        self.out += n;
+        mem::replace(&mut self.free, rest)
+    }
+
+    fn give_back(&mut self, pages: Pages) {
+        self.out -= pages.blocks();
+        put_before(pages, &mut self.free);
+    }
+}
+
+/// How many frames stand before the end or the refusal of an input, and that refusal.
+fn outcome(
+    alloc: Global,
+    reader: FrameReader,
+    input: &[u8],
+    piece: usize,
+) -> Result<(u32, Option<FrameFault>), Fail> {
+    let mut reader = reader;
+    let mut source = MemorySource::new(input.to_vec(alloc)?, piece.max(1), Vec::new(alloc));
+    let mut shelf = Shelf::new(alloc)?;
+    for count in 0..9u32 {
+        match reader.next(&mut source, &mut shelf) {
+            Ok(Frame::End) => return Ok((count, None)),
+            Ok(_) => {}
+            Err(fault) => return Ok((count, Some(fault))),
+        }
+    }
+    Ok((9, None))
+}
+
+/// A write of one block, a turn, a read of it, a turn, and the end.
+fn write_then_read(alloc: Global) -> Result<Vec<u8>, Fail> {
+    let mut input = b"SATLRPL1\x01\x00\x00\x02\x1E\x00\x00\x00\x00\x00\x00\x00\x00\x00\x00\x00\x00\x00\x01\x2A\x00\x00\x00\x00\x00\x00\x00\x01\x00\x00\x00\x00\x00\x00\x00".to_vec(alloc)?;
+    input.extend_from_slice(&[0xA5; 512])?;
+    input.extend_from_slice(b"\x03\x00\x00\x00\x02\x00\x01\x01\x00\x00\x00\x1E\x00\x00\x00\x00\x00\x00\x00\x00\x00\x00\x00\x00\x00\x02\x28\x00\x00\x00\x00\x00\x00\x00\x01\x00\x00\x00\x00\x00\x00\x00\x03\x00\x00\x00\x02\x00\x01\x05\x00\x00\x00\x00")?;
+    Ok(input)
+}
+
+/// Inputs of every outcome, at once and byte by byte, and one that is cut after each byte.
+#[test]
+fn inputs_are_read_or_refused(rt: HostRuntime) -> Result<(), Fail> {
+    let alloc = rt.alloc();
+    let bad = |reason, offset| Some(FrameFault::Bad { reason, offset });
+    for piece in [1, 4096] {
+        for (input, frames, fault) in [
+            (b"".as_slice(), 0, bad(Reason::Truncated, 0)),
+            (b"SATLRPL1\x05\x00\x00\x00\x00", 0, None),
+            (b"SATLRPL1\x01\x00\x00", 0, bad(Reason::Truncated, 8)),
+            (b"X", 0, bad(Reason::BadMagic, 0)),
+            (b"SATLRPL1\x07", 0, bad(Reason::BadKind, 8)),
+            (b"SATLRPL1\x01\x00\x00\x00\x1D", 0, bad(Reason::BadLength, 8)),
+            (b"SATLRPL1\x04\x00\x00\x00\x01\x09", 0, bad(Reason::BadField, 8)),
+            (b"SATLRPL2\x01\x00\x00\x00\x22\x00\x00\x00\x00\x00\x00\x00\x00\x00\x00\x00\x00\x00\x01\x12\x00\x00\x00\x24\x00\x00\x00\x00\x00\x00\x00\x00\x00\x00\x00\x00\x00\x00\x08\x05\x00\x00\x00\x00", 1, None),
+            (b"SATLRPL2\x01\x00\x00\x00\x22\x00\x00\x00\x00\x00\x00\x00\x00\x00\x00\x00\x00\x00\x02\x00\x00\x00\x00\x00\x00\x00\x00\x00\x00\x00\x00\x00\x00\x00\x00\x00\x20\x00\x01", 0, bad(Reason::BadField, 8)),
+        ] {
+            let reader = FrameReader::new(alloc, 1 << 40);
+            assert_eq!(rt; outcome(alloc, reader, input, piece)?, (frames, fault));
+        }
+    }
+    let end = b"SATLRPL1\x05\x00\x00\x00\x00";
+    let reader = FrameReader::new(alloc, 12);
+    assert_eq!(rt; outcome(alloc, reader, end, 8)?, (0, bad(Reason::TooLong, 8)));
+    let reader = FrameReader::first_only(alloc, 1 << 40);
+    assert_eq!(rt; outcome(alloc, reader, b"SATLRPL2", 8)?, (0, bad(Reason::BadMagic, 0)));
+    let input = write_then_read(alloc)?;
+    for cut in 0..input.len() {
+        let (frames, offset) = match cut {
+            0..8 => (0, 0),
+            8..555 => (0, 8),
+            555..562 => (1, 555),
+            562..597 => (2, 562),
+            597..604 => (3, 597),
+            _ => (4, 604),
+        };
+        let reader = FrameReader::new(alloc, 1 << 40);
+        assert_eq!(rt; outcome(alloc, reader, &input[..cut], 512)?, (frames, bad(Reason::Truncated, offset)), "at {cut}");
+    }
+    Ok(())
+}
+
+/// The magic, two replies of version 2 and one of version 1, a response, END and FAULT.
+const WRITTEN: [u8; 91] = *b"SATLRSP1\
+    \x83\x00\x00\x00\x13\x00\x00\x00\x00\x00\x01\xFF\xFF\xFF\xE4\x00\x00\x00\x06\x02\x1F\x00\x00\x02\
+    \x83\x00\x00\x00\x0B\x00\x00\x00\x00\x00\x02\x00\x00\x00\x00\x00\
+    \x81\x00\x00\x00\x07\x00\x00\x00\x00\x00\x01\x00\
+    \x82\x00\x00\x00\x07\x00\x01\x00\x00\x00\x00\x01\
+    \x85\x00\x00\x00\x00\
+    \x8F\x00\x00\x00\x09\x05\x00\x00\x00\x00\x00\x00\x00\x08";
+
+/// A good reply to nexus 0, with data that begins with these bytes.
+fn reply(
+    alloc: Global,
+    tag: u32,
+    first: [u8; 8],
+    data_len: u32,
+    expected: Option<u32>,
+) -> Result<Reply, NoMemory>
+    requires short { data_len ≤ 4096 }
+    requires expected { IfSome expected (λ count. count ≤ 2097152) }
+    ensures { IfOk result (λ r. IsWritable r) }
+{
+    let mut block = Block::zero();
+    block.bytes[..8].copy_from_slice(&first);
+    let mut body = Pages::zeroed(alloc, 8)?;
+    body.set_block(0, &block);
+    Ok(Reply {
+        nexus: Nexus::default(),
+        tag: Tag(tag),
+        status: Scsi::Good,
+        sense: ArrayVec::new(),
+        body,
+        data_len,
+        expected,
+    })
+}
+
+/// The frames of an input however it is cut, the bytes of the frames of an output, and the number of write calls.
+#[test]
+fn frames_are_read_and_written(rt: HostRuntime) -> Result<(), Fail> {
+    let alloc = rt.alloc();
+    for piece in [1usize, 2, 3, 7, 512] {
+        let input = write_then_read(alloc)?;
+        let mut source = MemorySource::new(input, piece.max(1), Vec::new(alloc));
+        let mut shelf = Shelf::new(alloc)?;
+        let mut reader = FrameReader::new(alloc, 1 << 40);
+        match reader.next(&mut source, &mut shelf) {
+            Ok(Frame::Request(request)) => {
+                assert_eq!(rt; request.tag, Tag(1));
+                assert_eq!(rt; request.cdb[0], 0x2A);
+                assert_eq!(rt; request.expected, None);
+                assert_eq!(rt; request.data_len, 512);
+                assert_eq!(rt; request.body.blocks(), 1);
+                assert!(rt; request.body.iter().all(|block| *block == Block { bytes: [0xA5; 512] }));
+            }
+            _ => panic!(rt; "no request"),
+        }
+        assert!(rt; matches!(reader.next(&mut source, &mut shelf), Ok(Frame::Turn(1))));
+        assert!(rt; matches!(reader.next(&mut source, &mut shelf), Ok(Frame::Request(_))));
+        assert!(rt; matches!(reader.next(&mut source, &mut shelf), Ok(Frame::Turn(1))));
+        assert!(rt; matches!(reader.next(&mut source, &mut shelf), Ok(Frame::End)));
+    }
+    let inquiry = reply(alloc, 1, [0, 0, 6, 2, 0x1F, 0, 0, 2], 36, Some(8))?;
+    let ready = reply(alloc, 2, [0; 8], 0, Some(0))?;
+    let plain = reply(alloc, 1, [0; 8], 0, None)?;
+    let managed = OutFrame::Managed {
+        nexus: Nexus::default(),
+        function: 1,
+        response: Response::Complete,
+        tag: Tag(1),
+    };
+    let fault = OutFrame::Fault {
+        reason: Reason::Truncated,
+        offset: 8,
+    };
+    let mut sink = MemorySink::new(alloc, 8192, 5, Vec::new(alloc))?;
+    write_frame(OutFrame::Magic, &mut sink)?;
+    write_frame(OutFrame::Reply(&inquiry), &mut sink)?;
+    write_frame(OutFrame::Reply(&ready), &mut sink)?;
+    write_frame(OutFrame::Reply(&plain), &mut sink)?;
+    write_frame(managed, &mut sink)?;
+    write_frame(OutFrame::End, &mut sink)?;
+    write_frame(fault, &mut sink)?;
+    assert_eq!(rt; sink.written(), WRITTEN.as_slice());
+    let mut later = Vec::new(alloc);
+    later.push(1)?;
+    let mut sink = MemorySink::new(alloc, 8192, 8192, later)?;
+    let long = reply(alloc, 3, [1; 8], 4096, None)?;
+    assert_eq!(rt; write_frame(OutFrame::Reply(&long), &mut sink), Ok(()));
+    assert_eq!(rt; write_frame(OutFrame::End, &mut sink), Err(WriteFault));
+    Ok(())
+}
