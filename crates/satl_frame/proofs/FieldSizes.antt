@@ -31,7 +31,7 @@ pub length-request_fields : (version : Version) (r : Request) → HasFields vers
 length-request_fields version r fields =
     let tail = r.cdb ++ expected_field r.expected in
     length-append (r.nexus ∷ attr_code r.attr ∷ r.lun) (big_bytes 4 (r.tag).0 ++ tail)
-      ∙ omega (arith, fields.lun, fields.cdb, length-append r.cdb (expected_field r.expected), expected_size version r.expected fields.expected)
+    ∙ omega (arith, fields.lun, fields.cdb, length-append r.cdb (expected_field r.expected), expected_size version r.expected fields.expected)
 
 -- the attribute of a request is a good one
 attr_good : (a : Attr) → nat_lt 1 (attr_code a) ≡ false
@@ -46,12 +46,12 @@ expected_stands r version count rest fields is small =
     let size : length front ≡ 30 = length-append (r.nexus ∷ attr_code r.attr ∷ r.lun) (big_bytes 4 (r.tag).0 ++ r.cdb) ∙ omega (arith, fields.lun, fields.cdb) in
     let parts : request_fields r ++ rest ≡ front ++ (big_bytes 4 count ++ rest) = regrouped (r.nexus ∷ attr_code r.attr ∷ r.lun) (big_bytes 4 (r.tag).0) r.cdb (expected_field r.expected) (big_bytes 4 count) rest (ap expected_field is) in
     ap (λ (b : List ℕ). big_from 30 4 b) parts ∙ big_from-drop 30 0 4 (front ++ (big_bytes 4 count ++ rest))
-      ∙ ap (λ (b : List ℕ). big_from 0 4 b) (drop_at front (big_bytes 4 count ++ rest) 30 size) ∙ big_number-reads_back 4 count rest small
+    ∙ ap (λ (b : List ℕ). big_from 0 4 b) (drop_at front (big_bytes 4 count ++ rest) 30 size) ∙ big_number-reads_back 4 count rest small
   where
     regrouped : (a b c d e rest : List ℕ) → d ≡ e → (a ++ (b ++ (c ++ d))) ++ rest ≡ (a ++ (b ++ c)) ++ (e ++ rest)
     regrouped a b c d e rest same =
         ap (λ (x : List ℕ). (a ++ (b ++ (c ++ x))) ++ rest) same ∙ ap (λ (x : List ℕ). (a ++ x) ++ rest) (sym (append_assoc b c e)) ∙ ap (λ (x : List ℕ). x ++ rest) (sym (append_assoc a (b ++ c) e))
-          ∙ append_assoc (a ++ (b ++ c)) e rest
+        ∙ append_assoc (a ++ (b ++ c)) e rest
 
 -- a request has no bad field
 pub request_good : (version : Version) (r : Request) (rest : List ℕ) → HasFields version r → has_bad_request version (request_fields r ++ rest) ≡ false
@@ -97,15 +97,15 @@ pub record GoodFrame (version : Version) (f : Frame) : Type 0 where
 pub good_frame : (version : Version) (f : Frame) → IsFrame version f → GoodFrame version f
 good_frame version (frames.Request r) is =
     let size : length (request_fields r ++ data_out r) ≡ head_size version + r.data_len =
-        length-append (request_fields r) (data_out r) ∙ omega (arith, length-request_fields version r is.fields, is.sent.size) in
+    length-append (request_fields r) (data_out r) ∙ omega (arith, length-request_fields version r is.fields, is.sent.size) in
     let low : nat_le (head_size version) (length (request_fields r ++ data_out r)) ≡ true = le-leb (head_size version) (length (request_fields r ++ data_out r)) (omega arith) in
     let high : nat_le (length (request_fields r ++ data_out r)) (head_size version + 2097152) ≡ true =
-        le-leb (length (request_fields r ++ data_out r)) (head_size version + 2097152) (omega (arith, is.sent.short)) in
+    le-leb (length (request_fields r ++ data_out r)) (head_size version + 2097152) (omega (arith, is.sent.short)) in
     record {
       known = refl;
       allowed = and_from (nat_le (head_size version) (length (request_fields r ++ data_out r))) (nat_le (length (request_fields r ++ data_out r)) (head_size version + 2097152)) low high;
       good = request_good version r (data_out r) is.fields;
-      small = omega (arith, size, is.sent.short, head_small version)
+      small = omega (arith, size, is.sent.short, head_small version);
     }
   where
     head_small : (version : Version) → head_size version ≤ 34
@@ -117,7 +117,7 @@ good_frame version (frames.Manage m) is =
       known = refl;
       allowed = ap (λ (n : ℕ). nat_le 14 n && nat_le n 14) size;
       good = le-ltb 3 m.nexus is.nexus;
-      small = omega (arith, size)
+      small = omega (arith, size);
     }
 good_frame version (frames.Turn count) is = record { known = refl; allowed = refl; good = refl; small = lit< tt }
 good_frame version (frames.Bench event) is =
@@ -126,6 +126,6 @@ good_frame version (frames.Bench event) is =
       known = refl;
       allowed = and_from (nat_le 1 (length (event_fields event))) (nat_le (length (event_fields event)) 257) (le-leb 1 (length (event_fields event)) sizes.0) (le-leb (length (event_fields event)) 257 sizes.1);
       good = event_good event is;
-      small = omega (arith, sizes.1)
+      small = omega (arith, sizes.1);
     }
 good_frame version frames.End is = record { known = refl; allowed = refl; good = refl; small = lit< tt }

@@ -29,7 +29,7 @@ pub Gathers-more : {a b c : Option (List ℕ)} {g g' g'' xs ys : List ℕ} → G
 Gathers-more {a} {b} {c} {g} {g'} {g''} {xs} {ys} p q = record {
   gone = p.gone ++ q.gone;
   wrote = Wrote-more p.wrote q.wrote;
-  split = append_assoc p.gone q.gone g'' ∙ ap (λ r. p.gone ++ r) q.split ∙ sym (append_assoc p.gone g' ys) ∙ ap (λ r. r ++ ys) p.split ∙ append_assoc g xs ys
+  split = append_assoc p.gone q.gone g'' ∙ ap (λ r. p.gone ++ r) q.split ∙ sym (append_assoc p.gone g' ys) ∙ ap (λ r. r ++ ys) p.split ∙ append_assoc g xs ys;
 }
 
 -- a failure after that
@@ -60,7 +60,7 @@ first_bytes-cons n b bs size = elim (cases_lt n 512) [
       let e : min n 512 ≡ 512 = omega arith in
       let sum : n ≡ length b.bytes + (n - 512) = omega arith in
       rw e (ap (λ (k : ℕ). take k (b.bytes ++ bytes_of bs)) sum ∙ take-append-add b.bytes (bytes_of bs) (n - 512)
-        ∙ ap (λ xs. xs ++ take (n - 512) (bytes_of bs)) (sym (take_all 512 b.bytes (omega arith))))
+      ∙ ap (λ xs. xs ++ take (n - 512) (bytes_of bs)) (sym (take_all 512 b.bytes (omega arith))))
 ]
 
 -- one block more: what was gathered, and what is left
@@ -69,7 +69,7 @@ pub block_gathered : (n left count : ℕ) (front bytes : List ℕ) (b : Block) (
 block_gathered n left count front bytes b bs it all same size counted is rest =
     let whole : front ++ first_bytes left (b ∷ bs) ≡ first_bytes n all = ap (λ (l : List Block). front ++ first_bytes left l) (sym is) ∙ rest in
     rw (same, counted) (append_assoc front (take (min left 512) b.bytes) (first_bytes (left - min left 512) bs)
-      ∙ ap (λ (xs : List ℕ). front ++ xs) (sym (first_bytes-cons left b bs size)) ∙ whole)
+    ∙ ap (λ (xs : List ℕ). front ++ xs) (sym (first_bytes-cons left b bs size)) ∙ whole)
 
 -- a failure at a block is one of all
 pub block_failed : {a b c : Option (List ℕ)} {g g' front : List ℕ} (piece rest all : List ℕ) → Gathers a b g g' front → WrotePart b c (g' ++ piece) → (front ++ piece) ++ rest ≡ all →
@@ -82,5 +82,5 @@ pub reply_whole : (r : Reply) (items : List ℕ) (len : ℕ) → items ≡ frame
     items ++ first_bytes len r.body ≡ reply_bytes r
 reply_whole r items len is count =
     ap (λ (xs : List ℕ). xs ++ first_bytes len r.body) is ∙ ap (λ (n : ℕ). (framed (reply_kind r.expected) (reply_len r) (reply_fields r) ++ r.sense.items) ++ first_bytes n r.body) count
-      ∙ append_assoc (framed (reply_kind r.expected) (reply_len r) (reply_fields r)) r.sense.items (sent_data r)
-      ∙ append_assoc (reply_kind r.expected ∷ big_bytes 4 (reply_len r)) (reply_fields r) (r.sense.items ++ sent_data r)
+    ∙ append_assoc (framed (reply_kind r.expected) (reply_len r) (reply_fields r)) r.sense.items (sent_data r)
+    ∙ append_assoc (reply_kind r.expected ∷ big_bytes 4 (reply_len r)) (reply_fields r) (r.sense.items ++ sent_data r)

@@ -2,7 +2,6 @@ pub mod FieldBytes
 pub mod FieldSizes
 pub mod Filled
 pub mod GatheringLemmas
-pub mod Lacking
 pub mod OneReading
 pub mod Paging
 pub mod Refusals

@@ -60,7 +60,7 @@ same_request p q r s u v w x = cc
 fields_split : (r : Request) → request_fields r ++ data_out r ≡ r.nexus ∷ attr_code r.attr ∷ (r.lun ++ (big_bytes 4 (r.tag).0 ++ (r.cdb ++ (expected_field r.expected ++ data_out r))))
 fields_split r =
     let inner : (r.lun ++ (big_bytes 4 (r.tag).0 ++ (r.cdb ++ expected_field r.expected))) ++ data_out r ≡ r.lun ++ (big_bytes 4 (r.tag).0 ++ (r.cdb ++ (expected_field r.expected ++ data_out r))) =
-        regrouped r.lun (big_bytes 4 (r.tag).0) r.cdb (expected_field r.expected) (data_out r) in
+    regrouped r.lun (big_bytes 4 (r.tag).0) r.cdb (expected_field r.expected) (data_out r) in
     ap (λ (xs : List ℕ). r.nexus ∷ attr_code r.attr ∷ xs) inner
   where
     regrouped : (a b c d e : List ℕ) → (a ++ (b ++ (c ++ d))) ++ e ≡ a ++ (b ++ (c ++ (d ++ e)))
@@ -99,9 +99,9 @@ request_again version r is =
     let behind : Behind r q = behind_fields version r q is.fields (fields_split r) in
     let sent : drop (head_size version) q ≡ data_out r = data_behind version r.expected q (data_out r) is.fields.expected behind.expected in
     let lun : take 8 (drop 2 q) ≡ r.lun = ap (λ (xs : List ℕ). take 8 (drop 2 xs)) (fields_split r)
-      ∙ take_at r.lun (big_bytes 4 (r.tag).0 ++ (r.cdb ++ (expected_field r.expected ++ data_out r))) 8 is.fields.lun in
+    ∙ take_at r.lun (big_bytes 4 (r.tag).0 ++ (r.cdb ++ (expected_field r.expected ++ data_out r))) 8 is.fields.lun in
     let tag : big_from 10 4 q ≡ (r.tag).0 = big_from-drop 10 0 4 q ∙ ap (λ (xs : List ℕ). big_from 0 4 xs) behind.tag
-      ∙ big_number-reads_back 4 (r.tag).0 (r.cdb ++ (expected_field r.expected ++ data_out r)) is.fields.tag in
+    ∙ big_number-reads_back 4 (r.tag).0 (r.cdb ++ (expected_field r.expected ++ data_out r)) is.fields.tag in
     let cdb : take 16 (drop 14 q) ≡ r.cdb = ap (λ (xs : List ℕ). take 16 xs) behind.cdb ∙ take_at r.cdb (expected_field r.expected ++ data_out r) 16 is.fields.cdb in
     let body : pages_of (drop (head_size version) q) ≡ r.body = ap pages_of sent ∙ sym is.sent.pages in
     let size : length q - head_size version ≡ r.data_len = omega (arith, length-append (request_fields r) (data_out r), length-request_fields version r is.fields, is.sent.size) in

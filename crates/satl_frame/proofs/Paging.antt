@@ -57,19 +57,21 @@ padded_zeros xs k = ap (λ (b : List ℕ). record { bytes = b }) (elim (cases_lt
   where
     counted : length (xs ++ replicate k 0) ≡ length xs + k
     counted = length-append xs (replicate k 0) ∙ ap (λ n. length xs + n) (length-replicate k 0)
+
     long : 512 ≤ length xs → take 512 (xs ++ replicate k 0) ++ replicate (512 - length (xs ++ replicate k 0)) 0 ≡ take 512 xs ++ replicate (512 - length xs) 0
     long g =
         let none : 512 - length (xs ++ replicate k 0) ≡ 512 - length xs = omega (arith, counted) in
         rw (none, take-append-le 512 xs (replicate k 0) g) refl
+
     short : length xs < 512 → take 512 (xs ++ replicate k 0) ++ replicate (512 - length (xs ++ replicate k 0)) 0 ≡ take 512 xs ++ replicate (512 - length xs) 0
     short l =
         let all : take 512 xs ≡ xs = take_all 512 xs (omega arith) in
         let at : 512 ≡ length xs + (512 - length xs) = omega arith in
         let front : take 512 (xs ++ replicate k 0) ≡ xs ++ replicate (min k (512 - length xs)) 0 =
-            ap (λ (n : ℕ). take {A = ℕ} n (xs ++ replicate k 0)) at ∙ take-append-add {A = ℕ} xs (replicate k 0) (512 - length xs) ∙ ap (λ (ys : List ℕ). xs ++ ys) (take_zeros (512 - length xs) k) in
+        ap (λ (n : ℕ). take {A = ℕ} n (xs ++ replicate k 0)) at ∙ take-append-add {A = ℕ} xs (replicate k 0) (512 - length xs) ∙ ap (λ (ys : List ℕ). xs ++ ys) (take_zeros (512 - length xs) k) in
         let rest : min k (512 - length xs) + (512 - length (xs ++ replicate k 0)) ≡ 512 - length xs = omega (arith, counted) in
         rw (front, all) (append_assoc xs (replicate (min k (512 - length xs)) 0) (replicate (512 - length (xs ++ replicate k 0)) 0)
-          ∙ ap (λ ys. xs ++ ys) (replicate-append-replicate (min k (512 - length xs)) (512 - length (xs ++ replicate k 0)) 0 ∙ ap (λ n. replicate n 0) rest))
+        ∙ ap (λ ys. xs ++ ys) (replicate-append-replicate (min k (512 - length xs)) (512 - length (xs ++ replicate k 0)) 0 ∙ ap (λ n. replicate n 0) rest))
       where
         take_zeros : (m n : ℕ) → take {A = ℕ} m (replicate n 0) ≡ replicate (min n m) 0
         take_zeros m n = elim (cases_lt n m) [
@@ -130,8 +132,8 @@ placed_block n buffer start done done' b c before put same is =
     let next : n + 1 ≡ suc n = omega arith in
     let block : c ≡ padded_block (drop (512 * n) buffer) = same ∙ is in
     rw (put, next, pages_from-more n buffer, block)
-      (reverse-append (padded_block (drop (512 * n) buffer) ∷ []) done
-        ∙ ap (λ bs. bs ++ padded_block (drop (512 * n) buffer) ∷ []) before ∙ append_assoc (reverse start) (pages_from n buffer) (padded_block (drop (512 * n) buffer) ∷ []))
+    (reverse-append (padded_block (drop (512 * n) buffer) ∷ []) done
+    ∙ ap (λ bs. bs ++ padded_block (drop (512 * n) buffer) ∷ []) before ∙ append_assoc (reverse start) (pages_from n buffer) (padded_block (drop (512 * n) buffer) ∷ []))
 
 pub none_placed : (buffer : List ℕ) (start : List Block) → reverse start ≡ reverse start ++ pages_from 0 buffer
 unfolding pages_from
@@ -152,7 +154,7 @@ bytes_of-pages_from zero xs l =
     let none : xs ≡ [] = nothing xs (omega arith) in rw none refl
 bytes_of-pages_from (suc n) xs l =
     let next : bytes_of (pages_from n (drop 512 xs)) ≡ drop 512 xs ++ replicate (512 * n - length (drop 512 xs)) 0 =
-        bytes_of-pages_from n (drop 512 xs) (omega (arith, length-drop 512 xs)) in
+    bytes_of-pages_from n (drop 512 xs) (omega (arith, length-drop 512 xs)) in
     rw next (elim (cases_lt (length xs) 512) [
       | inl less ↦ short less
       | inr more ↦ long more
@@ -165,13 +167,14 @@ bytes_of-pages_from (suc n) xs l =
         let count : 512 * n - length (drop 512 xs) ≡ 512 * n = omega (arith, length-drop 512 xs) in
         let sum : (512 - length xs) + 512 * n ≡ 512 * suc n - length xs = omega arith in
         rw (count, rest, all) (append_assoc xs (replicate (512 - length xs) 0) (replicate (512 * n) 0)
-          ∙ ap (λ ys. xs ++ ys) (replicate-append-replicate (512 - length xs) (512 * n) 0 ∙ ap (λ k. replicate k 0) sum))
+        ∙ ap (λ ys. xs ++ ys) (replicate-append-replicate (512 - length xs) (512 * n) 0 ∙ ap (λ k. replicate k 0) sum))
+
     long : 512 ≤ length xs → (take 512 xs ++ replicate (512 - length xs) 0) ++ (drop 512 xs ++ replicate (512 * n - length (drop 512 xs)) 0) ≡ xs ++ replicate (512 * suc n - length xs) 0
     long more =
         let none : 512 - length xs ≡ 0 = omega arith in
         let count : 512 * n - length (drop 512 xs) ≡ 512 * suc n - length xs = omega (arith, length-drop 512 xs) in
         rw (count, none, append-nil (take 512 xs)) (sym (append_assoc (take 512 xs) (drop 512 xs) (replicate (512 * suc n - length xs) 0))
-          ∙ ap (λ ys. ys ++ replicate (512 * suc n - length xs) 0) (take-append-drop 512 xs))
+        ∙ ap (λ ys. ys ++ replicate (512 * suc n - length xs) 0) (take-append-drop 512 xs))
 
 -- the bytes stand at the front of their pages, and zeros behind them
 pub bytes_of-pages_of : (xs : List ℕ) → bytes_of (pages_of xs) ≡ xs ++ replicate (512 * page_count (length xs) - length xs) 0

@@ -79,7 +79,7 @@ good_head version limit offset h short f =
       known = not_false (has_code (frame_rows version) (slice_index h 0)) kinds.0;
       allowed = not_false (allows (frame_rows version) (slice_index h 0) (told_length h)) lengths.0;
       within = ltb-false _ _ limits.0;
-      none = f
+      none = f;
     }
 
 -- a head in a buffer
@@ -116,15 +116,15 @@ field_at version limit offset (Some input) (Some rest) (Some more) h took five f
     let whole : take 5 input ≡ h = front 5 input h rest took.known (omega arith) (λ l. absurd (omega arith)) in
     let told : told_length input ≡ told_length h = ap (λ i. told_length i) took.known ∙ told_front h rest five in
     let enough : 5 + told_length h ≤ length input =
-        omega (arith, ap length took.known, length-append h rest, ap length bad.took.known, length-append bad.taken more, bad.length_is) in
+    omega (arith, ap length took.known, length-append h rest, ap length bad.took.known, length-append bad.taken more, bad.length_is) in
     let test : nat_lt (length input) (5 + told_length h) ≡ false = le-ltb _ _ enough in
     let behind : drop 5 input ≡ rest = ap (λ xs. drop 5 xs) took.known ∙ drop_at h rest 5 five in
     let bytes_are : take (told_length h) (drop 5 input) ≡ bad.taken =
-        ap (λ xs. take (told_length h) xs) (behind ∙ bad.took.known) ∙ take_at bad.taken more (told_length h) bad.length_is in
+    ap (λ xs. take (told_length h) xs) (behind ∙ bad.took.known) ∙ take_at bad.taken more (told_length h) bad.length_is in
     let first : slice_index input 0 ≡ slice_index h 0 = ap (λ xs. slice_index xs 0) took.known ∙ get_or-append h rest 0 0 (omega arith) in
     let parts : input ≡ (h ++ bad.taken) ++ more = took.known ∙ ap (λ xs. h ++ xs) bad.took.known ∙ sym (append_assoc h bad.taken more) in
     let all : take (5 + told_length h) input ≡ h ++ bad.taken =
-        ap (λ xs. take (5 + told_length h) xs) parts ∙ take_at (h ++ bad.taken) more (5 + told_length h) (length-append h bad.taken ∙ omega (arith, bad.length_is)) in
+    ap (λ xs. take (5 + told_length h) xs) parts ∙ take_at (h ++ bad.taken) more (5 + told_length h) (length-append h bad.taken ∙ omega (arith, bad.length_is)) in
     (rw (whole, f, told, test, bytes_are, first, bad.bad) refl, rw (whole, f, told, all) (Took-more took bad.took))
 
 -- the refusal of a payload is that of the bytes at the place
@@ -160,14 +160,14 @@ pub frame_stood : (limit : ℕ) (place : Place) (a b c : Option (List ℕ)) (buf
 frame_stood limit place a b c buf n room next frame five within took f behind is =
     let good = head_read place.version limit place.offset buf n five within f in
     let size : length (spelled behind.whole) ≡ 5 + told_length buf =
-        ap length behind.spelled_is ∙ length-append buf (payload_bytes behind.whole) ∙ omega (arith, behind.length_is) in
+    ap length behind.spelled_is ∙ length-append buf (payload_bytes behind.whole) ∙ omega (arith, behind.length_is) in
     record {
       whole = behind.whole;
       is_frame = behind.is_frame;
       cut = behind.cut;
       took = rw behind.spelled_is (Took-more (rw good.1 at took) behind.took);
       next_is = omega (arith, size);
-      within = omega (arith, good.0.within)
+      within = omega (arith, good.0.within);
     }
 
 -- what was read of the magic shows its refusal
@@ -205,7 +205,7 @@ begin_blames old a b ReadFault (is, blames) = tt
 -- what a reader says of a whole magic is what it says of the frame behind it
 computed : (limit : ℕ) (newest version : Version) (rest : List ℕ) → names_version newest (version_code version) ≡ true →
     (refusal limit newest None (magic version ++ rest) ≡ at_offset 8 (frame_fault version limit 8 rest))
-      × (refused_front limit newest None (magic version ++ rest) ≡ 8 + frame_front version limit 8 rest)
+    × (refused_front limit newest None (magic version ++ rest) ≡ 8 + frame_front version limit 8 rest)
 computed limit One One rest named = (refl, refl)
 computed limit One Two rest named = cc
 computed limit Two One rest named = (refl, refl)
@@ -215,13 +215,13 @@ computed limit Two Two rest named = (refl, refl)
 behind_magic : (limit : ℕ) (newest version : Version) (rest : List ℕ) (c : Option (List ℕ)) (r : Reason) → names_version newest (version_code version) ≡ true →
     frame_fault version limit 8 rest ≡ Some r → Took (Some rest) c (take (frame_front version limit 8 rest) rest) →
     (refusal limit newest None (magic version ++ rest) ≡ Some (r, 8))
-      × Took (Some (magic version ++ rest)) c (take (refused_front limit newest None (magic version ++ rest)) (magic version ++ rest))
+    × Took (Some (magic version ++ rest)) c (take (refused_front limit newest None (magic version ++ rest)) (magic version ++ rest))
 behind_magic limit newest version rest c r named fault took =
     let known = computed limit newest version rest named in
     let k = frame_front version limit 8 rest in
     let count : 8 + k ≡ length (magic version) + k = omega (arith, length-magic version) in
     let all : take (refused_front limit newest None (magic version ++ rest)) (magic version ++ rest) ≡ magic version ++ take k rest =
-        ap (λ (n : ℕ). take n (magic version ++ rest)) (known.1 ∙ count) ∙ take-append-add (magic version) rest k in
+    ap (λ (n : ℕ). take n (magic version ++ rest)) (known.1 ∙ count) ∙ take-append-add (magic version) rest k in
     let first : Took (Some (magic version ++ rest)) (Some rest) (magic version) = record { known = refl } in
     let both : Took (Some (magic version ++ rest)) c (magic version ++ take k rest) = Took-more first took in
     (known.0 ∙ ap (λ f. at_offset 8 f) fault, subst (λ (xs : List ℕ). Took (Some (magic version ++ rest)) c xs) (sym all) both)
@@ -245,4 +245,4 @@ frame_blames old place a b c e began blames = by_place old.limit old.newest old.
         let all = behind_magic limit newest place.version rest c r named fault taken in
         let offset : o ≡ 8 = blames.0 ∙ is in
         subst (λ (xs : List ℕ). (refusal limit newest None xs ≡ Some (r, o)) × Took (Some xs) c (take (refused_front limit newest None xs) xs)) (sym took.known)
-          (all.0 ∙ ap (λ (k : ℕ). Some (r, k)) (sym offset), all.1)
+        (all.0 ∙ ap (λ (k : ℕ). Some (r, k)) (sym offset), all.1)

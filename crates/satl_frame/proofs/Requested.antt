@@ -33,17 +33,17 @@ request_taken {a} {b} {c} {version} {len} {room} {size} {head} {r} {frame} allow
     let whole = record r { body = pages_of rest.taken; data_len = len - size } in
     let out : first_bytes (len - size) (pages_of rest.taken) ≡ rest.taken = first_bytes-pages_of (len - size) rest.taken rest.size in
     let payload_is : payload_bytes (frames.Request whole) ≡ head ++ rest.taken =
-        ap (λ (h : List ℕ). h ++ first_bytes (len - size) (pages_of rest.taken)) spelled_is ∙ ap (λ (o : List ℕ). head ++ o) out in
+    ap (λ (h : List ℕ). h ++ first_bytes (len - size) (pages_of rest.taken)) spelled_is ∙ ap (λ (o : List ℕ). head ++ o) out in
     record {
       whole = frames.Request whole;
       is_frame = record {
         fields = record { nexus = fields.nexus; lun = fields.lun; tag = fields.tag; cdb = fields.cdb; expected = fields.expected };
-        sent = record { size = ap length out ∙ rest.size; short = omega (arith, sizes.1); pages = ap pages_of (sym out) }
+        sent = record { size = ap length out ∙ rest.size; short = omega (arith, sizes.1); pages = ap pages_of (sym out) };
       };
       cut = rest.frame_is;
       took = subst (λ (xs : List ℕ). Took a c xs) (sym payload_is) (Took-more took rest.took);
       kind_is = refl;
-      length_is = ap length payload_is ∙ length-append head rest.taken ∙ omega (arith, rest.size, sizes.0)
+      length_is = ap length payload_is ∙ length-append head rest.taken ∙ omega (arith, rest.size, sizes.0);
     }
 
 -- a head with a bad field makes none
@@ -56,5 +56,5 @@ request_bad {a} {b} {c} {version} {len} {size} {head} allowed is took counted ba
       taken = head ++ rest.taken;
       took = Took-more took rest.took;
       length_is = length-append head rest.taken ∙ omega (arith, rest.size, sizes.0);
-      bad = bad rest.taken
+      bad = bad rest.taken;
     }

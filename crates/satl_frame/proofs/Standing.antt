@@ -87,9 +87,9 @@ which_of : (n : ℕ) → ((n == 1) || (n == 2)) ≡ true → (w : Which) × (whi
 which_of n e = elim (cases_eq n 1) [
   | inl one ↦ (Read, sym one)
   | inr not_one ↦ elim (cases_eq n 2) [
-      | inl two ↦ (Write, sym two)
-      | inr not_two ↦ absurd (false≢true (sym (rw (ne_eqb n 1 not_one, ne_eqb n 2 not_two) refl) ∙ e))
-    ]
+    | inl two ↦ (Write, sym two)
+    | inr not_two ↦ absurd (false≢true (sym (rw (ne_eqb n 1 not_one, ne_eqb n 2 not_two) refl) ∙ e))
+  ]
 ]
 
 bytes_taken : (n : ℕ) (p : List ℕ) → n ≤ length p → IsBytes p → IsBytes (take n p)
@@ -139,12 +139,20 @@ decode_request version p b allowed good =
     let counted : length h ≡ head_size version = length-take-le (head_size version) p sizes.0 in
     let small : IsBytes h = bytes_taken (head_size version) p sizes.0 b in
     let attr = attr_of (get_or p 1 0) fields.attr in
-    let r : Request = record { nexus = get_or p 0 0; attr = attr.0; lun = take 8 (drop 2 h); tag = record { 0 = big_from 10 4 h }; cdb = take 16 (drop 14 h);
-      body = pages_of d; data_len = length d; expected = expected_in version h } in
+    let r : Request = record {
+      nexus = get_or p 0 0;
+      attr = attr.0;
+      lun = take 8 (drop 2 h);
+      tag = record { 0 = big_from 10 4 h };
+      cdb = take 16 (drop 14 h);
+      body = pages_of d;
+      data_len = length d;
+      expected = expected_in version h;
+    } in
     let out : data_out r ≡ d = first_bytes-pages_of (length d) d refl in
     let head : request_fields r ≡ h = request_is version h (take 8 (drop 2 h)) (take 16 (drop 14 h)) (big_bytes 4 (big_from 10 4 h)) (get_or p 0 0) (attr_code attr.0) (expected_in version h)
-      counted small (sym (get_or-take (head_size version) p 0 0 (omega (arith, few)))) (attr.1 ∙ sym (get_or-take (head_size version) p 1 0 (omega (arith, few)))) refl
-      (four_at 10 h (omega (arith, counted, few)) small) refl refl in
+    counted small (sym (get_or-take (head_size version) p 0 0 (omega (arith, few)))) (attr.1 ∙ sym (get_or-take (head_size version) p 1 0 (omega (arith, few)))) refl
+    (four_at 10 h (omega (arith, counted, few)) small) refl refl in
     let told : is_expectable (expected_in version h) ≡ true = ap is_expectable (expected_front version p) ∙ fields.expected in
     record {
       frame = frames.Request r;
@@ -154,12 +162,12 @@ decode_request version p b allowed good =
           lun = length-take-le 8 (drop 2 h) (omega (arith, length-drop 2 h, counted, few));
           tag = big_from-lt 10 4 h small;
           cdb = length-take-le 16 (drop 14 h) (omega (arith, length-drop 14 h, counted, few));
-          expected = has_expected version h (expected_in version h) refl told
+          expected = has_expected version h (expected_in version h) refl told;
         };
-        sent = record { size = ap length out; short = omega (arith, length-drop (head_size version) p, sizes.1); pages = ap pages_of (sym out) }
+        sent = record { size = ap length out; short = omega (arith, length-drop (head_size version) p, sizes.1); pages = ap pages_of (sym out) };
       };
       kind_is = refl;
-      payload_is = ap (λ (x : List ℕ). x ++ data_out r) head ∙ ap (λ (x : List ℕ). h ++ x) out ∙ take-append-drop (head_size version) p
+      payload_is = ap (λ (x : List ℕ). x ++ data_out r) head ∙ ap (λ (x : List ℕ). h ++ x) out ∙ take-append-drop (head_size version) p;
     }
 
 decode_manage : (version : Version) (p : List ℕ) → IsBytes p → allows (frame_rows version) 2 (length p) ≡ true → nat_lt 3 (slice_index p 0) ≡ false → Decoded version 2 p
@@ -172,10 +180,10 @@ decode_manage version p b allowed good =
         nexus = ltb-false 3 (slice_index p 0) good;
         function = b 1;
         lun = length-take-le 8 (drop 2 p) (omega (arith, length-drop 2 p));
-        tag = big_from-lt 10 4 p b
+        tag = big_from-lt 10 4 p b;
       };
       kind_is = refl;
-      payload_is = manage_is p (take 8 (drop 2 p)) (get_or p 0 0) (big_bytes 4 (big_from 10 4 p)) size refl refl (four_at 10 p (omega (arith, size)) b)
+      payload_is = manage_is p (take 8 (drop 2 p)) (get_or p 0 0) (big_bytes 4 (big_from 10 4 p)) size refl refl (four_at 10 p (omega (arith, size)) b);
     }
 
 -- two bytes
@@ -228,8 +236,11 @@ decode_event p b good =
         let first : (slice_index p 0 == 1) ≡ true = eq-eqb (slice_index p 0) 1 is in
         let good : not ((slice_index p 1 == 1) || (slice_index p 1 == 2)) ≡ false = rw first at which in
         let w = which_of (get_or p 1 0) (not-false ((slice_index p 1 == 1) || (slice_index p 1 == 2)) good) in
-        record { event = Strike w.0 (big_from 2 8 p); is_event = big_from-lt 2 8 p b;
-          fields_are = strike_is p (big_bytes 8 (big_from 2 8 p)) (which_code w.0) size is w.1 (eight_at 2 p (omega (arith, size)) b) }
+        record {
+          event = Strike w.0 (big_from 2 8 p);
+          is_event = big_from-lt 2 8 p b;
+          fields_are = strike_is p (big_bytes 8 (big_from 2 8 p)) (which_code w.0) size is w.1 (eight_at 2 p (omega (arith, size)) b);
+        }
     by_event (suc (suc zero)) is allowed which =
         let sizes = within 9 9 (length p) allowed in
         let size : length p ≡ 9 = omega (arith, sizes) in
@@ -237,12 +248,18 @@ decode_event p b good =
     by_event (suc (suc (suc zero))) is allowed which =
         let sizes = within 3 3 (length p) allowed in
         let size : length p ≡ 3 = omega (arith, sizes) in
-        record { event = Glitch (big_from 1 2 p); is_event = big_from-lt 1 2 p b;
-          fields_are = ap (λ (xs : List ℕ). 3 ∷ xs) (two_last p size b) ∙ ap (λ (x : ℕ). x ∷ drop 1 p) (sym is) ∙ first_of p (omega (arith, size)) }
+        record {
+          event = Glitch (big_from 1 2 p);
+          is_event = big_from-lt 1 2 p b;
+          fields_are = ap (λ (xs : List ℕ). 3 ∷ xs) (two_last p size b) ∙ ap (λ (x : ℕ). x ∷ drop 1 p) (sym is) ∙ first_of p (omega (arith, size));
+        }
     by_event (suc (suc (suc (suc zero)))) is allowed which =
         let sizes = within 2 257 (length p) allowed in
-        record { event = Order (record { items = drop 1 p }); is_event = (omega (arith, length-drop 1 p, sizes), omega (arith, length-drop 1 p, sizes));
-          fields_are = ap (λ (x : ℕ). x ∷ drop 1 p) (sym is) ∙ first_of p (omega (arith, sizes)) }
+        record {
+          event = Order (record { items = drop 1 p });
+          is_event = (omega (arith, length-drop 1 p, sizes), omega (arith, length-drop 1 p, sizes));
+          fields_are = ap (λ (x : ℕ). x ∷ drop 1 p) (sym is) ∙ first_of p (omega (arith, sizes));
+        }
     by_event (suc (suc (suc (suc (suc zero))))) is allowed which =
         let sizes = within 1 1 (length p) allowed in
         record { event = Power; is_event = tt; fields_are = one_byte p 5 (omega (arith, sizes)) is }
@@ -299,21 +316,21 @@ good_stands version limit offset input b e =
     let first : slice_index input 0 ≡ slice_index h 0 = sym (get_or-take 5 input 0 0 (omega arith)) in
     let same : take (told_length input) (drop 5 input) ≡ p = ap (λ (n : ℕ). take n (drop 5 input)) tells in
     let good : has_bad_field version (slice_index h 0) p ≡ false = subst (λ (q : List ℕ). has_bad_field version (slice_index h 0) q ≡ false) same
-      (subst (λ (k : ℕ). has_bad_field version k (take (told_length input) (drop 5 input)) ≡ false) first fields.0) in
+    (subst (λ (k : ℕ). has_bad_field version k (take (told_length input) (drop 5 input)) ≡ false) first fields.0) in
     let allowed : allows (frame_rows version) (slice_index h 0) (length p) ≡ true = subst (λ (n : ℕ). allows (frame_rows version) (slice_index h 0) n ≡ true) (sym size) head.allowed in
     let behind : IsBytes (drop 5 input) = λ i. rw (get_or-drop 5 input i 0) (b (5 + i)) in
     let small : IsBytes p = bytes_taken (told_length h) (drop 5 input) (omega (arith, length-drop 5 input, tells)) behind in
     let d : Decoded version (slice_index h 0) p = decode version (slice_index h 0) p small head.known allowed good in
     let four : big_bytes 4 (told_length h) ≡ drop 1 h = four_at 1 h (omega (arith, head.whole)) (bytes_taken 5 input (omega (arith, enough)) b) ∙ take_all 4 (drop 1 h) (omega (arith, length-drop 1 h, head.whole)) in
     let spelled_is : spelled d.frame ≡ h ++ p =
-        ap (λ (q : List ℕ). (kind d.frame ∷ big_bytes 4 (length q)) ++ q) d.payload_is ∙ ap (λ (k : ℕ). (k ∷ big_bytes 4 (length p)) ++ p) d.kind_is
-          ∙ ap (λ (n : ℕ). (slice_index h 0 ∷ big_bytes 4 n) ++ p) size ∙ ap (λ (q : List ℕ). (slice_index h 0 ∷ q) ++ p) four ∙ ap (λ (q : List ℕ). q ++ p) (first_of h (omega (arith, head.whole))) in
+    ap (λ (q : List ℕ). (kind d.frame ∷ big_bytes 4 (length q)) ++ q) d.payload_is ∙ ap (λ (k : ℕ). (k ∷ big_bytes 4 (length p)) ++ p) d.kind_is
+    ∙ ap (λ (n : ℕ). (slice_index h 0 ∷ big_bytes 4 n) ++ p) size ∙ ap (λ (q : List ℕ). (slice_index h 0 ∷ q) ++ p) four ∙ ap (λ (q : List ℕ). q ++ p) (first_of h (omega (arith, head.whole))) in
     record {
       frame = d.frame;
       rest = rest;
       is_frame = d.is_frame;
       split = sym parts ∙ ap (λ (q : List ℕ). h ++ q) (sym (take-append-drop (told_length h) (drop 5 input))) ∙ sym (append_assoc h p rest) ∙ ap (λ (q : List ℕ). q ++ rest) (sym spelled_is);
-      within = omega (arith, ap length spelled_is, length-append h p, head.whole, size, head.within)
+      within = omega (arith, ap length spelled_is, length-append h p, head.whole, size, head.within);
     }
   where
     length_short : (n : ℕ) (xs : List ℕ) → length (take n xs) ≤ n

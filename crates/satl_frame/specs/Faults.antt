@@ -40,7 +40,7 @@ has_bad_request Two payload = nat_lt 3 (slice_index payload 0) || nat_lt 1 (slic
 abbrev pub has_bad_event : List ℕ → Bool
 has_bad_event payload =
     not (allows event_rows (slice_index payload 0) (length payload))
-      || ((slice_index payload 0 == 1) && not ((slice_index payload 1 == 1) || (slice_index payload 1 == 2)))
+    || ((slice_index payload 0 == 1) && not ((slice_index payload 1 == 1) || (slice_index payload 1 == 2)))
 
 -- whether a whole payload has a field with a value that its kind does not allow
 abbrev pub has_bad_field : Version → ℕ → List ℕ → Bool

@@ -19,7 +19,7 @@ abbrev pub AreFrames : Version → ℕ → ℕ → List Frame → Type 0
 AreFrames version limit offset [] = Unit {0}
 AreFrames version limit offset (f ∷ fs) =
     IsFrame version f × (offset + length (spelled f) ≤ limit) × (f ≡ frames.End → fs ≡ [])
-      × AreFrames version limit (offset + length (spelled f)) fs
+    × AreFrames version limit (offset + length (spelled f)) fs
 
 -- an input is the magic of a version, frames, and a rest
 pub record Reads (limit : ℕ) (input : List ℕ) (version : Version) (fs : List Frame) (rest : List ℕ) : Type 0 where

@@ -73,7 +73,7 @@ refused_front limit newest (Some place) left = frame_front place.version limit p
 abbrev pub Blames : Reading → Option (List ℕ) → Option (List ℕ) → FrameFault → Type 0
 Blames old left left' (Bad reason offset) =
     IfSome left (λ input. (refusal old.limit old.newest old.place input ≡ Some (reason, offset))
-      × Took left left' (take (refused_front old.limit old.newest old.place input) input))
+    × Took left left' (take (refused_front old.limit old.newest old.place input) input))
 Blames old left left' ReadFault = Unit {0}
 
 -- a read fault comes only where the source's count rose

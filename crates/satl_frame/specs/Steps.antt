@@ -48,7 +48,7 @@ pub record StoodBehind (version : Version) (head : List ℕ) (left left' : Optio
 abbrev pub BlamesAt : ℕ → Place → Option (List ℕ) → Option (List ℕ) → FrameFault → Type 0
 BlamesAt limit place left left' (Bad reason offset) =
     (offset ≡ place.offset) × IfSome left (λ input. (frame_fault place.version limit place.offset input ≡ Some reason)
-      × Took left left' (take (frame_front place.version limit place.offset input) input))
+    × Took left left' (take (frame_front place.version limit place.offset input) input))
 BlamesAt limit place left left' ReadFault = Unit {0}
 
 -- the payload behind a good head is cut short, or a field of it is bad

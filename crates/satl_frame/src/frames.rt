@@ -87,7 +87,10 @@ pub enum OutFrame<'a> {
     /// The end of a whole input was reached.
     End,
     /// The input is refused at the offset.
-    Fault { reason: Reason, offset: u64 },
+    Fault {
+        reason: Reason,
+        offset: u64,
+    },
 }
 
 /// A write failed. A front of the frame's bytes was written.

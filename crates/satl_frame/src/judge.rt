@@ -9,6 +9,7 @@ use crate::frames::{Reason, Version};
 use byteorder::{BigEndian, ByteOrder};
 
 const MAGIC_NAME: [u8; 7] = *b"SATLRPL";
+
 const LONGEST_DATA: u32 = 2_097_152;
 
 /// The number in the four bytes from a place on.

@@ -5,12 +5,10 @@ ghost use Rattle.satl_frame.specs.Inputs.{FrameOrRefusal, NotBoth, OneWay};
 pub fn frame_or_refusal()
     ensures either { FrameOrRefusal }
     ensures not_both { NotBoth }
-{
-}
+{}
 
 /// No input is read in two ways: as many frames of it are the same frames, of the same version, and the same bytes
 /// follow them (profile).
 pub fn read_in_one_way()
     ensures { OneWay }
-{
-}
+{}

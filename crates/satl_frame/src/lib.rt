@@ -6,12 +6,11 @@ mod judge;
 pub mod laws;
 mod payloads;
 mod pull;
+mod reader;
 mod refill;
 #[cfg(test)]
 mod tests;
-mod reader;
 mod writing;
-
 
 pub use frames::{Frame, FrameFault, OutFrame, Place, Reason, Version, WriteFault};
 pub use reader::FrameReader;

@@ -113,7 +113,20 @@ fn first_head(reply: &Reply) -> [u8; 12]
     let [a, b, c, d] = (7 + u32::from(sense) + reply.data_len).to_be_bytes();
     let [e, f, g, h] = reply.tag.0.to_be_bytes();
     let status = reply.status.code();
-    [0x81, a, b, c, d, reply.nexus.number(), status, e, f, g, h, sense]
+    [
+        0x81,
+        a,
+        b,
+        c,
+        d,
+        reply.nexus.number(),
+        status,
+        e,
+        f,
+        g,
+        h,
+        sense,
+    ]
 }
 
 /// A reply of version 2 up to its sense.
@@ -129,7 +142,22 @@ fn second_head(reply: &Reply, expected: u32) -> [u8; 16]
     let [r, s, t, u] = residual(expected, reply.data_len).to_be_bytes();
     let status = reply.status.code();
     [
-        0x83, a, b, c, d, reply.nexus.number(), status, e, f, g, h, r, s, t, u, sense,
+        0x83,
+        a,
+        b,
+        c,
+        d,
+        reply.nexus.number(),
+        status,
+        e,
+        f,
+        g,
+        h,
+        r,
+        s,
+        t,
+        u,
+        sense,
     ]
 }
 
@@ -199,10 +227,7 @@ pub fn write_frame<K: Sink>(frame: OutFrame, sink: &mut K) -> Result<(), WriteFa
         OutFrame::Fault { reason, offset } => {
             let [a, b, c, d, e, f, g, h] = offset.to_be_bytes();
             let code = reason.code();
-            told(push(
-                sink,
-                &[0x8F, 0, 0, 0, 9, code, a, b, c, d, e, f, g, h],
-            ))
+            told(push(sink, &[0x8F, 0, 0, 0, 9, code, a, b, c, d, e, f, g, h]))
         }
     }
 }

@@ -23,4 +23,4 @@ pub returns-in-Err-read_payload-clause-fault : goal.returns-in-Err-read_payload-
 returns-in-Err-read_payload-clause-fault g c =
     let known = c.in-Ok.ensures in
     payload_refused c.args.limit c.args.place _ _ _ c.fill.new.buf c.in-Ok.count c.in-Err-read_payload.fault c.fill.auto.buf known.bound.0 known.bytes c.in-None.ensures
-      c.in-Err-read_payload.ensures.fault
+    c.in-Err-read_payload.ensures.fault

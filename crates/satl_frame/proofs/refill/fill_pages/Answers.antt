@@ -13,7 +13,7 @@ loop-at-init g c = record {
   aligned = λ _. refl;
   placed = nothing_placed (length c.args.todo.now) c.args.done.now c.requires.none;
   same = omega (arith, ap length c.requires.none);
-  later = omega arith
+  later = omega arith;
 }
 
 pub loop-at-preserved : goal.loop-at-preserved
@@ -26,7 +26,7 @@ loop-at-preserved g c =
       within = omega (arith, c.min-count.ensures);
       aligned = λ more. omega (arith, c.min-count.ensures, c.loop-at.invariant.aligned c.loop-at-test.true);
       placed = placed_more (length c.args.todo.now) (length c.loop-at.todo) c.loop-at.at c.loop-at.invariant.taken known.placed.taken c.loop-at.done c.pull_chunk.new.done
-        c.loop-at.invariant.size (c.loop-at.invariant.aligned c.loop-at-test.true) c.loop-at.invariant.placed c.loop-at.invariant.same known.placed.placed;
+          c.loop-at.invariant.size (c.loop-at.invariant.aligned c.loop-at-test.true) c.loop-at.invariant.placed c.loop-at.invariant.same known.placed.placed;
       same = omega (arith, c.pull_chunk.ensures.same);
-      later = omega (arith, known.causes.later)
+      later = omega (arith, known.causes.later);
     }

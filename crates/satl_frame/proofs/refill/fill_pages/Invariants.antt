@@ -12,7 +12,7 @@ invariant-loop-at g l = record {
   aligned : l.at < l.len → l.at % 4096 ≡ 0;
   placed : reverse l.done ≡ take (length l.fn.todo) (pages_of taken);
   same : length l.todo + length l.done ≡ length l.fn.todo;
-  later : g.S.Source.faults l.fn.source ≤ g.S.Source.faults l.source
+  later : g.S.Source.faults l.fn.source ≤ g.S.Source.faults l.source;
 }
 
 abbrev pub decreases-loop-at : goal.decreases-loop-at

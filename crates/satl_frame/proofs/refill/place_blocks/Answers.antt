@@ -6,13 +6,13 @@ pub loop-i-init : goal.loop-i-init
 loop-i-init c = record {
   placed = none_placed c.args.buffer.now c.args.done.now;
   left = omega arith;
-  all = refl
+  all = refl;
 }
 
 pub loop-i-preserved : goal.loop-i-preserved
 loop-i-preserved c = record {
   placed = placed_block c.loop-i.i c.args.buffer.now c.args.done.now c.loop-i.done c.push_first.new.self c.block_at.result c.set.new.self
-    c.loop-i.invariant.placed c.push_first.ensures c.set.ensures c.block_at.ensures;
+      c.loop-i.invariant.placed c.push_first.ensures c.set.ensures c.block_at.ensures;
   left = omega (arith, c.in-Some.ensures.len);
-  all = omega (arith, c.in-Some.ensures.len, ap length c.push_first.ensures)
+  all = omega (arith, c.in-Some.ensures.len, ap length c.push_first.ensures);
 }

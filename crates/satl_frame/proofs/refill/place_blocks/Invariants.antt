@@ -6,5 +6,5 @@ abbrev pub invariant-loop-i : goal.invariant-loop-i
 invariant-loop-i l = record {
   placed : reverse l.done ≡ reverse l.fn.done ++ pages_from l.i l.buffer;
   left : length l.todo + l.i ≡ length l.fn.todo;
-  all : length l.todo + length l.done ≡ length l.fn.todo + length l.fn.done
+  all : length l.todo + length l.done ≡ length l.fn.todo + length l.fn.done;
 }

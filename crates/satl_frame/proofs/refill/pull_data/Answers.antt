@@ -12,19 +12,27 @@ returns-in-Ok-clause-filled g c =
       took = known.filled.took;
       size = known.filled.size;
       pages_are = pages_free (g.P.Lender.free c.args.lender.now) c.args.len known.filled.taken c.reverse.new.self known.filled.size
-        (c.reverse.ensures ∙ known.filled.pages_are ∙ ap (λ k. take k (pages_of known.filled.taken)) lent)
+          (c.reverse.ensures ∙ known.filled.pages_are ∙ ap (λ k. take k (pages_of known.filled.taken)) lent);
     }
 
 pub returns-in-Ok-clause-free : goal.returns-in-Ok-clause-free
 returns-in-Ok-clause-free g c =
     let known = c.in-Ok.ensures in
     let few : length c.lend-todo.result ≤ page_count c.args.len = omega (arith, c.lend-todo.ensures.pages, c.min.ensures, c.div_ceil.ensures) in
-    omega (arith, c.lend-todo.ensures.free, c.lend-todo.ensures.pages,
-      all_filled (length c.lend-todo.result) c.args.len known.filled.taken c.reverse.new.self known.filled.size few (c.reverse.ensures ∙ known.filled.pages_are))
+    omega (
+      arith,
+      c.lend-todo.ensures.free,
+      c.lend-todo.ensures.pages,
+      all_filled (length c.lend-todo.result) c.args.len known.filled.taken c.reverse.new.self known.filled.size few (c.reverse.ensures ∙ known.filled.pages_are),
+    )
 
 pub returns-in-Ok-clause-out : goal.returns-in-Ok-clause-out
 returns-in-Ok-clause-out g c =
     let known = c.in-Ok.ensures in
     let few : length c.lend-todo.result ≤ page_count c.args.len = omega (arith, c.lend-todo.ensures.pages, c.min.ensures, c.div_ceil.ensures) in
-    omega (arith, c.lend-todo.ensures.out, c.lend-todo.ensures.pages,
-      all_filled (length c.lend-todo.result) c.args.len known.filled.taken c.reverse.new.self known.filled.size few (c.reverse.ensures ∙ known.filled.pages_are))
+    omega (
+      arith,
+      c.lend-todo.ensures.out,
+      c.lend-todo.ensures.pages,
+      all_filled (length c.lend-todo.result) c.args.len known.filled.taken c.reverse.new.self known.filled.size few (c.reverse.ensures ∙ known.filled.pages_are),
+    )

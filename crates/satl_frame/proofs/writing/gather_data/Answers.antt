@@ -11,7 +11,7 @@ loop-block-init g c =
       gathers = gathers_nothing _ _;
       rest = ap (λ bs. first_bytes c.args.len bs) is;
       holds = omega (arith, ap length is);
-      later = omega arith
+      later = omega arith;
     }
 
 pub loop-block-preserved : goal.loop-block-preserved
@@ -22,15 +22,15 @@ loop-block-preserved g c =
       front = before.front ++ take c.min-count.result c.as_bytes-bytes.result.now;
       gathers = Gathers-more before.gathers known.all;
       rest = block_gathered c.args.len c.loop-block.left c.min-count.result before.front c.as_bytes-bytes.result.now c.in-Some.block.now c.next.new.self c.loop-block.block-iterator c.args.pages.now
-        c.as_bytes-bytes.ensures.value c.as_bytes-bytes.ensures.size c.min-count.ensures c.in-Some.ensures.steps before.rest;
+          c.as_bytes-bytes.ensures.value c.as_bytes-bytes.ensures.size c.min-count.ensures c.in-Some.ensures.steps before.rest;
       holds = omega (arith, ap length c.in-Some.ensures.steps, c.min-count.ensures);
-      later = omega (arith, known.cause.later)
+      later = omega (arith, known.cause.later);
     }
 
 pub returns-in-Err-clause-part : goal.returns-in-Err-clause-part
 returns-in-Err-clause-part g c =
     let before = c.loop-block.invariant in
     block_failed (take c.min-count.result c.as_bytes-bytes.result.now) (first_bytes (c.loop-block.left - c.min-count.result) c.next.new.self) (first_bytes c.args.len c.args.pages.now)
-      before.gathers c.in-Err.ensures.part
-      (block_gathered c.args.len c.loop-block.left c.min-count.result before.front c.as_bytes-bytes.result.now c.in-Some.block.now c.next.new.self c.loop-block.block-iterator c.args.pages.now
-        c.as_bytes-bytes.ensures.value c.as_bytes-bytes.ensures.size c.min-count.ensures c.in-Some.ensures.steps before.rest)
+    before.gathers c.in-Err.ensures.part
+    (block_gathered c.args.len c.loop-block.left c.min-count.result before.front c.as_bytes-bytes.result.now c.in-Some.block.now c.next.new.self c.loop-block.block-iterator c.args.pages.now
+    c.as_bytes-bytes.ensures.value c.as_bytes-bytes.ensures.size c.min-count.ensures c.in-Some.ensures.steps before.rest)

@@ -9,5 +9,5 @@ invariant-loop-block g l = record {
   gathers : Gathers (g.K.Sink.written l.fn.sink) (g.K.Sink.written l.sink) l.fn.gathered.items l.gathered.items front;
   rest : front ++ first_bytes l.left l.block-iterator ≡ first_bytes l.len l.pages;
   holds : l.left ≤ 512 * length l.block-iterator;
-  later : g.K.Sink.faults l.fn.sink ≤ g.K.Sink.faults l.sink
+  later : g.K.Sink.faults l.fn.sink ≤ g.K.Sink.faults l.sink;
 }
