@@ -4,6 +4,7 @@ pub mod Filled
 pub mod GatheringLemmas
 pub mod OneReading
 pub mod Paging
+pub mod ProgressLemmas
 pub mod Refusals
 pub mod Requested
 pub mod Standing

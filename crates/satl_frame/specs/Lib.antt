@@ -5,6 +5,7 @@ pub mod Gathering
 pub mod Inputs
 pub mod Magic
 pub mod Output
+pub mod Progress
 pub mod Pulls
 pub mod Reading
 pub mod Steps

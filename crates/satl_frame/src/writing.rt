@@ -112,21 +112,9 @@ fn first_head(reply: &Reply) -> [u8; 12]
     let sense = reply.sense.len() as u8;
     let [a, b, c, d] = (7 + u32::from(sense) + reply.data_len).to_be_bytes();
     let [e, f, g, h] = reply.tag.0.to_be_bytes();
+    let nexus = reply.nexus.number();
     let status = reply.status.code();
-    [
-        0x81,
-        a,
-        b,
-        c,
-        d,
-        reply.nexus.number(),
-        status,
-        e,
-        f,
-        g,
-        h,
-        sense,
-    ]
+    [0x81, a, b, c, d, nexus, status, e, f, g, h, sense]
 }
 
 /// A reply of version 2 up to its sense.
@@ -140,24 +128,10 @@ fn second_head(reply: &Reply, expected: u32) -> [u8; 16]
     let [a, b, c, d] = (11 + u32::from(sense) + expected.min(reply.data_len)).to_be_bytes();
     let [e, f, g, h] = reply.tag.0.to_be_bytes();
     let [r, s, t, u] = residual(expected, reply.data_len).to_be_bytes();
+    let nexus = reply.nexus.number();
     let status = reply.status.code();
     [
-        0x83,
-        a,
-        b,
-        c,
-        d,
-        reply.nexus.number(),
-        status,
-        e,
-        f,
-        g,
-        h,
-        r,
-        s,
-        t,
-        u,
-        sense,
+        0x83, a, b, c, d, nexus, status, e, f, g, h, r, s, t, u, sense,
     ]
 }
 
