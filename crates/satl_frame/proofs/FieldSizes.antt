@@ -1,19 +1,18 @@
 -- What the fields of a frame take, and that they are good ones.
-use Rattle.std.proofs.Common.{◌≡◌, ℕ, zero, suc, ◌+◌, ◌-◌, ◌<◌, ◌≤◌, ◌^◌, Bool, true, false, ◌&&◌, ◌||◌, nat_le, nat_lt, ◌==◌, List, [], ◌∷◌, ◌++◌, length, take, drop, get_or, slice_index, Option, Some, None, refl, ◌∙◌, ap, sym, arith, append_assoc, lit<}
-use Rattle.std.proofs.lemmas.List.{length-append, take_at, drop_at, take-append-le}
+use Rattle.std.proofs.Common.{◌≡◌, ℕ, suc, ◌+◌, ◌<◌, ◌≤◌, ◌^◌, true, false, ◌&&◌, ◌||◌, nat_le, nat_lt, ◌==◌, List, ◌∷◌, ◌++◌, length, Option, Some, None, refl, ◌∙◌, ap, sym, arith, append_assoc, lit<}
+use Rattle.std.proofs.lemmas.List.{length-append, drop_at}
 use Rattle.std.proofs.lemmas.Bool.{le-ltb, le-leb, and_from}
 use Rattle.byteorder.specs.Endian.{big_from, big_bytes}
-use Rattle.byteorder.specs.Numbers.{big_number-reads_back, big_from-cons}
+use Rattle.byteorder.specs.Numbers.{big_number-reads_back}
 use Rattle.satl_base.specs.Fields.{bytes}
 use Rattle.satl_base.specs.declared.request.Request.{Request}
-use Rattle.satl_base.specs.declared.request.Manage.{Manage}
 use Rattle.satl_base.specs.declared.request.Attr.{Attr}
 use Rattle.satl_base.specs.declared.request.Attr.TheVariants.{Simple, Ordered}
 use Rattle.satl_base.specs.declared.bench.Which.{Which}
 use Rattle.satl_base.specs.declared.bench.Which.TheVariants.{Read, Write}
 use Rattle.satl_base.specs.declared.bench.BenchEvent.{BenchEvent}
 use Rattle.satl_base.specs.declared.bench.BenchEvent.TheVariants.{Strike, Mend, Glitch, Order, Power, Unplug}
-use Rattle.satl_frame.specs.Frames.{Row, head_size, frame_rows, event_rows, has_code, allows, attr_code, which_code, expected_field, request_fields, data_out, manage_fields, event_fields, kind, payload_bytes, HasExpected, HasFields, IsFrame, IsEvent}
+use Rattle.satl_frame.specs.Frames.{head_size, frame_rows, has_code, allows, attr_code, which_code, expected_field, request_fields, data_out, manage_fields, event_fields, kind, payload_bytes, HasExpected, HasFields, IsFrame, IsEvent}
 use Rattle.satl_frame.specs.Faults.{has_bad_field, has_bad_request, has_bad_event}
 use Rattle.satl_frame.specs.declared.frames.Version.{Version}
 use Rattle.satl_frame.specs.declared.frames.Version.TheVariants.{One, Two}

@@ -8,3 +8,4 @@ pub mod ProgressLemmas
 pub mod Refusals
 pub mod Requested
 pub mod Standing
+pub mod Stopping

@@ -1,5 +1,5 @@
 -- No bytes are read in two ways.
-use Rattle.std.proofs.Common.{◌≡◌, ℕ, zero, suc, ◌+◌, ◌-◌, ◌<◌, ◌≤◌, ◌^◌, Bool, true, false, ◌==◌, List, [], ◌∷◌, ◌++◌, length, take, drop, get_or, Option, Some, None, refl, ◌∙◌, ap, sym, subst, arith, append_assoc}
+use Rattle.std.proofs.Common.{◌≡◌, ℕ, ◌+◌, ◌-◌, ◌<◌, ◌^◌, ◌==◌, List, [], ◌∷◌, ◌++◌, length, take, drop, get_or, Option, Some, None, refl, ◌∙◌, ap, sym, subst, arith, append_assoc}
 use Rattle.std.specs.Prelude.{if◌then◌else◌}
 use Rattle.std.proofs.lemmas.List.{length-append, take_at, drop_at, drop-drop}
 use Rattle.byteorder.specs.Endian.{big_from, big_bytes}
@@ -7,7 +7,6 @@ use Rattle.byteorder.specs.Numbers.{big_number-reads_back}
 use Rattle.satl_base.specs.declared.block.Block.{Block}
 use Rattle.satl_base.specs.declared.request.Request.{Request}
 use Rattle.satl_base.specs.declared.request.Manage.{Manage}
-use Rattle.satl_base.specs.declared.request.Tag.{Tag}
 use Rattle.satl_base.specs.declared.request.Attr.{Attr}
 use Rattle.satl_base.specs.declared.request.Attr.TheVariants.{Simple, Ordered}
 use Rattle.satl_base.specs.declared.bench.Which.{Which}
@@ -27,7 +26,6 @@ use Rattle.satl_frame.specs.declared.frames.Frame.TheVariants as frames
 use Rattle.satl_frame.proofs.FieldBytes.{big_from-drop}
 use Rattle.satl_frame.proofs.FieldSizes.{GoodFrame, good_frame, length-request_fields, expected_stands}
 use Rattle.satl_frame.proofs.Standing.{told}
-use Rattle.satl_frame.proofs.Refusals.{length-magic}
 
 abbrev attr_from : ℕ → Attr
 attr_from n = if n == 0 then Simple else Ordered

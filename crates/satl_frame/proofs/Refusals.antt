@@ -1,17 +1,19 @@
 -- What was read shows why the bytes are refused, and no more was taken.
-use Rattle.std.proofs.Common.{◌≡◌, ℕ, zero, suc, ◌+◌, ◌-◌, ◌<◌, ◌≤◌, Bool, true, false, not, ◌==◌, nat_lt, List, [], ◌∷◌, ◌++◌, length, take, drop, slice_index, Option, Some, None, IfSome, refl, ◌∙◌, ap, sym, subst, arith, inl, inr, cond, append_assoc}
-use Rattle.std.proofs.lemmas.List.{take-append-le, length-append, length-take-le, append-nil, take_at, take_all, drop_at}
+use Rattle.std.proofs.Common.{◌≡◌, ℕ, ◌+◌, ◌<◌, ◌≤◌, Bool, true, false, not, ◌==◌, nat_lt, List, [], ◌∷◌, ◌++◌, length, take, drop, slice_index, Option, Some, None, IfSome, refl, ◌∙◌, ap, sym, subst, arith, inl, inr, cond, append_assoc}
+use Rattle.std.proofs.lemmas.List.{length-append, length-take-le, append-nil, take_at, take_all, drop_at}
 use Rattle.std.proofs.Math.ListN.{get_or-append}
 use Rattle.std.proofs.Math.Seq.{take-append-add}
 use Rattle.std.specs.Io.KnownBytes.{IsAtEnd}
 use Rattle.std.proofs.lemmas.Bool.{cases_lt, le-ltb, lt-ltb, ltb-false}
 use Rattle.satl_io.specs.Known.{Took}
 use Rattle.satl_io.proofs.Joined.{Took-more}
-use Rattle.satl_frame.specs.Frames.{frame_rows, has_code, allows, kind, payload_bytes, spelled}
+use Rattle.std.specs.Prelude.{if◌then◌else◌, is_some}
+use Rattle.satl_frame.proofs.Stopping.{fewer_after, fewer_weaker}
+use Rattle.satl_frame.specs.Frames.{frame_rows, has_code, allows, payload_bytes, spelled}
 use Rattle.satl_frame.specs.Magic.{magic, magic_fault, names_version, version_code, version_of}
-use Rattle.satl_frame.specs.Faults.{told_length, head_fault, payload_fault, frame_fault, has_bad_field}
-use Rattle.satl_frame.specs.Pulls.{Lacks, TookBadField}
-use Rattle.satl_frame.specs.Reading.{Reading, Blames, at_offset, refusal, refused_front, frame_front}
+use Rattle.satl_frame.specs.Faults.{told_length, head_fault, frame_fault}
+use Rattle.satl_frame.specs.Pulls.{Lacks, FewerThan, TookBadField}
+use Rattle.satl_frame.specs.Reading.{Reading, Blames, at_offset, refusal, asked, asked_of_frame}
 use Rattle.satl_frame.specs.Steps.{Began, BlamesMagic, BlamesAt, BlamesPayload, StoodBehind, StoodAt}
 use Rattle.satl_frame.specs.declared.frames.Version.{Version}
 use Rattle.satl_frame.specs.declared.frames.Version.TheVariants.{One, Two}
@@ -42,7 +44,7 @@ told_front (a ∷ b ∷ c ∷ d ∷ e ∷ f ∷ h) rest l = absurd (omega arith)
 -- the head is refused
 head_at : (version : Version) (limit offset : ℕ) (a b : Option (List ℕ)) (h : List ℕ) (r : Reason) → Took a b h → length h ≤ 5 → (length h < 5 → IsAtEnd b) →
     head_fault version limit offset h ≡ Some r →
-    IfSome a (λ input. (frame_fault version limit offset input ≡ Some r) × Took a b (take (frame_front version limit offset input) input))
+    IfSome a (λ input. (frame_fault version limit offset input ≡ Some r) × Took a b (take (asked_of_frame version limit offset input) input))
 head_at version limit offset None b h r took short ends f = tt
 head_at version limit offset (Some input) None h r took short ends f = absurd took.known
 head_at version limit offset (Some input) (Some rest) h r took short ends f =
@@ -94,7 +96,7 @@ head_read version limit offset buf n five within f =
 -- the payload is cut short
 short_at : (version : Version) (limit offset : ℕ) (a b c : Option (List ℕ)) (h : List ℕ) → Took a b h → length h ≡ 5 →
     head_fault version limit offset h ≡ None → Lacks b c (told_length h) →
-    IfSome a (λ input. (frame_fault version limit offset input ≡ Some Truncated) × Took a c (take (frame_front version limit offset input) input))
+    IfSome a (λ input. (frame_fault version limit offset input ≡ Some Truncated) × Took a c (take (asked_of_frame version limit offset input) input))
 short_at version limit offset None b c h took five f lacks = tt
 short_at version limit offset (Some input) None c h took five f lacks = absurd took.known
 short_at version limit offset (Some input) (Some rest) c h took five f lacks =
@@ -108,7 +110,7 @@ short_at version limit offset (Some input) (Some rest) c h took five f lacks =
 -- a field of the payload is bad
 field_at : (version : Version) (limit offset : ℕ) (a b c : Option (List ℕ)) (h : List ℕ) → Took a b h → length h ≡ 5 →
     head_fault version limit offset h ≡ None → TookBadField b c version (slice_index h 0) (told_length h) →
-    IfSome a (λ input. (frame_fault version limit offset input ≡ Some BadField) × Took a c (take (frame_front version limit offset input) input))
+    IfSome a (λ input. (frame_fault version limit offset input ≡ Some BadField) × Took a c (take (asked_of_frame version limit offset input) input))
 field_at version limit offset None b c h took five f bad = tt
 field_at version limit offset (Some input) None c h took five f bad = absurd took.known
 field_at version limit offset (Some input) (Some rest) None h took five f bad = absurd bad.took.known
@@ -127,6 +129,26 @@ field_at version limit offset (Some input) (Some rest) (Some more) h took five f
     ap (λ xs. take (5 + told_length h) xs) parts ∙ take_at (h ++ bad.taken) more (5 + told_length h) (length-append h bad.taken ∙ omega (arith, bad.length_is)) in
     (rw (whole, f, told, test, bytes_are, first, bad.bad) refl, rw (whole, f, told, all) (Took-more took bad.took))
 
+-- behind a good head the payload is asked for
+payload_asked : (version : Version) (limit offset : ℕ) (h rest : List ℕ) → length h ≡ 5 → head_fault version limit offset h ≡ None →
+    length h + told_length h ≤ asked_of_frame version limit offset (h ++ rest)
+payload_asked version limit offset h rest five f =
+    let whole : take 5 (h ++ rest) ≡ h = take_at h rest 5 five in
+    let told : told_length (h ++ rest) ≡ told_length h = told_front h rest five in
+    rw (whole, f, told) (omega arith)
+
+-- five bytes are asked for at least
+five_asked : (version : Version) (limit offset : ℕ) (input : List ℕ) → 5 ≤ asked_of_frame version limit offset input
+five_asked version limit offset input = by_fault (head_fault version limit offset (take 5 input))
+  where
+    by_fault : (o : Option Reason) → 5 ≤ (if is_some o then 5 else 5 + told_length input)
+    by_fault None = omega arith
+    by_fault (Some r) = omega arith
+
+-- a head that was not read whole
+pub head_stopped : (limit : ℕ) (place : Place) (a b : Option (List ℕ)) → FewerThan a b (λ _. 5) → FewerThan a b (asked_of_frame place.version limit place.offset)
+head_stopped limit place a b fewer = fewer_weaker (asked_of_frame place.version limit place.offset) (λ input. five_asked place.version limit place.offset input) fewer
+
 -- the refusal of a payload is that of the bytes at the place
 blames_all : (limit : ℕ) (place : Place) (a b c : Option (List ℕ)) (h : List ℕ) (e : FrameFault) → Took a b h → length h ≡ 5 →
     head_fault place.version limit place.offset h ≡ None → BlamesPayload place.version h place.offset b c e → BlamesAt limit place a c e
@@ -136,12 +158,13 @@ blames_all limit place a b c h (Bad BadLength o) took five f (is, never) = absur
 blames_all limit place a b c h (Bad TooLong o) took five f (is, never) = absurd never
 blames_all limit place a b c h (Bad Truncated o) took five f (is, lacks) = (is, short_at place.version limit place.offset a b c h took five f lacks)
 blames_all limit place a b c h (Bad BadField o) took five f (is, bad) = (is, field_at place.version limit place.offset a b c h took five f bad)
-blames_all limit place a b c h ReadFault took five f p = tt
+blames_all limit place a b c h ReadFault took five f fewer =
+    fewer_after (asked_of_frame place.version limit place.offset) took (λ rest. payload_asked place.version limit place.offset h rest five f) fewer
 
 -- what was read of a head shows its refusal
 pub head_refused : (version : Version) (limit offset : ℕ) (a b : Option (List ℕ)) (buf : List ℕ) (n : ℕ) (r : Reason) → length buf ≡ 5 → n ≤ length buf → Took a b (take n buf) →
     (n < length buf → IsAtEnd b) → Some r ≡ head_fault version limit offset (take n buf) →
-    IfSome a (λ input. (frame_fault version limit offset input ≡ Some r) × Took a b (take (frame_front version limit offset input) input))
+    IfSome a (λ input. (frame_fault version limit offset input ≡ Some r) × Took a b (take (asked_of_frame version limit offset input) input))
 head_refused version limit offset a b buf n r five within took ends f =
     let count : length (take n buf) ≡ n = length-take-le n buf within in
     head_at version limit offset a b (take n buf) r took (omega arith) (λ l. ends (omega arith)) (sym f)
@@ -196,16 +219,24 @@ pub length-magic : (version : Version) → length (magic version) ≡ 8
 length-magic One = refl
 length-magic Two = refl
 
+-- eight bytes of an input are asked for at least
+eight_asked : (limit : ℕ) (newest : Version) (input : List ℕ) → 8 ≤ asked limit newest None input
+eight_asked limit newest input = by_fault (magic_fault newest (take 8 input))
+  where
+    by_fault : (o : Option Reason) → 8 ≤ (if is_some o then 8 else 8 + asked_of_frame (version_of input) limit 8 (drop 8 input))
+    by_fault None = omega arith
+    by_fault (Some r) = omega arith
+
 -- the refusal of the magic is that of the reader
 pub begin_blames : (old : Reading) (a b : Option (List ℕ)) (e : FrameFault) → (old.place ≡ None) × BlamesMagic old.newest a b e → Blames old a b e
 begin_blames old None b (Bad r o) (is, blames) = tt
 begin_blames old (Some input) b (Bad r o) (is, blames) = rw (is, blames.1.0, blames.0) (refl, blames.1.1)
-begin_blames old a b ReadFault (is, blames) = tt
+begin_blames old a b ReadFault (is, fewer) = fewer_weaker (asked old.limit old.newest old.place) (λ input. rw is (eight_asked old.limit old.newest input)) fewer
 
 -- what a reader says of a whole magic is what it says of the frame behind it
 computed : (limit : ℕ) (newest version : Version) (rest : List ℕ) → names_version newest (version_code version) ≡ true →
     (refusal limit newest None (magic version ++ rest) ≡ at_offset 8 (frame_fault version limit 8 rest))
-    × (refused_front limit newest None (magic version ++ rest) ≡ 8 + frame_front version limit 8 rest)
+    × (asked limit newest None (magic version ++ rest) ≡ 8 + asked_of_frame version limit 8 rest)
 computed limit One One rest named = (refl, refl)
 computed limit One Two rest named = cc
 computed limit Two One rest named = (refl, refl)
@@ -213,14 +244,14 @@ computed limit Two Two rest named = (refl, refl)
 
 -- the refusal of a frame behind the magic
 behind_magic : (limit : ℕ) (newest version : Version) (rest : List ℕ) (c : Option (List ℕ)) (r : Reason) → names_version newest (version_code version) ≡ true →
-    frame_fault version limit 8 rest ≡ Some r → Took (Some rest) c (take (frame_front version limit 8 rest) rest) →
+    frame_fault version limit 8 rest ≡ Some r → Took (Some rest) c (take (asked_of_frame version limit 8 rest) rest) →
     (refusal limit newest None (magic version ++ rest) ≡ Some (r, 8))
-    × Took (Some (magic version ++ rest)) c (take (refused_front limit newest None (magic version ++ rest)) (magic version ++ rest))
+    × Took (Some (magic version ++ rest)) c (take (asked limit newest None (magic version ++ rest)) (magic version ++ rest))
 behind_magic limit newest version rest c r named fault took =
     let known = computed limit newest version rest named in
-    let k = frame_front version limit 8 rest in
+    let k = asked_of_frame version limit 8 rest in
     let count : 8 + k ≡ length (magic version) + k = omega (arith, length-magic version) in
-    let all : take (refused_front limit newest None (magic version ++ rest)) (magic version ++ rest) ≡ magic version ++ take k rest =
+    let all : take (asked limit newest None (magic version ++ rest)) (magic version ++ rest) ≡ magic version ++ take k rest =
     ap (λ (n : ℕ). take n (magic version ++ rest)) (known.1 ∙ count) ∙ take-append-add (magic version) rest k in
     let first : Took (Some (magic version ++ rest)) (Some rest) (magic version) = record { known = refl } in
     let both : Took (Some (magic version ++ rest)) c (magic version ++ take k rest) = Took-more first took in
@@ -232,7 +263,10 @@ frame_blames old place a b c e began blames = by_place old.limit old.newest old.
   where
     by_place : (limit : ℕ) (newest : Version) (at : Option Place) (refused : Option FrameFault) (place : Place) (a b c : Option (List ℕ)) (e : FrameFault) →
         Began newest at a b place → BlamesAt limit place b c e → Blames (record { limit = limit; newest = newest; place = at; refused = refused }) a c e
-    by_place limit newest at refused place a b c ReadFault began blames = tt
+    by_place limit newest (Some p) refused place a b c ReadFault (same, is) fewer = rw (same, is) at fewer
+    by_place limit newest None refused place a b c ReadFault (took, named, is) fewer =
+        fewer_after (asked limit newest None) took
+        (λ rest. rw ((computed limit newest place.version rest named).1, length-magic place.version, is) (omega arith)) fewer
     by_place limit newest (Some p) refused place None b c (Bad r o) began blames = tt
     by_place limit newest (Some p) refused place (Some input) b c (Bad r o) (same, is) blames =
         let there : BlamesAt limit p (Some input) c (Bad r o) = rw (same, is) at blames in
@@ -241,8 +275,8 @@ frame_blames old place a b c e began blames = by_place old.limit old.newest old.
     by_place limit newest None refused place (Some input) None c (Bad r o) (took, named, is) blames = absurd took.known
     by_place limit newest None refused place (Some input) (Some rest) c (Bad r o) (took, named, is) blames =
         let fault : frame_fault place.version limit 8 rest ≡ Some r = rw is at blames.1.0 in
-        let taken : Took (Some rest) c (take (frame_front place.version limit 8 rest) rest) = rw is at blames.1.1 in
+        let taken : Took (Some rest) c (take (asked_of_frame place.version limit 8 rest) rest) = rw is at blames.1.1 in
         let all = behind_magic limit newest place.version rest c r named fault taken in
         let offset : o ≡ 8 = blames.0 ∙ is in
-        subst (λ (xs : List ℕ). (refusal limit newest None xs ≡ Some (r, o)) × Took (Some xs) c (take (refused_front limit newest None xs) xs)) (sym took.known)
+        subst (λ (xs : List ℕ). (refusal limit newest None xs ≡ Some (r, o)) × Took (Some xs) c (take (asked limit newest None xs) xs)) (sym took.known)
         (all.0 ∙ ap (λ (k : ℕ). Some (r, k)) (sym offset), all.1)

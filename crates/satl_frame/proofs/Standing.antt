@@ -1,16 +1,13 @@
 -- A frame stands exactly where no reason refuses the bytes.
-use Rattle.std.proofs.Common.{◌≡◌, ℕ, zero, suc, ◌+◌, ◌-◌, ◌<◌, ◌≤◌, ◌^◌, ◌⊎◌, Bool, true, false, not, ◌&&◌, ◌||◌, nat_le, nat_lt, ◌==◌, List, [], ◌∷◌, ◌++◌, length, take, drop, get_or, slice_index, Option, Some, None, refl, ◌∙◌, ap, sym, subst, arith, append_assoc, inl, inr, cond}
-use Rattle.std.proofs.lemmas.List.{length-append, length-take-le, length-drop, take_at, drop_at, take-append-drop, take_all, get_or-take, get_or-drop, append-nil}
-use Rattle.std.proofs.Math.ListN.{get_or-append}
-use Rattle.std.proofs.lemmas.Bool.{le-ltb, lt-ltb, ltb-false, leb-true, and_parts, or_parts, eqb-true, eq-eqb, ne_eqb, cases_eq, cases_lt, false≢true, not-false}
+use Rattle.std.proofs.Common.{◌≡◌, ℕ, zero, suc, ◌+◌, ◌<◌, ◌≤◌, ◌^◌, ◌⊎◌, Bool, true, false, not, ◌&&◌, ◌||◌, nat_le, nat_lt, ◌==◌, List, [], ◌∷◌, ◌++◌, length, take, drop, get_or, slice_index, Option, Some, None, refl, ◌∙◌, ap, sym, subst, arith, append_assoc, inl, inr, cond}
+use Rattle.std.proofs.lemmas.List.{length-append, length-take-le, length-drop, take_at, take-append-drop, take_all, get_or-take, get_or-drop, append-nil}
+use Rattle.std.proofs.lemmas.Bool.{le-ltb, ltb-false, leb-true, and_parts, or_parts, eq-eqb, ne_eqb, cases_eq, cases_lt, false≢true, not-false}
 use Rattle.std.proofs.lemmas.Bool.Decides.{nat_tests}
 use Rattle.std.proofs.lemmas.Nat.{be_bytes_2}
-use Rattle.std.specs.Int.{w16, from_be_bytes}
 use Rattle.byteorder.specs.Endian.{big_from, big_bytes}
 use Rattle.byteorder.specs.Numbers.{big_from-cons, big_from-lt, big_from-take, big_number-reads_back}
 use Rattle.satl_base.specs.Fields.{IsBytes, bytes}
 use Rattle.satl_base.specs.declared.request.Request.{Request}
-use Rattle.satl_base.specs.declared.request.Manage.{Manage}
 use Rattle.satl_base.specs.declared.request.Attr.{Attr}
 use Rattle.satl_base.specs.declared.request.Attr.TheVariants.{Simple, Ordered}
 use Rattle.satl_base.specs.declared.bench.Which.{Which}
@@ -18,13 +15,13 @@ use Rattle.satl_base.specs.declared.bench.Which.TheVariants.{Read, Write}
 use Rattle.satl_base.specs.declared.bench.BenchEvent.{BenchEvent}
 use Rattle.satl_base.specs.declared.bench.BenchEvent.TheVariants.{Strike, Mend, Glitch, Order, Power, Unplug}
 use Rattle.satl_frame.specs.DataPages.{pages_of}
-use Rattle.satl_frame.specs.Frames.{head_size, frame_rows, event_rows, has_code, allows, attr_code, which_code, expected_in, expected_field, is_expectable, request_fields, data_out, manage_fields, event_fields, kind, payload_bytes, spelled, HasExpected, HasFields, IsFrame, IsEvent}
+use Rattle.satl_frame.specs.Frames.{head_size, frame_rows, event_rows, has_code, allows, attr_code, which_code, expected_in, is_expectable, request_fields, data_out, event_fields, kind, payload_bytes, spelled, IsFrame, IsEvent}
 use Rattle.satl_frame.specs.Faults.{told_length, head_fault, payload_fault, frame_fault, has_bad_field, has_bad_request, has_bad_event, or_else}
 use Rattle.satl_frame.specs.Inputs.{Stands, IsRefused}
 use Rattle.satl_frame.specs.declared.frames.Version.{Version}
 use Rattle.satl_frame.specs.declared.frames.Version.TheVariants.{One, Two}
 use Rattle.satl_frame.specs.declared.frames.Reason.{Reason}
-use Rattle.satl_frame.specs.declared.frames.Reason.TheVariants.{BadMagic, BadKind, BadLength, TooLong, Truncated, BadField}
+use Rattle.satl_frame.specs.declared.frames.Reason.TheVariants.{Truncated, BadField}
 use Rattle.satl_frame.specs.declared.frames.Frame.{Frame}
 use Rattle.satl_frame.specs.declared.frames.Frame.TheVariants as frames
 use Rattle.satl_frame.proofs.FieldBytes.{four_at, eight_at, first_of, manage_is, request_is, mend_is, strike_is, has_expected}

@@ -1,5 +1,5 @@
 -- Why bytes are refused (profile). The rules stand in their order: of two that hold the first one counts.
-use Rattle.std.specs.Prelude.{ℕ, zero, suc, ◌+◌, Bool, true, false, not, ◌||◌, ◌&&◌, ◌==◌, if◌then◌else◌, nat_lt, List, [], length, take, drop, slice_index, Option, Some, None}
+use Rattle.std.specs.Prelude.{ℕ, zero, suc, ◌+◌, Bool, false, not, ◌||◌, ◌&&◌, ◌==◌, if◌then◌else◌, nat_lt, List, length, take, drop, slice_index, Option, Some, None}
 use Rattle.satl_base.specs.Fields.{bytes}
 use Rattle.satl_frame.specs.Frames.{frame_rows, event_rows, has_code, allows}
 use Rattle.satl_frame.specs.Magic.{magic_fault, version_of}

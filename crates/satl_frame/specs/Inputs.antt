@@ -1,5 +1,5 @@
 -- Whole inputs (profile).
-use Rattle.std.specs.Prelude.{ℕ, ◌+◌, ◌≤◌, ◌≡◌, ◌⊎◌, List, [], ◌∷◌, ◌++◌, length, Option, Some}
+use Rattle.std.specs.Prelude.{ℕ, ◌+◌, ◌≤◌, ◌≡◌, ◌⊎◌, List, [], ◌∷◌, ◌++◌, length, Some}
 use Rattle.satl_base.specs.Fields.{IsBytes}
 use Rattle.satl_frame.specs.Faults.{frame_fault}
 use Rattle.satl_frame.specs.Frames.{spelled, IsFrame}

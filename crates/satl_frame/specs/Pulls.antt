@@ -1,5 +1,5 @@
 -- What pulling a stated number of bytes from a source leaves.
-use Rattle.std.specs.Prelude.{ℕ, ◌+◌, ◌<◌, ◌≤◌, ◌≡◌, Bool, true, List, ◌++◌, length, take, reverse, IfSome, IsErrOf, Option, Some, None}
+use Rattle.std.specs.Prelude.{ℕ, ◌<◌, ◌≤◌, ◌≡◌, true, List, ◌++◌, length, take, reverse, IfSome, IsErrOf, Option, Some, None}
 use Rattle.std.specs.declared.result.Result.{Result}
 use Rattle.std.specs.declared.result.Result.TheVariants.{Ok, Err}
 use Rattle.satl_io.specs.Causes.{Rose}
@@ -24,6 +24,14 @@ pub record PullCauses {T : Type 0} (left left' : Option (List ℕ)) (n before no
   pub later : before ≤ now
   pub short : IsErrOf result Short → Lacks left left' n
   pub failed : IsErrOf result Failed → Rose before now
+
+-- fewer bytes were taken than a number that the bytes left tell
+pub record FewerThan (left left' : Option (List ℕ)) (n : List ℕ → ℕ) : Type 0 where
+  pub known : IfSome left (λ bytes. (count : ℕ) × (count < n bytes) × Took left left' (take count bytes))
+
+-- where a read failed, fewer bytes were taken than were asked for
+abbrev pub Stopped : {T : Type 0} → Option (List ℕ) → Option (List ℕ) → ℕ → Result T PullError → Type 0
+Stopped left left' n result = IsErrOf result Failed → FewerThan left left' (λ _. n)
 
 -- so many bytes were taken
 pub record TookCount (left left' : Option (List ℕ)) (n : ℕ) : Type 0 where

@@ -1,5 +1,5 @@
 -- What a reader of frames gives, and what it takes from its source (profile).
-use Rattle.std.specs.Prelude.{ℕ, ◌+◌, ◌≤◌, ◌≡◌, Bool, true, false, ◌&&◌, if◌then◌else◌, is_some, List, [], ◌++◌, length, take, drop, slice_index, IfSome, IsErrOf, Option, Some, None}
+use Rattle.std.specs.Prelude.{ℕ, ◌+◌, ◌≤◌, ◌≡◌, true, if◌then◌else◌, is_some, List, [], ◌++◌, length, take, drop, IfSome, IsErrOf, Option, Some, None}
 use Rattle.std.specs.declared.result.Result.{Result}
 use Rattle.std.specs.Option.{option_map}
 use Rattle.satl_io.specs.Causes.{Rose}
@@ -7,7 +7,7 @@ use Rattle.satl_io.specs.Known.{Took}
 use Rattle.satl_frame.specs.Frames.{spelled, IsFrame}
 use Rattle.satl_frame.specs.Magic.{magic, version_code, names_version, magic_fault, version_of}
 use Rattle.satl_frame.specs.Faults.{told_length, head_fault, frame_fault}
-use Rattle.satl_frame.specs.Pulls.{cut_to}
+use Rattle.satl_frame.specs.Pulls.{cut_to, FewerThan}
 use Rattle.satl_frame.specs.declared.frames.Version.{Version}
 use Rattle.satl_frame.specs.declared.frames.Frame.{Frame}
 use Rattle.satl_frame.specs.declared.frames.Place.{Place}
@@ -59,22 +59,23 @@ refusal limit newest None left =
     first_refusal (at_offset 0 (magic_fault newest (take 8 left))) (at_offset 8 (frame_fault (version_of left) limit 8 (drop 8 left)))
 refusal limit newest (Some place) left = at_offset place.offset (frame_fault place.version limit place.offset left)
 
--- how many bytes of a refused frame are taken: the first five, and all of it where these are good
-abbrev pub frame_front : Version → ℕ → ℕ → List ℕ → ℕ
-frame_front version limit offset frame = if is_some (head_fault version limit offset (take 5 frame)) then 5 else 5 + told_length frame
+-- how many bytes of a frame are asked for: the first five, and all of it where these are good
+abbrev pub asked_of_frame : Version → ℕ → ℕ → List ℕ → ℕ
+asked_of_frame version limit offset frame = if is_some (head_fault version limit offset (take 5 frame)) then 5 else 5 + told_length frame
 
--- how many bytes of what is left are taken by a refusal: eight of a refused magic
-abbrev pub refused_front : ℕ → Version → Option Place → List ℕ → ℕ
-refused_front limit newest None left =
-    if is_some (magic_fault newest (take 8 left)) then 8 else 8 + frame_front (version_of left) limit 8 (drop 8 left)
-refused_front limit newest (Some place) left = frame_front place.version limit place.offset left
+-- how many bytes of what is left are asked for: eight of a magic, and the next frame behind a good one
+abbrev pub asked : ℕ → Version → Option Place → List ℕ → ℕ
+asked limit newest None left =
+    if is_some (magic_fault newest (take 8 left)) then 8 else 8 + asked_of_frame (version_of left) limit 8 (drop 8 left)
+asked limit newest (Some place) left = asked_of_frame place.version limit place.offset left
 
--- a refusal is that of the bytes that are left, and no more of them was taken than it needs
+-- a refusal is that of the bytes that are left, and no more of them was taken than it needs; where a read failed fewer were
+-- taken than the next frame has, so no whole one
 abbrev pub Blames : Reading → Option (List ℕ) → Option (List ℕ) → FrameFault → Type 0
 Blames old left left' (Bad reason offset) =
     IfSome left (λ input. (refusal old.limit old.newest old.place input ≡ Some (reason, offset))
-    × Took left left' (take (refused_front old.limit old.newest old.place input) input))
-Blames old left left' ReadFault = Unit {0}
+    × Took left left' (take (asked old.limit old.newest old.place input) input))
+Blames old left left' ReadFault = FewerThan left left' (asked old.limit old.newest old.place)
 
 -- a read fault comes only where the source's count rose
 pub record ReadCauses {T : Type 0} (before now : ℕ) (result : Result T FrameFault) : Type 0 where

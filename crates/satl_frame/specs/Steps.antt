@@ -4,8 +4,8 @@ use Rattle.satl_io.specs.Known.{Took}
 use Rattle.satl_frame.specs.Frames.{payload_bytes, spelled, IsFrame}
 use Rattle.satl_frame.specs.Magic.{magic, version_code, names_version, magic_fault}
 use Rattle.satl_frame.specs.Faults.{told_length, frame_fault}
-use Rattle.satl_frame.specs.Pulls.{cut_to, Lacks, TookBadField}
-use Rattle.satl_frame.specs.Reading.{frame_front}
+use Rattle.satl_frame.specs.Pulls.{cut_to, Lacks, FewerThan, TookBadField}
+use Rattle.satl_frame.specs.Reading.{asked_of_frame}
 use Rattle.satl_frame.specs.declared.frames.Version.{Version}
 use Rattle.satl_frame.specs.declared.frames.Frame.{Frame}
 use Rattle.satl_frame.specs.declared.frames.Place.{Place}
@@ -20,11 +20,11 @@ Began newest None left left' place =
     Took left left' (magic place.version) × (names_version newest (version_code place.version) ≡ true) × (place.offset ≡ 8)
 Began newest (Some old) left left' place = (left' ≡ left) × (place ≡ old)
 
--- the bytes that are left are not the magic, and eight of them were taken
+-- the bytes that are left are not the magic, and eight of them were taken; or a read failed before that
 abbrev pub BlamesMagic : Version → Option (List ℕ) → Option (List ℕ) → FrameFault → Type 0
 BlamesMagic newest left left' (Bad reason offset) =
     (offset ≡ 0) × IfSome left (λ input. (magic_fault newest (take 8 input) ≡ Some reason) × Took left left' (take 8 input))
-BlamesMagic newest left left' ReadFault = Unit {0}
+BlamesMagic newest left left' ReadFault = FewerThan left left' (λ _. 8)
 
 -- a whole frame stood at the place, and was taken
 pub record StoodAt (limit : ℕ) (place : Place) (left left' : Option (List ℕ)) (room : ℕ) (frame : Frame) (next : ℕ) : Type 0 where
@@ -44,12 +44,12 @@ pub record StoodBehind (version : Version) (head : List ℕ) (left left' : Optio
   pub spelled_is : spelled whole ≡ head ++ payload_bytes whole
   pub length_is : length (payload_bytes whole) ≡ told_length head
 
--- the bytes at the place are refused
+-- the bytes at the place are refused, or a read failed before they were taken
 abbrev pub BlamesAt : ℕ → Place → Option (List ℕ) → Option (List ℕ) → FrameFault → Type 0
 BlamesAt limit place left left' (Bad reason offset) =
     (offset ≡ place.offset) × IfSome left (λ input. (frame_fault place.version limit place.offset input ≡ Some reason)
-    × Took left left' (take (frame_front place.version limit place.offset input) input))
-BlamesAt limit place left left' ReadFault = Unit {0}
+    × Took left left' (take (asked_of_frame place.version limit place.offset input) input))
+BlamesAt limit place left left' ReadFault = FewerThan left left' (asked_of_frame place.version limit place.offset)
 
 -- the payload behind a good head is cut short, or a field of it is bad
 abbrev pub PayloadFault : Version → List ℕ → Option (List ℕ) → Option (List ℕ) → Reason → Type 0
@@ -57,7 +57,7 @@ PayloadFault version head left left' Truncated = Lacks left left' (told_length h
 PayloadFault version head left left' BadField = TookBadField left left' version (slice_index head 0) (told_length head)
 PayloadFault version head left left' _ = ⊥
 
--- a refusal of what stands behind a good head
+-- a refusal of what stands behind a good head, or a read that failed before all was taken
 abbrev pub BlamesPayload : Version → List ℕ → ℕ → Option (List ℕ) → Option (List ℕ) → FrameFault → Type 0
 BlamesPayload version head offset left left' (Bad reason o) = (o ≡ offset) × PayloadFault version head left left' reason
-BlamesPayload version head offset left left' ReadFault = Unit {0}
+BlamesPayload version head offset left left' ReadFault = FewerThan left left' (λ _. told_length head)

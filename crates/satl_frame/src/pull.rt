@@ -1,10 +1,10 @@
 // Bytes by the buffer, however the source cuts them.
-ghost use Rattle.std.specs.Prelude.{◌≡◌, ◌<◌, IfOk, OnOk, length, take};
+ghost use Rattle.std.specs.Prelude.{◌≡◌, ◌<◌, IfOk, OnOk, OnErr, length, take};
 ghost use Rattle.std.specs.Io.{ReadsAtMost};
 ghost use Rattle.std.specs.Io.KnownBytes.{IsAtEnd};
 ghost use Rattle.satl_io.specs.Causes.{HasCause};
 ghost use Rattle.satl_io.specs.Known.{Took};
-ghost use Rattle.satl_frame.specs.Pulls.{PullCauses};
+ghost use Rattle.satl_frame.specs.Pulls.{PullCauses, FewerThan, Stopped};
 
 use satl_io::{Failed, Source};
 
@@ -22,6 +22,7 @@ pub fn fill<S: Source>(source: &mut S, buf: &mut [u8]) -> Result<usize, Failed>
     ensures bound { ReadsAtMost result buf.new }
     ensures bytes { IfOk result (λ n. Took (S.left source.old) (S.left source.new) (take n buf.new)) }
     ensures short { IfOk result (λ n. n < length buf.new → IsAtEnd (S.left source.new)) }
+    ensures stopped { OnErr result (FewerThan (S.left source.old) (S.left source.new) (λ _. length buf.old)) }
     ensures cause { HasCause (S.faults source.old) (S.faults source.new) result }
 {
     let mut at = 0;
@@ -38,6 +39,7 @@ pub fn fill<S: Source>(source: &mut S, buf: &mut [u8]) -> Result<usize, Failed>
 /// Fills the whole buffer.
 pub fn pull<S: Source>(source: &mut S, buf: &mut [u8]) -> Result<(), PullError>
     ensures bytes { OnOk result (Took (S.left source.old) (S.left source.new) buf.new) }
+    ensures stopped { Stopped (S.left source.old) (S.left source.new) (length buf.old) result }
     ensures causes { PullCauses (S.left source.old) (S.left source.new) (length buf.old) (S.faults source.old) (S.faults source.new) result }
 {
     match fill(source, buf) {

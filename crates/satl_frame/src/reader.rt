@@ -2,7 +2,7 @@
 ghost use Rattle.std.specs.Prelude.{◌≡◌, ◌<◌, ◌≤◌, ◌+◌, ◌^◌, ℕ, true, IfOk, IfErr, IfSome, IfNone, Some, None, Err, length, slice_index};
 ghost use Rattle.satl_frame.specs.Faults.{told_length};
 ghost use Rattle.satl_frame.specs.Frames.{frame_rows, has_code, allows};
-ghost use Rattle.satl_frame.specs.Pulls.{PullCauses, TookPayload, TookRest, TookBadField, found_pages, frame_pages, given_pages};
+ghost use Rattle.satl_frame.specs.Pulls.{PullCauses, Stopped, TookPayload, TookRest, TookBadField, found_pages, frame_pages, given_pages};
 ghost use Rattle.satl_frame.specs.Reading.{Reading, Gave, Blames, ReadCauses};
 ghost use Rattle.satl_frame.specs.Steps.{Began, BlamesMagic, StoodAt, StoodBehind, BlamesAt, BlamesPayload};
 
@@ -24,6 +24,7 @@ fn pull_rest<S: Source, P: Lender>(
     len: u32,
 ) -> Result<Frame, PullError>
     ensures frame { IfOk result (TookRest (S.left source.old) (S.left source.new) request len (P.free lender.old)) }
+    ensures stopped { Stopped (S.left source.old) (S.left source.new) len result }
     ensures causes { PullCauses (S.left source.old) (S.left source.new) len (S.faults source.old) (S.faults source.new) result }
     ensures free { P.free lender.new + given_pages frame_pages result ≡ P.free lender.old }
     ensures out { P.out lender.new ≡ P.out lender.old + given_pages frame_pages result }
@@ -49,6 +50,7 @@ fn pull_request<S: Source, P: Lender>(
     requires { allows (frame_rows version) 1 len ≡ true }
     ensures frame { IfOk result (λ found. IfSome found (TookPayload (S.left source.old) (S.left source.new) version 1 len (P.free lender.old))) }
     ensures none { IfOk result (λ found. IfNone found (TookBadField (S.left source.old) (S.left source.new) version 1 len)) }
+    ensures stopped { Stopped (S.left source.old) (S.left source.new) len result }
     ensures causes { PullCauses (S.left source.old) (S.left source.new) len (S.faults source.old) (S.faults source.new) result }
     ensures free { P.free lender.new + given_pages found_pages result ≡ P.free lender.old }
     ensures out { P.out lender.new ≡ P.out lender.old + given_pages found_pages result }
@@ -82,6 +84,7 @@ fn pull_small<S: Source>(
     requires other { 1 < code }
     ensures frame { (room : ℕ) → IfOk result (λ found. IfSome found (TookPayload (S.left source.old) (S.left source.new) version code len room)) }
     ensures none { IfOk result (λ found. IfNone found (TookBadField (S.left source.old) (S.left source.new) version code len)) }
+    ensures stopped { Stopped (S.left source.old) (S.left source.new) len result }
     ensures causes { PullCauses (S.left source.old) (S.left source.new) len (S.faults source.old) (S.faults source.new) result }
     ensures pages { given_pages found_pages result ≡ 0 }
 {
@@ -106,6 +109,7 @@ fn pull_payload<S: Source, P: Lender>(
     requires allowed { allows (frame_rows version) code len ≡ true }
     ensures frame { IfOk result (λ found. IfSome found (TookPayload (S.left source.old) (S.left source.new) version code len (P.free lender.old))) }
     ensures none { IfOk result (λ found. IfNone found (TookBadField (S.left source.old) (S.left source.new) version code len)) }
+    ensures stopped { Stopped (S.left source.old) (S.left source.new) len result }
     ensures causes { PullCauses (S.left source.old) (S.left source.new) len (S.faults source.old) (S.faults source.new) result }
     ensures free { P.free lender.new + given_pages found_pages result ≡ P.free lender.old }
     ensures out { P.out lender.new ≡ P.out lender.old + given_pages found_pages result }

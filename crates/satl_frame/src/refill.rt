@@ -2,7 +2,7 @@
 ghost use Rattle.std.specs.Prelude.{◌≡◌, ◌<◌, ◌≤◌, ◌+◌, ◌*◌, ◌^◌, ◌++◌, [], IfOk, OnOk, length, take, drop, reverse};
 ghost use Rattle.satl_base.specs.Blocks.{zero_block};
 ghost use Rattle.satl_frame.specs.DataPages.{page_count, padded_block, pages_from, zeros};
-ghost use Rattle.satl_frame.specs.Pulls.{PullCauses, TookCount, TookPages, Placed, given_pages};
+ghost use Rattle.satl_frame.specs.Pulls.{PullCauses, Stopped, TookCount, TookPages, Placed, given_pages};
 
 use crate::pull::{PullError, pull};
 use satl_base::{Block, Lender, Pages};
@@ -56,6 +56,7 @@ fn pull_chunk<S: Source>(
     requires few { length todo.old + length done.old < 2 ^ 32 }
     ensures placed { OnOk result (Placed (S.left source.old) (S.left source.new) count (length todo.old) done.old done.new) }
     ensures same { length todo.new + length done.new ≡ length todo.old + length done.old }
+    ensures stopped { Stopped (S.left source.old) (S.left source.new) count result }
     ensures causes { PullCauses (S.left source.old) (S.left source.new) count (S.faults source.old) (S.faults source.new) result }
 {
     let mut buffer = empty_chunk();
@@ -76,14 +77,17 @@ fn fill_pages<S: Source>(
     requires few { length todo.old < 2 ^ 32 }
     ensures filled { OnOk result (TookPages (S.left source.old) (S.left source.new) len (length todo.old) (reverse done.new)) }
     ensures same { length todo.new + length done.new ≡ length todo.old }
+    ensures stopped { Stopped (S.left source.old) (S.left source.new) len result }
     ensures causes { PullCauses (S.left source.old) (S.left source.new) len (S.faults source.old) (S.faults source.new) result }
 {
     let len = len as usize;
     let mut at = 0;
     while at < len {
         let count = (len - at).min(CHUNK);
-        pull_chunk(source, count, todo, done)?;
-        at += count;
+        match pull_chunk(source, count, todo, done) {
+            Ok(()) => at += count,
+            Err(error) => return Err(error),
+        }
     }
     Ok(())
 }
@@ -91,6 +95,7 @@ fn fill_pages<S: Source>(
 /// Takes bytes from the source, and drops them.
 pub fn skip<S: Source>(source: &mut S, len: u32) -> Result<(), PullError>
     ensures bytes { OnOk result (TookCount (S.left source.old) (S.left source.new) len) }
+    ensures stopped { Stopped (S.left source.old) (S.left source.new) len result }
     ensures causes { PullCauses (S.left source.old) (S.left source.new) len (S.faults source.old) (S.faults source.new) result }
 {
     fill_pages(source, len, &mut Pages::default(), &mut Pages::default())
@@ -103,6 +108,7 @@ pub fn pull_data<S: Source, P: Lender>(
     len: u32,
 ) -> Result<Pages, PullError>
     ensures filled { IfOk result (TookPages (S.left source.old) (S.left source.new) len (P.free lender.old)) }
+    ensures stopped { Stopped (S.left source.old) (S.left source.new) len result }
     ensures causes { PullCauses (S.left source.old) (S.left source.new) len (S.faults source.old) (S.faults source.new) result }
     ensures free { P.free lender.new + given_pages length result ≡ P.free lender.old }
     ensures out { P.out lender.new ≡ P.out lender.old + given_pages length result }

@@ -1,4 +1,3 @@
-use Rattle.std.proofs.Common.{arith, rules, sym, ◌∙◌}
 use Rattle.satl_frame.proofs.FieldBytes.{mend_is}
 use Rattle.satl_frame.proofs.payloads.mend_of.Goals as goal
 

@@ -1,4 +1,3 @@
-use Rattle.std.proofs.Common.{arith, rules, sym, ◌∙◌}
 use Rattle.satl_frame.proofs.FieldBytes.{strike_is}
 use Rattle.satl_frame.proofs.payloads.strike_of.Goals as goal
 

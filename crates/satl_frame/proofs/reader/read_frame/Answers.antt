@@ -1,6 +1,6 @@
 use Rattle.std.proofs.Common.{◌≡◌, ◌+◌, refl, arith}
 use Rattle.satl_frame.specs.Faults.{told_length}
-use Rattle.satl_frame.proofs.Refusals.{head_refused, payload_refused, frame_stood, head_read}
+use Rattle.satl_frame.proofs.Refusals.{head_stopped, head_refused, payload_refused, frame_stood, head_read}
 use Rattle.satl_frame.proofs.reader.read_frame.Goals as goal
 
 pub read_payload-requires-clause-allowed : goal.read_payload-requires-clause-allowed
@@ -24,3 +24,6 @@ returns-in-Err-read_payload-clause-fault g c =
     let known = c.in-Ok.ensures in
     payload_refused c.args.limit c.args.place _ _ _ c.fill.new.buf c.in-Ok.count c.in-Err-read_payload.fault c.fill.auto.buf known.bound.0 known.bytes c.in-None.ensures
     c.in-Err-read_payload.ensures.fault
+
+pub returns-in-Err-clause-fault : goal.returns-in-Err-clause-fault
+returns-in-Err-clause-fault g c = head_stopped c.args.limit c.args.place _ _ c.in-Err.ensures.stopped

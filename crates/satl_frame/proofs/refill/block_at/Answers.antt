@@ -1,4 +1,4 @@
-use Rattle.std.proofs.Common.{◌≤◌, ◌+◌, ◌-◌, ◌*◌, ◌≡◌, ◌∙◌, ap, arith, length, take, drop}
+use Rattle.std.proofs.Common.{◌+◌, ◌-◌, ◌*◌, ◌≡◌, ◌∙◌, ap, arith, take, drop}
 use Rattle.std.proofs.lemmas.List.{length-drop}
 use Rattle.satl_frame.proofs.Paging.{whole_block}
 use Rattle.satl_frame.proofs.refill.block_at.Goals as goal

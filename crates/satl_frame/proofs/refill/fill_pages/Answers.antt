@@ -1,7 +1,8 @@
-use Rattle.std.proofs.Common.{◌≡◌, ◌<◌, ◌++◌, ◌+◌, ◌%◌, ◌∙◌, [], ap, min, length, take, reverse, refl, sym, arith}
+use Rattle.std.proofs.Common.{◌++◌, ◌∙◌, [], ap, length, refl, arith}
 use Rattle.std.proofs.lemmas.List.{length-append}
 use Rattle.satl_io.proofs.Joined.{Took-more, Took-none}
 use Rattle.satl_frame.proofs.Paging.{placed_more, nothing_placed}
+use Rattle.satl_frame.proofs.Stopping.{fewer_after}
 use Rattle.satl_frame.proofs.refill.fill_pages.Goals as goal
 
 pub loop-at-init : goal.loop-at-init
@@ -18,7 +19,7 @@ loop-at-init g c = record {
 
 pub loop-at-preserved : goal.loop-at-preserved
 loop-at-preserved g c =
-    let known = c.in_ok-pull_chunk.ensures in
+    let known = c.in-Ok.ensures in
     record {
       taken = c.loop-at.invariant.taken ++ known.placed.taken;
       took = Took-more c.loop-at.invariant.took known.placed.took;
@@ -30,3 +31,7 @@ loop-at-preserved g c =
       same = omega (arith, c.pull_chunk.ensures.same);
       later = omega (arith, known.causes.later);
     }
+
+pub returns-in-Err-clause-stopped : goal.returns-in-Err-clause-stopped
+returns-in-Err-clause-stopped g c = λ e.
+    fewer_after (λ _. c.args.len) c.loop-at.invariant.took (λ rest. omega (arith, c.loop-at.invariant.size, c.min-count.ensures, c.loop-at-test.true)) (c.in-Err.ensures.stopped e)

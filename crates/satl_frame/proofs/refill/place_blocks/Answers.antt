@@ -1,4 +1,4 @@
-use Rattle.std.proofs.Common.{refl, ap, arith, ◌+◌, length}
+use Rattle.std.proofs.Common.{refl, ap, arith, length}
 use Rattle.satl_frame.proofs.Paging.{placed_block, none_placed}
 use Rattle.satl_frame.proofs.refill.place_blocks.Goals as goal
 

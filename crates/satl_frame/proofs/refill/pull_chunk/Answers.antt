@@ -1,4 +1,4 @@
-use Rattle.std.proofs.Common.{◌≡◌, ◌+◌, ◌-◌, ◌++◌, ◌∙◌, ap, min, length, drop, reverse, arith}
+use Rattle.std.proofs.Common.{◌≡◌, ◌++◌, ◌∙◌, ap, min, length, drop, reverse, arith}
 use Rattle.std.proofs.lemmas.List.{length-reverse, length-append, length-take-le}
 use Rattle.satl_frame.specs.DataPages.{page_count, pages_from}
 use Rattle.satl_frame.proofs.Paging.{chunk_placed, length-pages_from, length-zeros}

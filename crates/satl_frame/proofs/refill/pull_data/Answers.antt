@@ -1,4 +1,4 @@
-use Rattle.std.proofs.Common.{◌≡◌, ◌≤◌, ◌+◌, ◌∙◌, ap, min, length, take, arith}
+use Rattle.std.proofs.Common.{◌≡◌, ◌≤◌, ◌∙◌, ap, min, length, take, arith}
 use Rattle.satl_frame.specs.DataPages.{page_count, pages_of}
 use Rattle.satl_frame.proofs.Paging.{pages_free, all_filled}
 use Rattle.satl_frame.proofs.refill.pull_data.Goals as goal

@@ -1,4 +1,4 @@
-use Rattle.std.proofs.Common.{◌≡◌, ◌≤◌, ◌+◌, ◌-◌, ◌++◌, ◌∷◌, [], ◌∙◌, ap, sym, refl, arith, length, take}
+use Rattle.std.proofs.Common.{◌-◌, ◌++◌, [], ◌∙◌, ap, arith, length, take}
 use Rattle.satl_base.specs.Blocks.{first_bytes}
 use Rattle.satl_frame.proofs.GatheringLemmas.{gathers_nothing, Gathers-more, block_gathered, block_failed}
 use Rattle.satl_frame.proofs.writing.gather_data.Goals as goal
