@@ -1,8 +1,8 @@
 -- What is kept between frames, and why serving stops.
-use Rattle.std.specs.Prelude.{◌≡◌, ◌≤◌, ℕ, [], Ok, Err}
-use Rattle.std.specs.declared.result.Result.{Result}
+use Rattle.std.specs.Prelude.{◌≡◌, ℕ, List, Option, None, Some}
 use Rattle.satl_io.specs.Causes.{Rose}
 use Rattle.satl_drive.specs.State.{DriveState}
+use Rattle.satl_frame.specs.declared.frames.Place.{Place}
 use Rattle.satl_core.specs.Layer.{Layer, Tied}
 use Rattle.satl_serve.specs.declared.serving.ServeFault.{ServeFault}
 use Rattle.satl_serve.specs.declared.serving.ServeFault.TheVariants as faults
@@ -17,14 +17,23 @@ abbrev pub HasWriteCause : ℕ → ℕ → ServeFault → Type 0
 HasWriteCause before now faults.Write = Rose before now
 HasWriteCause before now _ = ⊥
 
--- where a frame is carried out it may be one that is not built yet
-abbrev pub HasFrameCause : ℕ → ℕ → ServeFault → Type 0
-HasFrameCause before now faults.Write = Rose before now
-HasFrameCause before now faults.NotBuilt = Unit {0}
-HasFrameCause before now _ = ⊥
-
 -- a read fault comes only where the source's count rose, and a write fault only where the sink's did
 abbrev pub HasServeCause : ℕ → ℕ → ℕ → ℕ → ServeFault → Type 0
 HasServeCause read_before read_now write_before write_now faults.Read = Rose read_before read_now
 HasServeCause read_before read_now write_before write_now faults.Write = Rose write_before write_now
 HasServeCause read_before read_now write_before write_now _ = Unit {0}
+
+-- where the layer was not opened nothing was read or written
+abbrev pub IsUntouched : Option (List ℕ) → Option (List ℕ) → Option (List ℕ) → Option (List ℕ) → ServeFault → Type 0
+IsUntouched left left' written written' (faults.Open fault) = (left' ≡ left) × (written' ≡ written)
+IsUntouched left left' written written' _ = Unit {0}
+
+-- a fault once the layer is open
+abbrev pub IsBehindOpen : ServeFault → Type 0
+IsBehindOpen (faults.Open fault) = ⊥
+IsBehindOpen _ = Unit {0}
+
+-- how many bytes of the input stand before the next frame; none where the magic was not read yet
+abbrev pub place_offset : Option Place → ℕ
+place_offset None = 0
+place_offset (Some place) = place.offset

@@ -1,11 +1,12 @@
 // The loop over frames.
 ghost use Rattle.std.specs.Prelude.{◌≡◌, ◌≤◌, [], IfErr, OnOk};
 ghost use Rattle.std.specs.List.{AllByRecursion};
-ghost use Rattle.satl_frame.specs.Output.{CanWrite, IsWritable};
+ghost use Rattle.satl_frame.specs.Output.{IsWritable};
 ghost use Rattle.satl_drive.specs.State.{IsFit};
 ghost use Rattle.satl_core.specs.Layer.{Tied, reply_pages};
 ghost use Rattle.satl_core.specs.Submitting.{CanSubmit};
-ghost use Rattle.satl_serve.specs.Serving.{AtRest, HasFrameCause, HasServeCause, HasWriteCause};
+ghost use Rattle.satl_io.specs.Causes.{Rose};
+ghost use Rattle.satl_serve.specs.Serving.{AtRest, HasServeCause, HasWriteCause, IsBehindOpen, IsUntouched};
 
 use satl_base::{Replies, Request, Steps};
 use satl_core::{OpenFault, Satl};
@@ -38,6 +39,28 @@ pub enum ServeFault {
     NotBuilt,
 }
 
+impl From<WriteFault> for ServeFault {
+    ghost use Rattle.std.specs.Prelude.{◌≡◌};
+    ghost use Rattle.satl_serve.specs.declared.serving.ServeFault.TheVariants as faults;
+
+    ghost from_gives = { λ _ e. e ≡ faults.Write };
+
+    fn from(_: WriteFault) -> ServeFault {
+        ServeFault::Write
+    }
+}
+
+impl From<OpenFault> for ServeFault {
+    ghost use Rattle.std.specs.Prelude.{◌≡◌};
+    ghost use Rattle.satl_serve.specs.declared.serving.ServeFault.TheVariants as faults;
+
+    ghost from_gives = { λ fault e. e ≡ faults.Open fault };
+
+    fn from(fault: OpenFault) -> ServeFault {
+        ServeFault::Open(fault)
+    }
+}
+
 // The number of bytes within which each frame of an input ends: 2^40 (profile).
 const LIMIT: u64 = 1 << 40;
 
@@ -59,10 +82,7 @@ fn answer<K: Sink>(
         let Some(reply) = replies.pop_first() else {
             unreachable!();
         };
-        match write_frame(OutFrame::Reply(&reply), sink) {
-            Ok(()) => {}
-            Err(WriteFault) => return Err(ServeFault::Write),
-        }
+        write_frame(OutFrame::Reply(&reply), sink)?;
         satl.recycle(reply.body);
     }
     Ok(())
@@ -145,17 +165,80 @@ fn serve_end<K: Sink, D: Drive, L: Ledger>(
 {
     // Each turn ends one task at least.
     serve_turns(satl, satl.pending() as u16, sink, drive, replies, steps)?;
-    write(OutFrame::End, sink)
+    write_frame(OutFrame::End, sink)?;
+    Ok(())
 }
 
-/// Writes a frame without data.
-fn write<K: Sink>(frame: OutFrame, sink: &mut K) -> Result<(), ServeFault>
-    requires { CanWrite frame }
-    ensures later { K.faults sink.old ≤ K.faults sink.new }
-    ensures cause { IfErr result (HasWriteCause (K.faults sink.old) (K.faults sink.new)) }
+/// Serves an input of frames: opens the layer on the drive, writes the magic of the output, and carries out one frame after the
+/// other up to END, which ends it. Each answer is written before the next frame is read. `Open`: the layer was not opened, and
+/// nothing was read or written. `BadInput` comes after its FAULT frame was written, with the reason and the offset of the refused
+/// frame in bytes. `Read` and `Write` come only where the source's or the sink's count of faults rose. `NotBuilt` comes at a
+/// frame that is not served yet (profile).
+pub fn serve<S: Source, K: Sink, D: Bench, L: Ledger>(
+    alloc: Global,
+    form: Form,
+    source: &mut S,
+    sink: &mut K,
+    drive: &mut D,
+    steps: &mut Steps<L>,
+) -> Result<(), ServeFault>
+    requires idle { (D.state drive.old).outstanding ≡ [] }
+    requires fit { IsFit (D.state drive.old) }
+    ensures open { IfErr result (IsUntouched (S.left source.old) (S.left source.new) (K.written sink.old) (K.written sink.new)) }
+    ensures causes { IfErr result (HasServeCause (S.faults source.old) (S.faults source.new) (K.faults sink.old) (K.faults sink.new)) }
 {
-    match write_frame(frame, sink) {
-        Ok(()) => Ok(()),
-        Err(WriteFault) => Err(ServeFault::Write),
+    let mut satl = Satl::open(alloc, drive, steps)?;
+    write_frame(OutFrame::Magic, sink)?;
+    match form {
+        Form::Frames => serve_frames(alloc, &mut satl, source, sink, drive, steps),
+    }
+}
+
+/// Carries out frames up to END.
+fn serve_frames<S: Source, K: Sink, D: Drive, L: Ledger>(
+    alloc: Global,
+    satl: &mut Satl,
+    source: &mut S,
+    sink: &mut K,
+    drive: &mut D,
+    steps: &mut Steps<L>,
+) -> Result<(), ServeFault>
+    requires rest { AtRest satl.old (D.state drive.old) }
+    ensures kind { IfErr result IsBehindOpen }
+    ensures causes { IfErr result (HasServeCause (S.faults source.old) (S.faults source.new) (K.faults sink.old) (K.faults sink.new)) }
+{
+    let mut reader = FrameReader::new(alloc, LIMIT);
+    let mut replies = Replies::new(alloc);
+    'frames: loop {
+        let frame = match reader.next(source, satl) {
+            Ok(frame) => frame,
+            Err(fault) => return Err(refuse(fault, sink)),
+        };
+        match frame {
+            Frame::Request(request) => {
+                serve_request(satl, request, sink, drive, &mut replies, steps)?;
+            }
+            Frame::Turn(count) => serve_turns(satl, count, sink, drive, &mut replies, steps)?,
+            Frame::End => return serve_end(satl, sink, drive, &mut replies, steps),
+            Frame::Manage(_) | Frame::Bench(_) => return Err(ServeFault::NotBuilt),
+        }
+    }
+}
+
+/// Why serving stops at a reader's refusal: for a bad frame a FAULT is written first.
+fn refuse<K: Sink>(fault: FrameFault, sink: &mut K) -> ServeFault
+    ensures later { K.faults sink.old ≤ K.faults sink.new }
+    ensures read { (result ≡ ServeFault.Read) → (fault ≡ FrameFault.ReadFault) }
+    ensures write { (result ≡ ServeFault.Write) → Rose (K.faults sink.old) (K.faults sink.new) }
+    ensures kind { IsBehindOpen result }
+{
+    match fault {
+        FrameFault::ReadFault => ServeFault::Read,
+        FrameFault::Bad { reason, offset } => {
+            match write_frame(OutFrame::Fault { reason, offset }, sink) {
+                Ok(()) => ServeFault::BadInput { reason, offset },
+                Err(WriteFault) => ServeFault::Write,
+            }
+        }
     }
 }

@@ -1,0 +1,19 @@
+-- Which status a fault of serving gives (profile).
+use Rattle.satl_core.specs.declared.satl.OpenFault.{OpenFault}
+use Rattle.satl_core.specs.declared.satl.OpenFault.TheVariants as opening
+use Rattle.satl_serve.specs.declared.serving.ServeFault.{ServeFault}
+use Rattle.satl_serve.specs.declared.serving.ServeFault.TheVariants as faults
+use Rattle.satl_top.specs.declared.status.Status.{Status}
+use Rattle.satl_top.specs.declared.status.Status.TheVariants as statuses
+
+abbrev pub status_of_open : OpenFault → Status
+status_of_open opening.NoMemory = statuses.NoMemory
+status_of_open opening.LinkDown = statuses.DriveRefused
+status_of_open (opening.Identity fault) = statuses.DriveRefused
+
+abbrev pub status_of : ServeFault → Status
+status_of (faults.Open fault) = status_of_open fault
+status_of (faults.BadInput reason offset) = statuses.BadInput
+status_of faults.Read = statuses.ReadFault
+status_of faults.Write = statuses.WriteFault
+status_of faults.NotBuilt = statuses.NotBuilt

@@ -1,0 +1,8 @@
+//! The top call: all that the program does, from its words to its exit status.
+#![tactic(auto)]
+
+mod status;
+mod top;
+
+pub use status::Status;
+pub use top::satl;

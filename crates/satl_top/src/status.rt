@@ -1,0 +1,63 @@
+// How the program ends.
+ghost use Rattle.std.specs.Prelude.{◌≡◌};
+ghost use Rattle.satl_top.specs.Top.{exit_number};
+
+use satl_core::OpenFault;
+use satl_serve::ServeFault;
+
+/// How the program ends (profile).
+#[derive(Clone, Copy, Debug, PartialEq, Eq)]
+pub enum Status {
+    /// The whole input was carried out.
+    Done,
+    /// The words are not understood.
+    Usage,
+    /// The input is refused. A FAULT frame says why and where.
+    BadInput,
+    /// A read failed.
+    ReadFault,
+    /// A write failed.
+    WriteFault,
+    /// There was not the memory to begin.
+    NoMemory,
+    /// The layer does not serve the drive, or its link was lost before the layer was open.
+    DriveRefused,
+    /// A frame asks for what is not built yet.
+    NotBuilt,
+}
+
+impl Status {
+    /// The exit number: 0, and 2 to 8 in the order of the variants.
+    pub fn code(&self) -> u8
+        ensures { result ≡ exit_number self.now }
+    {
+        match self {
+            Status::Done => 0,
+            Status::Usage => 2,
+            Status::BadInput => 3,
+            Status::ReadFault => 4,
+            Status::WriteFault => 5,
+            Status::NoMemory => 6,
+            Status::DriveRefused => 7,
+            Status::NotBuilt => 8,
+        }
+    }
+}
+
+impl From<ServeFault> for Status {
+    ghost use Rattle.std.specs.Prelude.{◌≡◌};
+    ghost use Rattle.satl_top.specs.Faults.{status_of};
+
+    ghost from_gives = { λ fault status. status ≡ status_of fault };
+
+    fn from(fault: ServeFault) -> Status {
+        match fault {
+            ServeFault::Open(OpenFault::NoMemory) => Status::NoMemory,
+            ServeFault::Open(_) => Status::DriveRefused,
+            ServeFault::BadInput { .. } => Status::BadInput,
+            ServeFault::Read => Status::ReadFault,
+            ServeFault::Write => Status::WriteFault,
+            ServeFault::NotBuilt => Status::NotBuilt,
+        }
+    }
+}

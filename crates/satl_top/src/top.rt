@@ -1,0 +1,50 @@
+// The top call.
+ghost use Rattle.std.specs.Prelude.{◌≡◌, ◌↔◌, [], false};
+ghost use Rattle.satl_drive.specs.State.{IsFit};
+ghost use Rattle.satl_top.specs.Top.{HasCause, IsUntouched, is_replay};
+
+use crate::status::Status;
+use satl_base::Steps;
+use satl_drive::Bench;
+use satl_io::{Sink, Source};
+use satl_serve::{Form, serve};
+use std::alloc::Global;
+use std::rc::RcStr;
+use std::sync::ledger::Ledger;
+
+/// Whether the words ask for a replay.
+fn is_replay(words: &[RcStr]) -> bool
+    ensures { result ≡ is_replay words.now }
+{
+    if words.len() != 2 {
+        return false;
+    }
+    let second: &str = &words[1];
+    second == "replay"
+}
+
+/// Does all that the program does: where the words are two and the second is `replay`, it serves the frames of the source on
+/// the drive and writes the answers to the sink. The drive has nothing outstanding, and its IDENTIFY DEVICE data fit it. The
+/// status says how that ended (profile).
+pub fn satl<S: Source, K: Sink, D: Bench, L: Ledger>(
+    alloc: Global,
+    words: &[RcStr],
+    source: &mut S,
+    sink: &mut K,
+    drive: &mut D,
+    steps: &mut Steps<L>,
+) -> Status
+    requires idle { (D.state drive.old).outstanding ≡ [] }
+    requires fit { IsFit (D.state drive.old) }
+    ensures usage { (result ≡ Status.Usage) ↔ (is_replay words.now ≡ false) }
+    ensures untouched { IsUntouched (S.left source.old) (S.left source.new) (K.written sink.old) (K.written sink.new) result }
+    ensures causes { HasCause (S.faults source.old) (S.faults source.new) (K.faults sink.old) (K.faults sink.new) result }
+{
+    if !is_replay(words) {
+        return Status::Usage;
+    }
+    match serve(alloc, Form::Frames, source, sink, drive, steps) {
+        Ok(()) => Status::Done,
+        Err(fault) => Status::from(fault),
+    }
+}
