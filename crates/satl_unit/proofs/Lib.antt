@@ -1,0 +1,2 @@
+pub mod ConditionsLemmas
+pub mod FunctionsLemmas

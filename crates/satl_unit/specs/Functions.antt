@@ -1,0 +1,28 @@
+-- Task management functions (SAM-5 7) by their codes (profile).
+use Rattle.std.specs.Prelude.{ℕ, ◌==◌, List, [], ◌∷◌, map, Option}
+use Rattle.std.specs.Option.{option_map}
+use Rattle.std.specs.List.{find}
+use Rattle.satl_unit.specs.declared.function.Function.{Function}
+use Rattle.satl_unit.specs.declared.function.Function.TheVariants.{AbortTask, AbortTaskSet, ClearTaskSet, UnitReset, NexusReset, QueryTask, QueryTaskSet}
+
+-- a code, and the function that it stands for
+pub record Line : Type 0 where
+  pub code : ℕ
+  pub function : Function
+
+abbrev line : ℕ → Function → Line
+line code function = record { code = code; function = function }
+
+-- the functions that are listed (profile)
+abbrev pub function_table : List Line
+function_table =
+    line 0x01 AbortTask ∷ line 0x02 AbortTaskSet ∷ line 0x04 ClearTaskSet ∷ line 0x08 UnitReset ∷ line 0x10 NexusReset
+    ∷ line 0x80 QueryTask ∷ line 0x81 QueryTaskSet ∷ []
+
+-- the codes that are listed
+abbrev pub function_codes : List ℕ
+function_codes = map (λ (l : Line). l.code) function_table
+
+-- the function of a code
+unfoldable pub function_of : ℕ → Option Function
+function_of code = option_map (λ (l : Line). l.function) (find (λ (l : Line). l.code == code) function_table)
