@@ -1,0 +1,20 @@
+-- The data of the READ CAPACITY commands.
+use Rattle.std.specs.Prelude.{ℕ, ◌-◌, nat_lt, List, [], ◌∷◌, if◌then◌else◌}
+use Rattle.satl_base.specs.Places.{byte, number, laid}
+use Rattle.satl_identify.specs.declared.identity.Identity.{Identity}
+
+-- the address of the last block
+abbrev pub last_lba : Identity → ℕ
+last_lba i = i.capacity - 1
+
+-- that address in 32 bits, FFFFFFFFh where it is larger
+abbrev pub shown_last_lba : Identity → ℕ
+shown_last_lba i = if nat_lt 0xFFFFFFFF (last_lba i) then 0xFFFFFFFF else last_lba i
+
+-- RETURNED LOGICAL BLOCK ADDRESS and LOGICAL BLOCK LENGTH IN BYTES (SBC-3, READ CAPACITY (10) command)
+unfoldable pub capacity_10 : Identity → List ℕ
+capacity_10 i = laid 8 (number 0 3 (shown_last_lba i) ∷ number 4 7 512 ∷ [])
+
+-- the same in 8 and 4 bytes; LOGICAL BLOCKS PER PHYSICAL BLOCK EXPONENT; LBPME and LBPRZ (SBC-3, READ CAPACITY (16) command)
+unfoldable pub capacity_16 : Identity → List ℕ
+capacity_16 i = laid 32 (number 0 7 (last_lba i) ∷ number 8 11 512 ∷ byte 13 i.exponent ∷ byte 14 (if i.trim then 0xC0 else 0x00) ∷ [])

@@ -1,0 +1,46 @@
+// The capacity of the unit.
+ghost use Rattle.std.specs.Prelude.{◌≡◌, ◌≤◌, if◌then◌else◌};
+ghost use Rattle.satl_vpd.specs.Capacity.{capacity_10, capacity_16, last_lba, shown_last_lba};
+
+use satl_identify::Identity;
+
+/// The last LBA as 32 bits show it.
+fn shown_last_lba(identity: &Identity) -> u32
+    requires { 1 ≤ identity.now.capacity }
+    ensures { result ≡ shown_last_lba identity.now }
+{
+    let last = identity.capacity - 1;
+    if last > 0xFFFF_FFFF {
+        0xFFFF_FFFF
+    } else {
+        last as u32
+    }
+}
+
+/// The data of READ CAPACITY (10): the last LBA, FFFFFFFFh where it is larger, and the block length in bytes (SBC-3, READ
+/// CAPACITY (10) command). Each identity that `read_identity` gives has sectors.
+#[tactic(auto, unfolding(crate::specs::Capacity::capacity_10))]
+pub fn capacity10(identity: &Identity) -> [u8; 8]
+    requires { 1 ≤ identity.now.capacity }
+    ensures { result ≡ capacity_10 identity.now }
+{
+    let mut data = [0; 8];
+    data[..4].copy_from_slice(&shown_last_lba(identity).to_be_bytes());
+    data[4..].copy_from_slice(&512u32.to_be_bytes());
+    data
+}
+
+/// The data of READ CAPACITY (16): the last LBA, the block length in bytes, how many logical blocks a physical one has, and
+/// whether blocks can be unmapped (SBC-3, READ CAPACITY (16) command). Each identity that `read_identity` gives has sectors.
+#[tactic(auto, unfolding(crate::specs::Capacity::capacity_16))]
+pub fn capacity16(identity: &Identity) -> [u8; 32]
+    requires { 1 ≤ identity.now.capacity }
+    ensures { result ≡ capacity_16 identity.now }
+{
+    let mut data = [0; 32];
+    data[..8].copy_from_slice(&(identity.capacity - 1).to_be_bytes());
+    data[8..12].copy_from_slice(&512u32.to_be_bytes());
+    data[13] = identity.exponent;
+    data[14] = if identity.trim { 0xC0 } else { 0x00 };
+    data
+}

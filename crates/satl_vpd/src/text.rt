@@ -1,0 +1,40 @@
+// Texts of IDENTIFY DEVICE data, and bytes that are appended.
+ghost use Rattle.std.specs.Prelude.{◌≡◌, ◌≤◌, ◌<◌, ◌+◌, ◌++◌, ◌==◌, length};
+ghost use Rattle.std.specs.List.{list_all};
+ghost use Rattle.arrayvec.specs.ArrayVec.{array_vec_len};
+ghost use Rattle.satl_vpd.specs.Texts.{characters, is_blank};
+
+use arrayvec::ArrayVec;
+
+/// A text of at most 20 words.
+pub type Text = ArrayVec<u8, 40>;
+
+pub fn append<const CAP: usize>(list: &mut ArrayVec<u8, CAP>, bytes: &[u8])
+    requires { array_vec_len list.old + length bytes.now ≤ CAP }
+    ensures { list.new.items ≡ list.old.items ++ bytes.now }
+{
+    let Ok(()) = list.try_extend_from_slice(bytes) else {
+        unreachable!();
+    };
+}
+
+/// The text in the words first to last, the high byte of each word first.
+pub fn characters(bytes: &[u8; 512], first: usize, last: usize) -> Text
+    requires order { first ≤ last }
+    requires within { last < 256 }
+    requires few { last < first + 20 }
+    ensures { result.items ≡ characters first last bytes.now }
+{
+    let mut text = Text::new();
+    for word in first..last + 1 {
+        text.push(bytes[2 * word + 1]);
+        text.push(bytes[2 * word]);
+    }
+    text
+}
+
+pub fn is_blank(text: &[u8]) -> bool
+    ensures { result ≡ is_blank text.now }
+{
+    text.iter().all(|c| *c == b' ')
+}
