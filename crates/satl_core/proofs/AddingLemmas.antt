@@ -1,6 +1,5 @@
 -- A request becomes the last task.
-use Rattle.std.proofs.Common.{◌≡◌, ◌⊎◌, ⊎_elim, refl, sym, ap, subst, ◌∙◌, arith, ℕ, suc, ◌+◌, ◌-◌, ◌*◌, ◌≤◌, Bool, true, false, List, [], ◌∷◌, ◌++◌, length, map, take, Some}
-use Rattle.std.specs.Prelude.{Result, MatchBool, slice_get}
+use Rattle.std.proofs.Common.{◌≡◌, refl, sym, ap, subst, ◌∙◌, arith, ℕ, suc, ◌+◌, Bool, false, List, [], ◌∷◌, ◌++◌, length, map, take, Some}
 use Rattle.std.specs.Option.{option_map}
 use Rattle.std.specs.List.{AllByRecursion}
 use Rattle.satl_base.specs.declared.block.Block.{Block}
@@ -8,16 +7,15 @@ use Rattle.satl_base.specs.declared.reply.Reply.{Reply}
 use Rattle.satl_base.specs.declared.request.Request.{Request}
 use Rattle.satl_cdb.specs.declared.command.Command.{Command}
 use Rattle.satl_identify.specs.declared.identity.Identity.{Identity}
-use Rattle.satl_identify.specs.Refusals.{IsIdentity}
 use Rattle.satl_line.specs.declared.entry.Entry.{Entry}
+use Rattle.satl_line.specs.Kinds.{kind_of}
 use Rattle.satl_line.specs.Tasks.{Adds, Held, change_at, entries_of, entry_at, is_too_much, total_blocks, with_body}
 use Rattle.satl_line.proofs.SlotsLemmas.{All-append, total-append}
-use Rattle.satl_pages.specs.Counts.{Counts, number_of}
 use Rattle.satl_direct.specs.Device.{data_out, task_of}
-use Rattle.satl_direct.specs.Arrival.{held_blocks, needed}
-use Rattle.satl_core.specs.Layer.{IsExpectable, IsKept, IsSoundLayer, IsTransfer, Layer, held_pages}
+use Rattle.satl_direct.specs.Arrival.{held_blocks}
+use Rattle.satl_core.specs.Layer.{IsExpectable, IsKept, IsTransfer, Layer, held_pages}
 use Rattle.satl_core.specs.Submitting.{Becomes, IsAdded, task_without_pages}
-use Rattle.satl_core.proofs.HeldLemmas.{held-append, held_is, last_at, last_changed, length-push}
+use Rattle.satl_core.proofs.HeldLemmas.{held-append, last_at, last_changed, length-push}
 
 -- the blocks of all tasks with one more
 pub total_with : (old new : List Held) (entry : Entry) → Adds old entry new → total_blocks new ≡ total_blocks old + entry.blocks
@@ -50,10 +48,10 @@ held_with old new entry body h =
     let same = ap held_pages h.are in
     omega (arith, both, same)
 
-pub kept_with : (capacity : ℕ) (old new : List Held) (entry : Entry) (body : List Block) → AllByRecursion (IsKept capacity) old → length body ≡ entry.blocks → IsTransfer capacity entry.command entry.blocks → IsExpectable entry.expected → HasPages old entry body new
-    → AllByRecursion (IsKept capacity) new
-kept_with capacity old new entry body all size transfer expected h =
-    subst (λ t. AllByRecursion (IsKept capacity) t) (sym h.are) (All-append (IsKept capacity) old (record { slot = h.slot; entry = record entry { body = body } } ∷ []) all (record { pages = size; transfer = transfer; expected = expected }, tt))
+pub kept_with : (identity : Identity) (old new : List Held) (entry : Entry) (body : List Block) → AllByRecursion (IsKept identity) old → length body ≡ entry.blocks → IsTransfer identity.capacity entry.command entry.blocks → entry.kind ≡ kind_of entry.command identity.queued_trim → IsExpectable entry.expected → HasPages old entry body new
+    → AllByRecursion (IsKept identity) new
+kept_with identity old new entry body all size transfer kind expected h =
+    subst (λ t. AllByRecursion (IsKept identity) t) (sym h.are) (All-append (IsKept identity) old (record { slot = h.slot; entry = record entry { body = body } } ∷ []) all (record { pages = size; transfer = transfer; kind = kind; expected = expected }, tt))
 
 push_tasks : (old : List Held) (h : Held) → map task_of (entries_of (old ++ h ∷ [])) ≡ map task_of (entries_of old) ++ task_of h.entry ∷ []
 push_tasks [] h = refl

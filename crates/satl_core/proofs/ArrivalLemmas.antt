@@ -1,30 +1,25 @@
 -- What the layer judges of a request is what the device does with it.
-use Rattle.std.proofs.Common.{◌≡◌, ◌⊎◌, inl, inr, refl, sym, ap, subst, ◌∙◌, arith, eqb, cond, ℕ, zero, suc, ◌+◌, ◌-◌, ◌*◌, ◌<◌, ◌≤◌, ◌^◌, Bool, true, false, List, [], ◌∷◌, ◌++◌, length, map, take, Option, Some, None}
-use Rattle.std.specs.Prelude.{Result, Ok, Err, OnOk, is_err, not, ◌||◌, ◌==◌, nat_lt, slice_index, slice_get, MatchBool}
+use Rattle.std.proofs.Common.{◌≡◌, refl, sym, ap, subst, ◌∙◌, arith, eqb, cond, ℕ, suc, ◌+◌, ◌<◌, ◌≤◌, ◌^◌, Bool, true, false, List, [], ◌∷◌, length, map}
+use Rattle.std.specs.Prelude.{Result, Ok, Err, not, ◌==◌, nat_lt, slice_index, MatchBool}
 use Rattle.std.proofs.lemmas.Bool.{eqb-false, eqb-true, ltb-false}
-use Rattle.std.specs.List.{AllByRecursion}
-use Rattle.satl_base.specs.declared.block.Block.{Block}
 use Rattle.satl_base.specs.declared.reply.Reply.{Reply}
 use Rattle.satl_base.specs.declared.reply.Scsi.TheVariants as statuses
 use Rattle.satl_base.specs.declared.request.Request.{Request}
 use Rattle.satl_base.specs.Fields.{bits}
 use Rattle.satl_base.specs.Lists.{is_in}
-use Rattle.satl_cdb.specs.declared.command.Form.TheVariants.{Ten}
 use Rattle.satl_cdb.specs.declared.command.Command.{Command}
 use Rattle.satl_cdb.specs.declared.command.Command.TheVariants as cdbs
 use Rattle.satl_cdb.specs.declared.command.Illegal.{Illegal}
 use Rattle.satl_cdb.specs.Refusals.{invalid_field}
-use Rattle.satl_cdb.specs.Rows.{Rule, found_says, format_of, unless_broken}
+use Rattle.satl_cdb.specs.Rows.{found_says, format_of, unless_broken}
 use Rattle.satl_cdb.specs.BlockCommands.{read, ten, transfer_rules, write}
 use Rattle.satl_cdb.specs.Table.{says, table}
-use Rattle.satl_identify.specs.declared.identity.Identity.{Identity}
 use Rattle.satl_identify.specs.Refusals.{IsIdentity}
 use Rattle.satl_identify.proofs.Judging.{capacity_bounds}
-use Rattle.satl_line.specs.declared.entry.Entry.{Entry}
 use Rattle.satl_line.specs.Tasks.{Held, entries_of, is_too_much, total_blocks}
 use Rattle.satl_drive.specs.State.{DriveState}
-use Rattle.satl_direct.specs.Device.{Device, data_out, task_of}
-use Rattle.satl_direct.specs.Senses.{link_lost, not_ready, out_of_range, refusal, short_data, unknown_operation, unknown_unit}
+use Rattle.satl_direct.specs.Device.{task_of}
+use Rattle.satl_direct.specs.Senses.{out_of_range, refusal, short_data, unknown_operation, unknown_unit}
 use Rattle.satl_direct.specs.Arrival as direct
 use Rattle.satl_direct.specs.Arrival.{Arrival, ArrivesAs, Arrives, answered, waits, arrival, built, cdb_arrival, command_arrival, held_blocks, held_by, is_full, is_unit_0, needed, range_of, task_for}
 use Rattle.satl_core.specs.declared.submitting.AtOnce.{AtOnce}

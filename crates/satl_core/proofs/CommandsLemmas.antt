@@ -1,19 +1,17 @@
 -- What commands may be run, and what IDENTIFY DEVICE does.
-use Rattle.std.proofs.Common.{◌≡◌, refl, sym, ap, subst, arith, ◌∙◌, ℕ, ◌+◌, ◌≤◌, true, false, List, [], ◌∷◌, length, drop, map}
+use Rattle.std.proofs.Common.{◌≡◌, refl, sym, ap, subst, arith, ◌∙◌, ℕ, ◌≤◌, true, false, List, [], length, map}
 use Rattle.satl_base.specs.declared.block.Block.{Block}
 use Rattle.satl_base.specs.Lists.{is_in}
-use Rattle.satl_base.specs.Cells.{Cell}
 use Rattle.satl_base.specs.Losses.{Loses}
 use Rattle.satl_base.proofs.LossesLemmas.{loses-nows}
 use Rattle.satl_cdb.specs.declared.command.Command.{Command}
-use Rattle.satl_cdb.specs.declared.command.Command.TheVariants as cdbs
 use Rattle.satl_regs.specs.declared.values.Registers.{Registers}
 use Rattle.satl_regs.specs.declared.values.Taskfile.{Taskfile}
 use Rattle.satl_regs.specs.declared.values.AtaCommand.{AtaCommand}
 use Rattle.satl_regs.specs.declared.values.AtaCommand.TheVariants as commands
 use Rattle.satl_regs.specs.declared.values.How.TheVariants.{DmaExt}
 use Rattle.satl_regs.specs.Commands.{command_in}
-use Rattle.satl_regs.specs.Spelling.{command_registers, CommandFits}
+use Rattle.satl_regs.specs.Spelling.{command_registers}
 use Rattle.satl_regs.specs.QueuedCommands.{queued_codes}
 use Rattle.satl_regs.specs.Effects.{Medium, Does, is_built, own_blocks, pairs_of, IsIdentified}
 use Rattle.satl_drive.specs.State.{DriveState, medium_of, with_medium}

@@ -1,13 +1,12 @@
 -- The tasks of the layer and their pages.
-use Rattle.std.proofs.Common.{◌≡◌, refl, sym, ap, subst, ◌∙◌, arith, ℕ, zero, suc, ◌+◌, ◌-◌, ◌*◌, ◌<◌, ◌≤◌, Bool, true, false, cond, List, [], ◌∷◌, ◌++◌, length, map, Option, Some, None}
-use Rattle.std.specs.Prelude.{Result, Ok, Err, OnOk, is_err, remove, slice_get, ◌||◌, ◌==◌, nat_lt}
-use Rattle.std.specs.Option.{option_map}
+use Rattle.std.proofs.Common.{◌≡◌, refl, sym, ap, subst, ◌∙◌, arith, ℕ, suc, ◌+◌, Bool, false, List, [], ◌∷◌, ◌++◌, length, Some}
+use Rattle.std.specs.Prelude.{Result, Ok, Err, OnOk, is_err, remove, slice_get}
 use Rattle.std.specs.List.{AllByRecursion}
-use Rattle.satl_base.specs.declared.block.Block.{Block}
 use Rattle.satl_base.specs.declared.reply.Reply.{Reply}
 use Rattle.satl_line.specs.declared.entry.Entry.{Entry}
-use Rattle.satl_line.specs.Tasks.{Held, change_at, entries_of, entry_at, is_too_much, total_blocks, with_body}
-use Rattle.satl_line.proofs.SlotsLemmas.{total-append}
+use Rattle.satl_identify.specs.declared.identity.Identity.{Identity}
+use Rattle.satl_line.specs.Kinds.{kind_of}
+use Rattle.satl_line.specs.Tasks.{Held, change_at, entry_at, total_blocks}
 use Rattle.satl_core.specs.declared.turning.Ending.TheVariants as endings
 use Rattle.satl_direct.specs.Senses.{link_lost}
 use Rattle.satl_core.specs.Layer.{IsExpectable, IsKept, IsTransfer, held_pages, reply_pages}
@@ -16,9 +15,10 @@ use Rattle.satl_core.specs.Turning.{ended_reply, lost_replies}
 -- ---- the first task
 
 -- a task is kept, whatever its slot
-pub record IsKeptEntry (capacity : ℕ) (e : Entry) : Type 0 where
+pub record IsKeptEntry (identity : Identity) (e : Entry) : Type 0 where
   pub pages : length e.body ≡ e.blocks
-  pub transfer : IsTransfer capacity e.command e.blocks
+  pub transfer : IsTransfer identity.capacity e.command e.blocks
+  pub kind : e.kind ≡ kind_of e.command identity.queued_trim
   pub expected : IsExpectable e.expected
 
 -- the first task is this one, and the others are these
@@ -42,10 +42,10 @@ first_all P tasks rest entry all first =
     let both : P first.held.entry × AllByRecursion (λ h. P h.entry) rest = subst (λ x. AllByRecursion (λ h. P h.entry) x) first.are all in
     (subst P first.entry_is both.0, both.1)
 
-pub first_kept : (capacity : ℕ) (tasks rest : List Held) (entry : Entry) → AllByRecursion (IsKept capacity) tasks → IsFirst tasks entry rest → IsKeptEntry capacity entry × AllByRecursion (IsKept capacity) rest
-first_kept capacity tasks rest entry all first =
-    let both : IsKept capacity first.held × AllByRecursion (IsKept capacity) rest = subst (λ x. AllByRecursion (IsKept capacity) x) first.are all in
-    (subst (IsKeptEntry capacity) first.entry_is (record { pages = both.0.pages; transfer = both.0.transfer; expected = both.0.expected }), both.1)
+pub first_kept : (identity : Identity) (tasks rest : List Held) (entry : Entry) → AllByRecursion (IsKept identity) tasks → IsFirst tasks entry rest → IsKeptEntry identity entry × AllByRecursion (IsKept identity) rest
+first_kept identity tasks rest entry all first =
+    let both : IsKept identity first.held × AllByRecursion (IsKept identity) rest = subst (λ x. AllByRecursion (IsKept identity) x) first.are all in
+    (subst (IsKeptEntry identity) first.entry_is (record { pages = both.0.pages; transfer = both.0.transfer; kind = both.0.kind; expected = both.0.expected }), both.1)
 
 app-assoc : {X : Type 0} (xs ys zs : List X) → (xs ++ ys) ++ zs ≡ xs ++ (ys ++ zs)
 app-assoc [] ys zs = refl
@@ -76,11 +76,11 @@ held-append [] ys = omega arith
 held-append (x ∷ xs) ys = let rest = held-append xs ys in omega (arith, rest)
 
 -- tasks hold as many pages as blocks
-pub held_is : (capacity : ℕ) (tasks : List Held) → AllByRecursion (IsKept capacity) tasks → held_pages tasks ≡ total_blocks tasks
-held_is capacity [] all = refl
-held_is capacity (h ∷ tasks) all =
+pub held_is : (identity : Identity) (tasks : List Held) → AllByRecursion (IsKept identity) tasks → held_pages tasks ≡ total_blocks tasks
+held_is identity [] all = refl
+held_is identity (h ∷ tasks) all =
     let here = all.0.pages in
-    let rest = held_is capacity tasks all.1 in
+    let rest = held_is identity tasks all.1 in
     omega (arith, here, rest)
 
 pub reply_pages-append : (xs ys : List Reply) → reply_pages (xs ++ ys) ≡ reply_pages xs + reply_pages ys

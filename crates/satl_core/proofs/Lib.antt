@@ -1,7 +1,9 @@
 pub mod AddingLemmas
 pub mod ArrivalLemmas
 pub mod CommandsLemmas
+pub mod DeviceLemmas
 pub mod HeldLemmas
 pub mod OpeningLemmas
+pub mod ServedLemmas
 pub mod Transfers
 pub mod TurningLemmas

@@ -1,10 +1,8 @@
 -- What opening the layer gives.
-use Rattle.std.proofs.Common.{◌≡◌, refl, sym, ap, subst, ◌∙◌, ℕ, true, false, List, [], ◌∷◌, drop, map}
+use Rattle.std.proofs.Common.{◌≡◌, refl, sym, ap, ◌∙◌, ℕ, true, false, List, [], map}
 use Rattle.std.specs.Prelude.{Result, Ok, slice_index_or}
 use Rattle.satl_base.specs.declared.block.Block.{Block}
 use Rattle.satl_base.specs.declared.modes.Modes.{Modes}
-use Rattle.satl_base.specs.Cells.{AreSound}
-use Rattle.satl_base.specs.Identify.{cache_is_on, capacity}
 use Rattle.satl_base.proofs.LossesLemmas.{loses-nows, loses-sound}
 use Rattle.satl_identify.specs.declared.identity.Identity.{Identity}
 use Rattle.satl_identify.specs.declared.identity.IdentityFault.{IdentityFault}
@@ -12,7 +10,7 @@ use Rattle.satl_identify.specs.Refusals.{identity_of}
 use Rattle.satl_identify.proofs.Judging.{unbroken}
 use Rattle.satl_line.specs.Tasks.{Held}
 use Rattle.satl_drive.specs.State.{DriveState, IsFit}
-use Rattle.satl_core.specs.Layer.{Layer, Tied}
+use Rattle.satl_core.specs.Layer.{Tied}
 use Rattle.satl_core.specs.Opening.{IsOpened, IsTold}
 
 pub told_nows : (old new : DriveState) (given taken : List Block) → IsTold old given taken new → map (λ c. c.now) new.cells ≡ map (λ c. c.now) old.cells

@@ -1,5 +1,5 @@
 -- READ and WRITE are the commands that transfer.
-use Rattle.std.proofs.Common.{◌≡◌, subst, sym, arith, ℕ, ◌+◌, ◌*◌, ◌≤◌, Bool}
+use Rattle.std.proofs.Common.{arith, ℕ, ◌*◌, ◌≤◌, Bool}
 use Rattle.satl_cdb.specs.declared.command.Form.{Form}
 use Rattle.satl_cdb.specs.declared.command.Command.{Command}
 use Rattle.satl_cdb.specs.declared.command.Command.TheVariants as cdbs

@@ -1,6 +1,6 @@
 -- What a turn leaves of a drive, and the answers to tasks.
-use Rattle.std.proofs.Common.{◌≡◌, ⊎_elim, refl, sym, ap, subst, ◌∙◌, arith, ℕ, ◌+◌, ◌*◌, ◌≤◌, true, false, Bool, List, [], ◌∷◌, ◌++◌, length}
-use Rattle.std.specs.Prelude.{MatchBool, MatchOption, nat_lt, Option, Some, None, ◌⊎◌}
+use Rattle.std.proofs.Common.{◌≡◌, ⊎_elim, refl, sym, ap, subst, ◌∙◌, arith, ℕ, ◌+◌, ◌≤◌, true, false, Bool, List, [], ◌∷◌, ◌++◌, length}
+use Rattle.std.specs.Prelude.{MatchBool, MatchOption, nat_lt, Some, None, ◌⊎◌}
 use Rattle.std.specs.List.{AllByRecursion}
 use Rattle.satl_base.specs.declared.block.Block.{Block}
 use Rattle.satl_base.specs.declared.reply.Reply.{Reply}
@@ -10,7 +10,6 @@ use Rattle.satl_cdb.specs.declared.command.Command.{Command}
 use Rattle.satl_cdb.specs.declared.command.Command.TheVariants as cdbs
 use Rattle.satl_regs.specs.declared.values.Registers.{Registers}
 use Rattle.satl_regs.specs.declared.values.Taskfile.{Taskfile}
-use Rattle.satl_regs.specs.declared.values.AtaCommand.{AtaCommand}
 use Rattle.satl_regs.specs.declared.values.How.TheVariants.{DmaExt}
 use Rattle.satl_regs.specs.Commands.{command_in}
 use Rattle.satl_regs.specs.Effects.{Medium, Transfer, Carries, Does, IsCarriedOut, IsFlawed, IsGarbled, IsRefused, idnf, reading, writing}
@@ -18,15 +17,15 @@ use Rattle.satl_drive.specs.State.{DriveState, medium_of}
 use Rattle.satl_drive.specs.Rules.{IsRun, IsRunCutOff}
 use Rattle.satl_frame.specs.Output.{IsWritable}
 use Rattle.satl_sense.specs.declared.sense.Sense.{Sense}
+use Rattle.satl_identify.specs.declared.identity.Identity.{Identity}
 use Rattle.satl_line.specs.declared.entry.Entry.{Entry}
 use Rattle.satl_line.specs.Tasks.{Held}
-use Rattle.satl_line.proofs.SlotsLemmas.{All-append}
-use Rattle.satl_direct.specs.Senses.{link_lost}
+use Rattle.satl_core.specs.declared.turning.Ending.{Ending}
 use Rattle.satl_core.specs.declared.turning.Ending.TheVariants as endings
 use Rattle.satl_core.specs.Layer.{IsExpectable, IsKept, IsTransfer, reply_pages}
-use Rattle.satl_core.proofs.HeldLemmas.{app-none}
+use Rattle.satl_core.proofs.HeldLemmas.{IsKeptEntry, app-none}
 use Rattle.satl_core.proofs.Transfers.{of_transfer, transfer_few}
-use Rattle.satl_core.specs.Turning.{Stays, ata_command, ended_reply, lost_replies}
+use Rattle.satl_core.specs.Turning.{Stays, ata_command, data_in, ended_reply, lost_replies, read_pages}
 
 -- a transfer leaves the cache on or off
 carries_cache : (r : Registers) (t : Transfer) (old : Medium) (given : List Block) (ended : Taskfile) (taken : List Block) (new : Medium) → Carries r t old given ended taken new → new.cache ≡ old.cache
@@ -73,18 +72,31 @@ pub lost_pages : (descriptor : Bool) (tasks : List Held) → reply_pages (lost_r
 lost_pages descriptor [] = refl
 lost_pages descriptor (h ∷ tasks) = let rest = lost_pages descriptor tasks in omega (arith, rest)
 
-pub lost_writable : (descriptor : Bool) (capacity : ℕ) (tasks : List Held) → AllByRecursion (IsKept capacity) tasks → AllByRecursion IsWritable (lost_replies descriptor tasks)
-lost_writable descriptor capacity [] all = tt
-lost_writable descriptor capacity (h ∷ tasks) all = (record { holds = omega arith; short = omega arith; expected = all.0.expected }, lost_writable descriptor capacity tasks all.1)
+pub lost_writable : (descriptor : Bool) (identity : Identity) (tasks : List Held) → AllByRecursion (IsKept identity) tasks → AllByRecursion IsWritable (lost_replies descriptor tasks)
+lost_writable descriptor identity [] all = tt
+lost_writable descriptor identity (h ∷ tasks) all = (record { holds = omega arith; short = omega arith; expected = all.0.expected }, lost_writable descriptor identity tasks all.1)
 
 pub checked_writable : (entry : Entry) (sense : Sense) (descriptor : Bool) → IsExpectable entry.expected → IsWritable (ended_reply entry (endings.Check sense) descriptor)
 checked_writable entry sense descriptor expected = record { holds = omega arith; short = omega arith; expected = expected }
 
-pub kept_few : (capacity : ℕ) (tasks : List Held) → AllByRecursion (IsKept capacity) tasks → AllByRecursion (λ h. length h.entry.body ≤ 4096) tasks
-kept_few capacity [] all = tt
-kept_few capacity (h ∷ tasks) all =
-    let few = transfer_few capacity h.entry.blocks h.entry.command all.0.transfer in
-    (omega (arith, all.0.pages, few), kept_few capacity tasks all.1)
+read_few : (command : Command) (body : List Block) → length (read_pages command body) ≤ length body
+read_few (cdbs.Read form lba count fua) body = omega arith
+read_few _ body = omega arith
+
+data_few : (ending : Ending) (command : Command) (body : List Block) → length (data_in ending command body) ≤ length body
+data_few endings.Good command body = read_few command body
+data_few (endings.Check sense) command body = omega arith
+
+pub ended_writable : (entry : Entry) (ending : Ending) (descriptor : Bool) → length entry.body ≤ 4096 → IsExpectable entry.expected → IsWritable (ended_reply entry ending descriptor)
+ended_writable entry ending descriptor few expected =
+    let most = data_few ending entry.command entry.body in
+    record { holds = omega arith; short = omega (arith, most, few); expected = expected }
+
+pub kept_few : (identity : Identity) (tasks : List Held) → AllByRecursion (IsKept identity) tasks → AllByRecursion (λ h. length h.entry.body ≤ 4096) tasks
+kept_few identity [] all = tt
+kept_few identity (h ∷ tasks) all =
+    let few = transfer_few identity.capacity h.entry.blocks h.entry.command all.0.transfer in
+    (omega (arith, all.0.pages, few), kept_few identity tasks all.1)
 
 -- a reply that was pushed and those behind it can be written
 pub all_writable : (given pushed all more : List Reply) (r : Reply) → given ≡ [] → pushed ≡ given ++ r ∷ [] → all ≡ pushed ++ more → IsWritable r → AllByRecursion IsWritable more → AllByRecursion IsWritable all
@@ -92,3 +104,13 @@ all_writable given pushed all more r none push is one rest = rw (is, push, none)
 
 pub all_pages : (given pushed all more : List Reply) (r : Reply) → given ≡ [] → pushed ≡ given ++ r ∷ [] → all ≡ pushed ++ more → reply_pages all ≡ length r.body + reply_pages more
 all_pages given pushed all more r none push is = rw (is, push, none) refl
+
+-- the one reply to a task that ends
+pub one_writable : (given all : List Reply) (r : Reply) (entry : Entry) (ending : Ending) (descriptor : Bool) → given ≡ [] → all ≡ given ++ r ∷ [] → r ≡ ended_reply entry ending descriptor → length entry.body ≤ 4096 → IsExpectable entry.expected → AllByRecursion IsWritable all
+one_writable given all r entry ending descriptor none push is few expected = all_writable given all all [] r none push (sym (app-none all)) (subst IsWritable (sym is) (ended_writable entry ending descriptor few expected)) tt
+
+pub one_pages : (given all : List Reply) (r : Reply) → given ≡ [] → all ≡ given ++ r ∷ [] → reply_pages all ≡ length r.body
+one_pages given all r none push = let whole = all_pages given all all [] r none push (sym (app-none all)) in omega (arith, whole)
+
+pub entry_few : (identity : Identity) (entry : Entry) → IsKeptEntry identity entry → length entry.body ≤ 4096
+entry_few identity entry kept = let few = transfer_few identity.capacity entry.blocks entry.command kept.transfer in omega (arith, few, kept.pages)

@@ -8,7 +8,7 @@ use Rattle.satl_cdb.specs.declared.command.Command.{Command}
 use Rattle.satl_cdb.specs.declared.command.Command.TheVariants.{Read, Write}
 use Rattle.satl_identify.specs.declared.identity.Identity.{Identity}
 use Rattle.satl_identify.specs.Refusals.{IsIdentity}
-use Rattle.satl_line.specs.declared.entry.Entry.{Entry}
+use Rattle.satl_line.specs.Kinds.{kind_of}
 use Rattle.satl_line.specs.Tasks.{Held, entries_of}
 use Rattle.satl_pages.specs.Counts.{Counts, number_of}
 use Rattle.satl_drive.specs.State.{DriveState, IsFit}
@@ -40,10 +40,11 @@ IsTransfer capacity _ blocks = ⊥
 abbrev pub IsExpectable : Option ℕ → Type 0
 IsExpectable expected = IfSome expected (λ count. count ≤ 2097152)
 
--- a task holds as many pages as blocks, and goes over its range of the drive
-pub record IsKept (capacity : ℕ) (h : Held) : Type 0 where
+-- a task holds as many pages as blocks, goes over its range of the drive, and is of the kind of its command
+pub record IsKept (identity : Identity) (h : Held) : Type 0 where
   pub pages : length h.entry.body ≡ h.entry.blocks
-  pub transfer : IsTransfer capacity h.entry.command h.entry.blocks
+  pub transfer : IsTransfer identity.capacity h.entry.command h.entry.blocks
+  pub kind : h.entry.kind ≡ kind_of h.entry.command identity.queued_trim
   pub expected : IsExpectable h.entry.expected
 
 -- the direct device that the layer and its drive are
@@ -79,5 +80,5 @@ reply_pages (r ∷ rs) = length r.body + reply_pages rs
 pub record IsSoundLayer (identity : Identity) (tasks : List Held) (pool : Counts) : Type 0 where
   pub held : held_pages tasks ≤ pool.out
   pub all : number_of pool ≡ 32960
-  pub kept : AllByRecursion (IsKept identity.capacity) tasks
+  pub kept : AllByRecursion (IsKept identity) tasks
   pub identity_is : IsIdentity identity

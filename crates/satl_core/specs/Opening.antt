@@ -1,9 +1,8 @@
 -- What opening the layer gives (SAT-3 8.1, IDENTIFY DEVICE; profile).
-use Rattle.std.specs.Prelude.{◌≡◌, ℕ, ◌∷◌, Bool, true, false, List, [], drop, map, Ok, Err}
+use Rattle.std.specs.Prelude.{◌≡◌, ◌∷◌, true, false, List, [], drop, Ok, Err}
 use Rattle.satl_base.specs.declared.block.Block.{Block}
 use Rattle.satl_base.specs.Losses.{Loses}
 use Rattle.satl_io.specs.Causes.{Rose}
-use Rattle.satl_identify.specs.declared.identity.Identity.{Identity}
 use Rattle.satl_identify.specs.Refusals.{identity_of}
 use Rattle.satl_drive.specs.State.{DriveState}
 use Rattle.satl_core.specs.declared.satl.OpenFault.{OpenFault}

@@ -1,21 +1,27 @@
 -- How the layer ends a task.
-use Rattle.std.specs.Prelude.{◌≡◌, ℕ, ◌*◌, Bool, true, false, if◌then◌else◌, List, [], ◌∷◌, length, map}
+use Rattle.std.specs.Prelude.{◌≡◌, ◌⊎◌, ℕ, ◌*◌, ◌==◌, not, Bool, true, false, if◌then◌else◌, List, [], length, map, MatchBool, bit_and}
+use Rattle.std.specs.List.{AllByRecursion}
 use Rattle.satl_base.specs.declared.block.Block.{Block}
 use Rattle.satl_base.specs.declared.reply.Reply.{Reply}
 use Rattle.satl_base.specs.declared.reply.Scsi.{Scsi}
 use Rattle.satl_base.specs.declared.reply.Scsi.TheVariants as statuses
 use Rattle.satl_cdb.specs.declared.command.Command.{Command}
 use Rattle.satl_cdb.specs.declared.command.Command.TheVariants.{Read, Write}
+use Rattle.satl_sense.specs.declared.sense.Sense.{Sense}
 use Rattle.satl_sense.specs.Descriptor.{descriptor_form}
 use Rattle.satl_sense.specs.Fixed.{fixed_form}
 use Rattle.satl_line.specs.declared.entry.Entry.{Entry}
 use Rattle.satl_regs.specs.declared.values.AtaCommand.{AtaCommand}
+use Rattle.satl_regs.specs.declared.values.Taskfile.{Taskfile}
+use Rattle.satl_regs.specs.Spelling.{command_registers}
 use Rattle.satl_regs.specs.declared.values.AtaCommand.TheVariants as commands
 use Rattle.satl_regs.specs.declared.values.How.TheVariants.{DmaExt}
 use Rattle.satl_line.specs.Tasks.{Held}
-use Rattle.satl_direct.specs.Senses.{link_lost}
+use Rattle.satl_direct.specs.Device.{Device}
+use Rattle.satl_direct.specs.Senses.{crc_error, link_lost, not_ready, out_of_range, plain, read_error, write_error}
 use Rattle.satl_base.specs.Cells.{AreSound}
 use Rattle.satl_drive.specs.State.{DriveState}
+use Rattle.satl_drive.specs.Rules.{IsRun, IsRunCutOff}
 use Rattle.satl_core.specs.declared.turning.Ending.{Ending}
 use Rattle.satl_core.specs.declared.turning.Ending.TheVariants as endings
 
@@ -65,3 +71,59 @@ pub record Stays (old new : DriveState) : Type 0 where
   pub cache : new.cache ≡ old.cache
   pub idle : new.outstanding ≡ []
   pub sound : AreSound new.cells
+
+-- a WRITE whose data are to be on the medium at its end (SBC-3 5.31, FUA)
+abbrev pub asks_fua : Command → Bool
+asks_fua (Write form lba count fua) = fua
+asks_fua _ = false
+
+-- no write has to go past the cache: it is off, or no WRITE asks for FUA, which WRITE DMA EXT has not (ACS-3 7.62)
+abbrev pub AreUnforced : Device → Type 0
+AreUnforced s = (s.modes.wce ≡ false) ⊎ AllByRecursion (λ t. asks_fua t.command ≡ false) s.tasks
+
+-- whether a bit of a register is set, by its mask
+abbrev pub is_set : ℕ → ℕ → Bool
+is_set mask register = not (bit_and register mask == 0)
+
+-- the medium error of a command at a flawed address: WRITE ERROR, or UNRECOVERED READ ERROR (SPC-4 4.5.6; of a WRITE: profile)
+abbrev pub flaw_sense : Command → ℕ → Sense
+flaw_sense (Write form lba count fua) at = write_error at
+flaw_sense _ at = read_error at
+
+-- ABORTED COMMAND (SPC-4 4.5.6)
+abbrev pub aborted : Sense
+aborted = plain 0xB 0x00 0x00
+
+-- how a task ends by the end of its command: done where STATUS has no ERR; else the first that is set in ERROR tells why, ICRC,
+-- UNC, or IDNF, and without them it was aborted (SAT-3 11, error mapping; ACS-3 6.2)
+abbrev pub ending_of : Command → Taskfile → Ending
+ending_of command ended =
+    if not (is_set 0x01 ended.status) then endings.Good
+    else if is_set 0x80 ended.error then endings.Check crc_error
+    else if is_set 0x40 ended.error then endings.Check (flaw_sense command ended.lba)
+    else if is_set 0x10 ended.error then endings.Check out_of_range
+    else endings.Check aborted
+
+-- a task ends with this sense, and the drive is not asked
+pub record IsUnasked (sense : Sense) (old : DriveState) (ending : Ending) (new : DriveState) : Type 0 where
+  pub sensed : ending ≡ endings.Check sense
+  pub stays : new ≡ old
+
+-- the drive carried the command of a task out, and the task ends by the end of the command
+pub record IsCarried (command : Command) (old : DriveState) (given : List Block) (ending : Ending) (taken : List Block) (new : DriveState) : Type 0 where
+  pub ended : Taskfile
+  pub run : IsRun old (command_registers (ata_command command)) given ended taken new
+  pub by_end : ending ≡ ending_of command ended
+
+-- how the task ends whose turn it is: the first that holds decides, a lost link, a unit that is stopped, and the drive
+abbrev pub TaskEnds : Bool → Bool → Command → DriveState → List Block → Ending → List Block → DriveState → Type 0
+TaskEnds down started command old given ending taken new =
+    MatchBool down (IsUnasked link_lost old ending new)
+    (MatchBool (not started) (IsUnasked not_ready old ending new)
+    (IsCarried command old given ending taken new))
+
+-- the link was lost while the command of a task was under way, at a unit that is started
+pub record IsLostInTask (down started : Bool) (command : Command) (old : DriveState) (given : List Block) (new : DriveState) : Type 0 where
+  pub was_up : down ≡ false
+  pub was_started : started ≡ true
+  pub cut : IsRunCutOff old (command_registers (ata_command command)) given new

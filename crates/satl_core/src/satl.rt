@@ -4,9 +4,13 @@ ghost use Rattle.std.specs.List.{AllByRecursion};
 ghost use Rattle.satl_drive.specs.State.{IsFit};
 ghost use Rattle.satl_frame.specs.Output.{IsWritable};
 ghost use Rattle.satl_direct.specs.Arrival.{Arrives, held_blocks};
+ghost use Rattle.satl_direct.specs.Quiet.{Around};
+ghost use Rattle.satl_direct.specs.Run.{MayLose};
+ghost use Rattle.satl_direct.specs.Turn.{Turn};
 ghost use Rattle.satl_core.specs.Layer.{IsTransfer, Tied, reply_pages, view};
 ghost use Rattle.satl_core.specs.Opening.{IsCause, IsOpened};
 ghost use Rattle.satl_core.specs.Submitting.{Becomes, CanSubmit, judged};
+ghost use Rattle.satl_core.specs.Turning.{AreUnforced};
 
 use crate::commands::tell_identity;
 use crate::submitting::{AtOnce, answer_at_once, judge, own_pages, task_without_pages};
@@ -123,6 +127,7 @@ impl Satl {
         requires empty { replies.old ≡ [] }
         requires tied { Tied self.old (D.state drive.old) }
         ensures arrives { Arrives request (view self.old (D.state drive.old)) replies.new (view self.new (D.state drive.new)) }
+        ensures around { Around (MayLose (Arrives request)) (view self.old (D.state drive.old)) replies.new (view self.new (D.state drive.new)) }
         ensures drive { drive.new ≡ drive.old }
         ensures tied { Tied self.new (D.state drive.new) }
         ensures pages { self.new.out ≡ reply_pages replies.new }
@@ -176,6 +181,7 @@ impl Satl {
         requires empty { replies.old ≡ [] }
         requires all_in { self.old.out ≡ 0 }
         requires tied { Tied self.old (D.state drive.old) }
+        ensures turns { AreUnforced (view self.old (D.state drive.old)) → Around Turn (view self.old (D.state drive.old)) replies.new (view self.new (D.state drive.new)) }
         ensures tied { Tied self.new (D.state drive.new) }
         ensures pages { self.new.out ≡ reply_pages replies.new }
         ensures writable { AllByRecursion IsWritable replies.new }

@@ -10,7 +10,7 @@ ghost use Rattle.satl_regs.specs.Spelling.{command_registers};
 ghost use Rattle.satl_direct.specs.Senses;
 ghost use Rattle.satl_core.specs.Layer.{IsTransfer, held_pages};
 ghost use Rattle.satl_core.specs.Turning;
-ghost use Rattle.satl_core.specs.Turning.{Stays, ata_command, ended_reply, lost_replies};
+ghost use Rattle.satl_core.specs.Turning.{IsLostInTask, Stays, TaskEnds, ata_command, ended_reply, lost_replies};
 
 use crate::arrival::plain;
 use arrayvec::ArrayVec;
@@ -85,6 +85,8 @@ pub fn run_task<D: Drive, L: Ledger>(
     ensures stays { Stays (D.state drive.old) (D.state drive.new) }
     ensures up { OnOk result ((D.state drive.new).down ≡ down) }
     ensures lost { OnErr result ((D.state drive.new).down ≡ true) }
+    ensures ends { IfOk result (λ ending. TaskEnds down started command.now (D.state drive.old) body.old ending body.new (D.state drive.new)) }
+    ensures cut { OnErr result (IsLostInTask down started command.now (D.state drive.old) body.old (D.state drive.new)) }
     ensures size { length body.new ≡ length body.old }
     ensures fit { IsFit (D.state drive.old) → IsFit (D.state drive.new) }
     ensures step { steps.new ≤ steps.old + 1 }
@@ -124,7 +126,9 @@ pub fn lose_tasks(tasks: &mut TaskSet, pool: &mut Pool, descriptor: bool, replie
 
 /// How a task ends by the end of its command: GOOD, or by the first bit that is set in ERROR, a CRC error, a medium error at
 /// the address, an address out of range, or an abort (SAT-3 11; for the address and a WRITE: profile).
-pub fn ending_of(command: &Command, ended: &Taskfile) -> Ending {
+pub fn ending_of(command: &Command, ended: &Taskfile) -> Ending
+    ensures { result ≡ Turning.ending_of command.now ended.now }
+{
     if ended.status & 0x01 == 0 {
         return Ending::Good;
     }
@@ -140,7 +144,9 @@ pub fn ending_of(command: &Command, ended: &Taskfile) -> Ending {
     Ending::Check(plain(0xB, 0x00, 0x00))
 }
 
-fn medium_error(command: &Command, lba: u64) -> Sense {
+fn medium_error(command: &Command, lba: u64) -> Sense
+    ensures { result ≡ Turning.flaw_sense command.now lba }
+{
     let (asc, ascq) = match command {
         Command::Write { .. } => (0x0C, 0x02),
         _ => (0x11, 0x00),

@@ -1,4 +1,4 @@
-use Rattle.satl_core.proofs.CommandsLemmas.{can_identify, told_of, cut_of}
+use Rattle.satl_core.proofs.CommandsLemmas.{can_identify}
 use Rattle.satl_core.proofs.commands.tell_identity.Goals as goal
 
 -- src/commands.rt:27:11

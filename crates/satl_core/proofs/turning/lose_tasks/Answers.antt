@@ -2,7 +2,7 @@ use Rattle.std.proofs.Common.{◌≤◌, refl, arith, ap, ◌∙◌, length, ◌
 use Rattle.satl_core.specs.Turning.{data_in, ended_reply}
 use Rattle.satl_base.specs.declared.reply.Reply.{Reply}
 use Rattle.satl_line.specs.declared.entry.Entry.{Entry}
-use Rattle.satl_core.proofs.HeldLemmas.{app-none, first_all, first_count, first_lost, first_of, first_pages, none_left, pushed}
+use Rattle.satl_core.proofs.HeldLemmas.{first_all, first_count, first_lost, first_of, first_pages, pushed}
 use Rattle.satl_core.proofs.turning.lose_tasks.Goals as goal
 
 pub loop-preserved : goal.loop-preserved

@@ -1,10 +1,11 @@
-use Rattle.std.proofs.Common.{◌≡◌, ◌≤◌, ◌+◌, ◌*◌, ◌⊎◌, ⊎_elim, refl, sym, ap, subst, arith, ◌∙◌, ◌-◌, Some, false, length}
+use Rattle.std.proofs.Common.{◌≡◌, ⊎_elim, refl, sym, ap, subst, arith, ◌∙◌, ◌-◌, Some, false}
 use Rattle.satl_line.specs.declared.entry.Entry.{Entry}
+use Rattle.satl_line.specs.Kinds.{kind_of}
 use Rattle.satl_line.specs.Tasks.{is_too_much}
 use Rattle.satl_direct.specs.Arrival.{held_blocks}
 use Rattle.satl_core.specs.Layer.{IsExpectable, IsTransfer, Layer, held_pages}
 use Rattle.satl_core.proofs.ArrivalLemmas.{long_enough}
-use Rattle.satl_core.specs.Submitting.{Becomes, task_without_pages}
+use Rattle.satl_core.specs.Submitting.{Becomes}
 use Rattle.satl_core.proofs.HeldLemmas.{held_is, on_ok}
 use Rattle.satl_core.proofs.Transfers.{transfer_needs}
 use Rattle.satl_core.proofs.AddingLemmas.{HasPages, becomes_added, count_with, given_pages, held_with, kept_with, last_body, tasks_with, total_with}
@@ -15,7 +16,7 @@ own_pages-body-requires-clause-room c =
     let adds = on_ok c.add.result _ (sym c.is_err.ensures.value ∙ c.if-is_err.false) c.add.ensures.ok in
     let total = total_with c.self.inside.tasks c.add.new.self c.task_without_pages-task.result adds in
     let blocks = ap (λ (e : Entry). e.blocks) c.task_without_pages-task.ensures in
-    let held = held_is c.self.inside.identity.capacity c.self.inside.tasks c.self.invariant.kept in
+    let held = held_is c.self.inside.identity c.self.inside.tasks c.self.invariant.kept in
     let view = ap (λ (l : Layer). l.out) c.self.view_is in
     omega (arith, total, blocks, held, view, c.len-place.ensures.blocks, c.self.invariant.all, c.self.invariant.held, c.requires.can.pages)
 
@@ -45,9 +46,10 @@ invariant_of-self-2 c =
     record {
       held = omega (arith, held, view, c.self.invariant.held, c.requires.can.pages, c.own_pages-body.ensures.size, c.own_pages-body.ensures.out);
       all = omega (arith, view, c.self.invariant.held, c.self.invariant.all, c.requires.can.pages, c.own_pages-body.ensures.free, c.own_pages-body.ensures.out);
-      kept = kept_with c.self.inside.identity.capacity c.self.inside.tasks c.put_data.new.self c.task_without_pages-task.result c.own_pages-body.result c.self.invariant.kept
+      kept = kept_with c.self.inside.identity c.self.inside.tasks c.put_data.new.self c.task_without_pages-task.result c.own_pages-body.result c.self.invariant.kept
           (c.own_pages-body.ensures.size ∙ sym (ap (λ (e : Entry). e.blocks) task))
           (subst (λ (e : Entry). IsTransfer c.self.inside.identity.capacity e.command e.blocks) (sym task) transfer)
+          (subst (λ (e : Entry). e.kind ≡ kind_of e.command c.self.inside.identity.queued_trim) (sym task) refl)
           (subst (λ (e : Entry). IsExpectable e.expected) (sym task) c.requires.can.expected) has;
       identity_is = c.self.invariant.identity_is;
     }

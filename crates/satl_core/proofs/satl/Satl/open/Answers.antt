@@ -1,4 +1,4 @@
-use Rattle.std.proofs.Common.{◌≡◌, sym, ap, ◌∙◌, arith}
+use Rattle.std.proofs.Common.{sym, ap, ◌∙◌, arith}
 use Rattle.satl_core.specs.Layer.{held_pages}
 use Rattle.satl_core.proofs.CommandsLemmas.{cut_nows}
 use Rattle.satl_core.proofs.OpeningLemmas.{judged_as_told, opened, told_nows}

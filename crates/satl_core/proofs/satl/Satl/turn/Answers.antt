@@ -1,18 +1,83 @@
-use Rattle.std.proofs.Common.{◌≡◌, ◌≤◌, ◌+◌, arith, sym, ap, subst, ◌∙◌, length}
+use Rattle.std.proofs.Common.{◌-◌, arith, refl, sym, ap, subst, ◌∙◌, length, map}
 use Rattle.satl_base.specs.declared.reply.Reply.{Reply}
 use Rattle.satl_frame.specs.Output.{IsWritable}
 use Rattle.satl_line.specs.declared.entry.Entry.{Entry}
-use Rattle.satl_core.specs.Layer.{Layer, held_pages}
-use Rattle.satl_core.specs.Turning.{data_in, ended_reply, lost_replies}
+use Rattle.satl_line.specs.Tasks.{entries_of}
+use Rattle.satl_direct.specs.Device.{task_of}
+use Rattle.satl_direct.specs.Quiet.{Around}
+use Rattle.satl_direct.specs.Turn.{Turn}
+use Rattle.satl_core.specs.Layer.{Layer, Tied, held_pages, view}
+use Rattle.satl_core.specs.Turning.{AreUnforced, data_in, ended_reply, lost_replies}
 use Rattle.satl_direct.specs.Senses.{link_lost}
-use Rattle.satl_core.proofs.HeldLemmas.{IsFirst, first_all, first_count, first_kept, first_of, first_pages, pushed}
-use Rattle.satl_core.proofs.TurningLemmas.{all_pages, all_writable, checked_writable, kept_few, lost_pages, lost_writable}
+use Rattle.satl_core.proofs.DeviceLemmas.{idle_around, seen}
+use Rattle.satl_core.proofs.HeldLemmas.{first_count, first_kept, first_of, first_pages, none_left, pushed}
+use Rattle.satl_core.proofs.ServedLemmas.{turn_ends, turn_loses}
+use Rattle.satl_core.proofs.TurningLemmas.{all_pages, all_writable, checked_writable, entry_few, kept_few, lost_pages, lost_writable, one_pages, one_writable}
 use Rattle.satl_core.proofs.satl.Satl.turn.Goals as goal
+
+pub returns-then-pending-eq0-clause-turns : goal.returns-then-pending-eq0-clause-turns
+returns-then-pending-eq0-clause-turns g c = λ _.
+    idle_around _ _ c.args.replies.now (ap (λ t. map task_of (entries_of t)) (none_left c.args.self.now.tasks (sym c.pending.ensures.count ∙ c.if-pending-eq0.true))) c.requires.empty refl
+
+pub end_task-requires-clause-few : goal.end_task-requires-clause-few
+end_task-requires-clause-few g c =
+    let first = first_of c.self.inside.tasks c.remove-task.new.self c.remove-task.result c.remove-task.ensures.value c.remove-task.ensures.others in
+    let kept = first_kept c.self.inside.identity c.self.inside.tasks c.remove-task.new.self c.remove-task.result c.self.invariant.kept first in
+    let few = entry_few c.self.inside.identity c.remove-task.result kept.0 in
+    omega (arith, few, c.run_task.ensures.size)
+
+pub invariant_of-self : goal.invariant_of-self
+invariant_of-self g c =
+    let first = first_of c.self.inside.tasks c.remove-task.new.self c.remove-task.result c.remove-task.ensures.value c.remove-task.ensures.others in
+    let held = first_pages c.self.inside.tasks c.remove-task.new.self c.remove-task.result first in
+    record {
+      held = omega (arith, held, c.self.invariant.held, c.run_task.ensures.size, c.end_task.ensures.out);
+      all = omega (arith, c.self.invariant.all, c.end_task.ensures.out, c.end_task.ensures.free);
+      kept = (first_kept c.self.inside.identity c.self.inside.tasks c.remove-task.new.self c.remove-task.result c.self.invariant.kept first).1;
+      identity_is = c.self.invariant.identity_is;
+    }
+
+pub returns-in-Ok-clause-turns : goal.returns-in-Ok-clause-turns
+returns-in-Ok-clause-turns g c =
+    let first = first_of c.self.inside.tasks c.remove-task.new.self c.remove-task.result c.remove-task.ensures.value c.remove-task.ensures.others in
+    let old = g.D.Drive.state c.args.drive.now in
+    let new = g.D.Drive.state c.run_task.new.drive in
+    subst (λ (l : Layer). AreUnforced (view l old) → Around Turn (view l old) c.push.new.self (seen c.self.inside.identity c.self.inside.modes c.self.inside.started (map task_of (entries_of c.remove-task.new.self)) new)) c.self.view_is
+    (λ free.
+    turn_ends c.self.inside.identity c.self.inside.modes c.self.inside.started c.self.inside.down c.self.inside.tasks c.remove-task.new.self c.self.inside.pool.free (c.self.inside.pool.out - held_pages c.self.inside.tasks) c.remove-task.result old new c.self.invariant.kept first
+    (subst (λ (l : Layer). Tied l old) (sym c.self.view_is) c.requires.tied) free c.in-Ok.ending c.run_task.new.body c.args.replies.now c.push.new.self c.end_task.result c.in-Ok.ensures.ends c.requires.empty c.push.ensures c.end_task.ensures.reply)
+
+pub returns-in-Ok-clause-pages : goal.returns-in-Ok-clause-pages
+returns-in-Ok-clause-pages g c =
+    let first = first_of c.self.inside.tasks c.remove-task.new.self c.remove-task.result c.remove-task.ensures.value c.remove-task.ensures.others in
+    let held = first_pages c.self.inside.tasks c.remove-task.new.self c.remove-task.result first in
+    let pages = one_pages c.args.replies.now c.push.new.self c.end_task.result c.requires.empty c.push.ensures in
+    let view = ap (λ (l : Layer). l.out) c.self.view_is in
+    omega (arith, held, pages, view, c.requires.all_in, c.self.invariant.held, c.run_task.ensures.size, c.end_task.ensures.out)
+
+pub returns-in-Ok-clause-writable : goal.returns-in-Ok-clause-writable
+returns-in-Ok-clause-writable g c =
+    let first = first_of c.self.inside.tasks c.remove-task.new.self c.remove-task.result c.remove-task.ensures.value c.remove-task.ensures.others in
+    let kept = first_kept c.self.inside.identity c.self.inside.tasks c.remove-task.new.self c.remove-task.result c.self.invariant.kept first in
+    let few = entry_few c.self.inside.identity c.remove-task.result kept.0 in
+    let task : Entry = record c.remove-task.result { body = c.run_task.new.body } in
+    one_writable c.args.replies.now c.push.new.self c.end_task.result task c.in-Ok.ending c.self.inside.modes.d_sense c.requires.empty c.push.ensures c.end_task.ensures.reply (omega (arith, few, c.run_task.ensures.size)) kept.0.expected
+
+pub returns-in-Err-clause-turns : goal.returns-in-Err-clause-turns
+returns-in-Err-clause-turns g c =
+    let first = first_of c.self.inside.tasks c.remove-task.new.self c.remove-task.result c.remove-task.ensures.value c.remove-task.ensures.others in
+    let old = g.D.Drive.state c.args.drive.now in
+    let new = g.D.Drive.state c.run_task.new.drive in
+    subst (λ (l : Layer). AreUnforced (view l old) → Around Turn (view l old) c.lose_tasks.new.replies (seen c.self.inside.identity c.self.inside.modes c.self.inside.started (map task_of (entries_of c.lose_tasks.new.tasks)) new)) c.self.view_is
+    (λ free.
+    turn_loses c.self.inside.identity c.self.inside.modes c.self.inside.started c.self.inside.down c.self.inside.tasks c.remove-task.new.self c.self.inside.pool.free (c.self.inside.pool.out - held_pages c.self.inside.tasks) c.remove-task.result old new c.self.invariant.kept first
+    (subst (λ (l : Layer). Tied l old) (sym c.self.view_is) c.requires.tied) free c.link_lost.result c.run_task.new.body c.args.replies.now c.push-in-Err.new.self c.lose_tasks.new.replies c.end_task-in-Err.result c.lose_tasks.new.tasks c.lose_tasks.ensures.none c.in-Err.ensures.cut c.requires.empty c.push-in-Err.ensures
+    c.lose_tasks.ensures.answers c.end_task-in-Err.ensures.reply c.link_lost.ensures)
 
 pub lose_tasks-requires-clause-few : goal.lose_tasks-requires-clause-few
 lose_tasks-requires-clause-few g c =
     let first = first_of c.self.inside.tasks c.remove-task.new.self c.remove-task.result c.remove-task.ensures.value c.remove-task.ensures.others in
-    kept_few c.self.inside.identity.capacity c.remove-task.new.self (first_kept c.self.inside.identity.capacity c.self.inside.tasks c.remove-task.new.self c.remove-task.result c.self.invariant.kept first).1
+    kept_few c.self.inside.identity c.remove-task.new.self (first_kept c.self.inside.identity c.self.inside.tasks c.remove-task.new.self c.remove-task.result c.self.invariant.kept first).1
 
 pub lose_tasks-requires-clause-room : goal.lose_tasks-requires-clause-room
 lose_tasks-requires-clause-room g c =
@@ -37,8 +102,8 @@ returns-in-Err-clause-pages g c =
 pub returns-in-Err-clause-writable : goal.returns-in-Err-clause-writable
 returns-in-Err-clause-writable g c =
     let first = first_of c.self.inside.tasks c.remove-task.new.self c.remove-task.result c.remove-task.ensures.value c.remove-task.ensures.others in
-    let kept = first_kept c.self.inside.identity.capacity c.self.inside.tasks c.remove-task.new.self c.remove-task.result c.self.invariant.kept first in
+    let kept = first_kept c.self.inside.identity c.self.inside.tasks c.remove-task.new.self c.remove-task.result c.self.invariant.kept first in
     let task : Entry = record c.remove-task.result { body = c.run_task.new.body } in
     all_writable c.args.replies.now c.push-in-Err.new.self c.lose_tasks.new.replies (lost_replies c.self.inside.modes.d_sense c.remove-task.new.self) c.end_task-in-Err.result c.requires.empty c.push-in-Err.ensures c.lose_tasks.ensures.answers
     (subst IsWritable (sym (c.end_task-in-Err.ensures.reply ∙ ap (λ e. ended_reply task e c.self.inside.modes.d_sense) c.link_lost.ensures)) (checked_writable task link_lost c.self.inside.modes.d_sense kept.0.expected))
-    (lost_writable c.self.inside.modes.d_sense c.self.inside.identity.capacity c.remove-task.new.self kept.1)
+    (lost_writable c.self.inside.modes.d_sense c.self.inside.identity c.remove-task.new.self kept.1)
