@@ -1,5 +1,6 @@
 -- A request becomes the last task.
-use Rattle.std.proofs.Common.{◌≡◌, refl, sym, ap, subst, ◌∙◌, arith, ℕ, suc, ◌+◌, Bool, false, List, [], ◌∷◌, ◌++◌, length, map, take, Some}
+use Rattle.std.proofs.Common.{◌≡◌, refl, sym, ap, subst, ◌∙◌, arith, ℕ, zero, suc, ◌+◌, ◌*◌, ◌≤◌, Bool, true, false, List, [], ◌∷◌, ◌++◌, length, map, take, Some}
+use Rattle.std.specs.Prelude.{MatchBool}
 use Rattle.std.specs.Option.{option_map}
 use Rattle.std.specs.List.{AllByRecursion}
 use Rattle.satl_base.specs.declared.block.Block.{Block}
@@ -12,9 +13,11 @@ use Rattle.satl_line.specs.Kinds.{kind_of}
 use Rattle.satl_line.specs.Tasks.{Adds, Held, change_at, entries_of, entry_at, is_too_much, total_blocks, with_body}
 use Rattle.satl_line.proofs.SlotsLemmas.{All-append, total-append}
 use Rattle.satl_direct.specs.Device.{data_out, task_of}
-use Rattle.satl_direct.specs.Arrival.{held_blocks}
+use Rattle.satl_direct.specs.Arrival.{held_blocks, needed}
 use Rattle.satl_core.specs.Layer.{IsExpectable, IsKept, IsTransfer, Layer, held_pages}
-use Rattle.satl_core.specs.Submitting.{Becomes, IsAdded, task_without_pages}
+use Rattle.satl_core.specs.Submitting.{Becomes, IsAdded, IsAnswered, task_without_pages}
+use Rattle.satl_core.specs.declared.submitting.AtOnce.TheVariants as at_once
+use Rattle.satl_core.proofs.Transfers.{of_transfer}
 use Rattle.satl_core.proofs.HeldLemmas.{held-append, last_at, last_changed, length-push}
 
 -- the blocks of all tasks with one more
@@ -65,3 +68,31 @@ tasks_with old new r c queued_trim body same h =
 
 pub becomes_added : (r : Request) (c : Command) (old : Layer) (replies : List Reply) (new : Layer) → is_too_much old.tasks (task_without_pages r c old.identity.queued_trim) ≡ false → IsAdded r c old replies new → Becomes r c old replies new
 becomes_added r c old replies new fits added = rw fits added
+
+take_take : {X : Type 0} (m n : ℕ) (xs : List X) → m ≤ length (take n xs) → take m (take n xs) ≡ take m xs
+take_take zero n xs h = refl
+take_take (suc m) zero xs h = absurd (omega (arith, h))
+take_take (suc m) (suc n) [] h = refl
+take_take (suc m) (suc n) (x ∷ xs) h = ap (λ l. x ∷ l) (take_take m n xs (omega (arith, h)))
+
+-- the data-out of a task is that of the whole request
+whole_data : (capacity n count : ℕ) (c : Command) (body : List Block) → IsTransfer capacity c n → needed c ≤ 512 * length (take count body) → data_out c (take (held_blocks c) (take count body)) ≡ data_out c (take (held_blocks c) body)
+whole_data capacity n count c body t long =
+    of_transfer (λ c. needed c ≤ 512 * length (take count body) → data_out c (take (held_blocks c) (take count body)) ≡ data_out c (take (held_blocks c) body)) capacity n c (λ form lba blocks fua t long. refl)
+    (λ form lba blocks fua t long. take_take blocks count body (omega (arith, long))) t long
+
+-- what becomes of a request is what becomes of the whole one
+pub becomes_whole : (w r : Request) (count capacity : ℕ) (c : Command) (old : Layer) (replies : List Reply) (new : Layer) → r ≡ record w { body = take count w.body } → IsTransfer capacity c (held_blocks c) → (replies ≡ [] → needed c ≤ 512 * length r.body)
+    → Becomes r c old replies new → Becomes w c old replies new
+becomes_whole w r count capacity c old replies new is t long b =
+    (elim (is_too_much old.tasks (task_without_pages w c old.identity.queued_trim)) as (λ f. MatchBool f (IsAnswered cut at_once.Full old replies new) (IsAdded cut c old replies new) → MatchBool f (IsAnswered w at_once.Full old replies new) (IsAdded w c old replies new)) [
+      | true ↦ λ a. record { reply = a.reply; stays = a.stays }
+      | false ↦ λ a. record {
+        none = a.none;
+        last = a.last ∙ ap (λ b. map task_of (entries_of old.tasks) ++ record (task_without_pages w c old.identity.queued_trim) { body = b } ∷ []) (whole_data capacity (held_blocks c) count c w.body t (subst (λ (x : Request). needed c ≤ 512 * length x.body) is (long a.none)));
+        stays = a.stays;
+      }
+    ]) (subst (λ x. Becomes x c old replies new) is b)
+  where
+    cut : Request
+    cut = record w { body = take count w.body }

@@ -26,6 +26,11 @@ pub record CanSubmit (r : Request) (free out : ℕ) : Type 0 where
   pub all : (r.data_len ≤ 512 * length r.body) ⊎ (free ≡ 0)
   pub expected : IsExpectable r.expected
 
+-- a request with no more of its pages than were free
+pub record IsCutOf (whole cut : Request) : Type 0 where
+  pub count : ℕ
+  pub cut_is : cut ≡ record whole { body = take count whole.body }
+
 -- the task that a request becomes, without its pages
 abbrev pub task_without_pages : Request → Command → Bool → Entry
 task_without_pages r command queued_trim = record {

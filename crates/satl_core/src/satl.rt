@@ -1,21 +1,23 @@
 // The layer: what it holds, how it is opened, and the pages that it lends.
-ghost use Rattle.std.specs.Prelude.{◌≡◌, ◌≤◌, ◌+◌, ◌-◌, ◌<◌, ◌↔◌, [], Ok, IfOk, IfErr, IfSome, IfNone, IsNone, OnSome, map, length};
-ghost use Rattle.std.specs.List.{AllByRecursion};
+ghost use Rattle.std.specs.Prelude.{◌≡◌, ◌≤◌, ◌+◌, ◌-◌, ◌<◌, ◌↔◌, ◌*◌, [], Ok, is_some, IfOk, IfErr, IfSome, IfNone, IsNone, OnSome, map, length};
+ghost use Rattle.std.specs.List.{AllByRecursion, position_from};
+ghost use Rattle.satl_base.specs.declared.request.Request.{Request};
+ghost use Rattle.satl_line.specs.Tasks.{is_named};
 ghost use Rattle.satl_drive.specs.State.{IsFit};
 ghost use Rattle.satl_frame.specs.Output.{IsWritable};
-ghost use Rattle.satl_direct.specs.Arrival.{Arrives, held_blocks};
+ghost use Rattle.satl_direct.specs.Arrival.{Arrives, held_blocks, needed};
 ghost use Rattle.satl_direct.specs.Quiet.{Around};
 ghost use Rattle.satl_direct.specs.Run.{MayLose};
 ghost use Rattle.satl_direct.specs.Turn.{Turn};
 ghost use Rattle.satl_core.specs.Layer.{IsTransfer, Tied, reply_pages, view};
 ghost use Rattle.satl_core.specs.Opening.{IsCause, IsOpened};
-ghost use Rattle.satl_core.specs.Submitting.{Becomes, CanSubmit, judged};
+ghost use Rattle.satl_core.specs.Submitting.{Becomes, CanSubmit, IsCutOf, judged};
 ghost use Rattle.satl_core.specs.Turning.{AreUnforced};
 
 use crate::commands::tell_identity;
 use crate::submitting::{AtOnce, answer_at_once, judge, own_pages, task_without_pages};
 use crate::turning::{end_task, link_lost, lose_tasks, run_task};
-use satl_base::{Lender, Modes, NoMemory, Pages, Replies, Request, Steps};
+use satl_base::{Lender, Modes, Nexus, NoMemory, Pages, Replies, Request, Steps, Tag};
 use satl_cdb::Command;
 use satl_drive::{Drive, LinkDown};
 use satl_identify::{Identity, IdentityFault, read_identity};
@@ -115,7 +117,7 @@ impl Satl {
     }
 
     /// A command arrives: it is answered at once, or waits as a task. Its pages become the task's or are given back (SAM-5 5;
-    /// the order of the tests: profile).
+    /// the order of the tests: profile). Where no page was free for all of its data-out, it does what the whole request does.
     pub fn submit<D: Drive, L: Ledger>(
         &mut self,
         request: Request,
@@ -127,7 +129,7 @@ impl Satl {
         requires empty { replies.old ≡ [] }
         requires tied { Tied self.old (D.state drive.old) }
         ensures arrives { Arrives request (view self.old (D.state drive.old)) replies.new (view self.new (D.state drive.new)) }
-        ensures around { Around (MayLose (Arrives request)) (view self.old (D.state drive.old)) replies.new (view self.new (D.state drive.new)) }
+        ensures around { (whole : Request) → IsCutOf whole request → Around (MayLose (Arrives whole)) (view self.old (D.state drive.old)) replies.new (view self.new (D.state drive.new)) }
         ensures drive { drive.new ≡ drive.old }
         ensures tied { Tied self.new (D.state drive.new) }
         ensures pages { self.new.out ≡ reply_pages replies.new }
@@ -152,7 +154,8 @@ impl Satl {
         requires judged { judged self.old request ≡ Ok command }
         requires transfer { IsTransfer self.old.identity.capacity command (held_blocks command) }
         requires empty { replies.old ≡ [] }
-        ensures { Becomes request command self.old replies.new self.new }
+        ensures becomes { Becomes request command self.old replies.new self.new }
+        ensures long { replies.new ≡ [] → needed command ≤ 512 * length request.body }
     {
         let task = task_without_pages(&request, command, self.identity.queued_trim);
         if self.tasks.add(task).is_err() {
@@ -209,6 +212,13 @@ impl Satl {
                 lose_tasks(&mut self.tasks, &mut self.pool, descriptor, replies);
             }
         }
+    }
+
+    /// Whether a task of this nexus with this tag waits (SAM-5 4.7, I_T_L_Q nexus).
+    pub fn holds(&self, nexus: Nexus, tag: Tag) -> bool
+        ensures { result ≡ is_some (position_from (is_named nexus tag) 0 self.now.tasks) }
+    {
+        self.tasks.find(nexus, tag).is_some()
     }
 
     /// The number of tasks that wait, at most 64.

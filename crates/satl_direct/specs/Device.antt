@@ -1,9 +1,8 @@
 -- The direct device: a SCSI block device as a host sees it (SAM-5 4.6, logical unit; SBC-3 4).
-use Rattle.std.specs.Prelude.{◌≡◌, ℕ, ◌≤◌, ◌<◌, ◌==◌, Bool, ◌&&◌, List, [], ◌∷◌, length, map}
+use Rattle.std.specs.Prelude.{ℕ, ◌==◌, Bool, ◌&&◌, List, []}
 use Rattle.satl_base.specs.declared.block.Block.{Block}
 use Rattle.satl_base.specs.declared.modes.Modes.{Modes}
-use Rattle.satl_base.specs.declared.request.Tag.{Tag}
-use Rattle.satl_base.specs.Cells.{Cell, Pair}
+use Rattle.satl_base.specs.Cells.{Cell}
 use Rattle.satl_base.specs.Lists.{remove_first}
 use Rattle.satl_cdb.specs.declared.command.Command.{Command}
 use Rattle.satl_cdb.specs.declared.command.Command.TheVariants.{Read}

@@ -1,5 +1,5 @@
 -- How a task ends at its turn (SAT-3 11, error mapping; SBC-3 5).
-use Rattle.std.specs.Prelude.{◌≡◌, ◌⊎◌, ℕ, ◌*◌, not, ◌&&◌, Bool, true, false, List, [], ◌∷◌, Option, Some, None, MatchBool, length, if◌then◌else◌}
+use Rattle.std.specs.Prelude.{◌≡◌, ℕ, ◌*◌, not, Bool, true, List, [], Option, Some, None, MatchBool, length}
 use Rattle.satl_base.specs.declared.block.Block.{Block}
 use Rattle.satl_base.specs.declared.reply.Reply.{Reply}
 use Rattle.satl_base.specs.declared.reply.Scsi.{Scsi}

@@ -1,6 +1,6 @@
 -- What may change between the steps of the device without an answer (profile).
-use Rattle.std.specs.Prelude.{◌≡◌, ◌⊎◌, ◌&&◌, not, Bool, true, false, List, [], Option, Some, None}
-use Rattle.satl_base.specs.Cells.{Cell, Pair}
+use Rattle.std.specs.Prelude.{◌≡◌, ◌⊎◌, Bool, true, false, List, [], Option, Some, None}
+use Rattle.satl_base.specs.Cells.{Pair}
 use Rattle.satl_base.specs.Lists.{IsIn}
 use Rattle.satl_base.specs.Moves.{Moves}
 use Rattle.satl_line.specs.declared.entry.Entry.{Entry}

@@ -1,10 +1,9 @@
 -- The words of the modelled drive's IDENTIFY DEVICE data.
-use Rattle.std.proofs.Common.{◌≡◌, ◌≢◌, refl, sym, ◌∙◌, ap, subst, ℕ, ◌+◌, ◌*◌, ◌/◌, ◌%◌, ◌^◌, ◌<◌, ◌≤◌, zero, suc, Bool, true, false, List, [], ◌∷◌, arith, length, replicate, set, get_or, inl, inr, eq-eqb}
-use Rattle.std.specs.Prelude.{if◌then◌else◌, ◌==◌, ◌&&◌, nat_lt, slice_index, slice_set, IsTrue}
-use Rattle.std.specs.List.{list_all}
+use Rattle.std.proofs.Common.{◌≡◌, refl, sym, ◌∙◌, ap, subst, ℕ, ◌+◌, ◌*◌, ◌/◌, ◌%◌, ◌^◌, ◌<◌, ◌≤◌, Bool, true, false, List, [], ◌∷◌, arith, length, replicate, inl, inr, eq-eqb}
+use Rattle.std.specs.Prelude.{if◌then◌else◌, ◌==◌, ◌&&◌, nat_lt, slice_index, slice_set}
 use Rattle.std.proofs.lemmas.Bool.{cases_eq, ne_eqb, ltb-true}
 use Rattle.std.proofs.lemmas.List.{get_or-set_same, get_or-set_other, length-set, length-replicate, length-map}
-use Rattle.satl_base.specs.Identify.{word, word_bits, word_bit, four_words, capacity, has_cache, has_look, cache_is_on, look_is_on, has_trim, trim_blocks}
+use Rattle.satl_base.specs.Identify.{word, word_bits}
 use Rattle.satl_identify.specs.Data.{with_integrity, integrity_byte}
 use Rattle.satl_drive.specs.State.{IsFit}
 use Rattle.satl_disk.specs.Data.{Word, set_word, set_words, fixed_words, size_words, identify_data}

@@ -1,12 +1,11 @@
 -- What the modelled drive does keeps the rules of `run`.
-use Rattle.std.proofs.Common.{◌≡◌, ◌⊎◌, refl, sym, ◌∙◌, ap, subst, inl, inr, ℕ, ◌+◌, ◌<◌, ◌≤◌, zero, suc, Bool, true, false, List, [], ◌∷◌, ◌++◌, arith, length, take, Option, Some, None}
-use Rattle.std.specs.Prelude.{if◌then◌else◌, ◌==◌, ◌-◌, drop, nat_lt, MatchBool, MatchOption, IfOk, Ok}
+use Rattle.std.proofs.Common.{◌≡◌, ◌⊎◌, refl, sym, ◌∙◌, ap, subst, inl, inr, ℕ, ◌+◌, ◌<◌, ◌≤◌, zero, suc, Bool, true, false, List, ◌++◌, arith, length, take, Option, Some, None}
+use Rattle.std.specs.Prelude.{if◌then◌else◌, ◌==◌, ◌-◌, drop, MatchBool, MatchOption}
 use Rattle.std.proofs.lemmas.Bool.{ltb-false}
 use Rattle.std.proofs.lemmas.List.{length-append, length-drop, length-map}
-use Rattle.circular_buffer.specs.Buffer.{buffer}
 use Rattle.satl_base.specs.declared.block.Block.{Block}
 use Rattle.satl_base.specs.declared.bench.Which.TheVariants as flaws
-use Rattle.satl_base.specs.Cells.{Cell, nows, whole, Part, pairs_from, first_flaw}
+use Rattle.satl_base.specs.Cells.{nows, whole, pairs_from, first_flaw}
 use Rattle.satl_base.specs.Losses.{Loses}
 use Rattle.satl_regs.specs.declared.values.Registers.{Registers}
 use Rattle.satl_regs.specs.declared.values.Taskfile.{Taskfile}
@@ -17,9 +16,8 @@ use Rattle.satl_regs.specs.Commands.{command_in}
 use Rattle.satl_regs.specs.Effects.{Medium, Does, Transfer, good_end, reading, writing, IsRefused, IsCarriedOut, IsGarbled, IsFlawed, idnf, is_built, own_blocks}
 use Rattle.satl_drive.specs.State.{DriveState, IsFit, medium_of, with_medium}
 use Rattle.satl_drive.specs.Rules.{CanRun, IsRun}
-use Rattle.satl_disk.specs.declared.sectors.Sector.{Sector}
 use Rattle.satl_disk.specs.Sectors.{cells_of, blocks_put, byte_of}
-use Rattle.satl_disk.specs.Disk.{Disk, Ran, state_of, is_outside, refused, garbled, read_clean, read_judged, read_ran, rest_of, torn, write_clean, write_judged, write_ran, identify_ran, ran}
+use Rattle.satl_disk.specs.Disk.{Disk, Ran, state_of, is_outside, refused, garbled, read_judged, read_ran, rest_of, torn, write_judged, write_ran, identify_ran, ran}
 use Rattle.satl_disk.proofs.SectorsLemmas.{cells_same, blocks_part, blocks_whole, blocks_put-length, nows-length}
 
 -- the drive's state with its number of sectors beside it

@@ -1,11 +1,11 @@
 -- What the sectors do, seen as cells.
-use Rattle.std.proofs.Common.{◌≡◌, refl, sym, ◌∙◌, ap, ⊎_elim, inl, inr, ℕ, ◌+◌, ◌<◌, ◌≤◌, zero, suc, Bool, true, false, List, [], ◌∷◌, ◌++◌, arith, length, map, take, get_or, Option, Some, None}
-use Rattle.std.specs.Prelude.{if◌then◌else◌, ◌==◌, ◌-◌, drop, slice_index_or, slice_range, slice_set}
+use Rattle.std.proofs.Common.{◌≡◌, refl, sym, ◌∙◌, ap, inl, inr, ℕ, ◌+◌, ◌<◌, ◌≤◌, zero, suc, Bool, true, false, List, [], ◌∷◌, ◌++◌, arith, length, map, take, get_or, Option, Some, None}
+use Rattle.std.specs.Prelude.{if◌then◌else◌, ◌-◌, drop, slice_index_or, slice_range, slice_set}
 use Rattle.std.proofs.lemmas.List.{take_more, length-drop, length-map, length-take, get_or-drop, get_or-map, map-append}
 use Rattle.satl_base.specs.declared.block.Block.{Block}
 use Rattle.satl_base.specs.declared.bench.Which.{Which}
 use Rattle.satl_base.specs.Lists.{IsIn, LeavesOut}
-use Rattle.satl_base.specs.Cells.{Cell, Pair, nows, put, put_at, change_at, whole, Part, pairs_from, has_flaw, first_set}
+use Rattle.satl_base.specs.Cells.{Cell, nows, put, put_at, change_at, whole, pairs_from, has_flaw, first_set}
 use Rattle.satl_base.specs.Losses.{Lost, Loses}
 use Rattle.satl_base.proofs.ListsLemmas.{leaves_none}
 use Rattle.satl_base.proofs.LossesLemmas.{PartLossy, part_after, loses_on, whole_loses}

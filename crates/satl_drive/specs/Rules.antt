@@ -1,5 +1,5 @@
 -- What a call of a drive does: each rule relates the drive before the call and after it (ACS-3; lost links: profile).
-use Rattle.std.specs.Prelude.{◌≡◌, ℕ, ◌+◌, ◌≤◌, Bool, true, false, List, [], length}
+use Rattle.std.specs.Prelude.{◌≡◌, ◌≤◌, true, false, List, [], length}
 use Rattle.satl_base.specs.declared.block.Block.{Block}
 use Rattle.satl_base.specs.Lists.{is_in}
 use Rattle.satl_base.specs.Cells.{Cell, Pair, Part}

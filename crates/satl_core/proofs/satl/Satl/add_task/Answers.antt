@@ -54,8 +54,8 @@ invariant_of-self-2 c =
       identity_is = c.self.invariant.identity_is;
     }
 
-pub returns : goal.returns
-returns c =
+pub returns-clause-becomes : goal.returns-clause-becomes
+returns-clause-becomes c =
     let full = sym c.add.ensures.full ∙ (sym c.is_err.ensures.value ∙ c.if-is_err.false) in
     let adds = on_ok c.add.result _ (sym c.is_err.ensures.value ∙ c.if-is_err.false) c.add.ensures.ok in
     let count = count_with c.self.inside.tasks c.add.new.self c.task_without_pages-task.result adds in
@@ -73,3 +73,6 @@ returns c =
       last = tasks_with c.self.inside.tasks c.put_data.new.self c.args.request c.args.command c.self.inside.identity.queued_trim c.own_pages-body.result c.own_pages-body.ensures.data (subst (λ (e : Entry). HasPages c.self.inside.tasks e c.own_pages-body.result c.put_data.new.self) task has);
       stays = ap (λ n. record layer { out = n }) none;
     }))
+
+pub returns-clause-long : goal.returns-clause-long
+returns-clause-long c = λ none. own_pages-body-requires-clause-written c.before.before.before

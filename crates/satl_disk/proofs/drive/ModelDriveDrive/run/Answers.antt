@@ -1,4 +1,4 @@
-use Rattle.satl_disk.proofs.RunLemmas.{run_keeps, run_keeps_fit, run_keeps_pages}
+use Rattle.satl_disk.proofs.RunLemmas.{run_keeps, run_keeps_fit}
 use Rattle.satl_disk.proofs.drive.ModelDriveDrive.run.Goals as goal
 
 pub returns-clause-ok : goal.returns-clause-ok
