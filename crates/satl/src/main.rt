@@ -1,0 +1,88 @@
+//! `satl replay`: framed commands on standard input, framed answers on standard output, over a modelled drive.
+#![tactic(auto)]
+
+ghost use Rattle.std.specs.Prelude.{◌≡◌, ◌<◌, [], OnOk};
+ghost use Rattle.satl_drive.specs.State.{IsFit};
+
+use satl_base::{NoMemory, Steps};
+use satl_disk::ModelDrive;
+use satl_drive::Bench;
+use satl_io::{Sink, Source, StdSink, StdSource};
+use satl_top::{Status, satl};
+use std::alloc::Global;
+use std::env;
+use std::io::BufReader;
+use std::marker::Brand;
+use std::process::ExitCode;
+use std::rc::RcStr;
+use std::sync::ledger::{Blank, Ledger};
+
+/// The sectors of the modelled drive.
+const SECTORS: u32 = 8192;
+
+/// How many bytes of standard input are read at once, at most.
+const INPUT_BUFFER: usize = 65536;
+
+/// Counts the drive calls, and forgets their number.
+fn counted<S: Source, K: Sink, D: Bench, L: Ledger>(
+    alloc: Global,
+    words: &[RcStr],
+    source: &mut S,
+    sink: &mut K,
+    drive: &mut D,
+    blank: Blank,
+) -> Status
+    requires idle { (D.state drive.old).outstanding ≡ [] }
+    requires fit { IsFit (D.state drive.old) }
+    requires name { blank.name ≡ L.name }
+    requires parts { blank.parts ≡ L.parts }
+    requires some { 0 < blank.parts }
+{
+    let mut steps = Steps::<L>::new(blank);
+    satl(alloc, words, source, sink, drive, &mut steps)
+}
+
+/// The words of the program. None where one is not UTF-8.
+fn words_of(rt: &HostRuntime) -> Result<Option<Vec<RcStr>>, NoMemory> {
+    let mut words = Vec::new(rt.alloc());
+    let Ok(given) = env::args(rt) else {
+        return Ok(None);
+    };
+    for word in given {
+        words.push(RcStr::from_string(word)?)?;
+    }
+    Ok(Some(words))
+}
+
+/// Replays standard input.
+fn replay(rt: &HostRuntime) -> Result<Status, NoMemory> {
+    let alloc = rt.alloc();
+    let Some(words) = words_of(rt)? else {
+        return Ok(Status::Usage);
+    };
+    let Ok(input) = BufReader::with_capacity(alloc, INPUT_BUFFER, rt.stdin()) else {
+        return Err(NoMemory);
+    };
+    let mut source = StdSource::new(input);
+    let mut sink = StdSink::new(rt.stdout());
+    let mut drive = ModelDrive::new(alloc, SECTORS)?;
+    Ok(counted::<_, _, _, Brand>(
+        alloc,
+        &words,
+        &mut source,
+        &mut sink,
+        &mut drive,
+        Blank::new(1),
+    ))
+}
+
+fn main(rt: HostRuntime) -> ExitCode {
+    let status = match replay(&rt) {
+        Ok(status) => status,
+        Err(NoMemory) => Status::NoMemory,
+    };
+    if status == Status::Usage {
+        let _ = eprintln!(rt; "usage: satl replay");
+    }
+    ExitCode::from(status.code())
+}

@@ -1,0 +1,65 @@
+// Inputs and outputs, built by frames.
+
+use std::alloc::{AllocError, Global};
+
+/// TURN by one.
+pub const TURN: [u8; 7] = [0x03, 0, 0, 0, 2, 0, 1];
+
+/// END, of an input and of an output.
+pub const END: [u8; 5] = [0x05, 0, 0, 0, 0];
+
+pub const ENDED: [u8; 5] = [0x85, 0, 0, 0, 0];
+
+/// A READ(10) or WRITE(10): its operation code, its tag, its address and the number of its blocks, each below 65,536.
+#[derive(Clone, Copy)]
+pub struct Transfer {
+    pub code: u8,
+    pub tag: u8,
+    pub lba: u16,
+    pub count: u16,
+}
+
+/// An input with its magic alone.
+pub fn input(alloc: Global) -> Result<Vec<u8>, AllocError> {
+    b"SATLRPL1".to_vec(alloc)
+}
+
+/// An output with its magic alone.
+pub fn output(alloc: Global) -> Result<Vec<u8>, AllocError> {
+    b"SATLRSP1".to_vec(alloc)
+}
+
+/// Appends a REQUEST, SIMPLE and to logical unit 0 from nexus 0, with this data-out.
+pub fn request(input: &mut Vec<u8>, transfer: Transfer, data: &[u8]) -> Result<(), AllocError> {
+    input.push(0x01)?;
+    input.extend_from_slice(&(data.len() as u32).wrapping_add(30).to_be_bytes())?;
+    input.extend_from_slice(&[0; 13])?;
+    input.push(transfer.tag)?;
+    input.extend_from_slice(&[transfer.code, 0, 0, 0])?;
+    input.extend_from_slice(&transfer.lba.to_be_bytes())?;
+    input.push(0)?;
+    input.extend_from_slice(&transfer.count.to_be_bytes())?;
+    input.extend_from_slice(&[0; 7])?;
+    input.extend_from_slice(data)
+}
+
+/// Appends a REPLY with GOOD and this data-in.
+pub fn good(output: &mut Vec<u8>, tag: u8, data: &[u8]) -> Result<(), AllocError> {
+    output.push(0x81)?;
+    output.extend_from_slice(&(data.len() as u32).wrapping_add(7).to_be_bytes())?;
+    output.extend_from_slice(&[0, 0, 0, 0, 0, tag, 0])?;
+    output.extend_from_slice(data)
+}
+
+/// Appends a REPLY with CHECK CONDITION and sense data in the fixed form.
+pub fn check(output: &mut Vec<u8>, tag: u8, key: u8, code: u8) -> Result<(), AllocError> {
+    output.extend_from_slice(&[0x81, 0, 0, 0, 25, 0, 2, 0, 0, 0, tag, 18])?;
+    output.extend_from_slice(&[0x70, 0, key, 0, 0, 0, 0, 10, 0, 0, 0, 0, code, 0, 0, 0, 0, 0])
+}
+
+/// A FAULT by its reason and offset.
+pub fn fault(alloc: Global, reason: u8, offset: u8) -> Result<Vec<u8>, AllocError> {
+    let mut output = output(alloc)?;
+    output.extend_from_slice(&[0x8F, 0, 0, 0, 9, reason, 0, 0, 0, 0, 0, 0, 0, offset])?;
+    Ok(output)
+}

@@ -1,0 +1,7 @@
+//! Replays whose bytes are known, as tests of the top call over the modelled drive of 8,192 sectors.
+#![tactic(auto)]
+
+#[cfg(test)]
+mod inputs;
+#[cfg(test)]
+mod tests;
