@@ -1,0 +1,4 @@
+pub mod Fields
+pub mod Transfers
+pub mod Reading
+pub mod Status

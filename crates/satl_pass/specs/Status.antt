@@ -1,0 +1,64 @@
+-- How an ATA command's end is told to a host (SAT-3 11 and 12.2).
+use Rattle.std.specs.Prelude.{ℕ, ◌==◌, Bool, List, [], ◌∷◌, Option, Some, None, if◌then◌else◌}
+use Rattle.satl_base.specs.Fields.{bits_of}
+use Rattle.satl_regs.specs.declared.values.Taskfile.{Taskfile}
+use Rattle.satl_regs.specs.Commands.{command_in}
+use Rattle.satl_sense.specs.declared.sense.AtaReturn.{AtaReturn}
+use Rattle.satl_sense.specs.declared.sense.Extra.{Extra}
+use Rattle.satl_sense.specs.declared.sense.Extra.TheVariants as extras
+use Rattle.satl_sense.specs.declared.sense.Sense.{Sense}
+use Rattle.satl_pass.specs.declared.pass.Pass.{Pass}
+use Rattle.satl_pass.specs.Transfers.{is_writing}
+
+-- a row of the table of errors: a bit of ERROR, and the sense key and the codes that stand for it
+pub record ErrorRow : Type 0 where
+  pub bit : ℕ
+  pub key : ℕ
+  pub asc : ℕ
+  pub ascq : ℕ
+
+-- ICRC, UNC, IDNF and ABRT (SAT-3 11; UNC of a command that writes, and IDNF: profile)
+abbrev pub error_table : Bool → List ErrorRow
+error_table writes =
+    record { bit = 7; key = 0x0B; asc = 0x47; ascq = 0x03 }
+    ∷ record { bit = 6; key = 0x03; asc = if writes then 0x0C else 0x11; ascq = if writes then 0x02 else 0x00 }
+    ∷ record { bit = 4; key = 0x05; asc = 0x21; ascq = 0x00 }
+    ∷ record { bit = 2; key = 0x0B; asc = 0x00; ascq = 0x00 }
+    ∷ []
+
+-- the first row whose bit of ERROR is 1; where none is, the command was aborted and no more is known (profile)
+abbrev pub first_error : List ErrorRow → ℕ → Extra → Sense
+first_error [] error extra = record { key = 0x0B; asc = 0x00; ascq = 0x00; extra = extra }
+first_error (row ∷ rows) error extra =
+    if bits_of row.bit row.bit error == 1 then record { key = row.key; asc = row.asc; ascq = row.ascq; extra = extra }
+    else first_error rows error extra
+
+-- the sense data of an error of a command that writes or does not
+unfoldable pub error_sense : Bool → ℕ → Extra → Sense
+error_sense writes error extra = first_error (error_table writes) error extra
+
+-- ERR of STATUS (ACS-3 6.3): the command ended with an error
+abbrev pub is_bad : Taskfile → Bool
+is_bad end = bits_of 0 0 end.status == 1
+
+-- ATA Status Return: the registers at the end, with the EXTEND of the command (SAT-3 12.2.2.6)
+abbrev pub ata_return : Pass → Taskfile → AtaReturn
+ata_return pass end = record {
+  extend = pass.extend;
+  error = end.error;
+  count = end.count;
+  lba = end.lba;
+  device = end.device;
+  status = end.status;
+}
+
+-- ATA PASS THROUGH INFORMATION AVAILABLE, under RECOVERED ERROR
+abbrev pub information_available : Extra → Sense
+information_available extra = record { key = 0x01; asc = 0x00; ascq = 0x1D; extra = extra }
+
+-- the sense data: those of the error at a bad end, the registers at a good one where CK_COND is 1, and else none
+abbrev pub status_sense : Pass → Taskfile → Option Sense
+status_sense pass end =
+    if is_bad end then Some (error_sense (is_writing (command_in pass.regs)) end.error (extras.Ata (ata_return pass end)))
+    else if pass.ck_cond then Some (information_available (extras.Ata (ata_return pass end)))
+    else None
