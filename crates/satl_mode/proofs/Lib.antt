@@ -1,0 +1,4 @@
+pub mod ChangeSteps
+pub mod PageSteps
+pub mod SelectSteps
+pub mod Unchanged

@@ -1,0 +1,5 @@
+pub mod ModePages
+pub mod Descriptors
+pub mod ModeData
+pub mod Changes
+pub mod SelectList

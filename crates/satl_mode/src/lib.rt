@@ -1,0 +1,18 @@
+//! Mode pages: what MODE SENSE answers, and what a MODE SELECT parameter list sets (SPC-4 7.5, SBC-3; the values that those
+//! leave open, and the refusals, are the profile's).
+#![tactic(auto)]
+
+mod bytes;
+mod change;
+mod descriptor;
+mod page;
+mod select;
+mod sense;
+
+pub use change::{apply, select_change};
+pub use satl_base::{ModeChange, Modes};
+pub use select::read_select;
+pub use sense::mode_sense;
+
+#[cfg(test)]
+mod tests;

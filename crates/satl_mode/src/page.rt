@@ -1,0 +1,127 @@
+// The mode pages.
+
+ghost use Rattle.std.specs.Prelude.{◌≡◌, ◌≤◌, ◌+◌};
+ghost use Rattle.satl_mode.specs.ModePages.{changeable, defaults, page_byte, page_coded, row_of, shown_by, size_of};
+
+use satl_base::Modes;
+use satl_identify::Identity;
+
+/// A mode page of the profile (SPC-4 7.5, SBC-3).
+#[derive(Clone, Copy, Debug, PartialEq, Eq)]
+pub enum ModePage {
+    ErrorRecovery,
+    Caching,
+    Control,
+    Exceptions,
+}
+
+/// What mode pages show.
+#[derive(Clone, Copy, Debug, PartialEq, Eq)]
+pub struct Shown {
+    /// The bits that no host can change are shown.
+    pub fixed: bool,
+    /// The bits that a host can change.
+    pub settings: Modes,
+}
+
+fn changeable(identity: &Identity) -> Modes
+    ensures { result ≡ changeable identity.now }
+{
+    Modes {
+        wce: identity.cache,
+        dra: identity.look,
+        d_sense: true,
+    }
+}
+
+fn defaults(identity: &Identity) -> Modes
+    ensures { result ≡ defaults identity.now }
+{
+    Modes {
+        wce: identity.cache,
+        dra: !identity.look,
+        d_sense: false,
+    }
+}
+
+/// What pages show by PC: 0 current values, 1 the bits that can change, else the default values.
+pub fn shown_by(control: u8, identity: &Identity, modes: &Modes) -> Shown
+    ensures { result ≡ shown_by control identity.now modes.now }
+{
+    match control {
+        0 => Shown {
+            fixed: true,
+            settings: *modes,
+        },
+        1 => Shown {
+            fixed: false,
+            settings: changeable(identity),
+        },
+        _ => Shown {
+            fixed: true,
+            settings: defaults(identity),
+        },
+    }
+}
+
+/// The page of a code.
+pub fn page_coded(code: u8) -> Option<ModePage>
+    ensures { result ≡ page_coded code }
+{
+    match code {
+        0x01 => Some(ModePage::ErrorRecovery),
+        0x08 => Some(ModePage::Caching),
+        0x0A => Some(ModePage::Control),
+        0x1C => Some(ModePage::Exceptions),
+        _ => None,
+    }
+}
+
+impl ModePage {
+    /// PAGE CODE.
+    fn code(self) -> u8
+        ensures { result ≡ (row_of self).code }
+    {
+        match self {
+            ModePage::ErrorRecovery => 0x01,
+            ModePage::Caching => 0x08,
+            ModePage::Control => 0x0A,
+            ModePage::Exceptions => 0x1C,
+        }
+    }
+
+    /// PAGE LENGTH: the bytes from byte 2 on.
+    pub fn length(self) -> u8
+        ensures value { result ≡ (row_of self).length }
+        ensures most { result ≤ 18 }
+    {
+        match self {
+            ModePage::ErrorRecovery | ModePage::Control | ModePage::Exceptions => 0x0A,
+            ModePage::Caching => 0x12,
+        }
+    }
+
+    /// The size in bytes.
+    pub fn size(self) -> usize
+        ensures value { result ≡ size_of self }
+        ensures least { 12 ≤ result }
+        ensures most { result ≤ 20 }
+    {
+        2 + usize::from(self.length())
+    }
+
+    /// The byte at a place.
+    pub fn byte(self, shown: &Shown, place: usize) -> u8
+        ensures { result ≡ page_byte self shown.now place }
+    {
+        match (self, place) {
+            (_, 0) => self.code(),
+            (_, 1) => self.length(),
+            (ModePage::ErrorRecovery, 2) => if shown.fixed { 0x80 } else { 0 },
+            (ModePage::Caching, 2) => if shown.settings.wce { 0x04 } else { 0 },
+            (ModePage::Caching, 12) => if shown.settings.dra { 0x20 } else { 0 },
+            (ModePage::Control, 2) => if shown.settings.d_sense { 0x04 } else { 0 },
+            _ => 0,
+        }
+    }
+}

@@ -1,0 +1,115 @@
+// MODE SENSE.
+
+ghost use Rattle.std.specs.Prelude.{◌≡◌, ◌≤◌, ◌+◌, ◌++◌, IsTrue, length};
+ghost use Rattle.arrayvec.specs.ArrayVec.{array_vec_len};
+ghost use Rattle.satl_mode.specs.Descriptors.{descriptor_bytes};
+ghost use Rattle.satl_mode.specs.ModePages.{page_bytes, pages_bytes, size_of};
+ghost use Rattle.satl_mode.specs.ModeData.{header, is_mode_sense, long_lba_bit, mode_data, pages_asked, with_header};
+
+use crate::bytes::append;
+use crate::descriptor::Descriptor;
+use crate::page::{ModePage, Shown, page_coded, shown_by};
+use arrayvec::ArrayVec;
+use satl_base::Modes;
+use satl_cdb::Command;
+use satl_identify::Identity;
+
+/// DPOFUA: DPO and FUA are allowed (SBC-3, mode parameter header).
+const DPOFUA: u8 = 0x10;
+
+fn append_page(text: &mut ArrayVec<u8, 64>, page: ModePage, shown: &Shown)
+    requires { array_vec_len text.old + size_of page ≤ 64 }
+    ensures items { text.new.items ≡ text.old.items ++ page_bytes page shown.now }
+    ensures len { array_vec_len text.new ≡ array_vec_len text.old + size_of page }
+{
+    for place in 0..page.size() {
+        text.push(page.byte(shown, place));
+    }
+}
+
+fn pages_of(code: u8, shown: &Shown) -> ArrayVec<u8, 64>
+    ensures { result.items ≡ pages_bytes (pages_asked code) shown.now }
+{
+    let mut text = ArrayVec::new();
+    if code == 0x3F {
+        append_page(&mut text, ModePage::ErrorRecovery, shown);
+        append_page(&mut text, ModePage::Caching, shown);
+        append_page(&mut text, ModePage::Control, shown);
+        append_page(&mut text, ModePage::Exceptions, shown);
+    } else if let Some(page) = page_coded(code) {
+        append_page(&mut text, page, shown);
+    }
+    text
+}
+
+fn long_lba_bit(descriptor: Descriptor) -> u8
+    ensures { result ≡ long_lba_bit descriptor }
+{
+    match descriptor {
+        Descriptor::Absent | Descriptor::Short => 0,
+        Descriptor::Long => 1,
+    }
+}
+
+fn append_header(text: &mut ArrayVec<u8, 128>, ten: bool, descriptor: Descriptor, rest: u8)
+    requires empty { array_vec_len text.old ≡ 0 }
+    requires rest { rest ≤ 80 }
+    ensures items { text.new.items ≡ text.old.items ++ header ten descriptor rest }
+    ensures len { array_vec_len text.new ≤ 8 }
+{
+    let size = descriptor.size();
+    if ten {
+        append(
+            text,
+            &[0, 6 + rest, 0, DPOFUA, long_lba_bit(descriptor), 0, 0, size],
+        );
+    } else {
+        append(text, &[3 + rest, 0, DPOFUA, size]);
+    }
+}
+
+fn with_header(ten: bool, descriptor: Descriptor, rest: &[u8]) -> ArrayVec<u8, 128>
+    requires { length rest.now ≤ 80 }
+    ensures { result.items ≡ with_header ten descriptor rest.now }
+{
+    let mut text = ArrayVec::new();
+    append_header(&mut text, ten, descriptor, rest.len() as u8);
+    append(&mut text, rest);
+    text
+}
+
+fn data_of(descriptor: Descriptor, capacity: u64, code: u8, shown: &Shown) -> ArrayVec<u8, 80>
+    ensures { result.items ≡ descriptor_bytes descriptor capacity ++ pages_bytes (pages_asked code) shown.now }
+{
+    let mut text = ArrayVec::new();
+    append(&mut text, &descriptor.bytes(capacity));
+    append(&mut text, &pages_of(code, shown));
+    text
+}
+
+/// The data of a MODE SENSE, before they are cut to its allocation length: header, block descriptor and pages (SPC-4, MODE
+/// SENSE commands and 7.5).
+#[tactic(auto, unfolding(crate::specs::ModeData::mode_data))]
+pub fn mode_sense(identity: &Identity, modes: &Modes, command: &Command) -> ArrayVec<u8, 128>
+    requires { IsTrue (is_mode_sense command.now) }
+    ensures { result.items ≡ mode_data identity.now modes.now command.now }
+{
+    let Command::ModeSense {
+        ten,
+        long_lba,
+        no_descriptor,
+        control,
+        page,
+        ..
+    } = *command
+    else {
+        unreachable!();
+    };
+    let descriptor = Descriptor::shown(ten, long_lba, no_descriptor);
+    let shown = shown_by(control, identity, modes);
+    with_header(
+        ten,
+        descriptor,
+        &data_of(descriptor, identity.capacity, page, &shown),
+    )
+}
