@@ -1,4 +1,5 @@
 // Inputs and outputs, built by frames.
+ghost use Rattle.std.specs.Prelude.{◌≤◌, length};
 
 use std::alloc::{AllocError, Global};
 
@@ -30,9 +31,11 @@ pub fn output(alloc: Global) -> Result<Vec<u8>, AllocError> {
 }
 
 /// Appends a REQUEST, SIMPLE and to logical unit 0 from nexus 0, with this data-out.
-pub fn request(input: &mut Vec<u8>, transfer: Transfer, data: &[u8]) -> Result<(), AllocError> {
+pub fn request(input: &mut Vec<u8>, transfer: Transfer, data: &[u8]) -> Result<(), AllocError>
+    requires { length data.now ≤ 2097152 }
+{
     input.push(0x01)?;
-    input.extend_from_slice(&(data.len() as u32).wrapping_add(30).to_be_bytes())?;
+    input.extend_from_slice(&(data.len() as u32 + 30).to_be_bytes())?;
     input.extend_from_slice(&[0; 13])?;
     input.push(transfer.tag)?;
     input.extend_from_slice(&[transfer.code, 0, 0, 0])?;
@@ -44,9 +47,11 @@ pub fn request(input: &mut Vec<u8>, transfer: Transfer, data: &[u8]) -> Result<(
 }
 
 /// Appends a REPLY with GOOD and this data-in.
-pub fn good(output: &mut Vec<u8>, tag: u8, data: &[u8]) -> Result<(), AllocError> {
+pub fn good(output: &mut Vec<u8>, tag: u8, data: &[u8]) -> Result<(), AllocError>
+    requires { length data.now ≤ 2097152 }
+{
     output.push(0x81)?;
-    output.extend_from_slice(&(data.len() as u32).wrapping_add(7).to_be_bytes())?;
+    output.extend_from_slice(&(data.len() as u32 + 7).to_be_bytes())?;
     output.extend_from_slice(&[0, 0, 0, 0, 0, tag, 0])?;
     output.extend_from_slice(data)
 }
