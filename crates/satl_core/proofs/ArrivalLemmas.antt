@@ -36,7 +36,7 @@ IsTen (cdbs.Write form lba count fua) = count ≤ 4096
 IsTen _ = ⊥
 
 -- a transfer's rules are kept
-of_rules : (cdb : List ℕ) (c d : Command) → unless_broken (transfer_rules ten) cdb c ≡ Ok d → (c ≡ d) × (ten.count cdb ≤ 4096)
+pub of_rules : (cdb : List ℕ) (c d : Command) → unless_broken (transfer_rules ten) cdb c ≡ Ok d → (c ≡ d) × (ten.count cdb ≤ 4096)
 of_rules cdb c d e =
     (elim (not (bits 1 7 5 cdb == 0)) as (λ b. cond b (Err (invalid_field 1)) (cond (nat_lt 4096 (ten.count cdb)) (Err (invalid_field 7)) (Ok c)) ≡ Ok d → (c ≡ d) × (ten.count cdb ≤ 4096)) [
       | true ↦ λ f. absurd cc

@@ -7,3 +7,4 @@ pub mod OpeningLemmas
 pub mod ServedLemmas
 pub mod Transfers
 pub mod TurningLemmas
+pub mod UnforcedLemmas

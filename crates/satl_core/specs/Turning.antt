@@ -5,6 +5,8 @@ use Rattle.satl_base.specs.declared.block.Block.{Block}
 use Rattle.satl_base.specs.declared.reply.Reply.{Reply}
 use Rattle.satl_base.specs.declared.reply.Scsi.{Scsi}
 use Rattle.satl_base.specs.declared.reply.Scsi.TheVariants as statuses
+use Rattle.satl_base.specs.declared.request.Request.{Request}
+use Rattle.satl_base.specs.Fields.{bit}
 use Rattle.satl_cdb.specs.declared.command.Command.{Command}
 use Rattle.satl_cdb.specs.declared.command.Command.TheVariants.{Read, Write}
 use Rattle.satl_sense.specs.declared.sense.Sense.{Sense}
@@ -80,6 +82,10 @@ asks_fua _ = false
 -- no write has to go past the cache: it is off, or no WRITE asks for FUA, which WRITE DMA EXT has not (ACS-3 7.62)
 abbrev pub AreUnforced : Device → Type 0
 AreUnforced s = (s.modes.wce ≡ false) ⊎ AllByRecursion (λ t. asks_fua t.command ≡ false) s.tasks
+
+-- a request whose FUA bit, byte 1 bit 3, is 0 (SBC-3 5.31)
+abbrev pub AsksNoFua : Request → Type 0
+AsksNoFua r = bit 1 3 r.cdb ≡ false
 
 -- whether a bit of a register is set, by its mask
 abbrev pub is_set : ℕ → ℕ → Bool

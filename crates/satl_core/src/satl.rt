@@ -12,7 +12,7 @@ ghost use Rattle.satl_direct.specs.Turn.{Turn};
 ghost use Rattle.satl_core.specs.Layer.{IsTransfer, Tied, reply_pages, view};
 ghost use Rattle.satl_core.specs.Opening.{IsCause, IsOpened};
 ghost use Rattle.satl_core.specs.Submitting.{Becomes, CanSubmit, IsCutOf, judged};
-ghost use Rattle.satl_core.specs.Turning.{AreUnforced};
+ghost use Rattle.satl_core.specs.Turning.{AreUnforced, AsksNoFua};
 
 use crate::commands::tell_identity;
 use crate::submitting::{AtOnce, answer_at_once, judge, own_pages, task_without_pages};
@@ -130,6 +130,7 @@ impl Satl {
         requires tied { Tied self.old (D.state drive.old) }
         ensures arrives { Arrives request (view self.old (D.state drive.old)) replies.new (view self.new (D.state drive.new)) }
         ensures around { (whole : Request) → IsCutOf whole request → Around (MayLose (Arrives whole)) (view self.old (D.state drive.old)) replies.new (view self.new (D.state drive.new)) }
+        ensures unforced { AsksNoFua request → AreUnforced (view self.old (D.state drive.old)) → AreUnforced (view self.new (D.state drive.new)) }
         ensures drive { drive.new ≡ drive.old }
         ensures tied { Tied self.new (D.state drive.new) }
         ensures pages { self.new.out ≡ reply_pages replies.new }
@@ -185,6 +186,7 @@ impl Satl {
         requires all_in { self.old.out ≡ 0 }
         requires tied { Tied self.old (D.state drive.old) }
         ensures turns { AreUnforced (view self.old (D.state drive.old)) → Around Turn (view self.old (D.state drive.old)) replies.new (view self.new (D.state drive.new)) }
+        ensures unforced { AreUnforced (view self.old (D.state drive.old)) → AreUnforced (view self.new (D.state drive.new)) }
         ensures tied { Tied self.new (D.state drive.new) }
         ensures pages { self.new.out ≡ reply_pages replies.new }
         ensures writable { AllByRecursion IsWritable replies.new }

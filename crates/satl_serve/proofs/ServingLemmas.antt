@@ -33,10 +33,10 @@ cut_request : (version : Version) (w : Request) (room free out : ℕ) → IsRequ
 cut_request version w room free out is left lent = record {
   pages = lent;
   all =
-    (elim (nat_lt room (length w.body)) as (λ b. nat_lt room (length w.body) ≡ b → (w.data_len ≤ 512 * length (take room w.body)) ⊎ (free ≡ 0)) [
-      | true ↦ λ cut. let few = ltb-true room (length w.body) cut in let all = length-take-le room w.body (omega (arith, few)) in inr (omega (arith, all, left))
-      | false ↦ λ cut. let enough = ltb-false room (length w.body) cut in let same = ap length (take_all room w.body (omega (arith, enough))) in let hold = holds version w is in inl (omega (arith, same, hold))
-    ]) refl;
+      (elim (nat_lt room (length w.body)) as (λ b. nat_lt room (length w.body) ≡ b → (w.data_len ≤ 512 * length (take room w.body)) ⊎ (free ≡ 0)) [
+        | true ↦ λ cut. let few = ltb-true room (length w.body) cut in let all = length-take-le room w.body (omega (arith, few)) in inr (omega (arith, all, left))
+        | false ↦ λ cut. let enough = ltb-false room (length w.body) cut in let same = ap length (take_all room w.body (omega (arith, enough))) in let hold = holds version w is in inl (omega (arith, same, hold))
+      ]) refl;
   expected = expectable version w.expected is.fields.expected;
 }
 

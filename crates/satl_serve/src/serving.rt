@@ -65,11 +65,7 @@ impl From<OpenFault> for ServeFault {
 const LIMIT: u64 = 1 << 40;
 
 /// Writes the replies in order, and takes their pages back.
-fn answer<K: Sink>(
-    satl: &mut Satl,
-    sink: &mut K,
-    replies: &mut Replies,
-) -> Result<(), ServeFault>
+fn answer<K: Sink>(satl: &mut Satl, sink: &mut K, replies: &mut Replies) -> Result<(), ServeFault>
     requires writable { AllByRecursion IsWritable replies.old }
     requires pages { satl.old.out ≡ reply_pages replies.old }
     ensures stays { satl.new ≡ record satl.old { free = satl.new.free; out = satl.new.out } }

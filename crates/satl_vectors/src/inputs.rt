@@ -59,7 +59,9 @@ pub fn good(output: &mut Vec<u8>, tag: u8, data: &[u8]) -> Result<(), AllocError
 /// Appends a REPLY with CHECK CONDITION and sense data in the fixed form.
 pub fn check(output: &mut Vec<u8>, tag: u8, key: u8, code: u8) -> Result<(), AllocError> {
     output.extend_from_slice(&[0x81, 0, 0, 0, 25, 0, 2, 0, 0, 0, tag, 18])?;
-    output.extend_from_slice(&[0x70, 0, key, 0, 0, 0, 0, 10, 0, 0, 0, 0, code, 0, 0, 0, 0, 0])
+    output.extend_from_slice(&[
+        0x70, 0, key, 0, 0, 0, 0, 10, 0, 0, 0, 0, code, 0, 0, 0, 0, 0,
+    ])
 }
 
 /// A FAULT by its reason and offset.

@@ -159,7 +159,9 @@ fn refusals_leave_the_medium(rt: HostRuntime) -> Result<(), Fail> {
     good(&mut expected, 1, &[])?;
     check(&mut expected, 2, 0x5, 0x21)?;
     expected.extend_from_slice(&[0x81, 0, 0, 0, 25, 0, 2, 0, 0, 0, 3, 18])?;
-    expected.extend_from_slice(&[0x70, 0, 5, 0, 0, 0, 0, 10, 0, 0, 0, 0, 0x24, 0, 0, 0xC0, 0, 7])?;
+    expected.extend_from_slice(&[
+        0x70, 0, 5, 0, 0, 0, 0, 10, 0, 0, 0, 0, 0x24, 0, 0, 0xC0, 0, 7,
+    ])?;
     check(&mut expected, 4, 0xB, 0x4B)?;
     good(&mut expected, 5, &[0x11; 512])?;
     expected.extend_from_slice(&ENDED)?;

@@ -6,6 +6,7 @@ use Rattle.satl_core.specs.Submitting.{judged, reply_at_once}
 use Rattle.satl_core.proofs.ArrivalLemmas.{answers_at_once, becomes_arrives, judged_transfer}
 use Rattle.satl_core.proofs.AddingLemmas.{becomes_whole}
 use Rattle.satl_core.proofs.DeviceLemmas.{arrives_around}
+use Rattle.satl_core.proofs.UnforcedLemmas.{becomes_unforced, same_unforced}
 use Rattle.satl_core.proofs.satl.Satl.submit.Goals as goal
 
 pub add_task-requires-clause-transfer : goal.add_task-requires-clause-transfer
@@ -29,3 +30,9 @@ returns-in-Err-clause-around g c = λ w cut.
     let judged_is : judged c.args.self.now w ≡ Err c.in-Err.answer = subst (λ (x : Request). judged c.args.self.now x ≡ Err c.in-Err.answer) cut.cut_is (sym c.judge.ensures ∙ c.in-Err.is) in
     arrives_around w _ _ _ (answers_at_once c.args.self.now (record { identity = c.self.inside.identity; modes = c.self.inside.modes; started = c.self.inside.started; down = c.self.inside.down; tasks = c.self.inside.tasks; free = c.self.inside.pool.free; out = 0 }) (g.D.Drive.state c.args.drive.now) w c.in-Err.answer c.answer_at_once.new.replies c.requires.tied.mark judged_is
     (c.answer_at_once.ensures.reply ∙ (ap (λ (x : Request). reply_at_once x c.in-Err.answer c.self.inside.modes.d_sense ∷ []) cut.cut_is ∙ ap (λ (l : Layer). reply_at_once w c.in-Err.answer l.modes.d_sense ∷ []) c.self.view_is)) (ap (λ l. view l (g.D.Drive.state c.args.drive.now)) c.self.view_is))
+
+pub returns-in-Ok-clause-unforced : goal.returns-in-Ok-clause-unforced
+returns-in-Ok-clause-unforced g c = λ no free. becomes_unforced c.args.self.now c.add_task.new.self (g.D.Drive.state c.args.drive.now) c.args.request c.in-Ok.command c.add_task.new.replies no (sym c.judge.ensures ∙ c.in-Ok.is) c.add_task.ensures.becomes free
+
+pub returns-in-Err-clause-unforced : goal.returns-in-Err-clause-unforced
+returns-in-Err-clause-unforced g c = λ no free. same_unforced _ _ (ap (λ l. view l (g.D.Drive.state c.args.drive.now)) c.self.view_is) free

@@ -13,6 +13,7 @@ use Rattle.satl_core.proofs.DeviceLemmas.{idle_around, seen}
 use Rattle.satl_core.proofs.HeldLemmas.{first_count, first_kept, first_of, first_pages, none_left, pushed}
 use Rattle.satl_core.proofs.ServedLemmas.{turn_ends, turn_loses}
 use Rattle.satl_core.proofs.TurningLemmas.{all_pages, all_writable, checked_writable, entry_few, kept_few, lost_pages, lost_writable, one_pages, one_writable}
+use Rattle.satl_core.proofs.UnforcedLemmas.{none_unforced, rest_unforced}
 use Rattle.satl_core.proofs.satl.Satl.turn.Goals as goal
 
 pub returns-then-pending-eq0-clause-turns : goal.returns-then-pending-eq0-clause-turns
@@ -107,3 +108,11 @@ returns-in-Err-clause-writable g c =
     all_writable c.args.replies.now c.push-in-Err.new.self c.lose_tasks.new.replies (lost_replies c.self.inside.modes.d_sense c.remove-task.new.self) c.end_task-in-Err.result c.requires.empty c.push-in-Err.ensures c.lose_tasks.ensures.answers
     (subst IsWritable (sym (c.end_task-in-Err.ensures.reply ∙ ap (λ e. ended_reply task e c.self.inside.modes.d_sense) c.link_lost.ensures)) (checked_writable task link_lost c.self.inside.modes.d_sense kept.0.expected))
     (lost_writable c.self.inside.modes.d_sense c.self.inside.identity c.remove-task.new.self kept.1)
+
+pub returns-in-Ok-clause-unforced : goal.returns-in-Ok-clause-unforced
+returns-in-Ok-clause-unforced g c = λ free.
+    let first = first_of c.self.inside.tasks c.remove-task.new.self c.remove-task.result c.remove-task.ensures.value c.remove-task.ensures.others in
+    rest_unforced (view c.args.self.now (g.D.Drive.state c.args.drive.now)) (seen c.self.inside.identity c.self.inside.modes c.self.inside.started (map task_of (entries_of c.remove-task.new.self)) (g.D.Drive.state c.run_task.new.drive)) c.self.inside.tasks c.remove-task.new.self c.remove-task.result (ap (λ (l : Layer). map task_of (entries_of l.tasks)) (sym c.self.view_is)) refl (ap (λ (l : Layer). l.modes) c.self.view_is) first free
+
+pub returns-in-Err-clause-unforced : goal.returns-in-Err-clause-unforced
+returns-in-Err-clause-unforced g c = λ free. none_unforced (view c.args.self.now (g.D.Drive.state c.args.drive.now)) (seen c.self.inside.identity c.self.inside.modes c.self.inside.started (map task_of (entries_of c.lose_tasks.new.tasks)) (g.D.Drive.state c.run_task.new.drive)) (ap (λ t. map task_of (entries_of t)) c.lose_tasks.ensures.none)

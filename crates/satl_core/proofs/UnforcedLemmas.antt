@@ -1,0 +1,77 @@
+-- Which tasks ask for FUA.
+use Rattle.std.proofs.Common.{◌≡◌, ◌⊎◌, ⊎_elim, inl, inr, refl, sym, ap, subst, ◌∙◌, Bool, true, false, cond, eqb, ℕ, List, [], ◌∷◌, ◌++◌, map, take}
+use Rattle.std.specs.Prelude.{Ok, MatchBool, slice_index}
+use Rattle.std.specs.List.{AllByRecursion}
+use Rattle.std.proofs.lemmas.Bool.{eqb-true}
+use Rattle.satl_base.specs.declared.reply.Reply.{Reply}
+use Rattle.satl_base.specs.declared.request.Request.{Request}
+use Rattle.satl_base.specs.Fields.{bit}
+use Rattle.satl_base.specs.Lists.{is_in}
+use Rattle.satl_cdb.specs.declared.command.Command.{Command}
+use Rattle.satl_cdb.specs.Rows.{found_says, format_of}
+use Rattle.satl_cdb.specs.BlockCommands.{read, ten, write}
+use Rattle.satl_cdb.specs.Table.{says, table}
+use Rattle.satl_identify.specs.declared.identity.Identity.{Identity}
+use Rattle.satl_line.specs.declared.entry.Entry.{Entry}
+use Rattle.satl_line.specs.Tasks.{Held, entries_of, is_too_much}
+use Rattle.satl_line.proofs.SlotsLemmas.{All-append}
+use Rattle.satl_drive.specs.State.{DriveState}
+use Rattle.satl_direct.specs.Device.{Device, data_out, task_of}
+use Rattle.satl_direct.specs.Arrival.{built, held_blocks}
+use Rattle.satl_core.specs.declared.submitting.AtOnce.TheVariants as at_once
+use Rattle.satl_core.specs.Layer.{Layer, view}
+use Rattle.satl_core.specs.Submitting.{Becomes, IsAdded, IsAnswered, judged, task_without_pages}
+use Rattle.satl_core.specs.Turning.{AreUnforced, AsksNoFua, asks_fua}
+use Rattle.satl_core.proofs.ArrivalLemmas.{judged_ok, of_rules}
+use Rattle.satl_core.proofs.HeldLemmas.{IsFirst}
+
+read_unforced : (cdb : List ℕ) (trim : Bool) (c : Command) → found_says (format_of (table trim) 0x28) cdb ≡ Ok c → asks_fua c ≡ false
+read_unforced cdb trim c e = subst (λ x. asks_fua x ≡ false) (of_rules cdb ((read ten).command cdb) c e).0 refl
+
+write_unforced : (cdb : List ℕ) (trim : Bool) (c : Command) → bit 1 3 cdb ≡ false → found_says (format_of (table trim) 0x2A) cdb ≡ Ok c → asks_fua c ≡ false
+write_unforced cdb trim c clear e = subst (λ x. asks_fua x ≡ false) (of_rules cdb ((write ten).command cdb) c e).0 clear
+
+unforced_by : (cdb : List ℕ) (trim : Bool) (c : Command) (code : ℕ) → bit 1 3 cdb ≡ false → is_in code built ≡ true → found_says (format_of (table trim) code) cdb ≡ Ok c → asks_fua c ≡ false
+unforced_by cdb trim c code clear in_it e =
+    (elim (eqb code 0x28) as (λ b. eqb code 0x28 ≡ b → cond b true (cond (eqb code 0x2A) true false) ≡ true → asks_fua c ≡ false) [
+      | true ↦ λ is f. read_unforced cdb trim c (subst (λ x. found_says (format_of (table trim) x) cdb ≡ Ok c) (eqb-true code 0x28 is) e)
+      | false ↦ λ is f. (elim (eqb code 0x2A) as (λ b. eqb code 0x2A ≡ b → cond b true false ≡ true → asks_fua c ≡ false) [
+        | true ↦ λ is' g. write_unforced cdb trim c clear (subst (λ x. found_says (format_of (table trim) x) cdb ≡ Ok c) (eqb-true code 0x2A is') e)
+        | false ↦ λ is' g. absurd cc
+      ]) refl f
+    ]) refl in_it
+
+unforced_said : (cdb : List ℕ) (trim : Bool) (c : Command) → bit 1 3 cdb ≡ false → is_in (slice_index cdb 0) built ≡ true → says cdb trim ≡ Ok c → asks_fua c ≡ false
+unfolding says
+unforced_said cdb trim c clear in_it e = unforced_by cdb trim c (slice_index cdb 0) clear in_it e
+
+judged_unforced : (l : Layer) (r : Request) (c : Command) → AsksNoFua r → judged l r ≡ Ok c → asks_fua c ≡ false
+judged_unforced l r c clear e = let j = judged_ok l r c e in unforced_said r.cdb l.identity.trim c clear j.served j.said
+
+-- the tasks of a device ask for no FUA
+abbrev pub NoneAsks : List Entry → Type 0
+NoneAsks tasks = AllByRecursion (λ t. asks_fua t.command ≡ false) tasks
+
+added : (r : Request) (c : Command) (old : Layer) (replies : List Reply) (new : Layer) (d : DriveState) → asks_fua c ≡ false → IsAdded r c old replies new → AreUnforced (view old d) → AreUnforced (view new d)
+added r c old replies new d clear a free =
+    ⊎_elim (λ off. inl (ap (λ (l : Layer). l.modes.wce) a.stays ∙ off))
+    (λ all. inr (subst NoneAsks (sym a.last) (All-append (λ t. asks_fua t.command ≡ false) (map task_of (entries_of old.tasks)) (record (task_without_pages r c old.identity.queued_trim) { body = data_out c (take (held_blocks c) r.body) } ∷ []) all (clear, tt)))) free
+
+pub same_unforced : (s new : Device) → new ≡ s → AreUnforced s → AreUnforced new
+same_unforced s new same free = subst AreUnforced (sym same) free
+
+pub becomes_unforced : (l new : Layer) (d : DriveState) (r : Request) (c : Command) (replies : List Reply) → AsksNoFua r → judged l r ≡ Ok c → Becomes r c l replies new → AreUnforced (view l d) → AreUnforced (view new d)
+becomes_unforced l new d r c replies clear e b =
+    (elim (is_too_much l.tasks (task_without_pages r c l.identity.queued_trim)) as (λ f. MatchBool f (IsAnswered r at_once.Full l replies new) (IsAdded r c l replies new) → AreUnforced (view l d) → AreUnforced (view new d)) [
+      | true ↦ λ a. same_unforced (view l d) (view new d) (ap (λ x. view x d) a.stays)
+      | false ↦ λ a. added r c l replies new d (judged_unforced l r c clear e) a
+    ]) b
+
+-- the others ask for no FUA once the first is gone
+pub rest_unforced : (s new : Device) (tasks rest : List Held) (entry : Entry) → s.tasks ≡ map task_of (entries_of tasks) → new.tasks ≡ map task_of (entries_of rest) → new.modes ≡ s.modes → IsFirst tasks entry rest → AreUnforced s → AreUnforced new
+rest_unforced s new tasks rest entry are left modes first free =
+    ⊎_elim (λ off. inl (ap (λ m. m.wce) modes ∙ off))
+    (λ all. let both : NoneAsks (map task_of (entries_of (first.held ∷ rest))) = subst (λ t. NoneAsks (map task_of (entries_of t))) first.are (subst NoneAsks are all) in inr (subst NoneAsks (sym left) both.1)) free
+
+pub none_unforced : (s new : Device) → new.tasks ≡ [] → AreUnforced new
+none_unforced s new none = inr (subst NoneAsks (sym none) tt)
