@@ -1,10 +1,19 @@
 // The loop over frames.
-ghost use Rattle.std.specs.Prelude.{◌≡◌, ◌≤◌, [], IfErr, OnOk};
+ghost use Rattle.std.specs.Prelude.{◌≡◌, ◌≤◌, ◌-◌, ℕ, [], IfErr, OnOk, length, map};
 ghost use Rattle.std.specs.List.{AllByRecursion};
-ghost use Rattle.satl_frame.specs.Output.{IsWritable};
+ghost use Rattle.satl_base.specs.declared.request.Request.{Request};
+ghost use Rattle.satl_io.specs.Known.{Wrote};
+ghost use Rattle.satl_frame.specs.Output.{IsWritable, all_answered};
+ghost use Rattle.satl_frame.specs.Output.Answer.{replied};
 ghost use Rattle.satl_drive.specs.State.{IsFit};
-ghost use Rattle.satl_core.specs.Layer.{Tied, reply_pages};
-ghost use Rattle.satl_core.specs.Submitting.{CanSubmit};
+ghost use Rattle.satl_direct.specs.Arrival.{Arrives};
+ghost use Rattle.satl_direct.specs.Quiet.{Around};
+ghost use Rattle.satl_direct.specs.Run.{Drains, MayLose};
+ghost use Rattle.satl_direct.specs.Turn.{Turn};
+ghost use Rattle.satl_core.specs.Layer.{Tied, reply_pages, view};
+ghost use Rattle.satl_core.specs.Submitting.{CanSubmit, IsCutOf};
+ghost use Rattle.satl_core.specs.Turning.{AreUnforced, AsksNoFua};
+ghost use Rattle.satl_serve.specs.Runs.{Answered, AnsweredEnd, Ended, IsServed, TookTurns};
 ghost use Rattle.satl_io.specs.Causes.{Rose};
 ghost use Rattle.satl_serve.specs.Serving.{AtRest, HasServeCause, HasWriteCause, IsBehindOpen, IsUntouched};
 
@@ -71,6 +80,7 @@ fn answer<K: Sink>(satl: &mut Satl, sink: &mut K, replies: &mut Replies) -> Resu
     ensures stays { satl.new ≡ record satl.old { free = satl.new.free; out = satl.new.out } }
     ensures all_in { OnOk result (satl.new.out ≡ 0) }
     ensures none { OnOk result (replies.new ≡ []) }
+    ensures wrote { OnOk result (Wrote (K.written sink.old) (K.written sink.new) (all_answered (map replied replies.old))) }
     ensures later { K.faults sink.old ≤ K.faults sink.new }
     ensures cause { IfErr result (HasWriteCause (K.faults sink.old) (K.faults sink.new)) }
 {
@@ -98,6 +108,8 @@ fn serve_request<K: Sink, D: Drive, L: Ledger>(
     requires none { replies.old ≡ [] }
     ensures rest { OnOk result (AtRest satl.new (D.state drive.new)) }
     ensures none { OnOk result (replies.new ≡ []) }
+    ensures answered { OnOk result (Answered (λ replies. (whole : Request) → IsCutOf whole request → Around (MayLose (Arrives whole)) (view satl.old (D.state drive.old)) replies (view satl.new (D.state drive.new))) (K.written sink.old) (K.written sink.new)) }
+    ensures unforced { OnOk result (AsksNoFua request → AreUnforced (view satl.old (D.state drive.old)) → AreUnforced (view satl.new (D.state drive.new))) }
     ensures later { K.faults sink.old ≤ K.faults sink.new }
     ensures cause { IfErr result (HasWriteCause (K.faults sink.old) (K.faults sink.new)) }
 {
@@ -117,6 +129,9 @@ fn serve_turn<K: Sink, D: Drive, L: Ledger>(
     requires none { replies.old ≡ [] }
     ensures rest { OnOk result (AtRest satl.new (D.state drive.new)) }
     ensures none { OnOk result (replies.new ≡ []) }
+    ensures answered { OnOk result (Answered (λ replies. AreUnforced (view satl.old (D.state drive.old)) → Around Turn (view satl.old (D.state drive.old)) replies (view satl.new (D.state drive.new))) (K.written sink.old) (K.written sink.new)) }
+    ensures unforced { OnOk result (AreUnforced (view satl.old (D.state drive.old)) → AreUnforced (view satl.new (D.state drive.new))) }
+    ensures fewer { OnOk result (length satl.new.tasks ≤ length satl.old.tasks - 1) }
     ensures later { K.faults sink.old ≤ K.faults sink.new }
     ensures cause { IfErr result (HasWriteCause (K.faults sink.old) (K.faults sink.new)) }
 {
@@ -137,6 +152,9 @@ fn serve_turns<K: Sink, D: Drive, L: Ledger>(
     requires none { replies.old ≡ [] }
     ensures rest { OnOk result (AtRest satl.new (D.state drive.new)) }
     ensures none { OnOk result (replies.new ≡ []) }
+    ensures answered { OnOk result (Answered (λ replies. AreUnforced (view satl.old (D.state drive.old)) → TookTurns count (view satl.old (D.state drive.old)) replies (view satl.new (D.state drive.new))) (K.written sink.old) (K.written sink.new)) }
+    ensures unforced { OnOk result (AreUnforced (view satl.old (D.state drive.old)) → AreUnforced (view satl.new (D.state drive.new))) }
+    ensures fewer { OnOk result (length satl.new.tasks ≤ length satl.old.tasks - count) }
     ensures later { K.faults sink.old ≤ K.faults sink.new }
     ensures cause { IfErr result (HasWriteCause (K.faults sink.old) (K.faults sink.new)) }
 {
@@ -156,6 +174,7 @@ fn serve_end<K: Sink, D: Drive, L: Ledger>(
 ) -> Result<(), ServeFault>
     requires rest { AtRest satl.old (D.state drive.old) }
     requires none { replies.old ≡ [] }
+    ensures ended { OnOk result (AnsweredEnd (λ replies. AreUnforced (view satl.old (D.state drive.old)) → (deep : ℕ) × Drains (view satl.old (D.state drive.old)) replies (view satl.new (D.state drive.new)) deep) (K.written sink.old) (K.written sink.new)) }
     ensures later { K.faults sink.old ≤ K.faults sink.new }
     ensures cause { IfErr result (HasWriteCause (K.faults sink.old) (K.faults sink.new)) }
 {
@@ -180,6 +199,7 @@ pub fn serve<S: Source, K: Sink, D: Bench, L: Ledger>(
 ) -> Result<(), ServeFault>
     requires idle { (D.state drive.old).outstanding ≡ [] }
     requires fit { IsFit (D.state drive.old) }
+    ensures served { OnOk result (IsServed 1099511627776 (D.state drive.old) (S.left source.old) (S.left source.new) (K.written sink.old) (K.written sink.new) (D.state drive.new)) }
     ensures open { IfErr result (IsUntouched (S.left source.old) (S.left source.new) (K.written sink.old) (K.written sink.new)) }
     ensures causes { IfErr result (HasServeCause (S.faults source.old) (S.faults source.new) (K.faults sink.old) (K.faults sink.new)) }
 {
@@ -200,6 +220,8 @@ fn serve_frames<S: Source, K: Sink, D: Drive, L: Ledger>(
     steps: &mut Steps<L>,
 ) -> Result<(), ServeFault>
     requires rest { AtRest satl.old (D.state drive.old) }
+    requires new { satl.old.tasks ≡ [] }
+    ensures ended { OnOk result (Ended 1099511627776 (view satl.old (D.state drive.old)) (S.left source.old) (S.left source.new) (K.written sink.old) (K.written sink.new) (view satl.new (D.state drive.new))) }
     ensures kind { IfErr result IsBehindOpen }
     ensures causes { IfErr result (HasServeCause (S.faults source.old) (S.faults source.new) (K.faults sink.old) (K.faults sink.new)) }
 {
@@ -212,6 +234,10 @@ fn serve_frames<S: Source, K: Sink, D: Drive, L: Ledger>(
         };
         match frame {
             Frame::Request(request) => {
+                // That an overlapped command is answered so is not built yet.
+                if satl.holds(request.nexus, request.tag) {
+                    return Err(ServeFault::NotBuilt);
+                }
                 serve_request(satl, request, sink, drive, &mut replies, steps)?;
             }
             Frame::Turn(count) => serve_turns(satl, count, sink, drive, &mut replies, steps)?,

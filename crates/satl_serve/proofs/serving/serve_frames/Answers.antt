@@ -1,5 +1,71 @@
+use Rattle.std.proofs.Common.{◌≤◌, ◌∙◌, arith, ap, subst, sym, map, ℕ}
+use Rattle.satl_frame.specs.Reading.{Reading}
+use Rattle.satl_line.specs.Tasks.{entries_of}
+use Rattle.satl_direct.specs.Device.{task_of}
+use Rattle.satl_direct.specs.Run.{Drains}
+use Rattle.satl_core.specs.Turning.{AreUnforced}
+use Rattle.satl_core.specs.Layer.{Layer, view}
+use Rattle.satl_serve.specs.Runs.{AnsweredEnd, Going}
+use Rattle.satl_serve.proofs.RunLemmas.{going_ended, going_request, going_start, going_turn, on_ok}
 use Rattle.satl_serve.proofs.ServingLemmas.{can_submit}
 use Rattle.satl_serve.proofs.serving.serve_frames.Goals as goal
 
+pub frames-init : goal.frames-init
+frames-init g c = record {
+  rest = c.requires.rest;
+  none = c.new-replies.ensures;
+  fresh = ap (λ (r : Reading). r.refused) c.new-reader.ensures;
+  newest = ap (λ (r : Reading). r.newest) c.new-reader.ensures;
+  limit = ap (λ (r : Reading). r.limit) c.new-reader.ensures;
+  going = going_start (view c.args.satl.now (g.D.Drive.state c.args.drive.now)) c.new-reader.result _ _ (ap (λ (r : Reading). r.place) c.new-reader.ensures) (ap (λ t. map task_of (entries_of t)) c.requires.new);
+  read_later = omega arith;
+  write_later = omega arith;
+}
+
 pub serve_request-requires-clause-can : goal.serve_request-requires-clause-can
 serve_request-requires-clause-can g c = can_submit _ _ _ _ c.frames.satl.out _ c.in-Ok.frame _ _ _ c.in-Ok.ensures.gave c.in-Request.is c.frames.invariant.rest.all_in c.in-Ok.ensures.free c.in-Ok.ensures.out
+
+pub frames-preserved-in-Continue-1 : goal.frames-preserved-in-Continue-1
+frames-preserved-in-Continue-1 g c =
+    let new = c.in-Ok.ensures.gave.new_is in
+    let first = view c.args.satl.now (g.D.Drive.state c.args.drive.now) in
+    let same = ap (λ (l : Layer). view l (g.D.Drive.state c.frames.drive)) c.in-Ok.ensures.rest in
+    let known = c.in_ok-serve_request-in-Request.ensures in
+    record {
+      rest = known.rest;
+      none = known.none;
+      fresh = ap (λ (r : Reading). r.refused) new ∙ c.frames.invariant.fresh;
+      newest = ap (λ (r : Reading). r.newest) new ∙ c.frames.invariant.newest;
+      limit = ap (λ (r : Reading). r.limit) new ∙ c.frames.invariant.limit;
+      going = going_request first c.frames.reader c.next.new.self _ _ _ _ _ _ (view c.next.new.lender (g.D.Drive.state c.frames.drive)) (view c.serve_request.new.satl (g.D.Drive.state c.serve_request.new.drive)) _ c.in-Request.request c.in-Ok.frame
+        (subst (λ s. Going first c.frames.reader (g.S.Source.left c.args.source.now) (g.S.Source.left c.frames.source) (g.K.Sink.written c.args.sink.now) (g.K.Sink.written c.frames.sink) s) (sym same) c.frames.invariant.going) c.in-Ok.ensures.gave c.in-Request.is known.answered known.unforced;
+      read_later = omega (arith, c.frames.invariant.read_later, (c.in-Ok.ensures.causes c.frames.invariant.fresh).later);
+      write_later = omega (arith, c.frames.invariant.write_later, known.later);
+    }
+
+pub frames-preserved : goal.frames-preserved
+frames-preserved g c =
+    let new = c.in-Ok.ensures.gave.new_is in
+    let first = view c.args.satl.now (g.D.Drive.state c.args.drive.now) in
+    let same = ap (λ (l : Layer). view l (g.D.Drive.state c.frames.drive)) c.in-Ok.ensures.rest in
+    let known = c.in_ok-serve_turns-in-Turn.ensures in
+    record {
+      rest = known.rest;
+      none = known.none;
+      fresh = ap (λ (r : Reading). r.refused) new ∙ c.frames.invariant.fresh;
+      newest = ap (λ (r : Reading). r.newest) new ∙ c.frames.invariant.newest;
+      limit = ap (λ (r : Reading). r.limit) new ∙ c.frames.invariant.limit;
+      going = going_turn first c.frames.reader c.next.new.self _ _ _ _ _ _ (view c.next.new.lender (g.D.Drive.state c.frames.drive)) (view c.serve_turns.new.satl (g.D.Drive.state c.serve_turns.new.drive)) _ c.in-Turn.count c.in-Ok.frame
+        (subst (λ s. Going first c.frames.reader (g.S.Source.left c.args.source.now) (g.S.Source.left c.frames.source) (g.K.Sink.written c.args.sink.now) (g.K.Sink.written c.frames.sink) s) (sym same) c.frames.invariant.going) c.in-Ok.ensures.gave c.in-Turn.is known.answered known.unforced;
+      read_later = omega (arith, c.frames.invariant.read_later, (c.in-Ok.ensures.causes c.frames.invariant.fresh).later);
+      write_later = omega (arith, c.frames.invariant.write_later, known.later);
+    }
+
+pub returns-in-End-clause-ended : goal.returns-in-End-clause-ended
+returns-in-End-clause-ended g c =
+    let first = view c.args.satl.now (g.D.Drive.state c.args.drive.now) in
+    let same = ap (λ (l : Layer). view l (g.D.Drive.state c.frames.drive)) c.in-Ok.ensures.rest in
+    on_ok c.serve_end.result
+    (AnsweredEnd (λ replies. AreUnforced (view c.next.new.lender (g.D.Drive.state c.frames.drive)) → (deep : ℕ) × Drains (view c.next.new.lender (g.D.Drive.state c.frames.drive)) replies (view c.serve_end.new.satl (g.D.Drive.state c.serve_end.new.drive)) deep) (g.K.Sink.written c.frames.sink) (g.K.Sink.written c.serve_end.new.sink)) _
+    (going_ended first c.frames.reader c.next.new.self _ _ _ _ _ _ (view c.next.new.lender (g.D.Drive.state c.frames.drive)) (view c.serve_end.new.satl (g.D.Drive.state c.serve_end.new.drive)) _ _ c.in-Ok.frame
+      (subst (λ s. Going first c.frames.reader (g.S.Source.left c.args.source.now) (g.S.Source.left c.frames.source) (g.K.Sink.written c.args.sink.now) (g.K.Sink.written c.frames.sink) s) (sym same) c.frames.invariant.going) c.in-Ok.ensures.gave c.in-End.is c.frames.invariant.limit c.frames.invariant.newest) c.serve_end.ensures.ended

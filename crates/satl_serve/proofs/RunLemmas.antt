@@ -1,0 +1,248 @@
+-- Steps whose replies are written, and runs that grow.
+use Rattle.std.proofs.Common.{◌≡◌, ◌⊎◌, ⊎_elim, inl, inr, refl, sym, ap, subst, arith, ◌∙◌, ℕ, zero, suc, ◌+◌, ◌-◌, ◌≤◌, max, true, false, List, [], ◌∷◌, ◌++◌, length, map, take}
+use Rattle.std.specs.Prelude.{Option, Some, None, Ok, Err, Result, OnOk}
+use Rattle.std.proofs.lemmas.List.{append-nil}
+use Rattle.std.specs.List.{AllByRecursion}
+use Rattle.satl_base.specs.declared.reply.Reply.{Reply}
+use Rattle.satl_base.specs.declared.request.Request.{Request}
+use Rattle.satl_io.specs.Known.{Wrote}
+use Rattle.satl_io.proofs.Joined.{Wrote-more, Wrote-none}
+use Rattle.satl_frame.specs.declared.frames.Frame.{Frame}
+use Rattle.satl_frame.specs.declared.frames.Frame.TheVariants as frames
+use Rattle.satl_frame.specs.declared.frames.Place.{Place}
+use Rattle.satl_frame.specs.Output.{Answer, all_answered, answer_bytes, end_bytes, out, out_magic, reply_bytes}
+use Rattle.satl_frame.specs.Output.Answer.{replied, ended}
+use Rattle.satl_frame.specs.Progress.{HasRead, ReadTo}
+use Rattle.satl_frame.specs.Pulls.{cut_to}
+use Rattle.satl_frame.specs.Frames.{spelled}
+use Rattle.satl_frame.specs.declared.frames.Version.TheVariants.{Two}
+use Rattle.satl_frame.specs.Reading.{Gave, Reading}
+use Rattle.satl_frame.proofs.ProgressLemmas.{has_read_more}
+use Rattle.satl_line.specs.Tasks.{Held, entries_of}
+use Rattle.satl_line.proofs.SlotsLemmas.{All-append, All-left, All-right}
+use Rattle.satl_drive.specs.State.{DriveState}
+use Rattle.satl_direct.specs.Arrival.{Arrives}
+use Rattle.satl_direct.specs.Device.{Device, task_of}
+use Rattle.satl_direct.specs.Quiet.{Around}
+use Rattle.satl_direct.specs.Run.{Does, Drains, MayLose, Run, RunDeep, TurnsOf, depth, joined, losses_of}
+use Rattle.satl_direct.specs.Run.TurnsOf.{none, more}
+use Rattle.satl_direct.specs.Run.RunDeep.{start, step}
+use Rattle.satl_direct.specs.Turn.{Turn}
+use Rattle.satl_core.specs.Layer.{Layer, view}
+use Rattle.satl_core.specs.Opening.{IsOpened}
+use Rattle.satl_core.specs.Submitting.{IsCutOf}
+use Rattle.satl_core.specs.Turning.{AreUnforced, AsksNoFua}
+use Rattle.satl_serve.specs.Runs.{Answered, AnsweredEnd, AsksNone, Ended, Going, IsFirst, IsPartWritten, IsServed, NoneForced, RunsTo, TookTurns}
+
+app-assoc : {X : Type 0} (xs ys zs : List X) → (xs ++ ys) ++ zs ≡ xs ++ (ys ++ zs)
+app-assoc [] ys zs = refl
+app-assoc (x ∷ xs) ys zs = ap (λ l. x ∷ l) (app-assoc xs ys zs)
+
+-- what follows of what holds where all went well
+pub on_ok : {A E : Type 0} (r : Result A E) (P Q : Type 0) → (P → Q) → OnOk r P → OnOk r Q
+on_ok (Ok x) P Q f p = f p
+on_ok (Err e) P Q f p = tt
+
+-- the bytes of answers one after the other
+pub all_answered-append : (xs ys : List Answer) → all_answered (xs ++ ys) ≡ all_answered xs ++ all_answered ys
+all_answered-append [] ys = refl
+all_answered-append (x ∷ xs) ys = ap (λ l. answer_bytes x ++ l) (all_answered-append xs ys) ∙ sym (app-assoc (answer_bytes x) (all_answered xs) (all_answered ys))
+
+map-append : (xs ys : List Reply) → map replied (xs ++ ys) ≡ map replied xs ++ map replied ys
+map-append [] ys = refl
+map-append (x ∷ xs) ys = ap (λ l. replied x ∷ l) (map-append xs ys)
+
+-- ---- writing replies
+
+pub part_none : (written : Option (List ℕ)) (all : List ℕ) → IsPartWritten written written all all
+part_none written all = record { done = []; wrote = Wrote-none written; whole = refl }
+
+-- the first of the replies left was written
+pub part_more : (a b c : Option (List ℕ)) (left left' : List Reply) (reply : Reply) (all : List ℕ) → IsPartWritten a b (all_answered (map replied left)) all → left ≡ reply ∷ left' → Wrote b c (reply_bytes reply) → IsPartWritten a c (all_answered (map replied left')) all
+part_more a b c left left' reply all p is wrote = record {
+  done = p.done ++ reply_bytes reply;
+  wrote = Wrote-more p.wrote wrote;
+  whole = app-assoc p.done (reply_bytes reply) (all_answered (map replied left')) ∙ (ap (λ l. p.done ++ all_answered (map replied l)) (sym is) ∙ p.whole);
+}
+
+pub part_all : (a b : Option (List ℕ)) (left : List Reply) (all : List ℕ) → length left ≡ 0 → IsPartWritten a b (all_answered (map replied left)) all → Wrote a b all
+part_all a b [] all empty p = subst (Wrote a b) (sym (append-nil p.done) ∙ p.whole) p.wrote
+part_all a b (x ∷ left) all empty p = absurd cc
+
+-- ---- the device and free pages
+
+-- the device is the same however many pages are free
+pub view_same : (l l' : Layer) (d : DriveState) → l' ≡ record l { free = l'.free; out = l'.out } → view l' d ≡ view l d
+view_same l l' d same = ap (λ x. view x d) same
+
+-- ---- turns
+
+pub turns_none : (s : Device) (P : Type 0) (written : Option (List ℕ)) → Answered (λ replies. P → TookTurns 0 s replies s) written written
+turns_none s P written = record { replies = []; step = λ _. record { deep = 0; turns = none }; wrote = Wrote-none written }
+
+pub turns_more : (n : ℕ) (s mid new : Device) (P Q : Type 0) (a b c : Option (List ℕ)) → (P → Q) → Answered (λ replies. P → TookTurns n s replies mid) a b → Answered (λ replies. Q → Around Turn mid replies new) b c → Answered (λ replies. P → TookTurns (n + 1) s replies new) a c
+turns_more n s mid new P Q a b c keeps first rest = record {
+  replies = first.replies ++ rest.replies;
+  step = λ p. let before = first.step p in subst (λ m. TookTurns m s (first.replies ++ rest.replies) new) (omega arith) (record { deep = max before.deep (depth new); turns = more before.turns (rest.step (keeps p)) });
+  wrote = subst (Wrote a c) (sym (ap all_answered (map-append first.replies rest.replies) ∙ all_answered-append (map replied first.replies) (map replied rest.replies))) (Wrote-more first.wrote rest.wrote);
+}
+
+none_left : (tasks : List Held) → length tasks ≤ 0 → map task_of (entries_of tasks) ≡ []
+none_left [] few = refl
+none_left (h ∷ tasks) few = absurd (omega (arith, few))
+
+-- as many turns as tasks leave none
+pub drained : (n : ℕ) (l new : Layer) (d d' : DriveState) (a b c : Option (List ℕ)) → n ≡ length l.tasks → length new.tasks ≤ length l.tasks - n → Answered (λ replies. AreUnforced (view l d) → TookTurns n (view l d) replies (view new d')) a b → Wrote b c end_bytes
+    → AnsweredEnd (λ replies. AreUnforced (view l d) → (deep : ℕ) × Drains (view l d) replies (view new d') deep) a c
+drained n l new d d' a b c all few turns end = record {
+  replies = turns.replies;
+  step = λ free. let took = turns.step free in (took.deep, record { count = n; turns = took.turns; empty = none_left new.tasks (omega (arith, all, few)) });
+  wrote = subst (Wrote a c) (sym (all_answered-append (map replied turns.replies) (ended ∷ []) ∙ ap (λ l. all_answered (map replied turns.replies) ++ l) (append-nil end_bytes))) (Wrote-more turns.wrote end);
+}
+
+-- ---- runs
+
+joined-push : (groups : List (List Answer)) (now : List Answer) → joined (groups ++ now ∷ []) ≡ joined groups ++ now
+joined-push [] now = append-nil now
+joined-push (g ∷ groups) now = ap (λ l. g ++ l) (joined-push groups now) ∙ sym (app-assoc g (joined groups) now)
+
+runs_more : (first : Device) (events : List Frame) (answers : List Answer) (s : Device) (event : Frame) (now : List Answer) (new : Device) (d : ℕ) → RunsTo first events answers s → Does event s now new d → RunsTo first (events ++ event ∷ []) (answers ++ now) new
+runs_more first events answers s event now new d r does = record {
+  losses = r.losses + losses_of s new;
+  run = record {
+    groups = r.run.groups ++ now ∷ [];
+    deep = max r.run.deep d;
+    answer = ap (λ l. l ++ now) r.run.answer ∙ sym (joined-push r.run.groups now);
+    run = step event now d r.run.run does;
+  };
+}
+
+pub going_start : (first : Device) (r : Reading) (left written : Option (List ℕ)) → r.place ≡ None → first.tasks ≡ [] → Going first r left left written written first
+going_start first r left written fresh idle = record {
+  events = [];
+  answers = [];
+  none_ends = tt;
+  read = rw fresh (refl, refl);
+  wrote = Wrote-none written;
+  run = λ _. record { losses = 0; run = record { groups = []; deep = 0; answer = refl; run = start } };
+  unforced = λ _. inr (rw idle tt);
+}
+
+-- a frame that is not END was read and carried out
+pub going_more : (first : Device) (r r' : Reading) (a b c w w' w'' : Option (List ℕ)) (s new : Device) (room : ℕ) (frame : Frame) → Going first r a b w w' s → (gave : Gave r room frame r' b c) → (gave.whole ≡ frames.End → ⊥) → (now : List Answer)
+    → Wrote w' w'' (all_answered now) → (AreUnforced s → (d : ℕ) × Does gave.whole s now new d) → (AsksNone gave.whole → AreUnforced s → AreUnforced new) → Going first r' a c w w'' new
+going_more first r r' a b c w w' w'' s new room frame going gave not_end now wrote carried keeps = record {
+  events = going.events ++ gave.whole ∷ [];
+  answers = going.answers ++ now;
+  none_ends = All-append (λ f. f ≡ frames.End → ⊥) going.events (gave.whole ∷ []) going.none_ends (not_end, tt);
+  read = has_read_more r r' a b c going.events room frame going.read going.none_ends gave;
+  wrote = subst (Wrote w w'') (sym (all_answered-append going.answers now)) (Wrote-more going.wrote wrote);
+  run = λ free. let before = All-left AsksNone going.events (gave.whole ∷ []) free in let does = carried (going.unforced before) in runs_more first going.events going.answers s gave.whole now new does.0 (going.run before) does.1;
+  unforced = λ free. keeps (All-right AsksNone going.events (gave.whole ∷ []) free).0 (going.unforced (All-left AsksNone going.events (gave.whole ∷ []) free));
+}
+
+no_turn_ends : (f : Frame) (n : ℕ) → f ≡ frames.Turn n → f ≡ frames.End → ⊥
+no_turn_ends f n is e = clash (sym is ∙ e)
+  where
+    clash : frames.Turn n ≡ frames.End → ⊥
+    clash x = absurd cc
+
+no_request_ends : (f : Frame) (r : Request) → f ≡ frames.Request r → f ≡ frames.End → ⊥
+no_request_ends f r is e = clash (sym is ∙ e)
+  where
+    clash : frames.Request r ≡ frames.End → ⊥
+    clash x = absurd cc
+
+whole_turn : (room n : ℕ) (whole : Frame) → frames.Turn n ≡ cut_to room whole → whole ≡ frames.Turn n
+whole_turn room n (frames.Request w) e = absurd cc
+whole_turn room n (frames.Manage m) e = absurd cc
+whole_turn room n (frames.Turn k) e = cc
+whole_turn room n (frames.Bench event) e = absurd cc
+whole_turn room n frames.End e = absurd cc
+
+whole_end : (room : ℕ) (whole : Frame) → frames.End ≡ cut_to room whole → whole ≡ frames.End
+whole_end room (frames.Request w) e = absurd cc
+whole_end room (frames.Manage m) e = absurd cc
+whole_end room (frames.Turn k) e = absurd cc
+whole_end room (frames.Bench event) e = absurd cc
+whole_end room frames.End e = refl
+
+-- a request that was read is the cut form of a whole one
+record WholeRequest (room : ℕ) (whole : Frame) (r : Request) : Type 0 where
+  w : Request
+  is : whole ≡ frames.Request w
+  cut : r ≡ record w { body = take room w.body }
+
+whole_request : (room : ℕ) (r : Request) (whole : Frame) → frames.Request r ≡ cut_to room whole → WholeRequest room whole r
+whole_request room r (frames.Request w) e = record { w = w; is = refl; cut = cc }
+whole_request room r (frames.Manage m) e = absurd cc
+whole_request room r (frames.Turn k) e = absurd cc
+whole_request room r (frames.Bench event) e = absurd cc
+whole_request room r frames.End e = absurd cc
+
+pub going_turn : (first : Device) (r r' : Reading) (a b c w w' w'' : Option (List ℕ)) (s new : Device) (room n : ℕ) (frame : Frame) → Going first r a b w w' s → Gave r room frame r' b c → frame ≡ frames.Turn n
+    → Answered (λ replies. AreUnforced s → TookTurns n s replies new) w' w'' → (AreUnforced s → AreUnforced new) → Going first r' a c w w'' new
+going_turn first r r' a b c w w' w'' s new room n frame going gave frame_is answered keeps =
+    let is = whole_turn room n gave.whole (sym frame_is ∙ gave.cut) in
+    going_more first r r' a b c w w' w'' s new room frame going gave (no_turn_ends gave.whole n is) (map replied answered.replies) answered.wrote
+    (λ free. let took = answered.step free in (took.deep, subst (λ f. Does f s (map replied answered.replies) new took.deep) (sym is) (answered.replies, refl, took.turns)))
+    (λ _ free. keeps free)
+
+pub going_request : (first : Device) (r r' : Reading) (a b c w w' w'' : Option (List ℕ)) (s new : Device) (room : ℕ) (request : Request) (frame : Frame) → Going first r a b w w' s → Gave r room frame r' b c → frame ≡ frames.Request request
+    → Answered (λ replies. (whole : Request) → IsCutOf whole request → Around (MayLose (Arrives whole)) s replies new) w' w'' → (AsksNoFua request → AreUnforced s → AreUnforced new) → Going first r' a c w w'' new
+going_request first r r' a b c w w' w'' s new room request frame going gave frame_is answered keeps =
+    let found = whole_request room request gave.whole (sym frame_is ∙ gave.cut) in
+    going_more first r r' a b c w w' w'' s new room frame going gave (no_request_ends gave.whole found.w found.is) (map replied answered.replies) answered.wrote
+    (λ free. (depth new, subst (λ f. Does f s (map replied answered.replies) new (depth new)) (sym found.is) (answered.replies, refl, answered.step found.w (record { count = room; cut_is = found.cut }), refl)))
+    (λ clear free. keeps (subst AsksNoFua (sym found.cut) (subst AsksNone found.is clear)) free)
+
+pub going_ended : (first : Device) (r r' : Reading) (a b c w w' w'' : Option (List ℕ)) (s new : Device) (room limit : ℕ) (frame : Frame) → Going first r a b w w' s → Gave r room frame r' b c → frame ≡ frames.End → r.limit ≡ limit → r.newest ≡ Two
+    → AnsweredEnd (λ replies. AreUnforced s → (deep : ℕ) × Drains s replies new deep) w' w'' → Ended limit first a c w w'' new
+going_ended first r r' a b c w w' w'' s new room limit frame going gave frame_is limit_is newest_is answered =
+    let is = whole_end room gave.whole (sym frame_is ∙ gave.cut) in
+    let place : Place = record gave.place { offset = gave.place.offset + length (spelled gave.whole) } in
+    let read : ReadTo r.limit r.newest place a c (going.events ++ gave.whole ∷ []) = subst (λ (x : Reading). HasRead x a c (going.events ++ gave.whole ∷ [])) gave.new_is (has_read_more r r' a b c going.events room frame going.read going.none_ends gave) in
+    record {
+      events = going.events;
+      answers = going.answers ++ (map replied answered.replies ++ ended ∷ []);
+      place = place;
+      read = subst (λ l. ReadTo l Two place a c (going.events ++ frames.End ∷ [])) limit_is (subst (λ v. ReadTo r.limit v place a c (going.events ++ frames.End ∷ [])) newest_is (subst (λ f. ReadTo r.limit r.newest place a c (going.events ++ f ∷ [])) is read));
+      wrote = subst (Wrote w w'') (sym (all_answered-append going.answers (map replied answered.replies ++ ended ∷ []))) (Wrote-more going.wrote answered.wrote);
+      run = λ free.
+        let before = All-left AsksNone going.events (frames.End ∷ []) free in
+        let drains = answered.step (going.unforced before) in
+        runs_more first going.events going.answers s frames.End (map replied answered.replies ++ ended ∷ []) new drains.0 (going.run before) (answered.replies, refl, drains.1);
+    }
+
+pub stays_on : (a b c : Layer) (n m : ℕ) → b ≡ record a { free = b.free; out = b.out } → c ≡ record b { free = n; out = m } → c ≡ record a { free = c.free; out = c.out }
+stays_on a b c n m p q =
+    q ∙ (ap (λ (s : Layer). record s { free = n; out = m }) p
+    ∙ (ap (λ x. record a { free = x; out = m }) (sym (ap (λ (l : Layer). l.free) q)) ∙ ap (λ x. record a { free = c.free; out = x }) (sym (ap (λ (l : Layer). l.out) q))))
+
+-- an opened layer and its drive are a first device
+pub first_of : (old new : DriveState) (l : Layer) → IsOpened old l new → IsFirst old (view l new)
+first_of old new l o = record {
+  cells = o.lost;
+  tasks = ap (λ t. map task_of (entries_of t)) o.tasks;
+  identity = o.identity;
+  wce = o.wce;
+  d_sense = o.d_sense;
+  started = o.started;
+  up = sym o.tied.mark ∙ o.up;
+  active = ap (λ (d : DriveState). d.active) o.stays;
+  glitches = ap (λ (d : DriveState). d.glitches) o.stays;
+}
+
+pub served : (limit : ℕ) (old mid new : DriveState) (l l' : Layer) (a c w w' w'' : Option (List ℕ)) → IsOpened old l mid → Wrote w w' out_magic → Ended limit (view l mid) a c w' w'' (view l' new) → IsServed limit old a c w w'' new
+served limit old mid new l l' a c w w' w'' o magic e = record {
+  first = view l mid;
+  last = view l' new;
+  events = e.events;
+  answers = e.answers;
+  place = e.place;
+  begins = first_of old mid l o;
+  read = e.read;
+  wrote = Wrote-more magic e.wrote;
+  run = e.run;
+  ends = record { cells = refl; active = refl; glitches = refl; down = refl };
+}

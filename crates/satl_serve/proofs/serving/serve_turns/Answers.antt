@@ -1,0 +1,16 @@
+use Rattle.std.proofs.Common.{◌+◌, ◌-◌, arith, length}
+use Rattle.satl_serve.proofs.RunLemmas.{turns_more, turns_none}
+use Rattle.satl_serve.proofs.serving.serve_turns.Goals as goal
+
+pub loop-init : goal.loop-init
+loop-init g c = record { rest = c.requires.rest; none = c.requires.none; answered = turns_none _ _ _; unforced = λ f. f; fewer = omega arith; later = omega arith }
+
+pub loop-preserved : goal.loop-preserved
+loop-preserved g c = record {
+  rest = c.in_ok-serve_turn.ensures.rest;
+  none = c.in_ok-serve_turn.ensures.none;
+  answered = turns_more c.loop.counter _ _ _ _ _ _ _ _ c.loop.invariant.unforced c.loop.invariant.answered c.in_ok-serve_turn.ensures.answered;
+  unforced = λ f. c.in_ok-serve_turn.ensures.unforced (c.loop.invariant.unforced f);
+  fewer = omega (arith, c.loop.invariant.fewer, c.in_ok-serve_turn.ensures.fewer);
+  later = omega (arith, c.loop.invariant.later, c.in_ok-serve_turn.ensures.later);
+}

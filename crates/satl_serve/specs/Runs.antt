@@ -1,0 +1,112 @@
+-- What serving an input does: a run of the device over its frames, whose answers are written (profile).
+use Rattle.std.specs.Prelude.{◌≡◌, ◌⊎◌, ◌≤◌, ◌-◌, ℕ, true, false, List, [], ◌∷◌, ◌++◌, length, map, Option, Some, None, Ok}
+use Rattle.std.specs.List.{AllByRecursion}
+use Rattle.satl_base.specs.declared.reply.Reply.{Reply}
+use Rattle.satl_base.specs.Losses.{Loses}
+use Rattle.satl_io.specs.Known.{Wrote}
+use Rattle.satl_identify.specs.Refusals.{identity_of}
+use Rattle.satl_frame.specs.declared.frames.Frame.{Frame}
+use Rattle.satl_frame.specs.declared.frames.Frame.TheVariants as frames
+use Rattle.satl_frame.specs.declared.frames.Place.{Place}
+use Rattle.satl_frame.specs.declared.frames.Version.TheVariants.{Two}
+use Rattle.satl_frame.specs.Output.{Answer, all_answered, out}
+use Rattle.satl_frame.specs.Output.Answer.{replied, ended}
+use Rattle.satl_frame.specs.Progress.{HasRead, ReadTo}
+use Rattle.satl_frame.specs.Reading.{Reading}
+use Rattle.satl_drive.specs.State.{DriveState}
+use Rattle.satl_direct.specs.Device.{Device}
+use Rattle.satl_direct.specs.Run.{Run, TurnsOf}
+use Rattle.satl_core.specs.Turning.{AreUnforced, AsksNoFua}
+
+-- a step of the device whose replies were written
+pub record Answered (Step : List Reply → Type 0) (written written' : Option (List ℕ)) : Type 0 where
+  pub replies : List Reply
+  pub step : Step replies
+  pub wrote : Wrote written written' (all_answered (map replied replies))
+
+-- the same, and END behind them
+pub record AnsweredEnd (Step : List Reply → Type 0) (written written' : Option (List ℕ)) : Type 0 where
+  pub replies : List Reply
+  pub step : Step replies
+  pub wrote : Wrote written written' (all_answered (map replied replies ++ ended ∷ []))
+
+-- the bytes written so far and those that are left make up all
+pub record IsPartWritten (written written' : Option (List ℕ)) (left all : List ℕ) : Type 0 where
+  pub done : List ℕ
+  pub wrote : Wrote written written' done
+  pub whole : done ++ left ≡ all
+
+-- so many turns, whatever the depth
+pub record TookTurns (count : ℕ) (s : Device) (replies : List Reply) (new : Device) : Type 0 where
+  pub deep : ℕ
+  pub turns : TurnsOf count s replies new deep
+
+-- a frame that asks for no FUA
+abbrev pub AsksNone : Frame → Type 0
+AsksNone (frames.Request r) = AsksNoFua r
+AsksNone (frames.Manage m) = Unit {0}
+AsksNone (frames.Turn count) = Unit {0}
+AsksNone (frames.Bench event) = Unit {0}
+AsksNone frames.End = Unit {0}
+
+-- no frame asks for FUA
+abbrev pub NoneForced : List Frame → Type 0
+NoneForced events = AllByRecursion AsksNone events
+
+-- a run over these frames with these answers ends in this device
+pub record RunsTo (first : Device) (events : List Frame) (answers : List Answer) (last : Device) : Type 0 where
+  pub losses : ℕ
+  pub run : Run first events losses answers last
+
+-- frames were read, none of which is END, and their answers were written, which are those of a run
+pub record Going (first : Device) (r : Reading) (left left' written written' : Option (List ℕ)) (s : Device) : Type 0 where
+  pub events : List Frame
+  pub answers : List Answer
+  pub none_ends : AllByRecursion (λ f. f ≡ frames.End → ⊥) events
+  pub read : HasRead r left left' events
+  pub wrote : Wrote written written' (all_answered answers)
+  pub run : NoneForced events → RunsTo first events answers s
+  pub unforced : NoneForced events → AreUnforced s
+
+-- the same up to END, which was read and carried out
+pub record Ended (limit : ℕ) (first : Device) (left left' written written' : Option (List ℕ)) (last : Device) : Type 0 where
+  pub events : List Frame
+  pub answers : List Answer
+  pub place : Place
+  pub read : ReadTo limit Two place left left' (events ++ frames.End ∷ [])
+  pub wrote : Wrote written written' (all_answered answers)
+  pub run : NoneForced (events ++ frames.End ∷ []) → RunsTo first (events ++ frames.End ∷ []) answers last
+
+-- the device that a drive is when the layer has just been opened on it: its sectors, some of which it may have written back by
+-- itself; no task; the modes by its settings; started and up
+pub record IsFirst (d : DriveState) (s : Device) : Type 0 where
+  pub cells : Loses d.cells s.cells
+  pub tasks : s.tasks ≡ []
+  pub identity : identity_of d.identify ≡ Ok s.identity
+  pub wce : s.modes.wce ≡ s.identity.cache_on
+  pub d_sense : s.modes.d_sense ≡ false
+  pub started : s.started ≡ true
+  pub up : s.down ≡ false
+  pub active : s.active ≡ d.active
+  pub glitches : s.glitches ≡ d.glitches
+
+-- a drive is left as the device is
+pub record IsLeftAs (s : Device) (d : DriveState) : Type 0 where
+  pub cells : d.cells ≡ s.cells
+  pub active : d.active ≡ s.active
+  pub glitches : d.glitches ≡ s.glitches
+  pub down : d.down ≡ s.down
+
+-- a whole input was served: its frames up to END were read and no byte behind them; the magic and the answers of a run over
+-- exactly these frames were written, where none asks for FUA; and the drive is left as that run's last device is
+pub record IsServed (limit : ℕ) (old : DriveState) (left left' written written' : Option (List ℕ)) (new : DriveState) : Type 0 where
+  pub first : Device
+  pub last : Device
+  pub events : List Frame
+  pub answers : List Answer
+  pub place : Place
+  pub begins : IsFirst old first
+  pub read : ReadTo limit Two place left left' (events ++ frames.End ∷ [])
+  pub wrote : Wrote written written' (out answers)
+  pub run : NoneForced (events ++ frames.End ∷ []) → RunsTo first (events ++ frames.End ∷ []) answers last
+  pub ends : IsLeftAs last new
