@@ -175,7 +175,7 @@ impl Satl {
     }
 
     /// One turn: the first task ends, if there is one. At a lost link all tasks are answered, in order of arrival (SAM-5 5;
-    /// lost links: profile).
+    /// lost links: profile). A WRITE with FUA goes through the cache where it is on, since WRITE DMA EXT has no FUA.
     pub fn turn<D: Drive, L: Ledger>(
         &mut self,
         drive: &mut D,
