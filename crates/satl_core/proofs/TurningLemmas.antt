@@ -20,6 +20,7 @@ use Rattle.satl_sense.specs.declared.sense.Sense.{Sense}
 use Rattle.satl_identify.specs.declared.identity.Identity.{Identity}
 use Rattle.satl_line.specs.declared.entry.Entry.{Entry}
 use Rattle.satl_line.specs.Tasks.{Held}
+use Rattle.satl_direct.specs.Senses.{link_lost}
 use Rattle.satl_core.specs.declared.turning.Ending.{Ending}
 use Rattle.satl_core.specs.declared.turning.Ending.TheVariants as endings
 use Rattle.satl_core.specs.Layer.{IsExpectable, IsKept, IsTransfer, reply_pages}
@@ -72,11 +73,11 @@ pub lost_pages : (descriptor : Bool) (tasks : List Held) → reply_pages (lost_r
 lost_pages descriptor [] = refl
 lost_pages descriptor (h ∷ tasks) = let rest = lost_pages descriptor tasks in omega (arith, rest)
 
-pub lost_writable : (descriptor : Bool) (identity : Identity) (tasks : List Held) → AllByRecursion (IsKept identity) tasks → AllByRecursion IsWritable (lost_replies descriptor tasks)
+lost_writable : (descriptor : Bool) (identity : Identity) (tasks : List Held) → AllByRecursion (IsKept identity) tasks → AllByRecursion IsWritable (lost_replies descriptor tasks)
 lost_writable descriptor identity [] all = tt
 lost_writable descriptor identity (h ∷ tasks) all = (record { holds = omega arith; short = omega arith; expected = all.0.expected }, lost_writable descriptor identity tasks all.1)
 
-pub checked_writable : (entry : Entry) (sense : Sense) (descriptor : Bool) → IsExpectable entry.expected → IsWritable (ended_reply entry (endings.Check sense) descriptor)
+checked_writable : (entry : Entry) (sense : Sense) (descriptor : Bool) → IsExpectable entry.expected → IsWritable (ended_reply entry (endings.Check sense) descriptor)
 checked_writable entry sense descriptor expected = record { holds = omega arith; short = omega arith; expected = expected }
 
 read_few : (command : Command) (body : List Block) → length (read_pages command body) ≤ length body
@@ -99,7 +100,7 @@ kept_few identity (h ∷ tasks) all =
     (omega (arith, all.0.pages, few), kept_few identity tasks all.1)
 
 -- a reply that was pushed and those behind it can be written
-pub all_writable : (given pushed all more : List Reply) (r : Reply) → given ≡ [] → pushed ≡ given ++ r ∷ [] → all ≡ pushed ++ more → IsWritable r → AllByRecursion IsWritable more → AllByRecursion IsWritable all
+all_writable : (given pushed all more : List Reply) (r : Reply) → given ≡ [] → pushed ≡ given ++ r ∷ [] → all ≡ pushed ++ more → IsWritable r → AllByRecursion IsWritable more → AllByRecursion IsWritable all
 all_writable given pushed all more r none push is one rest = rw (is, push, none) (one, rest)
 
 pub all_pages : (given pushed all more : List Reply) (r : Reply) → given ≡ [] → pushed ≡ given ++ r ∷ [] → all ≡ pushed ++ more → reply_pages all ≡ length r.body + reply_pages more
@@ -108,6 +109,13 @@ all_pages given pushed all more r none push is = rw (is, push, none) refl
 -- the one reply to a task that ends
 pub one_writable : (given all : List Reply) (r : Reply) (entry : Entry) (ending : Ending) (descriptor : Bool) → given ≡ [] → all ≡ given ++ r ∷ [] → r ≡ ended_reply entry ending descriptor → length entry.body ≤ 4096 → IsExpectable entry.expected → AllByRecursion IsWritable all
 one_writable given all r entry ending descriptor none push is few expected = all_writable given all all [] r none push (sym (app-none all)) (subst IsWritable (sym is) (ended_writable entry ending descriptor few expected)) tt
+
+-- the replies to all tasks at a lost link
+pub lost_all_writable : (given pushed all : List Reply) (r : Reply) (entry : Entry) (ending : Ending) (descriptor : Bool) (identity : Identity) (rest : List Held) → given ≡ [] → pushed ≡ given ++ r ∷ [] → all ≡ pushed ++ lost_replies descriptor rest
+    → r ≡ ended_reply entry ending descriptor → ending ≡ endings.Check link_lost → IsExpectable entry.expected → AllByRecursion (IsKept identity) rest → AllByRecursion IsWritable all
+lost_all_writable given pushed all r entry ending descriptor identity rest none push more is lost expected kept =
+    let reply : r ≡ ended_reply entry (endings.Check link_lost) descriptor = is ∙ ap (λ e. ended_reply entry e descriptor) lost in
+    all_writable given pushed all (lost_replies descriptor rest) r none push more (subst IsWritable (sym reply) (checked_writable entry link_lost descriptor expected)) (lost_writable descriptor identity rest kept)
 
 pub one_pages : (given all : List Reply) (r : Reply) → given ≡ [] → all ≡ given ++ r ∷ [] → reply_pages all ≡ length r.body
 one_pages given all r none push = let whole = all_pages given all all [] r none push (sym (app-none all)) in omega (arith, whole)

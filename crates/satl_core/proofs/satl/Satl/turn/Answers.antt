@@ -1,18 +1,16 @@
 use Rattle.std.proofs.Common.{◌-◌, arith, refl, sym, ap, subst, ◌∙◌, length, map}
 use Rattle.satl_base.specs.declared.reply.Reply.{Reply}
-use Rattle.satl_frame.specs.Output.{IsWritable}
 use Rattle.satl_line.specs.declared.entry.Entry.{Entry}
 use Rattle.satl_line.specs.Tasks.{entries_of}
 use Rattle.satl_direct.specs.Device.{task_of}
 use Rattle.satl_direct.specs.Quiet.{Around}
 use Rattle.satl_direct.specs.Turn.{Turn}
 use Rattle.satl_core.specs.Layer.{Layer, Tied, held_pages, view}
-use Rattle.satl_core.specs.Turning.{AreUnforced, data_in, ended_reply, lost_replies}
-use Rattle.satl_direct.specs.Senses.{link_lost}
+use Rattle.satl_core.specs.Turning.{AreUnforced, data_in, lost_replies}
 use Rattle.satl_core.proofs.DeviceLemmas.{idle_around, seen}
 use Rattle.satl_core.proofs.HeldLemmas.{first_count, first_kept, first_of, first_pages, none_left, pushed}
 use Rattle.satl_core.proofs.ServedLemmas.{turn_ends, turn_loses}
-use Rattle.satl_core.proofs.TurningLemmas.{all_pages, all_writable, checked_writable, entry_few, kept_few, lost_pages, lost_writable, one_pages, one_writable}
+use Rattle.satl_core.proofs.TurningLemmas.{all_pages, entry_few, kept_few, lost_all_writable, lost_pages, one_pages, one_writable}
 use Rattle.satl_core.proofs.UnforcedLemmas.{none_unforced, rest_unforced}
 use Rattle.satl_core.proofs.satl.Satl.turn.Goals as goal
 
@@ -105,9 +103,8 @@ returns-in-Err-clause-writable g c =
     let first = first_of c.self.inside.tasks c.remove-task.new.self c.remove-task.result c.remove-task.ensures.value c.remove-task.ensures.others in
     let kept = first_kept c.self.inside.identity c.self.inside.tasks c.remove-task.new.self c.remove-task.result c.self.invariant.kept first in
     let task : Entry = record c.remove-task.result { body = c.run_task.new.body } in
-    all_writable c.args.replies.now c.push-in-Err.new.self c.lose_tasks.new.replies (lost_replies c.self.inside.modes.d_sense c.remove-task.new.self) c.end_task-in-Err.result c.requires.empty c.push-in-Err.ensures c.lose_tasks.ensures.answers
-    (subst IsWritable (sym (c.end_task-in-Err.ensures.reply ∙ ap (λ e. ended_reply task e c.self.inside.modes.d_sense) c.link_lost.ensures)) (checked_writable task link_lost c.self.inside.modes.d_sense kept.0.expected))
-    (lost_writable c.self.inside.modes.d_sense c.self.inside.identity c.remove-task.new.self kept.1)
+    lost_all_writable c.args.replies.now c.push-in-Err.new.self c.lose_tasks.new.replies c.end_task-in-Err.result task c.link_lost.result c.self.inside.modes.d_sense c.self.inside.identity c.remove-task.new.self c.requires.empty c.push-in-Err.ensures c.lose_tasks.ensures.answers
+    c.end_task-in-Err.ensures.reply c.link_lost.ensures kept.0.expected kept.1
 
 pub returns-in-Ok-clause-unforced : goal.returns-in-Ok-clause-unforced
 returns-in-Ok-clause-unforced g c = λ free.
