@@ -16,7 +16,8 @@ use Rattle.satl_frame.specs.Progress.{HasRead, ReadTo}
 use Rattle.satl_frame.specs.Pulls.{cut_to}
 use Rattle.satl_frame.specs.Frames.{spelled}
 use Rattle.satl_frame.specs.declared.frames.Version.TheVariants.{Two}
-use Rattle.satl_frame.specs.Reading.{Gave, Reading}
+use Rattle.satl_frame.specs.declared.frames.FrameFault.{FrameFault}
+use Rattle.satl_frame.specs.Reading.{Blames, Gave, Reading}
 use Rattle.satl_frame.proofs.ProgressLemmas.{has_read_more}
 use Rattle.satl_line.specs.Tasks.{Held, entries_of}
 use Rattle.satl_line.proofs.SlotsLemmas.{All-append, All-left, All-right}
@@ -32,7 +33,10 @@ use Rattle.satl_core.specs.Layer.{Layer, view}
 use Rattle.satl_core.specs.Opening.{IsOpened}
 use Rattle.satl_core.specs.Submitting.{IsCutOf}
 use Rattle.satl_core.specs.Turning.{AreUnforced, AsksNoFua}
-use Rattle.satl_serve.specs.Runs.{Answered, AnsweredEnd, AsksNone, Ended, Going, IsFirst, IsPartWritten, IsServed, NoneForced, RunsTo, TookTurns}
+use Rattle.satl_serve.specs.declared.serving.ServeFault.{ServeFault}
+use Rattle.satl_serve.specs.declared.serving.ServeFault.TheVariants as faults
+use Rattle.satl_serve.specs.Runs.{Answered, AnsweredEnd, AsksNone, Ended, Going, IsFirst, IsNotBuilt, IsPartWritten, IsServed, IsStopped, IsStoppedBehind, NotServed, RunsTo, StoppedBehind, Tells, TookTurns}
+use Rattle.satl_serve.specs.Serving.{HasWriteCause}
 
 app-assoc : {X : Type 0} (xs ys zs : List X) → (xs ++ ys) ++ zs ≡ xs ++ (ys ++ zs)
 app-assoc [] ys zs = refl
@@ -209,9 +213,9 @@ going_ended first r r' a b c w w' w'' s new room limit frame going gave frame_is
       read = subst (λ l. ReadTo l Two place a c (going.events ++ frames.End ∷ [])) limit_is (subst (λ v. ReadTo r.limit v place a c (going.events ++ frames.End ∷ [])) newest_is (subst (λ f. ReadTo r.limit r.newest place a c (going.events ++ f ∷ [])) is read));
       wrote = subst (Wrote w w'') (sym (all_answered-append going.answers (map replied answered.replies ++ ended ∷ []))) (Wrote-more going.wrote answered.wrote);
       run = λ free.
-        let before = All-left AsksNone going.events (frames.End ∷ []) free in
-        let drains = answered.step (going.unforced before) in
-        runs_more first going.events going.answers s frames.End (map replied answered.replies ++ ended ∷ []) new drains.0 (going.run before) (answered.replies, refl, drains.1);
+          let before = All-left AsksNone going.events (frames.End ∷ []) free in
+          let drains = answered.step (going.unforced before) in
+          runs_more first going.events going.answers s frames.End (map replied answered.replies ++ ended ∷ []) new drains.0 (going.run before) (answered.replies, refl, drains.1);
     }
 
 pub stays_on : (a b c : Layer) (n m : ℕ) → b ≡ record a { free = b.free; out = b.out } → c ≡ record b { free = n; out = m } → c ≡ record a { free = c.free; out = c.out }
@@ -246,3 +250,81 @@ served limit old mid new l l' a c w w' w'' o magic e = record {
   run = e.run;
   ends = record { cells = refl; active = refl; glitches = refl; down = refl };
 }
+
+-- ---- where serving stops
+
+pub stopped_by : (limit : ℕ) (first : Device) (r : Reading) (a b c w w' w'' : Option (List ℕ)) (l : Layer) (s : Device) (why : FrameFault) (fault : ServeFault) → Going first r a b w w' s → r.limit ≡ limit → r.newest ≡ Two → Blames r b c why → Tells why w' w'' fault
+    → StoppedBehind limit first a c w w'' l s fault
+stopped_by limit first r a b c w w' w'' l s why (faults.Open opening) going limit_is newest_is blames tells = absurd tells
+stopped_by limit first r a b c w w' w'' l s why (faults.BadInput reason offset) going limit_is newest_is blames tells = record {
+  reader = r;
+  mid = b;
+  events = going.events;
+  answers = going.answers;
+  limit_is = limit_is;
+  newest_is = newest_is;
+  read = going.read;
+  blames = subst (Blames r b c) tells.0 blames;
+  wrote = Wrote-more going.wrote tells.1;
+  run = going.run;
+}
+stopped_by limit first r a b c w w' w'' l s why faults.Read going limit_is newest_is blames tells = record {
+  reader = r;
+  mid = b;
+  events = going.events;
+  answers = going.answers;
+  limit_is = limit_is;
+  newest_is = newest_is;
+  read = going.read;
+  blames = subst (Blames r b c) tells.0 blames;
+  wrote = subst (Wrote w w'') (sym (append-nil (all_answered going.answers))) (subst (λ x. Wrote w x (all_answered going.answers)) (sym tells.1) going.wrote);
+  run = going.run;
+}
+stopped_by limit first r a b c w w' w'' l s why faults.Write going limit_is newest_is blames tells = tt
+stopped_by limit first r a b c w w' w'' l s why faults.NotBuilt going limit_is newest_is blames tells = absurd tells
+
+pub not_served : (limit : ℕ) (first : Device) (r r' : Reading) (a b c w w' : Option (List ℕ)) (l : Layer) (s : Device) (room : ℕ) (frame : Frame) → Going first r a b w w' s → r.limit ≡ limit → r.newest ≡ Two → Gave r room frame r' b c → IsNotBuilt l frame
+    → NotServed limit first a c w w' l s
+not_served limit first r r' a b c w w' l s room frame going limit_is newest_is gave not_built = record {
+  reader = r;
+  reader' = r';
+  mid = b;
+  events = going.events;
+  answers = going.answers;
+  room = room;
+  frame = frame;
+  limit_is = limit_is;
+  newest_is = newest_is;
+  read = going.read;
+  gave = gave;
+  not_built = not_built;
+  wrote = going.wrote;
+  run = going.run;
+}
+
+-- a fault that comes from writing alone
+pub write_stops : (before now limit : ℕ) (first : Device) (a c w w' : Option (List ℕ)) (l : Layer) (s : Device) (fault : ServeFault) → HasWriteCause before now fault → StoppedBehind limit first a c w w' l s fault
+write_stops before now limit first a c w w' l s (faults.Open opening) h = absurd h
+write_stops before now limit first a c w w' l s (faults.BadInput reason offset) h = absurd h
+write_stops before now limit first a c w w' l s faults.Read h = absurd h
+write_stops before now limit first a c w w' l s faults.Write h = tt
+write_stops before now limit first a c w w' l s faults.NotBuilt h = absurd h
+
+behind : (limit : ℕ) (old mid new : DriveState) (l l' : Layer) (a c w w' w'' : Option (List ℕ)) (fault : ServeFault) → IsOpened old l mid → Wrote w w' out_magic → StoppedBehind limit (view l mid) a c w' w'' l' (view l' new) fault → IsStoppedBehind limit old a c w w'' new fault
+behind limit old mid new l l' a c w w' w'' fault o magic stopped = record {
+  first = view l mid;
+  last = view l' new;
+  layer = l';
+  behind = w';
+  begins = first_of old mid l o;
+  magic = magic;
+  stopped = stopped;
+  ends = record { cells = refl; active = refl; glitches = refl; down = refl };
+}
+
+pub stops : (limit : ℕ) (old mid new : DriveState) (l l' : Layer) (a c w w' w'' : Option (List ℕ)) (fault : ServeFault) → IsOpened old l mid → Wrote w w' out_magic → StoppedBehind limit (view l mid) a c w' w'' l' (view l' new) fault → IsStopped limit old a c w w'' new fault
+stops limit old mid new l l' a c w w' w'' (faults.Open opening) o magic stopped = absurd stopped
+stops limit old mid new l l' a c w w' w'' (faults.BadInput reason offset) o magic stopped = behind limit old mid new l l' a c w w' w'' (faults.BadInput reason offset) o magic stopped
+stops limit old mid new l l' a c w w' w'' faults.Read o magic stopped = behind limit old mid new l l' a c w w' w'' faults.Read o magic stopped
+stops limit old mid new l l' a c w w' w'' faults.Write o magic stopped = tt
+stops limit old mid new l l' a c w w' w'' faults.NotBuilt o magic stopped = behind limit old mid new l l' a c w w' w'' faults.NotBuilt o magic stopped

@@ -1,6 +1,6 @@
 -- What serving an input does: a run of the device over its frames, whose answers are written (profile).
-use Rattle.std.specs.Prelude.{◌≡◌, ◌⊎◌, ◌≤◌, ◌-◌, ℕ, true, false, List, [], ◌∷◌, ◌++◌, length, map, Option, Some, None, Ok}
-use Rattle.std.specs.List.{AllByRecursion}
+use Rattle.std.specs.Prelude.{◌≡◌, ◌⊎◌, ◌≤◌, ◌-◌, ℕ, true, false, List, [], ◌∷◌, ◌++◌, map, is_some, Option, Some, None, Ok}
+use Rattle.std.specs.List.{AllByRecursion, position_from}
 use Rattle.satl_base.specs.declared.reply.Reply.{Reply}
 use Rattle.satl_base.specs.Losses.{Loses}
 use Rattle.satl_io.specs.Known.{Wrote}
@@ -9,13 +9,19 @@ use Rattle.satl_frame.specs.declared.frames.Frame.{Frame}
 use Rattle.satl_frame.specs.declared.frames.Frame.TheVariants as frames
 use Rattle.satl_frame.specs.declared.frames.Place.{Place}
 use Rattle.satl_frame.specs.declared.frames.Version.TheVariants.{Two}
-use Rattle.satl_frame.specs.Output.{Answer, all_answered, out}
+use Rattle.satl_frame.specs.declared.frames.FrameFault.{FrameFault}
+use Rattle.satl_frame.specs.declared.frames.FrameFault.TheVariants.{Bad, ReadFault}
+use Rattle.satl_frame.specs.Output.{Answer, all_answered, fault_bytes, out, out_magic}
 use Rattle.satl_frame.specs.Output.Answer.{replied, ended}
 use Rattle.satl_frame.specs.Progress.{HasRead, ReadTo}
-use Rattle.satl_frame.specs.Reading.{Reading}
+use Rattle.satl_frame.specs.Reading.{Blames, Gave, Reading}
+use Rattle.satl_line.specs.Tasks.{is_named}
 use Rattle.satl_drive.specs.State.{DriveState}
 use Rattle.satl_direct.specs.Device.{Device}
 use Rattle.satl_direct.specs.Run.{Run, TurnsOf}
+use Rattle.satl_core.specs.Layer.{Layer}
+use Rattle.satl_serve.specs.declared.serving.ServeFault.{ServeFault}
+use Rattle.satl_serve.specs.declared.serving.ServeFault.TheVariants as faults
 use Rattle.satl_core.specs.Turning.{AreUnforced, AsksNoFua}
 
 -- a step of the device whose replies were written
@@ -110,3 +116,76 @@ pub record IsServed (limit : ℕ) (old : DriveState) (left left' written written
   pub wrote : Wrote written written' (out answers)
   pub run : NoneForced (events ++ frames.End ∷ []) → RunsTo first (events ++ frames.End ∷ []) answers last
   pub ends : IsLeftAs last new
+
+-- frames were read and carried out, and what follows was refused or not read; these bytes were written behind the answers
+pub record Refused (limit : ℕ) (first : Device) (left left' written written' : Option (List ℕ)) (why : FrameFault) (told : List ℕ) (last : Device) : Type 0 where
+  pub reader : Reading
+  pub mid : Option (List ℕ)
+  pub events : List Frame
+  pub answers : List Answer
+  pub limit_is : reader.limit ≡ limit
+  pub newest_is : reader.newest ≡ Two
+  pub read : HasRead reader left mid events
+  pub blames : Blames reader mid left' why
+  pub wrote : Wrote written written' (all_answered answers ++ told)
+  pub run : NoneForced events → RunsTo first events answers last
+
+-- a frame that is not carried out yet: a task management function, a bench event, and a request with the nexus and tag of a task
+abbrev pub IsNotBuilt : Layer → Frame → Type 0
+IsNotBuilt l (frames.Request r) = is_some (position_from (is_named r.nexus r.tag) 0 l.tasks) ≡ true
+IsNotBuilt l (frames.Manage m) = Unit {0}
+IsNotBuilt l (frames.Turn count) = ⊥
+IsNotBuilt l (frames.Bench event) = Unit {0}
+IsNotBuilt l frames.End = ⊥
+
+-- frames were read and carried out, and then one was read that is not built yet
+pub record NotServed (limit : ℕ) (first : Device) (left left' written written' : Option (List ℕ)) (l : Layer) (last : Device) : Type 0 where
+  pub reader : Reading
+  pub reader' : Reading
+  pub mid : Option (List ℕ)
+  pub events : List Frame
+  pub answers : List Answer
+  pub room : ℕ
+  pub frame : Frame
+  pub limit_is : reader.limit ≡ limit
+  pub newest_is : reader.newest ≡ Two
+  pub read : HasRead reader left mid events
+  pub gave : Gave reader room frame reader' mid left'
+  pub not_built : IsNotBuilt l frame
+  pub wrote : Wrote written written' (all_answered answers)
+  pub run : NoneForced events → RunsTo first events answers last
+
+-- how far serving came where it stopped with a fault; of a failed write only the cause is told
+abbrev pub StoppedBehind : ℕ → Device → Option (List ℕ) → Option (List ℕ) → Option (List ℕ) → Option (List ℕ) → Layer → Device → ServeFault → Type 0
+StoppedBehind limit first left left' written written' l last (faults.Open fault) = ⊥
+StoppedBehind limit first left left' written written' l last (faults.BadInput reason offset) = Refused limit first left left' written written' (Bad reason offset) (fault_bytes reason offset) last
+StoppedBehind limit first left left' written written' l last faults.Read = Refused limit first left left' written written' ReadFault [] last
+StoppedBehind limit first left left' written written' l last faults.Write = Unit {0}
+StoppedBehind limit first left left' written written' l last faults.NotBuilt = NotServed limit first left left' written written' l last
+
+-- a reader's refusal is told: a bad frame by a FAULT
+abbrev pub Tells : FrameFault → Option (List ℕ) → Option (List ℕ) → ServeFault → Type 0
+Tells fault written written' (faults.Open opening) = ⊥
+Tells fault written written' (faults.BadInput reason offset) = (fault ≡ Bad reason offset) × Wrote written written' (fault_bytes reason offset)
+Tells fault written written' faults.Read = (fault ≡ ReadFault) × (written' ≡ written)
+Tells fault written written' faults.Write = Unit {0}
+Tells fault written written' faults.NotBuilt = ⊥
+
+-- serving stopped: the layer was opened on the drive, the magic was written, and then it came so far
+pub record IsStoppedBehind (limit : ℕ) (old : DriveState) (left left' written written' : Option (List ℕ)) (new : DriveState) (fault : ServeFault) : Type 0 where
+  pub first : Device
+  pub last : Device
+  pub layer : Layer
+  pub behind : Option (List ℕ)
+  pub begins : IsFirst old first
+  pub magic : Wrote written behind out_magic
+  pub stopped : StoppedBehind limit first left left' behind written' layer last fault
+  pub ends : IsLeftAs last new
+
+-- the same, but for a layer that was not opened and for a failed write
+abbrev pub IsStopped : ℕ → DriveState → Option (List ℕ) → Option (List ℕ) → Option (List ℕ) → Option (List ℕ) → DriveState → ServeFault → Type 0
+IsStopped limit old left left' written written' new (faults.Open fault) = (left' ≡ left) × (written' ≡ written)
+IsStopped limit old left left' written written' new (faults.BadInput reason offset) = IsStoppedBehind limit old left left' written written' new (faults.BadInput reason offset)
+IsStopped limit old left left' written written' new faults.Read = IsStoppedBehind limit old left left' written written' new faults.Read
+IsStopped limit old left left' written written' new faults.Write = Unit {0}
+IsStopped limit old left left' written written' new faults.NotBuilt = IsStoppedBehind limit old left left' written written' new faults.NotBuilt

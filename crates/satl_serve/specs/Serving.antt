@@ -23,16 +23,6 @@ HasServeCause read_before read_now write_before write_now faults.Read = Rose rea
 HasServeCause read_before read_now write_before write_now faults.Write = Rose write_before write_now
 HasServeCause read_before read_now write_before write_now _ = Unit {0}
 
--- where the layer was not opened nothing was read or written
-abbrev pub IsUntouched : Option (List ℕ) → Option (List ℕ) → Option (List ℕ) → Option (List ℕ) → ServeFault → Type 0
-IsUntouched left left' written written' (faults.Open fault) = (left' ≡ left) × (written' ≡ written)
-IsUntouched left left' written written' _ = Unit {0}
-
--- a fault once the layer is open
-abbrev pub IsBehindOpen : ServeFault → Type 0
-IsBehindOpen (faults.Open fault) = ⊥
-IsBehindOpen _ = Unit {0}
-
 -- how many bytes of the input stand before the next frame; none where the magic was not read yet
 abbrev pub place_offset : Option Place → ℕ
 place_offset None = 0

@@ -13,9 +13,9 @@ ghost use Rattle.satl_direct.specs.Turn.{Turn};
 ghost use Rattle.satl_core.specs.Layer.{Tied, reply_pages, view};
 ghost use Rattle.satl_core.specs.Submitting.{CanSubmit, IsCutOf};
 ghost use Rattle.satl_core.specs.Turning.{AreUnforced, AsksNoFua};
-ghost use Rattle.satl_serve.specs.Runs.{Answered, AnsweredEnd, Ended, IsServed, TookTurns};
+ghost use Rattle.satl_serve.specs.Runs.{Answered, AnsweredEnd, Ended, IsServed, IsStopped, StoppedBehind, Tells, TookTurns};
 ghost use Rattle.satl_io.specs.Causes.{Rose};
-ghost use Rattle.satl_serve.specs.Serving.{AtRest, HasServeCause, HasWriteCause, IsBehindOpen, IsUntouched};
+ghost use Rattle.satl_serve.specs.Serving.{AtRest, HasServeCause, HasWriteCause};
 
 use satl_base::{Replies, Request, Steps};
 use satl_core::{OpenFault, Satl};
@@ -200,7 +200,7 @@ pub fn serve<S: Source, K: Sink, D: Bench, L: Ledger>(
     requires idle { (D.state drive.old).outstanding ≡ [] }
     requires fit { IsFit (D.state drive.old) }
     ensures served { OnOk result (IsServed 1099511627776 (D.state drive.old) (S.left source.old) (S.left source.new) (K.written sink.old) (K.written sink.new) (D.state drive.new)) }
-    ensures open { IfErr result (IsUntouched (S.left source.old) (S.left source.new) (K.written sink.old) (K.written sink.new)) }
+    ensures stopped { IfErr result (IsStopped 1099511627776 (D.state drive.old) (S.left source.old) (S.left source.new) (K.written sink.old) (K.written sink.new) (D.state drive.new)) }
     ensures causes { IfErr result (HasServeCause (S.faults source.old) (S.faults source.new) (K.faults sink.old) (K.faults sink.new)) }
 {
     let mut satl = Satl::open(alloc, drive, steps)?;
@@ -222,7 +222,7 @@ fn serve_frames<S: Source, K: Sink, D: Drive, L: Ledger>(
     requires rest { AtRest satl.old (D.state drive.old) }
     requires new { satl.old.tasks ≡ [] }
     ensures ended { OnOk result (Ended 1099511627776 (view satl.old (D.state drive.old)) (S.left source.old) (S.left source.new) (K.written sink.old) (K.written sink.new) (view satl.new (D.state drive.new))) }
-    ensures kind { IfErr result IsBehindOpen }
+    ensures stopped { IfErr result (StoppedBehind 1099511627776 (view satl.old (D.state drive.old)) (S.left source.old) (S.left source.new) (K.written sink.old) (K.written sink.new) satl.new (view satl.new (D.state drive.new))) }
     ensures causes { IfErr result (HasServeCause (S.faults source.old) (S.faults source.new) (K.faults sink.old) (K.faults sink.new)) }
 {
     let mut reader = FrameReader::new(alloc, LIMIT);
@@ -250,9 +250,8 @@ fn serve_frames<S: Source, K: Sink, D: Drive, L: Ledger>(
 /// Why serving stops at a reader's refusal: for a bad frame a FAULT is written first.
 fn refuse<K: Sink>(fault: FrameFault, sink: &mut K) -> ServeFault
     ensures later { K.faults sink.old ≤ K.faults sink.new }
-    ensures read { (result ≡ ServeFault.Read) → (fault ≡ FrameFault.ReadFault) }
+    ensures tells { Tells fault (K.written sink.old) (K.written sink.new) result }
     ensures write { (result ≡ ServeFault.Write) → Rose (K.faults sink.old) (K.faults sink.new) }
-    ensures kind { IsBehindOpen result }
 {
     match fault {
         FrameFault::ReadFault => ServeFault::Read,

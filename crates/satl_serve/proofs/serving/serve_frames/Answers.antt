@@ -6,7 +6,7 @@ use Rattle.satl_direct.specs.Run.{Drains}
 use Rattle.satl_core.specs.Turning.{AreUnforced}
 use Rattle.satl_core.specs.Layer.{Layer, view}
 use Rattle.satl_serve.specs.Runs.{AnsweredEnd, Going}
-use Rattle.satl_serve.proofs.RunLemmas.{going_ended, going_request, going_start, going_turn, on_ok}
+use Rattle.satl_serve.proofs.RunLemmas.{going_ended, going_request, going_start, going_turn, not_served, on_ok, stopped_by, write_stops}
 use Rattle.satl_serve.proofs.ServingLemmas.{can_submit}
 use Rattle.satl_serve.proofs.serving.serve_frames.Goals as goal
 
@@ -38,7 +38,7 @@ frames-preserved-in-Continue-1 g c =
       newest = ap (λ (r : Reading). r.newest) new ∙ c.frames.invariant.newest;
       limit = ap (λ (r : Reading). r.limit) new ∙ c.frames.invariant.limit;
       going = going_request first c.frames.reader c.next.new.self _ _ _ _ _ _ (view c.next.new.lender (g.D.Drive.state c.frames.drive)) (view c.serve_request.new.satl (g.D.Drive.state c.serve_request.new.drive)) _ c.in-Request.request c.in-Ok.frame
-        (subst (λ s. Going first c.frames.reader (g.S.Source.left c.args.source.now) (g.S.Source.left c.frames.source) (g.K.Sink.written c.args.sink.now) (g.K.Sink.written c.frames.sink) s) (sym same) c.frames.invariant.going) c.in-Ok.ensures.gave c.in-Request.is known.answered known.unforced;
+          (subst (λ s. Going first c.frames.reader (g.S.Source.left c.args.source.now) (g.S.Source.left c.frames.source) (g.K.Sink.written c.args.sink.now) (g.K.Sink.written c.frames.sink) s) (sym same) c.frames.invariant.going) c.in-Ok.ensures.gave c.in-Request.is known.answered known.unforced;
       read_later = omega (arith, c.frames.invariant.read_later, (c.in-Ok.ensures.causes c.frames.invariant.fresh).later);
       write_later = omega (arith, c.frames.invariant.write_later, known.later);
     }
@@ -56,7 +56,7 @@ frames-preserved g c =
       newest = ap (λ (r : Reading). r.newest) new ∙ c.frames.invariant.newest;
       limit = ap (λ (r : Reading). r.limit) new ∙ c.frames.invariant.limit;
       going = going_turn first c.frames.reader c.next.new.self _ _ _ _ _ _ (view c.next.new.lender (g.D.Drive.state c.frames.drive)) (view c.serve_turns.new.satl (g.D.Drive.state c.serve_turns.new.drive)) _ c.in-Turn.count c.in-Ok.frame
-        (subst (λ s. Going first c.frames.reader (g.S.Source.left c.args.source.now) (g.S.Source.left c.frames.source) (g.K.Sink.written c.args.sink.now) (g.K.Sink.written c.frames.sink) s) (sym same) c.frames.invariant.going) c.in-Ok.ensures.gave c.in-Turn.is known.answered known.unforced;
+          (subst (λ s. Going first c.frames.reader (g.S.Source.left c.args.source.now) (g.S.Source.left c.frames.source) (g.K.Sink.written c.args.sink.now) (g.K.Sink.written c.frames.sink) s) (sym same) c.frames.invariant.going) c.in-Ok.ensures.gave c.in-Turn.is known.answered known.unforced;
       read_later = omega (arith, c.frames.invariant.read_later, (c.in-Ok.ensures.causes c.frames.invariant.fresh).later);
       write_later = omega (arith, c.frames.invariant.write_later, known.later);
     }
@@ -68,4 +68,12 @@ returns-in-End-clause-ended g c =
     on_ok c.serve_end.result
     (AnsweredEnd (λ replies. AreUnforced (view c.next.new.lender (g.D.Drive.state c.frames.drive)) → (deep : ℕ) × Drains (view c.next.new.lender (g.D.Drive.state c.frames.drive)) replies (view c.serve_end.new.satl (g.D.Drive.state c.serve_end.new.drive)) deep) (g.K.Sink.written c.frames.sink) (g.K.Sink.written c.serve_end.new.sink)) _
     (going_ended first c.frames.reader c.next.new.self _ _ _ _ _ _ (view c.next.new.lender (g.D.Drive.state c.frames.drive)) (view c.serve_end.new.satl (g.D.Drive.state c.serve_end.new.drive)) _ _ c.in-Ok.frame
-      (subst (λ s. Going first c.frames.reader (g.S.Source.left c.args.source.now) (g.S.Source.left c.frames.source) (g.K.Sink.written c.args.sink.now) (g.K.Sink.written c.frames.sink) s) (sym same) c.frames.invariant.going) c.in-Ok.ensures.gave c.in-End.is c.frames.invariant.limit c.frames.invariant.newest) c.serve_end.ensures.ended
+    (subst (λ s. Going first c.frames.reader (g.S.Source.left c.args.source.now) (g.S.Source.left c.frames.source) (g.K.Sink.written c.args.sink.now) (g.K.Sink.written c.frames.sink) s) (sym same) c.frames.invariant.going) c.in-Ok.ensures.gave c.in-End.is c.frames.invariant.limit c.frames.invariant.newest) c.serve_end.ensures.ended
+
+pub returns-in-Err-clause-stopped : goal.returns-in-Err-clause-stopped
+returns-in-Err-clause-stopped g c =
+    let first = view c.args.satl.now (g.D.Drive.state c.args.drive.now) in
+    let same = ap (λ (l : Layer). view l (g.D.Drive.state c.frames.drive)) c.in-Err.ensures.rest in
+    stopped_by _ first c.frames.reader _ _ _ _ _ _ c.next.new.lender (view c.next.new.lender (g.D.Drive.state c.frames.drive)) c.in-Err.fault c.refuse.result
+    (subst (λ s. Going first c.frames.reader (g.S.Source.left c.args.source.now) (g.S.Source.left c.frames.source) (g.K.Sink.written c.args.sink.now) (g.K.Sink.written c.frames.sink) s) (sym same) c.frames.invariant.going) c.frames.invariant.limit c.frames.invariant.newest
+    (c.in-Err.ensures.blames c.frames.invariant.fresh) c.refuse.ensures.tells
