@@ -1,8 +1,7 @@
 -- Steps whose replies are written, and runs that grow.
-use Rattle.std.proofs.Common.{◌≡◌, ◌⊎◌, ⊎_elim, inl, inr, refl, sym, ap, subst, arith, ◌∙◌, ℕ, zero, suc, ◌+◌, ◌-◌, ◌≤◌, max, true, false, List, [], ◌∷◌, ◌++◌, length, map, take}
-use Rattle.std.specs.Prelude.{Option, Some, None, Ok, Err, Result, OnOk}
+use Rattle.std.proofs.Common.{◌≡◌, inr, refl, sym, ap, subst, arith, ◌∙◌, ℕ, ◌+◌, ◌-◌, ◌≤◌, max, List, [], ◌∷◌, ◌++◌, length, map, take}
+use Rattle.std.specs.Prelude.{Option, None, Ok, Err, Result, OnOk}
 use Rattle.std.proofs.lemmas.List.{append-nil}
-use Rattle.std.specs.List.{AllByRecursion}
 use Rattle.satl_base.specs.declared.reply.Reply.{Reply}
 use Rattle.satl_base.specs.declared.request.Request.{Request}
 use Rattle.satl_io.specs.Known.{Wrote}
@@ -10,7 +9,7 @@ use Rattle.satl_io.proofs.Joined.{Wrote-more, Wrote-none}
 use Rattle.satl_frame.specs.declared.frames.Frame.{Frame}
 use Rattle.satl_frame.specs.declared.frames.Frame.TheVariants as frames
 use Rattle.satl_frame.specs.declared.frames.Place.{Place}
-use Rattle.satl_frame.specs.Output.{Answer, all_answered, answer_bytes, end_bytes, out, out_magic, reply_bytes}
+use Rattle.satl_frame.specs.Output.{Answer, all_answered, answer_bytes, end_bytes, out_magic, reply_bytes}
 use Rattle.satl_frame.specs.Output.Answer.{replied, ended}
 use Rattle.satl_frame.specs.Progress.{HasRead, ReadTo}
 use Rattle.satl_frame.specs.Pulls.{cut_to}
@@ -25,7 +24,7 @@ use Rattle.satl_drive.specs.State.{DriveState}
 use Rattle.satl_direct.specs.Arrival.{Arrives}
 use Rattle.satl_direct.specs.Device.{Device, task_of}
 use Rattle.satl_direct.specs.Quiet.{Around}
-use Rattle.satl_direct.specs.Run.{Does, Drains, MayLose, Run, RunDeep, TurnsOf, depth, joined, losses_of}
+use Rattle.satl_direct.specs.Run.{Does, Drains, MayLose, depth, joined, losses_of}
 use Rattle.satl_direct.specs.Run.TurnsOf.{none, more}
 use Rattle.satl_direct.specs.Run.RunDeep.{start, step}
 use Rattle.satl_direct.specs.Turn.{Turn}

@@ -1,10 +1,9 @@
 -- A request that a reader gives may be handed to the layer.
-use Rattle.std.proofs.Common.{◌≡◌, ◌⊎◌, inl, inr, refl, sym, ap, subst, ◌∙◌, arith, ℕ, ◌+◌, ◌*◌, ◌/◌, ◌≤◌, true, false, List, length, take}
+use Rattle.std.proofs.Common.{◌≡◌, ◌⊎◌, inl, inr, refl, sym, ap, subst, ◌∙◌, arith, ℕ, ◌+◌, ◌*◌, ◌≤◌, true, false, List, length, take}
 use Rattle.std.specs.Prelude.{Option, Some, None, nat_lt}
 use Rattle.std.proofs.lemmas.Bool.{ltb-true, ltb-false}
 use Rattle.std.proofs.lemmas.List.{take_all, length-take-le}
 use Rattle.satl_base.specs.declared.request.Request.{Request}
-use Rattle.satl_frame.specs.DataPages.{page_count}
 use Rattle.satl_frame.specs.Frames.{HasExpected, IsFrame, IsRequest, data_out}
 use Rattle.satl_frame.specs.Pulls.{cut_to, frame_pages}
 use Rattle.satl_frame.specs.Reading.{Gave, Reading}

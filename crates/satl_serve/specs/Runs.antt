@@ -1,5 +1,5 @@
 -- What serving an input does: a run of the device over its frames, whose answers are written (profile).
-use Rattle.std.specs.Prelude.{◌≡◌, ◌⊎◌, ◌≤◌, ◌-◌, ℕ, true, false, List, [], ◌∷◌, ◌++◌, map, is_some, Option, Some, None, Ok}
+use Rattle.std.specs.Prelude.{◌≡◌, ℕ, true, false, List, [], ◌∷◌, ◌++◌, map, is_some, Option, Ok}
 use Rattle.std.specs.List.{AllByRecursion, position_from}
 use Rattle.satl_base.specs.declared.reply.Reply.{Reply}
 use Rattle.satl_base.specs.Losses.{Loses}

@@ -1,5 +1,5 @@
 -- What is kept between frames, and why serving stops.
-use Rattle.std.specs.Prelude.{◌≡◌, ℕ, List, Option, None, Some}
+use Rattle.std.specs.Prelude.{◌≡◌, ℕ, Option, None, Some}
 use Rattle.satl_io.specs.Causes.{Rose}
 use Rattle.satl_drive.specs.State.{DriveState}
 use Rattle.satl_frame.specs.declared.frames.Place.{Place}

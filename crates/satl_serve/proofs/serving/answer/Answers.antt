@@ -1,4 +1,4 @@
-use Rattle.std.proofs.Common.{◌+◌, arith, ap, subst, length}
+use Rattle.std.proofs.Common.{arith, ap, subst, length}
 use Rattle.std.specs.List.{AllByRecursion}
 use Rattle.satl_frame.specs.Output.{IsWritable}
 use Rattle.satl_core.specs.Layer.{reply_pages}

@@ -1,4 +1,4 @@
-use Rattle.std.proofs.Common.{◌≤◌, ◌∙◌, arith, ap, subst, sym, map, ℕ}
+use Rattle.std.proofs.Common.{◌∙◌, arith, ap, subst, sym, map, ℕ}
 use Rattle.satl_frame.specs.Reading.{Reading}
 use Rattle.satl_line.specs.Tasks.{entries_of}
 use Rattle.satl_direct.specs.Device.{task_of}
@@ -6,7 +6,7 @@ use Rattle.satl_direct.specs.Run.{Drains}
 use Rattle.satl_core.specs.Turning.{AreUnforced}
 use Rattle.satl_core.specs.Layer.{Layer, view}
 use Rattle.satl_serve.specs.Runs.{AnsweredEnd, Going}
-use Rattle.satl_serve.proofs.RunLemmas.{going_ended, going_request, going_start, going_turn, not_served, on_ok, stopped_by, write_stops}
+use Rattle.satl_serve.proofs.RunLemmas.{going_ended, going_request, going_start, going_turn, on_ok, stopped_by}
 use Rattle.satl_serve.proofs.ServingLemmas.{can_submit}
 use Rattle.satl_serve.proofs.serving.serve_frames.Goals as goal
 

@@ -1,4 +1,4 @@
-use Rattle.std.proofs.Common.{◌+◌, ◌-◌, arith, length}
+use Rattle.std.proofs.Common.{arith}
 use Rattle.satl_serve.proofs.RunLemmas.{turns_more, turns_none}
 use Rattle.satl_serve.proofs.serving.serve_turns.Goals as goal
 
