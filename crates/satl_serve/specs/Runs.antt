@@ -1,5 +1,5 @@
 -- What serving an input does: a run of the device over its frames, whose answers are written (profile).
-use Rattle.std.specs.Prelude.{◌≡◌, ℕ, true, false, List, [], ◌∷◌, ◌++◌, map, is_some, Option, Ok}
+use Rattle.std.specs.Prelude.{◌^◌, ◌≡◌, ℕ, true, false, List, [], ◌∷◌, ◌++◌, map, is_some, Option, Ok}
 use Rattle.std.specs.List.{AllByRecursion, position_from}
 use Rattle.satl_base.specs.declared.reply.Reply.{Reply}
 use Rattle.satl_base.specs.Losses.{Loses}
@@ -23,6 +23,10 @@ use Rattle.satl_core.specs.Layer.{Layer}
 use Rattle.satl_serve.specs.declared.serving.ServeFault.{ServeFault}
 use Rattle.satl_serve.specs.declared.serving.ServeFault.TheVariants as faults
 use Rattle.satl_core.specs.Turning.{AreUnforced, AsksNoFua}
+
+-- each frame of an input ends within 2^40 bytes
+abbrev pub input_limit : ℕ
+input_limit = 2 ^ 40
 
 -- a step of the device whose replies were written
 pub record Answered (Step : List Reply → Type 0) (written written' : Option (List ℕ)) : Type 0 where

@@ -13,7 +13,7 @@ ghost use Rattle.satl_direct.specs.Turn.{Turn};
 ghost use Rattle.satl_core.specs.Layer.{Tied, reply_pages, view};
 ghost use Rattle.satl_core.specs.Submitting.{CanSubmit, IsCutOf};
 ghost use Rattle.satl_core.specs.Turning.{AreUnforced, AsksNoFua};
-ghost use Rattle.satl_serve.specs.Runs.{Answered, AnsweredEnd, Ended, IsServed, IsStopped, StoppedBehind, Tells, TookTurns};
+ghost use Rattle.satl_serve.specs.Runs.{Answered, AnsweredEnd, Ended, IsServed, IsStopped, StoppedBehind, Tells, TookTurns, input_limit};
 ghost use Rattle.satl_io.specs.Causes.{Rose};
 ghost use Rattle.satl_serve.specs.Serving.{AtRest, HasServeCause, HasWriteCause};
 
@@ -199,8 +199,8 @@ pub fn serve<S: Source, K: Sink, D: Bench, L: Ledger>(
 ) -> Result<(), ServeFault>
     requires idle { (D.state drive.old).outstanding ≡ [] }
     requires fit { IsFit (D.state drive.old) }
-    ensures served { OnOk result (IsServed 1099511627776 (D.state drive.old) (S.left source.old) (S.left source.new) (K.written sink.old) (K.written sink.new) (D.state drive.new)) }
-    ensures stopped { IfErr result (IsStopped 1099511627776 (D.state drive.old) (S.left source.old) (S.left source.new) (K.written sink.old) (K.written sink.new) (D.state drive.new)) }
+    ensures served { OnOk result (IsServed input_limit (D.state drive.old) (S.left source.old) (S.left source.new) (K.written sink.old) (K.written sink.new) (D.state drive.new)) }
+    ensures stopped { IfErr result (IsStopped input_limit (D.state drive.old) (S.left source.old) (S.left source.new) (K.written sink.old) (K.written sink.new) (D.state drive.new)) }
     ensures causes { IfErr result (HasServeCause (S.faults source.old) (S.faults source.new) (K.faults sink.old) (K.faults sink.new)) }
 {
     let mut satl = Satl::open(alloc, drive, steps)?;
@@ -221,8 +221,8 @@ fn serve_frames<S: Source, K: Sink, D: Drive, L: Ledger>(
 ) -> Result<(), ServeFault>
     requires rest { AtRest satl.old (D.state drive.old) }
     requires new { satl.old.tasks ≡ [] }
-    ensures ended { OnOk result (Ended 1099511627776 (view satl.old (D.state drive.old)) (S.left source.old) (S.left source.new) (K.written sink.old) (K.written sink.new) (view satl.new (D.state drive.new))) }
-    ensures stopped { IfErr result (StoppedBehind 1099511627776 (view satl.old (D.state drive.old)) (S.left source.old) (S.left source.new) (K.written sink.old) (K.written sink.new) satl.new (view satl.new (D.state drive.new))) }
+    ensures ended { OnOk result (Ended input_limit (view satl.old (D.state drive.old)) (S.left source.old) (S.left source.new) (K.written sink.old) (K.written sink.new) (view satl.new (D.state drive.new))) }
+    ensures stopped { IfErr result (StoppedBehind input_limit (view satl.old (D.state drive.old)) (S.left source.old) (S.left source.new) (K.written sink.old) (K.written sink.new) satl.new (view satl.new (D.state drive.new))) }
     ensures causes { IfErr result (HasServeCause (S.faults source.old) (S.faults source.new) (K.faults sink.old) (K.faults sink.new)) }
 {
     let mut reader = FrameReader::new(alloc, LIMIT);

@@ -1,6 +1,7 @@
 // The top call.
 ghost use Rattle.std.specs.Prelude.{◌≡◌, ◌↔◌, [], false};
 ghost use Rattle.satl_drive.specs.State.{IsFit};
+ghost use Rattle.satl_serve.specs.Runs.{input_limit};
 ghost use Rattle.satl_top.specs.Top.{HasCause, Outcome, is_replay};
 
 use crate::status::Status;
@@ -37,7 +38,7 @@ pub fn satl<S: Source, K: Sink, D: Bench, L: Ledger>(
     requires idle { (D.state drive.old).outstanding ≡ [] }
     requires fit { IsFit (D.state drive.old) }
     ensures usage { (result ≡ Status.Usage) ↔ (is_replay words.now ≡ false) }
-    ensures outcome { Outcome 1099511627776 (D.state drive.old) (S.left source.old) (S.left source.new) (K.written sink.old) (K.written sink.new) (D.state drive.new) result }
+    ensures outcome { Outcome input_limit (D.state drive.old) (S.left source.old) (S.left source.new) (K.written sink.old) (K.written sink.new) (D.state drive.new) result }
     ensures causes { HasCause (S.faults source.old) (S.faults source.new) (K.faults sink.old) (K.faults sink.new) result }
 {
     if !is_replay(words) {
