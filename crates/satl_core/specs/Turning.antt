@@ -79,7 +79,7 @@ abbrev pub asks_fua : Command → Bool
 asks_fua (Write form lba count fua) = fua
 asks_fua _ = false
 
--- no write has to go past the cache: it is off, or no WRITE asks for FUA, which WRITE DMA EXT has not (ACS-3 7.62)
+-- no write has to go past the cache: it is off, or no WRITE asks for FUA, which WRITE DMA EXT has not (ACS-3)
 abbrev pub AreUnforced : Device → Type 0
 AreUnforced s = (s.modes.wce ≡ false) ⊎ AllByRecursion (λ t. asks_fua t.command ≡ false) s.tasks
 
@@ -101,7 +101,7 @@ abbrev pub aborted : Sense
 aborted = plain 0xB 0x00 0x00
 
 -- how a task ends by the end of its command: done where STATUS has no ERR; else the first that is set in ERROR tells why, ICRC,
--- UNC, or IDNF, and without them it was aborted (SAT-3 11, error mapping; ACS-3 6.2)
+-- UNC, or IDNF, and without them it was aborted (SAT-3 11, error mapping; ACS-3, ERROR field)
 abbrev pub ending_of : Command → Taskfile → Ending
 ending_of command ended =
     if not (is_set 0x01 ended.status) then endings.Good

@@ -32,7 +32,7 @@ use thiserror::Error;
 /// trims.
 const POOL_PAGES: u32 = 32_960;
 
-/// Why the layer is not opened.
+/// Why the layer is not opened (profile).
 #[derive(Clone, Copy, Debug, PartialEq, Eq, Error)]
 pub enum OpenFault {
     #[error("the layer does not serve this drive")]
@@ -79,7 +79,7 @@ impl Model for Satl {
 impl Satl {
     /// Opens the layer on a drive with nothing outstanding: it asks the drive for its IDENTIFY DEVICE data once, and takes all
     /// memory that it will use. `Identity`: the layer does not serve such a drive. `LinkDown`: the drive's link is lost.
-    /// `NoMemory` may come before or after the drive is asked.
+    /// `NoMemory` may come before or after the drive is asked (SAT-3; profile).
     pub fn open<D: Drive, L: Ledger>(
         alloc: Global,
         drive: &mut D,
@@ -223,7 +223,7 @@ impl Satl {
         self.tasks.find(nexus, tag).is_some()
     }
 
-    /// The number of tasks that wait, at most 64.
+    /// The number of tasks that wait, at most 64 (profile).
     pub fn pending(&self) -> usize
         ensures count { result ≡ length self.now.tasks }
         ensures few { length self.now.tasks ≤ 64 }
@@ -231,7 +231,7 @@ impl Satl {
         self.tasks.len()
     }
 
-    /// Hands pages out, with whatever they hold. None exactly where fewer are free.
+    /// Hands out pages of 512 bytes, with whatever they hold. None exactly where fewer are free (profile).
     pub fn take_pages(&mut self, n: u32) -> Option<Pages>
         ensures fewer { IsNone result ↔ (self.old.free < n) }
         ensures pages { IfSome result (λ pages. length pages ≡ n) }
@@ -242,7 +242,7 @@ impl Satl {
         self.pool.take(n)
     }
 
-    /// Takes pages back, at most as many as are out.
+    /// Takes pages back, at most as many as are out (profile).
     pub fn recycle(&mut self, pages: Pages)
         requires { length pages ≤ self.old.out }
         ensures given { self.new ≡ record self.old { free = self.old.free + length pages; out = self.new.out } }

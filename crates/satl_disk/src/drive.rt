@@ -56,7 +56,8 @@ impl Model for ModelDrive {
 }
 
 impl ModelDrive {
-    /// A drive of zeros without flaws, its link up, its cache and look-ahead on.
+    /// A drive of 1 to 65,536 sectors of zeros without flaws, its link up, its cache and look-ahead on. The error is want of
+    /// memory (profile).
     pub fn new(alloc: Global, sectors: u32) -> Result<ModelDrive, NoMemory>
         requires some { 1 ≤ sectors }
         requires few { sectors ≤ 65536 }

@@ -6,7 +6,7 @@ use Rattle.satl_base.specs.Identify.{capacity, has_cache, has_look, cache_is_on,
 use Rattle.satl_regs.specs.declared.values.Queued.{Queued}
 use Rattle.satl_regs.specs.Effects.{Medium}
 
--- a queued command with the blocks that it was issued with (ACS-3 7.16)
+-- a queued command with the blocks that it was issued with (ACS-3, FPDMA QUEUED commands)
 pub record Outstanding : Type 0 where
   pub command : Queued
   pub blocks : List Block
@@ -38,7 +38,7 @@ abbrev pub with_medium : DriveState → Medium → DriveState
 with_medium d m = record d { cells = m.cells; cache = m.cache; look = m.look; active = m.active; glitches = m.glitches; identify = m.identify }
 
 -- the IDENTIFY DEVICE data fit the drive: words 100 to 103 are its sectors; its settings are on only where it has them, and
--- word 85 tells them; where it trims, it takes a block of entries; its trims are queued only where it trims (ACS-3 7.12.7)
+-- word 85 tells them; where it trims, it takes a block of entries; its trims are queued only where it trims (ACS-3, IDENTIFY DEVICE)
 pub record IsFit (d : DriveState) : Type 0 where
   pub sectors : length d.cells ≡ d.capacity
   pub told : capacity d.identify ≡ d.capacity

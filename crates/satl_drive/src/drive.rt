@@ -7,7 +7,7 @@ use satl_base::{Pages, Steps};
 use satl_regs::{Registers, Taskfile};
 use std::sync::ledger::Ledger;
 
-/// The link to the drive is lost. Every later call answers so too, until the drive's power is cycled.
+/// The link to the drive is lost. Every later call answers so too (profile).
 #[derive(Clone, Copy, Debug, PartialEq, Eq)]
 pub struct LinkDown;
 
@@ -15,7 +15,9 @@ pub struct LinkDown;
 pub trait Drive {
     ghost state: { Self → DriveState };
 
-    /// Carries out one command that is not queued, with its data in the pages.
+    /// Carries out one command that is not queued, with its data in the pages: at least as many of 512 bytes as it moves
+    /// blocks (ACS-3). A bad end is told in the taskfile. `LinkDown` comes only where the count of faults rose, and data that
+    /// were under way may be written in part (profile).
     fn run<L: Ledger>(
         &mut self,
         regs: &Registers,

@@ -22,14 +22,14 @@ pub record Medium : Type 0 where
   pub glitches : ℕ
   pub identify : List ℕ
 
--- STATUS: DRDY, and with it ERR (ACS-3 6.3)
+-- STATUS: DRDY, and with it ERR (ACS-3, STATUS field)
 abbrev pub good_status : ℕ
 good_status = 0x40
 
 abbrev pub bad_status : ℕ
 bad_status = 0x41
 
--- ERROR: ICRC with ABRT, UNC, IDNF and ABRT (ACS-3 6.2)
+-- ERROR: ICRC with ABRT, UNC, IDNF and ABRT (ACS-3, ERROR field)
 abbrev pub icrc : ℕ
 icrc = 0x84
 
@@ -42,15 +42,15 @@ idnf = 0x10
 abbrev pub abrt : ℕ
 abrt = 0x04
 
--- a good end, with what COUNT and LBA tell (ACS-3 9, normal outputs)
+-- a good end, with what COUNT and LBA tell (ACS-3, normal outputs)
 abbrev pub good_end : Registers → ℕ → ℕ → Taskfile
 good_end r count lba = record { error = 0; count = count; lba = lba; device = r.device; status = good_status }
 
--- a bad end, with the error and an LBA (ACS-3 9, error outputs)
+-- a bad end, with the error and an LBA (ACS-3, error outputs)
 abbrev pub bad_end : Registers → ℕ → ℕ → Taskfile
 bad_end r error lba = record { error = error; count = 0; lba = lba; device = r.device; status = bad_status }
 
--- a bad end at a flawed address: with a 28-bit address its top four bits stand in DEVICE(3:0) (ACS-3 7.1)
+-- a bad end at a flawed address: with a 28-bit address its top four bits stand in DEVICE(3:0) (ACS-3, 28-bit commands)
 abbrev pub flawed_end : Registers → Bool → ℕ → Taskfile
 flawed_end r ext at =
     if ext then bad_end r unc at
@@ -73,11 +73,11 @@ is_dma PioExt = false
 is_dma Dma = true
 is_dma DmaExt = true
 
--- READ SECTOR(S), READ DMA and their EXT forms (ACS-3 7.23, 7.26)
+-- READ SECTOR(S), READ DMA and their EXT forms (ACS-3, commands of these names)
 abbrev pub reading : How → ℕ → ℕ → Medium → Transfer
 reading how lba sectors m = record { ext = is_ext how; dma = is_dma how; stopped_by = flaws.Read; lba = lba; sectors = sectors; writes = []; reads = nows m.cells lba sectors }
 
--- WRITE SECTOR(S), WRITE DMA and their EXT forms: through the cache where it is on (ACS-3 7.58, 7.62)
+-- WRITE SECTOR(S), WRITE DMA and their EXT forms: through the cache where it is on (ACS-3, commands of these names)
 abbrev pub writing : How → ℕ → ℕ → List Block → Medium → Transfer
 writing how lba sectors given m = record { ext = is_ext how; dma = is_dma how; stopped_by = flaws.Write; lba = lba; sectors = sectors; writes = pairs_from lba (take sectors given) m.cache; reads = [] }
 
@@ -119,7 +119,7 @@ Carries r t old given ended taken new =
     (IsCarriedOut r t old given ended taken new ⊎ IsGarbled r t old given ended taken new)
     (λ at. IsFlawed r t at old given ended taken new))
 
--- IDENTIFY DEVICE: the data stand in the first page (ACS-3 7.12)
+-- IDENTIFY DEVICE: the data stand in the first page (ACS-3, IDENTIFY DEVICE)
 pub record IsIdentified (r : Registers) (old : Medium) (given : List Block) (ended : Taskfile) (taken : List Block) (new : Medium) : Type 0 where
   pub ends : ended ≡ good_end r 0 0
   pub data_in : taken ≡ record { bytes = old.identify } ∷ drop 1 given

@@ -1,6 +1,6 @@
 // Registers, and the commands that they spell.
 
-/// What a host writes to start a command (ACS-3 7.1). LBA has 48 bits.
+/// What a host writes to start a command (ACS-3, command inputs). LBA has 48 bits.
 #[derive(Clone, Copy, Debug, PartialEq, Eq)]
 pub struct Registers {
     pub features: u16,
@@ -10,7 +10,7 @@ pub struct Registers {
     pub command: u8,
 }
 
-/// What the drive answers at the end of a command (ACS-3 9). LBA has 48 bits.
+/// What the drive answers at the end of a command (ACS-3, normal and error outputs). LBA has 48 bits.
 #[derive(Clone, Copy, Debug, PartialEq, Eq)]
 pub struct Taskfile {
     pub error: u8,
@@ -20,7 +20,7 @@ pub struct Taskfile {
     pub status: u8,
 }
 
-/// What a queued command does (ACS-3 7.16, 7.63; the queued trim is the profile's form of SEND FPDMA QUEUED).
+/// What a queued command does (ACS-3, READ FPDMA QUEUED and WRITE FPDMA QUEUED; the queued trim is the profile's form of SEND FPDMA QUEUED).
 #[derive(Clone, Copy, Debug, PartialEq, Eq)]
 pub enum QueuedKind {
     Read,
@@ -48,7 +48,7 @@ pub enum How {
     DmaExt,
 }
 
-/// An ATA command that is not queued (ACS-3 7). Sectors and blocks are of 512 bytes, 1 to 65,536 of them, or 1 to 256 with
+/// An ATA command that is not queued (ACS-3 section 7). Sectors and blocks are of 512 bytes, 1 to 65,536 of them, or 1 to 256 with
 /// a 28-bit address.
 #[derive(Clone, Copy, Debug, PartialEq, Eq)]
 pub enum AtaCommand {

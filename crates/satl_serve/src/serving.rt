@@ -26,14 +26,14 @@ use std::alloc::Global;
 use std::sync::ledger::Ledger;
 use thiserror::Error;
 
-/// How the output is written.
+/// How the output is written (profile).
 #[derive(Clone, Copy, Debug, PartialEq, Eq)]
 pub enum Form {
     /// As frames (profile).
     Frames,
 }
 
-/// Why serving stopped before the end of the input.
+/// Why serving stopped before the end of the input (profile).
 #[derive(Clone, Copy, Debug, PartialEq, Eq, Error)]
 pub enum ServeFault {
     #[error("the layer was not opened")]
