@@ -1,5 +1,5 @@
 -- The tasks of the layer and their pages.
-use Rattle.std.proofs.Common.{◌≡◌, refl, sym, ap, subst, ◌∙◌, arith, ℕ, suc, ◌+◌, Bool, false, List, [], ◌∷◌, ◌++◌, length, Some}
+use Rattle.std.proofs.Common.{◌≡◌, append_assoc, refl, sym, ap, subst, ◌∙◌, arith, ℕ, suc, ◌+◌, Bool, false, List, [], ◌∷◌, ◌++◌, length, Some}
 use Rattle.std.specs.Prelude.{Result, Ok, Err, OnOk, is_err, remove, slice_get}
 use Rattle.std.specs.List.{AllByRecursion}
 use Rattle.satl_base.specs.declared.reply.Reply.{Reply}
@@ -47,23 +47,15 @@ first_kept identity tasks rest entry all first =
     let both : IsKept identity first.held × AllByRecursion (IsKept identity) rest = subst (λ x. AllByRecursion (IsKept identity) x) first.are all in
     (subst (IsKeptEntry identity) first.entry_is (record { pages = both.0.pages; transfer = both.0.transfer; kind = both.0.kind; expected = both.0.expected }), both.1)
 
-app-assoc : {X : Type 0} (xs ys zs : List X) → (xs ++ ys) ++ zs ≡ xs ++ (ys ++ zs)
-app-assoc [] ys zs = refl
-app-assoc (x ∷ xs) ys zs = ap (λ l. x ∷ l) (app-assoc xs ys zs)
-
 -- answering the first task leaves the answers of all as they are
 pub first_lost : (descriptor : Bool) (tasks rest : List Held) (entry : Entry) (replies replies' all : List Reply) → IsFirst tasks entry rest → replies ++ lost_replies descriptor tasks ≡ all
     → replies' ≡ replies ++ ended_reply entry (endings.Check link_lost) descriptor ∷ [] → replies' ++ lost_replies descriptor rest ≡ all
 first_lost descriptor tasks rest entry replies replies' all first whole pushed =
     let r = ended_reply entry (endings.Check link_lost) descriptor in
-    ap (λ l. l ++ lost_replies descriptor rest) pushed ∙ (app-assoc replies (r ∷ []) (lost_replies descriptor rest) ∙ (ap (λ l. replies ++ l) here ∙ whole))
+    ap (λ l. l ++ lost_replies descriptor rest) pushed ∙ (append_assoc replies (r ∷ []) (lost_replies descriptor rest) ∙ (ap (λ l. replies ++ l) here ∙ whole))
   where
     here : ended_reply entry (endings.Check link_lost) descriptor ∷ lost_replies descriptor rest ≡ lost_replies descriptor tasks
     here = rw first.are (ap (λ (e : Entry). ended_reply e (endings.Check link_lost) descriptor ∷ lost_replies descriptor rest) (sym first.entry_is))
-
-pub app-none : {X : Type 0} (xs : List X) → xs ++ [] ≡ xs
-app-none [] = refl
-app-none (x ∷ xs) = ap (λ l. x ∷ l) (app-none xs)
 
 pub none_left : (tasks : List Held) → length tasks ≡ 0 → tasks ≡ []
 none_left [] e = refl

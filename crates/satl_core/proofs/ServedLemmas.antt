@@ -1,6 +1,7 @@
 -- A task that the drive carries out ends as the device says.
 use Rattle.std.proofs.Common.{◌≡◌, ◌⊎◌, ⊎_elim, inl, inr, refl, sym, ap, subst, ◌∙◌, arith, ℕ, ◌+◌, ◌-◌, ◌≤◌, true, false, Bool, List, [], ◌∷◌, ◌++◌, length, map, take, drop, Some, None, length-drop}
 use Rattle.std.specs.Prelude.{MatchBool, MatchOption, not, ◌&&◌, if◌then◌else◌, slice_range}
+use Rattle.std.proofs.lemmas.List.{append-nil}
 use Rattle.std.specs.List.{AllByRecursion}
 use Rattle.std.proofs.lemmas.Bool.{le-ltb}
 use Rattle.std.proofs.lemmas.List.{drop_all, length-map, length-take, take_all}
@@ -46,7 +47,7 @@ use Rattle.satl_core.specs.Layer.{IsKept, IsTransfer, Tied}
 use Rattle.satl_core.specs.Turning as core
 use Rattle.satl_core.specs.Turning.{AreUnforced, IsLostInTask, TaskEnds, asks_fua, ata_command, ended_reply, ending_of, flaw_sense, read_pages}
 use Rattle.satl_core.proofs.DeviceLemmas.{all_lost, ends_around, ends_down, ends_on_medium, ends_stopped, first_checked, first_gone, first_tasks, quiet_none, quiet_same, seen}
-use Rattle.satl_core.proofs.HeldLemmas.{IsFirst, IsKeptEntry, app-none, first_kept}
+use Rattle.satl_core.proofs.HeldLemmas.{IsFirst, IsKeptEntry, first_kept}
 use Rattle.satl_core.proofs.Transfers.{of_transfer}
 
 -- ---- transfers
@@ -115,7 +116,7 @@ serves_read capacity modes r d entry form lba count fua t kind size sectors =
       ext = refl;
       flaw = refl;
       writes = refl;
-      data_in = λ taken is. is ∙ (ap (λ l. nows d.cells lba count ++ l) none ∙ app-none (nows d.cells lba count));
+      data_in = λ taken is. is ∙ (ap (λ l. nows d.cells lba count ++ l) none ∙ append-nil (nows d.cells lba count));
       error = λ at. refl;
     }
 

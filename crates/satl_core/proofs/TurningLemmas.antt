@@ -1,6 +1,7 @@
 -- What a turn leaves of a drive, and the answers to tasks.
 use Rattle.std.proofs.Common.{◌≡◌, ⊎_elim, refl, sym, ap, subst, ◌∙◌, arith, ℕ, ◌+◌, ◌≤◌, true, false, Bool, List, [], ◌∷◌, ◌++◌, length}
 use Rattle.std.specs.Prelude.{MatchBool, MatchOption, nat_lt, Some, None, ◌⊎◌}
+use Rattle.std.proofs.lemmas.List.{append-nil}
 use Rattle.std.specs.List.{AllByRecursion}
 use Rattle.satl_base.specs.declared.block.Block.{Block}
 use Rattle.satl_base.specs.declared.reply.Reply.{Reply}
@@ -24,7 +25,7 @@ use Rattle.satl_direct.specs.Senses.{link_lost}
 use Rattle.satl_core.specs.declared.turning.Ending.{Ending}
 use Rattle.satl_core.specs.declared.turning.Ending.TheVariants as endings
 use Rattle.satl_core.specs.Layer.{IsExpectable, IsKept, IsTransfer, reply_pages}
-use Rattle.satl_core.proofs.HeldLemmas.{IsKeptEntry, app-none}
+use Rattle.satl_core.proofs.HeldLemmas.{IsKeptEntry}
 use Rattle.satl_core.proofs.Transfers.{of_transfer, transfer_few}
 use Rattle.satl_core.specs.Turning.{Stays, ata_command, data_in, ended_reply, lost_replies, read_pages}
 
@@ -108,7 +109,7 @@ all_pages given pushed all more r none push is = rw (is, push, none) refl
 
 -- the one reply to a task that ends
 pub one_writable : (given all : List Reply) (r : Reply) (entry : Entry) (ending : Ending) (descriptor : Bool) → given ≡ [] → all ≡ given ++ r ∷ [] → r ≡ ended_reply entry ending descriptor → length entry.body ≤ 4096 → IsExpectable entry.expected → AllByRecursion IsWritable all
-one_writable given all r entry ending descriptor none push is few expected = all_writable given all all [] r none push (sym (app-none all)) (subst IsWritable (sym is) (ended_writable entry ending descriptor few expected)) tt
+one_writable given all r entry ending descriptor none push is few expected = all_writable given all all [] r none push (sym (append-nil all)) (subst IsWritable (sym is) (ended_writable entry ending descriptor few expected)) tt
 
 -- the replies to all tasks at a lost link
 pub lost_all_writable : (given pushed all : List Reply) (r : Reply) (entry : Entry) (ending : Ending) (descriptor : Bool) (identity : Identity) (rest : List Held) → given ≡ [] → pushed ≡ given ++ r ∷ [] → all ≡ pushed ++ lost_replies descriptor rest
@@ -118,7 +119,7 @@ lost_all_writable given pushed all r entry ending descriptor identity rest none 
     all_writable given pushed all (lost_replies descriptor rest) r none push more (subst IsWritable (sym reply) (checked_writable entry link_lost descriptor expected)) (lost_writable descriptor identity rest kept)
 
 pub one_pages : (given all : List Reply) (r : Reply) → given ≡ [] → all ≡ given ++ r ∷ [] → reply_pages all ≡ length r.body
-one_pages given all r none push = let whole = all_pages given all all [] r none push (sym (app-none all)) in omega (arith, whole)
+one_pages given all r none push = let whole = all_pages given all all [] r none push (sym (append-nil all)) in omega (arith, whole)
 
 pub entry_few : (identity : Identity) (entry : Entry) → IsKeptEntry identity entry → length entry.body ≤ 4096
 entry_few identity entry kept = let few = transfer_few identity.capacity entry.blocks entry.command kept.transfer in omega (arith, few, kept.pages)

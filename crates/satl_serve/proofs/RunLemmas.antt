@@ -1,5 +1,5 @@
 -- Steps whose replies are written, and runs that grow.
-use Rattle.std.proofs.Common.{◌≡◌, inr, refl, sym, ap, subst, arith, ◌∙◌, ℕ, ◌+◌, ◌-◌, ◌≤◌, max, List, [], ◌∷◌, ◌++◌, length, map, take}
+use Rattle.std.proofs.Common.{◌≡◌, append_assoc, inr, refl, sym, ap, subst, arith, ◌∙◌, ℕ, ◌+◌, ◌-◌, ◌≤◌, max, List, [], ◌∷◌, ◌++◌, length, map, take}
 use Rattle.std.specs.Prelude.{Option, None, Ok, Err, Result, OnOk}
 use Rattle.std.proofs.lemmas.List.{append-nil}
 use Rattle.satl_base.specs.declared.reply.Reply.{Reply}
@@ -37,10 +37,6 @@ use Rattle.satl_serve.specs.declared.serving.ServeFault.TheVariants as faults
 use Rattle.satl_serve.specs.Runs.{Answered, AnsweredEnd, AsksNone, Ended, Going, IsFirst, IsNotBuilt, IsPartWritten, IsServed, IsStopped, IsStoppedBehind, NotServed, RunsTo, StoppedBehind, Tells, TookTurns}
 use Rattle.satl_serve.specs.Serving.{HasWriteCause}
 
-app-assoc : {X : Type 0} (xs ys zs : List X) → (xs ++ ys) ++ zs ≡ xs ++ (ys ++ zs)
-app-assoc [] ys zs = refl
-app-assoc (x ∷ xs) ys zs = ap (λ l. x ∷ l) (app-assoc xs ys zs)
-
 -- what follows of what holds where all went well
 pub on_ok : {A E : Type 0} (r : Result A E) (P Q : Type 0) → (P → Q) → OnOk r P → OnOk r Q
 on_ok (Ok x) P Q f p = f p
@@ -49,7 +45,7 @@ on_ok (Err e) P Q f p = tt
 -- the bytes of answers one after the other
 pub all_answered-append : (xs ys : List Answer) → all_answered (xs ++ ys) ≡ all_answered xs ++ all_answered ys
 all_answered-append [] ys = refl
-all_answered-append (x ∷ xs) ys = ap (λ l. answer_bytes x ++ l) (all_answered-append xs ys) ∙ sym (app-assoc (answer_bytes x) (all_answered xs) (all_answered ys))
+all_answered-append (x ∷ xs) ys = ap (λ l. answer_bytes x ++ l) (all_answered-append xs ys) ∙ sym (append_assoc (answer_bytes x) (all_answered xs) (all_answered ys))
 
 map-append : (xs ys : List Reply) → map replied (xs ++ ys) ≡ map replied xs ++ map replied ys
 map-append [] ys = refl
@@ -65,7 +61,7 @@ pub part_more : (a b c : Option (List ℕ)) (left left' : List Reply) (reply : R
 part_more a b c left left' reply all p is wrote = record {
   done = p.done ++ reply_bytes reply;
   wrote = Wrote-more p.wrote wrote;
-  whole = app-assoc p.done (reply_bytes reply) (all_answered (map replied left')) ∙ (ap (λ l. p.done ++ all_answered (map replied l)) (sym is) ∙ p.whole);
+  whole = append_assoc p.done (reply_bytes reply) (all_answered (map replied left')) ∙ (ap (λ l. p.done ++ all_answered (map replied l)) (sym is) ∙ p.whole);
 }
 
 pub part_all : (a b : Option (List ℕ)) (left : List Reply) (all : List ℕ) → length left ≡ 0 → IsPartWritten a b (all_answered (map replied left)) all → Wrote a b all
@@ -107,7 +103,7 @@ drained n l new d d' a b c all few turns end = record {
 
 joined-push : (groups : List (List Answer)) (now : List Answer) → joined (groups ++ now ∷ []) ≡ joined groups ++ now
 joined-push [] now = append-nil now
-joined-push (g ∷ groups) now = ap (λ l. g ++ l) (joined-push groups now) ∙ sym (app-assoc g (joined groups) now)
+joined-push (g ∷ groups) now = ap (λ l. g ++ l) (joined-push groups now) ∙ sym (append_assoc g (joined groups) now)
 
 runs_more : (first : Device) (events : List Frame) (answers : List Answer) (s : Device) (event : Frame) (now : List Answer) (new : Device) (d : ℕ) → RunsTo first events answers s → Does event s now new d → RunsTo first (events ++ event ∷ []) (answers ++ now) new
 runs_more first events answers s event now new d r does = record {
