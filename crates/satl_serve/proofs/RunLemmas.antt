@@ -1,15 +1,16 @@
 -- Steps whose replies are written, and runs that grow.
-use Rattle.std.proofs.Common.{◌≡◌, append_assoc, inr, refl, sym, ap, subst, arith, ◌∙◌, ℕ, ◌+◌, ◌-◌, ◌≤◌, max, List, [], ◌∷◌, ◌++◌, length, map, take}
-use Rattle.std.specs.Prelude.{Option, None, Ok, Err, Result, OnOk}
+use Rattle.std.proofs.Common.{◌≡◌, append_assoc, inl, inr, ⊎_elim, suc, refl, sym, ap, subst, arith, ◌∙◌, ℕ, ◌+◌, ◌-◌, ◌≤◌, max, List, [], ◌∷◌, ◌++◌, length, map, take}
+use Rattle.std.specs.Prelude.{Option, None, Ok, Err, Result, IfErr, OnErr, OnOk}
+use Rattle.std.specs.Result.{IsErrAnd}
 use Rattle.std.proofs.lemmas.List.{append-nil}
 use Rattle.satl_base.specs.declared.reply.Reply.{Reply}
 use Rattle.satl_base.specs.declared.request.Request.{Request}
-use Rattle.satl_io.specs.Known.{Wrote}
-use Rattle.satl_io.proofs.Joined.{Wrote-more, Wrote-none}
+use Rattle.satl_io.specs.Known.{Wrote, WrotePart}
+use Rattle.satl_io.proofs.Joined.{Wrote-more, Wrote-none, WrotePart-front, WrotePart-more}
 use Rattle.satl_frame.specs.declared.frames.Frame.{Frame}
 use Rattle.satl_frame.specs.declared.frames.Frame.TheVariants as frames
 use Rattle.satl_frame.specs.declared.frames.Place.{Place}
-use Rattle.satl_frame.specs.Output.{Answer, all_answered, answer_bytes, end_bytes, out_magic, reply_bytes}
+use Rattle.satl_frame.specs.Output.{Answer, all_answered, answer_bytes, end_bytes, fault_bytes, out_magic, reply_bytes}
 use Rattle.satl_frame.specs.Output.Answer.{replied, ended}
 use Rattle.satl_frame.specs.Progress.{HasRead, ReadTo}
 use Rattle.satl_frame.specs.Pulls.{cut_to}
@@ -24,9 +25,10 @@ use Rattle.satl_drive.specs.State.{DriveState}
 use Rattle.satl_direct.specs.Arrival.{Arrives}
 use Rattle.satl_direct.specs.Device.{Device, task_of}
 use Rattle.satl_direct.specs.Quiet.{Around}
-use Rattle.satl_direct.specs.Run.{Does, Drains, MayLose, depth, joined, losses_of}
+use Rattle.satl_direct.specs.Run.{CutTurns, Does, Drains, MayLose, depth, joined, losses_of}
 use Rattle.satl_direct.specs.Run.TurnsOf.{none, more}
 use Rattle.satl_direct.specs.Run.RunDeep.{start, step}
+use Rattle.satl_direct.specs.Run.RunCut.{cut_run, whole_run}
 use Rattle.satl_direct.specs.Turn.{Turn}
 use Rattle.satl_core.specs.Layer.{Layer, view}
 use Rattle.satl_core.specs.Opening.{IsOpened}
@@ -34,13 +36,21 @@ use Rattle.satl_core.specs.Submitting.{IsCutOf}
 use Rattle.satl_core.specs.Turning.{AreUnforced, AsksNoFua}
 use Rattle.satl_serve.specs.declared.serving.ServeFault.{ServeFault}
 use Rattle.satl_serve.specs.declared.serving.ServeFault.TheVariants as faults
-use Rattle.satl_serve.specs.Runs.{Answered, AnsweredEnd, AsksNone, Ended, Going, IsFirst, IsNotBuilt, IsPartWritten, IsServed, IsStopped, IsStoppedBehind, NotServed, RunsTo, StoppedBehind, Tells, TookTurns}
+use Rattle.satl_serve.specs.Runs.{Answered, AnsweredEnd, AnsweredPart, AsksNone, Cut, CutsTo, Ended, EndsPart, Going, IsFirst, IsNotBuilt, IsPartWritten, IsServed, IsStopped, IsStoppedBehind, NoneForced, NotServed, RunsTo, StoppedBehind, Tells, TookSome, TookTurns}
 use Rattle.satl_serve.specs.Serving.{HasWriteCause}
 
 -- what follows of what holds where all went well
 pub on_ok : {A E : Type 0} (r : Result A E) (P Q : Type 0) → (P → Q) → OnOk r P → OnOk r Q
 on_ok (Ok x) P Q f p = f p
 on_ok (Err e) P Q f p = tt
+
+pub on_err : {A E : Type 0} (r : Result A E) (P Q : Type 0) → (P → Q) → OnErr r P → OnErr r Q
+on_err (Ok x) P Q f p = tt
+on_err (Err e) P Q f p = f p
+
+pub any_err : {A E : Type 0} (r : Result A E) (P : Type 0) → P → OnErr r P
+any_err (Ok x) P p = tt
+any_err (Err e) P p = p
 
 -- the bytes of answers one after the other
 pub all_answered-append : (xs ys : List Answer) → all_answered (xs ++ ys) ≡ all_answered xs ++ all_answered ys
@@ -64,6 +74,11 @@ part_more a b c left left' reply all p is wrote = record {
   whole = append_assoc p.done (reply_bytes reply) (all_answered (map replied left')) ∙ (ap (λ l. p.done ++ all_answered (map replied l)) (sym is) ∙ p.whole);
 }
 
+-- of the first of the replies left a front was written
+pub part_stops : (a b c : Option (List ℕ)) (left left' : List Reply) (reply : Reply) (all : List ℕ) → IsPartWritten a b (all_answered (map replied left)) all → left ≡ reply ∷ left' → WrotePart b c (reply_bytes reply) → WrotePart a c all
+part_stops a b c left left' reply all p is part =
+    subst (WrotePart a c) (ap (λ l. p.done ++ all_answered (map replied l)) (sym is) ∙ p.whole) (WrotePart-more p.wrote (WrotePart-front (all_answered (map replied left')) part))
+
 pub part_all : (a b : Option (List ℕ)) (left : List Reply) (all : List ℕ) → length left ≡ 0 → IsPartWritten a b (all_answered (map replied left)) all → Wrote a b all
 part_all a b [] all empty p = subst (Wrote a b) (sym (append-nil p.done) ∙ p.whole) p.wrote
 part_all a b (x ∷ left) all empty p = absurd cc
@@ -86,6 +101,13 @@ turns_more n s mid new P Q a b c keeps first rest = record {
   wrote = subst (Wrote a c) (sym (ap all_answered (map-append first.replies rest.replies) ∙ all_answered-append (map replied first.replies) (map replied rest.replies))) (Wrote-more first.wrote rest.wrote);
 }
 
+pub turns_cut : (n count : ℕ) (s mid new : Device) (P Q : Type 0) (a b c : Option (List ℕ)) → n + 1 ≤ count → (P → Q) → Answered (λ replies. P → TookTurns n s replies mid) a b → AnsweredPart (λ replies. Q → Around Turn mid replies new) b c → AnsweredPart (λ replies. P → TookSome count s replies new) a c
+turns_cut n count s mid new P Q a b c few keeps first rest = record {
+  replies = first.replies ++ rest.replies;
+  step = λ p. let before = first.step p in record { taken = suc n; deep = max before.deep (depth new); most = omega (arith, few); turns = more before.turns (rest.step (keeps p)) };
+  part = subst (WrotePart a c) (sym (ap all_answered (map-append first.replies rest.replies) ∙ all_answered-append (map replied first.replies) (map replied rest.replies))) (WrotePart-more first.wrote rest.part);
+}
+
 none_left : (tasks : List Held) → length tasks ≤ 0 → map task_of (entries_of tasks) ≡ []
 none_left [] few = refl
 none_left (h ∷ tasks) few = absurd (omega (arith, few))
@@ -98,6 +120,15 @@ drained n l new d d' a b c all few turns end = record {
   step = λ free. let took = turns.step free in (took.deep, record { count = n; turns = took.turns; empty = none_left new.tasks (omega (arith, all, few)) });
   wrote = subst (Wrote a c) (sym (all_answered-append (map replied turns.replies) (ended ∷ []) ∙ ap (λ l. all_answered (map replied turns.replies) ++ l) (append-nil end_bytes))) (Wrote-more turns.wrote end);
 }
+
+-- all turns were answered, and END in part
+pub drained_part : (n : ℕ) (l new : Layer) (d d' : DriveState) (a b c : Option (List ℕ)) → n ≡ length l.tasks → length new.tasks ≤ length l.tasks - n → Answered (λ replies. AreUnforced (view l d) → TookTurns n (view l d) replies (view new d')) a b → WrotePart b c end_bytes
+    → EndsPart (AreUnforced (view l d)) (view l d) a c (view new d')
+drained_part n l new d d' a b c all few turns end = inr (record {
+  replies = turns.replies;
+  step = λ free. let took = turns.step free in (took.deep, record { count = n; turns = took.turns; empty = none_left new.tasks (omega (arith, all, few)) });
+  part = subst (WrotePart a c) (sym (all_answered-append (map replied turns.replies) (ended ∷ []) ∙ ap (λ l. all_answered (map replied turns.replies) ++ l) (append-nil end_bytes))) (WrotePart-more turns.wrote end);
+})
 
 -- ---- runs
 
@@ -246,6 +277,87 @@ served limit old mid new l l' a c w w' w'' o magic e = record {
   ends = record { cells = refl; active = refl; glitches = refl; down = refl };
 }
 
+-- ---- where a write fails
+
+part_behind : (a b c : Option (List ℕ)) (xs ys : List Answer) → Wrote a b (all_answered xs) → WrotePart b c (all_answered ys) → WrotePart a c (all_answered (xs ++ ys) ++ [])
+part_behind a b c xs ys wrote part = subst (WrotePart a c) (sym (all_answered-append xs ys) ∙ sym (append-nil (all_answered (xs ++ ys)))) (WrotePart-more wrote part)
+
+-- the last frame was carried out in part or in whole, and a front of its answers was written
+cut_more : (limit : ℕ) (first : Device) (r r' : Reading) (a b c w w' w'' : Option (List ℕ)) (s new : Device) (room : ℕ) (frame : Frame) → Going first r a b w w' s → (gave : Gave r room frame r' b c) → r.limit ≡ limit → r.newest ≡ Two → (now : List Answer) → WrotePart w' w'' (all_answered now)
+    → ((going : Going first r a b w w' s) → NoneForced (going.events ++ gave.whole ∷ []) → CutsTo first (going.events ++ gave.whole ∷ []) (going.answers ++ now) new) → Cut limit first a c w w'' new
+cut_more limit first r r' a b c w w' w'' s new room frame going gave limit_is newest_is now part run = record {
+  reader = r';
+  mid = c;
+  events = going.events ++ gave.whole ∷ [];
+  answers = going.answers ++ now;
+  told = [];
+  limit_is = ap (λ (x : Reading). x.limit) gave.new_is ∙ limit_is;
+  newest_is = ap (λ (x : Reading). x.newest) gave.new_is ∙ newest_is;
+  read = has_read_more r r' a b c going.events room frame going.read going.none_ends gave;
+  behind = inl (refl, refl);
+  part = part_behind w w' w'' going.answers now going.wrote part;
+  run = run going;
+}
+
+whole_cut : (first : Device) (events : List Frame) (answers : List Answer) (last : Device) → RunsTo first events answers last → CutsTo first events answers last
+whole_cut first events answers last r = record { losses = r.losses; run = whole_run r.run }
+
+-- the last frame asks for turns, some of which were taken
+turns_short : (first : Device) (events : List Frame) (answers : List Answer) (s : Device) (event : Frame) (count : ℕ) (replies : List Reply) (new : Device) → RunsTo first events answers s → (took : TookSome count s replies new) → CutTurns event took.taken → CutsTo first (events ++ event ∷ []) (answers ++ map replied replies) new
+turns_short first events answers s event count replies new r took asked = record {
+  losses = r.losses + losses_of s new;
+  run = cut_run (record {
+    before = events;
+    event = event;
+    events_are = refl;
+    earlier = answers;
+    lost = r.losses;
+    mid = s;
+    run = r.run;
+    count = took.taken;
+    asked = asked;
+    replies = replies;
+    deep = took.deep;
+    turns = took.turns;
+    answer = refl;
+    losses_are = refl;
+  });
+}
+
+pub cut_request : (limit : ℕ) (first : Device) (r r' : Reading) (a b c w w' w'' : Option (List ℕ)) (s new : Device) (room : ℕ) (request : Request) (frame : Frame) → Going first r a b w w' s → Gave r room frame r' b c → frame ≡ frames.Request request → r.limit ≡ limit → r.newest ≡ Two
+    → AnsweredPart (λ replies. (whole : Request) → IsCutOf whole request → Around (MayLose (Arrives whole)) s replies new) w' w'' → Cut limit first a c w w'' new
+cut_request limit first r r' a b c w w' w'' s new room request frame going gave frame_is limit_is newest_is answered =
+    let found = whole_request room request gave.whole (sym frame_is ∙ gave.cut) in
+    cut_more limit first r r' a b c w w' w'' s new room frame going gave limit_is newest_is (map replied answered.replies) answered.part
+    (λ g free. whole_cut first (g.events ++ gave.whole ∷ []) (g.answers ++ map replied answered.replies) new (runs_more first g.events g.answers s gave.whole (map replied answered.replies) new (depth new) (g.run (All-left AsksNone g.events (gave.whole ∷ []) free))
+    (subst (λ f. Does f s (map replied answered.replies) new (depth new)) (sym found.is) (answered.replies, refl, answered.step found.w (record { count = room; cut_is = found.cut }), refl))))
+
+pub cut_turns : (limit : ℕ) (first : Device) (r r' : Reading) (a b c w w' w'' : Option (List ℕ)) (s new : Device) (room n : ℕ) (frame : Frame) → Going first r a b w w' s → Gave r room frame r' b c → frame ≡ frames.Turn n → r.limit ≡ limit → r.newest ≡ Two
+    → AnsweredPart (λ replies. AreUnforced s → TookSome n s replies new) w' w'' → Cut limit first a c w w'' new
+cut_turns limit first r r' a b c w w' w'' s new room n frame going gave frame_is limit_is newest_is answered =
+    let is = whole_turn room n gave.whole (sym frame_is ∙ gave.cut) in
+    cut_more limit first r r' a b c w w' w'' s new room frame going gave limit_is newest_is (map replied answered.replies) answered.part
+    (λ g free.
+    let before = All-left AsksNone g.events (gave.whole ∷ []) free in
+    let took = answered.step (g.unforced before) in
+    turns_short first g.events g.answers s gave.whole n answered.replies new (g.run before) took (subst (λ f. CutTurns f took.taken) (sym is) took.most))
+
+pub cut_end : (limit : ℕ) (first : Device) (r r' : Reading) (a b c w w' w'' : Option (List ℕ)) (s new : Device) (room : ℕ) (frame : Frame) → Going first r a b w w' s → Gave r room frame r' b c → frame ≡ frames.End → r.limit ≡ limit → r.newest ≡ Two
+    → EndsPart (AreUnforced s) s w' w'' new → Cut limit first a c w w'' new
+cut_end limit first r r' a b c w w' w'' s new room frame going gave frame_is limit_is newest_is ends =
+    let is = whole_end room gave.whole (sym frame_is ∙ gave.cut) in
+    ⊎_elim
+    (λ short. cut_more limit first r r' a b c w w' w'' s new room frame going gave limit_is newest_is (map replied short.1.replies) short.1.part
+    (λ g free.
+    let before = All-left AsksNone g.events (gave.whole ∷ []) free in
+    turns_short first g.events g.answers s gave.whole short.0 short.1.replies new (g.run before) (short.1.step (g.unforced before)) (subst (λ f. CutTurns f (short.1.step (g.unforced before)).taken) (sym is) tt)))
+    (λ all. cut_more limit first r r' a b c w w' w'' s new room frame going gave limit_is newest_is (map replied all.replies ++ ended ∷ []) all.part
+    (λ g free.
+    let before = All-left AsksNone g.events (gave.whole ∷ []) free in
+    let drains = all.step (g.unforced before) in
+    whole_cut first (g.events ++ gave.whole ∷ []) (g.answers ++ (map replied all.replies ++ ended ∷ [])) new (runs_more first g.events g.answers s gave.whole (map replied all.replies ++ ended ∷ []) new drains.0 (g.run before)
+    (subst (λ f. Does f s (map replied all.replies ++ ended ∷ []) new drains.0) (sym is) (all.replies, refl, drains.1))))) ends
+
 -- ---- where serving stops
 
 pub stopped_by : (limit : ℕ) (first : Device) (r : Reading) (a b c w w' w'' : Option (List ℕ)) (l : Layer) (s : Device) (why : FrameFault) (fault : ServeFault) → Going first r a b w w' s → r.limit ≡ limit → r.newest ≡ Two → Blames r b c why → Tells why w' w'' fault
@@ -275,7 +387,19 @@ stopped_by limit first r a b c w w' w'' l s why faults.Read going limit_is newes
   wrote = subst (Wrote w w'') (sym (append-nil (all_answered going.answers))) (subst (λ x. Wrote w x (all_answered going.answers)) (sym tells.1) going.wrote);
   run = going.run;
 }
-stopped_by limit first r a b c w w' w'' l s why faults.Write going limit_is newest_is blames tells = tt
+stopped_by limit first r a b c w w' w'' l s why faults.Write going limit_is newest_is blames tells = record {
+  reader = r;
+  mid = b;
+  events = going.events;
+  answers = going.answers;
+  told = fault_bytes tells.0 tells.1;
+  limit_is = limit_is;
+  newest_is = newest_is;
+  read = going.read;
+  behind = inr (tells.0, tells.1, subst (Blames r b c) tells.2 blames, refl);
+  part = WrotePart-more going.wrote tells.3;
+  run = λ free. whole_cut first going.events going.answers s (going.run free);
+}
 stopped_by limit first r a b c w w' w'' l s why faults.NotBuilt going limit_is newest_is blames tells = absurd tells
 
 pub not_served : (limit : ℕ) (first : Device) (r r' : Reading) (a b c w w' : Option (List ℕ)) (l : Layer) (s : Device) (room : ℕ) (frame : Frame) → Going first r a b w w' s → r.limit ≡ limit → r.newest ≡ Two → Gave r room frame r' b c → IsNotBuilt l frame
@@ -298,12 +422,22 @@ not_served limit first r r' a b c w w' l s room frame going limit_is newest_is g
 }
 
 -- a fault that comes from writing alone
-pub write_stops : (before now limit : ℕ) (first : Device) (a c w w' : Option (List ℕ)) (l : Layer) (s : Device) (fault : ServeFault) → HasWriteCause before now fault → StoppedBehind limit first a c w w' l s fault
-write_stops before now limit first a c w w' l s (faults.Open opening) h = absurd h
-write_stops before now limit first a c w w' l s (faults.BadInput reason offset) h = absurd h
-write_stops before now limit first a c w w' l s faults.Read h = absurd h
-write_stops before now limit first a c w w' l s faults.Write h = tt
-write_stops before now limit first a c w w' l s faults.NotBuilt h = absurd h
+pub write_stops : (before now limit : ℕ) (first : Device) (a c w w' : Option (List ℕ)) (l : Layer) (s : Device) (fault : ServeFault) → HasWriteCause before now fault → Cut limit first a c w w' s → StoppedBehind limit first a c w w' l s fault
+write_stops before now limit first a c w w' l s (faults.Open opening) h cut = absurd h
+write_stops before now limit first a c w w' l s (faults.BadInput reason offset) h cut = absurd h
+write_stops before now limit first a c w w' l s faults.Read h cut = absurd h
+write_stops before now limit first a c w w' l s faults.Write h cut = cut
+write_stops before now limit first a c w w' l s faults.NotBuilt h cut = absurd h
+
+pub any_write_stops : {A : Type 0} (r : Result A ServeFault) (before now limit : ℕ) (first : Device) (a c w w' : Option (List ℕ)) (l : Layer) (s : Device) → IfErr r (HasWriteCause before now) → OnErr r (Cut limit first a c w w' s) → IfErr r (StoppedBehind limit first a c w w' l s)
+any_write_stops (Ok x) before now limit first a c w w' l s h cut = tt
+any_write_stops (Err e) before now limit first a c w w' l s h cut = write_stops before now limit first a c w w' l s e h cut
+
+-- the same where the fault was passed on
+pub passed_on_stops : {A : Type 0} (r : Result A ServeFault) (P : ServeFault → Type 0) (given : ServeFault) (before now limit : ℕ) (first : Device) (a c w w' : Option (List ℕ)) (l : Layer) (s : Device) → IsErrAnd r P → ((e : ServeFault) → P e → e ≡ given) → HasWriteCause before now given → Cut limit first a c w w' s
+    → IfErr r (StoppedBehind limit first a c w w' l s)
+passed_on_stops (Ok x) P given before now limit first a c w w' l s is same h cut = tt
+passed_on_stops (Err e) P given before now limit first a c w w' l s is same h cut = write_stops before now limit first a c w w' l s e (subst (HasWriteCause before now) (sym (same e is)) h) cut
 
 behind : (limit : ℕ) (old mid new : DriveState) (l l' : Layer) (a c w w' w'' : Option (List ℕ)) (fault : ServeFault) → IsOpened old l mid → Wrote w w' out_magic → StoppedBehind limit (view l mid) a c w' w'' l' (view l' new) fault → IsStoppedBehind limit old a c w w'' new fault
 behind limit old mid new l l' a c w w' w'' fault o magic stopped = record {
@@ -321,5 +455,5 @@ pub stops : (limit : ℕ) (old mid new : DriveState) (l l' : Layer) (a c w w' w'
 stops limit old mid new l l' a c w w' w'' (faults.Open opening) o magic stopped = absurd stopped
 stops limit old mid new l l' a c w w' w'' (faults.BadInput reason offset) o magic stopped = behind limit old mid new l l' a c w w' w'' (faults.BadInput reason offset) o magic stopped
 stops limit old mid new l l' a c w w' w'' faults.Read o magic stopped = behind limit old mid new l l' a c w w' w'' faults.Read o magic stopped
-stops limit old mid new l l' a c w w' w'' faults.Write o magic stopped = tt
+stops limit old mid new l l' a c w w' w'' faults.Write o magic stopped = inr (behind limit old mid new l l' a c w w' w'' faults.Write o magic stopped)
 stops limit old mid new l l' a c w w' w'' faults.NotBuilt o magic stopped = behind limit old mid new l l' a c w w' w'' faults.NotBuilt o magic stopped

@@ -1,13 +1,14 @@
 -- What serving an input does: a run of the device over its frames, whose answers are written (profile).
-use Rattle.std.specs.Prelude.{◌^◌, ◌≡◌, ℕ, true, false, List, [], ◌∷◌, ◌++◌, map, is_some, Option, Ok}
+use Rattle.std.specs.Prelude.{◌≤◌, ◌⊎◌, ◌^◌, ◌≡◌, ℕ, true, false, List, [], ◌∷◌, ◌++◌, map, is_some, Option, Ok}
 use Rattle.std.specs.List.{AllByRecursion, position_from}
 use Rattle.satl_base.specs.declared.reply.Reply.{Reply}
 use Rattle.satl_base.specs.Losses.{Loses}
-use Rattle.satl_io.specs.Known.{Wrote}
+use Rattle.satl_io.specs.Known.{Wrote, WrotePart}
 use Rattle.satl_identify.specs.Refusals.{identity_of}
 use Rattle.satl_frame.specs.declared.frames.Frame.{Frame}
 use Rattle.satl_frame.specs.declared.frames.Frame.TheVariants as frames
 use Rattle.satl_frame.specs.declared.frames.Place.{Place}
+use Rattle.satl_frame.specs.declared.frames.Reason.{Reason}
 use Rattle.satl_frame.specs.declared.frames.Version.TheVariants.{Two}
 use Rattle.satl_frame.specs.declared.frames.FrameFault.{FrameFault}
 use Rattle.satl_frame.specs.declared.frames.FrameFault.TheVariants.{Bad, ReadFault}
@@ -18,7 +19,7 @@ use Rattle.satl_frame.specs.Reading.{Blames, Gave, Reading}
 use Rattle.satl_line.specs.Tasks.{is_named}
 use Rattle.satl_drive.specs.State.{DriveState}
 use Rattle.satl_direct.specs.Device.{Device}
-use Rattle.satl_direct.specs.Run.{Run, TurnsOf}
+use Rattle.satl_direct.specs.Run.{Drains, Run, RunCut, TurnsOf}
 use Rattle.satl_core.specs.Layer.{Layer}
 use Rattle.satl_serve.specs.declared.serving.ServeFault.{ServeFault}
 use Rattle.satl_serve.specs.declared.serving.ServeFault.TheVariants as faults
@@ -40,6 +41,12 @@ pub record AnsweredEnd (Step : List Reply → Type 0) (written written' : Option
   pub step : Step replies
   pub wrote : Wrote written written' (all_answered (map replied replies ++ ended ∷ []))
 
+-- a step of the device whose replies were written in part
+pub record AnsweredPart (Step : List Reply → Type 0) (written written' : Option (List ℕ)) : Type 0 where
+  pub replies : List Reply
+  pub step : Step replies
+  pub part : WrotePart written written' (all_answered (map replied replies))
+
 -- the bytes written so far and those that are left make up all
 pub record IsPartWritten (written written' : Option (List ℕ)) (left all : List ℕ) : Type 0 where
   pub done : List ℕ
@@ -50,6 +57,23 @@ pub record IsPartWritten (written written' : Option (List ℕ)) (left all : List
 pub record TookTurns (count : ℕ) (s : Device) (replies : List Reply) (new : Device) : Type 0 where
   pub deep : ℕ
   pub turns : TurnsOf count s replies new deep
+
+-- some of so many turns
+pub record TookSome (count : ℕ) (s : Device) (replies : List Reply) (new : Device) : Type 0 where
+  pub taken : ℕ
+  pub deep : ℕ
+  pub most : taken ≤ count
+  pub turns : TurnsOf taken s replies new deep
+
+-- the answers of all turns and END were written in part
+pub record EndedPart (free : Type 0) (s : Device) (written written' : Option (List ℕ)) (new : Device) : Type 0 where
+  pub replies : List Reply
+  pub step : free → (deep : ℕ) × Drains s replies new deep
+  pub part : WrotePart written written' (all_answered (map replied replies ++ ended ∷ []))
+
+-- at the end of the input a write failed, in a turn or behind all of them
+abbrev pub EndsPart : Type 0 → Device → Option (List ℕ) → Option (List ℕ) → Device → Type 0
+EndsPart free s written written' new = ((count : ℕ) × AnsweredPart (λ replies. free → TookSome count s replies new) written written') ⊎ EndedPart free s written written' new
 
 -- a frame that asks for no FUA
 abbrev pub AsksNone : Frame → Type 0
@@ -121,6 +145,29 @@ pub record IsServed (limit : ℕ) (old : DriveState) (left left' written written
   pub run : NoneForced (events ++ frames.End ∷ []) → RunsTo first (events ++ frames.End ∷ []) answers last
   pub ends : IsLeftAs last new
 
+-- a run over these frames, which may be cut short in the last one, ends in this device with these answers
+pub record CutsTo (first : Device) (events : List Frame) (answers : List Answer) (last : Device) : Type 0 where
+  pub losses : ℕ
+  pub run : RunCut first events losses answers last
+
+-- behind the frames that were read nothing was taken and nothing is told; or a frame was refused, which a FAULT tells
+abbrev pub IsBehind : Reading → Option (List ℕ) → Option (List ℕ) → List ℕ → Type 0
+IsBehind reader mid left' told = ((left' ≡ mid) × (told ≡ [])) ⊎ ((reason : Reason) × (offset : ℕ) × Blames reader mid left' (Bad reason offset) × (told ≡ fault_bytes reason offset))
+
+-- frames were read, and of the answers of a run over them, which may be cut short in the last one, a front was written
+pub record Cut (limit : ℕ) (first : Device) (left left' written written' : Option (List ℕ)) (last : Device) : Type 0 where
+  pub reader : Reading
+  pub mid : Option (List ℕ)
+  pub events : List Frame
+  pub answers : List Answer
+  pub told : List ℕ
+  pub limit_is : reader.limit ≡ limit
+  pub newest_is : reader.newest ≡ Two
+  pub read : HasRead reader left mid events
+  pub behind : IsBehind reader mid left' told
+  pub part : WrotePart written written' (all_answered answers ++ told)
+  pub run : NoneForced events → CutsTo first events answers last
+
 -- frames were read and carried out, and what follows was refused or not read; these bytes were written behind the answers
 pub record Refused (limit : ℕ) (first : Device) (left left' written written' : Option (List ℕ)) (why : FrameFault) (told : List ℕ) (last : Device) : Type 0 where
   pub reader : Reading
@@ -159,12 +206,12 @@ pub record NotServed (limit : ℕ) (first : Device) (left left' written written'
   pub wrote : Wrote written written' (all_answered answers)
   pub run : NoneForced events → RunsTo first events answers last
 
--- how far serving came where it stopped with a fault; of a failed write only the cause is told
+-- how far serving came where it stopped with a fault
 abbrev pub StoppedBehind : ℕ → Device → Option (List ℕ) → Option (List ℕ) → Option (List ℕ) → Option (List ℕ) → Layer → Device → ServeFault → Type 0
 StoppedBehind limit first left left' written written' l last (faults.Open fault) = ⊥
 StoppedBehind limit first left left' written written' l last (faults.BadInput reason offset) = Refused limit first left left' written written' (Bad reason offset) (fault_bytes reason offset) last
 StoppedBehind limit first left left' written written' l last faults.Read = Refused limit first left left' written written' ReadFault [] last
-StoppedBehind limit first left left' written written' l last faults.Write = Unit {0}
+StoppedBehind limit first left left' written written' l last faults.Write = Cut limit first left left' written written' last
 StoppedBehind limit first left left' written written' l last faults.NotBuilt = NotServed limit first left left' written written' l last
 
 -- a reader's refusal is told: a bad frame by a FAULT
@@ -172,7 +219,7 @@ abbrev pub Tells : FrameFault → Option (List ℕ) → Option (List ℕ) → Se
 Tells fault written written' (faults.Open opening) = ⊥
 Tells fault written written' (faults.BadInput reason offset) = (fault ≡ Bad reason offset) × Wrote written written' (fault_bytes reason offset)
 Tells fault written written' faults.Read = (fault ≡ ReadFault) × (written' ≡ written)
-Tells fault written written' faults.Write = Unit {0}
+Tells fault written written' faults.Write = (reason : Reason) × (offset : ℕ) × (fault ≡ Bad reason offset) × WrotePart written written' (fault_bytes reason offset)
 Tells fault written written' faults.NotBuilt = ⊥
 
 -- serving stopped: the layer was opened on the drive, the magic was written, and then it came so far
@@ -186,10 +233,10 @@ pub record IsStoppedBehind (limit : ℕ) (old : DriveState) (left left' written 
   pub stopped : StoppedBehind limit first left left' behind written' layer last fault
   pub ends : IsLeftAs last new
 
--- the same, but for a layer that was not opened and for a failed write
+-- the same by the fault; a write may fail in the magic already
 abbrev pub IsStopped : ℕ → DriveState → Option (List ℕ) → Option (List ℕ) → Option (List ℕ) → Option (List ℕ) → DriveState → ServeFault → Type 0
 IsStopped limit old left left' written written' new (faults.Open fault) = (left' ≡ left) × (written' ≡ written)
 IsStopped limit old left left' written written' new (faults.BadInput reason offset) = IsStoppedBehind limit old left left' written written' new (faults.BadInput reason offset)
 IsStopped limit old left left' written written' new faults.Read = IsStoppedBehind limit old left left' written written' new faults.Read
-IsStopped limit old left left' written written' new faults.Write = Unit {0}
+IsStopped limit old left left' written written' new faults.Write = ((left' ≡ left) × WrotePart written written' out_magic) ⊎ IsStoppedBehind limit old left left' written written' new faults.Write
 IsStopped limit old left left' written written' new faults.NotBuilt = IsStoppedBehind limit old left left' written written' new faults.NotBuilt

@@ -1,8 +1,8 @@
 // The loop over frames.
-ghost use Rattle.std.specs.Prelude.{◌≡◌, ◌≤◌, ◌-◌, ℕ, [], IfErr, OnOk, length, map};
+ghost use Rattle.std.specs.Prelude.{◌≡◌, ◌≤◌, ◌-◌, ℕ, [], IfErr, OnErr, OnOk, length, map};
 ghost use Rattle.std.specs.List.{AllByRecursion};
 ghost use Rattle.satl_base.specs.declared.request.Request.{Request};
-ghost use Rattle.satl_io.specs.Known.{Wrote};
+ghost use Rattle.satl_io.specs.Known.{Wrote, WrotePart};
 ghost use Rattle.satl_frame.specs.Output.{IsWritable, all_answered};
 ghost use Rattle.satl_frame.specs.Output.Answer.{replied};
 ghost use Rattle.satl_drive.specs.State.{IsFit};
@@ -13,7 +13,7 @@ ghost use Rattle.satl_direct.specs.Turn.{Turn};
 ghost use Rattle.satl_core.specs.Layer.{Tied, reply_pages, view};
 ghost use Rattle.satl_core.specs.Submitting.{CanSubmit, IsCutOf};
 ghost use Rattle.satl_core.specs.Turning.{AreUnforced, AsksNoFua};
-ghost use Rattle.satl_serve.specs.Runs.{Answered, AnsweredEnd, Ended, IsServed, IsStopped, StoppedBehind, Tells, TookTurns, input_limit};
+ghost use Rattle.satl_serve.specs.Runs.{Answered, AnsweredEnd, AnsweredPart, Ended, EndsPart, IsServed, IsStopped, StoppedBehind, Tells, TookSome, TookTurns, input_limit};
 ghost use Rattle.satl_io.specs.Causes.{Rose};
 ghost use Rattle.satl_serve.specs.Serving.{AtRest, HasServeCause, HasWriteCause};
 
@@ -81,6 +81,7 @@ fn answer<K: Sink>(satl: &mut Satl, sink: &mut K, replies: &mut Replies) -> Resu
     ensures all_in { OnOk result (satl.new.out ≡ 0) }
     ensures none { OnOk result (replies.new ≡ []) }
     ensures wrote { OnOk result (Wrote (K.written sink.old) (K.written sink.new) (all_answered (map replied replies.old))) }
+    ensures part { OnErr result (WrotePart (K.written sink.old) (K.written sink.new) (all_answered (map replied replies.old))) }
     ensures later { K.faults sink.old ≤ K.faults sink.new }
     ensures cause { IfErr result (HasWriteCause (K.faults sink.old) (K.faults sink.new)) }
 {
@@ -109,6 +110,7 @@ fn serve_request<K: Sink, D: Drive, L: Ledger>(
     ensures rest { OnOk result (AtRest satl.new (D.state drive.new)) }
     ensures none { OnOk result (replies.new ≡ []) }
     ensures answered { OnOk result (Answered (λ replies. (whole : Request) → IsCutOf whole request → Around (MayLose (Arrives whole)) (view satl.old (D.state drive.old)) replies (view satl.new (D.state drive.new))) (K.written sink.old) (K.written sink.new)) }
+    ensures part { OnErr result (AnsweredPart (λ replies. (whole : Request) → IsCutOf whole request → Around (MayLose (Arrives whole)) (view satl.old (D.state drive.old)) replies (view satl.new (D.state drive.new))) (K.written sink.old) (K.written sink.new)) }
     ensures unforced { OnOk result (AsksNoFua request → AreUnforced (view satl.old (D.state drive.old)) → AreUnforced (view satl.new (D.state drive.new))) }
     ensures later { K.faults sink.old ≤ K.faults sink.new }
     ensures cause { IfErr result (HasWriteCause (K.faults sink.old) (K.faults sink.new)) }
@@ -130,6 +132,7 @@ fn serve_turn<K: Sink, D: Drive, L: Ledger>(
     ensures rest { OnOk result (AtRest satl.new (D.state drive.new)) }
     ensures none { OnOk result (replies.new ≡ []) }
     ensures answered { OnOk result (Answered (λ replies. AreUnforced (view satl.old (D.state drive.old)) → Around Turn (view satl.old (D.state drive.old)) replies (view satl.new (D.state drive.new))) (K.written sink.old) (K.written sink.new)) }
+    ensures part { OnErr result (AnsweredPart (λ replies. AreUnforced (view satl.old (D.state drive.old)) → Around Turn (view satl.old (D.state drive.old)) replies (view satl.new (D.state drive.new))) (K.written sink.old) (K.written sink.new)) }
     ensures unforced { OnOk result (AreUnforced (view satl.old (D.state drive.old)) → AreUnforced (view satl.new (D.state drive.new))) }
     ensures fewer { OnOk result (length satl.new.tasks ≤ length satl.old.tasks - 1) }
     ensures later { K.faults sink.old ≤ K.faults sink.new }
@@ -153,6 +156,7 @@ fn serve_turns<K: Sink, D: Drive, L: Ledger>(
     ensures rest { OnOk result (AtRest satl.new (D.state drive.new)) }
     ensures none { OnOk result (replies.new ≡ []) }
     ensures answered { OnOk result (Answered (λ replies. AreUnforced (view satl.old (D.state drive.old)) → TookTurns count (view satl.old (D.state drive.old)) replies (view satl.new (D.state drive.new))) (K.written sink.old) (K.written sink.new)) }
+    ensures part { OnErr result (AnsweredPart (λ replies. AreUnforced (view satl.old (D.state drive.old)) → TookSome count (view satl.old (D.state drive.old)) replies (view satl.new (D.state drive.new))) (K.written sink.old) (K.written sink.new)) }
     ensures unforced { OnOk result (AreUnforced (view satl.old (D.state drive.old)) → AreUnforced (view satl.new (D.state drive.new))) }
     ensures fewer { OnOk result (length satl.new.tasks ≤ length satl.old.tasks - count) }
     ensures later { K.faults sink.old ≤ K.faults sink.new }
@@ -175,6 +179,7 @@ fn serve_end<K: Sink, D: Drive, L: Ledger>(
     requires rest { AtRest satl.old (D.state drive.old) }
     requires none { replies.old ≡ [] }
     ensures ended { OnOk result (AnsweredEnd (λ replies. AreUnforced (view satl.old (D.state drive.old)) → (deep : ℕ) × Drains (view satl.old (D.state drive.old)) replies (view satl.new (D.state drive.new)) deep) (K.written sink.old) (K.written sink.new)) }
+    ensures part { OnErr result (EndsPart (AreUnforced (view satl.old (D.state drive.old))) (view satl.old (D.state drive.old)) (K.written sink.old) (K.written sink.new) (view satl.new (D.state drive.new))) }
     ensures later { K.faults sink.old ≤ K.faults sink.new }
     ensures cause { IfErr result (HasWriteCause (K.faults sink.old) (K.faults sink.new)) }
 {

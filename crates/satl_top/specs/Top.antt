@@ -1,10 +1,12 @@
 -- The words of the program, how it ends, and why (profile).
-use Rattle.std.specs.Prelude.{◌≡◌, ℕ, Bool, false, List, [], ◌∷◌, codes, nat_eq, Option}
+use Rattle.std.specs.Prelude.{◌≡◌, ◌⊎◌, ℕ, Bool, false, List, [], ◌∷◌, codes, nat_eq, Option}
 use Rattle.std.specs.Cmp.Lexicographic.{pointwise}
 use Rattle.std.specs.declared.rc.RcStr.{RcStr}
 use Rattle.std.specs.declared.alloc.Global.{Global}
 use Rattle.std.specs.Rc.{rc_str_bytes}
 use Rattle.satl_io.specs.Causes.{Rose}
+use Rattle.satl_io.specs.Known.{WrotePart}
+use Rattle.satl_frame.specs.Output.{out_magic}
 use Rattle.satl_frame.specs.declared.frames.Reason.{Reason}
 use Rattle.satl_drive.specs.State.{DriveState}
 use Rattle.satl_serve.specs.declared.serving.ServeFault.TheVariants as faults
@@ -37,14 +39,14 @@ HasCause read_before read_now write_before write_now statuses.WriteFault = Rose 
 HasCause read_before read_now write_before write_now _ = Unit {0}
 
 -- what holds of the input, the output and the drive, by the status (profile): a whole input was served; or the input is refused,
--- was not read, or asks for what is not built yet, behind frames that were carried out; or nothing was read or written. Of a
--- failed write only the cause is told.
+-- was not read, or asks for what is not built yet, behind frames that were carried out; or a write failed, in the magic or in the
+-- answers to the last frame; or nothing was read or written
 abbrev pub Outcome : ℕ → DriveState → Option (List ℕ) → Option (List ℕ) → Option (List ℕ) → Option (List ℕ) → DriveState → Status → Type 0
 Outcome limit old left left' written written' new statuses.Done = IsServed limit old left left' written written' new
 Outcome limit old left left' written written' new statuses.Usage = (left' ≡ left) × (written' ≡ written) × (new ≡ old)
 Outcome limit old left left' written written' new statuses.BadInput = (reason : Reason) × (offset : ℕ) × IsStoppedBehind limit old left left' written written' new (faults.BadInput reason offset)
 Outcome limit old left left' written written' new statuses.ReadFault = IsStoppedBehind limit old left left' written written' new faults.Read
-Outcome limit old left left' written written' new statuses.WriteFault = Unit {0}
+Outcome limit old left left' written written' new statuses.WriteFault = ((left' ≡ left) × WrotePart written written' out_magic) ⊎ IsStoppedBehind limit old left left' written written' new faults.Write
 Outcome limit old left left' written written' new statuses.NoMemory = (left' ≡ left) × (written' ≡ written)
 Outcome limit old left left' written written' new statuses.DriveRefused = (left' ≡ left) × (written' ≡ written)
 Outcome limit old left left' written written' new statuses.NotBuilt = IsStoppedBehind limit old left left' written written' new faults.NotBuilt

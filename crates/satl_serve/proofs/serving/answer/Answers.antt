@@ -2,7 +2,7 @@ use Rattle.std.proofs.Common.{arith, ap, subst, length}
 use Rattle.std.specs.List.{AllByRecursion}
 use Rattle.satl_frame.specs.Output.{IsWritable}
 use Rattle.satl_core.specs.Layer.{reply_pages}
-use Rattle.satl_serve.proofs.RunLemmas.{part_more, stays_on}
+use Rattle.satl_serve.proofs.RunLemmas.{any_err, part_more, part_stops, stays_on}
 use Rattle.satl_serve.proofs.serving.answer.Goals as goal
 
 pub loop-preserved : goal.loop-preserved
@@ -18,3 +18,7 @@ loop-preserved g c =
       written = part_more _ _ _ c.loop.replies c.pop_first.new.self c.in-Some.reply _ c.loop.invariant.written is c.in_ok-write_frame.ensures.all;
       later = omega (arith, c.loop.invariant.later, c.in_ok-write_frame.ensures.cause.later);
     }
+
+pub returns-in_err-write_frame-clause-part : goal.returns-in_err-write_frame-clause-part
+returns-in_err-write_frame-clause-part g c =
+    any_err c.from_residual.result _ (part_stops _ _ _ c.loop.replies c.pop_first.new.self c.in-Some.reply _ c.loop.invariant.written c.in-Some.ensures.items c.in_err-write_frame.ensures.part)

@@ -5,8 +5,8 @@ use Rattle.satl_direct.specs.Device.{task_of}
 use Rattle.satl_direct.specs.Run.{Drains}
 use Rattle.satl_core.specs.Turning.{AreUnforced}
 use Rattle.satl_core.specs.Layer.{Layer, view}
-use Rattle.satl_serve.specs.Runs.{AnsweredEnd, Going}
-use Rattle.satl_serve.proofs.RunLemmas.{going_ended, going_request, going_start, going_turn, on_ok, stopped_by}
+use Rattle.satl_serve.specs.Runs.{AnsweredEnd, EndsPart, Going, input_limit}
+use Rattle.satl_serve.proofs.RunLemmas.{any_write_stops, cut_end, cut_request, cut_turns, going_ended, going_request, going_start, going_turn, on_err, on_ok, passed_on_stops, stopped_by}
 use Rattle.satl_serve.proofs.ServingLemmas.{can_submit}
 use Rattle.satl_serve.proofs.serving.serve_frames.Goals as goal
 
@@ -77,3 +77,29 @@ returns-in-Err-clause-stopped g c =
     stopped_by _ first c.frames.reader _ _ _ _ _ _ c.next.new.lender (view c.next.new.lender (g.D.Drive.state c.frames.drive)) c.in-Err.fault c.refuse.result
     (subst (λ s. Going first c.frames.reader (g.S.Source.left c.args.source.now) (g.S.Source.left c.frames.source) (g.K.Sink.written c.args.sink.now) (g.K.Sink.written c.frames.sink) s) (sym same) c.frames.invariant.going) c.frames.invariant.limit c.frames.invariant.newest
     (c.in-Err.ensures.blames c.frames.invariant.fresh) c.refuse.ensures.tells
+
+pub returns-in-End-clause-stopped : goal.returns-in-End-clause-stopped
+returns-in-End-clause-stopped g c =
+    let first = view c.args.satl.now (g.D.Drive.state c.args.drive.now) in
+    let same = ap (λ (l : Layer). view l (g.D.Drive.state c.frames.drive)) c.in-Ok.ensures.rest in
+    any_write_stops c.serve_end.result _ _ input_limit first _ _ _ _ _ (view c.serve_end.new.satl (g.D.Drive.state c.serve_end.new.drive)) c.serve_end.ensures.cause
+    (on_err c.serve_end.result
+    (EndsPart (AreUnforced (view c.next.new.lender (g.D.Drive.state c.frames.drive))) (view c.next.new.lender (g.D.Drive.state c.frames.drive)) (g.K.Sink.written c.frames.sink) (g.K.Sink.written c.serve_end.new.sink) (view c.serve_end.new.satl (g.D.Drive.state c.serve_end.new.drive))) _
+    (cut_end input_limit first c.frames.reader c.next.new.self _ _ _ _ _ _ (view c.next.new.lender (g.D.Drive.state c.frames.drive)) (view c.serve_end.new.satl (g.D.Drive.state c.serve_end.new.drive)) _ c.in-Ok.frame
+    (subst (λ s. Going first c.frames.reader (g.S.Source.left c.args.source.now) (g.S.Source.left c.frames.source) (g.K.Sink.written c.args.sink.now) (g.K.Sink.written c.frames.sink) s) (sym same) c.frames.invariant.going) c.in-Ok.ensures.gave c.in-End.is c.frames.invariant.limit c.frames.invariant.newest) c.serve_end.ensures.part)
+
+pub returns-in_err-serve_request-in-Request-clause-stopped : goal.returns-in_err-serve_request-in-Request-clause-stopped
+returns-in_err-serve_request-in-Request-clause-stopped g c =
+    let first = view c.args.satl.now (g.D.Drive.state c.args.drive.now) in
+    let same = ap (λ (l : Layer). view l (g.D.Drive.state c.frames.drive)) c.in-Ok.ensures.rest in
+    passed_on_stops c.from_residual.result _ c.in_err-serve_request-in-Request.field-0.0 _ _ input_limit first _ _ _ _ _ (view c.serve_request.new.satl (g.D.Drive.state c.serve_request.new.drive)) c.from_residual.ensures.1 (λ e is. is) c.in_err-serve_request-in-Request.ensures.cause
+    (cut_request input_limit first c.frames.reader c.next.new.self _ _ _ _ _ _ (view c.next.new.lender (g.D.Drive.state c.frames.drive)) (view c.serve_request.new.satl (g.D.Drive.state c.serve_request.new.drive)) _ c.in-Request.request c.in-Ok.frame
+    (subst (λ s. Going first c.frames.reader (g.S.Source.left c.args.source.now) (g.S.Source.left c.frames.source) (g.K.Sink.written c.args.sink.now) (g.K.Sink.written c.frames.sink) s) (sym same) c.frames.invariant.going) c.in-Ok.ensures.gave c.in-Request.is c.frames.invariant.limit c.frames.invariant.newest c.in_err-serve_request-in-Request.ensures.part)
+
+pub returns-in_err-serve_turns-in-Turn-clause-stopped : goal.returns-in_err-serve_turns-in-Turn-clause-stopped
+returns-in_err-serve_turns-in-Turn-clause-stopped g c =
+    let first = view c.args.satl.now (g.D.Drive.state c.args.drive.now) in
+    let same = ap (λ (l : Layer). view l (g.D.Drive.state c.frames.drive)) c.in-Ok.ensures.rest in
+    passed_on_stops c.from_residual-in_err-serve_turns-in-Turn.result _ c.in_err-serve_turns-in-Turn.field-0.0 _ _ input_limit first _ _ _ _ _ (view c.serve_turns.new.satl (g.D.Drive.state c.serve_turns.new.drive)) c.from_residual-in_err-serve_turns-in-Turn.ensures.1 (λ e is. is) c.in_err-serve_turns-in-Turn.ensures.cause
+    (cut_turns input_limit first c.frames.reader c.next.new.self _ _ _ _ _ _ (view c.next.new.lender (g.D.Drive.state c.frames.drive)) (view c.serve_turns.new.satl (g.D.Drive.state c.serve_turns.new.drive)) _ c.in-Turn.count c.in-Ok.frame
+    (subst (λ s. Going first c.frames.reader (g.S.Source.left c.args.source.now) (g.S.Source.left c.frames.source) (g.K.Sink.written c.args.sink.now) (g.K.Sink.written c.frames.sink) s) (sym same) c.frames.invariant.going) c.in-Ok.ensures.gave c.in-Turn.is c.frames.invariant.limit c.frames.invariant.newest c.in_err-serve_turns-in-Turn.ensures.part)

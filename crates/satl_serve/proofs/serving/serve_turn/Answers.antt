@@ -3,7 +3,7 @@ use Rattle.satl_direct.specs.Quiet.{Around}
 use Rattle.satl_direct.specs.Turn.{Turn}
 use Rattle.satl_core.specs.Layer.{view}
 use Rattle.satl_core.specs.Turning.{AreUnforced}
-use Rattle.satl_serve.proofs.RunLemmas.{on_ok, view_same}
+use Rattle.satl_serve.proofs.RunLemmas.{on_err, on_ok, view_same}
 use Rattle.satl_serve.proofs.serving.serve_turn.Goals as goal
 
 pub returns-clause-answered : goal.returns-clause-answered
@@ -19,3 +19,12 @@ pub returns-clause-unforced : goal.returns-clause-unforced
 returns-clause-unforced g c =
     let same = view_same c.turn.new.self c.answer.new.satl (g.D.Drive.state c.turn.new.drive) c.answer.ensures.stays in
     on_ok c.answer.result _ _ (λ _ free. subst AreUnforced (sym same) (c.turn.ensures.unforced free)) c.answer.ensures.wrote
+
+pub returns-clause-part : goal.returns-clause-part
+returns-clause-part g c =
+    let same = view_same c.turn.new.self c.answer.new.satl (g.D.Drive.state c.turn.new.drive) c.answer.ensures.stays in
+    on_err c.answer.result _ _ (λ part. record {
+      replies = c.turn.new.replies;
+      step = λ free. subst (λ s. Around Turn (view c.args.satl.now (g.D.Drive.state c.args.drive.now)) c.turn.new.replies s) (sym same) (c.turn.ensures.turns free);
+      part = part;
+    }) c.answer.ensures.part

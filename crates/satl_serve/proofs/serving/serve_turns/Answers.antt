@@ -1,5 +1,5 @@
 use Rattle.std.proofs.Common.{arith}
-use Rattle.satl_serve.proofs.RunLemmas.{turns_more, turns_none}
+use Rattle.satl_serve.proofs.RunLemmas.{any_err, turns_cut, turns_more, turns_none}
 use Rattle.satl_serve.proofs.serving.serve_turns.Goals as goal
 
 pub loop-init : goal.loop-init
@@ -14,3 +14,6 @@ loop-preserved g c = record {
   fewer = omega (arith, c.loop.invariant.fewer, c.in_ok-serve_turn.ensures.fewer);
   later = omega (arith, c.loop.invariant.later, c.in_ok-serve_turn.ensures.later);
 }
+
+pub returns-in_err-serve_turn-clause-part : goal.returns-in_err-serve_turn-clause-part
+returns-in_err-serve_turn-clause-part g c = any_err c.from_residual.result _ (turns_cut c.loop.counter c.args.count _ _ _ _ _ _ _ _ (omega (arith, c.loop-test.true)) c.loop.invariant.unforced c.loop.invariant.answered c.in_err-serve_turn.ensures.part)
