@@ -2,29 +2,29 @@
 use Rattle.std.specs.Prelude.{ℕ, ◌+◌, ◌-◌, ◌/◌, ◌%◌, ◌^◌, ◌<◌, Bool, ◌==◌, List, slice_index}
 use Rattle.byteorder.specs.Endian.{big_from}
 
--- a number read from bytes, and a test of bytes
+-- a number read from bytes, and a test of bytes (profile)
 abbrev pub Field : Type 0
 Field = List ℕ → ℕ
 
 abbrev pub Flag : Type 0
 Flag = List ℕ → Bool
 
--- the number in the bytes first to last, the highest byte first
+-- the number in the bytes first to last, the highest byte first (profile)
 abbrev pub bytes : ℕ → ℕ → Field
 bytes first last b = big_from first (last + 1 - first) b
 
--- bits high to low of a byte
+-- bits high to low of a byte (profile)
 abbrev pub bits : ℕ → ℕ → ℕ → Field
 bits place high low b = slice_index b place / 2 ^ low % 2 ^ (high + 1 - low)
 
--- one bit of a byte
+-- one bit of a byte (profile)
 abbrev pub bit : ℕ → ℕ → Flag
 bit place low b = slice_index b place / 2 ^ low % 2 == 1
 
--- bits high to low of a number
+-- bits high to low of a number (profile)
 abbrev pub bits_of : ℕ → ℕ → ℕ → ℕ
 bits_of high low n = n / 2 ^ low % 2 ^ (high + 1 - low)
 
--- each of these is a byte
+-- each of these is a byte (profile)
 abbrev pub IsBytes : List ℕ → Type 0
 IsBytes b = (i : ℕ) → slice_index b i < 256

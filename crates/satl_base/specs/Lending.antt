@@ -4,6 +4,6 @@ use Rattle.satl_base.specs.declared.block.Block.{Block}
 use Rattle.satl_base.specs.contracts.block.Block.{the_row as block_row}
 use Rattle.satl_base.specs.contracts.pages.Page.{the_row as page_row}
 
--- a page ends as the last block that was written through the result
+-- a page ends as the last block that was written through the result (profile)
 abbrev pub LendsBlock : MutBor Block → MutBor Block → Fml
 LendsBlock s r = Lends page_row block_row s r (λ w. w)

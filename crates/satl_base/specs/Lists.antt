@@ -1,27 +1,27 @@
 -- Words on lists.
 use Rattle.std.specs.Prelude.{◌≡◌, ◌⊎◌, ℕ, ◌+◌, ◌==◌, Bool, true, false, if◌then◌else◌, List, [], ◌∷◌}
 
--- the list but for the first element that passes
+-- the list but for the first element that passes (profile)
 abbrev pub remove_first : {X : Type 0} → (X → Bool) → List X → List X
 remove_first p [] = []
 remove_first p (x ∷ xs) = if p x then xs else x ∷ remove_first p xs
 
--- one of these
+-- one of these (profile)
 abbrev pub IsIn : {X : Type 0} → X → List X → Type 0
 IsIn x [] = ⊥
 IsIn x (y ∷ ys) = (x ≡ y) ⊎ IsIn x ys
 
--- whether a number is one of these
+-- whether a number is one of these (profile)
 abbrev pub is_in : ℕ → List ℕ → Bool
 is_in n [] = false
 is_in n (x ∷ xs) = if n == x then true else is_in n xs
 
--- how many pass
+-- how many pass (profile)
 abbrev pub how_many : {X : Type 0} → (X → Bool) → List X → ℕ
 how_many p [] = 0
 how_many p (x ∷ xs) = (if p x then 1 else 0) + how_many p xs
 
--- the second list is the first but for entries that were left out
+-- the second list is the first but for entries that were left out (profile)
 abbrev pub LeavesOut : {X : Type 0} → List X → List X → Type 0
 LeavesOut [] [] = Unit {0}
 LeavesOut [] (y ∷ ys) = ⊥

@@ -12,6 +12,6 @@ pub record Lost (old new : Cell) : Type 0 where
   pub fewer : LeavesOut old.may new.may
   pub sound : IsIn new.now new.may
 
--- each cell may have lost entries, and nothing else has changed
+-- each cell may have lost entries, and nothing else has changed (SBC-3 4.15)
 abbrev pub Loses : List Cell → List Cell → Type 0
 Loses old new = AllZip Lost old new

@@ -2,33 +2,33 @@
 use Rattle.std.specs.Prelude.{ℕ, zero, suc, ◌+◌, ◌-◌, nat_lt, nat_le, ◌&&◌, List, [], ◌∷◌, length, get_or, if◌then◌else◌}
 use Rattle.std.specs.Int.{bytes_high_first}
 
--- a line of a table: its first place, and the bytes from there on
+-- a line of a table: its first place, and the bytes from there on (profile)
 pub record Line : Type 0 where
   pub first : ℕ
   pub bytes : List ℕ
 
--- one byte
+-- one byte (profile)
 abbrev pub byte : ℕ → ℕ → Line
 byte place value = record { first = place; bytes = value ∷ [] }
 
--- a number in the places first to last, the highest byte first
+-- a number in the places first to last, the highest byte first (profile)
 abbrev pub number : ℕ → ℕ → ℕ → Line
 number first last value = record { first = first; bytes = bytes_high_first (last + 1 - first) value }
 
--- some bytes from a place on
+-- some bytes from a place on (profile)
 abbrev pub text : ℕ → List ℕ → Line
 text first value = record { first = first; bytes = value }
 
--- the byte at a place: that of the first line that has the place, and 0 where none has
+-- the byte at a place: that of the first line that has the place, and 0 where none has (profile)
 abbrev pub at_place : List Line → ℕ → ℕ
 at_place [] i = 0
 at_place (l ∷ ls) i = if nat_le l.first i && nat_lt i (l.first + length l.bytes) then get_or l.bytes (i - l.first) 0 else at_place ls i
 
--- the values of n places from the i-th on
+-- the values of n places from the i-th on (profile)
 abbrev pub places : ℕ → ℕ → (ℕ → ℕ) → List ℕ
 places i zero f = []
 places i (suc n) f = f i ∷ places (i + 1) n f
 
--- n bytes by a table
+-- n bytes by a table (profile)
 abbrev pub laid : ℕ → List Line → List ℕ
 laid n lines = places 0 n (at_place lines)

@@ -2,22 +2,22 @@
 
 use arrayvec::ArrayVec;
 
-/// The kind of a flaw: reads of the sector fail, or writes to it.
+/// The kind of a flaw: reads of the sector fail, or writes to it (profile).
 #[derive(Clone, Copy, Debug, PartialEq, Eq)]
 pub enum Which {
     Read,
     Write,
 }
 
-/// At most 256 bytes that steer a drive's free choices.
+/// At most 256 bytes that steer a drive's free choices (profile).
 pub type OrderBytes = ArrayVec<u8, 256>;
 
 /// An event of the test bench (profile).
 #[derive(Drop)]
 pub enum BenchEvent {
-    /// Sets a flaw of a sector.
+    /// Sets a flaw of the sector at the address `lba`.
     Strike { which: Which, lba: u64 },
-    /// Clears both flaws of a sector.
+    /// Clears both flaws of the sector at the address `lba`.
     Mend { lba: u64 },
     /// So many transfers may end with a CRC error from now on.
     Glitch { count: u16 },

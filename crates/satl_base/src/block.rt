@@ -10,14 +10,14 @@ impl Block {
     ghost use Rattle.std.specs.Prelude.{◌≡◌, length};
     ghost use Rattle.satl_base.specs.Blocks.{zero_block};
 
-    /// 512 bytes of zero.
+    /// A block of 512 bytes of zero (profile).
     pub fn zero() -> Block
         ensures { result ≡ zero_block }
     {
         Block { bytes: [0; 512] }
     }
 
-    /// The 512 bytes.
+    /// The 512 bytes of the block (SBC-3 4.5).
     pub fn as_bytes(&self) -> &[u8]
         ensures value { result.now ≡ self.now.bytes }
         ensures size { length self.now.bytes ≡ 512 }

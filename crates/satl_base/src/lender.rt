@@ -17,11 +17,11 @@ pub trait Lender {
 
     ghost rest: { Self → Self.Rest };
 
-    /// The number of pages free.
+    /// The number of pages free (profile).
     fn room(&self) -> u32
         ensures { result ≡ free self.now };
 
-    /// Lends n pages, with whatever they hold.
+    /// Lends n pages of 512 bytes, with whatever they hold (profile). It takes no memory.
     fn lend(&mut self, n: u32) -> Pages
         requires { n ≤ free self.old }
         ensures pages { length result ≡ n }
@@ -29,7 +29,7 @@ pub trait Lender {
         ensures out { out self.new ≡ out self.old + n }
         ensures rest { rest self.new ≡ rest self.old };
 
-    /// Takes pages back.
+    /// Takes pages of 512 bytes back (profile). It takes no memory.
     fn give_back(&mut self, pages: Pages)
         requires { length pages ≤ out self.old }
         ensures free { free self.new ≡ free self.old + length pages }

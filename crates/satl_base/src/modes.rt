@@ -11,7 +11,7 @@ pub struct Modes {
     pub d_sense: bool,
 }
 
-/// What a mode parameter list sets: each value that it has a page for.
+/// What a mode parameter list sets: each value that it has a page for (SPC-4, MODE SELECT(6) and (10)).
 #[derive(Clone, Copy, Debug, Default, PartialEq, Eq)]
 pub struct ModeChange {
     pub wce: Option<bool>,

@@ -8,7 +8,7 @@ use std::alloc::{AllocError, AllocFailed, Global};
 use std::marker::Model;
 use std::mem;
 
-/// Memory ran out. Nothing else happened.
+/// Memory ran out, and nothing else happened (profile).
 #[derive(Clone, Copy, Debug, PartialEq, Eq)]
 pub struct NoMemory;
 
@@ -24,7 +24,7 @@ impl<T: Drop> From<AllocFailed<T>> for NoMemory {
     }
 }
 
-/// One page by itself. A clause sees its block.
+/// One page of 512 bytes by itself (profile). A clause sees its block.
 #[derive(Drop)]
 pub struct Page {
     node: Box<Node>,
@@ -42,7 +42,7 @@ impl Page {
     ghost use Rattle.std.specs.Borrow.{sem};
     ghost use Rattle.satl_base.specs.Lending.{LendsBlock};
 
-    /// A page of zeros. It takes memory for one block.
+    /// A page of 512 zeros (profile). It takes memory for one block, and fails where there is none.
     pub fn zeroed(alloc: Global) -> Result<Page, NoMemory>
         ensures { IfOk result (λ p. p ≡ zero_block) }
     {
@@ -57,14 +57,14 @@ impl Page {
         })
     }
 
-    /// The block in the page.
+    /// The block of 512 bytes in the page (profile).
     pub fn block(&self) -> &Block
         ensures { result.now ≡ self.now }
     {
         &self.node.block
     }
 
-    /// The block in the page, for writing.
+    /// The block of 512 bytes in the page, for writing (profile).
     pub fn block_mut(&mut self) -> &mut Block
         ensures* writes_back { sem 𝓛 (LendsBlock self.entry result) }
         ensures value { result.now ≡ self.old }
@@ -73,7 +73,7 @@ impl Page {
         &mut node.block
     }
 
-    /// Writes the block in the page.
+    /// Writes the block of 512 bytes in the page (profile).
     pub fn set(&mut self, block: &Block)
         ensures { self.new ≡ block.now }
     {
@@ -81,8 +81,9 @@ impl Page {
     }
 }
 
-/// A list of blocks, each in a page of its own: a chain of boxed pages. A clause sees the blocks. Work on all of them
-/// costs the same a page: take pages off and put them on, or read them by `iter`. Fewer than 2^32 pages.
+/// A list of blocks of 512 bytes, each in a page of its own: a chain of boxed pages (profile). A clause sees the blocks.
+/// Work on all of them costs the same a page: take pages off and put them on, or read them by `iter`. Fewer than 2^32
+/// pages.
 #[derive(Drop)]
 pub struct Pages {
     first: Chain,
@@ -116,14 +117,14 @@ impl Default for Pages {
 }
 
 impl Pages {
-    /// No page. It takes no memory.
+    /// No page (profile). It takes no memory.
     pub fn none(_alloc: Global) -> Pages
         ensures { result ≡ [] }
     {
         Pages::default()
     }
 
-    /// n pages of zeros. It takes memory for each.
+    /// n pages of 512 zeros (profile). It takes memory for each, and fails where there is none.
     pub fn zeroed(alloc: Global, n: u32) -> Result<Pages, NoMemory>
         ensures { IfOk result (λ p. p ≡ replicate n zero_block) }
     {
@@ -134,7 +135,7 @@ impl Pages {
         Ok(pages)
     }
 
-    /// The number of pages.
+    /// The number of pages (profile).
     pub fn blocks(&self) -> u32
         ensures count { result ≡ length self.now }
         ensures fits { length self.now < 2 ^ 32 }
@@ -142,7 +143,7 @@ impl Pages {
         self.count
     }
 
-    /// The block at a place. It walks there: to read them all, take `iter`.
+    /// The block at place i, counted from 0 (profile). It walks there: to read them all, take `iter`.
     pub fn block(&self, i: u32) -> &Block
         requires { i < length self.now }
         ensures { result.now ≡ slice_index_or self.now i result.now }
@@ -150,7 +151,7 @@ impl Pages {
         self.first.block(i)
     }
 
-    /// Writes the block at a place. It walks there and back.
+    /// Writes the block at place i, counted from 0 (profile). It walks there and back.
     pub fn set_block(&mut self, i: u32, block: &Block)
         requires { i < length self.old }
         ensures { self.new ≡ slice_set self.old i block.now }
@@ -161,14 +162,14 @@ impl Pages {
         shift_many(&mut front, &mut self.first, i);
     }
 
-    /// The blocks, in order.
+    /// The blocks, in order (profile).
     pub fn iter(&self) -> Blocks<'_>
         ensures { result ≡ self.now }
     {
         Blocks { rest: &self.first }
     }
 
-    /// Puts a page before the others.
+    /// Puts a page before the others (profile). It takes no memory.
     pub fn push_first(&mut self, page: Page)
         requires { length self.old + 1 < 2 ^ 32 }
         ensures { self.new ≡ page ∷ self.old }
@@ -179,7 +180,7 @@ impl Pages {
         self.count += 1;
     }
 
-    /// Takes the first page off. None exactly where there is no page.
+    /// Takes the first page off (profile). None exactly where there is no page.
     pub fn pop_first(&mut self) -> Option<Page>
         ensures items { self.old ≡ option_to_list result ++ self.new }
         ensures variant { IsSome result ↔ (0 < length self.old) }
@@ -191,7 +192,7 @@ impl Pages {
         Some(Page { node })
     }
 
-    /// Turns the order round.
+    /// Turns the order of the pages round (profile).
     pub fn reverse(&mut self)
         ensures { self.new ≡ reverse self.old }
     {
@@ -200,7 +201,7 @@ impl Pages {
         self.first = done;
     }
 
-    /// Keeps the first n pages, and gives the others. It takes no memory.
+    /// Keeps the first n pages, and gives the others (profile). It takes no memory.
     pub fn split(&mut self, n: u32) -> Pages
         requires { n ≤ length self.old }
         ensures kept { self.new ≡ take n self.old }
@@ -215,7 +216,7 @@ impl Pages {
         Pages { first, count }
     }
 
-    /// Keeps the first n pages, and drops the others.
+    /// Keeps the first n pages, and drops the others (profile).
     pub fn keep(&mut self, n: u32)
         requires { n ≤ length self.old }
         ensures { self.new ≡ take n self.old }
@@ -225,7 +226,7 @@ impl Pages {
     }
 }
 
-/// The blocks that are left to read, in order.
+/// The blocks that are left to read, in order (profile).
 #[derive(Drop)]
 pub struct Blocks<'a> {
     rest: &'a Chain,

@@ -18,7 +18,7 @@ pub enum Scsi {
 }
 
 impl Scsi {
-    /// The status code: 00h, 02h or 28h.
+    /// The status code: 00h, 02h or 28h (SAM-5 5.3.1).
     pub fn code(&self) -> u8
         ensures { result ≡ scsi_code self.now }
     {
@@ -56,18 +56,18 @@ impl Response {
 /// Sense data of at most 32 bytes (SPC-4 4.5).
 pub type SenseBytes = ArrayVec<u8, 32>;
 
-/// The answer to one command.
+/// The answer to one command (SAM-5 5.1, Execute Command).
 #[derive(Drop)]
 pub struct Reply {
     pub nexus: Nexus,
     pub tag: Tag,
     pub status: Scsi,
     pub sense: SenseBytes,
-    /// The data-in.
+    /// The data-in, in the fewest blocks that have room for it.
     pub body: Pages,
     /// The number of bytes of the data-in.
     pub data_len: u32,
-    /// How many bytes of data-in the host takes, where the command said so.
+    /// How many bytes of data-in the host takes, where the command said so (profile).
     pub expected: Option<u32>,
 }
 
@@ -86,7 +86,7 @@ impl MadeWith<Global> for Reply {
     }
 }
 
-/// At most 65 replies, in order. It takes no memory of its own.
+/// At most 65 replies, in order (profile): one for each task of a full set, and one more. It takes no memory of its own.
 #[derive(Drop)]
 pub struct Replies {
     replies: ArrayVec<Reply, 65, Global>,
@@ -102,7 +102,7 @@ impl Model for Replies {
 }
 
 impl Replies {
-    /// No reply.
+    /// No reply (profile). It takes no memory.
     pub fn new(alloc: Global) -> Replies
         ensures { result ≡ [] }
     {
@@ -111,7 +111,7 @@ impl Replies {
         }
     }
 
-    /// Appends a reply.
+    /// Appends a reply, the 65th at most (profile).
     pub fn push(&mut self, reply: Reply)
         requires { length self.old < 65 }
         ensures { self.new ≡ self.old ++ reply ∷ [] }
@@ -119,7 +119,7 @@ impl Replies {
         self.replies.push(reply);
     }
 
-    /// Takes the first reply. None exactly where there is none.
+    /// Takes the first reply (profile). None exactly where there is none.
     pub fn pop_first(&mut self) -> Option<Reply>
         ensures items { self.old ≡ option_to_list result ++ self.new }
         ensures variant { IsSome result ↔ (0 < length self.old) }
@@ -131,7 +131,7 @@ impl Replies {
         }
     }
 
-    /// The number of replies, at most 65.
+    /// The number of replies, at most 65 (profile).
     pub fn len(&self) -> usize
         ensures count { result ≡ length self.now }
         ensures few { length self.now ≤ 65 }

@@ -23,7 +23,7 @@ impl Model for Nexus {
 }
 
 impl Nexus {
-    /// The nexus of that number. None exactly where it exceeds 3.
+    /// The nexus of that number (SAM-5 4.7). None exactly where it exceeds 3.
     pub fn new(number: u8) -> Option<Nexus>
         ensures { SomeIff result (number ≤ 3) number }
     {
@@ -34,7 +34,7 @@ impl Nexus {
         }
     }
 
-    /// The number, 0 to 3.
+    /// The number of the nexus, 0 to 3 (SAM-5 4.7).
     pub fn number(&self) -> u8
         ensures value { result ≡ self.now }
         ensures small { self.now ≤ 3 }
@@ -48,7 +48,7 @@ impl Default for Nexus {
 
     ghost is_default = { λ n. n ≡ 0 };
 
-    /// Nexus 0.
+    /// Nexus 0 (profile).
     fn default() -> Nexus {
         Nexus { number: 0 }
     }
@@ -78,7 +78,7 @@ pub struct Request {
     pub body: Pages,
     /// The number of bytes of the data-out.
     pub data_len: u32,
-    /// How many bytes of data-in the host takes, where it says so: at most 2,097,152.
+    /// How many bytes of data-in the host takes, where it says so: at most 2,097,152 (profile).
     pub expected: Option<u32>,
 }
 

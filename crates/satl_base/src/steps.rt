@@ -22,7 +22,7 @@ impl<L: Ledger> Model for Steps<L> {
 }
 
 impl<L: Ledger> Steps<L> {
-    /// No call yet, on a blank page of a ledger.
+    /// No call yet, on a blank page of a ledger (profile).
     pub fn new(blank: Blank) -> Self
         requires name { blank.name ≡ L.name }
         requires parts { blank.parts ≡ L.parts }
@@ -33,7 +33,7 @@ impl<L: Ledger> Steps<L> {
         Steps { book, share }
     }
 
-    /// One call more.
+    /// One drive call more (profile).
     pub fn tick(&mut self)
         ensures { self.new ≡ self.old + 1 }
     {

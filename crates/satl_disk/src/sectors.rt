@@ -7,7 +7,7 @@ ghost use Rattle.satl_disk.specs.Sectors.{cell_of, cells_of, write_at, is_stuck,
 use circular_buffer::HeapCircularBuffer;
 use satl_base::{Block, Pages, Which};
 
-/// A sector: its block, the block that a loss of power may leave where it is dirty, and its flaws.
+/// A sector of 512 bytes: its block, the block that a loss of power may leave where it is dirty, and its flaws (profile).
 #[derive(Clone, Copy, Debug, PartialEq, Eq)]
 pub struct Sector {
     pub now: Block,
@@ -21,7 +21,7 @@ impl Sector {
     ghost use Rattle.satl_disk.specs.Disk.{blank_sector};
     ghost use Rattle.satl_disk.specs.Sectors.{written};
 
-    /// Zeros, without flaws.
+    /// Zeros, without flaws (profile).
     pub fn blank() -> Sector
         ensures { result ≡ blank_sector }
     {

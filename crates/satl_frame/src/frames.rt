@@ -54,7 +54,7 @@ impl Reason {
     }
 }
 
-/// Why there is no next frame.
+/// Why there is no next frame (profile).
 #[derive(Clone, Copy, Debug, PartialEq, Eq)]
 pub enum FrameFault {
     /// What stands at the offset is refused. The offset is that of the refused frame's first byte, or 0 for the magic.
@@ -63,7 +63,7 @@ pub enum FrameFault {
     ReadFault,
 }
 
-/// Where a frame stands behind the magic: the version of the input, and the offset in bytes.
+/// Where a frame stands behind the magic: the version of the input, and the offset in bytes (profile).
 #[derive(Clone, Copy, Debug, PartialEq, Eq)]
 pub struct Place {
     pub version: Version,
@@ -93,6 +93,6 @@ pub enum OutFrame<'a> {
     },
 }
 
-/// A write failed. A front of the frame's bytes was written.
+/// A write failed, and a front of the frame's bytes was written (profile).
 #[derive(Clone, Copy, Debug, PartialEq, Eq)]
 pub struct WriteFault;

@@ -239,7 +239,7 @@ impl Model for FrameReader {
 impl FrameReader {
     ghost use Rattle.satl_frame.specs.declared.frames.Version.TheVariants.{One, Two};
 
-    /// Reads an input of version 1 or 2.
+    /// Reads an input of version 1 or 2 whose data-out is at most `limit` bytes a frame (profile).
     pub fn new(_alloc: Global, limit: u64) -> Self
         ensures { result ≡ record { limit = limit; newest = Two; place = None; refused = None } }
     {
@@ -251,7 +251,8 @@ impl FrameReader {
         }
     }
 
-    /// Reads an input of version 1 alone: the magic of version 2 is a bad one.
+    /// Reads an input of version 1 alone, with data-out of at most `limit` bytes a frame: the magic of version 2 is a bad
+    /// one (profile).
     pub fn first_only(_alloc: Global, limit: u64) -> Self
         ensures { result ≡ record { limit = limit; newest = One; place = None; refused = None } }
     {
@@ -289,7 +290,7 @@ impl FrameReader {
         }
     }
 
-    /// The next frame, and before the first one the magic. Exactly its bytes are taken from the source. Its data-out stands in
+    /// The next frame, and before the first one the magic (profile). Exactly its bytes are taken from the source. Its data-out stands in
     /// the first pages that the lender has free: bytes that do not fit are taken and dropped, and `data_len` is the
     /// length of all. `Bad` says why and where the input is refused; `ReadFault` that a read failed. Either is
     /// answered again from then on, and nothing more is read.

@@ -53,7 +53,7 @@ impl Model for MemorySource {
 }
 
 impl MemorySource {
-    /// Each read gives at most `piece` bytes. The calls whose numbers, from 0, stand in `failing` fail.
+    /// Each read gives at most `piece` bytes. The calls whose numbers, from 0, stand in `failing` fail (profile).
     pub fn new(bytes: Vec<u8>, piece: usize, failing: Vec<u32>) -> Self
         requires { 0 < piece }
         ensures { result ≡ record { left = bytes.items; piece = piece; failing = failing.items; calls = 0; faults = 0 } }
@@ -114,7 +114,7 @@ impl Model for NeverFails {
 }
 
 impl NeverFails {
-    /// A clause sees the bytes that are left.
+    /// A source of these bytes (profile). A clause sees those that are left.
     pub fn new(bytes: Vec<u8>) -> Self
         ensures { result ≡ bytes.items }
     {
@@ -163,8 +163,8 @@ impl Model for MemorySink {
 }
 
 impl MemorySink {
-    /// Has room for `room` bytes, of which each write takes at most `piece`. The calls whose numbers,
-    /// from 0, stand in `failing` fail.
+    /// Has room for `room` bytes (profile), of which each write takes at most `piece`. The calls whose numbers, from 0,
+    /// stand in `failing` fail. NoMemory where there is no memory for the bytes.
     pub fn new(
         alloc: Global,
         room: usize,
@@ -184,7 +184,7 @@ impl MemorySink {
         })
     }
 
-    /// The bytes that were written.
+    /// The bytes that were written (profile).
     pub fn written(&self) -> &[u8]
         ensures { result.now ≡ self.now.written }
     {

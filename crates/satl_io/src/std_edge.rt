@@ -25,7 +25,7 @@ impl<R: Read + Drop> Model for StdSource<R> {
 }
 
 impl<R: Read + Drop> StdSource<R> {
-    /// Reads from `input`, with no fault so far.
+    /// Reads from `input`, with no fault so far (profile).
     pub fn new(input: R) -> Self
         ensures { result ≡ record { bytes = R.remaining input; faults = 0 } }
     {
@@ -75,7 +75,7 @@ impl<W: Write + Drop> Model for StdSink<W> {
 }
 
 impl<W: Write + Drop> StdSink<W> {
-    /// Writes to `output`, with no fault so far.
+    /// Writes to `output`, with no fault so far (profile).
     pub fn new(output: W) -> Self
         ensures { result ≡ record { bytes = W.contents output; faults = 0 } }
     {

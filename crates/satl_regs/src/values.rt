@@ -28,8 +28,8 @@ pub enum QueuedKind {
     Trim,
 }
 
-/// A queued command: 1 to 65,536 sectors from a 48-bit address on, with a tag from 0 to 31. A trim has address 0 and one
-/// sector, its payload.
+/// A queued command (ACS-3, READ FPDMA QUEUED, WRITE FPDMA QUEUED and SEND FPDMA QUEUED): 1 to 65,536 sectors from a 48-bit address on, with a tag
+/// from 0 to 31. A trim has address 0 and one sector, its payload.
 #[derive(Clone, Copy, Debug, PartialEq, Eq)]
 pub struct Queued {
     pub kind: QueuedKind,
@@ -39,7 +39,7 @@ pub struct Queued {
     pub fua: bool,
 }
 
-/// How the data of a command move: PIO or DMA, with a 28-bit or a 48-bit address.
+/// How the data of a command move: PIO or DMA, with a 28-bit or a 48-bit address (ACS-3, the names of the commands).
 #[derive(Clone, Copy, Debug, PartialEq, Eq)]
 pub enum How {
     Pio,

@@ -27,7 +27,7 @@ pub enum Status {
 }
 
 impl Status {
-    /// The exit number: 0, and 2 to 8 in the order of the variants.
+    /// The exit number (profile): 0, and 2 to 8 in the order of the variants.
     pub fn code(&self) -> u8
         ensures { result ≡ exit_number self.now }
     {

@@ -28,7 +28,7 @@ impl Model for Attentions {
 }
 
 impl Attentions {
-    /// No condition.
+    /// No condition (SPC-4, Unit attention condition).
     pub fn none() -> Attentions
         ensures { result ≡ [] }
     {

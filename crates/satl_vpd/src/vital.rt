@@ -10,7 +10,7 @@ use arrayvec::ArrayVec;
 use byteorder::{ByteOrder, LittleEndian};
 use satl_identify::Identity;
 
-/// A page of vital product data, at most 572 bytes.
+/// A page of vital product data, at most 572 bytes (SPC-4, Vital product data).
 pub type VitalPage = ArrayVec<u8, 576>;
 
 /// The head of a page: its code, and the number of bytes after the head.
