@@ -1,2 +1,4 @@
+pub mod Bench
+pub mod Queue
 pub mod Rules
 pub mod State

@@ -1,24 +1,27 @@
 -- What a drive is, as far as its calls tell.
-use Rattle.std.specs.Prelude.{◌≡◌, ℕ, ◌≤◌, Bool, true, List, length}
+use Rattle.std.specs.Prelude.{◌≡◌, ℕ, ◌≤◌, Bool, true, List, Option, length}
 use Rattle.satl_base.specs.declared.block.Block.{Block}
 use Rattle.satl_base.specs.Cells.{Cell}
 use Rattle.satl_base.specs.Identify.{capacity, has_cache, has_look, cache_is_on, look_is_on, has_trim, trim_blocks, word_bit}
 use Rattle.satl_regs.specs.declared.values.Queued.{Queued}
 use Rattle.satl_regs.specs.Effects.{Medium}
+use Rattle.satl_errlog.specs.declared.entry.NcqError.{NcqError}
 
--- a queued command with the blocks that it was issued with (ACS-3, FPDMA QUEUED commands)
+-- a queued command with the blocks that it was issued with, none for a read (ACS-3, READ and WRITE FPDMA QUEUED, SEND FPDMA QUEUED)
 pub record Outstanding : Type 0 where
   pub command : Queued
   pub blocks : List Block
 
--- a drive: its number of sectors and the sectors; the queued commands in order of issue; whether write cache and look-ahead are
--- on, and whether it is active and not in standby; how many transfers may still end with a CRC error; whether its link is
--- lost; its IDENTIFY DEVICE data; its count of faults; the most commands that were outstanding at once; how often it was
--- unplugged (ACS-3; faults, glitches, deepest queue and unplugs: profile)
+-- a drive: its number of sectors and the sectors; the queued commands in order of issue; in the error state, which a failed
+-- queued command leaves, what its error log tells; whether write cache and look-ahead are on, and whether it is active and not
+-- in standby; how many transfers may still end with a CRC error; whether its link is lost; its IDENTIFY DEVICE data; its count
+-- of faults; the most commands that were outstanding at once; how often it was unplugged (ACS-3; faults, glitches, deepest
+-- queue and unplugs: profile)
 pub record DriveState : Type 0 where
   pub capacity : ℕ
   pub cells : List Cell
   pub outstanding : List Outstanding
+  pub error : Option NcqError
   pub cache : Bool
   pub look : Bool
   pub active : Bool

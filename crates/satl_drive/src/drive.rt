@@ -11,6 +11,17 @@ use std::sync::ledger::Ledger;
 #[derive(Clone, Copy, Debug, PartialEq, Eq)]
 pub struct LinkDown;
 
+/// What a poll reports (ACS-3, native command queuing).
+#[derive(Clone, Copy, Debug, PartialEq, Eq)]
+pub enum Report {
+    /// Nothing is outstanding.
+    Idle,
+    /// The command of this tag, 0 to 31, is done.
+    Done(u8),
+    /// A command failed: log 10h tells which, and why.
+    Error,
+}
+
 /// An ATA drive with native command queuing (ACS-3). Contracts see it as one record.
 pub trait Drive {
     ghost state: { Self → DriveState };

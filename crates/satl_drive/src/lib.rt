@@ -3,5 +3,5 @@
 
 mod drive;
 
-pub use drive::{Bench, Drive, LinkDown};
+pub use drive::{Bench, Drive, LinkDown, Report};
 pub use satl_regs::{Registers, Taskfile};

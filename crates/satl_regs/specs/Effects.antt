@@ -1,9 +1,13 @@
 -- What a command that is not queued does, and how it ends (ACS-3 section 7 and 9; the modelled flaws and CRC errors: profile).
-use Rattle.std.specs.Prelude.{◌≡◌, ◌⊎◌, ℕ, ◌+◌, ◌-◌, ◌*◌, ◌/◌, ◌%◌, ◌^◌, ◌<◌, Bool, true, false, nat_lt, if◌then◌else◌, List, [], ◌∷◌, ◌++◌, MatchBool, MatchOption, length, take, drop}
+use Rattle.std.specs.Prelude.{◌≡◌, ◌⊎◌, ℕ, ◌+◌, ◌-◌, ◌*◌, ◌/◌, ◌%◌, ◌^◌, ◌<◌, ◌==◌, ◌&&◌, ◌||◌, Bool, true, false, not, nat_lt, if◌then◌else◌, List, [], ◌∷◌, ◌++◌, Option, Some, None, MatchBool, MatchOption, length, map, take, drop, replicate, slice_index}
+use Rattle.std.specs.List.{flat_map, list_any}
 use Rattle.satl_base.specs.declared.block.Block.{Block}
 use Rattle.satl_base.specs.declared.bench.Which.{Which}
 use Rattle.satl_base.specs.declared.bench.Which.TheVariants as flaws
-use Rattle.satl_base.specs.Cells.{Cell, Pair, whole, Part, pairs_from, nows, first_flaw}
+use Rattle.satl_base.specs.declared.block.Range.{Range}
+use Rattle.satl_base.specs.Blocks.{zero_block}
+use Rattle.satl_base.specs.Cells.{Cell, Pair, whole, settle, Part, pairs_from, nows, first_flaw}
+use Rattle.satl_base.specs.Identify.{cache_is_on, checksum, has_cache, has_look, has_trim, look_is_on, trim_blocks, word_bits}
 use Rattle.satl_regs.specs.declared.values.Registers.{Registers}
 use Rattle.satl_regs.specs.declared.values.Taskfile.{Taskfile}
 use Rattle.satl_regs.specs.declared.values.How.{How}
@@ -11,6 +15,7 @@ use Rattle.satl_regs.specs.declared.values.How.TheVariants.{Pio, PioExt, Dma, Dm
 use Rattle.satl_regs.specs.declared.values.AtaCommand.{AtaCommand}
 use Rattle.satl_regs.specs.declared.values.AtaCommand.TheVariants as commands
 use Rattle.satl_regs.specs.Commands.{command_in, is_ext}
+use Rattle.satl_regs.specs.Trim.{addresses, trimmed}
 
 -- what commands read and change: the sectors, whether write cache and look-ahead are on, whether the drive is active and not
 -- in standby, how many transfers may still end with a CRC error, and the 512 bytes of IDENTIFY DEVICE data
@@ -125,7 +130,110 @@ pub record IsIdentified (r : Registers) (old : Medium) (given : List Block) (end
   pub data_in : taken ≡ record { bytes = old.identify } ∷ drop 1 given
   pub medium : new ≡ old
 
--- the commands whose effect is defined so far
+-- it ends good with what COUNT and LBA tell, moves no data, and leaves the medium so
+pub record IsDone (r : Registers) (count lba : ℕ) (after : Medium) (given : List Block) (ended : Taskfile) (taken : List Block) (new : Medium) : Type 0 where
+  pub ends : ended ≡ good_end r count lba
+  pub data_in : taken ≡ given
+  pub medium : new ≡ after
+
+-- READ VERIFY SECTOR(S) and its EXT form: only flaws of reads are looked for (ACS-3, commands of these names)
+abbrev pub verifying : Bool → ℕ → ℕ → Transfer
+verifying ext lba sectors = record { ext = ext; dma = false; stopped_by = flaws.Read; lba = lba; sectors = sectors; writes = []; reads = [] }
+
+-- every sector is written back (ACS-3, FLUSH CACHE)
+abbrev pub all_settled : Medium → Medium
+all_settled m = record m { cells = map settle m.cells }
+
+-- what SET FEATURES sets: the write cache, or read look-ahead, on or off (ACS-3, SET FEATURES)
+pub data Setting : Type 0 where
+  sets_cache : Bool → Setting
+  sets_look : Bool → Setting
+
+-- the setting of a subcommand (ACS-3, SET FEATURES)
+abbrev pub setting_of : ℕ → Option Setting
+setting_of what =
+    if what == 0x02 then Some (sets_cache true)
+    else if what == 0x82 then Some (sets_cache false)
+    else if what == 0xAA then Some (sets_look true)
+    else if what == 0x55 then Some (sets_look false)
+    else None
+
+-- whether a drive has what is set (ACS-3, IDENTIFY DEVICE, word 82)
+abbrev pub has_setting : List ℕ → Setting → Bool
+has_setting identify (sets_cache on) = has_cache identify
+has_setting identify (sets_look on) = has_look identify
+
+-- a setting that there is, on a drive that has it
+abbrev pub settable : List ℕ → Option Setting → Option Setting
+settable identify None = None
+settable identify (Some setting) = if has_setting identify setting then Some setting else None
+
+-- the medium with a setting: all sectors are written back where the write cache is turned off (ACS-3, SET FEATURES)
+abbrev pub with_setting : Setting → Medium → Medium
+with_setting (sets_cache true) m = record m { cache = true }
+with_setting (sets_cache false) m = record (all_settled m) { cache = false }
+with_setting (sets_look on) m = record m { look = on }
+
+-- IDENTIFY DEVICE data with other settings: bits 5 and 6 of word 85 tell them; where word 255 has an integrity byte, that
+-- byte keeps the sum of all bytes; all else is as before (ACS-3 7.12.7, words 85 and 255)
+pub record IsTelling (cache look : Bool) (old new : List ℕ) : Type 0 where
+  pub cache_is : cache_is_on new ≡ cache
+  pub look_is : look_is_on new ≡ look
+  pub size : length new ≡ length old
+  pub high_bit : word_bits 85 7 7 new ≡ word_bits 85 7 7 old
+  pub low_bits : word_bits 85 4 0 new ≡ word_bits 85 4 0 old
+  pub others : (i : ℕ) → (i ≡ 2 * 85 → ⊥) → (i ≡ 511 → ⊥) → slice_index new i ≡ slice_index old i
+  pub integrity : MatchBool (word_bits 255 7 0 old == 0xA5) (checksum new ≡ checksum old) (slice_index new 511 ≡ slice_index old 511)
+
+-- a setting is made (ACS-3, SET FEATURES)
+pub record IsSet (setting : Setting) (r : Registers) (old : Medium) (given : List Block) (ended : Taskfile) (taken : List Block) (new : Medium) : Type 0 where
+  pub ends : ended ≡ good_end r 0 0
+  pub data_in : taken ≡ given
+  pub tells : IsTelling new.cache new.look old.identify new.identify
+  pub medium : new ≡ record (with_setting setting old) { identify = new.identify }
+
+-- COUNT of CHECK POWER MODE: FFh where the drive is active, 00h in standby (ACS-3, CHECK POWER MODE)
+abbrev pub power_count : Bool → ℕ
+power_count active = if active then 0xFF else 0x00
+
+-- the log that there is: log 10h, page 0, one block (ACS-3, READ LOG EXT; which logs there are: profile)
+abbrev pub is_error_log : ℕ → ℕ → ℕ → Bool
+is_error_log log page blocks = (log == 0x10) && (page == 0) && (blocks == 1)
+
+-- the log where no queued command has failed: NQ is 1, and the last byte makes the sum 0 (ACS-3 annex A, log 10h)
+abbrev pub no_error_log : Block
+no_error_log = record { bytes = 0x80 ∷ (replicate 510 0x00 ++ 0x80 ∷ []) }
+
+-- a log stands in the first page (ACS-3, READ LOG EXT)
+pub record IsLogged (r : Registers) (log : Block) (old : Medium) (given : List Block) (ended : Taskfile) (taken : List Block) (new : Medium) : Type 0 where
+  pub ends : ended ≡ good_end r 0 0
+  pub data_in : taken ≡ log ∷ drop 1 given
+  pub medium : new ≡ old
+
+-- the ranges that the payload of DATA SET MANAGEMENT trims (ACS-3, DATA SET MANAGEMENT)
+abbrev pub payload_ranges : ℕ → List Block → List Range
+payload_ranges blocks given = flat_map (λ b. trimmed b.bytes) (take blocks given)
+
+-- whether a range goes past the last sector
+abbrev pub is_outside : Medium → Range → Bool
+is_outside m range = nat_lt (length m.cells) (range.lba + range.count)
+
+-- whether a trim is aborted: the drive has none, the payload is longer than word 105 allows, or an entry lies outside the
+-- capacity (ACS-3, DATA SET MANAGEMENT; of the capacity: profile)
+abbrev pub is_no_trim : ℕ → List Block → Medium → Bool
+is_no_trim blocks given m =
+    not (has_trim m.identify) || nat_lt (trim_blocks m.identify) blocks || list_any (is_outside m) (payload_ranges blocks given)
+
+-- zeros at each address, through the cache where it is on (ACS-3, DATA SET MANAGEMENT with deterministic zeros)
+abbrev pub zeros_at : Bool → List ℕ → List Pair
+zeros_at cached lbas = map (λ lba. record { lba = lba; block = zero_block; cached = cached }) lbas
+
+-- DATA SET MANAGEMENT with TRIM: it meets no flaw (ACS-3, DATA SET MANAGEMENT; of flaws: profile)
+abbrev pub trimming : ℕ → List Block → Medium → Transfer
+trimming blocks given m =
+    record { ext = true; dma = true; stopped_by = flaws.Write; lba = 0; sectors = 0; writes = zeros_at m.cache (addresses (payload_ranges blocks given)); reads = [] }
+
+-- the commands that the modelled drive carries out so far
 abbrev pub is_built : AtaCommand → Bool
 is_built (commands.Read DmaExt lba sectors) = true
 is_built (commands.Write DmaExt lba sectors) = true
@@ -142,18 +250,46 @@ own_blocks (commands.Trim blocks) = blocks
 own_blocks _ = 0
 
 -- the effect of a command: from a medium and the pages handed in to its end, the pages after it and the medium after it
+-- (ACS-3 section 7)
 abbrev pub Does : AtaCommand → Registers → Medium → List Block → Taskfile → List Block → Medium → Type 0
 Does (commands.Read how lba sectors) r old given ended taken new = Carries r (reading how lba sectors old) old given ended taken new
 Does (commands.Write how lba sectors) r old given ended taken new = Carries r (writing how lba sectors given old) old given ended taken new
+Does (commands.Verify ext lba sectors) r old given ended taken new = Carries r (verifying ext lba sectors) old given ended taken new
+Does (commands.Flush ext) r old given ended taken new = IsDone r 0 0 (all_settled old) given ended taken new
 Does commands.Identify r old given ended taken new = IsIdentified r old given ended taken new
-Does _ r old given ended taken new = ⊥
+Does (commands.SetFeatures what) r old given ended taken new =
+    MatchOption (settable old.identify (setting_of what))
+    (IsRefused r abrt 0 old given ended taken new)
+    (λ setting. IsSet setting r old given ended taken new)
+Does commands.Standby r old given ended taken new = IsDone r 0 0 (record old { active = false }) given ended taken new
+Does commands.Idle r old given ended taken new = IsDone r 0 0 (record old { active = true }) given ended taken new
+Does commands.CheckPower r old given ended taken new = IsDone r (power_count old.active) 0 old given ended taken new
+Does (commands.ReadLog log page blocks) r old given ended taken new =
+    MatchBool (is_error_log log page blocks)
+    (IsLogged r no_error_log old given ended taken new)
+    (IsRefused r abrt 0 old given ended taken new)
+Does (commands.Trim blocks) r old given ended taken new =
+    MatchBool (is_no_trim blocks given old)
+    (IsRefused r abrt 0 old given ended taken new)
+    (Carries r (trimming blocks given old) old given ended taken new)
+Does commands.SmartStatus r old given ended taken new = IsDone r 0 (0xC24F * 2 ^ 8) old given ended taken new
+Does (commands.Other code) r old given ended taken new = IsRefused r abrt 0 old given ended taken new
 
 -- the effect of the command in the registers
 abbrev pub Ata : Registers → Medium → List Block → Taskfile → List Block → Medium → Type 0
 Ata r old given ended taken new = Does (command_in r) r old given ended taken new
 
--- the pairs that a command may write, also where it is cut short
+-- the pairs that a command may write, also where it is cut short: none where its range or its entries are refused
 abbrev pub pairs_of : AtaCommand → Medium → List Block → List Pair
 pairs_of (commands.Write how lba sectors) m given =
     if nat_lt (length m.cells) (lba + sectors) then [] else pairs_from lba (take sectors given) m.cache
+pairs_of (commands.Trim blocks) m given = if is_no_trim blocks given m then [] else zeros_at m.cache (addresses (payload_ranges blocks given))
 pairs_of _ m given = []
+
+-- the commands that go over the medium: reads, writes, verifies and trims, which wake a drive (ACS-3 4, power modes)
+abbrev pub goes_over_medium : AtaCommand → Bool
+goes_over_medium (commands.Read how lba sectors) = true
+goes_over_medium (commands.Write how lba sectors) = true
+goes_over_medium (commands.Verify ext lba sectors) = true
+goes_over_medium (commands.Trim blocks) = true
+goes_over_medium _ = false
