@@ -1,27 +1,41 @@
 -- What a request does when it arrives (SAM-5 5, SPC-4, SBC-3; the order of the steps: profile).
-use Rattle.std.specs.Prelude.{◌≡◌, ℕ, ◌+◌, ◌*◌, ◌==◌, not, ◌||◌, nat_lt, Bool, true, false, if◌then◌else◌, List, [], ◌∷◌, ◌++◌, length, take, slice_index, None, Result, Ok, Err}
-use Rattle.std.specs.List.{list_all}
-use Rattle.satl_base.specs.declared.block.Range.{Range}
+use Rattle.std.specs.Prelude.{◌≡◌, ℕ, ◌+◌, ◌==◌, not, ◌&&◌, ◌||◌, nat_lt, Bool, true, false, if◌then◌else◌, List, [], ◌∷◌, ◌++◌, length, take, slice_get, slice_index, unwrap_or, Option, Some, None, Result, Ok, Err}
+use Rattle.std.specs.List.{list_all, list_any}
 use Rattle.satl_base.specs.declared.request.Request.{Request}
-use Rattle.satl_base.specs.declared.request.Attr.{Attr}
-use Rattle.satl_base.specs.declared.request.Attr.TheVariants.{Simple, Ordered}
 use Rattle.satl_base.specs.declared.reply.Reply.{Reply}
 use Rattle.satl_base.specs.declared.reply.Scsi.{Scsi}
 use Rattle.satl_base.specs.declared.reply.Scsi.TheVariants.{Good, CheckCondition, TaskSetFull}
+use Rattle.satl_base.specs.Fields.{bit, bytes}
 use Rattle.satl_base.specs.Lists.{is_in}
 use Rattle.satl_cdb.specs.declared.command.Command.{Command}
-use Rattle.satl_cdb.specs.declared.command.Command.TheVariants.{Read, Write}
+use Rattle.satl_cdb.specs.declared.command.Command.TheVariants as commands
 use Rattle.satl_cdb.specs.declared.command.Illegal.{Illegal}
 use Rattle.satl_cdb.specs.Table.{says}
+use Rattle.satl_cdb.specs.Unmap.{ranges_of}
 use Rattle.satl_sense.specs.declared.sense.Sense.{Sense}
+use Rattle.satl_vpd.specs.Capacity.{capacity_10, capacity_16}
+use Rattle.satl_vpd.specs.Luns.{lun_list}
+use Rattle.satl_vpd.specs.Standard.{standard_data}
+use Rattle.satl_vpd.specs.Vital.{vpd_page}
+use Rattle.satl_mode.specs.ModeData.{mode_data}
+use Rattle.satl_unit.specs.declared.attention.Attention.{Attention}
+use Rattle.satl_frame.specs.DataPages.{pages_of}
 use Rattle.satl_line.specs.declared.entry.Entry.{Entry}
-use Rattle.satl_line.specs.Kinds.{kind_of}
-use Rattle.satl_direct.specs.Device.{Device, data_out}
-use Rattle.satl_direct.specs.Senses.{sense_text, unknown_unit, unknown_operation, refusal, out_of_range, short_data, link_lost, not_ready}
+use Rattle.satl_direct.specs.Device.{Device, attentions_of, is_called, of_others, once_told}
+use Rattle.satl_direct.specs.Tasks.{asks, is_full, needed, range_of, task_for}
+use Rattle.satl_direct.specs.Senses.{attention_sense, link_lost, no_sense, not_ready, out_of_range, overlapped, refusal, sense_in, sense_text, short_data, unknown_operation, unknown_unit}
 
 -- the operation codes that are served so far: READ(10) and WRITE(10) (SBC-3 5.10, 5.31)
 abbrev pub built : List ℕ
 built = 0x28 ∷ 0x2A ∷ []
+
+-- the operation code (SPC-4 4.3)
+abbrev pub code_of : Request → ℕ
+code_of r = slice_index r.cdb 0
+
+-- whether a request has this operation code, and it is served
+abbrev pub asks_for : ℕ → Request → Bool
+asks_for code r = (code_of r == code) && is_in code built
 
 -- an answer without data
 abbrev pub reply_to : Request → Scsi → List ℕ → Reply
@@ -30,91 +44,133 @@ reply_to r status sense = record { nexus = r.nexus; tag = r.tag; status = status
 abbrev pub check : Device → Request → Sense → Reply
 check s r sense = reply_to r CheckCondition (sense_text s.modes sense)
 
+-- GOOD with data-in, cut to the allocation length (SPC-4 4.3.5.6)
+abbrev pub told : Request → ℕ → List ℕ → Reply
+told r alloc text = record { nexus = r.nexus; tag = r.tag; status = Good; sense = record { items = [] }; body = pages_of (take alloc text); data_len = length (take alloc text); expected = r.expected }
+
 -- the logical unit 0: eight bytes of zero (SAM-5 4.6.4)
 abbrev pub is_unit_0 : List ℕ → Bool
 is_unit_0 lun = list_all (λ byte. byte == 0) lun
 
--- the blocks that a command goes over: its first address and their number
-abbrev pub range_of : Command → Range
-range_of (Read form lba count fua) = record { lba = lba; count = count }
-range_of (Write form lba count fua) = record { lba = lba; count = count }
-range_of _ = record { lba = 0; count = 0 }
-
--- the bytes of data-out that a command needs (SBC-3 5)
-abbrev pub needed : Command → ℕ
-needed (Write form lba count fua) = 512 * count
-needed _ = 0
-
--- the blocks that a task of a command holds (profile)
-abbrev pub held_blocks : Command → ℕ
-held_blocks (Read form lba count fua) = count
-held_blocks (Write form lba count fua) = count
-held_blocks _ = 0
-
-abbrev pub held_by : List Entry → ℕ
-held_by [] = 0
-held_by (t ∷ ts) = t.blocks + held_by ts
-
--- the task set has no place for a command: 64 tasks, or more than 32,768 blocks (SAM-5 5.3.1, TASK SET FULL; the figures: profile)
-abbrev pub is_full : List Entry → Command → Bool
-is_full tasks command = (length tasks == 64) || nat_lt 32768 (held_by tasks + held_blocks command)
-
-abbrev pub is_ordered : Attr → Bool
-is_ordered Simple = false
-is_ordered Ordered = true
-
--- the task that a request becomes
-abbrev pub task_for : Device → Request → Command → Entry
-task_for s r command = record {
-  nexus = r.nexus;
-  tag = r.tag;
-  kind = kind_of command s.identity.queued_trim;
-  ordered = is_ordered r.attr;
-  blocks = held_blocks command;
-  command = command;
-  body = data_out command (take (held_blocks command) r.body);
-  ranges = record { items = range_of command ∷ [] };
-  modes = None;
-  expected = r.expected;
-}
-
--- what becomes of a request: it is answered at once and nothing changes, or it is a task from now on
+-- what becomes of a request: it is answered at once and nothing changes; or with the first unit attention condition of its nexus,
+-- which is told by that; or it overlaps a task, and all tasks of its nexus go; or it is a task from now on
 pub data Arrival : Type 0 where
   answered : Reply → Arrival
+  attended : Reply → Arrival
+  overlaps : Reply → Arrival
   waits : Entry → Arrival
 
--- TEST UNIT READY, and commands that go over no block (SPC-4 6.47)
+-- TEST UNIT READY, and commands that go over no block or have an empty list (SPC-4 6.47; profile)
 abbrev pub readiness : Device → Request → Reply
 readiness s r =
     if s.down then check s r link_lost
     else if not s.started then check s r not_ready
     else reply_to r Good []
 
--- a command whose fields are good: its range, its data-out, and its place
+-- a command that makes a task, where the task set has a place for it (SAM-5 5.3.1)
+abbrev pub placed : Device → Request → Command → Arrival
+placed s r command = if is_full s.tasks command then answered (reply_to r TaskSetFull []) else waits (task_for s.identity.queued_trim r command)
+
+-- a command that makes a task, unless it has nothing to do (profile)
+abbrev pub placed_unless : Bool → Device → Request → Command → Arrival
+placed_unless idle s r command = if idle then answered (readiness s r) else placed s r command
+
+-- REQUEST SENSE: the first condition of the nexus as data, which is told by that, or NO SENSE (SPC-4 6.39)
+abbrev pub sense_told : Option Attention → Request → Bool → ℕ → Arrival
+sense_told None r descriptor alloc = answered (told r alloc (sense_in descriptor no_sense))
+sense_told (Some what) r descriptor alloc = attended (told r alloc (sense_in descriptor (attention_sense what)))
+
+-- INQUIRY: the standard data or a page (SPC-4 6.6)
+abbrev pub inquiry_text : Device → Option ℕ → List ℕ
+inquiry_text s None = standard_data s.identity true
+inquiry_text s (Some page) = unwrap_or (vpd_page page s.identity) []
+
+-- a command whose fields and data-out are good: answered from what the device says of itself, or a task (SPC-4 6, SBC-3 5)
+abbrev pub becomes : Device → Request → Command → Arrival
+becomes s r commands.TestUnitReady = answered (readiness s r)
+becomes s r (commands.RequestSense descriptor alloc) = sense_told (slice_get (attentions_of r.nexus s) 0) r descriptor alloc
+becomes s r (commands.Inquiry page alloc) = answered (told r alloc (inquiry_text s page))
+becomes s r (commands.ModeSense ten long_lba no_descriptor control page alloc) =
+    answered (told r alloc (mode_data s.identity s.modes (commands.ModeSense ten long_lba no_descriptor control page alloc)))
+becomes s r (commands.ModeSelect ten size) = placed_unless (size == 0) s r (commands.ModeSelect ten size)
+becomes s r (commands.StartStop start no_flush) = placed s r (commands.StartStop start no_flush)
+becomes s r commands.ReadCapacity10 = answered (told r 8 (capacity_10 s.identity))
+becomes s r (commands.ReadCapacity16 alloc) = answered (told r alloc (capacity_16 s.identity))
+becomes s r (commands.ReportLuns select alloc) = answered (told r alloc (lun_list select))
+becomes s r (commands.Read form lba count fua) = placed_unless (count == 0) s r (commands.Read form lba count fua)
+becomes s r (commands.Write form lba count fua) = placed_unless (count == 0) s r (commands.Write form lba count fua)
+becomes s r (commands.Verify form lba count compare) = placed_unless (count == 0) s r (commands.Verify form lba count compare)
+becomes s r (commands.Flush form lba count) = placed s r (commands.Flush form lba count)
+becomes s r (commands.WriteSame form lba count unmap) = placed s r (commands.WriteSame form lba count unmap)
+becomes s r (commands.Unmap size) = placed_unless ((size == 0) || (length (ranges_of r.body) == 0)) s r (commands.Unmap size)
+becomes s r (commands.Pass cdb) = placed s r (commands.Pass cdb)
+
+-- refused with this, if there is something, and else what follows
+abbrev pub unless_refused : Option Illegal → Device → Request → Arrival → Arrival
+unless_refused None s r next = next
+unless_refused (Some why) s r next = answered (check s r (refusal why))
+
+-- the data-out: the length of the list, fewer bytes than the command needs, and what is in them; more bytes are ignored
+abbrev pub data_arrival : Device → Request → Command → Arrival
+data_arrival s r command =
+    unless_refused (asks command).length_fault s r
+    (if nat_lt r.data_len (needed command) then answered (check s r short_data)
+    else unless_refused ((asks command).data_fault s.identity s.modes r.body) s r (becomes s r command))
+
+-- the range, and then the data-out
 abbrev pub command_arrival : Device → Request → Command → Arrival
 command_arrival s r command =
     if nat_lt s.identity.capacity ((range_of command).lba + (range_of command).count) then answered (check s r out_of_range)
-    else if nat_lt r.data_len (needed command) then answered (check s r short_data)
-    else if (range_of command).count == 0 then answered (readiness s r)
-    else if is_full s.tasks command then answered (reply_to r TaskSetFull [])
-    else waits (task_for s r command)
+    else data_arrival s r command
 
+-- the fields: the lowest byte at fault, or for ATA PASS-THROUGH the first rule that is broken
 abbrev pub cdb_arrival : Device → Request → Result Command Illegal → Arrival
 cdb_arrival s r (Err why) = answered (check s r (refusal why))
-cdb_arrival s r (Ok command) = command_arrival s r command
+cdb_arrival s r (Ok command) = unless_refused (asks command).fields_fault s r (command_arrival s r command)
 
--- the first that holds: another logical unit, an operation code that is not served, a bad field, and then the command itself
+-- the codes of commands that are carried out before a unit attention is told: INQUIRY, REPORT LUNS and REQUEST SENSE (SAM-5 5.14)
+abbrev pub untold_codes : List ℕ
+untold_codes = 0x12 ∷ 0xA0 ∷ 0x03 ∷ []
+
+-- the unit attention condition that a request is answered with
+abbrev pub attention_for : Device → Request → Option Attention
+attention_for s r = if is_in (code_of r) untold_codes then None else slice_get (attentions_of r.nexus s) 0
+
+-- the operation code, and then the fields
+abbrev pub code_arrival : Device → Request → Arrival
+code_arrival s r = if not (is_in (code_of r) built) then answered (check s r unknown_operation) else cdb_arrival s r (says r.cdb s.identity.trim)
+
+-- a unit attention, and then the operation code
+abbrev pub attention_arrival : Option Attention → Device → Request → Arrival
+attention_arrival (Some what) s r = attended (check s r (attention_sense what))
+attention_arrival None s r = code_arrival s r
+
+-- to the logical unit: a task of the same nexus and tag, and then the unit attentions (SAM-5 5.1, overlapped commands)
+abbrev pub unit_arrival : Device → Request → Arrival
+unit_arrival s r =
+    if list_any (is_called r.nexus (r.tag).0) s.tasks then overlaps (check s r overlapped)
+    else attention_arrival (attention_for s r) s r
+
+-- to another logical unit: INQUIRY without EVPD says that there is none, REQUEST SENSE says so as data, and all else is refused
+-- (SPC-4 6.6, 6.39; SAM-5 5.3; profile)
+abbrev pub other_arrival : Device → Request → Arrival
+other_arrival s r =
+    if asks_for 0x12 r && not (bit 1 0 r.cdb) then answered (told r (bytes 3 4 r.cdb) (standard_data s.identity false))
+    else if asks_for 0x03 r then answered (told r (bytes 4 4 r.cdb) (sense_in (bit 1 0 r.cdb) unknown_unit))
+    else answered (check s r unknown_unit)
+
+-- the first that holds: another logical unit, unless LUNs are asked for; a task of that nexus and tag; a unit attention; an
+-- operation code that is not served; a bad field; a range that is outside; bad data-out; and then the command itself
 abbrev pub arrival : Device → Request → Arrival
-arrival s r =
-    if not (is_unit_0 r.lun) then answered (check s r unknown_unit)
-    else if not (is_in (slice_index r.cdb 0) built) then answered (check s r unknown_operation)
-    else cdb_arrival s r (says r.cdb s.identity.trim)
+arrival s r = if is_unit_0 r.lun || asks_for 0xA0 r then unit_arrival s r else other_arrival s r
 
 -- what an arrival does: its answers, and the device after it
-abbrev pub ArrivesAs : Arrival → Device → List Reply → Device → Type 0
-ArrivesAs (answered reply) s answers new = (answers ≡ reply ∷ []) × (new ≡ s)
-ArrivesAs (waits task) s answers new = (answers ≡ []) × (new ≡ record s { tasks = s.tasks ++ task ∷ [] })
+abbrev pub ArrivesAs : Arrival → Request → Device → List Reply → Device → Type 0
+ArrivesAs (answered reply) r s answers new = (answers ≡ reply ∷ []) × (new ≡ s)
+ArrivesAs (attended reply) r s answers new = (answers ≡ reply ∷ []) × (new ≡ once_told r.nexus s)
+ArrivesAs (overlaps reply) r s answers new = (answers ≡ reply ∷ []) × (new ≡ record s { tasks = of_others r.nexus s.tasks })
+ArrivesAs (waits task) r s answers new = (answers ≡ []) × (new ≡ record s { tasks = s.tasks ++ task ∷ [] })
 
 -- a request arrives
 abbrev pub Arrives : Request → Device → List Reply → Device → Type 0
-Arrives r s answers new = ArrivesAs (arrival s r) s answers new
+Arrives r s answers new = ArrivesAs (arrival s r) r s answers new

@@ -1,17 +1,32 @@
--- How a task ends at its turn (SAT-3 11, error mapping; SBC-3 5).
-use Rattle.std.specs.Prelude.{◌≡◌, ℕ, ◌*◌, not, Bool, true, List, [], Option, Some, None, MatchBool, length}
+-- How a task ends at its turn (SAT-3 11, error mapping; SBC-3 5; SPC-4 6).
+use Rattle.std.specs.Prelude.{◌≡◌, ◌⊎◌, ℕ, ◌+◌, ◌*◌, ◌&&◌, ◌||◌, not, min, Bool, true, false, if◌then◌else◌, List, [], ◌∷◌, Option, Some, None, MatchBool, MatchOption, length, map, replicate, unwrap_or}
 use Rattle.satl_base.specs.declared.block.Block.{Block}
+use Rattle.satl_base.specs.declared.bench.Which.TheVariants as flaws
+use Rattle.satl_base.specs.declared.modes.Modes.{Modes}
 use Rattle.satl_base.specs.declared.reply.Reply.{Reply}
 use Rattle.satl_base.specs.declared.reply.Scsi.{Scsi}
 use Rattle.satl_base.specs.declared.reply.Scsi.TheVariants.{Good, CheckCondition}
+use Rattle.satl_base.specs.Blocks.{first_bytes}
+use Rattle.satl_base.specs.Cells.{Pair, Part, first_flaw, nows, pairs_from, settle, whole}
+use Rattle.satl_cdb.specs.declared.command.Command.{Command}
+use Rattle.satl_cdb.specs.declared.command.Command.TheVariants as commands
 use Rattle.satl_sense.specs.declared.sense.Sense.{Sense}
+use Rattle.satl_identify.specs.Data.{identity_data}
+use Rattle.satl_regs.specs.declared.values.Taskfile.{Taskfile}
+use Rattle.satl_regs.specs.Effects.{Medium, Ata}
+use Rattle.satl_mode.specs.Changes.{applied, no_change}
+use Rattle.satl_pass.specs.declared.pass.Pass.{Pass}
+use Rattle.satl_pass.specs.Status.{is_bad, status_sense}
+use Rattle.satl_frame.specs.DataPages.{page_count, pages_of}
 use Rattle.satl_line.specs.declared.entry.Entry.{Entry}
-use Rattle.satl_line.specs.Ranged.{RangedTask, ranged_of}
+use Rattle.satl_line.specs.Ranged.{RangedTask}
 use Rattle.satl_line.specs.Ranged.RangedTask.{ranged_read, ranged_write, ranged_trim}
 use Rattle.satl_line.specs.Ending.{Outcome, EndsAs}
 use Rattle.satl_line.specs.Ending.Outcome.{ends_done, ends_flawed, ends_glitched}
 use Rattle.satl_direct.specs.Device.{Device, without}
-use Rattle.satl_direct.specs.Senses.{sense_text, link_lost, not_ready, read_error, write_error, crc_error}
+use Rattle.satl_direct.specs.Tasks.{asks, over, pass_of}
+use Rattle.satl_direct.specs.Attentions.{with_modes_changed}
+use Rattle.satl_direct.specs.Senses.{sense_text, link_lost, miscompare, not_ready, read_error, write_error, crc_error}
 
 -- the answer to a task, with the blocks that it read
 abbrev pub task_reply : Entry → Scsi → List ℕ → List Block → Reply
@@ -25,40 +40,179 @@ pub record IsChecked (sense : Sense) (s : Device) (t : Entry) (reply : Reply) (n
   pub answer : reply ≡ task_check s t sense
   pub stays : new ≡ record s { tasks = without t s.tasks }
 
--- the medium error of a task at a flawed address
+-- a task is done without data, and the device is this one but for the task
+pub record IsDone (after : Device) (t : Entry) (reply : Reply) (new : Device) : Type 0 where
+  pub answer : reply ≡ task_reply t Good [] []
+  pub stays : new ≡ record after { tasks = without t after.tasks }
+
+-- the medium error of a task at a flawed address (SPC-4 4.5.6)
 abbrev pub medium_error : RangedTask → ℕ → Sense
 medium_error (ranged_read fua range) lba = read_error lba
 medium_error (ranged_write fua range blocks) lba = write_error lba
 medium_error (ranged_trim ranges) lba = write_error lba
 
--- the answer by the outcome on the medium
+-- the answer by the outcome on the medium (SAT-3 11)
 abbrev pub outcome_reply : Device → Entry → RangedTask → Outcome → Reply
 outcome_reply s t ranged (ends_done blocks) = task_reply t Good [] blocks
 outcome_reply s t ranged (ends_flawed lba) = task_check s t (medium_error ranged lba)
 outcome_reply s t ranged ends_glitched = task_check s t crc_error
 
--- a command that is done makes the drive active
+-- a command that is done makes the drive active (ACS-3, power modes)
 abbrev pub active_after : Outcome → Bool → Bool
 active_after (ends_done blocks) active = true
 active_after (ends_flawed lba) active = active
 active_after ends_glitched active = active
 
--- a READ, a WRITE or a queued trim ends by its outcome on the medium: at a flaw of its kind with the lowest flawed address; while
--- glitches are left it may end with a CRC error, which takes one; else it is done
+-- a READ, a WRITE or a trim ends by its outcome on the medium: at a flaw of its kind with the lowest flawed address; while glitches
+-- are left it may end with a CRC error, which takes one; else it is done (SBC-3 5; of CRC errors: profile)
 pub record EndsOnMedium (ranged : RangedTask) (s : Device) (t : Entry) (reply : Reply) (new : Device) : Type 0 where
   pub outcome : Outcome
   pub ends : EndsAs s.modes.wce ranged outcome s.cells s.glitches new.cells new.glitches
   pub answer : reply ≡ outcome_reply s t ranged outcome
   pub stays : new ≡ record s { cells = new.cells; tasks = without t s.tasks; glitches = new.glitches; active = active_after outcome s.active }
 
--- the tasks that are not ranged are not built yet
-abbrev pub EndsBy : Option RangedTask → Device → Entry → Reply → Device → Type 0
-EndsBy (Some ranged) s t reply new = EndsOnMedium ranged s t reply new
-EndsBy None s t reply new = ⊥
+-- a CRC error: what the task writes is written in part, and one glitch is used up (SPC-4 4.5.6; profile)
+pub record EndsGarbled (writes : List Pair) (s : Device) (t : Entry) (reply : Reply) (new : Device) : Type 0 where
+  pub answer : reply ≡ task_check s t crc_error
+  pub part : Part s.cells writes new.cells
+  pub one_glitch : new.glitches + 1 ≡ s.glitches
+  pub stays : new ≡ record s { cells = new.cells; tasks = without t s.tasks; glitches = new.glitches }
 
--- the first that holds: the link is lost; the unit is stopped; and then the medium decides
+-- a write flaw: the lowest is named, and what the task writes is written in part (SPC-4 4.5.6)
+pub record EndsTorn (writes : List Pair) (lba : ℕ) (s : Device) (t : Entry) (reply : Reply) (new : Device) : Type 0 where
+  pub answer : reply ≡ task_check s t (write_error lba)
+  pub part : Part s.cells writes new.cells
+  pub stays : new ≡ record s { cells = new.cells; tasks = without t s.tasks }
+
+-- the block of a WRITE SAME at each address (SBC-3 5.42)
+abbrev pub same_pairs : ℕ → ℕ → List Block → Bool → List Pair
+same_pairs lba count [] cached = []
+same_pairs lba count (block ∷ blocks) cached = pairs_from lba (replicate count block) cached
+
+-- a WRITE SAME goes over pieces of 64 blocks upwards, so a CRC error may come where the first piece has no flaw; else the lowest
+-- flaw of all decides (SBC-3 5.42; the pieces: profile)
+abbrev pub EndsInPieces : ℕ → ℕ → List Pair → Device → Entry → Reply → Device → Type 0
+EndsInPieces lba count writes s t reply new =
+    ((first_flaw flaws.Write s.cells lba (min 64 count) ≡ None) × EndsGarbled writes s t reply new)
+    ⊎ MatchOption (first_flaw flaws.Write s.cells lba count)
+    (IsDone (record s { cells = whole s.cells writes; active = true }) t reply new)
+    (λ at. EndsTorn writes at s t reply new)
+
+-- VERIFY: a read flaw in its range, or it is done (SBC-3 5.33)
+abbrev pub EndsVerified : ℕ → ℕ → Device → Entry → Reply → Device → Type 0
+EndsVerified lba count s t reply new =
+    MatchOption (first_flaw flaws.Read s.cells lba count)
+    (IsDone (record s { active = true }) t reply new)
+    (λ at. IsChecked (read_error at) s t reply new)
+
+-- the data-out are what reads give, and it is done; or they differ (SBC-3 5.33, BYTCHK)
+abbrev pub IsCompared : ℕ → ℕ → Device → Entry → Reply → Device → Type 0
+IsCompared lba count s t reply new =
+    ((t.body ≡ nows s.cells lba count) × IsDone (record s { active = true }) t reply new)
+    ⊎ ((t.body ≡ nows s.cells lba count → ⊥) × IsChecked miscompare s t reply new)
+
+-- VERIFY with comparison: a read flaw in its range; a CRC error; or it is compared (SBC-3 5.33; of CRC errors: profile)
+abbrev pub EndsCompared : ℕ → ℕ → Device → Entry → Reply → Device → Type 0
+EndsCompared lba count s t reply new =
+    MatchOption (first_flaw flaws.Read s.cells lba count)
+    (EndsGarbled [] s t reply new ⊎ IsCompared lba count s t reply new)
+    (λ at. IsChecked (read_error at) s t reply new)
+
+-- every sector is written back (SBC-3, SYNCHRONIZE CACHE)
+abbrev pub settled : Device → Device
+settled s = record s { cells = map settle s.cells }
+
+abbrev pub settled_if : Bool → Device → Device
+settled_if settles s = if settles then settled s else s
+
+-- START STOP UNIT: stopped and in standby, with all written back unless NO_FLUSH; or started and active (SBC-3, START STOP UNIT; SAT-3)
+abbrev pub after_start_stop : Bool → Bool → Device → Device
+after_start_stop false no_flush s = record (settled_if (not no_flush) s) { active = false; started = false }
+after_start_stop true no_flush s = record s { active = true; started = true }
+
+-- the mode values after a MODE SELECT (SPC-4, MODE SELECT commands)
+abbrev pub selected : Device → Entry → Modes
+selected s t = applied s.modes (unwrap_or t.modes no_change)
+
+-- MODE SELECT: all is written back where WCE is turned off, and where a value has changed the other nexuses are told (SPC-4, MODE
+-- SELECT commands; SBC-3 6.4.5)
+abbrev pub after_select : Device → Entry → Device
+after_select s t =
+    record (settled_if (s.modes.wce && not (selected s t).wce) s) { modes = selected s t; attentions = with_modes_changed s.modes (selected s t) t.nexus s.attentions }
+
+-- what ATA commands see of the device (ACS-3; SAT-3)
+abbrev pub medium_of : Device → Medium
+medium_of s = record {
+  cells = s.cells;
+  cache = s.modes.wce;
+  look = not s.modes.dra;
+  active = s.active;
+  glitches = s.glitches;
+  identify = identity_data s.identity.bytes s.modes.wce (not s.modes.dra);
+}
+
+-- the status and sense data of an ATA PASS-THROUGH (SAT-3 12.2)
+abbrev pub pass_status : Option Sense → Scsi
+pass_status None = Good
+pass_status (Some sense) = CheckCondition
+
+abbrev pub pass_sense : Modes → Option Sense → List ℕ
+pass_sense modes None = []
+pass_sense modes (Some sense) = sense_text modes sense
+
+-- its data-in: none at a bad end (SAT-3 12.2)
+abbrev pub pass_data : Pass → Taskfile → List Block → List ℕ
+pass_data pass ended taken = if is_bad ended || pass.out then [] else first_bytes pass.length taken
+
+abbrev pub pass_reply : Device → Entry → Pass → Taskfile → List Block → Reply
+pass_reply s t pass ended taken = record {
+  nexus = t.nexus;
+  tag = t.tag;
+  status = pass_status (status_sense pass ended);
+  sense = record { items = pass_sense s.modes (status_sense pass ended) };
+  body = pages_of (pass_data pass ended taken);
+  data_len = length (pass_data pass ended taken);
+  expected = t.expected;
+}
+
+-- ATA PASS-THROUGH: its command is carried out on the medium, with its data-out or with as many pages as its data-in needs; what it
+-- sets are the mode values from then on (SAT-3 12.2)
+pub record EndsPassed (pass : Pass) (s : Device) (t : Entry) (reply : Reply) (new : Device) : Type 0 where
+  pub given : List Block
+  pub data_out : pass.out ≡ true → given ≡ t.body
+  pub size : length given ≡ page_count pass.length
+  pub ended : Taskfile
+  pub taken : List Block
+  pub after : Medium
+  pub does : Ata pass.regs (medium_of s) given ended taken after
+  pub answer : reply ≡ pass_reply s t pass ended taken
+  pub stays : new ≡ record s { cells = after.cells; tasks = without t s.tasks; modes = record s.modes { wce = after.cache; dra = not after.look }; active = after.active; glitches = after.glitches }
+
+-- how a command of a task ends on a device that is up and ready for it (SBC-3 5, SPC-4 6, SAT-3); those that are answered on arrival
+-- are no tasks
+abbrev pub EndsBy : Command → Device → Entry → Reply → Device → Type 0
+EndsBy commands.TestUnitReady s t reply new = ⊥
+EndsBy (commands.RequestSense descriptor alloc) s t reply new = ⊥
+EndsBy (commands.Inquiry page alloc) s t reply new = ⊥
+EndsBy (commands.ModeSense ten long_lba no_descriptor control page alloc) s t reply new = ⊥
+EndsBy (commands.ModeSelect ten size) s t reply new = IsDone (after_select s t) t reply new
+EndsBy (commands.StartStop start no_flush) s t reply new = IsDone (after_start_stop start no_flush s) t reply new
+EndsBy commands.ReadCapacity10 s t reply new = ⊥
+EndsBy (commands.ReadCapacity16 alloc) s t reply new = ⊥
+EndsBy (commands.ReportLuns select alloc) s t reply new = ⊥
+EndsBy (commands.Read form lba count fua) s t reply new = EndsOnMedium (ranged_read fua (over lba count)) s t reply new
+EndsBy (commands.Write form lba count fua) s t reply new = EndsOnMedium (ranged_write fua (over lba count) t.body) s t reply new
+EndsBy (commands.Verify form lba count false) s t reply new = EndsVerified lba count s t reply new
+EndsBy (commands.Verify form lba count true) s t reply new = EndsCompared lba count s t reply new
+EndsBy (commands.Flush form lba count) s t reply new = IsDone (settled s) t reply new
+EndsBy (commands.WriteSame form lba count false) s t reply new = EndsInPieces lba count (same_pairs lba count t.body s.modes.wce) s t reply new
+EndsBy (commands.WriteSame form lba count true) s t reply new = EndsOnMedium (ranged_trim (over lba count ∷ [])) s t reply new
+EndsBy (commands.Unmap size) s t reply new = EndsOnMedium (ranged_trim t.ranges.items) s t reply new
+EndsBy (commands.Pass cdb) s t reply new = EndsPassed (pass_of cdb) s t reply new
+
+-- the first that holds: the link is lost; the unit is stopped, and the command needs it started; and then the command itself
 abbrev pub Ends : Device → Entry → Reply → Device → Type 0
 Ends s t reply new =
     MatchBool s.down (IsChecked link_lost s t reply new)
-    (MatchBool (not s.started) (IsChecked not_ready s t reply new)
-    (EndsBy (ranged_of t) s t reply new))
+    (MatchBool (not s.started && (asks t.command).starts) (IsChecked not_ready s t reply new)
+    (EndsBy t.command s t reply new))

@@ -1,7 +1,11 @@
 pub mod Arrival
+pub mod Attentions
+pub mod Bench
 pub mod Device
 pub mod Ending
+pub mod Management
 pub mod Quiet
 pub mod Run
 pub mod Senses
+pub mod Tasks
 pub mod Turn

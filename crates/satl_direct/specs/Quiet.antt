@@ -1,41 +1,94 @@
 -- What may change between the steps of the device without an answer (profile).
-use Rattle.std.specs.Prelude.{◌≡◌, ◌⊎◌, Bool, true, false, List, [], Option, Some, None}
+use Rattle.std.specs.Prelude.{◌≡◌, ◌⊎◌, ◌||◌, Bool, true, false, List, [], ◌∷◌}
 use Rattle.satl_base.specs.Cells.{Pair}
 use Rattle.satl_base.specs.Lists.{IsIn}
 use Rattle.satl_base.specs.Moves.{Moves}
+use Rattle.satl_cdb.specs.declared.command.Command.{Command}
+use Rattle.satl_cdb.specs.declared.command.Command.TheVariants as commands
+use Rattle.satl_regs.specs.Commands.{command_in}
+use Rattle.satl_regs.specs.Effects.{goes_over_medium, pairs_of}
 use Rattle.satl_line.specs.declared.entry.Entry.{Entry}
 use Rattle.satl_line.specs.Eligible.{IsEligible}
-use Rattle.satl_line.specs.Ranged.{RangedTask, ranged_of, written_pairs}
+use Rattle.satl_line.specs.Ranged.{written_pairs}
+use Rattle.satl_line.specs.Ranged.RangedTask.{ranged_write, ranged_trim}
 use Rattle.satl_direct.specs.Device.{Device}
+use Rattle.satl_direct.specs.Ending.{medium_of, same_pairs}
+use Rattle.satl_direct.specs.Tasks.{over, pass_of}
 
--- what a task writes by its command, through the cache where WCE is on and FUA is 0 (SBC-3 5.31, 6.4.5)
-abbrev pub pairs_by : Bool → Option RangedTask → List Pair
-pairs_by wce None = []
-pairs_by wce (Some ranged) = written_pairs wce ranged
+-- what a command of a task writes, through the cache where WCE is on and FUA is 0 (SBC-3 5, 6.4.5; SAT-3 12.2)
+abbrev pub written_by : Command → Device → Entry → List Pair
+written_by commands.TestUnitReady s t = []
+written_by (commands.RequestSense descriptor alloc) s t = []
+written_by (commands.Inquiry page alloc) s t = []
+written_by (commands.ModeSense ten long_lba no_descriptor control page alloc) s t = []
+written_by (commands.ModeSelect ten size) s t = []
+written_by (commands.StartStop start no_flush) s t = []
+written_by commands.ReadCapacity10 s t = []
+written_by (commands.ReadCapacity16 alloc) s t = []
+written_by (commands.ReportLuns select alloc) s t = []
+written_by (commands.Read form lba count fua) s t = []
+written_by (commands.Write form lba count fua) s t = written_pairs s.modes.wce (ranged_write fua (over lba count) t.body)
+written_by (commands.Verify form lba count compare) s t = []
+written_by (commands.Flush form lba count) s t = []
+written_by (commands.WriteSame form lba count false) s t = same_pairs lba count t.body s.modes.wce
+written_by (commands.WriteSame form lba count true) s t = written_pairs s.modes.wce (ranged_trim (over lba count ∷ []))
+written_by (commands.Unmap size) s t = written_pairs s.modes.wce (ranged_trim t.ranges.items)
+written_by (commands.Pass cdb) s t = pairs_of (command_in (pass_of cdb).regs) (medium_of s) t.body
 
+-- what a task writes
 abbrev pub writes : Device → Entry → List Pair
-writes s task = pairs_by s.modes.wce (ranged_of task)
+writes s t = written_by t.command s t
 
--- an eligible task of a device that is up and started is under way
+-- whether a command reads, writes, verifies or trims, which makes a drive active (ACS-3, power modes)
+abbrev pub wakes : Command → Bool
+wakes commands.TestUnitReady = false
+wakes (commands.RequestSense descriptor alloc) = false
+wakes (commands.Inquiry page alloc) = false
+wakes (commands.ModeSense ten long_lba no_descriptor control page alloc) = false
+wakes (commands.ModeSelect ten size) = false
+wakes (commands.StartStop start no_flush) = false
+wakes commands.ReadCapacity10 = false
+wakes (commands.ReadCapacity16 alloc) = false
+wakes (commands.ReportLuns select alloc) = false
+wakes (commands.Read form lba count fua) = true
+wakes (commands.Write form lba count fua) = true
+wakes (commands.Verify form lba count compare) = true
+wakes (commands.Flush form lba count) = false
+wakes (commands.WriteSame form lba count unmap) = true
+wakes (commands.Unmap size) = true
+wakes (commands.Pass cdb) = goes_over_medium (command_in (pass_of cdb).regs)
+
+-- an ATA PASS-THROUGH (SAT-3 12.2)
+abbrev pub is_pass : Command → Bool
+is_pass (commands.Pass cdb) = true
+is_pass command = false
+
+-- an eligible task of a device that is up
 pub record IsUnderWay (s : Device) (task : Entry) : Type 0 where
   pub up : s.down ≡ false
-  pub started : s.started ≡ true
   pub eligible : IsEligible s.tasks task
 
--- a pair that a task under way writes may show
+-- a pair that a task under way writes may show, where the unit is started or the task is an ATA PASS-THROUGH
 pub record MayShow (s : Device) (pair : Pair) : Type 0 where
   pub task : Entry
   pub under_way : IsUnderWay s task
+  pub started : s.started || is_pass task.command ≡ true
   pub among : IsIn pair (writes s task)
 
--- a task under way may have made the drive active
-abbrev pub MayWake : Device → Bool → Type 0
-MayWake s active = (active ≡ s.active) ⊎ ((active ≡ true) × ((task : Entry) × IsUnderWay s task))
+-- a task under way that goes over the medium
+pub record MayWake (s : Device) : Type 0 where
+  pub task : Entry
+  pub under_way : IsUnderWay s task
+  pub wakes_it : wakes task.command ≡ true
+
+-- the drive is active or not as before, or a task under way has made it active
+abbrev pub StaysOrWakes : Device → Bool → Type 0
+StaysOrWakes s active = (active ≡ s.active) ⊎ ((active ≡ true) × MayWake s)
 
 -- quiet moves: blocks that a loss of power might have left are lost, pairs of tasks under way show, and the drive wakes
 pub record Quiet (old new : Device) : Type 0 where
   pub cells : Moves (MayShow old) old.cells new.cells
-  pub active : MayWake old new.active
+  pub active : StaysOrWakes old new.active
   pub stays : new ≡ record old { cells = new.cells; active = new.active }
 
 -- a step, with quiet moves before it and after it

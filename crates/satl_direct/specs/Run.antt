@@ -1,11 +1,15 @@
 -- Runs of the device over the frames of an input (profile).
 use Rattle.std.specs.Prelude.{◌≡◌, ◌≤◌, ℕ, suc, ◌+◌, max, min, Bool, true, false, not, ◌||◌, if◌then◌else◌, List, [], ◌∷◌, ◌++◌, map, length}
 use Rattle.std.specs.List.{filter}
+use Rattle.satl_base.specs.declared.bench.BenchEvent.{BenchEvent}
+use Rattle.satl_base.specs.declared.bench.BenchEvent.TheVariants as events
+use Rattle.satl_base.specs.declared.request.Manage.{Manage}
 use Rattle.satl_base.specs.declared.reply.Reply.{Reply}
+use Rattle.satl_base.specs.declared.reply.Response.{Response}
 use Rattle.satl_frame.specs.declared.frames.Frame.{Frame}
 use Rattle.satl_frame.specs.declared.frames.Frame.TheVariants as frames
 use Rattle.satl_frame.specs.Output.{Answer}
-use Rattle.satl_frame.specs.Output.Answer.{replied, ended}
+use Rattle.satl_frame.specs.Output.Answer.{replied, managed, ended}
 use Rattle.satl_line.specs.declared.entry.Entry.{Entry}
 use Rattle.satl_line.specs.declared.entry.Kind.{Kind}
 use Rattle.satl_line.specs.declared.entry.Kind.TheVariants.{Ranged, Barrier}
@@ -14,6 +18,8 @@ use Rattle.satl_direct.specs.Device.{Device}
 use Rattle.satl_direct.specs.Arrival.{Arrives}
 use Rattle.satl_direct.specs.Quiet.{Quiet, Around}
 use Rattle.satl_direct.specs.Turn.{Turn, Loss}
+use Rattle.satl_direct.specs.Management.{IsManaged}
+use Rattle.satl_direct.specs.Bench.{Happens}
 
 -- the eligible tasks of a list
 abbrev pub eligibles : List Entry → List Entry
@@ -47,19 +53,49 @@ pub record Drains (s : Device) (answers : List Reply) (new : Device) (deep : ℕ
   pub turns : TurnsOf count s answers new deep
   pub empty : new.tasks ≡ []
 
+-- a management function, whose response has no part in a loss after it
+abbrev pub Manages : Manage → Response → Device → List Reply → Device → Type 0
+Manages m response s answers new = (answers ≡ []) × IsManaged m s response new
+
+-- a management function, or one and then a loss of the link: what is answered at the loss comes first, and then the response
+pub record ManagedAnswers (m : Manage) (s : Device) (answers : List Answer) (new : Device) : Type 0 where
+  pub response : Response
+  pub replies : List Reply
+  pub step : Around (MayLose (Manages m response)) s replies new
+  pub answer : answers ≡ map replied replies ++ managed m.nexus m.function response m.tag ∷ []
+
 -- what an event does: its answers, the device after it, and the greatest depth after it or after one of its turns. A request
--- arrives; so many turns are taken; at the end turns are taken until no task is left. The other events are not built yet.
+-- arrives; a task management function is carried out; so many turns are taken; something happens to the drive; at the end turns
+-- are taken until no task is left.
 abbrev pub Does : Frame → Device → List Answer → Device → ℕ → Type 0
 Does (frames.Request r) s answers new deep =
     (replies : List Reply) × (answers ≡ map replied replies) × Around (MayLose (Arrives r)) s replies new × (deep ≡ depth new)
-Does (frames.Manage m) s answers new deep = ⊥
+Does (frames.Manage m) s answers new deep = ManagedAnswers m s answers new × (deep ≡ depth new)
 Does (frames.Turn n) s answers new deep = (replies : List Reply) × (answers ≡ map replied replies) × TurnsOf n s replies new deep
-Does (frames.Bench event) s answers new deep = ⊥
+Does (frames.Bench event) s answers new deep =
+    (replies : List Reply) × (answers ≡ map replied replies) × Around (Happens event) s replies new × (deep ≡ depth new)
 Does frames.End s answers new deep = (replies : List Reply) × (answers ≡ map replied replies ++ ended ∷ []) × Drains s replies new deep
 
 -- whether the link was lost between the two
 abbrev pub losses_of : Device → Device → ℕ
 losses_of old new = if old.down then 0 else (if new.down then 1 else 0)
+
+-- whether a bench event is a loss of the link: UNPLUG is one, also where the link was lost before (profile)
+abbrev pub bench_losses : BenchEvent → ℕ
+bench_losses (events.Strike which lba) = 0
+bench_losses (events.Mend lba) = 0
+bench_losses (events.Glitch count) = 0
+bench_losses (events.Order order) = 0
+bench_losses events.Power = 0
+bench_losses events.Unplug = 1
+
+-- how often the link was lost in an event
+abbrev pub losses_in : Frame → Device → Device → ℕ
+losses_in (frames.Request r) old new = losses_of old new
+losses_in (frames.Manage m) old new = losses_of old new
+losses_in (frames.Turn n) old new = losses_of old new
+losses_in (frames.Bench event) old new = bench_losses event
+losses_in frames.End old new = losses_of old new
 
 -- the events one after the other: a group of answers for each, the number of losses, the last device, and the greatest depth
 -- after an event or a turn
@@ -67,7 +103,7 @@ pub data RunDeep (first : Device) : List Frame → List (List Answer) → ℕ �
   start : RunDeep first [] [] 0 first 0
   step : {events : List Frame} {groups : List (List Answer)} {losses deep : ℕ} {s new : Device} (event : Frame) (now : List Answer) (d : ℕ)
       → RunDeep first events groups losses s deep → Does event s now new d
-      → RunDeep first (events ++ event ∷ []) (groups ++ now ∷ []) (losses + losses_of s new) new (max deep d)
+      → RunDeep first (events ++ event ∷ []) (groups ++ now ∷ []) (losses + losses_in event s new) new (max deep d)
 
 -- the groups one after the other
 abbrev pub joined : List (List Answer) → List Answer

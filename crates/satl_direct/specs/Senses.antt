@@ -5,6 +5,8 @@ use Rattle.satl_cdb.specs.declared.command.Illegal.{Illegal}
 use Rattle.satl_sense.specs.declared.sense.Sense.{Sense}
 use Rattle.satl_sense.specs.declared.sense.Extra.{Extra}
 use Rattle.satl_sense.specs.declared.sense.Extra.TheVariants as extras
+use Rattle.satl_unit.specs.declared.attention.Attention.{Attention}
+use Rattle.satl_unit.specs.Conditions.{additional_sense_of}
 use Rattle.satl_sense.specs.Descriptor.{descriptor_form}
 use Rattle.satl_sense.specs.Fixed.{fixed_form}
 
@@ -23,6 +25,22 @@ read_error lba = at 0x3 0x11 0x00 lba
 
 abbrev pub write_error : ℕ → Sense
 write_error lba = at 0x3 0x0C 0x02 lba
+
+-- NO SENSE: REQUEST SENSE where nothing is to be told
+abbrev pub no_sense : Sense
+no_sense = plain 0x0 0x00 0x00
+
+-- MISCOMPARE DURING VERIFY OPERATION
+abbrev pub miscompare : Sense
+miscompare = plain 0xE 0x1D 0x00
+
+-- OVERLAPPED COMMANDS ATTEMPTED
+abbrev pub overlapped : Sense
+overlapped = plain 0xB 0x4E 0x00
+
+-- UNIT ATTENTION, by its condition
+abbrev pub attention_sense : Attention → Sense
+attention_sense what = plain 0x6 (additional_sense_of what).asc (additional_sense_of what).ascq
 
 -- LOGICAL UNIT COMMUNICATION FAILURE
 abbrev pub link_lost : Sense
@@ -52,6 +70,10 @@ pointer_to in_cdb (Some byte) = extras.Pointer in_cdb byte
 abbrev pub refusal : Illegal → Sense
 refusal why = record { key = 0x5; asc = why.asc; ascq = why.ascq; extra = pointer_to why.in_cdb why.pointer }
 
+-- sense data in the descriptor form or in the fixed form (SPC-4 4.5)
+abbrev pub sense_in : Bool → Sense → List ℕ
+sense_in descriptor sense = if descriptor then descriptor_form sense else fixed_form sense
+
 -- sense data in the form that D_SENSE chooses (SPC-4 7.5.8)
 abbrev pub sense_text : Modes → Sense → List ℕ
-sense_text modes sense = if modes.d_sense then descriptor_form sense else fixed_form sense
+sense_text modes sense = sense_in modes.d_sense sense

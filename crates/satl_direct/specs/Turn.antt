@@ -12,7 +12,12 @@ use Rattle.satl_direct.specs.Senses.{link_lost}
 abbrev pub lost_replies : Device → List Reply
 lost_replies s = map (λ t. task_check s t link_lost) s.tasks
 
--- the link is lost: all tasks are answered, and none is left
+-- the link is lost, or lost again: all tasks are answered, and none is left
+pub record IsLost (old : Device) (answers : List Reply) (new : Device) : Type 0 where
+  pub answer : answers ≡ lost_replies old
+  pub stays : new ≡ record old { tasks = []; down = true }
+
+-- the link is lost at a device that was up
 pub record Loss (old : Device) (answers : List Reply) (new : Device) : Type 0 where
   pub was_up : old.down ≡ false
   pub answer : answers ≡ lost_replies old

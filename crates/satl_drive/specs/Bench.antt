@@ -2,22 +2,13 @@
 use Rattle.std.specs.Prelude.{◌≡◌, ℕ, true, false, List, [], ◌∷◌, None}
 use Rattle.std.specs.List.{AllZip}
 use Rattle.satl_base.specs.declared.bench.Which.{Which}
-use Rattle.satl_base.specs.declared.bench.Which.TheVariants.{Read, Write}
-use Rattle.satl_base.specs.Lists.{IsIn}
-use Rattle.satl_base.specs.Cells.{Cell, change_at}
+use Rattle.satl_base.specs.Cells.{change_at}
 use Rattle.satl_base.specs.Identify.{has_cache, has_look}
 use Rattle.satl_io.specs.Causes.{next_count}
 use Rattle.satl_regs.specs.Effects.{IsTelling}
+use Rattle.satl_regs.specs.Sectors.{IsLeftBehind, with_flaw, without_flaws}
 use Rattle.satl_drive.specs.State.{DriveState}
 use Rattle.satl_drive.specs.Queue.{IsResetCutOff}
-
--- a sector with a flaw of a kind, or with none (profile)
-abbrev pub with_flaw : Which → Cell → Cell
-with_flaw Read c = record c { read_flaw = true }
-with_flaw Write c = record c { write_flaw = true }
-
-abbrev pub without_flaws : Cell → Cell
-without_flaws c = record c { read_flaw = false; write_flaw = false }
 
 -- `strike`: a flaw is set; outside the capacity nothing changes (profile)
 abbrev pub IsStruck : Which → ℕ → DriveState → DriveState → Type 0
@@ -34,13 +25,6 @@ IsGlitched count old new = new ≡ record old { glitches = count }
 -- `order`: what the rules see of the drive stays (profile)
 abbrev pub IsOrdered : DriveState → DriveState → Type 0
 IsOrdered old new = new ≡ old
-
--- a sector after a loss of power: it has one of the blocks that it might be left with; flaws stay (SBC-3 4.15; profile)
-pub record IsLeftBehind (old new : Cell) : Type 0 where
-  pub one : IsIn new.now old.may
-  pub alone : new.may ≡ new.now ∷ []
-  pub read_flaw : new.read_flaw ≡ old.read_flaw
-  pub write_flaw : new.write_flaw ≡ old.write_flaw
 
 -- `power`: a power cycle. Nothing is outstanding, the link is up, the drive is active, and its settings are on where it has them
 -- (ACS-3, power-on; profile)

@@ -1,6 +1,7 @@
+pub mod Commands
+pub mod Effects
 pub mod Fields
 pub mod QueuedCommands
-pub mod Commands
+pub mod Sectors
 pub mod Spelling
 pub mod Trim
-pub mod Effects

@@ -1,0 +1,166 @@
+-- What commands ask of the device, and the tasks that they become (SBC-3 5, SPC-4 6, SAT-3).
+use Rattle.std.specs.Prelude.{ℕ, ◌+◌, ◌*◌, ◌==◌, ◌||◌, ◌&&◌, not, nat_lt, Bool, true, false, if◌then◌else◌, List, [], ◌∷◌, length, take, get_or, Option, Some, None, Result, Ok, Err}
+use Rattle.std.specs.List.{list_all}
+use Rattle.satl_base.specs.declared.block.Block.{Block}
+use Rattle.satl_base.specs.declared.block.Range.{Range}
+use Rattle.satl_base.specs.declared.modes.ModeChange.{ModeChange}
+use Rattle.satl_base.specs.declared.request.Request.{Request}
+use Rattle.satl_base.specs.declared.request.Attr.{Attr}
+use Rattle.satl_base.specs.declared.request.Attr.TheVariants.{Simple, Ordered}
+use Rattle.satl_base.specs.declared.modes.Modes.{Modes}
+use Rattle.satl_base.specs.Blocks.{first_bytes, no_block}
+use Rattle.satl_cdb.specs.declared.command.Command.{Command}
+use Rattle.satl_cdb.specs.declared.command.Command.TheVariants as commands
+use Rattle.satl_cdb.specs.declared.command.Illegal.{Illegal}
+use Rattle.satl_cdb.specs.Refusals.{invalid_field, list_length_error}
+use Rattle.satl_cdb.specs.Unmap.{list_fault, ranges_of}
+use Rattle.satl_identify.specs.declared.identity.Identity.{Identity}
+use Rattle.satl_mode.specs.SelectList.{select_fault}
+use Rattle.satl_mode.specs.Changes.{change_in}
+use Rattle.satl_pass.specs.declared.pass.Pass.{Pass}
+use Rattle.satl_pass.specs.Fields.{form_of, pass_in}
+use Rattle.satl_pass.specs.Reading.{pass_says}
+use Rattle.satl_frame.specs.DataPages.{page_count, pages_of}
+use Rattle.satl_line.specs.declared.entry.Entry.{Entry}
+use Rattle.satl_line.specs.Kinds.{kind_of}
+
+-- what an ATA PASS-THROUGH says (SAT-3 12.2)
+abbrev pub pass_of : List ℕ → Pass
+pass_of cdb = pass_in (form_of cdb) cdb
+
+-- what a command asks of the device: the refusal of its fields, where the table of commands has not judged them; the range that it
+-- goes over; the refusal of its list length; the bytes of data-out that it needs; the refusal of its data-out; the blocks that its
+-- task holds; what its task keeps of the data-out; the ranges that its task reads, writes or trims; the mode values that it sets;
+-- and whether a started unit alone carries it out (SBC-3 5, SPC-4 6, SAT-3 12.2; the blocks held: profile)
+pub record Asks : Type 0 where
+  pub fields_fault : Option Illegal
+  pub range : Range
+  pub length_fault : Option Illegal
+  pub needed : ℕ
+  pub data_fault : Identity → Modes → List Block → Option Illegal
+  pub held : ℕ
+  pub kept : List Block → List Block
+  pub ranges : List Block → List Range
+  pub change : List Block → Option ModeChange
+  pub starts : Bool
+
+abbrev pub over : ℕ → ℕ → Range
+over lba count = record { lba = lba; count = count }
+
+-- it goes over no block, has no data-out, holds nothing, and needs no started unit
+abbrev pub nothing : Asks
+nothing = record {
+  fields_fault = None;
+  range = over 0 0;
+  length_fault = None;
+  needed = 0;
+  data_fault = λ identity modes body. None;
+  held = 0;
+  kept = λ body. [];
+  ranges = λ body. [];
+  change = λ body. None;
+  starts = false;
+}
+
+-- it goes over a range, on a started unit
+abbrev pub over_range : ℕ → ℕ → Asks
+over_range lba count = record nothing { range = over lba count; starts = true }
+
+-- a MODE SELECT: its list is judged, and what it sets is kept (SPC-4, MODE SELECT commands)
+abbrev pub asks_select : Bool → ℕ → Asks
+asks_select ten length = record nothing {
+  needed = length;
+  data_fault = λ identity modes body. select_fault identity modes body length ten;
+  change = λ body. Some (change_in body length ten);
+}
+
+-- an UNMAP: a list is empty, or has its header of 8 bytes, and is judged (SBC-3 5.28)
+abbrev pub asks_unmap : ℕ → Asks
+asks_unmap length = record nothing {
+  length_fault = if not (length == 0) && nat_lt length 8 then Some list_length_error else None;
+  needed = length;
+  data_fault = λ identity modes body. if length == 0 then None else list_fault body length identity.capacity;
+  ranges = ranges_of;
+  starts = true;
+}
+
+-- the refusal of the block of a WRITE SAME that unmaps: it has to be zeros (SBC-3 5.42; profile)
+abbrev pub block_fault : List Block → Option Illegal
+block_fault body = if list_all (λ byte. byte == 0) (get_or body 0 no_block).bytes then None else Some (invalid_field 1)
+
+-- the refusal in what an ATA PASS-THROUGH says (SAT-3 12.2)
+abbrev pub fault_in : Result Pass Illegal → Option Illegal
+fault_in (Ok pass) = None
+fault_in (Err why) = Some why
+
+-- an ATA PASS-THROUGH: its data-out where T_DIR is 0, with zeros in what is left of the last page (SAT-3 12.2)
+abbrev pub asks_through : List ℕ → Pass → Asks
+asks_through cdb pass =
+    if pass.out then record nothing { fields_fault = fault_in (pass_says cdb); needed = pass.length; held = page_count pass.length; kept = λ body. pages_of (first_bytes pass.length body) }
+    else record nothing { fields_fault = fault_in (pass_says cdb); held = page_count pass.length }
+
+abbrev pub asks : Command → Asks
+asks commands.TestUnitReady = nothing
+asks (commands.RequestSense descriptor alloc) = nothing
+asks (commands.Inquiry page alloc) = nothing
+asks (commands.ModeSense ten long_lba no_descriptor control page alloc) = nothing
+asks (commands.ModeSelect ten length) = asks_select ten length
+asks (commands.StartStop start no_flush) = nothing
+asks commands.ReadCapacity10 = nothing
+asks (commands.ReadCapacity16 alloc) = nothing
+asks (commands.ReportLuns select alloc) = nothing
+asks (commands.Read form lba count fua) = record (over_range lba count) { held = count; ranges = λ body. over lba count ∷ [] }
+asks (commands.Write form lba count fua) = record (over_range lba count) { needed = 512 * count; held = count; kept = λ body. body; ranges = λ body. over lba count ∷ [] }
+asks (commands.Verify form lba count false) = over_range lba count
+asks (commands.Verify form lba count true) = record (over_range lba count) { needed = 512 * count; held = count; kept = λ body. body }
+asks (commands.Flush form lba count) = over_range lba count
+asks (commands.WriteSame form lba count false) = record (over_range lba count) { needed = 512; held = 1; kept = λ body. body }
+asks (commands.WriteSame form lba count true) = record (over_range lba count) { needed = 512; data_fault = λ identity modes body. block_fault body; held = 1; kept = λ body. body }
+asks (commands.Unmap length) = asks_unmap length
+asks (commands.Pass cdb) = asks_through cdb (pass_of cdb)
+
+abbrev pub range_of : Command → Range
+range_of command = (asks command).range
+
+abbrev pub needed : Command → ℕ
+needed command = (asks command).needed
+
+abbrev pub held_blocks : Command → ℕ
+held_blocks command = (asks command).held
+
+-- the data-out of a command in the pages that it holds
+abbrev pub data_out : Command → List Block → List Block
+data_out command body = (asks command).kept body
+
+-- the blocks held by tasks (profile)
+abbrev pub held_by : List Entry → ℕ
+held_by [] = 0
+held_by (t ∷ ts) = t.blocks + held_by ts
+
+-- the task set has no place for a command: 64 tasks, or more than 32,768 blocks (SAM-5 5.3.1, TASK SET FULL; the figures: profile)
+abbrev pub is_full : List Entry → Command → Bool
+is_full tasks command = (length tasks == 64) || nat_lt 32768 (held_by tasks + held_blocks command)
+
+-- the attribute ORDERED (SAM-5 8.6)
+abbrev pub is_ordered : Attr → Bool
+is_ordered Simple = false
+is_ordered Ordered = true
+
+-- the task that a request becomes, on a drive that queues trims or does not (SAM-5 4.8, task set)
+abbrev pub task_for : Bool → Request → Command → Entry
+task_for queued_trim r command = record {
+  nexus = r.nexus;
+  tag = r.tag;
+  kind = kind_of command queued_trim;
+  ordered = is_ordered r.attr;
+  blocks = held_blocks command;
+  command = command;
+  body = data_out command (take (held_blocks command) r.body);
+  ranges = record { items = (asks command).ranges r.body };
+  modes = (asks command).change r.body;
+  expected = r.expected;
+}
+
+-- a task as the device sees it: with its data-out alone in its pages (SAM-5 4.8)
+abbrev pub task_of : Entry → Entry
+task_of entry = record entry { body = data_out entry.command entry.body }
