@@ -3,9 +3,11 @@ pub mod Attentions
 pub mod Bench
 pub mod Device
 pub mod Ending
+pub mod Laws
 pub mod Management
 pub mod Quiet
 pub mod Run
 pub mod Senses
 pub mod Tasks
 pub mod Turn
+pub mod Valid
