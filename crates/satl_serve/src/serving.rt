@@ -1,21 +1,23 @@
 // The loop over frames.
-ghost use Rattle.std.specs.Prelude.{◌≡◌, ◌≤◌, ◌-◌, ℕ, [], IfErr, OnErr, OnOk, length, map};
+ghost use Rattle.std.specs.Prelude.{◌≡◌, ◌≤◌, ◌+◌, ◌-◌, ℕ, [], IfErr, OnErr, OnOk, length, map};
 ghost use Rattle.std.specs.List.{AllByRecursion};
+ghost use Rattle.std.specs.Result.{IsErrAnd};
 ghost use Rattle.satl_base.specs.declared.request.Request.{Request};
+ghost use Rattle.satl_io.specs.Causes.{Rose, RoseBy};
 ghost use Rattle.satl_io.specs.Known.{Wrote, WrotePart};
+ghost use Rattle.satl_identify.specs.declared.identity.IdentityFault.{IdentityFault};
 ghost use Rattle.satl_frame.specs.Output.{IsWritable, all_answered};
 ghost use Rattle.satl_frame.specs.Output.Answer.{replied};
 ghost use Rattle.satl_drive.specs.State.{IsFit};
 ghost use Rattle.satl_direct.specs.Arrival.{Arrives};
 ghost use Rattle.satl_direct.specs.Quiet.{Around};
-ghost use Rattle.satl_direct.specs.Run.{Drains, MayLose};
+ghost use Rattle.satl_direct.specs.Run.{Drains, MayLose, losses_of};
 ghost use Rattle.satl_direct.specs.Turn.{Turn};
 ghost use Rattle.satl_core.specs.Layer.{Tied, reply_pages, view};
 ghost use Rattle.satl_core.specs.Submitting.{CanSubmit, IsCutOf};
 ghost use Rattle.satl_core.specs.Turning.{AreUnforced, AsksNoFua};
-ghost use Rattle.satl_serve.specs.Runs.{Answered, AnsweredEnd, AnsweredPart, Ended, EndsPart, IsServed, IsStopped, StoppedBehind, Tells, TookSome, TookTurns, input_limit};
-ghost use Rattle.satl_io.specs.Causes.{Rose};
-ghost use Rattle.satl_serve.specs.Serving.{AtRest, HasServeCause, HasWriteCause};
+ghost use Rattle.satl_serve.specs.Runs.{Answered, AnsweredEnd, AnsweredPart, Ended, EndsPart, IsServed, IsStopped, StoppedBehind, Tells, TookSome, TookTurns, input_limit, tally_of};
+ghost use Rattle.satl_serve.specs.Serving.{AtRest, HasFrameCause, HasServeCause, HasWriteCause, IsRefused, TellsRefusal};
 
 use satl_base::{Replies, Request, Steps};
 use satl_core::{OpenFault, Satl};
@@ -112,6 +114,10 @@ fn serve_request<K: Sink, D: Drive, L: Ledger>(
     ensures answered { OnOk result (Answered (λ replies. (whole : Request) → IsCutOf whole request → Around (MayLose (Arrives whole)) (view satl.old (D.state drive.old)) replies (view satl.new (D.state drive.new))) (K.written sink.old) (K.written sink.new)) }
     ensures part { OnErr result (AnsweredPart (λ replies. (whole : Request) → IsCutOf whole request → Around (MayLose (Arrives whole)) (view satl.old (D.state drive.old)) replies (view satl.new (D.state drive.new))) (K.written sink.old) (K.written sink.new)) }
     ensures unforced { OnOk result (AsksNoFua request → AreUnforced (view satl.old (D.state drive.old)) → AreUnforced (view satl.new (D.state drive.new))) }
+    ensures modes { satl.new.modes ≡ satl.old.modes }
+    ensures more { length satl.new.tasks ≤ length satl.old.tasks + 1 }
+    ensures drive { drive.new ≡ drive.old }
+    ensures steps { steps.new ≡ steps.old }
     ensures later { K.faults sink.old ≤ K.faults sink.new }
     ensures cause { IfErr result (HasWriteCause (K.faults sink.old) (K.faults sink.new)) }
 {
@@ -135,6 +141,9 @@ fn serve_turn<K: Sink, D: Drive, L: Ledger>(
     ensures part { OnErr result (AnsweredPart (λ replies. AreUnforced (view satl.old (D.state drive.old)) → Around Turn (view satl.old (D.state drive.old)) replies (view satl.new (D.state drive.new))) (K.written sink.old) (K.written sink.new)) }
     ensures unforced { OnOk result (AreUnforced (view satl.old (D.state drive.old)) → AreUnforced (view satl.new (D.state drive.new))) }
     ensures fewer { OnOk result (length satl.new.tasks ≤ length satl.old.tasks - 1) }
+    ensures modes { satl.new.modes ≡ satl.old.modes }
+    ensures counted { RoseBy (losses_of (view satl.old (D.state drive.old)) (view satl.new (D.state drive.new))) (D.state drive.old).faults (D.state drive.new).faults }
+    ensures calls { steps.new + length satl.new.tasks ≤ steps.old + length satl.old.tasks }
     ensures later { K.faults sink.old ≤ K.faults sink.new }
     ensures cause { IfErr result (HasWriteCause (K.faults sink.old) (K.faults sink.new)) }
 {
@@ -159,6 +168,9 @@ fn serve_turns<K: Sink, D: Drive, L: Ledger>(
     ensures part { OnErr result (AnsweredPart (λ replies. AreUnforced (view satl.old (D.state drive.old)) → TookSome count (view satl.old (D.state drive.old)) replies (view satl.new (D.state drive.new))) (K.written sink.old) (K.written sink.new)) }
     ensures unforced { OnOk result (AreUnforced (view satl.old (D.state drive.old)) → AreUnforced (view satl.new (D.state drive.new))) }
     ensures fewer { OnOk result (length satl.new.tasks ≤ length satl.old.tasks - count) }
+    ensures modes { satl.new.modes ≡ satl.old.modes }
+    ensures counted { RoseBy (losses_of (view satl.old (D.state drive.old)) (view satl.new (D.state drive.new))) (D.state drive.old).faults (D.state drive.new).faults }
+    ensures calls { steps.new + length satl.new.tasks ≤ steps.old + length satl.old.tasks }
     ensures later { K.faults sink.old ≤ K.faults sink.new }
     ensures cause { IfErr result (HasWriteCause (K.faults sink.old) (K.faults sink.new)) }
 {
@@ -180,6 +192,8 @@ fn serve_end<K: Sink, D: Drive, L: Ledger>(
     requires none { replies.old ≡ [] }
     ensures ended { OnOk result (AnsweredEnd (λ replies. AreUnforced (view satl.old (D.state drive.old)) → (deep : ℕ) × Drains (view satl.old (D.state drive.old)) replies (view satl.new (D.state drive.new)) deep) (K.written sink.old) (K.written sink.new)) }
     ensures part { OnErr result (EndsPart (AreUnforced (view satl.old (D.state drive.old))) (view satl.old (D.state drive.old)) (K.written sink.old) (K.written sink.new) (view satl.new (D.state drive.new))) }
+    ensures counted { RoseBy (losses_of (view satl.old (D.state drive.old)) (view satl.new (D.state drive.new))) (D.state drive.old).faults (D.state drive.new).faults }
+    ensures calls { steps.new + length satl.new.tasks ≤ steps.old + length satl.old.tasks }
     ensures later { K.faults sink.old ≤ K.faults sink.new }
     ensures cause { IfErr result (HasWriteCause (K.faults sink.old) (K.faults sink.new)) }
 {
@@ -191,9 +205,10 @@ fn serve_end<K: Sink, D: Drive, L: Ledger>(
 
 /// Serves an input of frames: opens the layer on the drive, writes the magic of the output, and carries out one frame after the
 /// other up to END, which ends it. Each answer is written before the next frame is read. `Open`: the layer was not opened, and
-/// nothing was read or written. `BadInput` comes after its FAULT frame was written, with the reason and the offset of the refused
-/// frame in bytes. `Read` and `Write` come only where the source's or the sink's count of faults rose. `NotBuilt` comes at a
-/// frame that is not served yet (profile).
+/// nothing was read or written; a drive whose IDENTIFY DEVICE data are refused is answered so. `BadInput` comes after its FAULT
+/// frame was written, with the reason and the offset of the refused frame in bytes. `Read` and `Write` come only where the
+/// source's or the sink's count of faults rose. `NotBuilt` comes at a frame that is not served yet. The drive is called once for
+/// its identity, and then once for each request at most (profile).
 pub fn serve<S: Source, K: Sink, D: Bench, L: Ledger>(
     alloc: Global,
     form: Form,
@@ -204,9 +219,10 @@ pub fn serve<S: Source, K: Sink, D: Bench, L: Ledger>(
 ) -> Result<(), ServeFault>
     requires idle { (D.state drive.old).outstanding ≡ [] }
     requires fit { IsFit (D.state drive.old) }
-    ensures served { OnOk result (IsServed input_limit (D.state drive.old) (S.left source.old) (S.left source.new) (K.written sink.old) (K.written sink.new) (D.state drive.new)) }
-    ensures stopped { IfErr result (IsStopped input_limit (D.state drive.old) (S.left source.old) (S.left source.new) (K.written sink.old) (K.written sink.new) (D.state drive.new)) }
-    ensures causes { IfErr result (HasServeCause (S.faults source.old) (S.faults source.new) (K.faults sink.old) (K.faults sink.new)) }
+    ensures served { OnOk result (IsServed input_limit (D.state drive.old) (S.left source.old) (S.left source.new) (K.written sink.old) (K.written sink.new) steps.old steps.new (D.state drive.new)) }
+    ensures stopped { IfErr result (IsStopped input_limit (D.state drive.old) (S.left source.old) (S.left source.new) (K.written sink.old) (K.written sink.new) steps.old steps.new (D.state drive.new)) }
+    ensures causes { IfErr result (HasServeCause (D.state drive.old) (D.state drive.new) (S.faults source.old) (S.faults source.new) (K.faults sink.old) (K.faults sink.new)) }
+    ensures refused { (fault : IdentityFault) → IsRefused fault (D.state drive.old) (D.state drive.new) → IsErrAnd result (TellsRefusal fault) }
 {
     let mut satl = Satl::open(alloc, drive, steps)?;
     write_frame(OutFrame::Magic, sink)?;
@@ -226,9 +242,9 @@ fn serve_frames<S: Source, K: Sink, D: Drive, L: Ledger>(
 ) -> Result<(), ServeFault>
     requires rest { AtRest satl.old (D.state drive.old) }
     requires new { satl.old.tasks ≡ [] }
-    ensures ended { OnOk result (Ended input_limit (view satl.old (D.state drive.old)) (S.left source.old) (S.left source.new) (K.written sink.old) (K.written sink.new) (view satl.new (D.state drive.new))) }
-    ensures stopped { IfErr result (StoppedBehind input_limit (view satl.old (D.state drive.old)) (S.left source.old) (S.left source.new) (K.written sink.old) (K.written sink.new) satl.new (view satl.new (D.state drive.new))) }
-    ensures causes { IfErr result (HasServeCause (S.faults source.old) (S.faults source.new) (K.faults sink.old) (K.faults sink.new)) }
+    ensures ended { OnOk result (Ended input_limit (view satl.old (D.state drive.old)) (tally_of (D.state drive.old) steps.old) (S.left source.old) (S.left source.new) (K.written sink.old) (K.written sink.new) (tally_of (D.state drive.new) steps.new) (view satl.new (D.state drive.new))) }
+    ensures stopped { IfErr result (StoppedBehind input_limit (view satl.old (D.state drive.old)) (tally_of (D.state drive.old) steps.old) (S.left source.old) (S.left source.new) (K.written sink.old) (K.written sink.new) (tally_of (D.state drive.new) steps.new) satl.new (view satl.new (D.state drive.new))) }
+    ensures causes { IfErr result (HasFrameCause (S.faults source.old) (S.faults source.new) (K.faults sink.old) (K.faults sink.new)) }
 {
     let mut reader = FrameReader::new(alloc, LIMIT);
     let mut replies = Replies::new(alloc);

@@ -1,8 +1,8 @@
-use Rattle.std.proofs.Common.{subst, sym}
+use Rattle.std.proofs.Common.{◌∙◌, ap, arith, length, subst, sym}
 use Rattle.satl_direct.specs.Arrival.{Arrives}
 use Rattle.satl_direct.specs.Quiet.{Around}
 use Rattle.satl_direct.specs.Run.{MayLose}
-use Rattle.satl_core.specs.Layer.{view}
+use Rattle.satl_core.specs.Layer.{Layer, view}
 use Rattle.satl_core.specs.Turning.{AreUnforced}
 use Rattle.satl_serve.proofs.RunLemmas.{on_err, on_ok, view_same}
 use Rattle.satl_serve.proofs.serving.serve_request.Goals as goal
@@ -29,3 +29,9 @@ returns-clause-part g c =
       step = λ w cut. subst (λ s. Around (MayLose (Arrives w)) (view c.args.satl.now (g.D.Drive.state c.args.drive.now)) c.submit.new.replies s) (sym same) (c.submit.ensures.around w cut);
       part = part;
     }) c.answer.ensures.part
+
+pub returns-clause-more : goal.returns-clause-more
+returns-clause-more g c = let tasks = ap (λ (l : Layer). length l.tasks) c.answer.ensures.stays in omega (arith, tasks, c.submit.ensures.more)
+
+pub returns-clause-modes : goal.returns-clause-modes
+returns-clause-modes g c = ap (λ (l : Layer). l.modes) c.answer.ensures.stays ∙ c.submit.ensures.modes
