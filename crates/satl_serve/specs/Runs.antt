@@ -14,13 +14,16 @@ use Rattle.satl_frame.specs.declared.frames.Reason.{Reason}
 use Rattle.satl_frame.specs.declared.frames.Version.TheVariants.{Two}
 use Rattle.satl_frame.specs.declared.frames.FrameFault.{FrameFault}
 use Rattle.satl_frame.specs.declared.frames.FrameFault.TheVariants.{Bad, ReadFault}
+use Rattle.satl_frame.specs.Inputs.{NoneEnds}
 use Rattle.satl_frame.specs.Output.{Answer, all_answered, fault_bytes, out, out_magic}
 use Rattle.satl_frame.specs.Output.Answer.{replied, ended}
 use Rattle.satl_frame.specs.Progress.{HasRead, ReadTo}
 use Rattle.satl_frame.specs.Reading.{Blames, Gave, Reading}
-use Rattle.satl_line.specs.Tasks.{is_named}
+use Rattle.satl_text.specs.Totals.{summary_of}
+use Rattle.satl_text.specs.declared.summary.Summary.{Summary}
+use Rattle.satl_line.specs.Tasks.{entries_of, is_named}
 use Rattle.satl_drive.specs.State.{DriveState}
-use Rattle.satl_direct.specs.Device.{Device}
+use Rattle.satl_direct.specs.Device.{Device, task_of}
 use Rattle.satl_direct.specs.Run.{Drains, Run, RunCut, TurnsOf}
 use Rattle.satl_core.specs.Layer.{Layer}
 use Rattle.satl_serve.specs.declared.serving.ServeFault.{ServeFault}
@@ -31,17 +34,23 @@ use Rattle.satl_core.specs.Turning.{AreUnforced, AsksNoFua}
 abbrev pub input_limit : ℕ
 input_limit = 2 ^ 40
 
--- a step of the device whose replies were written
-pub record Answered (Step : List Reply → Type 0) (written written' : Option (List ℕ)) : Type 0 where
+-- the totals count these answers too
+pub record Counts (old new : Summary) (answers : List Answer) : Type 0 where
+  pub known : (requests : ℕ) (before : List Answer) → old ≡ summary_of requests before → new ≡ summary_of requests (before ++ answers)
+
+-- a step of the device whose replies were written and counted
+pub record Answered (Step : List Reply → Type 0) (written written' : Option (List ℕ)) (summary summary' : Summary) : Type 0 where
   pub replies : List Reply
   pub step : Step replies
   pub wrote : Wrote written written' (all_answered (map replied replies))
+  pub counts : Counts summary summary' (map replied replies)
 
 -- the same, and END behind them
-pub record AnsweredEnd (Step : List Reply → Type 0) (written written' : Option (List ℕ)) : Type 0 where
+pub record AnsweredEnd (Step : List Reply → Type 0) (written written' : Option (List ℕ)) (summary summary' : Summary) : Type 0 where
   pub replies : List Reply
   pub step : Step replies
   pub wrote : Wrote written written' (all_answered (map replied replies ++ ended ∷ []))
+  pub counts : Counts summary summary' (map replied replies ++ ended ∷ [])
 
 -- a step of the device whose replies were written in part
 pub record AnsweredPart (Step : List Reply → Type 0) (written written' : Option (List ℕ)) : Type 0 where
@@ -118,21 +127,22 @@ pub record RunsTo (before now : ℕ) (first : Device) (events : List Frame) (ans
   pub run : Run first events losses answers last
   pub counted : RoseBy losses before now
 
--- frames were read, none of which is END, and their answers were written, which are those of a run; the drive was called once
--- at most for each request that is no longer a task
-pub record Going (first : Device) (before : Tally) (r : Reading) (left left' written written' : Option (List ℕ)) (now : Tally) (s : Device) : Type 0 where
+-- frames were read, none of which is END, and their answers were written and counted, which are those of a run; the drive was
+-- called once at most for each request that is no longer a task
+pub record Going (first : Device) (before : Tally) (r : Reading) (left left' written written' : Option (List ℕ)) (summary : Summary) (now : Tally) (s : Device) : Type 0 where
   pub events : List Frame
   pub answers : List Answer
-  pub none_ends : AllByRecursion (λ f. f ≡ frames.End → ⊥) events
+  pub none_ends : NoneEnds events
   pub read : HasRead r left left' events
   pub wrote : Wrote written written' (all_answered answers)
   pub run : GoesUnforced first events → RunsTo before.faults now.faults first events answers s
   pub unforced : GoesUnforced first events → AreUnforced s
   pub modes : s.modes ≡ first.modes
   pub calls : now.calls + length s.tasks ≤ before.calls + requests_in events
+  pub totals : summary ≡ summary_of (requests_in events) answers
 
 -- the same up to END, which was read and carried out
-pub record Ended (limit : ℕ) (first : Device) (before : Tally) (left left' written written' : Option (List ℕ)) (now : Tally) (last : Device) : Type 0 where
+pub record Ended (limit : ℕ) (first : Device) (before : Tally) (left left' written written' : Option (List ℕ)) (now : Tally) (last : Device) (summary : Summary) : Type 0 where
   pub events : List Frame
   pub answers : List Answer
   pub place : Place
@@ -140,6 +150,7 @@ pub record Ended (limit : ℕ) (first : Device) (before : Tally) (left left' wri
   pub wrote : Wrote written written' (all_answered answers)
   pub run : GoesUnforced first (events ++ frames.End ∷ []) → RunsTo before.faults now.faults first (events ++ frames.End ∷ []) answers last
   pub calls : now.calls ≤ before.calls + requests_in events
+  pub totals : summary ≡ summary_of (requests_in events) answers
 
 -- the device that a drive is when the layer has just been opened on it: its sectors, some of which it may have written back by
 -- itself; no task; the modes by its settings; started and up
@@ -162,9 +173,9 @@ pub record IsLeftAs (s : Device) (d : DriveState) : Type 0 where
   pub down : d.down ≡ s.down
 
 -- a whole input was served: its frames up to END were read and no byte behind them; the magic and the answers of a run over
--- exactly these frames were written, where no write goes past the cache; the drive is left as that run's last device is; and it
--- was called once for its identity and once for each request at most
-pub record IsServed (limit : ℕ) (old : DriveState) (left left' written written' : Option (List ℕ)) (calls calls' : ℕ) (new : DriveState) : Type 0 where
+-- exactly these frames were written, where no write goes past the cache; the drive is left as that run's last device is; it was
+-- called once for its identity and once for each request at most; and the totals are those of the requests and these answers
+pub record IsServed (limit : ℕ) (old : DriveState) (left left' written written' : Option (List ℕ)) (calls calls' : ℕ) (new : DriveState) (summary : Summary) : Type 0 where
   pub first : Device
   pub last : Device
   pub events : List Frame
@@ -176,6 +187,7 @@ pub record IsServed (limit : ℕ) (old : DriveState) (left left' written written
   pub run : GoesUnforced first (events ++ frames.End ∷ []) → RunsTo old.faults new.faults first (events ++ frames.End ∷ []) answers last
   pub ends : IsLeftAs last new
   pub few : calls' ≤ calls + 1 + requests_in events
+  pub totals : summary ≡ summary_of (requests_in events) answers
 
 -- a run over these frames, which may be cut short in the last one, ends in this device with these answers, and the drive's count
 -- of faults rose by its losses at least
@@ -203,7 +215,7 @@ pub record Cut (limit : ℕ) (first : Device) (before : Tally) (left left' writt
   pub run : GoesUnforced first events → CutsTo before.faults now.faults first events answers last
   pub calls : now.calls ≤ before.calls + requests_in events
 
--- frames were read and carried out, and what follows was refused or not read; these bytes were written behind the answers
+-- frames were read and carried out, none of which is END, and what follows was refused or not read; these bytes were written behind the answers
 pub record Refused (limit : ℕ) (first : Device) (before : Tally) (left left' written written' : Option (List ℕ)) (why : FrameFault) (told : List ℕ) (now : Tally) (last : Device) : Type 0 where
   pub reader : Reading
   pub mid : Option (List ℕ)
@@ -211,6 +223,7 @@ pub record Refused (limit : ℕ) (first : Device) (before : Tally) (left left' w
   pub answers : List Answer
   pub limit_is : reader.limit ≡ limit
   pub newest_is : reader.newest ≡ Two
+  pub none_ends : NoneEnds events
   pub read : HasRead reader left mid events
   pub blames : Blames reader mid left' why
   pub wrote : Wrote written written' (all_answered answers ++ told)
@@ -225,7 +238,7 @@ IsNotBuilt l (frames.Turn count) = ⊥
 IsNotBuilt l (frames.Bench event) = Unit {0}
 IsNotBuilt l frames.End = ⊥
 
--- frames were read and carried out, and then one was read that is not built yet
+-- frames were read and carried out, none of which is END, and then one was read that is not built yet
 pub record NotServed (limit : ℕ) (first : Device) (before : Tally) (left left' written written' : Option (List ℕ)) (now : Tally) (l : Layer) (last : Device) : Type 0 where
   pub reader : Reading
   pub reader' : Reading
@@ -236,6 +249,7 @@ pub record NotServed (limit : ℕ) (first : Device) (before : Tally) (left left'
   pub frame : Frame
   pub limit_is : reader.limit ≡ limit
   pub newest_is : reader.newest ≡ Two
+  pub none_ends : NoneEnds events
   pub read : HasRead reader left mid events
   pub gave : Gave reader room frame reader' mid left'
   pub not_built : IsNotBuilt l frame
@@ -270,6 +284,7 @@ pub record IsStoppedBehind (limit : ℕ) (old : DriveState) (left left' written 
   pub one : opened ≤ calls + 1
   pub magic : Wrote written behind out_magic
   pub stopped : StoppedBehind limit first (tally_of old opened) left left' behind written' (tally_of new calls') layer last fault
+  pub tasks : last.tasks ≡ map task_of (entries_of layer.tasks)
   pub ends : IsLeftAs last new
 
 -- the layer was opened on the drive, and a write failed in the magic before anything was read
