@@ -1,5 +1,5 @@
 -- The words of the program, how it ends, and why (profile).
-use Rattle.std.specs.Prelude.{◌≡◌, ◌⊎◌, ℕ, Bool, false, List, [], ◌∷◌, codes, nat_eq, Option, Err}
+use Rattle.std.specs.Prelude.{◌≡◌, ◌⊎◌, ℕ, Bool, false, List, [], ◌∷◌, codes, nat_eq, Option, Some, Err}
 use Rattle.std.specs.Cmp.Lexicographic.{pointwise}
 use Rattle.std.specs.declared.rc.RcStr.{RcStr}
 use Rattle.std.specs.declared.alloc.Global.{Global}
@@ -7,9 +7,12 @@ use Rattle.std.specs.Rc.{rc_str_bytes}
 use Rattle.satl_io.specs.Causes.{Rose}
 use Rattle.satl_identify.specs.declared.identity.IdentityFault.{IdentityFault}
 use Rattle.satl_identify.specs.Refusals.{identity_of}
+use Rattle.satl_frame.specs.declared.frames.Frame.{Frame}
 use Rattle.satl_frame.specs.declared.frames.Reason.{Reason}
+use Rattle.satl_text.specs.declared.summary.Summary.{Summary}
 use Rattle.satl_drive.specs.State.{DriveState}
 use Rattle.satl_serve.specs.declared.serving.ServeFault.TheVariants as faults
+use Rattle.satl_serve.specs.Completeness.{Overlaps}
 use Rattle.satl_serve.specs.Runs.{IsServed, IsStoppedBehind, IsStoppedInMagic, IsUntouched}
 use Rattle.satl_top.specs.declared.status.Status.{Status}
 use Rattle.satl_top.specs.declared.status.Status.TheVariants as statuses
@@ -48,7 +51,7 @@ HasCause old new read_before read_now write_before write_now statuses.NotBuilt =
 -- was not read, or asks for what is not built yet, behind frames that were carried out; or a write failed, in the magic or in the
 -- answers to the last frame; or nothing was read or written, and no sector reads otherwise than before
 abbrev pub Outcome : ℕ → DriveState → Option (List ℕ) → Option (List ℕ) → Option (List ℕ) → Option (List ℕ) → ℕ → ℕ → DriveState → Status → Type 0
-Outcome limit old left left' written written' calls calls' new statuses.Done = IsServed limit old left left' written written' calls calls' new
+Outcome limit old left left' written written' calls calls' new statuses.Done = (summary : Summary) × IsServed limit old left left' written written' calls calls' new summary
 Outcome limit old left left' written written' calls calls' new statuses.Usage = (left' ≡ left) × (written' ≡ written) × (calls' ≡ calls) × (new ≡ old)
 Outcome limit old left left' written written' calls calls' new statuses.BadInput = (reason : Reason) × (offset : ℕ) × IsStoppedBehind limit old left left' written written' calls calls' new (faults.BadInput reason offset)
 Outcome limit old left left' written written' calls calls' new statuses.ReadFault = IsStoppedBehind limit old left left' written written' calls calls' new faults.Read
@@ -56,3 +59,15 @@ Outcome limit old left left' written written' calls calls' new statuses.WriteFau
 Outcome limit old left left' written written' calls calls' new statuses.NoMemory = IsUntouched old left left' written written' calls calls' new
 Outcome limit old left left' written written' calls calls' new statuses.DriveRefused = IsUntouched old left left' written written' calls calls' new
 Outcome limit old left left' written written' calls calls' new statuses.NotBuilt = IsStoppedBehind limit old left left' written written' calls calls' new faults.NotBuilt
+
+-- a good input is served whole where all goes well, up to END and no byte further (profile): but there may be no memory to begin,
+-- and an overlapped command is not built yet
+abbrev pub Completes : DriveState → List Frame → List ℕ → Option (List ℕ) → Status → Type 0
+Completes old fs rest left' statuses.Done = left' ≡ Some rest
+Completes old fs rest left' statuses.Usage = ⊥
+Completes old fs rest left' statuses.BadInput = ⊥
+Completes old fs rest left' statuses.ReadFault = ⊥
+Completes old fs rest left' statuses.WriteFault = ⊥
+Completes old fs rest left' statuses.NoMemory = Unit {0}
+Completes old fs rest left' statuses.DriveRefused = ⊥
+Completes old fs rest left' statuses.NotBuilt = Overlaps old fs
