@@ -204,11 +204,11 @@ fn serve_end<K: Sink, D: Drive, L: Ledger>(
 }
 
 /// Serves an input of frames: opens the layer on the drive, writes the magic of the output, and carries out one frame after the
-/// other up to END, which ends it. Each answer is written before the next frame is read. `Open`: the layer was not opened, and
-/// nothing was read or written; a drive whose IDENTIFY DEVICE data are refused is answered so. `BadInput` comes after its FAULT
-/// frame was written, with the reason and the offset of the refused frame in bytes. `Read` and `Write` come only where the
-/// source's or the sink's count of faults rose. `NotBuilt` comes at a frame that is not served yet. The drive is called once for
-/// its identity, and then once for each request at most (profile).
+/// other up to END, which ends it. Each answer is written before the next frame is read. `Open`: the layer was not opened, for
+/// the reason told, and nothing was read or written; refused IDENTIFY DEVICE data are told, but for a lost link and want of memory.
+/// `BadInput` comes after its FAULT frame was written, with the reason and the offset of the refused frame in bytes. `Read` and
+/// `Write` come only where the source's or the sink's count of faults rose. `NotBuilt` comes at a frame that is not served yet.
+/// The drive is called once for its identity, and then at most once for each request (profile).
 pub fn serve<S: Source, K: Sink, D: Bench, L: Ledger>(
     alloc: Global,
     form: Form,
