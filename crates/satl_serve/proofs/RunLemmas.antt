@@ -383,7 +383,7 @@ served limit old mid new calls opened calls' l l' a c w w' w'' u o one magic e =
   wrote = Wrote-more magic e.wrote;
   run = λ free. subst (λ n. RunsTo n new.faults (view l mid) (e.events ++ frames.End ∷ []) e.answers (view l' new)) (ap (λ (d : DriveState). d.faults) o.stays) (e.run free);
   ends = record { cells = refl; active = refl; glitches = refl; down = refl };
-  few = omega (arith, one, e.calls);
+  few_calls = omega (arith, one, e.calls);
   totals = e.totals;
 }
 
@@ -570,7 +570,7 @@ behind limit old mid new calls opened calls' l l' a c w w' w'' fault o one magic
   opened = opened;
   behind = w';
   begins = first_of old mid l o;
-  one = one;
+  one_call = one;
   magic = magic;
   tasks = refl;
   stopped = subst (λ n. StoppedBehind limit (view l mid) (record { faults = n; calls = opened }) a c w' w'' (tally_of new calls') l' (view l' new) fault) (ap (λ (d : DriveState). d.faults) o.stays) stopped;
@@ -596,5 +596,5 @@ magic_stops (Err e) P limit old new calls opened l a w w' is same o one part = s
   part = part;
   ends = record { cells = refl; active = refl; glitches = refl; down = refl };
   faults = ap (λ (d : DriveState). d.faults) o.stays;
-  one = one;
+  one_call = one;
 }))

@@ -34,11 +34,11 @@ use Rattle.satl_core.specs.Turning.{AreUnforced, AsksNoFua}
 abbrev pub input_limit : ℕ
 input_limit = 2 ^ 40
 
--- the totals count these answers too
+-- the totals count these answers too (profile)
 pub record Counts (old new : Summary) (answers : List Answer) : Type 0 where
   pub known : (requests : ℕ) (before : List Answer) → old ≡ summary_of requests before → new ≡ summary_of requests (before ++ answers)
 
--- a step of the device whose replies were written and counted
+-- a step of the device whose replies were written and counted (profile)
 pub record Answered (Step : List Reply → Type 0) (written written' : Option (List ℕ)) (summary summary' : Summary) : Type 0 where
   pub replies : List Reply
   pub step : Step replies
@@ -102,14 +102,16 @@ NoneForced events = AllByRecursion AsksNone events
 abbrev pub GoesUnforced : Device → List Frame → Type 0
 GoesUnforced first events = (first.modes.wce ≡ false) ⊎ NoneForced events
 
--- what was counted so far: a drive's faults, and the calls of it
+-- what was counted so far: a drive's faults, and how often it was called (profile)
 pub record Tally : Type 0 where
   pub faults : ℕ
   pub calls : ℕ
 
+-- the same of a drive that was called so often (profile)
 abbrev pub tally_of : DriveState → ℕ → Tally
 tally_of d calls = record { faults = d.faults; calls = calls }
 
+-- whether a frame is a REQUEST (profile)
 abbrev pub is_request : Frame → Bool
 is_request (frames.Request r) = true
 is_request (frames.Manage m) = false
@@ -117,18 +119,19 @@ is_request (frames.Turn count) = false
 is_request (frames.Bench event) = false
 is_request frames.End = false
 
--- how many of the frames are requests
+-- how many of the frames are requests (profile)
 abbrev pub requests_in : List Frame → ℕ
 requests_in events = how_many is_request events
 
--- a run over these frames with these answers ends in this device, and the drive's count of faults rose by its losses at least
+-- a run over these frames with these answers ends in this device, and the drive's count of faults rose by its losses at
+-- least (profile)
 pub record RunsTo (before now : ℕ) (first : Device) (events : List Frame) (answers : List Answer) (last : Device) : Type 0 where
   pub losses : ℕ
   pub run : Run first events losses answers last
   pub counted : RoseBy losses before now
 
 -- frames were read, none of which is END, and their answers were written and counted, which are those of a run; the drive was
--- called once at most for each request that is no longer a task
+-- called once at most for each request that is no longer a task (profile)
 pub record Going (first : Device) (before : Tally) (r : Reading) (left left' written written' : Option (List ℕ)) (summary : Summary) (now : Tally) (s : Device) : Type 0 where
   pub events : List Frame
   pub answers : List Answer
@@ -174,7 +177,7 @@ pub record IsLeftAs (s : Device) (d : DriveState) : Type 0 where
 
 -- a whole input was served: its frames up to END were read and no byte behind them; the magic and the answers of a run over
 -- exactly these frames were written, where no write goes past the cache; the drive is left as that run's last device is; it was
--- called once for its identity and once for each request at most; and the totals are those of the requests and these answers
+-- called once for its identity and once for each request at most; and the totals are those of the requests and these answers (profile)
 pub record IsServed (limit : ℕ) (old : DriveState) (left left' written written' : Option (List ℕ)) (calls calls' : ℕ) (new : DriveState) (summary : Summary) : Type 0 where
   pub first : Device
   pub last : Device
@@ -186,11 +189,11 @@ pub record IsServed (limit : ℕ) (old : DriveState) (left left' written written
   pub wrote : Wrote written written' (out answers)
   pub run : GoesUnforced first (events ++ frames.End ∷ []) → RunsTo old.faults new.faults first (events ++ frames.End ∷ []) answers last
   pub ends : IsLeftAs last new
-  pub few : calls' ≤ calls + 1 + requests_in events
+  pub few_calls : calls' ≤ calls + 1 + requests_in events
   pub totals : summary ≡ summary_of (requests_in events) answers
 
 -- a run over these frames, which may be cut short in the last one, ends in this device with these answers, and the drive's count
--- of faults rose by its losses at least
+-- of faults rose by its losses at least (profile)
 pub record CutsTo (before now : ℕ) (first : Device) (events : List Frame) (answers : List Answer) (last : Device) : Type 0 where
   pub losses : ℕ
   pub run : RunCut first events losses answers last
@@ -273,7 +276,7 @@ Tells fault written written' faults.Read = (fault ≡ ReadFault) × (written' �
 Tells fault written written' faults.Write = (reason : Reason) × (offset : ℕ) × (fault ≡ Bad reason offset) × WrotePart written written' (fault_bytes reason offset)
 Tells fault written written' faults.NotBuilt = ⊥
 
--- serving stopped: the layer was opened on the drive by one call at most, the magic was written, and then it came so far
+-- serving stopped: the layer was opened on the drive by one call at most, the magic was written, and then it came so far (profile)
 pub record IsStoppedBehind (limit : ℕ) (old : DriveState) (left left' written written' : Option (List ℕ)) (calls calls' : ℕ) (new : DriveState) (fault : ServeFault) : Type 0 where
   pub first : Device
   pub last : Device
@@ -281,13 +284,13 @@ pub record IsStoppedBehind (limit : ℕ) (old : DriveState) (left left' written 
   pub opened : ℕ
   pub behind : Option (List ℕ)
   pub begins : IsFirst old first
-  pub one : opened ≤ calls + 1
+  pub one_call : opened ≤ calls + 1
   pub magic : Wrote written behind out_magic
   pub stopped : StoppedBehind limit first (tally_of old opened) left left' behind written' (tally_of new calls') layer last fault
   pub tasks : last.tasks ≡ map task_of (entries_of layer.tasks)
   pub ends : IsLeftAs last new
 
--- the layer was opened on the drive, and a write failed in the magic before anything was read
+-- the layer was opened on the drive, and a write failed in the magic before anything was read (profile)
 pub record IsStoppedInMagic (old : DriveState) (left left' written written' : Option (List ℕ)) (calls calls' : ℕ) (new : DriveState) : Type 0 where
   pub first : Device
   pub begins : IsFirst old first
@@ -295,14 +298,14 @@ pub record IsStoppedInMagic (old : DriveState) (left left' written written' : Op
   pub part : WrotePart written written' out_magic
   pub ends : IsLeftAs first new
   pub faults : new.faults ≡ old.faults
-  pub one : calls' ≤ calls + 1
+  pub one_call : calls' ≤ calls + 1
 
--- nothing was read or written, a read of each sector gives what it gave, and the drive was called once at most
+-- nothing was read or written, a read of each sector gives what it gave, and the drive was called once at most (profile)
 pub record IsUntouched (old : DriveState) (left left' written written' : Option (List ℕ)) (calls calls' : ℕ) (new : DriveState) : Type 0 where
   pub read : left' ≡ left
   pub wrote : written' ≡ written
   pub nows : map (λ c. c.now) new.cells ≡ map (λ c. c.now) old.cells
-  pub one : calls' ≤ calls + 1
+  pub one_call : calls' ≤ calls + 1
 
 -- the same by the fault; a write may fail in the magic already
 abbrev pub IsStopped : ℕ → DriveState → Option (List ℕ) → Option (List ℕ) → Option (List ℕ) → Option (List ℕ) → ℕ → ℕ → DriveState → ServeFault → Type 0

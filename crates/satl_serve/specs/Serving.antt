@@ -37,10 +37,10 @@ HasServeCause old new read_before read_now write_before write_now faults.Read = 
 HasServeCause old new read_before read_now write_before write_now faults.Write = Rose write_before write_now
 HasServeCause old new read_before read_now write_before write_now faults.NotBuilt = Unit {0}
 
--- the drive's data are refused, and its count of faults has not risen
+-- the drive's IDENTIFY DEVICE data are refused, and its count of faults has not risen (profile)
 pub record IsRefused (fault : IdentityFault) (old new : DriveState) : Type 0 where
   pub refused : identity_of old.identify ≡ Err fault
-  pub calm : Rose old.faults new.faults → ⊥
+  pub no_rise : Rose old.faults new.faults → ⊥
 
 -- this refusal is told, or that there was no memory (profile)
 abbrev pub TellsRefusal : IdentityFault → ServeFault → Type 0

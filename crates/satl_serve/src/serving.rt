@@ -83,7 +83,7 @@ fn answer<K: Sink>(
     satl: &mut Satl,
     sink: &mut K,
     replies: &mut Replies,
-    summary: &mut Summary,
+    totals: &mut Summary,
 ) -> Result<(), ServeFault>
     requires writable { AllByRecursion IsWritable replies.old }
     requires pages { satl.old.out ≡ reply_pages replies.old }
@@ -91,7 +91,7 @@ fn answer<K: Sink>(
     ensures all_in { OnOk result (satl.new.out ≡ 0) }
     ensures none { OnOk result (replies.new ≡ []) }
     ensures wrote { OnOk result (Wrote (K.written sink.old) (K.written sink.new) (all_answered (map replied replies.old))) }
-    ensures counts { OnOk result (Counts summary.old summary.new (map replied replies.old)) }
+    ensures counts { OnOk result (Counts totals.old totals.new (map replied replies.old)) }
     ensures part { OnErr result (WrotePart (K.written sink.old) (K.written sink.new) (all_answered (map replied replies.old))) }
     ensures later { K.faults sink.old ≤ K.faults sink.new }
     ensures cause { IfErr result (HasWriteCause (K.faults sink.old) (K.faults sink.new)) }
@@ -101,7 +101,7 @@ fn answer<K: Sink>(
             unreachable!();
         };
         write_frame(OutFrame::Reply(&reply), sink)?;
-        summary.add_reply(&reply);
+        totals.add_reply(&reply);
         satl.recycle(reply.body);
     }
     Ok(())
@@ -114,7 +114,7 @@ fn serve_request<K: Sink, D: Drive, L: Ledger>(
     sink: &mut K,
     drive: &mut D,
     replies: &mut Replies,
-    summary: &mut Summary,
+    totals: &mut Summary,
     steps: &mut Steps<L>,
 ) -> Result<(), ServeFault>
     requires tied { Tied satl.old (D.state drive.old) }
@@ -122,7 +122,7 @@ fn serve_request<K: Sink, D: Drive, L: Ledger>(
     requires none { replies.old ≡ [] }
     ensures rest { OnOk result (AtRest satl.new (D.state drive.new)) }
     ensures none { OnOk result (replies.new ≡ []) }
-    ensures answered { OnOk result (Answered (λ replies. (whole : Request) → IsCutOf whole request → Around (MayLose (Arrives whole)) (view satl.old (D.state drive.old)) replies (view satl.new (D.state drive.new))) (K.written sink.old) (K.written sink.new) summary.old summary.new) }
+    ensures answered { OnOk result (Answered (λ replies. (whole : Request) → IsCutOf whole request → Around (MayLose (Arrives whole)) (view satl.old (D.state drive.old)) replies (view satl.new (D.state drive.new))) (K.written sink.old) (K.written sink.new) totals.old totals.new) }
     ensures part { OnErr result (AnsweredPart (λ replies. (whole : Request) → IsCutOf whole request → Around (MayLose (Arrives whole)) (view satl.old (D.state drive.old)) replies (view satl.new (D.state drive.new))) (K.written sink.old) (K.written sink.new)) }
     ensures unforced { OnOk result (AsksNoFua request → AreUnforced (view satl.old (D.state drive.old)) → AreUnforced (view satl.new (D.state drive.new))) }
     ensures modes { satl.new.modes ≡ satl.old.modes }
@@ -133,7 +133,7 @@ fn serve_request<K: Sink, D: Drive, L: Ledger>(
     ensures cause { IfErr result (HasWriteCause (K.faults sink.old) (K.faults sink.new)) }
 {
     satl.submit(request, drive, replies, steps);
-    answer(satl, sink, replies, summary)
+    answer(satl, sink, replies, totals)
 }
 
 /// One turn, whose answers are written.
@@ -142,14 +142,14 @@ fn serve_turn<K: Sink, D: Drive, L: Ledger>(
     sink: &mut K,
     drive: &mut D,
     replies: &mut Replies,
-    summary: &mut Summary,
+    totals: &mut Summary,
     steps: &mut Steps<L>,
 ) -> Result<(), ServeFault>
     requires rest { AtRest satl.old (D.state drive.old) }
     requires none { replies.old ≡ [] }
     ensures rest { OnOk result (AtRest satl.new (D.state drive.new)) }
     ensures none { OnOk result (replies.new ≡ []) }
-    ensures answered { OnOk result (Answered (λ replies. AreUnforced (view satl.old (D.state drive.old)) → Around Turn (view satl.old (D.state drive.old)) replies (view satl.new (D.state drive.new))) (K.written sink.old) (K.written sink.new) summary.old summary.new) }
+    ensures answered { OnOk result (Answered (λ replies. AreUnforced (view satl.old (D.state drive.old)) → Around Turn (view satl.old (D.state drive.old)) replies (view satl.new (D.state drive.new))) (K.written sink.old) (K.written sink.new) totals.old totals.new) }
     ensures part { OnErr result (AnsweredPart (λ replies. AreUnforced (view satl.old (D.state drive.old)) → Around Turn (view satl.old (D.state drive.old)) replies (view satl.new (D.state drive.new))) (K.written sink.old) (K.written sink.new)) }
     ensures unforced { OnOk result (AreUnforced (view satl.old (D.state drive.old)) → AreUnforced (view satl.new (D.state drive.new))) }
     ensures fewer { OnOk result (length satl.new.tasks ≤ length satl.old.tasks - 1) }
@@ -160,7 +160,7 @@ fn serve_turn<K: Sink, D: Drive, L: Ledger>(
     ensures cause { IfErr result (HasWriteCause (K.faults sink.old) (K.faults sink.new)) }
 {
     satl.turn(drive, replies, steps);
-    answer(satl, sink, replies, summary)
+    answer(satl, sink, replies, totals)
 }
 
 /// So many turns, each answered before the next.
@@ -170,14 +170,14 @@ fn serve_turns<K: Sink, D: Drive, L: Ledger>(
     sink: &mut K,
     drive: &mut D,
     replies: &mut Replies,
-    summary: &mut Summary,
+    totals: &mut Summary,
     steps: &mut Steps<L>,
 ) -> Result<(), ServeFault>
     requires rest { AtRest satl.old (D.state drive.old) }
     requires none { replies.old ≡ [] }
     ensures rest { OnOk result (AtRest satl.new (D.state drive.new)) }
     ensures none { OnOk result (replies.new ≡ []) }
-    ensures answered { OnOk result (Answered (λ replies. AreUnforced (view satl.old (D.state drive.old)) → TookTurns count (view satl.old (D.state drive.old)) replies (view satl.new (D.state drive.new))) (K.written sink.old) (K.written sink.new) summary.old summary.new) }
+    ensures answered { OnOk result (Answered (λ replies. AreUnforced (view satl.old (D.state drive.old)) → TookTurns count (view satl.old (D.state drive.old)) replies (view satl.new (D.state drive.new))) (K.written sink.old) (K.written sink.new) totals.old totals.new) }
     ensures part { OnErr result (AnsweredPart (λ replies. AreUnforced (view satl.old (D.state drive.old)) → TookSome count (view satl.old (D.state drive.old)) replies (view satl.new (D.state drive.new))) (K.written sink.old) (K.written sink.new)) }
     ensures unforced { OnOk result (AreUnforced (view satl.old (D.state drive.old)) → AreUnforced (view satl.new (D.state drive.new))) }
     ensures fewer { OnOk result (length satl.new.tasks ≤ length satl.old.tasks - count) }
@@ -188,7 +188,7 @@ fn serve_turns<K: Sink, D: Drive, L: Ledger>(
     ensures cause { IfErr result (HasWriteCause (K.faults sink.old) (K.faults sink.new)) }
 {
     for _ in 0..count {
-        serve_turn(satl, sink, drive, replies, summary, steps)?;
+        serve_turn(satl, sink, drive, replies, totals, steps)?;
     }
     Ok(())
 }
@@ -199,40 +199,41 @@ fn serve_end<K: Sink, D: Drive, L: Ledger>(
     sink: &mut K,
     drive: &mut D,
     replies: &mut Replies,
-    summary: Summary,
+    totals: Summary,
     steps: &mut Steps<L>,
 ) -> Result<Summary, ServeFault>
     requires rest { AtRest satl.old (D.state drive.old) }
     requires none { replies.old ≡ [] }
-    ensures ended { IfOk result (AnsweredEnd (λ replies. AreUnforced (view satl.old (D.state drive.old)) → (deep : ℕ) × Drains (view satl.old (D.state drive.old)) replies (view satl.new (D.state drive.new)) deep) (K.written sink.old) (K.written sink.new) summary) }
+    ensures ended { IfOk result (AnsweredEnd (λ replies. AreUnforced (view satl.old (D.state drive.old)) → (deep : ℕ) × Drains (view satl.old (D.state drive.old)) replies (view satl.new (D.state drive.new)) deep) (K.written sink.old) (K.written sink.new) totals) }
     ensures part { OnErr result (EndsPart (AreUnforced (view satl.old (D.state drive.old))) (view satl.old (D.state drive.old)) (K.written sink.old) (K.written sink.new) (view satl.new (D.state drive.new))) }
     ensures counted { RoseBy (losses_of (view satl.old (D.state drive.old)) (view satl.new (D.state drive.new))) (D.state drive.old).faults (D.state drive.new).faults }
     ensures calls { steps.new + length satl.new.tasks ≤ steps.old + length satl.old.tasks }
     ensures later { K.faults sink.old ≤ K.faults sink.new }
     ensures cause { IfErr result (HasWriteCause (K.faults sink.old) (K.faults sink.new)) }
 {
+    let mut totals = totals;
     // Each turn ends one task at least.
-    let mut summary = summary;
     serve_turns(
         satl,
         satl.pending() as u16,
         sink,
         drive,
         replies,
-        &mut summary,
+        &mut totals,
         steps,
     )?;
     write_frame(OutFrame::End, sink)?;
-    Ok(summary)
+    Ok(totals)
 }
 
 /// Serves an input of frames: opens the layer on the drive, writes the magic of the output, and carries out one frame after the
-/// other up to END, which ends it. Each answer is written before the next frame is read. It gives the totals of the whole input.
-/// `Open`: the layer was not opened, and
-/// nothing was read or written; a drive whose IDENTIFY DEVICE data are refused is answered so. `BadInput` comes after its FAULT
-/// frame was written, with the reason and the offset of the refused frame in bytes. `Read` and `Write` come only where the
-/// source's or the sink's count of faults rose. `NotBuilt` comes at a frame that is not served yet. The drive is called once for
-/// its identity, and then once for each request at most (profile).
+/// other up to END, which ends it. Each answer is written before the next frame is read. `Open`: the layer was not opened, for
+/// the reason told, and nothing was read or written; refused IDENTIFY DEVICE data are told, but for a lost link and want of memory.
+/// `BadInput` comes after its FAULT frame was written, with the reason and the offset of the refused frame in bytes. `Read` and
+/// `Write` come only where the source's or the sink's count of faults rose. `NotBuilt` comes at a frame that is not served yet.
+/// An input that can be read to END, each frame of which is served, ends so or by want of memory where no count of faults rises
+/// and the drive is not refused. It gives the totals of the whole input. The drive is called once for its identity, and then at
+/// most once for each request (profile).
 pub fn serve<S: Source, K: Sink, D: Bench, L: Ledger>(
     alloc: Global,
     form: Form,
@@ -273,7 +274,7 @@ fn serve_frames<S: Source, K: Sink, D: Drive, L: Ledger>(
 {
     let mut reader = FrameReader::new(alloc, LIMIT);
     let mut replies = Replies::new(alloc);
-    let mut summary = Summary::default();
+    let mut totals = Summary::default();
     'frames: loop {
         let frame = match reader.next(source, satl) {
             Ok(frame) => frame,
@@ -285,14 +286,14 @@ fn serve_frames<S: Source, K: Sink, D: Drive, L: Ledger>(
                 if satl.holds(request.nexus, request.tag) {
                     return Err(ServeFault::NotBuilt);
                 }
-                summary.add_request();
+                totals.add_request();
                 serve_request(
                     satl,
                     request,
                     sink,
                     drive,
                     &mut replies,
-                    &mut summary,
+                    &mut totals,
                     steps,
                 )?;
             }
@@ -302,10 +303,10 @@ fn serve_frames<S: Source, K: Sink, D: Drive, L: Ledger>(
                 sink,
                 drive,
                 &mut replies,
-                &mut summary,
+                &mut totals,
                 steps,
             )?,
-            Frame::End => return serve_end(satl, sink, drive, &mut replies, summary, steps),
+            Frame::End => return serve_end(satl, sink, drive, &mut replies, totals, steps),
             Frame::Manage(_) | Frame::Bench(_) => return Err(ServeFault::NotBuilt),
         }
     }

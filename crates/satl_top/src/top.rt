@@ -30,7 +30,7 @@ fn is_replay(words: &[RcStr]) -> bool
 
 /// Does all that the program does: where the words are two and the second is `replay`, it serves the frames of the source on
 /// the drive and writes the answers to the sink. The drive has nothing outstanding, and its IDENTIFY DEVICE data fit it. The
-/// status says how that ended. The drive is called once for its identity, and then once for each request at most (profile).
+/// status says how that ended. The drive is called once for its identity, and then at most once for each request (profile).
 pub fn satl<S: Source, K: Sink, D: Bench, L: Ledger>(
     alloc: Global,
     words: &[RcStr],

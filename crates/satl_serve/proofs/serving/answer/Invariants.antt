@@ -14,6 +14,6 @@ invariant-loop g l = record {
   pages : l.satl.out ≡ reply_pages l.replies;
   stays : l.satl ≡ record l.initial.satl { free = l.satl.free; out = l.satl.out };
   written : IsPartWritten (g.K.Sink.written l.initial.sink) (g.K.Sink.written l.sink) (all_answered (map replied l.replies)) (all_answered (map replied l.initial.replies));
-  counts : (final : Summary) → Counts l.summary final (map replied l.replies) → Counts l.initial.summary final (map replied l.initial.replies);
+  counts : (final : Summary) → Counts l.totals final (map replied l.replies) → Counts l.initial.totals final (map replied l.initial.replies);
   later : g.K.Sink.faults l.initial.sink ≤ g.K.Sink.faults l.sink;
 }

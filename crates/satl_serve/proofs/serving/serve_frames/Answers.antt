@@ -18,7 +18,7 @@ frames-init g c = record {
   fresh = ap (λ (r : Reading). r.refused) c.new-reader.ensures;
   newest = ap (λ (r : Reading). r.newest) c.new-reader.ensures;
   limit = ap (λ (r : Reading). r.limit) c.new-reader.ensures;
-  going = going_start (view c.args.satl.now (g.D.Drive.state c.args.drive.now)) (tally_of (g.D.Drive.state c.args.drive.now) c.args.steps.now) c.new-reader.result _ _ c.default-summary.result (ap (λ (r : Reading). r.place) c.new-reader.ensures) (ap (λ t. map task_of (entries_of t)) c.requires.new) (let zero = c.default-summary.ensures in zero_totals c.default-summary.result zero.0 zero.1.0 zero.1.1.0 zero.1.1.1.0 zero.1.1.1.1.0 zero.1.1.1.1.1);
+  going = going_start (view c.args.satl.now (g.D.Drive.state c.args.drive.now)) (tally_of (g.D.Drive.state c.args.drive.now) c.args.steps.now) c.new-reader.result _ _ c.default-totals.result (ap (λ (r : Reading). r.place) c.new-reader.ensures) (ap (λ t. map task_of (entries_of t)) c.requires.new) (let zero = c.default-totals.ensures in zero_totals c.default-totals.result zero.0 zero.1.0 zero.1.1.0 zero.1.1.1.0 zero.1.1.1.1.0 zero.1.1.1.1.1);
   read_later = omega arith;
   write_later = omega arith;
 }
@@ -41,7 +41,7 @@ frames-preserved-in-Continue-1 g c =
       newest = ap (λ (r : Reading). r.newest) new ∙ c.frames.invariant.newest;
       limit = ap (λ (r : Reading). r.limit) new ∙ c.frames.invariant.limit;
       going = going_request first t0 t (tally_of (g.D.Drive.state c.serve_request.new.drive) c.serve_request.new.steps) c.frames.reader c.next.new.self _ _ _ _ _ _ _ _ _ (view c.next.new.lender (g.D.Drive.state c.frames.drive)) (view c.serve_request.new.satl (g.D.Drive.state c.serve_request.new.drive)) _ c.in-Request.request c.in-Ok.frame
-          (subst (λ s. Going first t0 c.frames.reader (g.S.Source.left c.args.source.now) (g.S.Source.left c.frames.source) (g.K.Sink.written c.args.sink.now) (g.K.Sink.written c.frames.sink) c.frames.summary t s) (sym same) c.frames.invariant.going) c.in-Ok.ensures.gave c.in-Request.is c.add_request.ensures known.answered known.unforced known.modes (request_tallied c.next.new.lender c.serve_request.new.satl (g.D.Drive.state c.frames.drive) (g.D.Drive.state c.serve_request.new.drive) c.frames.steps c.serve_request.new.steps c.in-Request.request (ap g.D.Drive.state known.drive) known.more known.steps);
+          (subst (λ s. Going first t0 c.frames.reader (g.S.Source.left c.args.source.now) (g.S.Source.left c.frames.source) (g.K.Sink.written c.args.sink.now) (g.K.Sink.written c.frames.sink) c.frames.totals t s) (sym same) c.frames.invariant.going) c.in-Ok.ensures.gave c.in-Request.is c.add_request.ensures known.answered known.unforced known.modes (request_tallied c.next.new.lender c.serve_request.new.satl (g.D.Drive.state c.frames.drive) (g.D.Drive.state c.serve_request.new.drive) c.frames.steps c.serve_request.new.steps c.in-Request.request (ap g.D.Drive.state known.drive) known.more known.steps);
       read_later = omega (arith, c.frames.invariant.read_later, (c.in-Ok.ensures.causes c.frames.invariant.fresh).later);
       write_later = omega (arith, c.frames.invariant.write_later, known.later);
     }
@@ -61,7 +61,7 @@ frames-preserved g c =
       newest = ap (λ (r : Reading). r.newest) new ∙ c.frames.invariant.newest;
       limit = ap (λ (r : Reading). r.limit) new ∙ c.frames.invariant.limit;
       going = going_turn first t0 t (tally_of (g.D.Drive.state c.serve_turns.new.drive) c.serve_turns.new.steps) c.frames.reader c.next.new.self _ _ _ _ _ _ _ _ (view c.next.new.lender (g.D.Drive.state c.frames.drive)) (view c.serve_turns.new.satl (g.D.Drive.state c.serve_turns.new.drive)) _ c.in-Turn.count c.in-Ok.frame
-          (subst (λ s. Going first t0 c.frames.reader (g.S.Source.left c.args.source.now) (g.S.Source.left c.frames.source) (g.K.Sink.written c.args.sink.now) (g.K.Sink.written c.frames.sink) c.frames.summary t s) (sym same) c.frames.invariant.going) c.in-Ok.ensures.gave c.in-Turn.is known.answered known.unforced known.modes (tallied c.next.new.lender c.serve_turns.new.satl (g.D.Drive.state c.frames.drive) (g.D.Drive.state c.serve_turns.new.drive) c.frames.steps c.serve_turns.new.steps known.counted known.calls);
+          (subst (λ s. Going first t0 c.frames.reader (g.S.Source.left c.args.source.now) (g.S.Source.left c.frames.source) (g.K.Sink.written c.args.sink.now) (g.K.Sink.written c.frames.sink) c.frames.totals t s) (sym same) c.frames.invariant.going) c.in-Ok.ensures.gave c.in-Turn.is known.answered known.unforced known.modes (tallied c.next.new.lender c.serve_turns.new.satl (g.D.Drive.state c.frames.drive) (g.D.Drive.state c.serve_turns.new.drive) c.frames.steps c.serve_turns.new.steps known.counted known.calls);
       read_later = omega (arith, c.frames.invariant.read_later, (c.in-Ok.ensures.causes c.frames.invariant.fresh).later);
       write_later = omega (arith, c.frames.invariant.write_later, known.later);
     }
@@ -73,9 +73,9 @@ returns-in-End-clause-ended g c =
     let t = tally_of (g.D.Drive.state c.frames.drive) c.frames.steps in
     let same = ap (λ (l : Layer). view l (g.D.Drive.state c.frames.drive)) c.in-Ok.ensures.rest in
     if_ok c.serve_end.result
-    (λ u. AnsweredEnd (λ replies. AreUnforced (view c.next.new.lender (g.D.Drive.state c.frames.drive)) → (deep : ℕ) × Drains (view c.next.new.lender (g.D.Drive.state c.frames.drive)) replies (view c.serve_end.new.satl (g.D.Drive.state c.serve_end.new.drive)) deep) (g.K.Sink.written c.frames.sink) (g.K.Sink.written c.serve_end.new.sink) c.frames.summary u) _
+    (λ u. AnsweredEnd (λ replies. AreUnforced (view c.next.new.lender (g.D.Drive.state c.frames.drive)) → (deep : ℕ) × Drains (view c.next.new.lender (g.D.Drive.state c.frames.drive)) replies (view c.serve_end.new.satl (g.D.Drive.state c.serve_end.new.drive)) deep) (g.K.Sink.written c.frames.sink) (g.K.Sink.written c.serve_end.new.sink) c.frames.totals u) _
     (λ u. going_ended first t0 t (tally_of (g.D.Drive.state c.serve_end.new.drive) c.serve_end.new.steps) c.frames.reader c.next.new.self _ _ _ _ _ _ _ u (view c.next.new.lender (g.D.Drive.state c.frames.drive)) (view c.serve_end.new.satl (g.D.Drive.state c.serve_end.new.drive)) _ _ c.in-Ok.frame
-    (subst (λ s. Going first t0 c.frames.reader (g.S.Source.left c.args.source.now) (g.S.Source.left c.frames.source) (g.K.Sink.written c.args.sink.now) (g.K.Sink.written c.frames.sink) c.frames.summary t s) (sym same) c.frames.invariant.going) c.in-Ok.ensures.gave c.in-End.is c.frames.invariant.limit c.frames.invariant.newest
+    (subst (λ s. Going first t0 c.frames.reader (g.S.Source.left c.args.source.now) (g.S.Source.left c.frames.source) (g.K.Sink.written c.args.sink.now) (g.K.Sink.written c.frames.sink) c.frames.totals t s) (sym same) c.frames.invariant.going) c.in-Ok.ensures.gave c.in-End.is c.frames.invariant.limit c.frames.invariant.newest
     (tallied c.next.new.lender c.serve_end.new.satl (g.D.Drive.state c.frames.drive) (g.D.Drive.state c.serve_end.new.drive) c.frames.steps c.serve_end.new.steps c.serve_end.ensures.counted c.serve_end.ensures.calls)) c.serve_end.ensures.ended
 
 pub returns-in-Err-clause-stopped : goal.returns-in-Err-clause-stopped
@@ -85,7 +85,7 @@ returns-in-Err-clause-stopped g c =
     let t = tally_of (g.D.Drive.state c.frames.drive) c.frames.steps in
     let same = ap (λ (l : Layer). view l (g.D.Drive.state c.frames.drive)) c.in-Err.ensures.rest in
     stopped_by _ first t0 t c.frames.reader _ _ _ _ _ _ _ c.next.new.lender (view c.next.new.lender (g.D.Drive.state c.frames.drive)) c.in-Err.fault c.refuse.result
-    (subst (λ s. Going first t0 c.frames.reader (g.S.Source.left c.args.source.now) (g.S.Source.left c.frames.source) (g.K.Sink.written c.args.sink.now) (g.K.Sink.written c.frames.sink) c.frames.summary t s) (sym same) c.frames.invariant.going) c.frames.invariant.limit c.frames.invariant.newest
+    (subst (λ s. Going first t0 c.frames.reader (g.S.Source.left c.args.source.now) (g.S.Source.left c.frames.source) (g.K.Sink.written c.args.sink.now) (g.K.Sink.written c.frames.sink) c.frames.totals t s) (sym same) c.frames.invariant.going) c.frames.invariant.limit c.frames.invariant.newest
     (c.in-Err.ensures.blames c.frames.invariant.fresh) c.refuse.ensures.tells
 
 pub returns-in-End-clause-stopped : goal.returns-in-End-clause-stopped
@@ -98,7 +98,7 @@ returns-in-End-clause-stopped g c =
     (on_err c.serve_end.result
     (EndsPart (AreUnforced (view c.next.new.lender (g.D.Drive.state c.frames.drive))) (view c.next.new.lender (g.D.Drive.state c.frames.drive)) (g.K.Sink.written c.frames.sink) (g.K.Sink.written c.serve_end.new.sink) (view c.serve_end.new.satl (g.D.Drive.state c.serve_end.new.drive))) _
     (cut_end input_limit first t0 t (tally_of (g.D.Drive.state c.serve_end.new.drive) c.serve_end.new.steps) c.frames.reader c.next.new.self _ _ _ _ _ _ _ (view c.next.new.lender (g.D.Drive.state c.frames.drive)) (view c.serve_end.new.satl (g.D.Drive.state c.serve_end.new.drive)) _ c.in-Ok.frame
-    (subst (λ s. Going first t0 c.frames.reader (g.S.Source.left c.args.source.now) (g.S.Source.left c.frames.source) (g.K.Sink.written c.args.sink.now) (g.K.Sink.written c.frames.sink) c.frames.summary t s) (sym same) c.frames.invariant.going) c.in-Ok.ensures.gave c.in-End.is c.frames.invariant.limit c.frames.invariant.newest
+    (subst (λ s. Going first t0 c.frames.reader (g.S.Source.left c.args.source.now) (g.S.Source.left c.frames.source) (g.K.Sink.written c.args.sink.now) (g.K.Sink.written c.frames.sink) c.frames.totals t s) (sym same) c.frames.invariant.going) c.in-Ok.ensures.gave c.in-End.is c.frames.invariant.limit c.frames.invariant.newest
     (tallied c.next.new.lender c.serve_end.new.satl (g.D.Drive.state c.frames.drive) (g.D.Drive.state c.serve_end.new.drive) c.frames.steps c.serve_end.new.steps c.serve_end.ensures.counted c.serve_end.ensures.calls)) c.serve_end.ensures.part)
 
 pub returns-in_err-serve_request-in-Request-clause-stopped : goal.returns-in_err-serve_request-in-Request-clause-stopped
@@ -109,7 +109,7 @@ returns-in_err-serve_request-in-Request-clause-stopped g c =
     let same = ap (λ (l : Layer). view l (g.D.Drive.state c.frames.drive)) c.in-Ok.ensures.rest in
     passed_on_stops c.from_residual.result _ c.in_err-serve_request-in-Request.field-0.0 _ _ input_limit first t0 (tally_of (g.D.Drive.state c.serve_request.new.drive) c.serve_request.new.steps) _ _ _ _ _ (view c.serve_request.new.satl (g.D.Drive.state c.serve_request.new.drive)) c.from_residual.ensures.1 (λ e is. is) c.in_err-serve_request-in-Request.ensures.cause
     (cut_request input_limit first t0 t (tally_of (g.D.Drive.state c.serve_request.new.drive) c.serve_request.new.steps) c.frames.reader c.next.new.self _ _ _ _ _ _ _ (view c.next.new.lender (g.D.Drive.state c.frames.drive)) (view c.serve_request.new.satl (g.D.Drive.state c.serve_request.new.drive)) _ c.in-Request.request c.in-Ok.frame
-    (subst (λ s. Going first t0 c.frames.reader (g.S.Source.left c.args.source.now) (g.S.Source.left c.frames.source) (g.K.Sink.written c.args.sink.now) (g.K.Sink.written c.frames.sink) c.frames.summary t s) (sym same) c.frames.invariant.going) c.in-Ok.ensures.gave c.in-Request.is c.frames.invariant.limit c.frames.invariant.newest
+    (subst (λ s. Going first t0 c.frames.reader (g.S.Source.left c.args.source.now) (g.S.Source.left c.frames.source) (g.K.Sink.written c.args.sink.now) (g.K.Sink.written c.frames.sink) c.frames.totals t s) (sym same) c.frames.invariant.going) c.in-Ok.ensures.gave c.in-Request.is c.frames.invariant.limit c.frames.invariant.newest
     (request_tallied c.next.new.lender c.serve_request.new.satl (g.D.Drive.state c.frames.drive) (g.D.Drive.state c.serve_request.new.drive) c.frames.steps c.serve_request.new.steps c.in-Request.request (ap g.D.Drive.state c.in_err-serve_request-in-Request.ensures.drive) c.in_err-serve_request-in-Request.ensures.more c.in_err-serve_request-in-Request.ensures.steps) c.in_err-serve_request-in-Request.ensures.part)
 
 pub returns-in_err-serve_turns-in-Turn-clause-stopped : goal.returns-in_err-serve_turns-in-Turn-clause-stopped
@@ -120,7 +120,7 @@ returns-in_err-serve_turns-in-Turn-clause-stopped g c =
     let same = ap (λ (l : Layer). view l (g.D.Drive.state c.frames.drive)) c.in-Ok.ensures.rest in
     passed_on_stops c.from_residual-in_err-serve_turns-in-Turn.result _ c.in_err-serve_turns-in-Turn.field-0.0 _ _ input_limit first t0 (tally_of (g.D.Drive.state c.serve_turns.new.drive) c.serve_turns.new.steps) _ _ _ _ _ (view c.serve_turns.new.satl (g.D.Drive.state c.serve_turns.new.drive)) c.from_residual-in_err-serve_turns-in-Turn.ensures.1 (λ e is. is) c.in_err-serve_turns-in-Turn.ensures.cause
     (cut_turns input_limit first t0 t (tally_of (g.D.Drive.state c.serve_turns.new.drive) c.serve_turns.new.steps) c.frames.reader c.next.new.self _ _ _ _ _ _ _ (view c.next.new.lender (g.D.Drive.state c.frames.drive)) (view c.serve_turns.new.satl (g.D.Drive.state c.serve_turns.new.drive)) _ c.in-Turn.count c.in-Ok.frame
-    (subst (λ s. Going first t0 c.frames.reader (g.S.Source.left c.args.source.now) (g.S.Source.left c.frames.source) (g.K.Sink.written c.args.sink.now) (g.K.Sink.written c.frames.sink) c.frames.summary t s) (sym same) c.frames.invariant.going) c.in-Ok.ensures.gave c.in-Turn.is c.frames.invariant.limit c.frames.invariant.newest
+    (subst (λ s. Going first t0 c.frames.reader (g.S.Source.left c.args.source.now) (g.S.Source.left c.frames.source) (g.K.Sink.written c.args.sink.now) (g.K.Sink.written c.frames.sink) c.frames.totals t s) (sym same) c.frames.invariant.going) c.in-Ok.ensures.gave c.in-Turn.is c.frames.invariant.limit c.frames.invariant.newest
     (tallied c.next.new.lender c.serve_turns.new.satl (g.D.Drive.state c.frames.drive) (g.D.Drive.state c.serve_turns.new.drive) c.frames.steps c.serve_turns.new.steps c.in_err-serve_turns-in-Turn.ensures.counted c.in_err-serve_turns-in-Turn.ensures.calls) c.in_err-serve_turns-in-Turn.ensures.part)
 
 pub returns-then-holds-clause-stopped : goal.returns-then-holds-clause-stopped
@@ -130,7 +130,7 @@ returns-then-holds-clause-stopped g c =
     let t = tally_of (g.D.Drive.state c.frames.drive) c.frames.steps in
     let same = ap (λ (l : Layer). view l (g.D.Drive.state c.frames.drive)) c.in-Ok.ensures.rest in
     not_served _ first t0 t c.frames.reader c.next.new.self _ _ _ _ _ _ c.next.new.lender (view c.next.new.lender (g.D.Drive.state c.frames.drive)) _ c.in-Ok.frame
-    (subst (λ s. Going first t0 c.frames.reader (g.S.Source.left c.args.source.now) (g.S.Source.left c.frames.source) (g.K.Sink.written c.args.sink.now) (g.K.Sink.written c.frames.sink) c.frames.summary t s) (sym same) c.frames.invariant.going) c.frames.invariant.limit c.frames.invariant.newest c.in-Ok.ensures.gave
+    (subst (λ s. Going first t0 c.frames.reader (g.S.Source.left c.args.source.now) (g.S.Source.left c.frames.source) (g.K.Sink.written c.args.sink.now) (g.K.Sink.written c.frames.sink) c.frames.totals t s) (sym same) c.frames.invariant.going) c.frames.invariant.limit c.frames.invariant.newest c.in-Ok.ensures.gave
     (subst (IsNotBuilt c.next.new.lender) (sym c.in-Request.is) (sym c.holds.ensures ∙ c.if-holds.true))
 
 pub returns-in-Manage-clause-stopped : goal.returns-in-Manage-clause-stopped
@@ -140,7 +140,7 @@ returns-in-Manage-clause-stopped g c =
     let t = tally_of (g.D.Drive.state c.frames.drive) c.frames.steps in
     let same = ap (λ (l : Layer). view l (g.D.Drive.state c.frames.drive)) c.in-Ok.ensures.rest in
     not_served _ first t0 t c.frames.reader c.next.new.self _ _ _ _ _ _ c.next.new.lender (view c.next.new.lender (g.D.Drive.state c.frames.drive)) _ c.in-Ok.frame
-    (subst (λ s. Going first t0 c.frames.reader (g.S.Source.left c.args.source.now) (g.S.Source.left c.frames.source) (g.K.Sink.written c.args.sink.now) (g.K.Sink.written c.frames.sink) c.frames.summary t s) (sym same) c.frames.invariant.going) c.frames.invariant.limit c.frames.invariant.newest c.in-Ok.ensures.gave
+    (subst (λ s. Going first t0 c.frames.reader (g.S.Source.left c.args.source.now) (g.S.Source.left c.frames.source) (g.K.Sink.written c.args.sink.now) (g.K.Sink.written c.frames.sink) c.frames.totals t s) (sym same) c.frames.invariant.going) c.frames.invariant.limit c.frames.invariant.newest c.in-Ok.ensures.gave
     (⊎_elim (λ m. subst (IsNotBuilt c.next.new.lender) (sym m.1) tt) (λ b. subst (IsNotBuilt c.next.new.lender) (sym b.1) tt) c.in-Manage.is)
 
 pub serve_request-requires-clause-tied : goal.serve_request-requires-clause-tied

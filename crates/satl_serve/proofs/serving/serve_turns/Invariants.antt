@@ -12,7 +12,7 @@ invariant-loop g l = record {
   rest : AtRest l.satl (g.D.Drive.state l.drive);
   none : l.replies ≡ [];
   answered : Answered (λ replies. AreUnforced (view l.initial.satl (g.D.Drive.state l.initial.drive)) → TookTurns l.counter (view l.initial.satl (g.D.Drive.state l.initial.drive)) replies (view l.satl (g.D.Drive.state l.drive)))
-      (g.K.Sink.written l.initial.sink) (g.K.Sink.written l.sink) l.initial.summary l.summary;
+      (g.K.Sink.written l.initial.sink) (g.K.Sink.written l.sink) l.initial.totals l.totals;
   unforced : AreUnforced (view l.initial.satl (g.D.Drive.state l.initial.drive)) → AreUnforced (view l.satl (g.D.Drive.state l.drive));
   fewer : length l.satl.tasks ≤ length l.initial.satl.tasks - l.counter;
   modes : l.satl.modes ≡ l.initial.satl.modes;
