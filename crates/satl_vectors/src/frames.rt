@@ -98,7 +98,7 @@ pub fn fault(output: &mut Vec<u8>, reason: u8, offset: u64) -> Result<(), AllocE
 }
 
 /// A write of a block and a read of it, each with its turn, and the end.
-pub fn write_then_read(alloc: Global) -> Result<Vec<u8>, AllocError> {
+pub fn write_and_read(alloc: Global) -> Result<Vec<u8>, AllocError> {
     let mut frames = input(alloc)?;
     request(&mut frames, write(1, 0, 1), &[0xA5; 512])?;
     frames.extend_from_slice(&TURN)?;
@@ -109,7 +109,7 @@ pub fn write_then_read(alloc: Global) -> Result<Vec<u8>, AllocError> {
 }
 
 /// What is written for a write of a block and a read of it.
-pub fn written_then_read(alloc: Global) -> Result<Vec<u8>, AllocError> {
+pub fn written_and_read(alloc: Global) -> Result<Vec<u8>, AllocError> {
     let mut replies = output(alloc)?;
     good(&mut replies, 1, &[])?;
     good(&mut replies, 2, &[0xA5; 512])?;

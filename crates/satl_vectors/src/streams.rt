@@ -1,5 +1,5 @@
 // Streams that fail or end, at each call and at each byte.
-use crate::frames::{fault, write_then_read, written_then_read};
+use crate::frames::{fault, write_and_read, written_and_read};
 use crate::replaying::{Streams, pieces, replay};
 use satl_top::Status;
 use std::alloc::{AllocError, Global};
@@ -50,7 +50,7 @@ const PARTS: [Part; 6] = [
 
 /// The first bytes of what is written for a write and a read.
 fn front(alloc: Global, written: usize) -> Result<Vec<u8>, AllocError> {
-    let mut output = written_then_read(alloc)?;
+    let mut output = written_and_read(alloc)?;
     output.truncate(written);
     Ok(output)
 }
@@ -63,18 +63,24 @@ fn expect_over(
     status: Status,
     output: &[u8],
 ) -> Result<(), Fail> {
-    let (ended, written) = replay(alloc, write_then_read(alloc)?, streams)?;
+    let (ended, written) = replay(alloc, write_and_read(alloc)?, streams)?;
     assert_eq!(rt; ended, status);
     assert_eq!(rt; written.as_slice(), output);
     Ok(())
 }
 
 /// Where the input ends inside a part, a FAULT is written that says where the part begins.
-fn expect_cut(rt: &impl Abort, alloc: Global, part: Part) -> Result<(), Fail> {
+fn expect_cut(
+    rt: &impl Abort,
+    alloc: Global,
+    part: Part,
+    first: usize,
+    end: usize,
+) -> Result<(), Fail> {
     let mut expected = front(alloc, part.written)?;
     fault(&mut expected, 5, part.begin as u64)?;
-    for cut in part.begin..part.end {
-        let mut input = write_then_read(alloc)?;
+    for cut in part.begin.max(first)..part.end.min(end) {
+        let mut input = write_and_read(alloc)?;
         input.truncate(cut);
         let (status, written) = replay(alloc, input, pieces(65536))?;
         assert_eq!(rt; status, Status::BadInput, "cut at {cut}");
@@ -83,12 +89,28 @@ fn expect_cut(rt: &impl Abort, alloc: Global, part: Part) -> Result<(), Fail> {
     Ok(())
 }
 
-#[test]
-fn cut_after_each_byte(rt: HostRuntime) -> Result<(), Fail> {
+/// The input is cut after each number of bytes from the first on and below the end.
+fn expect_cuts(rt: &impl Abort, alloc: Global, first: usize, end: usize) -> Result<(), Fail> {
     for part in PARTS {
-        expect_cut(&rt, rt.alloc(), part)?;
+        expect_cut(rt, alloc, part, first, end)?;
     }
     Ok(())
+}
+
+// Each cut opens the layer anew, so they go in three tests.
+#[test]
+fn cut_after_each_byte_below_200(rt: HostRuntime) -> Result<(), Fail> {
+    expect_cuts(&rt, rt.alloc(), 0, 200)
+}
+
+#[test]
+fn cut_after_each_byte_below_400(rt: HostRuntime) -> Result<(), Fail> {
+    expect_cuts(&rt, rt.alloc(), 200, 400)
+}
+
+#[test]
+fn cut_after_each_byte_below_the_end(rt: HostRuntime) -> Result<(), Fail> {
+    expect_cuts(&rt, rt.alloc(), 400, 609)
 }
 
 /// Where the read of a byte of a part fails, no answer follows those before the part. The bytes in the midst of the data-out
@@ -151,9 +173,9 @@ fn failing(reads: bool, call: u32) -> Streams {
 
 /// Each read or each write fails once, up to the first number that no call has.
 fn expect_fronts(rt: &impl Abort, alloc: Global, reads: bool, fault: Status) -> Result<(), Fail> {
-    let expected = written_then_read(alloc)?;
+    let expected = written_and_read(alloc)?;
     for call in 1..549u32 {
-        let (status, written) = replay(alloc, write_then_read(alloc)?, failing(reads, call))?;
+        let (status, written) = replay(alloc, write_and_read(alloc)?, failing(reads, call))?;
         if status == Status::Done {
             assert_eq!(rt; written.as_slice(), expected.as_slice());
             return Ok(());

@@ -1,7 +1,7 @@
 // Replays of a few requests, and inputs that are refused.
 use crate::frames::{
-    TURN, check, fault, full, good, input, output, read, request, write, write_then_read,
-    written_then_read,
+    TURN, check, fault, full, good, input, output, read, request, write, write_and_read,
+    written_and_read,
 };
 use crate::replaying::{expect, expect_replies};
 use satl_top::Status;
@@ -34,16 +34,10 @@ fn only_end(rt: HostRuntime) -> Result<(), Fail> {
 }
 
 #[test]
-fn write_then_read_block(rt: HostRuntime) -> Result<(), Fail> {
+fn write_then_read(rt: HostRuntime) -> Result<(), Fail> {
     let alloc = rt.alloc();
-    let frames = write_then_read(alloc)?;
-    expect(
-        &rt,
-        alloc,
-        &frames,
-        Status::Done,
-        &written_then_read(alloc)?,
-    )
+    let frames = write_and_read(alloc)?;
+    expect(&rt, alloc, &frames, Status::Done, &written_and_read(alloc)?)
 }
 
 #[test]
