@@ -5,6 +5,7 @@ use Rattle.satl_core.specs.Layer.{Layer, view}
 use Rattle.satl_core.specs.Submitting.{judged, reply_at_once}
 use Rattle.satl_core.proofs.ArrivalLemmas.{answers_at_once, becomes_arrives, judged_transfer}
 use Rattle.satl_core.proofs.AddingLemmas.{becomes_whole}
+use Rattle.satl_core.proofs.CountedLemmas.{becomes_more}
 use Rattle.satl_core.proofs.DeviceLemmas.{arrives_around}
 use Rattle.satl_core.proofs.UnforcedLemmas.{becomes_unforced, same_unforced}
 use Rattle.satl_core.proofs.satl.Satl.submit.Goals as goal
@@ -36,3 +37,9 @@ returns-in-Ok-clause-unforced g c = λ no free. becomes_unforced c.args.self.now
 
 pub returns-in-Err-clause-unforced : goal.returns-in-Err-clause-unforced
 returns-in-Err-clause-unforced g c = λ no free. same_unforced _ _ (ap (λ l. view l (g.D.Drive.state c.args.drive.now)) c.self.view_is) free
+
+pub returns-in-Ok-clause-more : goal.returns-in-Ok-clause-more
+returns-in-Ok-clause-more g c = (becomes_more c.args.request c.in-Ok.command c.args.self.now c.add_task.new.replies c.add_task.new.self c.add_task.ensures.becomes).0
+
+pub returns-in-Ok-clause-modes : goal.returns-in-Ok-clause-modes
+returns-in-Ok-clause-modes g c = (becomes_more c.args.request c.in-Ok.command c.args.self.now c.add_task.new.replies c.add_task.new.self c.add_task.ensures.becomes).1
