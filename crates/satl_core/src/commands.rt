@@ -1,5 +1,5 @@
 // ATA commands for what the layer does.
-ghost use Rattle.std.specs.Prelude.{◌≡◌, ◌≤◌, ◌+◌, [], OnOk, OnErr, length};
+ghost use Rattle.std.specs.Prelude.{◌≡◌, ◌≤◌, ◌+◌, [], None, OnOk, OnErr, length};
 ghost use Rattle.satl_drive.specs.State.{IsFit};
 ghost use Rattle.satl_drive.specs.Rules.{IsCutOff};
 ghost use Rattle.satl_core.specs.Opening.{IsTold};
@@ -16,6 +16,7 @@ pub fn tell_identity<D: Drive, L: Ledger>(
     steps: &mut Steps<L>,
 ) -> Result<(), LinkDown>
     requires idle { (D.state drive.old).outstanding ≡ [] }
+    requires no_error { (D.state drive.old).error ≡ None }
     requires room { 1 ≤ length pages.old }
     ensures told { OnOk result (IsTold (D.state drive.old) pages.old pages.new (D.state drive.new)) }
     ensures lost { OnErr result (IsCutOff (D.state drive.old) [] (D.state drive.new)) }
