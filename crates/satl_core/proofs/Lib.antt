@@ -3,6 +3,7 @@ pub mod ArrivalLemmas
 pub mod CommandsLemmas
 pub mod DeviceLemmas
 pub mod HeldLemmas
+pub mod LeavingLemmas
 pub mod OpeningLemmas
 pub mod ServedLemmas
 pub mod Transfers

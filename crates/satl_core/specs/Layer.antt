@@ -34,6 +34,12 @@ abbrev pub held_pages : List Held → ℕ
 held_pages [] = 0
 held_pages (h ∷ hs) = length h.entry.body + held_pages hs
 
+-- a READ or a WRITE: the commands that are served so far
+abbrev pub IsServed : Command → Type 0
+IsServed (Read form lba count fua) = Unit {0}
+IsServed (Write form lba count fua) = Unit {0}
+IsServed _ = ⊥
+
 -- a READ or a WRITE of 1 to 4,096 blocks within the capacity and the 48 bits of an address
 abbrev pub IsTransfer : ℕ → Command → ℕ → Type 0
 IsTransfer capacity (Read form lba count fua) blocks = (blocks ≡ count) × (lba < 2 ^ 48) × (1 ≤ count) × (count ≤ 4096) × (lba + count ≤ capacity)

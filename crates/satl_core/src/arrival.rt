@@ -4,6 +4,7 @@ ghost use Rattle.satl_base.specs.Lists.{is_in};
 ghost use Rattle.satl_direct.specs.Arrival.{built, is_unit_0, untold_codes};
 ghost use Rattle.satl_direct.specs.Senses.{attention_sense, plain, refusal};
 ghost use Rattle.satl_direct.specs.Tasks.{is_ordered, needed, range_of};
+ghost use Rattle.satl_core.specs.Layer.{IsServed};
 
 use satl_base::{Attr, Range};
 use satl_cdb::{Command, Illegal};
@@ -41,8 +42,9 @@ pub fn is_ordered(attr: Attr) -> bool
     }
 }
 
-/// The blocks that a command goes over.
+/// The blocks that a READ or a WRITE goes over.
 pub fn range_of(command: &Command) -> Range
+    requires { IsServed command.now }
     ensures { result ≡ range_of command.now }
 {
     match *command {
@@ -50,17 +52,19 @@ pub fn range_of(command: &Command) -> Range
             lba,
             count,
         },
-        _ => Range::default(),
+        _ => unreachable!(),
     }
 }
 
-/// The bytes of data-out that a command needs.
+/// The bytes of data-out that a READ or a WRITE needs.
 pub fn needed(command: &Command) -> u64
+    requires { IsServed command.now }
     ensures { result ≡ needed command.now }
 {
     match *command {
+        Command::Read { .. } => 0,
         Command::Write { count, .. } => 512 * u64::from(count),
-        _ => 0,
+        _ => unreachable!(),
     }
 }
 

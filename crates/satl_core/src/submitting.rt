@@ -1,7 +1,7 @@
 // A command arrives.
 ghost use Rattle.std.specs.Prelude.{◌≡◌, ◌≤◌, ◌+◌, ◌*◌, ◌∷◌, [], length, take};
 ghost use Rattle.satl_direct.specs.Tasks.{data_out, held_blocks, needed};
-ghost use Rattle.satl_core.specs.Layer.{held_pages};
+ghost use Rattle.satl_core.specs.Layer.{IsServed, held_pages};
 ghost use Rattle.satl_core.specs.Submitting.{attention_of, code_answer, command_answer, left_by, readiness, reply_at_once, task_without_pages, untold};
 
 use crate::arrival::{
@@ -68,6 +68,7 @@ pub fn judge_code(satl: &Satl, request: &Request) -> Result<Command, AtOnce>
 }
 
 fn judge_command(satl: &Satl, data_len: u32, command: Command) -> Result<Command, AtOnce>
+    requires { IsServed command }
     ensures { result ≡ command_answer satl.now data_len command }
 {
     let range = range_of(&command);
@@ -97,6 +98,7 @@ fn readiness(satl: &Satl) -> AtOnce
 
 /// The task that a request becomes, still without its pages.
 pub fn task_without_pages(request: &Request, command: Command, queued_trim: bool) -> Entry
+    requires { IsServed command }
     ensures { result ≡ task_without_pages request.now command queued_trim }
 {
     let range = range_of(&command);
@@ -119,6 +121,7 @@ pub fn task_without_pages(request: &Request, command: Command, queued_trim: bool
 /// The pages of a task: a WRITE keeps the first ones of its data-out, and a READ takes pages for its data-in. The others are
 /// given back.
 pub fn own_pages(pool: &mut Pool, command: &Command, body: Pages) -> Pages
+    requires served { IsServed command.now }
     requires out { length body ≤ pool.old.out }
     requires room { held_blocks command.now ≤ pool.old.free + length body }
     requires written { needed command.now ≤ 512 * length body }
