@@ -1,6 +1,6 @@
 -- What the layer judges of a request is what the device does with it.
 use Rattle.std.proofs.Common.{◌≡◌, refl, sym, ap, subst, ◌∙◌, arith, eqb, cond, ℕ, suc, ◌+◌, ◌<◌, ◌≤◌, ◌^◌, Bool, true, false, List, [], ◌∷◌, length, map}
-use Rattle.std.specs.Prelude.{Option, Some, None, Result, Ok, Err, not, ◌==◌, ◌&&◌, ◌||◌, nat_lt, slice_index, MatchBool}
+use Rattle.std.specs.Prelude.{Option, Some, None, Result, Ok, Err, IfOk, not, ◌==◌, ◌&&◌, ◌||◌, nat_lt, slice_index, MatchBool}
 use Rattle.std.specs.List.{list_any}
 use Rattle.std.proofs.lemmas.Bool.{eqb-false, eqb-true, ltb-false}
 use Rattle.satl_base.specs.declared.reply.Reply.{Reply}
@@ -110,7 +110,7 @@ code_ok l r c e =
 
 -- what is judged of a request by these tests
 abbrev judged_by : Bool → Bool → Option Attention → Layer → Request → Result Command AtOnce
-judged_by unit over what l r = cond (not unit) (Err (at_once.Check unknown_unit)) (cond over (Err (at_once.Check overlapped)) (attention_answer what l r))
+judged_by unit over what l r = cond (not unit) (Err (at_once.Check unknown_unit)) (cond over (Err (at_once.Check overlapped)) (attention_answer what (code_answer l r)))
 
 -- where a command may become a task, no test has stopped it
 by_ok : (P : Bool → Bool → Option Attention → Type 0) (unit over : Bool) (what : Option Attention) (l : Layer) (r : Request) (c : Command) → (code_answer l r ≡ Ok c → P true false None) → judged_by unit over what l r ≡ Ok c → P unit over what
@@ -156,10 +156,12 @@ ten_transfer capacity c ten small =
         let one = eqb-false count 0 some in
         (refl, omega (arith, in_it, small, one), omega (arith, one), few, omega (arith, in_it))
 
-pub judged_transfer : (l : Layer) (r : Request) (c : Command) → IsIdentity l.identity → judged l r ≡ Ok c → IsTransfer l.identity.capacity c (held_blocks c)
-judged_transfer l r c is e =
-    let j = judged_ok l r c e in
+-- a command that may become a task is a transfer
+pub code_transfer : (l : Layer) (r : Request) (found : Result Command AtOnce) → IsIdentity l.identity → found ≡ code_answer l r → IfOk found (λ command. IsTransfer l.identity.capacity command (held_blocks command))
+code_transfer l r (Ok c) is e =
+    let j = code_ok l r c (sym e) in
     ten_transfer l.identity.capacity c (ten_of r.cdb l.identity.trim c j.served j.said) (capacity_bounds l.identity is).1 j.within j.some
+code_transfer l r (Err a) is e = tt
 
 -- a request has all the data-out that its command needs
 pub long_enough : (l : Layer) (r : Request) (c : Command) → judged l r ≡ Ok c → needed c ≤ r.data_len
@@ -267,8 +269,8 @@ answers_by true true what l d r a mark e = (sensed l d r (at_once.Check overlapp
 answers_by true false (Some what) l d r a mark e = (sensed l d r (at_once.Check (attention_sense what)) a _ refl e, refl)
 answers_by true false None l d r a mark e = subst (λ x. Answers x l d r a l) (sym (code_at_once l d r a mark e)) (refl, refl)
 
-pub answers_at_once : (l new : Layer) (d : DriveState) (r : Request) (a : AtOnce) (replies : List Reply) → l.down ≡ d.down → judged l r ≡ Err a → replies ≡ reply_at_once r a l.modes.d_sense ∷ [] → view new d ≡ view (once_judged l r) d → Arrives r (view l d) replies (view new d)
-answers_at_once l new d r a replies mark e is same =
+pub answers_at_once : (l : Layer) (s : Device) (d : DriveState) (r : Request) (a : AtOnce) (replies : List Reply) → l.down ≡ d.down → judged l r ≡ Err a → replies ≡ reply_at_once r a l.modes.d_sense ∷ [] → s ≡ view (once_judged l r) d → Arrives r (view l d) replies s
+answers_at_once l s d r a replies mark e is same =
     subst (λ s. Arrives r (view l d) replies s) (sym same)
     (subst (λ q. Arrives r (view l d) q (view (once_judged l r) d)) (sym is)
     (subst (λ x. Answers x l d r a (once_judged l r)) (sym (arrival_is l d r)) (answers_by (is_unit_0 r.lun) (overlaps l.tasks r) (attention_of l.attentions r) l d r a mark e)))

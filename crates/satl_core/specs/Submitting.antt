@@ -105,17 +105,17 @@ abbrev pub untold : Option Attention → ℕ → List (List Attention) → List 
 untold None nexus attentions = attentions
 untold (Some what) nexus attentions = slice_set attentions nexus (drop 1 (slice_index_or attentions nexus []))
 
--- a unit attention, and then the operation code
-abbrev pub attention_answer : Option Attention → Layer → Request → Result Command AtOnce
-attention_answer (Some what) l r = Err (at_once.Check (attention_sense what))
-attention_answer None l r = code_answer l r
+-- a unit attention, and without one what follows
+abbrev pub attention_answer : Option Attention → Result Command AtOnce → Result Command AtOnce
+attention_answer (Some what) next = Err (at_once.Check (attention_sense what))
+attention_answer None next = next
 
 -- the command of a request that may become a task, or why it is answered at once
 abbrev pub judged : Layer → Request → Result Command AtOnce
 judged l r =
     if not (is_unit_0 r.lun) then Err (at_once.Check unknown_unit)
     else if overlaps l.tasks r then Err (at_once.Check overlapped)
-    else attention_answer (attention_of l.attentions r) l r
+    else attention_answer (attention_of l.attentions r) (code_answer l r)
 
 -- the layer once a request is judged: without the tasks of its nexus where it overlaps one, and without the condition that it is told
 abbrev pub once_judged : Layer → Request → Layer

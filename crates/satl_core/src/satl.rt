@@ -162,7 +162,9 @@ impl Satl {
     fn judge(&mut self, request: &Request) -> Result<Command, AtOnce>
         ensures judged { result ≡ judged self.old request.now }
         ensures left { self.new ≡ record (once_judged self.old request.now) { free = self.new.free } }
+        ensures kept { self.new ≡ record self.old { tasks = self.new.tasks; attentions = self.new.attentions; free = self.new.free } }
         ensures same { OnOk result (self.new ≡ self.old) }
+        ensures transfer { IfOk result (λ command. IsTransfer self.old.identity.capacity command (held_blocks command)) }
     {
         if !is_unit_0(&request.lun) {
             return Err(AtOnce::Check(plain(0x5, 0x25, 0x00)));

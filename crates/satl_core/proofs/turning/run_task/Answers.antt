@@ -5,4 +5,4 @@ pub returns-in_err-ended-clause-stays : goal.returns-in_err-ended-clause-stays
 returns-in_err-ended-clause-stays g c = cut_stays _ _ _ _ c.in_err-ended.ensures.err
 
 pub returns-clause-stays : goal.returns-clause-stays
-returns-clause-stays g c = run_stays _ _ c.args.command.now _ _ _ _ (g.D.Drive.state c.args.drive.now).capacity _ c.requires.idle c.requires.transfer c.run_command.ensures.again c.in_ok-ended.ensures.ok
+returns-clause-stays g c = run_stays _ _ c.args.command.now _ _ _ _ (g.D.Drive.state c.args.drive.now).capacity _ c.requires.idle c.requires.no_error c.requires.transfer c.run_command.ensures.again c.in_ok-ended.ensures.ok

@@ -2,7 +2,7 @@ use Rattle.std.proofs.Common.{◌-◌, arith, refl, sym, ap, subst, ◌∙◌, l
 use Rattle.satl_base.specs.declared.reply.Reply.{Reply}
 use Rattle.satl_line.specs.declared.entry.Entry.{Entry}
 use Rattle.satl_line.specs.Tasks.{entries_of}
-use Rattle.satl_direct.specs.Device.{task_of}
+use Rattle.satl_direct.specs.Tasks.{task_of}
 use Rattle.satl_direct.specs.Quiet.{Around}
 use Rattle.satl_direct.specs.Turn.{Turn}
 use Rattle.satl_core.specs.Layer.{Layer, Tied, held_pages, view}
@@ -41,9 +41,9 @@ returns-in-Ok-clause-turns g c =
     let first = first_of c.self.inside.tasks c.remove-task.new.self c.remove-task.result c.remove-task.ensures.value c.remove-task.ensures.others in
     let old = g.D.Drive.state c.args.drive.now in
     let new = g.D.Drive.state c.run_task.new.drive in
-    subst (λ (l : Layer). AreUnforced (view l old) → Around Turn (view l old) c.push.new.self (seen c.self.inside.identity c.self.inside.modes c.self.inside.started (map task_of (entries_of c.remove-task.new.self)) new)) c.self.view_is
+    subst (λ (l : Layer). AreUnforced (view l old) → Around Turn (view l old) c.push.new.self (seen c.self.inside.identity c.self.inside.modes c.self.inside.started c.self.inside.attentions (map task_of (entries_of c.remove-task.new.self)) new)) c.self.view_is
     (λ free.
-    turn_ends c.self.inside.identity c.self.inside.modes c.self.inside.started c.self.inside.down c.self.inside.tasks c.remove-task.new.self c.self.inside.pool.free (c.self.inside.pool.out - held_pages c.self.inside.tasks) c.remove-task.result old new c.self.invariant.kept first
+    turn_ends c.self.inside.identity c.self.inside.modes c.self.inside.started c.self.inside.down c.self.inside.attentions c.self.inside.tasks c.remove-task.new.self c.self.inside.pool.free (c.self.inside.pool.out - held_pages c.self.inside.tasks) c.remove-task.result old new c.self.invariant.kept first
     (subst (λ (l : Layer). Tied l old) (sym c.self.view_is) c.requires.tied) free c.in-Ok.ending c.run_task.new.body c.args.replies.now c.push.new.self c.end_task.result c.in-Ok.ensures.ends c.requires.empty c.push.ensures c.end_task.ensures.reply)
 
 pub returns-in-Ok-clause-pages : goal.returns-in-Ok-clause-pages
@@ -67,9 +67,9 @@ returns-in-Err-clause-turns g c =
     let first = first_of c.self.inside.tasks c.remove-task.new.self c.remove-task.result c.remove-task.ensures.value c.remove-task.ensures.others in
     let old = g.D.Drive.state c.args.drive.now in
     let new = g.D.Drive.state c.run_task.new.drive in
-    subst (λ (l : Layer). AreUnforced (view l old) → Around Turn (view l old) c.lose_tasks.new.replies (seen c.self.inside.identity c.self.inside.modes c.self.inside.started (map task_of (entries_of c.lose_tasks.new.tasks)) new)) c.self.view_is
+    subst (λ (l : Layer). AreUnforced (view l old) → Around Turn (view l old) c.lose_tasks.new.replies (seen c.self.inside.identity c.self.inside.modes c.self.inside.started c.self.inside.attentions (map task_of (entries_of c.lose_tasks.new.tasks)) new)) c.self.view_is
     (λ free.
-    turn_loses c.self.inside.identity c.self.inside.modes c.self.inside.started c.self.inside.down c.self.inside.tasks c.remove-task.new.self c.self.inside.pool.free (c.self.inside.pool.out - held_pages c.self.inside.tasks) c.remove-task.result old new c.self.invariant.kept first
+    turn_loses c.self.inside.identity c.self.inside.modes c.self.inside.started c.self.inside.down c.self.inside.attentions c.self.inside.tasks c.remove-task.new.self c.self.inside.pool.free (c.self.inside.pool.out - held_pages c.self.inside.tasks) c.remove-task.result old new c.self.invariant.kept first
     (subst (λ (l : Layer). Tied l old) (sym c.self.view_is) c.requires.tied) free c.link_lost.result c.run_task.new.body c.args.replies.now c.push-in-Err.new.self c.lose_tasks.new.replies c.end_task-in-Err.result c.lose_tasks.new.tasks c.lose_tasks.ensures.none c.in-Err.ensures.cut c.requires.empty c.push-in-Err.ensures
     c.lose_tasks.ensures.answers c.end_task-in-Err.ensures.reply c.link_lost.ensures)
 
@@ -109,7 +109,37 @@ returns-in-Err-clause-writable g c =
 pub returns-in-Ok-clause-unforced : goal.returns-in-Ok-clause-unforced
 returns-in-Ok-clause-unforced g c = λ free.
     let first = first_of c.self.inside.tasks c.remove-task.new.self c.remove-task.result c.remove-task.ensures.value c.remove-task.ensures.others in
-    rest_unforced (view c.args.self.now (g.D.Drive.state c.args.drive.now)) (seen c.self.inside.identity c.self.inside.modes c.self.inside.started (map task_of (entries_of c.remove-task.new.self)) (g.D.Drive.state c.run_task.new.drive)) c.self.inside.tasks c.remove-task.new.self c.remove-task.result (ap (λ (l : Layer). map task_of (entries_of l.tasks)) (sym c.self.view_is)) refl (ap (λ (l : Layer). l.modes) c.self.view_is) first free
+    rest_unforced (view c.args.self.now (g.D.Drive.state c.args.drive.now)) (seen c.self.inside.identity c.self.inside.modes c.self.inside.started c.self.inside.attentions (map task_of (entries_of c.remove-task.new.self)) (g.D.Drive.state c.run_task.new.drive)) c.self.inside.tasks c.remove-task.new.self c.remove-task.result (ap (λ (l : Layer). map task_of (entries_of l.tasks)) (sym c.self.view_is)) refl (ap (λ (l : Layer). l.modes) c.self.view_is) first free
 
 pub returns-in-Err-clause-unforced : goal.returns-in-Err-clause-unforced
-returns-in-Err-clause-unforced g c = λ free. none_unforced (view c.args.self.now (g.D.Drive.state c.args.drive.now)) (seen c.self.inside.identity c.self.inside.modes c.self.inside.started (map task_of (entries_of c.lose_tasks.new.tasks)) (g.D.Drive.state c.run_task.new.drive)) (ap (λ t. map task_of (entries_of t)) c.lose_tasks.ensures.none)
+returns-in-Err-clause-unforced g c = λ free. none_unforced (view c.args.self.now (g.D.Drive.state c.args.drive.now)) (seen c.self.inside.identity c.self.inside.modes c.self.inside.started c.self.inside.attentions (map task_of (entries_of c.lose_tasks.new.tasks)) (g.D.Drive.state c.run_task.new.drive)) (ap (λ t. map task_of (entries_of t)) c.lose_tasks.ensures.none)
+
+pub end_task-requires-in-Err-clause-held : goal.end_task-requires-in-Err-clause-held
+end_task-requires-in-Err-clause-held g c =
+    let first = first_of c.self.inside.tasks c.remove-task.new.self c.remove-task.result c.remove-task.ensures.value c.remove-task.ensures.others in
+    let held = first_pages c.self.inside.tasks c.remove-task.new.self c.remove-task.result first in
+    omega (arith, held, c.self.invariant.held, c.run_task.ensures.size)
+
+pub end_task-requires-in-Err-clause-few : goal.end_task-requires-in-Err-clause-few
+end_task-requires-in-Err-clause-few g c =
+    let first = first_of c.self.inside.tasks c.remove-task.new.self c.remove-task.result c.remove-task.ensures.value c.remove-task.ensures.others in
+    let kept = first_kept c.self.inside.identity c.self.inside.tasks c.remove-task.new.self c.remove-task.result c.self.invariant.kept first in
+    let few = entry_few c.self.inside.identity c.remove-task.result kept.0 in
+    omega (arith, few, c.run_task.ensures.size)
+
+pub lose_tasks-requires-clause-held : goal.lose_tasks-requires-clause-held
+lose_tasks-requires-clause-held g c =
+    let first = first_of c.self.inside.tasks c.remove-task.new.self c.remove-task.result c.remove-task.ensures.value c.remove-task.ensures.others in
+    let held = first_pages c.self.inside.tasks c.remove-task.new.self c.remove-task.result first in
+    omega (arith, held, c.self.invariant.held, c.run_task.ensures.size, c.end_task-in-Err.ensures.out)
+
+pub returns-in-Err-clause-tied : goal.returns-in-Err-clause-tied
+returns-in-Err-clause-tied g c = record {
+  mark = sym c.in-Err.ensures.lost;
+  idle = c.run_task.ensures.stays.idle;
+  no_error = c.run_task.ensures.stays.no_error;
+  fit = c.run_task.ensures.fit c.requires.tied.fit;
+  capacity = c.run_task.ensures.stays.capacity ∙ (c.requires.tied.capacity ∙ ap (λ (l : Layer). l.identity.capacity) (sym c.self.view_is));
+  cache = λ up. absurd cc;
+  sound = c.run_task.ensures.stays.sound;
+}
