@@ -1,6 +1,7 @@
 pub mod AddingLemmas
 pub mod ArrivalLemmas
 pub mod CommandsLemmas
+pub mod CountedLemmas
 pub mod DeviceLemmas
 pub mod HeldLemmas
 pub mod LeavingLemmas

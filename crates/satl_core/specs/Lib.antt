@@ -1,4 +1,5 @@
 pub mod Layer
 pub mod Opening
 pub mod Submitting
+pub mod Tie
 pub mod Turning

@@ -2,12 +2,13 @@
 ghost use Rattle.std.specs.Prelude.{◌≡◌, ◌≤◌, ◌+◌, ◌-◌, ◌<◌, ◌↔◌, ◌*◌, [], Ok, None, IfOk, IfErr, IfSome, IfNone, IsNone, OnOk, OnSome, map, length};
 ghost use Rattle.std.specs.List.{AllByRecursion};
 ghost use Rattle.satl_base.specs.declared.request.Request.{Request};
+ghost use Rattle.satl_io.specs.Causes.{RoseBy};
 ghost use Rattle.satl_drive.specs.State.{IsFit};
 ghost use Rattle.satl_frame.specs.Output.{IsWritable};
 ghost use Rattle.satl_direct.specs.Arrival.{Arrives};
 ghost use Rattle.satl_direct.specs.Tasks.{held_blocks, needed};
 ghost use Rattle.satl_direct.specs.Quiet.{Around};
-ghost use Rattle.satl_direct.specs.Run.{MayLose};
+ghost use Rattle.satl_direct.specs.Run.{MayLose, losses_of};
 ghost use Rattle.satl_direct.specs.Turn.{Turn};
 ghost use Rattle.satl_core.specs.Layer.{IsTransfer, Tied, held_pages, reply_pages, view};
 ghost use Rattle.satl_core.specs.Opening.{IsCause, IsOpened};
@@ -138,6 +139,8 @@ impl Satl {
         ensures arrives { Arrives request (view self.old (D.state drive.old)) replies.new (view self.new (D.state drive.new)) }
         ensures around { (whole : Request) → IsCutOf whole request → Around (MayLose (Arrives whole)) (view self.old (D.state drive.old)) replies.new (view self.new (D.state drive.new)) }
         ensures unforced { AsksNoFua request → AreUnforced (view self.old (D.state drive.old)) → AreUnforced (view self.new (D.state drive.new)) }
+        ensures modes { self.new.modes ≡ self.old.modes }
+        ensures more { length self.new.tasks ≤ length self.old.tasks + 1 }
         ensures drive { drive.new ≡ drive.old }
         ensures tied { Tied self.new (D.state drive.new) }
         ensures pages { self.new.out ≡ reply_pages replies.new }
@@ -221,7 +224,10 @@ impl Satl {
         ensures pages { self.new.out ≡ reply_pages replies.new }
         ensures writable { AllByRecursion IsWritable replies.new }
         ensures fewer { length self.new.tasks ≤ length self.old.tasks - 1 }
+        ensures modes { self.new.modes ≡ self.old.modes }
+        ensures counted { RoseBy (losses_of (view self.old (D.state drive.old)) (view self.new (D.state drive.new))) (D.state drive.old).faults (D.state drive.new).faults }
         ensures steps { steps.new ≤ steps.old + 1 }
+        ensures calls { steps.new + length self.new.tasks ≤ steps.old + length self.old.tasks }
     {
         if self.pending() == 0 {
             return;

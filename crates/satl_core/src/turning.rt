@@ -86,6 +86,7 @@ pub fn run_task<D: Drive, L: Ledger>(
     requires mark { down ≡ (D.state drive.old).down }
     ensures stays { Stays (D.state drive.old) (D.state drive.new) }
     ensures up { OnOk result ((D.state drive.new).down ≡ down) }
+    ensures faults { OnOk result ((D.state drive.new).faults ≡ (D.state drive.old).faults) }
     ensures lost { OnErr result ((D.state drive.new).down ≡ true) }
     ensures ends { IfOk result (λ ending. TaskEnds down started command.now (D.state drive.old) body.old ending body.new (D.state drive.new)) }
     ensures cut { OnErr result (IsLostInTask down started command.now (D.state drive.old) body.old (D.state drive.new)) }

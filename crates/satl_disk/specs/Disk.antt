@@ -33,6 +33,7 @@ state_of d = record {
   capacity = length d.sectors;
   cells = cells_of d.sectors;
   outstanding = [];
+  error = None;
   cache = d.cache;
   look = d.look;
   active = d.active;

@@ -9,3 +9,4 @@ pub mod Refusals
 pub mod Requested
 pub mod Standing
 pub mod Stopping
+pub mod WholeInputs

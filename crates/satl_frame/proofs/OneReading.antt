@@ -184,7 +184,7 @@ same_frames version limit offset other (f ∷ fs) (g ∷ gs) x y first second co
     let rest = same_frames version limit (offset + length (spelled f)) (other + length (spelled g)) fs gs x y first.3 second.3 (omega arith) front.1 in
     (ap (λ (h : Frame). h ∷ fs) front.0 ∙ ap (λ (hs : List Frame). g ∷ hs) rest.0, rest.1)
 
-same_version : (version other : Version) (x y : List ℕ) → magic version ++ x ≡ magic other ++ y → (version ≡ other) × (x ≡ y)
+pub same_version : (version other : Version) (x y : List ℕ) → magic version ++ x ≡ magic other ++ y → (version ≡ other) × (x ≡ y)
 same_version One One x y e = (refl, ap (λ (xs : List ℕ). drop 8 xs) e)
 same_version Two Two x y e = (refl, ap (λ (xs : List ℕ). drop 8 xs) e)
 same_version One Two x y e = let last : ◌≡◌ {A = ℕ} 49 50 = ap (λ (xs : List ℕ). get_or xs 7 0) e in absurd (omega (arith, last))

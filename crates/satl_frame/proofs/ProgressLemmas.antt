@@ -1,29 +1,23 @@
 -- A reader that gives one frame more, and one that refuses.
 use Rattle.std.proofs.Common.{◌≡◌, ℕ, suc, ◌+◌, ◌≤◌, List, [], ◌∷◌, ◌++◌, length, take, drop, Option, Some, None, refl, ◌∙◌, ap, sym, subst, arith, append_assoc, ◌⊎◌, inl, inr}
-use Rattle.std.specs.List.{AllByRecursion}
 use Rattle.std.proofs.lemmas.List.{length-append, append-nil, drop_at}
 use Rattle.satl_io.specs.Known.{Took}
 use Rattle.satl_io.proofs.Joined.{Took-more}
 use Rattle.satl_frame.specs.Frames.{spelled, IsFrame}
 use Rattle.satl_frame.specs.Faults.{fault, frame_fault}
-use Rattle.satl_frame.specs.Inputs.{all_spelled, AreFrames, Reads}
+use Rattle.satl_frame.specs.Inputs.{all_spelled, AreFrames, NoneEnds, Reads}
 use Rattle.satl_frame.specs.Magic.{magic, magic_fault, version_of}
 use Rattle.satl_frame.specs.Progress.{ReadTo, ReadUpTo, HasRead}
 use Rattle.satl_frame.specs.Reading.{Reading, Gave, IsNext, opening, at_offset, first_refusal, refusal}
 use Rattle.satl_frame.specs.declared.frames.Version.{Version}
 use Rattle.satl_frame.specs.declared.frames.Reason.{Reason}
 use Rattle.satl_frame.specs.declared.frames.Frame.{Frame}
-use Rattle.satl_frame.specs.declared.frames.Frame.TheVariants as frames
 use Rattle.satl_frame.specs.declared.frames.Place.{Place}
 use Rattle.satl_frame.proofs.Refusals.{version_read, length-magic}
 
 pub all_spelled-push : (fs : List Frame) (f : Frame) → all_spelled (fs ++ f ∷ []) ≡ all_spelled fs ++ spelled f
 all_spelled-push [] f = append-nil (spelled f)
 all_spelled-push (g ∷ fs) f = ap (λ (xs : List ℕ). spelled g ++ xs) (all_spelled-push fs f) ∙ sym (append_assoc (spelled g) (all_spelled fs) (spelled f))
-
--- none of these is END
-abbrev pub NoneEnds : List Frame → Type 0
-NoneEnds fs = AllByRecursion (λ f. f ≡ frames.End → ⊥) fs
 
 pub AreFrames-push : (version : Version) (limit offset : ℕ) (fs : List Frame) (f : Frame) → AreFrames version limit offset fs → NoneEnds fs → IsFrame version f →
     offset + length (all_spelled fs ++ spelled f) ≤ limit → AreFrames version limit offset (fs ++ f ∷ [])
@@ -71,7 +65,7 @@ has_read_all limit newest place input rest fs read = record {
   each = read.each;
 }
 
-some_same : {X : Type 0} (x y : X) → Some x ≡ Some y → x ≡ y
+pub some_same : {X : Type 0} (x y : X) → Some x ≡ Some y → x ≡ y
 some_same x y e = cc
 
 -- a reason at an offset is there, or the later one is meant

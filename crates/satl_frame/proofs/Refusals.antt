@@ -234,7 +234,7 @@ begin_blames old (Some input) b (Bad r o) (is, blames) = rw (is, blames.1.0, bla
 begin_blames old a b ReadFault (is, fewer) = fewer_weaker (asked old.limit old.newest old.place) (λ input. rw is (eight_asked old.limit old.newest input)) fewer
 
 -- what a reader says of a whole magic is what it says of the frame behind it
-computed : (limit : ℕ) (newest version : Version) (rest : List ℕ) → names_version newest (version_code version) ≡ true →
+pub computed : (limit : ℕ) (newest version : Version) (rest : List ℕ) → names_version newest (version_code version) ≡ true →
     (refusal limit newest None (magic version ++ rest) ≡ at_offset 8 (frame_fault version limit 8 rest))
     × (asked limit newest None (magic version ++ rest) ≡ 8 + asked_of_frame version limit 8 rest)
 computed limit One One rest named = (refl, refl)

@@ -1,5 +1,6 @@
 -- Whole inputs (profile).
 use Rattle.std.specs.Prelude.{ℕ, ◌+◌, ◌≤◌, ◌≡◌, ◌⊎◌, List, [], ◌∷◌, ◌++◌, length, Some}
+use Rattle.std.specs.List.{AllByRecursion}
 use Rattle.satl_base.specs.Fields.{IsBytes}
 use Rattle.satl_frame.specs.Faults.{frame_fault}
 use Rattle.satl_frame.specs.Frames.{spelled, IsFrame}
@@ -20,6 +21,10 @@ AreFrames version limit offset [] = Unit {0}
 AreFrames version limit offset (f ∷ fs) =
     IsFrame version f × (offset + length (spelled f) ≤ limit) × (f ≡ frames.End → fs ≡ [])
     × AreFrames version limit (offset + length (spelled f)) fs
+
+-- none of these is END
+abbrev pub NoneEnds : List Frame → Type 0
+NoneEnds fs = AllByRecursion (λ f. f ≡ frames.End → ⊥) fs
 
 -- an input is the magic of a version, frames, and a rest
 pub record Reads (limit : ℕ) (input : List ℕ) (version : Version) (fs : List Frame) (rest : List ℕ) : Type 0 where

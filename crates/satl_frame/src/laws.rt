@@ -1,5 +1,6 @@
 //! Laws of the framing: what holds of the definitions alone.
 ghost use Rattle.satl_frame.specs.Inputs.{FrameOrRefusal, NotBoth, OneWay};
+ghost use Rattle.satl_frame.specs.Progress.{NextGiven, NoneRefused, OneEnd};
 
 /// Of any bytes from an offset behind the magic on, a whole frame stands there or a reason refuses them, and never both (profile).
 pub fn frame_or_refusal()
@@ -11,4 +12,12 @@ pub fn frame_or_refusal()
 /// follow them (profile).
 pub fn read_in_one_way()
     ensures { OneWay }
+{}
+
+/// An input that can be read to END is read: before END a reader refuses nothing and gives the next frame, and the frames up to
+/// END and the bytes behind it are read in one way (profile).
+pub fn read_to_the_end()
+    ensures none_refused { NoneRefused }
+    ensures next_given { NextGiven }
+    ensures one_end { OneEnd }
 {}

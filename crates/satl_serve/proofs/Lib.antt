@@ -1,2 +1,3 @@
+pub mod CompletenessLemmas
 pub mod RunLemmas
 pub mod ServingLemmas

@@ -1,19 +1,24 @@
 -- A request that a reader gives may be handed to the layer.
-use Rattle.std.proofs.Common.{◌≡◌, ◌⊎◌, inl, inr, refl, sym, ap, subst, ◌∙◌, arith, ℕ, ◌+◌, ◌*◌, ◌≤◌, true, false, List, length, take}
-use Rattle.std.specs.Prelude.{Option, Some, None, nat_lt}
+use Rattle.std.proofs.Common.{◌≡◌, ◌⊎◌, inl, inr, refl, sym, ap, subst, ◌∙◌, arith, ℕ, ◌+◌, ◌-◌, ◌*◌, ◌<◌, ◌≤◌, true, false, List, length, take}
+use Rattle.std.specs.Prelude.{Option, Some, None, Result, Ok, Err, IfErr, nat_lt}
 use Rattle.std.proofs.lemmas.Bool.{ltb-true, ltb-false}
 use Rattle.std.proofs.lemmas.List.{take_all, length-take-le}
 use Rattle.satl_base.specs.declared.request.Request.{Request}
-use Rattle.satl_frame.specs.Frames.{HasExpected, IsFrame, IsRequest, data_out}
+use Rattle.satl_frame.specs.Frames.{HasExpected, IsFrame, IsRequest, data_out, spelled}
 use Rattle.satl_frame.specs.Pulls.{cut_to, frame_pages}
-use Rattle.satl_frame.specs.Reading.{Gave, Reading}
+use Rattle.satl_frame.specs.Reading.{Gave, IsNext, Reading}
+use Rattle.satl_frame.specs.declared.frames.Place.{Place}
 use Rattle.satl_frame.specs.declared.frames.Version.{Version}
 use Rattle.satl_frame.specs.declared.frames.Version.TheVariants.{One, Two}
 use Rattle.satl_frame.specs.declared.frames.Frame.{Frame}
 use Rattle.satl_frame.specs.declared.frames.Frame.TheVariants as frames
 use Rattle.satl_frame.proofs.Paging.{length-pages_of}
-use Rattle.satl_core.specs.Layer.{IsExpectable}
+use Rattle.satl_core.specs.Layer.{IsExpectable, Layer, Tied}
 use Rattle.satl_core.specs.Submitting.{CanSubmit}
+use Rattle.satl_drive.specs.State.{DriveState}
+use Rattle.satl_serve.specs.declared.serving.ServeFault.{ServeFault}
+use Rattle.satl_serve.specs.declared.serving.ServeFault.TheVariants as faults
+use Rattle.satl_serve.specs.Serving.{AtRest, HasFrameCause, HasWriteCause, place_offset}
 
 expectable : (version : Version) (expected : Option ℕ) → HasExpected version expected → IsExpectable expected
 expectable One expected h = rw h tt
@@ -52,3 +57,52 @@ pub can_submit : (old new : Reading) (room free before out : ℕ) (frame : Frame
 can_submit old new room free before out frame r left left' gave is none lent out_is =
     let pages = ap frame_pages is in
     by_whole gave.place.version gave.whole r room free out gave.is_frame (sym is ∙ gave.cut) (omega (arith, pages, lent)) (omega (arith, pages, none, out_is))
+
+-- ---- the layer, whose pages were lent to a frame
+
+pub tied_lent : (l l' : Layer) (d : DriveState) → record l' { free = 0; out = 0 } ≡ record l { free = 0; out = 0 } → Tied l d → Tied l' d
+tied_lent l l' d same t = record {
+  mark = ap (λ (x : Layer). x.down) same ∙ t.mark;
+  idle = t.idle;
+  fit = t.fit;
+  capacity = t.capacity ∙ ap (λ (x : Layer). x.identity.capacity) (sym same);
+  cache = λ up. t.cache (sym (ap (λ (x : Layer). x.down) same) ∙ up) ∙ ap (λ (x : Layer). x.modes.wce) (sym same);
+  sound = t.sound;
+}
+
+pub rest_lent : (l l' : Layer) (d : DriveState) (pages : ℕ) → record l' { free = 0; out = 0 } ≡ record l { free = 0; out = 0 } → pages ≡ 0 → l'.out ≡ l.out + pages → AtRest l d → AtRest l' d
+rest_lent l l' d pages same none out r = record { tied = tied_lent l l' d same r.tied; all_in = omega (arith, none, out, r.all_in) }
+
+-- ---- each frame takes the reader further towards its limit
+
+pub nearer : {old new : Reading} {room : ℕ} {frame : Frame} {left left' : Option (List ℕ)} → Gave old room frame new left left' → new.limit - place_offset new.place < old.limit - place_offset old.place
+nearer {old} {new} gave =
+    subst (λ (r : Reading). r.limit - place_offset r.place < old.limit - place_offset old.place) (sym gave.new_is)
+    (by_place old.limit old.newest old.place gave.place (length (spelled gave.whole)) gave.next gave.within some_bytes)
+  where
+    some_bytes : 0 < length (spelled gave.whole)
+    some_bytes = omega arith
+
+    by_place : (limit : ℕ) (newest : Version) (at : Option Place) (place : Place) (size : ℕ) → IsNext newest at place → place.offset + size ≤ limit → 0 < size → limit - (place.offset + size) < limit - place_offset at
+    by_place limit newest None place size next within some = omega arith
+    by_place limit newest (Some p) place size next within some = let same : place.offset ≡ p.offset = ap (λ (x : Place). x.offset) next in omega arith
+
+-- ---- causes
+
+-- a fault of the last frame's answers, seen from the beginning
+pub write_cause : {A : Type 0} (r : Result A ServeFault) (read_before read_now before mid now : ℕ) → before ≤ mid → IfErr r (HasWriteCause mid now) → IfErr r (HasFrameCause read_before read_now before now)
+write_cause (Ok x) read_before read_now before mid now later h = tt
+write_cause (Err (faults.Open opening)) read_before read_now before mid now later h = absurd h
+write_cause (Err (faults.BadInput reason offset)) read_before read_now before mid now later h = tt
+write_cause (Err faults.Read) read_before read_now before mid now later h = absurd h
+write_cause (Err faults.Write) read_before read_now before mid now later h = omega arith
+write_cause (Err faults.NotBuilt) read_before read_now before mid now later h = tt
+
+-- a fault of the frames, seen from before the magic
+pub earlier_cause : {A : Type 0} (r : Result A ServeFault) (read_before read_now before mid now : ℕ) → before ≤ mid → IfErr r (HasFrameCause read_before read_now mid now) → IfErr r (HasFrameCause read_before read_now before now)
+earlier_cause (Ok x) read_before read_now before mid now later h = tt
+earlier_cause (Err (faults.Open opening)) read_before read_now before mid now later h = h
+earlier_cause (Err (faults.BadInput reason offset)) read_before read_now before mid now later h = h
+earlier_cause (Err faults.Read) read_before read_now before mid now later h = h
+earlier_cause (Err faults.Write) read_before read_now before mid now later h = omega arith
+earlier_cause (Err faults.NotBuilt) read_before read_now before mid now later h = h

@@ -1,2 +1,4 @@
+pub mod Completeness
+pub mod Headline
 pub mod Runs
 pub mod Serving

@@ -1,27 +1,32 @@
 // The loop over frames.
-ghost use Rattle.std.specs.Prelude.{◌≡◌, ◌≤◌, ◌-◌, ℕ, [], IfErr, OnErr, OnOk, length, map};
+ghost use Rattle.std.specs.Prelude.{◌≡◌, ◌≤◌, ◌+◌, ◌-◌, ℕ, List, [], Some, IfErr, IfOk, MatchResult, OnErr, OnOk, length, map};
 ghost use Rattle.std.specs.List.{AllByRecursion};
+ghost use Rattle.std.specs.Result.{IsErrAnd};
 ghost use Rattle.satl_base.specs.declared.request.Request.{Request};
+ghost use Rattle.satl_io.specs.Causes.{Rose, RoseBy};
 ghost use Rattle.satl_io.specs.Known.{Wrote, WrotePart};
+ghost use Rattle.satl_identify.specs.declared.identity.IdentityFault.{IdentityFault};
+ghost use Rattle.satl_frame.specs.declared.frames.Frame.{Frame};
 ghost use Rattle.satl_frame.specs.Output.{IsWritable, all_answered};
 ghost use Rattle.satl_frame.specs.Output.Answer.{replied};
 ghost use Rattle.satl_drive.specs.State.{IsFit};
 ghost use Rattle.satl_direct.specs.Arrival.{Arrives};
 ghost use Rattle.satl_direct.specs.Quiet.{Around};
-ghost use Rattle.satl_direct.specs.Run.{Drains, MayLose};
+ghost use Rattle.satl_direct.specs.Run.{Drains, MayLose, losses_of};
 ghost use Rattle.satl_direct.specs.Turn.{Turn};
 ghost use Rattle.satl_core.specs.Layer.{Tied, reply_pages, view};
 ghost use Rattle.satl_core.specs.Submitting.{CanSubmit, IsCutOf};
 ghost use Rattle.satl_core.specs.Turning.{AreUnforced, AsksNoFua};
-ghost use Rattle.satl_serve.specs.Runs.{Answered, AnsweredEnd, AnsweredPart, Ended, EndsPart, IsServed, IsStopped, StoppedBehind, Tells, TookSome, TookTurns, input_limit};
-ghost use Rattle.satl_io.specs.Causes.{Rose};
-ghost use Rattle.satl_serve.specs.Serving.{AtRest, HasServeCause, HasWriteCause};
+ghost use Rattle.satl_serve.specs.Completeness.{GoesWell, IsGoodInput, MayStop};
+ghost use Rattle.satl_serve.specs.Runs.{Answered, AnsweredEnd, AnsweredPart, Counts, Ended, EndsPart, IsServed, IsStopped, StoppedBehind, Tells, TookSome, TookTurns, input_limit, tally_of};
+ghost use Rattle.satl_serve.specs.Serving.{AtRest, HasFrameCause, HasServeCause, HasWriteCause, IsRefused, TellsRefusal};
 
 use satl_base::{Replies, Request, Steps};
 use satl_core::{OpenFault, Satl};
 use satl_drive::{Bench, Drive};
 use satl_frame::{Frame, FrameFault, FrameReader, OutFrame, Reason, WriteFault, write_frame};
 use satl_io::{Sink, Source};
+use satl_text::Summary;
 use std::alloc::Global;
 use std::sync::ledger::Ledger;
 use thiserror::Error;
@@ -73,14 +78,20 @@ impl From<OpenFault> for ServeFault {
 // The number of bytes within which each frame of an input ends: 2^40 (profile).
 const LIMIT: u64 = 1 << 40;
 
-/// Writes the replies in order, and takes their pages back.
-fn answer<K: Sink>(satl: &mut Satl, sink: &mut K, replies: &mut Replies) -> Result<(), ServeFault>
+/// Writes the replies in order, counts them, and takes their pages back.
+fn answer<K: Sink>(
+    satl: &mut Satl,
+    sink: &mut K,
+    replies: &mut Replies,
+    totals: &mut Summary,
+) -> Result<(), ServeFault>
     requires writable { AllByRecursion IsWritable replies.old }
     requires pages { satl.old.out ≡ reply_pages replies.old }
     ensures stays { satl.new ≡ record satl.old { free = satl.new.free; out = satl.new.out } }
     ensures all_in { OnOk result (satl.new.out ≡ 0) }
     ensures none { OnOk result (replies.new ≡ []) }
     ensures wrote { OnOk result (Wrote (K.written sink.old) (K.written sink.new) (all_answered (map replied replies.old))) }
+    ensures counts { OnOk result (Counts totals.old totals.new (map replied replies.old)) }
     ensures part { OnErr result (WrotePart (K.written sink.old) (K.written sink.new) (all_answered (map replied replies.old))) }
     ensures later { K.faults sink.old ≤ K.faults sink.new }
     ensures cause { IfErr result (HasWriteCause (K.faults sink.old) (K.faults sink.new)) }
@@ -90,6 +101,7 @@ fn answer<K: Sink>(satl: &mut Satl, sink: &mut K, replies: &mut Replies) -> Resu
             unreachable!();
         };
         write_frame(OutFrame::Reply(&reply), sink)?;
+        totals.add_reply(&reply);
         satl.recycle(reply.body);
     }
     Ok(())
@@ -102,6 +114,7 @@ fn serve_request<K: Sink, D: Drive, L: Ledger>(
     sink: &mut K,
     drive: &mut D,
     replies: &mut Replies,
+    totals: &mut Summary,
     steps: &mut Steps<L>,
 ) -> Result<(), ServeFault>
     requires tied { Tied satl.old (D.state drive.old) }
@@ -109,14 +122,18 @@ fn serve_request<K: Sink, D: Drive, L: Ledger>(
     requires none { replies.old ≡ [] }
     ensures rest { OnOk result (AtRest satl.new (D.state drive.new)) }
     ensures none { OnOk result (replies.new ≡ []) }
-    ensures answered { OnOk result (Answered (λ replies. (whole : Request) → IsCutOf whole request → Around (MayLose (Arrives whole)) (view satl.old (D.state drive.old)) replies (view satl.new (D.state drive.new))) (K.written sink.old) (K.written sink.new)) }
+    ensures answered { OnOk result (Answered (λ replies. (whole : Request) → IsCutOf whole request → Around (MayLose (Arrives whole)) (view satl.old (D.state drive.old)) replies (view satl.new (D.state drive.new))) (K.written sink.old) (K.written sink.new) totals.old totals.new) }
     ensures part { OnErr result (AnsweredPart (λ replies. (whole : Request) → IsCutOf whole request → Around (MayLose (Arrives whole)) (view satl.old (D.state drive.old)) replies (view satl.new (D.state drive.new))) (K.written sink.old) (K.written sink.new)) }
     ensures unforced { OnOk result (AsksNoFua request → AreUnforced (view satl.old (D.state drive.old)) → AreUnforced (view satl.new (D.state drive.new))) }
+    ensures modes { satl.new.modes ≡ satl.old.modes }
+    ensures more { length satl.new.tasks ≤ length satl.old.tasks + 1 }
+    ensures drive { drive.new ≡ drive.old }
+    ensures steps { steps.new ≡ steps.old }
     ensures later { K.faults sink.old ≤ K.faults sink.new }
     ensures cause { IfErr result (HasWriteCause (K.faults sink.old) (K.faults sink.new)) }
 {
     satl.submit(request, drive, replies, steps);
-    answer(satl, sink, replies)
+    answer(satl, sink, replies, totals)
 }
 
 /// One turn, whose answers are written.
@@ -125,21 +142,25 @@ fn serve_turn<K: Sink, D: Drive, L: Ledger>(
     sink: &mut K,
     drive: &mut D,
     replies: &mut Replies,
+    totals: &mut Summary,
     steps: &mut Steps<L>,
 ) -> Result<(), ServeFault>
     requires rest { AtRest satl.old (D.state drive.old) }
     requires none { replies.old ≡ [] }
     ensures rest { OnOk result (AtRest satl.new (D.state drive.new)) }
     ensures none { OnOk result (replies.new ≡ []) }
-    ensures answered { OnOk result (Answered (λ replies. AreUnforced (view satl.old (D.state drive.old)) → Around Turn (view satl.old (D.state drive.old)) replies (view satl.new (D.state drive.new))) (K.written sink.old) (K.written sink.new)) }
+    ensures answered { OnOk result (Answered (λ replies. AreUnforced (view satl.old (D.state drive.old)) → Around Turn (view satl.old (D.state drive.old)) replies (view satl.new (D.state drive.new))) (K.written sink.old) (K.written sink.new) totals.old totals.new) }
     ensures part { OnErr result (AnsweredPart (λ replies. AreUnforced (view satl.old (D.state drive.old)) → Around Turn (view satl.old (D.state drive.old)) replies (view satl.new (D.state drive.new))) (K.written sink.old) (K.written sink.new)) }
     ensures unforced { OnOk result (AreUnforced (view satl.old (D.state drive.old)) → AreUnforced (view satl.new (D.state drive.new))) }
     ensures fewer { OnOk result (length satl.new.tasks ≤ length satl.old.tasks - 1) }
+    ensures modes { satl.new.modes ≡ satl.old.modes }
+    ensures counted { RoseBy (losses_of (view satl.old (D.state drive.old)) (view satl.new (D.state drive.new))) (D.state drive.old).faults (D.state drive.new).faults }
+    ensures calls { steps.new + length satl.new.tasks ≤ steps.old + length satl.old.tasks }
     ensures later { K.faults sink.old ≤ K.faults sink.new }
     ensures cause { IfErr result (HasWriteCause (K.faults sink.old) (K.faults sink.new)) }
 {
     satl.turn(drive, replies, steps);
-    answer(satl, sink, replies)
+    answer(satl, sink, replies, totals)
 }
 
 /// So many turns, each answered before the next.
@@ -149,21 +170,25 @@ fn serve_turns<K: Sink, D: Drive, L: Ledger>(
     sink: &mut K,
     drive: &mut D,
     replies: &mut Replies,
+    totals: &mut Summary,
     steps: &mut Steps<L>,
 ) -> Result<(), ServeFault>
     requires rest { AtRest satl.old (D.state drive.old) }
     requires none { replies.old ≡ [] }
     ensures rest { OnOk result (AtRest satl.new (D.state drive.new)) }
     ensures none { OnOk result (replies.new ≡ []) }
-    ensures answered { OnOk result (Answered (λ replies. AreUnforced (view satl.old (D.state drive.old)) → TookTurns count (view satl.old (D.state drive.old)) replies (view satl.new (D.state drive.new))) (K.written sink.old) (K.written sink.new)) }
+    ensures answered { OnOk result (Answered (λ replies. AreUnforced (view satl.old (D.state drive.old)) → TookTurns count (view satl.old (D.state drive.old)) replies (view satl.new (D.state drive.new))) (K.written sink.old) (K.written sink.new) totals.old totals.new) }
     ensures part { OnErr result (AnsweredPart (λ replies. AreUnforced (view satl.old (D.state drive.old)) → TookSome count (view satl.old (D.state drive.old)) replies (view satl.new (D.state drive.new))) (K.written sink.old) (K.written sink.new)) }
     ensures unforced { OnOk result (AreUnforced (view satl.old (D.state drive.old)) → AreUnforced (view satl.new (D.state drive.new))) }
     ensures fewer { OnOk result (length satl.new.tasks ≤ length satl.old.tasks - count) }
+    ensures modes { satl.new.modes ≡ satl.old.modes }
+    ensures counted { RoseBy (losses_of (view satl.old (D.state drive.old)) (view satl.new (D.state drive.new))) (D.state drive.old).faults (D.state drive.new).faults }
+    ensures calls { steps.new + length satl.new.tasks ≤ steps.old + length satl.old.tasks }
     ensures later { K.faults sink.old ≤ K.faults sink.new }
     ensures cause { IfErr result (HasWriteCause (K.faults sink.old) (K.faults sink.new)) }
 {
     for _ in 0..count {
-        serve_turn(satl, sink, drive, replies, steps)?;
+        serve_turn(satl, sink, drive, replies, totals, steps)?;
     }
     Ok(())
 }
@@ -174,26 +199,41 @@ fn serve_end<K: Sink, D: Drive, L: Ledger>(
     sink: &mut K,
     drive: &mut D,
     replies: &mut Replies,
+    totals: Summary,
     steps: &mut Steps<L>,
-) -> Result<(), ServeFault>
+) -> Result<Summary, ServeFault>
     requires rest { AtRest satl.old (D.state drive.old) }
     requires none { replies.old ≡ [] }
-    ensures ended { OnOk result (AnsweredEnd (λ replies. AreUnforced (view satl.old (D.state drive.old)) → (deep : ℕ) × Drains (view satl.old (D.state drive.old)) replies (view satl.new (D.state drive.new)) deep) (K.written sink.old) (K.written sink.new)) }
+    ensures ended { IfOk result (AnsweredEnd (λ replies. AreUnforced (view satl.old (D.state drive.old)) → (deep : ℕ) × Drains (view satl.old (D.state drive.old)) replies (view satl.new (D.state drive.new)) deep) (K.written sink.old) (K.written sink.new) totals) }
     ensures part { OnErr result (EndsPart (AreUnforced (view satl.old (D.state drive.old))) (view satl.old (D.state drive.old)) (K.written sink.old) (K.written sink.new) (view satl.new (D.state drive.new))) }
+    ensures counted { RoseBy (losses_of (view satl.old (D.state drive.old)) (view satl.new (D.state drive.new))) (D.state drive.old).faults (D.state drive.new).faults }
+    ensures calls { steps.new + length satl.new.tasks ≤ steps.old + length satl.old.tasks }
     ensures later { K.faults sink.old ≤ K.faults sink.new }
     ensures cause { IfErr result (HasWriteCause (K.faults sink.old) (K.faults sink.new)) }
 {
+    let mut totals = totals;
     // Each turn ends one task at least.
-    serve_turns(satl, satl.pending() as u16, sink, drive, replies, steps)?;
+    serve_turns(
+        satl,
+        satl.pending() as u16,
+        sink,
+        drive,
+        replies,
+        &mut totals,
+        steps,
+    )?;
     write_frame(OutFrame::End, sink)?;
-    Ok(())
+    Ok(totals)
 }
 
 /// Serves an input of frames: opens the layer on the drive, writes the magic of the output, and carries out one frame after the
-/// other up to END, which ends it. Each answer is written before the next frame is read. `Open`: the layer was not opened, and
-/// nothing was read or written. `BadInput` comes after its FAULT frame was written, with the reason and the offset of the refused
-/// frame in bytes. `Read` and `Write` come only where the source's or the sink's count of faults rose. `NotBuilt` comes at a
-/// frame that is not served yet (profile).
+/// other up to END, which ends it. Each answer is written before the next frame is read. `Open`: the layer was not opened, for
+/// the reason told, and nothing was read or written; refused IDENTIFY DEVICE data are told, but for a lost link and want of memory.
+/// `BadInput` comes after its FAULT frame was written, with the reason and the offset of the refused frame in bytes. `Read` and
+/// `Write` come only where the source's or the sink's count of faults rose. `NotBuilt` comes at a frame that is not served yet.
+/// An input that can be read to END, each frame of which is served, ends so or by want of memory where no count of faults rises
+/// and the drive is not refused. It gives the totals of the whole input. The drive is called once for its identity, and then at
+/// most once for each request (profile).
 pub fn serve<S: Source, K: Sink, D: Bench, L: Ledger>(
     alloc: Global,
     form: Form,
@@ -201,12 +241,14 @@ pub fn serve<S: Source, K: Sink, D: Bench, L: Ledger>(
     sink: &mut K,
     drive: &mut D,
     steps: &mut Steps<L>,
-) -> Result<(), ServeFault>
+) -> Result<Summary, ServeFault>
     requires idle { (D.state drive.old).outstanding ≡ [] }
     requires fit { IsFit (D.state drive.old) }
-    ensures served { OnOk result (IsServed input_limit (D.state drive.old) (S.left source.old) (S.left source.new) (K.written sink.old) (K.written sink.new) (D.state drive.new)) }
-    ensures stopped { IfErr result (IsStopped input_limit (D.state drive.old) (S.left source.old) (S.left source.new) (K.written sink.old) (K.written sink.new) (D.state drive.new)) }
-    ensures causes { IfErr result (HasServeCause (S.faults source.old) (S.faults source.new) (K.faults sink.old) (K.faults sink.new)) }
+    ensures served { IfOk result (IsServed input_limit (D.state drive.old) (S.left source.old) (S.left source.new) (K.written sink.old) (K.written sink.new) steps.old steps.new (D.state drive.new)) }
+    ensures stopped { IfErr result (IsStopped input_limit (D.state drive.old) (S.left source.old) (S.left source.new) (K.written sink.old) (K.written sink.new) steps.old steps.new (D.state drive.new)) }
+    ensures causes { IfErr result (HasServeCause (D.state drive.old) (D.state drive.new) (S.faults source.old) (S.faults source.new) (K.faults sink.old) (K.faults sink.new)) }
+    ensures refused { (fault : IdentityFault) → IsRefused fault (D.state drive.old) (D.state drive.new) → IsErrAnd result (TellsRefusal fault) }
+    ensures complete { (fs : List Frame) (rest : List ℕ) → IsGoodInput input_limit (S.left source.old) fs rest → GoesWell (D.state drive.old) (D.state drive.new) (S.faults source.old) (S.faults source.new) (K.faults sink.old) (K.faults sink.new) → MatchResult result (λ _. S.left source.new ≡ Some rest) (MayStop (D.state drive.old) fs) }
 {
     let mut satl = Satl::open(alloc, drive, steps)?;
     write_frame(OutFrame::Magic, sink)?;
@@ -223,15 +265,16 @@ fn serve_frames<S: Source, K: Sink, D: Drive, L: Ledger>(
     sink: &mut K,
     drive: &mut D,
     steps: &mut Steps<L>,
-) -> Result<(), ServeFault>
+) -> Result<Summary, ServeFault>
     requires rest { AtRest satl.old (D.state drive.old) }
     requires new { satl.old.tasks ≡ [] }
-    ensures ended { OnOk result (Ended input_limit (view satl.old (D.state drive.old)) (S.left source.old) (S.left source.new) (K.written sink.old) (K.written sink.new) (view satl.new (D.state drive.new))) }
-    ensures stopped { IfErr result (StoppedBehind input_limit (view satl.old (D.state drive.old)) (S.left source.old) (S.left source.new) (K.written sink.old) (K.written sink.new) satl.new (view satl.new (D.state drive.new))) }
-    ensures causes { IfErr result (HasServeCause (S.faults source.old) (S.faults source.new) (K.faults sink.old) (K.faults sink.new)) }
+    ensures ended { IfOk result (Ended input_limit (view satl.old (D.state drive.old)) (tally_of (D.state drive.old) steps.old) (S.left source.old) (S.left source.new) (K.written sink.old) (K.written sink.new) (tally_of (D.state drive.new) steps.new) (view satl.new (D.state drive.new))) }
+    ensures stopped { IfErr result (StoppedBehind input_limit (view satl.old (D.state drive.old)) (tally_of (D.state drive.old) steps.old) (S.left source.old) (S.left source.new) (K.written sink.old) (K.written sink.new) (tally_of (D.state drive.new) steps.new) satl.new (view satl.new (D.state drive.new))) }
+    ensures causes { IfErr result (HasFrameCause (S.faults source.old) (S.faults source.new) (K.faults sink.old) (K.faults sink.new)) }
 {
     let mut reader = FrameReader::new(alloc, LIMIT);
     let mut replies = Replies::new(alloc);
+    let mut totals = Summary::default();
     'frames: loop {
         let frame = match reader.next(source, satl) {
             Ok(frame) => frame,
@@ -243,10 +286,27 @@ fn serve_frames<S: Source, K: Sink, D: Drive, L: Ledger>(
                 if satl.holds(request.nexus, request.tag) {
                     return Err(ServeFault::NotBuilt);
                 }
-                serve_request(satl, request, sink, drive, &mut replies, steps)?;
+                totals.add_request();
+                serve_request(
+                    satl,
+                    request,
+                    sink,
+                    drive,
+                    &mut replies,
+                    &mut totals,
+                    steps,
+                )?;
             }
-            Frame::Turn(count) => serve_turns(satl, count, sink, drive, &mut replies, steps)?,
-            Frame::End => return serve_end(satl, sink, drive, &mut replies, steps),
+            Frame::Turn(count) => serve_turns(
+                satl,
+                count,
+                sink,
+                drive,
+                &mut replies,
+                &mut totals,
+                steps,
+            )?,
+            Frame::End => return serve_end(satl, sink, drive, &mut replies, totals, steps),
             Frame::Manage(_) | Frame::Bench(_) => return Err(ServeFault::NotBuilt),
         }
     }

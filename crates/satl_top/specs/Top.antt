@@ -1,16 +1,19 @@
 -- The words of the program, how it ends, and why (profile).
-use Rattle.std.specs.Prelude.{◌≡◌, ◌⊎◌, ℕ, Bool, false, List, [], ◌∷◌, codes, nat_eq, Option}
+use Rattle.std.specs.Prelude.{◌≡◌, ◌⊎◌, ℕ, Bool, false, List, [], ◌∷◌, codes, nat_eq, Option, Some, Err}
 use Rattle.std.specs.Cmp.Lexicographic.{pointwise}
 use Rattle.std.specs.declared.rc.RcStr.{RcStr}
 use Rattle.std.specs.declared.alloc.Global.{Global}
 use Rattle.std.specs.Rc.{rc_str_bytes}
 use Rattle.satl_io.specs.Causes.{Rose}
-use Rattle.satl_io.specs.Known.{WrotePart}
-use Rattle.satl_frame.specs.Output.{out_magic}
+use Rattle.satl_identify.specs.declared.identity.IdentityFault.{IdentityFault}
+use Rattle.satl_identify.specs.Refusals.{identity_of}
+use Rattle.satl_frame.specs.declared.frames.Frame.{Frame}
 use Rattle.satl_frame.specs.declared.frames.Reason.{Reason}
+use Rattle.satl_text.specs.declared.summary.Summary.{Summary}
 use Rattle.satl_drive.specs.State.{DriveState}
 use Rattle.satl_serve.specs.declared.serving.ServeFault.TheVariants as faults
-use Rattle.satl_serve.specs.Runs.{IsServed, IsStoppedBehind}
+use Rattle.satl_serve.specs.Completeness.{Overlaps}
+use Rattle.satl_serve.specs.Runs.{IsServed, IsStoppedBehind, IsStoppedInMagic, IsUntouched}
 use Rattle.satl_top.specs.declared.status.Status.{Status}
 use Rattle.satl_top.specs.declared.status.Status.TheVariants as statuses
 
@@ -32,21 +35,39 @@ exit_number statuses.NoMemory = 6
 exit_number statuses.DriveRefused = 7
 exit_number statuses.NotBuilt = 8
 
--- a read or a write fault comes only where the source's or the sink's count of faults rose
-abbrev pub HasCause : ℕ → ℕ → ℕ → ℕ → Status → Type 0
-HasCause read_before read_now write_before write_now statuses.ReadFault = Rose read_before read_now
-HasCause read_before read_now write_before write_now statuses.WriteFault = Rose write_before write_now
-HasCause read_before read_now write_before write_now _ = Unit {0}
+-- a read or a write fault comes only where the source's or the sink's count of faults rose, and a drive is refused only for its
+-- IDENTIFY DEVICE data or where its own count rose (profile)
+abbrev pub HasCause : DriveState → DriveState → ℕ → ℕ → ℕ → ℕ → Status → Type 0
+HasCause old new read_before read_now write_before write_now statuses.Done = Unit {0}
+HasCause old new read_before read_now write_before write_now statuses.Usage = Unit {0}
+HasCause old new read_before read_now write_before write_now statuses.BadInput = Unit {0}
+HasCause old new read_before read_now write_before write_now statuses.ReadFault = Rose read_before read_now
+HasCause old new read_before read_now write_before write_now statuses.WriteFault = Rose write_before write_now
+HasCause old new read_before read_now write_before write_now statuses.NoMemory = Unit {0}
+HasCause old new read_before read_now write_before write_now statuses.DriveRefused = ((fault : IdentityFault) × (identity_of old.identify ≡ Err fault)) ⊎ Rose old.faults new.faults
+HasCause old new read_before read_now write_before write_now statuses.NotBuilt = Unit {0}
 
 -- what holds of the input, the output and the drive, by the status (profile): a whole input was served; or the input is refused,
 -- was not read, or asks for what is not built yet, behind frames that were carried out; or a write failed, in the magic or in the
--- answers to the last frame; or nothing was read or written
-abbrev pub Outcome : ℕ → DriveState → Option (List ℕ) → Option (List ℕ) → Option (List ℕ) → Option (List ℕ) → DriveState → Status → Type 0
-Outcome limit old left left' written written' new statuses.Done = IsServed limit old left left' written written' new
-Outcome limit old left left' written written' new statuses.Usage = (left' ≡ left) × (written' ≡ written) × (new ≡ old)
-Outcome limit old left left' written written' new statuses.BadInput = (reason : Reason) × (offset : ℕ) × IsStoppedBehind limit old left left' written written' new (faults.BadInput reason offset)
-Outcome limit old left left' written written' new statuses.ReadFault = IsStoppedBehind limit old left left' written written' new faults.Read
-Outcome limit old left left' written written' new statuses.WriteFault = ((left' ≡ left) × WrotePart written written' out_magic) ⊎ IsStoppedBehind limit old left left' written written' new faults.Write
-Outcome limit old left left' written written' new statuses.NoMemory = (left' ≡ left) × (written' ≡ written)
-Outcome limit old left left' written written' new statuses.DriveRefused = (left' ≡ left) × (written' ≡ written)
-Outcome limit old left left' written written' new statuses.NotBuilt = IsStoppedBehind limit old left left' written written' new faults.NotBuilt
+-- answers to the last frame; or nothing was read or written, and no sector reads otherwise than before
+abbrev pub Outcome : ℕ → DriveState → Option (List ℕ) → Option (List ℕ) → Option (List ℕ) → Option (List ℕ) → ℕ → ℕ → DriveState → Status → Type 0
+Outcome limit old left left' written written' calls calls' new statuses.Done = (summary : Summary) × IsServed limit old left left' written written' calls calls' new summary
+Outcome limit old left left' written written' calls calls' new statuses.Usage = (left' ≡ left) × (written' ≡ written) × (calls' ≡ calls) × (new ≡ old)
+Outcome limit old left left' written written' calls calls' new statuses.BadInput = (reason : Reason) × (offset : ℕ) × IsStoppedBehind limit old left left' written written' calls calls' new (faults.BadInput reason offset)
+Outcome limit old left left' written written' calls calls' new statuses.ReadFault = IsStoppedBehind limit old left left' written written' calls calls' new faults.Read
+Outcome limit old left left' written written' calls calls' new statuses.WriteFault = IsStoppedInMagic old left left' written written' calls calls' new ⊎ IsStoppedBehind limit old left left' written written' calls calls' new faults.Write
+Outcome limit old left left' written written' calls calls' new statuses.NoMemory = IsUntouched old left left' written written' calls calls' new
+Outcome limit old left left' written written' calls calls' new statuses.DriveRefused = IsUntouched old left left' written written' calls calls' new
+Outcome limit old left left' written written' calls calls' new statuses.NotBuilt = IsStoppedBehind limit old left left' written written' calls calls' new faults.NotBuilt
+
+-- a good input is served whole where all goes well, up to END and no byte further (profile): but there may be no memory to begin,
+-- and an overlapped command is not built yet
+abbrev pub Completes : DriveState → List Frame → List ℕ → Option (List ℕ) → Status → Type 0
+Completes old fs rest left' statuses.Done = left' ≡ Some rest
+Completes old fs rest left' statuses.Usage = ⊥
+Completes old fs rest left' statuses.BadInput = ⊥
+Completes old fs rest left' statuses.ReadFault = ⊥
+Completes old fs rest left' statuses.WriteFault = ⊥
+Completes old fs rest left' statuses.NoMemory = Unit {0}
+Completes old fs rest left' statuses.DriveRefused = ⊥
+Completes old fs rest left' statuses.NotBuilt = Overlaps old fs

@@ -1,8 +1,12 @@
 // The top call.
-ghost use Rattle.std.specs.Prelude.{◌≡◌, ◌↔◌, [], false};
+ghost use Rattle.std.specs.Prelude.{◌≡◌, ◌⊎◌, ◌↔◌, ℕ, List, [], false, true};
+ghost use Rattle.satl_identify.specs.declared.identity.IdentityFault.{IdentityFault};
+ghost use Rattle.satl_frame.specs.declared.frames.Frame.{Frame};
 ghost use Rattle.satl_drive.specs.State.{IsFit};
+ghost use Rattle.satl_serve.specs.Completeness.{GoesWell, IsGoodInput};
 ghost use Rattle.satl_serve.specs.Runs.{input_limit};
-ghost use Rattle.satl_top.specs.Top.{HasCause, Outcome, is_replay};
+ghost use Rattle.satl_serve.specs.Serving.{IsRefused};
+ghost use Rattle.satl_top.specs.Top.{Completes, HasCause, Outcome, is_replay};
 
 use crate::status::Status;
 use satl_base::Steps;
@@ -26,7 +30,7 @@ fn is_replay(words: &[RcStr]) -> bool
 
 /// Does all that the program does: where the words are two and the second is `replay`, it serves the frames of the source on
 /// the drive and writes the answers to the sink. The drive has nothing outstanding, and its IDENTIFY DEVICE data fit it. The
-/// status says how that ended (profile).
+/// status says how that ended. The drive is called once for its identity, and then at most once for each request (profile).
 pub fn satl<S: Source, K: Sink, D: Bench, L: Ledger>(
     alloc: Global,
     words: &[RcStr],
@@ -38,14 +42,16 @@ pub fn satl<S: Source, K: Sink, D: Bench, L: Ledger>(
     requires idle { (D.state drive.old).outstanding ≡ [] }
     requires fit { IsFit (D.state drive.old) }
     ensures usage { (result ≡ Status.Usage) ↔ (is_replay words.now ≡ false) }
-    ensures outcome { Outcome input_limit (D.state drive.old) (S.left source.old) (S.left source.new) (K.written sink.old) (K.written sink.new) (D.state drive.new) result }
-    ensures causes { HasCause (S.faults source.old) (S.faults source.new) (K.faults sink.old) (K.faults sink.new) result }
+    ensures outcome { Outcome input_limit (D.state drive.old) (S.left source.old) (S.left source.new) (K.written sink.old) (K.written sink.new) steps.old steps.new (D.state drive.new) result }
+    ensures refused { is_replay words.now ≡ true → (fault : IdentityFault) → IsRefused fault (D.state drive.old) (D.state drive.new) → (result ≡ Status.DriveRefused) ⊎ (result ≡ Status.NoMemory) }
+    ensures causes { HasCause (D.state drive.old) (D.state drive.new) (S.faults source.old) (S.faults source.new) (K.faults sink.old) (K.faults sink.new) result }
+    ensures complete { is_replay words.now ≡ true → (fs : List Frame) (rest : List ℕ) → IsGoodInput input_limit (S.left source.old) fs rest → GoesWell (D.state drive.old) (D.state drive.new) (S.faults source.old) (S.faults source.new) (K.faults sink.old) (K.faults sink.new) → Completes (D.state drive.old) fs rest (S.left source.new) result }
 {
     if !is_replay(words) {
         return Status::Usage;
     }
     match serve(alloc, Form::Frames, source, sink, drive, steps) {
-        Ok(()) => Status::Done,
+        Ok(_) => Status::Done,
         Err(fault) => Status::from(fault),
     }
 }

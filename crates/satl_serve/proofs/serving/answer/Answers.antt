@@ -2,7 +2,7 @@ use Rattle.std.proofs.Common.{arith, ap, subst, length}
 use Rattle.std.specs.List.{AllByRecursion}
 use Rattle.satl_frame.specs.Output.{IsWritable}
 use Rattle.satl_core.specs.Layer.{reply_pages}
-use Rattle.satl_serve.proofs.RunLemmas.{any_err, part_more, part_stops, stays_on}
+use Rattle.satl_serve.proofs.RunLemmas.{any_err, counts_first, part_more, part_stops, stays_on}
 use Rattle.satl_serve.proofs.serving.answer.Goals as goal
 
 pub loop-preserved : goal.loop-preserved
@@ -16,6 +16,7 @@ loop-preserved g c =
       pages = omega (arith, pages, c.loop.invariant.pages, c.recycle.ensures.out);
       stays = stays_on c.args.satl.now c.loop.satl c.recycle.new.self _ _ c.loop.invariant.stays c.recycle.ensures.given;
       written = part_more _ _ _ c.loop.replies c.pop_first.new.self c.in-Some.reply _ c.loop.invariant.written is c.in_ok-write_frame.ensures.all;
+      counts = λ final rest. c.loop.invariant.counts final (counts_first is (record { known = c.add_reply.ensures }) rest);
       later = omega (arith, c.loop.invariant.later, c.in_ok-write_frame.ensures.cause.later);
     }
 

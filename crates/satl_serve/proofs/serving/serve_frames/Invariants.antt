@@ -1,7 +1,7 @@
 use Rattle.std.proofs.Common.{◌≡◌, ◌≤◌, ◌-◌, [], None}
 use Rattle.satl_frame.specs.declared.frames.Version.TheVariants.{Two}
 use Rattle.satl_core.specs.Layer.{view}
-use Rattle.satl_serve.specs.Runs.{Going, input_limit}
+use Rattle.satl_serve.specs.Runs.{Going, input_limit, tally_of}
 use Rattle.satl_serve.specs.Serving.{AtRest, place_offset}
 use Rattle.satl_serve.proofs.serving.serve_frames.Given as goal
 
@@ -12,7 +12,7 @@ invariant-frames g l = record {
   fresh : l.reader.refused ≡ None;
   newest : l.reader.newest ≡ Two;
   limit : l.reader.limit ≡ input_limit;
-  going : Going (view l.fn.satl (g.D.Drive.state l.fn.drive)) l.reader (g.S.Source.left l.fn.source) (g.S.Source.left l.source) (g.K.Sink.written l.fn.sink) (g.K.Sink.written l.sink) (view l.satl (g.D.Drive.state l.drive));
+  going : Going (view l.fn.satl (g.D.Drive.state l.fn.drive)) (tally_of (g.D.Drive.state l.fn.drive) l.fn.steps) l.reader (g.S.Source.left l.fn.source) (g.S.Source.left l.source) (g.K.Sink.written l.fn.sink) (g.K.Sink.written l.sink) l.totals (tally_of (g.D.Drive.state l.drive) l.steps) (view l.satl (g.D.Drive.state l.drive));
   read_later : g.S.Source.faults l.fn.source ≤ g.S.Source.faults l.source;
   write_later : g.K.Sink.faults l.fn.sink ≤ g.K.Sink.faults l.sink;
 }

@@ -1,10 +1,11 @@
-use Rattle.std.proofs.Common.{sym, ap, subst, ◌≡◌, ◌∙◌, ◌∷◌, [], Err, Ok}
+use Rattle.std.proofs.Common.{sym, ap, subst, arith, length, ◌≡◌, ◌∙◌, ◌∷◌, [], Err, Ok}
 use Rattle.satl_base.specs.declared.request.Request.{Request}
 use Rattle.satl_direct.specs.Tasks.{held_blocks}
 use Rattle.satl_core.specs.Layer.{IsTransfer, Layer, view}
 use Rattle.satl_core.specs.Submitting.{Becomes, judged, once_judged, reply_at_once}
 use Rattle.satl_core.proofs.ArrivalLemmas.{answers_at_once, becomes_arrives}
 use Rattle.satl_core.proofs.AddingLemmas.{becomes_whole}
+use Rattle.satl_core.proofs.CountedLemmas.{becomes_more, judged_more}
 use Rattle.satl_core.proofs.DeviceLemmas.{arrives_around}
 use Rattle.satl_core.proofs.UnforcedLemmas.{becomes_unforced, judged_unforced_all, same_unforced}
 use Rattle.satl_core.proofs.satl.Satl.submit.Goals as goal
@@ -46,3 +47,19 @@ returns-in-Ok-clause-unforced g c = λ no free.
 pub returns-in-Err-clause-unforced : goal.returns-in-Err-clause-unforced
 returns-in-Err-clause-unforced g c = λ no free.
     same_unforced _ _ (ap (λ l. view l (g.D.Drive.state c.args.drive.now)) (c.self.view_is ∙ c.in-Err.ensures.left)) (judged_unforced_all c.args.self.now (g.D.Drive.state c.args.drive.now) c.args.request free)
+
+pub returns-in-Ok-clause-more : goal.returns-in-Ok-clause-more
+returns-in-Ok-clause-more g c =
+    let becomes = subst (λ (l : Layer). Becomes c.args.request c.in-Ok.command l c.add_task.new.replies c.add_task.new.self) c.in-Ok.ensures.same c.add_task.ensures.becomes in
+    (becomes_more c.args.request c.in-Ok.command c.args.self.now c.add_task.new.replies c.add_task.new.self becomes).0
+
+pub returns-in-Ok-clause-modes : goal.returns-in-Ok-clause-modes
+returns-in-Ok-clause-modes g c =
+    let becomes = subst (λ (l : Layer). Becomes c.args.request c.in-Ok.command l c.add_task.new.replies c.add_task.new.self) c.in-Ok.ensures.same c.add_task.ensures.becomes in
+    (becomes_more c.args.request c.in-Ok.command c.args.self.now c.add_task.new.replies c.add_task.new.self becomes).1
+
+pub returns-in-Err-clause-more : goal.returns-in-Err-clause-more
+returns-in-Err-clause-more g c =
+    let few = judged_more c.args.self.now c.args.request in
+    let same = ap (λ (l : Layer). length l.tasks) (c.self.view_is ∙ c.in-Err.ensures.left) in
+    omega (arith, few, same)

@@ -7,6 +7,7 @@ use Rattle.satl_direct.specs.Quiet.{Around}
 use Rattle.satl_direct.specs.Turn.{Turn}
 use Rattle.satl_core.specs.Layer.{Layer, Tied, held_pages, view}
 use Rattle.satl_core.specs.Turning.{AreUnforced, data_in, lost_replies}
+use Rattle.satl_core.proofs.CountedLemmas.{counted_rose, counted_same}
 use Rattle.satl_core.proofs.DeviceLemmas.{idle_around, seen}
 use Rattle.satl_core.proofs.HeldLemmas.{first_count, first_kept, first_of, first_pages, none_left, pushed}
 use Rattle.satl_core.proofs.ServedLemmas.{turn_ends, turn_loses}
@@ -17,6 +18,12 @@ use Rattle.satl_core.proofs.satl.Satl.turn.Goals as goal
 pub returns-then-pending-eq0-clause-turns : goal.returns-then-pending-eq0-clause-turns
 returns-then-pending-eq0-clause-turns g c = λ _.
     idle_around _ _ c.args.replies.now (ap (λ t. map task_of (entries_of t)) (none_left c.args.self.now.tasks (sym c.pending.ensures.count ∙ c.if-pending-eq0.true))) c.requires.empty refl
+
+pub returns-then-pending-eq0-clause-counted : goal.returns-then-pending-eq0-clause-counted
+returns-then-pending-eq0-clause-counted g c =
+    let s = view c.args.self.now (g.D.Drive.state c.args.drive.now) in
+    let count = (g.D.Drive.state c.args.drive.now).faults in
+    counted_same s s count count refl refl
 
 pub end_task-requires-clause-few : goal.end_task-requires-clause-few
 end_task-requires-clause-few g c =
@@ -143,3 +150,16 @@ returns-in-Err-clause-tied g c = record {
   cache = λ up. absurd cc;
   sound = c.run_task.ensures.stays.sound;
 }
+
+pub returns-in-Ok-clause-counted : goal.returns-in-Ok-clause-counted
+returns-in-Ok-clause-counted g c =
+    let old = g.D.Drive.state c.args.drive.now in
+    let new = g.D.Drive.state c.run_task.new.drive in
+    let mark = (subst (λ (l : Layer). Tied l old) (sym c.self.view_is) c.requires.tied).mark in
+    counted_same (view c.args.self.now old) (seen c.self.inside.identity c.self.inside.modes c.self.inside.started c.self.inside.attentions (map task_of (entries_of c.remove-task.new.self)) new) old.faults new.faults (c.in-Ok.ensures.up ∙ mark) c.in-Ok.ensures.faults
+
+pub returns-in-Err-clause-counted : goal.returns-in-Err-clause-counted
+returns-in-Err-clause-counted g c =
+    let old = g.D.Drive.state c.args.drive.now in
+    let new = g.D.Drive.state c.run_task.new.drive in
+    counted_rose (view c.args.self.now old) (seen c.self.inside.identity c.self.inside.modes c.self.inside.started c.self.inside.attentions (map task_of (entries_of c.lose_tasks.new.tasks)) new) old.faults new.faults c.in-Err.ensures.cut.cut.cut.rose

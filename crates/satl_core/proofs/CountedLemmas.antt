@@ -1,0 +1,94 @@
+-- What is counted: losses of the link, and tasks.
+use Rattle.std.proofs.Common.{◌≡◌, refl, sym, ap, subst, ◌∙◌, arith, ℕ, ◌+◌, ◌≤◌, Bool, true, false, List, [], ◌∷◌, length, map, cond}
+use Rattle.std.proofs.lemmas.List.{length-append, length-map}
+use Rattle.std.specs.Prelude.{if◌then◌else◌, not, MatchBool}
+use Rattle.satl_base.specs.declared.reply.Reply.{Reply}
+use Rattle.satl_base.specs.declared.request.Request.{Request}
+use Rattle.satl_io.specs.Causes.{Rose, RoseBy}
+use Rattle.satl_io.proofs.Counting.{RoseBy-fewer, RoseBy-more, RoseBy-none}
+use Rattle.satl_cdb.specs.declared.command.Command.{Command}
+use Rattle.satl_line.specs.Tasks.{Held, entries_of, is_too_much}
+use Rattle.satl_direct.specs.Arrival.{is_unit_0}
+use Rattle.satl_direct.specs.Device.{Device, is_of}
+use Rattle.satl_direct.specs.Tasks.{task_for, task_of}
+use Rattle.satl_direct.specs.Run.{losses_of}
+use Rattle.satl_core.specs.declared.submitting.AtOnce.TheVariants as at_once
+use Rattle.satl_core.specs.Layer.{Layer}
+use Rattle.satl_core.specs.Submitting.{Becomes, IsAdded, IsAnswered, attention_of, left_by, once_judged, overlaps, task_without_pages, untold}
+
+-- ---- losses
+
+-- the losses between a link that is down or not, and a later one
+abbrev lost : Bool → Bool → ℕ
+lost was is = if was then 0 else (if is then 1 else 0)
+
+-- a link that stays as it is was not lost
+none_lost : (b : Bool) → lost b b ≡ 0
+none_lost true = refl
+none_lost false = refl
+
+-- it is lost once at most
+one_at_most : (b b' : Bool) → lost b b' ≤ 1
+one_at_most true b' = omega arith
+one_at_most false true = omega arith
+one_at_most false false = omega arith
+
+-- a loss lies before or behind each third
+adds_up : (a b c : Bool) → lost a c ≤ lost a b + lost b c
+adds_up true b c = omega arith
+adds_up false b false = omega arith
+adds_up false true true = omega arith
+adds_up false false true = omega arith
+
+-- where neither the link nor the count changed
+pub counted_same : (a b : Device) (before now : ℕ) → b.down ≡ a.down → now ≡ before → RoseBy (losses_of a b) before now
+counted_same a b before now link count =
+    subst (λ d. RoseBy (lost a.down d) before now) (sym link) (subst (λ n. RoseBy n before now) (sym (none_lost a.down)) (subst (λ n. RoseBy 0 before n) (sym count) (RoseBy-none before)))
+
+-- where the count rose, whatever became of the link
+pub counted_rose : (a b : Device) (before now : ℕ) → Rose before now → RoseBy (losses_of a b) before now
+counted_rose a b before now rose = RoseBy-fewer (losses_of a b) 1 before now (one_at_most a.down b.down) rose
+
+-- one step after the other
+pub counted_more : (a b c : Device) (before mid now : ℕ) → RoseBy (losses_of a b) before mid → RoseBy (losses_of b c) mid now → RoseBy (losses_of a c) before now
+counted_more a b c before mid now first rest =
+    RoseBy-fewer (losses_of a c) (losses_of a b + losses_of b c) before now (adds_up a.down b.down c.down) (RoseBy-more (losses_of a b) (losses_of b c) before mid now first rest)
+
+-- ---- tasks
+
+-- the device has as many tasks as the layer
+pub tasks_seen : (tasks : List Held) → length (map task_of (entries_of tasks)) ≡ length tasks
+tasks_seen tasks = length-map (entries_of tasks) task_of ∙ length-map tasks (λ h. h.entry)
+
+added_more : (r : Request) (c : Command) (old : Layer) (replies : List Reply) (new : Layer) → IsAdded r c old replies new → length new.tasks ≤ length old.tasks + 1
+added_more r c old replies new a =
+    let last = ap length a.last in
+    omega (arith, last, tasks_seen old.tasks, tasks_seen new.tasks, length-append (map task_of (entries_of old.tasks)) (task_for old.identity.queued_trim r c ∷ []))
+
+-- a request adds one task at most, and leaves the modes
+pub becomes_more : (r : Request) (c : Command) (old : Layer) (replies : List Reply) (new : Layer) → Becomes r c old replies new → (length new.tasks ≤ length old.tasks + 1) × (new.modes ≡ old.modes)
+becomes_more r c old replies new b =
+    (elim (is_too_much old.tasks (task_without_pages r c old.identity.queued_trim)) as (λ f. MatchBool f (IsAnswered r at_once.Full old replies new) (IsAdded r c old replies new) → (length new.tasks ≤ length old.tasks + 1) × (new.modes ≡ old.modes)) [
+      | true ↦ λ a. let same = ap (λ (l : Layer). length l.tasks) a.stays in (omega (arith, same), ap (λ (l : Layer). l.modes) a.stays)
+      | false ↦ λ a. (added_more r c old replies new a, ap (λ (l : Layer). l.modes) a.stays)
+    ]) b
+
+left_fewer : (nexus : ℕ) (tasks : List Held) → length (left_by nexus tasks) ≤ length tasks
+left_fewer nexus [] = omega arith
+left_fewer nexus (h ∷ tasks) =
+    let rest = left_fewer nexus tasks in
+    elim (is_of nexus h.entry) as (λ b. length (cond (not b) (h ∷ left_by nexus tasks) (left_by nexus tasks)) ≤ length (h ∷ tasks)) [
+      | true ↦ omega (arith, rest)
+      | false ↦ omega (arith, rest)
+    ]
+
+-- judging a request adds no task
+pub judged_more : (l : Layer) (r : Request) → length (once_judged l r).tasks ≤ length l.tasks
+judged_more l r =
+    elim (is_unit_0 r.lun) as (λ b. length (cond (not b) l (cond (overlaps l.tasks r) (record l { tasks = left_by r.nexus l.tasks }) (record l { attentions = untold (attention_of l.attentions r) r.nexus l.attentions }))).tasks ≤ length l.tasks) [
+      | false ↦ omega arith
+      | true ↦ (elim (overlaps l.tasks r) as (λ b. length (cond b (record l { tasks = left_by r.nexus l.tasks }) (record l { attentions = untold (attention_of l.attentions r) r.nexus l.attentions })).tasks ≤ length l.tasks) [
+        | true ↦ left_fewer r.nexus l.tasks
+        | false ↦ omega arith
+      ])
+    ]

@@ -1,0 +1,90 @@
+// The totals of a replay.
+ghost use Rattle.std.specs.Prelude.{◌≡◌, ◌≤◌, ◌+◌, ◌*◌, ◌++◌, ◌∷◌, [], ℕ, List, length, sum};
+ghost use Rattle.satl_base.specs.Blocks.{first_bytes};
+ghost use Rattle.satl_text.specs.Totals.{one_for, total};
+
+use satl_base::{Pages, Reply, Scsi};
+
+/// A count of replies with one status, after a reply more.
+fn count(before: u64, wanted: Scsi, status: Scsi) -> u64
+    ensures { result ≡ total (before + one_for wanted status) }
+{
+    if status == wanted {
+        before.saturating_add(1)
+    } else {
+        before
+    }
+}
+
+/// The sum of the values of some bytes.
+fn sum_of(bytes: &[u8]) -> u64
+    requires { length bytes.now ≤ 512 }
+    ensures value { result ≡ sum bytes.now }
+    ensures small { result ≤ 255 * length bytes.now }
+{
+    let mut total: u64 = 0;
+    for byte in bytes {
+        total += u64::from(*byte);
+    }
+    total
+}
+
+/// The sum of the values of the first bytes that the pages hold.
+fn data_sum(pages: &Pages, len: u32) -> u64
+    requires { len ≤ 512 * length pages.now }
+    ensures { result ≡ sum (first_bytes len pages.now) }
+{
+    let mut total: u64 = 0;
+    let mut left = len as usize;
+    for block in pages.iter() {
+        let bytes = block.as_bytes();
+        let count = left.min(512);
+        total += sum_of(&bytes[..count]);
+        left -= count;
+    }
+    total
+}
+
+/// The totals of a replay (profile). Each stands still at 2^64 - 1.
+#[derive(Clone, Copy, Debug, Default, PartialEq, Eq)]
+pub struct Summary {
+    /// The number of requests.
+    pub requests: u64,
+    /// The number of replies with the status GOOD.
+    pub good: u64,
+    /// The number of replies with the status CHECK CONDITION.
+    pub check: u64,
+    /// The number of replies with the status TASK SET FULL.
+    pub full: u64,
+    /// The number of bytes of data-in of all replies, whatever the hosts take of them.
+    pub bytes: u64,
+    /// The sum of the values of these bytes, each 0 to 255.
+    pub sum: u64,
+}
+
+impl Summary {
+    ghost use Rattle.satl_frame.specs.Output.{Answer};
+    ghost use Rattle.satl_frame.specs.Output.Answer.{replied};
+    ghost use Rattle.satl_text.specs.Totals.{summary_of};
+
+    /// Counts a request (profile).
+    pub fn add_request(&mut self)
+        ensures { (requests : ℕ) (answers : List Answer) → self.old ≡ summary_of requests answers → self.new ≡ summary_of (requests + 1) answers }
+    {
+        self.requests = self.requests.saturating_add(1);
+    }
+
+    /// Counts a reply by its status, and its data-in (profile). The pages hold the data.
+    pub fn add_reply(&mut self, reply: &Reply)
+        requires { reply.now.data_len ≤ 512 * length reply.now.body }
+        ensures { (requests : ℕ) (answers : List Answer) → self.old ≡ summary_of requests answers → self.new ≡ summary_of requests (answers ++ replied reply.now ∷ []) }
+    {
+        self.good = count(self.good, Scsi::Good, reply.status);
+        self.check = count(self.check, Scsi::CheckCondition, reply.status);
+        self.full = count(self.full, Scsi::TaskSetFull, reply.status);
+        self.bytes = self.bytes.saturating_add(u64::from(reply.data_len));
+        self.sum = self
+            .sum
+            .saturating_add(data_sum(&reply.body, reply.data_len));
+    }
+}
