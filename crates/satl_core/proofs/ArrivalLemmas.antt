@@ -113,7 +113,7 @@ abbrev judged_by : Bool → Bool → Option Attention → Layer → Request → 
 judged_by unit over what l r = cond (not unit) (Err (at_once.Check unknown_unit)) (cond over (Err (at_once.Check overlapped)) (attention_answer what (code_answer l r)))
 
 -- where a command may become a task, no test has stopped it
-by_ok : (P : Bool → Bool → Option Attention → Type 0) (unit over : Bool) (what : Option Attention) (l : Layer) (r : Request) (c : Command) → (code_answer l r ≡ Ok c → P true false None) → judged_by unit over what l r ≡ Ok c → P unit over what
+pub by_ok : (P : Bool → Bool → Option Attention → Type 0) (unit over : Bool) (what : Option Attention) (l : Layer) (r : Request) (c : Command) → (code_answer l r ≡ Ok c → P true false None) → judged_by unit over what l r ≡ Ok c → P unit over what
 by_ok P false over what l r c p e = absurd cc
 by_ok P true true what l r c p e = absurd cc
 by_ok P true false (Some what) l r c p e = absurd cc
@@ -290,7 +290,7 @@ cdb_waits : (l : Layer) (d : DriveState) (r : Request) (c : Command) (found : Re
 cdb_waits l d r c (Err why) in_it said e = absurd cc
 cdb_waits l d r c (Ok k) in_it said e = ten_arrival l d r k (ten_of r.cdb l.identity.trim k in_it said) ∙ command_waits l d r c k e
 
-code_waits : (l : Layer) (d : DriveState) (r : Request) (c : Command) → code_answer l r ≡ Ok c → code_arrival (view l d) r ≡ full_or_waits l d r c
+pub code_waits : (l : Layer) (d : DriveState) (r : Request) (c : Command) → code_answer l r ≡ Ok c → code_arrival (view l d) r ≡ full_or_waits l d r c
 code_waits l d r c e =
     (elim (is_in (slice_index r.cdb 0) built) as (λ b. is_in (slice_index r.cdb 0) built ≡ b → cond (not b) (Err (at_once.Check unknown_operation)) (cdb_answer l r.data_len (says r.cdb l.identity.trim)) ≡ Ok c → cond (not b) (answered (check (view l d) r unknown_operation)) (cdb_arrival (view l d) r (says r.cdb l.identity.trim)) ≡ full_or_waits l d r c) [
       | false ↦ λ is g. absurd cc
@@ -310,7 +310,7 @@ count_is : (tasks : List Held) → length (map task_of (entries_of tasks)) ≡ l
 count_is [] = refl
 count_is (h ∷ tasks) = ap suc (count_is tasks)
 
-full_is : (tasks : List Held) (r : Request) (c : Command) (queued_trim : Bool) → is_full (map task_of (entries_of tasks)) c ≡ is_too_much tasks (task_without_pages r c queued_trim)
+pub full_is : (tasks : List Held) (r : Request) (c : Command) (queued_trim : Bool) → is_full (map task_of (entries_of tasks)) c ≡ is_too_much tasks (task_without_pages r c queued_trim)
 full_is tasks r c queued_trim = rw (count_is tasks, held_by_is tasks) refl
 
 pub becomes_arrives : (l new : Layer) (d : DriveState) (r : Request) (c : Command) (replies : List Reply) → judged l r ≡ Ok c → Becomes r c l replies new → Arrives r (view l d) replies (view new d)

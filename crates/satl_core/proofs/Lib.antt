@@ -10,3 +10,4 @@ pub mod ServedLemmas
 pub mod Transfers
 pub mod TurningLemmas
 pub mod UnforcedLemmas
+pub mod ValidLemmas

@@ -293,7 +293,7 @@ module _ (identity : Identity) (modes : Modes) (started down : Bool) (attentions
 
   first_served : down ≡ false → IsServed modes (command_registers (ata_command entry.command)) d entry
   first_served up =
-      serves identity modes (command_registers (ata_command entry.command)) d entry (first_kept identity tasks rest entry kept first).0 (tied.fit.sectors ∙ tied.capacity) (tied.cache up)
+      serves identity modes (command_registers (ata_command entry.command)) d entry (first_kept identity tasks rest entry kept first).0 tied.valid.cells (tied.cache up)
       (unforced identity modes started attentions entry (map task_of (entries_of rest)) d (subst (λ ts. AreUnforced (seen identity modes started attentions ts d)) all unforced_all))
 
   first_back : command_in (command_registers (ata_command entry.command)) ≡ ata_command entry.command

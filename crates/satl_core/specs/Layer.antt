@@ -3,7 +3,6 @@ use Rattle.std.specs.Prelude.{◌≡◌, ℕ, ◌+◌, ◌≤◌, ◌<◌, ◌^�
 use Rattle.std.specs.List.{AllByRecursion}
 use Rattle.satl_base.specs.declared.modes.Modes.{Modes}
 use Rattle.satl_base.specs.declared.reply.Reply.{Reply}
-use Rattle.satl_base.specs.Cells.{AreSound}
 use Rattle.satl_cdb.specs.declared.command.Command.{Command}
 use Rattle.satl_cdb.specs.declared.command.Command.TheVariants.{Read, Write}
 use Rattle.satl_identify.specs.declared.identity.Identity.{Identity}
@@ -15,6 +14,7 @@ use Rattle.satl_drive.specs.State.{DriveState, IsFit}
 use Rattle.satl_unit.specs.declared.attention.Attention.{Attention}
 use Rattle.satl_direct.specs.Device.{Device}
 use Rattle.satl_direct.specs.Tasks.{task_of}
+use Rattle.satl_direct.specs.Valid.{IsValid}
 
 -- the layer: what its drive says of itself, the mode values, whether the unit is started, its mark of a lost link, the unit attention
 -- conditions of each nexus from nexus 0 on, its tasks in their slots, and how many pages are free and out (a task's pages are neither)
@@ -71,16 +71,16 @@ view l d = record {
   identity = l.identity;
 }
 
--- the layer's record of its drive is right: nothing is outstanding and no queued command has failed, the data are those of the
--- identity, the cache is on where WCE is, the sectors are sound, and the mark of a lost link is set where the link is lost
+-- the layer's record of its drive is right: together they are a valid device; nothing is outstanding and no queued command has failed;
+-- the drive fits its data; the cache is on where WCE is as long as the link is up; and the mark of a lost link is set where the link is
+-- lost (profile)
 pub record Tied (l : Layer) (d : DriveState) : Type 0 where
   pub mark : l.down ≡ d.down
   pub idle : d.outstanding ≡ []
   pub no_error : d.error ≡ None
   pub fit : IsFit d
-  pub capacity : d.capacity ≡ l.identity.capacity
   pub cache : l.down ≡ false → d.cache ≡ l.modes.wce
-  pub sound : AreSound d.cells
+  pub valid : IsValid (view l d)
 
 -- the pages in replies
 abbrev pub reply_pages : List Reply → ℕ

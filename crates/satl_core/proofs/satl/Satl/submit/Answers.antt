@@ -1,6 +1,7 @@
 use Rattle.std.proofs.Common.{sym, ap, subst, arith, length, ◌≡◌, ◌∙◌, ◌∷◌, [], Err, Ok}
 use Rattle.satl_base.specs.declared.request.Request.{Request}
 use Rattle.satl_direct.specs.Tasks.{held_blocks}
+use Rattle.satl_direct.specs.Valid.{IsValid}
 use Rattle.satl_core.specs.Layer.{IsTransfer, Layer, view}
 use Rattle.satl_core.specs.Submitting.{Becomes, judged, once_judged, reply_at_once}
 use Rattle.satl_core.proofs.ArrivalLemmas.{answers_at_once, becomes_arrives}
@@ -8,6 +9,7 @@ use Rattle.satl_core.proofs.AddingLemmas.{becomes_whole}
 use Rattle.satl_core.proofs.CountedLemmas.{becomes_more, judged_more}
 use Rattle.satl_core.proofs.DeviceLemmas.{arrives_around}
 use Rattle.satl_core.proofs.UnforcedLemmas.{becomes_unforced, judged_unforced_all, same_unforced}
+use Rattle.satl_core.proofs.ValidLemmas.{becomes_tied, once_judged_valid, tied_by}
 use Rattle.satl_core.proofs.satl.Satl.submit.Goals as goal
 
 pub add_task-requires-clause-transfer : goal.add_task-requires-clause-transfer
@@ -63,3 +65,15 @@ returns-in-Err-clause-more g c =
     let few = judged_more c.args.self.now c.args.request in
     let same = ap (λ (l : Layer). length l.tasks) (c.self.view_is ∙ c.in-Err.ensures.left) in
     omega (arith, few, same)
+
+pub returns-in-Ok-clause-tied : goal.returns-in-Ok-clause-tied
+returns-in-Ok-clause-tied g c =
+    let becomes = subst (λ (l : Layer). Becomes c.args.request c.in-Ok.command l c.add_task.new.replies c.add_task.new.self) c.in-Ok.ensures.same c.add_task.ensures.becomes in
+    becomes_tied c.args.self.now c.add_task.new.self (g.D.Drive.state c.args.drive.now) c.args.request c.in-Ok.command c.add_task.new.replies (sym c.in-Ok.ensures.judged) becomes c.requires.tied
+
+pub returns-in-Err-clause-tied : goal.returns-in-Err-clause-tied
+returns-in-Err-clause-tied g c =
+    let d = g.D.Drive.state c.args.drive.now in
+    let kept = c.self.view_is ∙ c.in-Err.ensures.kept in
+    tied_by c.args.self.now _ d (ap (λ (l : Layer). l.down) kept) (ap (λ (l : Layer). l.modes) kept)
+    (subst IsValid (sym (ap (λ l. view l d) (c.self.view_is ∙ c.in-Err.ensures.left))) (once_judged_valid c.args.self.now d c.args.request c.requires.tied.valid)) c.requires.tied

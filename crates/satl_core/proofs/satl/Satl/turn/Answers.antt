@@ -13,6 +13,7 @@ use Rattle.satl_core.proofs.HeldLemmas.{first_count, first_kept, first_of, first
 use Rattle.satl_core.proofs.ServedLemmas.{turn_ends, turn_loses}
 use Rattle.satl_core.proofs.TurningLemmas.{all_pages, entry_few, kept_few, lost_all_writable, lost_pages, one_pages, one_writable}
 use Rattle.satl_core.proofs.UnforcedLemmas.{none_unforced, rest_unforced}
+use Rattle.satl_core.proofs.ValidLemmas.{still_tied_none, still_tied_rest}
 use Rattle.satl_core.proofs.satl.Satl.turn.Goals as goal
 
 pub returns-then-pending-eq0-clause-turns : goal.returns-then-pending-eq0-clause-turns
@@ -140,16 +141,20 @@ lose_tasks-requires-clause-held g c =
     let held = first_pages c.self.inside.tasks c.remove-task.new.self c.remove-task.result first in
     omega (arith, held, c.self.invariant.held, c.run_task.ensures.size, c.end_task-in-Err.ensures.out)
 
+pub returns-in-Ok-clause-tied : goal.returns-in-Ok-clause-tied
+returns-in-Ok-clause-tied g c =
+    let first = first_of c.self.inside.tasks c.remove-task.new.self c.remove-task.result c.remove-task.ensures.value c.remove-task.ensures.others in
+    let old = g.D.Drive.state c.args.drive.now in
+    let new = g.D.Drive.state c.run_task.new.drive in
+    let tied = subst (λ (l : Layer). Tied l old) (sym c.self.view_is) c.requires.tied in
+    still_tied_rest c.self.inside.identity c.self.inside.modes c.self.inside.started c.self.inside.down c.self.inside.attentions c.self.inside.tasks c.remove-task.new.self c.remove-task.result _ _ _ _ old new first c.in-Ok.ensures.up c.run_task.ensures.stays (c.run_task.ensures.fit tied.fit) tied
+
 pub returns-in-Err-clause-tied : goal.returns-in-Err-clause-tied
-returns-in-Err-clause-tied g c = record {
-  mark = sym c.in-Err.ensures.lost;
-  idle = c.run_task.ensures.stays.idle;
-  no_error = c.run_task.ensures.stays.no_error;
-  fit = c.run_task.ensures.fit c.requires.tied.fit;
-  capacity = c.run_task.ensures.stays.capacity ∙ (c.requires.tied.capacity ∙ ap (λ (l : Layer). l.identity.capacity) (sym c.self.view_is));
-  cache = λ up. absurd cc;
-  sound = c.run_task.ensures.stays.sound;
-}
+returns-in-Err-clause-tied g c =
+    let old = g.D.Drive.state c.args.drive.now in
+    let new = g.D.Drive.state c.run_task.new.drive in
+    let tied = subst (λ (l : Layer). Tied l old) (sym c.self.view_is) c.requires.tied in
+    still_tied_none c.self.inside.identity c.self.inside.modes c.self.inside.started c.self.inside.down c.self.inside.attentions c.self.inside.tasks c.lose_tasks.new.tasks _ _ _ _ old new c.lose_tasks.ensures.none c.in-Err.ensures.lost c.run_task.ensures.stays (c.run_task.ensures.fit tied.fit) tied
 
 pub returns-in-Ok-clause-counted : goal.returns-in-Ok-clause-counted
 returns-in-Ok-clause-counted g c =
