@@ -55,20 +55,6 @@ can_transfer d capacity command r pages idle no_error t is again =
 pub carried_out : (old : DriveState) (r : Registers) (given taken : List Block) (ended : Taskfile) (new : DriveState) → old.error ≡ None → IsRun old r given ended taken new → IsCarriedOut old r given ended taken new
 carried_out old r given taken ended new no_error run = subst (λ e. IsRunBy e old r given ended taken new) no_error run
 
-told_by : (old : DriveState) (r : Registers) (given taken : List Block) (ended : Taskfile) (after : Medium) (new : DriveState) → old.down ≡ false → IsIdentified r (medium_of old) given ended taken after
-    → Loses after.cells new.cells → new ≡ record (with_medium old after) { cells = new.cells } → IsTold old given taken new
-told_by old r given taken ended after new up i lost stays = record {
-  was_up = up;
-  pages = i.data_in;
-  lost = subst (λ m. Loses m.cells new.cells) i.medium lost;
-  stays = stays ∙ ap (λ m. record (with_medium old m) { cells = new.cells }) i.medium;
-}
-
--- what IDENTIFY DEVICE tells
-pub told_of : (old : DriveState) (r : Registers) (given taken : List Block) (ended : Taskfile) (new : DriveState) → command_in r ≡ commands.Identify → IsCarriedOut old r given ended taken new → IsTold old given taken new
-told_of old r given taken ended new again run =
-    told_by old r given taken ended run.after new run.was_up (subst (λ x. Does x r (medium_of old) given ended taken run.after) again run.does) run.lost run.stays
-
 pub cut_of : (old : DriveState) (r : Registers) (given : List Block) (new : DriveState) → command_in r ≡ commands.Identify → IsRunCutOff old r given new → IsAskCutOff old new
 cut_of old r given new again run = record {
   settings = run.settings;

@@ -41,14 +41,6 @@ take_removed (h ∷ tasks) (suc place) = ap (λ l. h ∷ l) (take_removed tasks 
 pub others_removed : (nexus : ℕ) (tasks : List Held) (place : ℕ) → AreOthers nexus place tasks → AreOthers nexus place (remove tasks place)
 others_removed nexus tasks place all = subst (λ l. AllByRecursion (λ h. is_of nexus h.entry ≡ false) l) (sym (take_removed tasks place)) all
 
-pub others_more : (nexus : ℕ) (tasks : List Held) (place next : ℕ) (entry : Entry) → next ≡ suc place → entry_at tasks place ≡ Some entry → is_of nexus entry ≡ false → AreOthers nexus place tasks → AreOthers nexus next tasks
-others_more nexus tasks place next entry is at stays all = subst (λ n. AreOthers nexus n tasks) (sym is) (go tasks place at all)
-  where
-    go : (tasks : List Held) (place : ℕ) → entry_at tasks place ≡ Some entry → AreOthers nexus place tasks → AreOthers nexus (suc place) tasks
-    go [] place at all = absurd cc
-    go (h ∷ tasks) zero at all = let here : h.entry ≡ entry = cc in (ap (is_of nexus) here ∙ stays, tt)
-    go (h ∷ tasks) (suc place) at all = (all.0, go tasks place at all.1)
-
 left_all : (nexus : ℕ) (tasks : List Held) → AllByRecursion (λ h. is_of nexus h.entry ≡ false) tasks → left_by nexus tasks ≡ tasks
 left_all nexus [] all = refl
 left_all nexus (h ∷ tasks) all = let test : is_of nexus h.entry ≡ false = all.0 in rw test (ap (λ l. h ∷ l) (left_all nexus tasks all.1))

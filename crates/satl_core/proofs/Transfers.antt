@@ -1,9 +1,9 @@
 -- READ and WRITE are the commands that transfer.
-use Rattle.std.proofs.Common.{arith, refl, ◌≡◌, true, ℕ, ◌*◌, ◌≤◌, Bool}
+use Rattle.std.proofs.Common.{arith, ℕ, ◌*◌, ◌≤◌, Bool}
 use Rattle.satl_cdb.specs.declared.command.Form.{Form}
 use Rattle.satl_cdb.specs.declared.command.Command.{Command}
 use Rattle.satl_cdb.specs.declared.command.Command.TheVariants as cdbs
-use Rattle.satl_direct.specs.Tasks.{asks, held_blocks, needed}
+use Rattle.satl_direct.specs.Tasks.{held_blocks, needed}
 use Rattle.satl_core.specs.Layer.{IsServed, IsTransfer}
 
 -- what holds of each READ and each WRITE holds of a transfer
@@ -35,7 +35,3 @@ transfer_needs capacity n command t = of_transfer (λ c. needed c ≤ 512 * held
 
 pub transfer_served : (capacity n : ℕ) (command : Command) → IsTransfer capacity command n → IsServed command
 transfer_served capacity n command t = of_transfer IsServed capacity n command (λ form lba count fua t. tt) (λ form lba count fua t. tt) t
-
--- a started unit alone carries out a transfer
-pub transfer_starts : (capacity n : ℕ) (command : Command) → IsTransfer capacity command n → (asks command).starts ≡ true
-transfer_starts capacity n command t = of_transfer (λ c. (asks c).starts ≡ true) capacity n command (λ form lba count fua t. refl) (λ form lba count fua t. refl) t

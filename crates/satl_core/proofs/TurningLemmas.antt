@@ -72,9 +72,6 @@ cut_stays old new r given run =
       sound = loses-sound run.cut.mid new.cells run.cut.lost;
     }
 
-pub same_stays : (d : DriveState) → d.outstanding ≡ [] → d.error ≡ None → AreSound d.cells → Stays d d
-same_stays d idle no_error sound = record { capacity = refl; cache = λ up. refl; idle = idle; no_error = no_error; sound = sound }
-
 -- the answers at a lost link hold no page and can be written
 pub lost_pages : (descriptor : Bool) (tasks : List Held) → reply_pages (lost_replies descriptor tasks) ≡ 0
 lost_pages descriptor [] = refl
