@@ -1,7 +1,6 @@
 -- What the layer judges of a request is what the device does with it.
 use Rattle.std.proofs.Common.{◌≡◌, refl, sym, ap, subst, ◌∙◌, arith, eqb, cond, ℕ, suc, ◌+◌, ◌<◌, ◌≤◌, ◌^◌, Bool, true, false, List, [], ◌∷◌, length, map}
 use Rattle.std.specs.Prelude.{Option, Some, None, Result, Ok, Err, IfOk, not, ◌==◌, ◌&&◌, ◌||◌, nat_lt, slice_index, MatchBool}
-use Rattle.std.specs.List.{list_any}
 use Rattle.std.proofs.lemmas.Bool.{eqb-false, eqb-true, ltb-false}
 use Rattle.satl_base.specs.declared.reply.Reply.{Reply}
 use Rattle.satl_base.specs.declared.reply.Scsi.TheVariants as statuses
@@ -21,7 +20,7 @@ use Rattle.satl_line.specs.Tasks.{Held, entries_of, is_too_much, total_blocks}
 use Rattle.satl_drive.specs.State.{DriveState}
 use Rattle.satl_cdb.specs.declared.command.Form.{Form}
 use Rattle.satl_unit.specs.declared.attention.Attention.{Attention}
-use Rattle.satl_direct.specs.Device.{Device, is_called}
+use Rattle.satl_direct.specs.Device.{Device}
 use Rattle.satl_direct.specs.Senses.{attention_sense, out_of_range, overlapped, refusal, short_data, unknown_operation, unknown_unit}
 use Rattle.satl_direct.specs.Arrival as direct
 use Rattle.satl_direct.specs.Arrival.{Arrival, ArrivesAs, Arrives, answered, waits, arrival, asks_for, attention_arrival, built, cdb_arrival, check, code_arrival, code_of, is_unit_0, other_arrival, unit_arrival}
@@ -29,7 +28,6 @@ use Rattle.satl_direct.specs.Tasks.{held_blocks, held_by, is_full, needed, range
 use Rattle.satl_core.specs.declared.submitting.AtOnce.{AtOnce}
 use Rattle.satl_core.specs.declared.submitting.AtOnce.TheVariants as at_once
 use Rattle.satl_core.specs.Layer.{IsServed, IsTransfer, Layer, view}
-use Rattle.satl_core.specs.Submitting as core
 use Rattle.satl_core.specs.Submitting.{Becomes, IsAdded, IsAnswered, attention_answer, attention_of, cdb_answer, code_answer, command_answer, judged, left_by, once_judged, overlaps, readiness, reply_at_once, task_without_pages, untold}
 use Rattle.satl_core.proofs.LeavingLemmas.{found_is, left_tasks}
 

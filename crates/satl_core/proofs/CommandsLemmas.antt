@@ -13,11 +13,11 @@ use Rattle.satl_regs.specs.declared.values.How.TheVariants.{DmaExt}
 use Rattle.satl_regs.specs.Commands.{command_in}
 use Rattle.satl_regs.specs.Spelling.{command_registers}
 use Rattle.satl_regs.specs.QueuedCommands.{queued_codes}
-use Rattle.satl_regs.specs.Effects.{Medium, Does, is_built, own_blocks, pairs_of, IsIdentified}
-use Rattle.satl_drive.specs.State.{DriveState, medium_of, with_medium}
+use Rattle.satl_regs.specs.Effects.{is_built, own_blocks, pairs_of}
+use Rattle.satl_drive.specs.State.{DriveState, medium_of}
 use Rattle.satl_drive.specs.Rules.{CanRun, IsCarriedOut, IsCutOff, IsRun, IsRunBy, IsRunCutOff, MayRun}
 use Rattle.satl_core.specs.Layer.{IsTransfer}
-use Rattle.satl_core.specs.Opening.{IsAskCutOff, IsTold}
+use Rattle.satl_core.specs.Opening.{IsAskCutOff}
 use Rattle.satl_core.specs.Turning.{ata_command}
 use Rattle.satl_core.proofs.Transfers.{of_transfer}
 

@@ -1,6 +1,6 @@
 -- The tasks of a nexus go, and those of the others stay.
-use Rattle.std.proofs.Common.{◌≡◌, refl, sym, ap, subst, ◌∙◌, arith, cond, ℕ, zero, suc, ◌+◌, ◌≤◌, Bool, true, false, List, [], ◌∷◌, ◌++◌, length, map, take, Option, Some, None}
-use Rattle.std.specs.Prelude.{not, ◌||◌, ◌==◌, ◌&&◌, remove, is_some}
+use Rattle.std.proofs.Common.{◌≡◌, refl, sym, ap, subst, ◌∙◌, arith, cond, ℕ, zero, suc, ◌+◌, ◌≤◌, Bool, true, false, List, [], ◌∷◌, length, map, take, Option, Some}
+use Rattle.std.specs.Prelude.{not, ◌||◌, remove, is_some}
 use Rattle.std.specs.List.{AllByRecursion, list_any, position_from}
 use Rattle.std.proofs.lemmas.List.{take_all}
 use Rattle.satl_base.specs.declared.request.Tag.{Tag}

@@ -1,5 +1,5 @@
 -- Which tasks ask for FUA.
-use Rattle.std.proofs.Common.{◌≡◌, ⊎_elim, inl, inr, refl, sym, ap, subst, ◌∙◌, Bool, true, false, cond, eqb, ℕ, List, [], ◌∷◌, map, take}
+use Rattle.std.proofs.Common.{◌≡◌, ⊎_elim, inl, inr, refl, sym, ap, subst, ◌∙◌, Bool, true, false, cond, eqb, ℕ, List, [], ◌∷◌, map}
 use Rattle.std.specs.Prelude.{Ok, MatchBool, not, slice_index}
 use Rattle.std.specs.List.{AllByRecursion}
 use Rattle.std.proofs.lemmas.Bool.{eqb-true}

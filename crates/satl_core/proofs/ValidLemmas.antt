@@ -1,9 +1,9 @@
 -- Each step of the layer leaves a valid device.
-use Rattle.std.proofs.Common.{◌≡◌, ⊎_elim, inl, inr, refl, sym, ap, subst, ◌∙◌, arith, cond, eqb, ℕ, zero, suc, ◌+◌, ◌≤◌, ◌<◌, Bool, true, false, List, [], ◌∷◌, ◌++◌, length, map, take, drop, get_or, set, Some, None}
-use Rattle.std.specs.Prelude.{Option, Ok, Err, Result, MatchBool, not, ◌||◌, ◌&&◌, ◌==◌, nat_lt, filter, slice_set, slice_index_or, replicate}
+use Rattle.std.proofs.Common.{◌≡◌, ⊎_elim, inl, refl, sym, ap, subst, ◌∙◌, arith, cond, ℕ, zero, suc, ◌+◌, ◌≤◌, Bool, true, false, List, [], ◌∷◌, ◌++◌, length, map, drop, get_or, set, Some, None}
+use Rattle.std.specs.Prelude.{Option, Ok, MatchBool, not, ◌||◌, ◌&&◌, ◌==◌, nat_lt, filter}
 use Rattle.std.specs.List.{AllByRecursion, list_any}
 use Rattle.std.proofs.lemmas.Bool.{eq-eqb, eqb-false, eqb-true, ltb-false}
-use Rattle.std.proofs.lemmas.List.{length-append, length-set}
+use Rattle.std.proofs.lemmas.List.{length-set}
 use Rattle.satl_base.specs.declared.modes.Modes.{Modes}
 use Rattle.satl_base.specs.declared.reply.Reply.{Reply}
 use Rattle.satl_base.specs.declared.request.Request.{Request}
@@ -15,7 +15,7 @@ use Rattle.satl_unit.specs.Conditions.{IsInReportOrder, report_order}
 use Rattle.satl_line.specs.declared.entry.Entry.{Entry}
 use Rattle.satl_line.specs.Tasks.{Held, entries_of, is_too_much}
 use Rattle.satl_drive.specs.State.{DriveState, IsFit}
-use Rattle.satl_direct.specs.Arrival.{code_arrival, is_unit_0, waits}
+use Rattle.satl_direct.specs.Arrival.{is_unit_0, waits}
 use Rattle.satl_direct.specs.Device.{Device, is_called, is_of, of_others, once_told}
 use Rattle.satl_direct.specs.Tasks.{held_blocks, held_by, is_full, task_for, task_of}
 use Rattle.satl_direct.specs.Valid.{AreOwn, HasCome, IsValid}

@@ -15,8 +15,8 @@ ghost use Rattle.satl_core.specs.Opening.{IsCause, IsOpened};
 ghost use Rattle.satl_core.specs.Submitting.{Becomes, CanSubmit, IsCutOf, judged, once_judged};
 ghost use Rattle.satl_core.specs.Turning.{AreUnforced, AsksNoFua};
 
-use crate::commands::tell_identity;
 use crate::arrival::{attention_sense, is_unit_0, plain};
+use crate::commands::tell_identity;
 use crate::submitting::{
     AtOnce, answer_at_once, drop_tasks, judge_code, next_attention, own_pages, task_without_pages,
 };
@@ -83,8 +83,8 @@ impl Model for Satl {
 }
 
 impl Satl {
-    /// Opens the layer on a drive with nothing outstanding: it asks the drive for its IDENTIFY DEVICE data once, and takes all
-    /// memory that it will use. `Identity`: the layer does not serve such a drive. `LinkDown`: the drive's link is lost.
+    /// Opens the layer on a drive with nothing outstanding and in no error state: it asks the drive for its IDENTIFY DEVICE data
+    /// once, and takes all memory that it will use. `Identity`: the layer does not serve such a drive. `LinkDown`: the drive's link is lost.
     /// `NoMemory` may come before or after the drive is asked (SAT-3; profile).
     pub fn open<D: Drive, L: Ledger>(
         alloc: Global,
@@ -125,7 +125,8 @@ impl Satl {
     }
 
     /// A command arrives: it is answered at once, or waits as a task. Its pages become the task's or are given back (SAM-5 5;
-    /// the order of the tests: profile). Where no page was free for all of its data-out, it does what the whole request does.
+    /// the order of the tests: profile). Where it has the nexus and tag of a task, all tasks of its nexus go without an answer.
+    /// Where no page was free for all of its data-out, it does what the whole request does.
     pub fn submit<D: Drive, L: Ledger>(
         &mut self,
         request: Request,
