@@ -1,6 +1,6 @@
 -- The tie of the layer and its drive where commands are queued: what the layer has given to its drive and what it knows of it (ACS-3,
 -- native command queuing; profile). No code stands on it yet.
-use Rattle.std.specs.Prelude.{◌≡◌, ◌⊎◌, ℕ, ◌<◌, ◌==◌, ◌&&◌, ◌||◌, not, Bool, true, false, List, [], ◌∷◌, Option, Some, None, MatchBool, length}
+use Rattle.std.specs.Prelude.{◌≡◌, ◌⊎◌, ℕ, ◌<◌, ◌==◌, ◌&&◌, not, Bool, true, false, List, [], ◌∷◌, Some, None, MatchBool, length}
 use Rattle.std.specs.List.{AllByRecursion, AllZip, list_any}
 use Rattle.satl_base.specs.declared.block.Block.{Block}
 use Rattle.satl_identify.specs.Data.{identity_data}

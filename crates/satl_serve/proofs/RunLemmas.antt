@@ -31,9 +31,10 @@ use Rattle.satl_line.specs.Tasks.{Held, entries_of}
 use Rattle.satl_line.proofs.SlotsLemmas.{All-append, All-left, All-right}
 use Rattle.satl_drive.specs.State.{DriveState}
 use Rattle.satl_direct.specs.Arrival.{Arrives}
-use Rattle.satl_direct.specs.Device.{Device, task_of}
+use Rattle.satl_direct.specs.Device.{Device}
+use Rattle.satl_direct.specs.Tasks.{task_of}
 use Rattle.satl_direct.specs.Quiet.{Around}
-use Rattle.satl_direct.specs.Run.{CutTurns, Does, Drains, MayLose, depth, joined, losses_of}
+use Rattle.satl_direct.specs.Run.{CutTurns, Does, Drains, MayLose, depth, joined, losses_in, losses_of}
 use Rattle.satl_direct.specs.Run.TurnsOf.{none, more}
 use Rattle.satl_direct.specs.Run.RunDeep.{start, step}
 use Rattle.satl_direct.specs.Run.RunCut.{cut_run, whole_run}
@@ -60,6 +61,10 @@ on_both (Err e) P P' Q f p q = tt
 pub if_ok : {A E : Type 0} (r : Result A E) (P Q : A → Type 0) → ((x : A) → P x → Q x) → IfOk r P → IfOk r Q
 if_ok (Ok x) P Q f p = f x p
 if_ok (Err e) P Q f p = tt
+
+pub if_err : {A E : Type 0} (r : Result A E) (P Q : E → Type 0) → ((e : E) → P e → Q e) → IfErr r P → IfErr r Q
+if_err (Ok x) P Q f p = tt
+if_err (Err e) P Q f p = f e p
 
 pub on_err : {A E : Type 0} (r : Result A E) (P Q : Type 0) → (P → Q) → OnErr r P → OnErr r Q
 on_err (Ok x) P Q f p = tt
@@ -206,17 +211,17 @@ joined-push : (groups : List (List Answer)) (now : List Answer) → joined (grou
 joined-push [] now = append-nil now
 joined-push (g ∷ groups) now = ap (λ l. g ++ l) (joined-push groups now) ∙ sym (append_assoc g (joined groups) now)
 
-runs_more : (before mid now : ℕ) (first : Device) (events : List Frame) (answers : List Answer) (s : Device) (event : Frame) (given : List Answer) (new : Device) (d : ℕ) → RunsTo before mid first events answers s → Does event s given new d → RoseBy (losses_of s new) mid now
+runs_more : (before mid now : ℕ) (first : Device) (events : List Frame) (answers : List Answer) (s : Device) (event : Frame) (given : List Answer) (new : Device) (d : ℕ) → RunsTo before mid first events answers s → Does event s given new d → losses_in event s new ≡ losses_of s new → RoseBy (losses_of s new) mid now
     → RunsTo before now first (events ++ event ∷ []) (answers ++ given) new
-runs_more before mid now first events answers s event given new d r does counted = record {
-  losses = r.losses + losses_of s new;
+runs_more before mid now first events answers s event given new d r does lost counted = record {
+  losses = r.losses + losses_in event s new;
   run = record {
     groups = r.run.groups ++ given ∷ [];
     deep = max r.run.deep d;
     answer = ap (λ l. l ++ given) r.run.answer ∙ sym (joined-push r.run.groups given);
     run = step event given d r.run.run does;
   };
-  counted = RoseBy-more r.losses (losses_of s new) before mid now r.counted counted;
+  counted = RoseBy-more r.losses (losses_in event s new) before mid now r.counted (subst (λ n. RoseBy n mid now) (sym lost) counted);
 }
 
 -- a frame raised the count of faults by its losses, and the drive was called once at most for a task that is gone
@@ -258,15 +263,15 @@ going_start first tally r left written u fresh idle zero = record {
 }
 
 -- a frame that is not END was read and carried out
-pub going_more : (first : Device) (t0 t t' : Tally) (r r' : Reading) (a b c w w' w'' : Option (List ℕ)) (u u' : Summary) (s new : Device) (room : ℕ) (frame : Frame) → Going first t0 r a b w w' u t s → (gave : Gave r room frame r' b c) → (gave.whole ≡ frames.End → ⊥) → (given : List Answer)
+pub going_more : (first : Device) (t0 t t' : Tally) (r r' : Reading) (a b c w w' w'' : Option (List ℕ)) (u u' : Summary) (s new : Device) (room : ℕ) (frame : Frame) → Going first t0 r a b w w' u t s → (gave : Gave r room frame r' b c) → (gave.whole ≡ frames.End → ⊥) → losses_in gave.whole s new ≡ losses_of s new → (given : List Answer)
     → Wrote w' w'' (all_answered given) → (AreUnforced s → (d : ℕ) × Does gave.whole s given new d) → (AsksNone gave.whole → AreUnforced s → AreUnforced new) → new.modes ≡ s.modes → IsTallied s new t (gave.whole ∷ []) t' → Grows u u' (gave.whole ∷ []) given → Going first t0 r' a c w w'' u' t' new
-going_more first t0 t t' r r' a b c w w' w'' u u' s new room frame going gave not_end given wrote carried keeps modes tallied grows = record {
+going_more first t0 t t' r r' a b c w w' w'' u u' s new room frame going gave not_end lost given wrote carried keeps modes tallied grows = record {
   events = going.events ++ gave.whole ∷ [];
   answers = going.answers ++ given;
   none_ends = All-append (λ f. f ≡ frames.End → ⊥) going.events (gave.whole ∷ []) going.none_ends (not_end, tt);
   read = has_read_more r r' a b c going.events room frame going.read going.none_ends gave;
   wrote = subst (Wrote w w'') (sym (all_answered-append going.answers given)) (Wrote-more going.wrote wrote);
-  run = λ free. let before = unforced_before first going.events gave.whole free in let does = carried (going.unforced before) in runs_more t0.faults t.faults t'.faults first going.events going.answers s gave.whole given new does.0 (going.run before) does.1 tallied.counted;
+  run = λ free. let before = unforced_before first going.events gave.whole free in let does = carried (going.unforced before) in runs_more t0.faults t.faults t'.faults first going.events going.answers s gave.whole given new does.0 (going.run before) does.1 lost tallied.counted;
   unforced = λ free.
       ⊎_elim (λ off. inl (ap (λ (m : Modes). m.wce) (modes ∙ going.modes) ∙ off))
       (λ all. keeps (All-right AsksNone going.events (gave.whole ∷ []) all).0 (going.unforced (inr (All-left AsksNone going.events (gave.whole ∷ []) all)))) free;
@@ -318,7 +323,7 @@ pub going_turn : (first : Device) (t0 t t' : Tally) (r r' : Reading) (a b c w w'
     → Answered (λ replies. AreUnforced s → TookTurns n s replies new) w' w'' u u' → (AreUnforced s → AreUnforced new) → new.modes ≡ s.modes → IsTallied s new t [] t' → Going first t0 r' a c w w'' u' t' new
 going_turn first t0 t t' r r' a b c w w' w'' u u' s new room n frame going gave frame_is answered keeps modes tallied =
     let is = whole_turn room n gave.whole (sym frame_is ∙ gave.cut) in
-    going_more first t0 t t' r r' a b c w w' w'' u u' s new room frame going gave (no_turn_ends gave.whole n is) (map replied answered.replies) answered.wrote
+    going_more first t0 t t' r r' a b c w w' w'' u u' s new room frame going gave (no_turn_ends gave.whole n is) (ap (λ f. losses_in f s new) is) (map replied answered.replies) answered.wrote
     (λ free. let took = answered.step free in (took.deep, subst (λ f. Does f s (map replied answered.replies) new took.deep) (sym is) (answered.replies, refl, took.turns)))
     (λ _ free. keeps free) modes (more_frames s new t t' gave.whole tallied) (subst (λ f. Grows u u' (f ∷ []) (map replied answered.replies)) (sym is) (grows_turn n answered.counts))
 
@@ -326,7 +331,7 @@ pub going_request : (first : Device) (t0 t t' : Tally) (r r' : Reading) (a b c w
     → ((requests : ℕ) (before : List Answer) → u ≡ summary_of requests before → m ≡ summary_of (requests + 1) before) → Answered (λ replies. (whole : Request) → IsCutOf whole request → Around (MayLose (Arrives whole)) s replies new) w' w'' m u' → (AsksNoFua request → AreUnforced s → AreUnforced new) → new.modes ≡ s.modes → IsTallied s new t (frames.Request request ∷ []) t' → Going first t0 r' a c w w'' u' t' new
 going_request first t0 t t' r r' a b c w w' w'' u m u' s new room request frame going gave frame_is added answered keeps modes tallied =
     let found = whole_request room request gave.whole (sym frame_is ∙ gave.cut) in
-    going_more first t0 t t' r r' a b c w w' w'' u u' s new room frame going gave (no_request_ends gave.whole found.w found.is) (map replied answered.replies) answered.wrote
+    going_more first t0 t t' r r' a b c w w' w'' u u' s new room frame going gave (no_request_ends gave.whole found.w found.is) (ap (λ f. losses_in f s new) found.is) (map replied answered.replies) answered.wrote
     (λ free. (depth new, subst (λ f. Does f s (map replied answered.replies) new (depth new)) (sym found.is) (answered.replies, refl, answered.step found.w (record { count = room; cut_is = found.cut }), refl)))
     (λ clear free. keeps (subst AsksNoFua (sym found.cut) (subst AsksNone found.is clear)) free) modes
     (subst (λ f. IsTallied s new t (f ∷ []) t') (sym found.is) (record { counted = tallied.counted; calls = tallied.calls }))
@@ -347,7 +352,7 @@ going_ended first t0 t t' r r' a b c w w' w'' u u' s new room limit frame going 
       run = λ free.
           let before = unforced_before first going.events frames.End free in
           let drains = answered.step (going.unforced before) in
-          runs_more t0.faults t.faults t'.faults first going.events going.answers s frames.End (map replied answered.replies ++ ended ∷ []) new drains.0 (going.run before) (answered.replies, refl, drains.1) tallied.counted;
+          runs_more t0.faults t.faults t'.faults first going.events going.answers s frames.End (map replied answered.replies ++ ended ∷ []) new drains.0 (going.run before) (answered.replies, refl, drains.1) refl tallied.counted;
       calls = omega (arith, going.calls, tallied.calls);
       totals = answered.counts.known (requests_in going.events) going.answers going.totals;
     }
@@ -444,7 +449,7 @@ cut_request limit first t0 t t' r r' a b c w w' w'' u s new room request frame g
     cut_more limit first t0 t t' r r' a b c w w' w'' u s new room frame going gave limit_is newest_is (map replied answered.replies) answered.part
     (subst (λ f. IsTallied s new t (f ∷ []) t') (sym found.is) (record { counted = tallied.counted; calls = tallied.calls }))
     (λ g free. whole_cut t0.faults t'.faults first (g.events ++ gave.whole ∷ []) (g.answers ++ map replied answered.replies) new (runs_more t0.faults t.faults t'.faults first g.events g.answers s gave.whole (map replied answered.replies) new (depth new) (g.run (unforced_before first g.events gave.whole free))
-    (subst (λ f. Does f s (map replied answered.replies) new (depth new)) (sym found.is) (answered.replies, refl, answered.step found.w (record { count = room; cut_is = found.cut }), refl)) tallied.counted))
+    (subst (λ f. Does f s (map replied answered.replies) new (depth new)) (sym found.is) (answered.replies, refl, answered.step found.w (record { count = room; cut_is = found.cut }), refl)) (ap (λ f. losses_in f s new) found.is) tallied.counted))
 
 pub cut_turns : (limit : ℕ) (first : Device) (t0 t t' : Tally) (r r' : Reading) (a b c w w' w'' : Option (List ℕ)) (u : Summary) (s new : Device) (room n : ℕ) (frame : Frame) → Going first t0 r a b w w' u t s → Gave r room frame r' b c → frame ≡ frames.Turn n → r.limit ≡ limit → r.newest ≡ Two
     → IsTallied s new t [] t' → AnsweredPart (λ replies. AreUnforced s → TookSome n s replies new) w' w'' → Cut limit first t0 a c w w'' t' new
@@ -471,7 +476,7 @@ cut_end limit first t0 t t' r r' a b c w w' w'' u s new room frame going gave fr
     let before = unforced_before first g.events gave.whole free in
     let drains = all.step (g.unforced before) in
     whole_cut t0.faults t'.faults first (g.events ++ gave.whole ∷ []) (g.answers ++ (map replied all.replies ++ ended ∷ [])) new (runs_more t0.faults t.faults t'.faults first g.events g.answers s gave.whole (map replied all.replies ++ ended ∷ []) new drains.0 (g.run before)
-    (subst (λ f. Does f s (map replied all.replies ++ ended ∷ []) new drains.0) (sym is) (all.replies, refl, drains.1)) tallied.counted))) ends
+    (subst (λ f. Does f s (map replied all.replies ++ ended ∷ []) new drains.0) (sym is) (all.replies, refl, drains.1)) (ap (λ f. losses_in f s new) is) tallied.counted))) ends
 
 -- ---- where serving stops
 

@@ -1,6 +1,6 @@
 -- What serving an input does: a run of the device over its frames, whose answers are written (profile).
-use Rattle.std.specs.Prelude.{◌≤◌, ◌⊎◌, ◌+◌, ◌^◌, ◌≡◌, ℕ, Bool, true, false, List, [], ◌∷◌, ◌++◌, length, map, is_some, Option, Ok}
-use Rattle.std.specs.List.{AllByRecursion, position_from}
+use Rattle.std.specs.Prelude.{◌≤◌, ◌⊎◌, ◌+◌, ◌^◌, ◌≡◌, ℕ, Bool, true, false, List, [], ◌∷◌, ◌++◌, length, map, Option, Ok}
+use Rattle.std.specs.List.{AllByRecursion}
 use Rattle.satl_base.specs.declared.reply.Reply.{Reply}
 use Rattle.satl_base.specs.Lists.{how_many}
 use Rattle.satl_base.specs.Losses.{Loses}
@@ -21,9 +21,10 @@ use Rattle.satl_frame.specs.Progress.{HasRead, ReadTo}
 use Rattle.satl_frame.specs.Reading.{Blames, Gave, Reading}
 use Rattle.satl_text.specs.Totals.{summary_of}
 use Rattle.satl_text.specs.declared.summary.Summary.{Summary}
-use Rattle.satl_line.specs.Tasks.{entries_of, is_named}
+use Rattle.satl_line.specs.Tasks.{entries_of}
 use Rattle.satl_drive.specs.State.{DriveState}
-use Rattle.satl_direct.specs.Device.{Device, task_of}
+use Rattle.satl_direct.specs.Device.{Device}
+use Rattle.satl_direct.specs.Tasks.{task_of}
 use Rattle.satl_direct.specs.Run.{Drains, Run, RunCut, TurnsOf}
 use Rattle.satl_core.specs.Layer.{Layer}
 use Rattle.satl_serve.specs.declared.serving.ServeFault.{ServeFault}
@@ -233,9 +234,9 @@ pub record Refused (limit : ℕ) (first : Device) (before : Tally) (left left' w
   pub run : GoesUnforced first events → RunsTo before.faults now.faults first events answers last
   pub calls : now.calls ≤ before.calls + requests_in events
 
--- a frame that is not carried out yet: a task management function, a bench event, and a request with the nexus and tag of a task
+-- a frame that is not carried out yet: a task management function, and a bench event
 abbrev pub IsNotBuilt : Layer → Frame → Type 0
-IsNotBuilt l (frames.Request r) = is_some (position_from (is_named r.nexus r.tag) 0 l.tasks) ≡ true
+IsNotBuilt l (frames.Request r) = ⊥
 IsNotBuilt l (frames.Manage m) = Unit {0}
 IsNotBuilt l (frames.Turn count) = ⊥
 IsNotBuilt l (frames.Bench event) = Unit {0}
