@@ -287,15 +287,7 @@ fn serve_frames<S: Source, K: Sink, D: Drive, L: Ledger>(
                     return Err(ServeFault::NotBuilt);
                 }
                 totals.add_request();
-                serve_request(
-                    satl,
-                    request,
-                    sink,
-                    drive,
-                    &mut replies,
-                    &mut totals,
-                    steps,
-                )?;
+                serve_request(satl, request, sink, drive, &mut replies, &mut totals, steps)?;
             }
             Frame::Turn(count) => serve_turns(
                 satl,
