@@ -5,6 +5,8 @@ mod data_in;
 mod drive;
 mod identify;
 mod sectors;
+#[cfg(test)]
+mod tests;
 
 pub use drive::ModelDrive;
 pub use sectors::Sector;

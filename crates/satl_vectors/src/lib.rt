@@ -2,6 +2,10 @@
 #![tactic(auto)]
 
 #[cfg(test)]
-mod inputs;
+mod frames;
+#[cfg(test)]
+mod replaying;
+#[cfg(test)]
+mod streams;
 #[cfg(test)]
 mod tests;

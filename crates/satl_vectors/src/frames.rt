@@ -6,9 +6,10 @@ use std::alloc::{AllocError, Global};
 /// TURN by one.
 pub const TURN: [u8; 7] = [0x03, 0, 0, 0, 2, 0, 1];
 
-/// END, of an input and of an output.
+/// END of an input.
 pub const END: [u8; 5] = [0x05, 0, 0, 0, 0];
 
+/// END of an output.
 pub const ENDED: [u8; 5] = [0x85, 0, 0, 0, 0];
 
 /// A READ(10) or WRITE(10): its operation code, its tag, its address and the number of its blocks, each below 65,536.
@@ -18,6 +19,22 @@ pub struct Transfer {
     pub tag: u8,
     pub lba: u16,
     pub count: u16,
+}
+
+pub fn write(tag: u8, lba: u16, count: u16) -> Transfer {
+    Transfer {
+        code: 0x2A,
+        tag,
+        lba,
+        count,
+    }
+}
+
+pub fn read(tag: u8, lba: u16, count: u16) -> Transfer {
+    Transfer {
+        code: 0x28,
+        ..write(tag, lba, count)
+    }
 }
 
 /// An input with its magic alone.
@@ -56,17 +73,46 @@ pub fn good(output: &mut Vec<u8>, tag: u8, data: &[u8]) -> Result<(), AllocError
     output.extend_from_slice(data)
 }
 
-/// Appends a REPLY with CHECK CONDITION and sense data in the fixed form.
-pub fn check(output: &mut Vec<u8>, tag: u8, key: u8, code: u8) -> Result<(), AllocError> {
-    output.extend_from_slice(&[0x81, 0, 0, 0, 25, 0, 2, 0, 0, 0, tag, 18])?;
-    output.extend_from_slice(&[
-        0x70, 0, key, 0, 0, 0, 0, 10, 0, 0, 0, 0, code, 0, 0, 0, 0, 0,
-    ])
+/// Appends a REPLY with TASK SET FULL.
+pub fn full(output: &mut Vec<u8>, tag: u8) -> Result<(), AllocError> {
+    output.extend_from_slice(&[0x81, 0, 0, 0, 7, 0, 0x28, 0, 0, 0, tag, 0])
 }
 
-/// A FAULT by its reason and offset.
-pub fn fault(alloc: Global, reason: u8, offset: u8) -> Result<Vec<u8>, AllocError> {
-    let mut output = output(alloc)?;
-    output.extend_from_slice(&[0x8F, 0, 0, 0, 9, reason, 0, 0, 0, 0, 0, 0, 0, offset])?;
-    Ok(output)
+/// Appends a REPLY with CHECK CONDITION and sense data in the fixed form: the key, the code, and what the key says besides.
+pub fn check(
+    output: &mut Vec<u8>,
+    tag: u8,
+    key: u8,
+    code: u8,
+    specific: [u8; 3],
+) -> Result<(), AllocError> {
+    output.extend_from_slice(&[0x81, 0, 0, 0, 25, 0, 2, 0, 0, 0, tag, 18])?;
+    output.extend_from_slice(&[0x70, 0, key, 0, 0, 0, 0, 10, 0, 0, 0, 0, code, 0, 0])?;
+    output.extend_from_slice(&specific)
+}
+
+/// Appends a FAULT by its reason and offset.
+pub fn fault(output: &mut Vec<u8>, reason: u8, offset: u64) -> Result<(), AllocError> {
+    output.extend_from_slice(&[0x8F, 0, 0, 0, 9, reason])?;
+    output.extend_from_slice(&offset.to_be_bytes())
+}
+
+/// A write of a block and a read of it, each with its turn, and the end.
+pub fn write_and_read(alloc: Global) -> Result<Vec<u8>, AllocError> {
+    let mut frames = input(alloc)?;
+    request(&mut frames, write(1, 0, 1), &[0xA5; 512])?;
+    frames.extend_from_slice(&TURN)?;
+    request(&mut frames, read(2, 0, 1), &[])?;
+    frames.extend_from_slice(&TURN)?;
+    frames.extend_from_slice(&END)?;
+    Ok(frames)
+}
+
+/// What is written for a write of a block and a read of it.
+pub fn written_and_read(alloc: Global) -> Result<Vec<u8>, AllocError> {
+    let mut replies = output(alloc)?;
+    good(&mut replies, 1, &[])?;
+    good(&mut replies, 2, &[0xA5; 512])?;
+    replies.extend_from_slice(&ENDED)?;
+    Ok(replies)
 }

@@ -1,0 +1,115 @@
+// Replays over memory streams.
+ghost use Rattle.std.specs.Prelude.{◌≡◌, ◌<◌, []};
+ghost use Rattle.satl_drive.specs.State.{IsFit};
+
+use crate::frames::{END, ENDED};
+use satl_base::{NoMemory, Steps};
+use satl_disk::ModelDrive;
+use satl_drive::Bench;
+use satl_io::{MemorySink, MemorySource, Sink, Source};
+use satl_top::{Status, satl};
+use std::alloc::{AllocError, Global};
+use std::marker::Brand;
+use std::process::Abort;
+use std::rc::RcStr;
+use std::sync::ledger::{Blank, Ledger};
+use std::test::Fail;
+
+/// How many bytes a read gives and a write takes at most, and which call of the source and of the sink fails.
+#[derive(Clone, Copy)]
+pub struct Streams {
+    pub piece: usize,
+    pub failing_read: Option<u32>,
+    pub failing_write: Option<u32>,
+}
+
+/// Streams that never fail.
+pub fn pieces(piece: usize) -> Streams {
+    Streams {
+        piece,
+        failing_read: None,
+        failing_write: None,
+    }
+}
+
+fn counted<S: Source, K: Sink, D: Bench, L: Ledger>(
+    alloc: Global,
+    words: &[RcStr],
+    source: &mut S,
+    sink: &mut K,
+    drive: &mut D,
+    blank: Blank,
+) -> Status
+    requires idle { (D.state drive.old).outstanding ≡ [] }
+    requires fit { IsFit (D.state drive.old) }
+    requires name { blank.name ≡ L.name }
+    requires parts { blank.parts ≡ L.parts }
+    requires some { 0 < blank.parts }
+{
+    let mut steps = Steps::<L>::new(blank);
+    satl(alloc, words, source, sink, drive, &mut steps)
+}
+
+/// The calls that fail: the one of this number, if any.
+fn calls(alloc: Global, call: Option<u32>) -> Result<Vec<u32>, AllocError> {
+    let mut failing = Vec::new(alloc);
+    if let Some(call) = call {
+        failing.push(call)?;
+    }
+    Ok(failing)
+}
+
+/// How a replay of an input ends, and what it writes.
+pub fn replay(
+    alloc: Global,
+    input: Vec<u8>,
+    streams: Streams,
+) -> Result<(Status, Vec<u8>), NoMemory> {
+    let mut words = Vec::new(alloc);
+    words.push(RcStr::from_str(alloc, "satl")?)?;
+    words.push(RcStr::from_str(alloc, "replay")?)?;
+    let piece = streams.piece.max(1);
+    let mut source = MemorySource::new(input, piece, calls(alloc, streams.failing_read)?);
+    let failing = calls(alloc, streams.failing_write)?;
+    let mut sink = MemorySink::new(alloc, 65536, piece, failing)?;
+    let mut drive = ModelDrive::new(alloc, 8192)?;
+    let status = counted::<_, _, _, Brand>(
+        alloc,
+        &words,
+        &mut source,
+        &mut sink,
+        &mut drive,
+        Blank::new(1),
+    );
+    Ok((status, sink.written().to_vec(alloc)?))
+}
+
+/// A replay of an input ends and writes so, however its bytes are cut.
+pub fn expect(
+    rt: &impl Abort,
+    alloc: Global,
+    input: &[u8],
+    status: Status,
+    output: &[u8],
+) -> Result<(), Fail> {
+    for piece in [1, 3, 65536] {
+        let (ended, written) = replay(alloc, input.to_vec(alloc)?, pieces(piece))?;
+        assert_eq!(rt; ended, status, "in pieces of {piece}");
+        assert_eq!(rt; written.as_slice(), output, "in pieces of {piece}");
+    }
+    Ok(())
+}
+
+/// These frames and END are carried out, and these replies and END are written.
+pub fn expect_replies(
+    rt: &impl Abort,
+    alloc: Global,
+    frames: &[u8],
+    replies: &[u8],
+) -> Result<(), Fail> {
+    let mut input = frames.to_vec(alloc)?;
+    input.extend_from_slice(&END)?;
+    let mut output = replies.to_vec(alloc)?;
+    output.extend_from_slice(&ENDED)?;
+    expect(rt, alloc, &input, Status::Done, &output)
+}
