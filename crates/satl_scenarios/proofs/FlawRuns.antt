@@ -1,0 +1,97 @@
+-- Transfers that meet a flaw of a sector or a CRC error.
+use Rattle.std.proofs.Common.{inl, inr, refl, false, [], ◌∷◌}
+use Rattle.satl_cdb.specs.declared.command.Command.TheVariants.{Read, Write}
+use Rattle.satl_cdb.specs.declared.command.Form.TheVariants.{Ten}
+use Rattle.satl_cdb.specs.Table.{says}
+use Rattle.satl_sense.specs.Fixed.{fixed_form}
+use Rattle.satl_line.specs.Conflict.{accesses_conflict}
+use Rattle.satl_line.specs.declared.entry.Entry.{Entry}
+use Rattle.satl_line.specs.Ranged.RangedTask.{ranged_read, ranged_write}
+use Rattle.satl_direct.specs.Device.{Device}
+use Rattle.satl_direct.specs.Tasks.{over}
+use Rattle.satl_direct.specs.Run.TurnsOf.{none}
+use Rattle.satl_scenarios.specs.Scenario.{CanHappen}
+use Rattle.satl_scenarios.specs.Flaws.{flaw_among_writes, torn_write, garbled_read}
+use Rattle.satl_scenarios.specs.Words.{aa, bb, task, blank, device, cached_over, holds, unreadable, unwritable, zeros}
+use Rattle.satl_scenarios.proofs.Building.{it_can_happen, arrives, drained, happens, one_turn, turn_more}
+use Rattle.satl_scenarios.proofs.Building.Follows.{next, ends_here}
+use Rattle.satl_scenarios.proofs.Endings.{ended, done, flawed, glitched}
+
+-- ---- a read fails, and the writes about it are done
+
+abbrev low_write : Entry
+low_write = task 1 (Write Ten 0 1 false) (aa ∷ [])
+
+abbrev middle_read : Entry
+middle_read = task 2 (Read Ten 1 1 false) []
+
+abbrev high_write : Entry
+high_write = task 3 (Write Ten 2 1 false) (bb ∷ [])
+
+-- the device with the flaw, and once the first write is done, and the other
+abbrev struck : Device
+struck = device (holds zeros ∷ unreadable zeros ∷ holds zeros ∷ [])
+
+abbrev low_written : Device
+low_written = device (cached_over zeros aa ∷ unreadable zeros ∷ holds zeros ∷ [])
+
+abbrev both_written : Device
+both_written = device (cached_over zeros aa ∷ unreadable zeros ∷ cached_over zeros bb ∷ [])
+
+pub read_fails_among_writes : CanHappen flaw_among_writes
+unfolding says fixed_form accesses_conflict
+read_fails_among_writes =
+    it_can_happen flaw_among_writes
+    (next 0 (happens [] struck (record { none = refl; new_is = refl })) refl
+    (next 0 (arrives [] (record struck { tasks = low_write ∷ [] }) (refl, refl)) refl
+    (next 0 (arrives [] (record struck { tasks = low_write ∷ middle_read ∷ [] }) (refl, refl)) refl
+    (next 0 (arrives [] (record struck { tasks = low_write ∷ middle_read ∷ high_write ∷ [] }) (refl, refl)) refl
+    (next 0 (drained
+    (turn_more both_written
+    (turn_more (record low_written { tasks = high_write ∷ [] })
+    (turn_more (record struck { tasks = low_write ∷ high_write ∷ [] }) none
+    (ended middle_read (inr (refl, inl refl)) (flawed (ranged_read false (over 1 1)) 1 struck.cells _ middle_read refl refl)))
+    (ended low_write (inl refl) (done (ranged_write false (over 0 1) (aa ∷ [])) _ low_write refl)))
+    (ended high_write (inl refl) (done (ranged_write false (over 2 1) (bb ∷ [])) _ high_write refl)))
+    refl) refl
+    ends_here)))))
+
+-- ---- a write is torn
+
+abbrev torn_task : Entry
+torn_task = task 1 (Write Ten 0 2 false) (aa ∷ bb ∷ [])
+
+abbrev worn : Device
+worn = device (holds zeros ∷ unwritable zeros ∷ [])
+
+abbrev torn : Device
+torn = device (cached_over zeros aa ∷ unwritable zeros ∷ [])
+
+-- the first block is put, and the second is left out
+pub write_torn : CanHappen torn_write
+unfolding says fixed_form
+write_torn =
+    it_can_happen torn_write
+    (next 0 (happens [] worn (record { none = refl; new_is = refl })) refl
+    (next 0 (arrives [] (record worn { tasks = torn_task ∷ [] }) (refl, refl)) refl
+    (next 0 (one_turn torn (ended torn_task (inl refl) (flawed (ranged_write false (over 0 2) (aa ∷ bb ∷ [])) 1 torn.cells _ torn_task refl (inr (inl refl))))) refl
+    ends_here)))
+
+-- ---- a read is garbled
+
+abbrev first_read : Entry
+first_read = task 1 (Read Ten 0 1 false) []
+
+abbrev second_read : Entry
+second_read = task 2 (Read Ten 0 1 false) []
+
+pub read_garbled : CanHappen garbled_read
+unfolding says fixed_form
+read_garbled =
+    it_can_happen garbled_read
+    (next 0 (happens [] (record (blank 2) { glitches = 1 }) (record { none = refl; new_is = refl })) refl
+    (next 0 (arrives [] (record (blank 2) { glitches = 1; tasks = first_read ∷ [] }) (refl, refl)) refl
+    (next 0 (one_turn (blank 2) (ended first_read (inl refl) (glitched (ranged_read false (over 0 1)) (holds zeros ∷ holds zeros ∷ []) 0 _ first_read refl refl refl))) refl
+    (next 0 (arrives [] (record (blank 2) { tasks = second_read ∷ [] }) (refl, refl)) refl
+    (next 0 (one_turn (blank 2) (ended second_read (inl refl) (done (ranged_read false (over 0 1)) _ second_read refl))) refl
+    ends_here)))))

@@ -1,0 +1,82 @@
+-- Reads and writes that are done, aborted or not let in.
+use Rattle.std.proofs.Common.{inl, refl, true, false, [], ◌∷◌}
+use Rattle.satl_base.specs.declared.reply.Response.TheVariants.{Complete}
+use Rattle.satl_base.specs.Moves.{stay, write}
+use Rattle.satl_cdb.specs.declared.command.Command.TheVariants.{Read, Write}
+use Rattle.satl_cdb.specs.declared.command.Form.TheVariants.{Ten}
+use Rattle.satl_cdb.specs.Table.{says}
+use Rattle.satl_sense.specs.Fixed.{fixed_form}
+use Rattle.satl_unit.specs.Functions.{function_of}
+use Rattle.satl_line.specs.declared.entry.Entry.{Entry}
+use Rattle.satl_line.specs.Ranged.RangedTask.{ranged_read, ranged_write}
+use Rattle.satl_direct.specs.Device.{Device}
+use Rattle.satl_direct.specs.Tasks.{over}
+use Rattle.satl_direct.specs.Quiet.{Quiet}
+use Rattle.satl_direct.specs.Run.TurnsOf.{none}
+use Rattle.satl_scenarios.specs.Scenario.{CanHappen}
+use Rattle.satl_scenarios.specs.Transfers.{written_then_read, aborted_half_done, overlapped_reads}
+use Rattle.satl_scenarios.specs.Words.{aa, bb, task, blank, device, cached_over, holds, zeros}
+use Rattle.satl_scenarios.proofs.Building.{it_can_happen, arrives, drained, manages, one_turn}
+use Rattle.satl_scenarios.proofs.Building.Follows.{next, ends_here}
+use Rattle.satl_scenarios.proofs.Endings.{ended, done}
+
+-- ---- a block is written and read
+
+abbrev write_task : Entry
+write_task = task 1 (Write Ten 0 1 false) (aa ∷ [])
+
+abbrev read_task : Entry
+read_task = task 2 (Read Ten 0 1 false) []
+
+-- the device once the block is written
+abbrev written : Device
+written = device (cached_over zeros aa ∷ holds zeros ∷ holds zeros ∷ [])
+
+pub read_after_write : CanHappen written_then_read
+unfolding says
+read_after_write =
+    it_can_happen written_then_read
+    (next 0 (arrives [] (record (blank 3) { tasks = write_task ∷ [] }) (refl, refl)) refl
+    (next 0 (one_turn written (ended write_task (inl refl) (done (ranged_write false (over 0 1) (aa ∷ [])) _ write_task refl))) refl
+    (next 0 (arrives [] (record written { tasks = read_task ∷ [] }) (refl, refl)) refl
+    (next 0 (one_turn written (ended read_task (inl refl) (done (ranged_read false (over 0 1)) _ read_task refl))) refl
+    ends_here))))
+
+-- ---- a write is aborted
+
+abbrev long_write : Entry
+long_write = task 1 (Write Ten 0 2 false) (aa ∷ bb ∷ [])
+
+abbrev half_done : Device
+half_done = device (cached_over zeros aa ∷ holds zeros ∷ [])
+
+-- the first block shows before the write ends
+first_shows : Quiet (record (blank 2) { tasks = long_write ∷ [] }) (record half_done { tasks = long_write ∷ [] })
+first_shows = record {
+  cells =
+      write (record { lba = 0; block = aa; cached = true })
+      (record { task = long_write; under_way = record { up = refl; eligible = inl refl }; started = refl; among = inl refl })
+      stay;
+  active = inl refl;
+  stays = refl;
+}
+
+pub abort_in_the_middle : CanHappen aborted_half_done
+unfolding says function_of
+abort_in_the_middle =
+    it_can_happen aborted_half_done
+    (next 0 (arrives [] (record (blank 2) { tasks = long_write ∷ [] }) (refl, refl)) refl
+    (next 0 (manages _ Complete _ (record half_done { tasks = long_write ∷ [] }) half_done first_shows (record { response_is = refl; stays = refl })) refl
+    (next 0 (drained none refl) refl
+    ends_here)))
+
+-- ---- a read has the tag of another
+
+pub overlap : CanHappen overlapped_reads
+unfolding says fixed_form
+overlap =
+    it_can_happen overlapped_reads
+    (next 0 (arrives [] (record (blank 2) { tasks = task 1 (Read Ten 0 1 false) [] ∷ [] }) (refl, refl)) refl
+    (next 0 (arrives _ (blank 2) (refl, refl)) refl
+    (next 0 (drained none refl) refl
+    ends_here)))

@@ -1,0 +1,30 @@
+-- Scenarios: runs of the device that are written down event by event (profile).
+use Rattle.std.specs.Prelude.{◌≡◌, ℕ, List, map}
+use Rattle.satl_frame.specs.declared.frames.Frame.{Frame}
+use Rattle.satl_frame.specs.Output.{Answer}
+use Rattle.satl_direct.specs.Device.{Device}
+use Rattle.satl_direct.specs.Run.{Run, joined}
+
+-- an event, and its answers
+pub record Step : Type 0 where
+  pub event : Frame
+  pub answers : List Answer
+
+-- the device at first, the events with their answers, how often the link is lost, and the device at last
+pub record Scenario : Type 0 where
+  pub first : Device
+  pub steps : List Step
+  pub losses : ℕ
+  pub last : Device
+
+-- the events of a scenario, and its answers in a group for each event
+abbrev pub events_of : Scenario → List Frame
+events_of scenario = map (λ (step : Step). step.event) scenario.steps
+
+abbrev pub groups_of : Scenario → List (List Answer)
+groups_of scenario = map (λ (step : Step). step.answers) scenario.steps
+
+-- the scenario is a run, and each event has the answers that stand beside it
+pub record CanHappen (scenario : Scenario) : Type 0 where
+  pub run : Run scenario.first (events_of scenario) scenario.losses (joined (groups_of scenario)) scenario.last
+  pub groups : run.groups ≡ groups_of scenario

@@ -1,0 +1,92 @@
+//! Runs of the direct device that exist: a few events with the answers to each, and the device that they leave. They show that its
+//! definitions are not empty words.
+#![tactic(auto)]
+
+ghost use Rattle.std.specs.Prelude.{◌≡◌, ℕ};
+ghost use Rattle.satl_direct.specs.Valid.{IsValid};
+ghost use Rattle.satl_scenarios.specs.Flaws.{flaw_among_writes, garbled_read, torn_write};
+ghost use Rattle.satl_scenarios.specs.Links.{lost_in_turn, unplugged_twice};
+ghost use Rattle.satl_scenarios.specs.Power.{flushed, flushed_then_written, told_once, turned_off, turned_off_then_power};
+ghost use Rattle.satl_scenarios.specs.Scenario.{CanHappen};
+ghost use Rattle.satl_scenarios.specs.Transfers.{aborted_half_done, overlapped_reads, written_then_read};
+ghost use Rattle.satl_scenarios.specs.Words.{aa, bb, blank, filled};
+
+/// The device that most of these start from is valid, however many sectors it has (profile).
+pub fn blank_devices_are_valid()
+    ensures { (count : ℕ) → IsValid (blank count) }
+{}
+
+/// Blocks that are filled with different bytes are different (profile).
+pub fn filled_blocks_differ()
+    ensures { (a b : ℕ) → filled a ≡ filled b → a ≡ b }
+{}
+
+/// A block that was written is read (SBC-3 5.10, 5.31).
+pub fn a_write_is_read()
+    ensures { CanHappen written_then_read }
+{}
+
+/// A read fails at a flaw, and the writes before it and after it in the queue are done (SPC-4 4.5.6).
+pub fn a_read_fails_among_writes()
+    ensures { CanHappen flaw_among_writes }
+{}
+
+/// A write fails at a flaw, and has written what stands before it (SPC-4 4.5.6).
+pub fn a_write_is_torn()
+    ensures { CanHappen torn_write }
+{}
+
+/// A read fails by a CRC error, and the next one does not (SPC-4 4.5.6).
+pub fn a_read_is_garbled()
+    ensures { CanHappen garbled_read }
+{}
+
+/// A write is aborted with half of it on the medium (SAM-5 7.2).
+pub fn a_write_is_aborted()
+    ensures { CanHappen aborted_half_done }
+{}
+
+/// What was flushed outlives the power (SBC-3 4.15).
+pub fn a_flush_is_kept()
+    ensures { CanHappen flushed }
+{}
+
+/// What is written after a flush may outlive the power (SBC-3 4.15).
+pub fn a_later_write_is_kept()
+    ensures { CanHappen (flushed_then_written bb) }
+{}
+
+/// And it may be lost (SBC-3 4.15).
+pub fn a_later_write_is_lost()
+    ensures { CanHappen (flushed_then_written aa) }
+{}
+
+/// All that waits is answered when the link is lost in a turn (profile).
+pub fn a_link_is_lost()
+    ensures { CanHappen lost_in_turn }
+{}
+
+/// A loss of the link counts again where the link is lost already (profile).
+pub fn a_link_is_lost_twice()
+    ensures { CanHappen unplugged_twice }
+{}
+
+/// The cache is turned off: what was in it is on the medium (SBC-3 6.4.5).
+pub fn a_cache_is_turned_off()
+    ensures { CanHappen turned_off }
+{}
+
+/// After a power cycle it is on again (SPC-4, MODE SELECT commands).
+pub fn a_cache_comes_back()
+    ensures { CanHappen turned_off_then_power }
+{}
+
+/// A command that has the tag of one that waits ends both (SAM-5 5.1).
+pub fn a_read_overlaps()
+    ensures { CanHappen overlapped_reads }
+{}
+
+/// A unit attention is told once (SAM-5 5.14).
+pub fn an_attention_is_told()
+    ensures { CanHappen told_once }
+{}
