@@ -42,18 +42,18 @@ pub read_fails_among_writes : CanHappen flaw_among_writes
 unfolding says fixed_form accesses_conflict
 read_fails_among_writes =
     it_can_happen flaw_among_writes
-    (next 0 (happens [] struck (record { none = refl; new_is = refl })) refl
-    (next 0 (arrives [] (record struck { tasks = low_write ∷ [] }) (refl, refl)) refl
-    (next 0 (arrives [] (record struck { tasks = low_write ∷ middle_read ∷ [] }) (refl, refl)) refl
-    (next 0 (arrives [] (record struck { tasks = low_write ∷ middle_read ∷ high_write ∷ [] }) (refl, refl)) refl
-    (next 0 (drained
+    (next (happens [] struck (record { none = refl; new_is = refl }))
+    (next (arrives [] (record struck { tasks = low_write ∷ [] }) (refl, refl))
+    (next (arrives [] (record struck { tasks = low_write ∷ middle_read ∷ [] }) (refl, refl))
+    (next (arrives [] (record struck { tasks = low_write ∷ middle_read ∷ high_write ∷ [] }) (refl, refl))
+    (next (drained
     (turn_more both_written
     (turn_more (record low_written { tasks = high_write ∷ [] })
     (turn_more (record struck { tasks = low_write ∷ high_write ∷ [] }) none
     (ended middle_read (inr (refl, inl refl)) (flawed (ranged_read false (over 1 1)) 1 struck.cells _ middle_read refl refl)))
     (ended low_write (inl refl) (done (ranged_write false (over 0 1) (aa ∷ [])) _ low_write refl)))
     (ended high_write (inl refl) (done (ranged_write false (over 2 1) (bb ∷ [])) _ high_write refl)))
-    refl) refl
+    refl)
     ends_here)))))
 
 -- ---- a write is torn
@@ -72,9 +72,9 @@ pub write_torn : CanHappen torn_write
 unfolding says fixed_form
 write_torn =
     it_can_happen torn_write
-    (next 0 (happens [] worn (record { none = refl; new_is = refl })) refl
-    (next 0 (arrives [] (record worn { tasks = torn_task ∷ [] }) (refl, refl)) refl
-    (next 0 (one_turn torn (ended torn_task (inl refl) (flawed (ranged_write false (over 0 2) (aa ∷ bb ∷ [])) 1 torn.cells _ torn_task refl (inr (inl refl))))) refl
+    (next (happens [] worn (record { none = refl; new_is = refl }))
+    (next (arrives [] (record worn { tasks = torn_task ∷ [] }) (refl, refl))
+    (next (one_turn torn (ended torn_task (inl refl) (flawed (ranged_write false (over 0 2) (aa ∷ bb ∷ [])) 1 torn.cells _ torn_task refl (inr (inl refl)))))
     ends_here)))
 
 -- ---- a read is garbled
@@ -89,9 +89,9 @@ pub read_garbled : CanHappen garbled_read
 unfolding says fixed_form
 read_garbled =
     it_can_happen garbled_read
-    (next 0 (happens [] (record (blank 2) { glitches = 1 }) (record { none = refl; new_is = refl })) refl
-    (next 0 (arrives [] (record (blank 2) { glitches = 1; tasks = first_read ∷ [] }) (refl, refl)) refl
-    (next 0 (one_turn (blank 2) (ended first_read (inl refl) (glitched (ranged_read false (over 0 1)) (holds zeros ∷ holds zeros ∷ []) 0 _ first_read refl refl refl))) refl
-    (next 0 (arrives [] (record (blank 2) { tasks = second_read ∷ [] }) (refl, refl)) refl
-    (next 0 (one_turn (blank 2) (ended second_read (inl refl) (done (ranged_read false (over 0 1)) _ second_read refl))) refl
+    (next (happens [] (record (blank 2) { glitches = 1 }) (record { none = refl; new_is = refl }))
+    (next (arrives [] (record (blank 2) { glitches = 1; tasks = first_read ∷ [] }) (refl, refl))
+    (next (one_turn (blank 2) (ended first_read (inl refl) (glitched (ranged_read false (over 0 1)) (holds zeros ∷ holds zeros ∷ []) 0 _ first_read refl refl refl)))
+    (next (arrives [] (record (blank 2) { tasks = second_read ∷ [] }) (refl, refl))
+    (next (one_turn (blank 2) (ended second_read (inl refl) (done (ranged_read false (over 0 1)) _ second_read refl)))
     ends_here)))))

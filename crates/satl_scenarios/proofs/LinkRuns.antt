@@ -4,6 +4,7 @@ use Rattle.satl_cdb.specs.declared.command.Command.TheVariants.{Read, Write}
 use Rattle.satl_cdb.specs.declared.command.Form.TheVariants.{Ten}
 use Rattle.satl_cdb.specs.Table.{says}
 use Rattle.satl_sense.specs.Fixed.{fixed_form}
+use Rattle.satl_line.specs.Conflict.{accesses_conflict}
 use Rattle.satl_line.specs.declared.entry.Entry.{Entry}
 use Rattle.satl_direct.specs.Device.{Device}
 use Rattle.satl_direct.specs.Turn.Turn.{loses}
@@ -22,12 +23,12 @@ abbrev waiting_read : Entry
 waiting_read = task 2 (Read Ten 1 1 false) []
 
 pub link_lost_in_turn : CanHappen lost_in_turn
-unfolding says fixed_form
+unfolding says fixed_form accesses_conflict
 link_lost_in_turn =
     it_can_happen lost_in_turn
-    (next 1 (arrives [] (record (blank 3) { tasks = waiting_write ∷ [] }) (refl, refl)) refl
-    (next 1 (arrives [] (record (blank 3) { tasks = waiting_write ∷ waiting_read ∷ [] }) (refl, refl)) refl
-    (next 0 (one_turn (record (blank 3) { down = true }) (loses (record { was_up = refl; answer = refl; glitches = inl refl; stays = refl }))) refl
+    (next (arrives [] (record (blank 3) { tasks = waiting_write ∷ [] }) (refl, refl))
+    (next (arrives [] (record (blank 3) { tasks = waiting_write ∷ waiting_read ∷ [] }) (refl, refl))
+    (next (one_turn (record (blank 3) { down = true }) (loses (record { was_up = refl; answer = refl; glitches = inl refl; stays = refl })))
     ends_here)))
 
 -- ---- by hand, twice
@@ -39,7 +40,7 @@ pub link_lost_twice : CanHappen unplugged_twice
 unfolding says fixed_form
 link_lost_twice =
     it_can_happen unplugged_twice
-    (next 1 (happens [] unplugged (record { answer = refl; stays = refl })) refl
-    (next 1 (arrives [] (record unplugged { tasks = task 1 (Read Ten 0 1 false) [] ∷ [] }) (refl, refl)) refl
-    (next 0 (happens _ unplugged (record { answer = refl; stays = refl })) refl
+    (next (happens [] unplugged (record { answer = refl; stays = refl }))
+    (next (arrives [] (record unplugged { tasks = task 1 (Read Ten 0 1 false) [] ∷ [] }) (refl, refl))
+    (next (happens _ unplugged (record { answer = refl; stays = refl }))
     ends_here)))

@@ -10,6 +10,7 @@ use Rattle.satl_sense.specs.Fixed.{fixed_form}
 use Rattle.satl_regs.specs.Sectors.{IsLeftBehind}
 use Rattle.satl_mode.specs.Changes.{change_from}
 use Rattle.satl_unit.specs.Conditions.{posted}
+use Rattle.satl_line.specs.Conflict.{accesses_conflict}
 use Rattle.satl_line.specs.declared.entry.Entry.{Entry}
 use Rattle.satl_line.specs.Ranged.RangedTask.{ranged_read, ranged_write}
 use Rattle.satl_direct.specs.Device.{Device}
@@ -39,8 +40,8 @@ kept = device (holds aa ∷ holds zeros ∷ [])
 pub flush_keeps : CanHappen flushed
 flush_keeps =
     it_can_happen flushed
-    (next 0 (one_turn kept (ended flush_task (inl refl) (carried_out (settled flushed.first) flush_task))) refl
-    (next 0 (happens [] (powered kept.cells) (record { none = refl; cells = (left_with (holds aa) aa (inl refl), (left_with (holds zeros) zeros (inl refl), tt)); stays = refl })) refl
+    (next (one_turn kept (ended flush_task (inl refl) (carried_out (settled flushed.first) flush_task)))
+    (next (happens [] (powered kept.cells) (record { none = refl; cells = (left_with (holds aa) aa (inl refl), (left_with (holds zeros) zeros (inl refl), tt)); stays = refl }))
     ends_here))
 
 -- ---- a flush and a write
@@ -52,16 +53,16 @@ abbrev rewritten : Device
 rewritten = device (cached_over aa bb ∷ holds zeros ∷ [])
 
 pub write_after_flush : (left : Block) → IsIn left (aa ∷ bb ∷ []) → CanHappen (flushed_then_written left)
-unfolding says
+unfolding says accesses_conflict
 write_after_flush left one =
     it_can_happen (flushed_then_written left)
-    (next 0 (arrives [] (record flushed.first { tasks = flush_task ∷ later_write ∷ [] }) (refl, refl)) refl
-    (next 0 (turns
+    (next (arrives [] (record flushed.first { tasks = flush_task ∷ later_write ∷ [] }) (refl, refl))
+    (next (turns
     (turn_more rewritten
     (turn_more (record kept { tasks = later_write ∷ [] }) none
     (ended flush_task (inl refl) (carried_out (settled (record flushed.first { tasks = flush_task ∷ later_write ∷ [] })) flush_task)))
-    (ended later_write (inl refl) (done (ranged_write false (over 0 1) (bb ∷ [])) _ later_write refl)))) refl
-    (next 0 (happens [] (powered (holds left ∷ holds zeros ∷ [])) (record { none = refl; cells = (left_with (cached_over aa bb) left one, (left_with (holds zeros) zeros (inl refl), tt)); stays = refl })) refl
+    (ended later_write (inl refl) (done (ranged_write false (over 0 1) (bb ∷ [])) _ later_write refl))))
+    (next (happens [] (powered (holds left ∷ holds zeros ∷ [])) (record { none = refl; cells = (left_with (cached_over aa bb) left one, (left_with (holds zeros) zeros (inl refl), tt)); stays = refl }))
     ends_here)))
 
 pub later_write_kept : CanHappen (flushed_then_written bb)
@@ -79,15 +80,15 @@ pub cache_off : CanHappen turned_off
 unfolding change_from caching_list posted
 cache_off =
     it_can_happen turned_off
-    (next 0 (one_turn turned_off.last (ended select_task (inl refl) (carried_out (after_select turned_off.first select_task) select_task))) refl
+    (next (one_turn turned_off.last (ended select_task (inl refl) (carried_out (after_select turned_off.first select_task) select_task)))
     ends_here)
 
 pub cache_back : CanHappen turned_off_then_power
 unfolding change_from caching_list posted
 cache_back =
     it_can_happen turned_off_then_power
-    (next 0 (one_turn turned_off.last (ended select_task (inl refl) (carried_out (after_select turned_off.first select_task) select_task))) refl
-    (next 0 (happens [] (powered kept.cells) (record { none = refl; cells = (left_with (holds aa) aa (inl refl), (left_with (holds zeros) zeros (inl refl), tt)); stays = refl })) refl
+    (next (one_turn turned_off.last (ended select_task (inl refl) (carried_out (after_select turned_off.first select_task) select_task)))
+    (next (happens [] (powered kept.cells) (record { none = refl; cells = (left_with (holds aa) aa (inl refl), (left_with (holds zeros) zeros (inl refl), tt)); stays = refl }))
     ends_here))
 
 -- ---- a unit attention
@@ -99,8 +100,8 @@ pub attention_once : CanHappen told_once
 unfolding says fixed_form
 attention_once =
     it_can_happen told_once
-    (next 0 (happens [] (powered (blank 2).cells) (record { none = refl; cells = (left_with (holds zeros) zeros (inl refl), (left_with (holds zeros) zeros (inl refl), tt)); stays = refl })) refl
-    (next 0 (arrives _ told_once.last (refl, refl)) refl
-    (next 0 (arrives [] (record told_once.last { tasks = read_task ∷ [] }) (refl, refl)) refl
-    (next 0 (one_turn told_once.last (ended read_task (inl refl) (done (ranged_read false (over 0 1)) _ read_task refl))) refl
+    (next (happens [] (powered (blank 2).cells) (record { none = refl; cells = (left_with (holds zeros) zeros (inl refl), (left_with (holds zeros) zeros (inl refl), tt)); stays = refl }))
+    (next (arrives _ told_once.last (refl, refl))
+    (next (arrives [] (record told_once.last { tasks = read_task ∷ [] }) (refl, refl))
+    (next (one_turn told_once.last (ended read_task (inl refl) (done (ranged_read false (over 0 1)) _ read_task refl)))
     ends_here))))

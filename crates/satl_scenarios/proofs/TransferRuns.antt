@@ -36,10 +36,10 @@ pub read_after_write : CanHappen written_then_read
 unfolding says
 read_after_write =
     it_can_happen written_then_read
-    (next 0 (arrives [] (record (blank 3) { tasks = write_task ∷ [] }) (refl, refl)) refl
-    (next 0 (one_turn written (ended write_task (inl refl) (done (ranged_write false (over 0 1) (aa ∷ [])) _ write_task refl))) refl
-    (next 0 (arrives [] (record written { tasks = read_task ∷ [] }) (refl, refl)) refl
-    (next 0 (one_turn written (ended read_task (inl refl) (done (ranged_read false (over 0 1)) _ read_task refl))) refl
+    (next (arrives [] (record (blank 3) { tasks = write_task ∷ [] }) (refl, refl))
+    (next (one_turn written (ended write_task (inl refl) (done (ranged_write false (over 0 1) (aa ∷ [])) _ write_task refl)))
+    (next (arrives [] (record written { tasks = read_task ∷ [] }) (refl, refl))
+    (next (one_turn written (ended read_task (inl refl) (done (ranged_read false (over 0 1)) _ read_task refl)))
     ends_here))))
 
 -- ---- a write is aborted
@@ -65,9 +65,9 @@ pub abort_in_the_middle : CanHappen aborted_half_done
 unfolding says function_of
 abort_in_the_middle =
     it_can_happen aborted_half_done
-    (next 0 (arrives [] (record (blank 2) { tasks = long_write ∷ [] }) (refl, refl)) refl
-    (next 0 (manages _ Complete _ (record half_done { tasks = long_write ∷ [] }) half_done first_shows (record { response_is = refl; stays = refl })) refl
-    (next 0 (drained none refl) refl
+    (next (arrives [] (record (blank 2) { tasks = long_write ∷ [] }) (refl, refl))
+    (next (manages _ Complete _ (record half_done { tasks = long_write ∷ [] }) half_done first_shows (record { response_is = refl; stays = refl }))
+    (next (drained none refl)
     ends_here)))
 
 -- ---- a read has the tag of another
@@ -76,7 +76,7 @@ pub overlap : CanHappen overlapped_reads
 unfolding says fixed_form
 overlap =
     it_can_happen overlapped_reads
-    (next 0 (arrives [] (record (blank 2) { tasks = task 1 (Read Ten 0 1 false) [] ∷ [] }) (refl, refl)) refl
-    (next 0 (arrives _ (blank 2) (refl, refl)) refl
-    (next 0 (drained none refl) refl
+    (next (arrives [] (record (blank 2) { tasks = task 1 (Read Ten 0 1 false) [] ∷ [] }) (refl, refl))
+    (next (arrives _ (blank 2) (refl, refl))
+    (next (drained none refl)
     ends_here)))

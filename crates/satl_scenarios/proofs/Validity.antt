@@ -1,10 +1,14 @@
 -- The devices that the scenarios start from.
-use Rattle.std.proofs.Common.{◌≡◌, inl, refl, ap, arith, ℕ, zero, suc}
+use Rattle.std.proofs.Common.{◌≡◌, ◌<◌, inl, refl, ap, arith, ℕ, zero, suc}
 use Rattle.std.specs.Prelude.{replicate, slice_index}
 use Rattle.satl_base.specs.declared.block.Block.{Block}
+use Rattle.satl_identify.specs.Refusals.{IsIdentity, identity_of}
+use Rattle.std.proofs.lemmas.List.{length-replicate}
+use Rattle.std.proofs.lemmas.Bool.{le-ltb, ne_eqb}
+use Rattle.satl_base.specs.Identify.{capacity}
 use Rattle.satl_base.specs.Cells.{AreSound}
 use Rattle.satl_direct.specs.Valid.{IsValid}
-use Rattle.satl_scenarios.specs.Words.{blank, filled, holds, zeros}
+use Rattle.satl_scenarios.specs.Words.{blank, filled, identify_data, identity, holds, zeros}
 
 all_sound : (count : ℕ) → AreSound (replicate count (holds zeros))
 all_sound zero = tt
@@ -22,6 +26,18 @@ blank_valid count = record {
   nexuses = refl;
   attentions = (tt, (tt, (tt, (tt, tt))));
 }
+
+-- what stands in words 100 to 103 is the number of sectors
+capacity_told : (count : ℕ) → capacity (identify_data count) ≡ count
+unfolding identify_data
+capacity_told count = omega arith
+
+identity_real : (count : ℕ) → 0 < count → count < 256 → IsIdentity (identity count)
+unfolding identity_of identify_data
+identity_real count some few = rw (capacity_told count, ne_eqb count 0 (λ none. omega arith), le-ltb 281474976710655 count (omega arith)) refl
+
+pub blank_real : (count : ℕ) → 0 < count → count < 256 → IsIdentity (blank count).identity
+blank_real count some few = rw (length-replicate count (holds zeros)) (identity_real count some few)
 
 pub filled_differ : (a b : ℕ) → filled a ≡ filled b → a ≡ b
 unfolding filled

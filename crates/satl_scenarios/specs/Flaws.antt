@@ -20,6 +20,7 @@ flaw_among_writes = record {
       ∷ answered End (check 2 (sense_at 0x3 0x11 0x00 1) ∷ good 1 [] ∷ good 3 [] ∷ ended ∷ [])
       ∷ [];
   losses = 0;
+  depth = 3;
   last = device (cached_over zeros aa ∷ unreadable zeros ∷ cached_over zeros bb ∷ []);
 }
 
@@ -34,6 +35,7 @@ torn_write = record {
       ∷ answered (Turn 1) (check 1 (sense_at 0x3 0x0C 0x02 1) ∷ [])
       ∷ [];
   losses = 0;
+  depth = 1;
   last = device (cached_over zeros aa ∷ unwritable zeros ∷ []);
 }
 
@@ -49,5 +51,6 @@ garbled_read = record {
       ∷ answered (Turn 1) (good 2 (zeros ∷ []) ∷ [])
       ∷ [];
   losses = 0;
+  depth = 1;
   last = blank 2;
 }

@@ -15,6 +15,7 @@ lost_in_turn = record {
       ∷ answered (Turn 1) (check 1 (sense 0x4 0x08 0x00) ∷ check 2 (sense 0x4 0x08 0x00) ∷ [])
       ∷ [];
   losses = 1;
+  depth = 2;
   last = record (blank 3) { down = true };
 }
 
@@ -28,5 +29,6 @@ unplugged_twice = record {
       ∷ answered (Bench Unplug) (check 1 (sense 0x4 0x08 0x00) ∷ [])
       ∷ [];
   losses = 2;
+  depth = 0;
   last = record (blank 2) { down = true };
 }

@@ -25,6 +25,7 @@ flushed = record {
   first = cached_with flush [];
   steps = answered (Turn 1) (good 1 [] ∷ []) ∷ silent (Bench bench.Power) ∷ [];
   losses = 0;
+  depth = 0;
   last = powered (holds aa ∷ holds zeros ∷ []);
 }
 
@@ -38,6 +39,7 @@ flushed_then_written left = record {
       ∷ silent (Bench bench.Power)
       ∷ [];
   losses = 0;
+  depth = 1;
   last = powered (holds left ∷ holds zeros ∷ []);
 }
 
@@ -54,6 +56,7 @@ turned_off = record {
   first = cached_with select (caching_list ∷ []);
   steps = answered (Turn 1) (good 1 [] ∷ []) ∷ [];
   losses = 0;
+  depth = 0;
   last = record (device (holds aa ∷ holds zeros ∷ [])) {
     modes = record { wce = false; dra = false; d_sense = false };
     attentions = [] ∷ (ModeChanged ∷ []) ∷ (ModeChanged ∷ []) ∷ (ModeChanged ∷ []) ∷ [];
@@ -66,6 +69,7 @@ turned_off_then_power = record {
   first = turned_off.first;
   steps = turned_off.steps ++ silent (Bench bench.Power) ∷ [];
   losses = 0;
+  depth = 0;
   last = powered (holds aa ∷ holds zeros ∷ []);
 }
 
@@ -80,5 +84,6 @@ told_once = record {
       ∷ answered (Turn 1) (good 2 (zeros ∷ []) ∷ [])
       ∷ [];
   losses = 0;
+  depth = 1;
   last = record (blank 2) { attentions = [] ∷ (PowerOn ∷ []) ∷ (PowerOn ∷ []) ∷ (PowerOn ∷ []) ∷ [] };
 }

@@ -10,11 +10,13 @@ pub record Step : Type 0 where
   pub event : Frame
   pub answers : List Answer
 
--- the device at first, the events with their answers, how often the link is lost, and the device at last
+-- the device at first, the events with their answers, how often the link is lost, how many commands the device lets its drive
+-- hold at most, and the device at last
 pub record Scenario : Type 0 where
   pub first : Device
   pub steps : List Step
   pub losses : ℕ
+  pub depth : ℕ
   pub last : Device
 
 -- the events of a scenario, and its answers in a group for each event
@@ -24,7 +26,8 @@ events_of scenario = map (λ (step : Step). step.event) scenario.steps
 abbrev pub groups_of : Scenario → List (List Answer)
 groups_of scenario = map (λ (step : Step). step.answers) scenario.steps
 
--- the scenario is a run, and each event has the answers that stand beside it
+-- the scenario is a run; each event has the answers that stand beside it, and the depth is the greatest
 pub record CanHappen (scenario : Scenario) : Type 0 where
   pub run : Run scenario.first (events_of scenario) scenario.losses (joined (groups_of scenario)) scenario.last
   pub groups : run.groups ≡ groups_of scenario
+  pub depth : run.deep ≡ scenario.depth

@@ -16,6 +16,7 @@ written_then_read = record {
       ∷ answered (Turn 1) (good 2 (aa ∷ []) ∷ [])
       ∷ [];
   losses = 0;
+  depth = 1;
   last = device (cached_over zeros aa ∷ holds zeros ∷ holds zeros ∷ []);
 }
 
@@ -29,6 +30,7 @@ aborted_half_done = record {
       ∷ answered End (ended ∷ [])
       ∷ [];
   losses = 0;
+  depth = 1;
   last = device (cached_over zeros aa ∷ holds zeros ∷ []);
 }
 
@@ -42,5 +44,6 @@ overlapped_reads = record {
       ∷ answered End (ended ∷ [])
       ∷ [];
   losses = 0;
+  depth = 1;
   last = blank 2;
 }

@@ -7,6 +7,7 @@ use Rattle.satl_base.specs.declared.reply.Scsi.{Scsi}
 use Rattle.satl_base.specs.declared.reply.Scsi.TheVariants.{Good, CheckCondition}
 use Rattle.satl_base.specs.declared.reply.Response.TheVariants.{Complete}
 use Rattle.satl_base.specs.Cells.{Cell}
+use Rattle.satl_base.specs.Places.{byte, laid}
 use Rattle.satl_cdb.specs.declared.command.Command.{Command}
 use Rattle.satl_identify.specs.declared.identity.Identity.{Identity}
 use Rattle.satl_unit.specs.declared.attention.Attention.TheVariants.{PowerOn}
@@ -47,13 +48,27 @@ unreadable block = record (holds block) { read_flaw = true }
 abbrev pub unwritable : Block → Cell
 unwritable block = record (holds block) { write_flaw = true }
 
--- what IDENTIFY DEVICE data say, with no bearing here (profile)
-unfoldable pub identify_data : List ℕ
-identify_data = replicate 512 0
+-- the IDENTIFY DEVICE data of a drive of fewer than 256 sectors: LBA and DMA (word 49), trims with zeros (69, 105, 169), a queue of 32
+-- with trims in it (75 to 77), a cache and look-ahead that are there and on (82, 85), 48-bit addresses (83; ACS-3 7.12.7)
+unfoldable pub identify_data : ℕ → List ℕ
+identify_data capacity =
+    laid 512 (
+    byte 99 0x03 ∷ byte 138 0x20 ∷ byte 139 0x40 ∷ byte 150 31 ∷ byte 153 0x01 ∷ byte 154 0x40 ∷ byte 164 0x60 ∷ byte 167 0x64
+    ∷ byte 170 0x60 ∷ byte 200 capacity ∷ byte 210 1 ∷ byte 338 0x01 ∷ [])
 
--- a drive of so many sectors, with trims, a cache and look-ahead (profile)
+-- what these data say (ACS-3 7.12.7)
 abbrev pub identity : ℕ → Identity
-identity capacity = record { bytes = identify_data; capacity = capacity; exponent = 0; trim = true; queued_trim = true; cache = true; look = true; cache_on = true; look_on = true }
+identity capacity = record {
+  bytes = identify_data capacity;
+  capacity = capacity;
+  exponent = 0;
+  trim = true;
+  queued_trim = true;
+  cache = true;
+  look = true;
+  cache_on = true;
+  look_on = true;
+}
 
 -- a device with these sectors, started and up, with its cache on, no task and nothing to tell (profile)
 abbrev pub device : List Cell → Device

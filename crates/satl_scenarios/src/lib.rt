@@ -2,8 +2,9 @@
 //! definitions are not empty words.
 #![tactic(auto)]
 
-ghost use Rattle.std.specs.Prelude.{◌≡◌, ℕ};
+ghost use Rattle.std.specs.Prelude.{◌≡◌, ◌<◌, ℕ};
 ghost use Rattle.satl_direct.specs.Valid.{IsValid};
+ghost use Rattle.satl_identify.specs.Refusals.{IsIdentity};
 ghost use Rattle.satl_scenarios.specs.Flaws.{flaw_among_writes, garbled_read, torn_write};
 ghost use Rattle.satl_scenarios.specs.Links.{lost_in_turn, unplugged_twice};
 ghost use Rattle.satl_scenarios.specs.Power.{flushed, flushed_then_written, told_once, turned_off, turned_off_then_power};
@@ -14,6 +15,11 @@ ghost use Rattle.satl_scenarios.specs.Words.{aa, bb, blank, filled};
 /// The device that most of these start from is valid, however many sectors it has (profile).
 pub fn blank_devices_are_valid()
     ensures { (count : ℕ) → IsValid (blank count) }
+{}
+
+/// What such a device says of itself is what a drive of so many sectors may say (ACS-3 7.12.7).
+pub fn blank_devices_are_real()
+    ensures { (count : ℕ) → 0 < count → count < 256 → IsIdentity (blank count).identity }
 {}
 
 /// Blocks that are filled with different bytes are different (profile).
