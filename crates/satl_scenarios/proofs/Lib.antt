@@ -1,7 +1,10 @@
 pub mod Building
+pub mod CommandRuns
 pub mod Endings
 pub mod FlawRuns
+pub mod FunctionRuns
 pub mod LinkRuns
 pub mod PowerRuns
+pub mod RefusedRuns
 pub mod TransferRuns
 pub mod Validity

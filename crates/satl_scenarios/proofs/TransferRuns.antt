@@ -1,5 +1,5 @@
 -- Reads and writes that are done, aborted or not let in.
-use Rattle.std.proofs.Common.{inl, refl, true, false, [], ◌∷◌}
+use Rattle.std.proofs.Common.{inl, inr, refl, true, false, [], ◌∷◌}
 use Rattle.satl_base.specs.declared.reply.Response.TheVariants.{Complete}
 use Rattle.satl_base.specs.Moves.{stay, write}
 use Rattle.satl_cdb.specs.declared.command.Command.TheVariants.{Read, Write}
@@ -7,6 +7,7 @@ use Rattle.satl_cdb.specs.declared.command.Form.TheVariants.{Ten}
 use Rattle.satl_cdb.specs.Table.{says}
 use Rattle.satl_sense.specs.Fixed.{fixed_form}
 use Rattle.satl_unit.specs.Functions.{function_of}
+use Rattle.satl_line.specs.Conflict.{accesses_conflict}
 use Rattle.satl_line.specs.declared.entry.Entry.{Entry}
 use Rattle.satl_line.specs.Ranged.RangedTask.{ranged_read, ranged_write}
 use Rattle.satl_direct.specs.Device.{Device}
@@ -14,11 +15,11 @@ use Rattle.satl_direct.specs.Tasks.{over}
 use Rattle.satl_direct.specs.Quiet.{Quiet}
 use Rattle.satl_direct.specs.Run.TurnsOf.{none}
 use Rattle.satl_scenarios.specs.Scenario.{CanHappen}
-use Rattle.satl_scenarios.specs.Transfers.{written_then_read, aborted_half_done, overlapped_reads}
+use Rattle.satl_scenarios.specs.Transfers.{written_then_read, aborted_half_done, overlapped_reads, written_past_the_cache, garbled_write, one_too_many, full}
 use Rattle.satl_scenarios.specs.Words.{aa, bb, task, blank, device, cached_over, holds, zeros}
 use Rattle.satl_scenarios.proofs.Building.{it_can_happen, arrives, drained, manages, one_turn}
 use Rattle.satl_scenarios.proofs.Building.Follows.{next, ends_here}
-use Rattle.satl_scenarios.proofs.Endings.{ended, done}
+use Rattle.satl_scenarios.proofs.Endings.{ended, done, glitched}
 
 -- ---- a block is written and read
 
@@ -80,3 +81,33 @@ overlap =
     (next (arrives _ (blank 2) (refl, refl))
     (next (drained none refl)
     ends_here)))
+
+-- ---- past the cache
+
+abbrev forced_write : Entry
+forced_write = task 1 (Write Ten 0 1 true) (aa ∷ [])
+
+pub write_past_the_cache : CanHappen written_past_the_cache
+unfolding says
+write_past_the_cache =
+    it_can_happen written_past_the_cache
+    (next (arrives [] (record (blank 2) { tasks = forced_write ∷ [] }) (refl, refl))
+    (next (one_turn written_past_the_cache.last (ended forced_write (inl refl) (done (ranged_write true (over 0 1) (aa ∷ [])) _ forced_write refl)))
+    ends_here))
+
+-- ---- a write is garbled: its first block is left out, and the second is put
+
+pub write_garbled : CanHappen garbled_write
+unfolding says fixed_form
+write_garbled =
+    it_can_happen garbled_write
+    (next (arrives [] (record garbled_write.first { tasks = long_write ∷ [] }) (refl, refl))
+    (next (one_turn garbled_write.last
+    (ended long_write (inl refl) (glitched (ranged_write false (over 0 2) (aa ∷ bb ∷ [])) garbled_write.last.cells 0 _ long_write refl (inl (inr refl)) refl)))
+    ends_here))
+
+-- ---- a full task set
+
+pub set_full : CanHappen one_too_many
+unfolding says accesses_conflict
+set_full = it_can_happen one_too_many (next (arrives _ full (refl, refl)) ends_here)

@@ -9,11 +9,11 @@ use Rattle.satl_unit.specs.declared.attention.Attention.TheVariants.{ModeChanged
 use Rattle.satl_frame.specs.declared.frames.Frame.TheVariants.{Bench, Turn}
 use Rattle.satl_direct.specs.Device.{Device}
 use Rattle.satl_scenarios.specs.Scenario.{Scenario}
-use Rattle.satl_scenarios.specs.Words.{aa, answered, bb, blank, cached_over, check, device, good, holds, powered, read, sense, silent, task, write, zeros}
+use Rattle.satl_scenarios.specs.Words.{aa, answered, bb, blank, cached_over, check, device, good, holds, powered, read, sense, silent, with_task, write, zeros}
 
 -- a device whose first sector was written through the cache, with a command of tag 1 that waits
 abbrev pub cached_with : Command → List Block → Device
-cached_with command body = record (device (cached_over zeros aa ∷ holds zeros ∷ [])) { tasks = task 1 command body ∷ [] }
+cached_with command body = with_task 1 command body (cached_over zeros aa ∷ holds zeros ∷ [])
 
 -- SYNCHRONIZE CACHE of the whole medium (SBC-3, SYNCHRONIZE CACHE)
 abbrev pub flush : Command

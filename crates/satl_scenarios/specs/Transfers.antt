@@ -1,9 +1,15 @@
 -- Reads and writes that are done, aborted or not let in.
-use Rattle.std.specs.Prelude.{[], ◌∷◌}
-use Rattle.satl_frame.specs.declared.frames.Frame.TheVariants.{End, Turn}
+use Rattle.std.specs.Prelude.{false, [], ◌∷◌, drop, map}
+use Rattle.satl_base.specs.declared.reply.Scsi.TheVariants.{TaskSetFull}
+use Rattle.satl_base.specs.Places.{places}
+use Rattle.satl_cdb.specs.declared.command.Command.TheVariants as commands
+use Rattle.satl_cdb.specs.declared.command.Form.TheVariants.{Ten}
+use Rattle.satl_direct.specs.Device.{Device}
+use Rattle.satl_base.specs.declared.reply.Response.TheVariants.{Complete}
+use Rattle.satl_frame.specs.declared.frames.Frame.TheVariants.{End, Manage, Request, Turn}
 use Rattle.satl_frame.specs.Output.Answer.{ended}
 use Rattle.satl_scenarios.specs.Scenario.{Scenario}
-use Rattle.satl_scenarios.specs.Words.{aa, abort, aborted, answered, bb, blank, cached_over, check, device, good, holds, read, sense, silent, write, zeros}
+use Rattle.satl_scenarios.specs.Words.{aa, answered, bb, blank, cached_over, cdb_10, check, device, good, holds, manage, read, reply, request, response, sense, silent, task, write, zeros}
 
 -- a block is written through the cache and read: power may still bring the old one back (SBC-3 4.15, 5.10, 5.31)
 abbrev pub written_then_read : Scenario
@@ -26,7 +32,7 @@ aborted_half_done = record {
   first = blank 2;
   steps =
       silent (write 1 0 (aa ∷ bb ∷ []))
-      ∷ answered (abort 1) (aborted 1 ∷ [])
+      ∷ answered (Manage (manage 0 0x01 1)) (response 0 0x01 1 Complete ∷ [])
       ∷ answered End (ended ∷ [])
       ∷ [];
   losses = 0;
@@ -46,4 +52,44 @@ overlapped_reads = record {
   losses = 0;
   depth = 1;
   last = blank 2;
+}
+
+-- a write past the cache: nothing else is left to a loss of power (SBC-3 5.31, FUA)
+abbrev pub written_past_the_cache : Scenario
+written_past_the_cache = record {
+  first = blank 2;
+  steps =
+      silent (Request (request 1 (0x2A ∷ 0x08 ∷ drop 2 (cdb_10 0x2A 0 1)) (aa ∷ [])))
+      ∷ answered (Turn 1) (good 1 [] ∷ [])
+      ∷ [];
+  losses = 0;
+  depth = 1;
+  last = device (holds aa ∷ holds zeros ∷ []);
+}
+
+-- a write garbled by a CRC error: its second block alone is written (SPC-4 4.5.6; profile)
+abbrev pub garbled_write : Scenario
+garbled_write = record {
+  first = record (blank 2) { glitches = 1 };
+  steps =
+      silent (write 1 0 (aa ∷ bb ∷ []))
+      ∷ answered (Turn 1) (check 1 (sense 0xB 0x47 0x03) ∷ [])
+      ∷ [];
+  losses = 0;
+  depth = 1;
+  last = device (holds zeros ∷ cached_over zeros bb ∷ []);
+}
+
+-- as many reads as a task set holds, with the tags 1 to 64 (SAM-5 4.8; the figure: profile)
+abbrev pub full : Device
+full = record (blank 2) { tasks = map (λ tag. task tag (commands.Read Ten 0 1 false) []) (places 1 64 (λ tag. tag)) }
+
+-- one more is not taken: TASK SET FULL; and the drive holds 32 of them (SAM-5 5.3.1; the figure: profile)
+abbrev pub one_too_many : Scenario
+one_too_many = record {
+  first = full;
+  steps = answered (read 65 0 1) (reply 65 TaskSetFull [] [] ∷ []) ∷ [];
+  losses = 0;
+  depth = 32;
+  last = full;
 }

@@ -5,7 +5,8 @@ use Rattle.satl_base.specs.declared.request.Attr.TheVariants.{Simple}
 use Rattle.satl_base.specs.declared.request.Request.{Request}
 use Rattle.satl_base.specs.declared.reply.Scsi.{Scsi}
 use Rattle.satl_base.specs.declared.reply.Scsi.TheVariants.{Good, CheckCondition}
-use Rattle.satl_base.specs.declared.reply.Response.TheVariants.{Complete}
+use Rattle.satl_base.specs.declared.reply.Response.{Response}
+use Rattle.satl_base.specs.declared.request.Manage.{Manage}
 use Rattle.satl_base.specs.Cells.{Cell}
 use Rattle.satl_base.specs.Places.{byte, laid}
 use Rattle.satl_cdb.specs.declared.command.Command.{Command}
@@ -107,13 +108,21 @@ read tag lba count = frames.Request (request tag (cdb_10 0x28 lba count) [])
 abbrev pub write : ℕ → ℕ → List Block → Frame
 write tag lba blocks = frames.Request (request tag (cdb_10 0x2A lba (length blocks)) blocks)
 
--- ABORT TASK of the command of nexus 0 with this tag (SAM-5 7.2; its code: profile)
-abbrev pub abort : ℕ → Frame
-abort tag = frames.Manage (record { nexus = 0; function = 0x01; lun = replicate 8 0; tag = record { 0 = tag } })
+-- a task management function of a nexus, to the logical unit 0 (SAM-5 7; the codes: profile)
+abbrev pub manage : ℕ → ℕ → ℕ → Manage
+manage nexus function tag = record { nexus = nexus; function = function; lun = replicate 8 0; tag = record { 0 = tag } }
+
+-- the response to it (SAM-5 7.1)
+abbrev pub response : ℕ → ℕ → ℕ → Response → Answer
+response nexus function tag said = managed nexus function said (record { 0 = tag })
 
 -- the task that a command of nexus 0 becomes (SAM-5 4.8)
 abbrev pub task : ℕ → Command → List Block → Entry
 task tag command body = task_for true (request tag [] body) command
+
+-- a device with such a task alone
+abbrev pub with_task : ℕ → Command → List Block → List Cell → Device
+with_task tag command body cells = record (device cells) { tasks = task tag command body ∷ [] }
 
 -- an answer to nexus 0 (SAM-5 5.1)
 abbrev pub reply : ℕ → Scsi → List ℕ → List Block → Answer
@@ -126,10 +135,6 @@ good tag blocks = reply tag Good [] blocks
 abbrev pub check : ℕ → List ℕ → Answer
 check tag sense = reply tag CheckCondition sense []
 
--- the response to that: the function is complete (SAM-5 7.1)
-abbrev pub aborted : ℕ → Answer
-aborted tag = managed 0 0x01 Complete (record { 0 = tag })
-
 -- sense data in the fixed form: a sense key with its codes (SPC-4 4.5.3)
 abbrev pub sense : ℕ → ℕ → ℕ → List ℕ
 sense key asc ascq = 0x70 ∷ 0 ∷ key ∷ 0 ∷ 0 ∷ 0 ∷ 0 ∷ 0x0A ∷ 0 ∷ 0 ∷ 0 ∷ 0 ∷ asc ∷ ascq ∷ 0 ∷ 0 ∷ 0 ∷ 0 ∷ []
@@ -137,6 +142,10 @@ sense key asc ascq = 0x70 ∷ 0 ∷ key ∷ 0 ∷ 0 ∷ 0 ∷ 0 ∷ 0x0A ∷ 0 �
 -- the same with an address below 256 as INFORMATION (SPC-4 4.5.3)
 abbrev pub sense_at : ℕ → ℕ → ℕ → ℕ → List ℕ
 sense_at key asc ascq lba = 0xF0 ∷ 0 ∷ key ∷ 0 ∷ 0 ∷ 0 ∷ lba ∷ 0x0A ∷ 0 ∷ 0 ∷ 0 ∷ 0 ∷ asc ∷ ascq ∷ 0 ∷ 0 ∷ 0 ∷ 0 ∷ []
+
+-- the same with a byte of the CDB that is pointed to (SPC-4 4.5.2.4.2)
+abbrev pub sense_pointing : ℕ → ℕ → ℕ → ℕ → List ℕ
+sense_pointing key asc ascq place = 0x70 ∷ 0 ∷ key ∷ 0 ∷ 0 ∷ 0 ∷ 0 ∷ 0x0A ∷ 0 ∷ 0 ∷ 0 ∷ 0 ∷ asc ∷ ascq ∷ 0 ∷ 0xC0 ∷ 0 ∷ place ∷ []
 
 -- an event without an answer, and one with some
 abbrev pub silent : Frame → Step

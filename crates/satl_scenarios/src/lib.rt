@@ -5,11 +5,14 @@
 ghost use Rattle.std.specs.Prelude.{◌≡◌, ◌<◌, ℕ};
 ghost use Rattle.satl_direct.specs.Valid.{IsValid};
 ghost use Rattle.satl_identify.specs.Refusals.{IsIdentity};
+ghost use Rattle.satl_scenarios.specs.Commands.{compared, miscompared, same_written, stopped, stopped_unflushed, unmapped, verify_failed};
 ghost use Rattle.satl_scenarios.specs.Flaws.{flaw_among_writes, garbled_read, torn_write};
-ghost use Rattle.satl_scenarios.specs.Links.{lost_in_turn, unplugged_twice};
+ghost use Rattle.satl_scenarios.specs.Functions.{cleared, queried, reset};
+ghost use Rattle.satl_scenarios.specs.Links.{done_and_lost, lost_at_an_abort, lost_in_turn, lost_on_arrival, unplugged_twice};
 ghost use Rattle.satl_scenarios.specs.Power.{flushed, flushed_then_written, told_once, turned_off, turned_off_then_power};
+ghost use Rattle.satl_scenarios.specs.Refused.{not_started, refused};
 ghost use Rattle.satl_scenarios.specs.Scenario.{CanHappen};
-ghost use Rattle.satl_scenarios.specs.Transfers.{aborted_half_done, overlapped_reads, written_then_read};
+ghost use Rattle.satl_scenarios.specs.Transfers.{aborted_half_done, garbled_write, one_too_many, overlapped_reads, written_past_the_cache, written_then_read};
 ghost use Rattle.satl_scenarios.specs.Words.{aa, bb, blank, filled};
 
 /// The device that most of these start from is valid, however many sectors it has (profile).
@@ -95,4 +98,94 @@ pub fn a_read_overlaps()
 /// A unit attention is told once (SAM-5 5.14).
 pub fn an_attention_is_told()
     ensures { CanHappen told_once }
+{}
+
+/// A write past the cache leaves nothing else to a loss of power (SBC-3 5.31, FUA).
+pub fn a_write_passes_the_cache()
+    ensures { CanHappen written_past_the_cache }
+{}
+
+/// A write fails by a CRC error, and has written some of its blocks (SPC-4 4.5.6).
+pub fn a_write_is_garbled()
+    ensures { CanHappen garbled_write }
+{}
+
+/// A full task set takes no more, and 32 of its commands are the drive's (SAM-5 5.3.1).
+pub fn a_task_set_is_full()
+    ensures { CanHappen one_too_many }
+{}
+
+/// Commands are refused when they arrive (SPC-4 4.5.6).
+pub fn commands_are_refused()
+    ensures { CanHappen refused }
+{}
+
+/// A stopped unit reads nothing (SPC-4 4.5.6).
+pub fn a_stopped_unit_is_not_ready()
+    ensures { CanHappen not_started }
+{}
+
+/// Tasks are asked for, and functions are refused (SAM-5 7.1, 7.9).
+pub fn tasks_are_queried()
+    ensures { CanHappen queried }
+{}
+
+/// A nexus is told that another cleared its tasks (SAM-5 7.4).
+pub fn tasks_are_cleared()
+    ensures { CanHappen cleared }
+{}
+
+/// All nexuses are told that the logical unit was reset (SAM-5 7.7).
+pub fn a_unit_is_reset()
+    ensures { CanHappen reset }
+{}
+
+/// A task ends, and then the link is lost in the same turn (profile).
+pub fn a_link_is_lost_after_an_end()
+    ensures { CanHappen done_and_lost }
+{}
+
+/// The link is lost as a command arrives (profile).
+pub fn a_link_is_lost_on_arrival()
+    ensures { CanHappen lost_on_arrival }
+{}
+
+/// The link is lost as a task is aborted (profile).
+pub fn a_link_is_lost_at_an_abort()
+    ensures { CanHappen lost_at_an_abort }
+{}
+
+/// A unit is stopped, with all written back (SBC-3, START STOP UNIT).
+pub fn a_unit_is_stopped()
+    ensures { CanHappen stopped }
+{}
+
+/// A unit is stopped, and nothing is written back (SBC-3, START STOP UNIT).
+pub fn a_unit_is_stopped_unflushed()
+    ensures { CanHappen stopped_unflushed }
+{}
+
+/// Blocks are as the data-out (SBC-3 5.33).
+pub fn blocks_are_compared()
+    ensures { CanHappen compared }
+{}
+
+/// Blocks are not as the data-out (SBC-3 5.33).
+pub fn blocks_are_miscompared()
+    ensures { CanHappen miscompared }
+{}
+
+/// A flaw is found (SBC-3 5.33).
+pub fn blocks_are_not_verified()
+    ensures { CanHappen verify_failed }
+{}
+
+/// One block is written at each address of a range (SBC-3 5.42).
+pub fn one_block_is_written_at_each_address()
+    ensures { CanHappen same_written }
+{}
+
+/// Blocks are unmapped, and read as zeros (SBC-3 5.28).
+pub fn blocks_are_unmapped()
+    ensures { CanHappen unmapped }
 {}
