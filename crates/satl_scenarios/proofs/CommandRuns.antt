@@ -23,7 +23,7 @@ use Rattle.satl_scenarios.proofs.Endings.{ended, done}
 use Rattle.satl_scenarios.proofs.Validity.{filled_differ}
 
 -- a task that waits alone ends in a turn
-turn_ends : (command : Command) (body : List Block) (cells : List Cell) (reply : Reply) (last : Device) → Ends (with_task 1 command body cells) (task 1 command body) reply last → depth last ≡ 0 → last.down ≡ false → CanHappen (ends_with command body cells (replied reply) last)
+pub turn_ends : (command : Command) (body : List Block) (cells : List Cell) (reply : Reply) (last : Device) → Ends (with_task 1 command body cells) (task 1 command body) reply last → depth last ≡ 0 → last.down ≡ false → CanHappen (ends_with command body cells (replied reply) last)
 turn_ends command body cells reply last e none up = it_can_happen (ends_with command body cells (replied reply) last) (next (one_turn last (ended (task 1 command body) (inl refl) e)) (rw (none, up) ends_here))
 
 pub unit_stopped : CanHappen stopped

@@ -1,5 +1,5 @@
 -- Reads and writes that are done, aborted or not let in.
-use Rattle.std.proofs.Common.{inl, inr, refl, true, false, [], ◌∷◌}
+use Rattle.std.proofs.Common.{inl, inr, refl, arith, true, false, [], ◌∷◌}
 use Rattle.satl_base.specs.declared.reply.Response.TheVariants.{Complete}
 use Rattle.satl_base.specs.Moves.{stay, write}
 use Rattle.satl_cdb.specs.declared.command.Command.TheVariants.{Read, Write}
@@ -9,15 +9,16 @@ use Rattle.satl_sense.specs.Fixed.{fixed_form}
 use Rattle.satl_unit.specs.Functions.{function_of}
 use Rattle.satl_line.specs.Conflict.{accesses_conflict}
 use Rattle.satl_line.specs.declared.entry.Entry.{Entry}
+use Rattle.satl_frame.specs.declared.frames.Frame.TheVariants.{Turn}
 use Rattle.satl_line.specs.Ranged.RangedTask.{ranged_read, ranged_write}
 use Rattle.satl_direct.specs.Device.{Device}
 use Rattle.satl_direct.specs.Tasks.{over}
 use Rattle.satl_direct.specs.Quiet.{Quiet}
 use Rattle.satl_direct.specs.Run.TurnsOf.{none}
-use Rattle.satl_scenarios.specs.Scenario.{CanHappen}
-use Rattle.satl_scenarios.specs.Transfers.{written_then_read, aborted_half_done, overlapped_reads, written_past_the_cache, garbled_write, one_too_many, full}
-use Rattle.satl_scenarios.specs.Words.{aa, bb, task, blank, device, cached_over, holds, zeros}
-use Rattle.satl_scenarios.proofs.Building.{it_can_happen, arrives, drained, manages, one_turn}
+use Rattle.satl_scenarios.specs.Scenario.{CanBeCut, CanHappen, Scenario, events_of}
+use Rattle.satl_scenarios.specs.Transfers.{written_then_read, aborted_half_done, overlapped_reads, written_past_the_cache, garbled_write, one_too_many, full, cut_off}
+use Rattle.satl_scenarios.specs.Words.{aa, bb, read, silent, task, blank, device, cached_over, holds, zeros}
+use Rattle.satl_scenarios.proofs.Building.{it_can_happen, arrives, drained, manages, one_turn, turn_more}
 use Rattle.satl_scenarios.proofs.Building.Follows.{next, ends_here}
 use Rattle.satl_scenarios.proofs.Endings.{ended, done, glitched}
 
@@ -111,3 +112,47 @@ write_garbled =
 pub set_full : CanHappen one_too_many
 unfolding says accesses_conflict
 set_full = it_can_happen one_too_many (next (arrives _ full (refl, refl)) ends_here)
+
+-- ---- a run is cut off
+
+abbrev low_read : Entry
+low_read = task 1 (Read Ten 0 1 false) []
+
+abbrev high_read : Entry
+high_read = task 2 (Read Ten 1 1 false) []
+
+-- the two reads arrive
+abbrev arrived : Scenario
+arrived = record {
+  first = blank 2;
+  steps = silent (read 1 0 1) ∷ silent (read 2 1 1) ∷ [];
+  losses = 0;
+  depth = 2;
+  last = record (blank 2) { tasks = low_read ∷ high_read ∷ [] };
+}
+
+both_arrive : CanHappen arrived
+unfolding says accesses_conflict
+both_arrive =
+    it_can_happen arrived
+    (next (arrives [] (record (blank 2) { tasks = low_read ∷ [] }) (refl, refl))
+    (next (arrives [] arrived.last (refl, refl))
+    ends_here))
+
+pub run_cut : CanBeCut cut_off
+run_cut = record {
+  before = events_of arrived;
+  event = Turn 3;
+  events_are = refl;
+  earlier = [];
+  lost = 0;
+  mid = arrived.last;
+  run = both_arrive.run;
+  count = 1;
+  asked = omega arith;
+  replies = _;
+  deep = _;
+  turns = turn_more cut_off.last none (ended low_read (inl refl) (done (ranged_read false (over 0 1)) arrived.last low_read refl));
+  answer = refl;
+  losses_are = refl;
+}

@@ -1,5 +1,5 @@
 -- The devices that the scenarios start from.
-use Rattle.std.proofs.Common.{◌≡◌, ◌<◌, inl, refl, ap, arith, ℕ, zero, suc}
+use Rattle.std.proofs.Common.{◌≡◌, ◌<◌, inl, refl, ap, arith, ℕ, zero, suc, [], ◌∷◌}
 use Rattle.std.specs.Prelude.{replicate, slice_index}
 use Rattle.satl_base.specs.declared.block.Block.{Block}
 use Rattle.satl_identify.specs.Refusals.{IsIdentity, identity_of}
@@ -8,7 +8,9 @@ use Rattle.std.proofs.lemmas.Bool.{le-ltb, ne_eqb}
 use Rattle.satl_base.specs.Identify.{capacity}
 use Rattle.satl_base.specs.Cells.{AreSound}
 use Rattle.satl_direct.specs.Valid.{IsValid}
-use Rattle.satl_scenarios.specs.Words.{blank, filled, identify_data, identity, holds, zeros}
+use Rattle.satl_cdb.specs.Table.{says}
+use Rattle.satl_scenarios.specs.Transfers.{two_waiting}
+use Rattle.satl_scenarios.specs.Words.{aa, blank, cdb_10, request, filled, identify_data, identity, holds, zeros}
 
 all_sound : (count : ℕ) → AreSound (replicate count (holds zeros))
 all_sound zero = tt
@@ -22,6 +24,24 @@ blank_valid count = record {
   blocks = omega arith;
   own = tt;
   come = tt;
+  modes = record { cache = λ off. absurd cc; look = λ off. absurd cc };
+  nexuses = refl;
+  attentions = (tt, (tt, (tt, (tt, tt))));
+}
+
+-- each has come by the request of its tag
+pub waiting_valid : IsValid two_waiting
+unfolding says
+waiting_valid = record {
+  cells = refl;
+  sound = all_sound 3;
+  few = omega arith;
+  blocks = omega arith;
+  own = (refl, (refl, tt));
+  come = (
+    record { request = request 1 (cdb_10 0x2A 0 1) (aa ∷ []); at = blank 3; same = refl; became = refl },
+    (record { request = request 2 (cdb_10 0x28 1 1) []; at = blank 3; same = refl; became = refl }, tt),
+  );
   modes = record { cache = λ off. absurd cc; look = λ off. absurd cc };
   nexuses = refl;
   attentions = (tt, (tt, (tt, (tt, tt))));

@@ -3,7 +3,7 @@ use Rattle.std.specs.Prelude.{◌≡◌, ℕ, List, map}
 use Rattle.satl_frame.specs.declared.frames.Frame.{Frame}
 use Rattle.satl_frame.specs.Output.{Answer}
 use Rattle.satl_direct.specs.Device.{Device}
-use Rattle.satl_direct.specs.Run.{Run, joined}
+use Rattle.satl_direct.specs.Run.{CutShort, Run, joined}
 
 -- an event, and its answers
 pub record Step : Type 0 where
@@ -31,3 +31,7 @@ pub record CanHappen (scenario : Scenario) : Type 0 where
   pub run : Run scenario.first (events_of scenario) scenario.losses (joined (groups_of scenario)) scenario.last
   pub groups : run.groups ≡ groups_of scenario
   pub depth : run.deep ≡ scenario.depth
+
+-- the scenario is a run whose last event is cut short
+abbrev pub CanBeCut : Scenario → Type 0
+CanBeCut scenario = CutShort scenario.first (events_of scenario) scenario.losses (joined (groups_of scenario)) scenario.last

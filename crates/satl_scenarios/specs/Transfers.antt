@@ -93,3 +93,21 @@ one_too_many = record {
   depth = 32;
   last = full;
 }
+
+-- two commands that wait
+abbrev pub two_waiting : Device
+two_waiting = record (blank 3) { tasks = task 1 (commands.Write Ten 0 1 false) (aa ∷ []) ∷ task 2 (commands.Read Ten 1 1 false) [] ∷ [] }
+
+-- two reads, and of three turns one is taken: the second read waits
+abbrev pub cut_off : Scenario
+cut_off = record {
+  first = blank 2;
+  steps =
+      silent (read 1 0 1)
+      ∷ silent (read 2 1 1)
+      ∷ answered (Turn 3) (good 1 (zeros ∷ []) ∷ [])
+      ∷ [];
+  losses = 0;
+  depth = 2;
+  last = record (blank 2) { tasks = task 2 (commands.Read Ten 1 1 false) [] ∷ [] };
+}

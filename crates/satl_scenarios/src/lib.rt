@@ -9,15 +9,21 @@ ghost use Rattle.satl_scenarios.specs.Commands.{compared, miscompared, same_writ
 ghost use Rattle.satl_scenarios.specs.Flaws.{flaw_among_writes, garbled_read, torn_write};
 ghost use Rattle.satl_scenarios.specs.Functions.{cleared, queried, reset};
 ghost use Rattle.satl_scenarios.specs.Links.{done_and_lost, lost_at_an_abort, lost_in_turn, lost_on_arrival, unplugged_twice};
+ghost use Rattle.satl_scenarios.specs.Passes.{cache_disabled, identified, power_checked, unreadable_through, written_through};
 ghost use Rattle.satl_scenarios.specs.Power.{flushed, flushed_then_written, told_once, turned_off, turned_off_then_power};
 ghost use Rattle.satl_scenarios.specs.Refused.{not_started, refused};
-ghost use Rattle.satl_scenarios.specs.Scenario.{CanHappen};
-ghost use Rattle.satl_scenarios.specs.Transfers.{aborted_half_done, garbled_write, one_too_many, overlapped_reads, written_past_the_cache, written_then_read};
+ghost use Rattle.satl_scenarios.specs.Scenario.{CanBeCut, CanHappen};
+ghost use Rattle.satl_scenarios.specs.Transfers.{aborted_half_done, cut_off, garbled_write, one_too_many, overlapped_reads, two_waiting, written_past_the_cache, written_then_read};
 ghost use Rattle.satl_scenarios.specs.Words.{aa, bb, blank, filled};
 
 /// The device that most of these start from is valid, however many sectors it has (profile).
 pub fn blank_devices_are_valid()
     ensures { (count : ℕ) → IsValid (blank count) }
+{}
+
+/// A device with commands that wait may be valid too (profile).
+pub fn waiting_devices_are_valid()
+    ensures { IsValid two_waiting }
 {}
 
 /// What such a device says of itself is what a drive of so many sectors may say (ACS-3 7.12.7).
@@ -188,4 +194,34 @@ pub fn one_block_is_written_at_each_address()
 /// Blocks are unmapped, and read as zeros (SBC-3 5.28).
 pub fn blocks_are_unmapped()
     ensures { CanHappen unmapped }
+{}
+
+/// A host reads what the drive says of itself (SAT-3 12.2).
+pub fn a_drive_is_identified()
+    ensures { CanHappen identified }
+{}
+
+/// A host is given the registers at the end of a command (SAT-3 12.2.2.6).
+pub fn a_power_mode_is_checked()
+    ensures { CanHappen power_checked }
+{}
+
+/// A host turns the cache off by SET FEATURES (SAT-3 12.2).
+pub fn a_cache_is_disabled()
+    ensures { CanHappen cache_disabled }
+{}
+
+/// A host writes by an ATA command (SAT-3 12.2).
+pub fn a_block_is_written_through()
+    ensures { CanHappen written_through }
+{}
+
+/// A host reads a flawed sector by an ATA command (SAT-3 11).
+pub fn a_block_is_unreadable_through()
+    ensures { CanHappen unreadable_through }
+{}
+
+/// A run is cut short between its turns (profile).
+pub fn a_run_is_cut_off()
+    ensures { CanBeCut cut_off }
 {}
