@@ -16,7 +16,7 @@ use Rattle.satl_direct.specs.Tasks.{over}
 use Rattle.satl_direct.specs.Quiet.{Quiet}
 use Rattle.satl_direct.specs.Run.TurnsOf.{none}
 use Rattle.satl_scenarios.specs.Scenario.{CanBeCut, CanHappen, Scenario, events_of}
-use Rattle.satl_scenarios.specs.Transfers.{written_then_read, aborted_half_done, overlapped_reads, written_past_the_cache, garbled_write, one_too_many, full, cut_off}
+use Rattle.satl_scenarios.specs.Transfers.{written_then_read, aborted_half_done, overlapped_reads, reads_in_order, reads_in_reverse, written_past_the_cache, garbled_write, one_too_many, full, cut_off}
 use Rattle.satl_scenarios.specs.Words.{aa, bb, read, silent, task, blank, device, cached_over, holds, zeros}
 use Rattle.satl_scenarios.proofs.Building.{it_can_happen, arrives, drained, manages, one_turn, turn_more}
 use Rattle.satl_scenarios.proofs.Building.Follows.{next, ends_here}
@@ -43,6 +43,47 @@ read_after_write =
     (next (arrives [] (record written { tasks = read_task ∷ [] }) (refl, refl))
     (next (one_turn written (ended read_task (inl refl) (done (ranged_read false (over 0 1)) _ read_task refl)))
     ends_here))))
+
+-- ---- two reads
+
+abbrev low_read : Entry
+low_read = task 1 (Read Ten 0 1 false) []
+
+abbrev high_read : Entry
+high_read = task 2 (Read Ten 1 1 false) []
+
+-- the device while both wait
+abbrev both_wait : Device
+both_wait = record (blank 2) { tasks = low_read ∷ high_read ∷ [] }
+
+pub in_order : CanHappen reads_in_order
+unfolding says accesses_conflict
+in_order =
+    it_can_happen reads_in_order
+    (next (arrives [] (record (blank 2) { tasks = low_read ∷ [] }) (refl, refl))
+    (next (arrives [] both_wait (refl, refl))
+    (next (drained
+    (turn_more (blank 2)
+    (turn_more (record (blank 2) { tasks = high_read ∷ [] }) none
+    (ended low_read (inl refl) (done (ranged_read false (over 0 1)) _ low_read refl)))
+    (ended high_read (inl refl) (done (ranged_read false (over 1 1)) _ high_read refl)))
+    refl)
+    ends_here)))
+
+-- two reads do not conflict, so the second may end first
+pub in_reverse : CanHappen reads_in_reverse
+unfolding says accesses_conflict
+in_reverse =
+    it_can_happen reads_in_reverse
+    (next (arrives [] (record (blank 2) { tasks = low_read ∷ [] }) (refl, refl))
+    (next (arrives [] both_wait (refl, refl))
+    (next (drained
+    (turn_more (blank 2)
+    (turn_more (record (blank 2) { tasks = low_read ∷ [] }) none
+    (ended high_read (inr (refl, inl refl)) (done (ranged_read false (over 1 1)) _ high_read refl)))
+    (ended low_read (inl refl) (done (ranged_read false (over 0 1)) _ low_read refl)))
+    refl)
+    ends_here)))
 
 -- ---- a write is aborted
 
@@ -115,12 +156,6 @@ set_full = it_can_happen one_too_many (next (arrives _ full (refl, refl)) ends_h
 
 -- ---- a run is cut off
 
-abbrev low_read : Entry
-low_read = task 1 (Read Ten 0 1 false) []
-
-abbrev high_read : Entry
-high_read = task 2 (Read Ten 1 1 false) []
-
 -- the two reads arrive
 abbrev arrived : Scenario
 arrived = record {
@@ -128,7 +163,7 @@ arrived = record {
   steps = silent (read 1 0 1) ∷ silent (read 2 1 1) ∷ [];
   losses = 0;
   depth = 2;
-  last = record (blank 2) { tasks = low_read ∷ high_read ∷ [] };
+  last = both_wait;
 }
 
 both_arrive : CanHappen arrived

@@ -54,3 +54,17 @@ garbled_read = record {
   depth = 1;
   last = blank 2;
 }
+
+-- while a glitch is left a read may be done too (profile)
+abbrev pub spared_read : Scenario
+spared_read = record {
+  first = blank 2;
+  steps =
+      silent (Bench (Glitch 1))
+      ∷ silent (read 1 0 1)
+      ∷ answered (Turn 1) (good 1 (zeros ∷ []) ∷ [])
+      ∷ [];
+  losses = 0;
+  depth = 1;
+  last = record (blank 2) { glitches = 1 };
+}

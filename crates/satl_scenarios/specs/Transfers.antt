@@ -1,5 +1,5 @@
 -- Reads and writes that are done, aborted or not let in.
-use Rattle.std.specs.Prelude.{false, [], ◌∷◌, drop, map}
+use Rattle.std.specs.Prelude.{false, List, [], ◌∷◌, ◌++◌, drop, map}
 use Rattle.satl_base.specs.declared.reply.Scsi.TheVariants.{TaskSetFull}
 use Rattle.satl_base.specs.Places.{places}
 use Rattle.satl_cdb.specs.declared.command.Command.TheVariants as commands
@@ -7,6 +7,7 @@ use Rattle.satl_cdb.specs.declared.command.Form.TheVariants.{Ten}
 use Rattle.satl_direct.specs.Device.{Device}
 use Rattle.satl_base.specs.declared.reply.Response.TheVariants.{Complete}
 use Rattle.satl_frame.specs.declared.frames.Frame.TheVariants.{End, Manage, Request, Turn}
+use Rattle.satl_frame.specs.Output.{Answer}
 use Rattle.satl_frame.specs.Output.Answer.{ended}
 use Rattle.satl_scenarios.specs.Scenario.{Scenario}
 use Rattle.satl_scenarios.specs.Words.{aa, answered, bb, blank, cached_over, cdb_10, check, device, good, holds, manage, read, reply, request, response, sense, silent, task, write, zeros}
@@ -25,6 +26,27 @@ written_then_read = record {
   depth = 1;
   last = device (cached_over zeros aa ∷ holds zeros ∷ holds zeros ∷ []);
 }
+
+-- two reads wait, and END answers them so
+abbrev pub two_reads : List Answer → Scenario
+two_reads answers = record {
+  first = blank 2;
+  steps =
+      silent (read 1 0 1)
+      ∷ silent (read 2 1 1)
+      ∷ answered End (answers ++ ended ∷ [])
+      ∷ [];
+  losses = 0;
+  depth = 2;
+  last = blank 2;
+}
+
+-- in the order of arrival, and the other way round (SAM-5 8, command order)
+abbrev pub reads_in_order : Scenario
+reads_in_order = two_reads (good 1 (zeros ∷ []) ∷ good 2 (zeros ∷ []) ∷ [])
+
+abbrev pub reads_in_reverse : Scenario
+reads_in_reverse = two_reads (good 2 (zeros ∷ []) ∷ good 1 (zeros ∷ []) ∷ [])
 
 -- a write of two blocks is aborted when the first of them is on the medium: it is not answered (SAM-5 7.2)
 abbrev pub aborted_half_done : Scenario

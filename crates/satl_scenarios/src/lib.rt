@@ -6,14 +6,14 @@ ghost use Rattle.std.specs.Prelude.{◌≡◌, ◌<◌, ℕ};
 ghost use Rattle.satl_direct.specs.Valid.{IsValid};
 ghost use Rattle.satl_identify.specs.Refusals.{IsIdentity};
 ghost use Rattle.satl_scenarios.specs.Commands.{compared, miscompared, same_written, stopped, stopped_unflushed, unmapped, verify_failed};
-ghost use Rattle.satl_scenarios.specs.Flaws.{flaw_among_writes, garbled_read, torn_write};
+ghost use Rattle.satl_scenarios.specs.Flaws.{flaw_among_writes, garbled_read, spared_read, torn_write};
 ghost use Rattle.satl_scenarios.specs.Functions.{cleared, queried, reset};
 ghost use Rattle.satl_scenarios.specs.Links.{done_and_lost, lost_at_an_abort, lost_in_turn, lost_on_arrival, unplugged_twice};
 ghost use Rattle.satl_scenarios.specs.Passes.{cache_disabled, identified, power_checked, unreadable_through, written_through};
 ghost use Rattle.satl_scenarios.specs.Power.{flushed, flushed_then_written, told_once, turned_off, turned_off_then_power};
 ghost use Rattle.satl_scenarios.specs.Refused.{not_started, refused};
 ghost use Rattle.satl_scenarios.specs.Scenario.{CanBeCut, CanHappen};
-ghost use Rattle.satl_scenarios.specs.Transfers.{aborted_half_done, cut_off, garbled_write, one_too_many, overlapped_reads, two_waiting, written_past_the_cache, written_then_read};
+ghost use Rattle.satl_scenarios.specs.Transfers.{aborted_half_done, cut_off, garbled_write, one_too_many, overlapped_reads, reads_in_order, reads_in_reverse, two_waiting, written_past_the_cache, written_then_read};
 ghost use Rattle.satl_scenarios.specs.Words.{aa, bb, blank, filled};
 
 /// The device that most of these start from is valid, however many sectors it has (profile).
@@ -54,6 +54,21 @@ pub fn a_write_is_torn()
 /// A read fails by a CRC error, and the next one does not (SPC-4 4.5.6).
 pub fn a_read_is_garbled()
     ensures { CanHappen garbled_read }
+{}
+
+/// A read is done while a glitch is left (profile).
+pub fn a_read_is_spared()
+    ensures { CanHappen spared_read }
+{}
+
+/// Reads end in the order of arrival (SAM-5 8, command order).
+pub fn reads_end_in_order()
+    ensures { CanHappen reads_in_order }
+{}
+
+/// And they end the other way round (SAM-5 8, command order).
+pub fn reads_end_in_reverse()
+    ensures { CanHappen reads_in_reverse }
 {}
 
 /// A write is aborted with half of it on the medium (SAM-5 7.2).
