@@ -14,7 +14,7 @@ use Rattle.satl_direct.specs.Device.{Device}
 use Rattle.satl_direct.specs.Ending.{Ends}
 use Rattle.satl_direct.specs.Run.{depth}
 use Rattle.satl_direct.specs.Tasks.{over}
-use Rattle.satl_scenarios.specs.Commands.{compared, ends_with, miscompared, same_written, stopped, stopped_unflushed, unmap_list, unmapped, verify_failed, written}
+use Rattle.satl_scenarios.specs.Commands.{compared, ends_with, miscompared, same_written, started, stopped, stopped_unflushed, unmap_list, unmapped, verify_failed, written}
 use Rattle.satl_scenarios.specs.Scenario.{CanHappen}
 use Rattle.satl_scenarios.specs.Words.{aa, bb, holds, task, unreadable, with_task, zeros}
 use Rattle.satl_scenarios.proofs.Building.{it_can_happen, one_turn}
@@ -31,6 +31,9 @@ unit_stopped = turn_ends (StartStop false false) [] written _ stopped.last (reco
 
 pub unit_stopped_unflushed : CanHappen stopped_unflushed
 unit_stopped_unflushed = turn_ends (StartStop false true) [] written _ stopped_unflushed.last (record { answer = refl; stays = refl }) refl refl
+
+pub unit_started : CanHappen started
+unit_started = it_can_happen started (next (one_turn started.last (ended (task 1 (StartStop true false) []) refl (record { answer = refl; stays = refl }))) ends_here)
 
 pub blocks_compared : CanHappen compared
 blocks_compared = turn_ends (Verify Ten 0 2 true) (aa ∷ zeros ∷ []) written _ compared.last (inr (inl (refl, record { answer = refl; stays = refl }))) refl refl

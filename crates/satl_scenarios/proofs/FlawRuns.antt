@@ -3,6 +3,7 @@ use Rattle.std.proofs.Common.{inl, inr, refl, false, [], ◌∷◌}
 use Rattle.satl_cdb.specs.declared.command.Command.TheVariants.{Read, Write}
 use Rattle.satl_cdb.specs.declared.command.Form.TheVariants.{Ten}
 use Rattle.satl_cdb.specs.Table.{says}
+use Rattle.satl_sense.specs.Descriptor.{descriptor_form}
 use Rattle.satl_sense.specs.Fixed.{fixed_form}
 use Rattle.satl_line.specs.Conflict.{accesses_conflict}
 use Rattle.satl_line.specs.declared.entry.Entry.{Entry}
@@ -11,7 +12,7 @@ use Rattle.satl_direct.specs.Device.{Device}
 use Rattle.satl_direct.specs.Tasks.{over}
 use Rattle.satl_direct.specs.Run.TurnsOf.{none}
 use Rattle.satl_scenarios.specs.Scenario.{CanHappen}
-use Rattle.satl_scenarios.specs.Flaws.{flaw_among_writes, torn_write, garbled_read, spared_read}
+use Rattle.satl_scenarios.specs.Flaws.{flaw_among_writes, torn_write, garbled_read, spared_read, described}
 use Rattle.satl_scenarios.specs.Words.{aa, bb, task, blank, device, cached_over, holds, unreadable, unwritable, zeros}
 use Rattle.satl_scenarios.proofs.Building.{it_can_happen, arrives, drained, happens, one_turn, turn_more}
 use Rattle.satl_scenarios.proofs.Building.Follows.{next, ends_here}
@@ -118,3 +119,16 @@ read_spared =
     (next (arrives [] (record glitchy { tasks = first_read ∷ [] }) (refl, refl))
     (next (one_turn glitchy (ended first_read (inl refl) (done (ranged_read false (over 0 1)) _ first_read refl)))
     ends_here)))
+
+-- ---- a flaw is described
+
+abbrev long_read : Entry
+long_read = task 1 (Read Ten 0 2 false) []
+
+pub flaw_described : CanHappen described
+unfolding says descriptor_form
+flaw_described =
+    it_can_happen described
+    (next (arrives [] (record described.first { tasks = long_read ∷ [] }) (refl, refl))
+    (next (one_turn described.last (ended long_read (inl refl) (flawed (ranged_read false (over 0 2)) 1 described.first.cells _ long_read refl refl)))
+    ends_here))

@@ -18,7 +18,7 @@ use Rattle.satl_unit.specs.Functions.{function_of}
 use Rattle.satl_line.specs.Ranged.RangedTask.{ranged_read}
 use Rattle.satl_scenarios.proofs.Endings.{done, ended}
 use Rattle.satl_scenarios.specs.Scenario.{CanHappen}
-use Rattle.satl_scenarios.specs.Links.{done_and_lost, lost_at_an_abort, lost_in_turn, lost_on_arrival, unplugged_twice}
+use Rattle.satl_scenarios.specs.Links.{done_and_lost, lost_at_an_abort, lost_in_turn, lost_on_arrival, unplugged_again}
 use Rattle.satl_scenarios.specs.Words.{aa, task, blank, device}
 use Rattle.satl_scenarios.proofs.Building.{it_can_happen, arrives, arrives_and_loses, drained, happens, manages_and_loses, one_turn, turn_more}
 use Rattle.satl_scenarios.proofs.Building.Follows.{next, ends_here}
@@ -45,10 +45,10 @@ link_lost_in_turn =
 abbrev unplugged : Device
 unplugged = record (blank 2) { down = true }
 
-pub link_lost_twice : CanHappen unplugged_twice
+pub link_lost_twice : CanHappen unplugged_again
 unfolding says fixed_form
 link_lost_twice =
-    it_can_happen unplugged_twice
+    it_can_happen unplugged_again
     (next (happens [] unplugged (record { answer = refl; stays = refl }))
     (next (arrives [] (record unplugged { tasks = task 1 (Read Ten 0 1 false) [] ∷ [] }) (refl, refl))
     (next (happens _ unplugged (record { answer = refl; stays = refl }))

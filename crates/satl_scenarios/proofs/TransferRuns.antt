@@ -16,7 +16,7 @@ use Rattle.satl_direct.specs.Tasks.{over}
 use Rattle.satl_direct.specs.Quiet.{Quiet}
 use Rattle.satl_direct.specs.Run.TurnsOf.{none}
 use Rattle.satl_scenarios.specs.Scenario.{CanBeCut, CanHappen, Scenario, events_of}
-use Rattle.satl_scenarios.specs.Transfers.{written_then_read, aborted_half_done, overlapped_reads, reads_in_order, reads_in_reverse, written_past_the_cache, garbled_write, one_too_many, full, cut_off}
+use Rattle.satl_scenarios.specs.Transfers.{waking_read, ordered_read, written_then_read, aborted_half_done, overlapped_reads, reads_in_order, reads_in_reverse, written_past_the_cache, garbled_write, one_too_many, full, cut_off}
 use Rattle.satl_scenarios.specs.Words.{aa, bb, read, silent, task, blank, device, cached_over, holds, zeros}
 use Rattle.satl_scenarios.proofs.Building.{it_can_happen, arrives, drained, manages, one_turn, turn_more}
 use Rattle.satl_scenarios.proofs.Building.Follows.{next, ends_here}
@@ -84,6 +84,32 @@ in_reverse =
     (ended low_read (inl refl) (done (ranged_read false (over 0 1)) _ low_read refl)))
     refl)
     ends_here)))
+
+-- the ORDERED read conflicts with the one before it, so it ends second
+abbrev last_read : Entry
+last_read = record high_read { ordered = true }
+
+pub ordered_waits : CanHappen ordered_read
+unfolding says accesses_conflict
+ordered_waits =
+    it_can_happen ordered_read
+    (next (arrives [] (record (blank 2) { tasks = low_read ∷ [] }) (refl, refl))
+    (next (arrives [] (record (blank 2) { tasks = low_read ∷ last_read ∷ [] }) (refl, refl))
+    (next (drained
+    (turn_more (blank 2)
+    (turn_more (record (blank 2) { tasks = last_read ∷ [] }) none
+    (ended low_read (inl refl) (done (ranged_read false (over 0 1)) _ low_read refl)))
+    (ended last_read (inl refl) (done (ranged_read false (over 1 1)) _ last_read refl)))
+    refl)
+    ends_here)))
+
+pub read_wakes : CanHappen waking_read
+unfolding says
+read_wakes =
+    it_can_happen waking_read
+    (next (arrives [] (record waking_read.first { tasks = low_read ∷ [] }) (refl, refl))
+    (next (one_turn (blank 2) (ended low_read (inl refl) (done (ranged_read false (over 0 1)) _ low_read refl)))
+    ends_here))
 
 -- ---- a write is aborted
 

@@ -34,6 +34,16 @@ stopped = ends_with (StartStop false false) [] written (good 1 []) (record (devi
 abbrev pub stopped_unflushed : Scenario
 stopped_unflushed = ends_with (StartStop false true) [] written (good 1 []) (record (device written) { started = false; active = false })
 
+-- START STOP UNIT of a stopped unit: it is started and active (SBC-3, START STOP UNIT; SAT-3)
+abbrev pub started : Scenario
+started = record {
+  first = record (with_task 1 (StartStop true false) [] written) { started = false; active = false };
+  steps = answered (Turn 1) (good 1 [] ∷ []) ∷ [];
+  losses = 0;
+  depth = 0;
+  last = device written;
+}
+
 -- VERIFY with comparison: the data-out are what reads give, or they are not: MISCOMPARE DURING VERIFY OPERATION (SBC-3 5.33)
 abbrev pub compared : Scenario
 compared = ends_with (Verify Ten 0 2 true) (aa ∷ zeros ∷ []) written (good 1 []) (device written)

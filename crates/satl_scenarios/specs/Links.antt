@@ -22,8 +22,8 @@ lost_in_turn = record {
 }
 
 -- the link is unplugged, and again: a command between the two waits, and is answered at the second (profile)
-abbrev pub unplugged_twice : Scenario
-unplugged_twice = record {
+abbrev pub unplugged_again : Scenario
+unplugged_again = record {
   first = blank 2;
   steps =
       silent (Bench Unplug)

@@ -1,5 +1,6 @@
 -- Reads and writes that are done, aborted or not let in.
 use Rattle.std.specs.Prelude.{false, List, [], ◌∷◌, ◌++◌, drop, map}
+use Rattle.satl_base.specs.declared.request.Attr.TheVariants.{Ordered}
 use Rattle.satl_base.specs.declared.reply.Scsi.TheVariants.{TaskSetFull}
 use Rattle.satl_base.specs.Places.{places}
 use Rattle.satl_cdb.specs.declared.command.Command.TheVariants as commands
@@ -47,6 +48,30 @@ reads_in_order = two_reads (good 1 (zeros ∷ []) ∷ good 2 (zeros ∷ []) ∷ 
 
 abbrev pub reads_in_reverse : Scenario
 reads_in_reverse = two_reads (good 2 (zeros ∷ []) ∷ good 1 (zeros ∷ []) ∷ [])
+
+-- the second is ORDERED: it waits for the first, and the drive has one of them at a time (SAM-5 8.6)
+abbrev pub ordered_read : Scenario
+ordered_read = record {
+  first = blank 2;
+  steps =
+      silent (read 1 0 1)
+      ∷ silent (Request (record (request 2 (cdb_10 0x28 1 1) []) { attr = Ordered }))
+      ∷ answered End (good 1 (zeros ∷ []) ∷ good 2 (zeros ∷ []) ∷ ended ∷ [])
+      ∷ [];
+  losses = 0;
+  depth = 1;
+  last = blank 2;
+}
+
+-- a read of a drive in standby wakes it (ACS-3, power modes)
+abbrev pub waking_read : Scenario
+waking_read = record {
+  first = record (blank 2) { active = false };
+  steps = silent (read 1 0 1) ∷ answered (Turn 1) (good 1 (zeros ∷ []) ∷ []) ∷ [];
+  losses = 0;
+  depth = 1;
+  last = blank 2;
+}
 
 -- a write of two blocks is aborted when the first of them is on the medium: it is not answered (SAM-5 7.2)
 abbrev pub aborted_half_done : Scenario

@@ -25,6 +25,7 @@ use Rattle.satl_scenarios.specs.Scenario.{Step}
 unfoldable pub filled : ℕ → Block
 filled byte = record { bytes = replicate 512 byte }
 
+-- what is on a blank medium, and two blocks to be written
 abbrev pub zeros : Block
 zeros = filled 0x00
 

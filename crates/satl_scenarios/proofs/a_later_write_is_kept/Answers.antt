@@ -1,5 +1,0 @@
-use Rattle.satl_scenarios.proofs.PowerRuns.{later_write_kept}
-use Rattle.satl_scenarios.proofs.a_later_write_is_kept.Goals as goal
-
-pub returns : goal.returns
-returns c = later_write_kept

@@ -1,5 +1,0 @@
-use Rattle.satl_scenarios.proofs.LinkRuns.{link_lost_twice}
-use Rattle.satl_scenarios.proofs.a_link_is_lost_twice.Goals as goal
-
-pub returns : goal.returns
-returns c = link_lost_twice
