@@ -1,7 +1,7 @@
 -- Facts that are given by cases, and what a list counts.
-use Rattle.std.proofs.Common.{◌≡◌, ◌⊎◌, ⊎_elim, inl, inr, refl, sym, ap, ◌∙◌, ℕ, ◌+◌, Bool, true, false, List, [], ◌∷◌, ◌++◌, Option, Some, None, arith, cond}
+use Rattle.std.proofs.Common.{◌≡◌, refl, ◌+◌, Bool, true, false, List, [], ◌∷◌, ◌++◌, Option, Some, None, arith, cond}
 use Rattle.std.specs.Prelude.{MatchBool, MatchOption, not, filter, ◌&&◌}
-use Rattle.satl_base.specs.Lists.{how_many, remove_first}
+use Rattle.satl_base.specs.Lists.{how_many}
 
 pub by_bool : {A B C : Type 0} (b : Bool) → (A → C) → (B → C) → MatchBool b A B → C
 by_bool true f g h = f h

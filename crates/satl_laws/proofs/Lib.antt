@@ -1,2 +1,4 @@
+pub mod Arrivals
 pub mod Cases
+pub mod Counts
 pub mod Ends

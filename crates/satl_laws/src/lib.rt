@@ -1,4 +1,4 @@
 //! What holds of all runs of the device, and outcomes that no run has.
 #![tactic(auto)]
 
-pub mod never;
+pub mod laws;
