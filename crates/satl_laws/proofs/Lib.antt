@@ -2,3 +2,4 @@ pub mod Arrivals
 pub mod Cases
 pub mod Counts
 pub mod Ends
+pub mod Kept
