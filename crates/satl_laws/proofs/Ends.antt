@@ -112,7 +112,7 @@ module _ (s new : Device) (t : Entry) (reply : Reply) where
       (by_bool (not s.started && (asks t.command).starts) (λ e. checked_leaves _ e) (λ e. command_leaves t.command e))
 
 -- a task that may end was there
-eligible_in : (tasks : List Entry) (t : Entry) → IsEligible tasks t → IsIn t tasks
+pub eligible_in : (tasks : List Entry) (t : Entry) → IsEligible tasks t → IsIn t tasks
 eligible_in [] t e = elim e [ ]
 eligible_in (u ∷ us) t e = ⊎_elim (λ same. inl (sym same)) (λ later. inr (eligible_in us t later.1)) e
 

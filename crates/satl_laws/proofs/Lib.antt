@@ -5,3 +5,4 @@ pub mod Counts
 pub mod Ends
 pub mod Kept
 pub mod Reaching
+pub mod Sparing
