@@ -13,6 +13,9 @@ use Rattle.satl_cdb.specs.declared.command.Illegal.{Illegal}
 use Rattle.satl_cdb.specs.Table.{says}
 use Rattle.satl_cdb.specs.Unmap.{ranges_of}
 use Rattle.satl_unit.specs.declared.attention.Attention.{Attention}
+use Rattle.satl_line.specs.declared.entry.Entry.{Entry}
+use Rattle.satl_laws.proofs.Coming.{fields_own}
+use Rattle.satl_laws.proofs.Reaching.{WritesItsOwn}
 use Rattle.satl_direct.specs.Device.{Device, attentions_of, is_called}
 use Rattle.satl_direct.specs.Tasks.{asks, is_full, needed, range_of}
 use Rattle.satl_direct.specs.Arrival.{Arrival, arrival, asks_for, attention_arrival, attention_for, becomes, built, cdb_arrival, check, code_arrival, code_of, command_arrival, is_unit_0, other_arrival, placed, placed_unless, readiness, sense_told, unless_refused}
@@ -30,12 +33,18 @@ pub record IsTo (r : Request) (reply : Reply) : Type 0 where
   pub nexus : reply.nexus ≡ r.nexus
   pub tag : reply.tag ≡ r.tag
 
--- an arrival that answers the request, or gives a task of its nexus and tag
+-- a task of a request
+pub record IsOf (r : Request) (task : Entry) : Type 0 where
+  pub nexus : task.nexus ≡ r.nexus
+  pub tag : task.tag ≡ r.tag
+  pub own : WritesItsOwn task.command
+
+-- an arrival that answers the request, or gives a task of it
 abbrev pub IsFor : Request → Arrival → Type 0
 IsFor r (answered reply) = IsTo r reply
 IsFor r (attended reply) = IsTo r reply
 IsFor r (overlaps reply) = IsTo r reply
-IsFor r (waits task) = (task.nexus ≡ r.nexus) × (task.tag ≡ r.tag)
+IsFor r (waits task) = IsOf r task
 
 module _ (s : Device) (r : Request) where
   either_for : (b : Bool) (x y : Arrival) → IsFor r x → IsFor r y → IsFor r (if b then x else y)
@@ -49,50 +58,50 @@ module _ (s : Device) (r : Request) where
   ready_to : IsTo r (readiness s r)
   ready_to = either_to s.down _ _ (record { nexus = refl; tag = refl }) (either_to (not s.started) _ _ (record { nexus = refl; tag = refl }) (record { nexus = refl; tag = refl }))
 
-  placed_for : (c : Command) → IsFor r (placed s r c)
-  placed_for c = either_for (is_full s.tasks c) _ _ (record { nexus = refl; tag = refl }) (refl, refl)
+  placed_for : (c : Command) → WritesItsOwn c → IsFor r (placed s r c)
+  placed_for c own = either_for (is_full s.tasks c) _ _ (record { nexus = refl; tag = refl }) (record { nexus = refl; tag = refl; own = own })
 
-  unless_for : (idle : Bool) (c : Command) → IsFor r (placed_unless idle s r c)
-  unless_for idle c = either_for idle _ _ ready_to (placed_for c)
+  unless_for : (idle : Bool) (c : Command) → WritesItsOwn c → IsFor r (placed_unless idle s r c)
+  unless_for idle c own = either_for idle _ _ ready_to (placed_for c own)
 
   sense_for : (o : Option Attention) (descriptor : Bool) (alloc : ℕ) → IsFor r (sense_told o r descriptor alloc)
   sense_for None descriptor alloc = record { nexus = refl; tag = refl }
   sense_for (Some what) descriptor alloc = record { nexus = refl; tag = refl }
 
-  becomes_for : (c : Command) → IsFor r (becomes s r c)
-  becomes_for commands.TestUnitReady = ready_to
-  becomes_for (commands.RequestSense descriptor alloc) = sense_for (slice_get (attentions_of r.nexus s) 0) descriptor alloc
-  becomes_for (commands.Inquiry page alloc) = record { nexus = refl; tag = refl }
-  becomes_for (commands.ModeSense ten long_lba no_descriptor control page alloc) = record { nexus = refl; tag = refl }
-  becomes_for (commands.ModeSelect ten size) = unless_for (size == 0) (commands.ModeSelect ten size)
-  becomes_for (commands.StartStop start no_flush) = placed_for (commands.StartStop start no_flush)
-  becomes_for commands.ReadCapacity10 = record { nexus = refl; tag = refl }
-  becomes_for (commands.ReadCapacity16 alloc) = record { nexus = refl; tag = refl }
-  becomes_for (commands.ReportLuns select alloc) = record { nexus = refl; tag = refl }
-  becomes_for (commands.Read form lba count fua) = unless_for (count == 0) (commands.Read form lba count fua)
-  becomes_for (commands.Write form lba count fua) = unless_for (count == 0) (commands.Write form lba count fua)
-  becomes_for (commands.Verify form lba count compare) = unless_for (count == 0) (commands.Verify form lba count compare)
-  becomes_for (commands.Flush form lba count) = placed_for (commands.Flush form lba count)
-  becomes_for (commands.WriteSame form lba count unmap) = placed_for (commands.WriteSame form lba count unmap)
-  becomes_for (commands.Unmap size) = unless_for ((size == 0) || (length (ranges_of r.body) == 0)) (commands.Unmap size)
-  becomes_for (commands.Pass cdb) = placed_for (commands.Pass cdb)
+  becomes_for : (c : Command) → WritesItsOwn c → IsFor r (becomes s r c)
+  becomes_for commands.TestUnitReady own = ready_to
+  becomes_for (commands.RequestSense descriptor alloc) own = sense_for (slice_get (attentions_of r.nexus s) 0) descriptor alloc
+  becomes_for (commands.Inquiry page alloc) own = record { nexus = refl; tag = refl }
+  becomes_for (commands.ModeSense ten long_lba no_descriptor control page alloc) own = record { nexus = refl; tag = refl }
+  becomes_for (commands.ModeSelect ten size) own = unless_for (size == 0) (commands.ModeSelect ten size) own
+  becomes_for (commands.StartStop start no_flush) own = placed_for (commands.StartStop start no_flush) own
+  becomes_for commands.ReadCapacity10 own = record { nexus = refl; tag = refl }
+  becomes_for (commands.ReadCapacity16 alloc) own = record { nexus = refl; tag = refl }
+  becomes_for (commands.ReportLuns select alloc) own = record { nexus = refl; tag = refl }
+  becomes_for (commands.Read form lba count fua) own = unless_for (count == 0) (commands.Read form lba count fua) own
+  becomes_for (commands.Write form lba count fua) own = unless_for (count == 0) (commands.Write form lba count fua) own
+  becomes_for (commands.Verify form lba count compare) own = unless_for (count == 0) (commands.Verify form lba count compare) own
+  becomes_for (commands.Flush form lba count) own = placed_for (commands.Flush form lba count) own
+  becomes_for (commands.WriteSame form lba count unmap) own = placed_for (commands.WriteSame form lba count unmap) own
+  becomes_for (commands.Unmap size) own = unless_for ((size == 0) || (length (ranges_of r.body) == 0)) (commands.Unmap size) own
+  becomes_for (commands.Pass cdb) own = placed_for (commands.Pass cdb) own
 
-  refused_for : (o : Option Illegal) (next : Arrival) → IsFor r next → IsFor r (unless_refused o s r next)
-  refused_for None next n = n
+  refused_for : (o : Option Illegal) (next : Arrival) → (o ≡ None → IsFor r next) → IsFor r (unless_refused o s r next)
+  refused_for None next n = n refl
   refused_for (Some why) next n = record { nexus = refl; tag = refl }
 
-  command_for : (c : Command) → IsFor r (command_arrival s r c)
-  command_for c =
+  command_for : (c : Command) → WritesItsOwn c → IsFor r (command_arrival s r c)
+  command_for c own =
       either_for (nat_lt s.identity.capacity ((range_of c).lba + (range_of c).count)) _ _ (record { nexus = refl; tag = refl })
       (refused_for (asks c).length_fault _
-      (either_for (nat_lt r.data_len (needed c)) _ _ (record { nexus = refl; tag = refl })
-      (refused_for ((asks c).data_fault s.identity s.modes r.body) _ (becomes_for c))))
+      (λ fine. either_for (nat_lt r.data_len (needed c)) _ _ (record { nexus = refl; tag = refl })
+      (refused_for ((asks c).data_fault s.identity s.modes r.body) _ (λ good. becomes_for c own))))
 
   cdb_for : (said : Result Command Illegal) → IsFor r (cdb_arrival s r said)
   cdb_for (Err why) = record { nexus = refl; tag = refl }
-  cdb_for (Ok c) = refused_for (asks c).fields_fault _ (command_for c)
+  cdb_for (Ok c) = refused_for (asks c).fields_fault _ (λ fine. command_for c (fields_own c fine))
 
-  code_for : IsFor r (code_arrival s r)
+  pub code_for : IsFor r (code_arrival s r)
   code_for = either_for (not (is_in (code_of r) built)) _ _ (record { nexus = refl; tag = refl }) (cdb_for (says r.cdb s.identity.trim))
 
   attention_for_it : (o : Option Attention) → IsFor r (attention_arrival o s r)

@@ -132,7 +132,7 @@ module _ (nexus tag : ℕ) where
   arrives_counts (overlaps reply) r s new answers to h =
       omega (arith, to_counts r reply answers to h.0, ap (λ d. mine d.tasks) h.1, how_many-filter (is_of r.nexus) (is_called nexus tag) s.tasks)
   arrives_counts (waits task) r s new answers to h =
-      let come : weigh task.nexus task.tag ≡ weigh r.nexus r.tag = same_weight task.nexus r.nexus task.tag r.tag to.0 to.1 in
+      let come : weigh task.nexus task.tag ≡ weigh r.nexus r.tag = same_weight task.nexus r.nexus task.tag r.tag to.nexus to.tag in
       omega (arith, ap replies h.0, ap (λ d. mine d.tasks) h.1, how_many-append (is_called nexus tag) s.tasks (task ∷ []), come)
 
   -- what is taken off a device is taken off it after quiet moves

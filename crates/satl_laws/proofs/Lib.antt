@@ -1,8 +1,10 @@
 pub mod Addresses
 pub mod Arrivals
 pub mod Cases
+pub mod Coming
 pub mod Counts
 pub mod Ends
 pub mod Kept
 pub mod Reaching
+pub mod Runs
 pub mod Sparing

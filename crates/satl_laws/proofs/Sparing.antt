@@ -70,7 +70,7 @@ module _ (x : ℕ) where
     pub alike : Alike old new
     pub none_writes : NoneWrites new
 
-  spares_alike : (s u : Device) → Alike s u → (t : Entry) → SparesAt s t → SparesAt u t
+  pub spares_alike : (s u : Device) → Alike s u → (t : Entry) → SparesAt s t → SparesAt u t
   spares_alike s u a t h = record { spares = writes_alike x s u a t ∙ h.spares; own = h.own }
 
   -- tasks of a device that are those of an alike one, or some of them
