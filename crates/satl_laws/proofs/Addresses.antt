@@ -1,5 +1,5 @@
 -- Which sectors a task writes turns on nothing but the task, the number of sectors and what the drive says of itself.
-use Rattle.std.proofs.Common.{arith, ◌≡◌, refl, sym, ap, ◌∙◌, subst, ℕ, zero, suc, ◌+◌, ◌*◌, Bool, true, false, List, [], ◌∷◌, ◌++◌, map, length, replicate, take}
+use Rattle.std.proofs.Common.{arith, ◌≡◌, refl, sym, ap, ◌∙◌, ℕ, ◌+◌, ◌*◌, Bool, true, false, List, [], ◌∷◌, length, replicate, take}
 use Rattle.std.specs.Prelude.{◌/◌, ◌%◌, ◌^◌, not, ◌==◌, ◌&&◌, ◌||◌, ◌≢◌, nat_lt, if◌then◌else◌, slice_index, slice_set}
 use Rattle.std.specs.List.{list_any}
 use Rattle.std.proofs.lemmas.List.{get_or-set_other}
@@ -11,7 +11,7 @@ use Rattle.satl_base.specs.Cells.{Pair, pairs_from}
 use Rattle.satl_base.specs.Identify.{has_trim, trim_blocks, word, word_bit, word_bits}
 use Rattle.satl_cdb.specs.declared.command.Command.{Command}
 use Rattle.satl_cdb.specs.declared.command.Command.TheVariants as commands
-use Rattle.satl_identify.specs.Data.{identity_data, integrity_byte, with_integrity, with_settings, settings_byte}
+use Rattle.satl_identify.specs.Data.{identity_data, integrity_byte, with_settings, settings_byte}
 use Rattle.satl_regs.specs.declared.values.AtaCommand.{AtaCommand}
 use Rattle.satl_regs.specs.declared.values.AtaCommand.TheVariants as ata
 use Rattle.satl_regs.specs.Commands.{command_in}

@@ -1,18 +1,13 @@
 -- An ATA PASS-THROUGH that comes without data-out writes nothing.
-use Rattle.std.proofs.Common.{◌≡◌, refl, sym, ap, ◌∙◌, subst, ℕ, ◌+◌, ◌*◌, Bool, true, false, List, [], ◌∷◌, Option, Some, None, Result, Ok, Err, arith, eqb-true, take, length}
-use Rattle.std.specs.Prelude.{if◌then◌else◌, not, ◌==◌, ◌&&◌, ◌||◌, nat_lt, slice_get}
-use Rattle.std.specs.List.{AllByRecursion, list_any}
+use Rattle.std.proofs.Common.{◌≡◌, refl, sym, ap, ◌∙◌, subst, ℕ, ◌+◌, ◌*◌, Bool, true, false, List, [], ◌∷◌, Option, Some, None, Result, Err, arith, eqb-true, take, length}
+use Rattle.std.specs.Prelude.{if◌then◌else◌, not, ◌==◌, ◌&&◌, nat_lt}
+use Rattle.std.specs.List.{AllByRecursion}
 use Rattle.satl_base.specs.declared.block.Block.{Block}
-use Rattle.satl_base.specs.declared.request.Request.{Request}
 use Rattle.satl_base.specs.Cells.{pairs_from}
-use Rattle.satl_base.specs.Fields.{bit}
-use Rattle.satl_base.specs.Lists.{is_in}
 use Rattle.satl_cdb.specs.declared.command.Command.{Command}
 use Rattle.satl_cdb.specs.declared.command.Command.TheVariants as commands
 use Rattle.satl_cdb.specs.declared.command.Illegal.{Illegal}
 use Rattle.satl_cdb.specs.Rows.{Rule, unless_broken}
-use Rattle.satl_cdb.specs.Table.{says}
-use Rattle.satl_cdb.specs.Unmap.{ranges_of}
 use Rattle.satl_regs.specs.declared.values.AtaCommand.{AtaCommand}
 use Rattle.satl_regs.specs.declared.values.AtaCommand.TheVariants as ata
 use Rattle.satl_regs.specs.Commands.{command_in}
@@ -21,12 +16,7 @@ use Rattle.satl_regs.specs.Trim.{addresses}
 use Rattle.satl_pass.specs.declared.pass.Pass.{Pass}
 use Rattle.satl_pass.specs.Fields.{form_of, pass_in}
 use Rattle.satl_pass.specs.Reading.{has_other_direction, has_other_length, pass_says, rules}
-use Rattle.satl_unit.specs.declared.attention.Attention.{Attention}
-use Rattle.satl_line.specs.declared.entry.Entry.{Entry}
-use Rattle.satl_direct.specs.Device.{Device, attentions_of, is_called}
-use Rattle.satl_direct.specs.Tasks.{Asks, asks, fault_in, is_full, needed, pass_of, range_of}
-use Rattle.satl_direct.specs.Arrival.{Arrival, arrival, asks_for, attention_arrival, attention_for, becomes, built, cdb_arrival, code_arrival, code_of, command_arrival, is_unit_0, placed, placed_unless, sense_told, unless_refused}
-use Rattle.satl_direct.specs.Arrival.Arrival.{answered, attended, overlaps, waits}
+use Rattle.satl_direct.specs.Tasks.{Asks, asks, fault_in, pass_of}
 use Rattle.satl_laws.proofs.Reaching.{WritesItsOwn}
 
 -- no rule is broken where nothing is refused

@@ -1,8 +1,8 @@
 -- Sectors that nothing is written to.
-use Rattle.std.proofs.Common.{◌≡◌, ◌⊎◌, ⊎_elim, inl, inr, refl, sym, ap, ◌∙◌, subst, ℕ, zero, suc, Bool, true, false, List, [], ◌∷◌, ◌++◌, Option, Some, None, map, eqb-true, eq-eqb}
+use Rattle.std.proofs.Common.{◌≡◌, ◌⊎◌, ⊎_elim, inl, inr, refl, sym, ap, ◌∙◌, subst, ℕ, zero, suc, Bool, true, false, List, [], ◌∷◌, Option, Some, None, map, eq-eqb}
 use Rattle.std.specs.Prelude.{◌≢◌, ◌==◌, ◌||◌, slice_get}
 use Rattle.std.specs.Option.{option_map}
-use Rattle.std.specs.List.{AllZip, list_any}
+use Rattle.std.specs.List.{list_any}
 use Rattle.satl_base.specs.declared.bench.Which.{Which}
 use Rattle.satl_base.specs.declared.bench.Which.TheVariants as flaws
 use Rattle.satl_base.specs.declared.block.Block.{Block}
@@ -26,7 +26,7 @@ kept_on : (a b c : Cell) → Kept a b → Kept b c → Kept a c
 kept_on a b c p q = record { now = q.now ∙ p.now; fewer = λ v i. ⊎_elim (λ j. p.fewer v j) (λ same. inr (same ∙ p.now)) (q.fewer v i) }
 
 -- a sector that there is, or none
-abbrev KeptAs : Option Cell → Option Cell → Type 0
+abbrev pub KeptAs : Option Cell → Option Cell → Type 0
 KeptAs None None = Unit {0}
 KeptAs None (Some d) = ⊥
 KeptAs (Some c) None = ⊥
@@ -94,7 +94,7 @@ pub mend_keeps : (x lba : ℕ) (cells : List Cell) → KeptAt x cells (change_at
 mend_keeps x lba cells = record { at = at_change without_flaws (λ c. record { now = refl; fewer = λ v i. inl i }) x lba cells }
 
 -- a change at another place
-elsewhere : (f : Cell → Cell) (cells : List Cell) (lba x : ℕ) → lba ≢ x → slice_get (change_at cells lba f) x ≡ slice_get cells x
+pub elsewhere : (f : Cell → Cell) (cells : List Cell) (lba x : ℕ) → lba ≢ x → slice_get (change_at cells lba f) x ≡ slice_get cells x
 elsewhere f [] lba x other = refl
 elsewhere f (c ∷ cs) zero zero other = absurd (other refl)
 elsewhere f (c ∷ cs) zero (suc x) other = refl

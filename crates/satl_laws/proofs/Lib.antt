@@ -3,6 +3,7 @@ pub mod Arrivals
 pub mod Cases
 pub mod Coming
 pub mod Counts
+pub mod Durable
 pub mod Ends
 pub mod Kept
 pub mod Reaching

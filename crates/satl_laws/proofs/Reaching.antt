@@ -1,7 +1,7 @@
 -- What the end of a task does to the medium: pairs of the task are put or left out, or every sector is written back.
-use Rattle.std.proofs.Common.{◌≡◌, ◌⊎◌, ⊎_elim, inl, inr, refl, sym, ap, ◌∙◌, subst, ℕ, ◌+◌, Bool, true, false, List, [], ◌∷◌, Option, Some, None, map, length}
+use Rattle.std.proofs.Common.{◌≡◌, ⊎_elim, refl, sym, ap, ◌∙◌, subst, ℕ, ◌+◌, Bool, true, false, List, [], map, length}
 use Rattle.std.proofs.lemmas.List.{length-map}
-use Rattle.std.specs.Prelude.{MatchBool, MatchOption, not, ◌==◌, ◌&&◌, nat_lt, if◌then◌else◌, slice_get}
+use Rattle.std.specs.Prelude.{MatchBool, not, ◌==◌, ◌&&◌, nat_lt, if◌then◌else◌}
 use Rattle.std.specs.List.{list_any}
 use Rattle.satl_base.specs.declared.block.Block.{Block}
 use Rattle.satl_base.specs.declared.bench.Which.TheVariants as flaws
@@ -18,18 +18,17 @@ use Rattle.satl_regs.specs.declared.values.Taskfile.{Taskfile}
 use Rattle.satl_regs.specs.Commands.{command_in}
 use Rattle.satl_regs.specs.Effects.{Carries, Does, IsSet, Medium, Setting, Transfer, is_error_log, is_no_trim, pairs_of, reading, setting_of, settable, trimming, verifying, writing}
 use Rattle.satl_regs.specs.Effects.Setting.{sets_cache, sets_look}
-use Rattle.satl_pass.specs.declared.pass.Pass.{Pass}
 use Rattle.satl_line.specs.declared.entry.Entry.{Entry}
 use Rattle.satl_line.specs.Ranged.{RangedTask, written_pairs}
 use Rattle.satl_line.specs.Ending.{EndsAs, Outcome}
 use Rattle.satl_line.specs.Ending.Outcome.{ends_done, ends_flawed, ends_glitched}
 use Rattle.satl_direct.specs.Device.{Device}
 use Rattle.satl_direct.specs.Tasks.{asks, pass_of}
-use Rattle.satl_direct.specs.Ending.{Ends, EndsBy, EndsCompared, EndsGarbled, EndsInPieces, EndsOnMedium, EndsPassed, EndsTorn, EndsVerified, IsChecked, IsDone, after_select, after_start_stop, medium_of, same_pairs, selected, settled, settled_if}
-use Rattle.satl_direct.specs.Quiet.{writes, written_by}
+use Rattle.satl_direct.specs.Ending.{Ends, EndsBy, EndsCompared, EndsInPieces, EndsOnMedium, EndsPassed, EndsVerified, IsChecked, IsDone, after_select, after_start_stop, medium_of, selected, settled, settled_if}
+use Rattle.satl_direct.specs.Quiet.{written_by}
 use Rattle.satl_direct.specs.Laws.{Spares}
 use Rattle.satl_laws.proofs.Cases.{by_bool, by_option}
-use Rattle.satl_laws.proofs.Kept.{KeptAt, at_same, part_keeps, settle_keeps}
+use Rattle.satl_laws.proofs.Kept.{KeptAt, part_keeps, settle_keeps}
 
 -- pairs are put in order or left out, or every sector is written back
 pub data Steps (pairs : List Pair) (old : List Cell) : List Cell → Type 0 where

@@ -1,10 +1,8 @@
 -- Runs by their last event, and runs in which no task writes a sector.
-use Rattle.std.proofs.Common.{◌≡◌, ◌⊎◌, ⊎_elim, inl, inr, refl, sym, ap, ◌∙◌, subst, ℕ, suc, ◌+◌, Bool, true, false, List, [], ◌∷◌, ◌++◌, append_assoc, max}
+use Rattle.std.proofs.Common.{◌≡◌, refl, sym, ap, ◌∙◌, subst, ℕ, false, List, [], ◌∷◌, ◌++◌, append_assoc}
 use Rattle.std.proofs.lemmas.List.{append-nil}
 use Rattle.std.specs.List.{AllByRecursion}
 use Rattle.satl_base.specs.declared.request.Request.{Request}
-use Rattle.satl_base.specs.Lists.{IsIn}
-use Rattle.satl_base.proofs.ListsLemmas.{All-in}
 use Rattle.satl_frame.specs.declared.frames.Frame.{Frame}
 use Rattle.satl_frame.specs.declared.frames.Frame.TheVariants as frames
 use Rattle.satl_frame.specs.Output.{Answer}
@@ -13,11 +11,10 @@ use Rattle.satl_direct.specs.Device.{Device}
 use Rattle.satl_direct.specs.Arrival.{Arrival, arrival}
 use Rattle.satl_direct.specs.Arrival.Arrival.{answered, attended, overlaps, waits}
 use Rattle.satl_direct.specs.Quiet.{Quiet}
-use Rattle.satl_direct.specs.Run.{Does, RunDeep, joined, losses_in}
+use Rattle.satl_direct.specs.Run.{Does, RunDeep, joined}
 use Rattle.satl_direct.specs.Run.RunDeep.{start, step}
 use Rattle.satl_direct.specs.Laws.{SparedBy, SparedByNew, SparedIn, SparedThrough, WithoutPower, is_power}
-use Rattle.satl_laws.proofs.Arrivals.{IsFor, IsOf, arrival_for, arrival_quiet}
-use Rattle.satl_laws.proofs.Addresses.{writes_alike}
+use Rattle.satl_laws.proofs.Arrivals.{IsFor, arrival_for, arrival_quiet}
 use Rattle.satl_laws.proofs.Reaching.{WritesItsOwn}
 use Rattle.satl_laws.proofs.Sparing.{Keeps, NoneComes, NoneComesBy, NoneWrites, SparesAt, does_keep, keeps_none, keeps_on, quiet_alike, spares_alike}
 

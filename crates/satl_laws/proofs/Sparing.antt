@@ -1,5 +1,5 @@
 -- Steps of the device in which no task writes a sector.
-use Rattle.std.proofs.Common.{◌≡◌, ◌⊎◌, ⊎_elim, inl, inr, refl, sym, ap, ◌∙◌, subst, ℕ, suc, Bool, true, false, cond, List, [], ◌∷◌, ◌++◌, length, map}
+use Rattle.std.proofs.Common.{◌≡◌, ⊎_elim, sym, ap, ◌∙◌, subst, ℕ, Bool, true, false, cond, List, [], ◌∷◌, ◌++◌, length}
 use Rattle.std.specs.Prelude.{not, filter}
 use Rattle.std.specs.List.{AllByRecursion}
 use Rattle.satl_base.specs.declared.bench.BenchEvent.{BenchEvent}
@@ -8,7 +8,7 @@ use Rattle.satl_base.specs.declared.request.Manage.{Manage}
 use Rattle.satl_base.specs.declared.request.Request.{Request}
 use Rattle.satl_base.specs.declared.reply.Reply.{Reply}
 use Rattle.satl_base.specs.declared.reply.Response.{Response}
-use Rattle.satl_base.specs.Cells.{Cell, Pair, change_at}
+use Rattle.satl_base.specs.Cells.{Cell, change_at}
 use Rattle.satl_base.specs.Lists.{IsIn, remove_first}
 use Rattle.satl_base.proofs.CellsLemmas.{change_at-length}
 use Rattle.satl_base.proofs.ListsLemmas.{All-push_end, All-remove_first, All-weaken}
@@ -18,7 +18,6 @@ use Rattle.satl_frame.specs.declared.frames.Frame.{Frame}
 use Rattle.satl_frame.specs.declared.frames.Frame.TheVariants as frames
 use Rattle.satl_frame.specs.Output.{Answer}
 use Rattle.satl_line.specs.declared.entry.Entry.{Entry}
-use Rattle.satl_line.specs.Eligible.{IsEligible}
 use Rattle.satl_direct.specs.Device.{Device, is_called, is_of, of_others}
 use Rattle.satl_direct.specs.Arrival.{Arrival, Arrives, ArrivesAs, arrival}
 use Rattle.satl_direct.specs.Arrival.Arrival.{answered, attended, overlaps, waits}
@@ -27,7 +26,7 @@ use Rattle.satl_direct.specs.Management.{effect}
 use Rattle.satl_direct.specs.Quiet.{Around, Quiet, writes}
 use Rattle.satl_direct.specs.Turn.{OneEnds, Turn}
 use Rattle.satl_direct.specs.Turn.Turn.{idle, ends, loses, ends_and_loses}
-use Rattle.satl_direct.specs.Run.{Does, Manages, MayLose, RunDeep, TurnsOf}
+use Rattle.satl_direct.specs.Run.{Does, Manages, MayLose, TurnsOf}
 use Rattle.satl_direct.specs.Run.MayLose.{keeps, loses as steps_and_loses}
 use Rattle.satl_direct.specs.Run.TurnsOf.{none, more}
 use Rattle.satl_direct.specs.Laws.{Spares, is_power}
@@ -74,7 +73,7 @@ module _ (x : ℕ) where
   spares_alike s u a t h = record { spares = writes_alike x s u a t ∙ h.spares; own = h.own }
 
   -- tasks of a device that are those of an alike one, or some of them
-  none_still : (s u : Device) (tasks : List Entry) → Alike s u → u.tasks ≡ tasks → AllByRecursion (SparesAt s) tasks → NoneWrites u
+  pub none_still : (s u : Device) (tasks : List Entry) → Alike s u → u.tasks ≡ tasks → AllByRecursion (SparesAt s) tasks → NoneWrites u
   none_still s u tasks a same all = record { each = subst (AllByRecursion (SparesAt u)) (sym same) (All-weaken (SparesAt s) (SparesAt u) (spares_alike s u a) tasks all) }
 
   pub keeps_on : (a b c : Device) → Keeps a b → (NoneWrites b → Keeps b c) → Keeps a c
