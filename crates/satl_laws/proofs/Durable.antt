@@ -20,7 +20,9 @@ use Rattle.satl_line.specs.Ending.Outcome.{ends_done, ends_flawed, ends_glitched
 use Rattle.satl_direct.specs.Device.{Device, is_called}
 use Rattle.satl_direct.specs.Tasks.{asks, over}
 use Rattle.satl_direct.specs.Ending.{Ends, EndsBy, EndsOnMedium, outcome_reply, selected, settled_if}
-use Rattle.satl_direct.specs.Quiet.{written_by}
+use Rattle.satl_base.specs.declared.bench.BenchEvent.TheVariants as bench
+use Rattle.satl_direct.specs.Bench.{Happens}
+use Rattle.satl_direct.specs.Quiet.{Around, written_by}
 use Rattle.satl_direct.specs.Valid.{HasCome, IsValid}
 use Rattle.satl_direct.specs.Laws.{IsSpan, now_at, secures}
 use Rattle.satl_laws.proofs.Addresses.{Alike}
@@ -163,6 +165,14 @@ power_leaves x a b c single kept left = of (slice_get a x) (slice_get b x) (slic
     of (Some p) (Some q) None one k l = absurd l
     of (Some p) (Some q) (Some r) one k l = ap Some (⊎_elim (λ i. one p refl r.now i) (λ same. same) (k.fewer r.now l.one))
 
+-- a loss of power after steps that kept a single block
+pub power_keeps : (x : ℕ) (a last after : Device) (answers : List Reply) → IsSingle x a.cells → Keeps x a last → Around (Happens bench.Power) last answers after → now_at after.cells x ≡ now_at a.cells x
+power_keeps x a last after answers single kept p =
+    let before = keeps_on x a last p.before kept (quiet_keeps x last p.before p.quiet_before) in
+    let none : NoneWrites x p.after = record { each = subst (AllByRecursion (SparesAt x p.after)) (sym (ap (λ d. d.tasks) (p.step).stays)) tt } in
+    at_now x (p.after).cells after.cells (quiet_keeps x p.after after p.quiet_after none).cells
+    ∙ power_leaves x a.cells (p.before).cells (p.after).cells single before.cells (p.step).cells
+
 -- ---- the law
 
 come_own : (identity : Identity) (t : Entry) → HasCome identity t → WritesItsOwn t.command
@@ -174,17 +184,15 @@ own_of x s h = All-weaken (SparesAt x s) (λ t. WritesItsOwn t.command) (λ t k.
 alike_back : (s u : Device) → Alike s u → Alike u s
 alike_back s u a = record { identity = sym a.identity; size = sym a.size }
 
--- from the end of a task to a loss of power
-span_keeps : (x : ℕ) (mid after : Device) → AllByRecursion (λ t. WritesItsOwn t.command) mid.tasks → (span : IsSpan x mid after) → Keeps x mid (span.power).before
+-- from the end of a task up to a loss of power
+span_keeps : (x : ℕ) (mid after : Device) → AllByRecursion (λ t. WritesItsOwn t.command) mid.tasks → (span : IsSpan x mid after) → Keeps x mid span.last
 span_keeps x mid after own span =
     let same : (span.begin).tasks ≡ mid.tasks = quiet_tasks mid span.begin span.quiet in
     let begin : NoneWrites x span.begin = none_writes x span.begin span.none (subst (AllByRecursion (λ t. WritesItsOwn t.command)) (sym same) own) in
     let here : NoneWrites x mid = none_still x span.begin mid (span.begin).tasks (alike_back mid span.begin (quiet_alike x mid span.begin span.quiet)) (sym same) begin.each in
-    keeps_on x mid span.last (span.power).before
-    (keeps_on x mid span.mid span.last
+    keeps_on x mid span.mid span.last
     (keeps_on x mid span.begin span.mid (quiet_keeps x mid span.begin span.quiet here) (turns_keep x span.turns))
-    (λ h. run_keeps x span.run span.no_power span.spared (own_of x span.mid h)))
-    (quiet_keeps x span.last (span.power).before (span.power).quiet_before)
+    (λ h. run_keeps x span.run span.no_power span.spared (own_of x span.mid h))
 
 pub durable : (x : ℕ) (s mid after : Device) (t : Entry) (reply : Reply) →
     IsValid s → Ends s t reply mid → reply.status ≡ Good → secures t.command s t x ≡ true → IsSpan x mid after → now_at after.cells x ≡ now_at mid.cells x
@@ -194,7 +202,4 @@ durable x s mid after t reply valid ends good secure span =
     subst (AllByRecursion (λ u. WritesItsOwn u.command)) (sym l.tasks)
     (All-remove_first (λ u. WritesItsOwn u.command) (is_called t.nexus (t.tag).0) s.tasks (All-weaken (HasCome s.identity) (λ u. WritesItsOwn u.command) (come_own s.identity) s.tasks valid.come)) in
     let kept = span_keeps x mid after own span in
-    let p = span.power in
-    let none : NoneWrites x p.after = record { each = subst (AllByRecursion (SparesAt x p.after)) (sym (ap (λ d. d.tasks) (p.step).stays)) tt } in
-    at_now x (p.after).cells after.cells (quiet_keeps x p.after after p.quiet_after none).cells
-    ∙ power_leaves x mid.cells (p.before).cells (p.after).cells (secured x s mid t reply good secure ends) kept.cells (p.step).cells
+    power_keeps x mid span.last after span.answers (secured x s mid t reply good secure ends) kept span.power

@@ -6,6 +6,7 @@ pub mod Counts
 pub mod Durable
 pub mod Ends
 pub mod Kept
+pub mod Outcomes
 pub mod Reaching
 pub mod Runs
 pub mod Sparing

@@ -90,6 +90,10 @@ module _ (x : ℕ) where
       let a : Alike s u = record { identity = identity; size = ap length cells } in
       record { cells = at_same x s.cells u.cells cells; alike = a; none_writes = none_still s u tasks a same all }
 
+  -- no task is left, and the cells are those before
+  pub loss_keeps : (s u : Device) → u.cells ≡ s.cells → u.identity ≡ s.identity → u.tasks ≡ [] → Keeps s u
+  loss_keeps s u cells identity same = same_cells s u [] cells identity same tt
+
   pub quiet_alike : (old new : Device) → Quiet old new → Alike old new
   quiet_alike old new q = record { identity = ap (λ d. d.identity) q.stays; size = moves-length q.cells }
 
@@ -100,7 +104,8 @@ module _ (x : ℕ) where
     none_writes = none_still old new old.tasks (quiet_alike old new q) (quiet_tasks old new q) h.each;
   }
 
-  one_keeps : (s new : Device) (reply : Reply) → OneEnds s reply new → NoneWrites s → Keeps s new
+  -- a task ends
+  pub one_keeps : (s new : Device) (reply : Reply) → OneEnds s reply new → NoneWrites s → Keeps s new
   one_keeps s new reply e h =
       let spares = in_all (SparesAt s) s.tasks e.task h.each (may_end_in s e.task e.may) in
       let r = ends_reach s new e.task reply e.ends in
@@ -115,10 +120,10 @@ module _ (x : ℕ) where
   turn_keeps : {s new : Device} {answers : List Reply} → Turn s answers new → NoneWrites s → Keeps s new
   turn_keeps {s = s} (idle e) h = keeps_none s h
   turn_keeps {s = s} (ends {new = new} reply e) h = one_keeps s new reply e h
-  turn_keeps {s = s} (loses {new = new} l) h = same_cells s new [] (ap (λ d. d.cells) l.stays) (ap (λ d. d.identity) l.stays) (ap (λ d. d.tasks) l.stays) tt
+  turn_keeps {s = s} (loses {new = new} l) h = loss_keeps s new (ap (λ d. d.cells) l.stays) (ap (λ d. d.identity) l.stays) (ap (λ d. d.tasks) l.stays)
   turn_keeps {s = s} (ends_and_loses {mid = mid} {after = after} {new = new} reply e q l) h =
       keeps_on s after new (keeps_on s mid after (one_keeps s mid reply e h) (quiet_keeps mid after q))
-      (λ g. same_cells after new [] (ap (λ d. d.cells) l.stays) (ap (λ d. d.identity) l.stays) (ap (λ d. d.tasks) l.stays) tt)
+      (λ g. loss_keeps after new (ap (λ d. d.cells) l.stays) (ap (λ d. d.identity) l.stays) (ap (λ d. d.tasks) l.stays))
 
   around_keeps : {A : Type 0} (Step : Device → List A → Device → Type 0) (old new : Device) (answers : List A) (a : Around Step old answers new)
       → (Step a.before answers a.after → NoneWrites a.before → Keeps a.before a.after) → NoneWrites old → Keeps old new
@@ -135,7 +140,7 @@ module _ (x : ℕ) where
   may_lose_keeps Step old new answers each (keeps h) = each new answers h
   may_lose_keeps Step old new _ each (steps_and_loses {answers = said} {mid = mid} {after = after} h q l) =
       keeps_on old after new (keeps_on old mid after (each mid said h) (quiet_keeps mid after q))
-      (λ g. same_cells after new [] (ap (λ d. d.cells) l.stays) (ap (λ d. d.identity) l.stays) (ap (λ d. d.tasks) l.stays) tt)
+      (λ g. loss_keeps after new (ap (λ d. d.cells) l.stays) (ap (λ d. d.identity) l.stays) (ap (λ d. d.tasks) l.stays))
 
   arrives_keeps : (a : Arrival) (r : Request) (s new : Device) (answers : List Reply) → NoneComes s a → ArrivesAs a r s answers new → NoneWrites s → Keeps s new
   arrives_keeps (answered reply) r s new answers comes h g = same_cells s new s.tasks (ap (λ d. d.cells) h.1) (ap (λ d. d.identity) h.1) (ap (λ d. d.tasks) h.1) g.each
@@ -166,7 +171,7 @@ module _ (x : ℕ) where
   bench_keeps (bench.Glitch count) s new answers mains h g = same_cells s new s.tasks (ap (λ d. d.cells) h.new_is) (ap (λ d. d.identity) h.new_is) (ap (λ d. d.tasks) h.new_is) g.each
   bench_keeps (bench.Order order) s new answers mains h g = same_cells s new s.tasks (ap (λ d. d.cells) h.new_is) (ap (λ d. d.identity) h.new_is) (ap (λ d. d.tasks) h.new_is) g.each
   bench_keeps bench.Power s new answers mains h g = absurd cc
-  bench_keeps bench.Unplug s new answers mains h g = same_cells s new [] (ap (λ d. d.cells) h.stays) (ap (λ d. d.identity) h.stays) (ap (λ d. d.tasks) h.stays) tt
+  bench_keeps bench.Unplug s new answers mains h g = loss_keeps s new (ap (λ d. d.cells) h.stays) (ap (λ d. d.identity) h.stays) (ap (λ d. d.tasks) h.stays)
 
   -- what an event brings is judged after quiet moves
   abbrev pub NoneComesBy : Frame → Device → Type 0
