@@ -64,10 +64,10 @@ module _ (d : List ℕ) (cache look : Bool) where
   word_69 : word 69 (identity_data d cache look) ≡ word 69 d
   word_69 = word_kept d cache look 138 139 (λ h. omega (arith, h)) (λ h. omega (arith, h)) (λ h. omega (arith, h)) (λ h. omega (arith, h))
 
-  pub blocks_kept : trim_blocks (identity_data d cache look) ≡ trim_blocks d
+  blocks_kept : trim_blocks (identity_data d cache look) ≡ trim_blocks d
   blocks_kept = word_kept d cache look 210 211 (λ h. omega (arith, h)) (λ h. omega (arith, h)) (λ h. omega (arith, h)) (λ h. omega (arith, h))
 
-  pub trim_kept : has_trim (identity_data d cache look) ≡ has_trim d
+  trim_kept : has_trim (identity_data d cache look) ≡ has_trim d
   trim_kept =
       ap (λ (w : ℕ). word_bit_of w 0 && word_bit 69 14 (identity_data d cache look) && word_bit 69 5 (identity_data d cache look)) word_169
       ∙ ap (λ (w : ℕ). word_bit 169 0 d && word_bit_of w 14 && word_bit_of w 5) word_69

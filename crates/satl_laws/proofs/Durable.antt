@@ -48,7 +48,7 @@ settled_here (d ∷ ds) zero c h =
     subst (λ e. (v : Block) → IsIn v e.may → v ≡ e.now) (of_option (settle d) c h) (λ v i. ⊎_elim (λ same. same) (λ other. absurd other) i)
 settled_here (d ∷ ds) (suc x) c h = settled_here ds x c h
 
-pub settled_single : (x : ℕ) (cells new : List Cell) → new ≡ map settle cells → IsSingle x new
+settled_single : (x : ℕ) (cells new : List Cell) → new ≡ map settle cells → IsSingle x new
 settled_single x cells new is = subst (IsSingle x) (sym is) (record { each = settled_here cells x })
 
 -- a block that is written past the cache is single
@@ -154,7 +154,7 @@ left_at zero (c ∷ cs) (d ∷ ds) h = h.0
 left_at (suc x) (c ∷ cs) (d ∷ ds) h = left_at x cs ds h.1
 
 -- a single block that was kept is what is left
-pub power_leaves : (x : ℕ) (a b c : List Cell) → IsSingle x a → KeptAt x a b → AllZip IsLeftBehind b c → now_at c x ≡ now_at a x
+power_leaves : (x : ℕ) (a b c : List Cell) → IsSingle x a → KeptAt x a b → AllZip IsLeftBehind b c → now_at c x ≡ now_at a x
 power_leaves x a b c single kept left = of (slice_get a x) (slice_get b x) (slice_get c x) single.each kept.at (left_at x b c left)
   where
     of : (p q r : Option Cell) → ((d : Cell) → p ≡ Some d → (v : Block) → IsIn v d.may → v ≡ d.now) → KeptAs p q → LeftAs q r → option_map (λ d. d.now) r ≡ option_map (λ d. d.now) p

@@ -104,19 +104,19 @@ elsewhere f (c ∷ cs) (suc lba) (suc x) other = elsewhere f cs lba x (λ same. 
 pub apart : (lba x : ℕ) → (lba == x) ≡ false → lba ≢ x
 apart lba x h same = let no_way : true ≡ false = sym (eq-eqb lba x same) ∙ h in absurd cc
 
-pub put_keeps : (x : ℕ) (cells : List Cell) (p : Pair) → (p.lba == x) ≡ false → KeptAt x cells (put_at cells p)
+put_keeps : (x : ℕ) (cells : List Cell) (p : Pair) → (p.lba == x) ≡ false → KeptAt x cells (put_at cells p)
 put_keeps x cells p other =
     record { at = subst (KeptAs (slice_get cells x)) (sym (elsewhere (λ c. put c p.block p.cached) cells p.lba x (apart p.lba x other))) (as_none (slice_get cells x)) }
 
-pub or_left : (a b : Bool) → (a || b) ≡ false → a ≡ false
+or_left : (a b : Bool) → (a || b) ≡ false → a ≡ false
 or_left true b h = h
 or_left false b h = refl
 
-pub or_right : (a b : Bool) → (a || b) ≡ false → b ≡ false
+or_right : (a b : Bool) → (a || b) ≡ false → b ≡ false
 or_right true b h = absurd cc
 or_right false b h = h
 
-pub whole_keeps : (x : ℕ) (ps : List Pair) (cells : List Cell) → Spares x ps → KeptAt x cells (whole cells ps)
+whole_keeps : (x : ℕ) (ps : List Pair) (cells : List Cell) → Spares x ps → KeptAt x cells (whole cells ps)
 whole_keeps x [] cells spares = at_none x cells
 whole_keeps x (p ∷ ps) cells spares =
     at_on x cells (put_at cells p) (whole (put_at cells p) ps)

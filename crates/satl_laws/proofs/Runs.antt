@@ -67,11 +67,11 @@ split {first = first} {last = last} (step {events = events} {groups = groups} {l
     }
 
 -- no event
-pub record Rests (first last : Device) (groups : List (List Answer)) : Type 0 where
+record Rests (first last : Device) (groups : List (List Answer)) : Type 0 where
   pub same : last ≡ first
   pub silent : joined groups ≡ []
 
-pub rests : {first last : Device} {all : List Frame} {groups : List (List Answer)} {losses deep : ℕ} → RunDeep first all groups losses last deep → all ≡ [] → Rests first last groups
+rests : {first last : Device} {all : List Frame} {groups : List (List Answer)} {losses deep : ℕ} → RunDeep first all groups losses last deep → all ≡ [] → Rests first last groups
 rests start h = record { same = refl; silent = refl }
 rests (step {events = []} event now d so_far does) h = absurd cc
 rests (step {events = e ∷ events} event now d so_far does) h = absurd cc

@@ -36,11 +36,11 @@ use Rattle.satl_laws.proofs.Ends.{eligible_in, ends_leaves, may_end_in}
 use Rattle.satl_laws.proofs.Kept.{KeptAt, at_none, at_on, at_same, mend_keeps, moves_keep, spared_in, strike_keeps}
 use Rattle.satl_laws.proofs.Reaching.{WritesItsOwn, ends_reach, steps-length, steps_keep}
 
-pub in_all : {X : Type 0} (P : X → Type 0) (xs : List X) (x : X) → AllByRecursion P xs → IsIn x xs → P x
+in_all : {X : Type 0} (P : X → Type 0) (xs : List X) (x : X) → AllByRecursion P xs → IsIn x xs → P x
 in_all P [] x all i = elim i [ ]
 in_all P (y ∷ ys) x all i = ⊎_elim (λ same. subst P (sym same) all.0) (λ later. in_all P ys x all.1 later) i
 
-pub All-filter : {X : Type 0} (P : X → Type 0) (p : X → Bool) (xs : List X) → AllByRecursion P xs → AllByRecursion P (filter p xs)
+All-filter : {X : Type 0} (P : X → Type 0) (p : X → Bool) (xs : List X) → AllByRecursion P xs → AllByRecursion P (filter p xs)
 All-filter P p [] all = all
 All-filter P p (x ∷ xs) all =
     elim (p x) as (λ b. AllByRecursion P (cond b (x ∷ filter p xs) (filter p xs)))
