@@ -369,11 +369,14 @@ first_of old new l o = record {
   tasks = ap (λ t. map task_of (entries_of t)) o.tasks;
   identity = o.identity;
   wce = o.wce;
+  dra = o.dra;
   d_sense = o.d_sense;
   started = o.started;
   up = sym o.tied.mark ∙ o.up;
   active = ap (λ (d : DriveState). d.active) o.stays;
+  attentions = o.attentions;
   glitches = ap (λ (d : DriveState). d.glitches) o.stays;
+  valid = o.tied.valid;
 }
 
 pub served : (limit : ℕ) (old mid new : DriveState) (calls opened calls' : ℕ) (l l' : Layer) (a c w w' w'' : Option (List ℕ)) (u : Summary) → IsOpened old l mid → opened ≤ calls + 1 → Wrote w w' out_magic → Ended limit (view l mid) (tally_of mid opened) a c w' w'' (tally_of new calls') (view l' new) u → IsServed limit old a c w w'' calls calls' new u
