@@ -17,7 +17,7 @@ abbrev pub AreOwn : List Entry → Type 0
 AreOwn [] = Unit {0}
 AreOwn (t ∷ ts) = (list_any (is_called t.nexus (t.tag).0) ts ≡ false) × AreOwn ts
 
--- a task is that of a request whose operation code, fields, range and data-out were good at a device of this identity
+-- a task is that of a request whose operation code, fields, range and data-out were good at a device of this identity (SAM-5 4.8)
 pub record HasCome (identity : Identity) (t : Entry) : Type 0 where
   pub request : Request
   pub at : Device
@@ -25,7 +25,7 @@ pub record HasCome (identity : Identity) (t : Entry) : Type 0 where
   pub became : code_arrival at request ≡ waits t
 
 -- a device that there can be: as many sound sectors as its capacity; at most 64 tasks with at most 32,768 blocks, each with a nexus and
--- tag of its own, and come by a request; mode values that its drive can have; and for each of the four nexuses its conditions
+-- tag of its own, and come by a request; mode values that its drive can have; and for each of the four nexuses its conditions (SAM-5 4.8; profile)
 pub record IsValid (s : Device) : Type 0 where
   pub cells : length s.cells ≡ s.identity.capacity
   pub sound : AreSound s.cells

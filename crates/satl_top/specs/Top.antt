@@ -15,14 +15,14 @@ use Rattle.satl_serve.specs.Runs.{IsServed, IsStoppedBehind, IsStoppedInMagic, I
 use Rattle.satl_top.specs.declared.status.Status.{Status}
 use Rattle.satl_top.specs.declared.status.Status.TheVariants as statuses
 
--- two words, of which the second is `replay`
+-- two words, of which the second is `replay` (profile)
 abbrev pub is_replay : List (RcStr Global) → Bool
 is_replay [] = false
 is_replay (w ∷ []) = false
 is_replay (w ∷ v ∷ []) = pointwise nat_eq (rc_str_bytes v) (codes "replay")
 is_replay (w ∷ v ∷ u ∷ ws) = false
 
--- the exit number of each status
+-- the exit number of each status (profile)
 abbrev pub exit_number : Status → ℕ
 exit_number statuses.Done = 0
 exit_number statuses.Usage = 2
