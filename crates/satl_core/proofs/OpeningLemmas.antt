@@ -1,5 +1,5 @@
 -- What opening the layer gives.
-use Rattle.std.proofs.Common.{◌≡◌, refl, sym, ap, ◌∙◌, arith, ℕ, Bool, true, false, List, [], map, None}
+use Rattle.std.proofs.Common.{subst, ◌≡◌, refl, sym, ap, ◌∙◌, arith, ℕ, Bool, true, false, List, [], map, None}
 use Rattle.std.specs.Prelude.{Result, Ok, not, replicate, slice_index_or}
 use Rattle.satl_base.specs.declared.block.Block.{Block}
 use Rattle.satl_base.specs.declared.modes.Modes.{Modes}
@@ -39,6 +39,7 @@ tied old new given taken i modes free idle no_error told fit fit' judged wce dra
       fit = fit';
       cache = λ up. ap (λ (d : DriveState). d.cache) told.stays ∙ (sym fit.cache_told ∙ (ap (λ (j : Identity). j.cache_on) say ∙ sym wce));
       valid = record {
+        identity = subst (λ b. identity_of b ≡ Ok i) (ap (λ (j : Identity). j.bytes) say) judged;
         cells = fit'.sectors ∙ (ap (λ (d : DriveState). d.capacity) told.stays ∙ (sym fit.told ∙ ap (λ (j : Identity). j.capacity) say));
         sound = loses-sound old.cells new.cells told.lost;
         few = omega arith;

@@ -1,17 +1,20 @@
 -- Each step of the layer leaves a valid device.
-use Rattle.std.proofs.Common.{◌≡◌, ⊎_elim, inl, refl, sym, ap, subst, ◌∙◌, arith, cond, ℕ, zero, suc, ◌+◌, ◌≤◌, Bool, true, false, List, [], ◌∷◌, ◌++◌, length, map, drop, get_or, set, Some, None}
-use Rattle.std.specs.Prelude.{Option, Ok, MatchBool, not, ◌||◌, ◌&&◌, ◌==◌, nat_lt, filter}
+use Rattle.std.proofs.Common.{◌≡◌, ⊎_elim, inl, refl, sym, ap, subst, ◌∙◌, arith, cond, ℕ, zero, suc, ◌+◌, ◌≤◌, Bool, true, false, List, [], ◌∷◌, ◌++◌, length, map, take, drop, get_or, set, Some, None}
+use Rattle.std.specs.Prelude.{Option, Ok, MatchBool, not, ◌||◌, ◌&&◌, ◌==◌, ◌*◌, nat_lt, filter, replicate}
 use Rattle.std.specs.List.{AllByRecursion, list_any}
 use Rattle.std.proofs.lemmas.Bool.{eq-eqb, eqb-false, eqb-true, ltb-false}
-use Rattle.std.proofs.lemmas.List.{length-set}
+use Rattle.std.proofs.lemmas.List.{length-append, length-replicate, length-set}
+use Rattle.std.proofs.Math.Seq.{take-append_seam}
 use Rattle.satl_base.specs.declared.modes.Modes.{Modes}
 use Rattle.satl_base.specs.declared.reply.Reply.{Reply}
 use Rattle.satl_base.specs.declared.request.Request.{Request}
+use Rattle.satl_base.specs.Blocks.{zero_block}
 use Rattle.satl_base.specs.Lists.{LeavesOut}
 use Rattle.satl_cdb.specs.declared.command.Command.{Command}
 use Rattle.satl_identify.specs.declared.identity.Identity.{Identity}
 use Rattle.satl_unit.specs.declared.attention.Attention.{Attention}
 use Rattle.satl_unit.specs.Conditions.{IsInReportOrder, report_order}
+use Rattle.satl_frame.specs.DataPages.{page_count}
 use Rattle.satl_line.specs.declared.entry.Entry.{Entry}
 use Rattle.satl_line.specs.Tasks.{Held, entries_of, is_too_much}
 use Rattle.satl_drive.specs.State.{DriveState, IsFit}
@@ -88,6 +91,7 @@ valid_others : (nexus : ℕ) (s : Device) → IsValid s → IsValid (record s { 
 valid_others nexus s v =
     let less = fewer (λ t. not (is_of nexus t)) s.tasks in
     record {
+      identity = v.identity;
       cells = v.cells;
       sound = v.sound;
       few = omega (arith, less.0, v.few);
@@ -114,6 +118,7 @@ told_kept (suc nexus) (conditions ∷ lists) all = (all.0, told_kept nexus lists
 
 valid_told : (nexus : ℕ) (s : Device) → IsValid s → IsValid (once_told nexus s)
 valid_told nexus s v = record {
+  identity = v.identity;
   cells = v.cells;
   sound = v.sound;
   few = v.few;
@@ -177,6 +182,7 @@ valid_with s t room fits apart come v =
     let some = eqb-false (length s.tasks) 64 room in
     let within = ltb-false 32768 (held_by s.tasks + t.blocks) fits in
     record {
+      identity = v.identity;
       cells = v.cells;
       sound = v.sound;
       few = omega (arith, more, some, v.few);
@@ -188,8 +194,8 @@ valid_with s t room fits apart come v =
       attentions = v.attentions;
     }
 
-added_valid : (l new : Layer) (d : DriveState) (r : Request) (c : Command) (replies : List Reply) → judged l r ≡ Ok c → is_too_much l.tasks (task_without_pages r c l.identity.queued_trim) ≡ false → IsAdded r c l replies new → IsValid (view l d) → IsValid (view new d)
-added_valid l new d r c replies e fits a v =
+added_valid : (l new : Layer) (d : DriveState) (r : Request) (c : Command) (replies : List Reply) → judged l r ≡ Ok c → is_too_much l.tasks (task_without_pages r c l.identity.queued_trim) ≡ false → IsAdded r c l replies new → r.data_len ≤ 512 * length r.body → IsValid (view l d) → IsValid (view new d)
+added_valid l new d r c replies e fits a pages v =
     let room : is_full (map task_of (entries_of l.tasks)) c ≡ false = full_is l.tasks r c l.identity.queued_trim ∙ fits in
     let both = neither (length (map task_of (entries_of l.tasks)) == 64) (nat_lt 32768 (held_by (map task_of (entries_of l.tasks)) + held_blocks c)) room in
     let apart : overlaps l.tasks r ≡ false = by_ok (λ unit over what. over ≡ false) (is_unit_0 r.lun) (overlaps l.tasks r) (attention_of l.attentions r) l r c (λ ok. refl) e in
@@ -197,6 +203,7 @@ added_valid l new d r c replies e fits a v =
     subst IsValid (sym (ap (λ x. view x d) a.stays ∙ ap (λ ts. record (view l d) { tasks = ts }) a.last))
     (valid_with (view l d) (task_for l.identity.queued_trim r c) both.0 both.1 (sym (found_is r.nexus r.tag l.tasks 0) ∙ apart) (record {
       request = r;
+      pages = pages;
       at = view l d;
       same = refl;
       became = code_waits l d r c answer ∙ waits_so room;
@@ -205,12 +212,26 @@ added_valid l new d r c replies e fits a v =
     waits_so : is_full (map task_of (entries_of l.tasks)) c ≡ false → full_or_waits l d r c ≡ waits (task_for l.identity.queued_trim r c)
     waits_so room = rw room refl
 
-becomes_valid : (l new : Layer) (d : DriveState) (r : Request) (c : Command) (replies : List Reply) → judged l r ≡ Ok c → Becomes r c l replies new → IsValid (view l d) → IsValid (view new d)
-becomes_valid l new d r c replies e b v =
+becomes_valid : (l new : Layer) (d : DriveState) (r : Request) (c : Command) (replies : List Reply) → judged l r ≡ Ok c → Becomes r c l replies new → r.data_len ≤ 512 * length r.body → IsValid (view l d) → IsValid (view new d)
+becomes_valid l new d r c replies e b pages v =
     (elim (is_too_much l.tasks (task_without_pages r c l.identity.queued_trim)) as (λ f. is_too_much l.tasks (task_without_pages r c l.identity.queued_trim) ≡ f → MatchBool f (IsAnswered r at_once.Full l replies new) (IsAdded r c l replies new) → IsValid (view new d)) [
       | true ↦ λ is a. subst IsValid (sym (ap (λ x. view x d) a.stays)) v
-      | false ↦ λ is a. added_valid l new d r c replies e is a v
+      | false ↦ λ is a. added_valid l new d r c replies e is a pages v
     ]) refl b
+
+-- a request with zeros behind its pages, so that they hold its data-out
+abbrev pub filled_up : Request → Request
+filled_up r = record r { body = r.body ++ replicate (page_count r.data_len) zero_block }
+
+pub filled_up_holds : (r : Request) → (filled_up r).data_len ≤ 512 * length (filled_up r).body
+filled_up_holds r =
+    let all = length-append r.body (replicate (page_count r.data_len) zero_block) in
+    let more = length-replicate (page_count r.data_len) zero_block in
+    omega (arith, all, more)
+
+-- it is the request once they are cut off
+pub filled_up_cut : (r : Request) → r ≡ record (filled_up r) { body = take (length r.body) (filled_up r).body }
+filled_up_cut r = ap (λ b. record r { body = b }) (sym (take-append_seam r.body (replicate (page_count r.data_len) zero_block)))
 
 -- ---- the tie
 
@@ -230,8 +251,8 @@ tied_by l new d mark modes valid tied = record {
 }
 
 -- what becomes of a request leaves the layer tied
-pub becomes_tied : (l new : Layer) (d : DriveState) (r : Request) (c : Command) (replies : List Reply) → judged l r ≡ Ok c → Becomes r c l replies new → Tied l d → Tied new d
-becomes_tied l new d r c replies e b tied = tied_by l new d (ap (λ (x : Layer). x.down) same) (ap (λ (x : Layer). x.modes) same) (becomes_valid l new d r c replies e b tied.valid) tied
+pub becomes_tied : (l new : Layer) (d : DriveState) (r : Request) (c : Command) (replies : List Reply) → judged l r ≡ Ok c → Becomes r c l replies new → r.data_len ≤ 512 * length r.body → Tied l d → Tied new d
+becomes_tied l new d r c replies e b pages tied = tied_by l new d (ap (λ (x : Layer). x.down) same) (ap (λ (x : Layer). x.modes) same) (becomes_valid l new d r c replies e b pages tied.valid) tied
   where
     same : new ≡ record l { tasks = new.tasks; free = new.free; out = new.out }
     same = (elim (is_too_much l.tasks (task_without_pages r c l.identity.queued_trim)) as (λ f. MatchBool f (IsAnswered r at_once.Full l replies new) (IsAdded r c l replies new) → new ≡ record l { tasks = new.tasks; free = new.free; out = new.out }) [
@@ -252,6 +273,7 @@ still_tied_rest identity modes started down attentions tasks rest entry free out
       fit = fit;
       cache = λ up. stays.cache (mark ∙ up) ∙ tied.cache up;
       valid = record {
+        identity = v.identity;
         cells = sectors_still d d' identity.capacity fit tied.fit stays v.cells;
         sound = stays.sound;
         few = omega (arith, v.few);
@@ -276,6 +298,7 @@ still_tied_none identity modes started down attentions tasks none free out free'
       fit = fit;
       cache = λ up. absurd cc;
       valid = record {
+        identity = tied.valid.identity;
         cells = sectors_still d d' identity.capacity fit tied.fit stays tied.valid.cells;
         sound = stays.sound;
         few = omega arith;

@@ -16,9 +16,9 @@ ghost use Rattle.satl_scenarios.specs.Scenario.{CanBeCut, CanHappen};
 ghost use Rattle.satl_scenarios.specs.Transfers.{aborted_half_done, cut_off, garbled_write, one_too_many, ordered_read, overlapped_reads, reads_in_order, reads_in_reverse, two_waiting, waking_read, written_past_the_cache, written_then_read};
 ghost use Rattle.satl_scenarios.specs.Words.{aa, bb, blank, filled};
 
-/// The device that most of these start from is valid, however many sectors it has (profile).
+/// The device that most of these start from is valid, with any number of sectors below 256 (profile).
 pub fn blank_devices_are_valid()
-    ensures { (count : ℕ) → IsValid (blank count) }
+    ensures { (count : ℕ) → 0 < count → count < 256 → IsValid (blank count) }
 {}
 
 /// A device with commands that wait may be valid too (profile).

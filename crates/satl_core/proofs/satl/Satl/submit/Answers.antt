@@ -9,7 +9,7 @@ use Rattle.satl_core.proofs.AddingLemmas.{becomes_whole}
 use Rattle.satl_core.proofs.CountedLemmas.{becomes_more, judged_more}
 use Rattle.satl_core.proofs.DeviceLemmas.{arrives_around}
 use Rattle.satl_core.proofs.UnforcedLemmas.{becomes_unforced, judged_unforced_all, same_unforced}
-use Rattle.satl_core.proofs.ValidLemmas.{becomes_tied, once_judged_valid, tied_by}
+use Rattle.satl_core.proofs.ValidLemmas.{becomes_tied, filled_up, filled_up_cut, filled_up_holds, once_judged_valid, tied_by}
 use Rattle.satl_core.proofs.satl.Satl.submit.Goals as goal
 
 pub add_task-requires-clause-transfer : goal.add_task-requires-clause-transfer
@@ -69,7 +69,10 @@ returns-in-Err-clause-more g c =
 pub returns-in-Ok-clause-tied : goal.returns-in-Ok-clause-tied
 returns-in-Ok-clause-tied g c =
     let becomes = subst (λ (l : Layer). Becomes c.args.request c.in-Ok.command l c.add_task.new.replies c.add_task.new.self) c.in-Ok.ensures.same c.add_task.ensures.becomes in
-    becomes_tied c.args.self.now c.add_task.new.self (g.D.Drive.state c.args.drive.now) c.args.request c.in-Ok.command c.add_task.new.replies (sym c.in-Ok.ensures.judged) becomes c.requires.tied
+    let r = c.args.request in
+    becomes_tied c.args.self.now c.add_task.new.self (g.D.Drive.state c.args.drive.now) (filled_up r) c.in-Ok.command c.add_task.new.replies (sym c.in-Ok.ensures.judged)
+    (becomes_whole (filled_up r) r (length r.body) c.args.self.now.identity.capacity c.in-Ok.command c.args.self.now c.add_task.new.replies c.add_task.new.self (filled_up_cut r) c.in-Ok.ensures.transfer c.add_task.ensures.long becomes)
+    (filled_up_holds r) c.requires.tied
 
 pub returns-in-Err-clause-tied : goal.returns-in-Err-clause-tied
 returns-in-Err-clause-tied g c =
