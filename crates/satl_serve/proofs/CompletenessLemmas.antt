@@ -36,8 +36,8 @@ read_all limit place input rest (Some behind) fs events whole read =
     ap (λ (xs : List ℕ). Some xs) (sym (one_end limit Two input fs events rest behind whole (record { place = place; read = read })).1)
 
 -- each frame of a good input is carried out
-all_built : (limit : ℕ) (first last : Device) (l : Layer) (t0 t : Tally) (a c w w' : Option (List ℕ)) (fs : List Frame) (rest : List ℕ) → IsGoodInput limit a fs rest → NotServed limit first t0 a c w w' t l last → ⊥
-all_built limit first last l t0 t a c w w' fs rest good n = by_whole n.gave.whole refl
+all_built : (limit : ℕ) (first last : Device) (t0 t : Tally) (a c w w' : Option (List ℕ)) (fs : List Frame) (rest : List ℕ) → IsGoodInput limit a fs rest → NotServed limit first t0 a c w w' t last → ⊥
+all_built limit first last t0 t a c w w' fs rest good n = by_whole n.gave.whole refl
   where
     whole : ReadsToEnd n.reader.limit n.reader.newest good.input fs rest
     whole = subst (λ (v : Version). ReadsToEnd n.reader.limit v good.input fs rest) (sym n.newest_is) (subst (λ m. ReadsToEnd m Two good.input fs rest) (sym n.limit_is) good.whole)
@@ -48,8 +48,8 @@ all_built limit first last l t0 t a c w w' fs rest good n = by_whole n.gave.whol
     built : IsBuilt n.gave.whole
     built = (All-right IsBuilt n.events (n.gave.whole ∷ next.0) (subst (λ (gs : List Frame). AllByRecursion IsBuilt gs) (sym next.1) (All-append IsBuilt fs (frames.End ∷ []) good.built (tt, tt)))).0
 
-    not_built : (f : Frame) → n.gave.whole ≡ f → IsNotBuilt l (cut_to n.room f)
-    not_built f is = subst (IsNotBuilt l) (n.gave.cut ∙ ap (cut_to n.room) is) n.not_built
+    not_built : (f : Frame) → n.gave.whole ≡ f → IsNotBuilt (cut_to n.room f)
+    not_built f is = subst IsNotBuilt (n.gave.cut ∙ ap (cut_to n.room) is) n.not_built
 
     by_whole : (f : Frame) → n.gave.whole ≡ f → ⊥
     by_whole (frames.Request r) is = not_built (frames.Request r) is
@@ -67,24 +67,24 @@ never_refused limit first last t0 t a c w w' reason offset told fs rest good n =
     none_refused n.reader good.input fs n.events rest n.mid c reason offset whole (subst (λ (o : Option (List ℕ)). HasRead n.reader o n.mid n.events) good.told n.read) n.none_ends n.blames
 
 -- where serving stops behind the magic
-stops_complete : (limit : ℕ) (old new : DriveState) (first last : Device) (l : Layer) (t0 t : Tally) (a c w w' : Option (List ℕ)) (rb rn wb wn : ℕ) (fs : List Frame) (rest : List ℕ) (fault : ServeFault) →
-    IsGoodInput limit a fs rest → GoesWell old new rb rn wb wn → HasFrameCause rb rn wb wn fault → StoppedBehind limit first t0 a c w w' t l last fault → MayStop fault
-stops_complete limit old new first last l t0 t a c w w' rb rn wb wn fs rest (faults.Open fault) good well cause stopped = absurd stopped
-stops_complete limit old new first last l t0 t a c w w' rb rn wb wn fs rest (faults.BadInput reason offset) good well cause stopped =
+stops_complete : (limit : ℕ) (old new : DriveState) (first last : Device) (t0 t : Tally) (a c w w' : Option (List ℕ)) (rb rn wb wn : ℕ) (fs : List Frame) (rest : List ℕ) (fault : ServeFault) →
+    IsGoodInput limit a fs rest → GoesWell old new rb rn wb wn → HasFrameCause rb rn wb wn fault → StoppedBehind limit first t0 a c w w' t last fault → MayStop fault
+stops_complete limit old new first last t0 t a c w w' rb rn wb wn fs rest (faults.Open fault) good well cause stopped = absurd stopped
+stops_complete limit old new first last t0 t a c w w' rb rn wb wn fs rest (faults.BadInput reason offset) good well cause stopped =
     never_refused limit first last t0 t a c w w' reason offset (fault_bytes reason offset) fs rest good stopped
-stops_complete limit old new first last l t0 t a c w w' rb rn wb wn fs rest faults.Read good well cause stopped = well.reads cause
-stops_complete limit old new first last l t0 t a c w w' rb rn wb wn fs rest faults.Write good well cause stopped = well.writes cause
-stops_complete limit old new first last l t0 t a c w w' rb rn wb wn fs rest faults.NotBuilt good well cause stopped =
-    all_built limit first last l t0 t a c w w' fs rest good stopped
+stops_complete limit old new first last t0 t a c w w' rb rn wb wn fs rest faults.Read good well cause stopped = well.reads cause
+stops_complete limit old new first last t0 t a c w w' rb rn wb wn fs rest faults.Write good well cause stopped = well.writes cause
+stops_complete limit old new first last t0 t a c w w' rb rn wb wn fs rest faults.NotBuilt good well cause stopped =
+    all_built limit first last t0 t a c w w' fs rest good stopped
 
 -- all frames
 pub frames_complete : (r : Result Summary ServeFault) (limit : ℕ) (old mid new : DriveState) (l l' : Layer) (t0 t : Tally) (a c w w' : Option (List ℕ)) (rb rn wb wn : ℕ) → IfOk r (Ended limit (view l mid) t0 a c w w' t (view l' new)) →
-    IfErr r (StoppedBehind limit (view l mid) t0 a c w w' t l' (view l' new)) → IfErr r (HasFrameCause rb rn wb wn) →
+    IfErr r (StoppedBehind limit (view l mid) t0 a c w w' t (view l' new)) → IfErr r (HasFrameCause rb rn wb wn) →
     (fs : List Frame) (rest : List ℕ) → IsGoodInput limit a fs rest → GoesWell old new rb rn wb wn → MatchResult r (λ _. c ≡ Some rest) MayStop
 frames_complete (Ok u) limit old mid new l l' t0 t a c w w' rb rn wb wn ended stopped cause fs rest good well =
     read_all limit ended.place good.input rest c fs ended.events good.whole (subst (λ (x : Option (List ℕ)). ReadTo limit Two ended.place x c (ended.events ++ frames.End ∷ [])) good.told ended.read)
 frames_complete (Err fault) limit old mid new l l' t0 t a c w w' rb rn wb wn ended stopped cause fs rest good well =
-    stops_complete limit old new (view l mid) (view l' new) l' t0 t a c w w' rb rn wb wn fs rest fault good well cause stopped
+    stops_complete limit old new (view l mid) (view l' new) t0 t a c w w' rb rn wb wn fs rest fault good well cause stopped
 
 -- the layer was not opened
 pub opening_complete : (r : Result Summary ServeFault) (given : OpenFault) (P : ServeFault → Type 0) (old new : DriveState) (rb rn wb wn : ℕ) (fs : List Frame) (Read : Type 0) → IsErrAnd r P → ((e : ServeFault) → P e → e ≡ faults.Open given) → IsCause old new given → GoesWell old new rb rn wb wn →

@@ -477,10 +477,10 @@ cut_end limit first t0 t t' r r' a b c w w' w'' u s new room frame going gave fr
 
 -- ---- where serving stops
 
-pub stopped_by : (limit : ℕ) (first : Device) (t0 t : Tally) (r : Reading) (a b c w w' w'' : Option (List ℕ)) (u : Summary) (l : Layer) (s : Device) (why : FrameFault) (fault : ServeFault) → Going first t0 r a b w w' u t s → r.limit ≡ limit → r.newest ≡ Two → Blames r b c why → Tells why w' w'' fault
-    → StoppedBehind limit first t0 a c w w'' t l s fault
-stopped_by limit first t0 t r a b c w w' w'' u l s why (faults.Open opening) going limit_is newest_is blames tells = absurd tells
-stopped_by limit first t0 t r a b c w w' w'' u l s why (faults.BadInput reason offset) going limit_is newest_is blames tells = record {
+pub stopped_by : (limit : ℕ) (first : Device) (t0 t : Tally) (r : Reading) (a b c w w' w'' : Option (List ℕ)) (u : Summary) (s : Device) (why : FrameFault) (fault : ServeFault) → Going first t0 r a b w w' u t s → r.limit ≡ limit → r.newest ≡ Two → Blames r b c why → Tells why w' w'' fault
+    → StoppedBehind limit first t0 a c w w'' t s fault
+stopped_by limit first t0 t r a b c w w' w'' u s why (faults.Open opening) going limit_is newest_is blames tells = absurd tells
+stopped_by limit first t0 t r a b c w w' w'' u s why (faults.BadInput reason offset) going limit_is newest_is blames tells = record {
   reader = r;
   mid = b;
   events = going.events;
@@ -494,7 +494,7 @@ stopped_by limit first t0 t r a b c w w' w'' u l s why (faults.BadInput reason o
   run = going.run;
   calls = omega (arith, going.calls);
 }
-stopped_by limit first t0 t r a b c w w' w'' u l s why faults.Read going limit_is newest_is blames tells = record {
+stopped_by limit first t0 t r a b c w w' w'' u s why faults.Read going limit_is newest_is blames tells = record {
   reader = r;
   mid = b;
   events = going.events;
@@ -508,7 +508,7 @@ stopped_by limit first t0 t r a b c w w' w'' u l s why faults.Read going limit_i
   run = going.run;
   calls = omega (arith, going.calls);
 }
-stopped_by limit first t0 t r a b c w w' w'' u l s why faults.Write going limit_is newest_is blames tells = record {
+stopped_by limit first t0 t r a b c w w' w'' u s why faults.Write going limit_is newest_is blames tells = record {
   reader = r;
   mid = b;
   events = going.events;
@@ -522,11 +522,11 @@ stopped_by limit first t0 t r a b c w w' w'' u l s why faults.Write going limit_
   run = λ free. whole_cut t0.faults t.faults first going.events going.answers s (going.run free);
   calls = omega (arith, going.calls);
 }
-stopped_by limit first t0 t r a b c w w' w'' u l s why faults.NotBuilt going limit_is newest_is blames tells = absurd tells
+stopped_by limit first t0 t r a b c w w' w'' u s why faults.NotBuilt going limit_is newest_is blames tells = absurd tells
 
-pub not_served : (limit : ℕ) (first : Device) (t0 t : Tally) (r r' : Reading) (a b c w w' : Option (List ℕ)) (u : Summary) (l : Layer) (s : Device) (room : ℕ) (frame : Frame) → Going first t0 r a b w w' u t s → r.limit ≡ limit → r.newest ≡ Two → Gave r room frame r' b c → IsNotBuilt l frame
-    → NotServed limit first t0 a c w w' t l s
-not_served limit first t0 t r r' a b c w w' u l s room frame going limit_is newest_is gave not_built = record {
+pub not_served : (limit : ℕ) (first : Device) (t0 t : Tally) (r r' : Reading) (a b c w w' : Option (List ℕ)) (u : Summary) (s : Device) (room : ℕ) (frame : Frame) → Going first t0 r a b w w' u t s → r.limit ≡ limit → r.newest ≡ Two → Gave r room frame r' b c → IsNotBuilt frame
+    → NotServed limit first t0 a c w w' t s
+not_served limit first t0 t r r' a b c w w' u s room frame going limit_is newest_is gave not_built = record {
   reader = r;
   reader' = r';
   mid = b;
@@ -546,40 +546,38 @@ not_served limit first t0 t r r' a b c w w' u l s room frame going limit_is newe
 }
 
 -- a fault that comes from writing alone
-pub write_stops : (before now limit : ℕ) (first : Device) (t0 t : Tally) (a c w w' : Option (List ℕ)) (l : Layer) (s : Device) (fault : ServeFault) → HasWriteCause before now fault → Cut limit first t0 a c w w' t s → StoppedBehind limit first t0 a c w w' t l s fault
-write_stops before now limit first t0 t a c w w' l s (faults.Open opening) h cut = absurd h
-write_stops before now limit first t0 t a c w w' l s (faults.BadInput reason offset) h cut = absurd h
-write_stops before now limit first t0 t a c w w' l s faults.Read h cut = absurd h
-write_stops before now limit first t0 t a c w w' l s faults.Write h cut = cut
-write_stops before now limit first t0 t a c w w' l s faults.NotBuilt h cut = absurd h
+pub write_stops : (before now limit : ℕ) (first : Device) (t0 t : Tally) (a c w w' : Option (List ℕ)) (s : Device) (fault : ServeFault) → HasWriteCause before now fault → Cut limit first t0 a c w w' t s → StoppedBehind limit first t0 a c w w' t s fault
+write_stops before now limit first t0 t a c w w' s (faults.Open opening) h cut = absurd h
+write_stops before now limit first t0 t a c w w' s (faults.BadInput reason offset) h cut = absurd h
+write_stops before now limit first t0 t a c w w' s faults.Read h cut = absurd h
+write_stops before now limit first t0 t a c w w' s faults.Write h cut = cut
+write_stops before now limit first t0 t a c w w' s faults.NotBuilt h cut = absurd h
 
-pub any_write_stops : {A : Type 0} (r : Result A ServeFault) (before now limit : ℕ) (first : Device) (t0 t : Tally) (a c w w' : Option (List ℕ)) (l : Layer) (s : Device) → IfErr r (HasWriteCause before now) → OnErr r (Cut limit first t0 a c w w' t s) → IfErr r (StoppedBehind limit first t0 a c w w' t l s)
-any_write_stops (Ok x) before now limit first t0 t a c w w' l s h cut = tt
-any_write_stops (Err e) before now limit first t0 t a c w w' l s h cut = write_stops before now limit first t0 t a c w w' l s e h cut
+pub any_write_stops : {A : Type 0} (r : Result A ServeFault) (before now limit : ℕ) (first : Device) (t0 t : Tally) (a c w w' : Option (List ℕ)) (s : Device) → IfErr r (HasWriteCause before now) → OnErr r (Cut limit first t0 a c w w' t s) → IfErr r (StoppedBehind limit first t0 a c w w' t s)
+any_write_stops (Ok x) before now limit first t0 t a c w w' s h cut = tt
+any_write_stops (Err e) before now limit first t0 t a c w w' s h cut = write_stops before now limit first t0 t a c w w' s e h cut
 
 -- the same where the fault was passed on
-pub passed_on_stops : {A : Type 0} (r : Result A ServeFault) (P : ServeFault → Type 0) (given : ServeFault) (before now limit : ℕ) (first : Device) (t0 t : Tally) (a c w w' : Option (List ℕ)) (l : Layer) (s : Device) → IsErrAnd r P → ((e : ServeFault) → P e → e ≡ given) → HasWriteCause before now given
-    → Cut limit first t0 a c w w' t s → IfErr r (StoppedBehind limit first t0 a c w w' t l s)
-passed_on_stops (Ok x) P given before now limit first t0 t a c w w' l s is same h cut = tt
-passed_on_stops (Err e) P given before now limit first t0 t a c w w' l s is same h cut = write_stops before now limit first t0 t a c w w' l s e (subst (HasWriteCause before now) (sym (same e is)) h) cut
+pub passed_on_stops : {A : Type 0} (r : Result A ServeFault) (P : ServeFault → Type 0) (given : ServeFault) (before now limit : ℕ) (first : Device) (t0 t : Tally) (a c w w' : Option (List ℕ)) (s : Device) → IsErrAnd r P → ((e : ServeFault) → P e → e ≡ given) → HasWriteCause before now given
+    → Cut limit first t0 a c w w' t s → IfErr r (StoppedBehind limit first t0 a c w w' t s)
+passed_on_stops (Ok x) P given before now limit first t0 t a c w w' s is same h cut = tt
+passed_on_stops (Err e) P given before now limit first t0 t a c w w' s is same h cut = write_stops before now limit first t0 t a c w w' s e (subst (HasWriteCause before now) (sym (same e is)) h) cut
 
-behind : (limit : ℕ) (old mid new : DriveState) (calls opened calls' : ℕ) (l l' : Layer) (a c w w' w'' : Option (List ℕ)) (fault : ServeFault) → IsOpened old l mid → opened ≤ calls + 1 → Wrote w w' out_magic → StoppedBehind limit (view l mid) (tally_of mid opened) a c w' w'' (tally_of new calls') l' (view l' new) fault
+behind : (limit : ℕ) (old mid new : DriveState) (calls opened calls' : ℕ) (l l' : Layer) (a c w w' w'' : Option (List ℕ)) (fault : ServeFault) → IsOpened old l mid → opened ≤ calls + 1 → Wrote w w' out_magic → StoppedBehind limit (view l mid) (tally_of mid opened) a c w' w'' (tally_of new calls') (view l' new) fault
     → IsStoppedBehind limit old a c w w'' calls calls' new fault
 behind limit old mid new calls opened calls' l l' a c w w' w'' fault o one magic stopped = record {
   first = view l mid;
   last = view l' new;
-  layer = l';
   opened = opened;
   behind = w';
   begins = first_of old mid l o;
   one_call = one;
   magic = magic;
-  tasks = refl;
-  stopped = subst (λ n. StoppedBehind limit (view l mid) (record { faults = n; calls = opened }) a c w' w'' (tally_of new calls') l' (view l' new) fault) (ap (λ (d : DriveState). d.faults) o.stays) stopped;
+  stopped = subst (λ n. StoppedBehind limit (view l mid) (record { faults = n; calls = opened }) a c w' w'' (tally_of new calls') (view l' new) fault) (ap (λ (d : DriveState). d.faults) o.stays) stopped;
   ends = record { cells = refl; active = refl; glitches = refl; down = refl };
 }
 
-pub stops : (limit : ℕ) (old mid new : DriveState) (calls opened calls' : ℕ) (l l' : Layer) (a c w w' w'' : Option (List ℕ)) (fault : ServeFault) → IsOpened old l mid → opened ≤ calls + 1 → Wrote w w' out_magic → StoppedBehind limit (view l mid) (tally_of mid opened) a c w' w'' (tally_of new calls') l' (view l' new) fault
+pub stops : (limit : ℕ) (old mid new : DriveState) (calls opened calls' : ℕ) (l l' : Layer) (a c w w' w'' : Option (List ℕ)) (fault : ServeFault) → IsOpened old l mid → opened ≤ calls + 1 → Wrote w w' out_magic → StoppedBehind limit (view l mid) (tally_of mid opened) a c w' w'' (tally_of new calls') (view l' new) fault
     → IsStopped limit old a c w w'' calls calls' new fault
 stops limit old mid new calls opened calls' l l' a c w w' w'' (faults.Open opening) o one magic stopped = absurd stopped
 stops limit old mid new calls opened calls' l l' a c w w' w'' (faults.BadInput reason offset) o one magic stopped = behind limit old mid new calls opened calls' l l' a c w w' w'' (faults.BadInput reason offset) o one magic stopped

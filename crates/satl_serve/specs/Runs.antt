@@ -21,13 +21,10 @@ use Rattle.satl_frame.specs.Progress.{HasRead, ReadTo}
 use Rattle.satl_frame.specs.Reading.{Blames, Gave, Reading}
 use Rattle.satl_text.specs.Totals.{summary_of}
 use Rattle.satl_text.specs.declared.summary.Summary.{Summary}
-use Rattle.satl_line.specs.Tasks.{entries_of}
 use Rattle.satl_drive.specs.State.{DriveState}
 use Rattle.satl_direct.specs.Device.{Device}
 use Rattle.satl_direct.specs.Valid.{IsValid}
-use Rattle.satl_direct.specs.Tasks.{task_of}
 use Rattle.satl_direct.specs.Run.{Drains, Run, RunCut, TurnsOf}
-use Rattle.satl_core.specs.Layer.{Layer}
 use Rattle.satl_serve.specs.declared.serving.ServeFault.{ServeFault}
 use Rattle.satl_serve.specs.declared.serving.ServeFault.TheVariants as faults
 use Rattle.satl_core.specs.Turning.{AreUnforced, AsksNoFua}
@@ -239,15 +236,15 @@ pub record Refused (limit : ℕ) (first : Device) (before : Tally) (left left' w
   pub calls : now.calls ≤ before.calls + requests_in events
 
 -- a frame that is not carried out yet: a task management function, and a bench event (profile)
-abbrev pub IsNotBuilt : Layer → Frame → Type 0
-IsNotBuilt l (frames.Request r) = ⊥
-IsNotBuilt l (frames.Manage m) = Unit {0}
-IsNotBuilt l (frames.Turn count) = ⊥
-IsNotBuilt l (frames.Bench event) = Unit {0}
-IsNotBuilt l frames.End = ⊥
+abbrev pub IsNotBuilt : Frame → Type 0
+IsNotBuilt (frames.Request r) = ⊥
+IsNotBuilt (frames.Manage m) = Unit {0}
+IsNotBuilt (frames.Turn count) = ⊥
+IsNotBuilt (frames.Bench event) = Unit {0}
+IsNotBuilt frames.End = ⊥
 
 -- frames were read and carried out, none of which is END, and then one was read that is not built yet (profile)
-pub record NotServed (limit : ℕ) (first : Device) (before : Tally) (left left' written written' : Option (List ℕ)) (now : Tally) (l : Layer) (last : Device) : Type 0 where
+pub record NotServed (limit : ℕ) (first : Device) (before : Tally) (left left' written written' : Option (List ℕ)) (now : Tally) (last : Device) : Type 0 where
   pub reader : Reading
   pub reader' : Reading
   pub mid : Option (List ℕ)
@@ -260,18 +257,18 @@ pub record NotServed (limit : ℕ) (first : Device) (before : Tally) (left left'
   pub none_ends : NoneEnds events
   pub read : HasRead reader left mid events
   pub gave : Gave reader room frame reader' mid left'
-  pub not_built : IsNotBuilt l frame
+  pub not_built : IsNotBuilt frame
   pub wrote : Wrote written written' (all_answered answers)
   pub run : GoesUnforced first events → RunsTo before.faults now.faults first events answers last
   pub calls : now.calls ≤ before.calls + requests_in events
 
 -- how far serving came where it stopped with a fault (profile)
-abbrev pub StoppedBehind : ℕ → Device → Tally → Option (List ℕ) → Option (List ℕ) → Option (List ℕ) → Option (List ℕ) → Tally → Layer → Device → ServeFault → Type 0
-StoppedBehind limit first before left left' written written' now l last (faults.Open fault) = ⊥
-StoppedBehind limit first before left left' written written' now l last (faults.BadInput reason offset) = Refused limit first before left left' written written' (Bad reason offset) (fault_bytes reason offset) now last
-StoppedBehind limit first before left left' written written' now l last faults.Read = Refused limit first before left left' written written' ReadFault [] now last
-StoppedBehind limit first before left left' written written' now l last faults.Write = Cut limit first before left left' written written' now last
-StoppedBehind limit first before left left' written written' now l last faults.NotBuilt = NotServed limit first before left left' written written' now l last
+abbrev pub StoppedBehind : ℕ → Device → Tally → Option (List ℕ) → Option (List ℕ) → Option (List ℕ) → Option (List ℕ) → Tally → Device → ServeFault → Type 0
+StoppedBehind limit first before left left' written written' now last (faults.Open fault) = ⊥
+StoppedBehind limit first before left left' written written' now last (faults.BadInput reason offset) = Refused limit first before left left' written written' (Bad reason offset) (fault_bytes reason offset) now last
+StoppedBehind limit first before left left' written written' now last faults.Read = Refused limit first before left left' written written' ReadFault [] now last
+StoppedBehind limit first before left left' written written' now last faults.Write = Cut limit first before left left' written written' now last
+StoppedBehind limit first before left left' written written' now last faults.NotBuilt = NotServed limit first before left left' written written' now last
 
 -- a reader's refusal is told: a bad frame by a FAULT (profile)
 abbrev pub Tells : FrameFault → Option (List ℕ) → Option (List ℕ) → ServeFault → Type 0
@@ -285,14 +282,12 @@ Tells fault written written' faults.NotBuilt = ⊥
 pub record IsStoppedBehind (limit : ℕ) (old : DriveState) (left left' written written' : Option (List ℕ)) (calls calls' : ℕ) (new : DriveState) (fault : ServeFault) : Type 0 where
   pub first : Device
   pub last : Device
-  pub layer : Layer
   pub opened : ℕ
   pub behind : Option (List ℕ)
   pub begins : IsFirst old first
   pub one_call : opened ≤ calls + 1
   pub magic : Wrote written behind out_magic
-  pub stopped : StoppedBehind limit first (tally_of old opened) left left' behind written' (tally_of new calls') layer last fault
-  pub tasks : last.tasks ≡ map task_of (entries_of layer.tasks)
+  pub stopped : StoppedBehind limit first (tally_of old opened) left left' behind written' (tally_of new calls') last fault
   pub ends : IsLeftAs last new
 
 -- the layer was opened on the drive, and a write failed in the magic before anything was read (profile)

@@ -271,7 +271,7 @@ fn serve_frames<S: Source, K: Sink, D: Drive, L: Ledger>(
     requires rest { AtRest satl.old (D.state drive.old) }
     requires new { satl.old.tasks ≡ [] }
     ensures ended { IfOk result (Ended input_limit (view satl.old (D.state drive.old)) (tally_of (D.state drive.old) steps.old) (S.left source.old) (S.left source.new) (K.written sink.old) (K.written sink.new) (tally_of (D.state drive.new) steps.new) (view satl.new (D.state drive.new))) }
-    ensures stopped { IfErr result (StoppedBehind input_limit (view satl.old (D.state drive.old)) (tally_of (D.state drive.old) steps.old) (S.left source.old) (S.left source.new) (K.written sink.old) (K.written sink.new) (tally_of (D.state drive.new) steps.new) satl.new (view satl.new (D.state drive.new))) }
+    ensures stopped { IfErr result (StoppedBehind input_limit (view satl.old (D.state drive.old)) (tally_of (D.state drive.old) steps.old) (S.left source.old) (S.left source.new) (K.written sink.old) (K.written sink.new) (tally_of (D.state drive.new) steps.new) (view satl.new (D.state drive.new))) }
     ensures causes { IfErr result (HasFrameCause (S.faults source.old) (S.faults source.new) (K.faults sink.old) (K.faults sink.new)) }
 {
     let mut reader = FrameReader::new(alloc, LIMIT);

@@ -85,7 +85,7 @@ returns-in-Err-clause-stopped g c =
     let t0 = tally_of (g.D.Drive.state c.args.drive.now) c.args.steps.now in
     let t = tally_of (g.D.Drive.state c.frames.drive) c.frames.steps in
     let same = ap (λ (l : Layer). view l (g.D.Drive.state c.frames.drive)) c.in-Err.ensures.rest in
-    stopped_by _ first t0 t c.frames.reader _ _ _ _ _ _ _ c.next.new.lender (view c.next.new.lender (g.D.Drive.state c.frames.drive)) c.in-Err.fault c.refuse.result
+    stopped_by _ first t0 t c.frames.reader _ _ _ _ _ _ _ (view c.next.new.lender (g.D.Drive.state c.frames.drive)) c.in-Err.fault c.refuse.result
     (subst (λ s. Going first t0 c.frames.reader (g.S.Source.left c.args.source.now) (g.S.Source.left c.frames.source) (g.K.Sink.written c.args.sink.now) (g.K.Sink.written c.frames.sink) c.frames.totals t s) (sym same) c.frames.invariant.going) c.frames.invariant.limit c.frames.invariant.newest
     (c.in-Err.ensures.blames c.frames.invariant.fresh) c.refuse.ensures.tells
 
@@ -95,7 +95,7 @@ returns-in-End-clause-stopped g c =
     let t0 = tally_of (g.D.Drive.state c.args.drive.now) c.args.steps.now in
     let t = tally_of (g.D.Drive.state c.frames.drive) c.frames.steps in
     let same = ap (λ (l : Layer). view l (g.D.Drive.state c.frames.drive)) c.in-Ok.ensures.rest in
-    any_write_stops c.serve_end.result _ _ input_limit first t0 (tally_of (g.D.Drive.state c.serve_end.new.drive) c.serve_end.new.steps) _ _ _ _ _ (view c.serve_end.new.satl (g.D.Drive.state c.serve_end.new.drive)) c.serve_end.ensures.cause
+    any_write_stops c.serve_end.result _ _ input_limit first t0 (tally_of (g.D.Drive.state c.serve_end.new.drive) c.serve_end.new.steps) _ _ _ _ (view c.serve_end.new.satl (g.D.Drive.state c.serve_end.new.drive)) c.serve_end.ensures.cause
     (on_err c.serve_end.result
     (EndsPart (AreUnforced (view c.next.new.lender (g.D.Drive.state c.frames.drive))) (view c.next.new.lender (g.D.Drive.state c.frames.drive)) (g.K.Sink.written c.frames.sink) (g.K.Sink.written c.serve_end.new.sink) (view c.serve_end.new.satl (g.D.Drive.state c.serve_end.new.drive))) _
     (cut_end input_limit first t0 t (tally_of (g.D.Drive.state c.serve_end.new.drive) c.serve_end.new.steps) c.frames.reader c.next.new.self _ _ _ _ _ _ _ (view c.next.new.lender (g.D.Drive.state c.frames.drive)) (view c.serve_end.new.satl (g.D.Drive.state c.serve_end.new.drive)) _ c.in-Ok.frame
@@ -108,7 +108,7 @@ returns-in_err-serve_request-in-Request-clause-stopped g c =
     let t0 = tally_of (g.D.Drive.state c.args.drive.now) c.args.steps.now in
     let t = tally_of (g.D.Drive.state c.frames.drive) c.frames.steps in
     let same = ap (λ (l : Layer). view l (g.D.Drive.state c.frames.drive)) c.in-Ok.ensures.rest in
-    passed_on_stops c.from_residual.result _ c.in_err-serve_request-in-Request.field-0.0 _ _ input_limit first t0 (tally_of (g.D.Drive.state c.serve_request.new.drive) c.serve_request.new.steps) _ _ _ _ _ (view c.serve_request.new.satl (g.D.Drive.state c.serve_request.new.drive)) c.from_residual.ensures.1 (λ e is. is) c.in_err-serve_request-in-Request.ensures.cause
+    passed_on_stops c.from_residual.result _ c.in_err-serve_request-in-Request.field-0.0 _ _ input_limit first t0 (tally_of (g.D.Drive.state c.serve_request.new.drive) c.serve_request.new.steps) _ _ _ _ (view c.serve_request.new.satl (g.D.Drive.state c.serve_request.new.drive)) c.from_residual.ensures.1 (λ e is. is) c.in_err-serve_request-in-Request.ensures.cause
     (cut_request input_limit first t0 t (tally_of (g.D.Drive.state c.serve_request.new.drive) c.serve_request.new.steps) c.frames.reader c.next.new.self _ _ _ _ _ _ _ (view c.next.new.lender (g.D.Drive.state c.frames.drive)) (view c.serve_request.new.satl (g.D.Drive.state c.serve_request.new.drive)) _ c.in-Request.request c.in-Ok.frame
     (subst (λ s. Going first t0 c.frames.reader (g.S.Source.left c.args.source.now) (g.S.Source.left c.frames.source) (g.K.Sink.written c.args.sink.now) (g.K.Sink.written c.frames.sink) c.frames.totals t s) (sym same) c.frames.invariant.going) c.in-Ok.ensures.gave c.in-Request.is c.frames.invariant.limit c.frames.invariant.newest
     (request_tallied c.next.new.lender c.serve_request.new.satl (g.D.Drive.state c.frames.drive) (g.D.Drive.state c.serve_request.new.drive) c.frames.steps c.serve_request.new.steps c.in-Request.request (ap g.D.Drive.state c.in_err-serve_request-in-Request.ensures.drive) c.in_err-serve_request-in-Request.ensures.more c.in_err-serve_request-in-Request.ensures.steps) c.in_err-serve_request-in-Request.ensures.part)
@@ -119,7 +119,7 @@ returns-in_err-serve_turns-in-Turn-clause-stopped g c =
     let t0 = tally_of (g.D.Drive.state c.args.drive.now) c.args.steps.now in
     let t = tally_of (g.D.Drive.state c.frames.drive) c.frames.steps in
     let same = ap (λ (l : Layer). view l (g.D.Drive.state c.frames.drive)) c.in-Ok.ensures.rest in
-    passed_on_stops c.from_residual-in_err-serve_turns-in-Turn.result _ c.in_err-serve_turns-in-Turn.field-0.0 _ _ input_limit first t0 (tally_of (g.D.Drive.state c.serve_turns.new.drive) c.serve_turns.new.steps) _ _ _ _ _ (view c.serve_turns.new.satl (g.D.Drive.state c.serve_turns.new.drive)) c.from_residual-in_err-serve_turns-in-Turn.ensures.1 (λ e is. is) c.in_err-serve_turns-in-Turn.ensures.cause
+    passed_on_stops c.from_residual-in_err-serve_turns-in-Turn.result _ c.in_err-serve_turns-in-Turn.field-0.0 _ _ input_limit first t0 (tally_of (g.D.Drive.state c.serve_turns.new.drive) c.serve_turns.new.steps) _ _ _ _ (view c.serve_turns.new.satl (g.D.Drive.state c.serve_turns.new.drive)) c.from_residual-in_err-serve_turns-in-Turn.ensures.1 (λ e is. is) c.in_err-serve_turns-in-Turn.ensures.cause
     (cut_turns input_limit first t0 t (tally_of (g.D.Drive.state c.serve_turns.new.drive) c.serve_turns.new.steps) c.frames.reader c.next.new.self _ _ _ _ _ _ _ (view c.next.new.lender (g.D.Drive.state c.frames.drive)) (view c.serve_turns.new.satl (g.D.Drive.state c.serve_turns.new.drive)) _ c.in-Turn.count c.in-Ok.frame
     (subst (λ s. Going first t0 c.frames.reader (g.S.Source.left c.args.source.now) (g.S.Source.left c.frames.source) (g.K.Sink.written c.args.sink.now) (g.K.Sink.written c.frames.sink) c.frames.totals t s) (sym same) c.frames.invariant.going) c.in-Ok.ensures.gave c.in-Turn.is c.frames.invariant.limit c.frames.invariant.newest
     (tallied c.next.new.lender c.serve_turns.new.satl (g.D.Drive.state c.frames.drive) (g.D.Drive.state c.serve_turns.new.drive) c.frames.steps c.serve_turns.new.steps c.in_err-serve_turns-in-Turn.ensures.counted c.in_err-serve_turns-in-Turn.ensures.calls) c.in_err-serve_turns-in-Turn.ensures.part)
@@ -130,9 +130,9 @@ returns-in-Manage-clause-stopped g c =
     let t0 = tally_of (g.D.Drive.state c.args.drive.now) c.args.steps.now in
     let t = tally_of (g.D.Drive.state c.frames.drive) c.frames.steps in
     let same = ap (λ (l : Layer). view l (g.D.Drive.state c.frames.drive)) c.in-Ok.ensures.rest in
-    not_served _ first t0 t c.frames.reader c.next.new.self _ _ _ _ _ _ c.next.new.lender (view c.next.new.lender (g.D.Drive.state c.frames.drive)) _ c.in-Ok.frame
+    not_served _ first t0 t c.frames.reader c.next.new.self _ _ _ _ _ _ (view c.next.new.lender (g.D.Drive.state c.frames.drive)) _ c.in-Ok.frame
     (subst (λ s. Going first t0 c.frames.reader (g.S.Source.left c.args.source.now) (g.S.Source.left c.frames.source) (g.K.Sink.written c.args.sink.now) (g.K.Sink.written c.frames.sink) c.frames.totals t s) (sym same) c.frames.invariant.going) c.frames.invariant.limit c.frames.invariant.newest c.in-Ok.ensures.gave
-    (⊎_elim (λ m. subst (IsNotBuilt c.next.new.lender) (sym m.1) tt) (λ b. subst (IsNotBuilt c.next.new.lender) (sym b.1) tt) c.in-Manage.is)
+    (⊎_elim (λ m. subst IsNotBuilt (sym m.1) tt) (λ b. subst IsNotBuilt (sym b.1) tt) c.in-Manage.is)
 
 pub serve_request-requires-clause-tied : goal.serve_request-requires-clause-tied
 serve_request-requires-clause-tied g c = tied_lent c.frames.satl c.next.new.lender (g.D.Drive.state c.frames.drive) c.in-Ok.ensures.rest c.frames.invariant.rest.tied
