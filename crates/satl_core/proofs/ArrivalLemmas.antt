@@ -1,24 +1,26 @@
 -- What the layer judges of a request is what the device does with it.
-use Rattle.std.proofs.Common.{◌≡◌, refl, sym, ap, subst, ◌∙◌, arith, eqb, cond, ℕ, suc, ◌+◌, ◌<◌, ◌≤◌, ◌^◌, Bool, true, false, List, [], ◌∷◌, length, map}
+use Rattle.std.proofs.Common.{◌≡◌, refl, sym, ap, subst, ◌∙◌, arith, cond, ℕ, suc, ◌+◌, ◌<◌, ◌≤◌, ◌^◌, Bool, true, false, List, [], ◌∷◌, length, map}
 use Rattle.std.specs.Prelude.{Option, Some, None, Result, Ok, Err, IfOk, not, ◌==◌, ◌&&◌, ◌||◌, nat_lt, slice_index, MatchBool}
+use Rattle.std.specs.List.{AllByRecursion}
 use Rattle.std.proofs.lemmas.Bool.{eqb-false, eqb-true, ltb-false}
 use Rattle.satl_base.specs.declared.reply.Reply.{Reply}
 use Rattle.satl_base.specs.declared.reply.Scsi.TheVariants as statuses
 use Rattle.satl_base.specs.declared.request.Request.{Request}
-use Rattle.satl_base.specs.Fields.{bits}
+use Rattle.satl_base.specs.Fields.{bit, bits, bytes}
 use Rattle.satl_base.specs.Lists.{is_in}
 use Rattle.satl_cdb.specs.declared.command.Command.{Command}
 use Rattle.satl_cdb.specs.declared.command.Command.TheVariants as cdbs
 use Rattle.satl_cdb.specs.declared.command.Illegal.{Illegal}
 use Rattle.satl_cdb.specs.Refusals.{invalid_field}
 use Rattle.satl_cdb.specs.Rows.{found_says, format_of, unless_broken}
-use Rattle.satl_cdb.specs.BlockCommands.{read, ten, transfer_rules, write}
+use Rattle.satl_cdb.specs.BlockCommands.{Layout, read, six, sixteen, ten, transfer_rules, twelve, write}
 use Rattle.satl_cdb.specs.Table.{says, table}
 use Rattle.satl_identify.specs.Refusals.{IsIdentity}
 use Rattle.satl_identify.proofs.Judging.{capacity_bounds}
 use Rattle.satl_line.specs.Tasks.{Held, entries_of, is_too_much, total_blocks}
 use Rattle.satl_drive.specs.State.{DriveState}
 use Rattle.satl_cdb.specs.declared.command.Form.{Form}
+use Rattle.satl_cdb.specs.declared.command.Form.TheVariants.{Six}
 use Rattle.satl_unit.specs.declared.attention.Attention.{Attention}
 use Rattle.satl_direct.specs.Device.{Device}
 use Rattle.satl_direct.specs.Senses.{attention_sense, out_of_range, overlapped, refusal, short_data, unknown_operation, unknown_unit}
@@ -29,46 +31,64 @@ use Rattle.satl_core.specs.declared.submitting.AtOnce.{AtOnce}
 use Rattle.satl_core.specs.declared.submitting.AtOnce.TheVariants as at_once
 use Rattle.satl_core.specs.Layer.{IsServed, IsTransfer, Layer, view}
 use Rattle.satl_core.specs.Submitting.{Becomes, IsAdded, IsAnswered, attention_answer, attention_of, cdb_answer, code_answer, command_answer, judged, left_by, once_judged, overlaps, readiness, reply_at_once, task_without_pages, untold}
+use Rattle.satl_core.specs.Turning.{asks_fua}
 use Rattle.satl_core.proofs.LeavingLemmas.{found_is, left_tasks}
 
 -- ---- the commands that are served
 
--- READ(10) and WRITE(10) with at most 4,096 blocks
-abbrev pub IsTen : Command → Type 0
-IsTen (cdbs.Read form lba count fua) = count ≤ 4096
-IsTen (cdbs.Write form lba count fua) = count ≤ 4096
-IsTen _ = ⊥
+-- what is known of a command by its bytes: a transfer has at most 4,096 blocks, and a WRITE without its FUA bit has no FUA
+abbrev pub IsSaid : List ℕ → Command → Type 0
+IsSaid cdb (cdbs.Read form lba count fua) = slice_index cdb 4 < 256 → count ≤ 4096
+IsSaid cdb (cdbs.Write form lba count fua) = (slice_index cdb 4 < 256 → count ≤ 4096) × (bit 1 3 cdb ≡ false → fua ≡ false)
+IsSaid cdb cdbs.TestUnitReady = Unit {0}
+IsSaid cdb _ = ⊥
 
 -- a transfer's rules are kept
-pub of_rules : (cdb : List ℕ) (c d : Command) → unless_broken (transfer_rules ten) cdb c ≡ Ok d → (c ≡ d) × (ten.count cdb ≤ 4096)
-of_rules cdb c d e =
-    (elim (not (bits 1 7 5 cdb == 0)) as (λ b. cond b (Err (invalid_field 1)) (cond (nat_lt 4096 (ten.count cdb)) (Err (invalid_field 7)) (Ok c)) ≡ Ok d → (c ≡ d) × (ten.count cdb ≤ 4096)) [
+of_rules : (long : Layout) (cdb : List ℕ) (c d : Command) → unless_broken (transfer_rules long) cdb c ≡ Ok d → (c ≡ d) × (long.count cdb ≤ 4096)
+of_rules long cdb c d e =
+    (elim (not (bits 1 7 5 cdb == 0)) as (λ b. cond b (Err (invalid_field 1)) (cond (nat_lt 4096 (long.count cdb)) (Err (invalid_field long.count_place)) (Ok c)) ≡ Ok d → (c ≡ d) × (long.count cdb ≤ 4096)) [
       | true ↦ λ f. absurd cc
-      | false ↦ λ f. (elim (nat_lt 4096 (ten.count cdb)) as (λ b. nat_lt 4096 (ten.count cdb) ≡ b → cond b (Err (invalid_field 7)) (Ok c) ≡ Ok d → (c ≡ d) × (ten.count cdb ≤ 4096)) [
+      | false ↦ λ f. (elim (nat_lt 4096 (long.count cdb)) as (λ b. nat_lt 4096 (long.count cdb) ≡ b → cond b (Err (invalid_field long.count_place)) (Ok c) ≡ Ok d → (c ≡ d) × (long.count cdb ≤ 4096)) [
         | true ↦ λ is g. absurd cc
-        | false ↦ λ is g. let most = ltb-false 4096 (ten.count cdb) is in (cc, omega (arith, most))
+        | false ↦ λ is g. let most = ltb-false 4096 (long.count cdb) is in (cc, omega (arith, most))
       ]) refl f
     ]) e
 
-read_ten : (cdb : List ℕ) (trim : Bool) (c : Command) → found_says (format_of (table trim) 0x28) cdb ≡ Ok c → IsTen c
-read_ten cdb trim c e = let r = of_rules cdb ((read ten).command cdb) c e in subst IsTen r.0 r.1
+said_read : (long : Layout) (cdb : List ℕ) (c : Command) → unless_broken (transfer_rules long) cdb ((read long).command cdb) ≡ Ok c → IsSaid cdb c
+said_read long cdb c e = let r = of_rules long cdb ((read long).command cdb) c e in subst (IsSaid cdb) r.0 (λ byte. r.1)
 
-write_ten : (cdb : List ℕ) (trim : Bool) (c : Command) → found_says (format_of (table trim) 0x2A) cdb ≡ Ok c → IsTen c
-write_ten cdb trim c e = let r = of_rules cdb ((write ten).command cdb) c e in subst IsTen r.0 r.1
+said_write : (long : Layout) (cdb : List ℕ) (c : Command) → unless_broken (transfer_rules long) cdb ((write long).command cdb) ≡ Ok c → IsSaid cdb c
+said_write long cdb c e = let r = of_rules long cdb ((write long).command cdb) c e in subst (IsSaid cdb) r.0 (λ byte. r.1, λ clear. clear)
 
-ten_by : (cdb : List ℕ) (trim : Bool) (c : Command) (code : ℕ) → is_in code built ≡ true → found_says (format_of (table trim) code) cdb ≡ Ok c → IsTen c
-ten_by cdb trim c code in_it e =
-    (elim (eqb code 0x28) as (λ b. eqb code 0x28 ≡ b → cond b true (cond (eqb code 0x2A) true false) ≡ true → IsTen c) [
-      | true ↦ λ is f. read_ten cdb trim c (subst (λ x. found_says (format_of (table trim) x) cdb ≡ Ok c) (eqb-true code 0x28 is) e)
-      | false ↦ λ is f. (elim (eqb code 0x2A) as (λ b. eqb code 0x2A ≡ b → cond b true false ≡ true → IsTen c) [
-        | true ↦ λ is' g. write_ten cdb trim c (subst (λ x. found_says (format_of (table trim) x) cdb ≡ Ok c) (eqb-true code 0x2A is') e)
-        | false ↦ λ is' g. absurd cc
-      ]) refl f
-    ]) refl in_it
+-- a count of six bytes is at most 256
+short_few : (n : ℕ) → n < 256 → cond (n == 0) 256 n ≤ 4096
+short_few n few = elim (n == 0) as (λ b. cond b 256 n ≤ 4096) [ true ↦ omega arith | false ↦ omega (arith, few) ]
 
-ten_of : (cdb : List ℕ) (trim : Bool) (c : Command) → is_in (slice_index cdb 0) built ≡ true → says cdb trim ≡ Ok c → IsTen c
+short_count : (cdb : List ℕ) → slice_index cdb 4 < 256 → six.count cdb ≤ 4096
+short_count cdb byte = short_few (bytes 4 4 cdb) (omega (arith, byte))
+
+abbrev ok_of : Command → Result Command Illegal
+ok_of c = Ok c
+
+same_said : (cdb : List ℕ) (c d : Command) → ok_of c ≡ ok_of d → IsSaid cdb c → IsSaid cdb d
+same_said cdb c d e said = let same : c ≡ d = cc in subst (IsSaid cdb) same said
+
+-- what holds of each number of a list holds of one that is in it
+in_all : (P : ℕ → Type 0) (xs : List ℕ) (n : ℕ) → AllByRecursion P xs → is_in n xs ≡ true → P n
+in_all P [] n all e = absurd cc
+in_all P (x ∷ xs) n all e =
+    (elim (n == x) as (λ b. (n == x) ≡ b → cond b true (is_in n xs) ≡ true → P n) [
+      | true ↦ λ is f. subst P (sym (eqb-true n x is)) all.0
+      | false ↦ λ is f. in_all P xs n all.1 f
+    ]) refl e
+
+-- each operation code that is served
+said_by : (cdb : List ℕ) (trim : Bool) (c : Command) → AllByRecursion (λ code. found_says (format_of (table trim) code) cdb ≡ Ok c → IsSaid cdb c) built
+said_by cdb trim c = (λ e. same_said cdb cdbs.TestUnitReady c e tt, (λ e. same_said cdb (cdbs.Read Six (six.lba cdb) (six.count cdb) false) c e (short_count cdb), (λ e. same_said cdb (cdbs.Write Six (six.lba cdb) (six.count cdb) false) c e (short_count cdb, λ clear. refl), (λ e. said_read ten cdb c e, (λ e. said_write ten cdb c e, (λ e. said_read sixteen cdb c e, (λ e. said_write sixteen cdb c e, (λ e. said_read twelve cdb c e, (λ e. said_write twelve cdb c e, tt)))))))))
+
+said_of : (cdb : List ℕ) (trim : Bool) (c : Command) → is_in (slice_index cdb 0) built ≡ true → says cdb trim ≡ Ok c → IsSaid cdb c
 unfolding says
-ten_of cdb trim c in_it e = ten_by cdb trim c (slice_index cdb 0) in_it e
+said_of cdb trim c in_it e = in_all (λ code. found_says (format_of (table trim) code) cdb ≡ Ok c → IsSaid cdb c) built (slice_index cdb 0) (said_by cdb trim c) in_it e
 
 -- a command that is not answered at once is within the capacity and goes over some block
 command_ok : (l : Layer) (n : ℕ) (c d : Command) → command_answer l n c ≡ Ok d
@@ -120,33 +140,69 @@ by_ok P true false None l r c p e = p e
 pub judged_ok : (l : Layer) (r : Request) (c : Command) → judged l r ≡ Ok c → IsJudged l r c
 judged_ok l r c e = by_ok (λ unit over what. IsJudged l r c) (is_unit_0 r.lun) (overlaps l.tasks r) (attention_of l.attentions r) l r c (code_ok l r c) e
 
--- what holds of each READ and each WRITE of at most 4,096 blocks holds of a command that is served
-of_ten : (P : Command → Type 0) → ((form : Form) (lba count : ℕ) (fua : Bool) → count ≤ 4096 → P (cdbs.Read form lba count fua)) → ((form : Form) (lba count : ℕ) (fua : Bool) → count ≤ 4096 → P (cdbs.Write form lba count fua)) → (c : Command) → IsTen c → P c
-of_ten P read write (cdbs.Read form lba count fua) ten = read form lba count fua ten
-of_ten P read write (cdbs.Write form lba count fua) ten = write form lba count fua ten
-of_ten P read write cdbs.TestUnitReady ten = absurd ten
-of_ten P read write (cdbs.RequestSense a b) ten = absurd ten
-of_ten P read write (cdbs.Inquiry a b) ten = absurd ten
-of_ten P read write (cdbs.ModeSense a b e f g h) ten = absurd ten
-of_ten P read write (cdbs.ModeSelect a b) ten = absurd ten
-of_ten P read write (cdbs.StartStop a b) ten = absurd ten
-of_ten P read write cdbs.ReadCapacity10 ten = absurd ten
-of_ten P read write (cdbs.ReadCapacity16 a) ten = absurd ten
-of_ten P read write (cdbs.ReportLuns a b) ten = absurd ten
-of_ten P read write (cdbs.Verify a b e f) ten = absurd ten
-of_ten P read write (cdbs.Flush a b e) ten = absurd ten
-of_ten P read write (cdbs.WriteSame a b e f) ten = absurd ten
-of_ten P read write (cdbs.Unmap a) ten = absurd ten
-of_ten P read write (cdbs.Pass a) ten = absurd ten
+-- what holds of TEST UNIT READY, each READ and each WRITE holds of a command that is served
+of_served : (P : Command → Type 0) → P cdbs.TestUnitReady → ((form : Form) (lba count : ℕ) (fua : Bool) → P (cdbs.Read form lba count fua)) → ((form : Form) (lba count : ℕ) (fua : Bool) → P (cdbs.Write form lba count fua)) → (c : Command) → IsServed c → P c
+of_served P ready read write cdbs.TestUnitReady here = ready
+of_served P ready read write (cdbs.Read form lba count fua) here = read form lba count fua
+of_served P ready read write (cdbs.Write form lba count fua) here = write form lba count fua
+of_served P ready read write (cdbs.RequestSense a b) here = absurd here
+of_served P ready read write (cdbs.Inquiry a b) here = absurd here
+of_served P ready read write (cdbs.ModeSense a b e f g h) here = absurd here
+of_served P ready read write (cdbs.ModeSelect a b) here = absurd here
+of_served P ready read write (cdbs.StartStop a b) here = absurd here
+of_served P ready read write cdbs.ReadCapacity10 here = absurd here
+of_served P ready read write (cdbs.ReadCapacity16 a) here = absurd here
+of_served P ready read write (cdbs.ReportLuns a b) here = absurd here
+of_served P ready read write (cdbs.Verify a b e f) here = absurd here
+of_served P ready read write (cdbs.Flush a b e) here = absurd here
+of_served P ready read write (cdbs.WriteSame a b e f) here = absurd here
+of_served P ready read write (cdbs.Unmap a) here = absurd here
+of_served P ready read write (cdbs.Pass a) here = absurd here
 
--- a command of an operation code that is served is a READ or a WRITE
+-- a command of which something is known by its bytes is served
+said_served : (cdb : List ℕ) (c : Command) → IsSaid cdb c → IsServed c
+said_served cdb cdbs.TestUnitReady said = tt
+said_served cdb (cdbs.Read form lba count fua) said = tt
+said_served cdb (cdbs.Write form lba count fua) said = tt
+said_served cdb (cdbs.RequestSense a b) said = said
+said_served cdb (cdbs.Inquiry a b) said = said
+said_served cdb (cdbs.ModeSense a b e f g h) said = said
+said_served cdb (cdbs.ModeSelect a b) said = said
+said_served cdb (cdbs.StartStop a b) said = said
+said_served cdb cdbs.ReadCapacity10 said = said
+said_served cdb (cdbs.ReadCapacity16 a) said = said
+said_served cdb (cdbs.ReportLuns a b) said = said
+said_served cdb (cdbs.Verify a b e f) said = said
+said_served cdb (cdbs.Flush a b e) said = said
+said_served cdb (cdbs.WriteSame a b e f) said = said
+said_served cdb (cdbs.Unmap a) said = said
+said_served cdb (cdbs.Pass a) said = said
+
+-- a command of an operation code that is served is one of those
 pub served : (cdb : List ℕ) (trim : Bool) (c : Command) → is_in (slice_index cdb 0) built ≡ true → says cdb trim ≡ Ok c → IsServed c
-served cdb trim c in_it e = of_ten IsServed (λ form lba count fua few. tt) (λ form lba count fua few. tt) c (ten_of cdb trim c in_it e)
+served cdb trim c in_it e = said_served cdb c (said_of cdb trim c in_it e)
 
-ten_transfer : (capacity : ℕ) (c : Command) → IsTen c → capacity < 2 ^ 48 → nat_lt capacity ((range_of c).lba + (range_of c).count) ≡ false → ((range_of c).count == 0) ≡ false → IsTransfer capacity c (held_blocks c)
-ten_transfer capacity c ten small =
-    of_ten (λ c. nat_lt capacity ((range_of c).lba + (range_of c).count) ≡ false → ((range_of c).count == 0) ≡ false → IsTransfer capacity c (held_blocks c))
-    (λ form lba count fua few within some. here lba count few within some) (λ form lba count fua few within some. here lba count few within some) c ten
+-- it goes over at most 4,096 blocks
+said_few : (cdb : List ℕ) (c : Command) → slice_index cdb 4 < 256 → IsSaid cdb c → (range_of c).count ≤ 4096
+said_few cdb c byte said = of_served (λ c. IsSaid cdb c → (range_of c).count ≤ 4096) (λ said. omega arith) (λ form lba count fua said. said byte) (λ form lba count fua said. said.0 byte) c (said_served cdb c said) said
+
+-- and asks for no FUA where its bit is 0
+pub said_unforced : (cdb : List ℕ) (trim : Bool) (c : Command) → bit 1 3 cdb ≡ false → is_in (slice_index cdb 0) built ≡ true → says cdb trim ≡ Ok c → asks_fua c ≡ false
+said_unforced cdb trim c clear in_it e =
+    let said = said_of cdb trim c in_it e in
+    of_served (λ c. IsSaid cdb c → asks_fua c ≡ false) (λ said. refl) (λ form lba count fua said. refl) (λ form lba count fua said. said.1 clear) c (said_served cdb c said) said
+
+-- a command that may become a task goes over at most 4,096 blocks
+pub answer_few : (l : Layer) (trim : Bool) (cdb : List ℕ) (n : ℕ) (c : Command) (found : Result Command AtOnce) → slice_index cdb 4 < 256 → is_in (slice_index cdb 0) built ≡ true → says cdb trim ≡ Ok c → found ≡ command_answer l n c → IfOk found (λ command. (range_of command).count ≤ 4096)
+answer_few l trim cdb n c (Ok d) byte in_it said e =
+    let k = command_ok l n c d (sym e) in
+    subst (λ c. (range_of c).count ≤ 4096) k.0 (said_few cdb c byte (said_of cdb trim c in_it said))
+answer_few l trim cdb n c (Err a) byte in_it said e = tt
+
+served_transfer : (capacity : ℕ) (c : Command) → IsServed c → (range_of c).count ≤ 4096 → capacity < 2 ^ 48 → nat_lt capacity ((range_of c).lba + (range_of c).count) ≡ false → ((range_of c).count == 0) ≡ false → IsTransfer capacity c (held_blocks c)
+served_transfer capacity c served few small =
+    of_served (λ c. (range_of c).count ≤ 4096 → nat_lt capacity ((range_of c).lba + (range_of c).count) ≡ false → ((range_of c).count == 0) ≡ false → IsTransfer capacity c (held_blocks c))
+    (λ few within some. absurd cc) (λ form lba count fua few within some. here lba count few within some) (λ form lba count fua few within some. here lba count few within some) c served few
   where
     here : (lba count : ℕ) → count ≤ 4096 → nat_lt capacity (lba + count) ≡ false → (count == 0) ≡ false → (count ≡ count) × (lba < 2 ^ 48) × (1 ≤ count) × (count ≤ 4096) × (lba + count ≤ capacity)
     here lba count few within some =
@@ -155,11 +211,11 @@ ten_transfer capacity c ten small =
         (refl, omega (arith, in_it, small, one), omega (arith, one), few, omega (arith, in_it))
 
 -- a command that may become a task is a transfer
-pub code_transfer : (l : Layer) (r : Request) (found : Result Command AtOnce) → IsIdentity l.identity → found ≡ code_answer l r → IfOk found (λ command. IsTransfer l.identity.capacity command (held_blocks command))
-code_transfer l r (Ok c) is e =
+pub code_transfer : (l : Layer) (r : Request) (found : Result Command AtOnce) → IsIdentity l.identity → found ≡ code_answer l r → IfOk found (λ command. (range_of command).count ≤ 4096) → IfOk found (λ command. IsTransfer l.identity.capacity command (held_blocks command))
+code_transfer l r (Ok c) is e few =
     let j = code_ok l r c (sym e) in
-    ten_transfer l.identity.capacity c (ten_of r.cdb l.identity.trim c j.served j.said) (capacity_bounds l.identity is).1 j.within j.some
-code_transfer l r (Err a) is e = tt
+    served_transfer l.identity.capacity c (served r.cdb l.identity.trim c j.served j.said) few (capacity_bounds l.identity is).1 j.within j.some
+code_transfer l r (Err a) is e few = tt
 
 -- a request has all the data-out that its command needs
 pub long_enough : (l : Layer) (r : Request) (c : Command) → judged l r ≡ Ok c → needed c ≤ r.data_len
@@ -206,8 +262,8 @@ served_arrival l d r c =
     (cond (nat_lt r.data_len (needed c)) (answered (check (view l d) r short_data))
     (cond ((range_of c).count == 0) (answered (direct.readiness (view l d) r)) (full_or_waits l d r c)))
 
-ten_arrival : (l : Layer) (d : DriveState) (r : Request) (c : Command) → IsTen c → cdb_arrival (view l d) r (Ok c) ≡ served_arrival l d r c
-ten_arrival l d r c ten = of_ten (λ c. cdb_arrival (view l d) r (Ok c) ≡ served_arrival l d r c) (λ form lba count fua few. refl) (λ form lba count fua few. refl) c ten
+is_served_arrival : (l : Layer) (d : DriveState) (r : Request) (c : Command) → IsServed c → cdb_arrival (view l d) r (Ok c) ≡ served_arrival l d r c
+is_served_arrival l d r c here = of_served (λ c. cdb_arrival (view l d) r (Ok c) ≡ served_arrival l d r c) refl (λ form lba count fua. refl) (λ form lba count fua. refl) c here
 
 command_at_once : (l : Layer) (d : DriveState) (r : Request) (a : AtOnce) (c : Command) → l.down ≡ d.down → command_answer l r.data_len c ≡ Err a → served_arrival l d r c ≡ answered (reply_at_once r a l.modes.d_sense)
 command_at_once l d r a c mark =
@@ -218,7 +274,7 @@ command_at_once l d r a c mark =
 cdb_at_once : (l : Layer) (d : DriveState) (r : Request) (a : AtOnce) (found : Result Command Illegal) → l.down ≡ d.down → is_in (slice_index r.cdb 0) built ≡ true → says r.cdb l.identity.trim ≡ found → cdb_answer l r.data_len found ≡ Err a
     → cdb_arrival (view l d) r found ≡ answered (reply_at_once r a l.modes.d_sense)
 cdb_at_once l d r a (Err why) mark in_it said e = same_answer l d r (at_once.Check (refusal why)) a _ refl e
-cdb_at_once l d r a (Ok c) mark in_it said e = ten_arrival l d r c (ten_of r.cdb l.identity.trim c in_it said) ∙ command_at_once l d r a c mark e
+cdb_at_once l d r a (Ok c) mark in_it said e = is_served_arrival l d r c (served r.cdb l.identity.trim c in_it said) ∙ command_at_once l d r a c mark e
 
 code_at_once : (l : Layer) (d : DriveState) (r : Request) (a : AtOnce) → l.down ≡ d.down → code_answer l r ≡ Err a → code_arrival (view l d) r ≡ answered (reply_at_once r a l.modes.d_sense)
 code_at_once l d r a mark e =
@@ -286,7 +342,7 @@ command_waits l d r c k =
 
 cdb_waits : (l : Layer) (d : DriveState) (r : Request) (c : Command) (found : Result Command Illegal) → is_in (slice_index r.cdb 0) built ≡ true → says r.cdb l.identity.trim ≡ found → cdb_answer l r.data_len found ≡ Ok c → cdb_arrival (view l d) r found ≡ full_or_waits l d r c
 cdb_waits l d r c (Err why) in_it said e = absurd cc
-cdb_waits l d r c (Ok k) in_it said e = ten_arrival l d r k (ten_of r.cdb l.identity.trim k in_it said) ∙ command_waits l d r c k e
+cdb_waits l d r c (Ok k) in_it said e = is_served_arrival l d r k (served r.cdb l.identity.trim k in_it said) ∙ command_waits l d r c k e
 
 pub code_waits : (l : Layer) (d : DriveState) (r : Request) (c : Command) → code_answer l r ≡ Ok c → code_arrival (view l d) r ≡ full_or_waits l d r c
 code_waits l d r c e =

@@ -1,53 +1,27 @@
 -- Which tasks ask for FUA.
-use Rattle.std.proofs.Common.{◌≡◌, ⊎_elim, inl, inr, refl, sym, ap, subst, ◌∙◌, Bool, true, false, cond, eqb, ℕ, List, [], ◌∷◌, map}
-use Rattle.std.specs.Prelude.{Ok, MatchBool, not, slice_index}
+use Rattle.std.proofs.Common.{◌≡◌, ⊎_elim, inl, inr, sym, ap, subst, ◌∙◌, true, false, cond, ℕ, List, [], ◌∷◌, map}
+use Rattle.std.specs.Prelude.{Ok, MatchBool, not}
 use Rattle.std.specs.List.{AllByRecursion}
-use Rattle.std.proofs.lemmas.Bool.{eqb-true}
 use Rattle.satl_base.specs.declared.reply.Reply.{Reply}
 use Rattle.satl_base.specs.declared.request.Request.{Request}
-use Rattle.satl_base.specs.Fields.{bit}
-use Rattle.satl_base.specs.Lists.{is_in}
 use Rattle.satl_cdb.specs.declared.command.Command.{Command}
-use Rattle.satl_cdb.specs.Rows.{found_says, format_of}
-use Rattle.satl_cdb.specs.BlockCommands.{read, ten, write}
-use Rattle.satl_cdb.specs.Table.{says, table}
 use Rattle.satl_line.specs.declared.entry.Entry.{Entry}
 use Rattle.satl_line.specs.Tasks.{Held, entries_of, is_too_much}
 use Rattle.satl_line.proofs.SlotsLemmas.{All-append}
 use Rattle.satl_drive.specs.State.{DriveState}
 use Rattle.satl_direct.specs.Device.{Device}
 use Rattle.satl_direct.specs.Tasks.{task_for, task_of}
-use Rattle.satl_direct.specs.Arrival.{built, is_unit_0}
+use Rattle.satl_direct.specs.Arrival.{is_unit_0}
 use Rattle.satl_core.specs.declared.submitting.AtOnce.TheVariants as at_once
 use Rattle.satl_core.specs.Layer.{Layer, view}
 use Rattle.satl_core.specs.Submitting.{Becomes, IsAdded, IsAnswered, attention_of, judged, left_by, once_judged, overlaps, task_without_pages, untold}
 use Rattle.satl_core.specs.Turning.{AreUnforced, AsksNoFua, asks_fua}
-use Rattle.satl_core.proofs.ArrivalLemmas.{judged_ok, of_rules}
+use Rattle.satl_core.proofs.ArrivalLemmas.{judged_ok, said_unforced}
 use Rattle.satl_core.proofs.HeldLemmas.{IsFirst}
 use Rattle.satl_core.proofs.LeavingLemmas.{left_kept}
 
-read_unforced : (cdb : List ℕ) (trim : Bool) (c : Command) → found_says (format_of (table trim) 0x28) cdb ≡ Ok c → asks_fua c ≡ false
-read_unforced cdb trim c e = subst (λ x. asks_fua x ≡ false) (of_rules cdb ((read ten).command cdb) c e).0 refl
-
-write_unforced : (cdb : List ℕ) (trim : Bool) (c : Command) → bit 1 3 cdb ≡ false → found_says (format_of (table trim) 0x2A) cdb ≡ Ok c → asks_fua c ≡ false
-write_unforced cdb trim c clear e = subst (λ x. asks_fua x ≡ false) (of_rules cdb ((write ten).command cdb) c e).0 clear
-
-unforced_by : (cdb : List ℕ) (trim : Bool) (c : Command) (code : ℕ) → bit 1 3 cdb ≡ false → is_in code built ≡ true → found_says (format_of (table trim) code) cdb ≡ Ok c → asks_fua c ≡ false
-unforced_by cdb trim c code clear in_it e =
-    (elim (eqb code 0x28) as (λ b. eqb code 0x28 ≡ b → cond b true (cond (eqb code 0x2A) true false) ≡ true → asks_fua c ≡ false) [
-      | true ↦ λ is f. read_unforced cdb trim c (subst (λ x. found_says (format_of (table trim) x) cdb ≡ Ok c) (eqb-true code 0x28 is) e)
-      | false ↦ λ is f. (elim (eqb code 0x2A) as (λ b. eqb code 0x2A ≡ b → cond b true false ≡ true → asks_fua c ≡ false) [
-        | true ↦ λ is' g. write_unforced cdb trim c clear (subst (λ x. found_says (format_of (table trim) x) cdb ≡ Ok c) (eqb-true code 0x2A is') e)
-        | false ↦ λ is' g. absurd cc
-      ]) refl f
-    ]) refl in_it
-
-unforced_said : (cdb : List ℕ) (trim : Bool) (c : Command) → bit 1 3 cdb ≡ false → is_in (slice_index cdb 0) built ≡ true → says cdb trim ≡ Ok c → asks_fua c ≡ false
-unfolding says
-unforced_said cdb trim c clear in_it e = unforced_by cdb trim c (slice_index cdb 0) clear in_it e
-
 judged_unforced : (l : Layer) (r : Request) (c : Command) → AsksNoFua r → judged l r ≡ Ok c → asks_fua c ≡ false
-judged_unforced l r c clear e = let j = judged_ok l r c e in unforced_said r.cdb l.identity.trim c clear j.served j.said
+judged_unforced l r c clear e = let j = judged_ok l r c e in said_unforced r.cdb l.identity.trim c clear j.served j.said
 
 -- the tasks of a device ask for no FUA
 abbrev pub NoneAsks : List Entry → Type 0

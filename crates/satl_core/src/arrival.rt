@@ -11,11 +11,14 @@ use satl_cdb::{Command, Illegal};
 use satl_sense::{Extra, Sense};
 use satl_unit::Attention;
 
-/// The operation codes that are served so far: READ(10) and WRITE(10).
+/// The operation codes that are served so far: TEST UNIT READY, and READ and WRITE in each form.
 pub fn is_built(code: u8) -> bool
     ensures { result ≡ is_in code built }
 {
-    matches!(code, 0x28 | 0x2A)
+    matches!(
+        code,
+        0x00 | 0x08 | 0x0A | 0x28 | 0x2A | 0x88 | 0x8A | 0xA8 | 0xAA
+    )
 }
 
 /// Whether a command of this operation code is carried out before a unit attention is told: INQUIRY, REPORT LUNS and REQUEST
@@ -42,7 +45,7 @@ pub fn is_ordered(attr: Attr) -> bool
     }
 }
 
-/// The blocks that a READ or a WRITE goes over.
+/// The blocks that a command goes over.
 pub fn range_of(command: &Command) -> Range
     requires { IsServed command.now }
     ensures { result ≡ range_of command.now }
@@ -52,17 +55,18 @@ pub fn range_of(command: &Command) -> Range
             lba,
             count,
         },
+        Command::TestUnitReady => Range { lba: 0, count: 0 },
         _ => unreachable!(),
     }
 }
 
-/// The bytes of data-out that a READ or a WRITE needs.
+/// The bytes of data-out that a command needs.
 pub fn needed(command: &Command) -> u64
     requires { IsServed command.now }
     ensures { result ≡ needed command.now }
 {
     match *command {
-        Command::Read { .. } => 0,
+        Command::TestUnitReady | Command::Read { .. } => 0,
         Command::Write { count, .. } => 512 * u64::from(count),
         _ => unreachable!(),
     }

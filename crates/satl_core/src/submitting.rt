@@ -1,6 +1,6 @@
 // A command arrives.
-ghost use Rattle.std.specs.Prelude.{◌≡◌, ◌≤◌, ◌+◌, ◌*◌, ◌∷◌, [], length, take};
-ghost use Rattle.satl_direct.specs.Tasks.{data_out, held_blocks, needed};
+ghost use Rattle.std.specs.Prelude.{◌≡◌, ◌≤◌, ◌+◌, ◌*◌, ◌∷◌, [], IfOk, length, take};
+ghost use Rattle.satl_direct.specs.Tasks.{data_out, held_blocks, needed, range_of};
 ghost use Rattle.satl_core.specs.Layer.{IsServed, held_pages};
 ghost use Rattle.satl_core.specs.Submitting.{attention_of, code_answer, command_answer, left_by, readiness, reply_at_once, task_without_pages, untold};
 
@@ -56,8 +56,11 @@ pub fn next_attention(attentions: &mut [Attentions; 4], request: &Request) -> Op
 /// Judges a request by its operation code, its fields and its data-out: its command, which may become a task, or why it is
 /// answered at once.
 pub fn judge_code(satl: &Satl, request: &Request) -> Result<Command, AtOnce>
-    ensures { result ≡ code_answer satl.now request.now }
+    ensures answer { result ≡ code_answer satl.now request.now }
+    ensures few { IfOk result (λ command. (range_of command).count ≤ 4096) }
 {
+    // Read so that it is known to be a byte: the count of six bytes.
+    let _count = request.cdb[4];
     if !is_built(request.cdb[0]) {
         return Err(AtOnce::Check(plain(0x5, 0x20, 0x00)));
     }
