@@ -11,10 +11,8 @@ use Rattle.satl_line.proofs.SlotsLemmas.{All-append}
 use Rattle.satl_drive.specs.State.{DriveState}
 use Rattle.satl_direct.specs.Device.{Device}
 use Rattle.satl_direct.specs.Tasks.{task_for, task_of}
-use Rattle.satl_direct.specs.Arrival.{is_unit_0}
-use Rattle.satl_core.specs.declared.submitting.AtOnce.TheVariants as at_once
 use Rattle.satl_core.specs.Layer.{Layer, view}
-use Rattle.satl_core.specs.Submitting.{Becomes, IsAdded, IsAnswered, attention_of, judged, left_by, once_judged, overlaps, task_without_pages, untold}
+use Rattle.satl_core.specs.Submitting.{is_for_unit, Becomes, IsAdded, IsRefused, attention_of, judged, left_by, once_judged, overlaps, task_without_pages, untold}
 use Rattle.satl_core.specs.Turning.{AreUnforced, AsksNoFua, asks_fua}
 use Rattle.satl_core.proofs.ArrivalLemmas.{judged_ok, said_unforced}
 use Rattle.satl_core.proofs.HeldLemmas.{IsFirst}
@@ -51,7 +49,7 @@ left_unforced nexus l d free =
 -- the tasks that are left once a request is judged ask for no FUA
 pub judged_unforced_all : (l : Layer) (d : DriveState) (r : Request) → AreUnforced (view l d) → AreUnforced (view (once_judged l r) d)
 judged_unforced_all l d r free =
-    elim (is_unit_0 r.lun) as (λ b. AreUnforced (view (cond (not b) l (cond (overlaps l.tasks r) (record l { tasks = left_by r.nexus l.tasks }) (record l { attentions = untold (attention_of l.attentions r) r.nexus l.attentions }))) d)) [
+    elim (is_for_unit r) as (λ b. AreUnforced (view (cond (not b) l (cond (overlaps l.tasks r) (record l { tasks = left_by r.nexus l.tasks }) (record l { attentions = untold (attention_of l.attentions r) r.nexus l.attentions }))) d)) [
       | false ↦ free
       | true ↦ (elim (overlaps l.tasks r) as (λ b. AreUnforced (view (cond b (record l { tasks = left_by r.nexus l.tasks }) (record l { attentions = untold (attention_of l.attentions r) r.nexus l.attentions })) d)) [
         | true ↦ left_unforced r.nexus l d free
@@ -61,7 +59,7 @@ judged_unforced_all l d r free =
 
 pub becomes_unforced : (l new : Layer) (d : DriveState) (r : Request) (c : Command) (replies : List Reply) → AsksNoFua r → judged l r ≡ Ok c → Becomes r c l replies new → AreUnforced (view l d) → AreUnforced (view new d)
 becomes_unforced l new d r c replies clear e b =
-    (elim (is_too_much l.tasks (task_without_pages r c l.identity.queued_trim)) as (λ f. MatchBool f (IsAnswered r at_once.Full l replies new) (IsAdded r c l replies new) → AreUnforced (view l d) → AreUnforced (view new d)) [
+    (elim (is_too_much l.tasks (task_without_pages r c l.identity.queued_trim)) as (λ f. MatchBool f (IsRefused r l replies new) (IsAdded r c l replies new) → AreUnforced (view l d) → AreUnforced (view new d)) [
       | true ↦ λ a. same_unforced (view l d) (view new d) (ap (λ x. view x d) a.stays)
       | false ↦ λ a. added r c l replies new d (judged_unforced l r c clear e) a
     ]) b

@@ -5,19 +5,34 @@ ghost use Rattle.satl_direct.specs.Arrival.{built, is_unit_0, untold_codes};
 ghost use Rattle.satl_direct.specs.Senses.{attention_sense, plain, refusal};
 ghost use Rattle.satl_direct.specs.Tasks.{is_ordered, needed, range_of};
 ghost use Rattle.satl_core.specs.Layer.{IsServed};
+ghost use Rattle.satl_core.specs.Submitting.{is_for_unit};
 
-use satl_base::{Attr, Range};
+use satl_base::{Attr, Range, Request};
 use satl_cdb::{Command, Illegal};
 use satl_sense::{Extra, Sense};
 use satl_unit::Attention;
 
-/// The operation codes that are served so far: TEST UNIT READY, and READ and WRITE in each form.
+/// The operation codes that are served so far: TEST UNIT READY, INQUIRY, MODE SENSE, READ CAPACITY and REPORT LUNS, and READ
+/// and WRITE in each form.
 pub fn is_built(code: u8) -> bool
     ensures { result ≡ is_in code built }
 {
     matches!(
         code,
-        0x00 | 0x08 | 0x0A | 0x28 | 0x2A | 0x88 | 0x8A | 0xA8 | 0xAA
+        0x00 | 0x08
+            | 0x0A
+            | 0x12
+            | 0x1A
+            | 0x25
+            | 0x28
+            | 0x2A
+            | 0x5A
+            | 0x88
+            | 0x8A
+            | 0x9E
+            | 0xA0
+            | 0xA8
+            | 0xAA
     )
 }
 
@@ -30,10 +45,17 @@ pub fn is_untold(code: u8) -> bool
 }
 
 /// Whether a LUN is that of logical unit 0.
-pub fn is_unit_0(lun: &[u8; 8]) -> bool
+fn is_unit_0(lun: &[u8; 8]) -> bool
     ensures { result ≡ is_unit_0 lun.now }
 {
     lun.iter().all(|byte| *byte == 0)
+}
+
+/// Whether a request goes to logical unit 0. REPORT LUNS does at each LUN (SPC-4 6.33).
+pub fn is_for_unit(request: &Request) -> bool
+    ensures { result ≡ is_for_unit request.now }
+{
+    is_unit_0(&request.lun) || request.cdb[0] == 0xA0
 }
 
 pub fn is_ordered(attr: Attr) -> bool
@@ -55,8 +77,7 @@ pub fn range_of(command: &Command) -> Range
             lba,
             count,
         },
-        Command::TestUnitReady => Range { lba: 0, count: 0 },
-        _ => unreachable!(),
+        _ => Range { lba: 0, count: 0 },
     }
 }
 
@@ -66,9 +87,8 @@ pub fn needed(command: &Command) -> u64
     ensures { result ≡ needed command.now }
 {
     match *command {
-        Command::TestUnitReady | Command::Read { .. } => 0,
         Command::Write { count, .. } => 512 * u64::from(count),
-        _ => unreachable!(),
+        _ => 0,
     }
 }
 

@@ -1,27 +1,47 @@
 // A command arrives.
 ghost use Rattle.std.specs.Prelude.{◌≡◌, ◌≤◌, ◌+◌, ◌*◌, ◌∷◌, [], IfOk, length, take};
+ghost use Rattle.std.specs.List.{AllByRecursion};
+ghost use Rattle.satl_frame.specs.Output.{IsWritable};
+ghost use Rattle.satl_direct.specs.Arrival.{reply_to};
 ghost use Rattle.satl_direct.specs.Tasks.{data_out, held_blocks, needed, range_of};
-ghost use Rattle.satl_core.specs.Layer.{IsServed, held_pages};
-ghost use Rattle.satl_core.specs.Submitting.{attention_of, code_answer, command_answer, left_by, readiness, reply_at_once, task_without_pages, untold};
+ghost use Rattle.satl_core.specs.Layer.{IsExpectable, IsServed, held_pages, reply_pages};
+ghost use Rattle.satl_core.specs.Submitting.{answer_to, attention_of, code_answer, command_answer, left_by, other_answer, readiness, reply_at_once, task_without_pages, untold};
 
 use crate::arrival::{
     is_built, is_ordered, is_outside, is_untold, needed, plain, range_of, refusal,
 };
 use crate::satl::Satl;
+use crate::telling::{Data, data_text, told};
 use arrayvec::ArrayVec;
-use satl_base::{Nexus, Pages, Replies, Reply, Request, Scsi};
+use satl_base::{Modes, Nexus, Pages, Replies, Reply, Request, Scsi, SenseBytes};
 use satl_cdb::{Command, read_cdb};
+use satl_identify::Identity;
 use satl_line::{Entry, Kind, TaskSet};
 use satl_pages::Pool;
 use satl_sense::{Sense, sense_bytes};
 use satl_unit::{Attention, Attentions};
+use std::mem;
 
-/// Why a command is answered at once: GOOD, TASK SET FULL, or CHECK CONDITION with its sense data.
+/// Why a command is answered at once: GOOD, GOOD with data-in up to an allocation length, or CHECK CONDITION with its sense data.
 #[derive(Clone, Copy, Debug, PartialEq, Eq)]
 pub enum AtOnce {
     Good,
-    Full,
+    Tell { what: Data, alloc: u32 },
     Check(Sense),
+}
+
+/// The answer of a LUN at which there is no logical unit: INQUIRY without EVPD says so, and all else is refused (SPC-4 6.6).
+pub fn other_answer(request: &Request) -> AtOnce
+    ensures { result ≡ other_answer request.now }
+{
+    if request.cdb[0] == 0x12 && request.cdb[1] & 0x01 == 0 {
+        let alloc = u16::from_be_bytes([request.cdb[3], request.cdb[4]]);
+        return AtOnce::Tell {
+            what: Data::NoUnit,
+            alloc: u32::from(alloc),
+        };
+    }
+    AtOnce::Check(plain(0x5, 0x25, 0x00))
 }
 
 /// Takes all tasks of a nexus out, and gives their pages back. They have no answer (SAM-5 5.1, overlapped commands).
@@ -81,10 +101,42 @@ fn judge_command(satl: &Satl, data_len: u32, command: Command) -> Result<Command
     if u64::from(data_len) < needed(&command) {
         return Err(AtOnce::Check(plain(0xB, 0x4B, 0x00)));
     }
-    if range.count == 0 {
-        return Err(readiness(satl));
-    }
-    Ok(command)
+    answer_to(satl, command)
+}
+
+/// Answers a command from what the device says of itself, or lets it become a task. READ and WRITE of no block answer as
+/// TEST UNIT READY does (profile).
+fn answer_to(satl: &Satl, command: Command) -> Result<Command, AtOnce>
+    ensures { result ≡ answer_to satl.now command }
+{
+    let (what, alloc) = match command {
+        Command::TestUnitReady | Command::Read { count: 0, .. } | Command::Write { count: 0, .. } =>
+            return Err(readiness(satl)),
+        Command::Read { .. } | Command::Write { .. } => return Ok(command),
+        Command::Inquiry { page, alloc } => (Data::Inquiry(page), u32::from(alloc)),
+        Command::ModeSense {
+            ten,
+            long_lba,
+            no_descriptor,
+            control,
+            page,
+            alloc,
+        } => {
+            let what = Data::Modes {
+                ten,
+                long_lba,
+                no_descriptor,
+                control,
+                page,
+            };
+            (what, u32::from(alloc))
+        }
+        Command::ReadCapacity10 => (Data::Capacity10, 8),
+        Command::ReadCapacity16 { alloc } => (Data::Capacity16, alloc),
+        Command::ReportLuns { select, alloc } => (Data::Luns(select), alloc),
+        _ => return Err(AtOnce::Check(plain(0x5, 0x20, 0x00))),
+    };
+    Err(AtOnce::Tell { what, alloc })
 }
 
 fn readiness(satl: &Satl) -> AtOnce
@@ -146,32 +198,60 @@ pub fn own_pages(pool: &mut Pool, command: &Command, body: Pages) -> Pages
     pages
 }
 
-/// Answers a request at once, and gives its pages back.
+/// Gives the pages of a request back, and answers it at once.
 pub fn answer_at_once(
     pool: &mut Pool,
+    identity: &Identity,
+    modes: &Modes,
     request: Request,
     answer: AtOnce,
-    descriptor: bool,
     replies: &mut Replies,
 )
+    requires capacity { 1 ≤ identity.now.capacity }
     requires out { length request.body ≤ pool.old.out }
+    requires room { 2 ≤ pool.old.free + length request.body }
     requires empty { replies.old ≡ [] }
-    ensures reply { replies.new ≡ reply_at_once request answer descriptor ∷ [] }
-    ensures free { pool.new.free ≡ pool.old.free + length request.body }
-    ensures out { pool.new.out + length request.body ≡ pool.old.out }
+    ensures reply { replies.new ≡ reply_at_once identity.now modes.now request answer ∷ [] }
+    ensures free { pool.new.free + reply_pages replies.new ≡ pool.old.free + length request.body }
+    ensures out { pool.new.out + length request.body ≡ pool.old.out + reply_pages replies.new }
+    ensures writable { IsExpectable request.expected → AllByRecursion IsWritable replies.new }
 {
-    replies.push(reply_at_once(&request, answer, descriptor));
-    pool.give(request.body);
+    let mut request = request;
+    pool.give(mem::take(&mut request.body));
+    replies.push(reply_at_once(pool, identity, modes, &request, answer));
 }
 
-fn reply_at_once(request: &Request, answer: AtOnce, descriptor: bool) -> Reply
-    ensures { result ≡ reply_at_once request.now answer descriptor }
+fn reply_at_once(
+    pool: &mut Pool,
+    identity: &Identity,
+    modes: &Modes,
+    request: &Request,
+    answer: AtOnce,
+) -> Reply
+    requires capacity { 1 ≤ identity.now.capacity }
+    requires room { 2 ≤ pool.old.free }
+    ensures reply { result ≡ reply_at_once identity.now modes.now request.now answer }
+    ensures free { pool.new.free + length result.body ≡ pool.old.free }
+    ensures out { pool.new.out ≡ pool.old.out + length result.body }
+    ensures writable { IsExpectable request.now.expected → IsWritable result }
 {
-    let (status, sense) = match answer {
-        AtOnce::Good => (Scsi::Good, ArrayVec::new()),
-        AtOnce::Full => (Scsi::TaskSetFull, ArrayVec::new()),
-        AtOnce::Check(sense) => (Scsi::CheckCondition, sense_bytes(&sense, descriptor)),
-    };
+    match answer {
+        AtOnce::Good => reply_to(request, Scsi::Good, ArrayVec::new()),
+        AtOnce::Tell { what, alloc } => {
+            told(pool, request, alloc, &data_text(identity, modes, &what))
+        }
+        AtOnce::Check(sense) => reply_to(
+            request,
+            Scsi::CheckCondition,
+            sense_bytes(&sense, modes.d_sense),
+        ),
+    }
+}
+
+/// An answer without data.
+pub fn reply_to(request: &Request, status: Scsi, sense: SenseBytes) -> Reply
+    ensures { result ≡ reply_to request.now status sense.items }
+{
     Reply {
         nexus: request.nexus,
         tag: request.tag,
