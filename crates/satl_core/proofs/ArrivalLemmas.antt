@@ -1,8 +1,8 @@
 -- What the layer judges of a request is what the device does with it.
 use Rattle.std.proofs.Common.{◌≡◌, refl, sym, ap, subst, ◌∙◌, arith, cond, ℕ, suc, ◌+◌, ◌<◌, ◌≤◌, ◌^◌, Bool, true, false, List, [], ◌∷◌, length, map}
-use Rattle.std.specs.Prelude.{Option, Some, None, Result, Ok, Err, IfOk, not, ◌==◌, ◌&&◌, nat_lt, slice_index, MatchBool}
+use Rattle.std.specs.Prelude.{Option, Some, None, Result, Ok, Err, IfOk, not, ◌==◌, ◌&&◌, nat_lt, slice_get, slice_index, slice_index_or, MatchBool}
 use Rattle.std.specs.List.{AllByRecursion}
-use Rattle.std.proofs.lemmas.Bool.{eqb-false, eqb-true, ltb-false}
+use Rattle.std.proofs.lemmas.Bool.{eqb-false, eqb-true, le-ltb, ltb-false}
 use Rattle.satl_base.specs.declared.reply.Reply.{Reply}
 use Rattle.satl_base.specs.declared.reply.Scsi.TheVariants as statuses
 use Rattle.satl_base.specs.declared.request.Request.{Request}
@@ -28,14 +28,14 @@ use Rattle.satl_cdb.specs.declared.command.Form.{Form}
 use Rattle.satl_cdb.specs.declared.command.Form.TheVariants.{Six}
 use Rattle.satl_unit.specs.declared.attention.Attention.{Attention}
 use Rattle.satl_direct.specs.Device.{Device}
-use Rattle.satl_direct.specs.Senses.{attention_sense, out_of_range, overlapped, refusal, sense_in, short_data, unknown_operation, unknown_unit}
+use Rattle.satl_direct.specs.Senses.{attention_sense, no_sense, out_of_range, overlapped, refusal, sense_in, short_data, unknown_operation, unknown_unit}
 use Rattle.satl_direct.specs.Arrival as direct
-use Rattle.satl_direct.specs.Arrival.{Arrival, ArrivesAs, Arrives, answered, waits, arrival, asks_for, attention_arrival, built, cdb_arrival, check, code_arrival, code_of, is_unit_0, other_arrival, unit_arrival}
+use Rattle.satl_direct.specs.Arrival.{untold_codes, attended, Arrival, ArrivesAs, Arrives, answered, waits, arrival, asks_for, attention_arrival, built, cdb_arrival, check, code_arrival, code_of, is_unit_0, other_arrival, unit_arrival}
 use Rattle.satl_direct.specs.Tasks.{held_blocks, held_by, is_full, needed, range_of, task_for, task_of}
 use Rattle.satl_core.specs.declared.submitting.AtOnce.{AtOnce}
 use Rattle.satl_core.specs.declared.submitting.AtOnce.TheVariants as at_once
 use Rattle.satl_core.specs.Layer.{IsServed, IsTransfer, Layer, view}
-use Rattle.satl_core.specs.Submitting.{answer_to, is_for_unit, other_answer, Becomes, IsAdded, IsRefused, attention_answer, attention_of, cdb_answer, code_answer, command_answer, judged, left_by, once_judged, overlaps, readiness, reply_at_once, task_without_pages, untold}
+use Rattle.satl_core.specs.Submitting.{sense_data, tell_attention, answer_to, is_for_unit, other_answer, Becomes, IsAdded, IsRefused, attention_answer, attention_of, cdb_answer, code_answer, command_answer, judged, left_by, once_judged, overlaps, readiness, reply_at_once, task_without_pages, untold}
 use Rattle.satl_core.specs.declared.telling.Data.TheVariants as datas
 use Rattle.satl_core.specs.Turning.{asks_fua}
 use Rattle.satl_core.proofs.LeavingLemmas.{found_is, left_tasks}
@@ -47,6 +47,7 @@ abbrev pub IsSaid : List ℕ → Command → Type 0
 IsSaid cdb (cdbs.Read form lba count fua) = slice_index cdb 4 < 256 → count ≤ 4096
 IsSaid cdb (cdbs.Write form lba count fua) = (slice_index cdb 4 < 256 → count ≤ 4096) × (bit 1 3 cdb ≡ false → fua ≡ false)
 IsSaid cdb cdbs.TestUnitReady = Unit {0}
+IsSaid cdb (cdbs.RequestSense descriptor alloc) = slice_index cdb 0 ≡ 0x03
 IsSaid cdb (cdbs.Inquiry page alloc) = Unit {0}
 IsSaid cdb (cdbs.ModeSense is_ten long_lba no_descriptor control page alloc) = Unit {0}
 IsSaid cdb cdbs.ReadCapacity10 = Unit {0}
@@ -103,12 +104,12 @@ in_all P (x ∷ xs) n all e =
     ]) refl e
 
 -- each operation code that is served
-said_by : (cdb : List ℕ) (trim : Bool) (c : Command) → AllByRecursion (λ code. found_says (format_of (table trim) code) cdb ≡ Ok c → IsSaid cdb c) built
-said_by cdb trim c = (λ e. same_said cdb cdbs.TestUnitReady c e tt, (λ e. same_said cdb (cdbs.Read Six (six.lba cdb) (six.count cdb) false) c e (short_count cdb), (λ e. same_said cdb (cdbs.Write Six (six.lba cdb) (six.count cdb) false) c e (short_count cdb, λ clear. refl), (λ e. subst (IsSaid cdb) (unbroken inquiry.rules cdb (inquiry.command cdb) c e) tt, (λ e. subst (IsSaid cdb) (unbroken (mode_sense false).rules cdb ((mode_sense false).command cdb) c e) tt, (λ e. same_said cdb cdbs.ReadCapacity10 c e tt, (λ e. said_read ten cdb c e, (λ e. said_write ten cdb c e, (λ e. subst (IsSaid cdb) (unbroken (mode_sense true).rules cdb ((mode_sense true).command cdb) c e) tt, (λ e. said_read sixteen cdb c e, (λ e. said_write sixteen cdb c e, (λ e. subst (IsSaid cdb) (unbroken read_capacity_16.rules cdb (read_capacity_16.command cdb) c e) tt, (λ e. subst (IsSaid cdb) (unbroken report_luns.rules cdb (report_luns.command cdb) c e) tt, (λ e. said_read twelve cdb c e, (λ e. said_write twelve cdb c e, tt)))))))))))))))
+said_by : (cdb : List ℕ) (trim : Bool) (c : Command) → AllByRecursion (λ code. slice_index cdb 0 ≡ code → found_says (format_of (table trim) code) cdb ≡ Ok c → IsSaid cdb c) built
+said_by cdb trim c = (λ is e. same_said cdb cdbs.TestUnitReady c e tt, (λ is e. same_said cdb (cdbs.RequestSense (bit 1 0 cdb) (bytes 4 4 cdb)) c e is, (λ is e. same_said cdb (cdbs.Read Six (six.lba cdb) (six.count cdb) false) c e (short_count cdb), (λ is e. same_said cdb (cdbs.Write Six (six.lba cdb) (six.count cdb) false) c e (short_count cdb, λ clear. refl), (λ is e. subst (IsSaid cdb) (unbroken inquiry.rules cdb (inquiry.command cdb) c e) tt, (λ is e. subst (IsSaid cdb) (unbroken (mode_sense false).rules cdb ((mode_sense false).command cdb) c e) tt, (λ is e. same_said cdb cdbs.ReadCapacity10 c e tt, (λ is e. said_read ten cdb c e, (λ is e. said_write ten cdb c e, (λ is e. subst (IsSaid cdb) (unbroken (mode_sense true).rules cdb ((mode_sense true).command cdb) c e) tt, (λ is e. said_read sixteen cdb c e, (λ is e. said_write sixteen cdb c e, (λ is e. subst (IsSaid cdb) (unbroken read_capacity_16.rules cdb (read_capacity_16.command cdb) c e) tt, (λ is e. subst (IsSaid cdb) (unbroken report_luns.rules cdb (report_luns.command cdb) c e) tt, (λ is e. said_read twelve cdb c e, (λ is e. said_write twelve cdb c e, tt))))))))))))))))
 
 said_of : (cdb : List ℕ) (trim : Bool) (c : Command) → is_in (slice_index cdb 0) built ≡ true → says cdb trim ≡ Ok c → IsSaid cdb c
 unfolding says
-said_of cdb trim c in_it e = in_all (λ code. found_says (format_of (table trim) code) cdb ≡ Ok c → IsSaid cdb c) built (slice_index cdb 0) (said_by cdb trim c) in_it e
+said_of cdb trim c in_it e = in_all (λ code. slice_index cdb 0 ≡ code → found_says (format_of (table trim) code) cdb ≡ Ok c → IsSaid cdb c) built (slice_index cdb 0) (said_by cdb trim c) in_it refl e
 
 -- a READ or a WRITE that is not answered at once goes over some block
 some_ok : (l : Layer) (c d : Command) (count : ℕ) → cond (count == 0) (Err (readiness l)) (Ok c) ≡ Ok d → (c ≡ d) × ((count == 0) ≡ false)
@@ -171,7 +172,7 @@ code_ok l r c e =
 
 -- what is judged of a request by these tests
 abbrev judged_by : Bool → Bool → Option Attention → Layer → Request → Result Command AtOnce
-judged_by unit over what l r = cond (not unit) (Err (other_answer r)) (cond over (Err (at_once.Check overlapped)) (attention_answer what (code_answer l r)))
+judged_by unit over what l r = cond (not unit) (Err (other_answer r)) (cond over (Err (at_once.Check overlapped)) (attention_answer what r.cdb (code_answer l r)))
 
 -- where a command may become a task, no test has stopped it
 pub by_ok : (P : Bool → Bool → Option Attention → Type 0) (unit over : Bool) (what : Option Attention) (l : Layer) (r : Request) (c : Command) → (code_answer l r ≡ Ok c → P true false None) → judged_by unit over what l r ≡ Ok c → P unit over what
@@ -186,6 +187,7 @@ judged_ok l r c e = by_ok (λ unit over what. IsJudged l r c) (is_for_unit r) (o
 -- a command that is answered from what the device says of itself
 abbrev pub IsTold : Command → Type 0
 IsTold cdbs.TestUnitReady = Unit {0}
+IsTold (cdbs.RequestSense a b) = Unit {0}
 IsTold (cdbs.Inquiry a b) = Unit {0}
 IsTold (cdbs.ModeSense a b e f g h) = Unit {0}
 IsTold cdbs.ReadCapacity10 = Unit {0}
@@ -203,7 +205,7 @@ of_served P told read write (cdbs.ReadCapacity16 a) here = told (cdbs.ReadCapaci
 of_served P told read write (cdbs.ReportLuns a b) here = told (cdbs.ReportLuns a b) tt
 of_served P told read write (cdbs.Read form lba count fua) here = read form lba count fua
 of_served P told read write (cdbs.Write form lba count fua) here = write form lba count fua
-of_served P told read write (cdbs.RequestSense a b) here = absurd here
+of_served P told read write (cdbs.RequestSense a b) here = told (cdbs.RequestSense a b) tt
 of_served P told read write (cdbs.ModeSelect a b) here = absurd here
 of_served P told read write (cdbs.StartStop a b) here = absurd here
 of_served P told read write (cdbs.Verify a b e f) here = absurd here
@@ -213,23 +215,23 @@ of_served P told read write (cdbs.Unmap a) here = absurd here
 of_served P told read write (cdbs.Pass a) here = absurd here
 
 -- what holds of each of them holds of a command that is told
-of_told : (P : Command → Type 0) → P cdbs.TestUnitReady → ((page : Option ℕ) (alloc : ℕ) → P (cdbs.Inquiry page alloc)) → ((ten long_lba no_descriptor : Bool) (control page alloc : ℕ) → P (cdbs.ModeSense ten long_lba no_descriptor control page alloc)) → P cdbs.ReadCapacity10 → ((alloc : ℕ) → P (cdbs.ReadCapacity16 alloc)) → ((select alloc : ℕ) → P (cdbs.ReportLuns select alloc)) → (c : Command) → IsTold c → P c
-of_told P ready told modes short long luns cdbs.TestUnitReady here = ready
-of_told P ready told modes short long luns (cdbs.Inquiry a b) here = told a b
-of_told P ready told modes short long luns (cdbs.ModeSense a b e f g h) here = modes a b e f g h
-of_told P ready told modes short long luns cdbs.ReadCapacity10 here = short
-of_told P ready told modes short long luns (cdbs.ReadCapacity16 a) here = long a
-of_told P ready told modes short long luns (cdbs.ReportLuns a b) here = luns a b
-of_told P ready told modes short long luns (cdbs.Read a b e f) here = absurd here
-of_told P ready told modes short long luns (cdbs.Write a b e f) here = absurd here
-of_told P ready told modes short long luns (cdbs.RequestSense a b) here = absurd here
-of_told P ready told modes short long luns (cdbs.ModeSelect a b) here = absurd here
-of_told P ready told modes short long luns (cdbs.StartStop a b) here = absurd here
-of_told P ready told modes short long luns (cdbs.Verify a b e f) here = absurd here
-of_told P ready told modes short long luns (cdbs.Flush a b e) here = absurd here
-of_told P ready told modes short long luns (cdbs.WriteSame a b e f) here = absurd here
-of_told P ready told modes short long luns (cdbs.Unmap a) here = absurd here
-of_told P ready told modes short long luns (cdbs.Pass a) here = absurd here
+of_told : (P : Command → Type 0) → P cdbs.TestUnitReady → ((descriptor : Bool) (alloc : ℕ) → P (cdbs.RequestSense descriptor alloc)) → ((page : Option ℕ) (alloc : ℕ) → P (cdbs.Inquiry page alloc)) → ((ten long_lba no_descriptor : Bool) (control page alloc : ℕ) → P (cdbs.ModeSense ten long_lba no_descriptor control page alloc)) → P cdbs.ReadCapacity10 → ((alloc : ℕ) → P (cdbs.ReadCapacity16 alloc)) → ((select alloc : ℕ) → P (cdbs.ReportLuns select alloc)) → (c : Command) → IsTold c → P c
+of_told P ready sense told modes short long luns cdbs.TestUnitReady here = ready
+of_told P ready sense told modes short long luns (cdbs.Inquiry a b) here = told a b
+of_told P ready sense told modes short long luns (cdbs.ModeSense a b e f g h) here = modes a b e f g h
+of_told P ready sense told modes short long luns cdbs.ReadCapacity10 here = short
+of_told P ready sense told modes short long luns (cdbs.ReadCapacity16 a) here = long a
+of_told P ready sense told modes short long luns (cdbs.ReportLuns a b) here = luns a b
+of_told P ready sense told modes short long luns (cdbs.Read a b e f) here = absurd here
+of_told P ready sense told modes short long luns (cdbs.Write a b e f) here = absurd here
+of_told P ready sense told modes short long luns (cdbs.RequestSense a b) here = sense a b
+of_told P ready sense told modes short long luns (cdbs.ModeSelect a b) here = absurd here
+of_told P ready sense told modes short long luns (cdbs.StartStop a b) here = absurd here
+of_told P ready sense told modes short long luns (cdbs.Verify a b e f) here = absurd here
+of_told P ready sense told modes short long luns (cdbs.Flush a b e) here = absurd here
+of_told P ready sense told modes short long luns (cdbs.WriteSame a b e f) here = absurd here
+of_told P ready sense told modes short long luns (cdbs.Unmap a) here = absurd here
+of_told P ready sense told modes short long luns (cdbs.Pass a) here = absurd here
 
 -- a command of which something is known by its bytes is served
 said_served : (cdb : List ℕ) (c : Command) → IsSaid cdb c → IsServed c
@@ -241,7 +243,7 @@ said_served cdb (cdbs.ReadCapacity16 a) said = tt
 said_served cdb (cdbs.ReportLuns a b) said = tt
 said_served cdb (cdbs.Read form lba count fua) said = tt
 said_served cdb (cdbs.Write form lba count fua) said = tt
-said_served cdb (cdbs.RequestSense a b) said = said
+said_served cdb (cdbs.RequestSense a b) said = tt
 said_served cdb (cdbs.ModeSelect a b) said = said
 said_served cdb (cdbs.StartStop a b) said = said
 said_served cdb (cdbs.Verify a b e f) said = said
@@ -256,13 +258,13 @@ served cdb trim c in_it e = said_served cdb c (said_of cdb trim c in_it e)
 
 -- it goes over at most 4,096 blocks
 said_few : (cdb : List ℕ) (c : Command) → slice_index cdb 4 < 256 → IsSaid cdb c → (range_of c).count ≤ 4096
-said_few cdb c byte said = of_served (λ c. IsSaid cdb c → (range_of c).count ≤ 4096) (λ c here. of_told (λ c. IsSaid cdb c → (range_of c).count ≤ 4096) (λ said. omega arith) (λ page alloc said. omega arith) (λ ten long_lba no_descriptor control page alloc said. omega arith) (λ said. omega arith) (λ alloc said. omega arith) (λ select alloc said. omega arith) c here) (λ form lba count fua said. said byte) (λ form lba count fua said. said.0 byte) c (said_served cdb c said) said
+said_few cdb c byte said = of_served (λ c. IsSaid cdb c → (range_of c).count ≤ 4096) (λ c here. of_told (λ c. IsSaid cdb c → (range_of c).count ≤ 4096) (λ said. omega arith) (λ descriptor alloc said. omega arith) (λ page alloc said. omega arith) (λ ten long_lba no_descriptor control page alloc said. omega arith) (λ said. omega arith) (λ alloc said. omega arith) (λ select alloc said. omega arith) c here) (λ form lba count fua said. said byte) (λ form lba count fua said. said.0 byte) c (said_served cdb c said) said
 
 -- and asks for no FUA where its bit is 0
 pub said_unforced : (cdb : List ℕ) (trim : Bool) (c : Command) → bit 1 3 cdb ≡ false → is_in (slice_index cdb 0) built ≡ true → says cdb trim ≡ Ok c → asks_fua c ≡ false
 said_unforced cdb trim c clear in_it e =
     let said = said_of cdb trim c in_it e in
-    of_served (λ c. IsSaid cdb c → asks_fua c ≡ false) (λ c here. of_told (λ c. IsSaid cdb c → asks_fua c ≡ false) (λ said. refl) (λ page alloc said. refl) (λ ten long_lba no_descriptor control page alloc said. refl) (λ said. refl) (λ alloc said. refl) (λ select alloc said. refl) c here) (λ form lba count fua said. refl) (λ form lba count fua said. said.1 clear) c (said_served cdb c said) said
+    of_served (λ c. IsSaid cdb c → asks_fua c ≡ false) (λ c here. of_told (λ c. IsSaid cdb c → asks_fua c ≡ false) (λ said. refl) (λ descriptor alloc said. refl) (λ page alloc said. refl) (λ ten long_lba no_descriptor control page alloc said. refl) (λ said. refl) (λ alloc said. refl) (λ select alloc said. refl) c here) (λ form lba count fua said. refl) (λ form lba count fua said. said.1 clear) c (said_served cdb c said) said
 
 -- a command that may become a task goes over at most 4,096 blocks
 pub answer_few : (l : Layer) (trim : Bool) (cdb : List ℕ) (n : ℕ) (c : Command) (found : Result Command AtOnce) → slice_index cdb 4 < 256 → is_in (slice_index cdb 0) built ≡ true → says cdb trim ≡ Ok c → found ≡ command_answer l n c → IfOk found (λ command. (range_of command).count ≤ 4096)
@@ -274,7 +276,7 @@ answer_few l trim cdb n c (Err a) byte in_it said e = tt
 served_transfer : (capacity : ℕ) (c : Command) → IsServed c → (range_of c).count ≤ 4096 → capacity < 2 ^ 48 → nat_lt capacity ((range_of c).lba + (range_of c).count) ≡ false → ((range_of c).count == 0) ≡ false → IsTransfer capacity c (held_blocks c)
 served_transfer capacity c served few small =
     of_served (λ c. (range_of c).count ≤ 4096 → nat_lt capacity ((range_of c).lba + (range_of c).count) ≡ false → ((range_of c).count == 0) ≡ false → IsTransfer capacity c (held_blocks c))
-    (λ c here. of_told (λ c. (range_of c).count ≤ 4096 → nat_lt capacity ((range_of c).lba + (range_of c).count) ≡ false → ((range_of c).count == 0) ≡ false → IsTransfer capacity c (held_blocks c)) (λ few within some. absurd cc) (λ page alloc few within some. absurd cc) (λ ten long_lba no_descriptor control page alloc few within some. absurd cc) (λ few within some. absurd cc) (λ alloc few within some. absurd cc) (λ select alloc few within some. absurd cc) c here)
+    (λ c here. of_told (λ c. (range_of c).count ≤ 4096 → nat_lt capacity ((range_of c).lba + (range_of c).count) ≡ false → ((range_of c).count == 0) ≡ false → IsTransfer capacity c (held_blocks c)) (λ few within some. absurd cc) (λ descriptor alloc few within some. absurd cc) (λ page alloc few within some. absurd cc) (λ ten long_lba no_descriptor control page alloc few within some. absurd cc) (λ few within some. absurd cc) (λ alloc few within some. absurd cc) (λ select alloc few within some. absurd cc) c here)
     (λ form lba count fua few within some. here lba count few within some) (λ form lba count fua few within some. here lba count few within some) c served few
   where
     here : (lba count : ℕ) → count ≤ 4096 → nat_lt capacity (lba + count) ≡ false → (count == 0) ≡ false → (count ≡ count) × (lba < 2 ^ 48) × (1 ≤ count) × (count ≤ 4096) × (lba + count ≤ capacity)
@@ -336,7 +338,7 @@ served_arrival l d r c =
     (direct.becomes (view l d) r c))
 
 is_served_arrival : (l : Layer) (d : DriveState) (r : Request) (c : Command) → IsServed c → cdb_arrival (view l d) r (Ok c) ≡ served_arrival l d r c
-is_served_arrival l d r c here = of_served (λ c. cdb_arrival (view l d) r (Ok c) ≡ served_arrival l d r c) (λ c here. of_told (λ c. cdb_arrival (view l d) r (Ok c) ≡ served_arrival l d r c) refl (λ page alloc. refl) (λ ten long_lba no_descriptor control page alloc. refl) refl (λ alloc. refl) (λ select alloc. refl) c here) (λ form lba count fua. refl) (λ form lba count fua. refl) c here
+is_served_arrival l d r c here = of_served (λ c. cdb_arrival (view l d) r (Ok c) ≡ served_arrival l d r c) (λ c here. of_told (λ c. cdb_arrival (view l d) r (Ok c) ≡ served_arrival l d r c) refl (λ descriptor alloc. refl) (λ page alloc. refl) (λ ten long_lba no_descriptor control page alloc. refl) refl (λ alloc. refl) (λ select alloc. refl) c here) (λ form lba count fua. refl) (λ form lba count fua. refl) c here
 
 -- the data of a MODE SENSE do not depend on its allocation length
 any_length : (i : Identity) (m : Modes) (is_ten long_lba no_descriptor : Bool) (control page alloc : ℕ) → mode_data i m (cdbs.ModeSense is_ten long_lba no_descriptor control page alloc) ≡ mode_data i m (cdbs.ModeSense is_ten long_lba no_descriptor control page 0)
@@ -351,67 +353,118 @@ inquiry_is l d r (Some page) alloc = refl
 idle_is : (l : Layer) (d : DriveState) (r : Request) (a : AtOnce) (c : Command) (count : ℕ) → l.down ≡ d.down → cond (count == 0) (Err (readiness l)) (Ok c) ≡ Err a → direct.placed_unless (count == 0) (view l d) r c ≡ answered (reply_at_once l.identity l.modes r a)
 idle_is l d r a c count mark = cond_is (count == 0) _ _ _ _ _ _ (same_answer l d r (readiness l) a _ (readiness_is l d r mark)) (λ e. absurd cc)
 
-becomes_at_once : (l : Layer) (d : DriveState) (r : Request) (a : AtOnce) (c : Command) → IsServed c → l.down ≡ d.down → answer_to l c ≡ Err a → direct.becomes (view l d) r c ≡ answered (reply_at_once l.identity l.modes r a)
-becomes_at_once l d r a cdbs.TestUnitReady here mark e = same_answer l d r (readiness l) a _ (readiness_is l d r mark) e
-becomes_at_once l d r a (cdbs.Inquiry page alloc) here mark e = inquiry_is l d r page alloc ∙ same_answer l d r (at_once.Tell (datas.Inquiry page) alloc) a _ refl e
-becomes_at_once l d r a (cdbs.ModeSense ten long_lba no_descriptor control page alloc) here mark e = ap (λ text. answered (direct.told r alloc text)) (any_length l.identity l.modes ten long_lba no_descriptor control page alloc) ∙ same_answer l d r (at_once.Tell (datas.Modes ten long_lba no_descriptor control page) alloc) a _ refl e
-becomes_at_once l d r a cdbs.ReadCapacity10 here mark e = same_answer l d r (at_once.Tell datas.Capacity10 8) a _ refl e
-becomes_at_once l d r a (cdbs.ReadCapacity16 alloc) here mark e = same_answer l d r (at_once.Tell datas.Capacity16 alloc) a _ refl e
-becomes_at_once l d r a (cdbs.ReportLuns select alloc) here mark e = same_answer l d r (at_once.Tell (datas.Luns select) alloc) a _ refl e
-becomes_at_once l d r a (cdbs.Read form lba count fua) here mark e = idle_is l d r a (cdbs.Read form lba count fua) count mark e
-becomes_at_once l d r a (cdbs.Write form lba count fua) here mark e = idle_is l d r a (cdbs.Write form lba count fua) count mark e
-becomes_at_once l d r a (cdbs.RequestSense x y) here mark e = absurd here
-becomes_at_once l d r a (cdbs.ModeSelect x y) here mark e = absurd here
-becomes_at_once l d r a (cdbs.StartStop x y) here mark e = absurd here
-becomes_at_once l d r a (cdbs.Verify x y z t) here mark e = absurd here
-becomes_at_once l d r a (cdbs.Flush x y z) here mark e = absurd here
-becomes_at_once l d r a (cdbs.WriteSame x y z t) here mark e = absurd here
-becomes_at_once l d r a (cdbs.Unmap x) here mark e = absurd here
-becomes_at_once l d r a (cdbs.Pass x) here mark e = absurd here
+-- the first condition of the nexus of a request
+abbrev first_of : Layer → Request → Option Attention
+first_of l r = slice_get (slice_index_or l.attentions r.nexus []) 0
 
-command_at_once : (l : Layer) (d : DriveState) (r : Request) (a : AtOnce) (c : Command) → IsServed c → l.down ≡ d.down → command_answer l r.data_len c ≡ Err a → served_arrival l d r c ≡ answered (reply_at_once l.identity l.modes r a)
-command_at_once l d r a c here mark =
+becomes_at_once : (l : Layer) (d : DriveState) (r : Request) (a : AtOnce) (c : Command) → IsSaid r.cdb c → (slice_index r.cdb 0 ≡ 0x03 → first_of l r ≡ None) → l.down ≡ d.down → answer_to l c ≡ Err a → direct.becomes (view l d) r c ≡ answered (reply_at_once l.identity l.modes r a)
+becomes_at_once l d r a cdbs.TestUnitReady here none mark e = same_answer l d r (readiness l) a _ (readiness_is l d r mark) e
+becomes_at_once l d r a (cdbs.Inquiry page alloc) here none mark e = inquiry_is l d r page alloc ∙ same_answer l d r (at_once.Tell (datas.Inquiry page) alloc) a _ refl e
+becomes_at_once l d r a (cdbs.ModeSense ten long_lba no_descriptor control page alloc) here none mark e = ap (λ text. answered (direct.told r alloc text)) (any_length l.identity l.modes ten long_lba no_descriptor control page alloc) ∙ same_answer l d r (at_once.Tell (datas.Modes ten long_lba no_descriptor control page) alloc) a _ refl e
+becomes_at_once l d r a cdbs.ReadCapacity10 here none mark e = same_answer l d r (at_once.Tell datas.Capacity10 8) a _ refl e
+becomes_at_once l d r a (cdbs.ReadCapacity16 alloc) here none mark e = same_answer l d r (at_once.Tell datas.Capacity16 alloc) a _ refl e
+becomes_at_once l d r a (cdbs.ReportLuns select alloc) here none mark e = same_answer l d r (at_once.Tell (datas.Luns select) alloc) a _ refl e
+becomes_at_once l d r a (cdbs.Read form lba count fua) here none mark e = idle_is l d r a (cdbs.Read form lba count fua) count mark e
+becomes_at_once l d r a (cdbs.Write form lba count fua) here none mark e = idle_is l d r a (cdbs.Write form lba count fua) count mark e
+becomes_at_once l d r a (cdbs.RequestSense descriptor alloc) here none mark e = ap (λ what. direct.sense_told what r descriptor alloc) (none here) ∙ same_answer l d r (at_once.Tell (datas.Sense descriptor no_sense) alloc) a _ refl e
+becomes_at_once l d r a (cdbs.ModeSelect x y) here none mark e = absurd here
+becomes_at_once l d r a (cdbs.StartStop x y) here none mark e = absurd here
+becomes_at_once l d r a (cdbs.Verify x y z t) here none mark e = absurd here
+becomes_at_once l d r a (cdbs.Flush x y z) here none mark e = absurd here
+becomes_at_once l d r a (cdbs.WriteSame x y z t) here none mark e = absurd here
+becomes_at_once l d r a (cdbs.Unmap x) here none mark e = absurd here
+becomes_at_once l d r a (cdbs.Pass x) here none mark e = absurd here
+
+command_at_once : (l : Layer) (d : DriveState) (r : Request) (a : AtOnce) (c : Command) → IsSaid r.cdb c → (slice_index r.cdb 0 ≡ 0x03 → first_of l r ≡ None) → l.down ≡ d.down → command_answer l r.data_len c ≡ Err a → served_arrival l d r c ≡ answered (reply_at_once l.identity l.modes r a)
+command_at_once l d r a c here none mark =
     cond_is (nat_lt l.identity.capacity ((range_of c).lba + (range_of c).count)) _ _ _ _ _ _ (same_answer l d r (at_once.Check out_of_range) a _ refl)
     (cond_is (nat_lt r.data_len (needed c)) _ _ _ _ _ _ (same_answer l d r (at_once.Check short_data) a _ refl)
-    (becomes_at_once l d r a c here mark))
+    (becomes_at_once l d r a c here none mark))
 
-cdb_at_once : (l : Layer) (d : DriveState) (r : Request) (a : AtOnce) (found : Result Command Illegal) → l.down ≡ d.down → is_in (slice_index r.cdb 0) built ≡ true → says r.cdb l.identity.trim ≡ found → cdb_answer l r.data_len found ≡ Err a
+cdb_at_once : (l : Layer) (d : DriveState) (r : Request) (a : AtOnce) (found : Result Command Illegal) → (slice_index r.cdb 0 ≡ 0x03 → first_of l r ≡ None) → l.down ≡ d.down → is_in (slice_index r.cdb 0) built ≡ true → says r.cdb l.identity.trim ≡ found → cdb_answer l r.data_len found ≡ Err a
     → cdb_arrival (view l d) r found ≡ answered (reply_at_once l.identity l.modes r a)
-cdb_at_once l d r a (Err why) mark in_it said e = same_answer l d r (at_once.Check (refusal why)) a _ refl e
-cdb_at_once l d r a (Ok c) mark in_it said e = is_served_arrival l d r c (served r.cdb l.identity.trim c in_it said) ∙ command_at_once l d r a c (served r.cdb l.identity.trim c in_it said) mark e
+cdb_at_once l d r a (Err why) none mark in_it said e = same_answer l d r (at_once.Check (refusal why)) a _ refl e
+cdb_at_once l d r a (Ok c) none mark in_it said e = is_served_arrival l d r c (served r.cdb l.identity.trim c in_it said) ∙ command_at_once l d r a c (said_of r.cdb l.identity.trim c in_it said) none mark e
 
-code_at_once : (l : Layer) (d : DriveState) (r : Request) (a : AtOnce) → l.down ≡ d.down → code_answer l r ≡ Err a → code_arrival (view l d) r ≡ answered (reply_at_once l.identity l.modes r a)
-code_at_once l d r a mark e =
+code_at_once : (l : Layer) (d : DriveState) (r : Request) (a : AtOnce) → (slice_index r.cdb 0 ≡ 0x03 → first_of l r ≡ None) → l.down ≡ d.down → code_answer l r ≡ Err a → code_arrival (view l d) r ≡ answered (reply_at_once l.identity l.modes r a)
+code_at_once l d r a none mark e =
     (elim (is_in (slice_index r.cdb 0) built) as (λ b. is_in (slice_index r.cdb 0) built ≡ b → cond (not b) (Err (at_once.Check unknown_operation)) (cdb_answer l r.data_len (says r.cdb l.identity.trim)) ≡ Err a → cond (not b) (answered (check (view l d) r unknown_operation)) (cdb_arrival (view l d) r (says r.cdb l.identity.trim)) ≡ answered (reply_at_once l.identity l.modes r a)) [
       | false ↦ λ is g. same_answer l d r (at_once.Check unknown_operation) a _ refl g
-      | true ↦ λ is g. cdb_at_once l d r a (says r.cdb l.identity.trim) mark is refl g
+      | true ↦ λ is g. cdb_at_once l d r a (says r.cdb l.identity.trim) none mark is refl g
     ]) refl e
 
 -- ---- the steps before the operation code
 
+-- a condition that is told, and without one what follows
+abbrev attended_arrival : Option Attention → Device → Request → Arrival
+attended_arrival None s r = code_arrival s r
+attended_arrival (Some what) s r =
+    attended (cond (code_of r == 0x03) (direct.told r (bytes 4 4 r.cdb) (sense_in (bit 1 0 r.cdb) (attention_sense what))) (check s r (attention_sense what)))
+
 -- what the device does by these tests
 abbrev arrival_by : Bool → Bool → Option Attention → Device → Request → Arrival
-arrival_by unit over what s r = cond unit (cond over (direct.overlaps (check s r overlapped)) (attention_arrival what s r)) (other_arrival s r)
+arrival_by unit over what s r = cond unit (cond over (direct.overlaps (check s r overlapped)) (attended_arrival what s r)) (other_arrival s r)
 
 -- the layer by these tests
 abbrev once_judged_by : Bool → Bool → Option Attention → Layer → Request → Layer
 once_judged_by unit over what l r =
     cond (not unit) l (cond over (record l { tasks = left_by r.nexus l.tasks }) (record l { attentions = untold what r.nexus l.attentions }))
 
-never : (b : Bool) → (b && false) ≡ false
-never true = refl
-never false = refl
-
--- to another logical unit; REQUEST SENSE is not served so far
 other_is : (l : Layer) (d : DriveState) (r : Request) → other_arrival (view l d) r ≡ answered (reply_at_once l.identity l.modes r (other_answer r))
 other_is l d r =
-    elim (asks_for 0x12 r && not (bit 1 0 r.cdb)) as (λ b. cond b (answered (direct.told r (bytes 3 4 r.cdb) (standard_data l.identity false))) (cond (asks_for 0x03 r) (answered (direct.told r (bytes 4 4 r.cdb) (sense_in (bit 1 0 r.cdb) unknown_unit))) (answered (check (view l d) r unknown_unit))) ≡ answered (reply_at_once l.identity l.modes r (cond b (at_once.Tell datas.NoUnit (bytes 3 4 r.cdb)) (at_once.Check unknown_unit)))) [
+    elim (asks_for 0x12 r && not (bit 1 0 r.cdb)) as (λ b. cond b (answered (direct.told r (bytes 3 4 r.cdb) (standard_data l.identity false))) (cond (asks_for 0x03 r) (answered (direct.told r (bytes 4 4 r.cdb) (sense_in (bit 1 0 r.cdb) unknown_unit))) (answered (check (view l d) r unknown_unit))) ≡ answered (reply_at_once l.identity l.modes r (cond b (at_once.Tell datas.NoUnit (bytes 3 4 r.cdb)) (cond (asks_for 0x03 r) (sense_data r.cdb unknown_unit) (at_once.Check unknown_unit))))) [
       | true ↦ refl
-      | false ↦ rw (never (code_of r == 0x03)) refl
+      | false ↦ (elim (asks_for 0x03 r) as (λ b. cond b (answered (direct.told r (bytes 4 4 r.cdb) (sense_in (bit 1 0 r.cdb) unknown_unit))) (answered (check (view l d) r unknown_unit)) ≡ answered (reply_at_once l.identity l.modes r (cond b (sense_data r.cdb unknown_unit) (at_once.Check unknown_unit)))) [
+        | true ↦ refl
+        | false ↦ refl
+      ])
     ]
 
-unit_is : (l : Layer) (d : DriveState) (r : Request) → unit_arrival (view l d) r ≡ cond (overlaps l.tasks r) (direct.overlaps (check (view l d) r overlapped)) (attention_arrival (attention_of l.attentions r) (view l d) r)
-unit_is l d r = ap (λ b. cond b (direct.overlaps (check (view l d) r overlapped)) (attention_arrival (attention_of l.attentions r) (view l d) r)) (sym (found_is r.nexus r.tag l.tasks 0))
+-- REQUEST SENSE tells the first condition
+sense_arrival : (s : Device) (r : Request) (what : Attention) → slice_index r.cdb 0 ≡ 0x03 → slice_get (slice_index_or s.attentions r.nexus []) 0 ≡ Some what
+    → code_arrival s r ≡ attended (direct.told r (bytes 4 4 r.cdb) (sense_in (bit 1 0 r.cdb) (attention_sense what)))
+unfolding says
+sense_arrival s r what code first =
+    subst (λ code. cond (not (is_in code built)) (answered (check s r unknown_operation)) (cdb_arrival s r (found_says (format_of (table s.identity.trim) code) r.cdb)) ≡ attended (direct.told r (bytes 4 4 r.cdb) (sense_in (bit 1 0 r.cdb) (attention_sense what)))) (sym code)
+    (ap (λ b. cond b (answered (check s r out_of_range)) (cond (nat_lt r.data_len 0) (answered (check s r short_data)) (direct.sense_told (slice_get (slice_index_or s.attentions r.nexus []) 0) r (bit 1 0 r.cdb) (bytes 4 4 r.cdb)))) (le-ltb s.identity.capacity (0 + 0) (omega arith))
+    ∙ (ap (λ b. cond b (answered (check s r short_data)) (direct.sense_told (slice_get (slice_index_or s.attentions r.nexus []) 0) r (bit 1 0 r.cdb) (bytes 4 4 r.cdb))) (le-ltb r.data_len 0 (omega arith))
+    ∙ ap (λ o. direct.sense_told o r (bit 1 0 r.cdb) (bytes 4 4 r.cdb)) first))
+
+-- whether a code is one of those that are carried out before a condition is told, by these tests
+abbrev untold_by : Bool → Bool → Bool → Bool
+untold_by inquiry luns sense = cond inquiry true (cond luns true (cond sense true false))
+
+-- the condition of another command
+attended_other : (inquiry luns : Bool) (first : Option Attention) (s : Device) (r : Request) → (code_of r == 0x03) ≡ false
+    → attention_arrival (cond (untold_by inquiry luns false) None first) s r ≡ attended_arrival (cond (untold_by inquiry luns false && true) None first) s r
+attended_other true luns first s r is = refl
+attended_other false true first s r is = refl
+attended_other false false None s r is = refl
+attended_other false false (Some what) s r is = rw is refl
+
+attended_first : (first : Option Attention) (s : Device) (r : Request) → (code_of r == 0x03) ≡ true → slice_get (slice_index_or s.attentions r.nexus []) 0 ≡ first → code_arrival s r ≡ attended_arrival first s r
+attended_first None s r is first_is = refl
+attended_first (Some what) s r is first_is = sense_arrival s r what (eqb-true (code_of r) 0x03 is) first_is ∙ rw is refl
+
+-- the condition of a REQUEST SENSE
+attended_sense : (inquiry luns : Bool) (first : Option Attention) (s : Device) (r : Request) → (code_of r == 0x03) ≡ true → slice_get (slice_index_or s.attentions r.nexus []) 0 ≡ first
+    → attention_arrival (cond (untold_by inquiry luns true) None first) s r ≡ attended_arrival (cond (untold_by inquiry luns true && false) None first) s r
+attended_sense true luns first s r is first_is = attended_first first s r is first_is
+attended_sense false true first s r is first_is = attended_first first s r is first_is
+attended_sense false false first s r is first_is = attended_first first s r is first_is
+
+attended_is : (first : Option Attention) (s : Device) (r : Request) → slice_get (slice_index_or s.attentions r.nexus []) 0 ≡ first
+    → attention_arrival (cond (is_in (code_of r) untold_codes) None first) s r ≡ attended_arrival (cond (is_in (code_of r) untold_codes && not (code_of r == 0x03)) None first) s r
+attended_is first s r first_is =
+    (elim (code_of r == 0x03) as (λ b. (code_of r == 0x03) ≡ b → attention_arrival (cond (untold_by (code_of r == 0x12) (code_of r == 0xA0) b) None first) s r ≡ attended_arrival (cond (untold_by (code_of r == 0x12) (code_of r == 0xA0) b && not b) None first) s r) [
+      | true ↦ λ is. attended_sense (code_of r == 0x12) (code_of r == 0xA0) first s r is first_is
+      | false ↦ λ is. attended_other (code_of r == 0x12) (code_of r == 0xA0) first s r is
+    ]) refl
+
+unit_is : (l : Layer) (d : DriveState) (r : Request) → unit_arrival (view l d) r ≡ cond (overlaps l.tasks r) (direct.overlaps (check (view l d) r overlapped)) (attended_arrival (attention_of l.attentions r) (view l d) r)
+unit_is l d r =
+    ap (λ b. cond b (direct.overlaps (check (view l d) r overlapped)) (attention_arrival (direct.attention_for (view l d) r) (view l d) r)) (sym (found_is r.nexus r.tag l.tasks 0))
+    ∙ ap (λ x. cond (overlaps l.tasks r) (direct.overlaps (check (view l d) r overlapped)) x) (attended_is (first_of l r) (view l d) r refl)
 
 arrival_is : (l : Layer) (d : DriveState) (r : Request) → arrival (view l d) r ≡ arrival_by (is_for_unit r) (overlaps l.tasks r) (attention_of l.attentions r) (view l d) r
 arrival_is l d r = ap (λ a. cond (is_for_unit r) a (other_arrival (view l d) r)) (unit_is l d r)
@@ -424,17 +477,25 @@ Answers a l d r answer new = ArrivesAs a r (view l d) (reply_at_once l.identity 
 sensed : (l : Layer) (d : DriveState) (r : Request) (x a : AtOnce) (reply : Reply) → reply ≡ reply_at_once l.identity l.modes r x → refused x ≡ refused a → reply_at_once l.identity l.modes r a ∷ [] ≡ reply ∷ []
 sensed l d r x a reply is e = sym (ap (λ q. q ∷ []) is ∙ ap (λ y. reply_at_once l.identity l.modes r y ∷ []) (err_is x a e))
 
-answers_by : (unit over : Bool) (what : Option Attention) (l : Layer) (d : DriveState) (r : Request) (a : AtOnce) → l.down ≡ d.down → judged_by unit over what l r ≡ Err a → Answers (arrival_by unit over what (view l d) r) l d r a (once_judged_by unit over what l r)
-answers_by false over what l d r a mark e = subst (λ x. Answers x l d r a l) (sym (other_is l d r)) (sensed l d r (other_answer r) a _ refl e, refl)
-answers_by true true what l d r a mark e = (sensed l d r (at_once.Check overlapped) a _ refl e, ap (λ t. record (view l d) { tasks = t }) (left_tasks r.nexus l.tasks))
-answers_by true false (Some what) l d r a mark e = (sensed l d r (at_once.Check (attention_sense what)) a _ refl e, refl)
-answers_by true false None l d r a mark e = subst (λ x. Answers x l d r a l) (sym (code_at_once l d r a mark e)) (refl, refl)
+-- the reply that tells a condition
+told_is : (l : Layer) (d : DriveState) (r : Request) (what : Attention) → cond (code_of r == 0x03) (direct.told r (bytes 4 4 r.cdb) (sense_in (bit 1 0 r.cdb) (attention_sense what))) (check (view l d) r (attention_sense what)) ≡ reply_at_once l.identity l.modes r (tell_attention what r.cdb)
+told_is l d r what = elim (code_of r == 0x03) as (λ b. cond b (direct.told r (bytes 4 4 r.cdb) (sense_in (bit 1 0 r.cdb) (attention_sense what))) (check (view l d) r (attention_sense what)) ≡ reply_at_once l.identity l.modes r (cond b (sense_data r.cdb (attention_sense what)) (at_once.Check (attention_sense what)))) [ true ↦ refl | false ↦ refl ]
+
+answers_by : (unit over : Bool) (what : Option Attention) (l : Layer) (d : DriveState) (r : Request) (a : AtOnce) → (slice_index r.cdb 0 ≡ 0x03 → first_of l r ≡ what) → l.down ≡ d.down → judged_by unit over what l r ≡ Err a → Answers (arrival_by unit over what (view l d) r) l d r a (once_judged_by unit over what l r)
+answers_by false over what l d r a first mark e = subst (λ x. Answers x l d r a l) (sym (other_is l d r)) (sensed l d r (other_answer r) a _ refl e, refl)
+answers_by true true what l d r a first mark e = (sensed l d r (at_once.Check overlapped) a _ refl e, ap (λ t. record (view l d) { tasks = t }) (left_tasks r.nexus l.tasks))
+answers_by true false (Some what) l d r a first mark e = (sensed l d r (tell_attention what r.cdb) a _ (told_is l d r what) e, refl)
+answers_by true false None l d r a first mark e = subst (λ x. Answers x l d r a l) (sym (code_at_once l d r a first mark e)) (refl, refl)
+
+-- REQUEST SENSE is answered with the first condition
+sense_first : (l : Layer) (r : Request) → slice_index r.cdb 0 ≡ 0x03 → first_of l r ≡ attention_of l.attentions r
+sense_first l r code = sym (ap (λ code. cond (is_in code untold_codes && not (code == 0x03)) None (first_of l r)) code)
 
 pub answers_at_once : (l : Layer) (s : Device) (d : DriveState) (r : Request) (a : AtOnce) (replies : List Reply) → l.down ≡ d.down → judged l r ≡ Err a → replies ≡ reply_at_once l.identity l.modes r a ∷ [] → s ≡ view (once_judged l r) d → Arrives r (view l d) replies s
 answers_at_once l s d r a replies mark e is same =
     subst (λ s. Arrives r (view l d) replies s) (sym same)
     (subst (λ q. Arrives r (view l d) q (view (once_judged l r) d)) (sym is)
-    (subst (λ x. Answers x l d r a (once_judged l r)) (sym (arrival_is l d r)) (answers_by (is_for_unit r) (overlaps l.tasks r) (attention_of l.attentions r) l d r a mark e)))
+    (subst (λ x. Answers x l d r a (once_judged l r)) (sym (arrival_is l d r)) (answers_by (is_for_unit r) (overlaps l.tasks r) (attention_of l.attentions r) l d r a (sense_first l r) mark e)))
 
 -- ---- a request that becomes a task, or meets a full task set
 

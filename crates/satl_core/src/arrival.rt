@@ -12,14 +12,15 @@ use satl_cdb::{Command, Illegal};
 use satl_sense::{Extra, Sense};
 use satl_unit::Attention;
 
-/// The operation codes that are served so far: TEST UNIT READY, INQUIRY, MODE SENSE, READ CAPACITY and REPORT LUNS, and READ
-/// and WRITE in each form.
+/// The operation codes that are served so far: TEST UNIT READY, REQUEST SENSE, INQUIRY, MODE SENSE, READ CAPACITY and REPORT
+/// LUNS, and READ and WRITE in each form.
 pub fn is_built(code: u8) -> bool
     ensures { result ≡ is_in code built }
 {
     matches!(
         code,
-        0x00 | 0x08
+        0x00 | 0x03
+            | 0x08
             | 0x0A
             | 0x12
             | 0x1A

@@ -15,11 +15,11 @@ ghost use Rattle.satl_core.specs.Opening.{IsCause, IsOpened};
 ghost use Rattle.satl_core.specs.Submitting.{Becomes, CanSubmit, IsCutOf, judged, once_judged};
 ghost use Rattle.satl_core.specs.Turning.{AreUnforced, AsksNoFua};
 
-use crate::arrival::{attention_sense, is_for_unit, plain};
+use crate::arrival::{is_for_unit, plain};
 use crate::commands::tell_identity;
 use crate::submitting::{
     AtOnce, answer_at_once, drop_tasks, judge_code, next_attention, other_answer, own_pages,
-    reply_to, task_without_pages,
+    reply_to, task_without_pages, tell_attention,
 };
 use crate::turning::{end_task, link_lost, lose_tasks, run_task};
 use satl_base::{Lender, Modes, NoMemory, Pages, Replies, Request, Scsi, SenseBytes, Steps};
@@ -180,7 +180,7 @@ impl Satl {
             return Err(AtOnce::Check(plain(0xB, 0x4E, 0x00)));
         }
         if let Some(what) = next_attention(&mut self.attentions, request) {
-            return Err(AtOnce::Check(attention_sense(what)));
+            return Err(tell_attention(what, request));
         }
         judge_code(self, request)
     }

@@ -5,10 +5,10 @@ ghost use Rattle.satl_frame.specs.Output.{IsWritable};
 ghost use Rattle.satl_direct.specs.Arrival.{reply_to};
 ghost use Rattle.satl_direct.specs.Tasks.{data_out, held_blocks, needed, range_of};
 ghost use Rattle.satl_core.specs.Layer.{IsExpectable, IsServed, held_pages, reply_pages};
-ghost use Rattle.satl_core.specs.Submitting.{answer_to, attention_of, code_answer, command_answer, left_by, other_answer, readiness, reply_at_once, task_without_pages, untold};
+ghost use Rattle.satl_core.specs.Submitting.{answer_to, attention_of, code_answer, command_answer, left_by, other_answer, readiness, reply_at_once, sense_data, task_without_pages, tell_attention, untold};
 
 use crate::arrival::{
-    is_built, is_ordered, is_outside, is_untold, needed, plain, range_of, refusal,
+    attention_sense, is_built, is_ordered, is_outside, is_untold, needed, plain, range_of, refusal,
 };
 use crate::satl::Satl;
 use crate::telling::{Data, data_text, told};
@@ -30,18 +30,47 @@ pub enum AtOnce {
     Check(Sense),
 }
 
-/// The answer of a LUN at which there is no logical unit: INQUIRY without EVPD says so, and all else is refused (SPC-4 6.6).
+/// The answer of a LUN at which there is no logical unit: INQUIRY without EVPD says so, REQUEST SENSE says so as data, and all
+/// else is refused (SPC-4 6.6, 6.39).
 pub fn other_answer(request: &Request) -> AtOnce
     ensures { result ≡ other_answer request.now }
 {
-    if request.cdb[0] == 0x12 && request.cdb[1] & 0x01 == 0 {
-        let alloc = u16::from_be_bytes([request.cdb[3], request.cdb[4]]);
-        return AtOnce::Tell {
-            what: Data::NoUnit,
-            alloc: u32::from(alloc),
-        };
+    let no_unit = plain(0x5, 0x25, 0x00);
+    match request.cdb[0] {
+        0x12 if request.cdb[1] & 0x01 == 0 => {
+            let alloc = u16::from_be_bytes([request.cdb[3], request.cdb[4]]);
+            AtOnce::Tell {
+                what: Data::NoUnit,
+                alloc: u32::from(alloc),
+            }
+        }
+        0x03 => sense_data(request, no_unit),
+        _ => AtOnce::Check(no_unit),
     }
-    AtOnce::Check(plain(0x5, 0x25, 0x00))
+}
+
+/// The answer to a REQUEST SENSE: this sense data in the form that it asks for (SPC-4 6.39).
+fn sense_data(request: &Request, sense: Sense) -> AtOnce
+    ensures { result ≡ sense_data request.now.cdb sense }
+{
+    AtOnce::Tell {
+        what: Data::Sense {
+            descriptor: request.cdb[1] & 0x01 != 0,
+            sense,
+        },
+        alloc: u32::from(request.cdb[4]),
+    }
+}
+
+/// A unit attention is told: as data to REQUEST SENSE, and else by CHECK CONDITION (SAM-5 5.14, SPC-4 6.39).
+pub fn tell_attention(what: Attention, request: &Request) -> AtOnce
+    ensures { result ≡ tell_attention what request.now.cdb }
+{
+    let sense = attention_sense(what);
+    if request.cdb[0] == 0x03 {
+        return sense_data(request, sense);
+    }
+    AtOnce::Check(sense)
 }
 
 /// Takes all tasks of a nexus out, and gives their pages back. They have no answer (SAM-5 5.1, overlapped commands).
@@ -62,12 +91,12 @@ pub fn drop_tasks(tasks: &mut TaskSet, pool: &mut Pool, nexus: Nexus)
     }
 }
 
-/// The unit attention that a request is answered with, which is told by that (SAM-5 5.14).
+/// The unit attention that a request is answered with, which is told by that (SAM-5 5.14; of REQUEST SENSE: SPC-4 6.39).
 pub fn next_attention(attentions: &mut [Attentions; 4], request: &Request) -> Option<Attention>
     ensures next { result ≡ attention_of attentions.old request.now }
     ensures left { attentions.new ≡ untold result request.now.nexus attentions.old }
 {
-    if is_untold(request.cdb[0]) {
+    if is_untold(request.cdb[0]) && request.cdb[0] != 0x03 {
         return None;
     }
     attentions[request.nexus.number() as usize].next()
@@ -130,6 +159,10 @@ fn answer_to(satl: &Satl, command: Command) -> Result<Command, AtOnce>
                 page,
             };
             (what, u32::from(alloc))
+        }
+        Command::RequestSense { descriptor, alloc } => {
+            let sense = plain(0x0, 0x00, 0x00);
+            (Data::Sense { descriptor, sense }, u32::from(alloc))
         }
         Command::ReadCapacity10 => (Data::Capacity10, 8),
         Command::ReadCapacity16 { alloc } => (Data::Capacity16, alloc),

@@ -14,6 +14,7 @@ use satl_cdb::Command;
 use satl_identify::Identity;
 use satl_mode::mode_sense;
 use satl_pages::Pool;
+use satl_sense::{Sense, sense_bytes};
 use satl_vpd::{capacity10, capacity16, inquiry, luns, vpd};
 
 /// What the device says of itself in data-in.
@@ -35,6 +36,11 @@ pub enum Data {
     Capacity16,
     /// The list of LUNs by SELECT REPORT.
     Luns(u8),
+    /// Sense data, in the descriptor form or in the fixed form.
+    Sense {
+        descriptor: bool,
+        sense: Sense,
+    },
 }
 
 /// Data-in before they are cut, at most 572 bytes.
@@ -99,6 +105,7 @@ pub fn data_text(identity: &Identity, modes: &Modes, what: &Data) -> Text
         Data::Capacity10 => text(&capacity10(identity)),
         Data::Capacity16 => text(&capacity16(identity)),
         Data::Luns(select) => lun_text(select),
+        Data::Sense { descriptor, sense } => text(&sense_bytes(&sense, descriptor)),
     }
 }
 
