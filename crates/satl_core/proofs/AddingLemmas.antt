@@ -14,8 +14,7 @@ use Rattle.satl_line.specs.Tasks.{Adds, Held, change_at, entries_of, entry_at, i
 use Rattle.satl_line.proofs.SlotsLemmas.{All-append, total-append}
 use Rattle.satl_direct.specs.Tasks.{data_out, held_blocks, needed, task_for, task_of}
 use Rattle.satl_core.specs.Layer.{IsExpectable, IsKept, IsTransfer, Layer, held_pages}
-use Rattle.satl_core.specs.Submitting.{Becomes, IsAdded, IsAnswered, task_without_pages}
-use Rattle.satl_core.specs.declared.submitting.AtOnce.TheVariants as at_once
+use Rattle.satl_core.specs.Submitting.{Becomes, IsAdded, IsRefused, task_without_pages}
 use Rattle.satl_core.proofs.Transfers.{of_transfer}
 use Rattle.satl_core.proofs.HeldLemmas.{held-append, last_at, last_changed, length-push}
 
@@ -90,7 +89,7 @@ whole_data capacity n count c body t long =
 pub becomes_whole : (w r : Request) (count capacity : ℕ) (c : Command) (old : Layer) (replies : List Reply) (new : Layer) → r ≡ record w { body = take count w.body } → IsTransfer capacity c (held_blocks c) → (replies ≡ [] → needed c ≤ 512 * length r.body)
     → Becomes r c old replies new → Becomes w c old replies new
 becomes_whole w r count capacity c old replies new is t long b =
-    (elim (is_too_much old.tasks (task_without_pages w c old.identity.queued_trim)) as (λ f. MatchBool f (IsAnswered cut at_once.Full old replies new) (IsAdded cut c old replies new) → MatchBool f (IsAnswered w at_once.Full old replies new) (IsAdded w c old replies new)) [
+    (elim (is_too_much old.tasks (task_without_pages w c old.identity.queued_trim)) as (λ f. MatchBool f (IsRefused cut old replies new) (IsAdded cut c old replies new) → MatchBool f (IsRefused w old replies new) (IsAdded w c old replies new)) [
       | true ↦ λ a. record { reply = a.reply; stays = a.stays }
       | false ↦ λ a. record {
         none = a.none;

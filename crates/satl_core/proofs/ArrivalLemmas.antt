@@ -1,87 +1,151 @@
 -- What the layer judges of a request is what the device does with it.
-use Rattle.std.proofs.Common.{◌≡◌, refl, sym, ap, subst, ◌∙◌, arith, eqb, cond, ℕ, suc, ◌+◌, ◌<◌, ◌≤◌, ◌^◌, Bool, true, false, List, [], ◌∷◌, length, map}
-use Rattle.std.specs.Prelude.{Option, Some, None, Result, Ok, Err, IfOk, not, ◌==◌, ◌&&◌, ◌||◌, nat_lt, slice_index, MatchBool}
-use Rattle.std.proofs.lemmas.Bool.{eqb-false, eqb-true, ltb-false}
+use Rattle.std.proofs.Common.{◌≡◌, refl, sym, ap, subst, ◌∙◌, arith, cond, ℕ, suc, ◌+◌, ◌<◌, ◌≤◌, ◌^◌, Bool, true, false, List, [], ◌∷◌, length, map}
+use Rattle.std.specs.Prelude.{Option, Some, None, Result, Ok, Err, IfOk, not, ◌==◌, ◌&&◌, nat_lt, slice_get, slice_index, slice_index_or, MatchBool}
+use Rattle.std.specs.List.{AllByRecursion}
+use Rattle.std.proofs.lemmas.Bool.{eqb-false, eqb-true, le-ltb, ltb-false}
 use Rattle.satl_base.specs.declared.reply.Reply.{Reply}
 use Rattle.satl_base.specs.declared.reply.Scsi.TheVariants as statuses
 use Rattle.satl_base.specs.declared.request.Request.{Request}
-use Rattle.satl_base.specs.Fields.{bits}
+use Rattle.satl_base.specs.Fields.{bit, bits, bytes}
 use Rattle.satl_base.specs.Lists.{is_in}
 use Rattle.satl_cdb.specs.declared.command.Command.{Command}
 use Rattle.satl_cdb.specs.declared.command.Command.TheVariants as cdbs
 use Rattle.satl_cdb.specs.declared.command.Illegal.{Illegal}
 use Rattle.satl_cdb.specs.Refusals.{invalid_field}
-use Rattle.satl_cdb.specs.Rows.{found_says, format_of, unless_broken}
-use Rattle.satl_cdb.specs.BlockCommands.{read, ten, transfer_rules, write}
+use Rattle.satl_cdb.specs.Rows.{Rule, found_says, format_of, unless_broken}
+use Rattle.satl_cdb.specs.BlockCommands.{Layout, read, read_capacity_16, six, sixteen, ten, transfer_rules, twelve, write}
+use Rattle.satl_cdb.specs.PrimaryCommands.{inquiry, mode_sense, report_luns}
 use Rattle.satl_cdb.specs.Table.{says, table}
+use Rattle.satl_base.specs.declared.modes.Modes.{Modes}
+use Rattle.satl_identify.specs.declared.identity.Identity.{Identity}
 use Rattle.satl_identify.specs.Refusals.{IsIdentity}
+use Rattle.satl_vpd.specs.Standard.{standard_data}
+use Rattle.satl_mode.specs.ModeData.{mode_data}
 use Rattle.satl_identify.proofs.Judging.{capacity_bounds}
 use Rattle.satl_line.specs.Tasks.{Held, entries_of, is_too_much, total_blocks}
 use Rattle.satl_drive.specs.State.{DriveState}
 use Rattle.satl_cdb.specs.declared.command.Form.{Form}
+use Rattle.satl_cdb.specs.declared.command.Form.TheVariants.{Six}
 use Rattle.satl_unit.specs.declared.attention.Attention.{Attention}
 use Rattle.satl_direct.specs.Device.{Device}
-use Rattle.satl_direct.specs.Senses.{attention_sense, out_of_range, overlapped, refusal, short_data, unknown_operation, unknown_unit}
+use Rattle.satl_direct.specs.Senses.{attention_sense, no_sense, out_of_range, overlapped, refusal, sense_in, short_data, unknown_operation, unknown_unit}
 use Rattle.satl_direct.specs.Arrival as direct
-use Rattle.satl_direct.specs.Arrival.{Arrival, ArrivesAs, Arrives, answered, waits, arrival, asks_for, attention_arrival, built, cdb_arrival, check, code_arrival, code_of, is_unit_0, other_arrival, unit_arrival}
+use Rattle.satl_direct.specs.Arrival.{untold_codes, attended, Arrival, ArrivesAs, Arrives, answered, waits, arrival, asks_for, attention_arrival, built, cdb_arrival, check, code_arrival, code_of, is_unit_0, other_arrival, unit_arrival}
 use Rattle.satl_direct.specs.Tasks.{held_blocks, held_by, is_full, needed, range_of, task_for, task_of}
 use Rattle.satl_core.specs.declared.submitting.AtOnce.{AtOnce}
 use Rattle.satl_core.specs.declared.submitting.AtOnce.TheVariants as at_once
 use Rattle.satl_core.specs.Layer.{IsServed, IsTransfer, Layer, view}
-use Rattle.satl_core.specs.Submitting.{Becomes, IsAdded, IsAnswered, attention_answer, attention_of, cdb_answer, code_answer, command_answer, judged, left_by, once_judged, overlaps, readiness, reply_at_once, task_without_pages, untold}
+use Rattle.satl_core.specs.Submitting.{sense_data, tell_attention, answer_to, is_for_unit, other_answer, Becomes, IsAdded, IsRefused, attention_answer, attention_of, cdb_answer, code_answer, command_answer, judged, left_by, once_judged, overlaps, readiness, reply_at_once, task_without_pages, untold}
+use Rattle.satl_core.specs.declared.telling.Data.TheVariants as datas
+use Rattle.satl_core.specs.Turning.{asks_fua}
 use Rattle.satl_core.proofs.LeavingLemmas.{found_is, left_tasks}
 
 -- ---- the commands that are served
 
--- READ(10) and WRITE(10) with at most 4,096 blocks
-abbrev pub IsTen : Command → Type 0
-IsTen (cdbs.Read form lba count fua) = count ≤ 4096
-IsTen (cdbs.Write form lba count fua) = count ≤ 4096
-IsTen _ = ⊥
+-- what is known of a command by its bytes: a transfer has at most 4,096 blocks, and a WRITE without its FUA bit has no FUA
+abbrev pub IsSaid : List ℕ → Command → Type 0
+IsSaid cdb (cdbs.Read form lba count fua) = slice_index cdb 4 < 256 → count ≤ 4096
+IsSaid cdb (cdbs.Write form lba count fua) = (slice_index cdb 4 < 256 → count ≤ 4096) × (bit 1 3 cdb ≡ false → fua ≡ false)
+IsSaid cdb cdbs.TestUnitReady = Unit {0}
+IsSaid cdb (cdbs.RequestSense descriptor alloc) = slice_index cdb 0 ≡ 0x03
+IsSaid cdb (cdbs.Inquiry page alloc) = Unit {0}
+IsSaid cdb (cdbs.ModeSense is_ten long_lba no_descriptor control page alloc) = Unit {0}
+IsSaid cdb cdbs.ReadCapacity10 = Unit {0}
+IsSaid cdb (cdbs.ReadCapacity16 alloc) = Unit {0}
+IsSaid cdb (cdbs.ReportLuns select alloc) = Unit {0}
+IsSaid cdb _ = ⊥
 
 -- a transfer's rules are kept
-pub of_rules : (cdb : List ℕ) (c d : Command) → unless_broken (transfer_rules ten) cdb c ≡ Ok d → (c ≡ d) × (ten.count cdb ≤ 4096)
-of_rules cdb c d e =
-    (elim (not (bits 1 7 5 cdb == 0)) as (λ b. cond b (Err (invalid_field 1)) (cond (nat_lt 4096 (ten.count cdb)) (Err (invalid_field 7)) (Ok c)) ≡ Ok d → (c ≡ d) × (ten.count cdb ≤ 4096)) [
+of_rules : (long : Layout) (cdb : List ℕ) (c d : Command) → unless_broken (transfer_rules long) cdb c ≡ Ok d → (c ≡ d) × (long.count cdb ≤ 4096)
+of_rules long cdb c d e =
+    (elim (not (bits 1 7 5 cdb == 0)) as (λ b. cond b (Err (invalid_field 1)) (cond (nat_lt 4096 (long.count cdb)) (Err (invalid_field long.count_place)) (Ok c)) ≡ Ok d → (c ≡ d) × (long.count cdb ≤ 4096)) [
       | true ↦ λ f. absurd cc
-      | false ↦ λ f. (elim (nat_lt 4096 (ten.count cdb)) as (λ b. nat_lt 4096 (ten.count cdb) ≡ b → cond b (Err (invalid_field 7)) (Ok c) ≡ Ok d → (c ≡ d) × (ten.count cdb ≤ 4096)) [
+      | false ↦ λ f. (elim (nat_lt 4096 (long.count cdb)) as (λ b. nat_lt 4096 (long.count cdb) ≡ b → cond b (Err (invalid_field long.count_place)) (Ok c) ≡ Ok d → (c ≡ d) × (long.count cdb ≤ 4096)) [
         | true ↦ λ is g. absurd cc
-        | false ↦ λ is g. let most = ltb-false 4096 (ten.count cdb) is in (cc, omega (arith, most))
+        | false ↦ λ is g. let most = ltb-false 4096 (long.count cdb) is in (cc, omega (arith, most))
       ]) refl f
     ]) e
 
-read_ten : (cdb : List ℕ) (trim : Bool) (c : Command) → found_says (format_of (table trim) 0x28) cdb ≡ Ok c → IsTen c
-read_ten cdb trim c e = let r = of_rules cdb ((read ten).command cdb) c e in subst IsTen r.0 r.1
+said_read : (long : Layout) (cdb : List ℕ) (c : Command) → unless_broken (transfer_rules long) cdb ((read long).command cdb) ≡ Ok c → IsSaid cdb c
+said_read long cdb c e = let r = of_rules long cdb ((read long).command cdb) c e in subst (IsSaid cdb) r.0 (λ byte. r.1)
 
-write_ten : (cdb : List ℕ) (trim : Bool) (c : Command) → found_says (format_of (table trim) 0x2A) cdb ≡ Ok c → IsTen c
-write_ten cdb trim c e = let r = of_rules cdb ((write ten).command cdb) c e in subst IsTen r.0 r.1
+said_write : (long : Layout) (cdb : List ℕ) (c : Command) → unless_broken (transfer_rules long) cdb ((write long).command cdb) ≡ Ok c → IsSaid cdb c
+said_write long cdb c e = let r = of_rules long cdb ((write long).command cdb) c e in subst (IsSaid cdb) r.0 (λ byte. r.1, λ clear. clear)
 
-ten_by : (cdb : List ℕ) (trim : Bool) (c : Command) (code : ℕ) → is_in code built ≡ true → found_says (format_of (table trim) code) cdb ≡ Ok c → IsTen c
-ten_by cdb trim c code in_it e =
-    (elim (eqb code 0x28) as (λ b. eqb code 0x28 ≡ b → cond b true (cond (eqb code 0x2A) true false) ≡ true → IsTen c) [
-      | true ↦ λ is f. read_ten cdb trim c (subst (λ x. found_says (format_of (table trim) x) cdb ≡ Ok c) (eqb-true code 0x28 is) e)
-      | false ↦ λ is f. (elim (eqb code 0x2A) as (λ b. eqb code 0x2A ≡ b → cond b true false ≡ true → IsTen c) [
-        | true ↦ λ is' g. write_ten cdb trim c (subst (λ x. found_says (format_of (table trim) x) cdb ≡ Ok c) (eqb-true code 0x2A is') e)
-        | false ↦ λ is' g. absurd cc
-      ]) refl f
-    ]) refl in_it
+-- a count of six bytes is at most 256
+short_few : (n : ℕ) → n < 256 → cond (n == 0) 256 n ≤ 4096
+short_few n few = elim (n == 0) as (λ b. cond b 256 n ≤ 4096) [ true ↦ omega arith | false ↦ omega (arith, few) ]
 
-ten_of : (cdb : List ℕ) (trim : Bool) (c : Command) → is_in (slice_index cdb 0) built ≡ true → says cdb trim ≡ Ok c → IsTen c
+short_count : (cdb : List ℕ) → slice_index cdb 4 < 256 → six.count cdb ≤ 4096
+short_count cdb byte = short_few (bytes 4 4 cdb) (omega (arith, byte))
+
+abbrev ok_of : Command → Result Command Illegal
+ok_of c = Ok c
+
+same_said : (cdb : List ℕ) (c d : Command) → ok_of c ≡ ok_of d → IsSaid cdb c → IsSaid cdb d
+same_said cdb c d e said = let same : c ≡ d = cc in subst (IsSaid cdb) same said
+
+-- what is said where no rule is broken
+unbroken : (rules : List Rule) (cdb : List ℕ) (c d : Command) → unless_broken rules cdb c ≡ Ok d → c ≡ d
+unbroken [] cdb c d e = cc
+unbroken (rule ∷ rules) cdb c d e =
+    (elim (rule.breaks cdb) as (λ b. cond b (Err rule.refusal) (unless_broken rules cdb c) ≡ Ok d → c ≡ d) [
+      | true ↦ λ f. absurd cc
+      | false ↦ λ f. unbroken rules cdb c d f
+    ]) e
+
+-- what holds of each number of a list holds of one that is in it
+in_all : (P : ℕ → Type 0) (xs : List ℕ) (n : ℕ) → AllByRecursion P xs → is_in n xs ≡ true → P n
+in_all P [] n all e = absurd cc
+in_all P (x ∷ xs) n all e =
+    (elim (n == x) as (λ b. (n == x) ≡ b → cond b true (is_in n xs) ≡ true → P n) [
+      | true ↦ λ is f. subst P (sym (eqb-true n x is)) all.0
+      | false ↦ λ is f. in_all P xs n all.1 f
+    ]) refl e
+
+-- each operation code that is served
+said_by : (cdb : List ℕ) (trim : Bool) (c : Command) → AllByRecursion (λ code. slice_index cdb 0 ≡ code → found_says (format_of (table trim) code) cdb ≡ Ok c → IsSaid cdb c) built
+said_by cdb trim c = (λ is e. same_said cdb cdbs.TestUnitReady c e tt, (λ is e. same_said cdb (cdbs.RequestSense (bit 1 0 cdb) (bytes 4 4 cdb)) c e is, (λ is e. same_said cdb (cdbs.Read Six (six.lba cdb) (six.count cdb) false) c e (short_count cdb), (λ is e. same_said cdb (cdbs.Write Six (six.lba cdb) (six.count cdb) false) c e (short_count cdb, λ clear. refl), (λ is e. subst (IsSaid cdb) (unbroken inquiry.rules cdb (inquiry.command cdb) c e) tt, (λ is e. subst (IsSaid cdb) (unbroken (mode_sense false).rules cdb ((mode_sense false).command cdb) c e) tt, (λ is e. same_said cdb cdbs.ReadCapacity10 c e tt, (λ is e. said_read ten cdb c e, (λ is e. said_write ten cdb c e, (λ is e. subst (IsSaid cdb) (unbroken (mode_sense true).rules cdb ((mode_sense true).command cdb) c e) tt, (λ is e. said_read sixteen cdb c e, (λ is e. said_write sixteen cdb c e, (λ is e. subst (IsSaid cdb) (unbroken read_capacity_16.rules cdb (read_capacity_16.command cdb) c e) tt, (λ is e. subst (IsSaid cdb) (unbroken report_luns.rules cdb (report_luns.command cdb) c e) tt, (λ is e. said_read twelve cdb c e, (λ is e. said_write twelve cdb c e, tt))))))))))))))))
+
+said_of : (cdb : List ℕ) (trim : Bool) (c : Command) → is_in (slice_index cdb 0) built ≡ true → says cdb trim ≡ Ok c → IsSaid cdb c
 unfolding says
-ten_of cdb trim c in_it e = ten_by cdb trim c (slice_index cdb 0) in_it e
+said_of cdb trim c in_it e = in_all (λ code. slice_index cdb 0 ≡ code → found_says (format_of (table trim) code) cdb ≡ Ok c → IsSaid cdb c) built (slice_index cdb 0) (said_by cdb trim c) in_it refl e
+
+-- a READ or a WRITE that is not answered at once goes over some block
+some_ok : (l : Layer) (c d : Command) (count : ℕ) → cond (count == 0) (Err (readiness l)) (Ok c) ≡ Ok d → (c ≡ d) × ((count == 0) ≡ false)
+some_ok l c d count e =
+    (elim (count == 0) as (λ b. cond b (Err (readiness l)) (Ok c) ≡ Ok d → (c ≡ d) × (b ≡ false)) [
+      | true ↦ λ f. absurd cc
+      | false ↦ λ f. (cc, refl)
+    ]) e
+
+answer_ok : (l : Layer) (c d : Command) → answer_to l c ≡ Ok d → (c ≡ d) × (((range_of c).count == 0) ≡ false)
+answer_ok l cdbs.TestUnitReady d e = absurd cc
+answer_ok l (cdbs.Inquiry a b) d e = absurd cc
+answer_ok l (cdbs.ModeSense x y z t u v) d e = absurd cc
+answer_ok l cdbs.ReadCapacity10 d e = absurd cc
+answer_ok l (cdbs.ReadCapacity16 a) d e = absurd cc
+answer_ok l (cdbs.ReportLuns a b) d e = absurd cc
+answer_ok l (cdbs.Read form lba count fua) d e = some_ok l (cdbs.Read form lba count fua) d count e
+answer_ok l (cdbs.Write form lba count fua) d e = some_ok l (cdbs.Write form lba count fua) d count e
+answer_ok l (cdbs.RequestSense a b) d e = absurd cc
+answer_ok l (cdbs.ModeSelect a b) d e = absurd cc
+answer_ok l (cdbs.StartStop a b) d e = absurd cc
+answer_ok l (cdbs.Verify x y z t) d e = absurd cc
+answer_ok l (cdbs.Flush x y z) d e = absurd cc
+answer_ok l (cdbs.WriteSame x y z t) d e = absurd cc
+answer_ok l (cdbs.Unmap a) d e = absurd cc
+answer_ok l (cdbs.Pass a) d e = absurd cc
 
 -- a command that is not answered at once is within the capacity and goes over some block
 command_ok : (l : Layer) (n : ℕ) (c d : Command) → command_answer l n c ≡ Ok d
     → (c ≡ d) × (nat_lt l.identity.capacity ((range_of c).lba + (range_of c).count) ≡ false) × (nat_lt n (needed c) ≡ false) × (((range_of c).count == 0) ≡ false)
 command_ok l n c d e =
-    (elim (nat_lt l.identity.capacity ((range_of c).lba + (range_of c).count)) as (λ b. cond b (Err (at_once.Check out_of_range)) (cond (nat_lt n (needed c)) (Err (at_once.Check short_data)) (cond ((range_of c).count == 0) (Err (readiness l)) (Ok c))) ≡ Ok d → (c ≡ d) × (b ≡ false) × (nat_lt n (needed c) ≡ false) × (((range_of c).count == 0) ≡ false)) [
+    (elim (nat_lt l.identity.capacity ((range_of c).lba + (range_of c).count)) as (λ b. cond b (Err (at_once.Check out_of_range)) (cond (nat_lt n (needed c)) (Err (at_once.Check short_data)) (answer_to l c)) ≡ Ok d → (c ≡ d) × (b ≡ false) × (nat_lt n (needed c) ≡ false) × (((range_of c).count == 0) ≡ false)) [
       | true ↦ λ f. absurd cc
-      | false ↦ λ f. (elim (nat_lt n (needed c)) as (λ b. cond b (Err (at_once.Check short_data)) (cond ((range_of c).count == 0) (Err (readiness l)) (Ok c)) ≡ Ok d → (c ≡ d) × (false ≡ false) × (b ≡ false) × (((range_of c).count == 0) ≡ false)) [
+      | false ↦ λ f. (elim (nat_lt n (needed c)) as (λ b. cond b (Err (at_once.Check short_data)) (answer_to l c) ≡ Ok d → (c ≡ d) × (false ≡ false) × (b ≡ false) × (((range_of c).count == 0) ≡ false)) [
         | true ↦ λ g. absurd cc
-        | false ↦ λ g. (elim ((range_of c).count == 0) as (λ b. cond b (Err (readiness l)) (Ok c) ≡ Ok d → (c ≡ d) × (false ≡ false) × (false ≡ false) × (b ≡ false)) [
-          | true ↦ λ h. absurd cc
-          | false ↦ λ h. (cc, refl, refl, refl)
-        ]) g
+        | false ↦ λ g. let k = answer_ok l c d g in (k.0, refl, refl, k.1)
       ]) f
     ]) e
 
@@ -108,7 +172,7 @@ code_ok l r c e =
 
 -- what is judged of a request by these tests
 abbrev judged_by : Bool → Bool → Option Attention → Layer → Request → Result Command AtOnce
-judged_by unit over what l r = cond (not unit) (Err (at_once.Check unknown_unit)) (cond over (Err (at_once.Check overlapped)) (attention_answer what (code_answer l r)))
+judged_by unit over what l r = cond (not unit) (Err (other_answer r)) (cond over (Err (at_once.Check overlapped)) (attention_answer what r.cdb (code_answer l r)))
 
 -- where a command may become a task, no test has stopped it
 pub by_ok : (P : Bool → Bool → Option Attention → Type 0) (unit over : Bool) (what : Option Attention) (l : Layer) (r : Request) (c : Command) → (code_answer l r ≡ Ok c → P true false None) → judged_by unit over what l r ≡ Ok c → P unit over what
@@ -118,35 +182,102 @@ by_ok P true false (Some what) l r c p e = absurd cc
 by_ok P true false None l r c p e = p e
 
 pub judged_ok : (l : Layer) (r : Request) (c : Command) → judged l r ≡ Ok c → IsJudged l r c
-judged_ok l r c e = by_ok (λ unit over what. IsJudged l r c) (is_unit_0 r.lun) (overlaps l.tasks r) (attention_of l.attentions r) l r c (code_ok l r c) e
+judged_ok l r c e = by_ok (λ unit over what. IsJudged l r c) (is_for_unit r) (overlaps l.tasks r) (attention_of l.attentions r) l r c (code_ok l r c) e
 
--- what holds of each READ and each WRITE of at most 4,096 blocks holds of a command that is served
-of_ten : (P : Command → Type 0) → ((form : Form) (lba count : ℕ) (fua : Bool) → count ≤ 4096 → P (cdbs.Read form lba count fua)) → ((form : Form) (lba count : ℕ) (fua : Bool) → count ≤ 4096 → P (cdbs.Write form lba count fua)) → (c : Command) → IsTen c → P c
-of_ten P read write (cdbs.Read form lba count fua) ten = read form lba count fua ten
-of_ten P read write (cdbs.Write form lba count fua) ten = write form lba count fua ten
-of_ten P read write cdbs.TestUnitReady ten = absurd ten
-of_ten P read write (cdbs.RequestSense a b) ten = absurd ten
-of_ten P read write (cdbs.Inquiry a b) ten = absurd ten
-of_ten P read write (cdbs.ModeSense a b e f g h) ten = absurd ten
-of_ten P read write (cdbs.ModeSelect a b) ten = absurd ten
-of_ten P read write (cdbs.StartStop a b) ten = absurd ten
-of_ten P read write cdbs.ReadCapacity10 ten = absurd ten
-of_ten P read write (cdbs.ReadCapacity16 a) ten = absurd ten
-of_ten P read write (cdbs.ReportLuns a b) ten = absurd ten
-of_ten P read write (cdbs.Verify a b e f) ten = absurd ten
-of_ten P read write (cdbs.Flush a b e) ten = absurd ten
-of_ten P read write (cdbs.WriteSame a b e f) ten = absurd ten
-of_ten P read write (cdbs.Unmap a) ten = absurd ten
-of_ten P read write (cdbs.Pass a) ten = absurd ten
+-- a command that is answered from what the device says of itself
+abbrev pub IsTold : Command → Type 0
+IsTold cdbs.TestUnitReady = Unit {0}
+IsTold (cdbs.RequestSense a b) = Unit {0}
+IsTold (cdbs.Inquiry a b) = Unit {0}
+IsTold (cdbs.ModeSense a b e f g h) = Unit {0}
+IsTold cdbs.ReadCapacity10 = Unit {0}
+IsTold (cdbs.ReadCapacity16 a) = Unit {0}
+IsTold (cdbs.ReportLuns a b) = Unit {0}
+IsTold _ = ⊥
 
--- a command of an operation code that is served is a READ or a WRITE
+-- what holds of each command that is told, each READ and each WRITE holds of a command that is served
+of_served : (P : Command → Type 0) → ((c : Command) → IsTold c → P c) → ((form : Form) (lba count : ℕ) (fua : Bool) → P (cdbs.Read form lba count fua)) → ((form : Form) (lba count : ℕ) (fua : Bool) → P (cdbs.Write form lba count fua)) → (c : Command) → IsServed c → P c
+of_served P told read write cdbs.TestUnitReady here = told cdbs.TestUnitReady tt
+of_served P told read write (cdbs.Inquiry a b) here = told (cdbs.Inquiry a b) tt
+of_served P told read write (cdbs.ModeSense a b e f g h) here = told (cdbs.ModeSense a b e f g h) tt
+of_served P told read write cdbs.ReadCapacity10 here = told cdbs.ReadCapacity10 tt
+of_served P told read write (cdbs.ReadCapacity16 a) here = told (cdbs.ReadCapacity16 a) tt
+of_served P told read write (cdbs.ReportLuns a b) here = told (cdbs.ReportLuns a b) tt
+of_served P told read write (cdbs.Read form lba count fua) here = read form lba count fua
+of_served P told read write (cdbs.Write form lba count fua) here = write form lba count fua
+of_served P told read write (cdbs.RequestSense a b) here = told (cdbs.RequestSense a b) tt
+of_served P told read write (cdbs.ModeSelect a b) here = absurd here
+of_served P told read write (cdbs.StartStop a b) here = absurd here
+of_served P told read write (cdbs.Verify a b e f) here = absurd here
+of_served P told read write (cdbs.Flush a b e) here = absurd here
+of_served P told read write (cdbs.WriteSame a b e f) here = absurd here
+of_served P told read write (cdbs.Unmap a) here = absurd here
+of_served P told read write (cdbs.Pass a) here = absurd here
+
+-- what holds of each of them holds of a command that is told
+of_told : (P : Command → Type 0) → P cdbs.TestUnitReady → ((descriptor : Bool) (alloc : ℕ) → P (cdbs.RequestSense descriptor alloc)) → ((page : Option ℕ) (alloc : ℕ) → P (cdbs.Inquiry page alloc)) → ((ten long_lba no_descriptor : Bool) (control page alloc : ℕ) → P (cdbs.ModeSense ten long_lba no_descriptor control page alloc)) → P cdbs.ReadCapacity10 → ((alloc : ℕ) → P (cdbs.ReadCapacity16 alloc)) → ((select alloc : ℕ) → P (cdbs.ReportLuns select alloc)) → (c : Command) → IsTold c → P c
+of_told P ready sense told modes short long luns cdbs.TestUnitReady here = ready
+of_told P ready sense told modes short long luns (cdbs.Inquiry a b) here = told a b
+of_told P ready sense told modes short long luns (cdbs.ModeSense a b e f g h) here = modes a b e f g h
+of_told P ready sense told modes short long luns cdbs.ReadCapacity10 here = short
+of_told P ready sense told modes short long luns (cdbs.ReadCapacity16 a) here = long a
+of_told P ready sense told modes short long luns (cdbs.ReportLuns a b) here = luns a b
+of_told P ready sense told modes short long luns (cdbs.Read a b e f) here = absurd here
+of_told P ready sense told modes short long luns (cdbs.Write a b e f) here = absurd here
+of_told P ready sense told modes short long luns (cdbs.RequestSense a b) here = sense a b
+of_told P ready sense told modes short long luns (cdbs.ModeSelect a b) here = absurd here
+of_told P ready sense told modes short long luns (cdbs.StartStop a b) here = absurd here
+of_told P ready sense told modes short long luns (cdbs.Verify a b e f) here = absurd here
+of_told P ready sense told modes short long luns (cdbs.Flush a b e) here = absurd here
+of_told P ready sense told modes short long luns (cdbs.WriteSame a b e f) here = absurd here
+of_told P ready sense told modes short long luns (cdbs.Unmap a) here = absurd here
+of_told P ready sense told modes short long luns (cdbs.Pass a) here = absurd here
+
+-- a command of which something is known by its bytes is served
+said_served : (cdb : List ℕ) (c : Command) → IsSaid cdb c → IsServed c
+said_served cdb cdbs.TestUnitReady said = tt
+said_served cdb (cdbs.Inquiry a b) said = tt
+said_served cdb (cdbs.ModeSense a b e f g h) said = tt
+said_served cdb cdbs.ReadCapacity10 said = tt
+said_served cdb (cdbs.ReadCapacity16 a) said = tt
+said_served cdb (cdbs.ReportLuns a b) said = tt
+said_served cdb (cdbs.Read form lba count fua) said = tt
+said_served cdb (cdbs.Write form lba count fua) said = tt
+said_served cdb (cdbs.RequestSense a b) said = tt
+said_served cdb (cdbs.ModeSelect a b) said = said
+said_served cdb (cdbs.StartStop a b) said = said
+said_served cdb (cdbs.Verify a b e f) said = said
+said_served cdb (cdbs.Flush a b e) said = said
+said_served cdb (cdbs.WriteSame a b e f) said = said
+said_served cdb (cdbs.Unmap a) said = said
+said_served cdb (cdbs.Pass a) said = said
+
+-- a command of an operation code that is served is one of those
 pub served : (cdb : List ℕ) (trim : Bool) (c : Command) → is_in (slice_index cdb 0) built ≡ true → says cdb trim ≡ Ok c → IsServed c
-served cdb trim c in_it e = of_ten IsServed (λ form lba count fua few. tt) (λ form lba count fua few. tt) c (ten_of cdb trim c in_it e)
+served cdb trim c in_it e = said_served cdb c (said_of cdb trim c in_it e)
 
-ten_transfer : (capacity : ℕ) (c : Command) → IsTen c → capacity < 2 ^ 48 → nat_lt capacity ((range_of c).lba + (range_of c).count) ≡ false → ((range_of c).count == 0) ≡ false → IsTransfer capacity c (held_blocks c)
-ten_transfer capacity c ten small =
-    of_ten (λ c. nat_lt capacity ((range_of c).lba + (range_of c).count) ≡ false → ((range_of c).count == 0) ≡ false → IsTransfer capacity c (held_blocks c))
-    (λ form lba count fua few within some. here lba count few within some) (λ form lba count fua few within some. here lba count few within some) c ten
+-- it goes over at most 4,096 blocks
+said_few : (cdb : List ℕ) (c : Command) → slice_index cdb 4 < 256 → IsSaid cdb c → (range_of c).count ≤ 4096
+said_few cdb c byte said = of_served (λ c. IsSaid cdb c → (range_of c).count ≤ 4096) (λ c here. of_told (λ c. IsSaid cdb c → (range_of c).count ≤ 4096) (λ said. omega arith) (λ descriptor alloc said. omega arith) (λ page alloc said. omega arith) (λ ten long_lba no_descriptor control page alloc said. omega arith) (λ said. omega arith) (λ alloc said. omega arith) (λ select alloc said. omega arith) c here) (λ form lba count fua said. said byte) (λ form lba count fua said. said.0 byte) c (said_served cdb c said) said
+
+-- and asks for no FUA where its bit is 0
+pub said_unforced : (cdb : List ℕ) (trim : Bool) (c : Command) → bit 1 3 cdb ≡ false → is_in (slice_index cdb 0) built ≡ true → says cdb trim ≡ Ok c → asks_fua c ≡ false
+said_unforced cdb trim c clear in_it e =
+    let said = said_of cdb trim c in_it e in
+    of_served (λ c. IsSaid cdb c → asks_fua c ≡ false) (λ c here. of_told (λ c. IsSaid cdb c → asks_fua c ≡ false) (λ said. refl) (λ descriptor alloc said. refl) (λ page alloc said. refl) (λ ten long_lba no_descriptor control page alloc said. refl) (λ said. refl) (λ alloc said. refl) (λ select alloc said. refl) c here) (λ form lba count fua said. refl) (λ form lba count fua said. said.1 clear) c (said_served cdb c said) said
+
+-- a command that may become a task goes over at most 4,096 blocks
+pub answer_few : (l : Layer) (trim : Bool) (cdb : List ℕ) (n : ℕ) (c : Command) (found : Result Command AtOnce) → slice_index cdb 4 < 256 → is_in (slice_index cdb 0) built ≡ true → says cdb trim ≡ Ok c → found ≡ command_answer l n c → IfOk found (λ command. (range_of command).count ≤ 4096)
+answer_few l trim cdb n c (Ok d) byte in_it said e =
+    let k = command_ok l n c d (sym e) in
+    subst (λ c. (range_of c).count ≤ 4096) k.0 (said_few cdb c byte (said_of cdb trim c in_it said))
+answer_few l trim cdb n c (Err a) byte in_it said e = tt
+
+served_transfer : (capacity : ℕ) (c : Command) → IsServed c → (range_of c).count ≤ 4096 → capacity < 2 ^ 48 → nat_lt capacity ((range_of c).lba + (range_of c).count) ≡ false → ((range_of c).count == 0) ≡ false → IsTransfer capacity c (held_blocks c)
+served_transfer capacity c served few small =
+    of_served (λ c. (range_of c).count ≤ 4096 → nat_lt capacity ((range_of c).lba + (range_of c).count) ≡ false → ((range_of c).count == 0) ≡ false → IsTransfer capacity c (held_blocks c))
+    (λ c here. of_told (λ c. (range_of c).count ≤ 4096 → nat_lt capacity ((range_of c).lba + (range_of c).count) ≡ false → ((range_of c).count == 0) ≡ false → IsTransfer capacity c (held_blocks c)) (λ few within some. absurd cc) (λ descriptor alloc few within some. absurd cc) (λ page alloc few within some. absurd cc) (λ ten long_lba no_descriptor control page alloc few within some. absurd cc) (λ few within some. absurd cc) (λ alloc few within some. absurd cc) (λ select alloc few within some. absurd cc) c here)
+    (λ form lba count fua few within some. here lba count few within some) (λ form lba count fua few within some. here lba count few within some) c served few
   where
     here : (lba count : ℕ) → count ≤ 4096 → nat_lt capacity (lba + count) ≡ false → (count == 0) ≡ false → (count ≡ count) × (lba < 2 ^ 48) × (1 ≤ count) × (count ≤ 4096) × (lba + count ≤ capacity)
     here lba count few within some =
@@ -155,11 +286,11 @@ ten_transfer capacity c ten small =
         (refl, omega (arith, in_it, small, one), omega (arith, one), few, omega (arith, in_it))
 
 -- a command that may become a task is a transfer
-pub code_transfer : (l : Layer) (r : Request) (found : Result Command AtOnce) → IsIdentity l.identity → found ≡ code_answer l r → IfOk found (λ command. IsTransfer l.identity.capacity command (held_blocks command))
-code_transfer l r (Ok c) is e =
+pub code_transfer : (l : Layer) (r : Request) (found : Result Command AtOnce) → IsIdentity l.identity → found ≡ code_answer l r → IfOk found (λ command. (range_of command).count ≤ 4096) → IfOk found (λ command. IsTransfer l.identity.capacity command (held_blocks command))
+code_transfer l r (Ok c) is e few =
     let j = code_ok l r c (sym e) in
-    ten_transfer l.identity.capacity c (ten_of r.cdb l.identity.trim c j.served j.said) (capacity_bounds l.identity is).1 j.within j.some
-code_transfer l r (Err a) is e = tt
+    served_transfer l.identity.capacity c (served r.cdb l.identity.trim c j.served j.said) few (capacity_bounds l.identity is).1 j.within j.some
+code_transfer l r (Err a) is e few = tt
 
 -- a request has all the data-out that its command needs
 pub long_enough : (l : Layer) (r : Request) (c : Command) → judged l r ≡ Ok c → needed c ≤ r.data_len
@@ -181,19 +312,19 @@ kept c = Ok c
 err_is : (x y : AtOnce) → refused x ≡ refused y → x ≡ y
 err_is x y e = cc
 
-readiness_is : (l : Layer) (d : DriveState) (r : Request) → l.down ≡ d.down → direct.readiness (view l d) r ≡ reply_at_once r (readiness l) l.modes.d_sense
+readiness_is : (l : Layer) (d : DriveState) (r : Request) → l.down ≡ d.down → direct.readiness (view l d) r ≡ reply_at_once l.identity l.modes r (readiness l)
 readiness_is l d r mark =
-    (elim l.down as (λ b. l.down ≡ b → direct.readiness (view l d) r ≡ reply_at_once r (readiness l) l.modes.d_sense) [
+    (elim l.down as (λ b. l.down ≡ b → direct.readiness (view l d) r ≡ reply_at_once l.identity l.modes r (readiness l)) [
       | true ↦ λ is. rw (sym mark, is) refl
-      | false ↦ λ is. (elim l.started as (λ b. l.started ≡ b → direct.readiness (view l d) r ≡ reply_at_once r (readiness l) l.modes.d_sense) [
+      | false ↦ λ is. (elim l.started as (λ b. l.started ≡ b → direct.readiness (view l d) r ≡ reply_at_once l.identity l.modes r (readiness l)) [
         | true ↦ λ on. rw (sym mark, is, on) refl
         | false ↦ λ on. rw (sym mark, is, on) refl
       ]) refl
     ]) refl
 
 -- a request that is answered at once
-same_answer : (l : Layer) (d : DriveState) (r : Request) (x a : AtOnce) (reply : Reply) → reply ≡ reply_at_once r x l.modes.d_sense → refused x ≡ refused a → answered reply ≡ answered (reply_at_once r a l.modes.d_sense)
-same_answer l d r x a reply is e = ap answered is ∙ ap (λ y. answered (reply_at_once r y l.modes.d_sense)) (err_is x a e)
+same_answer : (l : Layer) (d : DriveState) (r : Request) (x a : AtOnce) (reply : Reply) → reply ≡ reply_at_once l.identity l.modes r x → refused x ≡ refused a → answered reply ≡ answered (reply_at_once l.identity l.modes r a)
+same_answer l d r x a reply is e = ap answered is ∙ ap (λ y. answered (reply_at_once l.identity l.modes r y)) (err_is x a e)
 
 -- a request that becomes a task, or meets a full task set
 abbrev pub full_or_waits : Layer → DriveState → Request → Command → Arrival
@@ -204,89 +335,203 @@ abbrev served_arrival : Layer → DriveState → Request → Command → Arrival
 served_arrival l d r c =
     cond (nat_lt l.identity.capacity ((range_of c).lba + (range_of c).count)) (answered (check (view l d) r out_of_range))
     (cond (nat_lt r.data_len (needed c)) (answered (check (view l d) r short_data))
-    (cond ((range_of c).count == 0) (answered (direct.readiness (view l d) r)) (full_or_waits l d r c)))
+    (direct.becomes (view l d) r c))
 
-ten_arrival : (l : Layer) (d : DriveState) (r : Request) (c : Command) → IsTen c → cdb_arrival (view l d) r (Ok c) ≡ served_arrival l d r c
-ten_arrival l d r c ten = of_ten (λ c. cdb_arrival (view l d) r (Ok c) ≡ served_arrival l d r c) (λ form lba count fua few. refl) (λ form lba count fua few. refl) c ten
+is_served_arrival : (l : Layer) (d : DriveState) (r : Request) (c : Command) → IsServed c → cdb_arrival (view l d) r (Ok c) ≡ served_arrival l d r c
+is_served_arrival l d r c here = of_served (λ c. cdb_arrival (view l d) r (Ok c) ≡ served_arrival l d r c) (λ c here. of_told (λ c. cdb_arrival (view l d) r (Ok c) ≡ served_arrival l d r c) refl (λ descriptor alloc. refl) (λ page alloc. refl) (λ ten long_lba no_descriptor control page alloc. refl) refl (λ alloc. refl) (λ select alloc. refl) c here) (λ form lba count fua. refl) (λ form lba count fua. refl) c here
 
-command_at_once : (l : Layer) (d : DriveState) (r : Request) (a : AtOnce) (c : Command) → l.down ≡ d.down → command_answer l r.data_len c ≡ Err a → served_arrival l d r c ≡ answered (reply_at_once r a l.modes.d_sense)
-command_at_once l d r a c mark =
+-- the data of a MODE SENSE do not depend on its allocation length
+any_length : (i : Identity) (m : Modes) (is_ten long_lba no_descriptor : Bool) (control page alloc : ℕ) → mode_data i m (cdbs.ModeSense is_ten long_lba no_descriptor control page alloc) ≡ mode_data i m (cdbs.ModeSense is_ten long_lba no_descriptor control page 0)
+unfolding mode_data
+any_length i m is_ten long_lba no_descriptor control page alloc = refl
+
+inquiry_is : (l : Layer) (d : DriveState) (r : Request) (page : Option ℕ) (alloc : ℕ) → answered (direct.told r alloc (direct.inquiry_text (view l d) page)) ≡ answered (reply_at_once l.identity l.modes r (at_once.Tell (datas.Inquiry page) alloc))
+inquiry_is l d r None alloc = refl
+inquiry_is l d r (Some page) alloc = refl
+
+-- a READ or a WRITE of no block is answered as TEST UNIT READY is
+idle_is : (l : Layer) (d : DriveState) (r : Request) (a : AtOnce) (c : Command) (count : ℕ) → l.down ≡ d.down → cond (count == 0) (Err (readiness l)) (Ok c) ≡ Err a → direct.placed_unless (count == 0) (view l d) r c ≡ answered (reply_at_once l.identity l.modes r a)
+idle_is l d r a c count mark = cond_is (count == 0) _ _ _ _ _ _ (same_answer l d r (readiness l) a _ (readiness_is l d r mark)) (λ e. absurd cc)
+
+-- the first condition of the nexus of a request
+abbrev first_of : Layer → Request → Option Attention
+first_of l r = slice_get (slice_index_or l.attentions r.nexus []) 0
+
+becomes_at_once : (l : Layer) (d : DriveState) (r : Request) (a : AtOnce) (c : Command) → IsSaid r.cdb c → (slice_index r.cdb 0 ≡ 0x03 → first_of l r ≡ None) → l.down ≡ d.down → answer_to l c ≡ Err a → direct.becomes (view l d) r c ≡ answered (reply_at_once l.identity l.modes r a)
+becomes_at_once l d r a cdbs.TestUnitReady here none mark e = same_answer l d r (readiness l) a _ (readiness_is l d r mark) e
+becomes_at_once l d r a (cdbs.Inquiry page alloc) here none mark e = inquiry_is l d r page alloc ∙ same_answer l d r (at_once.Tell (datas.Inquiry page) alloc) a _ refl e
+becomes_at_once l d r a (cdbs.ModeSense ten long_lba no_descriptor control page alloc) here none mark e = ap (λ text. answered (direct.told r alloc text)) (any_length l.identity l.modes ten long_lba no_descriptor control page alloc) ∙ same_answer l d r (at_once.Tell (datas.Modes ten long_lba no_descriptor control page) alloc) a _ refl e
+becomes_at_once l d r a cdbs.ReadCapacity10 here none mark e = same_answer l d r (at_once.Tell datas.Capacity10 8) a _ refl e
+becomes_at_once l d r a (cdbs.ReadCapacity16 alloc) here none mark e = same_answer l d r (at_once.Tell datas.Capacity16 alloc) a _ refl e
+becomes_at_once l d r a (cdbs.ReportLuns select alloc) here none mark e = same_answer l d r (at_once.Tell (datas.Luns select) alloc) a _ refl e
+becomes_at_once l d r a (cdbs.Read form lba count fua) here none mark e = idle_is l d r a (cdbs.Read form lba count fua) count mark e
+becomes_at_once l d r a (cdbs.Write form lba count fua) here none mark e = idle_is l d r a (cdbs.Write form lba count fua) count mark e
+becomes_at_once l d r a (cdbs.RequestSense descriptor alloc) here none mark e = ap (λ what. direct.sense_told what r descriptor alloc) (none here) ∙ same_answer l d r (at_once.Tell (datas.Sense descriptor no_sense) alloc) a _ refl e
+becomes_at_once l d r a (cdbs.ModeSelect x y) here none mark e = absurd here
+becomes_at_once l d r a (cdbs.StartStop x y) here none mark e = absurd here
+becomes_at_once l d r a (cdbs.Verify x y z t) here none mark e = absurd here
+becomes_at_once l d r a (cdbs.Flush x y z) here none mark e = absurd here
+becomes_at_once l d r a (cdbs.WriteSame x y z t) here none mark e = absurd here
+becomes_at_once l d r a (cdbs.Unmap x) here none mark e = absurd here
+becomes_at_once l d r a (cdbs.Pass x) here none mark e = absurd here
+
+command_at_once : (l : Layer) (d : DriveState) (r : Request) (a : AtOnce) (c : Command) → IsSaid r.cdb c → (slice_index r.cdb 0 ≡ 0x03 → first_of l r ≡ None) → l.down ≡ d.down → command_answer l r.data_len c ≡ Err a → served_arrival l d r c ≡ answered (reply_at_once l.identity l.modes r a)
+command_at_once l d r a c here none mark =
     cond_is (nat_lt l.identity.capacity ((range_of c).lba + (range_of c).count)) _ _ _ _ _ _ (same_answer l d r (at_once.Check out_of_range) a _ refl)
     (cond_is (nat_lt r.data_len (needed c)) _ _ _ _ _ _ (same_answer l d r (at_once.Check short_data) a _ refl)
-    (cond_is ((range_of c).count == 0) _ _ _ _ _ _ (same_answer l d r (readiness l) a _ (readiness_is l d r mark)) (λ e. absurd cc)))
+    (becomes_at_once l d r a c here none mark))
 
-cdb_at_once : (l : Layer) (d : DriveState) (r : Request) (a : AtOnce) (found : Result Command Illegal) → l.down ≡ d.down → is_in (slice_index r.cdb 0) built ≡ true → says r.cdb l.identity.trim ≡ found → cdb_answer l r.data_len found ≡ Err a
-    → cdb_arrival (view l d) r found ≡ answered (reply_at_once r a l.modes.d_sense)
-cdb_at_once l d r a (Err why) mark in_it said e = same_answer l d r (at_once.Check (refusal why)) a _ refl e
-cdb_at_once l d r a (Ok c) mark in_it said e = ten_arrival l d r c (ten_of r.cdb l.identity.trim c in_it said) ∙ command_at_once l d r a c mark e
+cdb_at_once : (l : Layer) (d : DriveState) (r : Request) (a : AtOnce) (found : Result Command Illegal) → (slice_index r.cdb 0 ≡ 0x03 → first_of l r ≡ None) → l.down ≡ d.down → is_in (slice_index r.cdb 0) built ≡ true → says r.cdb l.identity.trim ≡ found → cdb_answer l r.data_len found ≡ Err a
+    → cdb_arrival (view l d) r found ≡ answered (reply_at_once l.identity l.modes r a)
+cdb_at_once l d r a (Err why) none mark in_it said e = same_answer l d r (at_once.Check (refusal why)) a _ refl e
+cdb_at_once l d r a (Ok c) none mark in_it said e = is_served_arrival l d r c (served r.cdb l.identity.trim c in_it said) ∙ command_at_once l d r a c (said_of r.cdb l.identity.trim c in_it said) none mark e
 
-code_at_once : (l : Layer) (d : DriveState) (r : Request) (a : AtOnce) → l.down ≡ d.down → code_answer l r ≡ Err a → code_arrival (view l d) r ≡ answered (reply_at_once r a l.modes.d_sense)
-code_at_once l d r a mark e =
-    (elim (is_in (slice_index r.cdb 0) built) as (λ b. is_in (slice_index r.cdb 0) built ≡ b → cond (not b) (Err (at_once.Check unknown_operation)) (cdb_answer l r.data_len (says r.cdb l.identity.trim)) ≡ Err a → cond (not b) (answered (check (view l d) r unknown_operation)) (cdb_arrival (view l d) r (says r.cdb l.identity.trim)) ≡ answered (reply_at_once r a l.modes.d_sense)) [
+code_at_once : (l : Layer) (d : DriveState) (r : Request) (a : AtOnce) → (slice_index r.cdb 0 ≡ 0x03 → first_of l r ≡ None) → l.down ≡ d.down → code_answer l r ≡ Err a → code_arrival (view l d) r ≡ answered (reply_at_once l.identity l.modes r a)
+code_at_once l d r a none mark e =
+    (elim (is_in (slice_index r.cdb 0) built) as (λ b. is_in (slice_index r.cdb 0) built ≡ b → cond (not b) (Err (at_once.Check unknown_operation)) (cdb_answer l r.data_len (says r.cdb l.identity.trim)) ≡ Err a → cond (not b) (answered (check (view l d) r unknown_operation)) (cdb_arrival (view l d) r (says r.cdb l.identity.trim)) ≡ answered (reply_at_once l.identity l.modes r a)) [
       | false ↦ λ is g. same_answer l d r (at_once.Check unknown_operation) a _ refl g
-      | true ↦ λ is g. cdb_at_once l d r a (says r.cdb l.identity.trim) mark is refl g
+      | true ↦ λ is g. cdb_at_once l d r a (says r.cdb l.identity.trim) none mark is refl g
     ]) refl e
 
 -- ---- the steps before the operation code
 
+-- a condition that is told, and without one what follows
+abbrev attended_arrival : Option Attention → Device → Request → Arrival
+attended_arrival None s r = code_arrival s r
+attended_arrival (Some what) s r =
+    attended (cond (code_of r == 0x03) (direct.told r (bytes 4 4 r.cdb) (sense_in (bit 1 0 r.cdb) (attention_sense what))) (check s r (attention_sense what)))
+
 -- what the device does by these tests
 abbrev arrival_by : Bool → Bool → Option Attention → Device → Request → Arrival
-arrival_by unit over what s r = cond unit (cond over (direct.overlaps (check s r overlapped)) (attention_arrival what s r)) (answered (check s r unknown_unit))
+arrival_by unit over what s r = cond unit (cond over (direct.overlaps (check s r overlapped)) (attended_arrival what s r)) (other_arrival s r)
 
 -- the layer by these tests
 abbrev once_judged_by : Bool → Bool → Option Attention → Layer → Request → Layer
 once_judged_by unit over what l r =
     cond (not unit) l (cond over (record l { tasks = left_by r.nexus l.tasks }) (record l { attentions = untold what r.nexus l.attentions }))
 
-never : (b : Bool) → (b && false) ≡ false
-never true = refl
-never false = refl
+other_is : (l : Layer) (d : DriveState) (r : Request) → other_arrival (view l d) r ≡ answered (reply_at_once l.identity l.modes r (other_answer r))
+other_is l d r =
+    elim (asks_for 0x12 r && not (bit 1 0 r.cdb)) as (λ b. cond b (answered (direct.told r (bytes 3 4 r.cdb) (standard_data l.identity false))) (cond (asks_for 0x03 r) (answered (direct.told r (bytes 4 4 r.cdb) (sense_in (bit 1 0 r.cdb) unknown_unit))) (answered (check (view l d) r unknown_unit))) ≡ answered (reply_at_once l.identity l.modes r (cond b (at_once.Tell datas.NoUnit (bytes 3 4 r.cdb)) (cond (asks_for 0x03 r) (sense_data r.cdb unknown_unit) (at_once.Check unknown_unit))))) [
+      | true ↦ refl
+      | false ↦ (elim (asks_for 0x03 r) as (λ b. cond b (answered (direct.told r (bytes 4 4 r.cdb) (sense_in (bit 1 0 r.cdb) unknown_unit))) (answered (check (view l d) r unknown_unit)) ≡ answered (reply_at_once l.identity l.modes r (cond b (sense_data r.cdb unknown_unit) (at_once.Check unknown_unit)))) [
+        | true ↦ refl
+        | false ↦ refl
+      ])
+    ]
 
--- REPORT LUNS, INQUIRY and REQUEST SENSE are not served so far
-other_is : (s : Device) (r : Request) (unit : Bool) (of_unit : Arrival) → cond (unit || asks_for 0xA0 r) of_unit (other_arrival s r) ≡ cond unit of_unit (answered (check s r unknown_unit))
-other_is s r true of_unit = refl
-other_is s r false of_unit = rw (never (code_of r == 0xA0), never (code_of r == 0x12), never (code_of r == 0x03)) refl
+-- REQUEST SENSE tells the first condition
+sense_arrival : (s : Device) (r : Request) (what : Attention) → slice_index r.cdb 0 ≡ 0x03 → slice_get (slice_index_or s.attentions r.nexus []) 0 ≡ Some what
+    → code_arrival s r ≡ attended (direct.told r (bytes 4 4 r.cdb) (sense_in (bit 1 0 r.cdb) (attention_sense what)))
+unfolding says
+sense_arrival s r what code first =
+    subst (λ code. cond (not (is_in code built)) (answered (check s r unknown_operation)) (cdb_arrival s r (found_says (format_of (table s.identity.trim) code) r.cdb)) ≡ attended (direct.told r (bytes 4 4 r.cdb) (sense_in (bit 1 0 r.cdb) (attention_sense what)))) (sym code)
+    (ap (λ b. cond b (answered (check s r out_of_range)) (cond (nat_lt r.data_len 0) (answered (check s r short_data)) (direct.sense_told (slice_get (slice_index_or s.attentions r.nexus []) 0) r (bit 1 0 r.cdb) (bytes 4 4 r.cdb)))) (le-ltb s.identity.capacity (0 + 0) (omega arith))
+    ∙ (ap (λ b. cond b (answered (check s r short_data)) (direct.sense_told (slice_get (slice_index_or s.attentions r.nexus []) 0) r (bit 1 0 r.cdb) (bytes 4 4 r.cdb))) (le-ltb r.data_len 0 (omega arith))
+    ∙ ap (λ o. direct.sense_told o r (bit 1 0 r.cdb) (bytes 4 4 r.cdb)) first))
 
-unit_is : (l : Layer) (d : DriveState) (r : Request) → unit_arrival (view l d) r ≡ cond (overlaps l.tasks r) (direct.overlaps (check (view l d) r overlapped)) (attention_arrival (attention_of l.attentions r) (view l d) r)
-unit_is l d r = ap (λ b. cond b (direct.overlaps (check (view l d) r overlapped)) (attention_arrival (attention_of l.attentions r) (view l d) r)) (sym (found_is r.nexus r.tag l.tasks 0))
+-- whether a code is one of those that are carried out before a condition is told, by these tests
+abbrev untold_by : Bool → Bool → Bool → Bool
+untold_by inquiry luns sense = cond inquiry true (cond luns true (cond sense true false))
 
-arrival_is : (l : Layer) (d : DriveState) (r : Request) → arrival (view l d) r ≡ arrival_by (is_unit_0 r.lun) (overlaps l.tasks r) (attention_of l.attentions r) (view l d) r
-arrival_is l d r = other_is (view l d) r (is_unit_0 r.lun) (unit_arrival (view l d) r) ∙ ap (λ a. cond (is_unit_0 r.lun) a (answered (check (view l d) r unknown_unit))) (unit_is l d r)
+-- the condition of another command
+attended_other : (inquiry luns : Bool) (first : Option Attention) (s : Device) (r : Request) → (code_of r == 0x03) ≡ false
+    → attention_arrival (cond (untold_by inquiry luns false) None first) s r ≡ attended_arrival (cond (untold_by inquiry luns false && true) None first) s r
+attended_other true luns first s r is = refl
+attended_other false true first s r is = refl
+attended_other false false None s r is = refl
+attended_other false false (Some what) s r is = rw is refl
+
+attended_first : (first : Option Attention) (s : Device) (r : Request) → (code_of r == 0x03) ≡ true → slice_get (slice_index_or s.attentions r.nexus []) 0 ≡ first → code_arrival s r ≡ attended_arrival first s r
+attended_first None s r is first_is = refl
+attended_first (Some what) s r is first_is = sense_arrival s r what (eqb-true (code_of r) 0x03 is) first_is ∙ rw is refl
+
+-- the condition of a REQUEST SENSE
+attended_sense : (inquiry luns : Bool) (first : Option Attention) (s : Device) (r : Request) → (code_of r == 0x03) ≡ true → slice_get (slice_index_or s.attentions r.nexus []) 0 ≡ first
+    → attention_arrival (cond (untold_by inquiry luns true) None first) s r ≡ attended_arrival (cond (untold_by inquiry luns true && false) None first) s r
+attended_sense true luns first s r is first_is = attended_first first s r is first_is
+attended_sense false true first s r is first_is = attended_first first s r is first_is
+attended_sense false false first s r is first_is = attended_first first s r is first_is
+
+attended_is : (first : Option Attention) (s : Device) (r : Request) → slice_get (slice_index_or s.attentions r.nexus []) 0 ≡ first
+    → attention_arrival (cond (is_in (code_of r) untold_codes) None first) s r ≡ attended_arrival (cond (is_in (code_of r) untold_codes && not (code_of r == 0x03)) None first) s r
+attended_is first s r first_is =
+    (elim (code_of r == 0x03) as (λ b. (code_of r == 0x03) ≡ b → attention_arrival (cond (untold_by (code_of r == 0x12) (code_of r == 0xA0) b) None first) s r ≡ attended_arrival (cond (untold_by (code_of r == 0x12) (code_of r == 0xA0) b && not b) None first) s r) [
+      | true ↦ λ is. attended_sense (code_of r == 0x12) (code_of r == 0xA0) first s r is first_is
+      | false ↦ λ is. attended_other (code_of r == 0x12) (code_of r == 0xA0) first s r is
+    ]) refl
+
+unit_is : (l : Layer) (d : DriveState) (r : Request) → unit_arrival (view l d) r ≡ cond (overlaps l.tasks r) (direct.overlaps (check (view l d) r overlapped)) (attended_arrival (attention_of l.attentions r) (view l d) r)
+unit_is l d r =
+    ap (λ b. cond b (direct.overlaps (check (view l d) r overlapped)) (attention_arrival (direct.attention_for (view l d) r) (view l d) r)) (sym (found_is r.nexus r.tag l.tasks 0))
+    ∙ ap (λ x. cond (overlaps l.tasks r) (direct.overlaps (check (view l d) r overlapped)) x) (attended_is (first_of l r) (view l d) r refl)
+
+arrival_is : (l : Layer) (d : DriveState) (r : Request) → arrival (view l d) r ≡ arrival_by (is_for_unit r) (overlaps l.tasks r) (attention_of l.attentions r) (view l d) r
+arrival_is l d r = ap (λ a. cond (is_for_unit r) a (other_arrival (view l d) r)) (unit_is l d r)
 
 -- a request that is answered at once
 abbrev Answers : Arrival → Layer → DriveState → Request → AtOnce → Layer → Type 0
-Answers a l d r answer new = ArrivesAs a r (view l d) (reply_at_once r answer l.modes.d_sense ∷ []) (view new d)
+Answers a l d r answer new = ArrivesAs a r (view l d) (reply_at_once l.identity l.modes r answer ∷ []) (view new d)
 
 -- the reply by the sense data that were judged
-sensed : (l : Layer) (d : DriveState) (r : Request) (x a : AtOnce) (reply : Reply) → reply ≡ reply_at_once r x l.modes.d_sense → refused x ≡ refused a → reply_at_once r a l.modes.d_sense ∷ [] ≡ reply ∷ []
-sensed l d r x a reply is e = sym (ap (λ q. q ∷ []) is ∙ ap (λ y. reply_at_once r y l.modes.d_sense ∷ []) (err_is x a e))
+sensed : (l : Layer) (d : DriveState) (r : Request) (x a : AtOnce) (reply : Reply) → reply ≡ reply_at_once l.identity l.modes r x → refused x ≡ refused a → reply_at_once l.identity l.modes r a ∷ [] ≡ reply ∷ []
+sensed l d r x a reply is e = sym (ap (λ q. q ∷ []) is ∙ ap (λ y. reply_at_once l.identity l.modes r y ∷ []) (err_is x a e))
 
-answers_by : (unit over : Bool) (what : Option Attention) (l : Layer) (d : DriveState) (r : Request) (a : AtOnce) → l.down ≡ d.down → judged_by unit over what l r ≡ Err a → Answers (arrival_by unit over what (view l d) r) l d r a (once_judged_by unit over what l r)
-answers_by false over what l d r a mark e = (sensed l d r (at_once.Check unknown_unit) a _ refl e, refl)
-answers_by true true what l d r a mark e = (sensed l d r (at_once.Check overlapped) a _ refl e, ap (λ t. record (view l d) { tasks = t }) (left_tasks r.nexus l.tasks))
-answers_by true false (Some what) l d r a mark e = (sensed l d r (at_once.Check (attention_sense what)) a _ refl e, refl)
-answers_by true false None l d r a mark e = subst (λ x. Answers x l d r a l) (sym (code_at_once l d r a mark e)) (refl, refl)
+-- the reply that tells a condition
+told_is : (l : Layer) (d : DriveState) (r : Request) (what : Attention) → cond (code_of r == 0x03) (direct.told r (bytes 4 4 r.cdb) (sense_in (bit 1 0 r.cdb) (attention_sense what))) (check (view l d) r (attention_sense what)) ≡ reply_at_once l.identity l.modes r (tell_attention what r.cdb)
+told_is l d r what = elim (code_of r == 0x03) as (λ b. cond b (direct.told r (bytes 4 4 r.cdb) (sense_in (bit 1 0 r.cdb) (attention_sense what))) (check (view l d) r (attention_sense what)) ≡ reply_at_once l.identity l.modes r (cond b (sense_data r.cdb (attention_sense what)) (at_once.Check (attention_sense what)))) [ true ↦ refl | false ↦ refl ]
 
-pub answers_at_once : (l : Layer) (s : Device) (d : DriveState) (r : Request) (a : AtOnce) (replies : List Reply) → l.down ≡ d.down → judged l r ≡ Err a → replies ≡ reply_at_once r a l.modes.d_sense ∷ [] → s ≡ view (once_judged l r) d → Arrives r (view l d) replies s
+answers_by : (unit over : Bool) (what : Option Attention) (l : Layer) (d : DriveState) (r : Request) (a : AtOnce) → (slice_index r.cdb 0 ≡ 0x03 → first_of l r ≡ what) → l.down ≡ d.down → judged_by unit over what l r ≡ Err a → Answers (arrival_by unit over what (view l d) r) l d r a (once_judged_by unit over what l r)
+answers_by false over what l d r a first mark e = subst (λ x. Answers x l d r a l) (sym (other_is l d r)) (sensed l d r (other_answer r) a _ refl e, refl)
+answers_by true true what l d r a first mark e = (sensed l d r (at_once.Check overlapped) a _ refl e, ap (λ t. record (view l d) { tasks = t }) (left_tasks r.nexus l.tasks))
+answers_by true false (Some what) l d r a first mark e = (sensed l d r (tell_attention what r.cdb) a _ (told_is l d r what) e, refl)
+answers_by true false None l d r a first mark e = subst (λ x. Answers x l d r a l) (sym (code_at_once l d r a first mark e)) (refl, refl)
+
+-- REQUEST SENSE is answered with the first condition
+sense_first : (l : Layer) (r : Request) → slice_index r.cdb 0 ≡ 0x03 → first_of l r ≡ attention_of l.attentions r
+sense_first l r code = sym (ap (λ code. cond (is_in code untold_codes && not (code == 0x03)) None (first_of l r)) code)
+
+pub answers_at_once : (l : Layer) (s : Device) (d : DriveState) (r : Request) (a : AtOnce) (replies : List Reply) → l.down ≡ d.down → judged l r ≡ Err a → replies ≡ reply_at_once l.identity l.modes r a ∷ [] → s ≡ view (once_judged l r) d → Arrives r (view l d) replies s
 answers_at_once l s d r a replies mark e is same =
     subst (λ s. Arrives r (view l d) replies s) (sym same)
     (subst (λ q. Arrives r (view l d) q (view (once_judged l r) d)) (sym is)
-    (subst (λ x. Answers x l d r a (once_judged l r)) (sym (arrival_is l d r)) (answers_by (is_unit_0 r.lun) (overlaps l.tasks r) (attention_of l.attentions r) l d r a mark e)))
+    (subst (λ x. Answers x l d r a (once_judged l r)) (sym (arrival_is l d r)) (answers_by (is_for_unit r) (overlaps l.tasks r) (attention_of l.attentions r) l d r a (sense_first l r) mark e)))
 
 -- ---- a request that becomes a task, or meets a full task set
 
 ok_is : (x y : Command) → kept x ≡ kept y → x ≡ y
 ok_is x y e = cc
 
+placed_is : (l : Layer) (d : DriveState) (r : Request) (c k : Command) (count : ℕ) → cond (count == 0) (Err (readiness l)) (Ok k) ≡ Ok c → direct.placed_unless (count == 0) (view l d) r k ≡ full_or_waits l d r c
+placed_is l d r c k count = cond_is (count == 0) _ _ _ _ _ _ (λ e. absurd cc) (λ e. ap (full_or_waits l d r) (ok_is k c e))
+
+becomes_waits : (l : Layer) (d : DriveState) (r : Request) (c k : Command) → answer_to l k ≡ Ok c → direct.becomes (view l d) r k ≡ full_or_waits l d r c
+becomes_waits l d r c cdbs.TestUnitReady e = absurd cc
+becomes_waits l d r c (cdbs.Inquiry x y) e = absurd cc
+becomes_waits l d r c (cdbs.ModeSense x y z t u v) e = absurd cc
+becomes_waits l d r c cdbs.ReadCapacity10 e = absurd cc
+becomes_waits l d r c (cdbs.ReadCapacity16 x) e = absurd cc
+becomes_waits l d r c (cdbs.ReportLuns x y) e = absurd cc
+becomes_waits l d r c (cdbs.Read form lba count fua) e = placed_is l d r c (cdbs.Read form lba count fua) count e
+becomes_waits l d r c (cdbs.Write form lba count fua) e = placed_is l d r c (cdbs.Write form lba count fua) count e
+becomes_waits l d r c (cdbs.RequestSense x y) e = absurd cc
+becomes_waits l d r c (cdbs.ModeSelect x y) e = absurd cc
+becomes_waits l d r c (cdbs.StartStop x y) e = absurd cc
+becomes_waits l d r c (cdbs.Verify x y z t) e = absurd cc
+becomes_waits l d r c (cdbs.Flush x y z) e = absurd cc
+becomes_waits l d r c (cdbs.WriteSame x y z t) e = absurd cc
+becomes_waits l d r c (cdbs.Unmap x) e = absurd cc
+becomes_waits l d r c (cdbs.Pass x) e = absurd cc
+
 command_waits : (l : Layer) (d : DriveState) (r : Request) (c k : Command) → command_answer l r.data_len k ≡ Ok c → served_arrival l d r k ≡ full_or_waits l d r c
 command_waits l d r c k =
     cond_is (nat_lt l.identity.capacity ((range_of k).lba + (range_of k).count)) _ _ _ _ _ _ (λ e. absurd cc)
     (cond_is (nat_lt r.data_len (needed k)) _ _ _ _ _ _ (λ e. absurd cc)
-    (cond_is ((range_of k).count == 0) _ _ _ _ _ _ (λ e. absurd cc) (λ e. ap (full_or_waits l d r) (ok_is k c e))))
+    (becomes_waits l d r c k))
 
 cdb_waits : (l : Layer) (d : DriveState) (r : Request) (c : Command) (found : Result Command Illegal) → is_in (slice_index r.cdb 0) built ≡ true → says r.cdb l.identity.trim ≡ found → cdb_answer l r.data_len found ≡ Ok c → cdb_arrival (view l d) r found ≡ full_or_waits l d r c
 cdb_waits l d r c (Err why) in_it said e = absurd cc
-cdb_waits l d r c (Ok k) in_it said e = ten_arrival l d r k (ten_of r.cdb l.identity.trim k in_it said) ∙ command_waits l d r c k e
+cdb_waits l d r c (Ok k) in_it said e = is_served_arrival l d r k (served r.cdb l.identity.trim k in_it said) ∙ command_waits l d r c k e
 
 pub code_waits : (l : Layer) (d : DriveState) (r : Request) (c : Command) → code_answer l r ≡ Ok c → code_arrival (view l d) r ≡ full_or_waits l d r c
 code_waits l d r c e =
@@ -298,9 +543,9 @@ code_waits l d r c e =
 waits_arrival : (l : Layer) (d : DriveState) (r : Request) (c : Command) → judged l r ≡ Ok c → arrival (view l d) r ≡ full_or_waits l d r c
 waits_arrival l d r c e =
     arrival_is l d r
-    ∙ by_ok (λ unit over what. arrival_by unit over what (view l d) r ≡ full_or_waits l d r c) (is_unit_0 r.lun) (overlaps l.tasks r) (attention_of l.attentions r) l r c (code_waits l d r c) e
+    ∙ by_ok (λ unit over what. arrival_by unit over what (view l d) r ≡ full_or_waits l d r c) (is_for_unit r) (overlaps l.tasks r) (attention_of l.attentions r) l r c (code_waits l d r c) e
 
-held_by_is : (tasks : List Held) → held_by (map task_of (entries_of tasks)) ≡ total_blocks tasks
+pub held_by_is : (tasks : List Held) → held_by (map task_of (entries_of tasks)) ≡ total_blocks tasks
 held_by_is [] = refl
 held_by_is (h ∷ tasks) = ap (λ n. h.entry.blocks + n) (held_by_is tasks)
 
@@ -314,7 +559,7 @@ full_is tasks r c queued_trim = rw (count_is tasks, held_by_is tasks) refl
 pub becomes_arrives : (l new : Layer) (d : DriveState) (r : Request) (c : Command) (replies : List Reply) → judged l r ≡ Ok c → Becomes r c l replies new → Arrives r (view l d) replies (view new d)
 becomes_arrives l new d r c replies e b =
     subst (λ x. ArrivesAs x r (view l d) replies (view new d)) (sym (waits_arrival l d r c e))
-    ((elim (is_too_much l.tasks (task_without_pages r c l.identity.queued_trim)) as (λ t. is_full (map task_of (entries_of l.tasks)) c ≡ t → MatchBool t (IsAnswered r at_once.Full l replies new) (IsAdded r c l replies new) → ArrivesAs (full_or_waits l d r c) r (view l d) replies (view new d)) [
+    ((elim (is_too_much l.tasks (task_without_pages r c l.identity.queued_trim)) as (λ t. is_full (map task_of (entries_of l.tasks)) c ≡ t → MatchBool t (IsRefused r l replies new) (IsAdded r c l replies new) → ArrivesAs (full_or_waits l d r c) r (view l d) replies (view new d)) [
       | true ↦ λ is a. rw is (a.reply, ap (λ x. view x d) a.stays)
       | false ↦ λ is a. rw is (a.none, ap (λ x. view x d) a.stays ∙ ap (λ t. record (view l d) { tasks = t }) a.last)
     ]) (full_is l.tasks r c l.identity.queued_trim) b)

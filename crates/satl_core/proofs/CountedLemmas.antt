@@ -8,13 +8,11 @@ use Rattle.satl_io.specs.Causes.{Rose, RoseBy}
 use Rattle.satl_io.proofs.Counting.{RoseBy-fewer, RoseBy-more, RoseBy-none}
 use Rattle.satl_cdb.specs.declared.command.Command.{Command}
 use Rattle.satl_line.specs.Tasks.{Held, entries_of, is_too_much}
-use Rattle.satl_direct.specs.Arrival.{is_unit_0}
 use Rattle.satl_direct.specs.Device.{Device, is_of}
 use Rattle.satl_direct.specs.Tasks.{task_for, task_of}
 use Rattle.satl_direct.specs.Run.{losses_of}
-use Rattle.satl_core.specs.declared.submitting.AtOnce.TheVariants as at_once
 use Rattle.satl_core.specs.Layer.{Layer}
-use Rattle.satl_core.specs.Submitting.{Becomes, IsAdded, IsAnswered, attention_of, left_by, once_judged, overlaps, task_without_pages, untold}
+use Rattle.satl_core.specs.Submitting.{is_for_unit, Becomes, IsAdded, IsRefused, attention_of, left_by, once_judged, overlaps, task_without_pages, untold}
 
 -- ---- losses
 
@@ -68,7 +66,7 @@ added_more r c old replies new a =
 -- a request adds one task at most, and leaves the modes
 pub becomes_more : (r : Request) (c : Command) (old : Layer) (replies : List Reply) (new : Layer) → Becomes r c old replies new → (length new.tasks ≤ length old.tasks + 1) × (new.modes ≡ old.modes)
 becomes_more r c old replies new b =
-    (elim (is_too_much old.tasks (task_without_pages r c old.identity.queued_trim)) as (λ f. MatchBool f (IsAnswered r at_once.Full old replies new) (IsAdded r c old replies new) → (length new.tasks ≤ length old.tasks + 1) × (new.modes ≡ old.modes)) [
+    (elim (is_too_much old.tasks (task_without_pages r c old.identity.queued_trim)) as (λ f. MatchBool f (IsRefused r old replies new) (IsAdded r c old replies new) → (length new.tasks ≤ length old.tasks + 1) × (new.modes ≡ old.modes)) [
       | true ↦ λ a. let same = ap (λ (l : Layer). length l.tasks) a.stays in (omega (arith, same), ap (λ (l : Layer). l.modes) a.stays)
       | false ↦ λ a. (added_more r c old replies new a, ap (λ (l : Layer). l.modes) a.stays)
     ]) b
@@ -85,7 +83,7 @@ left_fewer nexus (h ∷ tasks) =
 -- judging a request adds no task
 pub judged_more : (l : Layer) (r : Request) → length (once_judged l r).tasks ≤ length l.tasks
 judged_more l r =
-    elim (is_unit_0 r.lun) as (λ b. length (cond (not b) l (cond (overlaps l.tasks r) (record l { tasks = left_by r.nexus l.tasks }) (record l { attentions = untold (attention_of l.attentions r) r.nexus l.attentions }))).tasks ≤ length l.tasks) [
+    elim (is_for_unit r) as (λ b. length (cond (not b) l (cond (overlaps l.tasks r) (record l { tasks = left_by r.nexus l.tasks }) (record l { attentions = untold (attention_of l.attentions r) r.nexus l.attentions }))).tasks ≤ length l.tasks) [
       | false ↦ omega arith
       | true ↦ (elim (overlaps l.tasks r) as (λ b. length (cond b (record l { tasks = left_by r.nexus l.tasks }) (record l { attentions = untold (attention_of l.attentions r) r.nexus l.attentions })).tasks ≤ length l.tasks) [
         | true ↦ left_fewer r.nexus l.tasks

@@ -7,6 +7,7 @@ pub mod HeldLemmas
 pub mod LeavingLemmas
 pub mod OpeningLemmas
 pub mod ServedLemmas
+pub mod TellingLemmas
 pub mod Transfers
 pub mod TurningLemmas
 pub mod UnforcedLemmas

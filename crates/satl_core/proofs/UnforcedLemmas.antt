@@ -1,53 +1,25 @@
 -- Which tasks ask for FUA.
-use Rattle.std.proofs.Common.{◌≡◌, ⊎_elim, inl, inr, refl, sym, ap, subst, ◌∙◌, Bool, true, false, cond, eqb, ℕ, List, [], ◌∷◌, map}
-use Rattle.std.specs.Prelude.{Ok, MatchBool, not, slice_index}
+use Rattle.std.proofs.Common.{◌≡◌, ⊎_elim, inl, inr, sym, ap, subst, ◌∙◌, true, false, cond, ℕ, List, [], ◌∷◌, map}
+use Rattle.std.specs.Prelude.{Ok, MatchBool, not}
 use Rattle.std.specs.List.{AllByRecursion}
-use Rattle.std.proofs.lemmas.Bool.{eqb-true}
 use Rattle.satl_base.specs.declared.reply.Reply.{Reply}
 use Rattle.satl_base.specs.declared.request.Request.{Request}
-use Rattle.satl_base.specs.Fields.{bit}
-use Rattle.satl_base.specs.Lists.{is_in}
 use Rattle.satl_cdb.specs.declared.command.Command.{Command}
-use Rattle.satl_cdb.specs.Rows.{found_says, format_of}
-use Rattle.satl_cdb.specs.BlockCommands.{read, ten, write}
-use Rattle.satl_cdb.specs.Table.{says, table}
 use Rattle.satl_line.specs.declared.entry.Entry.{Entry}
 use Rattle.satl_line.specs.Tasks.{Held, entries_of, is_too_much}
 use Rattle.satl_line.proofs.SlotsLemmas.{All-append}
 use Rattle.satl_drive.specs.State.{DriveState}
 use Rattle.satl_direct.specs.Device.{Device}
 use Rattle.satl_direct.specs.Tasks.{task_for, task_of}
-use Rattle.satl_direct.specs.Arrival.{built, is_unit_0}
-use Rattle.satl_core.specs.declared.submitting.AtOnce.TheVariants as at_once
 use Rattle.satl_core.specs.Layer.{Layer, view}
-use Rattle.satl_core.specs.Submitting.{Becomes, IsAdded, IsAnswered, attention_of, judged, left_by, once_judged, overlaps, task_without_pages, untold}
+use Rattle.satl_core.specs.Submitting.{is_for_unit, Becomes, IsAdded, IsRefused, attention_of, judged, left_by, once_judged, overlaps, task_without_pages, untold}
 use Rattle.satl_core.specs.Turning.{AreUnforced, AsksNoFua, asks_fua}
-use Rattle.satl_core.proofs.ArrivalLemmas.{judged_ok, of_rules}
+use Rattle.satl_core.proofs.ArrivalLemmas.{judged_ok, said_unforced}
 use Rattle.satl_core.proofs.HeldLemmas.{IsFirst}
 use Rattle.satl_core.proofs.LeavingLemmas.{left_kept}
 
-read_unforced : (cdb : List ℕ) (trim : Bool) (c : Command) → found_says (format_of (table trim) 0x28) cdb ≡ Ok c → asks_fua c ≡ false
-read_unforced cdb trim c e = subst (λ x. asks_fua x ≡ false) (of_rules cdb ((read ten).command cdb) c e).0 refl
-
-write_unforced : (cdb : List ℕ) (trim : Bool) (c : Command) → bit 1 3 cdb ≡ false → found_says (format_of (table trim) 0x2A) cdb ≡ Ok c → asks_fua c ≡ false
-write_unforced cdb trim c clear e = subst (λ x. asks_fua x ≡ false) (of_rules cdb ((write ten).command cdb) c e).0 clear
-
-unforced_by : (cdb : List ℕ) (trim : Bool) (c : Command) (code : ℕ) → bit 1 3 cdb ≡ false → is_in code built ≡ true → found_says (format_of (table trim) code) cdb ≡ Ok c → asks_fua c ≡ false
-unforced_by cdb trim c code clear in_it e =
-    (elim (eqb code 0x28) as (λ b. eqb code 0x28 ≡ b → cond b true (cond (eqb code 0x2A) true false) ≡ true → asks_fua c ≡ false) [
-      | true ↦ λ is f. read_unforced cdb trim c (subst (λ x. found_says (format_of (table trim) x) cdb ≡ Ok c) (eqb-true code 0x28 is) e)
-      | false ↦ λ is f. (elim (eqb code 0x2A) as (λ b. eqb code 0x2A ≡ b → cond b true false ≡ true → asks_fua c ≡ false) [
-        | true ↦ λ is' g. write_unforced cdb trim c clear (subst (λ x. found_says (format_of (table trim) x) cdb ≡ Ok c) (eqb-true code 0x2A is') e)
-        | false ↦ λ is' g. absurd cc
-      ]) refl f
-    ]) refl in_it
-
-unforced_said : (cdb : List ℕ) (trim : Bool) (c : Command) → bit 1 3 cdb ≡ false → is_in (slice_index cdb 0) built ≡ true → says cdb trim ≡ Ok c → asks_fua c ≡ false
-unfolding says
-unforced_said cdb trim c clear in_it e = unforced_by cdb trim c (slice_index cdb 0) clear in_it e
-
 judged_unforced : (l : Layer) (r : Request) (c : Command) → AsksNoFua r → judged l r ≡ Ok c → asks_fua c ≡ false
-judged_unforced l r c clear e = let j = judged_ok l r c e in unforced_said r.cdb l.identity.trim c clear j.served j.said
+judged_unforced l r c clear e = let j = judged_ok l r c e in said_unforced r.cdb l.identity.trim c clear j.served j.said
 
 -- the tasks of a device ask for no FUA
 abbrev pub NoneAsks : List Entry → Type 0
@@ -77,7 +49,7 @@ left_unforced nexus l d free =
 -- the tasks that are left once a request is judged ask for no FUA
 pub judged_unforced_all : (l : Layer) (d : DriveState) (r : Request) → AreUnforced (view l d) → AreUnforced (view (once_judged l r) d)
 judged_unforced_all l d r free =
-    elim (is_unit_0 r.lun) as (λ b. AreUnforced (view (cond (not b) l (cond (overlaps l.tasks r) (record l { tasks = left_by r.nexus l.tasks }) (record l { attentions = untold (attention_of l.attentions r) r.nexus l.attentions }))) d)) [
+    elim (is_for_unit r) as (λ b. AreUnforced (view (cond (not b) l (cond (overlaps l.tasks r) (record l { tasks = left_by r.nexus l.tasks }) (record l { attentions = untold (attention_of l.attentions r) r.nexus l.attentions }))) d)) [
       | false ↦ free
       | true ↦ (elim (overlaps l.tasks r) as (λ b. AreUnforced (view (cond b (record l { tasks = left_by r.nexus l.tasks }) (record l { attentions = untold (attention_of l.attentions r) r.nexus l.attentions })) d)) [
         | true ↦ left_unforced r.nexus l d free
@@ -87,7 +59,7 @@ judged_unforced_all l d r free =
 
 pub becomes_unforced : (l new : Layer) (d : DriveState) (r : Request) (c : Command) (replies : List Reply) → AsksNoFua r → judged l r ≡ Ok c → Becomes r c l replies new → AreUnforced (view l d) → AreUnforced (view new d)
 becomes_unforced l new d r c replies clear e b =
-    (elim (is_too_much l.tasks (task_without_pages r c l.identity.queued_trim)) as (λ f. MatchBool f (IsAnswered r at_once.Full l replies new) (IsAdded r c l replies new) → AreUnforced (view l d) → AreUnforced (view new d)) [
+    (elim (is_too_much l.tasks (task_without_pages r c l.identity.queued_trim)) as (λ f. MatchBool f (IsRefused r l replies new) (IsAdded r c l replies new) → AreUnforced (view l d) → AreUnforced (view new d)) [
       | true ↦ λ a. same_unforced (view l d) (view new d) (ap (λ x. view x d) a.stays)
       | false ↦ λ a. added r c l replies new d (judged_unforced l r c clear e) a
     ]) b

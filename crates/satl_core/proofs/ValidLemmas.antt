@@ -18,13 +18,12 @@ use Rattle.satl_frame.specs.DataPages.{page_count}
 use Rattle.satl_line.specs.declared.entry.Entry.{Entry}
 use Rattle.satl_line.specs.Tasks.{Held, entries_of, is_too_much}
 use Rattle.satl_drive.specs.State.{DriveState, IsFit}
-use Rattle.satl_direct.specs.Arrival.{is_unit_0, waits}
+use Rattle.satl_direct.specs.Arrival.{waits}
 use Rattle.satl_direct.specs.Device.{Device, is_called, is_of, of_others, once_told}
 use Rattle.satl_direct.specs.Tasks.{held_blocks, held_by, is_full, task_for, task_of}
 use Rattle.satl_direct.specs.Valid.{AreOwn, HasCome, IsValid}
-use Rattle.satl_core.specs.declared.submitting.AtOnce.TheVariants as at_once
 use Rattle.satl_core.specs.Layer.{Layer, Tied, view}
-use Rattle.satl_core.specs.Submitting.{Becomes, IsAdded, IsAnswered, attention_of, code_answer, judged, left_by, once_judged, overlaps, task_without_pages, untold}
+use Rattle.satl_core.specs.Submitting.{is_for_unit, Becomes, IsAdded, IsRefused, attention_of, code_answer, judged, left_by, once_judged, overlaps, task_without_pages, untold}
 use Rattle.satl_core.specs.Turning.{Stays}
 use Rattle.satl_core.proofs.ArrivalLemmas.{by_ok, code_waits, full_is, full_or_waits}
 use Rattle.satl_core.proofs.DeviceLemmas.{first_tasks, seen}
@@ -137,7 +136,7 @@ valid_untold (Some what) l d nexus v = valid_told nexus (view l d) v
 -- judging a request leaves a valid device
 pub once_judged_valid : (l : Layer) (d : DriveState) (r : Request) → IsValid (view l d) → IsValid (view (once_judged l r) d)
 once_judged_valid l d r v =
-    elim (is_unit_0 r.lun) as (λ b. IsValid (view (cond (not b) l (cond (overlaps l.tasks r) (record l { tasks = left_by r.nexus l.tasks }) (record l { attentions = untold (attention_of l.attentions r) r.nexus l.attentions }))) d)) [
+    elim (is_for_unit r) as (λ b. IsValid (view (cond (not b) l (cond (overlaps l.tasks r) (record l { tasks = left_by r.nexus l.tasks }) (record l { attentions = untold (attention_of l.attentions r) r.nexus l.attentions }))) d)) [
       | false ↦ v
       | true ↦ (elim (overlaps l.tasks r) as (λ b. IsValid (view (cond b (record l { tasks = left_by r.nexus l.tasks }) (record l { attentions = untold (attention_of l.attentions r) r.nexus l.attentions })) d)) [
         | true ↦ subst (λ ts. IsValid (record (view l d) { tasks = ts })) (sym (left_tasks r.nexus l.tasks)) (valid_others r.nexus (view l d) v)
@@ -198,8 +197,8 @@ added_valid : (l new : Layer) (d : DriveState) (r : Request) (c : Command) (repl
 added_valid l new d r c replies e fits a pages v =
     let room : is_full (map task_of (entries_of l.tasks)) c ≡ false = full_is l.tasks r c l.identity.queued_trim ∙ fits in
     let both = neither (length (map task_of (entries_of l.tasks)) == 64) (nat_lt 32768 (held_by (map task_of (entries_of l.tasks)) + held_blocks c)) room in
-    let apart : overlaps l.tasks r ≡ false = by_ok (λ unit over what. over ≡ false) (is_unit_0 r.lun) (overlaps l.tasks r) (attention_of l.attentions r) l r c (λ ok. refl) e in
-    let answer : code_answer l r ≡ Ok c = by_ok (λ unit over what. code_answer l r ≡ Ok c) (is_unit_0 r.lun) (overlaps l.tasks r) (attention_of l.attentions r) l r c (λ ok. ok) e in
+    let apart : overlaps l.tasks r ≡ false = by_ok (λ unit over what. over ≡ false) (is_for_unit r) (overlaps l.tasks r) (attention_of l.attentions r) l r c (λ ok. refl) e in
+    let answer : code_answer l r ≡ Ok c = by_ok (λ unit over what. code_answer l r ≡ Ok c) (is_for_unit r) (overlaps l.tasks r) (attention_of l.attentions r) l r c (λ ok. ok) e in
     subst IsValid (sym (ap (λ x. view x d) a.stays ∙ ap (λ ts. record (view l d) { tasks = ts }) a.last))
     (valid_with (view l d) (task_for l.identity.queued_trim r c) both.0 both.1 (sym (found_is r.nexus r.tag l.tasks 0) ∙ apart) (record {
       request = r;
@@ -214,7 +213,7 @@ added_valid l new d r c replies e fits a pages v =
 
 becomes_valid : (l new : Layer) (d : DriveState) (r : Request) (c : Command) (replies : List Reply) → judged l r ≡ Ok c → Becomes r c l replies new → r.data_len ≤ 512 * length r.body → IsValid (view l d) → IsValid (view new d)
 becomes_valid l new d r c replies e b pages v =
-    (elim (is_too_much l.tasks (task_without_pages r c l.identity.queued_trim)) as (λ f. is_too_much l.tasks (task_without_pages r c l.identity.queued_trim) ≡ f → MatchBool f (IsAnswered r at_once.Full l replies new) (IsAdded r c l replies new) → IsValid (view new d)) [
+    (elim (is_too_much l.tasks (task_without_pages r c l.identity.queued_trim)) as (λ f. is_too_much l.tasks (task_without_pages r c l.identity.queued_trim) ≡ f → MatchBool f (IsRefused r l replies new) (IsAdded r c l replies new) → IsValid (view new d)) [
       | true ↦ λ is a. subst IsValid (sym (ap (λ x. view x d) a.stays)) v
       | false ↦ λ is a. added_valid l new d r c replies e is a pages v
     ]) refl b
@@ -255,7 +254,7 @@ pub becomes_tied : (l new : Layer) (d : DriveState) (r : Request) (c : Command) 
 becomes_tied l new d r c replies e b pages tied = tied_by l new d (ap (λ (x : Layer). x.down) same) (ap (λ (x : Layer). x.modes) same) (becomes_valid l new d r c replies e b pages tied.valid) tied
   where
     same : new ≡ record l { tasks = new.tasks; free = new.free; out = new.out }
-    same = (elim (is_too_much l.tasks (task_without_pages r c l.identity.queued_trim)) as (λ f. MatchBool f (IsAnswered r at_once.Full l replies new) (IsAdded r c l replies new) → new ≡ record l { tasks = new.tasks; free = new.free; out = new.out }) [
+    same = (elim (is_too_much l.tasks (task_without_pages r c l.identity.queued_trim)) as (λ f. MatchBool f (IsRefused r l replies new) (IsAdded r c l replies new) → new ≡ record l { tasks = new.tasks; free = new.free; out = new.out }) [
       | true ↦ λ a. a.stays ∙ ap (λ (x : Layer). record l { tasks = x.tasks; free = new.free; out = x.out }) (sym a.stays)
       | false ↦ λ a. a.stays ∙ ap (λ (x : Layer). record l { tasks = new.tasks; free = new.free; out = x.out }) (sym a.stays)
     ]) b

@@ -4,7 +4,7 @@ use Rattle.std.specs.List.{AllByRecursion}
 use Rattle.satl_base.specs.declared.modes.Modes.{Modes}
 use Rattle.satl_base.specs.declared.reply.Reply.{Reply}
 use Rattle.satl_cdb.specs.declared.command.Command.{Command}
-use Rattle.satl_cdb.specs.declared.command.Command.TheVariants.{Read, Write}
+use Rattle.satl_cdb.specs.declared.command.Command.TheVariants.{Inquiry, ModeSense, Read, ReadCapacity10, ReadCapacity16, ReportLuns, RequestSense, TestUnitReady, Write}
 use Rattle.satl_identify.specs.declared.identity.Identity.{Identity}
 use Rattle.satl_identify.specs.Refusals.{IsIdentity}
 use Rattle.satl_line.specs.Kinds.{kind_of}
@@ -34,8 +34,15 @@ abbrev pub held_pages : List Held → ℕ
 held_pages [] = 0
 held_pages (h ∷ hs) = length h.entry.body + held_pages hs
 
--- a READ or a WRITE: the commands that are served so far
+-- the commands that are served so far: those that the device answers from what it says of itself, and a READ or a WRITE
 abbrev pub IsServed : Command → Type 0
+IsServed TestUnitReady = Unit {0}
+IsServed (RequestSense descriptor alloc) = Unit {0}
+IsServed (Inquiry page alloc) = Unit {0}
+IsServed (ModeSense ten long_lba no_descriptor control page alloc) = Unit {0}
+IsServed ReadCapacity10 = Unit {0}
+IsServed (ReadCapacity16 alloc) = Unit {0}
+IsServed (ReportLuns select alloc) = Unit {0}
 IsServed (Read form lba count fua) = Unit {0}
 IsServed (Write form lba count fua) = Unit {0}
 IsServed _ = ⊥

@@ -1,26 +1,30 @@
 -- What the layer is asked with, and what becomes of it.
-use Rattle.std.specs.Prelude.{◌≡◌, ◌⊎◌, ℕ, ◌*◌, ◌+◌, ◌≤◌, ◌==◌, not, nat_lt, Bool, if◌then◌else◌, Option, Some, None, Result, Ok, Err, List, [], ◌∷◌, ◌++◌, length, map, take, drop, filter, is_some, slice_get, slice_index_or, slice_set, MatchBool}
+use Rattle.std.specs.Prelude.{◌≡◌, ◌⊎◌, ℕ, ◌*◌, ◌+◌, ◌≤◌, ◌==◌, ◌||◌, ◌&&◌, not, nat_lt, Bool, if◌then◌else◌, Option, Some, None, Result, Ok, Err, List, [], ◌∷◌, ◌++◌, length, map, take, drop, filter, is_some, slice_get, slice_index, slice_index_or, slice_set, MatchBool}
 use Rattle.std.specs.List.{position_from}
 use Rattle.satl_base.specs.declared.request.Request.{Request}
 use Rattle.satl_base.specs.declared.reply.Reply.{Reply}
-use Rattle.satl_base.specs.declared.reply.Scsi.{Scsi}
 use Rattle.satl_base.specs.declared.reply.Scsi.TheVariants as statuses
+use Rattle.satl_base.specs.Fields.{bit, bytes}
 use Rattle.satl_base.specs.Lists.{is_in}
+use Rattle.satl_base.specs.declared.modes.Modes.{Modes}
 use Rattle.satl_cdb.specs.declared.command.Command.{Command}
+use Rattle.satl_cdb.specs.declared.command.Command.TheVariants as commands
 use Rattle.satl_cdb.specs.declared.command.Illegal.{Illegal}
 use Rattle.satl_cdb.specs.Table.{says}
-use Rattle.satl_sense.specs.Descriptor.{descriptor_form}
-use Rattle.satl_sense.specs.Fixed.{fixed_form}
+use Rattle.satl_identify.specs.declared.identity.Identity.{Identity}
+use Rattle.satl_sense.specs.declared.sense.Sense.{Sense}
 use Rattle.satl_line.specs.declared.entry.Entry.{Entry}
 use Rattle.satl_line.specs.Kinds.{kind_of}
 use Rattle.satl_unit.specs.declared.attention.Attention.{Attention}
-use Rattle.satl_direct.specs.Arrival.{built, code_of, is_unit_0, untold_codes}
+use Rattle.satl_direct.specs.Arrival.{asks_for, built, code_of, is_unit_0, reply_to, told, untold_codes}
 use Rattle.satl_direct.specs.Device.{is_of}
-use Rattle.satl_direct.specs.Senses.{attention_sense, link_lost, not_ready, out_of_range, overlapped, refusal, short_data, unknown_operation, unknown_unit}
+use Rattle.satl_direct.specs.Senses.{attention_sense, link_lost, no_sense, not_ready, out_of_range, overlapped, refusal, sense_text, short_data, unknown_operation, unknown_unit}
 use Rattle.satl_direct.specs.Tasks.{held_blocks, is_ordered, needed, range_of, task_for, task_of}
 use Rattle.satl_core.specs.declared.submitting.AtOnce.{AtOnce}
 use Rattle.satl_core.specs.declared.submitting.AtOnce.TheVariants as at_once
 use Rattle.satl_line.specs.Tasks.{Held, entries_of, is_named, is_too_much}
+use Rattle.satl_core.specs.declared.telling.Data.TheVariants as datas
+use Rattle.satl_core.specs.Telling.{data_text}
 use Rattle.satl_core.specs.Layer.{IsExpectable, Layer}
 
 -- the pages out are the request's, which hold all of its data-out, or no page was free for more
@@ -49,19 +53,11 @@ task_without_pages r command queued_trim = record {
   expected = r.expected;
 }
 
-abbrev pub status_at_once : AtOnce → Scsi
-status_at_once at_once.Good = statuses.Good
-status_at_once at_once.Full = statuses.TaskSetFull
-status_at_once (at_once.Check sense) = statuses.CheckCondition
-
-abbrev pub sense_at_once : AtOnce → Bool → List ℕ
-sense_at_once at_once.Good descriptor = []
-sense_at_once at_once.Full descriptor = []
-sense_at_once (at_once.Check sense) descriptor = if descriptor then descriptor_form sense else fixed_form sense
-
 -- the answer to a request that is answered at once
-abbrev pub reply_at_once : Request → AtOnce → Bool → Reply
-reply_at_once r answer descriptor = record { nexus = r.nexus; tag = r.tag; status = status_at_once answer; sense = record { items = sense_at_once answer descriptor }; body = []; data_len = 0; expected = r.expected }
+abbrev pub reply_at_once : Identity → Modes → Request → AtOnce → Reply
+reply_at_once i m r at_once.Good = reply_to r statuses.Good []
+reply_at_once i m r (at_once.Tell what alloc) = told r alloc (data_text i m what)
+reply_at_once i m r (at_once.Check sense) = reply_to r statuses.CheckCondition (sense_text m sense)
 
 -- TEST UNIT READY, and commands that go over no block
 abbrev pub readiness : Layer → AtOnce
@@ -70,13 +66,26 @@ readiness l =
     else if not l.started then at_once.Check not_ready
     else at_once.Good
 
+-- a command whose fields, range and data-out are good: answered from what the device says of itself, or it may become a task; a READ
+-- and a WRITE of no block answer as TEST UNIT READY does (profile); REQUEST SENSE has nothing to tell (SPC-4 6.39)
+abbrev pub answer_to : Layer → Command → Result Command AtOnce
+answer_to l commands.TestUnitReady = Err (readiness l)
+answer_to l (commands.RequestSense descriptor alloc) = Err (at_once.Tell (datas.Sense descriptor no_sense) alloc)
+answer_to l (commands.Inquiry page alloc) = Err (at_once.Tell (datas.Inquiry page) alloc)
+answer_to l (commands.ModeSense ten long_lba no_descriptor control page alloc) = Err (at_once.Tell (datas.Modes ten long_lba no_descriptor control page) alloc)
+answer_to l commands.ReadCapacity10 = Err (at_once.Tell datas.Capacity10 8)
+answer_to l (commands.ReadCapacity16 alloc) = Err (at_once.Tell datas.Capacity16 alloc)
+answer_to l (commands.ReportLuns select alloc) = Err (at_once.Tell (datas.Luns select) alloc)
+answer_to l (commands.Read form lba count fua) = if count == 0 then Err (readiness l) else Ok (commands.Read form lba count fua)
+answer_to l (commands.Write form lba count fua) = if count == 0 then Err (readiness l) else Ok (commands.Write form lba count fua)
+answer_to l _ = Err (at_once.Check unknown_operation)
+
 -- why a command whose fields are good is answered at once, but for a full task set
 abbrev pub command_answer : Layer → ℕ → Command → Result Command AtOnce
 command_answer l data_len command =
     if nat_lt l.identity.capacity ((range_of command).lba + (range_of command).count) then Err (at_once.Check out_of_range)
     else if nat_lt data_len (needed command) then Err (at_once.Check short_data)
-    else if (range_of command).count == 0 then Err (readiness l)
-    else Ok command
+    else answer_to l command
 
 abbrev pub cdb_answer : Layer → ℕ → Result Command Illegal → Result Command AtOnce
 cdb_answer l data_len (Err why) = Err (at_once.Check (refusal why))
@@ -96,9 +105,19 @@ overlaps tasks r = is_some (position_from (is_named r.nexus r.tag) 0 tasks)
 abbrev pub left_by : ℕ → List Held → List Held
 left_by nexus tasks = filter (λ h. not (is_of nexus h.entry)) tasks
 
--- the unit attention condition that a request is answered with (SAM-5 5.14)
+-- the unit attention condition that a request is answered with; REQUEST SENSE tells it as data (SAM-5 5.14, SPC-4 6.39)
 abbrev pub attention_of : List (List Attention) → Request → Option Attention
-attention_of attentions r = if is_in (code_of r) untold_codes then None else slice_get (slice_index_or attentions r.nexus []) 0
+attention_of attentions r =
+    if is_in (code_of r) untold_codes && not (code_of r == 0x03) then None
+    else slice_get (slice_index_or attentions r.nexus []) 0
+
+-- the answer to a REQUEST SENSE with this sense data (SPC-4 6.39)
+abbrev pub sense_data : List ℕ → Sense → AtOnce
+sense_data cdb sense = at_once.Tell (datas.Sense (bit 1 0 cdb) sense) (bytes 4 4 cdb)
+
+-- a condition is told: as data to REQUEST SENSE, and else by CHECK CONDITION (SAM-5 5.14, SPC-4 6.39)
+abbrev pub tell_attention : Attention → List ℕ → AtOnce
+tell_attention what cdb = if slice_index cdb 0 == 0x03 then sense_data cdb (attention_sense what) else at_once.Check (attention_sense what)
 
 -- the conditions once a nexus was told one, if it was (SAM-5 5.14)
 abbrev pub untold : Option Attention → ℕ → List (List Attention) → List (List Attention)
@@ -106,27 +125,38 @@ untold None nexus attentions = attentions
 untold (Some what) nexus attentions = slice_set attentions nexus (drop 1 (slice_index_or attentions nexus []))
 
 -- a unit attention, and without one what follows
-abbrev pub attention_answer : Option Attention → Result Command AtOnce → Result Command AtOnce
-attention_answer (Some what) next = Err (at_once.Check (attention_sense what))
-attention_answer None next = next
+abbrev pub attention_answer : Option Attention → List ℕ → Result Command AtOnce → Result Command AtOnce
+attention_answer (Some what) cdb next = Err (tell_attention what cdb)
+attention_answer None cdb next = next
+
+-- to logical unit 0, or REPORT LUNS to any (SPC-4 6.33)
+abbrev pub is_for_unit : Request → Bool
+is_for_unit r = is_unit_0 r.lun || asks_for 0xA0 r
+
+-- the answer of a LUN at which there is no logical unit (SPC-4 6.6, 6.39; SAM-5 5.3; profile)
+abbrev pub other_answer : Request → AtOnce
+other_answer r =
+    if asks_for 0x12 r && not (bit 1 0 r.cdb) then at_once.Tell datas.NoUnit (bytes 3 4 r.cdb)
+    else if asks_for 0x03 r then sense_data r.cdb unknown_unit
+    else at_once.Check unknown_unit
 
 -- the command of a request that may become a task, or why it is answered at once
 abbrev pub judged : Layer → Request → Result Command AtOnce
 judged l r =
-    if not (is_unit_0 r.lun) then Err (at_once.Check unknown_unit)
+    if not (is_for_unit r) then Err (other_answer r)
     else if overlaps l.tasks r then Err (at_once.Check overlapped)
-    else attention_answer (attention_of l.attentions r) (code_answer l r)
+    else attention_answer (attention_of l.attentions r) r.cdb (code_answer l r)
 
 -- the layer once a request is judged: without the tasks of its nexus where it overlaps one, and without the condition that it is told
 abbrev pub once_judged : Layer → Request → Layer
 once_judged l r =
-    if not (is_unit_0 r.lun) then l
+    if not (is_for_unit r) then l
     else if overlaps l.tasks r then record l { tasks = left_by r.nexus l.tasks }
     else record l { attentions = untold (attention_of l.attentions r) r.nexus l.attentions }
 
--- a request is answered at once: nothing else changes, and no page is out
-pub record IsAnswered (r : Request) (answer : AtOnce) (old : Layer) (replies : List Reply) (new : Layer) : Type 0 where
-  pub reply : replies ≡ reply_at_once r answer old.modes.d_sense ∷ []
+-- a request finds a full task set: nothing else changes, and no page is out (SAM-5 5.3.1)
+pub record IsRefused (r : Request) (old : Layer) (replies : List Reply) (new : Layer) : Type 0 where
+  pub reply : replies ≡ reply_to r statuses.TaskSetFull [] ∷ []
   pub stays : new ≡ record old { free = new.free; out = 0 }
 
 -- a request becomes the last task, and no page is out
@@ -139,5 +169,5 @@ pub record IsAdded (r : Request) (command : Command) (old : Layer) (replies : Li
 abbrev pub Becomes : Request → Command → Layer → List Reply → Layer → Type 0
 Becomes r command old replies new =
     MatchBool (is_too_much old.tasks (task_without_pages r command old.identity.queued_trim))
-    (IsAnswered r at_once.Full old replies new)
+    (IsRefused r old replies new)
     (IsAdded r command old replies new)

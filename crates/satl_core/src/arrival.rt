@@ -5,17 +5,36 @@ ghost use Rattle.satl_direct.specs.Arrival.{built, is_unit_0, untold_codes};
 ghost use Rattle.satl_direct.specs.Senses.{attention_sense, plain, refusal};
 ghost use Rattle.satl_direct.specs.Tasks.{is_ordered, needed, range_of};
 ghost use Rattle.satl_core.specs.Layer.{IsServed};
+ghost use Rattle.satl_core.specs.Submitting.{is_for_unit};
 
-use satl_base::{Attr, Range};
+use satl_base::{Attr, Range, Request};
 use satl_cdb::{Command, Illegal};
 use satl_sense::{Extra, Sense};
 use satl_unit::Attention;
 
-/// The operation codes that are served so far: READ(10) and WRITE(10).
+/// The operation codes that are served so far: TEST UNIT READY, REQUEST SENSE, INQUIRY, MODE SENSE, READ CAPACITY and REPORT
+/// LUNS, and READ and WRITE in each form.
 pub fn is_built(code: u8) -> bool
     ensures { result ≡ is_in code built }
 {
-    matches!(code, 0x28 | 0x2A)
+    matches!(
+        code,
+        0x00 | 0x03
+            | 0x08
+            | 0x0A
+            | 0x12
+            | 0x1A
+            | 0x25
+            | 0x28
+            | 0x2A
+            | 0x5A
+            | 0x88
+            | 0x8A
+            | 0x9E
+            | 0xA0
+            | 0xA8
+            | 0xAA
+    )
 }
 
 /// Whether a command of this operation code is carried out before a unit attention is told: INQUIRY, REPORT LUNS and REQUEST
@@ -27,10 +46,17 @@ pub fn is_untold(code: u8) -> bool
 }
 
 /// Whether a LUN is that of logical unit 0.
-pub fn is_unit_0(lun: &[u8; 8]) -> bool
+fn is_unit_0(lun: &[u8; 8]) -> bool
     ensures { result ≡ is_unit_0 lun.now }
 {
     lun.iter().all(|byte| *byte == 0)
+}
+
+/// Whether a request goes to logical unit 0. REPORT LUNS does at each LUN (SPC-4 6.33).
+pub fn is_for_unit(request: &Request) -> bool
+    ensures { result ≡ is_for_unit request.now }
+{
+    is_unit_0(&request.lun) || request.cdb[0] == 0xA0
 }
 
 pub fn is_ordered(attr: Attr) -> bool
@@ -42,7 +68,7 @@ pub fn is_ordered(attr: Attr) -> bool
     }
 }
 
-/// The blocks that a READ or a WRITE goes over.
+/// The blocks that a command goes over.
 pub fn range_of(command: &Command) -> Range
     requires { IsServed command.now }
     ensures { result ≡ range_of command.now }
@@ -52,19 +78,18 @@ pub fn range_of(command: &Command) -> Range
             lba,
             count,
         },
-        _ => unreachable!(),
+        _ => Range { lba: 0, count: 0 },
     }
 }
 
-/// The bytes of data-out that a READ or a WRITE needs.
+/// The bytes of data-out that a command needs.
 pub fn needed(command: &Command) -> u64
     requires { IsServed command.now }
     ensures { result ≡ needed command.now }
 {
     match *command {
-        Command::Read { .. } => 0,
         Command::Write { count, .. } => 512 * u64::from(count),
-        _ => unreachable!(),
+        _ => 0,
     }
 }
 

@@ -5,6 +5,7 @@ mod arrival;
 mod commands;
 mod satl;
 mod submitting;
+mod telling;
 mod turning;
 
 pub use satl::{OpenFault, Satl};

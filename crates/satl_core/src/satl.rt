@@ -15,13 +15,14 @@ ghost use Rattle.satl_core.specs.Opening.{IsCause, IsOpened};
 ghost use Rattle.satl_core.specs.Submitting.{Becomes, CanSubmit, IsCutOf, judged, once_judged};
 ghost use Rattle.satl_core.specs.Turning.{AreUnforced, AsksNoFua};
 
-use crate::arrival::{attention_sense, is_unit_0, plain};
+use crate::arrival::{is_for_unit, plain};
 use crate::commands::tell_identity;
 use crate::submitting::{
-    AtOnce, answer_at_once, drop_tasks, judge_code, next_attention, own_pages, task_without_pages,
+    AtOnce, answer_at_once, drop_tasks, judge_code, next_attention, other_answer, own_pages,
+    reply_to, task_without_pages, tell_attention,
 };
 use crate::turning::{end_task, link_lost, lose_tasks, run_task};
-use satl_base::{Lender, Modes, NoMemory, Pages, Replies, Request, Steps};
+use satl_base::{Lender, Modes, NoMemory, Pages, Replies, Request, Scsi, SenseBytes, Steps};
 use satl_cdb::Command;
 use satl_drive::{Drive, LinkDown};
 use satl_identify::{Identity, IdentityFault, read_identity};
@@ -152,9 +153,10 @@ impl Satl {
             Ok(command) => self.add_task(request, command, replies),
             Err(answer) => answer_at_once(
                 &mut self.pool,
+                &self.identity,
+                &self.modes,
                 request,
                 answer,
-                self.modes.d_sense,
                 replies,
             ),
         }
@@ -170,15 +172,15 @@ impl Satl {
         ensures same { OnOk result (self.new ≡ self.old) }
         ensures transfer { IfOk result (λ command. IsTransfer self.old.identity.capacity command (held_blocks command)) }
     {
-        if !is_unit_0(&request.lun) {
-            return Err(AtOnce::Check(plain(0x5, 0x25, 0x00)));
+        if !is_for_unit(request) {
+            return Err(other_answer(request));
         }
         if self.tasks.find(request.nexus, request.tag).is_some() {
             drop_tasks(&mut self.tasks, &mut self.pool, request.nexus);
             return Err(AtOnce::Check(plain(0xB, 0x4E, 0x00)));
         }
         if let Some(what) = next_attention(&mut self.attentions, request) {
-            return Err(AtOnce::Check(attention_sense(what)));
+            return Err(tell_attention(what, request));
         }
         judge_code(self, request)
     }
@@ -194,13 +196,8 @@ impl Satl {
     {
         let task = task_without_pages(&request, command, self.identity.queued_trim);
         if self.tasks.add(task).is_err() {
-            answer_at_once(
-                &mut self.pool,
-                request,
-                AtOnce::Full,
-                self.modes.d_sense,
-                replies,
-            );
+            replies.push(reply_to(&request, Scsi::TaskSetFull, SenseBytes::new()));
+            self.pool.give(request.body);
             return;
         }
         let place = self.tasks.len() - 1;

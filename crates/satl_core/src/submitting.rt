@@ -1,27 +1,76 @@
 // A command arrives.
-ghost use Rattle.std.specs.Prelude.{◌≡◌, ◌≤◌, ◌+◌, ◌*◌, ◌∷◌, [], length, take};
-ghost use Rattle.satl_direct.specs.Tasks.{data_out, held_blocks, needed};
-ghost use Rattle.satl_core.specs.Layer.{IsServed, held_pages};
-ghost use Rattle.satl_core.specs.Submitting.{attention_of, code_answer, command_answer, left_by, readiness, reply_at_once, task_without_pages, untold};
+ghost use Rattle.std.specs.Prelude.{◌≡◌, ◌≤◌, ◌+◌, ◌*◌, ◌∷◌, [], IfOk, length, take};
+ghost use Rattle.std.specs.List.{AllByRecursion};
+ghost use Rattle.satl_frame.specs.Output.{IsWritable};
+ghost use Rattle.satl_direct.specs.Arrival.{reply_to};
+ghost use Rattle.satl_direct.specs.Tasks.{data_out, held_blocks, needed, range_of};
+ghost use Rattle.satl_core.specs.Layer.{IsExpectable, IsServed, held_pages, reply_pages};
+ghost use Rattle.satl_core.specs.Submitting.{answer_to, attention_of, code_answer, command_answer, left_by, other_answer, readiness, reply_at_once, sense_data, task_without_pages, tell_attention, untold};
 
 use crate::arrival::{
-    is_built, is_ordered, is_outside, is_untold, needed, plain, range_of, refusal,
+    attention_sense, is_built, is_ordered, is_outside, is_untold, needed, plain, range_of, refusal,
 };
 use crate::satl::Satl;
+use crate::telling::{Data, data_text, told};
 use arrayvec::ArrayVec;
-use satl_base::{Nexus, Pages, Replies, Reply, Request, Scsi};
+use satl_base::{Modes, Nexus, Pages, Replies, Reply, Request, Scsi, SenseBytes};
 use satl_cdb::{Command, read_cdb};
+use satl_identify::Identity;
 use satl_line::{Entry, Kind, TaskSet};
 use satl_pages::Pool;
 use satl_sense::{Sense, sense_bytes};
 use satl_unit::{Attention, Attentions};
+use std::mem;
 
-/// Why a command is answered at once: GOOD, TASK SET FULL, or CHECK CONDITION with its sense data.
+/// Why a command is answered at once: GOOD, GOOD with data-in up to an allocation length, or CHECK CONDITION with its sense data.
 #[derive(Clone, Copy, Debug, PartialEq, Eq)]
 pub enum AtOnce {
     Good,
-    Full,
+    Tell { what: Data, alloc: u32 },
     Check(Sense),
+}
+
+/// The answer of a LUN at which there is no logical unit: INQUIRY without EVPD says so, REQUEST SENSE says so as data, and all
+/// else is refused (SPC-4 6.6, 6.39).
+pub fn other_answer(request: &Request) -> AtOnce
+    ensures { result ≡ other_answer request.now }
+{
+    let no_unit = plain(0x5, 0x25, 0x00);
+    match request.cdb[0] {
+        0x12 if request.cdb[1] & 0x01 == 0 => {
+            let alloc = u16::from_be_bytes([request.cdb[3], request.cdb[4]]);
+            AtOnce::Tell {
+                what: Data::NoUnit,
+                alloc: u32::from(alloc),
+            }
+        }
+        0x03 => sense_data(request, no_unit),
+        _ => AtOnce::Check(no_unit),
+    }
+}
+
+/// The answer to a REQUEST SENSE: this sense data in the form that it asks for (SPC-4 6.39).
+fn sense_data(request: &Request, sense: Sense) -> AtOnce
+    ensures { result ≡ sense_data request.now.cdb sense }
+{
+    AtOnce::Tell {
+        what: Data::Sense {
+            descriptor: request.cdb[1] & 0x01 != 0,
+            sense,
+        },
+        alloc: u32::from(request.cdb[4]),
+    }
+}
+
+/// A unit attention is told: as data to REQUEST SENSE, and else by CHECK CONDITION (SAM-5 5.14, SPC-4 6.39).
+pub fn tell_attention(what: Attention, request: &Request) -> AtOnce
+    ensures { result ≡ tell_attention what request.now.cdb }
+{
+    let sense = attention_sense(what);
+    if request.cdb[0] == 0x03 {
+        return sense_data(request, sense);
+    }
+    AtOnce::Check(sense)
 }
 
 /// Takes all tasks of a nexus out, and gives their pages back. They have no answer (SAM-5 5.1, overlapped commands).
@@ -42,12 +91,12 @@ pub fn drop_tasks(tasks: &mut TaskSet, pool: &mut Pool, nexus: Nexus)
     }
 }
 
-/// The unit attention that a request is answered with, which is told by that (SAM-5 5.14).
+/// The unit attention that a request is answered with, which is told by that (SAM-5 5.14; of REQUEST SENSE: SPC-4 6.39).
 pub fn next_attention(attentions: &mut [Attentions; 4], request: &Request) -> Option<Attention>
     ensures next { result ≡ attention_of attentions.old request.now }
     ensures left { attentions.new ≡ untold result request.now.nexus attentions.old }
 {
-    if is_untold(request.cdb[0]) {
+    if is_untold(request.cdb[0]) && request.cdb[0] != 0x03 {
         return None;
     }
     attentions[request.nexus.number() as usize].next()
@@ -56,8 +105,11 @@ pub fn next_attention(attentions: &mut [Attentions; 4], request: &Request) -> Op
 /// Judges a request by its operation code, its fields and its data-out: its command, which may become a task, or why it is
 /// answered at once.
 pub fn judge_code(satl: &Satl, request: &Request) -> Result<Command, AtOnce>
-    ensures { result ≡ code_answer satl.now request.now }
+    ensures answer { result ≡ code_answer satl.now request.now }
+    ensures few { IfOk result (λ command. (range_of command).count ≤ 4096) }
 {
+    // Read so that it is known to be a byte: the count of six bytes.
+    let _count = request.cdb[4];
     if !is_built(request.cdb[0]) {
         return Err(AtOnce::Check(plain(0x5, 0x20, 0x00)));
     }
@@ -78,10 +130,46 @@ fn judge_command(satl: &Satl, data_len: u32, command: Command) -> Result<Command
     if u64::from(data_len) < needed(&command) {
         return Err(AtOnce::Check(plain(0xB, 0x4B, 0x00)));
     }
-    if range.count == 0 {
-        return Err(readiness(satl));
-    }
-    Ok(command)
+    answer_to(satl, command)
+}
+
+/// Answers a command from what the device says of itself, or lets it become a task. READ and WRITE of no block answer as
+/// TEST UNIT READY does (profile).
+fn answer_to(satl: &Satl, command: Command) -> Result<Command, AtOnce>
+    ensures { result ≡ answer_to satl.now command }
+{
+    let (what, alloc) = match command {
+        Command::TestUnitReady | Command::Read { count: 0, .. } | Command::Write { count: 0, .. } =>
+            return Err(readiness(satl)),
+        Command::Read { .. } | Command::Write { .. } => return Ok(command),
+        Command::Inquiry { page, alloc } => (Data::Inquiry(page), u32::from(alloc)),
+        Command::ModeSense {
+            ten,
+            long_lba,
+            no_descriptor,
+            control,
+            page,
+            alloc,
+        } => {
+            let what = Data::Modes {
+                ten,
+                long_lba,
+                no_descriptor,
+                control,
+                page,
+            };
+            (what, u32::from(alloc))
+        }
+        Command::RequestSense { descriptor, alloc } => {
+            let sense = plain(0x0, 0x00, 0x00);
+            (Data::Sense { descriptor, sense }, u32::from(alloc))
+        }
+        Command::ReadCapacity10 => (Data::Capacity10, 8),
+        Command::ReadCapacity16 { alloc } => (Data::Capacity16, alloc),
+        Command::ReportLuns { select, alloc } => (Data::Luns(select), alloc),
+        _ => return Err(AtOnce::Check(plain(0x5, 0x20, 0x00))),
+    };
+    Err(AtOnce::Tell { what, alloc })
 }
 
 fn readiness(satl: &Satl) -> AtOnce
@@ -143,32 +231,60 @@ pub fn own_pages(pool: &mut Pool, command: &Command, body: Pages) -> Pages
     pages
 }
 
-/// Answers a request at once, and gives its pages back.
+/// Gives the pages of a request back, and answers it at once.
 pub fn answer_at_once(
     pool: &mut Pool,
+    identity: &Identity,
+    modes: &Modes,
     request: Request,
     answer: AtOnce,
-    descriptor: bool,
     replies: &mut Replies,
 )
+    requires capacity { 1 ≤ identity.now.capacity }
     requires out { length request.body ≤ pool.old.out }
+    requires room { 2 ≤ pool.old.free + length request.body }
     requires empty { replies.old ≡ [] }
-    ensures reply { replies.new ≡ reply_at_once request answer descriptor ∷ [] }
-    ensures free { pool.new.free ≡ pool.old.free + length request.body }
-    ensures out { pool.new.out + length request.body ≡ pool.old.out }
+    ensures reply { replies.new ≡ reply_at_once identity.now modes.now request answer ∷ [] }
+    ensures free { pool.new.free + reply_pages replies.new ≡ pool.old.free + length request.body }
+    ensures out { pool.new.out + length request.body ≡ pool.old.out + reply_pages replies.new }
+    ensures writable { IsExpectable request.expected → AllByRecursion IsWritable replies.new }
 {
-    replies.push(reply_at_once(&request, answer, descriptor));
-    pool.give(request.body);
+    let mut request = request;
+    pool.give(mem::take(&mut request.body));
+    replies.push(reply_at_once(pool, identity, modes, &request, answer));
 }
 
-fn reply_at_once(request: &Request, answer: AtOnce, descriptor: bool) -> Reply
-    ensures { result ≡ reply_at_once request.now answer descriptor }
+fn reply_at_once(
+    pool: &mut Pool,
+    identity: &Identity,
+    modes: &Modes,
+    request: &Request,
+    answer: AtOnce,
+) -> Reply
+    requires capacity { 1 ≤ identity.now.capacity }
+    requires room { 2 ≤ pool.old.free }
+    ensures reply { result ≡ reply_at_once identity.now modes.now request.now answer }
+    ensures free { pool.new.free + length result.body ≡ pool.old.free }
+    ensures out { pool.new.out ≡ pool.old.out + length result.body }
+    ensures writable { IsExpectable request.now.expected → IsWritable result }
 {
-    let (status, sense) = match answer {
-        AtOnce::Good => (Scsi::Good, ArrayVec::new()),
-        AtOnce::Full => (Scsi::TaskSetFull, ArrayVec::new()),
-        AtOnce::Check(sense) => (Scsi::CheckCondition, sense_bytes(&sense, descriptor)),
-    };
+    match answer {
+        AtOnce::Good => reply_to(request, Scsi::Good, ArrayVec::new()),
+        AtOnce::Tell { what, alloc } => {
+            told(pool, request, alloc, &data_text(identity, modes, &what))
+        }
+        AtOnce::Check(sense) => reply_to(
+            request,
+            Scsi::CheckCondition,
+            sense_bytes(&sense, modes.d_sense),
+        ),
+    }
+}
+
+/// An answer without data.
+pub fn reply_to(request: &Request, status: Scsi, sense: SenseBytes) -> Reply
+    ensures { result ≡ reply_to request.now status sense.items }
+{
     Reply {
         nexus: request.nexus,
         tag: request.tag,

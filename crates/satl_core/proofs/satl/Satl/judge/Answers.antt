@@ -19,4 +19,4 @@ invariant_of-self c =
 pub returns-clause-transfer : goal.returns-clause-transfer
 returns-clause-transfer c =
     let l : Layer = record { identity = c.self.inside.identity; modes = c.self.inside.modes; started = c.self.inside.started; down = c.self.inside.down; attentions = c.next_attention.new.attentions; tasks = c.self.inside.tasks; free = c.self.inside.pool.free; out = c.self.inside.pool.out - held_pages c.self.inside.tasks } in
-    subst (λ (l : Layer). IfOk c.judge_code.result (λ command. IsTransfer l.identity.capacity command (held_blocks command))) c.self.view_is (code_transfer l c.args.request.now c.judge_code.result c.self.invariant.identity_is c.judge_code.ensures)
+    subst (λ (l : Layer). IfOk c.judge_code.result (λ command. IsTransfer l.identity.capacity command (held_blocks command))) c.self.view_is (code_transfer l c.args.request.now c.judge_code.result c.self.invariant.identity_is c.judge_code.ensures.answer c.judge_code.ensures.few)

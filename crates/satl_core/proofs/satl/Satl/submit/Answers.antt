@@ -1,10 +1,13 @@
-use Rattle.std.proofs.Common.{sym, ap, subst, arith, length, ◌≡◌, ◌∙◌, ◌∷◌, [], Err, Ok}
+use Rattle.std.proofs.Common.{sym, ap, subst, arith, length, ◌≡◌, ◌≤◌, ◌∙◌, ◌∷◌, [], Err, Ok}
 use Rattle.satl_base.specs.declared.request.Request.{Request}
 use Rattle.satl_direct.specs.Tasks.{held_blocks}
 use Rattle.satl_direct.specs.Valid.{IsValid}
 use Rattle.satl_core.specs.Layer.{IsTransfer, Layer, view}
 use Rattle.satl_core.specs.Submitting.{Becomes, judged, once_judged, reply_at_once}
-use Rattle.satl_core.proofs.ArrivalLemmas.{answers_at_once, becomes_arrives}
+use Rattle.satl_identify.proofs.Judging.{capacity_bounds}
+use Rattle.satl_line.specs.Tasks.{total_blocks}
+use Rattle.satl_core.proofs.HeldLemmas.{held_is}
+use Rattle.satl_core.proofs.ArrivalLemmas.{answers_at_once, becomes_arrives, held_by_is}
 use Rattle.satl_core.proofs.AddingLemmas.{becomes_whole}
 use Rattle.satl_core.proofs.CountedLemmas.{becomes_more, judged_more}
 use Rattle.satl_core.proofs.DeviceLemmas.{arrives_around}
@@ -27,18 +30,29 @@ returns-in-Ok-clause-around g c = λ w cut.
     arrives_around w _ _ _ (becomes_arrives c.args.self.now c.add_task.new.self (g.D.Drive.state c.args.drive.now) w c.in-Ok.command c.add_task.new.replies judged_is
     (becomes_whole w c.args.request cut.count c.args.self.now.identity.capacity c.in-Ok.command c.args.self.now c.add_task.new.replies c.add_task.new.self cut.cut_is c.in-Ok.ensures.transfer c.add_task.ensures.long becomes))
 
+pub answer_at_once-requires-clause-capacity : goal.answer_at_once-requires-clause-capacity
+answer_at_once-requires-clause-capacity g c = (capacity_bounds c.self.inside.identity c.self.invariant.identity_is).0
+
+pub answer_at_once-requires-clause-room : goal.answer_at_once-requires-clause-room
+answer_at_once-requires-clause-room g c =
+    let d = g.D.Drive.state c.args.drive.now in
+    let same = ap (λ (l : Layer). l.tasks) (c.self.view_is ∙ c.in-Err.ensures.left) in
+    let valid = once_judged_valid c.args.self.now d c.args.request c.requires.tied.valid in
+    let blocks : total_blocks c.self.inside.tasks ≤ 32768 = subst (λ ts. total_blocks ts ≤ 32768) (sym same) (subst (λ n. n ≤ 32768) (held_by_is (once_judged c.args.self.now c.args.request).tasks) valid.blocks) in
+    let held = held_is c.self.inside.identity c.self.inside.tasks c.self.invariant.kept in
+    let out = ap (λ (l : Layer). l.out) (c.self.view_is ∙ c.in-Err.ensures.kept) in
+    omega (arith, blocks, held, out, c.requires.can.pages, c.self.invariant.all, c.self.invariant.held)
+
 pub returns-in-Err-clause-arrives : goal.returns-in-Err-clause-arrives
 returns-in-Err-clause-arrives g c =
-    let modes = ap (λ (l : Layer). l.modes.d_sense) (c.self.view_is ∙ c.in-Err.ensures.kept) in
     answers_at_once c.args.self.now _ (g.D.Drive.state c.args.drive.now) c.args.request c.in-Err.answer c.answer_at_once.new.replies c.requires.tied.mark (sym c.in-Err.ensures.judged)
-    (c.answer_at_once.ensures.reply ∙ ap (λ b. reply_at_once c.args.request c.in-Err.answer b ∷ []) modes) (ap (λ l. view l (g.D.Drive.state c.args.drive.now)) (c.self.view_is ∙ c.in-Err.ensures.left))
+    (c.answer_at_once.ensures.reply ∙ ap (λ (l : Layer). reply_at_once l.identity l.modes c.args.request c.in-Err.answer ∷ []) (c.self.view_is ∙ c.in-Err.ensures.kept)) (ap (λ l. view l (g.D.Drive.state c.args.drive.now)) (c.self.view_is ∙ c.in-Err.ensures.left))
 
 pub returns-in-Err-clause-around : goal.returns-in-Err-clause-around
 returns-in-Err-clause-around g c = λ w cut.
-    let modes = ap (λ (l : Layer). l.modes.d_sense) (c.self.view_is ∙ c.in-Err.ensures.kept) in
     let judged_is : judged c.args.self.now w ≡ Err c.in-Err.answer = subst (λ (x : Request). judged c.args.self.now x ≡ Err c.in-Err.answer) cut.cut_is (sym c.in-Err.ensures.judged) in
     arrives_around w _ _ _ (answers_at_once c.args.self.now _ (g.D.Drive.state c.args.drive.now) w c.in-Err.answer c.answer_at_once.new.replies c.requires.tied.mark judged_is
-    (c.answer_at_once.ensures.reply ∙ (ap (λ (x : Request). reply_at_once x c.in-Err.answer c.self.inside.modes.d_sense ∷ []) cut.cut_is ∙ ap (λ b. reply_at_once w c.in-Err.answer b ∷ []) modes))
+    (c.answer_at_once.ensures.reply ∙ (ap (λ (x : Request). reply_at_once c.self.inside.identity c.self.inside.modes x c.in-Err.answer ∷ []) cut.cut_is ∙ ap (λ (l : Layer). reply_at_once l.identity l.modes w c.in-Err.answer ∷ []) (c.self.view_is ∙ c.in-Err.ensures.kept)))
     (ap (λ l. view l (g.D.Drive.state c.args.drive.now)) (c.self.view_is ∙ c.in-Err.ensures.left) ∙ ap (λ (x : Request). view (once_judged c.args.self.now x) (g.D.Drive.state c.args.drive.now)) cut.cut_is))
 
 pub returns-in-Ok-clause-unforced : goal.returns-in-Ok-clause-unforced

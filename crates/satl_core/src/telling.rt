@@ -1,0 +1,166 @@
+// Data-in of commands that are answered at once.
+ghost use Rattle.std.specs.Prelude.{◌≡◌, ◌≤◌, ◌+◌, [], length, unwrap_or};
+ghost use Rattle.satl_vpd.specs.Luns.{lun_list};
+ghost use Rattle.satl_vpd.specs.Vital.{vpd_page};
+ghost use Rattle.satl_frame.specs.DataPages.{padded_block, pages_of};
+ghost use Rattle.satl_frame.specs.Output.{IsWritable};
+ghost use Rattle.satl_direct.specs.Arrival.{told};
+ghost use Rattle.satl_core.specs.Layer.{IsExpectable};
+ghost use Rattle.satl_core.specs.Telling.{data_text};
+
+use arrayvec::ArrayVec;
+use satl_base::{Block, Modes, Pages, Reply, Request, Scsi};
+use satl_cdb::Command;
+use satl_identify::Identity;
+use satl_mode::mode_sense;
+use satl_pages::Pool;
+use satl_sense::{Sense, sense_bytes};
+use satl_vpd::{capacity10, capacity16, inquiry, luns, vpd};
+
+/// What the device says of itself in data-in.
+#[derive(Clone, Copy, Debug, PartialEq, Eq)]
+pub enum Data {
+    /// The standard INQUIRY data, or a page of vital product data.
+    Inquiry(Option<u8>),
+    /// The standard INQUIRY data of a LUN at which there is no logical unit.
+    NoUnit,
+    /// The fields of a MODE SENSE.
+    Modes {
+        ten: bool,
+        long_lba: bool,
+        no_descriptor: bool,
+        control: u8,
+        page: u8,
+    },
+    Capacity10,
+    Capacity16,
+    /// The list of LUNs by SELECT REPORT.
+    Luns(u8),
+    /// Sense data, in the descriptor form or in the fixed form.
+    Sense {
+        descriptor: bool,
+        sense: Sense,
+    },
+}
+
+/// Data-in before they are cut, at most 572 bytes.
+pub type Text = ArrayVec<u8, 576>;
+
+fn text(bytes: &[u8]) -> Text
+    requires { length bytes.now ≤ 576 }
+    ensures { result.items ≡ bytes.now }
+{
+    let mut text = Text::new();
+    let Ok(()) = text.try_extend_from_slice(bytes) else {
+        unreachable!();
+    };
+    text
+}
+
+fn page_text(identity: &Identity, page: u8) -> Text
+    ensures { result.items ≡ unwrap_or (vpd_page page identity.now) [] }
+{
+    match vpd(identity, page) {
+        Some(text) => text,
+        None => Text::new(),
+    }
+}
+
+fn lun_text(select: u8) -> Text
+    ensures { result.items ≡ lun_list select }
+{
+    if select == 1 {
+        text(&luns(1))
+    } else {
+        text(&luns(0))
+    }
+}
+
+/// What the device says of itself (SPC-4 6, SBC-3 5).
+pub fn data_text(identity: &Identity, modes: &Modes, what: &Data) -> Text
+    requires { 1 ≤ identity.now.capacity }
+    ensures { result.items ≡ data_text identity.now modes.now what.now }
+{
+    match *what {
+        Data::Inquiry(None) => text(&inquiry(identity, true)),
+        Data::Inquiry(Some(page)) => page_text(identity, page),
+        Data::NoUnit => text(&inquiry(identity, false)),
+        Data::Modes {
+            ten,
+            long_lba,
+            no_descriptor,
+            control,
+            page,
+        } => {
+            let command = Command::ModeSense {
+                ten,
+                long_lba,
+                no_descriptor,
+                control,
+                page,
+                alloc: 0,
+            };
+            text(&mode_sense(identity, modes, &command))
+        }
+        Data::Capacity10 => text(&capacity10(identity)),
+        Data::Capacity16 => text(&capacity16(identity)),
+        Data::Luns(select) => lun_text(select),
+        Data::Sense { descriptor, sense } => text(&sense_bytes(&sense, descriptor)),
+    }
+}
+
+/// The first 512 bytes, and zeros for those that are missing.
+fn padded(bytes: &[u8]) -> Block
+    ensures { result ≡ padded_block bytes.now }
+{
+    let count = bytes.len().min(512);
+    let mut block = [0; 512];
+    block[..count].copy_from_slice(&bytes[..count]);
+    Block { bytes: block }
+}
+
+/// Bytes in pages of the pool; what is left of the last page is zero.
+fn in_pages(pool: &mut Pool, bytes: &[u8]) -> Pages
+    requires few { length bytes.now ≤ 1024 }
+    requires room { 2 ≤ pool.old.free }
+    ensures pages { result ≡ pages_of bytes.now }
+    ensures free { pool.new.free + length result ≡ pool.old.free }
+    ensures out { pool.new.out ≡ pool.old.out + length result }
+{
+    let mut left = bytes.len().div_ceil(512) as u32;
+    let Some(mut fresh) = pool.take(left) else {
+        unreachable!();
+    };
+    let mut done = Pages::default();
+    while left > 0 {
+        left -= 1;
+        let Some(mut page) = fresh.pop_first() else {
+            unreachable!();
+        };
+        page.set(&padded(&bytes[512 * left as usize..]));
+        done.push_first(page);
+    }
+    done
+}
+
+/// GOOD with data-in, cut to the allocation length (SPC-4 4.3.5.6).
+pub fn told(pool: &mut Pool, request: &Request, alloc: u32, text: &[u8]) -> Reply
+    requires few { length text.now ≤ 576 }
+    requires room { 2 ≤ pool.old.free }
+    ensures reply { result ≡ told request.now alloc text.now }
+    ensures free { pool.new.free + length result.body ≡ pool.old.free }
+    ensures out { pool.new.out ≡ pool.old.out + length result.body }
+    ensures writable { IsExpectable request.now.expected → IsWritable result }
+{
+    let cut = &text[..text.len().min(alloc as usize)];
+    let body = in_pages(pool, cut);
+    Reply {
+        nexus: request.nexus,
+        tag: request.tag,
+        status: Scsi::Good,
+        sense: ArrayVec::new(),
+        body,
+        data_len: cut.len() as u32,
+        expected: request.expected,
+    }
+}
