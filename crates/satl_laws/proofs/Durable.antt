@@ -24,7 +24,10 @@ use Rattle.satl_base.specs.declared.bench.BenchEvent.TheVariants as bench
 use Rattle.satl_direct.specs.Bench.{Happens}
 use Rattle.satl_direct.specs.Quiet.{Around, written_by}
 use Rattle.satl_direct.specs.Valid.{HasCome, IsValid}
-use Rattle.satl_direct.specs.Laws.{IsSpan, now_at, secures}
+use Rattle.satl_direct.specs.Laws.{IsSpan, now_at, secures, SparedThrough, WithoutPower}
+use Rattle.satl_direct.specs.Run.{RunDeep}
+use Rattle.satl_frame.specs.declared.frames.Frame.{Frame}
+use Rattle.satl_frame.specs.Output.{Answer}
 use Rattle.satl_laws.proofs.Addresses.{Alike}
 use Rattle.satl_laws.proofs.Arrivals.{IsFor, code_for}
 use Rattle.satl_laws.proofs.Cases.{by_bool}
@@ -195,6 +198,15 @@ power_keeps x a last after answers single kept p =
 come_own : (identity : Identity) (t : Entry) → HasCome identity t → WritesItsOwn t.command
 come_own identity t h = let to = subst (IsFor h.request) h.became (code_for h.at h.request) in to.own
 
+-- so does each task of a device that there can be
+all_own : (s : Device) → IsValid s → AllByRecursion (λ t. WritesItsOwn t.command) s.tasks
+all_own s valid = All-weaken (HasCome s.identity) (λ t. WritesItsOwn t.command) (come_own s.identity) s.tasks valid.come
+
+-- the law of untouched sectors
+pub untouched : (first last : Device) (all : List Frame) (groups : List (List Answer)) (losses deep : ℕ) (run : RunDeep first all groups losses last deep) (x : ℕ) →
+    IsValid first → WithoutPower all → SparedThrough x run → now_at last.cells x ≡ now_at first.cells x
+untouched first last all groups losses deep run x valid calm spared = at_now x first.cells last.cells (run_keeps x run calm spared (all_own first valid)).cells
+
 -- so do tasks none of which writes a sector
 own_of : (x : ℕ) (s : Device) → NoneWrites x s → AllByRecursion (λ t. WritesItsOwn t.command) s.tasks
 own_of x s h = All-weaken (SparesAt x s) (λ t. WritesItsOwn t.command) (λ t k. k.own) s.tasks h.each
@@ -220,6 +232,6 @@ durable x s mid after t reply valid ends good secure span =
     let l = ends_leaves s mid t reply ends in
     let own : AllByRecursion (λ u. WritesItsOwn u.command) mid.tasks =
     subst (AllByRecursion (λ u. WritesItsOwn u.command)) (sym l.tasks)
-    (All-remove_first (λ u. WritesItsOwn u.command) (is_called t.nexus (t.tag).0) s.tasks (All-weaken (HasCome s.identity) (λ u. WritesItsOwn u.command) (come_own s.identity) s.tasks valid.come)) in
+    (All-remove_first (λ u. WritesItsOwn u.command) (is_called t.nexus (t.tag).0) s.tasks (all_own s valid)) in
     let kept = span_keeps x mid after own span in
     power_keeps x mid span.last after span.answers (secured x s mid t reply good secure ends) kept span.power
