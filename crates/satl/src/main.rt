@@ -1,7 +1,7 @@
 //! `satl replay`: framed commands on standard input, framed answers on standard output, over a modelled drive.
 #![tactic(auto)]
 
-ghost use Rattle.std.specs.Prelude.{◌≡◌, ◌<◌, [], OnOk};
+ghost use Rattle.std.specs.Prelude.{◌≡◌, ◌<◌, [], None, OnOk};
 ghost use Rattle.satl_drive.specs.State.{IsFit};
 
 use satl_base::{NoMemory, Steps};
@@ -33,6 +33,7 @@ fn counted<S: Source, K: Sink, D: Bench, L: Ledger>(
     blank: Blank,
 ) -> Status
     requires idle { (D.state drive.old).outstanding ≡ [] }
+    requires no_error { (D.state drive.old).error ≡ None }
     requires fit { IsFit (D.state drive.old) }
     requires name { blank.name ≡ L.name }
     requires parts { blank.parts ≡ L.parts }

@@ -12,8 +12,7 @@ use Rattle.satl_line.specs.declared.entry.Entry.{Entry}
 use Rattle.satl_line.specs.Kinds.{kind_of}
 use Rattle.satl_line.specs.Tasks.{Adds, Held, change_at, entries_of, entry_at, is_too_much, total_blocks, with_body}
 use Rattle.satl_line.proofs.SlotsLemmas.{All-append, total-append}
-use Rattle.satl_direct.specs.Device.{data_out, task_of}
-use Rattle.satl_direct.specs.Arrival.{held_blocks, needed}
+use Rattle.satl_direct.specs.Tasks.{data_out, held_blocks, needed, task_for, task_of}
 use Rattle.satl_core.specs.Layer.{IsExpectable, IsKept, IsTransfer, Layer, held_pages}
 use Rattle.satl_core.specs.Submitting.{Becomes, IsAdded, IsAnswered, task_without_pages}
 use Rattle.satl_core.specs.declared.submitting.AtOnce.TheVariants as at_once
@@ -60,11 +59,17 @@ push_tasks : (old : List Held) (h : Held) → map task_of (entries_of (old ++ h 
 push_tasks [] h = refl
 push_tasks (x ∷ old) h = ap (λ l. task_of x.entry ∷ l) (push_tasks old h)
 
-pub tasks_with : (old new : List Held) (r : Request) (c : Command) (queued_trim : Bool) (body : List Block) → data_out c body ≡ data_out c (take (held_blocks c) r.body) → HasPages old (task_without_pages r c queued_trim) body new
-    → map task_of (entries_of new) ≡ map task_of (entries_of old) ++ record (task_without_pages r c queued_trim) { body = data_out c (take (held_blocks c) r.body) } ∷ []
-tasks_with old new r c queued_trim body same h =
+-- the task without its pages, and then with its data-out, is that of the device
+task_is : (capacity n : ℕ) (r : Request) (c : Command) (queued_trim : Bool) → IsTransfer capacity c n → record (task_without_pages r c queued_trim) { body = data_out c (take (held_blocks c) r.body) } ≡ task_for queued_trim r c
+task_is capacity n r c queued_trim t =
+    of_transfer (λ c. record (task_without_pages r c queued_trim) { body = data_out c (take (held_blocks c) r.body) } ≡ task_for queued_trim r c) capacity n c (λ form lba count fua t. refl) (λ form lba count fua t. refl) t
+
+pub tasks_with : (capacity n : ℕ) (old new : List Held) (r : Request) (c : Command) (queued_trim : Bool) (body : List Block) → IsTransfer capacity c n → data_out c body ≡ data_out c (take (held_blocks c) r.body) → HasPages old (task_without_pages r c queued_trim) body new
+    → map task_of (entries_of new) ≡ map task_of (entries_of old) ++ task_for queued_trim r c ∷ []
+tasks_with capacity n old new r c queued_trim body t same h =
     ap (λ t. map task_of (entries_of t)) h.are ∙ (push_tasks old (record { slot = h.slot; entry = record (task_without_pages r c queued_trim) { body = body } })
-    ∙ ap (λ b. map task_of (entries_of old) ++ record (task_without_pages r c queued_trim) { body = b } ∷ []) same)
+    ∙ (ap (λ b. map task_of (entries_of old) ++ record (task_without_pages r c queued_trim) { body = b } ∷ []) same
+    ∙ ap (λ t. map task_of (entries_of old) ++ t ∷ []) (task_is capacity n r c queued_trim t)))
 
 pub becomes_added : (r : Request) (c : Command) (old : Layer) (replies : List Reply) (new : Layer) → is_too_much old.tasks (task_without_pages r c old.identity.queued_trim) ≡ false → IsAdded r c old replies new → Becomes r c old replies new
 becomes_added r c old replies new fits added = rw fits added
@@ -89,10 +94,15 @@ becomes_whole w r count capacity c old replies new is t long b =
       | true ↦ λ a. record { reply = a.reply; stays = a.stays }
       | false ↦ λ a. record {
         none = a.none;
-        last = a.last ∙ ap (λ b. map task_of (entries_of old.tasks) ++ record (task_without_pages w c old.identity.queued_trim) { body = b } ∷ []) (whole_data capacity (held_blocks c) count c w.body t (subst (λ (x : Request). needed c ≤ 512 * length x.body) is (long a.none)));
+        last = a.last ∙ ap (λ t. map task_of (entries_of old.tasks) ++ t ∷ []) (same_task (whole_data capacity (held_blocks c) count c w.body t (subst (λ (x : Request). needed c ≤ 512 * length x.body) is (long a.none))));
         stays = a.stays;
       }
     ]) (subst (λ x. Becomes x c old replies new) is b)
   where
     cut : Request
     cut = record w { body = take count w.body }
+
+    same_task : data_out c (take (held_blocks c) cut.body) ≡ data_out c (take (held_blocks c) w.body) → task_for old.identity.queued_trim cut c ≡ task_for old.identity.queued_trim w c
+    same_task same =
+        sym (task_is capacity (held_blocks c) cut c old.identity.queued_trim t)
+        ∙ (ap (λ b. record (task_without_pages w c old.identity.queued_trim) { body = b }) same ∙ task_is capacity (held_blocks c) w c old.identity.queued_trim t)

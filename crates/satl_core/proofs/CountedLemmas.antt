@@ -1,19 +1,20 @@
 -- What is counted: losses of the link, and tasks.
-use Rattle.std.proofs.Common.{◌≡◌, refl, sym, ap, subst, ◌∙◌, arith, ℕ, ◌+◌, ◌≤◌, Bool, true, false, List, [], ◌∷◌, length, map, take}
+use Rattle.std.proofs.Common.{◌≡◌, refl, sym, ap, subst, ◌∙◌, arith, ℕ, ◌+◌, ◌≤◌, Bool, true, false, List, [], ◌∷◌, length, map, cond}
 use Rattle.std.proofs.lemmas.List.{length-append, length-map}
-use Rattle.std.specs.Prelude.{if◌then◌else◌, MatchBool}
+use Rattle.std.specs.Prelude.{if◌then◌else◌, not, MatchBool}
 use Rattle.satl_base.specs.declared.reply.Reply.{Reply}
 use Rattle.satl_base.specs.declared.request.Request.{Request}
 use Rattle.satl_io.specs.Causes.{Rose, RoseBy}
 use Rattle.satl_io.proofs.Counting.{RoseBy-fewer, RoseBy-more, RoseBy-none}
 use Rattle.satl_cdb.specs.declared.command.Command.{Command}
 use Rattle.satl_line.specs.Tasks.{Held, entries_of, is_too_much}
-use Rattle.satl_direct.specs.Arrival.{held_blocks}
-use Rattle.satl_direct.specs.Device.{Device, data_out, task_of}
+use Rattle.satl_direct.specs.Arrival.{is_unit_0}
+use Rattle.satl_direct.specs.Device.{Device, is_of}
+use Rattle.satl_direct.specs.Tasks.{task_for, task_of}
 use Rattle.satl_direct.specs.Run.{losses_of}
 use Rattle.satl_core.specs.declared.submitting.AtOnce.TheVariants as at_once
 use Rattle.satl_core.specs.Layer.{Layer}
-use Rattle.satl_core.specs.Submitting.{Becomes, IsAdded, IsAnswered, task_without_pages}
+use Rattle.satl_core.specs.Submitting.{Becomes, IsAdded, IsAnswered, attention_of, left_by, once_judged, overlaps, task_without_pages, untold}
 
 -- ---- losses
 
@@ -62,7 +63,7 @@ tasks_seen tasks = length-map (entries_of tasks) task_of ∙ length-map tasks (�
 added_more : (r : Request) (c : Command) (old : Layer) (replies : List Reply) (new : Layer) → IsAdded r c old replies new → length new.tasks ≤ length old.tasks + 1
 added_more r c old replies new a =
     let last = ap length a.last in
-    omega (arith, last, tasks_seen old.tasks, tasks_seen new.tasks, length-append (map task_of (entries_of old.tasks)) (record (task_without_pages r c old.identity.queued_trim) { body = data_out c (take (held_blocks c) r.body) } ∷ []))
+    omega (arith, last, tasks_seen old.tasks, tasks_seen new.tasks, length-append (map task_of (entries_of old.tasks)) (task_for old.identity.queued_trim r c ∷ []))
 
 -- a request adds one task at most, and leaves the modes
 pub becomes_more : (r : Request) (c : Command) (old : Layer) (replies : List Reply) (new : Layer) → Becomes r c old replies new → (length new.tasks ≤ length old.tasks + 1) × (new.modes ≡ old.modes)
@@ -71,3 +72,23 @@ becomes_more r c old replies new b =
       | true ↦ λ a. let same = ap (λ (l : Layer). length l.tasks) a.stays in (omega (arith, same), ap (λ (l : Layer). l.modes) a.stays)
       | false ↦ λ a. (added_more r c old replies new a, ap (λ (l : Layer). l.modes) a.stays)
     ]) b
+
+left_fewer : (nexus : ℕ) (tasks : List Held) → length (left_by nexus tasks) ≤ length tasks
+left_fewer nexus [] = omega arith
+left_fewer nexus (h ∷ tasks) =
+    let rest = left_fewer nexus tasks in
+    elim (is_of nexus h.entry) as (λ b. length (cond (not b) (h ∷ left_by nexus tasks) (left_by nexus tasks)) ≤ length (h ∷ tasks)) [
+      | true ↦ omega (arith, rest)
+      | false ↦ omega (arith, rest)
+    ]
+
+-- judging a request adds no task
+pub judged_more : (l : Layer) (r : Request) → length (once_judged l r).tasks ≤ length l.tasks
+judged_more l r =
+    elim (is_unit_0 r.lun) as (λ b. length (cond (not b) l (cond (overlaps l.tasks r) (record l { tasks = left_by r.nexus l.tasks }) (record l { attentions = untold (attention_of l.attentions r) r.nexus l.attentions }))).tasks ≤ length l.tasks) [
+      | false ↦ omega arith
+      | true ↦ (elim (overlaps l.tasks r) as (λ b. length (cond b (record l { tasks = left_by r.nexus l.tasks }) (record l { attentions = untold (attention_of l.attentions r) r.nexus l.attentions })).tasks ≤ length l.tasks) [
+        | true ↦ left_fewer r.nexus l.tasks
+        | false ↦ omega arith
+      ])
+    ]

@@ -1,6 +1,6 @@
 -- Steps of the device, made from what the layer and its drive do.
-use Rattle.std.proofs.Common.{◌≡◌, inl, refl, sym, ap, subst, ◌∙◌, true, false, Bool, List, [], ◌∷◌, ◌++◌, map, Some}
-use Rattle.std.specs.Prelude.{MatchBool, not, ◌||◌}
+use Rattle.std.proofs.Common.{◌≡◌, inl, refl, sym, ap, subst, ◌∙◌, true, false, Bool, List, [], ◌∷◌, ◌++◌, map}
+use Rattle.std.specs.Prelude.{MatchBool, not, ◌||◌, ◌&&◌}
 use Rattle.std.proofs.lemmas.Bool.{eq-eqb}
 use Rattle.satl_base.specs.declared.block.Block.{Block}
 use Rattle.satl_base.specs.declared.modes.Modes.{Modes}
@@ -11,12 +11,13 @@ use Rattle.satl_sense.specs.declared.sense.Sense.{Sense}
 use Rattle.satl_identify.specs.declared.identity.Identity.{Identity}
 use Rattle.satl_line.specs.declared.entry.Entry.{Entry}
 use Rattle.satl_line.specs.Eligible.{IsEligible}
-use Rattle.satl_line.specs.Ranged.{RangedTask, ranged_of}
+use Rattle.satl_unit.specs.declared.attention.Attention.{Attention}
 use Rattle.satl_line.specs.Tasks.{Held, entries_of}
 use Rattle.satl_drive.specs.State.{DriveState}
 use Rattle.satl_direct.specs.Arrival.{Arrives}
-use Rattle.satl_direct.specs.Device.{Device, task_of, without}
-use Rattle.satl_direct.specs.Ending.{Ends, EndsBy, EndsOnMedium, IsChecked, task_check}
+use Rattle.satl_direct.specs.Device.{Device, without}
+use Rattle.satl_direct.specs.Tasks.{asks, task_of}
+use Rattle.satl_direct.specs.Ending.{Ends, EndsBy, IsChecked, task_check}
 use Rattle.satl_direct.specs.Quiet.{Around, Quiet}
 use Rattle.satl_direct.specs.Run.{MayLose}
 use Rattle.satl_direct.specs.Run.MayLose.{keeps}
@@ -31,8 +32,8 @@ use Rattle.satl_core.specs.Turning.{ended_reply}
 use Rattle.satl_core.proofs.HeldLemmas.{IsFirst}
 
 -- the device by its parts
-abbrev pub seen : Identity → Modes → Bool → List Entry → DriveState → Device
-seen identity modes started tasks d = record { cells = d.cells; tasks = tasks; modes = modes; started = started; active = d.active; down = d.down; glitches = d.glitches; identity = identity }
+abbrev pub seen : Identity → Modes → Bool → List (List Attention) → List Entry → DriveState → Device
+seen identity modes started attentions tasks d = record { cells = d.cells; tasks = tasks; modes = modes; started = started; active = d.active; down = d.down; attentions = attentions; glitches = d.glitches; identity = identity }
 
 -- ---- quiet moves
 
@@ -79,31 +80,30 @@ ends_around s mid new t others reply answers first is e quiet = record {
     may : MayEnd s t
     may = subst (λ ts. MatchBool (s.down || not s.started) (turns.IsFirst ts t) (IsEligible ts t)) (sym first) (first_may_end t others (s.down || not s.started))
 
+-- how a task ends that a started unit alone carries out
+abbrev EndsSo : Bool → Bool → Device → Entry → Reply → Device → Type 0
+EndsSo down stops s t reply new = MatchBool down (IsChecked link_lost s t reply new) (MatchBool stops (IsChecked not_ready s t reply new) (EndsBy t.command s t reply new))
+
 pub ends_down : (s : Device) (t : Entry) (reply : Reply) (new : Device) → s.down ≡ true → IsChecked link_lost s t reply new → Ends s t reply new
-ends_down s t reply new down e =
-    subst (λ b. MatchBool b (IsChecked link_lost s t reply new) (MatchBool (not s.started) (IsChecked not_ready s t reply new) (EndsBy (ranged_of t) s t reply new))) (sym down) e
+ends_down s t reply new down e = subst (λ b. EndsSo b (not s.started && (asks t.command).starts) s t reply new) (sym down) e
 
-ends_up : (s : Device) (t : Entry) (reply : Reply) (new : Device) → s.down ≡ false → MatchBool (not s.started) (IsChecked not_ready s t reply new) (EndsBy (ranged_of t) s t reply new) → Ends s t reply new
-ends_up s t reply new up e =
-    subst (λ b. MatchBool b (IsChecked link_lost s t reply new) (MatchBool (not s.started) (IsChecked not_ready s t reply new) (EndsBy (ranged_of t) s t reply new))) (sym up) e
+pub ends_stopped : (s : Device) (t : Entry) (reply : Reply) (new : Device) → s.down ≡ false → s.started ≡ false → (asks t.command).starts ≡ true → IsChecked not_ready s t reply new → Ends s t reply new
+ends_stopped s t reply new up off starts e =
+    subst (λ b. EndsSo b (not s.started && (asks t.command).starts) s t reply new) (sym up)
+    (subst (λ b. EndsSo false (not b && (asks t.command).starts) s t reply new) (sym off)
+    (subst (λ b. EndsSo false b s t reply new) (sym starts) e))
 
-pub ends_stopped : (s : Device) (t : Entry) (reply : Reply) (new : Device) → s.down ≡ false → s.started ≡ false → IsChecked not_ready s t reply new → Ends s t reply new
-ends_stopped s t reply new up off e =
-    ends_up s t reply new up (subst (λ b. MatchBool (not b) (IsChecked not_ready s t reply new) (EndsBy (ranged_of t) s t reply new)) (sym off) e)
-
-pub ends_on_medium : (s : Device) (t : Entry) (ranged : RangedTask) (reply : Reply) (new : Device) → s.down ≡ false → s.started ≡ true → ranged_of t ≡ Some ranged → EndsOnMedium ranged s t reply new → Ends s t reply new
-ends_on_medium s t ranged reply new up on is e =
-    ends_up s t reply new up
-    (subst (λ b. MatchBool (not b) (IsChecked not_ready s t reply new) (EndsBy (ranged_of t) s t reply new)) (sym on)
-    (subst (λ o. EndsBy o s t reply new) (sym is) e))
+pub ends_by : (s : Device) (t : Entry) (reply : Reply) (new : Device) → s.down ≡ false → s.started ≡ true → EndsBy t.command s t reply new → Ends s t reply new
+ends_by s t reply new up on e =
+    subst (λ b. EndsSo b (not s.started && (asks t.command).starts) s t reply new) (sym up) (subst (λ b. EndsSo false (not b && (asks t.command).starts) s t reply new) (sym on) e)
 
 -- the first task is gone, and nothing else has changed
-pub first_gone : (identity : Identity) (modes : Modes) (started : Bool) (t : Entry) (others : List Entry) (d : DriveState) → seen identity modes started others d ≡ record (seen identity modes started (t ∷ others) d) { tasks = without t (t ∷ others) }
-first_gone identity modes started t others d = ap (λ ts. seen identity modes started ts d) (sym (without_first t others))
+pub first_gone : (identity : Identity) (modes : Modes) (started : Bool) (attentions : List (List Attention)) (t : Entry) (others : List Entry) (d : DriveState) → seen identity modes started attentions others d ≡ record (seen identity modes started attentions (t ∷ others) d) { tasks = without t (t ∷ others) }
+first_gone identity modes started attentions t others d = ap (λ ts. seen identity modes started attentions ts d) (sym (without_first t others))
 
-pub first_checked : (identity : Identity) (modes : Modes) (started : Bool) (entry : Entry) (others : List Entry) (d : DriveState) (taken : List Block) (sense : Sense)
-    → IsChecked sense (seen identity modes started (task_of entry ∷ others) d) (task_of entry) (ended_reply (record entry { body = taken }) (endings.Check sense) modes.d_sense) (seen identity modes started others d)
-first_checked identity modes started entry others d taken sense = record { answer = refl; stays = first_gone identity modes started (task_of entry) others d }
+pub first_checked : (identity : Identity) (modes : Modes) (started : Bool) (attentions : List (List Attention)) (entry : Entry) (others : List Entry) (d : DriveState) (taken : List Block) (sense : Sense)
+    → IsChecked sense (seen identity modes started attentions (task_of entry ∷ others) d) (task_of entry) (ended_reply (record entry { body = taken }) (endings.Check sense) modes.d_sense) (seen identity modes started attentions others d)
+first_checked identity modes started attentions entry others d taken sense = record { answer = refl; stays = first_gone identity modes started attentions (task_of entry) others d }
 
 -- ---- a lost link
 

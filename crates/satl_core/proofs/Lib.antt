@@ -4,8 +4,10 @@ pub mod CommandsLemmas
 pub mod CountedLemmas
 pub mod DeviceLemmas
 pub mod HeldLemmas
+pub mod LeavingLemmas
 pub mod OpeningLemmas
 pub mod ServedLemmas
 pub mod Transfers
 pub mod TurningLemmas
 pub mod UnforcedLemmas
+pub mod ValidLemmas

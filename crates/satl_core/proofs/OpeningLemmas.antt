@@ -1,13 +1,15 @@
 -- What opening the layer gives.
-use Rattle.std.proofs.Common.{◌≡◌, refl, sym, ap, ◌∙◌, ℕ, true, false, List, [], map}
-use Rattle.std.specs.Prelude.{Result, Ok, slice_index_or}
+use Rattle.std.proofs.Common.{subst, ◌≡◌, refl, sym, ap, ◌∙◌, arith, ℕ, Bool, true, false, List, [], map, None}
+use Rattle.std.specs.Prelude.{Result, Ok, not, replicate, slice_index_or}
 use Rattle.satl_base.specs.declared.block.Block.{Block}
 use Rattle.satl_base.specs.declared.modes.Modes.{Modes}
 use Rattle.satl_base.proofs.LossesLemmas.{loses-nows, loses-sound}
+use Rattle.satl_base.specs.Identify.{has_cache, has_look}
 use Rattle.satl_identify.specs.declared.identity.Identity.{Identity}
 use Rattle.satl_identify.specs.declared.identity.IdentityFault.{IdentityFault}
 use Rattle.satl_identify.specs.Refusals.{identity_of}
 use Rattle.satl_identify.proofs.Judging.{unbroken}
+use Rattle.satl_unit.specs.declared.attention.Attention.{Attention}
 use Rattle.satl_line.specs.Tasks.{Held}
 use Rattle.satl_drive.specs.State.{DriveState, IsFit}
 use Rattle.satl_core.specs.Layer.{Tied}
@@ -21,30 +23,51 @@ pub judged_as_told : (old new : DriveState) (given taken : List Block) (block : 
     → found ≡ identity_of old.identify
 judged_as_told old new given taken block found told is judged = judged ∙ ap (λ (b : Block). identity_of b.bytes) (is ∙ ap (λ pages. slice_index_or pages 0 block) told.pages)
 
-tied : (old new : DriveState) (given taken : List Block) (i : Identity) (modes : Modes) (free : ℕ) → old.outstanding ≡ [] → IsTold old given taken new → IsFit old → IsFit new → identity_of old.identify ≡ Ok i → modes.wce ≡ i.cache_on
-    → Tied (record { identity = i; modes = modes; started = true; down = false; tasks = []; free = free; out = 0 }) new
-tied old new given taken i modes free idle told fit fit' judged wce =
+-- a setting that a drive has not is off
+off : (on has : Bool) → (on ≡ true → has ≡ true) → has ≡ false → on ≡ false
+off true has must none = let has_it = must refl in absurd cc
+off false has must none = refl
+
+tied : (old new : DriveState) (given taken : List Block) (i : Identity) (modes : Modes) (free : ℕ) → old.outstanding ≡ [] → old.error ≡ None → IsTold old given taken new → IsFit old → IsFit new → identity_of old.identify ≡ Ok i → modes.wce ≡ i.cache_on → modes.dra ≡ not i.look_on
+    → Tied (record { identity = i; modes = modes; started = true; down = false; attentions = replicate 4 []; tasks = []; free = free; out = 0 }) new
+tied old new given taken i modes free idle no_error told fit fit' judged wce dra =
     let say = (unbroken old.identify i judged).1 in
     record {
       mark = sym told.was_up ∙ sym (ap (λ (d : DriveState). d.down) told.stays);
       idle = ap (λ (d : DriveState). d.outstanding) told.stays ∙ idle;
+      no_error = ap (λ (d : DriveState). d.error) told.stays ∙ no_error;
       fit = fit';
-      capacity = ap (λ (d : DriveState). d.capacity) told.stays ∙ (sym fit.told ∙ ap (λ (j : Identity). j.capacity) say);
       cache = λ up. ap (λ (d : DriveState). d.cache) told.stays ∙ (sym fit.cache_told ∙ (ap (λ (j : Identity). j.cache_on) say ∙ sym wce));
-      sound = loses-sound old.cells new.cells told.lost;
+      valid = record {
+        identity = subst (λ b. identity_of b ≡ Ok i) (ap (λ (j : Identity). j.bytes) say) judged;
+        cells = fit'.sectors ∙ (ap (λ (d : DriveState). d.capacity) told.stays ∙ (sym fit.told ∙ ap (λ (j : Identity). j.capacity) say));
+        sound = loses-sound old.cells new.cells told.lost;
+        few = omega arith;
+        blocks = omega arith;
+        own = tt;
+        come = tt;
+        modes = record {
+          cache = λ none. wce ∙ (sym (ap (λ (j : Identity). j.cache_on) say) ∙ (fit.cache_told ∙ off old.cache (has_cache old.identify) fit.cache (ap (λ (j : Identity). j.cache) say ∙ none)));
+          look = λ none. dra ∙ ap not (sym (ap (λ (j : Identity). j.look_on) say) ∙ (fit.look_told ∙ off old.look (has_look old.identify) fit.look (ap (λ (j : Identity). j.look) say ∙ none)));
+        };
+        nexuses = refl;
+        attentions = (tt, (tt, (tt, (tt, tt))));
+      };
     }
 
-pub opened : (old new : DriveState) (given taken : List Block) (i : Identity) (modes : Modes) (tasks : List Held) (free out : ℕ) → old.outstanding ≡ [] → IsTold old given taken new → IsFit old → IsFit new → identity_of old.identify ≡ Ok i
-    → modes.wce ≡ i.cache_on → modes.d_sense ≡ false → tasks ≡ [] → out ≡ 0 → IsOpened old (record { identity = i; modes = modes; started = true; down = false; tasks = tasks; free = free; out = out }) new
-opened old new given taken i modes tasks free out idle told fit fit' judged wce d_sense none in_all = record {
+pub opened : (old new : DriveState) (given taken : List Block) (i : Identity) (modes : Modes) (tasks : List Held) (attentions : List (List Attention)) (free out : ℕ) → old.outstanding ≡ [] → old.error ≡ None → IsTold old given taken new → IsFit old → IsFit new → identity_of old.identify ≡ Ok i
+    → modes.wce ≡ i.cache_on → modes.dra ≡ not i.look_on → modes.d_sense ≡ false → tasks ≡ [] → attentions ≡ replicate 4 [] → out ≡ 0 → IsOpened old (record { identity = i; modes = modes; started = true; down = false; attentions = attentions; tasks = tasks; free = free; out = out }) new
+opened old new given taken i modes tasks attentions free out idle no_error told fit fit' judged wce dra d_sense none untold in_all = record {
   identity = judged;
   tasks = none;
   wce = wce;
+  dra = dra;
   d_sense = d_sense;
   started = refl;
   up = refl;
+  attentions = untold;
   out = in_all;
-  tied = rw (none, in_all) (tied old new given taken i modes free idle told fit fit' judged wce);
+  tied = rw (none, untold, in_all) (tied old new given taken i modes free idle no_error told fit fit' judged wce dra);
   lost = told.lost;
   stays = told.stays;
 }

@@ -25,18 +25,18 @@ use Rattle.satl_regs.specs.Spelling.{CommandFits, command_registers}
 use Rattle.satl_regs.specs.Effects.{Carries, Does, IsCarriedOut, IsFlawed, IsGarbled, IsRefused, Medium, Transfer, flawed_end, idnf, pairs_of, reading, writing}
 use Rattle.satl_regs.proofs.Commands.{command_back}
 use Rattle.satl_line.specs.declared.entry.Entry.{Entry}
-use Rattle.satl_line.specs.declared.entry.Kind.TheVariants.{Ranged}
+use Rattle.satl_unit.specs.declared.attention.Attention.{Attention}
 use Rattle.satl_line.specs.Ending.{EndsAs, Outcome, blocks_read, flaw_met}
 use Rattle.satl_line.specs.Ending.Outcome.{ends_done, ends_flawed, ends_glitched}
-use Rattle.satl_line.specs.Kinds.{kind_of}
-use Rattle.satl_line.specs.Ranged.{RangedTask, ranged_by, ranged_of, written_pairs}
+use Rattle.satl_line.specs.Ranged.{RangedTask, written_pairs}
 use Rattle.satl_line.specs.Ranged.RangedTask.{ranged_read, ranged_write}
 use Rattle.satl_line.specs.Tasks.{Held, entries_of}
 use Rattle.satl_drive.specs.State.{DriveState, medium_of, with_medium}
-use Rattle.satl_drive.specs.Rules.{IsRun, IsRunCutOff}
-use Rattle.satl_direct.specs.Device.{Device, data_out, task_of, without}
-use Rattle.satl_direct.specs.Ending.{active_after, medium_error, outcome_reply, task_check, task_reply}
-use Rattle.satl_direct.specs.Quiet.{Around, MayShow, pairs_by, writes}
+use Rattle.satl_drive.specs.Rules.{IsCarriedOut as IsRunOut, IsRunCutOff}
+use Rattle.satl_direct.specs.Device.{Device, without}
+use Rattle.satl_direct.specs.Tasks.{asks, over, task_of}
+use Rattle.satl_direct.specs.Ending.{EndsBy, EndsOnMedium, active_after, medium_error, outcome_reply, task_check, task_reply}
+use Rattle.satl_direct.specs.Quiet.{Around, MayShow, writes}
 use Rattle.satl_direct.specs.Senses.{link_lost, not_ready}
 use Rattle.satl_direct.specs.Turn as turns
 use Rattle.satl_direct.specs.Turn.{Turn}
@@ -46,7 +46,8 @@ use Rattle.satl_core.specs.declared.turning.Ending.TheVariants as endings
 use Rattle.satl_core.specs.Layer.{IsKept, IsTransfer, Tied}
 use Rattle.satl_core.specs.Turning as core
 use Rattle.satl_core.specs.Turning.{AreUnforced, IsLostInTask, TaskEnds, asks_fua, ata_command, ended_reply, ending_of, flaw_sense, read_pages}
-use Rattle.satl_core.proofs.DeviceLemmas.{all_lost, ends_around, ends_down, ends_on_medium, ends_stopped, first_checked, first_gone, first_tasks, quiet_none, quiet_same, seen}
+use Rattle.satl_core.proofs.CommandsLemmas.{carried_out}
+use Rattle.satl_core.proofs.DeviceLemmas.{all_lost, ends_around, ends_by, ends_down, ends_stopped, first_checked, first_gone, first_tasks, quiet_none, quiet_same, seen}
 use Rattle.satl_core.proofs.HeldLemmas.{IsFirst, IsKeptEntry, first_kept}
 use Rattle.satl_core.proofs.Transfers.{of_transfer}
 
@@ -80,7 +81,9 @@ carries_cases P r t old given ended taken new within done garbled flawed carries
 pub record IsServed (modes : Modes) (r : Registers) (d : DriveState) (entry : Entry) : Type 0 where
   pub ranged : RangedTask
   pub transfer : Transfer
-  pub ranged_is : ranged_of (task_of entry) ≡ Some ranged
+  pub starts : (asks entry.command).starts ≡ true
+  pub ends : (s : Device) (reply : Reply) (new : Device) → EndsOnMedium ranged s (task_of entry) reply new → EndsBy entry.command s (task_of entry) reply new
+  pub shows : (s : Device) → writes s (task_of entry) ≡ written_pairs s.modes.wce ranged
   pub carries : (ended : Taskfile) (taken : List Block) (after : Medium) → Does (ata_command entry.command) r (medium_of d) entry.body ended taken after → Carries r transfer (medium_of d) entry.body ended taken after
   pub pairs : pairs_of (ata_command entry.command) (medium_of d) entry.body ≡ written_pairs modes.wce ranged
   pub within : transfer.lba + transfer.sectors ≤ length d.cells
@@ -90,9 +93,6 @@ pub record IsServed (modes : Modes) (r : Registers) (d : DriveState) (entry : En
   pub data_in : (taken : List Block) → taken ≡ transfer.reads ++ drop (length transfer.reads) entry.body → read_pages entry.command taken ≡ blocks_read d.cells ranged
   pub error : (at : ℕ) → flaw_sense entry.command at ≡ medium_error ranged at
 
-ranged_is : (entry : Entry) (write : Bool) → entry.kind ≡ Ranged write → ranged_of (task_of entry) ≡ ranged_by entry.command entry.ranges.items (data_out entry.command entry.body)
-ranged_is entry write is = ap (λ k. ranged_of (record (task_of entry) { kind = k })) is
-
 cached_so : (wce cache fua : Bool) → cache ≡ wce → (wce ≡ false) ⊎ (fua ≡ false) → cache ≡ (wce && not fua)
 cached_so true true true is free = ⊎_elim (λ off. absurd cc) (λ off. absurd cc) free
 cached_so true false fua is free = absurd cc
@@ -100,16 +100,17 @@ cached_so true true false is free = refl
 cached_so false true fua is free = absurd cc
 cached_so false false fua is free = refl
 
-serves_read : (capacity : ℕ) (modes : Modes) (r : Registers) (d : DriveState) (entry : Entry) (form : Form) (lba count : ℕ) (fua : Bool) → IsTransfer capacity (cdbs.Read form lba count fua) entry.blocks → entry.kind ≡ Ranged false
-    → length entry.body ≡ entry.blocks → length d.cells ≡ capacity → IsServed modes r d (record entry { command = cdbs.Read form lba count fua })
-serves_read capacity modes r d entry form lba count fua t kind size sectors =
+serves_read : (capacity : ℕ) (modes : Modes) (r : Registers) (d : DriveState) (entry : Entry) (form : Form) (lba count : ℕ) (fua : Bool) → IsTransfer capacity (cdbs.Read form lba count fua) entry.blocks → length entry.body ≡ entry.blocks → length d.cells ≡ capacity → IsServed modes r d (record entry { command = cdbs.Read form lba count fua })
+serves_read capacity modes r d entry form lba count fua t size sectors =
     let within : lba + count ≤ length d.cells = omega (arith, t, sectors) in
     let full = nows-length d.cells lba count within in
     let none : drop (length (nows d.cells lba count)) entry.body ≡ [] = drop_all (length (nows d.cells lba count)) entry.body (omega (arith, full, size, t)) in
     record {
-      ranged = ranged_read fua (record { lba = lba; count = count });
+      ranged = ranged_read fua (over lba count);
       transfer = reading DmaExt lba count (medium_of d);
-      ranged_is = ranged_is (record entry { command = cdbs.Read form lba count fua }) false kind;
+      starts = refl;
+      ends = λ s reply new x. x;
+      shows = λ s. refl;
       carries = λ ended taken after x. x;
       pairs = refl;
       within = within;
@@ -120,17 +121,18 @@ serves_read capacity modes r d entry form lba count fua t kind size sectors =
       error = λ at. refl;
     }
 
-serves_write : (capacity : ℕ) (modes : Modes) (r : Registers) (d : DriveState) (entry : Entry) (form : Form) (lba count : ℕ) (fua : Bool) → IsTransfer capacity (cdbs.Write form lba count fua) entry.blocks → entry.kind ≡ Ranged true
-    → length entry.body ≡ entry.blocks → length d.cells ≡ capacity → d.cache ≡ modes.wce → (modes.wce ≡ false) ⊎ (fua ≡ false) → IsServed modes r d (record entry { command = cdbs.Write form lba count fua })
-serves_write capacity modes r d entry form lba count fua t kind size sectors cache free =
+serves_write : (capacity : ℕ) (modes : Modes) (r : Registers) (d : DriveState) (entry : Entry) (form : Form) (lba count : ℕ) (fua : Bool) → IsTransfer capacity (cdbs.Write form lba count fua) entry.blocks → length entry.body ≡ entry.blocks → length d.cells ≡ capacity → d.cache ≡ modes.wce → (modes.wce ≡ false) ⊎ (fua ≡ false) → IsServed modes r d (record entry { command = cdbs.Write form lba count fua })
+serves_write capacity modes r d entry form lba count fua t size sectors cache free =
     let within : lba + count ≤ length d.cells = omega (arith, t, sectors) in
     let all : take count entry.body ≡ entry.body = take_all count entry.body (omega (arith, size, t)) in
     let pairs : pairs_from lba (take count entry.body) d.cache ≡ pairs_from lba entry.body (modes.wce && not fua) =
     ap (λ b. pairs_from lba b d.cache) all ∙ ap (pairs_from lba entry.body) (cached_so modes.wce d.cache fua cache free) in
     record {
-      ranged = ranged_write fua (record { lba = lba; count = count }) entry.body;
+      ranged = ranged_write fua (over lba count) entry.body;
       transfer = writing DmaExt lba count entry.body (medium_of d);
-      ranged_is = ranged_is (record entry { command = cdbs.Write form lba count fua }) true kind;
+      starts = refl;
+      ends = λ s reply new x. x;
+      shows = λ s. refl;
       carries = λ ended taken after x. x;
       pairs = ap (λ b. if b then [] else pairs_from lba (take count entry.body) d.cache) (le-ltb (length d.cells) (lba + count) within) ∙ pairs;
       within = within;
@@ -144,10 +146,10 @@ serves_write capacity modes r d entry form lba count fua t kind size sectors cac
 pub serves : (identity : Identity) (modes : Modes) (r : Registers) (d : DriveState) (entry : Entry) → IsKeptEntry identity entry → length d.cells ≡ identity.capacity → d.cache ≡ modes.wce → (modes.wce ≡ false) ⊎ (asks_fua entry.command ≡ false)
     → IsServed modes r d entry
 serves identity modes r d entry kept sectors cache free =
-    of_transfer (λ c. entry.kind ≡ kind_of c identity.queued_trim → (modes.wce ≡ false) ⊎ (asks_fua c ≡ false) → IsServed modes r d (record entry { command = c })) identity.capacity entry.blocks entry.command
-    (λ form lba count fua t. λ kind free. serves_read identity.capacity modes r d entry form lba count fua t kind kept.pages sectors)
-    (λ form lba count fua t. λ kind free. serves_write identity.capacity modes r d entry form lba count fua t kind kept.pages sectors cache free)
-    kept.transfer kept.kind free
+    of_transfer (λ c. (modes.wce ≡ false) ⊎ (asks_fua c ≡ false) → IsServed modes r d (record entry { command = c })) identity.capacity entry.blocks entry.command
+    (λ form lba count fua t. λ free. serves_read identity.capacity modes r d entry form lba count fua t kept.pages sectors)
+    (λ form lba count fua t. λ free. serves_write identity.capacity modes r d entry form lba count fua t kept.pages sectors cache free)
+    kept.transfer free
 
 -- ---- how it ends on the medium
 
@@ -204,36 +206,37 @@ module _ (s : Device) (r : Registers) (d : DriveState) (entry : Entry) (served :
 
 -- ---- turns
 
-carried_turn : (identity : Identity) (modes : Modes) (entry : Entry) (others : List Entry) (r : Registers) (d d' : DriveState) (ended : Taskfile) (taken : List Block) (answers : List Reply) → IsServed modes r d entry → command_in r ≡ ata_command entry.command
-    → IsRun d r entry.body ended taken d' → answers ≡ ended_reply (record entry { body = taken }) (ending_of entry.command ended) modes.d_sense ∷ []
-    → Around Turn (seen identity modes true (task_of entry ∷ others) d) answers (seen identity modes true others d')
-carried_turn identity modes entry others r d d' ended taken answers served again run is =
-    let s : Device = seen identity modes true (task_of entry ∷ others) d in
-    let mid : Device = seen identity modes true others (with_medium d run.after) in
-    let new : Device = seen identity modes true others d' in
+carried_turn : (identity : Identity) (modes : Modes) (attentions : List (List Attention)) (entry : Entry) (others : List Entry) (r : Registers) (d d' : DriveState) (ended : Taskfile) (taken : List Block) (answers : List Reply) → IsServed modes r d entry → command_in r ≡ ata_command entry.command
+    → IsRunOut d r entry.body ended taken d' → answers ≡ ended_reply (record entry { body = taken }) (ending_of entry.command ended) modes.d_sense ∷ []
+    → Around Turn (seen identity modes true attentions (task_of entry ∷ others) d) answers (seen identity modes true attentions others d')
+carried_turn identity modes attentions entry others r d d' ended taken answers served again run is =
+    let s : Device = seen identity modes true attentions (task_of entry ∷ others) d in
+    let mid : Device = seen identity modes true attentions others (with_medium d run.after) in
+    let new : Device = seen identity modes true attentions others d' in
     let reply : Reply = ended_reply (record entry { body = taken }) (ending_of entry.command ended) modes.d_sense in
     let on = on_medium s r d entry served ended taken run.after (subst (λ x. Does x r (medium_of d) entry.body ended taken run.after) again run.does) in
     ends_around s mid new (task_of entry) others reply answers refl is
-    (ends_on_medium s (task_of entry) served.ranged reply mid run.was_up refl served.ranged_is (record {
+    (ends_by s (task_of entry) reply mid run.was_up refl (served.ends s reply mid (record {
       outcome = on.outcome;
       ends = on.ends;
       answer = on.answer;
-      stays = first_gone identity modes true (task_of entry) others (with_medium d run.after) ∙ ap (λ a. record (seen identity modes true (without (task_of entry) (task_of entry ∷ others)) (with_medium d run.after)) { active = a }) on.active;
-    }))
+      stays = first_gone identity modes true attentions (task_of entry) others (with_medium d run.after) ∙ ap (λ a. record (seen identity modes true attentions (without (task_of entry) (task_of entry ∷ others)) (with_medium d run.after)) { active = a }) on.active;
+    })))
     (record {
       cells = lose_once run.lost;
       active = inl (ap (λ (x : DriveState). x.active) run.stays);
-      stays = ap (seen identity modes true others) run.stays ∙ ap (λ a. record (seen identity modes true others (record (with_medium d run.after) { cells = d'.cells })) { active = a }) (sym (ap (λ (x : DriveState). x.active) run.stays));
+      stays = ap (seen identity modes true attentions others) run.stays ∙ ap (λ a. record (seen identity modes true attentions others (record (with_medium d run.after) { cells = d'.cells })) { active = a }) (sym (ap (λ (x : DriveState). x.active) run.stays));
     })
 
-lost_turn : (identity : Identity) (modes : Modes) (entry : Entry) (others : List Entry) (r : Registers) (d d' : DriveState) (answers : List Reply) → IsServed modes r d entry → command_in r ≡ ata_command entry.command → d.down ≡ false
-    → IsRunCutOff d r entry.body d' → answers ≡ turns.lost_replies (seen identity modes true (task_of entry ∷ others) d) → Around Turn (seen identity modes true (task_of entry ∷ others) d) answers (seen identity modes true [] d')
-lost_turn identity modes entry others r d d' answers served again up cut is =
-    let s : Device = seen identity modes true (task_of entry ∷ others) d in
-    let new : Device = seen identity modes true [] d' in
+lost_turn : (identity : Identity) (modes : Modes) (attentions : List (List Attention)) (entry : Entry) (others : List Entry) (r : Registers) (d d' : DriveState) (answers : List Reply) → IsServed modes r d entry → command_in r ≡ ata_command entry.command → d.down ≡ false
+    → IsRunCutOff d r entry.body d' → answers ≡ turns.lost_replies (seen identity modes true attentions (task_of entry ∷ others) d) → Around Turn (seen identity modes true attentions (task_of entry ∷ others) d) answers (seen identity modes true attentions [] d')
+lost_turn identity modes attentions entry others r d d' answers served again up run is =
+    let cut = run.cut in
+    let s : Device = seen identity modes true attentions (task_of entry ∷ others) d in
+    let new : Device = seen identity modes true attentions [] d' in
     let pairs : List Pair = pairs_of (command_in r) (medium_of d) entry.body in
-    let same : pairs ≡ writes s (task_of entry) = ap (λ c. pairs_of c (medium_of d) entry.body) again ∙ (served.pairs ∙ sym (ap (pairs_by modes.wce) served.ranged_is)) in
-    let shown : AllByRecursion (MayShow s) pairs = All-in (MayShow s) pairs (λ pair among. record { task = task_of entry; under_way = record { up = up; started = refl; eligible = inl refl }; among = subst (IsIn pair) same among }) in
+    let same : pairs ≡ writes s (task_of entry) = ap (λ c. pairs_of c (medium_of d) entry.body) again ∙ (served.pairs ∙ sym (served.shows s)) in
+    let shown : AllByRecursion (MayShow s) pairs = All-in (MayShow s) pairs (λ pair among. record { task = task_of entry; under_way = record { up = up; eligible = inl refl }; started = refl; among = subst (IsIn pair) same among }) in
     record {
       before = record s { cells = d'.cells };
       after = new;
@@ -252,61 +255,61 @@ lost_turn identity modes entry others r d d' answers served again up cut is =
     }
 
 -- whichever decides, a lost link, a unit that is stopped, or the drive
-ended_turn : (identity : Identity) (modes : Modes) (down started : Bool) (entry : Entry) (others : List Entry) (d d' : DriveState) (ending : Ending) (taken : List Block) (answers : List Reply) → down ≡ d.down
+ended_turn : (identity : Identity) (modes : Modes) (down started : Bool) (attentions : List (List Attention)) (entry : Entry) (others : List Entry) (d d' : DriveState) (ending : Ending) (taken : List Block) (answers : List Reply) → down ≡ d.down → d.error ≡ None
     → (down ≡ false → IsServed modes (command_registers (ata_command entry.command)) d entry) → command_in (command_registers (ata_command entry.command)) ≡ ata_command entry.command
     → TaskEnds down started entry.command d entry.body ending taken d' → answers ≡ ended_reply (record entry { body = taken }) ending modes.d_sense ∷ []
-    → Around Turn (seen identity modes started (task_of entry ∷ others) d) answers (seen identity modes started others d')
-ended_turn identity modes true started entry others d d' ending taken answers mark served again x is =
-    ends_around (seen identity modes started (task_of entry ∷ others) d) (seen identity modes started others d) (seen identity modes started others d') (task_of entry) others (ended_reply (record entry { body = taken }) (endings.Check link_lost) modes.d_sense) answers refl
+    → Around Turn (seen identity modes started attentions (task_of entry ∷ others) d) answers (seen identity modes started attentions others d')
+ended_turn identity modes true started attentions entry others d d' ending taken answers mark no_error served again x is =
+    ends_around (seen identity modes started attentions (task_of entry ∷ others) d) (seen identity modes started attentions others d) (seen identity modes started attentions others d') (task_of entry) others (ended_reply (record entry { body = taken }) (endings.Check link_lost) modes.d_sense) answers refl
     (is ∙ ap (λ e. ended_reply (record entry { body = taken }) e modes.d_sense ∷ []) x.sensed)
-    (ends_down _ _ _ _ (sym mark) (first_checked identity modes started entry others d taken link_lost))
-    (quiet_same _ _ (ap (seen identity modes started others) x.stays))
-ended_turn identity modes false false entry others d d' ending taken answers mark served again x is =
-    ends_around (seen identity modes false (task_of entry ∷ others) d) (seen identity modes false others d) (seen identity modes false others d') (task_of entry) others (ended_reply (record entry { body = taken }) (endings.Check not_ready) modes.d_sense) answers refl
+    (ends_down _ _ _ _ (sym mark) (first_checked identity modes started attentions entry others d taken link_lost))
+    (quiet_same _ _ (ap (seen identity modes started attentions others) x.stays))
+ended_turn identity modes false false attentions entry others d d' ending taken answers mark no_error served again x is =
+    ends_around (seen identity modes false attentions (task_of entry ∷ others) d) (seen identity modes false attentions others d) (seen identity modes false attentions others d') (task_of entry) others (ended_reply (record entry { body = taken }) (endings.Check not_ready) modes.d_sense) answers refl
     (is ∙ ap (λ e. ended_reply (record entry { body = taken }) e modes.d_sense ∷ []) x.sensed)
-    (ends_stopped _ _ _ _ (sym mark) refl (first_checked identity modes false entry others d taken not_ready))
-    (quiet_same _ _ (ap (seen identity modes false others) x.stays))
-ended_turn identity modes false true entry others d d' ending taken answers mark served again x is =
-    carried_turn identity modes entry others (command_registers (ata_command entry.command)) d d' x.ended taken answers (served refl) again x.run (is ∙ ap (λ e. ended_reply (record entry { body = taken }) e modes.d_sense ∷ []) x.by_end)
+    (ends_stopped _ _ _ _ (sym mark) refl (served refl).starts (first_checked identity modes false attentions entry others d taken not_ready))
+    (quiet_same _ _ (ap (seen identity modes false attentions others) x.stays))
+ended_turn identity modes false true attentions entry others d d' ending taken answers mark no_error served again x is =
+    carried_turn identity modes attentions entry others (command_registers (ata_command entry.command)) d d' x.ended taken answers (served refl) again (carried_out _ _ _ _ _ _ no_error x.run) (is ∙ ap (λ e. ended_reply (record entry { body = taken }) e modes.d_sense ∷ []) x.by_end)
 
-cut_turn : (identity : Identity) (modes : Modes) (down started : Bool) (entry : Entry) (others : List Entry) (d d' : DriveState) (answers : List Reply) → down ≡ d.down
+cut_turn : (identity : Identity) (modes : Modes) (down started : Bool) (attentions : List (List Attention)) (entry : Entry) (others : List Entry) (d d' : DriveState) (answers : List Reply) → down ≡ d.down
     → (down ≡ false → IsServed modes (command_registers (ata_command entry.command)) d entry) → command_in (command_registers (ata_command entry.command)) ≡ ata_command entry.command
-    → IsLostInTask down started entry.command d entry.body d' → answers ≡ turns.lost_replies (seen identity modes started (task_of entry ∷ others) d)
-    → Around Turn (seen identity modes started (task_of entry ∷ others) d) answers (seen identity modes started [] d')
-cut_turn identity modes down true entry others d d' answers mark served again x is =
-    lost_turn identity modes entry others (command_registers (ata_command entry.command)) d d' answers (served x.was_up) again (sym mark ∙ x.was_up) x.cut is
-cut_turn identity modes down false entry others d d' answers mark served again x is = let clash : false ≡ true = x.was_started in absurd cc
+    → IsLostInTask down started entry.command d entry.body d' → answers ≡ turns.lost_replies (seen identity modes started attentions (task_of entry ∷ others) d)
+    → Around Turn (seen identity modes started attentions (task_of entry ∷ others) d) answers (seen identity modes started attentions [] d')
+cut_turn identity modes down true attentions entry others d d' answers mark served again x is =
+    lost_turn identity modes attentions entry others (command_registers (ata_command entry.command)) d d' answers (served x.was_up) again (sym mark ∙ x.was_up) x.cut is
+cut_turn identity modes down false attentions entry others d d' answers mark served again x is = let clash : false ≡ true = x.was_started in absurd cc
 
 -- the first task asks for no FUA where it may not
-unforced : (identity : Identity) (modes : Modes) (started : Bool) (entry : Entry) (others : List Entry) (d : DriveState) → AreUnforced (seen identity modes started (task_of entry ∷ others) d) → (modes.wce ≡ false) ⊎ (asks_fua entry.command ≡ false)
-unforced identity modes started entry others d free = ⊎_elim inl (λ all. inr all.0) free
+unforced : (identity : Identity) (modes : Modes) (started : Bool) (attentions : List (List Attention)) (entry : Entry) (others : List Entry) (d : DriveState) → AreUnforced (seen identity modes started attentions (task_of entry ∷ others) d) → (modes.wce ≡ false) ⊎ (asks_fua entry.command ≡ false)
+unforced identity modes started attentions entry others d free = ⊎_elim inl (λ all. inr all.0) free
 
 -- ---- turns of the layer
 
-module _ (identity : Identity) (modes : Modes) (started down : Bool) (tasks rest : List Held) (free out : ℕ) (entry : Entry) (d d' : DriveState) (kept : AllByRecursion (IsKept identity) tasks) (first : IsFirst tasks entry rest)
-    (tied : Tied (record { identity = identity; modes = modes; started = started; down = down; tasks = tasks; free = free; out = out }) d) (unforced_all : AreUnforced (seen identity modes started (map task_of (entries_of tasks)) d)) where
+module _ (identity : Identity) (modes : Modes) (started down : Bool) (attentions : List (List Attention)) (tasks rest : List Held) (free out : ℕ) (entry : Entry) (d d' : DriveState) (kept : AllByRecursion (IsKept identity) tasks) (first : IsFirst tasks entry rest)
+    (tied : Tied (record { identity = identity; modes = modes; started = started; down = down; attentions = attentions; tasks = tasks; free = free; out = out }) d) (unforced_all : AreUnforced (seen identity modes started attentions (map task_of (entries_of tasks)) d)) where
   all : map task_of (entries_of tasks) ≡ task_of entry ∷ map task_of (entries_of rest)
   all = first_tasks tasks rest entry first
 
   first_served : down ≡ false → IsServed modes (command_registers (ata_command entry.command)) d entry
   first_served up =
-      serves identity modes (command_registers (ata_command entry.command)) d entry (first_kept identity tasks rest entry kept first).0 (tied.fit.sectors ∙ tied.capacity) (tied.cache up)
-      (unforced identity modes started entry (map task_of (entries_of rest)) d (subst (λ ts. AreUnforced (seen identity modes started ts d)) all unforced_all))
+      serves identity modes (command_registers (ata_command entry.command)) d entry (first_kept identity tasks rest entry kept first).0 tied.valid.cells (tied.cache up)
+      (unforced identity modes started attentions entry (map task_of (entries_of rest)) d (subst (λ ts. AreUnforced (seen identity modes started attentions ts d)) all unforced_all))
 
   first_back : command_in (command_registers (ata_command entry.command)) ≡ ata_command entry.command
   first_back = transfer_back identity.capacity entry.blocks entry.command (first_kept identity tasks rest entry kept first).0.transfer
 
   pub turn_ends : (ending : Ending) (taken : List Block) (given answers : List Reply) (reply : Reply) → TaskEnds down started entry.command d entry.body ending taken d' → given ≡ [] → answers ≡ given ++ reply ∷ []
-      → reply ≡ ended_reply (record entry { body = taken }) ending modes.d_sense → Around Turn (seen identity modes started (map task_of (entries_of tasks)) d) answers (seen identity modes started (map task_of (entries_of rest)) d')
+      → reply ≡ ended_reply (record entry { body = taken }) ending modes.d_sense → Around Turn (seen identity modes started attentions (map task_of (entries_of tasks)) d) answers (seen identity modes started attentions (map task_of (entries_of rest)) d')
   turn_ends ending taken given answers reply ends none push is =
-      subst (λ ts. Around Turn (seen identity modes started ts d) answers (seen identity modes started (map task_of (entries_of rest)) d')) (sym all)
-      (ended_turn identity modes down started entry (map task_of (entries_of rest)) d d' ending taken answers tied.mark first_served first_back ends (push ∙ (ap (λ l. l ++ reply ∷ []) none ∙ ap (λ r. r ∷ []) is)))
+      subst (λ ts. Around Turn (seen identity modes started attentions ts d) answers (seen identity modes started attentions (map task_of (entries_of rest)) d')) (sym all)
+      (ended_turn identity modes down started attentions entry (map task_of (entries_of rest)) d d' ending taken answers tied.mark tied.no_error first_served first_back ends (push ∙ (ap (λ l. l ++ reply ∷ []) none ∙ ap (λ r. r ∷ []) is)))
 
   pub turn_loses : (ending : Ending) (taken : List Block) (given pushed answers : List Reply) (reply : Reply) (left : List Held) → left ≡ [] → IsLostInTask down started entry.command d entry.body d' → given ≡ [] → pushed ≡ given ++ reply ∷ []
       → answers ≡ pushed ++ core.lost_replies modes.d_sense rest → reply ≡ ended_reply (record entry { body = taken }) ending modes.d_sense → ending ≡ endings.Check link_lost
-      → Around Turn (seen identity modes started (map task_of (entries_of tasks)) d) answers (seen identity modes started (map task_of (entries_of left)) d')
+      → Around Turn (seen identity modes started attentions (map task_of (entries_of tasks)) d) answers (seen identity modes started attentions (map task_of (entries_of left)) d')
   turn_loses ending taken given pushed answers reply left nothing lost none push more is by =
-      subst (λ (ts : List Held). Around Turn (seen identity modes started (map task_of (entries_of tasks)) d) answers (seen identity modes started (map task_of (entries_of ts)) d')) (sym nothing)
-      (subst (λ ts. Around Turn (seen identity modes started ts d) answers (seen identity modes started [] d')) (sym all)
-      (cut_turn identity modes down started entry (map task_of (entries_of rest)) d d' answers tied.mark first_served first_back lost
-      (all_lost (seen identity modes started (task_of entry ∷ map task_of (entries_of rest)) d) entry taken rest given pushed answers reply ending refl none push more is by)))
+      subst (λ (ts : List Held). Around Turn (seen identity modes started attentions (map task_of (entries_of tasks)) d) answers (seen identity modes started attentions (map task_of (entries_of ts)) d')) (sym nothing)
+      (subst (λ ts. Around Turn (seen identity modes started attentions ts d) answers (seen identity modes started attentions [] d')) (sym all)
+      (cut_turn identity modes down started attentions entry (map task_of (entries_of rest)) d d' answers tied.mark first_served first_back lost
+      (all_lost (seen identity modes started attentions (task_of entry ∷ map task_of (entries_of rest)) d) entry taken rest given pushed answers reply ending refl none push more is by)))

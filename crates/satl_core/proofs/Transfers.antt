@@ -3,8 +3,8 @@ use Rattle.std.proofs.Common.{arith, ℕ, ◌*◌, ◌≤◌, Bool}
 use Rattle.satl_cdb.specs.declared.command.Form.{Form}
 use Rattle.satl_cdb.specs.declared.command.Command.{Command}
 use Rattle.satl_cdb.specs.declared.command.Command.TheVariants as cdbs
-use Rattle.satl_direct.specs.Arrival.{held_blocks, needed}
-use Rattle.satl_core.specs.Layer.{IsTransfer}
+use Rattle.satl_direct.specs.Tasks.{held_blocks, needed}
+use Rattle.satl_core.specs.Layer.{IsServed, IsTransfer}
 
 -- what holds of each READ and each WRITE holds of a transfer
 pub of_transfer : (P : Command → Type 0) (capacity n : ℕ) (command : Command)
@@ -32,3 +32,6 @@ transfer_few capacity n command t = of_transfer (λ c. n ≤ 4096) capacity n co
 
 pub transfer_needs : (capacity n : ℕ) (command : Command) → IsTransfer capacity command n → needed command ≤ 512 * held_blocks command
 transfer_needs capacity n command t = of_transfer (λ c. needed c ≤ 512 * held_blocks c) capacity n command (λ form lba count fua t. omega arith) (λ form lba count fua t. omega arith) t
+
+pub transfer_served : (capacity n : ℕ) (command : Command) → IsTransfer capacity command n → IsServed command
+transfer_served capacity n command t = of_transfer IsServed capacity n command (λ form lba count fua t. tt) (λ form lba count fua t. tt) t

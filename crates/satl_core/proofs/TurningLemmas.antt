@@ -5,7 +5,7 @@ use Rattle.std.proofs.lemmas.List.{append-nil}
 use Rattle.std.specs.List.{AllByRecursion}
 use Rattle.satl_base.specs.declared.block.Block.{Block}
 use Rattle.satl_base.specs.declared.reply.Reply.{Reply}
-use Rattle.satl_base.specs.Cells.{AreSound, first_flaw}
+use Rattle.satl_base.specs.Cells.{first_flaw}
 use Rattle.satl_base.proofs.LossesLemmas.{loses-sound}
 use Rattle.satl_cdb.specs.declared.command.Command.{Command}
 use Rattle.satl_cdb.specs.declared.command.Command.TheVariants as cdbs
@@ -25,6 +25,7 @@ use Rattle.satl_direct.specs.Senses.{link_lost}
 use Rattle.satl_core.specs.declared.turning.Ending.{Ending}
 use Rattle.satl_core.specs.declared.turning.Ending.TheVariants as endings
 use Rattle.satl_core.specs.Layer.{IsExpectable, IsKept, IsTransfer, reply_pages}
+use Rattle.satl_core.proofs.CommandsLemmas.{carried_out}
 use Rattle.satl_core.proofs.HeldLemmas.{IsKeptEntry}
 use Rattle.satl_core.proofs.Transfers.{of_transfer, transfer_few}
 use Rattle.satl_core.specs.Turning.{Stays, ata_command, data_in, ended_reply, lost_replies, read_pages}
@@ -47,27 +48,29 @@ does_cache command capacity n r old given ended taken new t =
     (λ form lba count fua t. carries_cache r (reading DmaExt lba count old) old given ended taken new)
     (λ form lba count fua t. carries_cache r (writing DmaExt lba count given old) old given ended taken new) t
 
-pub run_stays : (old new : DriveState) (command : Command) (r : Registers) (given taken : List Block) (ended : Taskfile) (capacity n : ℕ) → old.outstanding ≡ [] → IsTransfer capacity command n → command_in r ≡ ata_command command
+pub run_stays : (old new : DriveState) (command : Command) (r : Registers) (given taken : List Block) (ended : Taskfile) (capacity n : ℕ) → old.outstanding ≡ [] → old.error ≡ None → IsTransfer capacity command n → command_in r ≡ ata_command command
     → IsRun old r given ended taken new → Stays old new
-run_stays old new command r given taken ended capacity n idle t again run =
+run_stays old new command r given taken ended capacity n idle no_error t again ran =
+    let run = carried_out old r given taken ended new no_error ran in
     let does = subst (λ x. Does x r (medium_of old) given ended taken run.after) again run.does in
     record {
       capacity = ap (λ (d : DriveState). d.capacity) run.stays;
-      cache = ap (λ (d : DriveState). d.cache) run.stays ∙ does_cache command capacity n r (medium_of old) given ended taken run.after t does;
+      cache = λ up. ap (λ (d : DriveState). d.cache) run.stays ∙ does_cache command capacity n r (medium_of old) given ended taken run.after t does;
       idle = ap (λ (d : DriveState). d.outstanding) run.stays ∙ idle;
+      no_error = ap (λ (d : DriveState). d.error) run.stays ∙ no_error;
       sound = loses-sound run.after.cells new.cells run.lost;
     }
 
 pub cut_stays : (old new : DriveState) (r : Registers) (given : List Block) → IsRunCutOff old r given new → Stays old new
-cut_stays old new r given cut = record {
-  capacity = ap (λ (d : DriveState). d.capacity) cut.stays;
-  cache = ap (λ (d : DriveState). d.cache) cut.stays;
-  idle = ap (λ (d : DriveState). d.outstanding) cut.stays;
-  sound = loses-sound cut.mid new.cells cut.lost;
-}
-
-pub same_stays : (d : DriveState) → d.outstanding ≡ [] → AreSound d.cells → Stays d d
-same_stays d idle sound = record { capacity = refl; cache = refl; idle = idle; sound = sound }
+cut_stays old new r given run =
+    let down : new.down ≡ true = ap (λ (d : DriveState). d.down) run.cut.stays in
+    record {
+      capacity = ap (λ (d : DriveState). d.capacity) run.cut.stays;
+      cache = λ up. absurd cc;
+      idle = ap (λ (d : DriveState). d.outstanding) run.cut.stays;
+      no_error = ap (λ (d : DriveState). d.error) run.cut.stays;
+      sound = loses-sound run.cut.mid new.cells run.cut.lost;
+    }
 
 -- the answers at a lost link hold no page and can be written
 pub lost_pages : (descriptor : Bool) (tasks : List Held) → reply_pages (lost_replies descriptor tasks) ≡ 0

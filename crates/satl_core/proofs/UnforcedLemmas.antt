@@ -1,6 +1,6 @@
 -- Which tasks ask for FUA.
-use Rattle.std.proofs.Common.{◌≡◌, ⊎_elim, inl, inr, refl, sym, ap, subst, ◌∙◌, Bool, true, false, cond, eqb, ℕ, List, [], ◌∷◌, map, take}
-use Rattle.std.specs.Prelude.{Ok, MatchBool, slice_index}
+use Rattle.std.proofs.Common.{◌≡◌, ⊎_elim, inl, inr, refl, sym, ap, subst, ◌∙◌, Bool, true, false, cond, eqb, ℕ, List, [], ◌∷◌, map}
+use Rattle.std.specs.Prelude.{Ok, MatchBool, not, slice_index}
 use Rattle.std.specs.List.{AllByRecursion}
 use Rattle.std.proofs.lemmas.Bool.{eqb-true}
 use Rattle.satl_base.specs.declared.reply.Reply.{Reply}
@@ -15,14 +15,16 @@ use Rattle.satl_line.specs.declared.entry.Entry.{Entry}
 use Rattle.satl_line.specs.Tasks.{Held, entries_of, is_too_much}
 use Rattle.satl_line.proofs.SlotsLemmas.{All-append}
 use Rattle.satl_drive.specs.State.{DriveState}
-use Rattle.satl_direct.specs.Device.{Device, data_out, task_of}
-use Rattle.satl_direct.specs.Arrival.{built, held_blocks}
+use Rattle.satl_direct.specs.Device.{Device}
+use Rattle.satl_direct.specs.Tasks.{task_for, task_of}
+use Rattle.satl_direct.specs.Arrival.{built, is_unit_0}
 use Rattle.satl_core.specs.declared.submitting.AtOnce.TheVariants as at_once
 use Rattle.satl_core.specs.Layer.{Layer, view}
-use Rattle.satl_core.specs.Submitting.{Becomes, IsAdded, IsAnswered, judged, task_without_pages}
+use Rattle.satl_core.specs.Submitting.{Becomes, IsAdded, IsAnswered, attention_of, judged, left_by, once_judged, overlaps, task_without_pages, untold}
 use Rattle.satl_core.specs.Turning.{AreUnforced, AsksNoFua, asks_fua}
 use Rattle.satl_core.proofs.ArrivalLemmas.{judged_ok, of_rules}
 use Rattle.satl_core.proofs.HeldLemmas.{IsFirst}
+use Rattle.satl_core.proofs.LeavingLemmas.{left_kept}
 
 read_unforced : (cdb : List ℕ) (trim : Bool) (c : Command) → found_says (format_of (table trim) 0x28) cdb ≡ Ok c → asks_fua c ≡ false
 read_unforced cdb trim c e = subst (λ x. asks_fua x ≡ false) (of_rules cdb ((read ten).command cdb) c e).0 refl
@@ -54,10 +56,34 @@ NoneAsks tasks = AllByRecursion (λ t. asks_fua t.command ≡ false) tasks
 added : (r : Request) (c : Command) (old : Layer) (replies : List Reply) (new : Layer) (d : DriveState) → asks_fua c ≡ false → IsAdded r c old replies new → AreUnforced (view old d) → AreUnforced (view new d)
 added r c old replies new d clear a free =
     ⊎_elim (λ off. inl (ap (λ (l : Layer). l.modes.wce) a.stays ∙ off))
-    (λ all. inr (subst NoneAsks (sym a.last) (All-append (λ t. asks_fua t.command ≡ false) (map task_of (entries_of old.tasks)) (record (task_without_pages r c old.identity.queued_trim) { body = data_out c (take (held_blocks c) r.body) } ∷ []) all (clear, tt)))) free
+    (λ all. inr (subst NoneAsks (sym a.last) (All-append (λ t. asks_fua t.command ≡ false) (map task_of (entries_of old.tasks)) (task_for old.identity.queued_trim r c ∷ []) all (clear, tt)))) free
 
 pub same_unforced : (s new : Device) → new ≡ s → AreUnforced s → AreUnforced new
 same_unforced s new same free = subst AreUnforced (sym same) free
+
+-- the tasks that stay when those of a nexus go ask for no FUA
+left_unforced : (nexus : ℕ) (l : Layer) (d : DriveState) → AreUnforced (view l d) → AreUnforced (view (record l { tasks = left_by nexus l.tasks }) d)
+left_unforced nexus l d free =
+    ⊎_elim inl (λ all. inr (none_asks (left_by nexus l.tasks) (left_kept (λ h. asks_fua h.entry.command ≡ false) nexus l.tasks (held_ask l.tasks all)))) free
+  where
+    held_ask : (tasks : List Held) → NoneAsks (map task_of (entries_of tasks)) → AllByRecursion (λ h. asks_fua h.entry.command ≡ false) tasks
+    held_ask [] all = tt
+    held_ask (h ∷ tasks) all = (all.0, held_ask tasks all.1)
+
+    none_asks : (tasks : List Held) → AllByRecursion (λ h. asks_fua h.entry.command ≡ false) tasks → NoneAsks (map task_of (entries_of tasks))
+    none_asks [] all = tt
+    none_asks (h ∷ tasks) all = (all.0, none_asks tasks all.1)
+
+-- the tasks that are left once a request is judged ask for no FUA
+pub judged_unforced_all : (l : Layer) (d : DriveState) (r : Request) → AreUnforced (view l d) → AreUnforced (view (once_judged l r) d)
+judged_unforced_all l d r free =
+    elim (is_unit_0 r.lun) as (λ b. AreUnforced (view (cond (not b) l (cond (overlaps l.tasks r) (record l { tasks = left_by r.nexus l.tasks }) (record l { attentions = untold (attention_of l.attentions r) r.nexus l.attentions }))) d)) [
+      | false ↦ free
+      | true ↦ (elim (overlaps l.tasks r) as (λ b. AreUnforced (view (cond b (record l { tasks = left_by r.nexus l.tasks }) (record l { attentions = untold (attention_of l.attentions r) r.nexus l.attentions })) d)) [
+        | true ↦ left_unforced r.nexus l d free
+        | false ↦ free
+      ])
+    ]
 
 pub becomes_unforced : (l new : Layer) (d : DriveState) (r : Request) (c : Command) (replies : List Reply) → AsksNoFua r → judged l r ≡ Ok c → Becomes r c l replies new → AreUnforced (view l d) → AreUnforced (view new d)
 becomes_unforced l new d r c replies clear e b =

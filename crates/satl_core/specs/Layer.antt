@@ -1,9 +1,8 @@
 -- What the layer holds, and the direct device that it and its drive are.
-use Rattle.std.specs.Prelude.{◌≡◌, ℕ, ◌+◌, ◌≤◌, ◌<◌, ◌^◌, Bool, false, List, [], ◌∷◌, map, length, Option, IfSome}
+use Rattle.std.specs.Prelude.{◌≡◌, ℕ, ◌+◌, ◌≤◌, ◌<◌, ◌^◌, Bool, false, List, [], ◌∷◌, map, length, Option, None, IfSome}
 use Rattle.std.specs.List.{AllByRecursion}
 use Rattle.satl_base.specs.declared.modes.Modes.{Modes}
 use Rattle.satl_base.specs.declared.reply.Reply.{Reply}
-use Rattle.satl_base.specs.Cells.{AreSound}
 use Rattle.satl_cdb.specs.declared.command.Command.{Command}
 use Rattle.satl_cdb.specs.declared.command.Command.TheVariants.{Read, Write}
 use Rattle.satl_identify.specs.declared.identity.Identity.{Identity}
@@ -12,15 +11,20 @@ use Rattle.satl_line.specs.Kinds.{kind_of}
 use Rattle.satl_line.specs.Tasks.{Held, entries_of}
 use Rattle.satl_pages.specs.Counts.{Counts, number_of}
 use Rattle.satl_drive.specs.State.{DriveState, IsFit}
-use Rattle.satl_direct.specs.Device.{Device, task_of}
+use Rattle.satl_unit.specs.declared.attention.Attention.{Attention}
+use Rattle.satl_direct.specs.Device.{Device}
+use Rattle.satl_direct.specs.Tasks.{task_of}
+use Rattle.satl_direct.specs.Valid.{IsValid}
 
--- the layer: what its drive says of itself, the mode values, whether the unit is started, its mark of a lost link, its tasks in
--- their slots, and how many pages are free and out (a task's pages are neither)
+-- the layer: what its drive says of itself, the mode values, whether the unit is started, its mark of a lost link, the unit attention
+-- conditions of each nexus from nexus 0 on, its tasks in their slots, and how many pages are free and out (a task's pages are neither)
+-- (SAM-5 5.14; the rest: profile)
 pub record Layer : Type 0 where
   pub identity : Identity
   pub modes : Modes
   pub started : Bool
   pub down : Bool
+  pub attentions : List (List Attention)
   pub tasks : List Held
   pub free : ℕ
   pub out : ℕ
@@ -29,6 +33,12 @@ pub record Layer : Type 0 where
 abbrev pub held_pages : List Held → ℕ
 held_pages [] = 0
 held_pages (h ∷ hs) = length h.entry.body + held_pages hs
+
+-- a READ or a WRITE: the commands that are served so far
+abbrev pub IsServed : Command → Type 0
+IsServed (Read form lba count fua) = Unit {0}
+IsServed (Write form lba count fua) = Unit {0}
+IsServed _ = ⊥
 
 -- a READ or a WRITE of 1 to 4,096 blocks within the capacity and the 48 bits of an address
 abbrev pub IsTransfer : ℕ → Command → ℕ → Type 0
@@ -56,19 +66,21 @@ view l d = record {
   started = l.started;
   active = d.active;
   down = d.down;
+  attentions = l.attentions;
   glitches = d.glitches;
   identity = l.identity;
 }
 
--- the layer's record of its drive is right: nothing is outstanding, the data are those of the identity, the cache is on where WCE
--- is, the sectors are sound, and the mark of a lost link is set where the link is lost
+-- the layer's record of its drive is right: together they are a valid device; nothing is outstanding and no queued command has failed;
+-- the drive fits its data; the cache is on where WCE is as long as the link is up; and the mark of a lost link is set where the link is
+-- lost (profile)
 pub record Tied (l : Layer) (d : DriveState) : Type 0 where
   pub mark : l.down ≡ d.down
   pub idle : d.outstanding ≡ []
+  pub no_error : d.error ≡ None
   pub fit : IsFit d
-  pub capacity : d.capacity ≡ l.identity.capacity
   pub cache : l.down ≡ false → d.cache ≡ l.modes.wce
-  pub sound : AreSound d.cells
+  pub valid : IsValid (view l d)
 
 -- the pages in replies
 abbrev pub reply_pages : List Reply → ℕ

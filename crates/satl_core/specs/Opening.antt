@@ -1,10 +1,11 @@
 -- What opening the layer gives (SAT-3 8.1, IDENTIFY DEVICE; profile).
-use Rattle.std.specs.Prelude.{◌≡◌, ◌∷◌, true, false, List, [], drop, Ok, Err}
+use Rattle.std.specs.Prelude.{◌≡◌, ◌∷◌, not, true, false, List, [], drop, replicate, Ok, Err}
 use Rattle.satl_base.specs.declared.block.Block.{Block}
 use Rattle.satl_base.specs.Losses.{Loses}
 use Rattle.satl_io.specs.Causes.{Rose}
 use Rattle.satl_identify.specs.Refusals.{identity_of}
 use Rattle.satl_drive.specs.State.{DriveState}
+use Rattle.satl_drive.specs.Rules.{IsCutOff, MaySet}
 use Rattle.satl_core.specs.declared.satl.OpenFault.{OpenFault}
 use Rattle.satl_core.specs.declared.satl.OpenFault.TheVariants as faults
 use Rattle.satl_core.specs.Layer.{Layer, Tied}
@@ -16,14 +17,22 @@ pub record IsTold (old : DriveState) (given taken : List Block) (new : DriveStat
   pub lost : Loses old.cells new.cells
   pub stays : new ≡ record old { cells = new.cells }
 
--- the layer is that of the drive's data: started, without tasks, its modes as the drive's settings are, and no page is out
+-- the link was lost while the drive was asked: sectors were written back at most, and its settings may be others (profile)
+pub record IsAskCutOff (old new : DriveState) : Type 0 where
+  pub settings : MaySet old new
+  pub cut : IsCutOff old [] (record new { cache = old.cache; look = old.look; identify = old.identify })
+
+-- the layer is that of the drive's data: started, without tasks and unit attentions, its modes as the drive's settings are, and no page
+-- is out
 pub record IsOpened (old : DriveState) (l : Layer) (new : DriveState) : Type 0 where
   pub identity : identity_of old.identify ≡ Ok l.identity
   pub tasks : l.tasks ≡ []
   pub wce : l.modes.wce ≡ l.identity.cache_on
+  pub dra : l.modes.dra ≡ not l.identity.look_on
   pub d_sense : l.modes.d_sense ≡ false
   pub started : l.started ≡ true
   pub up : l.down ≡ false
+  pub attentions : l.attentions ≡ replicate 4 []
   pub out : l.out ≡ 0
   pub tied : Tied l new
   pub lost : Loses old.cells new.cells

@@ -1,5 +1,5 @@
 -- How the layer ends a task.
-use Rattle.std.specs.Prelude.{◌≡◌, ◌⊎◌, ℕ, ◌*◌, ◌==◌, not, Bool, true, false, if◌then◌else◌, List, [], length, map, MatchBool, bit_and}
+use Rattle.std.specs.Prelude.{◌≡◌, ◌⊎◌, ℕ, ◌*◌, ◌==◌, not, Bool, true, false, if◌then◌else◌, List, [], length, map, None, MatchBool, bit_and}
 use Rattle.std.specs.List.{AllByRecursion}
 use Rattle.satl_base.specs.declared.block.Block.{Block}
 use Rattle.satl_base.specs.declared.reply.Reply.{Reply}
@@ -67,11 +67,12 @@ ended_reply t ending descriptor = record {
 abbrev pub lost_replies : Bool → List Held → List Reply
 lost_replies descriptor tasks = map (λ h. ended_reply h.entry (endings.Check link_lost) descriptor) tasks
 
--- what a run of a drive leaves as it was, and that its sectors are sound
+-- what a run of a drive leaves as it was, the cache as long as the link is up, and that its sectors are sound
 pub record Stays (old new : DriveState) : Type 0 where
   pub capacity : new.capacity ≡ old.capacity
-  pub cache : new.cache ≡ old.cache
+  pub cache : new.down ≡ false → new.cache ≡ old.cache
   pub idle : new.outstanding ≡ []
+  pub no_error : new.error ≡ None
   pub sound : AreSound new.cells
 
 -- a WRITE whose data are to be on the medium at its end (SBC-3 5.31, FUA)

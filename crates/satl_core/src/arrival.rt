@@ -1,18 +1,29 @@
 // What becomes of a request, judged in the order of the steps.
 ghost use Rattle.std.specs.Prelude.{◌≡◌, ◌+◌, nat_lt};
 ghost use Rattle.satl_base.specs.Lists.{is_in};
-ghost use Rattle.satl_direct.specs.Arrival.{built, is_ordered, is_unit_0, needed, range_of};
-ghost use Rattle.satl_direct.specs.Senses.{out_of_range, plain, refusal, short_data, unknown_operation, unknown_unit};
+ghost use Rattle.satl_direct.specs.Arrival.{built, is_unit_0, untold_codes};
+ghost use Rattle.satl_direct.specs.Senses.{attention_sense, plain, refusal};
+ghost use Rattle.satl_direct.specs.Tasks.{is_ordered, needed, range_of};
+ghost use Rattle.satl_core.specs.Layer.{IsServed};
 
 use satl_base::{Attr, Range};
 use satl_cdb::{Command, Illegal};
 use satl_sense::{Extra, Sense};
+use satl_unit::Attention;
 
 /// The operation codes that are served so far: READ(10) and WRITE(10).
 pub fn is_built(code: u8) -> bool
     ensures { result ≡ is_in code built }
 {
     matches!(code, 0x28 | 0x2A)
+}
+
+/// Whether a command of this operation code is carried out before a unit attention is told: INQUIRY, REPORT LUNS and REQUEST
+/// SENSE (SAM-5 5.14).
+pub fn is_untold(code: u8) -> bool
+    ensures { result ≡ is_in code untold_codes }
+{
+    matches!(code, 0x12 | 0xA0 | 0x03)
 }
 
 /// Whether a LUN is that of logical unit 0.
@@ -31,8 +42,9 @@ pub fn is_ordered(attr: Attr) -> bool
     }
 }
 
-/// The blocks that a command goes over.
+/// The blocks that a READ or a WRITE goes over.
 pub fn range_of(command: &Command) -> Range
+    requires { IsServed command.now }
     ensures { result ≡ range_of command.now }
 {
     match *command {
@@ -40,17 +52,19 @@ pub fn range_of(command: &Command) -> Range
             lba,
             count,
         },
-        _ => Range::default(),
+        _ => unreachable!(),
     }
 }
 
-/// The bytes of data-out that a command needs.
+/// The bytes of data-out that a READ or a WRITE needs.
 pub fn needed(command: &Command) -> u64
+    requires { IsServed command.now }
     ensures { result ≡ needed command.now }
 {
     match *command {
+        Command::Read { .. } => 0,
         Command::Write { count, .. } => 512 * u64::from(count),
-        _ => 0,
+        _ => unreachable!(),
     }
 }
 
@@ -71,6 +85,14 @@ pub fn plain(key: u8, asc: u8, ascq: u8) -> Sense
         ascq,
         extra: Extra::None,
     }
+}
+
+/// UNIT ATTENTION, by its condition (SPC-4 4.5.6).
+pub fn attention_sense(what: Attention) -> Sense
+    ensures { result ≡ attention_sense what }
+{
+    let codes = what.additional_sense();
+    plain(0x6, codes.asc, codes.ascq)
 }
 
 fn pointer_to(in_cdb: bool, pointer: Option<u16>) -> Extra

@@ -1,29 +1,33 @@
 // The layer: what it holds, how it is opened, and the pages that it lends.
-ghost use Rattle.std.specs.Prelude.{◌≡◌, ◌≤◌, ◌+◌, ◌-◌, ◌<◌, ◌↔◌, ◌*◌, [], Ok, is_some, IfOk, IfErr, IfSome, IfNone, IsNone, OnSome, map, length};
-ghost use Rattle.std.specs.List.{AllByRecursion, position_from};
+ghost use Rattle.std.specs.Prelude.{◌≡◌, ◌≤◌, ◌+◌, ◌-◌, ◌<◌, ◌↔◌, ◌*◌, [], Ok, None, IfOk, IfErr, IfSome, IfNone, IsNone, OnOk, OnSome, map, length};
+ghost use Rattle.std.specs.List.{AllByRecursion};
 ghost use Rattle.satl_base.specs.declared.request.Request.{Request};
 ghost use Rattle.satl_io.specs.Causes.{RoseBy};
-ghost use Rattle.satl_line.specs.Tasks.{is_named};
 ghost use Rattle.satl_drive.specs.State.{IsFit};
 ghost use Rattle.satl_frame.specs.Output.{IsWritable};
-ghost use Rattle.satl_direct.specs.Arrival.{Arrives, held_blocks, needed};
+ghost use Rattle.satl_direct.specs.Arrival.{Arrives};
+ghost use Rattle.satl_direct.specs.Tasks.{held_blocks, needed};
 ghost use Rattle.satl_direct.specs.Quiet.{Around};
 ghost use Rattle.satl_direct.specs.Run.{MayLose, losses_of};
 ghost use Rattle.satl_direct.specs.Turn.{Turn};
 ghost use Rattle.satl_core.specs.Layer.{IsTransfer, Tied, reply_pages, view};
 ghost use Rattle.satl_core.specs.Opening.{IsCause, IsOpened};
-ghost use Rattle.satl_core.specs.Submitting.{Becomes, CanSubmit, IsCutOf, judged};
+ghost use Rattle.satl_core.specs.Submitting.{Becomes, CanSubmit, IsCutOf, judged, once_judged};
 ghost use Rattle.satl_core.specs.Turning.{AreUnforced, AsksNoFua};
 
+use crate::arrival::{attention_sense, is_unit_0, plain};
 use crate::commands::tell_identity;
-use crate::submitting::{AtOnce, answer_at_once, judge, own_pages, task_without_pages};
+use crate::submitting::{
+    AtOnce, answer_at_once, drop_tasks, judge_code, next_attention, own_pages, task_without_pages,
+};
 use crate::turning::{end_task, link_lost, lose_tasks, run_task};
-use satl_base::{Lender, Modes, Nexus, NoMemory, Pages, Replies, Request, Steps, Tag};
+use satl_base::{Lender, Modes, NoMemory, Pages, Replies, Request, Steps};
 use satl_cdb::Command;
 use satl_drive::{Drive, LinkDown};
 use satl_identify::{Identity, IdentityFault, read_identity};
 use satl_line::TaskSet;
 use satl_pages::Pool;
+use satl_unit::Attentions;
 use std::alloc::Global;
 use std::marker::Model;
 use std::sync::ledger::Ledger;
@@ -62,6 +66,7 @@ pub struct Satl {
     pub(crate) modes: Modes,
     pub(crate) started: bool,
     pub(crate) down: bool,
+    pub(crate) attentions: [Attentions; 4],
     pub(crate) tasks: TaskSet,
     pub(crate) pool: Pool,
 }
@@ -72,14 +77,14 @@ impl Model for Satl {
 
     ghost Value = { Layer };
 
-    ghost view = { λ s. record { identity = s.identity; modes = s.modes; started = s.started; down = s.down; tasks = s.tasks; free = s.pool.free; out = s.pool.out - held_pages s.tasks } };
+    ghost view = { λ s. record { identity = s.identity; modes = s.modes; started = s.started; down = s.down; attentions = s.attentions; tasks = s.tasks; free = s.pool.free; out = s.pool.out - held_pages s.tasks } };
 
     ghost invariant = { λ s. IsSoundLayer s.identity s.tasks s.pool };
 }
 
 impl Satl {
-    /// Opens the layer on a drive with nothing outstanding: it asks the drive for its IDENTIFY DEVICE data once, and takes all
-    /// memory that it will use. `Identity`: the layer does not serve such a drive. `LinkDown`: the drive's link is lost.
+    /// Opens the layer on a drive with nothing outstanding and in no error state: it asks the drive for its IDENTIFY DEVICE data
+    /// once, and takes all memory that it will use. `Identity`: the layer does not serve such a drive. `LinkDown`: the drive's link is lost.
     /// `NoMemory` may come before or after the drive is asked (SAT-3; profile).
     pub fn open<D: Drive, L: Ledger>(
         alloc: Global,
@@ -87,6 +92,7 @@ impl Satl {
         steps: &mut Steps<L>,
     ) -> Result<Satl, OpenFault>
         requires idle { (D.state drive.old).outstanding ≡ [] }
+        requires no_error { (D.state drive.old).error ≡ None }
         requires fit { IsFit (D.state drive.old) }
         ensures opened { IfOk result (λ s. IsOpened (D.state drive.old) s (D.state drive.new)) }
         ensures cause { IfErr result (IsCause (D.state drive.old) (D.state drive.new)) }
@@ -112,13 +118,15 @@ impl Satl {
             modes: first_modes(&identity),
             started: true,
             down: false,
+            attentions: no_attentions(),
             tasks,
             pool,
         })
     }
 
     /// A command arrives: it is answered at once, or waits as a task. Its pages become the task's or are given back (SAM-5 5;
-    /// the order of the tests: profile). Where no page was free for all of its data-out, it does what the whole request does.
+    /// the order of the tests: profile). Where it has the nexus and tag of a task, all tasks of its nexus go without an answer.
+    /// Where no page was free for all of its data-out, it does what the whole request does.
     pub fn submit<D: Drive, L: Ledger>(
         &mut self,
         request: Request,
@@ -140,7 +148,7 @@ impl Satl {
         ensures writable { AllByRecursion IsWritable replies.new }
         ensures steps { steps.new ≡ steps.old }
     {
-        match judge(self, &request) {
+        match self.judge(&request) {
             Ok(command) => self.add_task(request, command, replies),
             Err(answer) => answer_at_once(
                 &mut self.pool,
@@ -150,6 +158,29 @@ impl Satl {
                 replies,
             ),
         }
+    }
+
+    /// Judges a request: its command, which may become a task, or why it is answered at once. Where it overlaps a task, all
+    /// tasks of its nexus go without an answer (SAM-5 5.1). A unit attention that it is answered with is told by that (SAM-5
+    /// 5.14).
+    fn judge(&mut self, request: &Request) -> Result<Command, AtOnce>
+        ensures judged { result ≡ judged self.old request.now }
+        ensures left { self.new ≡ record (once_judged self.old request.now) { free = self.new.free } }
+        ensures kept { self.new ≡ record self.old { tasks = self.new.tasks; attentions = self.new.attentions; free = self.new.free } }
+        ensures same { OnOk result (self.new ≡ self.old) }
+        ensures transfer { IfOk result (λ command. IsTransfer self.old.identity.capacity command (held_blocks command)) }
+    {
+        if !is_unit_0(&request.lun) {
+            return Err(AtOnce::Check(plain(0x5, 0x25, 0x00)));
+        }
+        if self.tasks.find(request.nexus, request.tag).is_some() {
+            drop_tasks(&mut self.tasks, &mut self.pool, request.nexus);
+            return Err(AtOnce::Check(plain(0xB, 0x4E, 0x00)));
+        }
+        if let Some(what) = next_attention(&mut self.attentions, request) {
+            return Err(AtOnce::Check(attention_sense(what)));
+        }
+        judge_code(self, request)
     }
 
     /// A command becomes a task, or the task set is full.
@@ -222,13 +253,6 @@ impl Satl {
         }
     }
 
-    /// Whether a task of this nexus with this tag waits (SAM-5 4.7, I_T_L_Q nexus).
-    pub fn holds(&self, nexus: Nexus, tag: Tag) -> bool
-        ensures { result ≡ is_some (position_from (is_named nexus tag) 0 self.now.tasks) }
-    {
-        self.tasks.find(nexus, tag).is_some()
-    }
-
     /// The number of tasks that wait, at most 64 (profile).
     pub fn pending(&self) -> usize
         ensures count { result ≡ length self.now.tasks }
@@ -295,4 +319,16 @@ fn first_modes(identity: &Identity) -> Modes
         dra: !identity.look_on,
         d_sense: false,
     }
+}
+
+/// No unit attention for any nexus.
+fn no_attentions() -> [Attentions; 4]
+    ensures { result ≡ Rattle.std.specs.Prelude.replicate 4 [] }
+{
+    [
+        Attentions::none(),
+        Attentions::none(),
+        Attentions::none(),
+        Attentions::none(),
+    ]
 }

@@ -1,19 +1,20 @@
 // A command arrives.
 ghost use Rattle.std.specs.Prelude.{◌≡◌, ◌≤◌, ◌+◌, ◌*◌, ◌∷◌, [], length, take};
-ghost use Rattle.satl_direct.specs.Device.{data_out};
-ghost use Rattle.satl_direct.specs.Arrival.{held_blocks, needed};
-ghost use Rattle.satl_core.specs.Submitting.{command_answer, judged, readiness, reply_at_once, task_without_pages};
+ghost use Rattle.satl_direct.specs.Tasks.{data_out, held_blocks, needed};
+ghost use Rattle.satl_core.specs.Layer.{IsServed, held_pages};
+ghost use Rattle.satl_core.specs.Submitting.{attention_of, code_answer, command_answer, left_by, readiness, reply_at_once, task_without_pages, untold};
 
 use crate::arrival::{
-    is_built, is_ordered, is_outside, is_unit_0, needed, plain, range_of, refusal,
+    is_built, is_ordered, is_outside, is_untold, needed, plain, range_of, refusal,
 };
 use crate::satl::Satl;
 use arrayvec::ArrayVec;
-use satl_base::{Pages, Replies, Reply, Request, Scsi};
+use satl_base::{Nexus, Pages, Replies, Reply, Request, Scsi};
 use satl_cdb::{Command, read_cdb};
-use satl_line::{Entry, Kind};
+use satl_line::{Entry, Kind, TaskSet};
 use satl_pages::Pool;
 use satl_sense::{Sense, sense_bytes};
+use satl_unit::{Attention, Attentions};
 
 /// Why a command is answered at once: GOOD, TASK SET FULL, or CHECK CONDITION with its sense data.
 #[derive(Clone, Copy, Debug, PartialEq, Eq)]
@@ -23,13 +24,40 @@ pub enum AtOnce {
     Check(Sense),
 }
 
-/// The command of a request that may become a task, or why it is answered at once.
-pub fn judge(satl: &Satl, request: &Request) -> Result<Command, AtOnce>
-    ensures { result ≡ judged satl.now request.now }
+/// Takes all tasks of a nexus out, and gives their pages back. They have no answer (SAM-5 5.1, overlapped commands).
+pub fn drop_tasks(tasks: &mut TaskSet, pool: &mut Pool, nexus: Nexus)
+    requires { held_pages tasks.old ≤ pool.old.out }
+    ensures others { tasks.new ≡ left_by nexus tasks.old }
+    ensures free { pool.new.free + held_pages tasks.new ≡ pool.old.free + held_pages tasks.old }
+    ensures out { pool.new.out + held_pages tasks.old ≡ pool.old.out + held_pages tasks.new }
 {
-    if !is_unit_0(&request.lun) {
-        return Err(AtOnce::Check(plain(0x5, 0x25, 0x00)));
+    let mut place = 0;
+    while place < tasks.len() {
+        if tasks.entry(place).nexus != nexus {
+            place += 1;
+            continue;
+        }
+        let Entry { body, .. } = tasks.remove(place);
+        pool.give(body);
     }
+}
+
+/// The unit attention that a request is answered with, which is told by that (SAM-5 5.14).
+pub fn next_attention(attentions: &mut [Attentions; 4], request: &Request) -> Option<Attention>
+    ensures next { result ≡ attention_of attentions.old request.now }
+    ensures left { attentions.new ≡ untold result request.now.nexus attentions.old }
+{
+    if is_untold(request.cdb[0]) {
+        return None;
+    }
+    attentions[request.nexus.number() as usize].next()
+}
+
+/// Judges a request by its operation code, its fields and its data-out: its command, which may become a task, or why it is
+/// answered at once.
+pub fn judge_code(satl: &Satl, request: &Request) -> Result<Command, AtOnce>
+    ensures { result ≡ code_answer satl.now request.now }
+{
     if !is_built(request.cdb[0]) {
         return Err(AtOnce::Check(plain(0x5, 0x20, 0x00)));
     }
@@ -40,6 +68,7 @@ pub fn judge(satl: &Satl, request: &Request) -> Result<Command, AtOnce>
 }
 
 fn judge_command(satl: &Satl, data_len: u32, command: Command) -> Result<Command, AtOnce>
+    requires { IsServed command }
     ensures { result ≡ command_answer satl.now data_len command }
 {
     let range = range_of(&command);
@@ -69,6 +98,7 @@ fn readiness(satl: &Satl) -> AtOnce
 
 /// The task that a request becomes, still without its pages.
 pub fn task_without_pages(request: &Request, command: Command, queued_trim: bool) -> Entry
+    requires { IsServed command }
     ensures { result ≡ task_without_pages request.now command queued_trim }
 {
     let range = range_of(&command);
@@ -91,6 +121,7 @@ pub fn task_without_pages(request: &Request, command: Command, queued_trim: bool
 /// The pages of a task: a WRITE keeps the first ones of its data-out, and a READ takes pages for its data-in. The others are
 /// given back.
 pub fn own_pages(pool: &mut Pool, command: &Command, body: Pages) -> Pages
+    requires served { IsServed command.now }
     requires out { length body ≤ pool.old.out }
     requires room { held_blocks command.now ≤ pool.old.free + length body }
     requires written { needed command.now ≤ 512 * length body }

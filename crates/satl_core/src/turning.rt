@@ -1,5 +1,5 @@
 // A task ends.
-ghost use Rattle.std.specs.Prelude.{◌≡◌, ◌≤◌, ◌<◌, ◌+◌, ◌*◌, ◌-◌, ◌++◌, ◌∷◌, [], length, true, IfOk, OnOk, OnErr};
+ghost use Rattle.std.specs.Prelude.{◌≡◌, ◌≤◌, ◌<◌, ◌+◌, ◌*◌, ◌-◌, ◌++◌, ◌∷◌, [], length, true, None, IfOk, OnOk, OnErr};
 ghost use Rattle.std.specs.List.{AllByRecursion};
 ghost use Rattle.satl_frame.specs.Output.{IsWritable};
 ghost use Rattle.satl_drive.specs.State.{IsFit};
@@ -57,6 +57,7 @@ pub fn run_command<D: Drive, L: Ledger>(
     steps: &mut Steps<L>,
 ) -> Result<Taskfile, LinkDown>
     requires idle { (D.state drive.old).outstanding ≡ [] }
+    requires no_error { (D.state drive.old).error ≡ None }
     requires transfer { IsTransfer (D.state drive.old).capacity command.now (length body.old) }
     ensures ok { IfOk result (λ ended. IsRun (D.state drive.old) (command_registers (ata_command command.now)) body.old ended body.new (D.state drive.new)) }
     ensures err { OnErr result (IsRunCutOff (D.state drive.old) (command_registers (ata_command command.now)) body.old (D.state drive.new)) }
@@ -79,6 +80,7 @@ pub fn run_task<D: Drive, L: Ledger>(
     steps: &mut Steps<L>,
 ) -> Result<Ending, LinkDown>
     requires idle { (D.state drive.old).outstanding ≡ [] }
+    requires no_error { (D.state drive.old).error ≡ None }
     requires transfer { IsTransfer (D.state drive.old).capacity command.now (length body.old) }
     requires sound { AreSound (D.state drive.old).cells }
     requires mark { down ≡ (D.state drive.old).down }

@@ -33,14 +33,15 @@ built = 0x28 ∷ 0x2A ∷ []
 abbrev pub code_of : Request → ℕ
 code_of r = slice_index r.cdb 0
 
--- whether a request has this operation code, and it is served
+-- whether a request has this operation code, and it is served (SPC-4 4.3; profile)
 abbrev pub asks_for : ℕ → Request → Bool
 asks_for code r = (code_of r == code) && is_in code built
 
--- an answer without data
+-- an answer without data (SAM-5 5.1)
 abbrev pub reply_to : Request → Scsi → List ℕ → Reply
 reply_to r status sense = record { nexus = r.nexus; tag = r.tag; status = status; sense = record { items = sense }; body = []; data_len = 0; expected = r.expected }
 
+-- CHECK CONDITION with sense data in the form that D_SENSE chooses (SAM-5 5.3.1, SPC-4 4.5)
 abbrev pub check : Device → Request → Sense → Reply
 check s r sense = reply_to r CheckCondition (sense_text s.modes sense)
 
@@ -53,7 +54,7 @@ abbrev pub is_unit_0 : List ℕ → Bool
 is_unit_0 lun = list_all (λ byte. byte == 0) lun
 
 -- what becomes of a request: it is answered at once and nothing changes; or with the first unit attention condition of its nexus,
--- which is told by that; or it overlaps a task, and all tasks of its nexus go; or it is a task from now on
+-- which is told by that; or it overlaps a task, and all tasks of its nexus go; or it is a task from now on (SAM-5 5)
 pub data Arrival : Type 0 where
   answered : Reply → Arrival
   attended : Reply → Arrival
@@ -105,25 +106,25 @@ becomes s r (commands.WriteSame form lba count unmap) = placed s r (commands.Wri
 becomes s r (commands.Unmap size) = placed_unless ((size == 0) || (length (ranges_of r.body) == 0)) s r (commands.Unmap size)
 becomes s r (commands.Pass cdb) = placed s r (commands.Pass cdb)
 
--- refused with this, if there is something, and else what follows
+-- refused with this, if there is something, and else what follows (SPC-4 4.5.6)
 abbrev pub unless_refused : Option Illegal → Device → Request → Arrival → Arrival
 unless_refused None s r next = next
 unless_refused (Some why) s r next = answered (check s r (refusal why))
 
--- the data-out: the length of the list, fewer bytes than the command needs, and what is in them; more bytes are ignored
+-- the data-out: the length of the list, fewer bytes than the command needs, and what is in them; more bytes are ignored (SBC-3 5; profile)
 abbrev pub data_arrival : Device → Request → Command → Arrival
 data_arrival s r command =
     unless_refused (asks command).length_fault s r
     (if nat_lt r.data_len (needed command) then answered (check s r short_data)
     else unless_refused ((asks command).data_fault s.identity s.modes r.body) s r (becomes s r command))
 
--- the range, and then the data-out
+-- the range, and then the data-out (SBC-3 5)
 abbrev pub command_arrival : Device → Request → Command → Arrival
 command_arrival s r command =
     if nat_lt s.identity.capacity ((range_of command).lba + (range_of command).count) then answered (check s r out_of_range)
     else data_arrival s r command
 
--- the fields: the lowest byte at fault, or for ATA PASS-THROUGH the first rule that is broken
+-- the fields: the lowest byte at fault, or for ATA PASS-THROUGH the first rule that is broken (SPC-4 4.3; SAT-3 12.2)
 abbrev pub cdb_arrival : Device → Request → Result Command Illegal → Arrival
 cdb_arrival s r (Err why) = answered (check s r (refusal why))
 cdb_arrival s r (Ok command) = unless_refused (asks command).fields_fault s r (command_arrival s r command)
@@ -132,15 +133,15 @@ cdb_arrival s r (Ok command) = unless_refused (asks command).fields_fault s r (c
 abbrev pub untold_codes : List ℕ
 untold_codes = 0x12 ∷ 0xA0 ∷ 0x03 ∷ []
 
--- the unit attention condition that a request is answered with
+-- the unit attention condition that a request is answered with (SAM-5 5.14)
 abbrev pub attention_for : Device → Request → Option Attention
 attention_for s r = if is_in (code_of r) untold_codes then None else slice_get (attentions_of r.nexus s) 0
 
--- the operation code, and then the fields
+-- the operation code, and then the fields (SPC-4 4.3)
 abbrev pub code_arrival : Device → Request → Arrival
 code_arrival s r = if not (is_in (code_of r) built) then answered (check s r unknown_operation) else cdb_arrival s r (says r.cdb s.identity.trim)
 
--- a unit attention, and then the operation code
+-- a unit attention, and then the operation code (SAM-5 5.14)
 abbrev pub attention_arrival : Option Attention → Device → Request → Arrival
 attention_arrival (Some what) s r = attended (check s r (attention_sense what))
 attention_arrival None s r = code_arrival s r
@@ -160,17 +161,17 @@ other_arrival s r =
     else answered (check s r unknown_unit)
 
 -- the first that holds: another logical unit, unless LUNs are asked for; a task of that nexus and tag; a unit attention; an
--- operation code that is not served; a bad field; a range that is outside; bad data-out; and then the command itself
+-- operation code that is not served; a bad field; a range that is outside; bad data-out; and then the command itself (profile)
 abbrev pub arrival : Device → Request → Arrival
 arrival s r = if is_unit_0 r.lun || asks_for 0xA0 r then unit_arrival s r else other_arrival s r
 
--- what an arrival does: its answers, and the device after it
+-- what an arrival does: its answers, and the device after it (SAM-5 5)
 abbrev pub ArrivesAs : Arrival → Request → Device → List Reply → Device → Type 0
 ArrivesAs (answered reply) r s answers new = (answers ≡ reply ∷ []) × (new ≡ s)
 ArrivesAs (attended reply) r s answers new = (answers ≡ reply ∷ []) × (new ≡ once_told r.nexus s)
 ArrivesAs (overlaps reply) r s answers new = (answers ≡ reply ∷ []) × (new ≡ record s { tasks = of_others r.nexus s.tasks })
 ArrivesAs (waits task) r s answers new = (answers ≡ []) × (new ≡ record s { tasks = s.tasks ++ task ∷ [] })
 
--- a request arrives
+-- a request arrives (SAM-5 5)
 abbrev pub Arrives : Request → Device → List Reply → Device → Type 0
 Arrives r s answers new = ArrivesAs (arrival s r) r s answers new

@@ -10,14 +10,15 @@ abbrev pub posted_for : (ℕ → Bool) → Attention → ℕ → List (List Atte
 posted_for for what nexus [] = []
 posted_for for what nexus (conditions ∷ rest) = (if for nexus then posted what conditions else conditions) ∷ posted_for for what (nexus + 1) rest
 
--- one more for each nexus that passes a test
+-- one more for each nexus that passes a test (SAM-5 5.14)
 abbrev pub post : (ℕ → Bool) → Attention → List (List Attention) → List (List Attention)
 post for what attentions = posted_for for what 0 attentions
 
--- whether two flags, or two sets of mode values, are the same
+-- whether two flags, or two sets of mode values, are the same (profile)
 abbrev pub are_same : Bool → Bool → Bool
 are_same a b = if a then b else not b
 
+-- whether two sets of mode values are the same (SPC-4, MODE SELECT commands)
 abbrev pub are_same_modes : Modes → Modes → Bool
 are_same_modes a b = are_same a.wce b.wce && are_same a.dra b.dra && are_same a.d_sense b.d_sense
 

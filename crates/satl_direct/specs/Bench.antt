@@ -11,7 +11,7 @@ use Rattle.satl_unit.specs.declared.attention.Attention.TheVariants.{PowerOn}
 use Rattle.satl_direct.specs.Device.{Device}
 use Rattle.satl_direct.specs.Turn.{IsLost}
 
--- the device changes so, and nothing is answered
+-- the device changes so, and nothing is answered (profile)
 pub record IsUnanswered (after : Device) (answers : List Reply) (new : Device) : Type 0 where
   pub none : answers ≡ []
   pub new_is : new ≡ after

@@ -28,19 +28,20 @@ use Rattle.satl_direct.specs.Tasks.{asks, over, pass_of}
 use Rattle.satl_direct.specs.Attentions.{with_modes_changed}
 use Rattle.satl_direct.specs.Senses.{sense_text, link_lost, miscompare, not_ready, read_error, write_error, crc_error}
 
--- the answer to a task, with the blocks that it read
+-- the answer to a task, with the blocks that it read (SAM-5 5.1)
 abbrev pub task_reply : Entry → Scsi → List ℕ → List Block → Reply
 task_reply t status sense blocks = record { nexus = t.nexus; tag = t.tag; status = status; sense = record { items = sense }; body = blocks; data_len = 512 * length blocks; expected = t.expected }
 
+-- a task is answered with CHECK CONDITION and this sense (SAM-5 5.3.1)
 abbrev pub task_check : Device → Entry → Sense → Reply
 task_check s t sense = task_reply t CheckCondition (sense_text s.modes sense) []
 
--- a task is answered with this sense, and nothing else changes
+-- a task is answered with this sense, and nothing else changes (SAM-5 5.3.1)
 pub record IsChecked (sense : Sense) (s : Device) (t : Entry) (reply : Reply) (new : Device) : Type 0 where
   pub answer : reply ≡ task_check s t sense
   pub stays : new ≡ record s { tasks = without t s.tasks }
 
--- a task is done without data, and the device is this one but for the task
+-- a task is done without data, and the device is this one but for the task (SAM-5 5.3.1)
 pub record IsDone (after : Device) (t : Entry) (reply : Reply) (new : Device) : Type 0 where
   pub answer : reply ≡ task_reply t Good [] []
   pub stays : new ≡ record after { tasks = without t after.tasks }
@@ -122,6 +123,7 @@ EndsCompared lba count s t reply new =
 abbrev pub settled : Device → Device
 settled s = record s { cells = map settle s.cells }
 
+-- the same where this holds (SBC-3, SYNCHRONIZE CACHE)
 abbrev pub settled_if : Bool → Device → Device
 settled_if settles s = if settles then settled s else s
 
@@ -156,6 +158,7 @@ abbrev pub pass_status : Option Sense → Scsi
 pass_status None = Good
 pass_status (Some sense) = CheckCondition
 
+-- its sense data, in the form that D_SENSE chooses (SAT-3 12.2)
 abbrev pub pass_sense : Modes → Option Sense → List ℕ
 pass_sense modes None = []
 pass_sense modes (Some sense) = sense_text modes sense
@@ -164,6 +167,7 @@ pass_sense modes (Some sense) = sense_text modes sense
 abbrev pub pass_data : Pass → Taskfile → List Block → List ℕ
 pass_data pass ended taken = if is_bad ended || pass.out then [] else first_bytes pass.length taken
 
+-- its answer, with its data-in (SAT-3 12.2)
 abbrev pub pass_reply : Device → Entry → Pass → Taskfile → List Block → Reply
 pass_reply s t pass ended taken = record {
   nexus = t.nexus;
@@ -210,7 +214,7 @@ EndsBy (commands.WriteSame form lba count true) s t reply new = EndsOnMedium (ra
 EndsBy (commands.Unmap size) s t reply new = EndsOnMedium (ranged_trim t.ranges.items) s t reply new
 EndsBy (commands.Pass cdb) s t reply new = EndsPassed (pass_of cdb) s t reply new
 
--- the first that holds: the link is lost; the unit is stopped, and the command needs it started; and then the command itself
+-- the first that holds: the link is lost; the unit is stopped, and the command needs it started; and then the command itself (SAT-3 11; profile)
 abbrev pub Ends : Device → Entry → Reply → Device → Type 0
 Ends s t reply new =
     MatchBool s.down (IsChecked link_lost s t reply new)

@@ -39,13 +39,13 @@ now_at cells lba = option_map (λ c. c.now) (slice_get cells lba)
 
 -- Law of one answer.
 
--- whether an answer is a reply to this nexus and tag
+-- whether an answer is a reply to this nexus and tag (SAM-5 4.7)
 abbrev pub answers_to : ℕ → ℕ → Answer → Bool
 answers_to nexus tag (replied r) = (r.nexus == nexus) && ((r.tag).0 == tag)
 answers_to nexus tag (managed from function response named) = false
 answers_to nexus tag ended = false
 
--- whether an event is a request of this nexus and tag
+-- whether an event is a request of this nexus and tag (SAM-5 4.7)
 abbrev pub asks_by : ℕ → ℕ → Frame → Bool
 asks_by nexus tag (frames.Request r) = (r.nexus == nexus) && ((r.tag).0 == tag)
 asks_by nexus tag (frames.Manage m) = false
@@ -60,7 +60,7 @@ cleared_by (attended reply) r s = []
 cleared_by (overlaps reply) r s = filter (is_of r.nexus) s.tasks
 cleared_by (waits task) r s = []
 
--- the tasks that a bench event takes off without an answer: all at a loss of power
+-- the tasks that a bench event takes off without an answer: all at a loss of power (profile)
 abbrev pub cut_by : BenchEvent → Device → List Entry
 cut_by (events.Strike which lba) s = []
 cut_by (events.Mend lba) s = []
@@ -69,7 +69,7 @@ cut_by (events.Order order) s = []
 cut_by events.Power s = s.tasks
 cut_by events.Unplug s = []
 
--- the tasks that an event takes off without an answer
+-- the tasks that an event takes off without an answer (SAM-5 5, 7)
 abbrev pub taken_off : Frame → Device → List Entry
 taken_off (frames.Request r) s = cleared_by (arrival s r) r s
 taken_off (frames.Manage m) s = filter (effect m s).goes s.tasks
@@ -77,7 +77,7 @@ taken_off (frames.Turn count) s = []
 taken_off (frames.Bench event) s = cut_by event s
 taken_off frames.End s = []
 
--- how many tasks of a nexus and tag a run takes off without an answer
+-- how many tasks of a nexus and tag a run takes off without an answer (profile)
 abbrev pub removed : ℕ → ℕ → {first last : Device} {events : List Frame} {groups : List (List Answer)} {losses deep : ℕ} → RunDeep first events groups losses last deep → ℕ
 removed nexus tag start = 0
 removed nexus tag (step {s = s} event now d so_far does) = removed nexus tag so_far + how_many (is_called nexus tag) (taken_off event s)
@@ -96,7 +96,7 @@ is_good Good = true
 is_good CheckCondition = false
 is_good TaskSetFull = false
 
--- whether a request was answered with GOOD
+-- whether a request was answered with GOOD (SAM-5 5.3.1)
 abbrev pub is_done : Request → Answer → Bool
 is_done r (replied reply) = (reply.nexus == r.nexus) && ((reply.tag).0 == (r.tag).0) && is_good reply.status
 is_done r (managed from function response named) = false
@@ -108,7 +108,7 @@ brought (Ok (commands.Write form lba count fua)) body x was = if nat_le lba x &&
 brought (Ok command) body x was = was
 brought (Err why) body x was = was
 
--- a sector's block after an event, where the requests were answered so
+-- a sector's block after an event, where the requests were answered so (SBC-3 5)
 abbrev pub block_after : Bool → List Answer → ℕ → Frame → Block → Block
 block_after trim answers x (frames.Request r) was = if list_any (is_done r) answers then brought (says r.cdb trim) r.body x was else was
 block_after trim answers x (frames.Manage m) was = was
@@ -116,7 +116,7 @@ block_after trim answers x (frames.Turn count) was = was
 block_after trim answers x (frames.Bench event) was = was
 block_after trim answers x frames.End was = was
 
--- a sector's block by the WRITEs answered with GOOD, in the order of the input
+-- a sector's block by the WRITEs answered with GOOD, in the order of the input (SBC-3 5)
 abbrev pub content : Bool → List Answer → ℕ → List Frame → Block → Block
 content trim answers x [] was = was
 content trim answers x (event ∷ events) was = content trim answers x events (block_after trim answers x event was)
@@ -128,7 +128,7 @@ is_transfer (Ok (commands.Write form lba count fua)) = true
 is_transfer (Ok command) = false
 is_transfer (Err why) = true
 
--- a request for a transfer, TURN, ORDER or END
+-- a request for a transfer, TURN, ORDER or END (profile)
 abbrev pub is_plain : Bool → Frame → Bool
 is_plain trim (frames.Request r) = is_transfer (says r.cdb trim)
 is_plain trim (frames.Manage m) = false
@@ -137,11 +137,11 @@ is_plain trim (frames.Bench (events.Order order)) = true
 is_plain trim (frames.Bench event) = false
 is_plain trim frames.End = true
 
--- each nexus and tag asks once at most
+-- each nexus and tag asks once at most (profile)
 abbrev pub AskOnce : List Frame → Type 0
 AskOnce frames_of_run = (nexus tag : ℕ) → how_many (asks_by nexus tag) frames_of_run < 2
 
--- a device at rest: up, started, without tasks, flaws and glitches
+-- a device at rest: up, started, without tasks, flaws and glitches (profile)
 pub record IsFresh (s : Device) : Type 0 where
   pub up : s.down ≡ false
   pub started : s.started ≡ true
@@ -149,7 +149,7 @@ pub record IsFresh (s : Device) : Type 0 where
   pub no_flaws : AllByRecursion (λ c. (c.read_flaw ≡ false) × (c.write_flaw ≡ false)) s.cells
   pub no_glitches : s.glitches ≡ 0
 
--- the blocks of a range by the WRITEs before
+-- the blocks of a range by the WRITEs before (SBC-3 5)
 abbrev pub contents : Bool → List Answer → List Frame → List Cell → ℕ → ℕ → List Block
 contents trim answers before cells lba count = map (λ x. content trim answers x before (get_or (map (λ c. c.now) cells) x no_block)) (addresses_from lba count)
 
@@ -159,13 +159,13 @@ IsReadOf (Ok (commands.Read form from number fua)) lba count = (from ≡ lba) ×
 IsReadOf (Ok command) lba count = ⊥
 IsReadOf (Err why) lba count = ⊥
 
--- a reply that answers a request with GOOD
+-- a reply that answers a request with GOOD (SAM-5 5.3.1)
 pub record IsGoodReply (r : Request) (reply : Reply) (answers : List Answer) : Type 0 where
   pub among : IsIn (replied reply) answers
   pub done : is_done r (replied reply) ≡ true
 
 -- each READ that is answered with GOOD gives the blocks of the WRITEs answered with GOOD before it in the input, and at the end each
--- sector has the block of the last of all these
+-- sector has the block of the last of all these (SBC-3 5)
 pub record IsInOrder (first : Device) (all : List Frame) (answers : List Answer) (last : Device) : Type 0 where
   pub reads : (before after : List Frame) (r : Request) (reply : Reply) (lba count : ℕ) → all ≡ before ++ frames.Request r ∷ after → IsReadOf (says r.cdb first.identity.trim) lba count →
       IsGoodReply r reply answers → reply.body ≡ contents first.identity.trim answers before first.cells lba count
@@ -178,21 +178,22 @@ ArrivalOrder = (first last : Device) (all : List Frame) (answers : List Answer) 
 
 -- Law of untouched sectors.
 
--- no pair names a sector
+-- no pair names a sector (profile)
 abbrev pub Spares : ℕ → List Pair → Type 0
 Spares x pairs = list_any (λ p. p.lba == x) pairs ≡ false
 
--- none of these tasks writes a sector
+-- none of these tasks writes a sector (profile)
 abbrev pub SparedBy : ℕ → Device → List Entry → Type 0
 SparedBy x s tasks = AllByRecursion (λ t. Spares x (writes s t)) tasks
 
--- nor the task that a request becomes
+-- nor the task that a request becomes (profile)
 abbrev pub SparedByNew : ℕ → Device → Arrival → Type 0
 SparedByNew x s (answered reply) = Unit {0}
 SparedByNew x s (attended reply) = Unit {0}
 SparedByNew x s (overlaps reply) = Unit {0}
 SparedByNew x s (waits task) = Spares x (writes s task)
 
+-- nor a task that comes in an event (profile)
 abbrev pub SparedIn : ℕ → Frame → Device → Type 0
 SparedIn x (frames.Request r) s = SparedByNew x s (arrival s r)
 SparedIn x (frames.Manage m) s = Unit {0}
@@ -200,12 +201,12 @@ SparedIn x (frames.Turn count) s = Unit {0}
 SparedIn x (frames.Bench event) s = Unit {0}
 SparedIn x frames.End s = Unit {0}
 
--- no task of a run writes a sector
+-- no task of a run writes a sector (profile)
 abbrev pub SparedThrough : ℕ → {first last : Device} {events : List Frame} {groups : List (List Answer)} {losses deep : ℕ} → RunDeep first events groups losses last deep → Type 0
 SparedThrough x {first = first} start = SparedBy x first first.tasks
 SparedThrough x (step {s = s} {new = new} event now d so_far does) = SparedThrough x so_far × SparedIn x event s × SparedBy x new new.tasks
 
--- a loss of power
+-- a loss of power (profile)
 abbrev pub is_power : Frame → Bool
 is_power (frames.Request r) = false
 is_power (frames.Manage m) = false
@@ -214,6 +215,7 @@ is_power (frames.Bench events.Power) = true
 is_power (frames.Bench event) = false
 is_power frames.End = false
 
+-- no event is a loss of power (profile)
 abbrev pub WithoutPower : List Frame → Type 0
 WithoutPower all = AllByRecursion (λ f. is_power f ≡ false) all
 
@@ -234,7 +236,7 @@ secures (commands.ModeSelect ten size) s t x = s.modes.wce && not (selected s t)
 secures (commands.Write form lba count fua) s t x = list_any (λ p. (p.lba == x) && not p.cached) (writes s t)
 secures command s t x = false
 
--- from a device on: the turns that are left of an event, a run, and then a loss of power; no task writes the sector
+-- from a device on: the turns that are left of an event, a run, and then a loss of power; no task writes the sector (profile)
 pub record IsSpan (x : ℕ) (s after : Device) : Type 0 where
   pub begin : Device
   pub mid : Device

@@ -14,13 +14,13 @@ use Rattle.satl_direct.specs.Device.{Device, is_called, is_of}
 use Rattle.satl_direct.specs.Attentions.{post}
 use Rattle.satl_direct.specs.Arrival.{is_unit_0}
 
--- what a function does: which tasks go, which condition it posts for which nexuses, and its response
+-- what a function does: which tasks go, which condition it posts for which nexuses, and its response (SAM-5 7)
 pub record Effect : Type 0 where
   pub goes : Entry → Bool
   pub attentions : List (List Attention)
   pub response : Response
 
--- whether there is a task that passes a test, as a response
+-- whether there is a task that passes a test, as a response (SAM-5 7.8, 7.9; the code: profile)
 abbrev pub found : Bool → Response
 found true = Succeeded
 found false = Complete
@@ -39,7 +39,7 @@ effect_of NexusReset m s = record { goes = is_of m.nexus; attentions = post (λ 
 effect_of QueryTask m s = record { goes = λ t. false; attentions = s.attentions; response = found (list_any (is_called m.nexus (m.tag).0) s.tasks) }
 effect_of QueryTaskSet m s = record { goes = λ t. false; attentions = s.attentions; response = found (list_any (is_of m.nexus) s.tasks) }
 
--- nothing happens but this response
+-- nothing happens but this response (profile)
 abbrev pub only : Response → Device → Effect
 only response s = record { goes = λ t. false; attentions = s.attentions; response = response }
 
@@ -54,11 +54,12 @@ has_unit (Some QueryTask) = true
 has_unit (Some QueryTaskSet) = true
 has_unit None = true
 
+-- the effect of a function, and that of a code without one (SAM-5 7; profile)
 abbrev pub effect_or_none : Option Function → Manage → Device → Effect
 effect_or_none None m s = only Rejected s
 effect_or_none (Some function) m s = effect_of function m s
 
--- another logical unit is judged first, then the function
+-- another logical unit is judged first, then the function (profile)
 abbrev pub effect : Manage → Device → Effect
 effect m s =
     if has_unit (function_of m.function) && not (is_unit_0 m.lun) then only IncorrectLun s

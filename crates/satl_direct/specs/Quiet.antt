@@ -35,7 +35,7 @@ written_by (commands.WriteSame form lba count true) s t = written_pairs s.modes.
 written_by (commands.Unmap size) s t = written_pairs s.modes.wce (ranged_trim t.ranges.items)
 written_by (commands.Pass cdb) s t = pairs_of (command_in (pass_of cdb).regs) (medium_of s) t.body
 
--- what a task writes
+-- what a task writes (SBC-3 5)
 abbrev pub writes : Device → Entry → List Pair
 writes s t = written_by t.command s t
 
@@ -63,35 +63,35 @@ abbrev pub is_pass : Command → Bool
 is_pass (commands.Pass cdb) = true
 is_pass command = false
 
--- an eligible task of a device that is up
+-- an eligible task of a device that is up (profile)
 pub record IsUnderWay (s : Device) (task : Entry) : Type 0 where
   pub up : s.down ≡ false
   pub eligible : IsEligible s.tasks task
 
--- a pair that a task under way writes may show, where the unit is started or the task is an ATA PASS-THROUGH
+-- a pair that a task under way writes may show, where the unit is started or the task is an ATA PASS-THROUGH (profile)
 pub record MayShow (s : Device) (pair : Pair) : Type 0 where
   pub task : Entry
   pub under_way : IsUnderWay s task
   pub started : s.started || is_pass task.command ≡ true
   pub among : IsIn pair (writes s task)
 
--- a task under way that goes over the medium
+-- a task under way that goes over the medium (ACS-3, power modes; profile)
 pub record MayWake (s : Device) : Type 0 where
   pub task : Entry
   pub under_way : IsUnderWay s task
   pub wakes_it : wakes task.command ≡ true
 
--- the drive is active or not as before, or a task under way has made it active
+-- the drive is active or not as before, or a task under way has made it active (profile)
 abbrev pub StaysOrWakes : Device → Bool → Type 0
 StaysOrWakes s active = (active ≡ s.active) ⊎ ((active ≡ true) × MayWake s)
 
--- quiet moves: blocks that a loss of power might have left are lost, pairs of tasks under way show, and the drive wakes
+-- quiet moves: blocks that a loss of power might have left are lost, pairs of tasks under way show, and the drive wakes (profile)
 pub record Quiet (old new : Device) : Type 0 where
   pub cells : Moves (MayShow old) old.cells new.cells
   pub active : StaysOrWakes old new.active
   pub stays : new ≡ record old { cells = new.cells; active = new.active }
 
--- a step, with quiet moves before it and after it
+-- a step, with quiet moves before it and after it (profile)
 pub record Around {A : Type 0} (Step : Device → List A → Device → Type 0) (old : Device) (answers : List A) (new : Device) : Type 0 where
   pub before : Device
   pub after : Device

@@ -21,11 +21,12 @@ use Rattle.satl_direct.specs.Turn.{Turn, Loss}
 use Rattle.satl_direct.specs.Management.{IsManaged}
 use Rattle.satl_direct.specs.Bench.{Happens}
 
--- the eligible tasks of a list
+-- the eligible tasks of a list (profile)
 abbrev pub eligibles : List Entry → List Entry
 eligibles [] = []
 eligibles (t ∷ ts) = t ∷ filter (λ u. not (conflicts t u)) (eligibles ts)
 
+-- whether a task is ranged, and not a barrier (profile)
 abbrev pub is_ranged : Entry → Bool
 is_ranged t = by_kind t.kind
   where
@@ -33,31 +34,31 @@ is_ranged t = by_kind t.kind
     by_kind (Ranged write) = true
     by_kind Barrier = false
 
--- how many commands the device lets a drive hold at once: its eligible ranged tasks, 32 at most, and none while it is down or stopped
+-- how many commands the device lets a drive hold at once: its eligible ranged tasks, 32 at most, and none while it is down or stopped (ACS-3, native command queuing; profile)
 abbrev pub depth : Device → ℕ
 depth s = if s.down || not s.started then 0 else min 32 (length (filter is_ranged (eligibles s.tasks)))
 
--- a step, or a step and then a loss of the link
+-- a step, or a step and then a loss of the link (profile)
 pub data MayLose (Step : Device → List Reply → Device → Type 0) (old : Device) : List Reply → Device → Type 0 where
   keeps : {answers : List Reply} {new : Device} → Step old answers new → MayLose Step old answers new
   loses : {answers more : List Reply} {mid after new : Device} → Step old answers mid → Quiet mid after → Loss after more new → MayLose Step old (answers ++ more) new
 
--- n turns with quiet moves around each, and the greatest depth after one of them
+-- n turns with quiet moves around each, and the greatest depth after one of them (profile)
 pub data TurnsOf : ℕ → Device → List Reply → Device → ℕ → Type 0 where
   none : {s : Device} → TurnsOf 0 s [] s 0
   more : {n deep : ℕ} {s mid new : Device} {first rest : List Reply} → TurnsOf n s first mid deep → Around Turn mid rest new → TurnsOf (suc n) s (first ++ rest) new (max deep (depth new))
 
--- turns until no task is left
+-- turns until no task is left (profile)
 pub record Drains (s : Device) (answers : List Reply) (new : Device) (deep : ℕ) : Type 0 where
   pub count : ℕ
   pub turns : TurnsOf count s answers new deep
   pub empty : new.tasks ≡ []
 
--- a management function, whose response has no part in a loss after it
+-- a management function, whose response has no part in a loss after it (SAM-5 7)
 abbrev pub Manages : Manage → Response → Device → List Reply → Device → Type 0
 Manages m response s answers new = (answers ≡ []) × IsManaged m s response new
 
--- a management function, or one and then a loss of the link: what is answered at the loss comes first, and then the response
+-- a management function, or one and then a loss of the link: what is answered at the loss comes first, and then the response (SAM-5 7; profile)
 pub record ManagedAnswers (m : Manage) (s : Device) (answers : List Answer) (new : Device) : Type 0 where
   pub response : Response
   pub replies : List Reply
@@ -66,7 +67,7 @@ pub record ManagedAnswers (m : Manage) (s : Device) (answers : List Answer) (new
 
 -- what an event does: its answers, the device after it, and the greatest depth after it or after one of its turns. A request
 -- arrives; a task management function is carried out; so many turns are taken; something happens to the drive; at the end turns
--- are taken until no task is left.
+-- are taken until no task is left. (profile)
 abbrev pub Does : Frame → Device → List Answer → Device → ℕ → Type 0
 Does (frames.Request r) s answers new deep =
     (replies : List Reply) × (answers ≡ map replied replies) × Around (MayLose (Arrives r)) s replies new × (deep ≡ depth new)
@@ -76,7 +77,7 @@ Does (frames.Bench event) s answers new deep =
     (replies : List Reply) × (answers ≡ map replied replies) × Around (Happens event) s replies new × (deep ≡ depth new)
 Does frames.End s answers new deep = (replies : List Reply) × (answers ≡ map replied replies ++ ended ∷ []) × Drains s replies new deep
 
--- whether the link was lost between the two
+-- whether the link was lost between the two (profile)
 abbrev pub losses_of : Device → Device → ℕ
 losses_of old new = if old.down then 0 else (if new.down then 1 else 0)
 
@@ -89,7 +90,7 @@ bench_losses (events.Order order) = 0
 bench_losses events.Power = 0
 bench_losses events.Unplug = 1
 
--- how often the link was lost in an event
+-- how often the link was lost in an event (profile)
 abbrev pub losses_in : Frame → Device → Device → ℕ
 losses_in (frames.Request r) old new = losses_of old new
 losses_in (frames.Manage m) old new = losses_of old new
@@ -98,26 +99,26 @@ losses_in (frames.Bench event) old new = bench_losses event
 losses_in frames.End old new = losses_of old new
 
 -- the events one after the other: a group of answers for each, the number of losses, the last device, and the greatest depth
--- after an event or a turn
+-- after an event or a turn (profile)
 pub data RunDeep (first : Device) : List Frame → List (List Answer) → ℕ → Device → ℕ → Type 0 where
   start : RunDeep first [] [] 0 first 0
   step : {events : List Frame} {groups : List (List Answer)} {losses deep : ℕ} {s new : Device} (event : Frame) (now : List Answer) (d : ℕ)
       → RunDeep first events groups losses s deep → Does event s now new d
       → RunDeep first (events ++ event ∷ []) (groups ++ now ∷ []) (losses + losses_in event s new) new (max deep d)
 
--- the groups one after the other
+-- the groups one after the other (profile)
 abbrev pub joined : List (List Answer) → List Answer
 joined [] = []
 joined (group ∷ groups) = group ++ joined groups
 
--- a run: events, answers, losses and the last device
+-- a run: events, answers, losses and the last device (profile)
 pub record Run (first : Device) (events : List Frame) (losses : ℕ) (answers : List Answer) (last : Device) : Type 0 where
   pub groups : List (List Answer)
   pub deep : ℕ
   pub answer : answers ≡ joined groups
   pub run : RunDeep first events groups losses last deep
 
--- the turns that an event asks for, where it asks for some
+-- the turns that an event asks for, where it asks for some (profile)
 abbrev pub CutTurns : Frame → ℕ → Type 0
 CutTurns (frames.Request r) count = ⊥
 CutTurns (frames.Manage m) count = ⊥
@@ -125,7 +126,7 @@ CutTurns (frames.Turn n) count = count ≤ n
 CutTurns (frames.Bench event) count = ⊥
 CutTurns frames.End count = Unit {0}
 
--- a run whose last event has made as many turns as this, and not all that it asks for, and has no END
+-- a run whose last event has made as many turns as this, and not all that it asks for, and has no END (profile)
 pub record CutShort (first : Device) (events : List Frame) (losses : ℕ) (answers : List Answer) (last : Device) : Type 0 where
   pub before : List Frame
   pub event : Frame
@@ -142,7 +143,7 @@ pub record CutShort (first : Device) (events : List Frame) (losses : ℕ) (answe
   pub answer : answers ≡ earlier ++ map replied replies
   pub losses_are : losses ≡ lost + losses_of mid last
 
--- a run, or one that was cut short in its last event
+-- a run, or one that was cut short in its last event (profile)
 pub data RunCut (first : Device) (events : List Frame) (losses : ℕ) (answers : List Answer) (last : Device) : Type 0 where
   whole_run : Run first events losses answers last → RunCut first events losses answers last
   cut_run : CutShort first events losses answers last → RunCut first events losses answers last

@@ -10,54 +10,63 @@ use Rattle.satl_unit.specs.Conditions.{additional_sense_of}
 use Rattle.satl_sense.specs.Descriptor.{descriptor_form}
 use Rattle.satl_sense.specs.Fixed.{fixed_form}
 
+-- sense data of a key and codes alone (SPC-4 4.5)
 abbrev pub plain : ℕ → ℕ → ℕ → Sense
 plain key asc ascq = record { key = key; asc = asc; ascq = ascq; extra = extras.None }
 
--- at an address
+-- at an address (SPC-4 4.5, INFORMATION)
 abbrev pub at : ℕ → ℕ → ℕ → ℕ → Sense
 at key asc ascq lba = record { key = key; asc = asc; ascq = ascq; extra = extras.Information lba }
 
+-- LOGICAL UNIT NOT READY, INITIALIZING COMMAND REQUIRED (SPC-4 4.5.6)
 abbrev pub not_ready : Sense
 not_ready = plain 0x2 0x04 0x02
 
+-- UNRECOVERED READ ERROR (SPC-4 4.5.6)
 abbrev pub read_error : ℕ → Sense
 read_error lba = at 0x3 0x11 0x00 lba
 
+-- WRITE ERROR - AUTO REALLOCATION FAILED (SPC-4 4.5.6)
 abbrev pub write_error : ℕ → Sense
 write_error lba = at 0x3 0x0C 0x02 lba
 
--- NO SENSE: REQUEST SENSE where nothing is to be told
+-- NO SENSE: REQUEST SENSE where nothing is to be told (SPC-4 4.5.6)
 abbrev pub no_sense : Sense
 no_sense = plain 0x0 0x00 0x00
 
--- MISCOMPARE DURING VERIFY OPERATION
+-- MISCOMPARE DURING VERIFY OPERATION (SPC-4 4.5.6)
 abbrev pub miscompare : Sense
 miscompare = plain 0xE 0x1D 0x00
 
--- OVERLAPPED COMMANDS ATTEMPTED
+-- OVERLAPPED COMMANDS ATTEMPTED (SPC-4 4.5.6)
 abbrev pub overlapped : Sense
 overlapped = plain 0xB 0x4E 0x00
 
--- UNIT ATTENTION, by its condition
+-- UNIT ATTENTION, by its condition (SPC-4 4.5.6)
 abbrev pub attention_sense : Attention → Sense
 attention_sense what = plain 0x6 (additional_sense_of what).asc (additional_sense_of what).ascq
 
--- LOGICAL UNIT COMMUNICATION FAILURE
+-- LOGICAL UNIT COMMUNICATION FAILURE (SPC-4 4.5.6)
 abbrev pub link_lost : Sense
 link_lost = plain 0x4 0x08 0x00
 
+-- INVALID COMMAND OPERATION CODE (SPC-4 4.5.6)
 abbrev pub unknown_operation : Sense
 unknown_operation = plain 0x5 0x20 0x00
 
+-- LOGICAL BLOCK ADDRESS OUT OF RANGE (SPC-4 4.5.6)
 abbrev pub out_of_range : Sense
 out_of_range = plain 0x5 0x21 0x00
 
+-- LOGICAL UNIT NOT SUPPORTED (SPC-4 4.5.6)
 abbrev pub unknown_unit : Sense
 unknown_unit = plain 0x5 0x25 0x00
 
+-- INFORMATION UNIT iuCRC ERROR DETECTED (SPC-4 4.5.6)
 abbrev pub crc_error : Sense
 crc_error = plain 0xB 0x47 0x03
 
+-- DATA PHASE ERROR (SPC-4 4.5.6)
 abbrev pub short_data : Sense
 short_data = plain 0xB 0x4B 0x00
 
@@ -66,7 +75,7 @@ abbrev pub pointer_to : Bool → Option ℕ → Extra
 pointer_to in_cdb None = extras.None
 pointer_to in_cdb (Some byte) = extras.Pointer in_cdb byte
 
--- a command or a list that is refused
+-- a command or a list that is refused (SPC-4 4.5.6)
 abbrev pub refusal : Illegal → Sense
 refusal why = record { key = 0x5; asc = why.asc; ascq = why.ascq; extra = pointer_to why.in_cdb why.pointer }
 

@@ -44,10 +44,11 @@ pub record Asks : Type 0 where
   pub change : List Block → Option ModeChange
   pub starts : Bool
 
+-- so many blocks from an address on (SBC-3, LOGICAL BLOCK ADDRESS)
 abbrev pub over : ℕ → ℕ → Range
 over lba count = record { lba = lba; count = count }
 
--- it goes over no block, has no data-out, holds nothing, and needs no started unit
+-- it goes over no block, has no data-out, holds nothing, and needs no started unit (profile)
 abbrev pub nothing : Asks
 nothing = record {
   fields_fault = None;
@@ -62,7 +63,7 @@ nothing = record {
   starts = false;
 }
 
--- it goes over a range, on a started unit
+-- it goes over a range, on a started unit (SBC-3 5)
 abbrev pub over_range : ℕ → ℕ → Asks
 over_range lba count = record nothing { range = over lba count; starts = true }
 
@@ -99,6 +100,7 @@ asks_through cdb pass =
     if pass.out then record nothing { fields_fault = fault_in (pass_says cdb); needed = pass.length; held = page_count pass.length; kept = λ body. pages_of (first_bytes pass.length body) }
     else record nothing { fields_fault = fault_in (pass_says cdb); held = page_count pass.length }
 
+-- what each command asks (SBC-3 5, SPC-4 6, SAT-3 12.2; the blocks held: profile)
 abbrev pub asks : Command → Asks
 asks commands.TestUnitReady = nothing
 asks (commands.RequestSense descriptor alloc) = nothing
@@ -119,16 +121,19 @@ asks (commands.WriteSame form lba count true) = record (over_range lba count) { 
 asks (commands.Unmap length) = asks_unmap length
 asks (commands.Pass cdb) = asks_through cdb (pass_of cdb)
 
+-- the range that a command goes over (SBC-3 5)
 abbrev pub range_of : Command → Range
 range_of command = (asks command).range
 
+-- the bytes of data-out that a command needs (SBC-3 5, SPC-4 6)
 abbrev pub needed : Command → ℕ
 needed command = (asks command).needed
 
+-- the blocks that the task of a command holds (profile)
 abbrev pub held_blocks : Command → ℕ
 held_blocks command = (asks command).held
 
--- the data-out of a command in the pages that it holds
+-- the data-out of a command in the pages that it holds (SBC-3 5)
 abbrev pub data_out : Command → List Block → List Block
 data_out command body = (asks command).kept body
 

@@ -8,43 +8,44 @@ use Rattle.satl_direct.specs.Ending.{Ends, task_check}
 use Rattle.satl_direct.specs.Quiet.{Quiet}
 use Rattle.satl_direct.specs.Senses.{link_lost}
 
--- each task in order of arrival is answered that the link is lost
+-- each task in order of arrival is answered that the link is lost (profile)
 abbrev pub lost_replies : Device → List Reply
 lost_replies s = map (λ t. task_check s t link_lost) s.tasks
 
--- the link is lost, or lost again: all tasks are answered, and none is left
+-- the link is lost, or lost again: all tasks are answered, and none is left (profile)
 pub record IsLost (old : Device) (answers : List Reply) (new : Device) : Type 0 where
   pub answer : answers ≡ lost_replies old
   pub stays : new ≡ record old { tasks = []; down = true }
 
--- the link is lost at a device that was up
+-- the link is lost at a device that was up (profile)
 pub record Loss (old : Device) (answers : List Reply) (new : Device) : Type 0 where
   pub was_up : old.down ≡ false
   pub answer : answers ≡ lost_replies old
   pub stays : new ≡ record old { tasks = []; down = true }
 
--- in a turn a glitch may go with the link, and the drive may be active or not
+-- in a turn a glitch may go with the link, and the drive may be active or not (profile)
 pub record TurnLoss (old : Device) (answers : List Reply) (new : Device) : Type 0 where
   pub was_up : old.down ≡ false
   pub answer : answers ≡ lost_replies old
   pub glitches : (new.glitches ≡ old.glitches) ⊎ (new.glitches + 1 ≡ old.glitches)
   pub stays : new ≡ record old { tasks = []; down = true; glitches = new.glitches; active = new.active }
 
--- the tasks of which one may end: the first where the unit is down or stopped, else each that is eligible
+-- the tasks of which one may end: the first where the unit is down or stopped, else each that is eligible (profile)
 abbrev pub IsFirst : List Entry → Entry → Type 0
 IsFirst [] t = ⊥
 IsFirst (u ∷ us) t = u ≡ t
 
+-- the task may end: the first one there, or any that is eligible (profile)
 abbrev pub MayEnd : Device → Entry → Type 0
 MayEnd s t = MatchBool (s.down || not s.started) (IsFirst s.tasks t) (IsEligible s.tasks t)
 
--- one task ends
+-- one task ends (SAM-5 8)
 pub record OneEnds (s : Device) (reply : Reply) (new : Device) : Type 0 where
   pub task : Entry
   pub may : MayEnd s task
   pub ends : Ends s task reply new
 
--- a turn: with no task nothing happens; else one ends, or the link is lost, or one ends and then the link is lost
+-- a turn: with no task nothing happens; else one ends, or the link is lost, or one ends and then the link is lost (SAM-5 8; profile)
 pub data Turn (s : Device) : List Reply → Device → Type 0 where
   idle : s.tasks ≡ [] → Turn s [] s
   ends : {new : Device} (reply : Reply) → OneEnds s reply new → Turn s (reply ∷ []) new

@@ -32,10 +32,11 @@ pairs_by Read cache q = []
 pairs_by Write cache q = pairs_from q.command.lba q.blocks (cache && not q.command.fua)
 pairs_by Trim cache q = zeros_at (cache && not q.command.fua) (addresses (payload_ranges q.command.sectors q.blocks))
 
+-- what a queued command writes, by its kind (ACS-3, WRITE FPDMA QUEUED; profile)
 abbrev pub queued_pairs : Bool → Outstanding → List Pair
 queued_pairs cache q = pairs_by q.command.kind cache q
 
--- what these commands write, in order of issue
+-- what these commands write, in order of issue (profile)
 abbrev pub all_pairs : Bool → List Outstanding → List Pair
 all_pairs cache outstanding = flat_map (queued_pairs cache) outstanding
 
@@ -45,6 +46,7 @@ flaw_by Read cells q = first_flaw flaws.Read cells q.lba q.sectors
 flaw_by Write cells q = first_flaw flaws.Write cells q.lba q.sectors
 flaw_by Trim cells q = None
 
+-- the lowest flawed address of a queued command, by its kind (ACS-3, UNC; profile)
 abbrev pub queued_flaw : List Cell → Queued → Option ℕ
 queued_flaw cells q = flaw_by q.kind cells q
 
@@ -54,7 +56,7 @@ LiesWithin Read capacity q pages = q.lba + q.sectors ≤ capacity
 LiesWithin Write capacity q pages = q.lba + q.sectors ≤ capacity
 LiesWithin Trim capacity q pages = AllByRecursion (λ (range : Range). range.lba + range.count ≤ capacity) (payload_ranges q.sectors pages)
 
--- whether a command has this tag
+-- whether a command has this tag (ACS-3, tags)
 abbrev pub is_tagged : ℕ → Outstanding → Bool
 is_tagged tag q = q.command.tag == tag
 
@@ -69,12 +71,13 @@ pub record CanIssue (d : DriveState) (r : Registers) (slots : Slots) (command : 
   pub within : LiesWithin command.kind d.capacity command pages
   pub no_error : d.error ≡ None
 
--- the blocks that a command is issued with: those in its slot, and none for a read
+-- the blocks that a command is issued with: those in its slot, and none for a read (profile)
 abbrev pub issued_blocks : QueuedKind → List Block → List Block
 issued_blocks Read pages = []
 issued_blocks Write pages = pages
 issued_blocks Trim pages = pages
 
+-- a command with the blocks that it is issued with (profile)
 abbrev pub issued : Queued → List Block → Outstanding
 issued command pages = record { command = command; blocks = issued_blocks command.kind pages }
 
@@ -89,12 +92,13 @@ abbrev pub IsIssueCutOff : DriveState → Queued → List Block → DriveState �
 IsIssueCutOff old command pages new =
     IsCutOff old (all_pairs old.cache (old.outstanding ++ issued command pages ∷ [])) new × (new.active ≡ old.active)
 
--- the slot of an outstanding command has as many pages as it has sectors, with the blocks that it was issued with but for a read
+-- the slot of an outstanding command has as many pages as it has sectors, with the blocks that it was issued with but for a read (profile)
 abbrev pub HasBlocks : QueuedKind → List Block → List Block → Type 0
 HasBlocks Read pages blocks = Unit {0}
 HasBlocks Write pages blocks = pages ≡ blocks
 HasBlocks Trim pages blocks = pages ≡ blocks
 
+-- the slot of an outstanding command holds its pages (profile)
 pub record HasPages (slots : Slots) (q : Outstanding) : Type 0 where
   pub pages : List Block
   pub filled : pages_at slots q.command.tag ≡ Some pages
@@ -106,14 +110,14 @@ pub record CanPoll (d : DriveState) (slots : Slots) : Type 0 where
   pub no_error : d.error ≡ None
   pub filled : AllByRecursion (HasPages slots) d.outstanding
 
--- nothing is outstanding
+-- nothing is outstanding (profile)
 pub record IsIdle (old : DriveState) (slots taken : Slots) (new : DriveState) : Type 0 where
   pub none : old.outstanding ≡ []
   pub same : taken ≡ slots
   pub lost : Loses old.cells new.cells
   pub stays : new ≡ record old { cells = new.cells }
 
--- the slots after a command is done: a read's blocks stand in its slot
+-- the slots after a command is done: a read's blocks stand in its slot (ACS-3, READ FPDMA QUEUED)
 abbrev pub slots_after : QueuedKind → List Cell → Queued → Slots → Slots
 slots_after Read cells q slots = slice_set slots q.tag (Some (nows cells q.lba q.sectors))
 slots_after Write cells q slots = slots
@@ -141,7 +145,7 @@ FlawSense Read e = HasSense e 0 0 0 ⊎ HasSense e 0x3 0x11 0x00
 FlawSense Write e = HasSense e 0x3 0x0C 0x02
 FlawSense Trim e = ⊥
 
--- of a CRC error
+-- of a CRC error (SPC-4 4.5.6; profile)
 abbrev pub CrcSense : NcqError → Type 0
 CrcSense e = HasSense e 0 0 0 ⊎ HasSense e 0xB 0x47 0x03
 
@@ -154,13 +158,13 @@ pub record IsEntry (q : Queued) (error lba : ℕ) (e : NcqError) : Type 0 where
   pub device : e.device ≡ 0x40
   pub count : e.count ≡ 0
 
--- at a flaw: UNC at the lowest flawed address
+-- at a flaw: UNC at the lowest flawed address (ACS-3, UNC)
 pub record FailsAtFlaw (q : Queued) (lba glitches left : ℕ) (e : NcqError) : Type 0 where
   pub entry : IsEntry q unc lba e
   pub sense : FlawSense q.kind e
   pub glitches_stay : left ≡ glitches
 
--- by a CRC error, which takes one glitch: ICRC at the command's address
+-- by a CRC error, which takes one glitch: ICRC at the command's address (ACS-3, ICRC; profile)
 pub record FailsByCrc (q : Queued) (glitches left : ℕ) (e : NcqError) : Type 0 where
   pub some : 0 < glitches
   pub entry : IsEntry q icrc q.lba e
@@ -180,13 +184,13 @@ pub record IsFailed (old : DriveState) (slots taken : Slots) (new : DriveState) 
   pub lost : Loses mid new.cells
   pub stays : new ≡ record old { cells = new.cells; outstanding = []; error = Some entry; glitches = new.glitches }
 
--- what `poll` reports
+-- what `poll` reports (ACS-3, native command queuing)
 abbrev pub IsReport : Report → DriveState → Slots → Slots → DriveState → Type 0
 IsReport reports.Idle old slots taken new = IsIdle old slots taken new
 IsReport (reports.Done tag) old slots taken new = IsDone tag old slots taken new
 IsReport reports.Error old slots taken new = IsFailed old slots taken new
 
--- `poll` reported: one command is done or failed, or nothing is outstanding
+-- `poll` reported: one command is done or failed, or nothing is outstanding (ACS-3, native command queuing)
 pub record IsPolled (old : DriveState) (slots : Slots) (report : Report) (taken : Slots) (new : DriveState) : Type 0 where
   pub was_up : old.down ≡ false
   pub reports : IsReport report old slots taken new

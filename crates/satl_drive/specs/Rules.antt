@@ -46,11 +46,12 @@ pub record IsLogRead (e : NcqError) (old : DriveState) (r : Registers) (given : 
   pub lost : Loses old.cells new.cells
   pub stays : new ≡ record old { cells = new.cells; error = None }
 
--- what `run` did, in the error state or not
+-- what `run` did, in the error state or not (ACS-3)
 abbrev pub IsRunBy : Option NcqError → DriveState → Registers → List Block → Taskfile → List Block → DriveState → Type 0
 IsRunBy None old r given ended taken new = IsCarriedOut old r given ended taken new
 IsRunBy (Some e) old r given ended taken new = IsLogRead e old r given ended taken new
 
+-- what `run` did, by the error state before it (ACS-3)
 abbrev pub IsRun : DriveState → Registers → List Block → Taskfile → List Block → DriveState → Type 0
 IsRun old r given ended taken new = IsRunBy old.error old r given ended taken new
 

@@ -32,11 +32,11 @@ pub record DriveState : Type 0 where
   pub deepest : ℕ
   pub unplugs : ℕ
 
--- the part of a drive that commands read and change
+-- the part of a drive that commands read and change (ACS-3)
 abbrev pub medium_of : DriveState → Medium
 medium_of d = record { cells = d.cells; cache = d.cache; look = d.look; active = d.active; glitches = d.glitches; identify = d.identify }
 
--- the drive with that part changed
+-- the drive with that part changed (ACS-3)
 abbrev pub with_medium : DriveState → Medium → DriveState
 with_medium d m = record d { cells = m.cells; cache = m.cache; look = m.look; active = m.active; glitches = m.glitches; identify = m.identify }
 

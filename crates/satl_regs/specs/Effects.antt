@@ -18,7 +18,7 @@ use Rattle.satl_regs.specs.Commands.{command_in, is_ext}
 use Rattle.satl_regs.specs.Trim.{addresses, trimmed}
 
 -- what commands read and change: the sectors, whether write cache and look-ahead are on, whether the drive is active and not
--- in standby, how many transfers may still end with a CRC error, and the 512 bytes of IDENTIFY DEVICE data
+-- in standby, how many transfers may still end with a CRC error, and the 512 bytes of IDENTIFY DEVICE data (ACS-3; flaws and CRC errors: profile)
 pub record Medium : Type 0 where
   pub cells : List Cell
   pub cache : Bool
@@ -31,6 +31,7 @@ pub record Medium : Type 0 where
 abbrev pub good_status : ℕ
 good_status = 0x40
 
+-- STATUS at a bad end: DRDY and ERR (ACS-3, STATUS field)
 abbrev pub bad_status : ℕ
 bad_status = 0x41
 
@@ -38,12 +39,15 @@ bad_status = 0x41
 abbrev pub icrc : ℕ
 icrc = 0x84
 
+-- UNC (ACS-3, ERROR field)
 abbrev pub unc : ℕ
 unc = 0x40
 
+-- IDNF (ACS-3, ERROR field)
 abbrev pub idnf : ℕ
 idnf = 0x10
 
+-- ABRT (ACS-3, ERROR field)
 abbrev pub abrt : ℕ
 abrt = 0x04
 
@@ -62,7 +66,7 @@ flawed_end r ext at =
     else record { error = unc; count = 0; lba = at % 2 ^ 24; device = r.device / 2 ^ 4 * 2 ^ 4 + at / 2 ^ 24 % 2 ^ 4; status = bad_status }
 
 -- a command that goes over a range: whether its address has 48 bits, whether its data go by DMA, the flaw that stops it, the
--- range, the pairs that it writes, and the blocks that it reads
+-- range, the pairs that it writes, and the blocks that it reads (ACS-3, the inputs of the commands)
 pub record Transfer : Type 0 where
   pub ext : Bool
   pub dma : Bool
@@ -72,6 +76,7 @@ pub record Transfer : Type 0 where
   pub writes : List Pair
   pub reads : List Block
 
+-- whether data go by DMA (ACS-3, the names of the commands)
 abbrev pub is_dma : How → Bool
 is_dma Pio = false
 is_dma PioExt = false
@@ -86,19 +91,19 @@ reading how lba sectors m = record { ext = is_ext how; dma = is_dma how; stopped
 abbrev pub writing : How → ℕ → ℕ → List Block → Medium → Transfer
 writing how lba sectors given m = record { ext = is_ext how; dma = is_dma how; stopped_by = flaws.Write; lba = lba; sectors = sectors; writes = pairs_from lba (take sectors given) m.cache; reads = [] }
 
--- it ends bad with this error, and nothing changes
+-- it ends bad with this error, and nothing changes (ACS-3, error outputs)
 pub record IsRefused (r : Registers) (error lba : ℕ) (old : Medium) (given : List Block) (ended : Taskfile) (taken : List Block) (new : Medium) : Type 0 where
   pub ends : ended ≡ bad_end r error lba
   pub data_in : taken ≡ given
   pub medium : new ≡ old
 
--- it is carried out: the blocks that it reads stand in front in the pages, and the drive is active
+-- it is carried out: the blocks that it reads stand in front in the pages, and the drive is active (ACS-3, normal outputs)
 pub record IsCarriedOut (r : Registers) (t : Transfer) (old : Medium) (given : List Block) (ended : Taskfile) (taken : List Block) (new : Medium) : Type 0 where
   pub ends : ended ≡ good_end r 0 0
   pub data_in : taken ≡ t.reads ++ drop (length t.reads) given
   pub medium : new ≡ record old { cells = whole old.cells t.writes; active = true }
 
--- a CRC error stops it: what it writes is written in part
+-- a CRC error stops it: what it writes is written in part (ACS-3, ICRC; profile)
 pub record IsGarbled (r : Registers) (t : Transfer) (old : Medium) (given : List Block) (ended : Taskfile) (taken : List Block) (new : Medium) : Type 0 where
   pub by_dma : t.dma ≡ true
   pub some : 0 < old.glitches
@@ -107,7 +112,7 @@ pub record IsGarbled (r : Registers) (t : Transfer) (old : Medium) (given : List
   pub part : Part old.cells t.writes new.cells
   pub medium : new ≡ record old { cells = new.cells; glitches = old.glitches - 1 }
 
--- the flaw at an address stops it: what it writes is written in part
+-- the flaw at an address stops it: what it writes is written in part (ACS-3, UNC)
 pub record IsFlawed (r : Registers) (t : Transfer) (at : ℕ) (old : Medium) (given : List Block) (ended : Taskfile) (taken : List Block) (new : Medium) : Type 0 where
   pub ends : ended ≡ flawed_end r t.ext at
   pub data_in : taken ≡ given
@@ -115,7 +120,7 @@ pub record IsFlawed (r : Registers) (t : Transfer) (at : ℕ) (old : Medium) (gi
   pub medium : new ≡ record old { cells = new.cells }
 
 -- how it ends: outside the capacity IDNF, at a flaw UNC with the lowest flawed address, and else it is carried out, or a CRC
--- error stops it
+-- error stops it (ACS-3, error outputs; profile)
 abbrev pub Carries : Registers → Transfer → Medium → List Block → Taskfile → List Block → Medium → Type 0
 Carries r t old given ended taken new =
     MatchBool (nat_lt (length old.cells) (t.lba + t.sectors))
@@ -130,7 +135,7 @@ pub record IsIdentified (r : Registers) (old : Medium) (given : List Block) (end
   pub data_in : taken ≡ record { bytes = old.identify } ∷ drop 1 given
   pub medium : new ≡ old
 
--- it ends good with what COUNT and LBA tell, moves no data, and leaves the medium so
+-- it ends good with what COUNT and LBA tell, moves no data, and leaves the medium so (ACS-3, normal outputs)
 pub record IsDone (r : Registers) (count lba : ℕ) (after : Medium) (given : List Block) (ended : Taskfile) (taken : List Block) (new : Medium) : Type 0 where
   pub ends : ended ≡ good_end r count lba
   pub data_in : taken ≡ given
@@ -163,7 +168,7 @@ abbrev pub has_setting : List ℕ → Setting → Bool
 has_setting identify (sets_cache on) = has_cache identify
 has_setting identify (sets_look on) = has_look identify
 
--- a setting that there is, on a drive that has it
+-- a setting that there is, on a drive that has it (ACS-3, SET FEATURES)
 abbrev pub settable : List ℕ → Option Setting → Option Setting
 settable identify None = None
 settable identify (Some setting) = if has_setting identify setting then Some setting else None
@@ -214,7 +219,7 @@ pub record IsLogged (r : Registers) (log : Block) (old : Medium) (given : List B
 abbrev pub payload_ranges : ℕ → List Block → List Range
 payload_ranges blocks given = flat_map (λ b. trimmed b.bytes) (take blocks given)
 
--- whether a range goes past the last sector
+-- whether a range goes past the last sector (ACS-3, IDNF)
 abbrev pub is_outside : Medium → Range → Bool
 is_outside m range = nat_lt (length m.cells) (range.lba + range.count)
 
@@ -233,14 +238,14 @@ abbrev pub trimming : ℕ → List Block → Medium → Transfer
 trimming blocks given m =
     record { ext = true; dma = true; stopped_by = flaws.Write; lba = 0; sectors = 0; writes = zeros_at m.cache (addresses (payload_ranges blocks given)); reads = [] }
 
--- the commands that the modelled drive carries out so far
+-- the commands that the modelled drive carries out so far (profile)
 abbrev pub is_built : AtaCommand → Bool
 is_built (commands.Read DmaExt lba sectors) = true
 is_built (commands.Write DmaExt lba sectors) = true
 is_built commands.Identify = true
 is_built _ = false
 
--- the length of the data that a command moves, in blocks
+-- the length of the data that a command moves, in blocks (ACS-3, the inputs of the commands)
 abbrev pub own_blocks : AtaCommand → ℕ
 own_blocks (commands.Read how lba sectors) = sectors
 own_blocks (commands.Write how lba sectors) = sectors
@@ -275,11 +280,11 @@ Does (commands.Trim blocks) r old given ended taken new =
 Does commands.SmartStatus r old given ended taken new = IsDone r 0 (0xC24F * 2 ^ 8) old given ended taken new
 Does (commands.Other code) r old given ended taken new = IsRefused r abrt 0 old given ended taken new
 
--- the effect of the command in the registers
+-- the effect of the command in the registers (ACS-3 section 7)
 abbrev pub Ata : Registers → Medium → List Block → Taskfile → List Block → Medium → Type 0
 Ata r old given ended taken new = Does (command_in r) r old given ended taken new
 
--- the pairs that a command may write, also where it is cut short: none where its range or its entries are refused
+-- the pairs that a command may write, also where it is cut short: none where its range or its entries are refused (ACS-3; profile)
 abbrev pub pairs_of : AtaCommand → Medium → List Block → List Pair
 pairs_of (commands.Write how lba sectors) m given =
     if nat_lt (length m.cells) (lba + sectors) then [] else pairs_from lba (take sectors given) m.cache

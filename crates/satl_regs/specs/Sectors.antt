@@ -10,6 +10,7 @@ abbrev pub with_flaw : Which → Cell → Cell
 with_flaw Read c = record c { read_flaw = true }
 with_flaw Write c = record c { write_flaw = true }
 
+-- a sector without flaws (profile)
 abbrev pub without_flaws : Cell → Cell
 without_flaws c = record c { read_flaw = false; write_flaw = false }
 

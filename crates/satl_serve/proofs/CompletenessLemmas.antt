@@ -1,9 +1,8 @@
 -- A good input is served whole where all goes well.
-use Rattle.std.proofs.Common.{◌≡◌, refl, ◌∙◌, ap, sym, subst, ℕ, ◌+◌, Bool, true, false, List, [], ◌∷◌, ◌++◌, map}
-use Rattle.std.specs.Prelude.{Option, None, Some, Ok, Err, Result, IfErr, IfOk, MatchResult, is_some}
+use Rattle.std.proofs.Common.{◌≡◌, refl, ◌∙◌, ap, sym, subst, ℕ, List, [], ◌∷◌, ◌++◌}
+use Rattle.std.specs.Prelude.{Option, None, Some, Ok, Err, Result, IfErr, IfOk, MatchResult}
 use Rattle.std.specs.Result.{IsErrAnd}
-use Rattle.std.specs.List.{AllByRecursion, list_any, position_from}
-use Rattle.satl_base.specs.declared.request.Tag.{Tag}
+use Rattle.std.specs.List.{AllByRecursion}
 use Rattle.satl_io.specs.Causes.{Rose}
 use Rattle.satl_frame.specs.Output.{fault_bytes}
 use Rattle.satl_frame.specs.Progress.{HasRead, ReadTo, ReadsToEnd}
@@ -17,20 +16,18 @@ use Rattle.satl_frame.specs.declared.frames.Version.{Version}
 use Rattle.satl_frame.specs.declared.frames.Version.TheVariants.{Two}
 use Rattle.satl_frame.proofs.WholeInputs.{next_given, none_refused, one_end}
 use Rattle.satl_text.specs.declared.summary.Summary.{Summary}
-use Rattle.satl_line.specs.Tasks.{Held, entries_of, is_named}
 use Rattle.satl_line.proofs.SlotsLemmas.{All-append, All-right}
 use Rattle.satl_drive.specs.State.{DriveState}
-use Rattle.satl_direct.specs.Device.{Device, is_called, task_of}
+use Rattle.satl_direct.specs.Device.{Device}
 use Rattle.satl_core.specs.declared.satl.OpenFault.{OpenFault}
 use Rattle.satl_core.specs.declared.satl.OpenFault.TheVariants as opening
 use Rattle.satl_core.specs.Layer.{Layer, view}
-use Rattle.satl_core.specs.Opening.{IsCause, IsOpened}
-use Rattle.satl_serve.specs.Completeness.{GoesWell, IsBuilt, IsGoodInput, MayStop, Overlaps}
-use Rattle.satl_serve.specs.Runs.{Ended, IsFirst, IsNotBuilt, NotServed, Refused, StoppedBehind, Tally}
+use Rattle.satl_core.specs.Opening.{IsCause}
+use Rattle.satl_serve.specs.Completeness.{GoesWell, IsBuilt, IsGoodInput, MayStop}
+use Rattle.satl_serve.specs.Runs.{Ended, IsNotBuilt, NotServed, Refused, StoppedBehind, Tally}
 use Rattle.satl_serve.specs.Serving.{HasFrameCause}
 use Rattle.satl_serve.specs.declared.serving.ServeFault.{ServeFault}
 use Rattle.satl_serve.specs.declared.serving.ServeFault.TheVariants as faults
-use Rattle.satl_serve.proofs.RunLemmas.{first_of}
 
 -- up to END all was read, and no byte behind it
 read_all : (limit : ℕ) (place : Place) (input rest : List ℕ) (left' : Option (List ℕ)) (fs events : List Frame) → ReadsToEnd limit Two input fs rest → ReadTo limit Two place (Some input) left' (events ++ frames.End ∷ []) → left' ≡ Some rest
@@ -38,21 +35,9 @@ read_all limit place input rest None fs events whole read = absurd read.took.kno
 read_all limit place input rest (Some behind) fs events whole read =
     ap (λ (xs : List ℕ). Some xs) (sym (one_end limit Two input fs events rest behind whole (record { place = place; read = read })).1)
 
--- a named task of the layer is one of the device
-named_is_called : (nexus : ℕ) (tag : Tag) (n : ℕ) (tasks : List Held) → is_some (position_from (is_named nexus tag) n tasks) ≡ true → list_any (is_called nexus tag.0) (map task_of (entries_of tasks)) ≡ true
-named_is_called nexus tag n [] found = found
-named_is_called nexus tag n (h ∷ tasks) found = by_test (is_named nexus tag h) refl found (λ later. named_is_called nexus tag (n + 1) tasks later)
-  where
-    by_test : (b : Bool) → is_named nexus tag h ≡ b → is_some (position_from (is_named nexus tag) n (h ∷ tasks)) ≡ true →
-        (is_some (position_from (is_named nexus tag) (n + 1) tasks) ≡ true → list_any (is_called nexus tag.0) (map task_of (entries_of tasks)) ≡ true) →
-        list_any (is_called nexus tag.0) (map task_of (entries_of (h ∷ tasks))) ≡ true
-    by_test true is found rest = rw is refl
-    by_test false is found rest = rw is (rest (rw is at found))
-
--- a frame of a good input that is not carried out is an overlapped command
-overlapped : (limit : ℕ) (old : DriveState) (first last : Device) (l : Layer) (t0 t : Tally) (a c w w' : Option (List ℕ)) (fs : List Frame) (rest : List ℕ) → IsFirst old first → last.tasks ≡ map task_of (entries_of l.tasks) →
-    IsGoodInput limit a fs rest → NotServed limit first t0 a c w w' t l last → Overlaps old fs
-overlapped limit old first last l t0 t a c w w' fs rest begins tasks good n = by_whole n.gave.whole refl
+-- each frame of a good input is carried out
+all_built : (limit : ℕ) (first last : Device) (l : Layer) (t0 t : Tally) (a c w w' : Option (List ℕ)) (fs : List Frame) (rest : List ℕ) → IsGoodInput limit a fs rest → NotServed limit first t0 a c w w' t l last → ⊥
+all_built limit first last l t0 t a c w w' fs rest good n = by_whole n.gave.whole refl
   where
     whole : ReadsToEnd n.reader.limit n.reader.newest good.input fs rest
     whole = subst (λ (v : Version). ReadsToEnd n.reader.limit v good.input fs rest) (sym n.newest_is) (subst (λ m. ReadsToEnd m Two good.input fs rest) (sym n.limit_is) good.whole)
@@ -66,22 +51,12 @@ overlapped limit old first last l t0 t a c w w' fs rest begins tasks good n = by
     not_built : (f : Frame) → n.gave.whole ≡ f → IsNotBuilt l (cut_to n.room f)
     not_built f is = subst (IsNotBuilt l) (n.gave.cut ∙ ap (cut_to n.room) is) n.not_built
 
-    by_whole : (f : Frame) → n.gave.whole ≡ f → Overlaps old fs
-    by_whole (frames.Request r) is = record {
-      first = first;
-      last = last;
-      events = n.events;
-      later = next.0;
-      request = r;
-      begins = begins;
-      run = λ free. let known = n.run free in (known.losses, n.answers, known.run);
-      follows = ap (λ (f : Frame). n.events ++ f ∷ next.0) (sym is) ∙ next.1;
-      overlaps = ap (list_any (is_called r.nexus (r.tag).0)) tasks ∙ named_is_called r.nexus r.tag 0 l.tasks (not_built (frames.Request r) is);
-    }
-    by_whole (frames.Manage m) is = absurd (subst IsBuilt is built)
-    by_whole (frames.Turn count) is = absurd (not_built (frames.Turn count) is)
-    by_whole (frames.Bench event) is = absurd (subst IsBuilt is built)
-    by_whole frames.End is = absurd (not_built frames.End is)
+    by_whole : (f : Frame) → n.gave.whole ≡ f → ⊥
+    by_whole (frames.Request r) is = not_built (frames.Request r) is
+    by_whole (frames.Manage m) is = subst IsBuilt is built
+    by_whole (frames.Turn count) is = not_built (frames.Turn count) is
+    by_whole (frames.Bench event) is = subst IsBuilt is built
+    by_whole frames.End is = not_built frames.End is
 
 -- no frame of a good input is refused
 never_refused : (limit : ℕ) (first last : Device) (t0 t : Tally) (a c w w' : Option (List ℕ)) (reason : Reason) (offset : ℕ) (told : List ℕ) (fs : List Frame) (rest : List ℕ) → IsGoodInput limit a fs rest →
@@ -93,37 +68,37 @@ never_refused limit first last t0 t a c w w' reason offset told fs rest good n =
 
 -- where serving stops behind the magic
 stops_complete : (limit : ℕ) (old new : DriveState) (first last : Device) (l : Layer) (t0 t : Tally) (a c w w' : Option (List ℕ)) (rb rn wb wn : ℕ) (fs : List Frame) (rest : List ℕ) (fault : ServeFault) →
-    IsFirst old first → last.tasks ≡ map task_of (entries_of l.tasks) → IsGoodInput limit a fs rest → GoesWell old new rb rn wb wn → HasFrameCause rb rn wb wn fault → StoppedBehind limit first t0 a c w w' t l last fault → MayStop old fs fault
-stops_complete limit old new first last l t0 t a c w w' rb rn wb wn fs rest (faults.Open fault) begins tasks good well cause stopped = absurd stopped
-stops_complete limit old new first last l t0 t a c w w' rb rn wb wn fs rest (faults.BadInput reason offset) begins tasks good well cause stopped =
+    IsGoodInput limit a fs rest → GoesWell old new rb rn wb wn → HasFrameCause rb rn wb wn fault → StoppedBehind limit first t0 a c w w' t l last fault → MayStop fault
+stops_complete limit old new first last l t0 t a c w w' rb rn wb wn fs rest (faults.Open fault) good well cause stopped = absurd stopped
+stops_complete limit old new first last l t0 t a c w w' rb rn wb wn fs rest (faults.BadInput reason offset) good well cause stopped =
     never_refused limit first last t0 t a c w w' reason offset (fault_bytes reason offset) fs rest good stopped
-stops_complete limit old new first last l t0 t a c w w' rb rn wb wn fs rest faults.Read begins tasks good well cause stopped = well.reads cause
-stops_complete limit old new first last l t0 t a c w w' rb rn wb wn fs rest faults.Write begins tasks good well cause stopped = well.writes cause
-stops_complete limit old new first last l t0 t a c w w' rb rn wb wn fs rest faults.NotBuilt begins tasks good well cause stopped =
-    overlapped limit old first last l t0 t a c w w' fs rest begins tasks good stopped
+stops_complete limit old new first last l t0 t a c w w' rb rn wb wn fs rest faults.Read good well cause stopped = well.reads cause
+stops_complete limit old new first last l t0 t a c w w' rb rn wb wn fs rest faults.Write good well cause stopped = well.writes cause
+stops_complete limit old new first last l t0 t a c w w' rb rn wb wn fs rest faults.NotBuilt good well cause stopped =
+    all_built limit first last l t0 t a c w w' fs rest good stopped
 
 -- all frames
-pub frames_complete : (r : Result Summary ServeFault) (limit : ℕ) (old mid new : DriveState) (l l' : Layer) (t0 t : Tally) (a c w w' : Option (List ℕ)) (rb rn wb wn : ℕ) → IsOpened old l mid → IfOk r (Ended limit (view l mid) t0 a c w w' t (view l' new)) →
+pub frames_complete : (r : Result Summary ServeFault) (limit : ℕ) (old mid new : DriveState) (l l' : Layer) (t0 t : Tally) (a c w w' : Option (List ℕ)) (rb rn wb wn : ℕ) → IfOk r (Ended limit (view l mid) t0 a c w w' t (view l' new)) →
     IfErr r (StoppedBehind limit (view l mid) t0 a c w w' t l' (view l' new)) → IfErr r (HasFrameCause rb rn wb wn) →
-    (fs : List Frame) (rest : List ℕ) → IsGoodInput limit a fs rest → GoesWell old new rb rn wb wn → MatchResult r (λ _. c ≡ Some rest) (MayStop old fs)
-frames_complete (Ok u) limit old mid new l l' t0 t a c w w' rb rn wb wn o ended stopped cause fs rest good well =
+    (fs : List Frame) (rest : List ℕ) → IsGoodInput limit a fs rest → GoesWell old new rb rn wb wn → MatchResult r (λ _. c ≡ Some rest) MayStop
+frames_complete (Ok u) limit old mid new l l' t0 t a c w w' rb rn wb wn ended stopped cause fs rest good well =
     read_all limit ended.place good.input rest c fs ended.events good.whole (subst (λ (x : Option (List ℕ)). ReadTo limit Two ended.place x c (ended.events ++ frames.End ∷ [])) good.told ended.read)
-frames_complete (Err fault) limit old mid new l l' t0 t a c w w' rb rn wb wn o ended stopped cause fs rest good well =
-    stops_complete limit old new (view l mid) (view l' new) l' t0 t a c w w' rb rn wb wn fs rest fault (first_of old mid l o) refl good well cause stopped
+frames_complete (Err fault) limit old mid new l l' t0 t a c w w' rb rn wb wn ended stopped cause fs rest good well =
+    stops_complete limit old new (view l mid) (view l' new) l' t0 t a c w w' rb rn wb wn fs rest fault good well cause stopped
 
 -- the layer was not opened
 pub opening_complete : (r : Result Summary ServeFault) (given : OpenFault) (P : ServeFault → Type 0) (old new : DriveState) (rb rn wb wn : ℕ) (fs : List Frame) (Read : Type 0) → IsErrAnd r P → ((e : ServeFault) → P e → e ≡ faults.Open given) → IsCause old new given → GoesWell old new rb rn wb wn →
-    MatchResult r (λ _. Read) (MayStop old fs)
+    MatchResult r (λ _. Read) MayStop
 opening_complete (Ok u) given P old new rb rn wb wn fs Read is same cause well = absurd is
-opening_complete (Err e) given P old new rb rn wb wn fs Read is same cause well = subst (MayStop old fs) (sym (same e is)) (by_fault given cause)
+opening_complete (Err e) given P old new rb rn wb wn fs Read is same cause well = subst MayStop (sym (same e is)) (by_fault given cause)
   where
-    by_fault : (given : OpenFault) → IsCause old new given → MayStop old fs (faults.Open given)
+    by_fault : (given : OpenFault) → IsCause old new given → MayStop (faults.Open given)
     by_fault opening.NoMemory cause = tt
     by_fault opening.LinkDown cause = well.link cause
     by_fault (opening.Identity fault) cause = let both : Err fault ≡ Ok well.identity = sym cause ∙ well.accepted in cc
 
 -- a write failed in the magic
 pub magic_complete : (r : Result Summary ServeFault) (P : ServeFault → Type 0) (old new : DriveState) (rb rn wb wn : ℕ) (fs : List Frame) (Read : Type 0) → IsErrAnd r P → ((e : ServeFault) → P e → e ≡ faults.Write) → Rose wb wn → GoesWell old new rb rn wb wn →
-    MatchResult r (λ _. Read) (MayStop old fs)
+    MatchResult r (λ _. Read) MayStop
 magic_complete (Ok u) P old new rb rn wb wn fs Read is same rose well = absurd is
 magic_complete (Err e) P old new rb rn wb wn fs Read is same rose well = absurd (well.writes rose)

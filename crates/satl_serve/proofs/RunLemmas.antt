@@ -31,9 +31,10 @@ use Rattle.satl_line.specs.Tasks.{Held, entries_of}
 use Rattle.satl_line.proofs.SlotsLemmas.{All-append, All-left, All-right}
 use Rattle.satl_drive.specs.State.{DriveState}
 use Rattle.satl_direct.specs.Arrival.{Arrives}
-use Rattle.satl_direct.specs.Device.{Device, task_of}
+use Rattle.satl_direct.specs.Device.{Device}
+use Rattle.satl_direct.specs.Tasks.{task_of}
 use Rattle.satl_direct.specs.Quiet.{Around}
-use Rattle.satl_direct.specs.Run.{CutTurns, Does, Drains, MayLose, depth, joined, losses_of}
+use Rattle.satl_direct.specs.Run.{CutTurns, Does, Drains, MayLose, depth, joined, losses_in, losses_of}
 use Rattle.satl_direct.specs.Run.TurnsOf.{none, more}
 use Rattle.satl_direct.specs.Run.RunDeep.{start, step}
 use Rattle.satl_direct.specs.Run.RunCut.{cut_run, whole_run}
@@ -53,13 +54,19 @@ pub on_ok : {A E : Type 0} (r : Result A E) (P Q : Type 0) → (P → Q) → OnO
 on_ok (Ok x) P Q f p = f p
 on_ok (Err e) P Q f p = tt
 
+-- the same of two facts
 pub on_both : {A E : Type 0} (r : Result A E) (P P' Q : Type 0) → (P → P' → Q) → OnOk r P → OnOk r P' → OnOk r Q
 on_both (Ok x) P P' Q f p q = f p q
 on_both (Err e) P P' Q f p q = tt
 
+-- the same of the value
 pub if_ok : {A E : Type 0} (r : Result A E) (P Q : A → Type 0) → ((x : A) → P x → Q x) → IfOk r P → IfOk r Q
 if_ok (Ok x) P Q f p = f x p
 if_ok (Err e) P Q f p = tt
+
+pub if_err : {A E : Type 0} (r : Result A E) (P Q : E → Type 0) → ((e : E) → P e → Q e) → IfErr r P → IfErr r Q
+if_err (Ok x) P Q f p = tt
+if_err (Err e) P Q f p = f e p
 
 pub on_err : {A E : Type 0} (r : Result A E) (P Q : Type 0) → (P → Q) → OnErr r P → OnErr r Q
 on_err (Ok x) P Q f p = tt
@@ -80,9 +87,6 @@ map-append (x ∷ xs) ys = ap (λ l. replied x ∷ l) (map-append xs ys)
 
 -- ---- writing replies
 
-pub part_none : (written : Option (List ℕ)) (all : List ℕ) → IsPartWritten written written all all
-part_none written all = record { done = []; wrote = Wrote-none written; whole = refl }
-
 -- the first of the replies left was written
 pub part_more : (a b c : Option (List ℕ)) (left left' : List Reply) (reply : Reply) (all : List ℕ) → IsPartWritten a b (all_answered (map replied left)) all → left ≡ reply ∷ left' → Wrote b c (reply_bytes reply) → IsPartWritten a c (all_answered (map replied left')) all
 part_more a b c left left' reply all p is wrote = record {
@@ -96,10 +100,6 @@ pub part_stops : (a b c : Option (List ℕ)) (left left' : List Reply) (reply : 
 part_stops a b c left left' reply all p is part =
     subst (WrotePart a c) (ap (λ l. p.done ++ all_answered (map replied l)) (sym is) ∙ p.whole) (WrotePart-more p.wrote (WrotePart-front (all_answered (map replied left')) part))
 
-pub part_all : (a b : Option (List ℕ)) (left : List Reply) (all : List ℕ) → length left ≡ 0 → IsPartWritten a b (all_answered (map replied left)) all → Wrote a b all
-part_all a b [] all empty p = subst (Wrote a b) (sym (append-nil p.done) ∙ p.whole) p.wrote
-part_all a b (x ∷ left) all empty p = absurd cc
-
 -- ---- totals
 
 -- nothing was counted yet
@@ -110,9 +110,11 @@ zero_totals u p q r s t v = same p q r s t v
         ◌≡◌ {A = Summary} (record { requests = a; good = b; check = c; full = d; bytes = e; sum = f }) (record { requests = 0; good = 0; check = 0; full = 0; bytes = 0; sum = 0 })
     same p q r s t v = cc
 
+-- no answer was counted
 pub counts_none : (u : Summary) → Counts u u []
 counts_none u = record { known = λ n before is. is ∙ ap (λ l. summary_of n l) (sym (append-nil before)) }
 
+-- answers after answers
 pub counts_more : {u v x : Summary} {now later : List Answer} → Counts u v now → Counts v x later → Counts u x (now ++ later)
 counts_more {u} {v} {x} {now} {later} p q = record { known = λ n before is. q.known n (before ++ now) (p.known n before is) ∙ ap (λ l. summary_of n l) (append_assoc before now later) }
 
@@ -136,18 +138,15 @@ counts_end {u} {v} {now} p = record { known = λ n before is. p.known n before i
 pub counts_first : {u v x : Summary} {left rest : List Reply} {reply : Reply} → left ≡ reply ∷ rest → Counts u v (replied reply ∷ []) → Counts v x (map replied rest) → Counts u x (map replied left)
 counts_first {u} {v} {x} {left} {rest} {reply} is p q = subst (λ l. Counts u x (map replied l)) (sym is) (counts_more p q)
 
--- none is left
-pub counts_all : (u v : Summary) (left : List Reply) (all : List Answer) → length left ≡ 0 → ((x : Summary) → Counts v x (map replied left) → Counts u x all) → Counts u v all
-counts_all u v [] all empty f = f v (counts_none v)
-counts_all u v (r ∷ left) all empty f = absurd (omega arith)
-
 -- the totals count these frames and answers too
 pub record Grows (old new : Summary) (events : List Frame) (answers : List Answer) : Type 0 where
   pub known : (requests : ℕ) (before : List Answer) → old ≡ summary_of requests before → new ≡ summary_of (requests + requests_in events) (before ++ answers)
 
+-- TURN is no request
 grows_turn : {u v : Summary} {now : List Answer} (count : ℕ) → Counts u v now → Grows u v (frames.Turn count ∷ []) now
 grows_turn {u} {v} {now} count p = record { known = λ n before is. p.known n before is ∙ ap (λ k. summary_of k (before ++ now)) (sym (add-zero n)) }
 
+-- a request is counted before its answers
 grows_request : {u m v : Summary} {now : List Answer} (r : Request) → ((requests : ℕ) (before : List Answer) → u ≡ summary_of requests before → m ≡ summary_of (requests + 1) before) → Counts m v now → Grows u v (frames.Request r ∷ []) now
 grows_request r added p = record { known = λ n before is. p.known (n + 1) before (added n before is) }
 
@@ -206,17 +205,17 @@ joined-push : (groups : List (List Answer)) (now : List Answer) → joined (grou
 joined-push [] now = append-nil now
 joined-push (g ∷ groups) now = ap (λ l. g ++ l) (joined-push groups now) ∙ sym (append_assoc g (joined groups) now)
 
-runs_more : (before mid now : ℕ) (first : Device) (events : List Frame) (answers : List Answer) (s : Device) (event : Frame) (given : List Answer) (new : Device) (d : ℕ) → RunsTo before mid first events answers s → Does event s given new d → RoseBy (losses_of s new) mid now
+runs_more : (before mid now : ℕ) (first : Device) (events : List Frame) (answers : List Answer) (s : Device) (event : Frame) (given : List Answer) (new : Device) (d : ℕ) → RunsTo before mid first events answers s → Does event s given new d → losses_in event s new ≡ losses_of s new → RoseBy (losses_of s new) mid now
     → RunsTo before now first (events ++ event ∷ []) (answers ++ given) new
-runs_more before mid now first events answers s event given new d r does counted = record {
-  losses = r.losses + losses_of s new;
+runs_more before mid now first events answers s event given new d r does lost counted = record {
+  losses = r.losses + losses_in event s new;
   run = record {
     groups = r.run.groups ++ given ∷ [];
     deep = max r.run.deep d;
     answer = ap (λ l. l ++ given) r.run.answer ∙ sym (joined-push r.run.groups given);
     run = step event given d r.run.run does;
   };
-  counted = RoseBy-more r.losses (losses_of s new) before mid now r.counted counted;
+  counted = RoseBy-more r.losses (losses_in event s new) before mid now r.counted (subst (λ n. RoseBy n mid now) (sym lost) counted);
 }
 
 -- a frame raised the count of faults by its losses, and the drive was called once at most for a task that is gone
@@ -258,15 +257,15 @@ going_start first tally r left written u fresh idle zero = record {
 }
 
 -- a frame that is not END was read and carried out
-pub going_more : (first : Device) (t0 t t' : Tally) (r r' : Reading) (a b c w w' w'' : Option (List ℕ)) (u u' : Summary) (s new : Device) (room : ℕ) (frame : Frame) → Going first t0 r a b w w' u t s → (gave : Gave r room frame r' b c) → (gave.whole ≡ frames.End → ⊥) → (given : List Answer)
+pub going_more : (first : Device) (t0 t t' : Tally) (r r' : Reading) (a b c w w' w'' : Option (List ℕ)) (u u' : Summary) (s new : Device) (room : ℕ) (frame : Frame) → Going first t0 r a b w w' u t s → (gave : Gave r room frame r' b c) → (gave.whole ≡ frames.End → ⊥) → losses_in gave.whole s new ≡ losses_of s new → (given : List Answer)
     → Wrote w' w'' (all_answered given) → (AreUnforced s → (d : ℕ) × Does gave.whole s given new d) → (AsksNone gave.whole → AreUnforced s → AreUnforced new) → new.modes ≡ s.modes → IsTallied s new t (gave.whole ∷ []) t' → Grows u u' (gave.whole ∷ []) given → Going first t0 r' a c w w'' u' t' new
-going_more first t0 t t' r r' a b c w w' w'' u u' s new room frame going gave not_end given wrote carried keeps modes tallied grows = record {
+going_more first t0 t t' r r' a b c w w' w'' u u' s new room frame going gave not_end lost given wrote carried keeps modes tallied grows = record {
   events = going.events ++ gave.whole ∷ [];
   answers = going.answers ++ given;
   none_ends = All-append (λ f. f ≡ frames.End → ⊥) going.events (gave.whole ∷ []) going.none_ends (not_end, tt);
   read = has_read_more r r' a b c going.events room frame going.read going.none_ends gave;
   wrote = subst (Wrote w w'') (sym (all_answered-append going.answers given)) (Wrote-more going.wrote wrote);
-  run = λ free. let before = unforced_before first going.events gave.whole free in let does = carried (going.unforced before) in runs_more t0.faults t.faults t'.faults first going.events going.answers s gave.whole given new does.0 (going.run before) does.1 tallied.counted;
+  run = λ free. let before = unforced_before first going.events gave.whole free in let does = carried (going.unforced before) in runs_more t0.faults t.faults t'.faults first going.events going.answers s gave.whole given new does.0 (going.run before) does.1 lost tallied.counted;
   unforced = λ free.
       ⊎_elim (λ off. inl (ap (λ (m : Modes). m.wce) (modes ∙ going.modes) ∙ off))
       (λ all. keeps (All-right AsksNone going.events (gave.whole ∷ []) all).0 (going.unforced (inr (All-left AsksNone going.events (gave.whole ∷ []) all)))) free;
@@ -318,7 +317,7 @@ pub going_turn : (first : Device) (t0 t t' : Tally) (r r' : Reading) (a b c w w'
     → Answered (λ replies. AreUnforced s → TookTurns n s replies new) w' w'' u u' → (AreUnforced s → AreUnforced new) → new.modes ≡ s.modes → IsTallied s new t [] t' → Going first t0 r' a c w w'' u' t' new
 going_turn first t0 t t' r r' a b c w w' w'' u u' s new room n frame going gave frame_is answered keeps modes tallied =
     let is = whole_turn room n gave.whole (sym frame_is ∙ gave.cut) in
-    going_more first t0 t t' r r' a b c w w' w'' u u' s new room frame going gave (no_turn_ends gave.whole n is) (map replied answered.replies) answered.wrote
+    going_more first t0 t t' r r' a b c w w' w'' u u' s new room frame going gave (no_turn_ends gave.whole n is) (ap (λ f. losses_in f s new) is) (map replied answered.replies) answered.wrote
     (λ free. let took = answered.step free in (took.deep, subst (λ f. Does f s (map replied answered.replies) new took.deep) (sym is) (answered.replies, refl, took.turns)))
     (λ _ free. keeps free) modes (more_frames s new t t' gave.whole tallied) (subst (λ f. Grows u u' (f ∷ []) (map replied answered.replies)) (sym is) (grows_turn n answered.counts))
 
@@ -326,7 +325,7 @@ pub going_request : (first : Device) (t0 t t' : Tally) (r r' : Reading) (a b c w
     → ((requests : ℕ) (before : List Answer) → u ≡ summary_of requests before → m ≡ summary_of (requests + 1) before) → Answered (λ replies. (whole : Request) → IsCutOf whole request → Around (MayLose (Arrives whole)) s replies new) w' w'' m u' → (AsksNoFua request → AreUnforced s → AreUnforced new) → new.modes ≡ s.modes → IsTallied s new t (frames.Request request ∷ []) t' → Going first t0 r' a c w w'' u' t' new
 going_request first t0 t t' r r' a b c w w' w'' u m u' s new room request frame going gave frame_is added answered keeps modes tallied =
     let found = whole_request room request gave.whole (sym frame_is ∙ gave.cut) in
-    going_more first t0 t t' r r' a b c w w' w'' u u' s new room frame going gave (no_request_ends gave.whole found.w found.is) (map replied answered.replies) answered.wrote
+    going_more first t0 t t' r r' a b c w w' w'' u u' s new room frame going gave (no_request_ends gave.whole found.w found.is) (ap (λ f. losses_in f s new) found.is) (map replied answered.replies) answered.wrote
     (λ free. (depth new, subst (λ f. Does f s (map replied answered.replies) new (depth new)) (sym found.is) (answered.replies, refl, answered.step found.w (record { count = room; cut_is = found.cut }), refl)))
     (λ clear free. keeps (subst AsksNoFua (sym found.cut) (subst AsksNone found.is clear)) free) modes
     (subst (λ f. IsTallied s new t (f ∷ []) t') (sym found.is) (record { counted = tallied.counted; calls = tallied.calls }))
@@ -347,7 +346,7 @@ going_ended first t0 t t' r r' a b c w w' w'' u u' s new room limit frame going 
       run = λ free.
           let before = unforced_before first going.events frames.End free in
           let drains = answered.step (going.unforced before) in
-          runs_more t0.faults t.faults t'.faults first going.events going.answers s frames.End (map replied answered.replies ++ ended ∷ []) new drains.0 (going.run before) (answered.replies, refl, drains.1) tallied.counted;
+          runs_more t0.faults t.faults t'.faults first going.events going.answers s frames.End (map replied answered.replies ++ ended ∷ []) new drains.0 (going.run before) (answered.replies, refl, drains.1) refl tallied.counted;
       calls = omega (arith, going.calls, tallied.calls);
       totals = answered.counts.known (requests_in going.events) going.answers going.totals;
     }
@@ -364,11 +363,14 @@ first_of old new l o = record {
   tasks = ap (λ t. map task_of (entries_of t)) o.tasks;
   identity = o.identity;
   wce = o.wce;
+  dra = o.dra;
   d_sense = o.d_sense;
   started = o.started;
   up = sym o.tied.mark ∙ o.up;
   active = ap (λ (d : DriveState). d.active) o.stays;
+  attentions = o.attentions;
   glitches = ap (λ (d : DriveState). d.glitches) o.stays;
+  valid = o.tied.valid;
 }
 
 pub served : (limit : ℕ) (old mid new : DriveState) (calls opened calls' : ℕ) (l l' : Layer) (a c w w' w'' : Option (List ℕ)) (u : Summary) → IsOpened old l mid → opened ≤ calls + 1 → Wrote w w' out_magic → Ended limit (view l mid) (tally_of mid opened) a c w' w'' (tally_of new calls') (view l' new) u → IsServed limit old a c w w'' calls calls' new u
@@ -444,7 +446,7 @@ cut_request limit first t0 t t' r r' a b c w w' w'' u s new room request frame g
     cut_more limit first t0 t t' r r' a b c w w' w'' u s new room frame going gave limit_is newest_is (map replied answered.replies) answered.part
     (subst (λ f. IsTallied s new t (f ∷ []) t') (sym found.is) (record { counted = tallied.counted; calls = tallied.calls }))
     (λ g free. whole_cut t0.faults t'.faults first (g.events ++ gave.whole ∷ []) (g.answers ++ map replied answered.replies) new (runs_more t0.faults t.faults t'.faults first g.events g.answers s gave.whole (map replied answered.replies) new (depth new) (g.run (unforced_before first g.events gave.whole free))
-    (subst (λ f. Does f s (map replied answered.replies) new (depth new)) (sym found.is) (answered.replies, refl, answered.step found.w (record { count = room; cut_is = found.cut }), refl)) tallied.counted))
+    (subst (λ f. Does f s (map replied answered.replies) new (depth new)) (sym found.is) (answered.replies, refl, answered.step found.w (record { count = room; cut_is = found.cut }), refl)) (ap (λ f. losses_in f s new) found.is) tallied.counted))
 
 pub cut_turns : (limit : ℕ) (first : Device) (t0 t t' : Tally) (r r' : Reading) (a b c w w' w'' : Option (List ℕ)) (u : Summary) (s new : Device) (room n : ℕ) (frame : Frame) → Going first t0 r a b w w' u t s → Gave r room frame r' b c → frame ≡ frames.Turn n → r.limit ≡ limit → r.newest ≡ Two
     → IsTallied s new t [] t' → AnsweredPart (λ replies. AreUnforced s → TookSome n s replies new) w' w'' → Cut limit first t0 a c w w'' t' new
@@ -471,7 +473,7 @@ cut_end limit first t0 t t' r r' a b c w w' w'' u s new room frame going gave fr
     let before = unforced_before first g.events gave.whole free in
     let drains = all.step (g.unforced before) in
     whole_cut t0.faults t'.faults first (g.events ++ gave.whole ∷ []) (g.answers ++ (map replied all.replies ++ ended ∷ [])) new (runs_more t0.faults t.faults t'.faults first g.events g.answers s gave.whole (map replied all.replies ++ ended ∷ []) new drains.0 (g.run before)
-    (subst (λ f. Does f s (map replied all.replies ++ ended ∷ []) new drains.0) (sym is) (all.replies, refl, drains.1)) tallied.counted))) ends
+    (subst (λ f. Does f s (map replied all.replies ++ ended ∷ []) new drains.0) (sym is) (all.replies, refl, drains.1)) (ap (λ f. losses_in f s new) is) tallied.counted))) ends
 
 -- ---- where serving stops
 

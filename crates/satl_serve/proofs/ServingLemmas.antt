@@ -12,12 +12,17 @@ use Rattle.satl_frame.specs.declared.frames.Version.{Version}
 use Rattle.satl_frame.specs.declared.frames.Version.TheVariants.{One, Two}
 use Rattle.satl_frame.specs.declared.frames.Frame.{Frame}
 use Rattle.satl_frame.specs.declared.frames.Frame.TheVariants as frames
+use Rattle.satl_frame.specs.declared.frames.FrameFault.{FrameFault}
+use Rattle.satl_frame.specs.declared.frames.FrameFault.TheVariants.{ReadFault}
+use Rattle.satl_io.specs.Causes.{Rose}
 use Rattle.satl_frame.proofs.Paging.{length-pages_of}
-use Rattle.satl_core.specs.Layer.{IsExpectable, Layer, Tied}
+use Rattle.satl_direct.specs.Valid.{IsValid}
+use Rattle.satl_core.specs.Layer.{IsExpectable, Layer, Tied, view}
 use Rattle.satl_core.specs.Submitting.{CanSubmit}
 use Rattle.satl_drive.specs.State.{DriveState}
 use Rattle.satl_serve.specs.declared.serving.ServeFault.{ServeFault}
 use Rattle.satl_serve.specs.declared.serving.ServeFault.TheVariants as faults
+use Rattle.satl_serve.specs.Runs.{Tells}
 use Rattle.satl_serve.specs.Serving.{AtRest, HasFrameCause, HasWriteCause, place_offset}
 
 expectable : (version : Version) (expected : Option ℕ) → HasExpected version expected → IsExpectable expected
@@ -60,21 +65,24 @@ can_submit old new room free before out frame r left left' gave is none lent out
 
 -- ---- the layer, whose pages were lent to a frame
 
+-- the tie does not see pages
 pub tied_lent : (l l' : Layer) (d : DriveState) → record l' { free = 0; out = 0 } ≡ record l { free = 0; out = 0 } → Tied l d → Tied l' d
 tied_lent l l' d same t = record {
   mark = ap (λ (x : Layer). x.down) same ∙ t.mark;
   idle = t.idle;
+  no_error = t.no_error;
   fit = t.fit;
-  capacity = t.capacity ∙ ap (λ (x : Layer). x.identity.capacity) (sym same);
   cache = λ up. t.cache (sym (ap (λ (x : Layer). x.down) same) ∙ up) ∙ ap (λ (x : Layer). x.modes.wce) (sym same);
-  sound = t.sound;
+  valid = subst IsValid (sym (ap (λ (x : Layer). view x d) same)) t.valid;
 }
 
+-- a frame without pages leaves the layer at rest
 pub rest_lent : (l l' : Layer) (d : DriveState) (pages : ℕ) → record l' { free = 0; out = 0 } ≡ record l { free = 0; out = 0 } → pages ≡ 0 → l'.out ≡ l.out + pages → AtRest l d → AtRest l' d
 rest_lent l l' d pages same none out r = record { tied = tied_lent l l' d same r.tied; all_in = omega (arith, none, out, r.all_in) }
 
 -- ---- each frame takes the reader further towards its limit
 
+-- what is left to the limit gets less
 pub nearer : {old new : Reading} {room : ℕ} {frame : Frame} {left left' : Option (List ℕ)} → Gave old room frame new left left' → new.limit - place_offset new.place < old.limit - place_offset old.place
 nearer {old} {new} gave =
     subst (λ (r : Reading). r.limit - place_offset r.place < old.limit - place_offset old.place) (sym gave.new_is)
@@ -106,3 +114,12 @@ earlier_cause (Err (faults.BadInput reason offset)) read_before read_now before 
 earlier_cause (Err faults.Read) read_before read_now before mid now later h = h
 earlier_cause (Err faults.Write) read_before read_now before mid now later h = omega arith
 earlier_cause (Err faults.NotBuilt) read_before read_now before mid now later h = h
+
+-- a fault at a frame that was refused, seen from the beginning
+pub refused_cause : (fault : ServeFault) (why : FrameFault) (w w' : Option (List ℕ)) (read_before read_mid read_now before mid now : ℕ) → read_before ≤ read_mid → before ≤ mid → (why ≡ ReadFault → Rose read_mid read_now) → Tells why w w' fault → ((fault ≡ faults.Write) → Rose mid now)
+    → HasFrameCause read_before read_now before now fault
+refused_cause (faults.Open opening) why w w' read_before read_mid read_now before mid now earlier later read tells write = absurd tells
+refused_cause (faults.BadInput reason offset) why w w' read_before read_mid read_now before mid now earlier later read tells write = tt
+refused_cause faults.Read why w w' read_before read_mid read_now before mid now earlier later read tells write = let rose = read tells.0 in omega arith
+refused_cause faults.Write why w w' read_before read_mid read_now before mid now earlier later read tells write = let rose = write refl in omega arith
+refused_cause faults.NotBuilt why w w' read_before read_mid read_now before mid now earlier later read tells write = tt

@@ -1,20 +1,15 @@
 -- That a good input is served whole where all goes well (profile).
-use Rattle.std.specs.Prelude.{◌≡◌, ℕ, true, List, [], ◌∷◌, ◌++◌, Option, Some, Ok}
-use Rattle.std.specs.List.{AllByRecursion, list_any}
-use Rattle.satl_base.specs.declared.request.Request.{Request}
+use Rattle.std.specs.Prelude.{◌≡◌, ℕ, List, Option, Some, Ok}
+use Rattle.std.specs.List.{AllByRecursion}
 use Rattle.satl_io.specs.Causes.{Rose}
 use Rattle.satl_identify.specs.Refusals.{identity_of}
 use Rattle.satl_identify.specs.declared.identity.Identity.{Identity}
-use Rattle.satl_frame.specs.Output.{Answer}
 use Rattle.satl_frame.specs.Progress.{ReadsToEnd}
 use Rattle.satl_frame.specs.declared.frames.Frame.{Frame}
 use Rattle.satl_frame.specs.declared.frames.Frame.TheVariants as frames
 use Rattle.satl_frame.specs.declared.frames.Version.TheVariants.{Two}
 use Rattle.satl_drive.specs.State.{DriveState}
-use Rattle.satl_direct.specs.Device.{Device, is_called}
-use Rattle.satl_direct.specs.Run.{Run}
 use Rattle.satl_core.specs.declared.satl.OpenFault.TheVariants as opening
-use Rattle.satl_serve.specs.Runs.{GoesUnforced, IsFirst}
 use Rattle.satl_serve.specs.declared.serving.ServeFault.{ServeFault}
 use Rattle.satl_serve.specs.declared.serving.ServeFault.TheVariants as faults
 
@@ -41,25 +36,12 @@ pub record GoesWell (old new : DriveState) (read_before read_now write_before wr
   pub writes : Rose write_before write_now → ⊥
   pub link : Rose old.faults new.faults → ⊥
 
--- of these frames the one that follows a run is a request with the nexus and tag of a task (SAM-5, overlapped commands)
-pub record Overlaps (old : DriveState) (fs : List Frame) : Type 0 where
-  pub first : Device
-  pub last : Device
-  pub events : List Frame
-  pub later : List Frame
-  pub request : Request
-  pub begins : IsFirst old first
-  pub run : GoesUnforced first events → (losses : ℕ) × (answers : List Answer) × Run first events losses answers last
-  pub follows : events ++ frames.Request request ∷ later ≡ fs ++ frames.End ∷ []
-  pub overlaps : list_any (is_called request.nexus (request.tag).0) last.tasks ≡ true
-
--- the faults that are left to a good input where all goes well: want of memory before anything is read, and an overlapped
--- command, which is not built yet (profile)
-abbrev pub MayStop : DriveState → List Frame → ServeFault → Type 0
-MayStop old fs (faults.Open opening.NoMemory) = Unit {0}
-MayStop old fs (faults.Open opening.LinkDown) = ⊥
-MayStop old fs (faults.Open (opening.Identity fault)) = ⊥
-MayStop old fs (faults.BadInput reason offset) = ⊥
-MayStop old fs faults.Read = ⊥
-MayStop old fs faults.Write = ⊥
-MayStop old fs faults.NotBuilt = Overlaps old fs
+-- the fault that is left to a good input where all goes well: want of memory before anything is read (profile)
+abbrev pub MayStop : ServeFault → Type 0
+MayStop (faults.Open opening.NoMemory) = Unit {0}
+MayStop (faults.Open opening.LinkDown) = ⊥
+MayStop (faults.Open (opening.Identity fault)) = ⊥
+MayStop (faults.BadInput reason offset) = ⊥
+MayStop faults.Read = ⊥
+MayStop faults.Write = ⊥
+MayStop faults.NotBuilt = ⊥

@@ -8,6 +8,7 @@ use Rattle.satl_io.specs.Causes.{RoseBy}
 use Rattle.satl_io.specs.Known.{Wrote, WrotePart}
 use Rattle.satl_frame.specs.declared.frames.Frame.{Frame}
 use Rattle.satl_frame.specs.declared.frames.Frame.TheVariants as frames
+use Rattle.satl_frame.specs.declared.frames.FrameFault.{FrameFault}
 use Rattle.satl_frame.specs.declared.frames.FrameFault.TheVariants.{Bad, ReadFault}
 use Rattle.satl_frame.specs.declared.frames.Place.{Place}
 use Rattle.satl_frame.specs.declared.frames.Reason.{Reason}
@@ -22,7 +23,7 @@ use Rattle.satl_direct.specs.Run.{Run, RunCut, RunDeep, joined}
 use Rattle.satl_core.specs.Tie.{Given, IsQueue}
 use Rattle.satl_serve.specs.Runs.{IsBehind, IsFirst, IsLeftAs}
 
--- whether a frame unplugs the drive
+-- whether a frame unplugs the drive (profile)
 abbrev pub is_unplug : Frame → Bool
 is_unplug (frames.Request r) = false
 is_unplug (frames.Manage m) = false
@@ -39,20 +40,20 @@ is_unplug (frames.Bench event) = unplugs event
 is_unplug frames.End = false
 
 -- the drive is left as the last device is, its count of faults rose by the losses at least, and its number of unplugs by no more
--- than the events that unplug it, or each stands at its last value
+-- than the events that unplug it, or each stands at its last value (profile)
 pub record IsAccounted (all : List Frame) (losses : ℕ) (last : Device) (old new : DriveState) : Type 0 where
   pub ends : IsLeftAs last new
   pub faults : RoseBy losses old.faults new.faults
   pub unplugs_stay : old.unplugs ≤ new.unplugs
   pub unplugs_few : new.unplugs ≤ min (old.unplugs + how_many is_unplug all) (2 ^ 64 - 1)
 
--- the drive has of the last device's tasks as many as it can have
+-- the drive has of the last device's tasks as many as it can have (profile)
 pub record KeepsQueue (last : Device) (new : DriveState) : Type 0 where
   pub given : List Given
   pub queue : IsQueue last given new.outstanding
 
 -- status 0: the frames up to END were read and no byte behind them; the magic and the answers of a run over exactly these were written;
--- and the drive has had as many commands outstanding at once as that run allows
+-- and the drive has had as many commands outstanding at once as that run allows (profile)
 pub record IsServedWhole (limit : ℕ) (old : DriveState) (left left' written written' : Option (List ℕ)) (new : DriveState) : Type 0 where
   pub first : Device
   pub last : Device
@@ -68,9 +69,14 @@ pub record IsServedWhole (limit : ℕ) (old : DriveState) (left left' written wr
   pub queued : deep ≤ new.deepest
   pub accounted : IsAccounted all losses last old new
 
+-- what is told of a frame that was refused or not read: a FAULT, or nothing (profile)
+abbrev pub told_of : FrameFault → List ℕ
+told_of (Bad reason offset) = fault_bytes reason offset
+told_of ReadFault = []
+
 -- statuses 3 and 4: frames were read and carried out, their answers were written, and then the next one was refused or not read, which
--- was told by these bytes
-pub record IsServedBefore (limit : ℕ) (old : DriveState) (left left' written written' : Option (List ℕ)) (new : DriveState) (told : List ℕ) : Type 0 where
+-- was told (profile)
+pub record IsServedBefore (limit : ℕ) (old : DriveState) (left left' written written' : Option (List ℕ)) (new : DriveState) (why : FrameFault) : Type 0 where
   pub first : Device
   pub last : Device
   pub all : List Frame
@@ -83,14 +89,14 @@ pub record IsServedBefore (limit : ℕ) (old : DriveState) (left left' written w
   pub newest_is : reader.newest ≡ Two
   pub none_ends : NoneEnds all
   pub read : HasRead reader left mid all
-  pub stopped : ((reason : Reason) × (offset : ℕ) × Blames reader mid left' (Bad reason offset) × (told ≡ fault_bytes reason offset)) ⊎ (Blames reader mid left' ReadFault × (told ≡ []))
-  pub wrote : Wrote written written' (out answers ++ told)
+  pub blames : Blames reader mid left' why
+  pub wrote : Wrote written written' (out answers ++ told_of why)
   pub run : Run first all losses answers last
   pub queue : KeepsQueue last new
   pub accounted : IsAccounted all losses last old new
 
 -- status 5: frames were read and carried out, the last one perhaps in part, and a front of their answers was written, and of the FAULT
--- where the next one was refused
+-- where the next one was refused (profile)
 pub record IsServedInPart (limit : ℕ) (old : DriveState) (left left' written written' : Option (List ℕ)) (new : DriveState) : Type 0 where
   pub first : Device
   pub last : Device
@@ -110,7 +116,7 @@ pub record IsServedInPart (limit : ℕ) (old : DriveState) (left left' written w
   pub queue : KeepsQueue last new
   pub accounted : IsAccounted all losses last old new
 
--- statuses 2, 6 and 7: nothing was read or written, each sector reads as before, and the drive was not unplugged
+-- statuses 2, 6 and 7: nothing was read or written, each sector reads as before, and the drive was not unplugged (profile)
 pub record IsNotServed (old : DriveState) (left left' written written' : Option (List ℕ)) (new : DriveState) : Type 0 where
   pub read : left' ≡ left
   pub wrote : written' ≡ written

@@ -1,6 +1,6 @@
 -- What serving an input does: a run of the device over its frames, whose answers are written (profile).
-use Rattle.std.specs.Prelude.{◌≤◌, ◌⊎◌, ◌+◌, ◌^◌, ◌≡◌, ℕ, Bool, true, false, List, [], ◌∷◌, ◌++◌, length, map, is_some, Option, Ok}
-use Rattle.std.specs.List.{AllByRecursion, position_from}
+use Rattle.std.specs.Prelude.{◌≤◌, ◌⊎◌, ◌+◌, ◌^◌, ◌≡◌, ℕ, Bool, true, false, List, [], ◌∷◌, ◌++◌, length, map, Option, Ok, not, replicate}
+use Rattle.std.specs.List.{AllByRecursion}
 use Rattle.satl_base.specs.declared.reply.Reply.{Reply}
 use Rattle.satl_base.specs.Lists.{how_many}
 use Rattle.satl_base.specs.Losses.{Loses}
@@ -21,16 +21,18 @@ use Rattle.satl_frame.specs.Progress.{HasRead, ReadTo}
 use Rattle.satl_frame.specs.Reading.{Blames, Gave, Reading}
 use Rattle.satl_text.specs.Totals.{summary_of}
 use Rattle.satl_text.specs.declared.summary.Summary.{Summary}
-use Rattle.satl_line.specs.Tasks.{entries_of, is_named}
+use Rattle.satl_line.specs.Tasks.{entries_of}
 use Rattle.satl_drive.specs.State.{DriveState}
-use Rattle.satl_direct.specs.Device.{Device, task_of}
+use Rattle.satl_direct.specs.Device.{Device}
+use Rattle.satl_direct.specs.Valid.{IsValid}
+use Rattle.satl_direct.specs.Tasks.{task_of}
 use Rattle.satl_direct.specs.Run.{Drains, Run, RunCut, TurnsOf}
 use Rattle.satl_core.specs.Layer.{Layer}
 use Rattle.satl_serve.specs.declared.serving.ServeFault.{ServeFault}
 use Rattle.satl_serve.specs.declared.serving.ServeFault.TheVariants as faults
 use Rattle.satl_core.specs.Turning.{AreUnforced, AsksNoFua}
 
--- each frame of an input ends within 2^40 bytes
+-- each frame of an input ends within 2^40 bytes (profile)
 abbrev pub input_limit : ℕ
 input_limit = 2 ^ 40
 
@@ -45,48 +47,48 @@ pub record Answered (Step : List Reply → Type 0) (written written' : Option (L
   pub wrote : Wrote written written' (all_answered (map replied replies))
   pub counts : Counts summary summary' (map replied replies)
 
--- the same, and END behind them
+-- the same, and END behind them (profile)
 pub record AnsweredEnd (Step : List Reply → Type 0) (written written' : Option (List ℕ)) (summary summary' : Summary) : Type 0 where
   pub replies : List Reply
   pub step : Step replies
   pub wrote : Wrote written written' (all_answered (map replied replies ++ ended ∷ []))
   pub counts : Counts summary summary' (map replied replies ++ ended ∷ [])
 
--- a step of the device whose replies were written in part
+-- a step of the device whose replies were written in part (profile)
 pub record AnsweredPart (Step : List Reply → Type 0) (written written' : Option (List ℕ)) : Type 0 where
   pub replies : List Reply
   pub step : Step replies
   pub part : WrotePart written written' (all_answered (map replied replies))
 
--- the bytes written so far and those that are left make up all
+-- the bytes written so far and those that are left make up all (profile)
 pub record IsPartWritten (written written' : Option (List ℕ)) (left all : List ℕ) : Type 0 where
   pub done : List ℕ
   pub wrote : Wrote written written' done
   pub whole : done ++ left ≡ all
 
--- so many turns, whatever the depth
+-- so many turns, whatever the depth (profile)
 pub record TookTurns (count : ℕ) (s : Device) (replies : List Reply) (new : Device) : Type 0 where
   pub deep : ℕ
   pub turns : TurnsOf count s replies new deep
 
--- some of so many turns
+-- some of so many turns (profile)
 pub record TookSome (count : ℕ) (s : Device) (replies : List Reply) (new : Device) : Type 0 where
   pub taken : ℕ
   pub deep : ℕ
   pub most : taken ≤ count
   pub turns : TurnsOf taken s replies new deep
 
--- the answers of all turns and END were written in part
+-- the answers of all turns and END were written in part (profile)
 pub record EndedPart (free : Type 0) (s : Device) (written written' : Option (List ℕ)) (new : Device) : Type 0 where
   pub replies : List Reply
   pub step : free → (deep : ℕ) × Drains s replies new deep
   pub part : WrotePart written written' (all_answered (map replied replies ++ ended ∷ []))
 
--- at the end of the input a write failed, in a turn or behind all of them
+-- at the end of the input a write failed, in a turn or behind all of them (profile)
 abbrev pub EndsPart : Type 0 → Device → Option (List ℕ) → Option (List ℕ) → Device → Type 0
 EndsPart free s written written' new = ((count : ℕ) × AnsweredPart (λ replies. free → TookSome count s replies new) written written') ⊎ EndedPart free s written written' new
 
--- a frame that asks for no FUA
+-- a frame that asks for no FUA (SBC-3 5.31)
 abbrev pub AsksNone : Frame → Type 0
 AsksNone (frames.Request r) = AsksNoFua r
 AsksNone (frames.Manage m) = Unit {0}
@@ -94,7 +96,7 @@ AsksNone (frames.Turn count) = Unit {0}
 AsksNone (frames.Bench event) = Unit {0}
 AsksNone frames.End = Unit {0}
 
--- no frame asks for FUA
+-- no frame asks for FUA (profile)
 abbrev pub NoneForced : List Frame → Type 0
 NoneForced events = AllByRecursion AsksNone events
 
@@ -144,7 +146,7 @@ pub record Going (first : Device) (before : Tally) (r : Reading) (left left' wri
   pub calls : now.calls + length s.tasks ≤ before.calls + requests_in events
   pub totals : summary ≡ summary_of (requests_in events) answers
 
--- the same up to END, which was read and carried out
+-- the same up to END, which was read and carried out (profile)
 pub record Ended (limit : ℕ) (first : Device) (before : Tally) (left left' written written' : Option (List ℕ)) (now : Tally) (last : Device) (summary : Summary) : Type 0 where
   pub events : List Frame
   pub answers : List Answer
@@ -155,20 +157,23 @@ pub record Ended (limit : ℕ) (first : Device) (before : Tally) (left left' wri
   pub calls : now.calls ≤ before.calls + requests_in events
   pub totals : summary ≡ summary_of (requests_in events) answers
 
--- the device that a drive is when the layer has just been opened on it: its sectors, some of which it may have written back by
--- itself; no task; the modes by its settings; started and up
+-- the device that a drive is when the layer has just been opened on it: a valid one with its sectors, some of which it may have
+-- written back by itself; no task and no unit attention; the modes by its settings; started and up (profile)
 pub record IsFirst (d : DriveState) (s : Device) : Type 0 where
   pub cells : Loses d.cells s.cells
   pub tasks : s.tasks ≡ []
   pub identity : identity_of d.identify ≡ Ok s.identity
   pub wce : s.modes.wce ≡ s.identity.cache_on
+  pub dra : s.modes.dra ≡ not s.identity.look_on
   pub d_sense : s.modes.d_sense ≡ false
   pub started : s.started ≡ true
   pub up : s.down ≡ false
   pub active : s.active ≡ d.active
+  pub attentions : s.attentions ≡ replicate 4 []
   pub glitches : s.glitches ≡ d.glitches
+  pub valid : IsValid s
 
--- a drive is left as the device is
+-- a drive is left as the device is (profile)
 pub record IsLeftAs (s : Device) (d : DriveState) : Type 0 where
   pub cells : d.cells ≡ s.cells
   pub active : d.active ≡ s.active
@@ -199,11 +204,11 @@ pub record CutsTo (before now : ℕ) (first : Device) (events : List Frame) (ans
   pub run : RunCut first events losses answers last
   pub counted : RoseBy losses before now
 
--- behind the frames that were read nothing was taken and nothing is told; or a frame was refused, which a FAULT tells
+-- behind the frames that were read nothing was taken and nothing is told; or a frame was refused, which a FAULT tells (profile)
 abbrev pub IsBehind : Reading → Option (List ℕ) → Option (List ℕ) → List ℕ → Type 0
 IsBehind reader mid left' told = ((left' ≡ mid) × (told ≡ [])) ⊎ ((reason : Reason) × (offset : ℕ) × Blames reader mid left' (Bad reason offset) × (told ≡ fault_bytes reason offset))
 
--- frames were read, and of the answers of a run over them, which may be cut short in the last one, a front was written
+-- frames were read, and of the answers of a run over them, which may be cut short in the last one, a front was written (profile)
 pub record Cut (limit : ℕ) (first : Device) (before : Tally) (left left' written written' : Option (List ℕ)) (now : Tally) (last : Device) : Type 0 where
   pub reader : Reading
   pub mid : Option (List ℕ)
@@ -218,7 +223,7 @@ pub record Cut (limit : ℕ) (first : Device) (before : Tally) (left left' writt
   pub run : GoesUnforced first events → CutsTo before.faults now.faults first events answers last
   pub calls : now.calls ≤ before.calls + requests_in events
 
--- frames were read and carried out, none of which is END, and what follows was refused or not read; these bytes were written behind the answers
+-- frames were read and carried out, none of which is END, and what follows was refused or not read; these bytes were written behind the answers (profile)
 pub record Refused (limit : ℕ) (first : Device) (before : Tally) (left left' written written' : Option (List ℕ)) (why : FrameFault) (told : List ℕ) (now : Tally) (last : Device) : Type 0 where
   pub reader : Reading
   pub mid : Option (List ℕ)
@@ -233,15 +238,15 @@ pub record Refused (limit : ℕ) (first : Device) (before : Tally) (left left' w
   pub run : GoesUnforced first events → RunsTo before.faults now.faults first events answers last
   pub calls : now.calls ≤ before.calls + requests_in events
 
--- a frame that is not carried out yet: a task management function, a bench event, and a request with the nexus and tag of a task
+-- a frame that is not carried out yet: a task management function, and a bench event (profile)
 abbrev pub IsNotBuilt : Layer → Frame → Type 0
-IsNotBuilt l (frames.Request r) = is_some (position_from (is_named r.nexus r.tag) 0 l.tasks) ≡ true
+IsNotBuilt l (frames.Request r) = ⊥
 IsNotBuilt l (frames.Manage m) = Unit {0}
 IsNotBuilt l (frames.Turn count) = ⊥
 IsNotBuilt l (frames.Bench event) = Unit {0}
 IsNotBuilt l frames.End = ⊥
 
--- frames were read and carried out, none of which is END, and then one was read that is not built yet
+-- frames were read and carried out, none of which is END, and then one was read that is not built yet (profile)
 pub record NotServed (limit : ℕ) (first : Device) (before : Tally) (left left' written written' : Option (List ℕ)) (now : Tally) (l : Layer) (last : Device) : Type 0 where
   pub reader : Reading
   pub reader' : Reading
@@ -260,7 +265,7 @@ pub record NotServed (limit : ℕ) (first : Device) (before : Tally) (left left'
   pub run : GoesUnforced first events → RunsTo before.faults now.faults first events answers last
   pub calls : now.calls ≤ before.calls + requests_in events
 
--- how far serving came where it stopped with a fault
+-- how far serving came where it stopped with a fault (profile)
 abbrev pub StoppedBehind : ℕ → Device → Tally → Option (List ℕ) → Option (List ℕ) → Option (List ℕ) → Option (List ℕ) → Tally → Layer → Device → ServeFault → Type 0
 StoppedBehind limit first before left left' written written' now l last (faults.Open fault) = ⊥
 StoppedBehind limit first before left left' written written' now l last (faults.BadInput reason offset) = Refused limit first before left left' written written' (Bad reason offset) (fault_bytes reason offset) now last
@@ -268,7 +273,7 @@ StoppedBehind limit first before left left' written written' now l last faults.R
 StoppedBehind limit first before left left' written written' now l last faults.Write = Cut limit first before left left' written written' now last
 StoppedBehind limit first before left left' written written' now l last faults.NotBuilt = NotServed limit first before left left' written written' now l last
 
--- a reader's refusal is told: a bad frame by a FAULT
+-- a reader's refusal is told: a bad frame by a FAULT (profile)
 abbrev pub Tells : FrameFault → Option (List ℕ) → Option (List ℕ) → ServeFault → Type 0
 Tells fault written written' (faults.Open opening) = ⊥
 Tells fault written written' (faults.BadInput reason offset) = (fault ≡ Bad reason offset) × Wrote written written' (fault_bytes reason offset)
@@ -307,7 +312,7 @@ pub record IsUntouched (old : DriveState) (left left' written written' : Option 
   pub nows : map (λ c. c.now) new.cells ≡ map (λ c. c.now) old.cells
   pub one_call : calls' ≤ calls + 1
 
--- the same by the fault; a write may fail in the magic already
+-- the same by the fault; a write may fail in the magic already (profile)
 abbrev pub IsStopped : ℕ → DriveState → Option (List ℕ) → Option (List ℕ) → Option (List ℕ) → Option (List ℕ) → ℕ → ℕ → DriveState → ServeFault → Type 0
 IsStopped limit old left left' written written' calls calls' new (faults.Open fault) = IsUntouched old left left' written written' calls calls' new
 IsStopped limit old left left' written written' calls calls' new (faults.BadInput reason offset) = IsStoppedBehind limit old left left' written written' calls calls' new (faults.BadInput reason offset)

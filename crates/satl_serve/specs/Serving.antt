@@ -11,12 +11,12 @@ use Rattle.satl_core.specs.Opening.{IsCause}
 use Rattle.satl_serve.specs.declared.serving.ServeFault.{ServeFault}
 use Rattle.satl_serve.specs.declared.serving.ServeFault.TheVariants as faults
 
--- between frames the layer and its drive are tied, and no page is out
+-- between frames the layer and its drive are tied, and no page is out (profile)
 pub record AtRest (l : Layer) (d : DriveState) : Type 0 where
   pub tied : Tied l d
   pub all_in : l.out ≡ 0
 
--- a write fault comes only where the sink's count rose; no other fault comes from writing
+-- a write fault comes only where the sink's count rose; no other fault comes from writing (profile)
 abbrev pub HasWriteCause : ℕ → ℕ → ServeFault → Type 0
 HasWriteCause before now faults.Write = Rose before now
 HasWriteCause before now _ = ⊥
@@ -46,7 +46,7 @@ pub record IsRefused (fault : IdentityFault) (old new : DriveState) : Type 0 whe
 abbrev pub TellsRefusal : IdentityFault → ServeFault → Type 0
 TellsRefusal refusal fault = (fault ≡ faults.Open (opening.Identity refusal)) ⊎ (fault ≡ faults.Open opening.NoMemory)
 
--- how many bytes of the input stand before the next frame; none where the magic was not read yet
+-- how many bytes of the input stand before the next frame; none where the magic was not read yet (profile)
 abbrev pub place_offset : Option Place → ℕ
 place_offset None = 0
 place_offset (Some place) = place.offset

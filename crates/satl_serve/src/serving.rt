@@ -1,5 +1,5 @@
 // The loop over frames.
-ghost use Rattle.std.specs.Prelude.{◌≡◌, ◌≤◌, ◌+◌, ◌-◌, ℕ, List, [], Some, IfErr, IfOk, MatchResult, OnErr, OnOk, length, map};
+ghost use Rattle.std.specs.Prelude.{◌≡◌, ◌≤◌, ◌+◌, ◌-◌, ℕ, List, [], Some, None, IfErr, IfOk, MatchResult, OnErr, OnOk, length, map};
 ghost use Rattle.std.specs.List.{AllByRecursion};
 ghost use Rattle.std.specs.Result.{IsErrAnd};
 ghost use Rattle.satl_base.specs.declared.request.Request.{Request};
@@ -230,7 +230,8 @@ fn serve_end<K: Sink, D: Drive, L: Ledger>(
 /// other up to END, which ends it. Each answer is written before the next frame is read. `Open`: the layer was not opened, for
 /// the reason told, and nothing was read or written; refused IDENTIFY DEVICE data are told, but for a lost link and want of memory.
 /// `BadInput` comes after its FAULT frame was written, with the reason and the offset of the refused frame in bytes. `Read` and
-/// `Write` come only where the source's or the sink's count of faults rose. `NotBuilt` comes at a frame that is not served yet.
+/// `Write` come only where the source's or the sink's count of faults rose. `NotBuilt` comes at a task management function or a
+/// bench event, which are not served yet.
 /// An input that can be read to END, each frame of which is served, ends so or by want of memory where no count of faults rises
 /// and the drive is not refused. It gives the totals of the whole input. The drive is called once for its identity, and then at
 /// most once for each request (profile).
@@ -243,12 +244,13 @@ pub fn serve<S: Source, K: Sink, D: Bench, L: Ledger>(
     steps: &mut Steps<L>,
 ) -> Result<Summary, ServeFault>
     requires idle { (D.state drive.old).outstanding ≡ [] }
+    requires no_error { (D.state drive.old).error ≡ None }
     requires fit { IsFit (D.state drive.old) }
     ensures served { IfOk result (IsServed input_limit (D.state drive.old) (S.left source.old) (S.left source.new) (K.written sink.old) (K.written sink.new) steps.old steps.new (D.state drive.new)) }
     ensures stopped { IfErr result (IsStopped input_limit (D.state drive.old) (S.left source.old) (S.left source.new) (K.written sink.old) (K.written sink.new) steps.old steps.new (D.state drive.new)) }
     ensures causes { IfErr result (HasServeCause (D.state drive.old) (D.state drive.new) (S.faults source.old) (S.faults source.new) (K.faults sink.old) (K.faults sink.new)) }
     ensures refused { (fault : IdentityFault) → IsRefused fault (D.state drive.old) (D.state drive.new) → IsErrAnd result (TellsRefusal fault) }
-    ensures complete { (fs : List Frame) (rest : List ℕ) → IsGoodInput input_limit (S.left source.old) fs rest → GoesWell (D.state drive.old) (D.state drive.new) (S.faults source.old) (S.faults source.new) (K.faults sink.old) (K.faults sink.new) → MatchResult result (λ _. S.left source.new ≡ Some rest) (MayStop (D.state drive.old) fs) }
+    ensures complete { (fs : List Frame) (rest : List ℕ) → IsGoodInput input_limit (S.left source.old) fs rest → GoesWell (D.state drive.old) (D.state drive.new) (S.faults source.old) (S.faults source.new) (K.faults sink.old) (K.faults sink.new) → MatchResult result (λ _. S.left source.new ≡ Some rest) MayStop }
 {
     let mut satl = Satl::open(alloc, drive, steps)?;
     write_frame(OutFrame::Magic, sink)?;
@@ -282,20 +284,8 @@ fn serve_frames<S: Source, K: Sink, D: Drive, L: Ledger>(
         };
         match frame {
             Frame::Request(request) => {
-                // That an overlapped command is answered so is not built yet.
-                if satl.holds(request.nexus, request.tag) {
-                    return Err(ServeFault::NotBuilt);
-                }
                 totals.add_request();
-                serve_request(
-                    satl,
-                    request,
-                    sink,
-                    drive,
-                    &mut replies,
-                    &mut totals,
-                    steps,
-                )?;
+                serve_request(satl, request, sink, drive, &mut replies, &mut totals, steps)?;
             }
             Frame::Turn(count) => serve_turns(
                 satl,

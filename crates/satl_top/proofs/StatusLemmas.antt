@@ -1,8 +1,6 @@
 -- The status of a fault.
 use Rattle.std.proofs.Common.{◌≡◌, ℕ, List, sym, subst}
 use Rattle.std.specs.Prelude.{Option}
-use Rattle.satl_frame.specs.declared.frames.Frame.{Frame}
-use Rattle.satl_drive.specs.State.{DriveState}
 use Rattle.satl_core.specs.declared.satl.OpenFault.TheVariants as opening
 use Rattle.satl_serve.specs.Completeness.{MayStop}
 use Rattle.satl_serve.specs.declared.serving.ServeFault.{ServeFault}
@@ -12,10 +10,10 @@ use Rattle.satl_top.specs.Top.{Completes}
 use Rattle.satl_top.specs.declared.status.Status.{Status}
 
 -- a fault that is left to a good input has its status
-pub fault_completes : (old : DriveState) (fs : List Frame) (rest : List ℕ) (left' : Option (List ℕ)) (fault : ServeFault) (status : Status) → status ≡ status_of fault → MayStop old fs fault → Completes old fs rest left' status
-fault_completes old fs rest left' fault status is may = subst (λ s. Completes old fs rest left' s) (sym is) (by_fault fault may)
+pub fault_completes : (rest : List ℕ) (left' : Option (List ℕ)) (fault : ServeFault) (status : Status) → status ≡ status_of fault → MayStop fault → Completes rest left' status
+fault_completes rest left' fault status is may = subst (λ s. Completes rest left' s) (sym is) (by_fault fault may)
   where
-    by_fault : (f : ServeFault) → MayStop old fs f → Completes old fs rest left' (status_of f)
+    by_fault : (f : ServeFault) → MayStop f → Completes rest left' (status_of f)
     by_fault (faults.Open opening.NoMemory) may = tt
     by_fault (faults.Open opening.LinkDown) may = may
     by_fault (faults.Open (opening.Identity fault)) may = may

@@ -6,11 +6,13 @@ use Rattle.satl_serve.specs.declared.serving.ServeFault.TheVariants as faults
 use Rattle.satl_top.specs.declared.status.Status.{Status}
 use Rattle.satl_top.specs.declared.status.Status.TheVariants as statuses
 
+-- the status of a fault of opening (profile)
 abbrev pub status_of_open : OpenFault → Status
 status_of_open opening.NoMemory = statuses.NoMemory
 status_of_open opening.LinkDown = statuses.DriveRefused
 status_of_open (opening.Identity fault) = statuses.DriveRefused
 
+-- the status of a fault of serving (profile)
 abbrev pub status_of : ServeFault → Status
 status_of (faults.Open fault) = status_of_open fault
 status_of (faults.BadInput reason offset) = statuses.BadInput

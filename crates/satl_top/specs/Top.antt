@@ -7,24 +7,22 @@ use Rattle.std.specs.Rc.{rc_str_bytes}
 use Rattle.satl_io.specs.Causes.{Rose}
 use Rattle.satl_identify.specs.declared.identity.IdentityFault.{IdentityFault}
 use Rattle.satl_identify.specs.Refusals.{identity_of}
-use Rattle.satl_frame.specs.declared.frames.Frame.{Frame}
 use Rattle.satl_frame.specs.declared.frames.Reason.{Reason}
 use Rattle.satl_text.specs.declared.summary.Summary.{Summary}
 use Rattle.satl_drive.specs.State.{DriveState}
 use Rattle.satl_serve.specs.declared.serving.ServeFault.TheVariants as faults
-use Rattle.satl_serve.specs.Completeness.{Overlaps}
 use Rattle.satl_serve.specs.Runs.{IsServed, IsStoppedBehind, IsStoppedInMagic, IsUntouched}
 use Rattle.satl_top.specs.declared.status.Status.{Status}
 use Rattle.satl_top.specs.declared.status.Status.TheVariants as statuses
 
--- two words, of which the second is `replay`
+-- two words, of which the second is `replay` (profile)
 abbrev pub is_replay : List (RcStr Global) → Bool
 is_replay [] = false
 is_replay (w ∷ []) = false
 is_replay (w ∷ v ∷ []) = pointwise nat_eq (rc_str_bytes v) (codes "replay")
 is_replay (w ∷ v ∷ u ∷ ws) = false
 
--- the exit number of each status
+-- the exit number of each status (profile)
 abbrev pub exit_number : Status → ℕ
 exit_number statuses.Done = 0
 exit_number statuses.Usage = 2
@@ -60,14 +58,13 @@ Outcome limit old left left' written written' calls calls' new statuses.NoMemory
 Outcome limit old left left' written written' calls calls' new statuses.DriveRefused = IsUntouched old left left' written written' calls calls' new
 Outcome limit old left left' written written' calls calls' new statuses.NotBuilt = IsStoppedBehind limit old left left' written written' calls calls' new faults.NotBuilt
 
--- a good input is served whole where all goes well, up to END and no byte further (profile): but there may be no memory to begin,
--- and an overlapped command is not built yet
-abbrev pub Completes : DriveState → List Frame → List ℕ → Option (List ℕ) → Status → Type 0
-Completes old fs rest left' statuses.Done = left' ≡ Some rest
-Completes old fs rest left' statuses.Usage = ⊥
-Completes old fs rest left' statuses.BadInput = ⊥
-Completes old fs rest left' statuses.ReadFault = ⊥
-Completes old fs rest left' statuses.WriteFault = ⊥
-Completes old fs rest left' statuses.NoMemory = Unit {0}
-Completes old fs rest left' statuses.DriveRefused = ⊥
-Completes old fs rest left' statuses.NotBuilt = Overlaps old fs
+-- a good input is served whole where all goes well, up to END and no byte further (profile): but there may be no memory to begin
+abbrev pub Completes : List ℕ → Option (List ℕ) → Status → Type 0
+Completes rest left' statuses.Done = left' ≡ Some rest
+Completes rest left' statuses.Usage = ⊥
+Completes rest left' statuses.BadInput = ⊥
+Completes rest left' statuses.ReadFault = ⊥
+Completes rest left' statuses.WriteFault = ⊥
+Completes rest left' statuses.NoMemory = Unit {0}
+Completes rest left' statuses.DriveRefused = ⊥
+Completes rest left' statuses.NotBuilt = ⊥

@@ -1,5 +1,5 @@
 // Replays over memory streams.
-ghost use Rattle.std.specs.Prelude.{◌≡◌, ◌<◌, []};
+ghost use Rattle.std.specs.Prelude.{◌≡◌, ◌<◌, [], None};
 ghost use Rattle.satl_drive.specs.State.{IsFit};
 
 use crate::frames::{END, ENDED};
@@ -41,6 +41,7 @@ fn counted<S: Source, K: Sink, D: Bench, L: Ledger>(
     blank: Blank,
 ) -> Status
     requires idle { (D.state drive.old).outstanding ≡ [] }
+    requires no_error { (D.state drive.old).error ≡ None }
     requires fit { IsFit (D.state drive.old) }
     requires name { blank.name ≡ L.name }
     requires parts { blank.parts ≡ L.parts }

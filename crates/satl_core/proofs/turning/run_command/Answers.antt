@@ -6,7 +6,7 @@ use Rattle.satl_core.proofs.turning.run_command.Goals as goal
 
 pub run-requires : goal.run-requires
 run-requires g c =
-    can_transfer _ (g.D.Drive.state c.args.drive.now).capacity c.args.command.now _ _ c.requires.idle c.requires.transfer (c.put_command-regs.ensures.exact ∙ ap command_registers c.ata_command.ensures) (c.put_command-regs.ensures.again ∙ c.ata_command.ensures)
+    can_transfer _ (g.D.Drive.state c.args.drive.now).capacity c.args.command.now _ _ c.requires.idle c.requires.no_error c.requires.transfer (c.put_command-regs.ensures.exact ∙ ap command_registers c.ata_command.ensures) (c.put_command-regs.ensures.again ∙ c.ata_command.ensures)
 
 pub returns-clause-again : goal.returns-clause-again
 returns-clause-again g c = ap command_in (sym (c.put_command-regs.ensures.exact ∙ ap command_registers c.ata_command.ensures)) ∙ (c.put_command-regs.ensures.again ∙ c.ata_command.ensures)

@@ -1,5 +1,5 @@
 use Rattle.satl_serve.proofs.CompletenessLemmas.{frames_complete, magic_complete, opening_complete}
-use Rattle.satl_serve.proofs.RunLemmas.{if_ok, magic_stops, served}
+use Rattle.satl_serve.proofs.RunLemmas.{if_err, if_ok, magic_stops, served, stops}
 use Rattle.satl_serve.proofs.ServingLemmas.{earlier_cause}
 use Rattle.satl_serve.proofs.serving.serve.Goals as goal
 
@@ -14,7 +14,7 @@ returns-in_err-write_frame-clause-stopped g c =
 
 pub returns-clause-complete : goal.returns-clause-complete
 returns-clause-complete g c =
-    frames_complete c.serve_frames.result _ (g.D.Drive.state c.args.drive.now) (g.D.Drive.state c.open.new.drive) (g.D.Drive.state c.serve_frames.new.drive) c.in_ok-satl.satl c.serve_frames.new.satl _ _ _ _ _ _ _ _ _ _ c.in_ok-satl.ensures.opened
+    frames_complete c.serve_frames.result _ (g.D.Drive.state c.args.drive.now) (g.D.Drive.state c.open.new.drive) (g.D.Drive.state c.serve_frames.new.drive) c.in_ok-satl.satl c.serve_frames.new.satl _ _ _ _ _ _ _ _ _ _
     c.serve_frames.ensures.ended c.serve_frames.ensures.stopped (earlier_cause c.serve_frames.result _ _ _ _ _ c.in_ok-write_frame.ensures.cause.later c.serve_frames.ensures.causes)
 
 pub returns-in_err-satl-clause-complete : goal.returns-in_err-satl-clause-complete
@@ -23,3 +23,8 @@ returns-in_err-satl-clause-complete g c = λ fs rest good well. opening_complete
 pub returns-in_err-write_frame-clause-complete : goal.returns-in_err-write_frame-clause-complete
 returns-in_err-write_frame-clause-complete g c =
     λ fs rest good well. magic_complete c.from_residual-in_err-write_frame.result _ (g.D.Drive.state c.args.drive.now) (g.D.Drive.state c.open.new.drive) _ _ _ _ fs _ c.from_residual-in_err-write_frame.ensures.1 (λ e is. is) c.in_err-write_frame.ensures.cause.failed well
+
+pub returns-clause-stopped : goal.returns-clause-stopped
+returns-clause-stopped g c =
+    if_err c.serve_frames.result _ _
+    (λ fault. stops _ (g.D.Drive.state c.args.drive.now) (g.D.Drive.state c.open.new.drive) (g.D.Drive.state c.serve_frames.new.drive) c.args.steps.now c.open.new.steps c.serve_frames.new.steps c.in_ok-satl.satl c.serve_frames.new.satl _ _ _ _ _ fault c.in_ok-satl.ensures.opened c.in_ok-satl.ensures.steps c.in_ok-write_frame.ensures.all) c.serve_frames.ensures.stopped

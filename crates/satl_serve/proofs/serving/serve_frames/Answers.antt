@@ -1,14 +1,15 @@
+use Rattle.std.specs.Prelude.{Err}
 use Rattle.std.proofs.Common.{◌∙◌, ⊎_elim, arith, ap, subst, sym, map, ℕ}
 use Rattle.satl_frame.specs.Pulls.{frame_pages}
 use Rattle.satl_frame.specs.Reading.{Reading}
 use Rattle.satl_line.specs.Tasks.{entries_of}
-use Rattle.satl_direct.specs.Device.{task_of}
+use Rattle.satl_direct.specs.Tasks.{task_of}
 use Rattle.satl_direct.specs.Run.{Drains}
 use Rattle.satl_core.specs.Turning.{AreUnforced}
 use Rattle.satl_core.specs.Layer.{Layer, view}
 use Rattle.satl_serve.specs.Runs.{AnsweredEnd, EndsPart, Going, IsNotBuilt, input_limit, tally_of}
 use Rattle.satl_serve.proofs.RunLemmas.{any_write_stops, cut_end, cut_request, cut_turns, going_ended, going_request, going_start, going_turn, if_ok, not_served, on_err, passed_on_stops, request_tallied, stopped_by, tallied, zero_totals}
-use Rattle.satl_serve.proofs.ServingLemmas.{can_submit, nearer, rest_lent, tied_lent, write_cause}
+use Rattle.satl_serve.proofs.ServingLemmas.{can_submit, nearer, rest_lent, tied_lent, refused_cause, write_cause}
 use Rattle.satl_serve.proofs.serving.serve_frames.Goals as goal
 
 pub frames-init : goal.frames-init
@@ -123,16 +124,6 @@ returns-in_err-serve_turns-in-Turn-clause-stopped g c =
     (subst (λ s. Going first t0 c.frames.reader (g.S.Source.left c.args.source.now) (g.S.Source.left c.frames.source) (g.K.Sink.written c.args.sink.now) (g.K.Sink.written c.frames.sink) c.frames.totals t s) (sym same) c.frames.invariant.going) c.in-Ok.ensures.gave c.in-Turn.is c.frames.invariant.limit c.frames.invariant.newest
     (tallied c.next.new.lender c.serve_turns.new.satl (g.D.Drive.state c.frames.drive) (g.D.Drive.state c.serve_turns.new.drive) c.frames.steps c.serve_turns.new.steps c.in_err-serve_turns-in-Turn.ensures.counted c.in_err-serve_turns-in-Turn.ensures.calls) c.in_err-serve_turns-in-Turn.ensures.part)
 
-pub returns-then-holds-clause-stopped : goal.returns-then-holds-clause-stopped
-returns-then-holds-clause-stopped g c =
-    let first = view c.args.satl.now (g.D.Drive.state c.args.drive.now) in
-    let t0 = tally_of (g.D.Drive.state c.args.drive.now) c.args.steps.now in
-    let t = tally_of (g.D.Drive.state c.frames.drive) c.frames.steps in
-    let same = ap (λ (l : Layer). view l (g.D.Drive.state c.frames.drive)) c.in-Ok.ensures.rest in
-    not_served _ first t0 t c.frames.reader c.next.new.self _ _ _ _ _ _ c.next.new.lender (view c.next.new.lender (g.D.Drive.state c.frames.drive)) _ c.in-Ok.frame
-    (subst (λ s. Going first t0 c.frames.reader (g.S.Source.left c.args.source.now) (g.S.Source.left c.frames.source) (g.K.Sink.written c.args.sink.now) (g.K.Sink.written c.frames.sink) c.frames.totals t s) (sym same) c.frames.invariant.going) c.frames.invariant.limit c.frames.invariant.newest c.in-Ok.ensures.gave
-    (subst (IsNotBuilt c.next.new.lender) (sym c.in-Request.is) (sym c.holds.ensures ∙ c.if-holds.true))
-
 pub returns-in-Manage-clause-stopped : goal.returns-in-Manage-clause-stopped
 returns-in-Manage-clause-stopped g c =
     let first = view c.args.satl.now (g.D.Drive.state c.args.drive.now) in
@@ -160,3 +151,6 @@ frames-smaller g c = nearer c.in-Ok.ensures.gave
 
 pub returns-in-End-clause-causes : goal.returns-in-End-clause-causes
 returns-in-End-clause-causes g c = write_cause c.serve_end.result _ _ _ _ _ c.frames.invariant.write_later c.serve_end.ensures.cause
+
+pub returns-in-Err-clause-causes : goal.returns-in-Err-clause-causes
+returns-in-Err-clause-causes g c = refused_cause c.refuse.result _ _ _ _ _ _ _ _ _ c.frames.invariant.read_later c.frames.invariant.write_later (λ e. (c.in-Err.ensures.causes c.frames.invariant.fresh).failed (ap (λ x. Err x) e)) c.refuse.ensures.tells c.refuse.ensures.write

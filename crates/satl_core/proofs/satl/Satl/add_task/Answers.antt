@@ -2,14 +2,20 @@ use Rattle.std.proofs.Common.{◌≡◌, ⊎_elim, refl, sym, ap, subst, arith, 
 use Rattle.satl_line.specs.declared.entry.Entry.{Entry}
 use Rattle.satl_line.specs.Kinds.{kind_of}
 use Rattle.satl_line.specs.Tasks.{is_too_much}
-use Rattle.satl_direct.specs.Arrival.{held_blocks}
+use Rattle.satl_direct.specs.Tasks.{held_blocks}
 use Rattle.satl_core.specs.Layer.{IsExpectable, IsTransfer, Layer, held_pages}
 use Rattle.satl_core.proofs.ArrivalLemmas.{long_enough}
 use Rattle.satl_core.specs.Submitting.{Becomes}
 use Rattle.satl_core.proofs.HeldLemmas.{held_is, on_ok}
-use Rattle.satl_core.proofs.Transfers.{transfer_needs}
+use Rattle.satl_core.proofs.Transfers.{transfer_needs, transfer_served}
 use Rattle.satl_core.proofs.AddingLemmas.{HasPages, becomes_added, count_with, given_pages, held_with, kept_with, last_body, tasks_with, total_with}
 use Rattle.satl_core.proofs.satl.Satl.add_task.Goals as goal
+
+pub task_without_pages-task-requires : goal.task_without_pages-task-requires
+task_without_pages-task-requires c = transfer_served c.args.self.now.identity.capacity (held_blocks c.args.command) c.args.command c.requires.transfer
+
+pub own_pages-body-requires-clause-served : goal.own_pages-body-requires-clause-served
+own_pages-body-requires-clause-served c = transfer_served c.args.self.now.identity.capacity (held_blocks c.args.command) c.args.command c.requires.transfer
 
 pub own_pages-body-requires-clause-room : goal.own_pages-body-requires-clause-room
 own_pages-body-requires-clause-room c =
@@ -61,16 +67,17 @@ returns-clause-becomes c =
     let count = count_with c.self.inside.tasks c.add.new.self c.task_without_pages-task.result adds in
     let task = c.task_without_pages-task.ensures in
     let has = given_pages c.self.inside.tasks c.add.new.self c.put_data.new.self c.task_without_pages-task.result c.own_pages-body.result (c.len-place.result - 1) adds (omega (arith, count, c.len-place.ensures.value)) c.put_data.ensures in
-    let layer : Layer = record { identity = c.self.inside.identity; modes = c.self.inside.modes; started = c.self.inside.started; down = c.self.inside.down; tasks = c.put_data.new.self; free = c.own_pages-body.new.pool.free; out = c.own_pages-body.new.pool.out - held_pages c.put_data.new.self } in
-    let old : Layer = record { identity = c.self.inside.identity; modes = c.self.inside.modes; started = c.self.inside.started; down = c.self.inside.down; tasks = c.self.inside.tasks; free = c.self.inside.pool.free; out = c.self.inside.pool.out - held_pages c.self.inside.tasks } in
+    let layer : Layer = record { identity = c.self.inside.identity; modes = c.self.inside.modes; started = c.self.inside.started; down = c.self.inside.down; attentions = c.self.inside.attentions; tasks = c.put_data.new.self; free = c.own_pages-body.new.pool.free; out = c.own_pages-body.new.pool.out - held_pages c.put_data.new.self } in
+    let old : Layer = record { identity = c.self.inside.identity; modes = c.self.inside.modes; started = c.self.inside.started; down = c.self.inside.down; attentions = c.self.inside.attentions; tasks = c.self.inside.tasks; free = c.self.inside.pool.free; out = c.self.inside.pool.out - held_pages c.self.inside.tasks } in
     let held = held_with c.self.inside.tasks c.put_data.new.self c.task_without_pages-task.result c.own_pages-body.result has in
     let view = ap (λ (l : Layer). l.out) c.self.view_is in
+    let transfer = subst (λ (l : Layer). IsTransfer l.identity.capacity c.args.command (held_blocks c.args.command)) (sym c.self.view_is) c.requires.transfer in
     let none : c.own_pages-body.new.pool.out - held_pages c.put_data.new.self ≡ 0 = omega (arith, held, view, c.self.invariant.held, c.requires.can.pages, c.own_pages-body.ensures.size, c.own_pages-body.ensures.out) in
     subst (λ (l : Layer). Becomes c.args.request c.args.command l c.args.replies.now layer) c.self.view_is
     (becomes_added c.args.request c.args.command old c.args.replies.now layer (subst (λ (e : Entry). is_too_much c.self.inside.tasks e ≡ false) task full)
     (record {
       none = c.requires.empty;
-      last = tasks_with c.self.inside.tasks c.put_data.new.self c.args.request c.args.command c.self.inside.identity.queued_trim c.own_pages-body.result c.own_pages-body.ensures.data (subst (λ (e : Entry). HasPages c.self.inside.tasks e c.own_pages-body.result c.put_data.new.self) task has);
+      last = tasks_with c.self.inside.identity.capacity (held_blocks c.args.command) c.self.inside.tasks c.put_data.new.self c.args.request c.args.command c.self.inside.identity.queued_trim c.own_pages-body.result transfer c.own_pages-body.ensures.data (subst (λ (e : Entry). HasPages c.self.inside.tasks e c.own_pages-body.result c.put_data.new.self) task has);
       stays = ap (λ n. record layer { out = n }) none;
     }))
 

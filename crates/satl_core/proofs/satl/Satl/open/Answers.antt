@@ -12,8 +12,8 @@ returns-in-Err-read_identity-clause-nows g c = told_nows _ _ _ _ c.in-Ok.ensures
 
 pub returns-clause-opened : goal.returns-clause-opened
 returns-clause-opened g c =
-    opened _ _ _ _ _ _ _ _ _ c.requires.idle c.in-Ok.ensures.told c.requires.fit (c.tell_identity.ensures.fit c.requires.fit)
-    (sym (judged_as_told _ _ _ _ _ _ c.in-Ok.ensures.told c.block.ensures c.read_identity.ensures.judged) ∙ c.in-Ok-read_identity.is) c.first_modes.ensures.wce c.first_modes.ensures.d_sense c.in_ok-tasks.ensures (omega (arith, c.in_ok-pool.ensures.out, c.in-Some.ensures.out, c.in-Some.ensures.pages, c.tell_identity.ensures.size, c.give.ensures.out, ap held_pages c.in_ok-tasks.ensures))
+    opened _ _ _ _ _ _ _ _ _ _ c.requires.idle c.requires.no_error c.in-Ok.ensures.told c.requires.fit (c.tell_identity.ensures.fit c.requires.fit)
+    (sym (judged_as_told _ _ _ _ _ _ c.in-Ok.ensures.told c.block.ensures c.read_identity.ensures.judged) ∙ c.in-Ok-read_identity.is) c.first_modes.ensures.wce c.first_modes.ensures.dra c.first_modes.ensures.d_sense c.in_ok-tasks.ensures c.no_attentions.ensures (omega (arith, c.in_ok-pool.ensures.out, c.in-Some.ensures.out, c.in-Some.ensures.pages, c.tell_identity.ensures.size, c.give.ensures.out, ap held_pages c.in_ok-tasks.ensures))
 
 pub returns-clause-nows : goal.returns-clause-nows
 returns-clause-nows g c = told_nows _ _ _ _ c.in-Ok.ensures.told

@@ -1,0 +1,312 @@
+-- Each step of the layer leaves a valid device.
+use Rattle.std.proofs.Common.{◌≡◌, ⊎_elim, inl, refl, sym, ap, subst, ◌∙◌, arith, cond, ℕ, zero, suc, ◌+◌, ◌≤◌, Bool, true, false, List, [], ◌∷◌, ◌++◌, length, map, take, drop, get_or, set, Some, None}
+use Rattle.std.specs.Prelude.{Option, Ok, MatchBool, not, ◌||◌, ◌&&◌, ◌==◌, ◌*◌, nat_lt, filter, replicate}
+use Rattle.std.specs.List.{AllByRecursion, list_any}
+use Rattle.std.proofs.lemmas.Bool.{eq-eqb, eqb-false, eqb-true, ltb-false}
+use Rattle.std.proofs.lemmas.List.{length-append, length-replicate, length-set}
+use Rattle.std.proofs.Math.Seq.{take-append_seam}
+use Rattle.satl_base.specs.declared.modes.Modes.{Modes}
+use Rattle.satl_base.specs.declared.reply.Reply.{Reply}
+use Rattle.satl_base.specs.declared.request.Request.{Request}
+use Rattle.satl_base.specs.Blocks.{zero_block}
+use Rattle.satl_base.specs.Lists.{LeavesOut}
+use Rattle.satl_cdb.specs.declared.command.Command.{Command}
+use Rattle.satl_identify.specs.declared.identity.Identity.{Identity}
+use Rattle.satl_unit.specs.declared.attention.Attention.{Attention}
+use Rattle.satl_unit.specs.Conditions.{IsInReportOrder, report_order}
+use Rattle.satl_frame.specs.DataPages.{page_count}
+use Rattle.satl_line.specs.declared.entry.Entry.{Entry}
+use Rattle.satl_line.specs.Tasks.{Held, entries_of, is_too_much}
+use Rattle.satl_drive.specs.State.{DriveState, IsFit}
+use Rattle.satl_direct.specs.Arrival.{is_unit_0, waits}
+use Rattle.satl_direct.specs.Device.{Device, is_called, is_of, of_others, once_told}
+use Rattle.satl_direct.specs.Tasks.{held_blocks, held_by, is_full, task_for, task_of}
+use Rattle.satl_direct.specs.Valid.{AreOwn, HasCome, IsValid}
+use Rattle.satl_core.specs.declared.submitting.AtOnce.TheVariants as at_once
+use Rattle.satl_core.specs.Layer.{Layer, Tied, view}
+use Rattle.satl_core.specs.Submitting.{Becomes, IsAdded, IsAnswered, attention_of, code_answer, judged, left_by, once_judged, overlaps, task_without_pages, untold}
+use Rattle.satl_core.specs.Turning.{Stays}
+use Rattle.satl_core.proofs.ArrivalLemmas.{by_ok, code_waits, full_is, full_or_waits}
+use Rattle.satl_core.proofs.DeviceLemmas.{first_tasks, seen}
+use Rattle.satl_core.proofs.HeldLemmas.{IsFirst}
+use Rattle.satl_core.proofs.LeavingLemmas.{found_is, left_tasks}
+
+-- ---- tests
+
+neither : (a b : Bool) → (a || b) ≡ false → (a ≡ false) × (b ≡ false)
+neither true b e = absurd cc
+neither false b e = (refl, e)
+
+or_false : (a b : Bool) → a ≡ false → b ≡ false → (a || b) ≡ false
+or_false true b one other = absurd cc
+or_false false b one other = other
+
+eqb_both : (a b : ℕ) → (a == b) ≡ (b == a)
+eqb_both a b =
+    (elim (a == b) as (λ t. (a == b) ≡ t → t ≡ (b == a)) [
+      | true ↦ λ is. sym (eq-eqb b a (sym (eqb-true a b is)))
+      | false ↦ λ is. (elim (b == a) as (λ t. (b == a) ≡ t → false ≡ t) [
+        | true ↦ λ back. let same = eqb-true b a back in let apart = eqb-false a b is in absurd (omega (arith, same, apart))
+        | false ↦ λ back. refl
+      ]) refl
+    ]) refl
+
+-- ---- tasks that go
+
+none_kept : (p q : Entry → Bool) (ts : List Entry) → list_any q ts ≡ false → list_any q (filter p ts) ≡ false
+none_kept p q [] none = refl
+none_kept p q (t ∷ ts) none =
+    let both = neither (q t) (list_any q ts) none in
+    elim (p t) as (λ b. list_any q (cond b (t ∷ filter p ts) (filter p ts)) ≡ false) [
+      | true ↦ or_false (q t) (list_any q (filter p ts)) both.0 (none_kept p q ts both.1)
+      | false ↦ none_kept p q ts both.1
+    ]
+
+own_kept : (p : Entry → Bool) (ts : List Entry) → AreOwn ts → AreOwn (filter p ts)
+own_kept p [] own = tt
+own_kept p (t ∷ ts) own =
+    elim (p t) as (λ b. AreOwn (cond b (t ∷ filter p ts) (filter p ts))) [
+      | true ↦ (none_kept p (is_called t.nexus (t.tag).0) ts own.0, own_kept p ts own.1)
+      | false ↦ own_kept p ts own.1
+    ]
+
+come_kept : (identity : Identity) (p : Entry → Bool) (ts : List Entry) → AllByRecursion (HasCome identity) ts → AllByRecursion (HasCome identity) (filter p ts)
+come_kept identity p [] come = tt
+come_kept identity p (t ∷ ts) come =
+    elim (p t) as (λ b. AllByRecursion (HasCome identity) (cond b (t ∷ filter p ts) (filter p ts))) [
+      | true ↦ (come.0, come_kept identity p ts come.1)
+      | false ↦ come_kept identity p ts come.1
+    ]
+
+fewer : (p : Entry → Bool) (ts : List Entry) → (length (filter p ts) ≤ length ts) × (held_by (filter p ts) ≤ held_by ts)
+fewer p [] = (omega arith, omega arith)
+fewer p (t ∷ ts) =
+    let rest = fewer p ts in
+    elim (p t) as (λ b. (length (cond b (t ∷ filter p ts) (filter p ts)) ≤ length (t ∷ ts)) × (held_by (cond b (t ∷ filter p ts) (filter p ts)) ≤ held_by (t ∷ ts))) [
+      | true ↦ (omega (arith, rest.0), omega (arith, rest.1))
+      | false ↦ (omega (arith, rest.0), omega (arith, rest.1))
+    ]
+
+valid_others : (nexus : ℕ) (s : Device) → IsValid s → IsValid (record s { tasks = of_others nexus s.tasks })
+valid_others nexus s v =
+    let less = fewer (λ t. not (is_of nexus t)) s.tasks in
+    record {
+      identity = v.identity;
+      cells = v.cells;
+      sound = v.sound;
+      few = omega (arith, less.0, v.few);
+      blocks = omega (arith, less.1, v.blocks);
+      own = own_kept (λ t. not (is_of nexus t)) s.tasks v.own;
+      come = come_kept s.identity (λ t. not (is_of nexus t)) s.tasks v.come;
+      modes = v.modes;
+      nexuses = v.nexuses;
+      attentions = v.attentions;
+    }
+
+-- ---- a condition that is told
+
+without_first : {X : Type 0} (xs ys : List X) → LeavesOut xs ys → LeavesOut xs (drop 1 ys)
+without_first xs [] leaves = leaves
+without_first [] (y ∷ ys) leaves = absurd leaves
+without_first (x ∷ xs) (y ∷ []) leaves = tt
+without_first (x ∷ xs) (y ∷ z ∷ ys) leaves = ⊎_elim (λ a. inl (without_first xs (y ∷ z ∷ ys) a)) (λ a. inl a.1) leaves
+
+told_kept : (nexus : ℕ) (lists : List (List Attention)) → AllByRecursion IsInReportOrder lists → AllByRecursion IsInReportOrder (set lists nexus (drop 1 (get_or lists nexus [])))
+told_kept nexus [] all = tt
+told_kept zero (conditions ∷ lists) all = (without_first report_order conditions all.0, all.1)
+told_kept (suc nexus) (conditions ∷ lists) all = (all.0, told_kept nexus lists all.1)
+
+valid_told : (nexus : ℕ) (s : Device) → IsValid s → IsValid (once_told nexus s)
+valid_told nexus s v = record {
+  identity = v.identity;
+  cells = v.cells;
+  sound = v.sound;
+  few = v.few;
+  blocks = v.blocks;
+  own = v.own;
+  come = v.come;
+  modes = v.modes;
+  nexuses = length-set s.attentions nexus (drop 1 (get_or s.attentions nexus [])) ∙ v.nexuses;
+  attentions = told_kept nexus s.attentions v.attentions;
+}
+
+valid_untold : (what : Option Attention) (l : Layer) (d : DriveState) (nexus : ℕ) → IsValid (view l d) → IsValid (view (record l { attentions = untold what nexus l.attentions }) d)
+valid_untold None l d nexus v = v
+valid_untold (Some what) l d nexus v = valid_told nexus (view l d) v
+
+-- judging a request leaves a valid device
+pub once_judged_valid : (l : Layer) (d : DriveState) (r : Request) → IsValid (view l d) → IsValid (view (once_judged l r) d)
+once_judged_valid l d r v =
+    elim (is_unit_0 r.lun) as (λ b. IsValid (view (cond (not b) l (cond (overlaps l.tasks r) (record l { tasks = left_by r.nexus l.tasks }) (record l { attentions = untold (attention_of l.attentions r) r.nexus l.attentions }))) d)) [
+      | false ↦ v
+      | true ↦ (elim (overlaps l.tasks r) as (λ b. IsValid (view (cond b (record l { tasks = left_by r.nexus l.tasks }) (record l { attentions = untold (attention_of l.attentions r) r.nexus l.attentions })) d)) [
+        | true ↦ subst (λ ts. IsValid (record (view l d) { tasks = ts })) (sym (left_tasks r.nexus l.tasks)) (valid_others r.nexus (view l d) v)
+        | false ↦ valid_untold (attention_of l.attentions r) l d r.nexus v
+      ])
+    ]
+
+-- ---- a task that comes
+
+called_both : (t u : Entry) → is_called t.nexus (t.tag).0 u ≡ false → is_called u.nexus (u.tag).0 t ≡ false
+called_both t u apart = ap (λ b. b && ((t.tag).0 == (u.tag).0)) (eqb_both t.nexus u.nexus) ∙ (ap (λ b. (u.nexus == t.nexus) && b) (eqb_both (t.tag).0 (u.tag).0) ∙ apart)
+
+none_pushed : (q : Entry → Bool) (ts : List Entry) (t : Entry) → list_any q ts ≡ false → q t ≡ false → list_any q (ts ++ t ∷ []) ≡ false
+none_pushed q [] t none last = or_false (q t) false last refl
+none_pushed q (u ∷ ts) t none last =
+    let both = neither (q u) (list_any q ts) none in
+    or_false (q u) (list_any q (ts ++ t ∷ [])) both.0 (none_pushed q ts t both.1 last)
+
+own_pushed : (ts : List Entry) (t : Entry) → list_any (is_called t.nexus (t.tag).0) ts ≡ false → AreOwn ts → AreOwn (ts ++ t ∷ [])
+own_pushed [] t none own = (refl, tt)
+own_pushed (u ∷ ts) t none own =
+    let both = neither (is_called t.nexus (t.tag).0 u) (list_any (is_called t.nexus (t.tag).0) ts) none in
+    (none_pushed (is_called u.nexus (u.tag).0) ts t own.0 (called_both t u both.0), own_pushed ts t both.1 own.1)
+
+come_pushed : (identity : Identity) (ts : List Entry) (t : Entry) → AllByRecursion (HasCome identity) ts → HasCome identity t → AllByRecursion (HasCome identity) (ts ++ t ∷ [])
+come_pushed identity [] t come here = (here, tt)
+come_pushed identity (u ∷ ts) t come here = (come.0, come_pushed identity ts t come.1 here)
+
+held_pushed : (ts : List Entry) (t : Entry) → held_by (ts ++ t ∷ []) ≡ held_by ts + t.blocks
+held_pushed [] t = omega arith
+held_pushed (u ∷ ts) t = let rest = held_pushed ts t in omega (arith, rest)
+
+count_pushed : (ts : List Entry) (t : Entry) → length (ts ++ t ∷ []) ≡ length ts + 1
+count_pushed [] t = refl
+count_pushed (u ∷ ts) t = let rest = count_pushed ts t in omega (arith, rest)
+
+-- a device with room for a task of its own nexus and tag, which has come
+valid_with : (s : Device) (t : Entry) → (length s.tasks == 64) ≡ false → nat_lt 32768 (held_by s.tasks + t.blocks) ≡ false → list_any (is_called t.nexus (t.tag).0) s.tasks ≡ false → HasCome s.identity t → IsValid s → IsValid (record s { tasks = s.tasks ++ t ∷ [] })
+valid_with s t room fits apart come v =
+    let more = count_pushed s.tasks t in
+    let blocks = held_pushed s.tasks t in
+    let some = eqb-false (length s.tasks) 64 room in
+    let within = ltb-false 32768 (held_by s.tasks + t.blocks) fits in
+    record {
+      identity = v.identity;
+      cells = v.cells;
+      sound = v.sound;
+      few = omega (arith, more, some, v.few);
+      blocks = omega (arith, blocks, within);
+      own = own_pushed s.tasks t apart v.own;
+      come = come_pushed s.identity s.tasks t v.come come;
+      modes = v.modes;
+      nexuses = v.nexuses;
+      attentions = v.attentions;
+    }
+
+added_valid : (l new : Layer) (d : DriveState) (r : Request) (c : Command) (replies : List Reply) → judged l r ≡ Ok c → is_too_much l.tasks (task_without_pages r c l.identity.queued_trim) ≡ false → IsAdded r c l replies new → r.data_len ≤ 512 * length r.body → IsValid (view l d) → IsValid (view new d)
+added_valid l new d r c replies e fits a pages v =
+    let room : is_full (map task_of (entries_of l.tasks)) c ≡ false = full_is l.tasks r c l.identity.queued_trim ∙ fits in
+    let both = neither (length (map task_of (entries_of l.tasks)) == 64) (nat_lt 32768 (held_by (map task_of (entries_of l.tasks)) + held_blocks c)) room in
+    let apart : overlaps l.tasks r ≡ false = by_ok (λ unit over what. over ≡ false) (is_unit_0 r.lun) (overlaps l.tasks r) (attention_of l.attentions r) l r c (λ ok. refl) e in
+    let answer : code_answer l r ≡ Ok c = by_ok (λ unit over what. code_answer l r ≡ Ok c) (is_unit_0 r.lun) (overlaps l.tasks r) (attention_of l.attentions r) l r c (λ ok. ok) e in
+    subst IsValid (sym (ap (λ x. view x d) a.stays ∙ ap (λ ts. record (view l d) { tasks = ts }) a.last))
+    (valid_with (view l d) (task_for l.identity.queued_trim r c) both.0 both.1 (sym (found_is r.nexus r.tag l.tasks 0) ∙ apart) (record {
+      request = r;
+      pages = pages;
+      at = view l d;
+      same = refl;
+      became = code_waits l d r c answer ∙ waits_so room;
+    }) v)
+  where
+    waits_so : is_full (map task_of (entries_of l.tasks)) c ≡ false → full_or_waits l d r c ≡ waits (task_for l.identity.queued_trim r c)
+    waits_so room = rw room refl
+
+becomes_valid : (l new : Layer) (d : DriveState) (r : Request) (c : Command) (replies : List Reply) → judged l r ≡ Ok c → Becomes r c l replies new → r.data_len ≤ 512 * length r.body → IsValid (view l d) → IsValid (view new d)
+becomes_valid l new d r c replies e b pages v =
+    (elim (is_too_much l.tasks (task_without_pages r c l.identity.queued_trim)) as (λ f. is_too_much l.tasks (task_without_pages r c l.identity.queued_trim) ≡ f → MatchBool f (IsAnswered r at_once.Full l replies new) (IsAdded r c l replies new) → IsValid (view new d)) [
+      | true ↦ λ is a. subst IsValid (sym (ap (λ x. view x d) a.stays)) v
+      | false ↦ λ is a. added_valid l new d r c replies e is a pages v
+    ]) refl b
+
+-- a request with zeros behind its pages, so that they hold its data-out
+abbrev pub filled_up : Request → Request
+filled_up r = record r { body = r.body ++ replicate (page_count r.data_len) zero_block }
+
+pub filled_up_holds : (r : Request) → (filled_up r).data_len ≤ 512 * length (filled_up r).body
+filled_up_holds r =
+    let all = length-append r.body (replicate (page_count r.data_len) zero_block) in
+    let more = length-replicate (page_count r.data_len) zero_block in
+    omega (arith, all, more)
+
+-- it is the request once they are cut off
+pub filled_up_cut : (r : Request) → r ≡ record (filled_up r) { body = take (length r.body) (filled_up r).body }
+filled_up_cut r = ap (λ b. record r { body = b }) (sym (take-append_seam r.body (replicate (page_count r.data_len) zero_block)))
+
+-- ---- the tie
+
+-- there are as many sectors after a run as before it
+sectors_still : (d d' : DriveState) (capacity : ℕ) → IsFit d' → IsFit d → Stays d d' → length d.cells ≡ capacity → length d'.cells ≡ capacity
+sectors_still d d' capacity fit' fit stays sectors = fit'.sectors ∙ (stays.capacity ∙ (sym fit.sectors ∙ sectors))
+
+-- another layer is tied as this one is, where its mark and its modes are the same and its device is valid
+pub tied_by : (l new : Layer) (d : DriveState) → new.down ≡ l.down → new.modes ≡ l.modes → IsValid (view new d) → Tied l d → Tied new d
+tied_by l new d mark modes valid tied = record {
+  mark = mark ∙ tied.mark;
+  idle = tied.idle;
+  no_error = tied.no_error;
+  fit = tied.fit;
+  cache = λ up. tied.cache (sym mark ∙ up) ∙ sym (ap (λ (m : Modes). m.wce) modes);
+  valid = valid;
+}
+
+-- what becomes of a request leaves the layer tied
+pub becomes_tied : (l new : Layer) (d : DriveState) (r : Request) (c : Command) (replies : List Reply) → judged l r ≡ Ok c → Becomes r c l replies new → r.data_len ≤ 512 * length r.body → Tied l d → Tied new d
+becomes_tied l new d r c replies e b pages tied = tied_by l new d (ap (λ (x : Layer). x.down) same) (ap (λ (x : Layer). x.modes) same) (becomes_valid l new d r c replies e b pages tied.valid) tied
+  where
+    same : new ≡ record l { tasks = new.tasks; free = new.free; out = new.out }
+    same = (elim (is_too_much l.tasks (task_without_pages r c l.identity.queued_trim)) as (λ f. MatchBool f (IsAnswered r at_once.Full l replies new) (IsAdded r c l replies new) → new ≡ record l { tasks = new.tasks; free = new.free; out = new.out }) [
+      | true ↦ λ a. a.stays ∙ ap (λ (x : Layer). record l { tasks = x.tasks; free = new.free; out = x.out }) (sym a.stays)
+      | false ↦ λ a. a.stays ∙ ap (λ (x : Layer). record l { tasks = new.tasks; free = new.free; out = x.out }) (sym a.stays)
+    ]) b
+
+-- the first task is gone, and the link is as it was
+pub still_tied_rest : (identity : Identity) (modes : Modes) (started down : Bool) (attentions : List (List Attention)) (tasks rest : List Held) (entry : Entry) (free out free' out' : ℕ) (d d' : DriveState) → IsFirst tasks entry rest → d'.down ≡ down → Stays d d' → IsFit d'
+    → Tied (record { identity = identity; modes = modes; started = started; down = down; attentions = attentions; tasks = tasks; free = free; out = out }) d
+    → Tied (record { identity = identity; modes = modes; started = started; down = down; attentions = attentions; tasks = rest; free = free'; out = out' }) d'
+still_tied_rest identity modes started down attentions tasks rest entry free out free' out' d d' first mark stays fit tied =
+    let v = subst (λ ts. IsValid (seen identity modes started attentions ts d)) (first_tasks tasks rest entry first) tied.valid in
+    record {
+      mark = sym mark;
+      idle = stays.idle;
+      no_error = stays.no_error;
+      fit = fit;
+      cache = λ up. stays.cache (mark ∙ up) ∙ tied.cache up;
+      valid = record {
+        identity = v.identity;
+        cells = sectors_still d d' identity.capacity fit tied.fit stays v.cells;
+        sound = stays.sound;
+        few = omega (arith, v.few);
+        blocks = omega (arith, v.blocks);
+        own = v.own.1;
+        come = v.come.1;
+        modes = v.modes;
+        nexuses = v.nexuses;
+        attentions = v.attentions;
+      };
+    }
+
+-- the link is lost, and no task is left
+pub still_tied_none : (identity : Identity) (modes : Modes) (started down : Bool) (attentions : List (List Attention)) (tasks none : List Held) (free out free' out' : ℕ) (d d' : DriveState) → none ≡ [] → d'.down ≡ true → Stays d d' → IsFit d'
+    → Tied (record { identity = identity; modes = modes; started = started; down = down; attentions = attentions; tasks = tasks; free = free; out = out }) d
+    → Tied (record { identity = identity; modes = modes; started = started; down = true; attentions = attentions; tasks = none; free = free'; out = out' }) d'
+still_tied_none identity modes started down attentions tasks none free out free' out' d d' left lost stays fit tied =
+    subst (λ (ts : List Held). Tied (record { identity = identity; modes = modes; started = started; down = true; attentions = attentions; tasks = ts; free = free'; out = out' }) d') (sym left) (record {
+      mark = sym lost;
+      idle = stays.idle;
+      no_error = stays.no_error;
+      fit = fit;
+      cache = λ up. absurd cc;
+      valid = record {
+        identity = tied.valid.identity;
+        cells = sectors_still d d' identity.capacity fit tied.fit stays tied.valid.cells;
+        sound = stays.sound;
+        few = omega arith;
+        blocks = omega arith;
+        own = tt;
+        come = tt;
+        modes = tied.valid.modes;
+        nexuses = tied.valid.nexuses;
+        attentions = tied.valid.attentions;
+      };
+    })
