@@ -219,10 +219,11 @@ is_power frames.End = false
 abbrev pub WithoutPower : List Frame → Type 0
 WithoutPower all = AllByRecursion (λ f. is_power f ≡ false) all
 
--- law of untouched sectors: in a run without a loss of power, a sector that no task of the run writes keeps its block (SBC-3)
+-- law of untouched sectors: in a run without a loss of power, from a device that there can be, a sector that no task of the run writes
+-- keeps its block (SBC-3)
 abbrev pub Untouched : Type 0
 Untouched = (first last : Device) (all : List Frame) (groups : List (List Answer)) (losses deep : ℕ) (run : RunDeep first all groups losses last deep) (x : ℕ) →
-    WithoutPower all → SparedThrough x run → now_at last.cells x ≡ now_at first.cells x
+    IsValid first → WithoutPower all → SparedThrough x run → now_at last.cells x ≡ now_at first.cells x
 
 -- Law of durable sectors.
 

@@ -29,17 +29,21 @@ pub record Alike (s u : Device) : Type 0 where
   pub identity : u.identity ≡ s.identity
   pub size : length u.cells ≡ length s.cells
 
+-- a device is like itself
 pub alike_none : (s : Device) → Alike s s
 alike_none s = record { identity = refl; size = refl }
 
+-- and like what is like one that is like it
 pub alike_on : (a b c : Device) → Alike a b → Alike b c → Alike a c
 alike_on a b c p q = record { identity = q.identity ∙ p.identity; size = q.size ∙ p.size }
 
 -- ---- what the drive says of trims, whatever its settings
 
+-- a byte other than the one that was set
 set_other : (d : List ℕ) (i j v : ℕ) → j ≢ i → slice_index (slice_set d i v) j ≡ slice_index d j
 set_other d i j v apart = get_or-set_other d i j v 0 apart
 
+-- settings change bytes 170 and 511 alone
 index_kept : (d : List ℕ) (cache look : Bool) (j : ℕ) → j ≢ 170 → j ≢ 511 → slice_index (identity_data d cache look) j ≡ slice_index d j
 index_kept d cache look j p q = sealed (word_bits 255 7 0 (with_settings d cache look) == 0xA5) ∙ set_other d 170 j (settings_byte (slice_index d 170) cache look) p
   where
@@ -47,26 +51,32 @@ index_kept d cache look j p q = sealed (word_bits 255 7 0 (with_settings d cache
     sealed true = set_other (with_settings d cache look) 511 j (integrity_byte (slice_set (with_settings d cache look) 511 0)) q
     sealed false = refl
 
+-- a word of its two bytes (ACS-3 7.12.7)
 abbrev word_from : ℕ → ℕ → ℕ
 word_from low high = low + 256 * high
 
+-- a word of other bytes is as before
 word_kept : (d : List ℕ) (cache look : Bool) (i j : ℕ) → i ≢ 170 → i ≢ 511 → j ≢ 170 → j ≢ 511
     → word_from (slice_index (identity_data d cache look) i) (slice_index (identity_data d cache look) j) ≡ word_from (slice_index d i) (slice_index d j)
 word_kept d cache look i j p q r s = ap (λ n. word_from n (slice_index (identity_data d cache look) j)) (index_kept d cache look i p q) ∙ ap (word_from (slice_index d i)) (index_kept d cache look j r s)
 
+-- a bit of a word (ACS-3 7.12.7)
 abbrev word_bit_of : ℕ → ℕ → Bool
 word_bit_of w place = w / 2 ^ place % 2 == 1
 
 module _ (d : List ℕ) (cache look : Bool) where
+  -- the words that tell of trims are as before
   word_169 : word 169 (identity_data d cache look) ≡ word 169 d
   word_169 = word_kept d cache look 338 339 (λ h. omega (arith, h)) (λ h. omega (arith, h)) (λ h. omega (arith, h)) (λ h. omega (arith, h))
 
   word_69 : word 69 (identity_data d cache look) ≡ word 69 d
   word_69 = word_kept d cache look 138 139 (λ h. omega (arith, h)) (λ h. omega (arith, h)) (λ h. omega (arith, h)) (λ h. omega (arith, h))
 
+  -- so is the longest trim
   blocks_kept : trim_blocks (identity_data d cache look) ≡ trim_blocks d
   blocks_kept = word_kept d cache look 210 211 (λ h. omega (arith, h)) (λ h. omega (arith, h)) (λ h. omega (arith, h)) (λ h. omega (arith, h))
 
+  -- and whether there are trims
   trim_kept : has_trim (identity_data d cache look) ≡ has_trim d
   trim_kept =
       ap (λ (w : ℕ). word_bit_of w 0 && word_bit 69 14 (identity_data d cache look) && word_bit 69 5 (identity_data d cache look)) word_169
@@ -75,13 +85,16 @@ module _ (d : List ℕ) (cache look : Bool) where
 -- ---- addresses
 
 module _ (x : ℕ) where
+  -- whether some pair names the sector
   abbrev named : List Pair → Bool
   named pairs = list_any (λ p. p.lba == x) pairs
 
+  -- blocks in a row name the same sectors through the cache and past it
   from_named : (lba : ℕ) (blocks : List Block) (a b : Bool) → named (pairs_from lba blocks a) ≡ named (pairs_from lba blocks b)
   from_named lba [] a b = refl
   from_named lba (v ∷ vs) a b = ap (λ n. (lba == x) || n) (from_named (lba + 1) vs a b)
 
+  -- so do zeros over ranges
   over_named : (ranges : List Range) (a b : Bool) → named (zeros_over ranges a) ≡ named (zeros_over ranges b)
   over_named [] a b = refl
   over_named (r ∷ rs) a b =
@@ -90,37 +103,44 @@ module _ (x : ℕ) where
       ∙ ap (λ n. named (pairs_from r.lba (replicate r.count zero_block) b) || n) (over_named rs a b)
       ∙ sym (list_any-append (λ p. p.lba == x) (pairs_from r.lba (replicate r.count zero_block) b) (zeros_over rs b))
 
+  -- and one block over a range
   same_named : (lba count : ℕ) (blocks : List Block) (a b : Bool) → named (same_pairs lba count blocks a) ≡ named (same_pairs lba count blocks b)
   same_named lba count [] a b = refl
   same_named lba count (v ∷ vs) a b = from_named lba (replicate count v) a b
 
+  -- and zeros at addresses
   at_named : (lbas : List ℕ) (a b : Bool) → named (zeros_at a lbas) ≡ named (zeros_at b lbas)
   at_named [] a b = refl
   at_named (l ∷ ls) a b = ap (λ n. (l == x) || n) (at_named ls a b)
 
+  -- ranges go past the last of as many sectors alike
   outside_same : (m k : Medium) (ranges : List Range) → length k.cells ≡ length m.cells → list_any (is_outside k) ranges ≡ list_any (is_outside m) ranges
   outside_same m k [] size = refl
   outside_same m k (r ∷ rs) size = ap (λ n. nat_lt n (r.lba + r.count) || list_any (is_outside k) rs) size ∙ ap (λ n. nat_lt (length m.cells) (r.lba + r.count) || n) (outside_same m k rs size)
 
   module _ (s u : Device) (a : Alike s u) where
+    -- the drives of like devices have trims, or both have none
     trims_alike : has_trim (medium_of u).identify ≡ has_trim (medium_of s).identify
     trims_alike =
         trim_kept u.identity.bytes u.modes.wce (not u.modes.dra)
         ∙ ap (λ i. has_trim i.bytes) a.identity
         ∙ sym (trim_kept s.identity.bytes s.modes.wce (not s.modes.dra))
 
+    -- of the same length at most
     blocks_alike : trim_blocks (medium_of u).identify ≡ trim_blocks (medium_of s).identify
     blocks_alike =
         blocks_kept u.identity.bytes u.modes.wce (not u.modes.dra)
         ∙ ap (λ i. trim_blocks i.bytes) a.identity
         ∙ sym (blocks_kept s.identity.bytes s.modes.wce (not s.modes.dra))
 
+    -- and abort the same trims
     no_trim_alike : (blocks : ℕ) (given : List Block) → is_no_trim blocks given (medium_of u) ≡ is_no_trim blocks given (medium_of s)
     no_trim_alike blocks given =
         ap (λ b. not b || nat_lt (trim_blocks (medium_of u).identify) blocks || list_any (is_outside (medium_of u)) (payload_ranges blocks given)) trims_alike
         ∙ ap (λ n. not (has_trim (medium_of s).identify) || nat_lt n blocks || list_any (is_outside (medium_of u)) (payload_ranges blocks given)) blocks_alike
         ∙ ap (λ b. not (has_trim (medium_of s).identify) || nat_lt (trim_blocks (medium_of s).identify) blocks || b) (outside_same (medium_of s) (medium_of u) (payload_ranges blocks given) a.size)
 
+    -- an ATA command names the same sectors at both
     ata_named : (c : AtaCommand) (given : List Block) → named (pairs_of c (medium_of u) given) ≡ named (pairs_of c (medium_of s) given)
     ata_named (ata.Read how lba sectors) given = refl
     ata_named (ata.Write how lba sectors) given =
@@ -146,6 +166,7 @@ module _ (x : ℕ) where
     ata_named ata.SmartStatus given = refl
     ata_named (ata.Other code) given = refl
 
+    -- and so does a command of a task
     command_named : (c : Command) (t : Entry) → named (written_by c u t) ≡ named (written_by c s t)
     command_named commands.TestUnitReady t = refl
     command_named (commands.RequestSense descriptor alloc) t = refl

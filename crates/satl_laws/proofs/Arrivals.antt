@@ -47,14 +47,17 @@ IsFor r (overlaps reply) = IsTo r reply
 IsFor r (waits task) = IsOf r task
 
 module _ (s : Device) (r : Request) where
+  -- of two arrivals, one that a test chooses
   either_for : (b : Bool) (x y : Arrival) → IsFor r x → IsFor r y → IsFor r (if b then x else y)
   either_for true x y p q = p
   either_for false x y p q = q
 
+  -- of two replies, one that a test chooses
   either_to : (b : Bool) (x y : Reply) → IsTo r x → IsTo r y → IsTo r (if b then x else y)
   either_to true x y p q = p
   either_to false x y p q = q
 
+  -- the steps of an arrival, from the last to the first
   ready_to : IsTo r (readiness s r)
   ready_to = either_to s.down _ _ (record { nexus = refl; tag = refl }) (either_to (not s.started) _ _ (record { nexus = refl; tag = refl }) (record { nexus = refl; tag = refl }))
 
@@ -101,6 +104,7 @@ module _ (s : Device) (r : Request) where
   cdb_for (Err why) = record { nexus = refl; tag = refl }
   cdb_for (Ok c) = refused_for (asks c).fields_fault _ (λ fine. command_for c (fields_own c fine))
 
+  -- a task comes by its operation code and its fields
   pub code_for : IsFor r (code_arrival s r)
   code_for = either_for (not (is_in (code_of r) built)) _ _ (record { nexus = refl; tag = refl }) (cdb_for (says r.cdb s.identity.trim))
 
@@ -108,6 +112,7 @@ module _ (s : Device) (r : Request) where
   attention_for_it (Some what) = record { nexus = refl; tag = refl }
   attention_for_it None = code_for
 
+  -- each arrival is for its request
   pub arrival_for : IsFor r (arrival s r)
   arrival_for =
       either_for (is_unit_0 r.lun || asks_for 0xA0 r) _ _
@@ -117,9 +122,11 @@ module _ (s : Device) (r : Request) where
 
 -- cells, and whether the drive is active, have no part in an arrival
 module _ (s : Device) (r : Request) (cells : List Cell) (active : Bool) where
+  -- another device, with other cells, active or not
   abbrev other : Device
   other = record s { cells = cells; active = active }
 
+  -- the steps of an arrival, from the last to the first, at both devices
   refused_same : (o : Option Illegal) (x y : Arrival) → x ≡ y → unless_refused o other r x ≡ unless_refused o s r y
   refused_same None x y h = h
   refused_same (Some why) x y h = refl
@@ -161,6 +168,7 @@ module _ (s : Device) (r : Request) (cells : List Cell) (active : Bool) where
   attention_same (Some what) = refl
   attention_same None = ap (λ (x : Arrival). if not (is_in (code_of r) built) then answered (check s r unknown_operation) else x) (cdb_same (says r.cdb s.identity.trim))
 
+  -- the arrival at both devices
   pub arrival_quiet : arrival other r ≡ arrival s r
   arrival_quiet =
       ap (λ (x : Arrival). if is_unit_0 r.lun || asks_for 0xA0 r then x else other_arrival s r)
@@ -168,9 +176,11 @@ module _ (s : Device) (r : Request) (cells : List Cell) (active : Bool) where
 
 -- nor in a task management function
 module _ (s : Device) (cells : List Cell) (active : Bool) where
+  -- another device, with other cells, active or not
   abbrev same_but : Device
   same_but = record s { cells = cells; active = active }
 
+  -- a function at both devices
   function_same : (o : Option Function) (m : Manage) → effect_or_none o m same_but ≡ effect_or_none o m s
   function_same None m = refl
   function_same (Some functions.AbortTask) m = refl
@@ -181,6 +191,7 @@ module _ (s : Device) (cells : List Cell) (active : Bool) where
   function_same (Some functions.QueryTask) m = refl
   function_same (Some functions.QueryTaskSet) m = refl
 
+  -- its effect at both devices
   pub effect_quiet : (m : Manage) → effect m same_but ≡ effect m s
   effect_quiet m =
       ap (λ (e : Effect). if has_unit (function_of m.function) && not (is_unit_0 m.lun) then only IncorrectLun s else e) (function_same (function_of m.function) m)

@@ -3,14 +3,17 @@ use Rattle.std.proofs.Common.{◌≡◌, refl, ◌+◌, Bool, true, false, List,
 use Rattle.std.specs.Prelude.{MatchBool, MatchOption, not, filter, ◌&&◌}
 use Rattle.satl_base.specs.Lists.{how_many}
 
+-- from each of the two cases of a test
 pub by_bool : {A B C : Type 0} (b : Bool) → (A → C) → (B → C) → MatchBool b A B → C
 by_bool true f g h = f h
 by_bool false f g h = g h
 
+-- from each of the two cases of an option
 pub by_option : {X A C : Type 0} {B : X → Type 0} (o : Option X) → (A → C) → ((x : X) → B x → C) → MatchOption o A B → C
 by_option None f g h = f h
 by_option (Some x) f g h = g x h
 
+-- where both hold, each does
 pub both_left : (a b : Bool) → (a && b) ≡ true → a ≡ true
 both_left true b h = refl
 both_left false b h = h
@@ -19,6 +22,7 @@ pub both_right : (a b : Bool) → (a && b) ≡ true → b ≡ true
 both_right true b h = h
 both_right false b h = absurd cc
 
+-- what is counted in two lists
 pub how_many-append : {X : Type 0} (p : X → Bool) (xs ys : List X) → how_many p (xs ++ ys) ≡ how_many p xs + how_many p ys
 how_many-append p [] ys = omega arith
 how_many-append p (x ∷ xs) ys = omega (arith, how_many-append p xs ys)

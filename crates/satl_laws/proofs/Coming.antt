@@ -26,6 +26,7 @@ unbroken (rule ∷ all) cdb value of errs h =
     (elim (rule.breaks cdb) as (λ b. rule.breaks cdb ≡ b → of (if b then Err rule.refusal else unless_broken all cdb value) ≡ None → (rule.breaks cdb ≡ false) × AllByRecursion (λ r. r.breaks cdb ≡ false) all)
     [ true ↦ λ is e. absurd (let clash : Some rule.refusal ≡ None = sym (errs rule.refusal) ∙ e in cc) | false ↦ λ is e. (is, unbroken all cdb value of errs e) ]) refl h
 
+-- what is not false is true
 not_false : (b : Bool) → not b ≡ false → b ≡ true
 not_false true h = refl
 not_false false h = absurd cc
@@ -41,6 +42,7 @@ no_blocks pass sectors own way back =
     only true h = h
     only false h = refl
 
+-- a command whose length and direction are its own, and that has no data-out, writes nothing
 writes_none : (a : AtaCommand) (pass : Pass) → has_other_length a pass ≡ false → has_other_direction a pass ≡ false → pass.out ≡ false → (m : Medium) (given : List Block) → pairs_of a m given ≡ []
 writes_none (ata.Read how lba sectors) pass own way back m given = refl
 writes_none (ata.Write how lba sectors) pass own way back m given =
@@ -66,12 +68,14 @@ writes_none (ata.Trim blocks) pass own way back m given =
 writes_none ata.SmartStatus pass own way back m given = refl
 writes_none (ata.Other code) pass own way back m given = refl
 
+-- where no rule is broken, length and direction are the command's own
 pass_own : (cdb : List ℕ) → fault_in (pass_says cdb) ≡ None → WritesItsOwn (commands.Pass cdb)
 unfolding pass_says
 pass_own cdb h =
     let good = unbroken (rules (form_of cdb)) cdb (pass_in (form_of cdb) cdb) fault_in (λ why. refl) h in
     writes_none (command_in (pass_of cdb).regs) (pass_of cdb) good.1.1.1.1.1.0 good.1.1.1.1.1.1.0
 
+-- of two that ask for the same, one that a test chooses
 fault_either : (b : Bool) (x y : Asks) (o : Option Illegal) → x.fields_fault ≡ o → y.fields_fault ≡ o → (if b then x else y).fields_fault ≡ o
 fault_either true x y o p q = p
 fault_either false x y o p q = q

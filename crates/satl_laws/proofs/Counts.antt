@@ -34,6 +34,7 @@ use Rattle.satl_laws.proofs.Cases.{both_left, both_right, how_many-append, how_m
 use Rattle.satl_laws.proofs.Ends.{ends_leaves, may_end_in}
 use Rattle.satl_laws.proofs.Arrivals.{IsFor, IsTo, arrival_for, arrival_quiet, effect_quiet}
 
+-- quiet moves leave the tasks
 pub quiet_tasks : (old new : Device) → Quiet old new → new.tasks ≡ old.tasks
 quiet_tasks old new q = ap (λ d. d.tasks) q.stays
 
@@ -42,12 +43,15 @@ module _ (nexus tag : ℕ) where
   abbrev weigh : ℕ → Tag → ℕ
   weigh n g = (if (n == nexus) && (g.0 == tag) then 1 else 0) + 0
 
+  -- how many tasks have the nexus and tag
   abbrev mine : List Entry → ℕ
   mine tasks = how_many (is_called nexus tag) tasks
 
+  -- how many replies do
   abbrev replies : List Reply → ℕ
   replies rs = how_many (answers_to nexus tag) (map replied rs)
 
+  -- equal names count alike
   same_weight : (n m : ℕ) (g h : Tag) → n ≡ m → g ≡ h → weigh n g ≡ weigh m h
   same_weight n m g h p q = ap (λ k. weigh k g) p ∙ ap (weigh m) q
 
@@ -73,13 +77,16 @@ module _ (nexus tag : ℕ) where
       apart : u ≡ t → is_called t.nexus (t.tag).0 u ≡ false → ⊥
       apart same h = let no : true ≡ false = sym called ∙ ap (is_called t.nexus (t.tag).0) (sym same) ∙ h in absurd cc
 
+  -- each task is answered once at a lost link
   lost_counts : (s : Device) (tasks : List Entry) → replies (map (λ t. task_check s t link_lost) tasks) ≡ mine tasks
   lost_counts s [] = refl
   lost_counts s (t ∷ ts) = ap (λ n. (if is_called nexus tag t then 1 else 0) + n) (lost_counts s ts)
 
+  -- quiet moves answer nothing and take nothing
   quiet_counts : (old new : Device) → Quiet old new → mine new.tasks ≡ mine old.tasks
   quiet_counts old new q = ap mine (quiet_tasks old new q)
 
+  -- a task that ends goes, and is answered once
   one_counts : (s new : Device) (reply : Reply) → OneEnds s reply new → weigh reply.nexus reply.tag + mine new.tasks ≡ mine s.tasks
   one_counts s new reply e =
       let l = ends_leaves s new e.task reply e.ends in
@@ -91,6 +98,7 @@ module _ (nexus tag : ℕ) where
   loss_counts : (s new : Device) (answers : List Reply) → answers ≡ lost_replies s → new.tasks ≡ [] → replies answers + mine new.tasks ≡ mine s.tasks
   loss_counts s new answers a t = omega (arith, ap replies a, lost_counts s s.tasks, ap mine t)
 
+  -- a turn answers as many as it takes
   turn_counts : {s new : Device} {answers : List Reply} → Turn s answers new → replies answers + mine new.tasks ≡ mine s.tasks
   turn_counts (idle h) = omega arith
   turn_counts {s = s} (ends {new = new} reply e) = omega (arith, one_counts s new reply e)
@@ -98,9 +106,11 @@ module _ (nexus tag : ℕ) where
   turn_counts {s = s} (ends_and_loses {mid = mid} {after = after} {new = new} {answers = answers} reply e q l) =
       omega (arith, one_counts s mid reply e, quiet_counts mid after q, loss_counts after new answers l.answer (ap (λ d. d.tasks) l.stays))
 
+  -- replies after replies
   replies-append : (xs ys : List Reply) → replies (xs ++ ys) ≡ replies xs + replies ys
   replies-append xs ys = ap (how_many (answers_to nexus tag)) (map-append replied xs ys) ∙ how_many-append (answers_to nexus tag) (map replied xs) (map replied ys)
 
+  -- so do many turns
   turns_count : {n deep : ℕ} {s new : Device} {answers : List Reply} → TurnsOf n s answers new deep → replies answers + mine new.tasks ≡ mine s.tasks
   turns_count none = omega arith
   turns_count {new = new} (more {mid = mid} {first = first} {rest = rest} so_far next) =
@@ -125,6 +135,7 @@ module _ (nexus tag : ℕ) where
   to_counts : (r : Request) (reply : Reply) (answers : List Reply) → IsTo r reply → answers ≡ reply ∷ [] → replies answers ≡ weigh r.nexus r.tag
   to_counts r reply answers to is = ap replies is ∙ same_weight reply.nexus r.nexus reply.tag r.tag to.nexus to.tag
 
+  -- an arrival answers its request, makes it a task, and may take tasks off
   arrives_counts : (a : Arrival) (r : Request) (s new : Device) (answers : List Reply) → IsFor r a → ArrivesAs a r s answers new
       → replies answers + mine new.tasks + mine (cleared_by a r s) ≡ mine s.tasks + weigh r.nexus r.tag
   arrives_counts (answered reply) r s new answers to h = omega (arith, to_counts r reply answers to h.0, ap (λ d. mine d.tasks) h.1)
@@ -158,11 +169,13 @@ module _ (nexus tag : ℕ) where
       same (frames.Bench bench.Unplug) = refl
       same frames.End = refl
 
+  -- a management function takes tasks off and answers none
   manages_counts : (m : Manage) (response : Response) (s new : Device) (answers : List Reply) → Manages m response s answers new
       → replies answers + mine new.tasks + mine (filter (effect m s).goes s.tasks) ≡ mine s.tasks + 0
   manages_counts m response s new answers h =
       omega (arith, ap replies h.0, ap (λ d. mine d.tasks) (h.1).stays, how_many-filter (effect m s).goes (is_called nexus tag) s.tasks)
 
+  -- an event of the bench answers tasks or takes them off
   bench_counts : (event : BenchEvent) (s new : Device) (answers : List Reply) → Happens event s answers new → replies answers + mine new.tasks + mine (cut_by event s) ≡ mine s.tasks
   bench_counts (bench.Strike which lba) s new answers h = omega (arith, ap replies h.none, ap (λ d. mine d.tasks) h.new_is)
   bench_counts (bench.Mend lba) s new answers h = omega (arith, ap replies h.none, ap (λ d. mine d.tasks) h.new_is)
@@ -210,6 +223,7 @@ module _ (nexus tag : ℕ) where
       )
   step_counts frames.End s new now d h = omega (arith, group_counts now h.0 (ended ∷ []) h.1 refl, turns_count (h.2).turns)
 
+  -- one more group of answers
   joined_push : (groups : List (List Answer)) (group : List Answer) → how_many (answers_to nexus tag) (joined (groups ++ group ∷ [])) ≡ how_many (answers_to nexus tag) (joined groups) + how_many (answers_to nexus tag) group
   joined_push [] group = omega (arith, how_many-append (answers_to nexus tag) group [])
   joined_push (g ∷ groups) group =

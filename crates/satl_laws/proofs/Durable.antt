@@ -24,7 +24,10 @@ use Rattle.satl_base.specs.declared.bench.BenchEvent.TheVariants as bench
 use Rattle.satl_direct.specs.Bench.{Happens}
 use Rattle.satl_direct.specs.Quiet.{Around, written_by}
 use Rattle.satl_direct.specs.Valid.{HasCome, IsValid}
-use Rattle.satl_direct.specs.Laws.{IsSpan, now_at, secures}
+use Rattle.satl_direct.specs.Laws.{IsSpan, now_at, secures, SparedThrough, WithoutPower}
+use Rattle.satl_direct.specs.Run.{RunDeep}
+use Rattle.satl_frame.specs.declared.frames.Frame.{Frame}
+use Rattle.satl_frame.specs.Output.{Answer}
 use Rattle.satl_laws.proofs.Addresses.{Alike}
 use Rattle.satl_laws.proofs.Arrivals.{IsFor, code_for}
 use Rattle.satl_laws.proofs.Cases.{by_bool}
@@ -39,15 +42,18 @@ use Rattle.satl_laws.proofs.Sparing.{Keeps, NoneWrites, SparesAt, keeps_on, none
 pub record IsSingle (x : ℕ) (cells : List Cell) : Type 0 where
   pub each : (c : Cell) → slice_get cells x ≡ Some c → (v : Block) → IsIn v c.may → v ≡ c.now
 
+-- equal options hold equal things
 of_option : {X : Type 0} (a b : X) → Some a ≡ Some b → a ≡ b
 of_option a b h = cc
 
+-- a sector that was written back is single
 settled_here : (cells : List Cell) (x : ℕ) (c : Cell) → slice_get (map settle cells) x ≡ Some c → (v : Block) → IsIn v c.may → v ≡ c.now
 settled_here [] x c h = absurd cc
 settled_here (d ∷ ds) zero c h =
     subst (λ e. (v : Block) → IsIn v e.may → v ≡ e.now) (of_option (settle d) c h) (λ v i. ⊎_elim (λ same. same) (λ other. absurd other) i)
 settled_here (d ∷ ds) (suc x) c h = settled_here ds x c h
 
+-- so is each where all were written back
 settled_single : (x : ℕ) (cells new : List Cell) → new ≡ map settle cells → IsSingle x new
 settled_single x cells new is = subst (IsSingle x) (sym is) (record { each = settled_here cells x })
 
@@ -62,14 +68,17 @@ put_here (c ∷ cs) (suc x) block d h = put_here cs x block d h
 abbrev past_cache : ℕ → Pair → Bool
 past_cache x p = (p.lba == x) && not p.cached
 
+-- a pair past the cache makes its sector single
 put_single : (x : ℕ) (cells : List Cell) (p : Pair) → p.cached ≡ false → (p.lba == x) ≡ true → IsSingle x (put_at cells p)
 put_single x cells p past here =
     subst (λ (b : Bool). IsSingle x (change_at cells p.lba (λ c. put c p.block b))) (sym past)
     (subst (λ (l : ℕ). IsSingle x (change_at cells l (λ c. put c p.block false))) (sym (eqb-true p.lba x here)) (record { each = put_here cells x p.block }))
 
+-- a pair for another sector leaves it single
 put_still : (x : ℕ) (cells : List Cell) (p : Pair) → (p.lba == x) ≡ false → IsSingle x cells → IsSingle x (put_at cells p)
 put_still x cells p other s = record { each = λ c h. s.each c (sym (elsewhere (λ d. put d p.block p.cached) cells p.lba x (apart p.lba x other)) ∙ h) }
 
+-- pairs past the cache make their sectors single
 whole_single : (x : ℕ) (ps : List Pair) (cells : List Cell) → AllByRecursion (λ p. p.cached ≡ false) ps → IsSingle x cells ⊎ (list_any (past_cache x) ps ≡ true) → IsSingle x (whole cells ps)
 whole_single x [] cells past h = ⊎_elim (λ s. s) (λ clash. absurd cc) h
 whole_single x (p ∷ ps) cells past h =
@@ -78,6 +87,7 @@ whole_single x (p ∷ ps) cells past h =
       | false ↦ λ other g. whole_single x ps (put_at cells p) past.1 (⊎_elim (λ s. inl (put_still x cells p other s)) (λ later. inr later) g)
     ]) refl h
 
+-- pairs through the cache are not past it
 none_past : (x lba : ℕ) (blocks : List Block) → list_any (past_cache x) (pairs_from lba blocks true) ≡ false
 none_past x lba [] = refl
 none_past x lba (v ∷ vs) = ap (λ b. b || list_any (past_cache x) (pairs_from (lba + 1) vs true)) (never (lba == x)) ∙ none_past x (lba + 1) vs
@@ -86,10 +96,12 @@ none_past x lba (v ∷ vs) = ap (λ b. b || list_any (past_cache x) (pairs_from 
     never true = refl
     never false = refl
 
+-- and those past it all are
 all_past : (lba : ℕ) (blocks : List Block) → AllByRecursion (λ p. p.cached ≡ false) (pairs_from lba blocks false)
 all_past lba [] = tt
 all_past lba (v ∷ vs) = (refl, all_past (lba + 1) vs)
 
+-- a write some pair of which goes past the cache makes that pair's sector single
 written_single : (x lba : ℕ) (blocks : List Block) (cells : List Cell) (b : Bool) → list_any (past_cache x) (pairs_from lba blocks b) ≡ true → IsSingle x (whole cells (pairs_from lba blocks b))
 written_single x lba blocks cells true h = absurd (let clash : true ≡ false = sym h ∙ none_past x lba blocks in cc)
 written_single x lba blocks cells false h = whole_single x (pairs_from lba blocks false) cells (all_past lba blocks) (inr h)
@@ -97,13 +109,16 @@ written_single x lba blocks cells false h = whole_single x (pairs_from lba block
 -- ---- the end of a task that secures a sector
 
 module _ (x : ℕ) (s mid : Device) (t : Entry) (reply : Reply) (good : reply.status ≡ Good) where
+  -- a CHECK CONDITION is no GOOD
   not_good : {A : Type 0} → reply.status ≡ CheckCondition → A
   not_good h = absurd (let clash : Good ≡ CheckCondition = sym good ∙ h in cc)
 
+  -- what is written back where a flag is set is single
   flushed_single : (b : Bool) → b ≡ true → mid.cells ≡ (settled_if b s).cells → IsSingle x mid.cells
   flushed_single true h is = settled_single x s.cells mid.cells is
   flushed_single false h is = absurd cc
 
+  -- a WRITE past the cache that ends with GOOD
   past_single : (form_fua : Bool) (lba count : ℕ) → list_any (past_cache x) (pairs_from lba t.body (s.modes.wce && not form_fua)) ≡ true
       → EndsOnMedium (ranged_write form_fua (over lba count) t.body) s t reply mid → IsSingle x mid.cells
   past_single fua lba count h e = by_outcome e.outcome e.ends (ap (λ r. r.status) e.answer)
@@ -114,6 +129,7 @@ module _ (x : ℕ) (s mid : Device) (t : Entry) (reply : Reply) (good : reply.st
       by_outcome (ends_flawed at) ends status = not_good status
       by_outcome ends_glitched ends status = not_good status
 
+  -- by the command of the task
   secured_by : (c : Command) → t.command ≡ c → secures c s t x ≡ true → EndsBy c s t reply mid → IsSingle x mid.cells
   secured_by commands.TestUnitReady is h e = absurd cc
   secured_by (commands.RequestSense descriptor alloc) is h e = absurd cc
@@ -133,6 +149,7 @@ module _ (x : ℕ) (s mid : Device) (t : Entry) (reply : Reply) (good : reply.st
   secured_by (commands.Unmap size) is h e = absurd cc
   secured_by (commands.Pass cdb) is h e = absurd cc
 
+  -- a sector that a task secures is single once it has ended with GOOD
   pub secured : secures t.command s t x ≡ true → Ends s t reply mid → IsSingle x mid.cells
   secured h =
       by_bool s.down (λ e. not_good (ap (λ r. r.status) e.answer))
@@ -140,12 +157,14 @@ module _ (x : ℕ) (s mid : Device) (t : Entry) (reply : Reply) (good : reply.st
 
 -- ---- a loss of power
 
+-- a sector that a loss of power leaves, or none
 abbrev LeftAs : Option Cell → Option Cell → Type 0
 LeftAs None None = Unit {0}
 LeftAs None (Some d) = ⊥
 LeftAs (Some c) None = ⊥
 LeftAs (Some c) (Some d) = IsLeftBehind c d
 
+-- each sector is left so
 left_at : (x : ℕ) (a b : List Cell) → AllZip IsLeftBehind a b → LeftAs (slice_get a x) (slice_get b x)
 left_at x [] [] h = tt
 left_at x [] (d ∷ ds) h = absurd h
@@ -175,12 +194,24 @@ power_keeps x a last after answers single kept p =
 
 -- ---- the law
 
+-- a task that a request became writes its own data-out alone
 come_own : (identity : Identity) (t : Entry) → HasCome identity t → WritesItsOwn t.command
 come_own identity t h = let to = subst (IsFor h.request) h.became (code_for h.at h.request) in to.own
 
+-- so does each task of a device that there can be
+all_own : (s : Device) → IsValid s → AllByRecursion (λ t. WritesItsOwn t.command) s.tasks
+all_own s valid = All-weaken (HasCome s.identity) (λ t. WritesItsOwn t.command) (come_own s.identity) s.tasks valid.come
+
+-- the law of untouched sectors
+pub untouched : (first last : Device) (all : List Frame) (groups : List (List Answer)) (losses deep : ℕ) (run : RunDeep first all groups losses last deep) (x : ℕ) →
+    IsValid first → WithoutPower all → SparedThrough x run → now_at last.cells x ≡ now_at first.cells x
+untouched first last all groups losses deep run x valid calm spared = at_now x first.cells last.cells (run_keeps x run calm spared (all_own first valid)).cells
+
+-- so do tasks none of which writes a sector
 own_of : (x : ℕ) (s : Device) → NoneWrites x s → AllByRecursion (λ t. WritesItsOwn t.command) s.tasks
 own_of x s h = All-weaken (SparesAt x s) (λ t. WritesItsOwn t.command) (λ t k. k.own) s.tasks h.each
 
+-- likeness goes both ways
 alike_back : (s u : Device) → Alike s u → Alike u s
 alike_back s u a = record { identity = sym a.identity; size = sym a.size }
 
@@ -194,12 +225,13 @@ span_keeps x mid after own span =
     (keeps_on x mid span.begin span.mid (quiet_keeps x mid span.begin span.quiet here) (turns_keep x span.turns))
     (λ h. run_keeps x span.run span.no_power span.spared (own_of x span.mid h))
 
+-- the law of durable sectors
 pub durable : (x : ℕ) (s mid after : Device) (t : Entry) (reply : Reply) →
     IsValid s → Ends s t reply mid → reply.status ≡ Good → secures t.command s t x ≡ true → IsSpan x mid after → now_at after.cells x ≡ now_at mid.cells x
 durable x s mid after t reply valid ends good secure span =
     let l = ends_leaves s mid t reply ends in
     let own : AllByRecursion (λ u. WritesItsOwn u.command) mid.tasks =
     subst (AllByRecursion (λ u. WritesItsOwn u.command)) (sym l.tasks)
-    (All-remove_first (λ u. WritesItsOwn u.command) (is_called t.nexus (t.tag).0) s.tasks (All-weaken (HasCome s.identity) (λ u. WritesItsOwn u.command) (come_own s.identity) s.tasks valid.come)) in
+    (All-remove_first (λ u. WritesItsOwn u.command) (is_called t.nexus (t.tag).0) s.tasks (all_own s valid)) in
     let kept = span_keeps x mid after own span in
     power_keeps x mid span.last after span.answers (secured x s mid t reply good secure ends) kept span.power

@@ -26,15 +26,18 @@ pub record Leaves (s : Device) (t : Entry) (reply : Reply) (new : Device) : Type
   pub nexus : reply.nexus ≡ t.nexus
   pub tag : reply.tag ≡ t.tag
 
+-- writing back leaves the tasks
 settled_tasks : (b : Bool) (s : Device) → (settled_if b s).tasks ≡ s.tasks
 settled_tasks true s = refl
 settled_tasks false s = refl
 
+-- so does START STOP UNIT
 after_start_stop-tasks : (start no_flush : Bool) (s : Device) → (after_start_stop start no_flush s).tasks ≡ s.tasks
 after_start_stop-tasks true no_flush s = refl
 after_start_stop-tasks false no_flush s = settled_tasks (not no_flush) s
 
 module _ (s new : Device) (t : Entry) (reply : Reply) where
+  -- each way in which a command ends
   checked_leaves : (sense : Sense) → IsChecked sense s t reply new → Leaves s t reply new
   checked_leaves sense e = record { tasks = ap (λ d. d.tasks) e.stays; nexus = ap (λ r. r.nexus) e.answer; tag = ap (λ r. r.tag) e.answer }
 
@@ -86,6 +89,7 @@ module _ (s new : Device) (t : Entry) (reply : Reply) where
   passed_leaves : (pass : Pass) → EndsPassed pass s t reply new → Leaves s t reply new
   passed_leaves pass e = record { tasks = ap (λ d. d.tasks) e.stays; nexus = ap (λ r. r.nexus) e.answer; tag = ap (λ r. r.tag) e.answer }
 
+  -- by the command
   command_leaves : (c : Command) → EndsBy c s t reply new → Leaves s t reply new
   command_leaves commands.TestUnitReady e = absurd e
   command_leaves (commands.RequestSense descriptor alloc) e = absurd e
@@ -106,6 +110,7 @@ module _ (s new : Device) (t : Entry) (reply : Reply) where
   command_leaves (commands.Unmap size) e = medium_leaves _ e
   command_leaves (commands.Pass cdb) e = passed_leaves _ e
 
+  -- however a task ends, it goes and is answered
   pub ends_leaves : Ends s t reply new → Leaves s t reply new
   ends_leaves =
       by_bool s.down (λ e. checked_leaves _ e)
@@ -116,9 +121,11 @@ pub eligible_in : (tasks : List Entry) (t : Entry) → IsEligible tasks t → Is
 eligible_in [] t e = elim e [ ]
 eligible_in (u ∷ us) t e = ⊎_elim (λ same. inl (sym same)) (λ later. inr (eligible_in us t later.1)) e
 
+-- the first task is one of them
 first_in : (tasks : List Entry) (t : Entry) → IsFirst tasks t → IsIn t tasks
 first_in [] t e = elim e [ ]
 first_in (u ∷ us) t e = inl (sym e)
 
+-- and so is each that may end
 pub may_end_in : (s : Device) (t : Entry) → MayEnd s t → IsIn t s.tasks
 may_end_in s t = by_bool (s.down || not s.started) (first_in s.tasks t) (eligible_in s.tasks t)

@@ -39,10 +39,12 @@ use Rattle.satl_laws.proofs.Sparing.{Keeps, NoneWrites, does_keep, keeps_none, k
 
 -- ---- one turn
 
+-- no turn changes nothing
 none_taken : {s new : Device} {answers : List Reply} {n deep : ℕ} → TurnsOf n s answers new deep → n ≡ 0 → (new ≡ s) × (answers ≡ [])
 none_taken none h = (refl, refl)
 none_taken (more so_far next) h = absurd cc
 
+-- one turn is a turn with quiet moves around it
 one_taken : {s new : Device} {answers : List Reply} {n deep : ℕ} → TurnsOf n s answers new deep → n ≡ 1 → Around Turn s answers new
 one_taken none h = absurd cc
 one_taken {s = s} {new = new} (more {n = n} {rest = rest} so_far next) h =
@@ -56,11 +58,13 @@ record GoodEnd (s : Device) (reply : Reply) (new : Device) : Type 0 where
   one : OneEnds s reply mid
   rest : (x : ℕ) → NoneWrites x mid → Keeps x mid new
 
+-- a reply at a lost link is not GOOD
 lost_is_bad : (s : Device) (tasks : List Entry) (reply : Reply) → IsIn reply (map (λ t. task_check s t link_lost) tasks) → reply.status ≡ Good → ⊥
 lost_is_bad s [] reply i good = i
 lost_is_bad s (t ∷ ts) reply i good =
     ⊎_elim (λ same. let clash : Good ≡ CheckCondition = sym good ∙ ap (λ r. r.status) same in absurd cc) (λ later. lost_is_bad s ts reply later good) i
 
+-- a turn that gives a reply with GOOD has ended its task
 good_end : {s new : Device} {answers : List Reply} (reply : Reply) → Turn s answers new → IsIn reply answers → reply.status ≡ Good → GoodEnd s reply new
 good_end reply (idle h) i good = absurd i
 good_end {s = s} reply (ends {new = new} other e) i good =
@@ -74,13 +78,16 @@ good_end {s = s} reply (ends_and_loses {mid = mid} {after = after} {new = new} o
 
 -- ---- replies
 
+-- equal answers are equal replies
 of_replied : (a b : Reply) → replied a ≡ replied b → a ≡ b
 of_replied a b h = cc
 
+-- a reply among answers is among their replies
 replied_in : (reply : Reply) (replies : List Reply) → IsIn (replied reply) (map replied replies) → IsIn reply replies
 replied_in reply [] i = i
 replied_in reply (r ∷ rs) i = ⊎_elim (λ same. inl (of_replied reply r same)) (λ later. inr (replied_in reply rs later)) i
 
+-- a status that is GOOD by its test
 good_is : (status : Scsi) → is_good status ≡ true → status ≡ Good
 good_is Good h = refl
 good_is CheckCondition h = absurd cc
@@ -92,6 +99,7 @@ record IsDoneBy (r : Request) (reply : Reply) : Type 0 where
   tag : (reply.tag).0 ≡ (r.tag).0
   good : reply.status ≡ Good
 
+-- a good reply to a request, by its parts
 done_by : (r : Request) (reply : Reply) (answers : List Answer) → IsGoodReply r reply answers → IsDoneBy r reply
 done_by r reply answers h = parts h.done
   where
@@ -104,6 +112,7 @@ done_by r reply answers h = parts h.done
           good = good_is reply.status (both_right ((reply.nexus == r.nexus) && ((reply.tag).0 == (r.tag).0)) (is_good reply.status) d);
         }
 
+-- equal nexuses and tags pass the test
 same_name : (n m g h : ℕ) → n ≡ m → g ≡ h → ((n == m) && (g == h)) ≡ true
 same_name n m g h p q = ap (λ b. b && (g == h)) (eq-eqb n m p) ∙ eq-eqb g h q
 
@@ -115,6 +124,7 @@ record GoodTurn (first last : Device) (reply : Reply) : Type 0 where
   good : GoodEnd before reply after
   quiet_after : Quiet after last
 
+-- a run of one turn that gives a reply with GOOD
 good_turn : {first last : Device} {groups : List (List Answer)} {losses deep : ℕ} (reply : Reply) → RunDeep first (frames.Turn 1 ∷ []) groups losses last deep → IsIn (replied reply) (joined groups) → reply.status ≡ Good → GoodTurn first last reply
 good_turn reply run i good =
     let o = once (frames.Turn 1) run in
@@ -129,6 +139,7 @@ may_still a b tasks s before t q may = subst (λ d. MayEnd d t) q.stays may
 
 -- ---- a WRITE and a READ of one sector
 
+-- they conflict
 conflict_here : (w r : Request) → conflicts (writes_sector_0 w) (reads_sector_0 r) ≡ true
 unfolding accesses_conflict
 conflict_here w r = ordered (is_ordered w.attr) (is_ordered r.attr)
@@ -139,6 +150,7 @@ conflict_here w r = ordered (is_ordered w.attr) (is_ordered r.attr)
     ordered false false = refl
 
 module _ (write read : Request) (a b : Cell) (s last : Device) (losses : ℕ) (answers : List Answer) (reply : Reply) where
+  -- so the READ does not end in the first turn
   pub no_read_passes : AreApart write read →
       Run (at_work a b (writes_sector_0 write ∷ reads_sector_0 read ∷ []) s) (frames.Turn 1 ∷ []) losses answers last → IsGoodReply read reply answers → ⊥
   no_read_passes apart run good =
@@ -165,6 +177,7 @@ module _ (write read : Request) (a b : Cell) (s last : Device) (losses : ℕ) (a
 
 -- ---- two READs
 
+-- two requests are apart both ways
 apart_back : (a b : Request) → AreApart a b → AreApart b a
 apart_back a b h = decide ((b.nexus == a.nexus) && ((b.tag).0 == (a.tag).0)) refl
   where
@@ -176,6 +189,7 @@ apart_back a b h = decide ((b.nexus == a.nexus) && ((b.tag).0 == (a.tag).0)) ref
         let clash : true ≡ false = sym (same_name a.nexus b.nexus (a.tag).0 (b.tag).0 nexus tag) ∙ h in
         absurd cc
 
+-- turns ask for nothing
 no_asks : (nexus tag : ℕ) (turns : Frame) → AreTurns turns → how_many (asks_by nexus tag) (turns ∷ []) ≡ 0
 no_asks nexus tag (frames.Request r) h = absurd h
 no_asks nexus tag (frames.Manage m) h = absurd h
@@ -183,9 +197,11 @@ no_asks nexus tag (frames.Turn count) h = refl
 no_asks nexus tag (frames.Bench event) h = absurd h
 no_asks nexus tag frames.End h = refl
 
+-- how many of two pass
 abbrev count_of : Bool → Bool → ℕ
 count_of p q = (if p then 1 else 0) + ((if q then 1 else 0) + 0)
 
+-- at most one does where the other does not
 few_first : (p q : Bool) → q ≡ false → count_of p q ≤ 1
 few_first true q h = let n = ap (count_of true) h in omega (arith, n)
 few_first false q h = let n = ap (count_of false) h in omega (arith, n)
@@ -200,6 +216,7 @@ answers_few nexus tag first last turns losses answers are few run =
     omega (arith, run_counts nexus tag run.run, no_asks nexus tag turns are, few, ap (how_many (answers_to nexus tag)) run.answer)
 
 module _ (p q : Request) (a b : Cell) (s last : Device) (turns : Frame) (losses : ℕ) (answers : List Answer) where
+  -- each of the two is answered once at most
   pub first_once : AreApart p q → AreTurns turns → Run (at_work a b (reads_sector_0 p ∷ reads_sector_0 q ∷ []) s) (turns ∷ []) losses answers last → how_many (answers_to p.nexus (p.tag).0) answers ≤ 1
   first_once apart are =
       answers_few p.nexus (p.tag).0 (at_work a b (reads_sector_0 p ∷ reads_sector_0 q ∷ []) s) last turns losses answers are
@@ -239,9 +256,11 @@ flush_then_power flush cell b s mid last said reply turn good power =
         (quiet_keeps 0 turn.after mid turn.quiet_after)
 
 module _ (flush : Request) (old new : Block) (b : Cell) (s last : Device) (losses : ℕ) (answers : List Answer) (reply : Reply) where
+  -- equal blocks that are read
   of_some : (v w : Block) → Some v ≡ Some w → v ≡ w
   of_some v w h = cc
 
+  -- what is read then is not the old block
   pub no_old_block : old ≢ new →
       Run (at_work (cached old new) b (flushes flush ∷ []) s) (frames.Turn 1 ∷ frames.Bench bench.Power ∷ []) losses answers last →
       IsGoodReply flush reply answers → now_at last.cells 0 ≡ Some old → ⊥
@@ -256,6 +275,7 @@ module _ (flush : Request) (old new : Block) (b : Cell) (s last : Device) (losse
 
 -- ---- another sector
 
+-- turns in which no task writes a sector keep it
 turns_spare : (x : ℕ) (turns : Frame) (s new : Device) (now : List Answer) (d : ℕ) → AreTurns turns → Does turns s now new d → NoneWrites x s → Keeps x s new
 turns_spare x (frames.Request r) s new now d are h = absurd are
 turns_spare x (frames.Manage m) s new now d are h = absurd are
@@ -268,6 +288,7 @@ spares_sector_1 : (body : List Block) (past : Bool) → Spares 1 (pairs_from 0 (
 spares_sector_1 [] past = refl
 spares_sector_1 (v ∷ vs) past = refl
 
+-- so sector 1 stays
 pub others_stay : (write : Request) (a b : Cell) (s last : Device) (turns : Frame) (losses : ℕ) (answers : List Answer) → AreTurns turns →
     Run (at_work a b (writes_sector_0 write ∷ []) s) (turns ∷ []) losses answers last → now_at last.cells 1 ≢ Some b.now → ⊥
 others_stay write a b s last turns losses answers are run changed =

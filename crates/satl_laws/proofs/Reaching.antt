@@ -35,22 +35,27 @@ pub data Steps (pairs : List Pair) (old : List Cell) : List Cell → Type 0 wher
   parts : {new : List Cell} → Part old pairs new → Steps pairs old new
   settles : {new : List Cell} → new ≡ map settle old → Steps pairs old new
 
+-- nothing is put
 stays : (old new : List Cell) → new ≡ old → Steps [] old new
 stays old new same = parts same
 
+-- every pair is put
 all_of : (pairs : List Pair) (old new : List Cell) → new ≡ whole old pairs → Steps pairs old new
 all_of pairs old new same = parts (subst (Part old pairs) (sym same) (part_whole old pairs))
 
+-- there are as many sectors as before
 pub steps-length : (pairs : List Pair) (old new : List Cell) → Steps pairs old new → length new ≡ length old
 steps-length pairs old new (parts p) = part-length old new pairs p
 steps-length pairs old new (settles s) = ap length s ∙ length-map old settle
 
+-- a sector that the pairs spare is kept
 pub steps_keep : (x : ℕ) (pairs : List Pair) (old new : List Cell) → Spares x pairs → Steps pairs old new → KeptAt x old new
 steps_keep x pairs old new spares (parts p) = part_keeps x pairs old new spares p
 steps_keep x pairs old new spares (settles s) = subst (KeptAt x old) (sym s) (settle_keeps x old)
 
 -- ---- ATA commands
 
+-- from each of the two cases of a test, the second with the test itself
 by_bool_is : {A B C : Type 0} (b : Bool) → (A → C) → (b ≡ false → B → C) → MatchBool b A B → C
 by_bool_is true f g h = f h
 by_bool_is false f g h = g refl h
@@ -62,9 +67,11 @@ record Carried (a : AtaCommand) (given : List Block) (old new : Medium) : Type 0
   cells : Steps pairs old.cells new.cells
 
 module _ (r : Registers) (old new : Medium) (given taken : List Block) (ended : Taskfile) where
+  -- a command that leaves the sectors
   as_before : (a : AtaCommand) → new.cells ≡ old.cells → Carried a given old new
   as_before a same = record { pairs = []; spared = λ x h. refl; cells = stays old.cells new.cells same }
 
+  -- a command that goes over a range
   transfer : (a : AtaCommand) (t : Transfer) → (nat_lt (length old.cells) (t.lba + t.sectors) ≡ false → pairs_of a old given ≡ t.writes) → Carries r t old given ended taken new → Carried a given old new
   transfer a t is =
       by_bool_is (nat_lt (length old.cells) (t.lba + t.sectors)) (λ h. as_before a (ap (λ m. m.cells) h.medium))
@@ -77,11 +84,13 @@ module _ (r : Registers) (old new : Medium) (given taken : List Block) (ended : 
       carried : pairs_of a old given ≡ t.writes → Steps t.writes old.cells new.cells → Carried a given old new
       carried same steps = record { pairs = t.writes; spared = λ x h. subst (Spares x) same h; cells = steps }
 
+  -- a setting
   set_carried : (a : AtaCommand) (setting : Setting) → IsSet setting r old given ended taken new → Carried a given old new
   set_carried a (sets_cache true) h = as_before a (ap (λ m. m.cells) h.medium)
   set_carried a (sets_cache false) h = record { pairs = []; spared = λ x k. refl; cells = settles (ap (λ m. m.cells) h.medium) }
   set_carried a (sets_look on) h = as_before a (ap (λ m. m.cells) h.medium)
 
+  -- each command
   carried_out : (a : AtaCommand) → Does a r old given ended taken new → Carried a given old new
   carried_out (ata.Read how lba sectors) h = transfer (ata.Read how lba sectors) (reading how lba sectors old) (λ fits. refl) h
   carried_out (ata.Write how lba sectors) h =
@@ -132,9 +141,11 @@ pub record Reaches (c : Command) (s : Device) (t : Entry) (new : Device) : Type 
   pub identity : new.identity ≡ s.identity
 
 module _ (s new : Device) (t : Entry) (reply : Reply) where
+  -- a task that puts nothing
   nothing_put : (c : Command) → Steps [] s.cells new.cells → new.identity ≡ s.identity → Reaches c s t new
   nothing_put c steps same = record { pairs = []; spared = λ x own h. refl; cells = steps; identity = same }
 
+  -- each way in which a command ends
   checked : (c : Command) (sense : Sense) → IsChecked sense s t reply new → Reaches c s t new
   checked c sense e = nothing_put c (stays s.cells new.cells (ap (λ d. d.cells) e.stays)) (ap (λ d. d.identity) e.stays)
 
@@ -146,6 +157,7 @@ module _ (s new : Device) (t : Entry) (reply : Reply) where
   flushed true = settles refl
   flushed false = stays s.cells s.cells refl
 
+  -- the drive says the same of itself
   flushed_identity : (b : Bool) → (settled_if b s).identity ≡ s.identity
   flushed_identity true = refl
   flushed_identity false = refl
@@ -209,6 +221,7 @@ module _ (s new : Device) (t : Entry) (reply : Reply) where
       handed_in x own h true out = subst (λ g. Spares x (pairs_of (command_in (pass_of cdb).regs) (medium_of s) g)) (sym (e.data_out out)) h
       handed_in x own h false out = ap (list_any (λ p. p.lba == x)) (own out (medium_of s) e.given)
 
+  -- by the command
   by_command : (c : Command) → EndsBy c s t reply new → Reaches c s t new
   by_command commands.TestUnitReady e = absurd e
   by_command (commands.RequestSense descriptor alloc) e = absurd e
@@ -229,6 +242,7 @@ module _ (s new : Device) (t : Entry) (reply : Reply) where
   by_command (commands.Unmap size) e = on_medium (commands.Unmap size) _ refl e
   by_command (commands.Pass cdb) e = passed cdb e
 
+  -- however a task ends, it puts its own pairs alone
   pub ends_reach : Ends s t reply new → Reaches t.command s t new
   ends_reach =
       by_bool s.down (λ e. checked t.command _ e)

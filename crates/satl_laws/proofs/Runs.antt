@@ -20,6 +20,7 @@ use Rattle.satl_laws.proofs.Sparing.{Keeps, NoneComes, NoneComesBy, NoneWrites, 
 
 -- ---- the last event
 
+-- lists with one more at the end are equal in both parts
 last_same : {X : Type 0} (xs ys : List X) (x y : X) → xs ++ x ∷ [] ≡ ys ++ y ∷ [] → (xs ≡ ys) × (x ≡ y)
 last_same [] [] x y h = (refl, cc)
 last_same [] (b ∷ []) x y h = absurd cc
@@ -32,6 +33,7 @@ last_same (a ∷ xs) (b ∷ ys) x y h =
     let r = last_same xs ys x y rest in
     ((ap (λ l. l ∷ xs) front ∙ ap (λ l. b ∷ l) r.0), r.1)
 
+-- one more group of answers
 joined-push : (groups : List (List Answer)) (group : List Answer) → joined (groups ++ group ∷ []) ≡ joined groups ++ group
 joined-push [] group = append-nil group
 joined-push (g ∷ groups) group = ap (λ l. g ++ l) (joined-push groups group) ∙ sym (append_assoc g (joined groups) group)
@@ -48,6 +50,7 @@ pub record Split (first last : Device) (before : List Frame) (event : Frame) (gr
   pub does : Does event mid now last depth
   pub answers : joined groups ≡ joined earlier ++ now
 
+-- each run that is not empty has a last event
 pub split : {first last : Device} {all : List Frame} {groups : List (List Answer)} {losses deep : ℕ} → RunDeep first all groups losses last deep
     → (before : List Frame) (event : Frame) → all ≡ before ++ event ∷ [] → Split first last before event groups
 split start [] event h = absurd cc
@@ -71,6 +74,7 @@ record Rests (first last : Device) (groups : List (List Answer)) : Type 0 where
   pub same : last ≡ first
   pub silent : joined groups ≡ []
 
+-- a run of no event answers nothing
 rests : {first last : Device} {all : List Frame} {groups : List (List Answer)} {losses deep : ℕ} → RunDeep first all groups losses last deep → all ≡ [] → Rests first last groups
 rests start h = record { same = refl; silent = refl }
 rests (step {events = []} event now d so_far does) h = absurd cc
@@ -83,6 +87,7 @@ pub record Once (first last : Device) (event : Frame) (groups : List (List Answe
   pub does : Does event first now last depth
   pub answers : joined groups ≡ now
 
+-- a run of one event is that event
 pub once : {first last : Device} {groups : List (List Answer)} {losses deep : ℕ} (event : Frame) → RunDeep first (event ∷ []) groups losses last deep → Once first last event groups
 once {first = first} {last = last} event run =
     let s = split run [] event refl in
@@ -91,10 +96,12 @@ once {first = first} {last = last} event run =
 
 -- ---- no task writes a sector
 
+-- no loss of power up to the last event
 calm_before : (events : List Frame) (event : Frame) → WithoutPower (events ++ event ∷ []) → WithoutPower events
 calm_before [] event h = tt
 calm_before (e ∷ events) event h = (h.0, calm_before events event h.1)
 
+-- nor in it
 calm_last : (events : List Frame) (event : Frame) → WithoutPower (events ++ event ∷ []) → is_power event ≡ false
 calm_last [] event h = h.0
 calm_last (e ∷ events) event h = calm_last events event h.1
@@ -107,12 +114,14 @@ module _ (x : ℕ) where
   none_comes (overlaps reply) r s to h = tt
   none_comes (waits task) r s to h = record { spares = h; own = to.own }
 
+  -- nor after quiet moves
   later_comes : (a : Arrival) (s u : Device) → Quiet s u → NoneComes x s a → NoneComes x u a
   later_comes (answered reply) s u q h = tt
   later_comes (attended reply) s u q h = tt
   later_comes (overlaps reply) s u q h = tt
   later_comes (waits task) s u q h = spares_alike x s u (quiet_alike x s u q) task h
 
+  -- what an event brings spares the sector
   none_comes_by : (event : Frame) (s : Device) → SparedIn x event s → (before : Device) → Quiet s before → NoneComesBy x event before
   none_comes_by (frames.Request r) s h before q =
       let same : arrival before r ≡ arrival s r = ap (λ d. arrival d r) q.stays ∙ arrival_quiet s r before.cells before.active in
@@ -130,6 +139,7 @@ module _ (x : ℕ) where
       both [] p q = tt
       both (t ∷ ts) p q = (record { spares = p.0; own = q.0 }, both ts p.1 q.1)
 
+  -- a sector that no task of a run writes is kept
   pub run_keeps : {first last : Device} {all : List Frame} {groups : List (List Answer)} {losses deep : ℕ} (run : RunDeep first all groups losses last deep)
       → WithoutPower all → SparedThrough x run → AllByRecursion (λ t. WritesItsOwn t.command) first.tasks → Keeps x first last
   run_keeps {first = first} start calm spared own = keeps_none x first (none_writes first spared own)

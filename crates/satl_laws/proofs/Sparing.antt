@@ -36,10 +36,12 @@ use Rattle.satl_laws.proofs.Ends.{eligible_in, ends_leaves, may_end_in}
 use Rattle.satl_laws.proofs.Kept.{KeptAt, at_none, at_on, at_same, mend_keeps, moves_keep, spared_in, strike_keeps}
 use Rattle.satl_laws.proofs.Reaching.{WritesItsOwn, ends_reach, steps-length, steps_keep}
 
+-- what holds of each holds of one of them
 in_all : {X : Type 0} (P : X → Type 0) (xs : List X) (x : X) → AllByRecursion P xs → IsIn x xs → P x
 in_all P [] x all i = elim i [ ]
 in_all P (y ∷ ys) x all i = ⊎_elim (λ same. subst P (sym same) all.0) (λ later. in_all P ys x all.1 later) i
 
+-- and of those that pass a filter
 All-filter : {X : Type 0} (P : X → Type 0) (p : X → Bool) (xs : List X) → AllByRecursion P xs → AllByRecursion P (filter p xs)
 All-filter P p [] all = all
 All-filter P p (x ∷ xs) all =
@@ -69,6 +71,7 @@ module _ (x : ℕ) where
     pub alike : Alike old new
     pub none_writes : NoneWrites new
 
+  -- a task that spares the sector at a device spares it at a like one
   pub spares_alike : (s u : Device) → Alike s u → (t : Entry) → SparesAt s t → SparesAt u t
   spares_alike s u a t h = record { spares = writes_alike x s u a t ∙ h.spares; own = h.own }
 
@@ -76,11 +79,13 @@ module _ (x : ℕ) where
   pub none_still : (s u : Device) (tasks : List Entry) → Alike s u → u.tasks ≡ tasks → AllByRecursion (SparesAt s) tasks → NoneWrites u
   none_still s u tasks a same all = record { each = subst (AllByRecursion (SparesAt u)) (sym same) (All-weaken (SparesAt s) (SparesAt u) (spares_alike s u a) tasks all) }
 
+  -- steps after steps
   pub keeps_on : (a b c : Device) → Keeps a b → (NoneWrites b → Keeps b c) → Keeps a c
   keeps_on a b c k next =
       let l = next k.none_writes in
       record { cells = at_on x a.cells b.cells c.cells k.cells l.cells; alike = alike_on a b c k.alike l.alike; none_writes = l.none_writes }
 
+  -- no step
   pub keeps_none : (s : Device) → NoneWrites s → Keeps s s
   keeps_none s h = record { cells = at_none x s.cells; alike = alike_none s; none_writes = h }
 
@@ -94,9 +99,11 @@ module _ (x : ℕ) where
   pub loss_keeps : (s u : Device) → u.cells ≡ s.cells → u.identity ≡ s.identity → u.tasks ≡ [] → Keeps s u
   loss_keeps s u cells identity same = same_cells s u [] cells identity same tt
 
+  -- quiet moves leave a like device
   pub quiet_alike : (old new : Device) → Quiet old new → Alike old new
   quiet_alike old new q = record { identity = ap (λ d. d.identity) q.stays; size = moves-length q.cells }
 
+  -- quiet moves keep the sector
   pub quiet_keeps : (old new : Device) → Quiet old new → NoneWrites old → Keeps old new
   quiet_keeps old new q h = record {
     cells = moves_keep x (λ p m. spared_in x (writes old m.task) p (in_all (SparesAt old) old.tasks m.task h.each (eligible_in old.tasks m.task (m.under_way).eligible)).spares m.among) q.cells;
@@ -117,6 +124,7 @@ module _ (x : ℕ) where
         none_writes = none_still s new (remove_first (is_called (e.task).nexus ((e.task).tag).0) s.tasks) a l.tasks (All-remove_first (SparesAt s) (is_called (e.task).nexus ((e.task).tag).0) s.tasks h.each);
       }
 
+  -- so does a turn
   turn_keeps : {s new : Device} {answers : List Reply} → Turn s answers new → NoneWrites s → Keeps s new
   turn_keeps {s = s} (idle e) h = keeps_none s h
   turn_keeps {s = s} (ends {new = new} reply e) h = one_keeps s new reply e h
@@ -125,16 +133,19 @@ module _ (x : ℕ) where
       keeps_on s after new (keeps_on s mid after (one_keeps s mid reply e h) (quiet_keeps mid after q))
       (λ g. loss_keeps after new (ap (λ d. d.cells) l.stays) (ap (λ d. d.identity) l.stays) (ap (λ d. d.tasks) l.stays))
 
+  -- so does a step with quiet moves around it, where the step does
   around_keeps : {A : Type 0} (Step : Device → List A → Device → Type 0) (old new : Device) (answers : List A) (a : Around Step old answers new)
       → (Step a.before answers a.after → NoneWrites a.before → Keeps a.before a.after) → NoneWrites old → Keeps old new
   around_keeps Step old new answers a each h =
       keeps_on old a.after new (keeps_on old a.before a.after (quiet_keeps old a.before a.quiet_before h) (each a.step)) (quiet_keeps a.after new a.quiet_after)
 
+  -- so do many turns
   pub turns_keep : {n deep : ℕ} {s new : Device} {answers : List Reply} → TurnsOf n s answers new deep → NoneWrites s → Keeps s new
   turns_keep {s = s} none h = keeps_none s h
   turns_keep {s = s} {new = new} (more {mid = mid} {rest = rest} so_far next) h =
       keeps_on s mid new (turns_keep so_far h) (around_keeps Turn mid new rest next (λ t g. turn_keeps t g))
 
+  -- so does a step before a loss of the link
   may_lose_keeps : (Step : Device → List Reply → Device → Type 0) (old new : Device) (answers : List Reply)
       → ((mid : Device) (said : List Reply) → Step old said mid → Keeps old mid) → MayLose Step old answers new → Keeps old new
   may_lose_keeps Step old new answers each (keeps h) = each new answers h
@@ -142,6 +153,7 @@ module _ (x : ℕ) where
       keeps_on old after new (keeps_on old mid after (each mid said h) (quiet_keeps mid after q))
       (λ g. loss_keeps after new (ap (λ d. d.cells) l.stays) (ap (λ d. d.identity) l.stays) (ap (λ d. d.tasks) l.stays))
 
+  -- so does an arrival
   arrives_keeps : (a : Arrival) (r : Request) (s new : Device) (answers : List Reply) → NoneComes s a → ArrivesAs a r s answers new → NoneWrites s → Keeps s new
   arrives_keeps (answered reply) r s new answers comes h g = same_cells s new s.tasks (ap (λ d. d.cells) h.1) (ap (λ d. d.identity) h.1) (ap (λ d. d.tasks) h.1) g.each
   arrives_keeps (attended reply) r s new answers comes h g = same_cells s new s.tasks (ap (λ d. d.cells) h.1) (ap (λ d. d.identity) h.1) (ap (λ d. d.tasks) h.1) g.each
@@ -150,6 +162,7 @@ module _ (x : ℕ) where
   arrives_keeps (waits task) r s new answers comes h g =
       same_cells s new (s.tasks ++ task ∷ []) (ap (λ d. d.cells) h.1) (ap (λ d. d.identity) h.1) (ap (λ d. d.tasks) h.1) (All-push_end (SparesAt s) s.tasks task g.each comes)
 
+  -- so does a management function
   manages_keeps : (m : Manage) (response : Response) (s new : Device) (answers : List Reply) → Manages m response s answers new → NoneWrites s → Keeps s new
   manages_keeps m response s new answers h g =
       same_cells s new (filter (λ t. not ((effect m s).goes t)) s.tasks) (ap (λ d. d.cells) (h.1).stays) (ap (λ d. d.identity) (h.1).stays) (ap (λ d. d.tasks) (h.1).stays)
@@ -165,6 +178,7 @@ module _ (x : ℕ) where
         none_writes = none_still s new s.tasks a (ap (λ d. d.tasks) is) g.each;
       }
 
+  -- so does an event of the bench but for a loss of power
   bench_keeps : (event : BenchEvent) (s new : Device) (answers : List Reply) → is_power (frames.Bench event) ≡ false → Happens event s answers new → NoneWrites s → Keeps s new
   bench_keeps (bench.Strike which lba) s new answers mains h g = flaws_keep s new lba (with_flaw which) (strike_keeps which x lba s.cells) h.new_is g
   bench_keeps (bench.Mend lba) s new answers mains h g = flaws_keep s new lba without_flaws (mend_keeps x lba s.cells) h.new_is g
@@ -181,6 +195,7 @@ module _ (x : ℕ) where
   NoneComesBy (frames.Bench event) s = Unit {0}
   NoneComesBy frames.End s = Unit {0}
 
+  -- so does each event but for a loss of power
   pub does_keep : (event : Frame) (s new : Device) (now : List Answer) (d : ℕ) → is_power event ≡ false → ((before : Device) → Quiet s before → NoneComesBy event before) → Does event s now new d → NoneWrites s → Keeps s new
   does_keep (frames.Request r) s new now d mains comes h =
       around_keeps (MayLose (Arrives r)) s new h.0 h.2

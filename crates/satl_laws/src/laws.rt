@@ -1,5 +1,5 @@
 //! Laws of all runs of the device.
-ghost use Rattle.satl_direct.specs.Laws.{Durable, OnceEach};
+ghost use Rattle.satl_direct.specs.Laws.{Durable, OnceEach, Untouched};
 
 /// Law of one answer: in a run from a device without tasks, the replies to a nexus and tag, the tasks of it that still
 /// wait, and those that were taken off without an answer are together as many as its requests (SAM-5 5).
@@ -11,4 +11,10 @@ pub fn each_request_is_answered_once()
 /// loss of power, it has after that the block that it had at the end of the task (SBC-3 4.15).
 pub fn secured_sectors_endure_a_loss_of_power()
     ensures { Durable }
+{}
+
+/// Law of untouched sectors: in a run without a loss of power, from a device that there can be, a sector that no task of
+/// the run writes keeps its block (SBC-3).
+pub fn untouched_sectors_keep_their_blocks()
+    ensures { Untouched }
 {}
