@@ -60,6 +60,7 @@ opened old new given taken i modes tasks attentions free out idle no_error told 
   identity = judged;
   tasks = none;
   wce = wce;
+  dra = dra;
   d_sense = d_sense;
   started = refl;
   up = refl;

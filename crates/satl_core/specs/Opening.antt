@@ -1,5 +1,5 @@
 -- What opening the layer gives (SAT-3 8.1, IDENTIFY DEVICE; profile).
-use Rattle.std.specs.Prelude.{◌≡◌, ◌∷◌, true, false, List, [], drop, replicate, Ok, Err}
+use Rattle.std.specs.Prelude.{◌≡◌, ◌∷◌, not, true, false, List, [], drop, replicate, Ok, Err}
 use Rattle.satl_base.specs.declared.block.Block.{Block}
 use Rattle.satl_base.specs.Losses.{Loses}
 use Rattle.satl_io.specs.Causes.{Rose}
@@ -28,6 +28,7 @@ pub record IsOpened (old : DriveState) (l : Layer) (new : DriveState) : Type 0 w
   pub identity : identity_of old.identify ≡ Ok l.identity
   pub tasks : l.tasks ≡ []
   pub wce : l.modes.wce ≡ l.identity.cache_on
+  pub dra : l.modes.dra ≡ not l.identity.look_on
   pub d_sense : l.modes.d_sense ≡ false
   pub started : l.started ≡ true
   pub up : l.down ≡ false

@@ -10,7 +10,7 @@ ghost use Rattle.satl_direct.specs.Tasks.{held_blocks, needed};
 ghost use Rattle.satl_direct.specs.Quiet.{Around};
 ghost use Rattle.satl_direct.specs.Run.{MayLose, losses_of};
 ghost use Rattle.satl_direct.specs.Turn.{Turn};
-ghost use Rattle.satl_core.specs.Layer.{IsTransfer, Tied, held_pages, reply_pages, view};
+ghost use Rattle.satl_core.specs.Layer.{IsTransfer, Tied, reply_pages, view};
 ghost use Rattle.satl_core.specs.Opening.{IsCause, IsOpened};
 ghost use Rattle.satl_core.specs.Submitting.{Becomes, CanSubmit, IsCutOf, judged, once_judged};
 ghost use Rattle.satl_core.specs.Turning.{AreUnforced, AsksNoFua};

@@ -19,6 +19,7 @@ use Rattle.satl_frame.proofs.ProgressLemmas.{all_spelled-push, has_read_all, som
 use Rattle.satl_frame.proofs.Refusals.{computed}
 use Rattle.satl_frame.proofs.Standing.{stands_good}
 
+-- a list with a last frame is not empty
 not_empty : (fs : List Frame) (f : Frame) → fs ++ f ∷ [] ≡ [] → ⊥
 not_empty [] f e = cc
 not_empty (g ∷ fs) f e = cc

@@ -54,10 +54,12 @@ pub on_ok : {A E : Type 0} (r : Result A E) (P Q : Type 0) → (P → Q) → OnO
 on_ok (Ok x) P Q f p = f p
 on_ok (Err e) P Q f p = tt
 
+-- the same of two facts
 pub on_both : {A E : Type 0} (r : Result A E) (P P' Q : Type 0) → (P → P' → Q) → OnOk r P → OnOk r P' → OnOk r Q
 on_both (Ok x) P P' Q f p q = f p q
 on_both (Err e) P P' Q f p q = tt
 
+-- the same of the value
 pub if_ok : {A E : Type 0} (r : Result A E) (P Q : A → Type 0) → ((x : A) → P x → Q x) → IfOk r P → IfOk r Q
 if_ok (Ok x) P Q f p = f x p
 if_ok (Err e) P Q f p = tt
@@ -85,9 +87,6 @@ map-append (x ∷ xs) ys = ap (λ l. replied x ∷ l) (map-append xs ys)
 
 -- ---- writing replies
 
-pub part_none : (written : Option (List ℕ)) (all : List ℕ) → IsPartWritten written written all all
-part_none written all = record { done = []; wrote = Wrote-none written; whole = refl }
-
 -- the first of the replies left was written
 pub part_more : (a b c : Option (List ℕ)) (left left' : List Reply) (reply : Reply) (all : List ℕ) → IsPartWritten a b (all_answered (map replied left)) all → left ≡ reply ∷ left' → Wrote b c (reply_bytes reply) → IsPartWritten a c (all_answered (map replied left')) all
 part_more a b c left left' reply all p is wrote = record {
@@ -101,10 +100,6 @@ pub part_stops : (a b c : Option (List ℕ)) (left left' : List Reply) (reply : 
 part_stops a b c left left' reply all p is part =
     subst (WrotePart a c) (ap (λ l. p.done ++ all_answered (map replied l)) (sym is) ∙ p.whole) (WrotePart-more p.wrote (WrotePart-front (all_answered (map replied left')) part))
 
-pub part_all : (a b : Option (List ℕ)) (left : List Reply) (all : List ℕ) → length left ≡ 0 → IsPartWritten a b (all_answered (map replied left)) all → Wrote a b all
-part_all a b [] all empty p = subst (Wrote a b) (sym (append-nil p.done) ∙ p.whole) p.wrote
-part_all a b (x ∷ left) all empty p = absurd cc
-
 -- ---- totals
 
 -- nothing was counted yet
@@ -115,9 +110,11 @@ zero_totals u p q r s t v = same p q r s t v
         ◌≡◌ {A = Summary} (record { requests = a; good = b; check = c; full = d; bytes = e; sum = f }) (record { requests = 0; good = 0; check = 0; full = 0; bytes = 0; sum = 0 })
     same p q r s t v = cc
 
+-- no answer was counted
 pub counts_none : (u : Summary) → Counts u u []
 counts_none u = record { known = λ n before is. is ∙ ap (λ l. summary_of n l) (sym (append-nil before)) }
 
+-- answers after answers
 pub counts_more : {u v x : Summary} {now later : List Answer} → Counts u v now → Counts v x later → Counts u x (now ++ later)
 counts_more {u} {v} {x} {now} {later} p q = record { known = λ n before is. q.known n (before ++ now) (p.known n before is) ∙ ap (λ l. summary_of n l) (append_assoc before now later) }
 
@@ -141,18 +138,15 @@ counts_end {u} {v} {now} p = record { known = λ n before is. p.known n before i
 pub counts_first : {u v x : Summary} {left rest : List Reply} {reply : Reply} → left ≡ reply ∷ rest → Counts u v (replied reply ∷ []) → Counts v x (map replied rest) → Counts u x (map replied left)
 counts_first {u} {v} {x} {left} {rest} {reply} is p q = subst (λ l. Counts u x (map replied l)) (sym is) (counts_more p q)
 
--- none is left
-pub counts_all : (u v : Summary) (left : List Reply) (all : List Answer) → length left ≡ 0 → ((x : Summary) → Counts v x (map replied left) → Counts u x all) → Counts u v all
-counts_all u v [] all empty f = f v (counts_none v)
-counts_all u v (r ∷ left) all empty f = absurd (omega arith)
-
 -- the totals count these frames and answers too
 pub record Grows (old new : Summary) (events : List Frame) (answers : List Answer) : Type 0 where
   pub known : (requests : ℕ) (before : List Answer) → old ≡ summary_of requests before → new ≡ summary_of (requests + requests_in events) (before ++ answers)
 
+-- TURN is no request
 grows_turn : {u v : Summary} {now : List Answer} (count : ℕ) → Counts u v now → Grows u v (frames.Turn count ∷ []) now
 grows_turn {u} {v} {now} count p = record { known = λ n before is. p.known n before is ∙ ap (λ k. summary_of k (before ++ now)) (sym (add-zero n)) }
 
+-- a request is counted before its answers
 grows_request : {u m v : Summary} {now : List Answer} (r : Request) → ((requests : ℕ) (before : List Answer) → u ≡ summary_of requests before → m ≡ summary_of (requests + 1) before) → Counts m v now → Grows u v (frames.Request r ∷ []) now
 grows_request r added p = record { known = λ n before is. p.known (n + 1) before (added n before is) }
 
@@ -369,11 +363,14 @@ first_of old new l o = record {
   tasks = ap (λ t. map task_of (entries_of t)) o.tasks;
   identity = o.identity;
   wce = o.wce;
+  dra = o.dra;
   d_sense = o.d_sense;
   started = o.started;
   up = sym o.tied.mark ∙ o.up;
   active = ap (λ (d : DriveState). d.active) o.stays;
+  attentions = o.attentions;
   glitches = ap (λ (d : DriveState). d.glitches) o.stays;
+  valid = o.tied.valid;
 }
 
 pub served : (limit : ℕ) (old mid new : DriveState) (calls opened calls' : ℕ) (l l' : Layer) (a c w w' w'' : Option (List ℕ)) (u : Summary) → IsOpened old l mid → opened ≤ calls + 1 → Wrote w w' out_magic → Ended limit (view l mid) (tally_of mid opened) a c w' w'' (tally_of new calls') (view l' new) u → IsServed limit old a c w w'' calls calls' new u

@@ -65,6 +65,7 @@ can_submit old new room free before out frame r left left' gave is none lent out
 
 -- ---- the layer, whose pages were lent to a frame
 
+-- the tie does not see pages
 pub tied_lent : (l l' : Layer) (d : DriveState) → record l' { free = 0; out = 0 } ≡ record l { free = 0; out = 0 } → Tied l d → Tied l' d
 tied_lent l l' d same t = record {
   mark = ap (λ (x : Layer). x.down) same ∙ t.mark;
@@ -75,11 +76,13 @@ tied_lent l l' d same t = record {
   valid = subst IsValid (sym (ap (λ (x : Layer). view x d) same)) t.valid;
 }
 
+-- a frame without pages leaves the layer at rest
 pub rest_lent : (l l' : Layer) (d : DriveState) (pages : ℕ) → record l' { free = 0; out = 0 } ≡ record l { free = 0; out = 0 } → pages ≡ 0 → l'.out ≡ l.out + pages → AtRest l d → AtRest l' d
 rest_lent l l' d pages same none out r = record { tied = tied_lent l l' d same r.tied; all_in = omega (arith, none, out, r.all_in) }
 
 -- ---- each frame takes the reader further towards its limit
 
+-- what is left to the limit gets less
 pub nearer : {old new : Reading} {room : ℕ} {frame : Frame} {left left' : Option (List ℕ)} → Gave old room frame new left left' → new.limit - place_offset new.place < old.limit - place_offset old.place
 nearer {old} {new} gave =
     subst (λ (r : Reading). r.limit - place_offset r.place < old.limit - place_offset old.place) (sym gave.new_is)

@@ -1,5 +1,5 @@
 -- What serving an input does: a run of the device over its frames, whose answers are written (profile).
-use Rattle.std.specs.Prelude.{◌≤◌, ◌⊎◌, ◌+◌, ◌^◌, ◌≡◌, ℕ, Bool, true, false, List, [], ◌∷◌, ◌++◌, length, map, Option, Ok}
+use Rattle.std.specs.Prelude.{◌≤◌, ◌⊎◌, ◌+◌, ◌^◌, ◌≡◌, ℕ, Bool, true, false, List, [], ◌∷◌, ◌++◌, length, map, Option, Ok, not, replicate}
 use Rattle.std.specs.List.{AllByRecursion}
 use Rattle.satl_base.specs.declared.reply.Reply.{Reply}
 use Rattle.satl_base.specs.Lists.{how_many}
@@ -24,6 +24,7 @@ use Rattle.satl_text.specs.declared.summary.Summary.{Summary}
 use Rattle.satl_line.specs.Tasks.{entries_of}
 use Rattle.satl_drive.specs.State.{DriveState}
 use Rattle.satl_direct.specs.Device.{Device}
+use Rattle.satl_direct.specs.Valid.{IsValid}
 use Rattle.satl_direct.specs.Tasks.{task_of}
 use Rattle.satl_direct.specs.Run.{Drains, Run, RunCut, TurnsOf}
 use Rattle.satl_core.specs.Layer.{Layer}
@@ -156,18 +157,21 @@ pub record Ended (limit : ℕ) (first : Device) (before : Tally) (left left' wri
   pub calls : now.calls ≤ before.calls + requests_in events
   pub totals : summary ≡ summary_of (requests_in events) answers
 
--- the device that a drive is when the layer has just been opened on it: its sectors, some of which it may have written back by
--- itself; no task; the modes by its settings; started and up
+-- the device that a drive is when the layer has just been opened on it: a valid one with its sectors, some of which it may have
+-- written back by itself; no task and no unit attention; the modes by its settings; started and up (profile)
 pub record IsFirst (d : DriveState) (s : Device) : Type 0 where
   pub cells : Loses d.cells s.cells
   pub tasks : s.tasks ≡ []
   pub identity : identity_of d.identify ≡ Ok s.identity
   pub wce : s.modes.wce ≡ s.identity.cache_on
+  pub dra : s.modes.dra ≡ not s.identity.look_on
   pub d_sense : s.modes.d_sense ≡ false
   pub started : s.started ≡ true
   pub up : s.down ≡ false
   pub active : s.active ≡ d.active
+  pub attentions : s.attentions ≡ replicate 4 []
   pub glitches : s.glitches ≡ d.glitches
+  pub valid : IsValid s
 
 -- a drive is left as the device is
 pub record IsLeftAs (s : Device) (d : DriveState) : Type 0 where

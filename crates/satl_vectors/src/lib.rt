@@ -9,3 +9,5 @@ mod replaying;
 mod streams;
 #[cfg(test)]
 mod tests;
+#[cfg(test)]
+mod totals;

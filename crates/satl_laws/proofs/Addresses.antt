@@ -1,0 +1,170 @@
+-- Which sectors a task writes turns on nothing but the task, the number of sectors and what the drive says of itself.
+use Rattle.std.proofs.Common.{arith, ◌≡◌, refl, sym, ap, ◌∙◌, ℕ, ◌+◌, ◌*◌, Bool, true, false, List, [], ◌∷◌, length, replicate, take}
+use Rattle.std.specs.Prelude.{◌/◌, ◌%◌, ◌^◌, not, ◌==◌, ◌&&◌, ◌||◌, ◌≢◌, nat_lt, if◌then◌else◌, slice_index, slice_set}
+use Rattle.std.specs.List.{list_any}
+use Rattle.std.proofs.lemmas.List.{get_or-set_other}
+use Rattle.std.proofs.lemmas.List.Folds.{list_any-append}
+use Rattle.satl_base.specs.declared.block.Block.{Block}
+use Rattle.satl_base.specs.declared.block.Range.{Range}
+use Rattle.satl_base.specs.Blocks.{zero_block}
+use Rattle.satl_base.specs.Cells.{Pair, pairs_from}
+use Rattle.satl_base.specs.Identify.{has_trim, trim_blocks, word, word_bit, word_bits}
+use Rattle.satl_cdb.specs.declared.command.Command.{Command}
+use Rattle.satl_cdb.specs.declared.command.Command.TheVariants as commands
+use Rattle.satl_identify.specs.Data.{identity_data, integrity_byte, with_settings, settings_byte}
+use Rattle.satl_regs.specs.declared.values.AtaCommand.{AtaCommand}
+use Rattle.satl_regs.specs.declared.values.AtaCommand.TheVariants as ata
+use Rattle.satl_regs.specs.Commands.{command_in}
+use Rattle.satl_regs.specs.Effects.{Medium, is_no_trim, is_outside, pairs_of, payload_ranges, zeros_at}
+use Rattle.satl_regs.specs.Trim.{addresses}
+use Rattle.satl_line.specs.declared.entry.Entry.{Entry}
+use Rattle.satl_line.specs.Ranged.{zeros_over}
+use Rattle.satl_direct.specs.Device.{Device}
+use Rattle.satl_direct.specs.Ending.{medium_of, same_pairs}
+use Rattle.satl_direct.specs.Quiet.{writes, written_by}
+use Rattle.satl_direct.specs.Tasks.{over, pass_of}
+
+-- two devices of as many sectors, whose drives say the same of themselves
+pub record Alike (s u : Device) : Type 0 where
+  pub identity : u.identity ≡ s.identity
+  pub size : length u.cells ≡ length s.cells
+
+pub alike_none : (s : Device) → Alike s s
+alike_none s = record { identity = refl; size = refl }
+
+pub alike_on : (a b c : Device) → Alike a b → Alike b c → Alike a c
+alike_on a b c p q = record { identity = q.identity ∙ p.identity; size = q.size ∙ p.size }
+
+-- ---- what the drive says of trims, whatever its settings
+
+set_other : (d : List ℕ) (i j v : ℕ) → j ≢ i → slice_index (slice_set d i v) j ≡ slice_index d j
+set_other d i j v apart = get_or-set_other d i j v 0 apart
+
+index_kept : (d : List ℕ) (cache look : Bool) (j : ℕ) → j ≢ 170 → j ≢ 511 → slice_index (identity_data d cache look) j ≡ slice_index d j
+index_kept d cache look j p q = sealed (word_bits 255 7 0 (with_settings d cache look) == 0xA5) ∙ set_other d 170 j (settings_byte (slice_index d 170) cache look) p
+  where
+    sealed : (b : Bool) → slice_index (if b then slice_set (with_settings d cache look) 511 (integrity_byte (slice_set (with_settings d cache look) 511 0)) else with_settings d cache look) j ≡ slice_index (with_settings d cache look) j
+    sealed true = set_other (with_settings d cache look) 511 j (integrity_byte (slice_set (with_settings d cache look) 511 0)) q
+    sealed false = refl
+
+abbrev word_from : ℕ → ℕ → ℕ
+word_from low high = low + 256 * high
+
+word_kept : (d : List ℕ) (cache look : Bool) (i j : ℕ) → i ≢ 170 → i ≢ 511 → j ≢ 170 → j ≢ 511
+    → word_from (slice_index (identity_data d cache look) i) (slice_index (identity_data d cache look) j) ≡ word_from (slice_index d i) (slice_index d j)
+word_kept d cache look i j p q r s = ap (λ n. word_from n (slice_index (identity_data d cache look) j)) (index_kept d cache look i p q) ∙ ap (word_from (slice_index d i)) (index_kept d cache look j r s)
+
+abbrev word_bit_of : ℕ → ℕ → Bool
+word_bit_of w place = w / 2 ^ place % 2 == 1
+
+module _ (d : List ℕ) (cache look : Bool) where
+  word_169 : word 169 (identity_data d cache look) ≡ word 169 d
+  word_169 = word_kept d cache look 338 339 (λ h. omega (arith, h)) (λ h. omega (arith, h)) (λ h. omega (arith, h)) (λ h. omega (arith, h))
+
+  word_69 : word 69 (identity_data d cache look) ≡ word 69 d
+  word_69 = word_kept d cache look 138 139 (λ h. omega (arith, h)) (λ h. omega (arith, h)) (λ h. omega (arith, h)) (λ h. omega (arith, h))
+
+  blocks_kept : trim_blocks (identity_data d cache look) ≡ trim_blocks d
+  blocks_kept = word_kept d cache look 210 211 (λ h. omega (arith, h)) (λ h. omega (arith, h)) (λ h. omega (arith, h)) (λ h. omega (arith, h))
+
+  trim_kept : has_trim (identity_data d cache look) ≡ has_trim d
+  trim_kept =
+      ap (λ (w : ℕ). word_bit_of w 0 && word_bit 69 14 (identity_data d cache look) && word_bit 69 5 (identity_data d cache look)) word_169
+      ∙ ap (λ (w : ℕ). word_bit 169 0 d && word_bit_of w 14 && word_bit_of w 5) word_69
+
+-- ---- addresses
+
+module _ (x : ℕ) where
+  abbrev named : List Pair → Bool
+  named pairs = list_any (λ p. p.lba == x) pairs
+
+  from_named : (lba : ℕ) (blocks : List Block) (a b : Bool) → named (pairs_from lba blocks a) ≡ named (pairs_from lba blocks b)
+  from_named lba [] a b = refl
+  from_named lba (v ∷ vs) a b = ap (λ n. (lba == x) || n) (from_named (lba + 1) vs a b)
+
+  over_named : (ranges : List Range) (a b : Bool) → named (zeros_over ranges a) ≡ named (zeros_over ranges b)
+  over_named [] a b = refl
+  over_named (r ∷ rs) a b =
+      list_any-append (λ p. p.lba == x) (pairs_from r.lba (replicate r.count zero_block) a) (zeros_over rs a)
+      ∙ ap (λ n. n || named (zeros_over rs a)) (from_named r.lba (replicate r.count zero_block) a b)
+      ∙ ap (λ n. named (pairs_from r.lba (replicate r.count zero_block) b) || n) (over_named rs a b)
+      ∙ sym (list_any-append (λ p. p.lba == x) (pairs_from r.lba (replicate r.count zero_block) b) (zeros_over rs b))
+
+  same_named : (lba count : ℕ) (blocks : List Block) (a b : Bool) → named (same_pairs lba count blocks a) ≡ named (same_pairs lba count blocks b)
+  same_named lba count [] a b = refl
+  same_named lba count (v ∷ vs) a b = from_named lba (replicate count v) a b
+
+  at_named : (lbas : List ℕ) (a b : Bool) → named (zeros_at a lbas) ≡ named (zeros_at b lbas)
+  at_named [] a b = refl
+  at_named (l ∷ ls) a b = ap (λ n. (l == x) || n) (at_named ls a b)
+
+  outside_same : (m k : Medium) (ranges : List Range) → length k.cells ≡ length m.cells → list_any (is_outside k) ranges ≡ list_any (is_outside m) ranges
+  outside_same m k [] size = refl
+  outside_same m k (r ∷ rs) size = ap (λ n. nat_lt n (r.lba + r.count) || list_any (is_outside k) rs) size ∙ ap (λ n. nat_lt (length m.cells) (r.lba + r.count) || n) (outside_same m k rs size)
+
+  module _ (s u : Device) (a : Alike s u) where
+    trims_alike : has_trim (medium_of u).identify ≡ has_trim (medium_of s).identify
+    trims_alike =
+        trim_kept u.identity.bytes u.modes.wce (not u.modes.dra)
+        ∙ ap (λ i. has_trim i.bytes) a.identity
+        ∙ sym (trim_kept s.identity.bytes s.modes.wce (not s.modes.dra))
+
+    blocks_alike : trim_blocks (medium_of u).identify ≡ trim_blocks (medium_of s).identify
+    blocks_alike =
+        blocks_kept u.identity.bytes u.modes.wce (not u.modes.dra)
+        ∙ ap (λ i. trim_blocks i.bytes) a.identity
+        ∙ sym (blocks_kept s.identity.bytes s.modes.wce (not s.modes.dra))
+
+    no_trim_alike : (blocks : ℕ) (given : List Block) → is_no_trim blocks given (medium_of u) ≡ is_no_trim blocks given (medium_of s)
+    no_trim_alike blocks given =
+        ap (λ b. not b || nat_lt (trim_blocks (medium_of u).identify) blocks || list_any (is_outside (medium_of u)) (payload_ranges blocks given)) trims_alike
+        ∙ ap (λ n. not (has_trim (medium_of s).identify) || nat_lt n blocks || list_any (is_outside (medium_of u)) (payload_ranges blocks given)) blocks_alike
+        ∙ ap (λ b. not (has_trim (medium_of s).identify) || nat_lt (trim_blocks (medium_of s).identify) blocks || b) (outside_same (medium_of s) (medium_of u) (payload_ranges blocks given) a.size)
+
+    ata_named : (c : AtaCommand) (given : List Block) → named (pairs_of c (medium_of u) given) ≡ named (pairs_of c (medium_of s) given)
+    ata_named (ata.Read how lba sectors) given = refl
+    ata_named (ata.Write how lba sectors) given =
+        ap (λ n. named (if nat_lt n (lba + sectors) then [] else pairs_from lba (take sectors given) u.modes.wce)) a.size ∙ either (nat_lt (length s.cells) (lba + sectors))
+      where
+        either : (b : Bool) → named (if b then [] else pairs_from lba (take sectors given) u.modes.wce) ≡ named (if b then [] else pairs_from lba (take sectors given) s.modes.wce)
+        either true = refl
+        either false = from_named lba (take sectors given) u.modes.wce s.modes.wce
+    ata_named (ata.Verify ext lba sectors) given = refl
+    ata_named (ata.Flush ext) given = refl
+    ata_named ata.Identify given = refl
+    ata_named (ata.SetFeatures what) given = refl
+    ata_named ata.Standby given = refl
+    ata_named ata.Idle given = refl
+    ata_named ata.CheckPower given = refl
+    ata_named (ata.ReadLog log page blocks) given = refl
+    ata_named (ata.Trim blocks) given =
+        ap (λ b. named (if b then [] else zeros_at u.modes.wce (addresses (payload_ranges blocks given)))) (no_trim_alike blocks given) ∙ either (is_no_trim blocks given (medium_of s))
+      where
+        either : (b : Bool) → named (if b then [] else zeros_at u.modes.wce (addresses (payload_ranges blocks given))) ≡ named (if b then [] else zeros_at s.modes.wce (addresses (payload_ranges blocks given)))
+        either true = refl
+        either false = at_named (addresses (payload_ranges blocks given)) u.modes.wce s.modes.wce
+    ata_named ata.SmartStatus given = refl
+    ata_named (ata.Other code) given = refl
+
+    command_named : (c : Command) (t : Entry) → named (written_by c u t) ≡ named (written_by c s t)
+    command_named commands.TestUnitReady t = refl
+    command_named (commands.RequestSense descriptor alloc) t = refl
+    command_named (commands.Inquiry page alloc) t = refl
+    command_named (commands.ModeSense ten long_lba no_descriptor control page alloc) t = refl
+    command_named (commands.ModeSelect ten size) t = refl
+    command_named (commands.StartStop start no_flush) t = refl
+    command_named commands.ReadCapacity10 t = refl
+    command_named (commands.ReadCapacity16 alloc) t = refl
+    command_named (commands.ReportLuns select alloc) t = refl
+    command_named (commands.Read form lba count fua) t = refl
+    command_named (commands.Write form lba count fua) t = from_named lba t.body (u.modes.wce && not fua) (s.modes.wce && not fua)
+    command_named (commands.Verify form lba count compare) t = refl
+    command_named (commands.Flush form lba count) t = refl
+    command_named (commands.WriteSame form lba count false) t = same_named lba count t.body u.modes.wce s.modes.wce
+    command_named (commands.WriteSame form lba count true) t = over_named (over lba count ∷ []) u.modes.wce s.modes.wce
+    command_named (commands.Unmap size) t = over_named t.ranges.items u.modes.wce s.modes.wce
+    command_named (commands.Pass cdb) t = ata_named (command_in (pass_of cdb).regs) t.body
+
+    -- a task that spares a sector at one of the two spares it at the other
+    pub writes_alike : (t : Entry) → named (writes u t) ≡ named (writes s t)
+    writes_alike t = command_named t.command t

@@ -1,0 +1,12 @@
+pub mod Addresses
+pub mod Arrivals
+pub mod Cases
+pub mod Coming
+pub mod Counts
+pub mod Durable
+pub mod Ends
+pub mod Kept
+pub mod Outcomes
+pub mod Reaching
+pub mod Runs
+pub mod Sparing

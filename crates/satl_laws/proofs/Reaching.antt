@@ -1,0 +1,235 @@
+-- What the end of a task does to the medium: pairs of the task are put or left out, or every sector is written back.
+use Rattle.std.proofs.Common.{◌≡◌, ⊎_elim, refl, sym, ap, ◌∙◌, subst, ℕ, ◌+◌, Bool, true, false, List, [], map, length}
+use Rattle.std.proofs.lemmas.List.{length-map}
+use Rattle.std.specs.Prelude.{MatchBool, not, ◌==◌, ◌&&◌, nat_lt, if◌then◌else◌}
+use Rattle.std.specs.List.{list_any}
+use Rattle.satl_base.specs.declared.block.Block.{Block}
+use Rattle.satl_base.specs.declared.bench.Which.TheVariants as flaws
+use Rattle.satl_base.specs.declared.reply.Reply.{Reply}
+use Rattle.satl_base.specs.Cells.{Cell, Pair, Part, first_flaw, settle, whole}
+use Rattle.satl_base.proofs.CellsLemmas.{part_whole, part-length}
+use Rattle.satl_cdb.specs.declared.command.Command.{Command}
+use Rattle.satl_cdb.specs.declared.command.Command.TheVariants as commands
+use Rattle.satl_sense.specs.declared.sense.Sense.{Sense}
+use Rattle.satl_regs.specs.declared.values.AtaCommand.{AtaCommand}
+use Rattle.satl_regs.specs.declared.values.AtaCommand.TheVariants as ata
+use Rattle.satl_regs.specs.declared.values.Registers.{Registers}
+use Rattle.satl_regs.specs.declared.values.Taskfile.{Taskfile}
+use Rattle.satl_regs.specs.Commands.{command_in}
+use Rattle.satl_regs.specs.Effects.{Carries, Does, IsSet, Medium, Setting, Transfer, is_error_log, is_no_trim, pairs_of, reading, setting_of, settable, trimming, verifying, writing}
+use Rattle.satl_regs.specs.Effects.Setting.{sets_cache, sets_look}
+use Rattle.satl_line.specs.declared.entry.Entry.{Entry}
+use Rattle.satl_line.specs.Ranged.{RangedTask, written_pairs}
+use Rattle.satl_line.specs.Ending.{EndsAs, Outcome}
+use Rattle.satl_line.specs.Ending.Outcome.{ends_done, ends_flawed, ends_glitched}
+use Rattle.satl_direct.specs.Device.{Device}
+use Rattle.satl_direct.specs.Tasks.{asks, pass_of}
+use Rattle.satl_direct.specs.Ending.{Ends, EndsBy, EndsCompared, EndsInPieces, EndsOnMedium, EndsPassed, EndsVerified, IsChecked, IsDone, after_select, after_start_stop, medium_of, selected, settled, settled_if}
+use Rattle.satl_direct.specs.Quiet.{written_by}
+use Rattle.satl_direct.specs.Laws.{Spares}
+use Rattle.satl_laws.proofs.Cases.{by_bool, by_option}
+use Rattle.satl_laws.proofs.Kept.{KeptAt, part_keeps, settle_keeps}
+
+-- pairs are put in order or left out, or every sector is written back
+pub data Steps (pairs : List Pair) (old : List Cell) : List Cell → Type 0 where
+  parts : {new : List Cell} → Part old pairs new → Steps pairs old new
+  settles : {new : List Cell} → new ≡ map settle old → Steps pairs old new
+
+stays : (old new : List Cell) → new ≡ old → Steps [] old new
+stays old new same = parts same
+
+all_of : (pairs : List Pair) (old new : List Cell) → new ≡ whole old pairs → Steps pairs old new
+all_of pairs old new same = parts (subst (Part old pairs) (sym same) (part_whole old pairs))
+
+pub steps-length : (pairs : List Pair) (old new : List Cell) → Steps pairs old new → length new ≡ length old
+steps-length pairs old new (parts p) = part-length old new pairs p
+steps-length pairs old new (settles s) = ap length s ∙ length-map old settle
+
+pub steps_keep : (x : ℕ) (pairs : List Pair) (old new : List Cell) → Spares x pairs → Steps pairs old new → KeptAt x old new
+steps_keep x pairs old new spares (parts p) = part_keeps x pairs old new spares p
+steps_keep x pairs old new spares (settles s) = subst (KeptAt x old) (sym s) (settle_keeps x old)
+
+-- ---- ATA commands
+
+by_bool_is : {A B C : Type 0} (b : Bool) → (A → C) → (b ≡ false → B → C) → MatchBool b A B → C
+by_bool_is true f g h = f h
+by_bool_is false f g h = g refl h
+
+-- a command puts pairs that spare a sector where all that it may write does
+record Carried (a : AtaCommand) (given : List Block) (old new : Medium) : Type 0 where
+  pairs : List Pair
+  spared : (x : ℕ) → Spares x (pairs_of a old given) → Spares x pairs
+  cells : Steps pairs old.cells new.cells
+
+module _ (r : Registers) (old new : Medium) (given taken : List Block) (ended : Taskfile) where
+  as_before : (a : AtaCommand) → new.cells ≡ old.cells → Carried a given old new
+  as_before a same = record { pairs = []; spared = λ x h. refl; cells = stays old.cells new.cells same }
+
+  transfer : (a : AtaCommand) (t : Transfer) → (nat_lt (length old.cells) (t.lba + t.sectors) ≡ false → pairs_of a old given ≡ t.writes) → Carries r t old given ended taken new → Carried a given old new
+  transfer a t is =
+      by_bool_is (nat_lt (length old.cells) (t.lba + t.sectors)) (λ h. as_before a (ap (λ m. m.cells) h.medium))
+      (λ fits. by_option (first_flaw t.stopped_by old.cells t.lba t.sectors)
+      (⊎_elim
+      (λ h. carried (is fits) (all_of t.writes old.cells new.cells (ap (λ m. m.cells) h.medium)))
+      (λ h. carried (is fits) (parts h.part)))
+      (λ at h. carried (is fits) (parts h.part)))
+    where
+      carried : pairs_of a old given ≡ t.writes → Steps t.writes old.cells new.cells → Carried a given old new
+      carried same steps = record { pairs = t.writes; spared = λ x h. subst (Spares x) same h; cells = steps }
+
+  set_carried : (a : AtaCommand) (setting : Setting) → IsSet setting r old given ended taken new → Carried a given old new
+  set_carried a (sets_cache true) h = as_before a (ap (λ m. m.cells) h.medium)
+  set_carried a (sets_cache false) h = record { pairs = []; spared = λ x k. refl; cells = settles (ap (λ m. m.cells) h.medium) }
+  set_carried a (sets_look on) h = as_before a (ap (λ m. m.cells) h.medium)
+
+  carried_out : (a : AtaCommand) → Does a r old given ended taken new → Carried a given old new
+  carried_out (ata.Read how lba sectors) h = transfer (ata.Read how lba sectors) (reading how lba sectors old) (λ fits. refl) h
+  carried_out (ata.Write how lba sectors) h =
+      transfer (ata.Write how lba sectors) (writing how lba sectors given old)
+      (λ fits. ap (λ b. if b then [] else (writing how lba sectors given old).writes) fits) h
+  carried_out (ata.Verify ext lba sectors) h = transfer (ata.Verify ext lba sectors) (verifying ext lba sectors) (λ fits. refl) h
+  carried_out (ata.Flush ext) h = record { pairs = []; spared = λ x k. refl; cells = settles (ap (λ m. m.cells) h.medium) }
+  carried_out ata.Identify h = as_before ata.Identify (ap (λ m. m.cells) h.medium)
+  carried_out (ata.SetFeatures what) h =
+      by_option (settable old.identify (setting_of what)) (λ k. as_before (ata.SetFeatures what) (ap (λ m. m.cells) k.medium)) (λ setting k. set_carried (ata.SetFeatures what) setting k) h
+  carried_out ata.Standby h = as_before ata.Standby (ap (λ m. m.cells) h.medium)
+  carried_out ata.Idle h = as_before ata.Idle (ap (λ m. m.cells) h.medium)
+  carried_out ata.CheckPower h = as_before ata.CheckPower (ap (λ m. m.cells) h.medium)
+  carried_out (ata.ReadLog log page blocks) h =
+      by_bool (is_error_log log page blocks) (λ k. as_before (ata.ReadLog log page blocks) (ap (λ m. m.cells) k.medium)) (λ k. as_before (ata.ReadLog log page blocks) (ap (λ m. m.cells) k.medium)) h
+  carried_out (ata.Trim blocks) h =
+      by_bool_is (is_no_trim blocks given old) (λ k. as_before (ata.Trim blocks) (ap (λ m. m.cells) k.medium))
+      (λ trims k. transfer (ata.Trim blocks) (trimming blocks given old) (λ fits. ap (λ b. if b then [] else (trimming blocks given old).writes) trims) k) h
+  carried_out ata.SmartStatus h = as_before ata.SmartStatus (ap (λ m. m.cells) h.medium)
+  carried_out (ata.Other code) h = as_before (ata.Other code) (ap (λ m. m.cells) h.medium)
+
+-- ---- tasks
+
+-- an ATA PASS-THROUGH without data-out writes nothing, whatever is handed in
+abbrev pub WritesItsOwn : Command → Type 0
+WritesItsOwn commands.TestUnitReady = Unit {0}
+WritesItsOwn (commands.RequestSense descriptor alloc) = Unit {0}
+WritesItsOwn (commands.Inquiry page alloc) = Unit {0}
+WritesItsOwn (commands.ModeSense ten long_lba no_descriptor control page alloc) = Unit {0}
+WritesItsOwn (commands.ModeSelect ten size) = Unit {0}
+WritesItsOwn (commands.StartStop start no_flush) = Unit {0}
+WritesItsOwn commands.ReadCapacity10 = Unit {0}
+WritesItsOwn (commands.ReadCapacity16 alloc) = Unit {0}
+WritesItsOwn (commands.ReportLuns select alloc) = Unit {0}
+WritesItsOwn (commands.Read form lba count fua) = Unit {0}
+WritesItsOwn (commands.Write form lba count fua) = Unit {0}
+WritesItsOwn (commands.Verify form lba count compare) = Unit {0}
+WritesItsOwn (commands.Flush form lba count) = Unit {0}
+WritesItsOwn (commands.WriteSame form lba count unmap) = Unit {0}
+WritesItsOwn (commands.Unmap size) = Unit {0}
+WritesItsOwn (commands.Pass cdb) = (pass_of cdb).out ≡ false → (m : Medium) (given : List Block) → pairs_of (command_in (pass_of cdb).regs) m given ≡ []
+
+-- the pairs put spare a sector where all that the task writes does, and what the drive says of itself stays
+pub record Reaches (c : Command) (s : Device) (t : Entry) (new : Device) : Type 0 where
+  pub pairs : List Pair
+  pub spared : (x : ℕ) → WritesItsOwn c → Spares x (written_by c s t) → Spares x pairs
+  pub cells : Steps pairs s.cells new.cells
+  pub identity : new.identity ≡ s.identity
+
+module _ (s new : Device) (t : Entry) (reply : Reply) where
+  nothing_put : (c : Command) → Steps [] s.cells new.cells → new.identity ≡ s.identity → Reaches c s t new
+  nothing_put c steps same = record { pairs = []; spared = λ x own h. refl; cells = steps; identity = same }
+
+  checked : (c : Command) (sense : Sense) → IsChecked sense s t reply new → Reaches c s t new
+  checked c sense e = nothing_put c (stays s.cells new.cells (ap (λ d. d.cells) e.stays)) (ap (λ d. d.identity) e.stays)
+
+  done : (c : Command) (after : Device) → Steps [] s.cells after.cells → after.identity ≡ s.identity → IsDone after t reply new → Reaches c s t new
+  done c after steps same e = nothing_put c (subst (Steps [] s.cells) (sym (ap (λ d. d.cells) e.stays)) steps) (ap (λ d. d.identity) e.stays ∙ same)
+
+  -- what was written back where a flag is set
+  flushed : (b : Bool) → Steps [] s.cells (settled_if b s).cells
+  flushed true = settles refl
+  flushed false = stays s.cells s.cells refl
+
+  flushed_identity : (b : Bool) → (settled_if b s).identity ≡ s.identity
+  flushed_identity true = refl
+  flushed_identity false = refl
+
+  select_done : (c : Command) → IsDone (after_select s t) t reply new → Reaches c s t new
+  select_done c = done c (after_select s t) (flushed (s.modes.wce && not (selected s t).wce)) (flushed_identity (s.modes.wce && not (selected s t).wce))
+
+  start_stop_done : (c : Command) (start no_flush : Bool) → IsDone (after_start_stop start no_flush s) t reply new → Reaches c s t new
+  start_stop_done c true no_flush = done c (after_start_stop true no_flush s) (stays s.cells s.cells refl) refl
+  start_stop_done c false no_flush = done c (after_start_stop false no_flush s) (flushed (not no_flush)) (flushed_identity (not no_flush))
+
+  ranged_steps : (ranged : RangedTask) (o : Outcome) → EndsAs s.modes.wce ranged o s.cells s.glitches new.cells new.glitches → Steps (written_pairs s.modes.wce ranged) s.cells new.cells
+  ranged_steps ranged (ends_done blocks) e = all_of (written_pairs s.modes.wce ranged) s.cells new.cells e.written
+  ranged_steps ranged (ends_flawed lba) e = parts e.written
+  ranged_steps ranged ends_glitched e = parts e.written
+
+  on_medium : (c : Command) (ranged : RangedTask) → written_by c s t ≡ written_pairs s.modes.wce ranged → EndsOnMedium ranged s t reply new → Reaches c s t new
+  on_medium c ranged same e = record {
+    pairs = written_pairs s.modes.wce ranged;
+    spared = λ x own h. subst (Spares x) same h;
+    cells = ranged_steps ranged e.outcome e.ends;
+    identity = ap (λ d. d.identity) e.stays;
+  }
+
+  in_pieces : (c : Command) (lba count : ℕ) → EndsInPieces lba count (written_by c s t) s t reply new → Reaches c s t new
+  in_pieces c lba count =
+      ⊎_elim
+      (λ e. reached (parts (e.1).part) (ap (λ d. d.identity) (e.1).stays))
+      (by_option (first_flaw flaws.Write s.cells lba count)
+      (λ e. reached (all_of (written_by c s t) s.cells new.cells (ap (λ d. d.cells) e.stays)) (ap (λ d. d.identity) e.stays))
+      (λ at e. reached (parts e.part) (ap (λ d. d.identity) e.stays)))
+    where
+      reached : Steps (written_by c s t) s.cells new.cells → new.identity ≡ s.identity → Reaches c s t new
+      reached steps same = record { pairs = written_by c s t; spared = λ x own h. h; cells = steps; identity = same }
+
+  same_done : (c : Command) (active : Bool) → IsDone (record s { active = active }) t reply new → Reaches c s t new
+  same_done c active = done c (record s { active = active }) (stays s.cells s.cells refl) refl
+
+  verified : (c : Command) (lba count : ℕ) → EndsVerified lba count s t reply new → Reaches c s t new
+  verified c lba count = by_option (first_flaw flaws.Read s.cells lba count) (same_done c true) (λ at e. checked c _ e)
+
+  compared : (c : Command) (lba count : ℕ) → EndsCompared lba count s t reply new → Reaches c s t new
+  compared c lba count =
+      by_option (first_flaw flaws.Read s.cells lba count)
+      (⊎_elim (λ e. nothing_put c (parts e.part) (ap (λ d. d.identity) e.stays)) (⊎_elim (λ e. same_done c true e.1) (λ e. checked c _ e.1)))
+      (λ at e. checked c _ e)
+
+  passed : (cdb : List ℕ) → EndsPassed (pass_of cdb) s t reply new → Reaches (commands.Pass cdb) s t new
+  passed cdb e = record {
+    pairs = effect.pairs;
+    spared = λ x own h. effect.spared x (handed_in x own h (pass_of cdb).out refl);
+    cells = subst (Steps effect.pairs s.cells) (sym (ap (λ d. d.cells) e.stays)) effect.cells;
+    identity = ap (λ d. d.identity) e.stays;
+  }
+    where
+      effect : Carried (command_in (pass_of cdb).regs) e.given (medium_of s) e.after
+      effect = carried_out (pass_of cdb).regs (medium_of s) e.after e.given e.taken e.ended (command_in (pass_of cdb).regs) e.does
+
+      handed_in : (x : ℕ) → WritesItsOwn (commands.Pass cdb) → Spares x (pairs_of (command_in (pass_of cdb).regs) (medium_of s) t.body) → (b : Bool) → (pass_of cdb).out ≡ b
+          → Spares x (pairs_of (command_in (pass_of cdb).regs) (medium_of s) e.given)
+      handed_in x own h true out = subst (λ g. Spares x (pairs_of (command_in (pass_of cdb).regs) (medium_of s) g)) (sym (e.data_out out)) h
+      handed_in x own h false out = ap (list_any (λ p. p.lba == x)) (own out (medium_of s) e.given)
+
+  by_command : (c : Command) → EndsBy c s t reply new → Reaches c s t new
+  by_command commands.TestUnitReady e = absurd e
+  by_command (commands.RequestSense descriptor alloc) e = absurd e
+  by_command (commands.Inquiry page alloc) e = absurd e
+  by_command (commands.ModeSense ten long_lba no_descriptor control page alloc) e = absurd e
+  by_command (commands.ModeSelect ten size) e = select_done (commands.ModeSelect ten size) e
+  by_command (commands.StartStop start no_flush) e = start_stop_done (commands.StartStop start no_flush) start no_flush e
+  by_command commands.ReadCapacity10 e = absurd e
+  by_command (commands.ReadCapacity16 alloc) e = absurd e
+  by_command (commands.ReportLuns select alloc) e = absurd e
+  by_command (commands.Read form lba count fua) e = on_medium (commands.Read form lba count fua) _ refl e
+  by_command (commands.Write form lba count fua) e = on_medium (commands.Write form lba count fua) _ refl e
+  by_command (commands.Verify form lba count false) e = verified (commands.Verify form lba count false) lba count e
+  by_command (commands.Verify form lba count true) e = compared (commands.Verify form lba count true) lba count e
+  by_command (commands.Flush form lba count) e = done (commands.Flush form lba count) (settled s) (settles refl) refl e
+  by_command (commands.WriteSame form lba count false) e = in_pieces (commands.WriteSame form lba count false) lba count e
+  by_command (commands.WriteSame form lba count true) e = on_medium (commands.WriteSame form lba count true) _ refl e
+  by_command (commands.Unmap size) e = on_medium (commands.Unmap size) _ refl e
+  by_command (commands.Pass cdb) e = passed cdb e
+
+  pub ends_reach : Ends s t reply new → Reaches t.command s t new
+  ends_reach =
+      by_bool s.down (λ e. checked t.command _ e)
+      (by_bool (not s.started && (asks t.command).starts) (λ e. checked t.command _ e) (λ e. by_command t.command e))

@@ -1,0 +1,138 @@
+-- Runs by their last event, and runs in which no task writes a sector.
+use Rattle.std.proofs.Common.{◌≡◌, refl, sym, ap, ◌∙◌, subst, ℕ, false, List, [], ◌∷◌, ◌++◌, append_assoc}
+use Rattle.std.proofs.lemmas.List.{append-nil}
+use Rattle.std.specs.List.{AllByRecursion}
+use Rattle.satl_base.specs.declared.request.Request.{Request}
+use Rattle.satl_frame.specs.declared.frames.Frame.{Frame}
+use Rattle.satl_frame.specs.declared.frames.Frame.TheVariants as frames
+use Rattle.satl_frame.specs.Output.{Answer}
+use Rattle.satl_line.specs.declared.entry.Entry.{Entry}
+use Rattle.satl_direct.specs.Device.{Device}
+use Rattle.satl_direct.specs.Arrival.{Arrival, arrival}
+use Rattle.satl_direct.specs.Arrival.Arrival.{answered, attended, overlaps, waits}
+use Rattle.satl_direct.specs.Quiet.{Quiet}
+use Rattle.satl_direct.specs.Run.{Does, RunDeep, joined}
+use Rattle.satl_direct.specs.Run.RunDeep.{start, step}
+use Rattle.satl_direct.specs.Laws.{SparedBy, SparedByNew, SparedIn, SparedThrough, WithoutPower, is_power}
+use Rattle.satl_laws.proofs.Arrivals.{IsFor, arrival_for, arrival_quiet}
+use Rattle.satl_laws.proofs.Reaching.{WritesItsOwn}
+use Rattle.satl_laws.proofs.Sparing.{Keeps, NoneComes, NoneComesBy, NoneWrites, SparesAt, does_keep, keeps_none, keeps_on, quiet_alike, spares_alike}
+
+-- ---- the last event
+
+last_same : {X : Type 0} (xs ys : List X) (x y : X) → xs ++ x ∷ [] ≡ ys ++ y ∷ [] → (xs ≡ ys) × (x ≡ y)
+last_same [] [] x y h = (refl, cc)
+last_same [] (b ∷ []) x y h = absurd cc
+last_same [] (b ∷ c ∷ ys) x y h = absurd cc
+last_same (a ∷ []) [] x y h = absurd cc
+last_same (a ∷ c ∷ xs) [] x y h = absurd cc
+last_same (a ∷ xs) (b ∷ ys) x y h =
+    let front : a ≡ b = cc in
+    let rest : xs ++ x ∷ [] ≡ ys ++ y ∷ [] = cc in
+    let r = last_same xs ys x y rest in
+    ((ap (λ l. l ∷ xs) front ∙ ap (λ l. b ∷ l) r.0), r.1)
+
+joined-push : (groups : List (List Answer)) (group : List Answer) → joined (groups ++ group ∷ []) ≡ joined groups ++ group
+joined-push [] group = append-nil group
+joined-push (g ∷ groups) group = ap (λ l. g ++ l) (joined-push groups group) ∙ sym (append_assoc g (joined groups) group)
+
+-- a run up to its last event, and that event
+pub record Split (first last : Device) (before : List Frame) (event : Frame) (groups : List (List Answer)) : Type 0 where
+  pub mid : Device
+  pub earlier : List (List Answer)
+  pub losses : ℕ
+  pub deep : ℕ
+  pub run : RunDeep first before earlier losses mid deep
+  pub now : List Answer
+  pub depth : ℕ
+  pub does : Does event mid now last depth
+  pub answers : joined groups ≡ joined earlier ++ now
+
+pub split : {first last : Device} {all : List Frame} {groups : List (List Answer)} {losses deep : ℕ} → RunDeep first all groups losses last deep
+    → (before : List Frame) (event : Frame) → all ≡ before ++ event ∷ [] → Split first last before event groups
+split start [] event h = absurd cc
+split start (b ∷ before) event h = absurd cc
+split {first = first} {last = last} (step {events = events} {groups = groups} {losses = losses} {deep = deep} {s = s} other now d so_far does) before event h =
+    let r = last_same events before other event h in
+    record {
+      mid = s;
+      earlier = groups;
+      losses = losses;
+      deep = deep;
+      run = subst (λ e. RunDeep first e groups losses s deep) r.0 so_far;
+      now = now;
+      depth = d;
+      does = subst (λ e. Does e s now last d) r.1 does;
+      answers = joined-push groups now;
+    }
+
+-- no event
+record Rests (first last : Device) (groups : List (List Answer)) : Type 0 where
+  pub same : last ≡ first
+  pub silent : joined groups ≡ []
+
+rests : {first last : Device} {all : List Frame} {groups : List (List Answer)} {losses deep : ℕ} → RunDeep first all groups losses last deep → all ≡ [] → Rests first last groups
+rests start h = record { same = refl; silent = refl }
+rests (step {events = []} event now d so_far does) h = absurd cc
+rests (step {events = e ∷ events} event now d so_far does) h = absurd cc
+
+-- a run of one event
+pub record Once (first last : Device) (event : Frame) (groups : List (List Answer)) : Type 0 where
+  pub now : List Answer
+  pub depth : ℕ
+  pub does : Does event first now last depth
+  pub answers : joined groups ≡ now
+
+pub once : {first last : Device} {groups : List (List Answer)} {losses deep : ℕ} (event : Frame) → RunDeep first (event ∷ []) groups losses last deep → Once first last event groups
+once {first = first} {last = last} event run =
+    let s = split run [] event refl in
+    let r = rests s.run refl in
+    record { now = s.now; depth = s.depth; does = subst (λ d. Does event d s.now last s.depth) r.same s.does; answers = s.answers ∙ ap (λ l. l ++ s.now) r.silent }
+
+-- ---- no task writes a sector
+
+calm_before : (events : List Frame) (event : Frame) → WithoutPower (events ++ event ∷ []) → WithoutPower events
+calm_before [] event h = tt
+calm_before (e ∷ events) event h = (h.0, calm_before events event h.1)
+
+calm_last : (events : List Frame) (event : Frame) → WithoutPower (events ++ event ∷ []) → is_power event ≡ false
+calm_last [] event h = h.0
+calm_last (e ∷ events) event h = calm_last events event h.1
+
+module _ (x : ℕ) where
+  -- a task that comes writes its own alone, and spares the sector
+  none_comes : (a : Arrival) (r : Request) (s : Device) → IsFor r a → SparedByNew x s a → NoneComes x s a
+  none_comes (answered reply) r s to h = tt
+  none_comes (attended reply) r s to h = tt
+  none_comes (overlaps reply) r s to h = tt
+  none_comes (waits task) r s to h = record { spares = h; own = to.own }
+
+  later_comes : (a : Arrival) (s u : Device) → Quiet s u → NoneComes x s a → NoneComes x u a
+  later_comes (answered reply) s u q h = tt
+  later_comes (attended reply) s u q h = tt
+  later_comes (overlaps reply) s u q h = tt
+  later_comes (waits task) s u q h = spares_alike x s u (quiet_alike x s u q) task h
+
+  none_comes_by : (event : Frame) (s : Device) → SparedIn x event s → (before : Device) → Quiet s before → NoneComesBy x event before
+  none_comes_by (frames.Request r) s h before q =
+      let same : arrival before r ≡ arrival s r = ap (λ d. arrival d r) q.stays ∙ arrival_quiet s r before.cells before.active in
+      subst (NoneComes x before) (sym same) (later_comes (arrival s r) s before q (none_comes (arrival s r) r s (arrival_for s r) h))
+  none_comes_by (frames.Manage m) s h before q = tt
+  none_comes_by (frames.Turn count) s h before q = tt
+  none_comes_by (frames.Bench event) s h before q = tt
+  none_comes_by frames.End s h before q = tt
+
+  -- tasks that spare a sector, each of which writes its own alone
+  pub none_writes : (s : Device) → SparedBy x s s.tasks → AllByRecursion (λ t. WritesItsOwn t.command) s.tasks → NoneWrites x s
+  none_writes s spared own = record { each = both s.tasks spared own }
+    where
+      both : (tasks : List Entry) → SparedBy x s tasks → AllByRecursion (λ t. WritesItsOwn t.command) tasks → AllByRecursion (SparesAt x s) tasks
+      both [] p q = tt
+      both (t ∷ ts) p q = (record { spares = p.0; own = q.0 }, both ts p.1 q.1)
+
+  pub run_keeps : {first last : Device} {all : List Frame} {groups : List (List Answer)} {losses deep : ℕ} (run : RunDeep first all groups losses last deep)
+      → WithoutPower all → SparedThrough x run → AllByRecursion (λ t. WritesItsOwn t.command) first.tasks → Keeps x first last
+  run_keeps {first = first} start calm spared own = keeps_none x first (none_writes first spared own)
+  run_keeps {first = first} {last = last} (step {events = events} {s = s} event now d so_far does) calm spared own =
+      keeps_on x first s last (run_keeps so_far (calm_before events event calm) spared.0 own)
+      (does_keep x event s last now d (calm_last events event calm) (none_comes_by event s spared.1) does)

@@ -1,0 +1,44 @@
+-- Devices of two sectors that a run begins with.
+use Rattle.std.specs.Prelude.{◌≡◌, ◌==◌, ◌&&◌, true, false, List, [], ◌∷◌}
+use Rattle.satl_base.specs.declared.block.Block.{Block}
+use Rattle.satl_base.specs.declared.request.Request.{Request}
+use Rattle.satl_base.specs.Cells.{Cell}
+use Rattle.satl_cdb.specs.declared.command.Command.TheVariants as commands
+use Rattle.satl_cdb.specs.declared.command.Form.TheVariants as forms
+use Rattle.satl_frame.specs.declared.frames.Frame.{Frame}
+use Rattle.satl_frame.specs.declared.frames.Frame.TheVariants as frames
+use Rattle.satl_line.specs.declared.entry.Entry.{Entry}
+use Rattle.satl_direct.specs.Device.{Device}
+use Rattle.satl_direct.specs.Tasks.{task_for}
+
+-- a device like another, but up and started, with its write cache on, of two sectors and with these tasks (profile)
+abbrev pub at_work : Cell → Cell → List Entry → Device → Device
+at_work sector_0 sector_1 tasks s = record s { cells = sector_0 ∷ sector_1 ∷ []; tasks = tasks; modes = record s.modes { wce = true }; started = true; down = false }
+
+-- a sector whose new block is in the cache alone: a loss of power may leave the old one or the new one (SBC-3 4.15)
+abbrev pub cached : Block → Block → Cell
+cached old new = record { now = new; may = old ∷ new ∷ []; read_flaw = false; write_flaw = false }
+
+-- the task of a request for READ(10) of sector 0 (SBC-3, READ (10))
+abbrev pub reads_sector_0 : Request → Entry
+reads_sector_0 r = task_for false r (commands.Read forms.Ten 0 1 false)
+
+-- the task of a request for WRITE(10) of sector 0 (SBC-3, WRITE (10))
+abbrev pub writes_sector_0 : Request → Entry
+writes_sector_0 r = task_for false r (commands.Write forms.Ten 0 1 false)
+
+-- the task of a request for SYNCHRONIZE CACHE(10) of all sectors (SBC-3, SYNCHRONIZE CACHE (10))
+abbrev pub flushes : Request → Entry
+flushes r = task_for false r (commands.Flush forms.Ten 0 0)
+
+-- two requests of different nexus or tag (SAM-5 4.7, I_T_L_Q nexus)
+abbrev pub AreApart : Request → Request → Type 0
+AreApart a b = ((a.nexus == b.nexus) && ((a.tag).0 == (b.tag).0)) ≡ false
+
+-- TURN, or END, which takes turns until no task is left (profile)
+abbrev pub AreTurns : Frame → Type 0
+AreTurns (frames.Request r) = ⊥
+AreTurns (frames.Manage m) = ⊥
+AreTurns (frames.Turn count) = Unit {0}
+AreTurns (frames.Bench event) = ⊥
+AreTurns frames.End = Unit {0}

@@ -1,0 +1,5 @@
+//! What holds of all runs of the device, and outcomes that no run has.
+#![tactic(auto)]
+
+pub mod laws;
+pub mod never;

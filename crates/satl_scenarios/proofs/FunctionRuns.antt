@@ -1,0 +1,51 @@
+-- Task management functions.
+use Rattle.std.proofs.Common.{refl, false, [], ◌∷◌}
+use Rattle.satl_base.specs.declared.reply.Response.TheVariants.{Complete, IncorrectLun, Rejected, Succeeded}
+use Rattle.satl_cdb.specs.declared.command.Command.TheVariants.{Read}
+use Rattle.satl_cdb.specs.declared.command.Form.TheVariants.{Ten}
+use Rattle.satl_cdb.specs.Table.{says}
+use Rattle.satl_sense.specs.Fixed.{fixed_form}
+use Rattle.satl_unit.specs.Conditions.{posted}
+use Rattle.satl_unit.specs.Functions.{function_of}
+use Rattle.satl_unit.specs.declared.attention.Attention.TheVariants.{Cleared, UnitReset}
+use Rattle.satl_direct.specs.Device.{Device}
+use Rattle.satl_direct.specs.Run.TurnsOf.{none}
+use Rattle.satl_scenarios.specs.Scenario.{CanHappen}
+use Rattle.satl_scenarios.specs.Functions.{cleared, queried, reset}
+use Rattle.satl_scenarios.specs.Words.{task, blank}
+use Rattle.satl_scenarios.proofs.Building.{it_can_happen, arrives, drained, manages, still}
+use Rattle.satl_scenarios.proofs.Building.Follows.{next, ends_here}
+
+-- the device with a read that waits
+abbrev waiting : Device
+waiting = record (blank 2) { tasks = task 1 (Read Ten 0 1 false) [] ∷ [] }
+
+pub functions_queried : CanHappen queried
+unfolding says function_of
+functions_queried =
+    it_can_happen queried
+    (next (arrives [] waiting (refl, refl))
+    (next (manages _ Succeeded _ waiting waiting (still waiting) (record { response_is = refl; stays = refl }))
+    (next (manages _ Complete _ waiting waiting (still waiting) (record { response_is = refl; stays = refl }))
+    (next (manages _ Rejected _ waiting waiting (still waiting) (record { response_is = refl; stays = refl }))
+    (next (manages _ IncorrectLun _ waiting waiting (still waiting) (record { response_is = refl; stays = refl }))
+    ends_here)))))
+
+pub set_cleared : CanHappen cleared
+unfolding says fixed_form function_of posted
+set_cleared =
+    it_can_happen cleared
+    (next (arrives [] waiting (refl, refl))
+    (next (manages _ Complete _ waiting (record (blank 2) { attentions = (Cleared ∷ []) ∷ [] ∷ [] ∷ [] ∷ [] }) (still waiting) (record { response_is = refl; stays = refl }))
+    (next (arrives _ (blank 2) (refl, refl))
+    (next (drained none refl)
+    ends_here))))
+
+pub unit_reset : CanHappen reset
+unfolding says fixed_form function_of posted
+unit_reset =
+    it_can_happen reset
+    (next (arrives [] waiting (refl, refl))
+    (next (manages _ Complete _ waiting (record (blank 2) { attentions = (UnitReset ∷ []) ∷ (UnitReset ∷ []) ∷ (UnitReset ∷ []) ∷ (UnitReset ∷ []) ∷ [] }) (still waiting) (record { response_is = refl; stays = refl }))
+    (next (arrives _ reset.last (refl, refl))
+    ends_here)))

@@ -1,0 +1,11 @@
+pub mod Building
+pub mod CommandRuns
+pub mod Endings
+pub mod FlawRuns
+pub mod FunctionRuns
+pub mod LinkRuns
+pub mod PassRuns
+pub mod PowerRuns
+pub mod RefusedRuns
+pub mod TransferRuns
+pub mod Validity

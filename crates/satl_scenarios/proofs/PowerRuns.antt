@@ -1,0 +1,107 @@
+-- Power cycles, and what is on the medium after them.
+use Rattle.std.proofs.Common.{inl, inr, refl, false, [], ◌∷◌}
+use Rattle.satl_base.specs.declared.block.Block.{Block}
+use Rattle.satl_base.specs.Cells.{Cell}
+use Rattle.satl_base.specs.Lists.{IsIn}
+use Rattle.satl_cdb.specs.declared.command.Command.TheVariants.{Read, Write}
+use Rattle.satl_cdb.specs.declared.command.Form.TheVariants.{Ten}
+use Rattle.satl_cdb.specs.Table.{says}
+use Rattle.satl_sense.specs.Fixed.{fixed_form}
+use Rattle.satl_regs.specs.Sectors.{IsLeftBehind}
+use Rattle.satl_mode.specs.Changes.{change_from}
+use Rattle.satl_unit.specs.Conditions.{posted}
+use Rattle.satl_line.specs.Conflict.{accesses_conflict}
+use Rattle.satl_line.specs.declared.entry.Entry.{Entry}
+use Rattle.satl_line.specs.Ranged.RangedTask.{ranged_read, ranged_write}
+use Rattle.satl_direct.specs.Device.{Device}
+use Rattle.satl_direct.specs.Ending.{after_select, settled}
+use Rattle.satl_direct.specs.Tasks.{over}
+use Rattle.satl_direct.specs.Run.TurnsOf.{none}
+use Rattle.satl_scenarios.specs.Scenario.{CanHappen}
+use Rattle.satl_scenarios.specs.Power.{caching_list, flush, flushed, flushed_then_written, select, told_once, turned_off, turned_off_then_power}
+use Rattle.satl_scenarios.specs.Words.{aa, bb, task, blank, device, cached_over, holds, powered, zeros}
+use Rattle.satl_scenarios.proofs.Building.{it_can_happen, arrives, happens, one_turn, turn_more, turns}
+use Rattle.satl_scenarios.proofs.Building.Follows.{next, ends_here}
+use Rattle.satl_scenarios.proofs.Endings.{ended, done, carried_out}
+
+-- a sector that has one of its blocks after a loss of power
+left_with : (old : Cell) (block : Block) → IsIn block old.may → IsLeftBehind old (record old { now = block; may = block ∷ [] })
+left_with old block one = record { one = one; alone = refl; read_flaw = refl; write_flaw = refl }
+
+-- ---- a flush
+
+abbrev flush_task : Entry
+flush_task = task 1 flush []
+
+-- the device once all is written back
+abbrev kept : Device
+kept = device (holds aa ∷ holds zeros ∷ [])
+
+pub flush_keeps : CanHappen flushed
+flush_keeps =
+    it_can_happen flushed
+    (next (one_turn kept (ended flush_task (inl refl) (carried_out (settled flushed.first) flush_task)))
+    (next (happens [] (powered kept.cells) (record { none = refl; cells = (left_with (holds aa) aa (inl refl), (left_with (holds zeros) zeros (inl refl), tt)); stays = refl }))
+    ends_here))
+
+-- ---- a flush and a write
+
+abbrev later_write : Entry
+later_write = task 2 (Write Ten 0 1 false) (bb ∷ [])
+
+abbrev rewritten : Device
+rewritten = device (cached_over aa bb ∷ holds zeros ∷ [])
+
+pub write_after_flush : (left : Block) → IsIn left (aa ∷ bb ∷ []) → CanHappen (flushed_then_written left)
+unfolding says accesses_conflict
+write_after_flush left one =
+    it_can_happen (flushed_then_written left)
+    (next (arrives [] (record flushed.first { tasks = flush_task ∷ later_write ∷ [] }) (refl, refl))
+    (next (turns
+    (turn_more rewritten
+    (turn_more (record kept { tasks = later_write ∷ [] }) none
+    (ended flush_task (inl refl) (carried_out (settled (record flushed.first { tasks = flush_task ∷ later_write ∷ [] })) flush_task)))
+    (ended later_write (inl refl) (done (ranged_write false (over 0 1) (bb ∷ [])) _ later_write refl))))
+    (next (happens [] (powered (holds left ∷ holds zeros ∷ [])) (record { none = refl; cells = (left_with (cached_over aa bb) left one, (left_with (holds zeros) zeros (inl refl), tt)); stays = refl }))
+    ends_here)))
+
+pub later_write_kept : CanHappen (flushed_then_written bb)
+later_write_kept = write_after_flush bb (inr (inl refl))
+
+pub later_write_lost : CanHappen (flushed_then_written aa)
+later_write_lost = write_after_flush aa (inl refl)
+
+-- ---- the cache is turned off
+
+abbrev select_task : Entry
+select_task = task 1 select (caching_list ∷ [])
+
+pub cache_off : CanHappen turned_off
+unfolding change_from caching_list posted
+cache_off =
+    it_can_happen turned_off
+    (next (one_turn turned_off.last (ended select_task (inl refl) (carried_out (after_select turned_off.first select_task) select_task)))
+    ends_here)
+
+pub cache_back : CanHappen turned_off_then_power
+unfolding change_from caching_list posted
+cache_back =
+    it_can_happen turned_off_then_power
+    (next (one_turn turned_off.last (ended select_task (inl refl) (carried_out (after_select turned_off.first select_task) select_task)))
+    (next (happens [] (powered kept.cells) (record { none = refl; cells = (left_with (holds aa) aa (inl refl), (left_with (holds zeros) zeros (inl refl), tt)); stays = refl }))
+    ends_here))
+
+-- ---- a unit attention
+
+abbrev read_task : Entry
+read_task = task 2 (Read Ten 0 1 false) []
+
+pub attention_once : CanHappen told_once
+unfolding says fixed_form
+attention_once =
+    it_can_happen told_once
+    (next (happens [] (powered (blank 2).cells) (record { none = refl; cells = (left_with (holds zeros) zeros (inl refl), (left_with (holds zeros) zeros (inl refl), tt)); stays = refl }))
+    (next (arrives _ told_once.last (refl, refl))
+    (next (arrives [] (record told_once.last { tasks = read_task ∷ [] }) (refl, refl))
+    (next (one_turn told_once.last (ended read_task (inl refl) (done (ranged_read false (over 0 1)) _ read_task refl)))
+    ends_here))))

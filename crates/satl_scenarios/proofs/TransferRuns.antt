@@ -1,0 +1,219 @@
+-- Reads and writes that are done, aborted or not let in.
+use Rattle.std.proofs.Common.{inl, inr, refl, arith, true, false, [], ◌∷◌}
+use Rattle.satl_base.specs.declared.reply.Response.TheVariants.{Complete}
+use Rattle.satl_base.specs.Moves.{stay, write}
+use Rattle.satl_cdb.specs.declared.command.Command.TheVariants.{Read, Write}
+use Rattle.satl_cdb.specs.declared.command.Form.TheVariants.{Ten}
+use Rattle.satl_cdb.specs.Table.{says}
+use Rattle.satl_sense.specs.Fixed.{fixed_form}
+use Rattle.satl_unit.specs.Functions.{function_of}
+use Rattle.satl_line.specs.Conflict.{accesses_conflict}
+use Rattle.satl_line.specs.declared.entry.Entry.{Entry}
+use Rattle.satl_frame.specs.declared.frames.Frame.TheVariants.{Turn}
+use Rattle.satl_line.specs.Ranged.RangedTask.{ranged_read, ranged_write}
+use Rattle.satl_direct.specs.Device.{Device}
+use Rattle.satl_direct.specs.Tasks.{over}
+use Rattle.satl_direct.specs.Quiet.{Quiet}
+use Rattle.satl_direct.specs.Run.TurnsOf.{none}
+use Rattle.satl_scenarios.specs.Scenario.{CanBeCut, CanHappen, Scenario, events_of}
+use Rattle.satl_scenarios.specs.Transfers.{waking_read, ordered_read, written_then_read, aborted_half_done, overlapped_reads, reads_in_order, reads_in_reverse, written_past_the_cache, garbled_write, one_too_many, full, cut_off}
+use Rattle.satl_scenarios.specs.Words.{aa, bb, read, silent, task, blank, device, cached_over, holds, zeros}
+use Rattle.satl_scenarios.proofs.Building.{it_can_happen, arrives, drained, manages, one_turn, turn_more}
+use Rattle.satl_scenarios.proofs.Building.Follows.{next, ends_here}
+use Rattle.satl_scenarios.proofs.Endings.{ended, done, glitched}
+
+-- ---- a block is written and read
+
+abbrev write_task : Entry
+write_task = task 1 (Write Ten 0 1 false) (aa ∷ [])
+
+abbrev read_task : Entry
+read_task = task 2 (Read Ten 0 1 false) []
+
+-- the device once the block is written
+abbrev written : Device
+written = device (cached_over zeros aa ∷ holds zeros ∷ holds zeros ∷ [])
+
+pub read_after_write : CanHappen written_then_read
+unfolding says
+read_after_write =
+    it_can_happen written_then_read
+    (next (arrives [] (record (blank 3) { tasks = write_task ∷ [] }) (refl, refl))
+    (next (one_turn written (ended write_task (inl refl) (done (ranged_write false (over 0 1) (aa ∷ [])) _ write_task refl)))
+    (next (arrives [] (record written { tasks = read_task ∷ [] }) (refl, refl))
+    (next (one_turn written (ended read_task (inl refl) (done (ranged_read false (over 0 1)) _ read_task refl)))
+    ends_here))))
+
+-- ---- two reads
+
+abbrev low_read : Entry
+low_read = task 1 (Read Ten 0 1 false) []
+
+abbrev high_read : Entry
+high_read = task 2 (Read Ten 1 1 false) []
+
+-- the device while both wait
+abbrev both_wait : Device
+both_wait = record (blank 2) { tasks = low_read ∷ high_read ∷ [] }
+
+pub in_order : CanHappen reads_in_order
+unfolding says accesses_conflict
+in_order =
+    it_can_happen reads_in_order
+    (next (arrives [] (record (blank 2) { tasks = low_read ∷ [] }) (refl, refl))
+    (next (arrives [] both_wait (refl, refl))
+    (next (drained
+    (turn_more (blank 2)
+    (turn_more (record (blank 2) { tasks = high_read ∷ [] }) none
+    (ended low_read (inl refl) (done (ranged_read false (over 0 1)) _ low_read refl)))
+    (ended high_read (inl refl) (done (ranged_read false (over 1 1)) _ high_read refl)))
+    refl)
+    ends_here)))
+
+-- two reads do not conflict, so the second may end first
+pub in_reverse : CanHappen reads_in_reverse
+unfolding says accesses_conflict
+in_reverse =
+    it_can_happen reads_in_reverse
+    (next (arrives [] (record (blank 2) { tasks = low_read ∷ [] }) (refl, refl))
+    (next (arrives [] both_wait (refl, refl))
+    (next (drained
+    (turn_more (blank 2)
+    (turn_more (record (blank 2) { tasks = low_read ∷ [] }) none
+    (ended high_read (inr (refl, inl refl)) (done (ranged_read false (over 1 1)) _ high_read refl)))
+    (ended low_read (inl refl) (done (ranged_read false (over 0 1)) _ low_read refl)))
+    refl)
+    ends_here)))
+
+-- the ORDERED read conflicts with the one before it, so it ends second
+abbrev last_read : Entry
+last_read = record high_read { ordered = true }
+
+pub ordered_waits : CanHappen ordered_read
+unfolding says accesses_conflict
+ordered_waits =
+    it_can_happen ordered_read
+    (next (arrives [] (record (blank 2) { tasks = low_read ∷ [] }) (refl, refl))
+    (next (arrives [] (record (blank 2) { tasks = low_read ∷ last_read ∷ [] }) (refl, refl))
+    (next (drained
+    (turn_more (blank 2)
+    (turn_more (record (blank 2) { tasks = last_read ∷ [] }) none
+    (ended low_read (inl refl) (done (ranged_read false (over 0 1)) _ low_read refl)))
+    (ended last_read (inl refl) (done (ranged_read false (over 1 1)) _ last_read refl)))
+    refl)
+    ends_here)))
+
+pub read_wakes : CanHappen waking_read
+unfolding says
+read_wakes =
+    it_can_happen waking_read
+    (next (arrives [] (record waking_read.first { tasks = low_read ∷ [] }) (refl, refl))
+    (next (one_turn (blank 2) (ended low_read (inl refl) (done (ranged_read false (over 0 1)) _ low_read refl)))
+    ends_here))
+
+-- ---- a write is aborted
+
+abbrev long_write : Entry
+long_write = task 1 (Write Ten 0 2 false) (aa ∷ bb ∷ [])
+
+abbrev half_done : Device
+half_done = device (cached_over zeros aa ∷ holds zeros ∷ [])
+
+-- the first block shows before the write ends
+first_shows : Quiet (record (blank 2) { tasks = long_write ∷ [] }) (record half_done { tasks = long_write ∷ [] })
+first_shows = record {
+  cells =
+      write (record { lba = 0; block = aa; cached = true })
+      (record { task = long_write; under_way = record { up = refl; eligible = inl refl }; started = refl; among = inl refl })
+      stay;
+  active = inl refl;
+  stays = refl;
+}
+
+pub abort_in_the_middle : CanHappen aborted_half_done
+unfolding says function_of
+abort_in_the_middle =
+    it_can_happen aborted_half_done
+    (next (arrives [] (record (blank 2) { tasks = long_write ∷ [] }) (refl, refl))
+    (next (manages _ Complete _ (record half_done { tasks = long_write ∷ [] }) half_done first_shows (record { response_is = refl; stays = refl }))
+    (next (drained none refl)
+    ends_here)))
+
+-- ---- a read has the tag of another
+
+pub overlap : CanHappen overlapped_reads
+unfolding says fixed_form
+overlap =
+    it_can_happen overlapped_reads
+    (next (arrives [] (record (blank 2) { tasks = task 1 (Read Ten 0 1 false) [] ∷ [] }) (refl, refl))
+    (next (arrives _ (blank 2) (refl, refl))
+    (next (drained none refl)
+    ends_here)))
+
+-- ---- past the cache
+
+abbrev forced_write : Entry
+forced_write = task 1 (Write Ten 0 1 true) (aa ∷ [])
+
+pub write_past_the_cache : CanHappen written_past_the_cache
+unfolding says
+write_past_the_cache =
+    it_can_happen written_past_the_cache
+    (next (arrives [] (record (blank 2) { tasks = forced_write ∷ [] }) (refl, refl))
+    (next (one_turn written_past_the_cache.last (ended forced_write (inl refl) (done (ranged_write true (over 0 1) (aa ∷ [])) _ forced_write refl)))
+    ends_here))
+
+-- ---- a write is garbled: its first block is left out, and the second is put
+
+pub write_garbled : CanHappen garbled_write
+unfolding says fixed_form
+write_garbled =
+    it_can_happen garbled_write
+    (next (arrives [] (record garbled_write.first { tasks = long_write ∷ [] }) (refl, refl))
+    (next (one_turn garbled_write.last
+    (ended long_write (inl refl) (glitched (ranged_write false (over 0 2) (aa ∷ bb ∷ [])) garbled_write.last.cells 0 _ long_write refl (inl (inr refl)) refl)))
+    ends_here))
+
+-- ---- a full task set
+
+pub set_full : CanHappen one_too_many
+unfolding says accesses_conflict
+set_full = it_can_happen one_too_many (next (arrives _ full (refl, refl)) ends_here)
+
+-- ---- a run is cut off
+
+-- the two reads arrive
+abbrev arrived : Scenario
+arrived = record {
+  first = blank 2;
+  steps = silent (read 1 0 1) ∷ silent (read 2 1 1) ∷ [];
+  losses = 0;
+  depth = 2;
+  last = both_wait;
+}
+
+both_arrive : CanHappen arrived
+unfolding says accesses_conflict
+both_arrive =
+    it_can_happen arrived
+    (next (arrives [] (record (blank 2) { tasks = low_read ∷ [] }) (refl, refl))
+    (next (arrives [] arrived.last (refl, refl))
+    ends_here))
+
+pub run_cut : CanBeCut cut_off
+run_cut = record {
+  before = events_of arrived;
+  event = Turn 3;
+  events_are = refl;
+  earlier = [];
+  lost = 0;
+  mid = arrived.last;
+  run = both_arrive.run;
+  count = 1;
+  asked = omega arith;
+  replies = _;
+  deep = _;
+  turns = turn_more cut_off.last none (ended low_read (inl refl) (done (ranged_read false (over 0 1)) arrived.last low_read refl));
+  answer = refl;
+  losses_are = refl;
+}

@@ -1,0 +1,64 @@
+-- The devices that the scenarios start from.
+use Rattle.std.proofs.Common.{◌≡◌, ◌<◌, inl, refl, ap, arith, ℕ, zero, suc, [], ◌∷◌}
+use Rattle.std.specs.Prelude.{replicate, slice_index}
+use Rattle.satl_base.specs.declared.block.Block.{Block}
+use Rattle.satl_identify.specs.Refusals.{IsIdentity, identity_of}
+use Rattle.std.proofs.lemmas.List.{length-replicate}
+use Rattle.std.proofs.lemmas.Bool.{le-ltb, ne_eqb}
+use Rattle.satl_base.specs.Identify.{capacity}
+use Rattle.satl_base.specs.Cells.{AreSound}
+use Rattle.satl_direct.specs.Valid.{IsValid}
+use Rattle.satl_cdb.specs.Table.{says}
+use Rattle.satl_scenarios.specs.Transfers.{two_waiting}
+use Rattle.satl_scenarios.specs.Words.{aa, blank, cdb_10, request, filled, identify_data, identity, holds, zeros}
+
+all_sound : (count : ℕ) → AreSound (replicate count (holds zeros))
+all_sound zero = tt
+all_sound (suc count) = (inl refl, all_sound count)
+
+pub blank_valid : (count : ℕ) → IsValid (blank count)
+blank_valid count = record {
+  cells = refl;
+  sound = all_sound count;
+  few = omega arith;
+  blocks = omega arith;
+  own = tt;
+  come = tt;
+  modes = record { cache = λ off. absurd cc; look = λ off. absurd cc };
+  nexuses = refl;
+  attentions = (tt, (tt, (tt, (tt, tt))));
+}
+
+-- each has come by the request of its tag
+pub waiting_valid : IsValid two_waiting
+unfolding says
+waiting_valid = record {
+  cells = refl;
+  sound = all_sound 3;
+  few = omega arith;
+  blocks = omega arith;
+  own = (refl, (refl, tt));
+  come = (
+    record { request = request 1 (cdb_10 0x2A 0 1) (aa ∷ []); at = blank 3; same = refl; became = refl },
+    (record { request = request 2 (cdb_10 0x28 1 1) []; at = blank 3; same = refl; became = refl }, tt),
+  );
+  modes = record { cache = λ off. absurd cc; look = λ off. absurd cc };
+  nexuses = refl;
+  attentions = (tt, (tt, (tt, (tt, tt))));
+}
+
+-- what stands in words 100 to 103 is the number of sectors
+capacity_told : (count : ℕ) → capacity (identify_data count) ≡ count
+unfolding identify_data
+capacity_told count = omega arith
+
+identity_real : (count : ℕ) → 0 < count → count < 256 → IsIdentity (identity count)
+unfolding identity_of identify_data
+identity_real count some few = rw (capacity_told count, ne_eqb count 0 (λ none. omega arith), le-ltb 281474976710655 count (omega arith)) refl
+
+pub blank_real : (count : ℕ) → 0 < count → count < 256 → IsIdentity (blank count).identity
+blank_real count some few = rw (length-replicate count (holds zeros)) (identity_real count some few)
+
+pub filled_differ : (a b : ℕ) → filled a ≡ filled b → a ≡ b
+unfolding filled
+filled_differ a b same = ap (λ (x : Block). slice_index x.bytes 0) same

@@ -1,0 +1,10 @@
+pub mod Commands
+pub mod Flaws
+pub mod Functions
+pub mod Links
+pub mod Passes
+pub mod Power
+pub mod Refused
+pub mod Scenario
+pub mod Transfers
+pub mod Words

@@ -1,0 +1,79 @@
+-- The link to the drive is lost.
+use Rattle.std.specs.Prelude.{true, [], ◌∷◌}
+use Rattle.satl_base.specs.declared.bench.BenchEvent.TheVariants.{Unplug}
+use Rattle.satl_base.specs.declared.reply.Response.TheVariants.{Complete}
+use Rattle.satl_frame.specs.declared.frames.Frame.TheVariants.{Bench, End, Manage, Turn}
+use Rattle.satl_frame.specs.Output.Answer.{ended}
+use Rattle.satl_scenarios.specs.Scenario.{Scenario}
+use Rattle.satl_scenarios.specs.Words.{aa, answered, blank, cached_over, check, device, good, holds, manage, read, response, sense, silent, write, zeros}
+
+-- the link is lost in a turn: all that waits is answered in order, with LOGICAL UNIT COMMUNICATION FAILURE (SPC-4 4.5.6)
+abbrev pub lost_in_turn : Scenario
+lost_in_turn = record {
+  first = blank 3;
+  steps =
+      silent (write 1 0 (aa ∷ []))
+      ∷ silent (read 2 1 1)
+      ∷ answered (Turn 1) (check 1 (sense 0x4 0x08 0x00) ∷ check 2 (sense 0x4 0x08 0x00) ∷ [])
+      ∷ [];
+  losses = 1;
+  depth = 2;
+  last = record (blank 3) { down = true };
+}
+
+-- the link is unplugged, and again: a command between the two waits, and is answered at the second (profile)
+abbrev pub unplugged_again : Scenario
+unplugged_again = record {
+  first = blank 2;
+  steps =
+      silent (Bench Unplug)
+      ∷ silent (read 1 0 1)
+      ∷ answered (Bench Unplug) (check 1 (sense 0x4 0x08 0x00) ∷ [])
+      ∷ [];
+  losses = 2;
+  depth = 0;
+  last = record (blank 2) { down = true };
+}
+
+-- a task ends in a turn, and then the link is lost (SPC-4 4.5.6)
+abbrev pub done_and_lost : Scenario
+done_and_lost = record {
+  first = blank 3;
+  steps =
+      silent (write 1 0 (aa ∷ []))
+      ∷ silent (read 2 1 1)
+      ∷ answered (Turn 1) (good 2 (zeros ∷ []) ∷ check 1 (sense 0x4 0x08 0x00) ∷ [])
+      ∷ [];
+  losses = 1;
+  depth = 2;
+  last = record (device (cached_over zeros aa ∷ holds zeros ∷ holds zeros ∷ [])) { down = true };
+}
+
+-- the link is lost as a command arrives: it is answered too; a later command is answered at its turn (profile)
+abbrev pub lost_on_arrival : Scenario
+lost_on_arrival = record {
+  first = blank 2;
+  steps =
+      silent (read 1 0 1)
+      ∷ answered (read 2 1 1) (check 1 (sense 0x4 0x08 0x00) ∷ check 2 (sense 0x4 0x08 0x00) ∷ [])
+      ∷ silent (read 3 0 1)
+      ∷ answered End (check 3 (sense 0x4 0x08 0x00) ∷ ended ∷ [])
+      ∷ [];
+  losses = 1;
+  depth = 1;
+  last = record (blank 2) { down = true };
+}
+
+-- the link is lost when a task is aborted: the other is answered, and then comes the response (SAM-5 7.2; profile)
+abbrev pub lost_at_an_abort : Scenario
+lost_at_an_abort = record {
+  first = blank 2;
+  steps =
+      silent (read 1 0 1)
+      ∷ silent (read 2 1 1)
+      ∷ answered (Manage (manage 0 0x01 1)) (check 2 (sense 0x4 0x08 0x00) ∷ response 0 0x01 1 Complete ∷ [])
+      ∷ [];
+  losses = 1;
+  depth = 2;
+  last = record (blank 2) { down = true };
+}

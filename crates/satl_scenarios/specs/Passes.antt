@@ -1,0 +1,40 @@
+-- ATA commands that a host sends through the layer (SAT-3 12.2).
+use Rattle.std.specs.Prelude.{ℕ, false, List, [], ◌∷◌}
+use Rattle.satl_cdb.specs.declared.command.Command.TheVariants.{Pass}
+use Rattle.satl_scenarios.specs.Commands.{ends_with, written}
+use Rattle.satl_scenarios.specs.Scenario.{Scenario}
+use Rattle.satl_scenarios.specs.Words.{aa, bb, cached_over, check, device, good, holds, identify_data, unreadable, zeros}
+
+-- an ATA PASS-THROUGH (16): bytes 1 and 2 with PROTOCOL, EXTEND and the flags, and the low bytes of FEATURES, COUNT, LBA, DEVICE and
+-- COMMAND (SAT-3 12.2.2.3)
+abbrev pub through : ℕ → ℕ → ℕ → ℕ → ℕ → ℕ → ℕ → List ℕ
+through protocol flags features count lba unit command =
+    0x85 ∷ protocol ∷ flags ∷ 0 ∷ features ∷ 0 ∷ count ∷ 0 ∷ lba ∷ 0 ∷ 0 ∷ 0 ∷ 0 ∷ unit ∷ command ∷ 0 ∷ []
+
+-- IDENTIFY DEVICE, by PIO: its data (ACS-3, IDENTIFY DEVICE)
+abbrev pub identified : Scenario
+identified = ends_with (Pass (through 0x08 0x0E 0 1 0 0 0xEC)) [] written (good 1 (record { bytes = identify_data 2 } ∷ [])) (device written)
+
+-- CHECK POWER MODE with CK_COND: ATA PASS THROUGH INFORMATION AVAILABLE, with STATUS 40h and COUNT FFh, active (SAT-3 12.2.2.6)
+abbrev pub power_checked : Scenario
+power_checked =
+    ends_with (Pass (through 0x06 0x20 0 0 0 0 0xE5)) [] written
+    (check 1 (0xF0 ∷ 0 ∷ 0x1 ∷ 0 ∷ 0x40 ∷ 0 ∷ 0xFF ∷ 0x0A ∷ 0 ∷ 0 ∷ 0 ∷ 0 ∷ 0x00 ∷ 0x1D ∷ 0 ∷ 0 ∷ 0 ∷ 0 ∷ []))
+    (device written)
+
+-- SET FEATURES turns the write cache off: all is written back, and WCE is 0 (ACS-3, SET FEATURES; SAT-3)
+abbrev pub cache_disabled : Scenario
+cache_disabled =
+    ends_with (Pass (through 0x06 0x00 0x82 0 0 0 0xEF)) [] written (good 1 [])
+    (record (device (holds aa ∷ holds zeros ∷ [])) { modes = record { wce = false; dra = false; d_sense = false } })
+
+-- WRITE DMA EXT of a block at address 1 (ACS-3, WRITE DMA EXT)
+abbrev pub written_through : Scenario
+written_through = ends_with (Pass (through 0x0D 0x06 0 1 1 0x40 0x35)) (bb ∷ []) written (good 1 []) (device (cached_over zeros aa ∷ cached_over zeros bb ∷ []))
+
+-- READ DMA EXT of a sector with a flaw: UNRECOVERED READ ERROR, with ERROR 40h, STATUS 41h, DEVICE 40h, EXTEND and LBA 1 (SAT-3 11, 12.2.2.6)
+abbrev pub unreadable_through : Scenario
+unreadable_through =
+    ends_with (Pass (through 0x0D 0x0E 0 1 1 0x40 0x25)) [] (holds zeros ∷ unreadable zeros ∷ [])
+    (check 1 (0xF0 ∷ 0 ∷ 0x3 ∷ 0x40 ∷ 0x41 ∷ 0x40 ∷ 0 ∷ 0x0A ∷ 0x80 ∷ 1 ∷ 0 ∷ 0 ∷ 0x11 ∷ 0x00 ∷ 0 ∷ 0 ∷ 0 ∷ 0 ∷ []))
+    (device (holds zeros ∷ unreadable zeros ∷ []))

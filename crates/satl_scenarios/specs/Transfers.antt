@@ -1,0 +1,160 @@
+-- Reads and writes that are done, aborted or not let in.
+use Rattle.std.specs.Prelude.{false, List, [], ◌∷◌, ◌++◌, drop, map}
+use Rattle.satl_base.specs.declared.request.Attr.TheVariants.{Ordered}
+use Rattle.satl_base.specs.declared.reply.Scsi.TheVariants.{TaskSetFull}
+use Rattle.satl_base.specs.Places.{places}
+use Rattle.satl_cdb.specs.declared.command.Command.TheVariants as commands
+use Rattle.satl_cdb.specs.declared.command.Form.TheVariants.{Ten}
+use Rattle.satl_direct.specs.Device.{Device}
+use Rattle.satl_base.specs.declared.reply.Response.TheVariants.{Complete}
+use Rattle.satl_frame.specs.declared.frames.Frame.TheVariants.{End, Manage, Request, Turn}
+use Rattle.satl_frame.specs.Output.{Answer}
+use Rattle.satl_frame.specs.Output.Answer.{ended}
+use Rattle.satl_scenarios.specs.Scenario.{Scenario}
+use Rattle.satl_scenarios.specs.Words.{aa, answered, bb, blank, cached_over, cdb_10, check, device, good, holds, manage, read, reply, request, response, sense, silent, task, write, zeros}
+
+-- a block is written through the cache and read: power may still bring the old one back (SBC-3 4.15, 5.10, 5.31)
+abbrev pub written_then_read : Scenario
+written_then_read = record {
+  first = blank 3;
+  steps =
+      silent (write 1 0 (aa ∷ []))
+      ∷ answered (Turn 1) (good 1 [] ∷ [])
+      ∷ silent (read 2 0 1)
+      ∷ answered (Turn 1) (good 2 (aa ∷ []) ∷ [])
+      ∷ [];
+  losses = 0;
+  depth = 1;
+  last = device (cached_over zeros aa ∷ holds zeros ∷ holds zeros ∷ []);
+}
+
+-- two reads wait, and END answers them so
+abbrev pub two_reads : List Answer → Scenario
+two_reads answers = record {
+  first = blank 2;
+  steps =
+      silent (read 1 0 1)
+      ∷ silent (read 2 1 1)
+      ∷ answered End (answers ++ ended ∷ [])
+      ∷ [];
+  losses = 0;
+  depth = 2;
+  last = blank 2;
+}
+
+-- in the order of arrival, and the other way round (SAM-5 8, command order)
+abbrev pub reads_in_order : Scenario
+reads_in_order = two_reads (good 1 (zeros ∷ []) ∷ good 2 (zeros ∷ []) ∷ [])
+
+abbrev pub reads_in_reverse : Scenario
+reads_in_reverse = two_reads (good 2 (zeros ∷ []) ∷ good 1 (zeros ∷ []) ∷ [])
+
+-- the second is ORDERED: it waits for the first, and the drive has one of them at a time (SAM-5 8.6)
+abbrev pub ordered_read : Scenario
+ordered_read = record {
+  first = blank 2;
+  steps =
+      silent (read 1 0 1)
+      ∷ silent (Request (record (request 2 (cdb_10 0x28 1 1) []) { attr = Ordered }))
+      ∷ answered End (good 1 (zeros ∷ []) ∷ good 2 (zeros ∷ []) ∷ ended ∷ [])
+      ∷ [];
+  losses = 0;
+  depth = 1;
+  last = blank 2;
+}
+
+-- a read of a drive in standby wakes it (ACS-3, power modes)
+abbrev pub waking_read : Scenario
+waking_read = record {
+  first = record (blank 2) { active = false };
+  steps = silent (read 1 0 1) ∷ answered (Turn 1) (good 1 (zeros ∷ []) ∷ []) ∷ [];
+  losses = 0;
+  depth = 1;
+  last = blank 2;
+}
+
+-- a write of two blocks is aborted when the first of them is on the medium: it is not answered (SAM-5 7.2)
+abbrev pub aborted_half_done : Scenario
+aborted_half_done = record {
+  first = blank 2;
+  steps =
+      silent (write 1 0 (aa ∷ bb ∷ []))
+      ∷ answered (Manage (manage 0 0x01 1)) (response 0 0x01 1 Complete ∷ [])
+      ∷ answered End (ended ∷ [])
+      ∷ [];
+  losses = 0;
+  depth = 1;
+  last = device (cached_over zeros aa ∷ holds zeros ∷ []);
+}
+
+-- a read with the tag of one that waits: both go, and one answer says so (SAM-5 5.1, overlapped commands)
+abbrev pub overlapped_reads : Scenario
+overlapped_reads = record {
+  first = blank 2;
+  steps =
+      silent (read 1 0 1)
+      ∷ answered (read 1 1 1) (check 1 (sense 0xB 0x4E 0x00) ∷ [])
+      ∷ answered End (ended ∷ [])
+      ∷ [];
+  losses = 0;
+  depth = 1;
+  last = blank 2;
+}
+
+-- a write past the cache: nothing else is left to a loss of power (SBC-3 5.31, FUA)
+abbrev pub written_past_the_cache : Scenario
+written_past_the_cache = record {
+  first = blank 2;
+  steps =
+      silent (Request (request 1 (0x2A ∷ 0x08 ∷ drop 2 (cdb_10 0x2A 0 1)) (aa ∷ [])))
+      ∷ answered (Turn 1) (good 1 [] ∷ [])
+      ∷ [];
+  losses = 0;
+  depth = 1;
+  last = device (holds aa ∷ holds zeros ∷ []);
+}
+
+-- a write garbled by a CRC error: its second block alone is written (SPC-4 4.5.6; profile)
+abbrev pub garbled_write : Scenario
+garbled_write = record {
+  first = record (blank 2) { glitches = 1 };
+  steps =
+      silent (write 1 0 (aa ∷ bb ∷ []))
+      ∷ answered (Turn 1) (check 1 (sense 0xB 0x47 0x03) ∷ [])
+      ∷ [];
+  losses = 0;
+  depth = 1;
+  last = device (holds zeros ∷ cached_over zeros bb ∷ []);
+}
+
+-- as many reads as a task set holds, with the tags 1 to 64 (SAM-5 4.8; the figure: profile)
+abbrev pub full : Device
+full = record (blank 2) { tasks = map (λ tag. task tag (commands.Read Ten 0 1 false) []) (places 1 64 (λ tag. tag)) }
+
+-- one more is not taken: TASK SET FULL; and the drive holds 32 of them (SAM-5 5.3.1; the figure: profile)
+abbrev pub one_too_many : Scenario
+one_too_many = record {
+  first = full;
+  steps = answered (read 65 0 1) (reply 65 TaskSetFull [] [] ∷ []) ∷ [];
+  losses = 0;
+  depth = 32;
+  last = full;
+}
+
+-- two commands that wait
+abbrev pub two_waiting : Device
+two_waiting = record (blank 3) { tasks = task 1 (commands.Write Ten 0 1 false) (aa ∷ []) ∷ task 2 (commands.Read Ten 1 1 false) [] ∷ [] }
+
+-- two reads, and of three turns one is taken: the second read waits
+abbrev pub cut_off : Scenario
+cut_off = record {
+  first = blank 2;
+  steps =
+      silent (read 1 0 1)
+      ∷ silent (read 2 1 1)
+      ∷ answered (Turn 3) (good 1 (zeros ∷ []) ∷ [])
+      ∷ [];
+  losses = 0;
+  depth = 2;
+  last = record (blank 2) { tasks = task 2 (commands.Read Ten 1 1 false) [] ∷ [] };
+}

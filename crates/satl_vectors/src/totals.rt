@@ -1,0 +1,64 @@
+// The totals of an input that is served.
+ghost use Rattle.std.specs.Prelude.{◌≡◌, ◌<◌, []};
+ghost use Rattle.satl_drive.specs.State.{IsFit};
+
+use crate::frames::{END, TURN, input, read, request, write};
+use satl_base::Steps;
+use satl_disk::ModelDrive;
+use satl_drive::Bench;
+use satl_io::{MemorySink, MemorySource, Sink, Source};
+use satl_serve::{Form, ServeFault, serve};
+use satl_text::Summary;
+use std::alloc::Global;
+use std::marker::Brand;
+use std::sync::ledger::{Blank, Ledger};
+use std::test::Fail;
+
+fn served<S: Source, K: Sink, D: Bench, L: Ledger>(
+    alloc: Global,
+    source: &mut S,
+    sink: &mut K,
+    drive: &mut D,
+    blank: Blank,
+) -> Result<Summary, ServeFault>
+    requires idle { (D.state drive.old).outstanding ≡ [] }
+    requires fit { IsFit (D.state drive.old) }
+    requires name { blank.name ≡ L.name }
+    requires parts { blank.parts ≡ L.parts }
+    requires some { 0 < blank.parts }
+{
+    let mut steps = Steps::<L>::new(blank);
+    serve(alloc, Form::Frames, source, sink, drive, &mut steps)
+}
+
+/// A write and a read of a block, and a read beyond the capacity.
+#[test]
+fn totals(rt: HostRuntime) -> Result<(), Fail> {
+    let alloc = rt.alloc();
+    let mut frames = input(alloc)?;
+    request(&mut frames, write(1, 0, 1), &[0xA5; 512])?;
+    frames.extend_from_slice(&TURN)?;
+    request(&mut frames, read(2, 0, 1), &[])?;
+    request(&mut frames, read(3, 8191, 2), &[])?;
+    frames.extend_from_slice(&END)?;
+    let mut source = MemorySource::new(frames, 4096, Vec::new(alloc));
+    let mut sink = MemorySink::new(alloc, 65536, 4096, Vec::new(alloc))?;
+    let mut drive = ModelDrive::new(alloc, 8192)?;
+    let totals = served::<_, _, _, Brand>(
+        alloc,
+        &mut source,
+        &mut sink,
+        &mut drive,
+        Blank::new(1),
+    )?;
+    let expected = Summary {
+        requests: 3,
+        good: 2,
+        check: 1,
+        full: 0,
+        bytes: 512,
+        sum: 84_480,
+    };
+    assert_eq!(rt; totals, expected);
+    Ok(())
+}
