@@ -12,7 +12,7 @@ use Rattle.satl_direct.specs.Senses.{sense_in}
 use Rattle.satl_core.specs.declared.telling.Data.{Data}
 use Rattle.satl_core.specs.declared.telling.Data.TheVariants as datas
 
--- the data before they are cut to an allocation length, of which those of a MODE SENSE do not depend (SPC-4 6, SBC-3 5)
+-- the data before they are cut to an allocation length, on which those of a MODE SENSE do not depend (SPC-4 6, SBC-3 5)
 abbrev pub data_text : Identity → Modes → Data → List ℕ
 data_text i m (datas.Inquiry None) = standard_data i true
 data_text i m (datas.Inquiry (Some page)) = unwrap_or (vpd_page page i) []

@@ -63,6 +63,14 @@ pub fn request(input: &mut Vec<u8>, transfer: Transfer, data: &[u8]) -> Result<(
     input.extend_from_slice(data)
 }
 
+/// Appends a REQUEST without data-out, SIMPLE and to logical unit 0 from nexus 0, by its bytes.
+pub fn command(input: &mut Vec<u8>, tag: u8, cdb: [u8; 16]) -> Result<(), AllocError> {
+    input.extend_from_slice(&[0x01, 0, 0, 0, 30])?;
+    input.extend_from_slice(&[0; 13])?;
+    input.push(tag)?;
+    input.extend_from_slice(&cdb)
+}
+
 /// Appends a REPLY with GOOD and this data-in.
 pub fn good(output: &mut Vec<u8>, tag: u8, data: &[u8]) -> Result<(), AllocError>
     requires { length data.now ≤ 2097152 }
