@@ -1,5 +1,5 @@
 // The totals of an input that is served.
-ghost use Rattle.std.specs.Prelude.{◌≡◌, ◌<◌, []};
+ghost use Rattle.std.specs.Prelude.{◌≡◌, ◌<◌, [], None};
 ghost use Rattle.satl_drive.specs.State.{IsFit};
 
 use crate::frames::{END, TURN, input, read, request, write};
@@ -22,6 +22,7 @@ fn served<S: Source, K: Sink, D: Bench, L: Ledger>(
     blank: Blank,
 ) -> Result<Summary, ServeFault>
     requires idle { (D.state drive.old).outstanding ≡ [] }
+    requires no_error { (D.state drive.old).error ≡ None }
     requires fit { IsFit (D.state drive.old) }
     requires name { blank.name ≡ L.name }
     requires parts { blank.parts ≡ L.parts }
