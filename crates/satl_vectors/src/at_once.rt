@@ -1,7 +1,7 @@
 // Commands that are answered at once.
 ghost use Rattle.std.specs.Prelude.{◌≤◌, length};
 
-use crate::frames::{check, command, good, input, output};
+use crate::frames::{check, command, good, input, output, read, request};
 use crate::replaying::expect_replies;
 use std::alloc::Global;
 use std::process::Abort;
@@ -162,4 +162,20 @@ fn refused_at_once(rt: HostRuntime) -> Result<(), Fail> {
         0x24,
         [0xC0, 0, 1],
     )
+}
+
+/// A read, and then an INQUIRY with its tag: the one answer is that they overlap.
+#[test]
+fn overlapped_tag(rt: HostRuntime) -> Result<(), Fail> {
+    let alloc = rt.alloc();
+    let mut frames = input(alloc)?;
+    request(&mut frames, read(1, 0, 1), &[])?;
+    command(
+        &mut frames,
+        1,
+        [0x12, 0, 0, 0, 0x24, 0, 0, 0, 0, 0, 0, 0, 0, 0, 0, 0],
+    )?;
+    let mut replies = output(alloc)?;
+    check(&mut replies, 1, 0xB, 0x4E, [0; 3])?;
+    expect_replies(&rt, alloc, &frames, &replies)
 }
