@@ -29,12 +29,12 @@ pub record Layer : Type 0 where
   pub free : ℕ
   pub out : ℕ
 
--- the pages that tasks hold
+-- the pages that tasks hold (profile)
 abbrev pub held_pages : List Held → ℕ
 held_pages [] = 0
 held_pages (h ∷ hs) = length h.entry.body + held_pages hs
 
--- the commands that are served so far: those that the device answers from what it says of itself, and a READ or a WRITE
+-- the commands that are served so far: those that the device answers from what it says of itself, and a READ or a WRITE (profile)
 abbrev pub IsServed : Command → Type 0
 IsServed TestUnitReady = Unit {0}
 IsServed (RequestSense descriptor alloc) = Unit {0}
@@ -47,24 +47,24 @@ IsServed (Read form lba count fua) = Unit {0}
 IsServed (Write form lba count fua) = Unit {0}
 IsServed _ = ⊥
 
--- a READ or a WRITE of 1 to 4,096 blocks within the capacity and the 48 bits of an address
+-- a READ or a WRITE of 1 to 4,096 blocks within the capacity and the 48 bits of an address (profile)
 abbrev pub IsTransfer : ℕ → Command → ℕ → Type 0
 IsTransfer capacity (Read form lba count fua) blocks = (blocks ≡ count) × (lba < 2 ^ 48) × (1 ≤ count) × (count ≤ 4096) × (lba + count ≤ capacity)
 IsTransfer capacity (Write form lba count fua) blocks = (blocks ≡ count) × (lba < 2 ^ 48) × (1 ≤ count) × (count ≤ 4096) × (lba + count ≤ capacity)
 IsTransfer capacity _ blocks = ⊥
 
--- a number of bytes that a host may take: at most 2,097,152
+-- a number of bytes that a host may take: at most 2,097,152 (profile)
 abbrev pub IsExpectable : Option ℕ → Type 0
 IsExpectable expected = IfSome expected (λ count. count ≤ 2097152)
 
--- a task holds as many pages as blocks, goes over its range of the drive, and is of the kind of its command
+-- a task holds as many pages as blocks, goes over its range of the drive, and is of the kind of its command (profile)
 pub record IsKept (identity : Identity) (h : Held) : Type 0 where
   pub pages : length h.entry.body ≡ h.entry.blocks
   pub transfer : IsTransfer identity.capacity h.entry.command h.entry.blocks
   pub kind : h.entry.kind ≡ kind_of h.entry.command identity.queued_trim
   pub expected : IsExpectable h.entry.expected
 
--- the direct device that the layer and its drive are
+-- the direct device that the layer and its drive are (profile)
 abbrev pub view : Layer → DriveState → Device
 view l d = record {
   cells = d.cells;
@@ -89,13 +89,13 @@ pub record Tied (l : Layer) (d : DriveState) : Type 0 where
   pub cache : l.down ≡ false → d.cache ≡ l.modes.wce
   pub valid : IsValid (view l d)
 
--- the pages in replies
+-- the pages in replies (profile)
 abbrev pub reply_pages : List Reply → ℕ
 reply_pages [] = 0
 reply_pages (r ∷ rs) = length r.body + reply_pages rs
 
 -- the parts of the layer fit together: the pool's 32,960 pages are free, in tasks, or out; each task is kept; the identity is one
--- that a drive's data give
+-- that a drive's data give (profile)
 pub record IsSoundLayer (identity : Identity) (tasks : List Held) (pool : Counts) : Type 0 where
   pub held : held_pages tasks ≤ pool.out
   pub all : number_of pool ≡ 32960

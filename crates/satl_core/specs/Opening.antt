@@ -10,7 +10,7 @@ use Rattle.satl_core.specs.declared.satl.OpenFault.{OpenFault}
 use Rattle.satl_core.specs.declared.satl.OpenFault.TheVariants as faults
 use Rattle.satl_core.specs.Layer.{Layer, Tied}
 
--- the drive's data stand in the first page, and sectors were written back at most
+-- the drive's data stand in the first page, and sectors were written back at most (profile)
 pub record IsTold (old : DriveState) (given taken : List Block) (new : DriveState) : Type 0 where
   pub was_up : old.down ≡ false
   pub pages : taken ≡ record { bytes = old.identify } ∷ drop 1 given
@@ -23,7 +23,7 @@ pub record IsAskCutOff (old new : DriveState) : Type 0 where
   pub cut : IsCutOff old [] (record new { cache = old.cache; look = old.look; identify = old.identify })
 
 -- the layer is that of the drive's data: started, without tasks and unit attentions, its modes as the drive's settings are, and no page
--- is out
+-- is out (profile)
 pub record IsOpened (old : DriveState) (l : Layer) (new : DriveState) : Type 0 where
   pub identity : identity_of old.identify ≡ Ok l.identity
   pub tasks : l.tasks ≡ []
@@ -38,7 +38,7 @@ pub record IsOpened (old : DriveState) (l : Layer) (new : DriveState) : Type 0 w
   pub lost : Loses old.cells new.cells
   pub stays : new ≡ record old { cells = new.cells }
 
--- why the layer is not opened: the data are refused, or the link was lost; want of memory is free
+-- why the layer is not opened: the data are refused, or the link was lost; want of memory is free (profile)
 abbrev pub IsCause : DriveState → DriveState → OpenFault → Type 0
 IsCause old new (faults.Identity fault) = identity_of old.identify ≡ Err fault
 IsCause old new faults.LinkDown = Rose old.faults new.faults

@@ -27,18 +27,18 @@ use Rattle.satl_core.specs.declared.telling.Data.TheVariants as datas
 use Rattle.satl_core.specs.Telling.{data_text}
 use Rattle.satl_core.specs.Layer.{IsExpectable, Layer}
 
--- the pages out are the request's, which hold all of its data-out, or no page was free for more
+-- the pages out are the request's, which hold all of its data-out, or no page was free for more (profile)
 pub record CanSubmit (r : Request) (free out : ℕ) : Type 0 where
   pub pages : out ≡ length r.body
   pub all : (r.data_len ≤ 512 * length r.body) ⊎ (free ≡ 0)
   pub expected : IsExpectable r.expected
 
--- a request with no more of its pages than were free
+-- a request with no more of its pages than were free (profile)
 pub record IsCutOf (whole cut : Request) : Type 0 where
   pub count : ℕ
   pub cut_is : cut ≡ record whole { body = take count whole.body }
 
--- the task that a request becomes, without its pages
+-- the task that a request becomes, without its pages (profile)
 abbrev pub task_without_pages : Request → Command → Bool → Entry
 task_without_pages r command queued_trim = record {
   nexus = r.nexus;
@@ -53,13 +53,13 @@ task_without_pages r command queued_trim = record {
   expected = r.expected;
 }
 
--- the answer to a request that is answered at once
+-- the answer to a request that is answered at once (profile)
 abbrev pub reply_at_once : Identity → Modes → Request → AtOnce → Reply
 reply_at_once i m r at_once.Good = reply_to r statuses.Good []
 reply_at_once i m r (at_once.Tell what alloc) = told r alloc (data_text i m what)
 reply_at_once i m r (at_once.Check sense) = reply_to r statuses.CheckCondition (sense_text m sense)
 
--- TEST UNIT READY, and commands that go over no block
+-- TEST UNIT READY, and commands that go over no block (profile)
 abbrev pub readiness : Layer → AtOnce
 readiness l =
     if l.down then at_once.Check link_lost
@@ -80,18 +80,19 @@ answer_to l (commands.Read form lba count fua) = if count == 0 then Err (readine
 answer_to l (commands.Write form lba count fua) = if count == 0 then Err (readiness l) else Ok (commands.Write form lba count fua)
 answer_to l _ = Err (at_once.Check unknown_operation)
 
--- why a command whose fields are good is answered at once, but for a full task set
+-- why a command whose fields are good is answered at once, but for a full task set (profile)
 abbrev pub command_answer : Layer → ℕ → Command → Result Command AtOnce
 command_answer l data_len command =
     if nat_lt l.identity.capacity ((range_of command).lba + (range_of command).count) then Err (at_once.Check out_of_range)
     else if nat_lt data_len (needed command) then Err (at_once.Check short_data)
     else answer_to l command
 
+-- the fields, and then the command (profile)
 abbrev pub cdb_answer : Layer → ℕ → Result Command Illegal → Result Command AtOnce
 cdb_answer l data_len (Err why) = Err (at_once.Check (refusal why))
 cdb_answer l data_len (Ok command) = command_answer l data_len command
 
--- the operation code, and then the fields
+-- the operation code, and then the fields (profile)
 abbrev pub code_answer : Layer → Request → Result Command AtOnce
 code_answer l r =
     if not (is_in (code_of r) built) then Err (at_once.Check unknown_operation)
@@ -124,7 +125,7 @@ abbrev pub untold : Option Attention → ℕ → List (List Attention) → List 
 untold None nexus attentions = attentions
 untold (Some what) nexus attentions = slice_set attentions nexus (drop 1 (slice_index_or attentions nexus []))
 
--- a unit attention, and without one what follows
+-- a unit attention, and without one what follows (profile)
 abbrev pub attention_answer : Option Attention → List ℕ → Result Command AtOnce → Result Command AtOnce
 attention_answer (Some what) cdb next = Err (tell_attention what cdb)
 attention_answer None cdb next = next
@@ -140,14 +141,14 @@ other_answer r =
     else if asks_for 0x03 r then sense_data r.cdb unknown_unit
     else at_once.Check unknown_unit
 
--- the command of a request that may become a task, or why it is answered at once
+-- the command of a request that may become a task, or why it is answered at once (profile)
 abbrev pub judged : Layer → Request → Result Command AtOnce
 judged l r =
     if not (is_for_unit r) then Err (other_answer r)
     else if overlaps l.tasks r then Err (at_once.Check overlapped)
     else attention_answer (attention_of l.attentions r) r.cdb (code_answer l r)
 
--- the layer once a request is judged: without the tasks of its nexus where it overlaps one, and without the condition that it is told
+-- the layer once a request is judged: without the tasks of its nexus where it overlaps one, and without the condition that it is told (profile)
 abbrev pub once_judged : Layer → Request → Layer
 once_judged l r =
     if not (is_for_unit r) then l
@@ -159,13 +160,13 @@ pub record IsRefused (r : Request) (old : Layer) (replies : List Reply) (new : L
   pub reply : replies ≡ reply_to r statuses.TaskSetFull [] ∷ []
   pub stays : new ≡ record old { free = new.free; out = 0 }
 
--- a request becomes the last task, and no page is out
+-- a request becomes the last task, and no page is out (profile)
 pub record IsAdded (r : Request) (command : Command) (old : Layer) (replies : List Reply) (new : Layer) : Type 0 where
   pub none : replies ≡ []
   pub last : map task_of (entries_of new.tasks) ≡ map task_of (entries_of old.tasks) ++ task_for old.identity.queued_trim r command ∷ []
   pub stays : new ≡ record old { tasks = new.tasks; free = new.free; out = 0 }
 
--- a command becomes a task, but for a full task set
+-- a command becomes a task, but for a full task set (profile)
 abbrev pub Becomes : Request → Command → Layer → List Reply → Layer → Type 0
 Becomes r command old replies new =
     MatchBool (is_too_much old.tasks (task_without_pages r command old.identity.queued_trim))
