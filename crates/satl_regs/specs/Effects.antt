@@ -240,19 +240,41 @@ trimming blocks given m =
 
 -- the commands that the modelled drive carries out so far (profile)
 abbrev pub is_built : AtaCommand → Bool
+is_built (commands.Read Pio lba sectors) = false
+is_built (commands.Read PioExt lba sectors) = false
+is_built (commands.Read Dma lba sectors) = false
 is_built (commands.Read DmaExt lba sectors) = true
+is_built (commands.Write Pio lba sectors) = false
+is_built (commands.Write PioExt lba sectors) = false
+is_built (commands.Write Dma lba sectors) = false
 is_built (commands.Write DmaExt lba sectors) = true
+is_built (commands.Verify ext lba sectors) = false
+is_built (commands.Flush ext) = false
 is_built commands.Identify = true
-is_built _ = false
+is_built (commands.SetFeatures what) = false
+is_built commands.Standby = false
+is_built commands.Idle = false
+is_built commands.CheckPower = false
+is_built (commands.ReadLog log page blocks) = false
+is_built (commands.Trim blocks) = false
+is_built commands.SmartStatus = false
+is_built (commands.Other code) = false
 
 -- the length of the data that a command moves, in blocks (ACS-3, the inputs of the commands)
 abbrev pub own_blocks : AtaCommand → ℕ
 own_blocks (commands.Read how lba sectors) = sectors
 own_blocks (commands.Write how lba sectors) = sectors
+own_blocks (commands.Verify ext lba sectors) = 0
+own_blocks (commands.Flush ext) = 0
 own_blocks commands.Identify = 1
+own_blocks (commands.SetFeatures what) = 0
+own_blocks commands.Standby = 0
+own_blocks commands.Idle = 0
+own_blocks commands.CheckPower = 0
 own_blocks (commands.ReadLog log page blocks) = blocks
 own_blocks (commands.Trim blocks) = blocks
-own_blocks _ = 0
+own_blocks commands.SmartStatus = 0
+own_blocks (commands.Other code) = 0
 
 -- the effect of a command: from a medium and the pages handed in to its end, the pages after it and the medium after it
 -- (ACS-3 section 7)
@@ -286,15 +308,33 @@ Ata r old given ended taken new = Does (command_in r) r old given ended taken ne
 
 -- the pairs that a command may write, also where it is cut short: none where its range or its entries are refused (ACS-3; profile)
 abbrev pub pairs_of : AtaCommand → Medium → List Block → List Pair
+pairs_of (commands.Read how lba sectors) m given = []
 pairs_of (commands.Write how lba sectors) m given =
     if nat_lt (length m.cells) (lba + sectors) then [] else pairs_from lba (take sectors given) m.cache
+pairs_of (commands.Verify ext lba sectors) m given = []
+pairs_of (commands.Flush ext) m given = []
+pairs_of commands.Identify m given = []
+pairs_of (commands.SetFeatures what) m given = []
+pairs_of commands.Standby m given = []
+pairs_of commands.Idle m given = []
+pairs_of commands.CheckPower m given = []
+pairs_of (commands.ReadLog log page blocks) m given = []
 pairs_of (commands.Trim blocks) m given = if is_no_trim blocks given m then [] else zeros_at m.cache (addresses (payload_ranges blocks given))
-pairs_of _ m given = []
+pairs_of commands.SmartStatus m given = []
+pairs_of (commands.Other code) m given = []
 
 -- the commands that go over the medium: reads, writes, verifies and trims, which wake a drive (ACS-3 4, power modes)
 abbrev pub goes_over_medium : AtaCommand → Bool
 goes_over_medium (commands.Read how lba sectors) = true
 goes_over_medium (commands.Write how lba sectors) = true
 goes_over_medium (commands.Verify ext lba sectors) = true
+goes_over_medium (commands.Flush ext) = false
+goes_over_medium commands.Identify = false
+goes_over_medium (commands.SetFeatures what) = false
+goes_over_medium commands.Standby = false
+goes_over_medium commands.Idle = false
+goes_over_medium commands.CheckPower = false
+goes_over_medium (commands.ReadLog log page blocks) = false
 goes_over_medium (commands.Trim blocks) = true
-goes_over_medium _ = false
+goes_over_medium commands.SmartStatus = false
+goes_over_medium (commands.Other code) = false
