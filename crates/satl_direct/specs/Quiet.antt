@@ -60,8 +60,22 @@ wakes (commands.Pass cdb) = goes_over_medium (command_in (pass_of cdb).regs)
 
 -- an ATA PASS-THROUGH (SAT-3 12.2)
 abbrev pub is_pass : Command → Bool
+is_pass commands.TestUnitReady = false
+is_pass (commands.RequestSense descriptor alloc) = false
+is_pass (commands.Inquiry page alloc) = false
+is_pass (commands.ModeSense ten long_lba no_descriptor control page alloc) = false
+is_pass (commands.ModeSelect ten size) = false
+is_pass (commands.StartStop starts no_flush) = false
+is_pass commands.ReadCapacity10 = false
+is_pass (commands.ReadCapacity16 alloc) = false
+is_pass (commands.ReportLuns select alloc) = false
+is_pass (commands.Read form lba count fua) = false
+is_pass (commands.Write form lba count fua) = false
+is_pass (commands.Verify form lba count compare) = false
+is_pass (commands.Flush form lba count) = false
+is_pass (commands.WriteSame form lba count unmap) = false
+is_pass (commands.Unmap size) = false
 is_pass (commands.Pass cdb) = true
-is_pass command = false
 
 -- an eligible task of a device that is up (profile)
 pub record IsUnderWay (s : Device) (task : Entry) : Type 0 where
