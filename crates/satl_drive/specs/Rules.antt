@@ -12,7 +12,7 @@ use Rattle.satl_regs.specs.declared.values.AtaCommand.{AtaCommand}
 use Rattle.satl_regs.specs.declared.values.AtaCommand.TheVariants.{ReadLog}
 use Rattle.satl_regs.specs.Commands.{command_in}
 use Rattle.satl_regs.specs.QueuedCommands.{queued_codes}
-use Rattle.satl_regs.specs.Effects.{Medium, Ata, IsTelling, good_end, is_built, own_blocks, pairs_of}
+use Rattle.satl_regs.specs.Effects.{Medium, Ata, IsTelling, good_end, own_blocks, pairs_of}
 use Rattle.satl_errlog.specs.declared.entry.NcqError.{NcqError}
 use Rattle.satl_errlog.specs.Log.{log_of}
 use Rattle.satl_drive.specs.State.{DriveState, medium_of, with_medium}
@@ -26,7 +26,6 @@ MayRun (Some e) command = command ≡ ReadLog 0x10 0 1
 pub record CanRun (d : DriveState) (r : Registers) (pages : List Block) : Type 0 where
   pub idle : d.outstanding ≡ []
   pub not_queued : is_in r.command queued_codes ≡ false
-  pub built : is_built (command_in r) ≡ true
   pub error : MayRun d.error (command_in r)
   pub room : own_blocks (command_in r) ≤ length pages
 

@@ -1,9 +1,10 @@
 // The calls of a drive.
 ghost use Rattle.std.specs.Prelude.{◌≡◌, ◌+◌, length, IfOk, OnErr};
+ghost use Rattle.satl_drive.specs.Bench.{IsGlitched, IsMended, IsOrdered, IsPowered, IsStruck, IsUnplugged};
 ghost use Rattle.satl_drive.specs.State.{DriveState, IsFit};
 ghost use Rattle.satl_drive.specs.Rules.{CanRun, IsRun, IsRunCutOff};
 
-use satl_base::{Pages, Steps};
+use satl_base::{Pages, Steps, Which};
 use satl_regs::{Registers, Taskfile};
 use std::sync::ledger::Ledger;
 
@@ -43,5 +44,35 @@ pub trait Drive {
         ensures step { steps.new ≡ steps.old + 1 };
 }
 
-/// A drive on a test bench (profile). Its calls have no answer.
-pub trait Bench: Drive {}
+/// A drive on a test bench (profile). Its calls have no answer and no error, and they are no calls of the layer: none is counted.
+pub trait Bench: Drive {
+    /// Sets a flaw of the sector at an address. Outside the capacity nothing changes (profile).
+    fn strike(&mut self, which: Which, lba: u64)
+        ensures struck { IsStruck which lba (Self.state self.old) (Self.state self.new) }
+        ensures fit { IsFit (Self.state self.old) → IsFit (Self.state self.new) };
+
+    /// Clears both flaws of the sector at an address. Outside the capacity nothing changes (profile).
+    fn mend(&mut self, lba: u64)
+        ensures mended { IsMended lba (Self.state self.old) (Self.state self.new) }
+        ensures fit { IsFit (Self.state self.old) → IsFit (Self.state self.new) };
+
+    /// So many transfers may end with a CRC error from now on (profile).
+    fn glitch(&mut self, count: u16)
+        ensures glitched { IsGlitched count (Self.state self.old) (Self.state self.new) }
+        ensures fit { IsFit (Self.state self.old) → IsFit (Self.state self.new) };
+
+    /// Hands in bytes that steer the drive's free choices. A drive may drop those for which it has no room (profile).
+    fn order(&mut self, bytes: &[u8])
+        ensures ordered { IsOrdered (Self.state self.old) (Self.state self.new) };
+
+    /// A power cycle: each sector is left with one of the blocks that it might be left with, the link is up, and the settings
+    /// are on where the drive has them (ACS-3, power-on; profile).
+    fn power(&mut self)
+        ensures powered { IsPowered (Self.state self.old) (Self.state self.new) }
+        ensures fit { IsFit (Self.state self.old) → IsFit (Self.state self.new) };
+
+    /// The link is lost, also where it was lost before, and the count of faults rises or stands at its last value (profile).
+    fn unplug(&mut self)
+        ensures unplugged { IsUnplugged (Self.state self.old) (Self.state self.new) }
+        ensures fit { IsFit (Self.state self.old) → IsFit (Self.state self.new) };
+}

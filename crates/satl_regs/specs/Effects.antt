@@ -238,28 +238,6 @@ abbrev pub trimming : ℕ → List Block → Medium → Transfer
 trimming blocks given m =
     record { ext = true; dma = true; stopped_by = flaws.Write; lba = 0; sectors = 0; writes = zeros_at m.cache (addresses (payload_ranges blocks given)); reads = [] }
 
--- the commands that the modelled drive carries out so far (profile)
-abbrev pub is_built : AtaCommand → Bool
-is_built (commands.Read Pio lba sectors) = false
-is_built (commands.Read PioExt lba sectors) = false
-is_built (commands.Read Dma lba sectors) = false
-is_built (commands.Read DmaExt lba sectors) = true
-is_built (commands.Write Pio lba sectors) = false
-is_built (commands.Write PioExt lba sectors) = false
-is_built (commands.Write Dma lba sectors) = false
-is_built (commands.Write DmaExt lba sectors) = true
-is_built (commands.Verify ext lba sectors) = false
-is_built (commands.Flush ext) = false
-is_built commands.Identify = true
-is_built (commands.SetFeatures what) = false
-is_built commands.Standby = false
-is_built commands.Idle = false
-is_built commands.CheckPower = false
-is_built (commands.ReadLog log page blocks) = false
-is_built (commands.Trim blocks) = false
-is_built commands.SmartStatus = false
-is_built (commands.Other code) = false
-
 -- the length of the data that a command moves, in blocks (ACS-3, the inputs of the commands)
 abbrev pub own_blocks : AtaCommand → ℕ
 own_blocks (commands.Read how lba sectors) = sectors
