@@ -8,7 +8,7 @@ use Rattle.satl_identify.specs.Data.{with_integrity, integrity_byte}
 use Rattle.satl_drive.specs.State.{IsFit}
 use Rattle.satl_disk.specs.Data.{Word, set_word, set_words, fixed_words, size_words, identify_data}
 use Rattle.satl_disk.specs.Sectors.{cell_of}
-use Rattle.satl_disk.specs.Disk.{Disk, fresh, blank_sector, state_of}
+use Rattle.satl_disk.specs.Disk.{Disk, IsTold, fresh, blank_sector, state_of}
 
 -- each word has its place among 256
 abbrev pub are_placed : List Word → Bool
@@ -69,6 +69,22 @@ word-with_integrity d i h = by (word_bits 255 7 0 d == 0xA5)
         rw (first, second) refl
     by false = refl
 
+pub with_integrity-length : (d : List ℕ) → length (with_integrity d) ≡ length d
+with_integrity-length d = by (word_bits 255 7 0 d == 0xA5)
+  where
+    by : (b : Bool) → length (if b then slice_set d 511 (integrity_byte (slice_set d 511 0)) else d) ≡ length d
+    by true = length-set d 511 (integrity_byte (slice_set d 511 0))
+    by false = refl
+
+pub identify_data-length : (n : ℕ) → length (identify_data n) ≡ 512
+unfolding identify_data
+identify_data-length n =
+    let zeros : List ℕ = replicate 512 0 in
+    with_integrity-length (set_words (size_words n) (set_words fixed_words zeros))
+    ∙ set_words-length (size_words n) (set_words fixed_words zeros)
+    ∙ set_words-length fixed_words zeros
+    ∙ length-replicate {A = ℕ} 512 0
+
 -- the words of the data
 pub word-identify_data : (n i : ℕ) → i < 255 → word i (identify_data n) ≡ value_in (size_words n) i (value_in fixed_words i (word i (replicate 512 0)))
 unfolding identify_data
@@ -99,3 +115,15 @@ fresh_fits n h =
 
 pub new_fits : (n : ℕ) (d : Disk) → n ≤ 65536 → d ≡ fresh n → IsFit (state_of d)
 new_fits n d h e = subst (λ (x : Disk). IsFit (state_of x)) (sym e) (fresh_fits n h)
+
+-- the data after a loss of nothing, and a new drive's
+pub fresh_told : (n : ℕ) → IsTold true true (identify_data n)
+fresh_told n =
+    let w = λ (i : ℕ) (k : i < 255). word-identify_data n i k in
+    record {
+      size = identify_data-length n;
+      cache = λ _. ap (λ (v : ℕ). v / 2 ^ 5 % 2 == 1) (w 82 (omega arith));
+      look = λ _. ap (λ (v : ℕ). v / 2 ^ 6 % 2 == 1) (w 82 (omega arith));
+      cache_told = ap (λ (v : ℕ). v / 2 ^ 5 % 2 == 1) (w 85 (omega arith));
+      look_told = ap (λ (v : ℕ). v / 2 ^ 6 % 2 == 1) (w 85 (omega arith));
+    }

@@ -1,3 +1,5 @@
 pub mod IdentifyLemmas
 pub mod RunLemmas
 pub mod SectorsLemmas
+pub mod SettingsLemmas
+pub mod TrimsLemmas

@@ -1,16 +1,19 @@
 -- What the sectors do, seen as cells.
-use Rattle.std.proofs.Common.{◌≡◌, refl, sym, ◌∙◌, ap, inl, inr, ℕ, ◌+◌, ◌<◌, ◌≤◌, zero, suc, Bool, true, false, List, [], ◌∷◌, ◌++◌, arith, length, map, take, get_or, Option, Some, None}
+use Rattle.std.proofs.Common.{◌≡◌, refl, sym, ◌∙◌, ap, inl, inr, ℕ, ◌+◌, ◌<◌, ◌≤◌, zero, suc, Bool, true, false, List, [], ◌∷◌, ◌++◌, append_assoc, arith, length, map, take, get_or, Option, Some, None}
 use Rattle.std.specs.Prelude.{if◌then◌else◌, ◌-◌, drop, slice_index_or, slice_range, slice_set}
-use Rattle.std.proofs.lemmas.List.{take_more, length-drop, length-map, length-take, get_or-drop, get_or-map, map-append}
+use Rattle.std.proofs.lemmas.List.{append-nil, drop-set-lt, drop_all, drop_more, take_all, take_at, take_more_set, take_more, length-drop, length-map, length-take, get_or-drop, get_or-map, map-append}
 use Rattle.satl_base.specs.declared.block.Block.{Block}
 use Rattle.satl_base.specs.declared.bench.Which.{Which}
 use Rattle.satl_base.specs.Lists.{IsIn, LeavesOut}
-use Rattle.satl_base.specs.Cells.{Cell, nows, put, put_at, change_at, whole, pairs_from, has_flaw, first_set}
+use Rattle.satl_base.specs.Blocks.{zero_block}
+use Rattle.satl_base.specs.Cells.{Cell, nows, put, put_at, change_at, whole, pairs_from, has_flaw, first_set, settle}
 use Rattle.satl_base.specs.Losses.{Lost, Loses}
 use Rattle.satl_base.proofs.ListsLemmas.{leaves_none}
 use Rattle.satl_base.proofs.LossesLemmas.{PartLossy, part_after, loses_on, whole_loses}
+use Rattle.satl_regs.specs.Effects.{zeros_at}
+use Rattle.satl_regs.specs.Trim.{addresses_from}
 use Rattle.satl_disk.specs.declared.sectors.Sector.{Sector}
-use Rattle.satl_disk.specs.Sectors.{cell_of, cells_of, written, write_at, is_stuck, is_taken, blocks_put}
+use Rattle.satl_disk.specs.Sectors.{cell_of, cells_of, written, changed_at, write_at, is_stuck, is_taken, blocks_put, settled, zeros_put}
 
 -- a loss of nothing
 pub cell_same : (s : Sector) → Lost (cell_of s) (cell_of s)
@@ -37,10 +40,14 @@ written_lost s v cached = record { now = refl; read_flaw = refl; write_flaw = re
     sound true d = inr (inl refl)
     sound false d = inl refl
 
+-- a change of a sector is a change of its cell
+pub changed_loses : (f : Sector → Sector) (g : Cell → Cell) → ((s : Sector) → Lost (g (cell_of s)) (cell_of (f s))) → (ss : List Sector) (lba : ℕ) → Loses (change_at (cells_of ss) lba g) (cells_of (changed_at f ss lba))
+changed_loses f g h [] lba = tt
+changed_loses f g h (s ∷ ss) zero = (h s, cells_same ss)
+changed_loses f g h (s ∷ ss) (suc lba) = (cell_same s, changed_loses f g h ss lba)
+
 pub write_loses : (ss : List Sector) (lba : ℕ) (v : Block) (cached : Bool) → Loses (change_at (cells_of ss) lba (λ c. put c v cached)) (cells_of (write_at ss lba v cached))
-write_loses [] lba v cached = tt
-write_loses (s ∷ ss) zero v cached = (written_lost s v cached, cells_same ss)
-write_loses (s ∷ ss) (suc lba) v cached = (cell_same s, write_loses ss lba v cached)
+write_loses ss lba v cached = changed_loses (λ s. written s v cached) (λ c. put c v cached) (λ s. written_lost s v cached) ss lba
 
 -- blocks that are put by a mask are part of the write
 pub blocks_part : (mask : Option ℕ) (cached : Bool) (i lba : ℕ) (vs : List Block) (ss : List Sector) → PartLossy (pairs_from lba vs cached) (cells_of ss) (cells_of (blocks_put mask cached i lba vs ss))
@@ -62,18 +69,18 @@ blocks_whole cached i lba (v ∷ vs) ss =
     (whole_loses (pairs_from (lba + 1) vs cached) (put_at (cells_of ss) (record { lba = lba; block = v; cached = cached })) (cells_of (write_at ss lba v cached)) (write_loses ss lba v cached))
     (blocks_whole cached (i + 1) (lba + 1) vs (write_at ss lba v cached))
 
--- no write changes how many sectors there are
-pub write_at-length : (ss : List Sector) (lba : ℕ) (v : Block) (cached : Bool) → length (write_at ss lba v cached) ≡ length ss
-write_at-length [] lba v cached = refl
-write_at-length (s ∷ ss) zero v cached = refl
-write_at-length (s ∷ ss) (suc lba) v cached = ap suc (write_at-length ss lba v cached)
+-- no change of a sector changes how many there are
+pub changed_at-length : (f : Sector → Sector) (ss : List Sector) (lba : ℕ) → length (changed_at f ss lba) ≡ length ss
+changed_at-length f [] lba = refl
+changed_at-length f (s ∷ ss) zero = refl
+changed_at-length f (s ∷ ss) (suc lba) = ap suc (changed_at-length f ss lba)
 
 pub blocks_put-length : (mask : Option ℕ) (cached : Bool) (i lba : ℕ) (vs : List Block) (ss : List Sector) → length (blocks_put mask cached i lba vs ss) ≡ length ss
 blocks_put-length mask cached i lba [] ss = refl
 blocks_put-length mask cached i lba (v ∷ vs) ss = by (is_taken mask i (is_stuck ss lba)) (λ ts. blocks_put-length mask cached (i + 1) (lba + 1) vs ts)
   where
     by : (b : Bool) → ((ts : List Sector) → length (blocks_put mask cached (i + 1) (lba + 1) vs ts) ≡ length ts) → length (blocks_put mask cached (i + 1) (lba + 1) vs (if b then write_at ss lba v cached else ss)) ≡ length ss
-    by true rest = rest (write_at ss lba v cached) ∙ write_at-length ss lba v cached
+    by true rest = rest (write_at ss lba v cached) ∙ changed_at-length (λ s. written s v cached) ss lba
     by false rest = rest ss
 
 pub stuck_at : (ss : List Sector) (lba : ℕ) (s : Sector) → lba < length ss → s ≡ slice_index_or ss lba s → s.write_flaw ≡ is_stuck ss lba
@@ -86,15 +93,16 @@ stuck_none [] lba h = refl
 stuck_none (x ∷ ss) zero h = absurd (omega arith)
 stuck_none (x ∷ ss) (suc lba) h = stuck_none ss lba (omega arith)
 
-pub write_set : (ss : List Sector) (lba : ℕ) (s : Sector) (v : Block) (cached : Bool) → lba < length ss → s ≡ slice_index_or ss lba s → slice_set ss lba (written s v cached) ≡ write_at ss lba v cached
-write_set [] lba s v cached h e = refl
-write_set (x ∷ ss) zero s v cached h e = ap (λ y. written y v cached ∷ ss) e
-write_set (x ∷ ss) (suc lba) s v cached h e = ap (λ r. x ∷ r) (write_set ss lba s v cached (omega arith) e)
+-- a change at a place, and one past the end
+pub changed_set : (f : Sector → Sector) (ss : List Sector) (lba : ℕ) (s : Sector) → lba < length ss → s ≡ slice_index_or ss lba s → slice_set ss lba (f s) ≡ changed_at f ss lba
+changed_set f [] lba s h e = refl
+changed_set f (x ∷ ss) zero s h e = ap (λ y. f y ∷ ss) e
+changed_set f (x ∷ ss) (suc lba) s h e = ap (λ r. x ∷ r) (changed_set f ss lba s (omega arith) e)
 
-pub write_none : (ss : List Sector) (lba : ℕ) (v : Block) (cached : Bool) → length ss ≤ lba → ss ≡ write_at ss lba v cached
-write_none [] lba v cached h = refl
-write_none (x ∷ ss) zero v cached h = absurd (omega arith)
-write_none (x ∷ ss) (suc lba) v cached h = ap (λ r. x ∷ r) (write_none ss lba v cached (omega arith))
+pub changed_none : (f : Sector → Sector) (ss : List Sector) (lba : ℕ) → length ss ≤ lba → ss ≡ changed_at f ss lba
+changed_none f [] lba h = refl
+changed_none f (x ∷ ss) zero h = absurd (omega arith)
+changed_none f (x ∷ ss) (suc lba) h = ap (λ r. x ∷ r) (changed_none f ss lba (omega arith))
 
 -- one block more of the first count
 pub blocks_step : (mask : Option ℕ) (cached : Bool) (i lba count : ℕ) (v : Block) (left vs : List Block) (ss new goal : List Sector) → i < count → left ≡ v ∷ vs →
@@ -174,3 +182,61 @@ nows-length ss lba count h =
     length-map (slice_range (cells_of ss) lba (lba + count)) (λ (c : Cell). c.now)
     ∙ length-take (lba + count - lba) (drop lba (cells_of ss))
     ∙ omega (arith, length-drop lba (cells_of ss))
+
+-- every sector written back, seen as cells
+pub settled_cells : (ss : List Sector) → cells_of (map settled ss) ≡ map settle (cells_of ss)
+settled_cells [] = refl
+settled_cells (s ∷ ss) = ap (λ r. settle (cell_of s) ∷ r) (settled_cells ss)
+
+-- zeros are written whole
+pub zeros_whole : (cached : Bool) (lbas : List ℕ) (ss : List Sector) → Loses (whole (cells_of ss) (zeros_at cached lbas)) (cells_of (zeros_put cached lbas ss))
+zeros_whole cached [] ss = cells_same ss
+zeros_whole cached (lba ∷ lbas) ss =
+    loses_on _ _ _
+    (whole_loses (zeros_at cached lbas) (put_at (cells_of ss) (record { lba = lba; block = zero_block; cached = cached })) (cells_of (write_at ss lba zero_block cached)) (write_loses ss lba zero_block cached))
+    (zeros_whole cached lbas (write_at ss lba zero_block cached))
+
+pub zeros_put-length : (cached : Bool) (lbas : List ℕ) (ss : List Sector) → length (zeros_put cached lbas ss) ≡ length ss
+zeros_put-length cached [] ss = refl
+zeros_put-length cached (lba ∷ lbas) ss = zeros_put-length cached lbas (write_at ss lba zero_block cached) ∙ changed_at-length (λ s. written s zero_block cached) ss lba
+
+pub zeros_put-append : (cached : Bool) (xs ys : List ℕ) (ss : List Sector) → zeros_put cached (xs ++ ys) ss ≡ zeros_put cached ys (zeros_put cached xs ss)
+zeros_put-append cached [] ys ss = refl
+zeros_put-append cached (x ∷ xs) ys ss = zeros_put-append cached xs ys (write_at ss x zero_block cached)
+
+-- one address of a range more
+pub zeros_step : (cached : Bool) (lba count i : ℕ) (ss new goal : List Sector) → i < count → new ≡ write_at ss (lba + i) zero_block cached →
+    zeros_put cached (addresses_from (lba + i) (count - i)) ss ≡ goal →
+    zeros_put cached (addresses_from (lba + (i + 1)) (count - (i + 1))) new ≡ goal
+unfolding addresses_from
+zeros_step cached lba count i ss new goal h is was =
+    let more : count - i ≡ suc (count - (i + 1)) = omega arith in
+    let place : lba + (i + 1) ≡ (lba + i) + 1 = omega arith in
+    ap (λ n. zeros_put cached (addresses_from n (count - (i + 1))) new) place
+    ∙ ap (zeros_put cached (addresses_from ((lba + i) + 1) (count - (i + 1)))) is
+    ∙ sym (ap (λ n. zeros_put cached (addresses_from (lba + i) n) ss) more)
+    ∙ was
+
+pub zeros_end : (cached : Bool) (lba count i : ℕ) (ss goal : List Sector) → count ≤ i → zeros_put cached (addresses_from (lba + i) (count - i)) ss ≡ goal → ss ≡ goal
+unfolding addresses_from
+zeros_end cached lba count i ss goal h was = let left : count - i ≡ zero = omega arith in sym (ap (λ n. zeros_put cached (addresses_from (lba + i) n) ss) left) ∙ was
+
+-- a change of each sector, one after another
+pub each_step : (f : Sector → Sector) (ss : List Sector) (i : ℕ) (d y : Sector) (goal : List Sector) → i < length ss → y ≡ f (slice_index_or ss i d) → take i ss ++ map f (drop i ss) ≡ goal →
+    take (i + 1) (slice_set ss i y) ++ map f (drop (i + 1) (slice_set ss i y)) ≡ goal
+each_step f ss i d y goal h is was =
+    let rest : List Sector = map f (drop (i + 1) ss) in
+    ap (λ xs. xs ++ map f (drop (i + 1) (slice_set ss i y))) (take_more_set ss i y h)
+    ∙ ap (λ xs. (take i ss ++ y ∷ []) ++ map f xs) (drop-set-lt (i + 1) ss i y (omega arith))
+    ∙ append_assoc (take i ss) (y ∷ []) rest
+    ∙ ap (λ x. take i ss ++ x ∷ rest) is
+    ∙ sym (ap (λ xs. take i ss ++ map f xs) (drop_more ss i d h))
+    ∙ was
+
+pub each_end : (f : Sector → Sector) (ss others : List Sector) (i n : ℕ) (goal : List Sector) → length ss ≤ i → n ≡ length ss → take i ss ++ map f (drop i ss) ≡ goal → take n (ss ++ others) ≡ goal
+each_end f ss others i n goal h size was =
+    take_at ss others n (sym size)
+    ∙ sym (append-nil ss)
+    ∙ sym (ap (λ xs. ss ++ map f xs) (drop_all i ss h))
+    ∙ sym (ap (λ xs. xs ++ map f (drop i ss)) (take_all i ss h))
+    ∙ was

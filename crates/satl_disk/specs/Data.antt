@@ -1,6 +1,7 @@
 -- The IDENTIFY DEVICE data of the modelled drive (ACS-3 7.12.7; the values: profile).
-use Rattle.std.specs.Prelude.{ℕ, ◌+◌, ◌*◌, ◌/◌, ◌%◌, ◌^◌, List, [], ◌∷◌, replicate, slice_set}
-use Rattle.satl_identify.specs.Data.{with_integrity}
+use Rattle.std.specs.Prelude.{ℕ, ◌+◌, ◌-◌, ◌*◌, ◌/◌, ◌%◌, ◌^◌, ◌==◌, Bool, if◌then◌else◌, List, [], ◌∷◌, replicate, slice_index, slice_set}
+use Rattle.satl_base.specs.Identify.{word_bits}
+use Rattle.satl_identify.specs.Data.{settings_byte, with_integrity, with_settings}
 
 -- the place of a word, and its value
 abbrev pub Word : Type 0
@@ -41,3 +42,14 @@ size_words n = at 60 (n % 2 ^ 16) ∷ at 61 (n / 2 ^ 16) ∷ at 100 (n % 2 ^ 16)
 -- the data of a drive of n sectors whose write cache and look-ahead are on
 unfoldable pub identify_data : ℕ → List ℕ
 identify_data n = with_integrity (set_words (size_words n) (set_words fixed_words (replicate 512 0)))
+
+-- the byte that keeps the sum of all bytes modulo 256 where another one changes
+abbrev pub balanced : ℕ → ℕ → ℕ → ℕ
+balanced byte old new = (byte + old + (256 - new)) % 256
+
+-- the data with these settings: where bits 7:0 of word 255 are A5h, its high byte keeps the sum
+abbrev pub retold : Bool → Bool → List ℕ → List ℕ
+retold cache_on look_on d =
+    if word_bits 255 7 0 d == 0xA5
+    then slice_set (with_settings d cache_on look_on) 511 (balanced (slice_index d 511) (slice_index d 170) (settings_byte (slice_index d 170) cache_on look_on))
+    else with_settings d cache_on look_on

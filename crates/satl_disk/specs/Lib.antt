@@ -1,3 +1,4 @@
 pub mod Data
 pub mod Disk
+pub mod Running
 pub mod Sectors

@@ -1,6 +1,7 @@
 -- The sectors of the modelled drive, and the bytes that steer its choices (profile).
 use Rattle.std.specs.Prelude.{◌==◌, ℕ, zero, suc, ◌+◌, ◌/◌, ◌%◌, ◌^◌, Bool, true, false, ◌&&◌, not, if◌then◌else◌, List, [], ◌∷◌, Option, Some, None, map}
 use Rattle.satl_base.specs.declared.block.Block.{Block}
+use Rattle.satl_base.specs.Blocks.{zero_block}
 use Rattle.satl_base.specs.Cells.{Cell}
 use Rattle.satl_disk.specs.declared.sectors.Sector.{Sector}
 
@@ -15,10 +16,23 @@ cells_of sectors = map cell_of sectors
 abbrev pub written : Sector → Block → Bool → Sector
 written s v cached = record { now = v; stable = (if cached then (if s.dirty then s.stable else s.now) else v); dirty = cached; read_flaw = false; write_flaw = s.write_flaw }
 
+-- the sectors with a change at one address; past the last sector nothing changes
+abbrev pub changed_at : (Sector → Sector) → List Sector → ℕ → List Sector
+changed_at f [] lba = []
+changed_at f (s ∷ ss) zero = f s ∷ ss
+changed_at f (s ∷ ss) (suc lba) = s ∷ changed_at f ss lba
+
 abbrev pub write_at : List Sector → ℕ → Block → Bool → List Sector
-write_at [] lba v cached = []
-write_at (s ∷ ss) zero v cached = written s v cached ∷ ss
-write_at (s ∷ ss) (suc lba) v cached = s ∷ write_at ss lba v cached
+write_at ss lba v cached = changed_at (λ s. written s v cached) ss lba
+
+-- a sector that was written back
+abbrev pub settled : Sector → Sector
+settled s = record s { dirty = false }
+
+-- zeros written at each address, in order
+abbrev pub zeros_put : Bool → List ℕ → List Sector → List Sector
+zeros_put cached [] ss = ss
+zeros_put cached (lba ∷ lbas) ss = zeros_put cached lbas (write_at ss lba zero_block cached)
 
 -- whether a sector has a write flaw
 abbrev pub is_stuck : List Sector → ℕ → Bool

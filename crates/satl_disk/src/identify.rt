@@ -1,6 +1,8 @@
 // The IDENTIFY DEVICE data of the modelled drive.
-ghost use Rattle.std.specs.Prelude.{◌≡◌, ◌≤◌, ◌/◌, ◌%◌, ◌^◌};
-ghost use Rattle.satl_disk.specs.Data.{fixed_words, identify_data, set_word, set_words};
+ghost use Rattle.std.specs.Prelude.{◌≡◌, ◌≤◌, ◌<◌, ◌/◌, ◌%◌, ◌^◌};
+ghost use Rattle.satl_base.specs.Identify.{has_cache, has_look, has_trim, trim_blocks, word, word_bit};
+ghost use Rattle.satl_identify.specs.Data.{settings_byte};
+ghost use Rattle.satl_disk.specs.Data.{fixed_words, identify_data, retold, set_word, set_words};
 
 use satl_identify::mend;
 
@@ -65,6 +67,12 @@ const FIXED_WORDS: [Word; 54] = [
     (255, 0x00A5),
 ];
 
+// The place of the low byte of word 85, which has the settings.
+const SETTINGS: usize = 2 * 85;
+
+// The place of the high byte of word 255.
+const INTEGRITY: usize = 2 * 255 + 1;
+
 fn write_word(data_bytes: &mut [u8; 512], word: Word)
     ensures { data_bytes.new ≡ set_word word data_bytes.old }
 {
@@ -86,6 +94,28 @@ fn write_fixed_words(data_bytes: &mut [u8; 512])
     ensures { data_bytes.new ≡ set_words fixed_words data_bytes.old }
 {
     write_words(data_bytes, &FIXED_WORDS);
+}
+
+/// The low byte of word 85 with its settings as given.
+fn settings_byte(byte: u8, cache_on: bool, look_on: bool) -> u8
+    ensures value { result ≡ settings_byte byte cache_on look_on }
+{
+    let look = if look_on { 0x40 } else { 0 };
+    let cache = if cache_on { 0x20 } else { 0 };
+    (byte >> 7 << 7) + look + cache + (byte & 0x1F)
+}
+
+/// Makes the data tell these settings. Where there is an integrity byte, it keeps the sum of all bytes, whether that is 0 or not.
+pub fn retell(data_bytes: &mut [u8; 512], cache_on: bool, look_on: bool)
+    ensures { data_bytes.new ≡ retold cache_on look_on data_bytes.old }
+{
+    let before = data_bytes[SETTINGS];
+    let after = settings_byte(before, cache_on, look_on);
+    data_bytes[SETTINGS] = after;
+    if data_bytes[510] == 0xA5 {
+        let sum = data_bytes[INTEGRITY].wrapping_add(before);
+        data_bytes[INTEGRITY] = sum.wrapping_sub(after);
+    }
 }
 
 fn low_half(number: u32) -> u16
@@ -116,4 +146,46 @@ pub fn identify_bytes(sectors: u32) -> [u8; 512]
     );
     mend(&mut data_bytes);
     data_bytes
+}
+
+fn word_at(data_bytes: &[u8; 512], place: u8) -> u16
+    ensures { result ≡ word place data_bytes.now }
+{
+    let low = 2 * usize::from(place);
+    u16::from_le_bytes([data_bytes[low], data_bytes[low + 1]])
+}
+
+fn bit_at(data_bytes: &[u8; 512], place: u8, low: u8) -> bool
+    requires { low < 16 }
+    ensures { result ≡ word_bit place low data_bytes.now }
+{
+    word_at(data_bytes, place) >> low & 1 == 1
+}
+
+/// Whether there is a write cache.
+pub fn has_cache(data_bytes: &[u8; 512]) -> bool
+    ensures { result ≡ has_cache data_bytes.now }
+{
+    bit_at(data_bytes, 82, 5)
+}
+
+/// Whether there is read look-ahead.
+pub fn has_look(data_bytes: &[u8; 512]) -> bool
+    ensures { result ≡ has_look data_bytes.now }
+{
+    bit_at(data_bytes, 82, 6)
+}
+
+/// Whether the drive trims.
+pub fn has_trim(data_bytes: &[u8; 512]) -> bool
+    ensures { result ≡ has_trim data_bytes.now }
+{
+    bit_at(data_bytes, 169, 0) && bit_at(data_bytes, 69, 14) && bit_at(data_bytes, 69, 5)
+}
+
+/// The most blocks of one trim.
+pub fn trim_blocks(data_bytes: &[u8; 512]) -> u16
+    ensures { result ≡ trim_blocks data_bytes.now }
+{
+    word_at(data_bytes, 105)
 }

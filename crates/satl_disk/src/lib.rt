@@ -3,10 +3,13 @@
 
 mod data_in;
 mod drive;
+mod ends;
 mod identify;
+mod logs;
 mod sectors;
 #[cfg(test)]
 mod tests;
+mod trims;
 
 pub use drive::ModelDrive;
 pub use sectors::Sector;

@@ -2,7 +2,7 @@
 ghost use Rattle.std.specs.Prelude.{◌≡◌, ◌+◌, false, if◌then◌else◌, drop, take, slice_index_or, map, vec_len};
 ghost use Rattle.circular_buffer.specs.Buffer.{buffer};
 ghost use Rattle.satl_base.specs.Cells.{has_flaw, first_flaw};
-ghost use Rattle.satl_disk.specs.Sectors.{cell_of, cells_of, write_at, is_stuck, has_bit, is_taken, blocks_put, byte_of};
+ghost use Rattle.satl_disk.specs.Sectors.{cell_of, cells_of, write_at, is_stuck, has_bit, is_taken, blocks_put, byte_of, settled};
 
 use circular_buffer::HeapCircularBuffer;
 use satl_base::{Block, Pages, Which};
@@ -19,7 +19,7 @@ pub struct Sector {
 
 impl Sector {
     ghost use Rattle.satl_disk.specs.Disk.{blank_sector};
-    ghost use Rattle.satl_disk.specs.Sectors.{written};
+    ghost use Rattle.satl_disk.specs.Sectors.{settled, written};
 
     /// Zeros, without flaws (profile).
     pub fn blank() -> Sector
@@ -46,6 +46,13 @@ impl Sector {
         self.now = *block;
         self.dirty = cached;
         self.read_flaw = false;
+    }
+
+    /// Writes the sector back.
+    fn settle(&mut self)
+        ensures { self.new ≡ settled self.old }
+    {
+        self.dirty = false;
     }
 }
 
@@ -82,7 +89,8 @@ fn stuck(sectors: &Vec<Sector>, place: usize) -> bool
     }
 }
 
-fn write_sector(sectors: &mut Vec<Sector>, place: usize, block: &Block, cached: bool)
+/// Writes the sector at a place; past the last one nothing changes.
+pub fn write_sector(sectors: &mut Vec<Sector>, place: usize, block: &Block, cached: bool)
     ensures size { vec_len sectors.new ≡ vec_len sectors.old }
     ensures value { sectors.new.items ≡ write_at sectors.old.items place block.now cached }
 {
@@ -162,4 +170,14 @@ pub fn flaw_in(sectors: &Vec<Sector>, which: Which, lba: u32, count: u32) -> Opt
         }
     }
     None
+}
+
+/// Writes every sector back.
+pub fn settle_all(sectors: &mut Vec<Sector>)
+    ensures size { vec_len sectors.new ≡ vec_len sectors.old }
+    ensures value { sectors.new.items ≡ map settled sectors.old.items }
+{
+    for sector in sectors.iter_mut() {
+        sector.settle();
+    }
 }

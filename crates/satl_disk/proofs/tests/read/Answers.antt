@@ -4,4 +4,4 @@ use Rattle.satl_disk.proofs.tests.read.Goals as goal
 
 pub run-requires : goal.run-requires
 unfolding command_in row_of
-run-requires c = record { can = record { idle = refl; not_queued = refl; built = refl; error = tt; room = c.requires } }
+run-requires c = record { can = record { idle = refl; not_queued = refl; error = tt; room = c.requires } }

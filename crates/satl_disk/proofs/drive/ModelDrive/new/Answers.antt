@@ -1,7 +1,10 @@
-use Rattle.std.proofs.Common.{true, rules}
-use Rattle.satl_disk.specs.Disk.{Disk}
-use Rattle.satl_disk.proofs.IdentifyLemmas.{new_fits}
+use Rattle.std.proofs.Common.{true, false, None, arith, rules, subst, sym}
+use Rattle.satl_disk.specs.Disk.{Disk, IsTold}
+use Rattle.satl_disk.proofs.IdentifyLemmas.{fresh_told, new_fits}
 use Rattle.satl_disk.proofs.drive.ModelDrive.new.Goals as goal
+
+pub invariant_of-result : goal.invariant_of-result
+invariant_of-result c = (omega (arith, c.in_ok-vec.ensures.len), subst (IsTold true true) (sym c.identify_bytes.ensures) (fresh_told c.args.sectors))
 
 pub returns-clause-fit : goal.returns-clause-fit
 returns-clause-fit c =
@@ -13,5 +16,9 @@ returns-clause-fit c =
       active = true;
       glitches = 0;
       identify = c.identify_bytes.result;
+      down = false;
+      faults = 0;
+      unplugs = 0;
+      fuse = None;
     } in
     new_fits c.args.sectors made c.requires.few (search rules)
