@@ -27,7 +27,7 @@ both false b h = absurd cc
 all_three : (a b c : Bool) → a ≡ true → b ≡ true → c ≡ true → (a && b && c) ≡ true
 all_three a b c p q r = rw (p, q, r) refl
 
-set_word-length : (w : Word) (d : List ℕ) → length (set_word w d) ≡ length d
+pub set_word-length : (w : Word) (d : List ℕ) → length (set_word w d) ≡ length d
 set_word-length w d = length-set (slice_set d (2 * w.0) (w.1 % 2 ^ 8)) (2 * w.0 + 1) (w.1 / 2 ^ 8) ∙ length-set d (2 * w.0) (w.1 % 2 ^ 8)
 
 word-set_word : (w : Word) (d : List ℕ) (i : ℕ) → length d ≡ 512 → w.0 < 256 → word i (set_word w d) ≡ (if i == w.0 then w.1 else word i d)
@@ -59,7 +59,7 @@ word-set_words (w ∷ ws) d i long placed =
     word-set_words ws (set_word w d) i (set_word-length w d ∙ long) b.1 ∙ ap (value_in ws i) (word-set_word w d i long (ltb-true w.0 256 b.0))
 
 -- the integrity byte is in word 255
-word-with_integrity : (d : List ℕ) (i : ℕ) → i < 255 → word i (with_integrity d) ≡ word i d
+pub word-with_integrity : (d : List ℕ) (i : ℕ) → i < 255 → word i (with_integrity d) ≡ word i d
 word-with_integrity d i h = by (word_bits 255 7 0 d == 0xA5)
   where
     by : (b : Bool) → word i (if b then slice_set d 511 (integrity_byte (slice_set d 511 0)) else d) ≡ word i d

@@ -1,3 +1,4 @@
+pub mod BenchLemmas
 pub mod IdentifyLemmas
 pub mod RunLemmas
 pub mod SectorsLemmas

@@ -1,9 +1,11 @@
 -- What the sectors do, seen as cells.
 use Rattle.std.proofs.Common.{◌≡◌, refl, sym, ◌∙◌, ap, inl, inr, ℕ, ◌+◌, ◌<◌, ◌≤◌, zero, suc, Bool, true, false, List, [], ◌∷◌, ◌++◌, append_assoc, arith, length, map, take, get_or, Option, Some, None}
-use Rattle.std.specs.Prelude.{if◌then◌else◌, ◌-◌, drop, slice_index_or, slice_range, slice_set}
+use Rattle.std.specs.Prelude.{if◌then◌else◌, ◌==◌, ◌%◌, ◌-◌, drop, slice_index_or, slice_range, slice_set}
+use Rattle.std.specs.List.{AllZip}
 use Rattle.std.proofs.lemmas.List.{append-nil, drop-set-lt, drop_all, drop_more, take_all, take_at, take_more_set, take_more, length-drop, length-map, length-take, get_or-drop, get_or-map, map-append}
 use Rattle.satl_base.specs.declared.block.Block.{Block}
 use Rattle.satl_base.specs.declared.bench.Which.{Which}
+use Rattle.satl_base.specs.declared.bench.Which.TheVariants.{Read, Write}
 use Rattle.satl_base.specs.Lists.{IsIn, LeavesOut}
 use Rattle.satl_base.specs.Blocks.{zero_block}
 use Rattle.satl_base.specs.Cells.{Cell, nows, put, put_at, change_at, whole, pairs_from, has_flaw, first_set, settle}
@@ -11,9 +13,10 @@ use Rattle.satl_base.specs.Losses.{Lost, Loses}
 use Rattle.satl_base.proofs.ListsLemmas.{leaves_none}
 use Rattle.satl_base.proofs.LossesLemmas.{PartLossy, part_after, loses_on, whole_loses}
 use Rattle.satl_regs.specs.Effects.{zeros_at}
+use Rattle.satl_regs.specs.Sectors.{IsLeftBehind, with_flaw}
 use Rattle.satl_regs.specs.Trim.{addresses_from}
 use Rattle.satl_disk.specs.declared.sectors.Sector.{Sector}
-use Rattle.satl_disk.specs.Sectors.{cell_of, cells_of, written, changed_at, write_at, is_stuck, is_taken, blocks_put, settled, zeros_put}
+use Rattle.satl_disk.specs.Sectors.{all_left, blocks_put, byte_of, cell_of, cells_of, changed_at, is_stuck, is_taken, left_by, rest_by, settled, struck_sector, write_at, written, zeros_put}
 
 -- a loss of nothing
 pub cell_same : (s : Sector) → Lost (cell_of s) (cell_of s)
@@ -240,3 +243,32 @@ each_end f ss others i n goal h size was =
     ∙ sym (ap (λ xs. ss ++ map f xs) (drop_all i ss h))
     ∙ sym (ap (λ xs. xs ++ map f (drop i ss)) (take_all i ss h))
     ∙ was
+
+-- a change of each kind of a sector is one of its cell
+pub changed_cells : (f : Sector → Sector) (g : Cell → Cell) → ((s : Sector) → cell_of (f s) ≡ g (cell_of s)) → (ss : List Sector) (lba : ℕ) → cells_of (changed_at f ss lba) ≡ change_at (cells_of ss) lba g
+changed_cells f g h [] lba = refl
+changed_cells f g h (s ∷ ss) zero = ap (λ c. c ∷ cells_of ss) (h s)
+changed_cells f g h (s ∷ ss) (suc lba) = ap (λ cs. cell_of s ∷ cs) (changed_cells f g h ss lba)
+
+pub struck_cell : (which : Which) (s : Sector) → cell_of (struck_sector which s) ≡ with_flaw which (cell_of s)
+struck_cell Read s = refl
+struck_cell Write s = refl
+
+-- a sector after a loss of power is left with a block that it might be left with
+left_behind : (byte : ℕ) (s : Sector) → IsLeftBehind (cell_of s) (cell_of (left_by byte s))
+left_behind byte s = by s.dirty (byte % 2 == 0)
+  where
+    by : (dirty even : Bool) → IsLeftBehind
+        (record { now = s.now; may = (if dirty then s.stable ∷ s.now ∷ [] else s.now ∷ []); read_flaw = s.read_flaw; write_flaw = s.write_flaw })
+        (cell_of (if dirty then record s { now = (if even then s.stable else s.now); dirty = false } else record s { dirty = dirty }))
+    by true true = record { one = inl refl; alone = refl; read_flaw = refl; write_flaw = refl }
+    by true false = record { one = inr (inl refl); alone = refl; read_flaw = refl; write_flaw = refl }
+    by false even = record { one = inl refl; alone = refl; read_flaw = refl; write_flaw = refl }
+
+pub all_left_behind : (ss : List Sector) (bytes : List ℕ) → AllZip IsLeftBehind (cells_of ss) (cells_of (all_left ss bytes))
+all_left_behind [] bytes = tt
+all_left_behind (s ∷ ss) bytes = (left_behind (byte_of bytes) s, all_left_behind ss (rest_by s bytes))
+
+pub all_left-length : (ss : List Sector) (bytes : List ℕ) → length (all_left ss bytes) ≡ length ss
+all_left-length [] bytes = refl
+all_left-length (s ∷ ss) bytes = ap suc (all_left-length ss (rest_by s bytes))

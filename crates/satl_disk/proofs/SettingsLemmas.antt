@@ -1,14 +1,15 @@
 -- IDENTIFY DEVICE data that tell other settings.
 use Rattle.std.proofs.Common.{◌≡◌, refl, sym, ◌∙◌, ap, ℕ, ◌+◌, ◌*◌, ◌/◌, ◌%◌, ◌^◌, ◌<◌, Bool, true, false, List, arith, length}
-use Rattle.std.specs.Prelude.{if◌then◌else◌, ◌==◌, slice_index, slice_set, MatchBool, sum}
+use Rattle.std.specs.Prelude.{if◌then◌else◌, ◌==◌, ◌&&◌, slice_index, slice_set, MatchBool, sum}
 use Rattle.std.proofs.lemmas.List.{get_or-set_same, get_or-set_other, length-set}
 use Rattle.std.proofs.lemmas.List.Sums.{sum_by-set}
 use Rattle.satl_base.specs.Identify.{checksum, has_cache, has_look, has_trim, word, word_bits}
 use Rattle.satl_regs.specs.Effects.{IsTelling}
-use Rattle.satl_identify.specs.Data.{settings_byte, with_settings}
+use Rattle.satl_identify.specs.Data.{settings_byte, with_integrity, with_settings}
 use Rattle.satl_drive.specs.State.{DriveState, IsFit}
-use Rattle.satl_disk.specs.Data.{balanced, retold}
+use Rattle.satl_disk.specs.Data.{at, balanced, integrity_kept, retold, set_word}
 use Rattle.satl_disk.specs.Disk.{IsTold}
+use Rattle.satl_disk.proofs.IdentifyLemmas.{set_word-length, with_integrity-length, word-with_integrity}
 
 -- the settings are those that were put
 cache_put : (old other : ℕ) (c l : Bool) → ((settings_byte old c l + 256 * other) / 2 ^ 5 % 2 == 1) ≡ c
@@ -99,6 +100,53 @@ module _ (cache look : Bool) (d : List ℕ) (long : length d ≡ 512) where
 
   pub retold_tells : IsTelling cache look d (retold cache look d)
   retold_tells = telling_by (word_bits 255 7 0 d == 0xA5) refl
+
+  -- the settings alone are written
+  pub written_told : (cache ≡ true → has_cache d ≡ true) → (look ≡ true → has_look d ≡ true) → IsTold cache look (with_settings d cache look)
+  written_told c l = record {
+    size = first_size ∙ long;
+    cache = λ e. ap (λ (v : ℕ). v / 2 ^ 5 % 2 == 1) word_82 ∙ c e;
+    look = λ e. ap (λ (v : ℕ). v / 2 ^ 6 % 2 == 1) word_82 ∙ l e;
+    cache_told = rw (setting false, beside false) (cache_put old (slice_index d 171) cache look);
+    look_told = rw (setting false, beside false) (look_put old (slice_index d 171) cache look);
+  }
+    where
+      word_82 : word 82 (with_settings d cache look) ≡ word 82 d
+      word_82 = rw (other false 164 (λ e. omega arith) (λ e. omega arith), other false 165 (λ e. omega arith) (λ e. omega arith)) refl
+
+-- the integrity byte tells nothing of the settings
+integrity_told : (cache look : Bool) (d : List ℕ) → IsTold cache look d → IsTold cache look (with_integrity d)
+integrity_told cache look d t = record {
+  size = with_integrity-length d ∙ t.size;
+  cache = λ e. ap (λ (v : ℕ). v / 2 ^ 5 % 2 == 1) (word-with_integrity d 82 (omega arith)) ∙ t.cache e;
+  look = λ e. ap (λ (v : ℕ). v / 2 ^ 6 % 2 == 1) (word-with_integrity d 82 (omega arith)) ∙ t.look e;
+  cache_told = ap (λ (v : ℕ). v / 2 ^ 5 % 2 == 1) (word-with_integrity d 85 (omega arith)) ∙ t.cache_told;
+  look_told = ap (λ (v : ℕ). v / 2 ^ 6 % 2 == 1) (word-with_integrity d 85 (omega arith)) ∙ t.look_told;
+}
+
+-- a changed word, and the settings that the drive still has
+pub reworded_told : (place : ℕ) (cache look : Bool) (e : List ℕ) → length e ≡ 512
+    → IsTold (cache && has_cache e) (look && has_look e) (integrity_kept place (with_settings e (cache && has_cache e) (look && has_look e)))
+reworded_told place cache look e long = by (place == 255)
+  where
+    has : (a b : Bool) → (a && b) ≡ true → b ≡ true
+    has true b h = h
+    has false b h = absurd cc
+
+    written : IsTold (cache && has_cache e) (look && has_look e) (with_settings e (cache && has_cache e) (look && has_look e))
+    written = written_told (cache && has_cache e) (look && has_look e) e long (has cache (has_cache e)) (has look (has_look e))
+
+    by : (b : Bool) → IsTold (cache && has_cache e) (look && has_look e) (if b then with_settings e (cache && has_cache e) (look && has_look e) else with_integrity (with_settings e (cache && has_cache e) (look && has_look e)))
+    by true = written
+    by false = integrity_told (cache && has_cache e) (look && has_look e) (with_settings e (cache && has_cache e) (look && has_look e)) written
+
+-- the steps by which a word is changed
+pub word_told : (place value : ℕ) (cache look has_c has_l : Bool) (d e w new : List ℕ) → IsTold cache look d → e ≡ set_word (at place value) d → has_c ≡ has_cache e → has_l ≡ has_look e
+    → w ≡ with_settings e (cache && has_c) (look && has_l) → new ≡ integrity_kept place w → IsTold (cache && has_c) (look && has_l) new
+word_told place value cache look has_c has_l d e w new t ise isc isl isw isn =
+    let long : length e ≡ 512 = ap length ise ∙ set_word-length (at place value) d ∙ t.size in
+    let now : new ≡ integrity_kept place (with_settings e (cache && has_c) (look && has_l)) = isn ∙ ap (integrity_kept place) isw in
+    rw (now, isc, isl) (reworded_told place cache look e long)
 
 -- data tell what they told
 pub tells_same : (cache look : Bool) (d : List ℕ) → IsTold cache look d → IsTelling cache look d d

@@ -53,3 +53,7 @@ retold cache_on look_on d =
     if word_bits 255 7 0 d == 0xA5
     then slice_set (with_settings d cache_on look_on) 511 (balanced (slice_index d 511) (slice_index d 170) (settings_byte (slice_index d 170) cache_on look_on))
     else with_settings d cache_on look_on
+
+-- the data after a word was changed: the integrity byte is brought up to date, but not where it stands in that word
+abbrev pub integrity_kept : ℕ → List ℕ → List ℕ
+integrity_kept place d = if place == 255 then d else with_integrity d

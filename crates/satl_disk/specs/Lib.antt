@@ -1,3 +1,4 @@
+pub mod Bench
 pub mod Data
 pub mod Disk
 pub mod Running

@@ -1,6 +1,8 @@
 -- The sectors of the modelled drive, and the bytes that steer its choices (profile).
-use Rattle.std.specs.Prelude.{◌==◌, ℕ, zero, suc, ◌+◌, ◌/◌, ◌%◌, ◌^◌, Bool, true, false, ◌&&◌, not, if◌then◌else◌, List, [], ◌∷◌, Option, Some, None, map}
+use Rattle.std.specs.Prelude.{◌==◌, ℕ, zero, suc, ◌+◌, ◌/◌, ◌%◌, ◌^◌, Bool, true, false, ◌&&◌, not, if◌then◌else◌, List, [], ◌∷◌, Option, Some, None, map, drop}
 use Rattle.satl_base.specs.declared.block.Block.{Block}
+use Rattle.satl_base.specs.declared.bench.Which.{Which}
+use Rattle.satl_base.specs.declared.bench.Which.TheVariants.{Read, Write}
 use Rattle.satl_base.specs.Blocks.{zero_block}
 use Rattle.satl_base.specs.Cells.{Cell}
 use Rattle.satl_disk.specs.declared.sectors.Sector.{Sector}
@@ -59,3 +61,28 @@ blocks_put mask cached i lba (v ∷ vs) ss =
 abbrev pub byte_of : List ℕ → ℕ
 byte_of [] = 0
 byte_of (b ∷ bs) = b
+
+-- a sector with a flaw of a kind, or with none
+abbrev pub struck_sector : Which → Sector → Sector
+struck_sector Read s = record s { read_flaw = true }
+struck_sector Write s = record s { write_flaw = true }
+
+abbrev pub mended_sector : Sector → Sector
+mended_sector s = record s { read_flaw = false; write_flaw = false }
+
+-- a sector after a loss of power: where it is dirty, an even byte keeps the stable block, and an odd one the last
+abbrev pub left_by : ℕ → Sector → Sector
+left_by byte s = if s.dirty then record s { now = (if byte % 2 == 0 then s.stable else s.now); dirty = false } else s
+
+-- the bytes that a sector leaves: it takes one where it is dirty
+abbrev pub rest_by : Sector → List ℕ → List ℕ
+rest_by s bytes = if s.dirty then drop 1 bytes else bytes
+
+-- all sectors after a loss of power, and the bytes that they leave
+abbrev pub all_left : List Sector → List ℕ → List Sector
+all_left [] bytes = []
+all_left (s ∷ ss) bytes = left_by (byte_of bytes) s ∷ all_left ss (rest_by s bytes)
+
+abbrev pub bytes_left : List Sector → List ℕ → List ℕ
+bytes_left [] bytes = bytes
+bytes_left (s ∷ ss) bytes = bytes_left ss (rest_by s bytes)

@@ -4,18 +4,24 @@ ghost use Rattle.satl_base.specs.Identify.{has_cache, has_look};
 ghost use Rattle.satl_drive.specs.State.{IsFit};
 ghost use Rattle.satl_regs.specs.Commands.{command_in};
 ghost use Rattle.satl_regs.specs.Effects.{good_end, is_no_trim, own_blocks, power_count, settable, setting_of, sets_cache, sets_look};
+ghost use Rattle.satl_disk.specs.Bench.{glitched, mended, ordered, powered, struck, unplugged, with_word};
 ghost use Rattle.satl_disk.specs.Disk.{IsTold, called, cut_off, fresh, is_lost, is_outside, losing_after, medium, state_of};
 ghost use Rattle.satl_disk.specs.Running.{after_stop, flushed, is_garbled, ran, read_ran, set_ran, stop_of, stopped_end, telling, told, torn, trim_ran, verify_ran, write_ran};
 
 use crate::data_in::fill;
 use crate::ends::{ABRT, IDNF, Stop, bad_end, good_end, is_dma, stopped_end};
-use crate::identify::{has_cache, has_look, has_trim, identify_bytes, retell, trim_blocks};
+use crate::identify::{
+    has_cache, has_look, has_trim, identify_bytes, keep_integrity, retell, trim_blocks,
+    write_settings, write_word,
+};
 use crate::logs::read_log;
-use crate::sectors::{Sector, draw, flaw_in, put_blocks, settle_all};
+use crate::sectors::{
+    Sector, draw, flaw_in, lose_power, mend_at, put_blocks, settle_all, strike_at,
+};
 use crate::trims::{goes_outside, trim};
 use circular_buffer::HeapCircularBuffer;
 use satl_base::{Block, NoMemory, Pages, Steps, Which};
-use satl_drive::{Drive, LinkDown, Registers, Taskfile};
+use satl_drive::{Bench, Drive, LinkDown, Registers, Taskfile};
 use satl_regs::{AtaCommand, How, command_of};
 use std::alloc::Global;
 use std::marker::Model;
@@ -87,6 +93,71 @@ impl ModelDrive {
         self.fuse = Some(calls);
     }
 
+    /// Makes a word of the IDENTIFY DEVICE data, 0 to 255, this value, and brings the integrity byte up to date: where bits 7:0
+    /// of word 255 are A5h, its high byte makes all 512 bytes sum to 0 modulo 256. Word 255 itself becomes the value as it is
+    /// given. Bits 5 and 6 of word 85 tell the settings, whatever the value is. A setting that word 82 no longer has is off;
+    /// no sector is written back for that (ACS-3 7.12.7; profile).
+    pub fn set_identify_word(&mut self, word: u8, value: u16)
+        ensures { self.new ≡ with_word word value self.old }
+    {
+        write_word(&mut self.identify.bytes, (word, value));
+        self.cache &= has_cache(&self.identify.bytes);
+        self.look &= has_look(&self.identify.bytes);
+        write_settings(&mut self.identify.bytes, self.cache, self.look);
+        keep_integrity(&mut self.identify.bytes, word);
+    }
+
+    fn set_flaw(&mut self, which: Which, lba: u64)
+        ensures { self.new ≡ struck which lba self.old }
+    {
+        strike_at(&mut self.sectors, which, lba);
+    }
+
+    fn clear_flaws(&mut self, lba: u64)
+        ensures { self.new ≡ mended lba self.old }
+    {
+        mend_at(&mut self.sectors, lba);
+    }
+
+    fn set_glitches(&mut self, count: u16)
+        ensures { self.new ≡ glitched count self.old }
+    {
+        self.glitches = count;
+    }
+
+    fn append_orders(&mut self, bytes: &[u8])
+        ensures { self.new ≡ ordered bytes.now self.old }
+    {
+        self.ring.fill_from_slice(bytes);
+    }
+
+    fn cycle_power(&mut self)
+        ensures value { self.new ≡ powered self.old }
+        ensures told { IsTold self.old.cache self.old.look self.old.identify }
+    {
+        lose_power(&mut self.sectors, &mut self.ring);
+        let cache = has_cache(&self.identify.bytes);
+        let look = has_look(&self.identify.bytes);
+        self.tell(cache, look);
+        self.active = true;
+        self.down = false;
+        self.fuse = None;
+    }
+
+    fn cut_link(&mut self)
+        ensures { self.new ≡ cut_off self.old }
+    {
+        self.down = true;
+        self.faults = self.faults.saturating_add(1);
+    }
+
+    fn pull_plug(&mut self)
+        ensures { self.new ≡ unplugged self.old }
+    {
+        self.cut_link();
+        self.unplugs = self.unplugs.saturating_add(1);
+    }
+
     /// Counts a call, and tells whether it finds the link lost.
     fn call(&mut self) -> bool
         ensures lost { result ≡ is_lost self.old }
@@ -94,8 +165,7 @@ impl ModelDrive {
         ensures told { IsTold self.old.cache self.old.look self.old.identify }
     {
         if self.is_lost() {
-            self.down = true;
-            self.faults = self.faults.saturating_add(1);
+            self.cut_link();
             return true;
         }
         self.fuse = match self.fuse {
@@ -367,5 +437,31 @@ impl Drive for ModelDrive {
             return Err(LinkDown);
         }
         Ok(self.carry_out(regs, pages))
+    }
+}
+
+impl Bench for ModelDrive {
+    fn strike(&mut self, which: Which, lba: u64) {
+        self.set_flaw(which, lba);
+    }
+
+    fn mend(&mut self, lba: u64) {
+        self.clear_flaws(lba);
+    }
+
+    fn glitch(&mut self, count: u16) {
+        self.set_glitches(count);
+    }
+
+    fn order(&mut self, bytes: &[u8]) {
+        self.append_orders(bytes);
+    }
+
+    fn power(&mut self) {
+        self.cycle_power();
+    }
+
+    fn unplug(&mut self) {
+        self.pull_plug();
     }
 }

@@ -1,8 +1,8 @@
 // The IDENTIFY DEVICE data of the modelled drive.
 ghost use Rattle.std.specs.Prelude.{◌≡◌, ◌≤◌, ◌<◌, ◌/◌, ◌%◌, ◌^◌};
 ghost use Rattle.satl_base.specs.Identify.{has_cache, has_look, has_trim, trim_blocks, word, word_bit};
-ghost use Rattle.satl_identify.specs.Data.{settings_byte};
-ghost use Rattle.satl_disk.specs.Data.{fixed_words, identify_data, retold, set_word, set_words};
+ghost use Rattle.satl_identify.specs.Data.{settings_byte, with_settings};
+ghost use Rattle.satl_disk.specs.Data.{fixed_words, identify_data, integrity_kept, retold, set_word, set_words};
 
 use satl_identify::mend;
 
@@ -73,7 +73,8 @@ const SETTINGS: usize = 2 * 85;
 // The place of the high byte of word 255.
 const INTEGRITY: usize = 2 * 255 + 1;
 
-fn write_word(data_bytes: &mut [u8; 512], word: Word)
+/// Writes a word.
+pub fn write_word(data_bytes: &mut [u8; 512], word: Word)
     ensures { data_bytes.new ≡ set_word word data_bytes.old }
 {
     let [low, high] = word.1.to_le_bytes();
@@ -103,6 +104,22 @@ fn settings_byte(byte: u8, cache_on: bool, look_on: bool) -> u8
     let look = if look_on { 0x40 } else { 0 };
     let cache = if cache_on { 0x20 } else { 0 };
     (byte >> 7 << 7) + look + cache + (byte & 0x1F)
+}
+
+/// Writes the settings into word 85.
+pub fn write_settings(data_bytes: &mut [u8; 512], cache_on: bool, look_on: bool)
+    ensures { data_bytes.new ≡ with_settings data_bytes.old cache_on look_on }
+{
+    data_bytes[SETTINGS] = settings_byte(data_bytes[SETTINGS], cache_on, look_on);
+}
+
+/// Brings the integrity byte up to date after a word was changed, but not where it stands in that word.
+pub fn keep_integrity(data_bytes: &mut [u8; 512], place: u8)
+    ensures { data_bytes.new ≡ integrity_kept place data_bytes.old }
+{
+    if place != 255 {
+        mend(data_bytes);
+    }
 }
 
 /// Makes the data tell these settings. Where there is an integrity byte, it keeps the sum of all bytes, whether that is 0 or not.

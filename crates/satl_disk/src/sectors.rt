@@ -2,7 +2,7 @@
 ghost use Rattle.std.specs.Prelude.{◌≡◌, ◌+◌, false, if◌then◌else◌, drop, take, slice_index_or, map, vec_len};
 ghost use Rattle.circular_buffer.specs.Buffer.{buffer};
 ghost use Rattle.satl_base.specs.Cells.{has_flaw, first_flaw};
-ghost use Rattle.satl_disk.specs.Sectors.{cell_of, cells_of, write_at, is_stuck, has_bit, is_taken, blocks_put, byte_of, settled};
+ghost use Rattle.satl_disk.specs.Sectors.{all_left, blocks_put, byte_of, bytes_left, cell_of, cells_of, changed_at, has_bit, is_stuck, is_taken, mended_sector, settled, struck_sector, write_at};
 
 use circular_buffer::HeapCircularBuffer;
 use satl_base::{Block, Pages, Which};
@@ -19,7 +19,7 @@ pub struct Sector {
 
 impl Sector {
     ghost use Rattle.satl_disk.specs.Disk.{blank_sector};
-    ghost use Rattle.satl_disk.specs.Sectors.{settled, written};
+    ghost use Rattle.satl_disk.specs.Sectors.{left_by, mended_sector, rest_by, settled, struck_sector, written};
 
     /// Zeros, without flaws (profile).
     pub fn blank() -> Sector
@@ -46,6 +46,39 @@ impl Sector {
         self.now = *block;
         self.dirty = cached;
         self.read_flaw = false;
+    }
+
+    fn strike(&mut self, which: Which)
+        ensures { self.new ≡ struck_sector which self.old }
+    {
+        match which {
+            Which::Read => self.read_flaw = true,
+            Which::Write => self.write_flaw = true,
+        }
+    }
+
+    fn mend(&mut self)
+        ensures { self.new ≡ mended_sector self.old }
+    {
+        *self = Sector {
+            read_flaw: false,
+            write_flaw: false,
+            ..*self
+        };
+    }
+
+    /// A loss of power, with the order byte that a dirty sector takes.
+    fn lose_power(&mut self, ring: &mut HeapCircularBuffer<u8>)
+        ensures sector { self.new ≡ left_by (byte_of ring.old.items) self.old }
+        ensures ring { ring.new ≡ buffer (rest_by self.old ring.old.items) ring.old.capacity }
+    {
+        if !self.dirty {
+            return;
+        }
+        if draw(ring) % 2 == 0 {
+            self.now = self.stable;
+        }
+        self.dirty = false;
     }
 
     /// Writes the sector back.
@@ -179,5 +212,38 @@ pub fn settle_all(sectors: &mut Vec<Sector>)
 {
     for sector in sectors.iter_mut() {
         sector.settle();
+    }
+}
+
+/// Sets a flaw of the sector at an address; past the last one nothing changes.
+pub fn strike_at(sectors: &mut Vec<Sector>, which: Which, lba: u64)
+    ensures size { vec_len sectors.new ≡ vec_len sectors.old }
+    ensures value { sectors.new.items ≡ changed_at (struck_sector which) sectors.old.items lba }
+{
+    if lba < sectors.len() as u64 {
+        let sector = &mut sectors[lba as usize];
+        sector.strike(which);
+    }
+}
+
+/// Clears the flaws of the sector at an address; past the last one nothing changes.
+pub fn mend_at(sectors: &mut Vec<Sector>, lba: u64)
+    ensures size { vec_len sectors.new ≡ vec_len sectors.old }
+    ensures value { sectors.new.items ≡ changed_at mended_sector sectors.old.items lba }
+{
+    if lba < sectors.len() as u64 {
+        let sector = &mut sectors[lba as usize];
+        sector.mend();
+    }
+}
+
+/// A loss of power: each dirty sector takes an order byte.
+pub fn lose_power(sectors: &mut Vec<Sector>, ring: &mut HeapCircularBuffer<u8>)
+    ensures size { vec_len sectors.new ≡ vec_len sectors.old }
+    ensures sectors { sectors.new.items ≡ all_left sectors.old.items ring.old.items }
+    ensures ring { ring.new ≡ buffer (bytes_left sectors.old.items ring.old.items) ring.old.capacity }
+{
+    for sector in sectors.iter_mut() {
+        sector.lose_power(ring);
     }
 }
