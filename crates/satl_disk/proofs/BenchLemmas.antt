@@ -1,5 +1,5 @@
 -- What a test bench does to the modelled drive keeps the rules.
-use Rattle.std.proofs.Common.{◌≡◌, refl, sym, ◌∙◌, ap, subst, ℕ, ◌+◌, ◌≤◌, [], arith, length}
+use Rattle.std.proofs.Common.{◌≡◌, refl, sym, ◌∙◌, ap, subst, ℕ, [], arith, length}
 use Rattle.std.proofs.lemmas.List.{length-map}
 use Rattle.satl_base.specs.declared.bench.Which.{Which}
 use Rattle.satl_base.specs.Cells.{Cell, change_at}
@@ -8,7 +8,7 @@ use Rattle.satl_base.proofs.CellsLemmas.{part_none}
 use Rattle.satl_regs.specs.Sectors.{with_flaw, without_flaws}
 use Rattle.satl_drive.specs.Bench.{IsMended, IsPowered, IsStruck, IsUnplugged}
 use Rattle.satl_drive.specs.Queue.{all_pairs}
-use Rattle.satl_drive.specs.State.{DriveState, IsFit}
+use Rattle.satl_drive.specs.State.{IsFit}
 use Rattle.satl_disk.specs.declared.sectors.Sector.{Sector}
 use Rattle.satl_disk.specs.Sectors.{cell_of, cells_of, changed_at, mended_sector, struck_sector}
 use Rattle.satl_disk.specs.Disk.{Disk, IsTold, state_of}

@@ -1,5 +1,5 @@
 -- What a test bench makes of the modelled drive (profile).
-use Rattle.std.specs.Prelude.{◌==◌, ℕ, ◌-◌, Bool, true, false, ◌&&◌, List, ◌++◌, None, length, take}
+use Rattle.std.specs.Prelude.{ℕ, ◌-◌, Bool, true, false, ◌&&◌, List, ◌++◌, None, length, take}
 use Rattle.circular_buffer.specs.Buffer.{buffer}
 use Rattle.satl_base.specs.declared.bench.Which.{Which}
 use Rattle.satl_base.specs.Identify.{has_cache, has_look}
