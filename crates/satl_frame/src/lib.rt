@@ -14,4 +14,4 @@ mod writing;
 
 pub use frames::{Frame, FrameFault, OutFrame, Place, Reason, Version, WriteFault};
 pub use reader::FrameReader;
-pub use writing::write_frame;
+pub use writing::{Gathered, append, gather, push, sent_len, write_frame};

@@ -13,11 +13,12 @@ use arrayvec::ArrayVec;
 use satl_base::{Pages, Reply};
 use satl_io::{Failed, Sink};
 
-/// The bytes of a frame that wait to be written. A reply with 4 KiB of data fits whole.
-type Gathered = ArrayVec<u8, 8192>;
+/// At most 8,192 bytes that wait to be written (profile). A reply with 4 KiB of data fits whole.
+pub type Gathered = ArrayVec<u8, 8192>;
 
-/// Writes all the bytes. After a failure some front of them was written.
-fn push<K: Sink>(sink: &mut K, bytes: &[u8]) -> Result<(), Failed>
+/// Writes all the bytes (profile), in one write call if the sink takes all that it is given. `Failed` comes only where the
+/// sink's count of faults rose, and then some front of the bytes was written.
+pub fn push<K: Sink>(sink: &mut K, bytes: &[u8]) -> Result<(), Failed>
     ensures all { OnOk result (Wrote (K.written sink.old) (K.written sink.new) bytes.now) }
     ensures part { OnErr result (WrotePart (K.written sink.old) (K.written sink.new) bytes.now) }
     ensures cause { HasCause (K.faults sink.old) (K.faults sink.new) result }
@@ -32,7 +33,8 @@ fn push<K: Sink>(sink: &mut K, bytes: &[u8]) -> Result<(), Failed>
     Ok(())
 }
 
-fn append(gathered: &mut Gathered, bytes: &[u8])
+/// Gathers bytes that fit (profile).
+pub fn append(gathered: &mut Gathered, bytes: &[u8])
     requires { array_vec_len gathered.old + length bytes.now ≤ 8192 }
     ensures { gathered.new.items ≡ gathered.old.items ++ bytes.now }
 {
@@ -42,8 +44,9 @@ fn append(gathered: &mut Gathered, bytes: &[u8])
     }
 }
 
-/// Gathers bytes. Where they do not fit, those that were gathered before are written first.
-fn gather<K: Sink>(sink: &mut K, gathered: &mut Gathered, bytes: &[u8]) -> Result<(), Failed>
+/// Gathers at most 8,192 bytes (profile). Where they do not fit, those that were gathered before are written first. `Failed`
+/// comes only where the sink's count of faults rose; then some front of what was gathered and of the bytes was written.
+pub fn gather<K: Sink>(sink: &mut K, gathered: &mut Gathered, bytes: &[u8]) -> Result<(), Failed>
     requires { length bytes.now ≤ 8192 }
     ensures all { OnOk result (Gathers (K.written sink.old) (K.written sink.new) gathered.old.items gathered.new.items bytes.now) }
     ensures part { OnErr result (WrotePart (K.written sink.old) (K.written sink.new) (gathered.old.items ++ bytes.now)) }
@@ -85,8 +88,8 @@ fn gather_data<K: Sink>(
     Ok(())
 }
 
-/// How much of the data the host takes.
-fn sent_len(expected: Option<u32>, len: u32) -> u32
+/// How many bytes of so much data the host takes (profile).
+pub fn sent_len(expected: Option<u32>, len: u32) -> u32
     ensures { result ≡ sent_len expected len }
 {
     match expected {

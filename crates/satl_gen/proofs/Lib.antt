@@ -1,0 +1,4 @@
+pub mod Blocks
+pub mod Requests
+pub mod Steps
+pub mod WholeInput

@@ -1,0 +1,10 @@
+//! A generated input (profile): requests by random numbers, as a source whose bytes are made as they are read.
+#![tactic(auto)]
+
+mod ahead;
+mod draw;
+pub mod laws;
+mod pieces;
+mod source;
+
+pub use source::GenSource;

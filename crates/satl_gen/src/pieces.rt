@@ -1,0 +1,66 @@
+// Pieces of a generated input.
+ghost use Rattle.std.specs.Prelude.{◌≡◌, ◌≤◌, ◌+◌, ◌++◌, ◌%◌, length, replicate};
+ghost use Rattle.arrayvec.specs.ArrayVec.{array_vec_len};
+ghost use Rattle.satl_frame.specs.Frames.{attr_code, spelled};
+ghost use Rattle.satl_frame.specs.Inputs.{all_spelled};
+ghost use Rattle.satl_frame.specs.declared.frames.Frame.TheVariants as frames;
+ghost use Rattle.satl_gen.specs.Coming.{request_head};
+ghost use Rattle.satl_gen.specs.Generated.{block_of, burst};
+
+use crate::draw::Draw;
+use arrayvec::ArrayVec;
+use satl_cdb::write_cdb;
+
+/// At most 512 bytes.
+pub type Piece = ArrayVec<u8, 512>;
+
+fn append(piece: &mut Piece, bytes: &[u8])
+    requires { array_vec_len piece.old + length bytes.now ≤ 512 }
+    ensures { piece.new.items ≡ piece.old.items ++ bytes.now }
+{
+    match piece.try_extend_from_slice(bytes) {
+        Ok(()) => {}
+        Err(_) => unreachable!(),
+    }
+}
+
+/// A piece of these bytes.
+pub fn piece_of(bytes: &[u8]) -> Piece
+    requires { length bytes.now ≤ 512 }
+    ensures { result.items ≡ bytes.now }
+{
+    let mut piece = Piece::new();
+    append(&mut piece, bytes);
+    piece
+}
+
+/// A block whose bytes are all the same.
+#[tactic(auto, unfolding(crate::specs::Generated::block_of))]
+pub fn block_piece(value: u64) -> Piece
+    ensures { result.items ≡ (block_of value).bytes }
+{
+    piece_of(&[(value % 256) as u8; 512])
+}
+
+/// A REQUEST frame up to its data-out.
+pub fn request_piece(number: u32, draw: Draw) -> Piece
+    ensures { result.items ≡ request_head number draw }
+{
+    let [a, b, c, d] = (30 + 512 * draw.sent_blocks()).to_be_bytes();
+    let [e, f, g, h] = number.to_be_bytes();
+    let nexus = (draw.a / 8 % 4) as u8;
+    let attr = u8::from(draw.a / 32 % 16 == 0);
+    let mut piece = piece_of(&[
+        0x01, a, b, c, d, nexus, attr, 0, 0, 0, 0, 0, 0, 0, 0, e, f, g, h,
+    ]);
+    append(&mut piece, &write_cdb(&draw.command()));
+    piece
+}
+
+/// A BENCH ORDER frame with the bytes of a number, and a TURN of 16.
+pub fn burst_piece(number: u32) -> Piece
+    ensures { result.items ≡ all_spelled (burst number) }
+{
+    let [a, b, c, d] = number.to_be_bytes();
+    piece_of(&[0x04, 0, 0, 0, 5, 4, a, b, c, d, 0x03, 0, 0, 0, 2, 0, 16])
+}

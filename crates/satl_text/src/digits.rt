@@ -1,0 +1,74 @@
+// The data of a reply in hexadecimal digits, gathered.
+ghost use Rattle.std.specs.Prelude.{◌≡◌, ◌≤◌, ◌*◌, ◌++◌, OnOk, OnErr, length};
+ghost use Rattle.hex.specs.Hex.{encode_lower};
+ghost use Rattle.satl_base.specs.Blocks.{first_bytes};
+ghost use Rattle.satl_frame.specs.Gathering.{Gathers};
+ghost use Rattle.satl_io.specs.Causes.{HasCause};
+ghost use Rattle.satl_io.specs.Known.{WrotePart};
+ghost use Rattle.satl_text.specs.Lines.{hex_bytes};
+
+use satl_base::Pages;
+use satl_frame::{Gathered, gather};
+use satl_io::{Failed, Sink};
+
+/// Gathers the digits of at most 512 bytes.
+fn gather_block<K: Sink>(sink: &mut K, gathered: &mut Gathered, bytes: &[u8]) -> Result<(), Failed>
+    requires { length bytes.now ≤ 512 }
+    ensures all { OnOk result (Gathers (K.written sink.old) (K.written sink.new) gathered.old.items gathered.new.items (encode_lower bytes.now)) }
+    ensures part { OnErr result (WrotePart (K.written sink.old) (K.written sink.new) (gathered.old.items ++ encode_lower bytes.now)) }
+    ensures cause { HasCause (K.faults sink.old) (K.faults sink.new) result }
+{
+    let mut digits = [0; 1024];
+    let digits = &mut digits[..2 * bytes.len()];
+    match hex::encode_to_slice(bytes, digits) {
+        Ok(()) => gather(sink, gathered, digits),
+        Err(_) => unreachable!(),
+    }
+}
+
+/// Gathers the digits of the first bytes that the pages hold.
+fn gather_digits<K: Sink>(
+    sink: &mut K,
+    gathered: &mut Gathered,
+    pages: &Pages,
+    len: u32,
+) -> Result<(), Failed>
+    requires { len ≤ 512 * length pages.now }
+    ensures all { OnOk result (Gathers (K.written sink.old) (K.written sink.new) gathered.old.items gathered.new.items (encode_lower (first_bytes len pages.now))) }
+    ensures part { OnErr result (WrotePart (K.written sink.old) (K.written sink.new) (gathered.old.items ++ encode_lower (first_bytes len pages.now))) }
+    ensures cause { HasCause (K.faults sink.old) (K.faults sink.new) result }
+    ensures size { OnOk result (length (first_bytes len pages.now) ≡ len) }
+{
+    let mut left = len as usize;
+    for block in pages.iter() {
+        let bytes = block.as_bytes();
+        let count = left.min(512);
+        match gather_block(sink, gathered, &bytes[..count]) {
+            Ok(()) => left -= count,
+            Err(Failed) => return Err(Failed),
+        }
+    }
+    Ok(())
+}
+
+/// Gathers the digits of the first bytes that the pages hold, or `-` where there is none.
+pub fn gather_bytes<K: Sink>(
+    sink: &mut K,
+    gathered: &mut Gathered,
+    pages: &Pages,
+    len: u32,
+) -> Result<(), Failed>
+    requires { len ≤ 512 * length pages.now }
+    ensures all { OnOk result (Gathers (K.written sink.old) (K.written sink.new) gathered.old.items gathered.new.items (hex_bytes (first_bytes len pages.now))) }
+    ensures part { OnErr result (WrotePart (K.written sink.old) (K.written sink.new) (gathered.old.items ++ hex_bytes (first_bytes len pages.now))) }
+    ensures cause { HasCause (K.faults sink.old) (K.faults sink.new) result }
+{
+    if len == 0 {
+        gather(sink, gathered, b"-")
+    } else {
+        match gather_digits(sink, gathered, pages, len) {
+            Ok(()) => Ok(()),
+            Err(Failed) => Err(Failed),
+        }
+    }
+}
