@@ -10,5 +10,5 @@ pub mod ServedLemmas
 pub mod TellingLemmas
 pub mod Transfers
 pub mod TurningLemmas
-pub mod UnforcedLemmas
+pub mod TransferringLemmas
 pub mod ValidLemmas

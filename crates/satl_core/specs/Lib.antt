@@ -1,5 +1,6 @@
 pub mod Layer
 pub mod Opening
+pub mod Running
 pub mod Submitting
 pub mod Telling
 pub mod Tie

@@ -4,8 +4,10 @@
 mod arrival;
 mod commands;
 mod satl;
+mod settings;
 mod submitting;
 mod telling;
+mod transferring;
 mod turning;
 
 pub use satl::{OpenFault, Satl};

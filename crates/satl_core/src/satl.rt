@@ -13,7 +13,7 @@ ghost use Rattle.satl_direct.specs.Turn.{Turn};
 ghost use Rattle.satl_core.specs.Layer.{IsTransfer, Tied, reply_pages, view};
 ghost use Rattle.satl_core.specs.Opening.{IsCause, IsOpened};
 ghost use Rattle.satl_core.specs.Submitting.{Becomes, CanSubmit, IsCutOf, judged, once_judged};
-ghost use Rattle.satl_core.specs.Turning.{AreUnforced, AsksNoFua};
+ghost use Rattle.satl_core.specs.Turning.{task_calls};
 
 use crate::arrival::{is_for_unit, plain};
 use crate::commands::tell_identity;
@@ -140,7 +140,6 @@ impl Satl {
         requires tied { Tied self.old (D.state drive.old) }
         ensures arrives { Arrives request (view self.old (D.state drive.old)) replies.new (view self.new (D.state drive.new)) }
         ensures around { (whole : Request) → IsCutOf whole request → Around (MayLose (Arrives whole)) (view self.old (D.state drive.old)) replies.new (view self.new (D.state drive.new)) }
-        ensures unforced { AsksNoFua request → AreUnforced (view self.old (D.state drive.old)) → AreUnforced (view self.new (D.state drive.new)) }
         ensures modes { self.new.modes ≡ self.old.modes }
         ensures more { length self.new.tasks ≤ length self.old.tasks + 1 }
         ensures drive { drive.new ≡ drive.old }
@@ -206,7 +205,7 @@ impl Satl {
     }
 
     /// One turn: the first task ends, if there is one. At a lost link all tasks are answered, in order of arrival (SAM-5 5;
-    /// lost links: profile). A WRITE with FUA goes through the cache where it is on, since WRITE DMA EXT has no FUA.
+    /// lost links: profile). A WRITE with FUA goes past a cache that is on, which is off meanwhile: WRITE DMA EXT has no FUA.
     pub fn turn<D: Drive, L: Ledger>(
         &mut self,
         drive: &mut D,
@@ -216,16 +215,15 @@ impl Satl {
         requires empty { replies.old ≡ [] }
         requires all_in { self.old.out ≡ 0 }
         requires tied { Tied self.old (D.state drive.old) }
-        ensures turns { AreUnforced (view self.old (D.state drive.old)) → Around Turn (view self.old (D.state drive.old)) replies.new (view self.new (D.state drive.new)) }
-        ensures unforced { AreUnforced (view self.old (D.state drive.old)) → AreUnforced (view self.new (D.state drive.new)) }
+        ensures turns { Around Turn (view self.old (D.state drive.old)) replies.new (view self.new (D.state drive.new)) }
         ensures tied { Tied self.new (D.state drive.new) }
         ensures pages { self.new.out ≡ reply_pages replies.new }
         ensures writable { AllByRecursion IsWritable replies.new }
         ensures fewer { length self.new.tasks ≤ length self.old.tasks - 1 }
         ensures modes { self.new.modes ≡ self.old.modes }
         ensures counted { RoseBy (losses_of (view self.old (D.state drive.old)) (view self.new (D.state drive.new))) (D.state drive.old).faults (D.state drive.new).faults }
-        ensures steps { steps.new ≤ steps.old + 1 }
-        ensures calls { steps.new + length self.new.tasks ≤ steps.old + length self.old.tasks }
+        ensures steps { steps.new ≤ steps.old + task_calls }
+        ensures calls { steps.new + task_calls * length self.new.tasks ≤ steps.old + task_calls * length self.old.tasks }
     {
         if self.pending() == 0 {
             return;
@@ -236,6 +234,7 @@ impl Satl {
         match run_task(
             self.down,
             self.started,
+            self.modes.wce,
             drive,
             &command,
             &mut task.body,
