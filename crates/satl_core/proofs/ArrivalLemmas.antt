@@ -35,7 +35,8 @@ use Rattle.satl_direct.specs.Tasks.{held_blocks, held_by, is_full, needed, range
 use Rattle.satl_core.specs.declared.submitting.AtOnce.{AtOnce}
 use Rattle.satl_core.specs.declared.submitting.AtOnce.TheVariants as at_once
 use Rattle.satl_core.specs.Layer.{IsServed, IsTransfer, Layer, view}
-use Rattle.satl_core.specs.Submitting.{sense_data, tell_attention, answer_to, is_for_unit, other_answer, Becomes, IsAdded, IsRefused, attention_answer, attention_of, cdb_answer, code_answer, command_answer, judged, left_by, once_judged, overlaps, readiness, reply_at_once, task_without_pages, untold}
+use Rattle.satl_core.specs.Leaving.{left_by}
+use Rattle.satl_core.specs.Submitting.{sense_data, tell_attention, answer_to, is_for_unit, other_answer, Becomes, IsAdded, IsRefused, attention_answer, attention_of, cdb_answer, code_answer, command_answer, judged, once_judged, overlaps, readiness, reply_at_once, task_without_pages, untold}
 use Rattle.satl_core.specs.declared.telling.Data.TheVariants as datas
 use Rattle.satl_core.specs.Turning.{asks_for_fua, asks_fua, fua_codes}
 use Rattle.satl_core.proofs.LeavingLemmas.{found_is, left_tasks}
@@ -412,7 +413,7 @@ arrival_by unit over what s r = cond unit (cond over (direct.overlaps (check s r
 -- the layer by these tests
 abbrev once_judged_by : Bool → Bool → Option Attention → Layer → Request → Layer
 once_judged_by unit over what l r =
-    cond (not unit) l (cond over (record l { tasks = left_by r.nexus l.tasks }) (record l { attentions = untold what r.nexus l.attentions }))
+    cond (not unit) l (cond over (record l { tasks = left_by (is_of r.nexus) l.tasks }) (record l { attentions = untold what r.nexus l.attentions }))
 
 other_is : (l : Layer) (d : DriveState) (r : Request) → other_arrival (view l d) r ≡ answered (reply_at_once l.identity l.modes r (other_answer r))
 other_is l d r =

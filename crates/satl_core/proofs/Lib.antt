@@ -5,6 +5,7 @@ pub mod CountedLemmas
 pub mod DeviceLemmas
 pub mod HeldLemmas
 pub mod LeavingLemmas
+pub mod ManagingLemmas
 pub mod OpeningLemmas
 pub mod ServedLemmas
 pub mod TellingLemmas

@@ -12,7 +12,8 @@ use Rattle.satl_drive.specs.State.{DriveState}
 use Rattle.satl_direct.specs.Device.{Device}
 use Rattle.satl_direct.specs.Tasks.{task_for, task_of}
 use Rattle.satl_core.specs.Layer.{Layer, view}
-use Rattle.satl_core.specs.Submitting.{is_for_unit, Becomes, IsAdded, IsRefused, attention_of, judged, left_by, once_judged, overlaps, task_without_pages, untold}
+use Rattle.satl_core.specs.Leaving.{left_by}
+use Rattle.satl_core.specs.Submitting.{is_for_unit, Becomes, IsAdded, IsRefused, attention_of, judged, once_judged, overlaps, task_without_pages, untold}
 use Rattle.satl_core.specs.Turning.{AreUnforced, AsksNoFua, asks_fua}
 use Rattle.satl_core.proofs.ArrivalLemmas.{judged_ok, said_unforced}
 use Rattle.satl_core.proofs.HeldLemmas.{IsFirst}
@@ -34,9 +35,9 @@ pub same_unforced : (s new : Device) → new ≡ s → AreUnforced s → AreUnfo
 same_unforced s new same free = subst AreUnforced (sym same) free
 
 -- the tasks that stay when those of a nexus go ask for no FUA
-left_unforced : (nexus : ℕ) (l : Layer) (d : DriveState) → AreUnforced (view l d) → AreUnforced (view (record l { tasks = left_by nexus l.tasks }) d)
-left_unforced nexus l d free =
-    ⊎_elim inl (λ all. inr (none_asks (left_by nexus l.tasks) (left_kept (λ h. asks_fua h.entry.command ≡ false) nexus l.tasks (held_ask l.tasks all)))) free
+left_unforced : (goes : Entry → Bool) (l : Layer) (d : DriveState) → AreUnforced (view l d) → AreUnforced (view (record l { tasks = left_by goes l.tasks }) d)
+left_unforced goes l d free =
+    ⊎_elim inl (λ all. inr (none_asks (left_by goes l.tasks) (left_kept (λ h. asks_fua h.entry.command ≡ false) goes l.tasks (held_ask l.tasks all)))) free
   where
     held_ask : (tasks : List Held) → NoneAsks (map task_of (entries_of tasks)) → AllByRecursion (λ h. asks_fua h.entry.command ≡ false) tasks
     held_ask [] all = tt
@@ -49,10 +50,10 @@ left_unforced nexus l d free =
 -- the tasks that are left once a request is judged ask for no FUA
 pub judged_unforced_all : (l : Layer) (d : DriveState) (r : Request) → AreUnforced (view l d) → AreUnforced (view (once_judged l r) d)
 judged_unforced_all l d r free =
-    elim (is_for_unit r) as (λ b. AreUnforced (view (cond (not b) l (cond (overlaps l.tasks r) (record l { tasks = left_by r.nexus l.tasks }) (record l { attentions = untold (attention_of l.attentions r) r.nexus l.attentions }))) d)) [
+    elim (is_for_unit r) as (λ b. AreUnforced (view (cond (not b) l (cond (overlaps l.tasks r) (record l { tasks = left_by (is_of r.nexus) l.tasks }) (record l { attentions = untold (attention_of l.attentions r) r.nexus l.attentions }))) d)) [
       | false ↦ free
-      | true ↦ (elim (overlaps l.tasks r) as (λ b. AreUnforced (view (cond b (record l { tasks = left_by r.nexus l.tasks }) (record l { attentions = untold (attention_of l.attentions r) r.nexus l.attentions })) d)) [
-        | true ↦ left_unforced r.nexus l d free
+      | true ↦ (elim (overlaps l.tasks r) as (λ b. AreUnforced (view (cond b (record l { tasks = left_by (is_of r.nexus) l.tasks }) (record l { attentions = untold (attention_of l.attentions r) r.nexus l.attentions })) d)) [
+        | true ↦ left_unforced (is_of r.nexus) l d free
         | false ↦ free
       ])
     ]

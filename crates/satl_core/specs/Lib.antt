@@ -1,4 +1,6 @@
 pub mod Layer
+pub mod Leaving
+pub mod Managing
 pub mod Opening
 pub mod Submitting
 pub mod Telling

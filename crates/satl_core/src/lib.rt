@@ -3,6 +3,8 @@
 
 mod arrival;
 mod commands;
+mod leaving;
+mod managing;
 mod satl;
 mod submitting;
 mod telling;
