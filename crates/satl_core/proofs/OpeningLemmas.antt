@@ -28,6 +28,10 @@ off : (on has : Bool) → (on ≡ true → has ≡ true) → has ≡ false → o
 off true has must none = let has_it = must refl in absurd cc
 off false has must none = refl
 
+twice : (b : Bool) → not (not b) ≡ b
+twice true = refl
+twice false = refl
+
 tied : (old new : DriveState) (given taken : List Block) (i : Identity) (modes : Modes) (free : ℕ) → old.outstanding ≡ [] → old.error ≡ None → IsTold old given taken new → IsFit old → IsFit new → identity_of old.identify ≡ Ok i → modes.wce ≡ i.cache_on → modes.dra ≡ not i.look_on
     → Tied (record { identity = i; modes = modes; started = true; down = false; attentions = replicate 4 []; tasks = []; free = free; out = 0 }) new
 tied old new given taken i modes free idle no_error told fit fit' judged wce dra =
@@ -38,6 +42,9 @@ tied old new given taken i modes free idle no_error told fit fit' judged wce dra
       no_error = ap (λ (d : DriveState). d.error) told.stays ∙ no_error;
       fit = fit';
       cache = λ up. ap (λ (d : DriveState). d.cache) told.stays ∙ (sym fit.cache_told ∙ (ap (λ (j : Identity). j.cache_on) say ∙ sym wce));
+      look = λ up. ap (λ (d : DriveState). d.look) told.stays ∙ (sym fit.look_told ∙ (ap (λ (j : Identity). j.look_on) say ∙ (sym (twice i.look_on) ∙ ap not (sym dra))));
+      has_cache = ap (λ (d : DriveState). has_cache d.identify) told.stays ∙ ap (λ (j : Identity). j.cache) say;
+      has_look = ap (λ (d : DriveState). has_look d.identify) told.stays ∙ ap (λ (j : Identity). j.look) say;
       valid = record {
         identity = subst (λ b. identity_of b ≡ Ok i) (ap (λ (j : Identity). j.bytes) say) judged;
         cells = fit'.sectors ∙ (ap (λ (d : DriveState). d.capacity) told.stays ∙ (sym fit.told ∙ ap (λ (j : Identity). j.capacity) say));

@@ -240,20 +240,23 @@ filled_up_cut r = ap (λ b. record r { body = b }) (sym (take-append_seam r.body
 sectors_still : (d d' : DriveState) (capacity : ℕ) → IsFit d' → IsFit d → Stays d d' → length d.cells ≡ capacity → length d'.cells ≡ capacity
 sectors_still d d' capacity fit' fit stays sectors = fit'.sectors ∙ (stays.capacity ∙ (sym fit.sectors ∙ sectors))
 
--- another layer is tied as this one is, where its mark and its modes are the same and its device is valid
-pub tied_by : (l new : Layer) (d : DriveState) → new.down ≡ l.down → new.modes ≡ l.modes → IsValid (view new d) → Tied l d → Tied new d
-tied_by l new d mark modes valid tied = record {
+-- another layer is tied as this one is, where its mark, its modes and its identity are the same and its device is valid
+pub tied_by : (l new : Layer) (d : DriveState) → new.down ≡ l.down → new.modes ≡ l.modes → new.identity ≡ l.identity → IsValid (view new d) → Tied l d → Tied new d
+tied_by l new d mark modes same valid tied = record {
   mark = mark ∙ tied.mark;
   idle = tied.idle;
   no_error = tied.no_error;
   fit = tied.fit;
   cache = λ up. tied.cache (sym mark ∙ up) ∙ sym (ap (λ (m : Modes). m.wce) modes);
+  look = λ up. tied.look (sym mark ∙ up) ∙ sym (ap (λ (m : Modes). not m.dra) modes);
+  has_cache = tied.has_cache ∙ sym (ap (λ (i : Identity). i.cache) same);
+  has_look = tied.has_look ∙ sym (ap (λ (i : Identity). i.look) same);
   valid = valid;
 }
 
 -- what becomes of a request leaves the layer tied
 pub becomes_tied : (l new : Layer) (d : DriveState) (r : Request) (c : Command) (replies : List Reply) → judged l r ≡ Ok c → Becomes r c l replies new → r.data_len ≤ 512 * length r.body → Tied l d → Tied new d
-becomes_tied l new d r c replies e b pages tied = tied_by l new d (ap (λ (x : Layer). x.down) same) (ap (λ (x : Layer). x.modes) same) (becomes_valid l new d r c replies e b pages tied.valid) tied
+becomes_tied l new d r c replies e b pages tied = tied_by l new d (ap (λ (x : Layer). x.down) same) (ap (λ (x : Layer). x.modes) same) (ap (λ (x : Layer). x.identity) same) (becomes_valid l new d r c replies e b pages tied.valid) tied
   where
     same : new ≡ record l { tasks = new.tasks; free = new.free; out = new.out }
     same = (elim (is_too_much l.tasks (task_without_pages r c l.identity.queued_trim)) as (λ f. MatchBool f (IsRefused r l replies new) (IsAdded r c l replies new) → new ≡ record l { tasks = new.tasks; free = new.free; out = new.out }) [
@@ -273,6 +276,9 @@ still_tied_rest identity modes started down attentions tasks rest entry free out
       no_error = stays.no_error;
       fit = fit;
       cache = λ up. stays.cache (mark ∙ up) ∙ tied.cache up;
+      look = λ up. stays.look (mark ∙ up) ∙ tied.look up;
+      has_cache = stays.has_cache ∙ tied.has_cache;
+      has_look = stays.has_look ∙ tied.has_look;
       valid = record {
         identity = v.identity;
         cells = sectors_still d d' identity.capacity fit tied.fit stays v.cells;
@@ -298,6 +304,9 @@ still_tied_none identity modes started down attentions tasks none free out free'
       no_error = stays.no_error;
       fit = fit;
       cache = λ up. absurd cc;
+      look = λ up. absurd cc;
+      has_cache = stays.has_cache ∙ tied.has_cache;
+      has_look = stays.has_look ∙ tied.has_look;
       valid = record {
         identity = tied.valid.identity;
         cells = sectors_still d d' identity.capacity fit tied.fit stays tied.valid.cells;

@@ -1,8 +1,9 @@
 -- What the layer holds, and the direct device that it and its drive are.
-use Rattle.std.specs.Prelude.{◌≡◌, ℕ, ◌+◌, ◌≤◌, ◌<◌, ◌^◌, Bool, false, List, [], ◌∷◌, map, length, Option, None, IfSome}
+use Rattle.std.specs.Prelude.{◌≡◌, ℕ, ◌+◌, ◌≤◌, ◌<◌, ◌^◌, Bool, false, not, List, [], ◌∷◌, map, length, Option, None, IfSome}
 use Rattle.std.specs.List.{AllByRecursion}
 use Rattle.satl_base.specs.declared.modes.Modes.{Modes}
 use Rattle.satl_base.specs.declared.reply.Reply.{Reply}
+use Rattle.satl_base.specs.Identify.{has_cache, has_look}
 use Rattle.satl_cdb.specs.declared.command.Command.{Command}
 use Rattle.satl_cdb.specs.declared.command.Command.TheVariants.{Inquiry, ModeSense, Read, ReadCapacity10, ReadCapacity16, ReportLuns, RequestSense, TestUnitReady, Write}
 use Rattle.satl_identify.specs.declared.identity.Identity.{Identity}
@@ -79,14 +80,17 @@ view l d = record {
 }
 
 -- the layer's record of its drive is right: together they are a valid device; nothing is outstanding and no queued command has failed;
--- the drive fits its data; the cache is on where WCE is as long as the link is up; and the mark of a lost link is set where the link is
--- lost (profile)
+-- the drive fits its data; as long as the link is up the cache is on where WCE is, and look-ahead where DRA is not; the drive's data say
+-- that it has a cache and look-ahead where the layer has noted so; and the mark of a lost link is set where the link is lost (profile)
 pub record Tied (l : Layer) (d : DriveState) : Type 0 where
   pub mark : l.down ≡ d.down
   pub idle : d.outstanding ≡ []
   pub no_error : d.error ≡ None
   pub fit : IsFit d
   pub cache : l.down ≡ false → d.cache ≡ l.modes.wce
+  pub look : l.down ≡ false → d.look ≡ not l.modes.dra
+  pub has_cache : has_cache d.identify ≡ l.identity.cache
+  pub has_look : has_look d.identify ≡ l.identity.look
   pub valid : IsValid (view l d)
 
 -- the pages in replies (profile)

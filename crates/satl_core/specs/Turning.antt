@@ -7,6 +7,7 @@ use Rattle.satl_base.specs.declared.reply.Scsi.{Scsi}
 use Rattle.satl_base.specs.declared.reply.Scsi.TheVariants as statuses
 use Rattle.satl_base.specs.declared.request.Request.{Request}
 use Rattle.satl_base.specs.Fields.{bit}
+use Rattle.satl_base.specs.Identify.{has_cache, has_look}
 use Rattle.satl_base.specs.Lists.{is_in}
 use Rattle.satl_cdb.specs.declared.command.Command.{Command}
 use Rattle.satl_cdb.specs.declared.command.Command.TheVariants.{Read, Write}
@@ -70,10 +71,13 @@ ended_reply t ending descriptor = record {
 abbrev pub lost_replies : Bool → List Held → List Reply
 lost_replies descriptor tasks = map (λ h. ended_reply h.entry (endings.Check link_lost) descriptor) tasks
 
--- what a run of a drive leaves as it was, the cache as long as the link is up, and that its sectors are sound (profile)
+-- what a run of a drive leaves as it was, the cache and look-ahead as long as the link is up, and that its sectors are sound (profile)
 pub record Stays (old new : DriveState) : Type 0 where
   pub capacity : new.capacity ≡ old.capacity
   pub cache : new.down ≡ false → new.cache ≡ old.cache
+  pub look : new.down ≡ false → new.look ≡ old.look
+  pub has_cache : has_cache new.identify ≡ has_cache old.identify
+  pub has_look : has_look new.identify ≡ has_look old.identify
   pub idle : new.outstanding ≡ []
   pub no_error : new.error ≡ None
   pub sound : AreSound new.cells

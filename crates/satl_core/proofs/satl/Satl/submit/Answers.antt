@@ -92,5 +92,5 @@ pub returns-in-Err-clause-tied : goal.returns-in-Err-clause-tied
 returns-in-Err-clause-tied g c =
     let d = g.D.Drive.state c.args.drive.now in
     let kept = c.self.view_is ∙ c.in-Err.ensures.kept in
-    tied_by c.args.self.now _ d (ap (λ (l : Layer). l.down) kept) (ap (λ (l : Layer). l.modes) kept)
+    tied_by c.args.self.now _ d (ap (λ (l : Layer). l.down) kept) (ap (λ (l : Layer). l.modes) kept) (ap (λ (l : Layer). l.identity) kept)
     (subst IsValid (sym (ap (λ l. view l d) (c.self.view_is ∙ c.in-Err.ensures.left))) (once_judged_valid c.args.self.now d c.args.request c.requires.tied.valid)) c.requires.tied
