@@ -101,13 +101,16 @@ any_here p (h ∷ tasks) zero entry at is =
 any_here p (h ∷ tasks) (suc place) entry at is = any_here p tasks place entry at is
 
 -- it is none, and the others are looked at
-pub any_next : (p : Entry → Bool) (tasks : List Held) (place : ℕ) (entry : Entry) → entry_at tasks place ≡ Some entry → p entry ≡ false → list_any p (entries_of (drop place tasks)) ≡ list_any p (entries_of (drop (suc place) tasks))
-any_next p [] place entry at is = absurd cc
-any_next p (h ∷ tasks) zero entry at is =
+any_step : (p : Entry → Bool) (tasks : List Held) (place : ℕ) (entry : Entry) → entry_at tasks place ≡ Some entry → p entry ≡ false → list_any p (entries_of (drop place tasks)) ≡ list_any p (entries_of (drop (suc place) tasks))
+any_step p [] place entry at is = absurd cc
+any_step p (h ∷ tasks) zero entry at is =
     let here : h.entry ≡ entry = cc in
     let test : p h.entry ≡ false = ap p here ∙ is in
     ap (λ b. b || list_any p (entries_of tasks)) test
-any_next p (h ∷ tasks) (suc place) entry at is = any_next p tasks place entry at is
+any_step p (h ∷ tasks) (suc place) entry at is = any_step p tasks place entry at is
+
+pub any_next : (p : Entry → Bool) (tasks : List Held) (place next : ℕ) (entry : Entry) → next ≡ suc place → entry_at tasks place ≡ Some entry → p entry ≡ false → list_any p (entries_of (drop place tasks)) ≡ list_any p (entries_of (drop next tasks))
+any_next p tasks place next entry e at is = any_step p tasks place entry at is ∙ ap (λ n. list_any p (entries_of (drop n tasks))) (sym e)
 
 -- the device has one where the layer has, by a test that says the same of them there
 pub any_tasks : (p q : Entry → Bool) → ((t : Entry) → q (task_of t) ≡ p t) → (tasks : List Held) → list_any p (entries_of tasks) ≡ list_any q (map task_of (entries_of tasks))

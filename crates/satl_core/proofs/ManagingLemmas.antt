@@ -4,6 +4,7 @@ use Rattle.std.specs.Prelude.{if◌then◌else◌, not, ◌&&◌, ◌==◌, filt
 use Rattle.std.specs.List.{AllByRecursion, list_any}
 use Rattle.satl_base.specs.declared.modes.Modes.{Modes}
 use Rattle.satl_base.specs.declared.request.Manage.{Manage}
+use Rattle.satl_base.specs.declared.reply.Reply.{Reply}
 use Rattle.satl_base.specs.declared.reply.Response.TheVariants.{Rejected, IncorrectLun}
 use Rattle.satl_identify.specs.declared.identity.Identity.{Identity}
 use Rattle.satl_unit.specs.declared.attention.Attention.{Attention}
@@ -21,6 +22,9 @@ use Rattle.satl_direct.specs.Attentions.{post, posted_for}
 use Rattle.satl_direct.specs.Device.{Device, is_of}
 use Rattle.satl_direct.specs.Management as direct
 use Rattle.satl_direct.specs.Management.{IsManaged, found, has_unit}
+use Rattle.satl_direct.specs.Quiet.{Around}
+use Rattle.satl_direct.specs.Run.{Manages, MayLose}
+use Rattle.satl_direct.specs.Run.MayLose.{keeps}
 use Rattle.satl_direct.specs.Tasks.{task_of}
 use Rattle.satl_direct.specs.Valid.{IsValid}
 use Rattle.satl_core.specs.declared.leaving.Scope.{Scope}
@@ -31,7 +35,7 @@ use Rattle.satl_core.specs.declared.managing.Posting.TheVariants as postings
 use Rattle.satl_core.specs.Layer.{Layer, Tied, view}
 use Rattle.satl_core.specs.Leaving.{is_within, left_by}
 use Rattle.satl_core.specs.Managing.{condition_of, effect, effect_of, effect_or_none, is_told, once_posted, only}
-use Rattle.satl_core.proofs.DeviceLemmas.{seen}
+use Rattle.satl_core.proofs.DeviceLemmas.{around_alone, seen}
 use Rattle.satl_core.proofs.LeavingLemmas.{any_tasks, left_tasks}
 use Rattle.satl_core.proofs.ValidLemmas.{tied_by, valid_left}
 
@@ -176,3 +180,24 @@ valid_managed s new tasks tasks' lists' own ts left posts same v =
   where
     stay : map task_of (entries_of tasks') ≡ filter (λ t. not (is_within own.goes t)) s.tasks
     stay = ap (λ l. map task_of (entries_of l)) left ∙ (left_tasks (is_within own.goes) (is_within own.goes) (within_seen own.goes) tasks ∙ ap (filter (λ t. not (is_within own.goes t))) (sym ts))
+
+-- ---- the layer by its parts
+
+-- the function is a step of the device
+pub managed_around : (m : Manage) (own : Effect) (identity : Identity) (modes : Modes) (started down : Bool) (lists lists' : List (List Attention)) (tasks tasks' : List Held) (free out : ℕ) (d : DriveState) (l : Layer) (replies : List Reply)
+    → record { identity = identity; modes = modes; started = started; down = down; attentions = lists; tasks = tasks; free = free; out = out } ≡ l → replies ≡ [] → own ≡ effect m tasks → tasks' ≡ left_by (is_within own.goes) tasks → lists' ≡ once_posted own.posts tasks lists
+    → Around (MayLose (Manages m own.response)) (view l d) replies (seen identity modes started lists' (map task_of (entries_of tasks')) d)
+managed_around m own identity modes started down lists lists' tasks tasks' free out d l replies view_is empty is left posts =
+    let old = seen identity modes started lists (map task_of (entries_of tasks)) d in
+    let new = seen identity modes started lists' (map task_of (entries_of tasks')) d in
+    subst (λ x. Around (MayLose (Manages m own.response)) (view x d) replies new) view_is
+    (around_alone (MayLose (Manages m own.response)) old new replies (keeps (empty, manages m old new tasks tasks' lists lists' own is refl refl left posts refl)))
+
+-- and leaves the layer tied
+pub managed_tied : (own : Effect) (identity : Identity) (modes : Modes) (started down : Bool) (lists lists' : List (List Attention)) (tasks tasks' : List Held) (free out free' out' : ℕ) (d : DriveState)
+    → tasks' ≡ left_by (is_within own.goes) tasks → lists' ≡ once_posted own.posts tasks lists
+    → Tied (record { identity = identity; modes = modes; started = started; down = down; attentions = lists; tasks = tasks; free = free; out = out }) d
+    → Tied (record { identity = identity; modes = modes; started = started; down = down; attentions = lists'; tasks = tasks'; free = free'; out = out' }) d
+managed_tied own identity modes started down lists lists' tasks tasks' free out free' out' d left posts tied =
+    tied_by (record { identity = identity; modes = modes; started = started; down = down; attentions = lists; tasks = tasks; free = free; out = out }) (record { identity = identity; modes = modes; started = started; down = down; attentions = lists'; tasks = tasks'; free = free'; out = out' }) d refl refl refl
+    (valid_managed (seen identity modes started lists (map task_of (entries_of tasks)) d) (seen identity modes started lists' (map task_of (entries_of tasks')) d) tasks tasks' lists' own refl left posts refl tied.valid) tied

@@ -1,5 +1,5 @@
 -- Which tasks ask for FUA.
-use Rattle.std.proofs.Common.{◌≡◌, ⊎_elim, inl, inr, sym, ap, subst, ◌∙◌, true, false, cond, ℕ, List, [], ◌∷◌, map}
+use Rattle.std.proofs.Common.{◌≡◌, ⊎_elim, inl, inr, sym, ap, subst, ◌∙◌, true, false, cond, ℕ, List, [], ◌∷◌, map, Bool}
 use Rattle.std.specs.Prelude.{Ok, MatchBool, not}
 use Rattle.std.specs.List.{AllByRecursion}
 use Rattle.satl_base.specs.declared.reply.Reply.{Reply}
@@ -9,7 +9,7 @@ use Rattle.satl_line.specs.declared.entry.Entry.{Entry}
 use Rattle.satl_line.specs.Tasks.{Held, entries_of, is_too_much}
 use Rattle.satl_line.proofs.SlotsLemmas.{All-append}
 use Rattle.satl_drive.specs.State.{DriveState}
-use Rattle.satl_direct.specs.Device.{Device}
+use Rattle.satl_direct.specs.Device.{Device, is_of}
 use Rattle.satl_direct.specs.Tasks.{task_for, task_of}
 use Rattle.satl_core.specs.Layer.{Layer, view}
 use Rattle.satl_core.specs.Leaving.{left_by}

@@ -20,8 +20,8 @@ use crate::commands::tell_identity;
 use crate::leaving::{Scope, drop_tasks};
 use crate::managing::{decide, post};
 use crate::submitting::{
-    AtOnce, answer_at_once, judge_code, next_attention, other_answer, own_pages,
-    reply_to, task_without_pages, tell_attention,
+    AtOnce, answer_at_once, judge_code, next_attention, other_answer, own_pages, reply_to,
+    task_without_pages, tell_attention,
 };
 use crate::turning::{end_task, link_lost, lose_tasks, run_task};
 use satl_base::{
@@ -180,7 +180,11 @@ impl Satl {
             return Err(other_answer(request));
         }
         if self.tasks.find(request.nexus, request.tag).is_some() {
-            drop_tasks(&mut self.tasks, &mut self.pool, &Scope::OfNexus(request.nexus));
+            drop_tasks(
+                &mut self.tasks,
+                &mut self.pool,
+                &Scope::OfNexus(request.nexus),
+            );
             return Err(AtOnce::Check(plain(0xB, 0x4E, 0x00)));
         }
         if let Some(what) = next_attention(&mut self.attentions, request) {
