@@ -1,5 +1,5 @@
 -- What commands may be run, and what IDENTIFY DEVICE does.
-use Rattle.std.proofs.Common.{◌≡◌, refl, sym, ap, subst, arith, ◌∙◌, ℕ, ◌≤◌, true, false, List, [], length, map, None}
+use Rattle.std.proofs.Common.{◌≡◌, refl, sym, ap, subst, arith, ◌∙◌, ℕ, ◌≤◌, false, List, [], length, map, None}
 use Rattle.satl_base.specs.declared.block.Block.{Block}
 use Rattle.satl_base.specs.Lists.{is_in}
 use Rattle.satl_base.specs.Losses.{Loses}

@@ -1,5 +1,6 @@
 pub mod AddingLemmas
 pub mod ArrivalLemmas
+pub mod BenchingLemmas
 pub mod CommandsLemmas
 pub mod CountedLemmas
 pub mod DeviceLemmas

@@ -5,7 +5,7 @@ use Rattle.std.specs.List.{AllByRecursion, list_any}
 use Rattle.satl_base.specs.declared.modes.Modes.{Modes}
 use Rattle.satl_base.specs.declared.request.Manage.{Manage}
 use Rattle.satl_base.specs.declared.reply.Reply.{Reply}
-use Rattle.satl_base.specs.declared.reply.Response.TheVariants.{Rejected, IncorrectLun}
+use Rattle.satl_base.specs.declared.reply.Response.TheVariants.{IncorrectLun}
 use Rattle.satl_identify.specs.declared.identity.Identity.{Identity}
 use Rattle.satl_unit.specs.declared.attention.Attention.{Attention}
 use Rattle.satl_unit.specs.declared.attention.Attention.TheVariants as attentions
@@ -18,7 +18,7 @@ use Rattle.satl_line.specs.declared.entry.Entry.{Entry}
 use Rattle.satl_line.specs.Tasks.{Held, entries_of}
 use Rattle.satl_drive.specs.State.{DriveState}
 use Rattle.satl_direct.specs.Arrival.{is_unit_0}
-use Rattle.satl_direct.specs.Attentions.{post, posted_for}
+use Rattle.satl_direct.specs.Attentions.{posted_for}
 use Rattle.satl_direct.specs.Device.{Device, is_of}
 use Rattle.satl_direct.specs.Management as direct
 use Rattle.satl_direct.specs.Management.{IsManaged, found, has_unit}

@@ -76,7 +76,7 @@ run_stays old new command r given taken ended capacity n idle no_error t again r
     }
 
 -- word 82 is as before where the settings alone are told anew
-word_82 : (cache look : Bool) (old new : List ℕ) → IsTelling cache look old new → word 82 new ≡ word 82 old
+pub word_82 : (cache look : Bool) (old new : List ℕ) → IsTelling cache look old new → word 82 new ≡ word 82 old
 word_82 cache look old new tells =
     let low : slice_index new 164 ≡ slice_index old 164 = tells.others 164 (λ e. absurd (omega (arith, e))) (λ e. absurd (omega (arith, e))) in
     let high : slice_index new 165 ≡ slice_index old 165 = tells.others 165 (λ e. absurd (omega (arith, e))) (λ e. absurd (omega (arith, e))) in
@@ -101,7 +101,7 @@ pub lost_pages : (descriptor : Bool) (tasks : List Held) → reply_pages (lost_r
 lost_pages descriptor [] = refl
 lost_pages descriptor (h ∷ tasks) = let rest = lost_pages descriptor tasks in omega (arith, rest)
 
-lost_writable : (descriptor : Bool) (identity : Identity) (tasks : List Held) → AllByRecursion (IsKept identity) tasks → AllByRecursion IsWritable (lost_replies descriptor tasks)
+pub lost_writable : (descriptor : Bool) (identity : Identity) (tasks : List Held) → AllByRecursion (IsKept identity) tasks → AllByRecursion IsWritable (lost_replies descriptor tasks)
 lost_writable descriptor identity [] all = tt
 lost_writable descriptor identity (h ∷ tasks) all = (record { holds = omega arith; short = omega arith; expected = all.0.expected }, lost_writable descriptor identity tasks all.1)
 

@@ -1,5 +1,5 @@
 -- Which tasks ask for FUA.
-use Rattle.std.proofs.Common.{◌≡◌, ⊎_elim, inl, inr, sym, ap, subst, ◌∙◌, true, false, cond, ℕ, List, [], ◌∷◌, map, Bool}
+use Rattle.std.proofs.Common.{◌≡◌, ⊎_elim, inl, inr, sym, ap, subst, ◌∙◌, true, false, cond, List, [], ◌∷◌, map, Bool}
 use Rattle.std.specs.Prelude.{Ok, MatchBool, not}
 use Rattle.std.specs.List.{AllByRecursion}
 use Rattle.satl_base.specs.declared.reply.Reply.{Reply}

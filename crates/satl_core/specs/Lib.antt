@@ -1,3 +1,4 @@
+pub mod Benching
 pub mod Layer
 pub mod Leaving
 pub mod Managing

@@ -2,6 +2,7 @@
 #![tactic(auto)]
 
 mod arrival;
+mod benching;
 mod commands;
 mod leaving;
 mod managing;
