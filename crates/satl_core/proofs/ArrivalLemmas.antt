@@ -38,15 +38,14 @@ use Rattle.satl_core.specs.Layer.{IsServed, IsTransfer, Layer, view}
 use Rattle.satl_core.specs.Leaving.{left_by}
 use Rattle.satl_core.specs.Submitting.{sense_data, tell_attention, answer_to, is_for_unit, other_answer, Becomes, IsAdded, IsRefused, attention_answer, attention_of, cdb_answer, code_answer, command_answer, judged, once_judged, overlaps, readiness, reply_at_once, task_without_pages, untold}
 use Rattle.satl_core.specs.declared.telling.Data.TheVariants as datas
-use Rattle.satl_core.specs.Turning.{asks_for_fua, asks_fua, fua_codes}
 use Rattle.satl_core.proofs.LeavingLemmas.{found_is, left_tasks}
 
 -- ---- the commands that are served
 
--- what is known of a command by its bytes: a transfer has at most 4,096 blocks, and a WRITE without its FUA bit has no FUA
+-- what is known of a command by its bytes: a transfer has at most 4,096 blocks
 abbrev pub IsSaid : List ℕ → Command → Type 0
 IsSaid cdb (cdbs.Read form lba count fua) = slice_index cdb 4 < 256 → count ≤ 4096
-IsSaid cdb (cdbs.Write form lba count fua) = (slice_index cdb 4 < 256 → count ≤ 4096) × (asks_for_fua cdb ≡ false → fua ≡ false)
+IsSaid cdb (cdbs.Write form lba count fua) = slice_index cdb 4 < 256 → count ≤ 4096
 IsSaid cdb cdbs.TestUnitReady = Unit {0}
 IsSaid cdb (cdbs.RequestSense descriptor alloc) = slice_index cdb 0 ≡ 0x03
 IsSaid cdb (cdbs.Inquiry page alloc) = Unit {0}
@@ -70,12 +69,8 @@ of_rules long cdb c d e =
 said_read : (long : Layout) (cdb : List ℕ) (c : Command) → unless_broken (transfer_rules long) cdb ((read long).command cdb) ≡ Ok c → IsSaid cdb c
 said_read long cdb c e = let r = of_rules long cdb ((read long).command cdb) c e in subst (IsSaid cdb) r.0 (λ byte. r.1)
 
--- the FUA bit of a WRITE that has one
-fua_bit : (cdb : List ℕ) (code : ℕ) → slice_index cdb 0 ≡ code → is_in code fua_codes ≡ true → asks_for_fua cdb ≡ false → bit 1 3 cdb ≡ false
-fua_bit cdb code is among clear = subst (λ b. (b && bit 1 3 cdb) ≡ false) among (subst (λ n. (is_in n fua_codes && bit 1 3 cdb) ≡ false) is clear)
-
-said_write : (long : Layout) (cdb : List ℕ) (c : Command) (code : ℕ) → slice_index cdb 0 ≡ code → is_in code fua_codes ≡ true → unless_broken (transfer_rules long) cdb ((write long).command cdb) ≡ Ok c → IsSaid cdb c
-said_write long cdb c code is among e = let r = of_rules long cdb ((write long).command cdb) c e in subst (IsSaid cdb) r.0 (λ byte. r.1, fua_bit cdb code is among)
+said_write : (long : Layout) (cdb : List ℕ) (c : Command) → unless_broken (transfer_rules long) cdb ((write long).command cdb) ≡ Ok c → IsSaid cdb c
+said_write long cdb c e = let r = of_rules long cdb ((write long).command cdb) c e in subst (IsSaid cdb) r.0 (λ byte. r.1)
 
 -- a count of six bytes is at most 256
 short_few : (n : ℕ) → n < 256 → cond (n == 0) 256 n ≤ 4096
@@ -110,7 +105,7 @@ in_all P (x ∷ xs) n all e =
 
 -- each operation code that is served
 said_by : (cdb : List ℕ) (trim : Bool) (c : Command) → AllByRecursion (λ code. slice_index cdb 0 ≡ code → found_says (format_of (table trim) code) cdb ≡ Ok c → IsSaid cdb c) built
-said_by cdb trim c = (λ is e. same_said cdb cdbs.TestUnitReady c e tt, (λ is e. same_said cdb (cdbs.RequestSense (bit 1 0 cdb) (bytes 4 4 cdb)) c e is, (λ is e. same_said cdb (cdbs.Read Six (six.lba cdb) (six.count cdb) false) c e (short_count cdb), (λ is e. same_said cdb (cdbs.Write Six (six.lba cdb) (six.count cdb) false) c e (short_count cdb, λ clear. refl), (λ is e. subst (IsSaid cdb) (unbroken inquiry.rules cdb (inquiry.command cdb) c e) tt, (λ is e. subst (IsSaid cdb) (unbroken (mode_sense false).rules cdb ((mode_sense false).command cdb) c e) tt, (λ is e. same_said cdb cdbs.ReadCapacity10 c e tt, (λ is e. said_read ten cdb c e, (λ is e. said_write ten cdb c 0x2A is refl e, (λ is e. subst (IsSaid cdb) (unbroken (mode_sense true).rules cdb ((mode_sense true).command cdb) c e) tt, (λ is e. said_read sixteen cdb c e, (λ is e. said_write sixteen cdb c 0x8A is refl e, (λ is e. subst (IsSaid cdb) (unbroken read_capacity_16.rules cdb (read_capacity_16.command cdb) c e) tt, (λ is e. subst (IsSaid cdb) (unbroken report_luns.rules cdb (report_luns.command cdb) c e) tt, (λ is e. said_read twelve cdb c e, (λ is e. said_write twelve cdb c 0xAA is refl e, tt))))))))))))))))
+said_by cdb trim c = (λ is e. same_said cdb cdbs.TestUnitReady c e tt, (λ is e. same_said cdb (cdbs.RequestSense (bit 1 0 cdb) (bytes 4 4 cdb)) c e is, (λ is e. same_said cdb (cdbs.Read Six (six.lba cdb) (six.count cdb) false) c e (short_count cdb), (λ is e. same_said cdb (cdbs.Write Six (six.lba cdb) (six.count cdb) false) c e (short_count cdb), (λ is e. subst (IsSaid cdb) (unbroken inquiry.rules cdb (inquiry.command cdb) c e) tt, (λ is e. subst (IsSaid cdb) (unbroken (mode_sense false).rules cdb ((mode_sense false).command cdb) c e) tt, (λ is e. same_said cdb cdbs.ReadCapacity10 c e tt, (λ is e. said_read ten cdb c e, (λ is e. said_write ten cdb c e, (λ is e. subst (IsSaid cdb) (unbroken (mode_sense true).rules cdb ((mode_sense true).command cdb) c e) tt, (λ is e. said_read sixteen cdb c e, (λ is e. said_write sixteen cdb c e, (λ is e. subst (IsSaid cdb) (unbroken read_capacity_16.rules cdb (read_capacity_16.command cdb) c e) tt, (λ is e. subst (IsSaid cdb) (unbroken report_luns.rules cdb (report_luns.command cdb) c e) tt, (λ is e. said_read twelve cdb c e, (λ is e. said_write twelve cdb c e, tt))))))))))))))))
 
 said_of : (cdb : List ℕ) (trim : Bool) (c : Command) → is_in (slice_index cdb 0) built ≡ true → says cdb trim ≡ Ok c → IsSaid cdb c
 unfolding says
@@ -263,13 +258,7 @@ served cdb trim c in_it e = said_served cdb c (said_of cdb trim c in_it e)
 
 -- it goes over at most 4,096 blocks
 said_few : (cdb : List ℕ) (c : Command) → slice_index cdb 4 < 256 → IsSaid cdb c → (range_of c).count ≤ 4096
-said_few cdb c byte said = of_served (λ c. IsSaid cdb c → (range_of c).count ≤ 4096) (λ c here. of_told (λ c. IsSaid cdb c → (range_of c).count ≤ 4096) (λ said. omega arith) (λ descriptor alloc said. omega arith) (λ page alloc said. omega arith) (λ ten long_lba no_descriptor control page alloc said. omega arith) (λ said. omega arith) (λ alloc said. omega arith) (λ select alloc said. omega arith) c here) (λ form lba count fua said. said byte) (λ form lba count fua said. said.0 byte) c (said_served cdb c said) said
-
--- and asks for no FUA where its bytes do not
-pub said_unforced : (cdb : List ℕ) (trim : Bool) (c : Command) → asks_for_fua cdb ≡ false → is_in (slice_index cdb 0) built ≡ true → says cdb trim ≡ Ok c → asks_fua c ≡ false
-said_unforced cdb trim c clear in_it e =
-    let said = said_of cdb trim c in_it e in
-    of_served (λ c. IsSaid cdb c → asks_fua c ≡ false) (λ c here. of_told (λ c. IsSaid cdb c → asks_fua c ≡ false) (λ said. refl) (λ descriptor alloc said. refl) (λ page alloc said. refl) (λ ten long_lba no_descriptor control page alloc said. refl) (λ said. refl) (λ alloc said. refl) (λ select alloc said. refl) c here) (λ form lba count fua said. refl) (λ form lba count fua said. said.1 clear) c (said_served cdb c said) said
+said_few cdb c byte said = of_served (λ c. IsSaid cdb c → (range_of c).count ≤ 4096) (λ c here. of_told (λ c. IsSaid cdb c → (range_of c).count ≤ 4096) (λ said. omega arith) (λ descriptor alloc said. omega arith) (λ page alloc said. omega arith) (λ ten long_lba no_descriptor control page alloc said. omega arith) (λ said. omega arith) (λ alloc said. omega arith) (λ select alloc said. omega arith) c here) (λ form lba count fua said. said byte) (λ form lba count fua said. said byte) c (said_served cdb c said) said
 
 -- a command that may become a task goes over at most 4,096 blocks
 pub answer_few : (l : Layer) (trim : Bool) (cdb : List ℕ) (n : ℕ) (c : Command) (found : Result Command AtOnce) → slice_index cdb 4 < 256 → is_in (slice_index cdb 0) built ≡ true → says cdb trim ≡ Ok c → found ≡ command_answer l n c → IfOk found (λ command. (range_of command).count ≤ 4096)

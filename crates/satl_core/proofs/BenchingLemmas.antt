@@ -1,6 +1,6 @@
 -- What an event of a test bench does to the drive and to the layer is what it does to the device.
 use Rattle.std.proofs.Common.{◌≡◌, inl, inr, refl, sym, ap, subst, ◌∙◌, arith, ℕ, zero, suc, ◌≤◌, Bool, true, false, List, [], ◌∷◌, length, map}
-use Rattle.std.specs.Prelude.{not, ◌/◌, ◌%◌, ◌^◌, ◌==◌, replicate}
+use Rattle.std.specs.Prelude.{not, replicate}
 use Rattle.std.specs.List.{AllZip}
 use Rattle.satl_base.specs.declared.bench.BenchEvent.{BenchEvent}
 use Rattle.satl_base.specs.declared.bench.BenchEvent.TheVariants.{Strike, Mend, Glitch, Order, Power, Unplug}
@@ -34,8 +34,8 @@ use Rattle.satl_direct.specs.Run.{bench_losses}
 use Rattle.satl_direct.specs.Valid.{IsValid}
 use Rattle.satl_core.specs.Benching.{Follows, IsActedOn, LosesLink, StartsAnew, StaysSame}
 use Rattle.satl_core.specs.Layer.{Layer, Tied, view}
+use Rattle.satl_core.proofs.CommandsLemmas.{says_told}
 use Rattle.satl_core.proofs.DeviceLemmas.{around_alone, quiet_none, rest_lost}
-use Rattle.satl_core.proofs.TurningLemmas.{word_82}
 
 -- ---- what the drive does
 
@@ -197,9 +197,7 @@ valid_powered l d d' free out p v = record {
 
 tied_powered : (l new : Layer) (d d' : DriveState) (replies : List Reply) → IsPowered d d' → StartsAnew l replies new → IsFit d' → Tied l d → Tied new d'
 tied_powered l new d d' replies p r fit tied =
-    let word = word_82 (has_cache d.identify) (has_look d.identify) d.identify d'.identify p.tells in
-    let cache : has_cache d'.identify ≡ l.identity.cache = ap (λ w. w / 2 ^ 5 % 2 == 1) word ∙ tied.has_cache in
-    let look : has_look d'.identify ≡ l.identity.look = ap (λ w. w / 2 ^ 6 % 2 == 1) word ∙ tied.has_look in
+    let says = says_told (has_cache d.identify) (has_look d.identify) d.identify d'.identify p.tells in
     subst (λ x. Tied x d') (sym r.stays) (record {
       mark = sym (ap (λ (x : DriveState). x.down) p.stays);
       idle = ap (λ (x : DriveState). x.outstanding) p.stays;
@@ -207,8 +205,8 @@ tied_powered l new d d' replies p r fit tied =
       fit = fit;
       cache = λ up. ap (λ (x : DriveState). x.cache) p.stays ∙ tied.has_cache;
       look = λ up. ap (λ (x : DriveState). x.look) p.stays ∙ (tied.has_look ∙ twice l.identity.look);
-      has_cache = cache;
-      has_look = look;
+      has_cache = says.cache ∙ tied.has_cache;
+      has_look = says.look ∙ tied.has_look;
       valid = valid_powered l d d' new.free new.out p tied.valid;
     })
 

@@ -1,65 +1,238 @@
--- What commands may be run, and what IDENTIFY DEVICE does.
-use Rattle.std.proofs.Common.{◌≡◌, refl, sym, ap, subst, arith, ◌∙◌, ℕ, ◌≤◌, false, List, [], length, map, None}
+-- What a command does to a drive, and what it leaves.
+use Rattle.std.proofs.Common.{◌≡◌, ⊎_elim, inl, refl, sym, ap, subst, arith, ◌∙◌, ℕ, ◌+◌, ◌*◌, ◌≤◌, Bool, true, false, List, [], ◌∷◌, length, map, Some, None}
+use Rattle.std.specs.Prelude.{MatchBool, MatchOption, Option, if◌then◌else◌, nat_lt, slice_index, ◌⊎◌, ◌/◌, ◌%◌, ◌^◌, ◌==◌}
+use Rattle.std.specs.List.{AllByRecursion}
 use Rattle.satl_base.specs.declared.block.Block.{Block}
-use Rattle.satl_base.specs.Lists.{is_in}
+use Rattle.satl_base.specs.Cells.{AreSound, Cell, Pair, first_flaw, settle}
+use Rattle.satl_base.specs.Identify.{has_cache, has_look, word}
+use Rattle.satl_base.specs.Lists.{IsIn, is_in}
 use Rattle.satl_base.specs.Losses.{Loses}
-use Rattle.satl_base.proofs.LossesLemmas.{loses-nows}
-use Rattle.satl_cdb.specs.declared.command.Command.{Command}
+use Rattle.satl_base.specs.Moves.{Moves}
+use Rattle.satl_base.specs.Moves.{stay}
+use Rattle.satl_base.proofs.ListsLemmas.{All-in, leaves_only}
+use Rattle.satl_base.proofs.LossesLemmas.{loses-nows, loses-sound}
+use Rattle.satl_base.proofs.MovesLemmas.{lose_once, moves_of_part, moves_on}
+use Rattle.satl_io.specs.Causes.{Rose}
 use Rattle.satl_regs.specs.declared.values.Registers.{Registers}
 use Rattle.satl_regs.specs.declared.values.Taskfile.{Taskfile}
+use Rattle.satl_regs.specs.declared.values.How.TheVariants.{Pio, PioExt, Dma, DmaExt}
 use Rattle.satl_regs.specs.declared.values.AtaCommand.{AtaCommand}
 use Rattle.satl_regs.specs.declared.values.AtaCommand.TheVariants as commands
-use Rattle.satl_regs.specs.declared.values.How.TheVariants.{DmaExt}
 use Rattle.satl_regs.specs.Commands.{command_in}
 use Rattle.satl_regs.specs.Spelling.{command_registers}
 use Rattle.satl_regs.specs.QueuedCommands.{queued_codes}
-use Rattle.satl_regs.specs.Effects.{own_blocks, pairs_of}
+use Rattle.satl_regs.specs.Effects.{Carries, Does, IsCarriedOut, IsFlawed, IsGarbled, IsLogged, IsRefused, IsSet, IsTelling, Medium, Setting, Transfer, abrt, has_setting, idnf, is_error_log, is_no_trim, no_error_log, own_blocks, pairs_of, reading, setting_of, settable, trimming, verifying, with_setting, writing}
 use Rattle.satl_drive.specs.State.{DriveState, medium_of}
-use Rattle.satl_drive.specs.Rules.{CanRun, IsCarriedOut, IsCutOff, IsRun, IsRunBy, IsRunCutOff, MayRun}
-use Rattle.satl_core.specs.Layer.{IsTransfer}
-use Rattle.satl_core.specs.Opening.{IsAskCutOff}
-use Rattle.satl_core.specs.Turning.{ata_command}
-use Rattle.satl_core.proofs.Transfers.{of_transfer}
+use Rattle.satl_drive.specs.Rules.{CanRun, IsCarriedOut as IsRunOut, IsCutOff, IsRun, IsRunBy, IsRunCutOff, MayRun}
+use Rattle.satl_core.specs.Opening.{IsTold}
+use Rattle.satl_core.specs.Running.{HasRun, IsCutShort, IsLostIn, IsNamed, IsSetOn, OneGlitchAtMost, Stays}
 
--- a command that is not queued may be run with its own blocks
-can_run : (d : DriveState) (command : AtaCommand) (r : Registers) (pages : List Block) → d.outstanding ≡ [] → d.error ≡ None → is_in (command_registers command).command queued_codes ≡ false → own_blocks command ≤ length pages
-    → r ≡ command_registers command → command_in r ≡ command → CanRun d r pages
-can_run d command r pages idle no_error free room is again = record {
+-- ---- a command may be run
+
+plain : (c : AtaCommand) → IsNamed c → is_in (command_registers c).command queued_codes ≡ false
+unfolding command_registers
+plain (commands.Read Pio lba sectors) named = refl
+plain (commands.Read PioExt lba sectors) named = refl
+plain (commands.Read Dma lba sectors) named = refl
+plain (commands.Read DmaExt lba sectors) named = refl
+plain (commands.Write Pio lba sectors) named = refl
+plain (commands.Write PioExt lba sectors) named = refl
+plain (commands.Write Dma lba sectors) named = refl
+plain (commands.Write DmaExt lba sectors) named = refl
+plain (commands.Verify true lba sectors) named = refl
+plain (commands.Verify false lba sectors) named = refl
+plain (commands.Flush true) named = refl
+plain (commands.Flush false) named = refl
+plain commands.Identify named = refl
+plain (commands.SetFeatures what) named = refl
+plain commands.Standby named = refl
+plain commands.Idle named = refl
+plain commands.CheckPower named = refl
+plain (commands.ReadLog log page blocks) named = refl
+plain (commands.Trim blocks) named = refl
+plain commands.SmartStatus named = refl
+plain (commands.Other code) named = absurd named
+
+pub can_run : (d : DriveState) (command : AtaCommand) (r : Registers) (pages : List Block) → d.outstanding ≡ [] → d.error ≡ None → IsNamed command → own_blocks command ≤ length pages → r ≡ command_registers command → command_in r ≡ command → CanRun d r pages
+can_run d command r pages idle no_error named room is again = record {
   idle = idle;
-  not_queued = ap (λ x. is_in x.command queued_codes) is ∙ free;
+  not_queued = ap (λ x. is_in x.command queued_codes) is ∙ plain command named;
   error = subst (λ e. MayRun e (command_in r)) (sym no_error) tt;
   room = subst (λ x. own_blocks x ≤ length pages) (sym again) room;
 }
 
-pub can_identify : (d : DriveState) (r : Registers) (pages : List Block) → d.outstanding ≡ [] → d.error ≡ None → 1 ≤ length pages → r ≡ command_registers commands.Identify → command_in r ≡ commands.Identify → CanRun d r pages
-unfolding command_registers
-can_identify d r pages idle no_error room is again = can_run d commands.Identify r pages idle no_error refl room is again
+-- ---- what it did
 
-free_read : (lba count : ℕ) → is_in (command_registers (commands.Read DmaExt lba count)).command queued_codes ≡ false
-unfolding command_registers
-free_read lba count = refl
+pub has_run : (old : DriveState) (command : AtaCommand) (r : Registers) (given taken : List Block) (ended : Taskfile) (new : DriveState) → old.error ≡ None → r ≡ command_registers command → command_in r ≡ command → IsRun old r given ended taken new → HasRun command old given ended taken new
+has_run old command r given taken ended new no_error is again run =
+    let out : IsRunOut old r given ended taken new = subst (λ e. IsRunBy e old r given ended taken new) no_error run in
+    record {
+      was_up = out.was_up;
+      after = out.after;
+      does = subst (λ x. Does command x (medium_of old) given ended taken out.after) is (subst (λ c. Does c r (medium_of old) given ended taken out.after) again out.does);
+      lost = out.lost;
+      stays = out.stays;
+    }
 
-free_write : (lba count : ℕ) → is_in (command_registers (commands.Write DmaExt lba count)).command queued_codes ≡ false
-unfolding command_registers
-free_write lba count = refl
-
-pub can_transfer : (d : DriveState) (capacity : ℕ) (command : Command) (r : Registers) (pages : List Block) → d.outstanding ≡ [] → d.error ≡ None → IsTransfer capacity command (length pages)
-    → r ≡ command_registers (ata_command command) → command_in r ≡ ata_command command → CanRun d r pages
-can_transfer d capacity command r pages idle no_error t is again =
-    of_transfer (λ c. r ≡ command_registers (ata_command c) → command_in r ≡ ata_command c → CanRun d r pages) capacity (length pages) command
-    (λ form lba count fua t. can_run d (commands.Read DmaExt lba count) r pages idle no_error (free_read lba count) (omega (arith, t)))
-    (λ form lba count fua t. can_run d (commands.Write DmaExt lba count) r pages idle no_error (free_write lba count) (omega (arith, t))) t is again
-
--- in no error state a command that is run is carried out
-pub carried_out : (old : DriveState) (r : Registers) (given taken : List Block) (ended : Taskfile) (new : DriveState) → old.error ≡ None → IsRun old r given ended taken new → IsCarriedOut old r given ended taken new
-carried_out old r given taken ended new no_error run = subst (λ e. IsRunBy e old r given ended taken new) no_error run
-
-pub cut_of : (old : DriveState) (r : Registers) (given : List Block) (new : DriveState) → command_in r ≡ commands.Identify → IsRunCutOff old r given new → IsAskCutOff old new
-cut_of old r given new again run = record {
+pub cut_short : (old : DriveState) (command : AtaCommand) (r : Registers) (given : List Block) (new : DriveState) → command_in r ≡ command → IsRunCutOff old r given new → IsCutShort (pairs_of command (medium_of old) given) old new
+cut_short old command r given new again run = record {
   settings = run.settings;
-  cut = subst (λ x. IsCutOff old (pairs_of x (medium_of old) given) (record new { cache = old.cache; look = old.look; identify = old.identify })) again run.cut;
+  cut = subst (λ c. IsCutOff old (pairs_of c (medium_of old) given) (record new { cache = old.cache; look = old.look; identify = old.identify })) again run.cut;
+}
+
+-- ---- what it leaves
+
+-- the data say as before that there is a write cache and look-ahead
+pub record SaysSo (old new : List ℕ) : Type 0 where
+  pub cache : has_cache new ≡ has_cache old
+  pub look : has_look new ≡ has_look old
+
+says_same : (old new : List ℕ) → new ≡ old → SaysSo old new
+says_same old new same = record { cache = ap has_cache same; look = ap has_look same }
+
+pub says_told : (cache look : Bool) (old new : List ℕ) → IsTelling cache look old new → SaysSo old new
+says_told cache look old new tells = record { cache = ap (λ w. w / 2 ^ 5 % 2 == 1) word_82; look = ap (λ w. w / 2 ^ 6 % 2 == 1) word_82 }
+  where
+    low : slice_index new 164 ≡ slice_index old 164
+    low = tells.others 164 (λ e. absurd (omega (arith, e))) (λ e. absurd (omega (arith, e)))
+
+    high : slice_index new 165 ≡ slice_index old 165
+    high = tells.others 165 (λ e. absurd (omega (arith, e))) (λ e. absurd (omega (arith, e)))
+
+    word_82 : word 82 new ≡ word 82 old
+    word_82 = ap (λ n. n + 256 * slice_index new 165) low ∙ ap (λ n. slice_index old 164 + 256 * n) high
+
+-- what a transfer leaves of a medium
+pub record IsAsSet (old new : Medium) : Type 0 where
+  pub cache : new.cache ≡ old.cache
+  pub look : new.look ≡ old.look
+  pub identify : new.identify ≡ old.identify
+
+as_set : (old new : Medium) (cells : List Cell) (active : Bool) (glitches : ℕ) → new ≡ record old { cells = cells; active = active; glitches = glitches } → IsAsSet old new
+as_set old new cells active glitches is = record { cache = ap (λ (m : Medium). m.cache) is; look = ap (λ (m : Medium). m.look) is; identify = ap (λ (m : Medium). m.identify) is }
+
+pub carries_set : (r : Registers) (t : Transfer) (old : Medium) (given : List Block) (ended : Taskfile) (taken : List Block) (new : Medium) → Carries r t old given ended taken new → IsAsSet old new
+carries_set r t old given ended taken new =
+    elim (nat_lt (length old.cells) (t.lba + t.sectors)) as (λ b. MatchBool b (IsRefused r idnf r.lba old given ended taken new) (MatchOption (first_flaw t.stopped_by old.cells t.lba t.sectors) (IsCarriedOut r t old given ended taken new ⊎ IsGarbled r t old given ended taken new) (λ at. IsFlawed r t at old given ended taken new)) → IsAsSet old new) [
+      | true ↦ λ x. as_set old new _ _ _ x.medium
+      | false ↦
+          elim (first_flaw t.stopped_by old.cells t.lba t.sectors) as (λ o. MatchOption o (IsCarriedOut r t old given ended taken new ⊎ IsGarbled r t old given ended taken new) (λ at. IsFlawed r t at old given ended taken new) → IsAsSet old new) [
+            | None ↦ λ h. ⊎_elim (λ x. as_set old new _ _ _ x.medium) (λ x. as_set old new _ _ _ x.medium) h
+            | Some at ↦ λ x. as_set old new _ _ _ x.medium
+          ]
+    ]
+
+carries_says : (r : Registers) (t : Transfer) (old : Medium) (given : List Block) (ended : Taskfile) (taken : List Block) (new : Medium) → Carries r t old given ended taken new → SaysSo old.identify new.identify
+carries_says r t old given ended taken new carries = says_same old.identify new.identify (carries_set r t old given ended taken new carries).identify
+
+set_says : (found : Option Setting) (r : Registers) (old : Medium) (given : List Block) (ended : Taskfile) (taken : List Block) (new : Medium) → MatchOption found (IsRefused r abrt 0 old given ended taken new) (λ s. IsSet s r old given ended taken new) → SaysSo old.identify new.identify
+set_says None r old given ended taken new x = says_same old.identify new.identify (ap (λ (m : Medium). m.identify) x.medium)
+set_says (Some s) r old given ended taken new x = says_told new.cache new.look old.identify new.identify x.tells
+
+log_says : (found : Bool) (r : Registers) (old : Medium) (given : List Block) (ended : Taskfile) (taken : List Block) (new : Medium) → MatchBool found (IsLogged r no_error_log old given ended taken new) (IsRefused r abrt 0 old given ended taken new) → SaysSo old.identify new.identify
+log_says true r old given ended taken new x = says_same old.identify new.identify (ap (λ (m : Medium). m.identify) x.medium)
+log_says false r old given ended taken new x = says_same old.identify new.identify (ap (λ (m : Medium). m.identify) x.medium)
+
+trim_says : (none : Bool) (blocks : ℕ) (r : Registers) (old : Medium) (given : List Block) (ended : Taskfile) (taken : List Block) (new : Medium) → MatchBool none (IsRefused r abrt 0 old given ended taken new) (Carries r (trimming blocks given old) old given ended taken new) → SaysSo old.identify new.identify
+trim_says true blocks r old given ended taken new x = says_same old.identify new.identify (ap (λ (m : Medium). m.identify) x.medium)
+trim_says false blocks r old given ended taken new x = carries_says r (trimming blocks given old) old given ended taken new x
+
+does_say : (c : AtaCommand) (r : Registers) (old : Medium) (given : List Block) (ended : Taskfile) (taken : List Block) (new : Medium) → Does c r old given ended taken new → SaysSo old.identify new.identify
+does_say (commands.Read how lba sectors) r old given ended taken new x = carries_says r (reading how lba sectors old) old given ended taken new x
+does_say (commands.Write how lba sectors) r old given ended taken new x = carries_says r (writing how lba sectors given old) old given ended taken new x
+does_say (commands.Verify ext lba sectors) r old given ended taken new x = carries_says r (verifying ext lba sectors) old given ended taken new x
+does_say (commands.Flush ext) r old given ended taken new x = says_same old.identify new.identify (ap (λ (m : Medium). m.identify) x.medium)
+does_say commands.Identify r old given ended taken new x = says_same old.identify new.identify (ap (λ (m : Medium). m.identify) x.medium)
+does_say (commands.SetFeatures what) r old given ended taken new x = set_says (settable old.identify (setting_of what)) r old given ended taken new x
+does_say commands.Standby r old given ended taken new x = says_same old.identify new.identify (ap (λ (m : Medium). m.identify) x.medium)
+does_say commands.Idle r old given ended taken new x = says_same old.identify new.identify (ap (λ (m : Medium). m.identify) x.medium)
+does_say commands.CheckPower r old given ended taken new x = says_same old.identify new.identify (ap (λ (m : Medium). m.identify) x.medium)
+does_say (commands.ReadLog log page blocks) r old given ended taken new x = log_says (is_error_log log page blocks) r old given ended taken new x
+does_say (commands.Trim blocks) r old given ended taken new x = trim_says (is_no_trim blocks given old) blocks r old given ended taken new x
+does_say commands.SmartStatus r old given ended taken new x = says_same old.identify new.identify (ap (λ (m : Medium). m.identify) x.medium)
+does_say (commands.Other code) r old given ended taken new x = says_same old.identify new.identify (ap (λ (m : Medium). m.identify) x.medium)
+
+pub run_stays : (old new : DriveState) (c : AtaCommand) (given taken : List Block) (ended : Taskfile) → old.outstanding ≡ [] → old.error ≡ None → HasRun c old given ended taken new → Stays old new
+run_stays old new c given taken ended idle no_error run =
+    let say = does_say c (command_registers c) (medium_of old) given ended taken run.after run.does in
+    record {
+      capacity = ap (λ (d : DriveState). d.capacity) run.stays;
+      idle = ap (λ (d : DriveState). d.outstanding) run.stays ∙ idle;
+      no_error = ap (λ (d : DriveState). d.error) run.stays ∙ no_error;
+      sound = loses-sound run.after.cells new.cells run.lost;
+      has_cache = ap (λ (d : DriveState). has_cache d.identify) run.stays ∙ say.cache;
+      has_look = ap (λ (d : DriveState). has_look d.identify) run.stays ∙ say.look;
+    }
+
+pub cut_stays : (old new : DriveState) (pairs : List Pair) → IsCutShort pairs old new → Stays old new
+cut_stays old new pairs run =
+    let say = says_told new.cache new.look old.identify new.identify run.settings.tells in
+    record {
+      capacity = ap (λ (d : DriveState). d.capacity) run.cut.stays;
+      idle = ap (λ (d : DriveState). d.outstanding) run.cut.stays;
+      no_error = ap (λ (d : DriveState). d.error) run.cut.stays;
+      sound = loses-sound run.cut.mid new.cells run.cut.lost;
+      has_cache = say.cache;
+      has_look = say.look;
+    }
+
+-- ---- IDENTIFY DEVICE
+
+pub told : (old new : DriveState) (given taken : List Block) (ended : Taskfile) → HasRun commands.Identify old given ended taken new → IsTold old given taken new
+told old new given taken ended run = record {
+  was_up = run.was_up;
+  pages = run.does.data_in;
+  lost = subst (λ (m : Medium). Loses m.cells new.cells) run.does.medium run.lost;
+  stays = run.stays ∙ ap (λ (m : Medium). record old { cells = new.cells; cache = m.cache; look = m.look; active = m.active; glitches = m.glitches; identify = m.identify }) run.does.medium;
 }
 
 -- a link that is lost with nothing under way leaves what reads give
-pub cut_nows : (old new : DriveState) → IsAskCutOff old new → map (λ c. c.now) new.cells ≡ map (λ c. c.now) old.cells
+pub cut_nows : (old new : DriveState) → IsCutShort [] old new → map (λ c. c.now) new.cells ≡ map (λ c. c.now) old.cells
 cut_nows old new lost = loses-nows old.cells new.cells (subst (λ cells. Loses cells new.cells) lost.cut.part lost.cut.lost)
+
+-- ---- a lost link
+
+-- after what was done before of the task, the link was lost while some of its pairs were under way
+pub lost_after : (pairs under_way : List Pair) (old mid new : DriveState) → Moves (λ p. IsIn p pairs) old.cells mid.cells → OneGlitchAtMost old mid → mid.faults ≡ old.faults → AllByRecursion (λ p. IsIn p pairs) under_way → IsCutShort under_way mid new → IsLostIn pairs old new
+lost_after pairs under_way old mid new before glitch faults among run =
+    let same : new.glitches ≡ mid.glitches = ap (λ (d : DriveState). d.glitches) run.cut.stays in
+    record {
+      cells = moves_on before (moves_on (moves_of_part (λ p. IsIn p pairs) under_way mid.cells run.cut.mid among run.cut.part) (lose_once run.cut.lost));
+      glitches = subst (λ n. (n ≡ old.glitches) ⊎ (n + 1 ≡ old.glitches)) (sym same) glitch;
+      rose = subst (λ n. Rose n new.faults) faults run.cut.rose;
+      down = ap (λ (d : DriveState). d.down) run.cut.stays;
+    }
+
+-- the link was lost in the first command
+pub lost_first : (pairs under_way : List Pair) (old new : DriveState) → AllByRecursion (λ p. IsIn p pairs) under_way → IsCutShort under_way old new → IsLostIn pairs old new
+lost_first pairs under_way old new among run = lost_after pairs under_way old old new stay (inl refl) refl among run
+
+-- the same pairs are among them
+pub among : (pairs under_way : List Pair) → under_way ≡ pairs → AllByRecursion (λ p. IsIn p pairs) under_way
+among pairs under_way same = All-in (λ p. IsIn p pairs) under_way (λ p i. subst (IsIn p) same i)
+
+-- ---- settings
+
+-- a setting that the drive has is made
+pub set_on : (old new : DriveState) (what : ℕ) (s : Setting) (given taken : List Block) (ended : Taskfile) → setting_of what ≡ Some s → has_setting old.identify s ≡ true → HasRun (commands.SetFeatures what) old given ended taken new → IsSetOn s old new
+set_on old new what s given taken ended is has run =
+    let set : IsSet s (command_registers (commands.SetFeatures what)) (medium_of old) given ended taken run.after =
+    subst (λ o. MatchOption o (IsRefused (command_registers (commands.SetFeatures what)) abrt 0 (medium_of old) given ended taken run.after) (λ s. IsSet s (command_registers (commands.SetFeatures what)) (medium_of old) given ended taken run.after)) settable_is run.does in
+    let told : new.identify ≡ run.after.identify = ap (λ (d : DriveState). d.identify) run.stays in
+    let cache : new.cache ≡ run.after.cache = ap (λ (d : DriveState). d.cache) run.stays in
+    let look : new.look ≡ run.after.look = ap (λ (d : DriveState). d.look) run.stays in
+    record {
+      was_up = run.was_up;
+      lost = subst (λ (cells : List Cell). Loses cells new.cells) (ap (λ (m : Medium). m.cells) set.medium) run.lost;
+      tells = subst (λ b. IsTelling b new.look old.identify new.identify) (sym cache) (subst (λ b. IsTelling run.after.cache b old.identify new.identify) (sym look) (subst (λ d. IsTelling run.after.cache run.after.look old.identify d) (sym told) set.tells));
+      stays = run.stays ∙ (ap (λ (m : Medium). record old { cells = new.cells; cache = m.cache; look = m.look; active = m.active; glitches = m.glitches; identify = m.identify }) set.medium
+          ∙ ap (λ d. record old { cells = new.cells; cache = (with_setting s (medium_of old)).cache; look = (with_setting s (medium_of old)).look; active = (with_setting s (medium_of old)).active; glitches = (with_setting s (medium_of old)).glitches; identify = d }) (sym told));
+    }
+  where
+    settable_is : settable old.identify (setting_of what) ≡ Some s
+    settable_is = ap (settable old.identify) is ∙ ap (λ b. if b then Some s else None) has
+
+-- the sectors may lose all but what reads give
+pub settled_loses : (cells : List Cell) → AreSound cells → Loses cells (map settle cells)
+settled_loses [] sound = tt
+settled_loses (c ∷ cells) sound = (record { now = refl; read_flaw = refl; write_flaw = refl; fewer = leaves_only c.now c.may sound.0; sound = inl refl }, settled_loses cells sound.1)

@@ -67,12 +67,12 @@ pub idle_around : (s new : Device) (answers : List Reply) → s.tasks ≡ [] →
 idle_around s new answers none silent same =
     subst (λ a. Around Turn s a new) (sym silent) (subst (Around Turn s []) (sym same) (around_alone Turn s s [] (idle none)))
 
--- the first task ends, and then quiet moves follow
-pub ends_around : (s mid new : Device) (t : Entry) (others : List Entry) (reply : Reply) (answers : List Reply) → s.tasks ≡ t ∷ others → answers ≡ reply ∷ [] → Ends s t reply mid → Quiet mid new → Around Turn s answers new
-ends_around s mid new t others reply answers first is e quiet = record {
+-- the first task ends between quiet moves
+pub ends_around : (old s mid new : Device) (t : Entry) (others : List Entry) (reply : Reply) (answers : List Reply) → Quiet old s → s.tasks ≡ t ∷ others → answers ≡ reply ∷ [] → Ends s t reply mid → Quiet mid new → Around Turn old answers new
+ends_around old s mid new t others reply answers before first is e quiet = record {
   before = s;
   after = mid;
-  quiet_before = quiet_none s;
+  quiet_before = before;
   step = subst (λ a. Turn s a mid) (sym is) (ends reply (record { task = t; may = may; ends = e }));
   quiet_after = quiet;
 }

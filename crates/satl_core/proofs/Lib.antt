@@ -12,5 +12,5 @@ pub mod ServedLemmas
 pub mod TellingLemmas
 pub mod Transfers
 pub mod TurningLemmas
-pub mod UnforcedLemmas
+pub mod TransferringLemmas
 pub mod ValidLemmas

@@ -1,6 +1,6 @@
 -- A task that the drive carries out ends as the device says.
-use Rattle.std.proofs.Common.{◌≡◌, ◌⊎◌, ⊎_elim, inl, inr, refl, sym, ap, subst, ◌∙◌, arith, ℕ, ◌+◌, ◌-◌, ◌≤◌, true, false, Bool, List, [], ◌∷◌, ◌++◌, length, map, take, drop, Some, None, length-drop}
-use Rattle.std.specs.Prelude.{MatchBool, MatchOption, not, ◌&&◌, if◌then◌else◌, slice_range}
+use Rattle.std.proofs.Common.{◌≡◌, ◌⊎◌, ⊎_elim, inl, refl, sym, ap, subst, ◌∙◌, arith, ℕ, ◌+◌, ◌-◌, ◌≤◌, true, false, Bool, List, [], ◌∷◌, ◌++◌, length, map, take, drop, Some, None, length-drop}
+use Rattle.std.specs.Prelude.{MatchBool, MatchOption, not, ◌&&◌, slice_range}
 use Rattle.std.proofs.lemmas.List.{append-nil}
 use Rattle.std.specs.List.{AllByRecursion}
 use Rattle.std.proofs.lemmas.Bool.{le-ltb}
@@ -9,10 +9,10 @@ use Rattle.satl_base.specs.declared.block.Block.{Block}
 use Rattle.satl_base.specs.declared.modes.Modes.{Modes}
 use Rattle.satl_base.specs.declared.reply.Reply.{Reply}
 use Rattle.satl_base.specs.declared.reply.Scsi.TheVariants.{Good}
-use Rattle.satl_base.specs.Cells.{Cell, Pair, Part, first_flaw, nows, pairs_from, whole}
+use Rattle.satl_base.specs.Cells.{Cell, Part, first_flaw, nows, pairs_from, whole}
 use Rattle.satl_base.specs.Lists.{IsIn}
-use Rattle.satl_base.proofs.ListsLemmas.{All-in}
-use Rattle.satl_base.proofs.MovesLemmas.{lose_once, moves_of_part, moves_on}
+use Rattle.satl_base.proofs.LossesLemmas.{loses-length}
+use Rattle.satl_base.proofs.MovesLemmas.{lose_once, moves_weaker}
 use Rattle.satl_cdb.specs.declared.command.Form.{Form}
 use Rattle.satl_cdb.specs.declared.command.Command.{Command}
 use Rattle.satl_cdb.specs.declared.command.Command.TheVariants as cdbs
@@ -20,10 +20,8 @@ use Rattle.satl_identify.specs.declared.identity.Identity.{Identity}
 use Rattle.satl_regs.specs.declared.values.Registers.{Registers}
 use Rattle.satl_regs.specs.declared.values.Taskfile.{Taskfile}
 use Rattle.satl_regs.specs.declared.values.How.TheVariants.{DmaExt}
-use Rattle.satl_regs.specs.Commands.{command_in}
-use Rattle.satl_regs.specs.Spelling.{CommandFits, command_registers}
-use Rattle.satl_regs.specs.Effects.{Carries, Does, IsCarriedOut, IsFlawed, IsGarbled, IsRefused, Medium, Transfer, flawed_end, idnf, pairs_of, reading, writing}
-use Rattle.satl_regs.proofs.Commands.{command_back}
+use Rattle.satl_regs.specs.Spelling.{command_registers}
+use Rattle.satl_regs.specs.Effects.{Carries, Does, IsCarriedOut, IsFlawed, IsGarbled, IsRefused, Medium, Transfer, flawed_end, idnf, reading, writing}
 use Rattle.satl_line.specs.declared.entry.Entry.{Entry}
 use Rattle.satl_unit.specs.declared.attention.Attention.{Attention}
 use Rattle.satl_line.specs.Ending.{EndsAs, Outcome, blocks_read, flaw_met}
@@ -32,11 +30,10 @@ use Rattle.satl_line.specs.Ranged.{RangedTask, written_pairs}
 use Rattle.satl_line.specs.Ranged.RangedTask.{ranged_read, ranged_write}
 use Rattle.satl_line.specs.Tasks.{Held, entries_of}
 use Rattle.satl_drive.specs.State.{DriveState, medium_of, with_medium}
-use Rattle.satl_drive.specs.Rules.{IsCarriedOut as IsRunOut, IsRunCutOff}
 use Rattle.satl_direct.specs.Device.{Device, without}
 use Rattle.satl_direct.specs.Tasks.{asks, over, task_of}
 use Rattle.satl_direct.specs.Ending.{EndsBy, EndsOnMedium, active_after, medium_error, outcome_reply, task_check, task_reply}
-use Rattle.satl_direct.specs.Quiet.{Around, MayShow, writes}
+use Rattle.satl_direct.specs.Quiet.{Around, writes}
 use Rattle.satl_direct.specs.Senses.{link_lost, not_ready}
 use Rattle.satl_direct.specs.Turn as turns
 use Rattle.satl_direct.specs.Turn.{Turn}
@@ -45,8 +42,8 @@ use Rattle.satl_core.specs.declared.turning.Ending.{Ending}
 use Rattle.satl_core.specs.declared.turning.Ending.TheVariants as endings
 use Rattle.satl_core.specs.Layer.{IsKept, IsTransfer, Tied}
 use Rattle.satl_core.specs.Turning as core
-use Rattle.satl_core.specs.Turning.{AreUnforced, IsLostInTask, TaskEnds, asks_fua, ata_command, ended_reply, ending_of, flaw_sense, read_pages}
-use Rattle.satl_core.proofs.CommandsLemmas.{carried_out}
+use Rattle.satl_core.specs.Running.{IsLostIn}
+use Rattle.satl_core.specs.Turning.{IsLostInTask, IsTransferred, TaskEnds, asks_fua, ata_command, ended_reply, ending_of, flaw_sense, pairs_written, read_pages}
 use Rattle.satl_core.proofs.DeviceLemmas.{all_lost, ends_around, ends_by, ends_down, ends_stopped, first_checked, first_gone, first_tasks, quiet_none, quiet_same, seen}
 use Rattle.satl_core.proofs.HeldLemmas.{IsFirst, IsKeptEntry, first_kept}
 use Rattle.satl_core.proofs.Transfers.{of_transfer}
@@ -58,10 +55,6 @@ nows-length cells lba count h =
     length-map (slice_range cells lba (lba + count)) (λ (c : Cell). c.now)
     ∙ length-take (lba + count - lba) (drop lba cells)
     ∙ omega (arith, length-drop lba cells)
-
--- the registers of a transfer hold its command
-pub transfer_back : (capacity n : ℕ) (command : Command) → IsTransfer capacity command n → command_in (command_registers (ata_command command)) ≡ ata_command command
-transfer_back capacity n command t = command_back (ata_command command) (of_transfer (λ c. CommandFits (ata_command c)) capacity n command (λ form lba count fua t. record { address = t.1; some = t.2; most = omega (arith, t) }) (λ form lba count fua t. record { address = t.1; some = t.2; most = omega (arith, t) }) t)
 
 -- the three ways in which a transfer within the capacity may end
 carries_cases : (P : Type 0) (r : Registers) (t : Transfer) (old : Medium) (given : List Block) (ended : Taskfile) (taken : List Block) (new : Medium) → t.lba + t.sectors ≤ length old.cells
@@ -78,14 +71,11 @@ carries_cases P r t old given ended taken new within done garbled flawed carries
 
 -- ---- a task of a transfer, as the device and as the drive sees it
 
-pub record IsServed (modes : Modes) (r : Registers) (d : DriveState) (entry : Entry) : Type 0 where
+pub record IsServed (modes : Modes) (d : DriveState) (entry : Entry) : Type 0 where
   pub ranged : RangedTask
   pub transfer : Transfer
-  pub starts : (asks entry.command).starts ≡ true
   pub ends : (s : Device) (reply : Reply) (new : Device) → EndsOnMedium ranged s (task_of entry) reply new → EndsBy entry.command s (task_of entry) reply new
-  pub shows : (s : Device) → writes s (task_of entry) ≡ written_pairs s.modes.wce ranged
-  pub carries : (ended : Taskfile) (taken : List Block) (after : Medium) → Does (ata_command entry.command) r (medium_of d) entry.body ended taken after → Carries r transfer (medium_of d) entry.body ended taken after
-  pub pairs : pairs_of (ata_command entry.command) (medium_of d) entry.body ≡ written_pairs modes.wce ranged
+  pub carries : (r : Registers) (ended : Taskfile) (taken : List Block) (after : Medium) → Does (ata_command entry.command) r (medium_of d) entry.body ended taken after → Carries r transfer (medium_of d) entry.body ended taken after
   pub within : transfer.lba + transfer.sectors ≤ length d.cells
   pub ext : transfer.ext ≡ true
   pub flaw : flaw_met d.cells ranged ≡ first_flaw transfer.stopped_by d.cells transfer.lba transfer.sectors
@@ -93,26 +83,16 @@ pub record IsServed (modes : Modes) (r : Registers) (d : DriveState) (entry : En
   pub data_in : (taken : List Block) → taken ≡ transfer.reads ++ drop (length transfer.reads) entry.body → read_pages entry.command taken ≡ blocks_read d.cells ranged
   pub error : (at : ℕ) → flaw_sense entry.command at ≡ medium_error ranged at
 
-cached_so : (wce cache fua : Bool) → cache ≡ wce → (wce ≡ false) ⊎ (fua ≡ false) → cache ≡ (wce && not fua)
-cached_so true true true is free = ⊎_elim (λ off. absurd cc) (λ off. absurd cc) free
-cached_so true false fua is free = absurd cc
-cached_so true true false is free = refl
-cached_so false true fua is free = absurd cc
-cached_so false false fua is free = refl
-
-serves_read : (capacity : ℕ) (modes : Modes) (r : Registers) (d : DriveState) (entry : Entry) (form : Form) (lba count : ℕ) (fua : Bool) → IsTransfer capacity (cdbs.Read form lba count fua) entry.blocks → length entry.body ≡ entry.blocks → length d.cells ≡ capacity → IsServed modes r d (record entry { command = cdbs.Read form lba count fua })
-serves_read capacity modes r d entry form lba count fua t size sectors =
+serves_read : (capacity : ℕ) (modes : Modes) (d : DriveState) (entry : Entry) (form : Form) (lba count : ℕ) (fua : Bool) → IsTransfer capacity (cdbs.Read form lba count fua) entry.blocks → length entry.body ≡ entry.blocks → length d.cells ≡ capacity → IsServed modes d (record entry { command = cdbs.Read form lba count fua })
+serves_read capacity modes d entry form lba count fua t size sectors =
     let within : lba + count ≤ length d.cells = omega (arith, t, sectors) in
     let full = nows-length d.cells lba count within in
     let none : drop (length (nows d.cells lba count)) entry.body ≡ [] = drop_all (length (nows d.cells lba count)) entry.body (omega (arith, full, size, t)) in
     record {
       ranged = ranged_read fua (over lba count);
       transfer = reading DmaExt lba count (medium_of d);
-      starts = refl;
       ends = λ s reply new x. x;
-      shows = λ s. refl;
-      carries = λ ended taken after x. x;
-      pairs = refl;
+      carries = λ r ended taken after x. x;
       within = within;
       ext = refl;
       flaw = refl;
@@ -121,35 +101,36 @@ serves_read capacity modes r d entry form lba count fua t size sectors =
       error = λ at. refl;
     }
 
-serves_write : (capacity : ℕ) (modes : Modes) (r : Registers) (d : DriveState) (entry : Entry) (form : Form) (lba count : ℕ) (fua : Bool) → IsTransfer capacity (cdbs.Write form lba count fua) entry.blocks → length entry.body ≡ entry.blocks → length d.cells ≡ capacity → d.cache ≡ modes.wce → (modes.wce ≡ false) ⊎ (fua ≡ false) → IsServed modes r d (record entry { command = cdbs.Write form lba count fua })
-serves_write capacity modes r d entry form lba count fua t size sectors cache free =
-    let within : lba + count ≤ length d.cells = omega (arith, t, sectors) in
+serves_write : (capacity : ℕ) (modes : Modes) (d : DriveState) (entry : Entry) (form : Form) (lba count : ℕ) (fua : Bool) → IsTransfer capacity (cdbs.Write form lba count fua) entry.blocks → length entry.body ≡ entry.blocks → length d.cells ≡ capacity → d.cache ≡ (modes.wce && not fua) → IsServed modes d (record entry { command = cdbs.Write form lba count fua })
+serves_write capacity modes d entry form lba count fua t size sectors cached =
     let all : take count entry.body ≡ entry.body = take_all count entry.body (omega (arith, size, t)) in
-    let pairs : pairs_from lba (take count entry.body) d.cache ≡ pairs_from lba entry.body (modes.wce && not fua) =
-    ap (λ b. pairs_from lba b d.cache) all ∙ ap (pairs_from lba entry.body) (cached_so modes.wce d.cache fua cache free) in
     record {
       ranged = ranged_write fua (over lba count) entry.body;
       transfer = writing DmaExt lba count entry.body (medium_of d);
-      starts = refl;
       ends = λ s reply new x. x;
-      shows = λ s. refl;
-      carries = λ ended taken after x. x;
-      pairs = ap (λ b. if b then [] else pairs_from lba (take count entry.body) d.cache) (le-ltb (length d.cells) (lba + count) within) ∙ pairs;
-      within = within;
+      carries = λ r ended taken after x. x;
+      within = omega (arith, t, sectors);
       ext = refl;
       flaw = refl;
-      writes = pairs;
+      writes = ap (λ b. pairs_from lba b d.cache) all ∙ ap (pairs_from lba entry.body) cached;
       data_in = λ taken is. refl;
       error = λ at. refl;
     }
 
-pub serves : (identity : Identity) (modes : Modes) (r : Registers) (d : DriveState) (entry : Entry) → IsKeptEntry identity entry → length d.cells ≡ identity.capacity → d.cache ≡ modes.wce → (modes.wce ≡ false) ⊎ (asks_fua entry.command ≡ false)
-    → IsServed modes r d entry
-serves identity modes r d entry kept sectors cache free =
-    of_transfer (λ c. (modes.wce ≡ false) ⊎ (asks_fua c ≡ false) → IsServed modes r d (record entry { command = c })) identity.capacity entry.blocks entry.command
-    (λ form lba count fua t. λ free. serves_read identity.capacity modes r d entry form lba count fua t kept.pages sectors)
-    (λ form lba count fua t. λ free. serves_write identity.capacity modes r d entry form lba count fua t kept.pages sectors cache free)
-    kept.transfer free
+pub serves : (identity : Identity) (modes : Modes) (d : DriveState) (entry : Entry) → IsKeptEntry identity entry → length d.cells ≡ identity.capacity → d.cache ≡ (modes.wce && not (asks_fua entry.command)) → IsServed modes d entry
+serves identity modes d entry kept sectors cached =
+    of_transfer (λ c. d.cache ≡ (modes.wce && not (asks_fua c)) → IsServed modes d (record entry { command = c })) identity.capacity entry.blocks entry.command
+    (λ form lba count fua t cached. serves_read identity.capacity modes d entry form lba count fua t kept.pages sectors)
+    (λ form lba count fua t cached. serves_write identity.capacity modes d entry form lba count fua t kept.pages sectors cached)
+    kept.transfer cached
+
+-- a transfer is for a started unit alone, and what it writes is what the device says
+transfer_starts : (capacity n : ℕ) (command : Command) → IsTransfer capacity command n → (asks command).starts ≡ true
+transfer_starts capacity n command t = of_transfer (λ c. (asks c).starts ≡ true) capacity n command (λ form lba count fua t. refl) (λ form lba count fua t. refl) t
+
+transfer_shows : (capacity n : ℕ) (s : Device) (entry : Entry) → IsTransfer capacity entry.command n → writes s (task_of entry) ≡ pairs_written s.modes.wce entry.command entry.body
+transfer_shows capacity n s entry t =
+    of_transfer (λ c. writes s (task_of (record entry { command = c })) ≡ pairs_written s.modes.wce c entry.body) capacity n entry.command (λ form lba count fua t. refl) (λ form lba count fua t. refl) t
 
 -- ---- how it ends on the medium
 
@@ -159,7 +140,7 @@ pub record IsOnMedium (s : Device) (d : DriveState) (entry : Entry) (ranged : Ra
   pub active : after.active ≡ active_after outcome d.active
   pub answer : ended_reply (record entry { body = taken }) (ending_of entry.command ended) s.modes.d_sense ≡ outcome_reply s (task_of entry) ranged outcome
 
-module _ (s : Device) (r : Registers) (d : DriveState) (entry : Entry) (served : IsServed s.modes r d entry) (ended : Taskfile) (taken : List Block) (after : Medium) where
+module _ (s : Device) (r : Registers) (d : DriveState) (entry : Entry) (served : IsServed s.modes d entry) (ended : Taskfile) (taken : List Block) (after : Medium) where
   abbrev answer_by : Taskfile → Reply
   answer_by e = ended_reply (record entry { body = taken }) (ending_of entry.command e) s.modes.d_sense
 
@@ -202,108 +183,103 @@ module _ (s : Device) (r : Registers) (d : DriveState) (entry : Entry) (served :
 
   pub on_medium : Does (ata_command entry.command) r (medium_of d) entry.body ended taken after → IsOnMedium s d entry served.ranged ended taken after
   on_medium does =
-      carries_cases (IsOnMedium s d entry served.ranged ended taken after) r served.transfer (medium_of d) entry.body ended taken after served.within done garbled flawed (served.carries ended taken after does)
+      carries_cases (IsOnMedium s d entry served.ranged ended taken after) r served.transfer (medium_of d) entry.body ended taken after served.within done garbled flawed (served.carries r ended taken after does)
 
 -- ---- turns
 
-carried_turn : (identity : Identity) (modes : Modes) (attentions : List (List Attention)) (entry : Entry) (others : List Entry) (r : Registers) (d d' : DriveState) (ended : Taskfile) (taken : List Block) (answers : List Reply) → IsServed modes r d entry → command_in r ≡ ata_command entry.command
-    → IsRunOut d r entry.body ended taken d' → answers ≡ ended_reply (record entry { body = taken }) (ending_of entry.command ended) modes.d_sense ∷ []
+carried_turn : (identity : Identity) (modes : Modes) (attentions : List (List Attention)) (entry : Entry) (others : List Entry) (d d' : DriveState) (ending : Ending) (taken : List Block) (answers : List Reply) → IsKeptEntry identity entry → length d.cells ≡ identity.capacity → d.cache ≡ modes.wce
+    → IsTransferred entry.command d entry.body ending taken d' → answers ≡ ended_reply (record entry { body = taken }) ending modes.d_sense ∷ []
     → Around Turn (seen identity modes true attentions (task_of entry ∷ others) d) answers (seen identity modes true attentions others d')
-carried_turn identity modes attentions entry others r d d' ended taken answers served again run is =
-    let s : Device = seen identity modes true attentions (task_of entry ∷ others) d in
-    let mid : Device = seen identity modes true attentions others (with_medium d run.after) in
+carried_turn identity modes attentions entry others d d' ending taken answers kept sectors cache x is =
+    let old : Device = seen identity modes true attentions (task_of entry ∷ others) d in
+    let s : Device = seen identity modes true attentions (task_of entry ∷ others) x.ready in
+    let mid : Device = seen identity modes true attentions others (with_medium x.ready x.after) in
     let new : Device = seen identity modes true attentions others d' in
-    let reply : Reply = ended_reply (record entry { body = taken }) (ending_of entry.command ended) modes.d_sense in
-    let on = on_medium s r d entry served ended taken run.after (subst (λ x. Does x r (medium_of d) entry.body ended taken run.after) again run.does) in
-    ends_around s mid new (task_of entry) others reply answers refl is
-    (ends_by s (task_of entry) reply mid run.was_up refl (served.ends s reply mid (record {
+    let reply : Reply = ended_reply (record entry { body = taken }) (ending_of entry.command x.ended) modes.d_sense in
+    let r : Registers = command_registers (ata_command entry.command) in
+    let up : x.ready.down ≡ false = ap (λ (y : DriveState). y.down) x.ready_is ∙ x.was_up in
+    let still : x.ready.active ≡ d.active = ap (λ (y : DriveState). y.active) x.ready_is in
+    let served = serves identity modes x.ready entry kept (loses-length d.cells x.ready.cells x.back ∙ sectors) (x.cached ∙ ap (λ b. b && not (asks_fua entry.command)) cache) in
+    let on = on_medium s r x.ready entry served x.ended taken x.after x.does in
+    ends_around old s mid new (task_of entry) others reply answers
+    (record {
+      cells = lose_once x.back;
+      active = inl still;
+      stays = ap (seen identity modes true attentions (task_of entry ∷ others)) x.ready_is ∙ ap (λ a. record old { cells = x.ready.cells; active = a }) (sym still);
+    }) refl (is ∙ ap (λ e. ended_reply (record entry { body = taken }) e modes.d_sense ∷ []) x.by_end)
+    (ends_by s (task_of entry) reply mid up refl (served.ends s reply mid (record {
       outcome = on.outcome;
       ends = on.ends;
       answer = on.answer;
-      stays = first_gone identity modes true attentions (task_of entry) others (with_medium d run.after) ∙ ap (λ a. record (seen identity modes true attentions (without (task_of entry) (task_of entry ∷ others)) (with_medium d run.after)) { active = a }) on.active;
+      stays = first_gone identity modes true attentions (task_of entry) others (with_medium x.ready x.after) ∙ ap (λ a. record (seen identity modes true attentions (without (task_of entry) (task_of entry ∷ others)) (with_medium x.ready x.after)) { active = a }) on.active;
     })))
     (record {
-      cells = lose_once run.lost;
-      active = inl (ap (λ (x : DriveState). x.active) run.stays);
-      stays = ap (seen identity modes true attentions others) run.stays ∙ ap (λ a. record (seen identity modes true attentions others (record (with_medium d run.after) { cells = d'.cells })) { active = a }) (sym (ap (λ (x : DriveState). x.active) run.stays));
+      cells = lose_once x.lost;
+      active = inl x.active;
+      stays = ap (λ b. record new { down = b }) (x.up ∙ sym up) ∙ ap (λ n. record new { down = x.ready.down; glitches = n }) x.glitches;
     })
 
-lost_turn : (identity : Identity) (modes : Modes) (attentions : List (List Attention)) (entry : Entry) (others : List Entry) (r : Registers) (d d' : DriveState) (answers : List Reply) → IsServed modes r d entry → command_in r ≡ ata_command entry.command → d.down ≡ false
-    → IsRunCutOff d r entry.body d' → answers ≡ turns.lost_replies (seen identity modes true attentions (task_of entry ∷ others) d) → Around Turn (seen identity modes true attentions (task_of entry ∷ others) d) answers (seen identity modes true attentions [] d')
-lost_turn identity modes attentions entry others r d d' answers served again up run is =
-    let cut = run.cut in
+lost_turn : (identity : Identity) (modes : Modes) (attentions : List (List Attention)) (entry : Entry) (others : List Entry) (d d' : DriveState) (answers : List Reply) → IsKeptEntry identity entry → d.cache ≡ modes.wce → d.down ≡ false
+    → IsLostIn (pairs_written d.cache entry.command entry.body) d d' → answers ≡ turns.lost_replies (seen identity modes true attentions (task_of entry ∷ others) d) → Around Turn (seen identity modes true attentions (task_of entry ∷ others) d) answers (seen identity modes true attentions [] d')
+lost_turn identity modes attentions entry others d d' answers kept cache up x is =
     let s : Device = seen identity modes true attentions (task_of entry ∷ others) d in
     let new : Device = seen identity modes true attentions [] d' in
-    let pairs : List Pair = pairs_of (command_in r) (medium_of d) entry.body in
-    let same : pairs ≡ writes s (task_of entry) = ap (λ c. pairs_of c (medium_of d) entry.body) again ∙ (served.pairs ∙ sym (served.shows s)) in
-    let shown : AllByRecursion (MayShow s) pairs = All-in (MayShow s) pairs (λ pair among. record { task = task_of entry; under_way = record { up = up; eligible = inl refl }; started = refl; among = subst (IsIn pair) same among }) in
+    let same : pairs_written d.cache entry.command entry.body ≡ writes s (task_of entry) = ap (λ b. pairs_written b entry.command entry.body) cache ∙ sym (transfer_shows identity.capacity entry.blocks s entry kept.transfer) in
     record {
       before = record s { cells = d'.cells };
       after = new;
       quiet_before = record {
-        cells = moves_on (moves_of_part (MayShow s) pairs d.cells cut.mid shown cut.part) (lose_once cut.lost);
+        cells = moves_weaker (λ pair among. record { task = task_of entry; under_way = record { up = up; eligible = inl refl }; started = refl; among = subst (IsIn pair) same among }) x.cells;
         active = inl refl;
         stays = refl;
       };
       step = loses (record {
         was_up = up;
         answer = is;
-        glitches = inl (ap (λ (x : DriveState). x.glitches) cut.stays);
-        stays = ap (λ b. record new { down = b }) (ap (λ (x : DriveState). x.down) cut.stays);
+        glitches = x.glitches;
+        stays = ap (λ b. record new { down = b }) x.down;
       });
       quiet_after = quiet_none new;
     }
 
 -- whichever decides, a lost link, a unit that is stopped, or the drive
-ended_turn : (identity : Identity) (modes : Modes) (down started : Bool) (attentions : List (List Attention)) (entry : Entry) (others : List Entry) (d d' : DriveState) (ending : Ending) (taken : List Block) (answers : List Reply) → down ≡ d.down → d.error ≡ None
-    → (down ≡ false → IsServed modes (command_registers (ata_command entry.command)) d entry) → command_in (command_registers (ata_command entry.command)) ≡ ata_command entry.command
+ended_turn : (identity : Identity) (modes : Modes) (down started : Bool) (attentions : List (List Attention)) (entry : Entry) (others : List Entry) (d d' : DriveState) (ending : Ending) (taken : List Block) (answers : List Reply) → down ≡ d.down
+    → IsKeptEntry identity entry → length d.cells ≡ identity.capacity → (down ≡ false → d.cache ≡ modes.wce)
     → TaskEnds down started entry.command d entry.body ending taken d' → answers ≡ ended_reply (record entry { body = taken }) ending modes.d_sense ∷ []
     → Around Turn (seen identity modes started attentions (task_of entry ∷ others) d) answers (seen identity modes started attentions others d')
-ended_turn identity modes true started attentions entry others d d' ending taken answers mark no_error served again x is =
-    ends_around (seen identity modes started attentions (task_of entry ∷ others) d) (seen identity modes started attentions others d) (seen identity modes started attentions others d') (task_of entry) others (ended_reply (record entry { body = taken }) (endings.Check link_lost) modes.d_sense) answers refl
-    (is ∙ ap (λ e. ended_reply (record entry { body = taken }) e modes.d_sense ∷ []) x.sensed)
+ended_turn identity modes true started attentions entry others d d' ending taken answers mark kept sectors cache x is =
+    ends_around (seen identity modes started attentions (task_of entry ∷ others) d) (seen identity modes started attentions (task_of entry ∷ others) d) (seen identity modes started attentions others d) (seen identity modes started attentions others d') (task_of entry) others (ended_reply (record entry { body = taken }) (endings.Check link_lost) modes.d_sense) answers
+    (quiet_none _) refl (is ∙ ap (λ e. ended_reply (record entry { body = taken }) e modes.d_sense ∷ []) x.sensed)
     (ends_down _ _ _ _ (sym mark) (first_checked identity modes started attentions entry others d taken link_lost))
     (quiet_same _ _ (ap (seen identity modes started attentions others) x.stays))
-ended_turn identity modes false false attentions entry others d d' ending taken answers mark no_error served again x is =
-    ends_around (seen identity modes false attentions (task_of entry ∷ others) d) (seen identity modes false attentions others d) (seen identity modes false attentions others d') (task_of entry) others (ended_reply (record entry { body = taken }) (endings.Check not_ready) modes.d_sense) answers refl
-    (is ∙ ap (λ e. ended_reply (record entry { body = taken }) e modes.d_sense ∷ []) x.sensed)
-    (ends_stopped _ _ _ _ (sym mark) refl (served refl).starts (first_checked identity modes false attentions entry others d taken not_ready))
+ended_turn identity modes false false attentions entry others d d' ending taken answers mark kept sectors cache x is =
+    ends_around (seen identity modes false attentions (task_of entry ∷ others) d) (seen identity modes false attentions (task_of entry ∷ others) d) (seen identity modes false attentions others d) (seen identity modes false attentions others d') (task_of entry) others (ended_reply (record entry { body = taken }) (endings.Check not_ready) modes.d_sense) answers
+    (quiet_none _) refl (is ∙ ap (λ e. ended_reply (record entry { body = taken }) e modes.d_sense ∷ []) x.sensed)
+    (ends_stopped _ _ _ _ (sym mark) refl (transfer_starts identity.capacity entry.blocks entry.command kept.transfer) (first_checked identity modes false attentions entry others d taken not_ready))
     (quiet_same _ _ (ap (seen identity modes false attentions others) x.stays))
-ended_turn identity modes false true attentions entry others d d' ending taken answers mark no_error served again x is =
-    carried_turn identity modes attentions entry others (command_registers (ata_command entry.command)) d d' x.ended taken answers (served refl) again (carried_out _ _ _ _ _ _ no_error x.run) (is ∙ ap (λ e. ended_reply (record entry { body = taken }) e modes.d_sense ∷ []) x.by_end)
+ended_turn identity modes false true attentions entry others d d' ending taken answers mark kept sectors cache x is = carried_turn identity modes attentions entry others d d' ending taken answers kept sectors (cache refl) x is
 
-cut_turn : (identity : Identity) (modes : Modes) (down started : Bool) (attentions : List (List Attention)) (entry : Entry) (others : List Entry) (d d' : DriveState) (answers : List Reply) → down ≡ d.down
-    → (down ≡ false → IsServed modes (command_registers (ata_command entry.command)) d entry) → command_in (command_registers (ata_command entry.command)) ≡ ata_command entry.command
+cut_turn : (identity : Identity) (modes : Modes) (down started : Bool) (attentions : List (List Attention)) (entry : Entry) (others : List Entry) (d d' : DriveState) (answers : List Reply) → down ≡ d.down → IsKeptEntry identity entry → (down ≡ false → d.cache ≡ modes.wce)
     → IsLostInTask down started entry.command d entry.body d' → answers ≡ turns.lost_replies (seen identity modes started attentions (task_of entry ∷ others) d)
     → Around Turn (seen identity modes started attentions (task_of entry ∷ others) d) answers (seen identity modes started attentions [] d')
-cut_turn identity modes down true attentions entry others d d' answers mark served again x is =
-    lost_turn identity modes attentions entry others (command_registers (ata_command entry.command)) d d' answers (served x.was_up) again (sym mark ∙ x.was_up) x.cut is
-cut_turn identity modes down false attentions entry others d d' answers mark served again x is = let clash : false ≡ true = x.was_started in absurd cc
-
--- the first task asks for no FUA where it may not
-unforced : (identity : Identity) (modes : Modes) (started : Bool) (attentions : List (List Attention)) (entry : Entry) (others : List Entry) (d : DriveState) → AreUnforced (seen identity modes started attentions (task_of entry ∷ others) d) → (modes.wce ≡ false) ⊎ (asks_fua entry.command ≡ false)
-unforced identity modes started attentions entry others d free = ⊎_elim inl (λ all. inr all.0) free
+cut_turn identity modes down true attentions entry others d d' answers mark kept cache x is = lost_turn identity modes attentions entry others d d' answers kept (cache x.was_up) (sym mark ∙ x.was_up) x.lost is
+cut_turn identity modes down false attentions entry others d d' answers mark kept cache x is = let clash : false ≡ true = x.was_started in absurd cc
 
 -- ---- turns of the layer
 
 module _ (identity : Identity) (modes : Modes) (started down : Bool) (attentions : List (List Attention)) (tasks rest : List Held) (free out : ℕ) (entry : Entry) (d d' : DriveState) (kept : AllByRecursion (IsKept identity) tasks) (first : IsFirst tasks entry rest)
-    (tied : Tied (record { identity = identity; modes = modes; started = started; down = down; attentions = attentions; tasks = tasks; free = free; out = out }) d) (unforced_all : AreUnforced (seen identity modes started attentions (map task_of (entries_of tasks)) d)) where
+    (tied : Tied (record { identity = identity; modes = modes; started = started; down = down; attentions = attentions; tasks = tasks; free = free; out = out }) d) where
   all : map task_of (entries_of tasks) ≡ task_of entry ∷ map task_of (entries_of rest)
   all = first_tasks tasks rest entry first
 
-  first_served : down ≡ false → IsServed modes (command_registers (ata_command entry.command)) d entry
-  first_served up =
-      serves identity modes (command_registers (ata_command entry.command)) d entry (first_kept identity tasks rest entry kept first).0 tied.valid.cells (tied.cache up)
-      (unforced identity modes started attentions entry (map task_of (entries_of rest)) d (subst (λ ts. AreUnforced (seen identity modes started attentions ts d)) all unforced_all))
-
-  first_back : command_in (command_registers (ata_command entry.command)) ≡ ata_command entry.command
-  first_back = transfer_back identity.capacity entry.blocks entry.command (first_kept identity tasks rest entry kept first).0.transfer
+  here : IsKeptEntry identity entry
+  here = (first_kept identity tasks rest entry kept first).0
 
   pub turn_ends : (ending : Ending) (taken : List Block) (given answers : List Reply) (reply : Reply) → TaskEnds down started entry.command d entry.body ending taken d' → given ≡ [] → answers ≡ given ++ reply ∷ []
       → reply ≡ ended_reply (record entry { body = taken }) ending modes.d_sense → Around Turn (seen identity modes started attentions (map task_of (entries_of tasks)) d) answers (seen identity modes started attentions (map task_of (entries_of rest)) d')
   turn_ends ending taken given answers reply ends none push is =
       subst (λ ts. Around Turn (seen identity modes started attentions ts d) answers (seen identity modes started attentions (map task_of (entries_of rest)) d')) (sym all)
-      (ended_turn identity modes down started attentions entry (map task_of (entries_of rest)) d d' ending taken answers tied.mark tied.no_error first_served first_back ends (push ∙ (ap (λ l. l ++ reply ∷ []) none ∙ ap (λ r. r ∷ []) is)))
+      (ended_turn identity modes down started attentions entry (map task_of (entries_of rest)) d d' ending taken answers tied.mark here tied.valid.cells tied.cache ends (push ∙ (ap (λ l. l ++ reply ∷ []) none ∙ ap (λ r. r ∷ []) is)))
 
   pub turn_loses : (ending : Ending) (taken : List Block) (given pushed answers : List Reply) (reply : Reply) (left : List Held) → left ≡ [] → IsLostInTask down started entry.command d entry.body d' → given ≡ [] → pushed ≡ given ++ reply ∷ []
       → answers ≡ pushed ++ core.lost_replies modes.d_sense rest → reply ≡ ended_reply (record entry { body = taken }) ending modes.d_sense → ending ≡ endings.Check link_lost
@@ -311,5 +287,5 @@ module _ (identity : Identity) (modes : Modes) (started down : Bool) (attentions
   turn_loses ending taken given pushed answers reply left nothing lost none push more is by =
       subst (λ (ts : List Held). Around Turn (seen identity modes started attentions (map task_of (entries_of tasks)) d) answers (seen identity modes started attentions (map task_of (entries_of ts)) d')) (sym nothing)
       (subst (λ ts. Around Turn (seen identity modes started attentions ts d) answers (seen identity modes started attentions [] d')) (sym all)
-      (cut_turn identity modes down started attentions entry (map task_of (entries_of rest)) d d' answers tied.mark first_served first_back lost
+      (cut_turn identity modes down started attentions entry (map task_of (entries_of rest)) d d' answers tied.mark here tied.cache lost
       (all_lost (seen identity modes started attentions (task_of entry ∷ map task_of (entries_of rest)) d) entry taken rest given pushed answers reply ending refl none push more is by)))

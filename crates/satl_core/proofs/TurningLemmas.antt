@@ -1,22 +1,11 @@
--- What a turn leaves of a drive, and the answers to tasks.
-use Rattle.std.proofs.Common.{◌≡◌, ⊎_elim, refl, sym, ap, subst, ◌∙◌, arith, ℕ, ◌+◌, ◌≤◌, true, false, Bool, List, [], ◌∷◌, ◌++◌, length}
-use Rattle.std.specs.Prelude.{MatchBool, MatchOption, nat_lt, slice_index, Some, None, ◌⊎◌, ◌*◌, ◌/◌, ◌%◌, ◌^◌, ◌==◌}
+-- The answers to tasks.
+use Rattle.std.proofs.Common.{◌≡◌, refl, sym, ap, subst, ◌∙◌, arith, ◌+◌, ◌≤◌, Bool, List, [], ◌∷◌, ◌++◌, length}
 use Rattle.std.proofs.lemmas.List.{append-nil}
 use Rattle.std.specs.List.{AllByRecursion}
 use Rattle.satl_base.specs.declared.block.Block.{Block}
 use Rattle.satl_base.specs.declared.reply.Reply.{Reply}
-use Rattle.satl_base.specs.Cells.{Cell, first_flaw}
-use Rattle.satl_base.specs.Identify.{has_cache, has_look, word}
-use Rattle.satl_base.proofs.LossesLemmas.{loses-sound}
 use Rattle.satl_cdb.specs.declared.command.Command.{Command}
 use Rattle.satl_cdb.specs.declared.command.Command.TheVariants as cdbs
-use Rattle.satl_regs.specs.declared.values.Registers.{Registers}
-use Rattle.satl_regs.specs.declared.values.Taskfile.{Taskfile}
-use Rattle.satl_regs.specs.declared.values.How.TheVariants.{DmaExt}
-use Rattle.satl_regs.specs.Commands.{command_in}
-use Rattle.satl_regs.specs.Effects.{Medium, Transfer, Carries, Does, IsCarriedOut, IsFlawed, IsGarbled, IsRefused, IsTelling, idnf, reading, writing}
-use Rattle.satl_drive.specs.State.{DriveState, medium_of}
-use Rattle.satl_drive.specs.Rules.{IsRun, IsRunCutOff}
 use Rattle.satl_frame.specs.Output.{IsWritable}
 use Rattle.satl_sense.specs.declared.sense.Sense.{Sense}
 use Rattle.satl_identify.specs.declared.identity.Identity.{Identity}
@@ -25,76 +14,10 @@ use Rattle.satl_line.specs.Tasks.{Held}
 use Rattle.satl_direct.specs.Senses.{link_lost}
 use Rattle.satl_core.specs.declared.turning.Ending.{Ending}
 use Rattle.satl_core.specs.declared.turning.Ending.TheVariants as endings
-use Rattle.satl_core.specs.Layer.{IsExpectable, IsKept, IsTransfer, reply_pages}
-use Rattle.satl_core.proofs.CommandsLemmas.{carried_out}
+use Rattle.satl_core.specs.Layer.{IsExpectable, IsKept, reply_pages}
 use Rattle.satl_core.proofs.HeldLemmas.{IsKeptEntry}
-use Rattle.satl_core.proofs.Transfers.{of_transfer, transfer_few}
-use Rattle.satl_core.specs.Turning.{Stays, ata_command, data_in, ended_reply, lost_replies, read_pages}
-
--- what a transfer leaves of a medium
-record IsAsSet (old new : Medium) : Type 0 where
-  cache : new.cache ≡ old.cache
-  look : new.look ≡ old.look
-  identify : new.identify ≡ old.identify
-
-as_set : (old new : Medium) (cells : List Cell) (active : Bool) (glitches : ℕ) → new ≡ record old { cells = cells; active = active; glitches = glitches } → IsAsSet old new
-as_set old new cells active glitches is = record { cache = ap (λ (m : Medium). m.cache) is; look = ap (λ (m : Medium). m.look) is; identify = ap (λ (m : Medium). m.identify) is }
-
--- a transfer leaves the settings, and what the drive says of itself
-carries_set : (r : Registers) (t : Transfer) (old : Medium) (given : List Block) (ended : Taskfile) (taken : List Block) (new : Medium) → Carries r t old given ended taken new → IsAsSet old new
-carries_set r t old given ended taken new =
-    elim (nat_lt (length old.cells) (t.lba + t.sectors)) as (λ b. MatchBool b (IsRefused r idnf r.lba old given ended taken new) (MatchOption (first_flaw t.stopped_by old.cells t.lba t.sectors) (IsCarriedOut r t old given ended taken new ⊎ IsGarbled r t old given ended taken new) (λ at. IsFlawed r t at old given ended taken new)) → IsAsSet old new) [
-      | true ↦ λ x. as_set old new _ _ _ x.medium
-      | false ↦
-          elim (first_flaw t.stopped_by old.cells t.lba t.sectors) as (λ o. MatchOption o (IsCarriedOut r t old given ended taken new ⊎ IsGarbled r t old given ended taken new) (λ at. IsFlawed r t at old given ended taken new) → IsAsSet old new) [
-            | None ↦ λ h. ⊎_elim (λ x. as_set old new _ _ _ x.medium) (λ x. as_set old new _ _ _ x.medium) h
-            | Some at ↦ λ x. as_set old new _ _ _ x.medium
-          ]
-    ]
-
-does_set : (command : Command) (capacity n : ℕ) (r : Registers) (old : Medium) (given : List Block) (ended : Taskfile) (taken : List Block) (new : Medium) → IsTransfer capacity command n → Does (ata_command command) r old given ended taken new → IsAsSet old new
-does_set command capacity n r old given ended taken new t =
-    of_transfer (λ c. Does (ata_command c) r old given ended taken new → IsAsSet old new) capacity n command
-    (λ form lba count fua t. carries_set r (reading DmaExt lba count old) old given ended taken new)
-    (λ form lba count fua t. carries_set r (writing DmaExt lba count given old) old given ended taken new) t
-
-pub run_stays : (old new : DriveState) (command : Command) (r : Registers) (given taken : List Block) (ended : Taskfile) (capacity n : ℕ) → old.outstanding ≡ [] → old.error ≡ None → IsTransfer capacity command n → command_in r ≡ ata_command command
-    → IsRun old r given ended taken new → Stays old new
-run_stays old new command r given taken ended capacity n idle no_error t again ran =
-    let run = carried_out old r given taken ended new no_error ran in
-    let does = subst (λ x. Does x r (medium_of old) given ended taken run.after) again run.does in
-    let set = does_set command capacity n r (medium_of old) given ended taken run.after t does in
-    record {
-      capacity = ap (λ (d : DriveState). d.capacity) run.stays;
-      cache = λ up. ap (λ (d : DriveState). d.cache) run.stays ∙ set.cache;
-      look = λ up. ap (λ (d : DriveState). d.look) run.stays ∙ set.look;
-      has_cache = ap (λ (d : DriveState). has_cache d.identify) run.stays ∙ ap has_cache set.identify;
-      has_look = ap (λ (d : DriveState). has_look d.identify) run.stays ∙ ap has_look set.identify;
-      idle = ap (λ (d : DriveState). d.outstanding) run.stays ∙ idle;
-      no_error = ap (λ (d : DriveState). d.error) run.stays ∙ no_error;
-      sound = loses-sound run.after.cells new.cells run.lost;
-    }
-
--- word 82 is as before where the settings alone are told anew
-pub word_82 : (cache look : Bool) (old new : List ℕ) → IsTelling cache look old new → word 82 new ≡ word 82 old
-word_82 cache look old new tells =
-    let low : slice_index new 164 ≡ slice_index old 164 = tells.others 164 (λ e. absurd (omega (arith, e))) (λ e. absurd (omega (arith, e))) in
-    let high : slice_index new 165 ≡ slice_index old 165 = tells.others 165 (λ e. absurd (omega (arith, e))) (λ e. absurd (omega (arith, e))) in
-    ap (λ n. n + 256 * slice_index new 165) low ∙ ap (λ n. slice_index old 164 + 256 * n) high
-
-pub cut_stays : (old new : DriveState) (r : Registers) (given : List Block) → IsRunCutOff old r given new → Stays old new
-cut_stays old new r given run =
-    let down : new.down ≡ true = ap (λ (d : DriveState). d.down) run.cut.stays in
-    record {
-      capacity = ap (λ (d : DriveState). d.capacity) run.cut.stays;
-      cache = λ up. absurd cc;
-      look = λ up. absurd cc;
-      has_cache = ap (λ w. w / 2 ^ 5 % 2 == 1) (word_82 new.cache new.look old.identify new.identify run.settings.tells);
-      has_look = ap (λ w. w / 2 ^ 6 % 2 == 1) (word_82 new.cache new.look old.identify new.identify run.settings.tells);
-      idle = ap (λ (d : DriveState). d.outstanding) run.cut.stays;
-      no_error = ap (λ (d : DriveState). d.error) run.cut.stays;
-      sound = loses-sound run.cut.mid new.cells run.cut.lost;
-    }
+use Rattle.satl_core.proofs.Transfers.{transfer_few}
+use Rattle.satl_core.specs.Turning.{data_in, ended_reply, lost_replies, read_pages}
 
 -- the answers at a lost link hold no page and can be written
 pub lost_pages : (descriptor : Bool) (tasks : List Held) → reply_pages (lost_replies descriptor tasks) ≡ 0

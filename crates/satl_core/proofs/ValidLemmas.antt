@@ -25,7 +25,7 @@ use Rattle.satl_direct.specs.Valid.{AreOwn, HasCome, IsValid}
 use Rattle.satl_core.specs.Layer.{Layer, Tied, view}
 use Rattle.satl_core.specs.Leaving.{left_by}
 use Rattle.satl_core.specs.Submitting.{is_for_unit, Becomes, IsAdded, IsRefused, attention_of, code_answer, judged, once_judged, overlaps, task_without_pages, untold}
-use Rattle.satl_core.specs.Turning.{Stays}
+use Rattle.satl_core.specs.Running.{Stays}
 use Rattle.satl_core.proofs.ArrivalLemmas.{by_ok, code_waits, full_is, full_or_waits}
 use Rattle.satl_core.proofs.DeviceLemmas.{first_tasks, seen}
 use Rattle.satl_core.proofs.HeldLemmas.{IsFirst}
@@ -265,18 +265,18 @@ becomes_tied l new d r c replies e b pages tied = tied_by l new d (ap (λ (x : L
     ]) b
 
 -- the first task is gone, and the link is as it was
-pub still_tied_rest : (identity : Identity) (modes : Modes) (started down : Bool) (attentions : List (List Attention)) (tasks rest : List Held) (entry : Entry) (free out free' out' : ℕ) (d d' : DriveState) → IsFirst tasks entry rest → d'.down ≡ down → Stays d d' → IsFit d'
+pub still_tied_rest : (identity : Identity) (modes : Modes) (started down : Bool) (attentions : List (List Attention)) (tasks rest : List Held) (entry : Entry) (free out free' out' : ℕ) (d d' : DriveState) → IsFirst tasks entry rest → d'.down ≡ down → d'.cache ≡ d.cache → d'.look ≡ d.look → Stays d d' → IsFit d'
     → Tied (record { identity = identity; modes = modes; started = started; down = down; attentions = attentions; tasks = tasks; free = free; out = out }) d
     → Tied (record { identity = identity; modes = modes; started = started; down = down; attentions = attentions; tasks = rest; free = free'; out = out' }) d'
-still_tied_rest identity modes started down attentions tasks rest entry free out free' out' d d' first mark stays fit tied =
+still_tied_rest identity modes started down attentions tasks rest entry free out free' out' d d' first mark cache look stays fit tied =
     let v = subst (λ ts. IsValid (seen identity modes started attentions ts d)) (first_tasks tasks rest entry first) tied.valid in
     record {
       mark = sym mark;
       idle = stays.idle;
       no_error = stays.no_error;
       fit = fit;
-      cache = λ up. stays.cache (mark ∙ up) ∙ tied.cache up;
-      look = λ up. stays.look (mark ∙ up) ∙ tied.look up;
+      cache = λ up. cache ∙ tied.cache up;
+      look = λ up. look ∙ tied.look up;
       has_cache = stays.has_cache ∙ tied.has_cache;
       has_look = stays.has_look ∙ tied.has_look;
       valid = record {

@@ -3,6 +3,7 @@ pub mod Layer
 pub mod Leaving
 pub mod Managing
 pub mod Opening
+pub mod Running
 pub mod Submitting
 pub mod Telling
 pub mod Tie

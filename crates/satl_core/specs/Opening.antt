@@ -5,7 +5,6 @@ use Rattle.satl_base.specs.Losses.{Loses}
 use Rattle.satl_io.specs.Causes.{Rose}
 use Rattle.satl_identify.specs.Refusals.{identity_of}
 use Rattle.satl_drive.specs.State.{DriveState}
-use Rattle.satl_drive.specs.Rules.{IsCutOff, MaySet}
 use Rattle.satl_core.specs.declared.satl.OpenFault.{OpenFault}
 use Rattle.satl_core.specs.declared.satl.OpenFault.TheVariants as faults
 use Rattle.satl_core.specs.Layer.{Layer, Tied}
@@ -16,11 +15,6 @@ pub record IsTold (old : DriveState) (given taken : List Block) (new : DriveStat
   pub pages : taken ≡ record { bytes = old.identify } ∷ drop 1 given
   pub lost : Loses old.cells new.cells
   pub stays : new ≡ record old { cells = new.cells }
-
--- the link was lost while the drive was asked: sectors were written back at most, and its settings may be others (profile)
-pub record IsAskCutOff (old new : DriveState) : Type 0 where
-  pub settings : MaySet old new
-  pub cut : IsCutOff old [] (record new { cache = old.cache; look = old.look; identify = old.identify })
 
 -- the layer is that of the drive's data: started, without tasks and unit attentions, its modes as the drive's settings are, and no page
 -- is out (profile)

@@ -1,16 +1,13 @@
 -- How the layer ends a task.
-use Rattle.std.specs.Prelude.{◌≡◌, ◌⊎◌, ℕ, ◌*◌, ◌==◌, ◌&&◌, not, Bool, true, false, if◌then◌else◌, List, [], ◌∷◌, slice_index, length, map, None, MatchBool, bit_and}
-use Rattle.std.specs.List.{AllByRecursion}
+use Rattle.std.specs.Prelude.{◌≡◌, ℕ, ◌*◌, ◌==◌, ◌&&◌, not, Bool, true, false, if◌then◌else◌, List, [], length, map, MatchBool, bit_and}
 use Rattle.satl_base.specs.declared.block.Block.{Block}
 use Rattle.satl_base.specs.declared.reply.Reply.{Reply}
 use Rattle.satl_base.specs.declared.reply.Scsi.{Scsi}
 use Rattle.satl_base.specs.declared.reply.Scsi.TheVariants as statuses
-use Rattle.satl_base.specs.declared.request.Request.{Request}
-use Rattle.satl_base.specs.Fields.{bit}
-use Rattle.satl_base.specs.Identify.{has_cache, has_look}
-use Rattle.satl_base.specs.Lists.{is_in}
 use Rattle.satl_cdb.specs.declared.command.Command.{Command}
-use Rattle.satl_cdb.specs.declared.command.Command.TheVariants.{Read, Write}
+use Rattle.satl_base.specs.Cells.{Pair, pairs_from}
+use Rattle.satl_base.specs.Losses.{Loses}
+use Rattle.satl_cdb.specs.declared.command.Command.TheVariants.{Flush, Inquiry, ModeSelect, ModeSense, Pass, Read, ReadCapacity10, ReadCapacity16, ReportLuns, RequestSense, StartStop, TestUnitReady, Unmap, Verify, Write, WriteSame}
 use Rattle.satl_sense.specs.declared.sense.Sense.{Sense}
 use Rattle.satl_sense.specs.Descriptor.{descriptor_form}
 use Rattle.satl_sense.specs.Fixed.{fixed_form}
@@ -21,11 +18,10 @@ use Rattle.satl_regs.specs.Spelling.{command_registers}
 use Rattle.satl_regs.specs.declared.values.AtaCommand.TheVariants as commands
 use Rattle.satl_regs.specs.declared.values.How.TheVariants.{DmaExt}
 use Rattle.satl_line.specs.Tasks.{Held}
-use Rattle.satl_direct.specs.Device.{Device}
 use Rattle.satl_direct.specs.Senses.{crc_error, link_lost, not_ready, out_of_range, plain, read_error, write_error}
-use Rattle.satl_base.specs.Cells.{AreSound}
-use Rattle.satl_drive.specs.State.{DriveState}
-use Rattle.satl_drive.specs.Rules.{IsRun, IsRunCutOff}
+use Rattle.satl_regs.specs.Effects.{Does, Medium}
+use Rattle.satl_drive.specs.State.{DriveState, medium_of}
+use Rattle.satl_core.specs.Running.{IsLostIn}
 use Rattle.satl_core.specs.declared.turning.Ending.{Ending}
 use Rattle.satl_core.specs.declared.turning.Ending.TheVariants as endings
 
@@ -71,37 +67,47 @@ ended_reply t ending descriptor = record {
 abbrev pub lost_replies : Bool → List Held → List Reply
 lost_replies descriptor tasks = map (λ h. ended_reply h.entry (endings.Check link_lost) descriptor) tasks
 
--- what a run of a drive leaves as it was, the cache and look-ahead as long as the link is up, and that its sectors are sound (profile)
-pub record Stays (old new : DriveState) : Type 0 where
-  pub capacity : new.capacity ≡ old.capacity
-  pub cache : new.down ≡ false → new.cache ≡ old.cache
-  pub look : new.down ≡ false → new.look ≡ old.look
-  pub has_cache : has_cache new.identify ≡ has_cache old.identify
-  pub has_look : has_look new.identify ≡ has_look old.identify
-  pub idle : new.outstanding ≡ []
-  pub no_error : new.error ≡ None
-  pub sound : AreSound new.cells
-
--- a WRITE whose data are to be on the medium at its end (SBC-3 5.31, FUA)
+-- whether a command is a WRITE whose data are to be on the medium at its end (SBC-3 5.31, FUA)
 abbrev pub asks_fua : Command → Bool
+asks_fua TestUnitReady = false
+asks_fua (RequestSense descriptor alloc) = false
+asks_fua (Inquiry page alloc) = false
+asks_fua (ModeSense ten long_lba no_descriptor control page alloc) = false
+asks_fua (ModeSelect ten size) = false
+asks_fua (StartStop start no_flush) = false
+asks_fua ReadCapacity10 = false
+asks_fua (ReadCapacity16 alloc) = false
+asks_fua (ReportLuns select alloc) = false
+asks_fua (Read form lba count fua) = false
 asks_fua (Write form lba count fua) = fua
-asks_fua _ = false
+asks_fua (Verify form lba count compare) = false
+asks_fua (Flush form lba count) = false
+asks_fua (WriteSame form lba count unmap) = false
+asks_fua (Unmap size) = false
+asks_fua (Pass cdb) = false
 
--- no write has to go past the cache: it is off, or no WRITE asks for FUA, which WRITE DMA EXT has not (ACS-3)
-abbrev pub AreUnforced : Device → Type 0
-AreUnforced s = (s.modes.wce ≡ false) ⊎ AllByRecursion (λ t. asks_fua t.command ≡ false) s.tasks
+-- what the command of a task writes, through the cache where that is on and FUA is 0 (SBC-3 5.31)
+abbrev pub pairs_written : Bool → Command → List Block → List Pair
+pairs_written cache TestUnitReady given = []
+pairs_written cache (RequestSense descriptor alloc) given = []
+pairs_written cache (Inquiry page alloc) given = []
+pairs_written cache (ModeSense ten long_lba no_descriptor control page alloc) given = []
+pairs_written cache (ModeSelect ten size) given = []
+pairs_written cache (StartStop start no_flush) given = []
+pairs_written cache ReadCapacity10 given = []
+pairs_written cache (ReadCapacity16 alloc) given = []
+pairs_written cache (ReportLuns select alloc) given = []
+pairs_written cache (Read form lba count fua) given = []
+pairs_written cache (Write form lba count fua) given = pairs_from lba given (cache && not fua)
+pairs_written cache (Verify form lba count compare) given = []
+pairs_written cache (Flush form lba count) given = []
+pairs_written cache (WriteSame form lba count unmap) given = []
+pairs_written cache (Unmap size) given = []
+pairs_written cache (Pass cdb) given = []
 
--- the codes of WRITE(10), WRITE(12) and WRITE(16), which have FUA in byte 1 bit 3 (SBC-3 5.31 to 5.33)
-abbrev pub fua_codes : List ℕ
-fua_codes = 0x2A ∷ 0xAA ∷ 0x8A ∷ []
-
--- whether a command descriptor block is that of a WRITE with FUA (SBC-3 5.31 to 5.33)
-abbrev pub asks_for_fua : List ℕ → Bool
-asks_for_fua cdb = is_in (slice_index cdb 0) fua_codes && bit 1 3 cdb
-
--- a request that is no WRITE with FUA (SBC-3 5.31 to 5.33)
-abbrev pub AsksNoFua : Request → Type 0
-AsksNoFua r = asks_for_fua r.cdb ≡ false
+-- the most calls of a drive that one task takes (profile)
+abbrev pub task_calls : ℕ
+task_calls = 3
 
 -- whether a bit of a register is set, by its mask (profile)
 abbrev pub is_set : ℕ → ℕ → Bool
@@ -131,21 +137,32 @@ pub record IsUnasked (sense : Sense) (old : DriveState) (ending : Ending) (new :
   pub sensed : ending ≡ endings.Check sense
   pub stays : new ≡ old
 
--- the drive carried the command of a task out, and the task ends by the end of the command (profile)
-pub record IsCarried (command : Command) (old : DriveState) (given : List Block) (ending : Ending) (taken : List Block) (new : DriveState) : Type 0 where
+-- a READ or a WRITE was carried out once the cache was off where its data had to go past it; sectors may have been written back before and
+-- after, and the task ends by the end of its command (SAT-3 9)
+pub record IsTransferred (command : Command) (old : DriveState) (given : List Block) (ending : Ending) (taken : List Block) (new : DriveState) : Type 0 where
+  pub was_up : old.down ≡ false
+  pub ready : DriveState
+  pub back : Loses old.cells ready.cells
+  pub ready_is : ready ≡ record old { cells = ready.cells; cache = ready.cache; identify = ready.identify }
+  pub cached : ready.cache ≡ (old.cache && not (asks_fua command))
   pub ended : Taskfile
-  pub run : IsRun old (command_registers (ata_command command)) given ended taken new
+  pub after : Medium
+  pub does : Does (ata_command command) (command_registers (ata_command command)) (medium_of ready) given ended taken after
   pub by_end : ending ≡ ending_of command ended
+  pub lost : Loses after.cells new.cells
+  pub active : new.active ≡ after.active
+  pub glitches : new.glitches ≡ after.glitches
+  pub up : new.down ≡ false
 
 -- how the task ends whose turn it is: the first that holds decides, a lost link, a unit that is stopped, and the drive (profile)
 abbrev pub TaskEnds : Bool → Bool → Command → DriveState → List Block → Ending → List Block → DriveState → Type 0
 TaskEnds down started command old given ending taken new =
     MatchBool down (IsUnasked link_lost old ending new)
     (MatchBool (not started) (IsUnasked not_ready old ending new)
-    (IsCarried command old given ending taken new))
+    (IsTransferred command old given ending taken new))
 
--- the link was lost while the command of a task was under way, at a unit that is started (profile)
+-- the link was lost while a task was carried out, at a unit that is started (profile)
 pub record IsLostInTask (down started : Bool) (command : Command) (old : DriveState) (given : List Block) (new : DriveState) : Type 0 where
   pub was_up : down ≡ false
   pub was_started : started ≡ true
-  pub cut : IsRunCutOff old (command_registers (ata_command command)) given new
+  pub lost : IsLostIn (pairs_written old.cache command given) old new

@@ -1,12 +1,41 @@
-// ATA commands for what the layer does.
-ghost use Rattle.std.specs.Prelude.{◌≡◌, ◌≤◌, ◌+◌, [], None, OnOk, OnErr, length};
-ghost use Rattle.satl_drive.specs.State.{IsFit};
-ghost use Rattle.satl_core.specs.Opening.{IsAskCutOff, IsTold};
+// ATA commands on the drive.
+ghost use Rattle.std.specs.Prelude.{◌≡◌, ◌≤◌, ◌+◌, [], None, IfOk, OnOk, OnErr, length};
+ghost use Rattle.satl_drive.specs.State.{IsFit, medium_of};
+ghost use Rattle.satl_regs.specs.Effects.{own_blocks, pairs_of};
+ghost use Rattle.satl_regs.specs.Spelling.{CommandFits};
+ghost use Rattle.satl_core.specs.Opening.{IsTold};
+ghost use Rattle.satl_core.specs.Running.{HasRun, IsCutShort, IsNamed, Stays};
 
 use satl_base::{Pages, Steps};
 use satl_drive::{Drive, LinkDown};
-use satl_regs::{AtaCommand, put_command};
+use satl_regs::{AtaCommand, Taskfile, put_command};
 use std::sync::ledger::Ledger;
+
+/// Carries out one command on the drive, with its data in the pages.
+pub fn run<D: Drive, L: Ledger>(
+    drive: &mut D,
+    command: &AtaCommand,
+    pages: &mut Pages,
+    steps: &mut Steps<L>,
+) -> Result<Taskfile, LinkDown>
+    requires idle { (D.state drive.old).outstanding ≡ [] }
+    requires no_error { (D.state drive.old).error ≡ None }
+    requires named { IsNamed command.now }
+    requires fits { CommandFits command.now }
+    requires room { own_blocks command.now ≤ length pages.old }
+    ensures ok { IfOk result (λ ended. HasRun command.now (D.state drive.old) pages.old ended pages.new (D.state drive.new)) }
+    ensures err { OnErr result (IsCutShort (pairs_of command.now (medium_of (D.state drive.old)) pages.old) (D.state drive.old) (D.state drive.new)) }
+    ensures stays { Stays (D.state drive.old) (D.state drive.new) }
+    ensures size { length pages.new ≡ length pages.old }
+    ensures fit { IsFit (D.state drive.old) → IsFit (D.state drive.new) }
+    ensures step { steps.new ≡ steps.old + 1 }
+{
+    let regs = put_command(command);
+    match drive.run(&regs, pages, steps) {
+        Ok(ended) => Ok(ended),
+        Err(LinkDown) => Err(LinkDown),
+    }
+}
 
 /// Reads the IDENTIFY DEVICE data into the first page.
 pub fn tell_identity<D: Drive, L: Ledger>(
@@ -18,13 +47,12 @@ pub fn tell_identity<D: Drive, L: Ledger>(
     requires no_error { (D.state drive.old).error ≡ None }
     requires room { 1 ≤ length pages.old }
     ensures told { OnOk result (IsTold (D.state drive.old) pages.old pages.new (D.state drive.new)) }
-    ensures lost { OnErr result (IsAskCutOff (D.state drive.old) (D.state drive.new)) }
+    ensures lost { OnErr result (IsCutShort [] (D.state drive.old) (D.state drive.new)) }
     ensures size { length pages.new ≡ length pages.old }
     ensures fit { IsFit (D.state drive.old) → IsFit (D.state drive.new) }
     ensures step { steps.new ≡ steps.old + 1 }
 {
-    let regs = put_command(&AtaCommand::Identify);
-    match drive.run(&regs, pages, steps) {
+    match run(drive, &AtaCommand::Identify, pages, steps) {
         Ok(_) => Ok(()),
         Err(LinkDown) => Err(LinkDown),
     }

@@ -7,8 +7,10 @@ mod commands;
 mod leaving;
 mod managing;
 mod satl;
+mod settings;
 mod submitting;
 mod telling;
+mod transferring;
 mod turning;
 
 pub use satl::{OpenFault, Satl};

@@ -15,7 +15,7 @@ ghost use Rattle.satl_direct.specs.Turn.{Turn};
 ghost use Rattle.satl_core.specs.Layer.{IsTransfer, Tied, reply_pages, view};
 ghost use Rattle.satl_core.specs.Opening.{IsCause, IsOpened};
 ghost use Rattle.satl_core.specs.Submitting.{Becomes, CanSubmit, IsCutOf, judged, once_judged};
-ghost use Rattle.satl_core.specs.Turning.{AreUnforced, AsksNoFua};
+ghost use Rattle.satl_core.specs.Turning.{task_calls};
 
 use crate::arrival::{is_for_unit, plain};
 use crate::benching::{act_on, default_modes, powered_on};
@@ -148,7 +148,6 @@ impl Satl {
         requires tied { Tied self.old (D.state drive.old) }
         ensures arrives { Arrives request (view self.old (D.state drive.old)) replies.new (view self.new (D.state drive.new)) }
         ensures around { (whole : Request) → IsCutOf whole request → Around (MayLose (Arrives whole)) (view self.old (D.state drive.old)) replies.new (view self.new (D.state drive.new)) }
-        ensures unforced { AsksNoFua request → AreUnforced (view self.old (D.state drive.old)) → AreUnforced (view self.new (D.state drive.new)) }
         ensures modes { self.new.modes ≡ self.old.modes }
         ensures more { length self.new.tasks ≤ length self.old.tasks + 1 }
         ensures drive { drive.new ≡ drive.old }
@@ -218,7 +217,7 @@ impl Satl {
     }
 
     /// One turn: the first task ends, if there is one. At a lost link all tasks are answered, in order of arrival (SAM-5 5;
-    /// lost links: profile). A WRITE with FUA goes through the cache where it is on, since WRITE DMA EXT has no FUA.
+    /// lost links: profile). A WRITE with FUA goes past a cache that is on, which is off meanwhile: WRITE DMA EXT has no FUA.
     pub fn turn<D: Drive, L: Ledger>(
         &mut self,
         drive: &mut D,
@@ -228,16 +227,15 @@ impl Satl {
         requires empty { replies.old ≡ [] }
         requires all_in { self.old.out ≡ 0 }
         requires tied { Tied self.old (D.state drive.old) }
-        ensures turns { AreUnforced (view self.old (D.state drive.old)) → Around Turn (view self.old (D.state drive.old)) replies.new (view self.new (D.state drive.new)) }
-        ensures unforced { AreUnforced (view self.old (D.state drive.old)) → AreUnforced (view self.new (D.state drive.new)) }
+        ensures turns { Around Turn (view self.old (D.state drive.old)) replies.new (view self.new (D.state drive.new)) }
         ensures tied { Tied self.new (D.state drive.new) }
         ensures pages { self.new.out ≡ reply_pages replies.new }
         ensures writable { AllByRecursion IsWritable replies.new }
         ensures fewer { length self.new.tasks ≤ length self.old.tasks - 1 }
         ensures modes { self.new.modes ≡ self.old.modes }
         ensures counted { RoseBy (losses_of (view self.old (D.state drive.old)) (view self.new (D.state drive.new))) (D.state drive.old).faults (D.state drive.new).faults }
-        ensures steps { steps.new ≤ steps.old + 1 }
-        ensures calls { steps.new + length self.new.tasks ≤ steps.old + length self.old.tasks }
+        ensures steps { steps.new ≤ steps.old + task_calls }
+        ensures calls { steps.new + task_calls * length self.new.tasks ≤ steps.old + task_calls * length self.old.tasks }
     {
         if self.pending() == 0 {
             return;
@@ -248,6 +246,7 @@ impl Satl {
         match run_task(
             self.down,
             self.started,
+            self.modes.wce,
             drive,
             &command,
             &mut task.body,

@@ -1,25 +1,24 @@
 // A task ends.
-ghost use Rattle.std.specs.Prelude.{◌≡◌, ◌≤◌, ◌<◌, ◌+◌, ◌*◌, ◌-◌, ◌++◌, ◌∷◌, [], length, true, None, IfOk, OnOk, OnErr};
+ghost use Rattle.std.specs.Prelude.{◌≡◌, ◌≤◌, ◌<◌, ◌+◌, ◌*◌, ◌-◌, ◌++◌, ◌∷◌, [], length, true, false, None, IfOk, OnOk, OnErr};
 ghost use Rattle.std.specs.List.{AllByRecursion};
 ghost use Rattle.satl_frame.specs.Output.{IsWritable};
 ghost use Rattle.satl_drive.specs.State.{IsFit};
-ghost use Rattle.satl_drive.specs.Rules.{IsRun, IsRunCutOff};
 ghost use Rattle.satl_base.specs.Cells.{AreSound};
-ghost use Rattle.satl_regs.specs.Commands.{command_in};
-ghost use Rattle.satl_regs.specs.Spelling.{command_registers};
 ghost use Rattle.satl_direct.specs.Senses;
 ghost use Rattle.satl_core.specs.Layer.{IsTransfer, held_pages};
 ghost use Rattle.satl_core.specs.Turning;
-ghost use Rattle.satl_core.specs.Turning.{IsLostInTask, Stays, TaskEnds, ata_command, ended_reply, lost_replies};
+ghost use Rattle.satl_core.specs.Running.{Stays};
+ghost use Rattle.satl_core.specs.Turning.{IsLostInTask, TaskEnds, ended_reply, lost_replies, task_calls};
 
 use crate::arrival::plain;
+use crate::transferring::transfer;
 use arrayvec::ArrayVec;
 use satl_base::{Pages, Replies, Reply, Scsi, Steps};
 use satl_cdb::Command;
 use satl_drive::{Drive, LinkDown};
 use satl_line::{Entry, TaskSet};
 use satl_pages::Pool;
-use satl_regs::{AtaCommand, How, Taskfile, put_command};
+use satl_regs::Taskfile;
 use satl_sense::{Extra, Sense, sense_bytes};
 use std::sync::ledger::Ledger;
 
@@ -30,50 +29,12 @@ pub enum Ending {
     Check(Sense),
 }
 
-/// The ATA command of a READ or a WRITE (SAT-3 9).
-fn ata_command(command: &Command) -> AtaCommand
-    ensures { result ≡ ata_command command.now }
-{
-    match *command {
-        Command::Read { lba, count, .. } => AtaCommand::Read {
-            how: How::DmaExt,
-            lba,
-            sectors: count,
-        },
-        Command::Write { lba, count, .. } => AtaCommand::Write {
-            how: How::DmaExt,
-            lba,
-            sectors: count,
-        },
-        _ => AtaCommand::Identify,
-    }
-}
-
-/// Carries out the command of a task on the drive, with the task's pages.
-pub fn run_command<D: Drive, L: Ledger>(
-    drive: &mut D,
-    command: &Command,
-    body: &mut Pages,
-    steps: &mut Steps<L>,
-) -> Result<Taskfile, LinkDown>
-    requires idle { (D.state drive.old).outstanding ≡ [] }
-    requires no_error { (D.state drive.old).error ≡ None }
-    requires transfer { IsTransfer (D.state drive.old).capacity command.now (length body.old) }
-    ensures ok { IfOk result (λ ended. IsRun (D.state drive.old) (command_registers (ata_command command.now)) body.old ended body.new (D.state drive.new)) }
-    ensures err { OnErr result (IsRunCutOff (D.state drive.old) (command_registers (ata_command command.now)) body.old (D.state drive.new)) }
-    ensures again { command_in (command_registers (ata_command command.now)) ≡ ata_command command.now }
-    ensures size { length body.new ≡ length body.old }
-    ensures fit { IsFit (D.state drive.old) → IsFit (D.state drive.new) }
-    ensures step { steps.new ≡ steps.old + 1 }
-{
-    let regs = put_command(&ata_command(command));
-    drive.run(&regs, body, steps)
-}
-
-/// How the task ends whose turn it is: the first that holds decides, a lost link, a unit that is stopped, and the drive.
+/// How the task ends whose turn it is: the first that holds decides, a lost link, a unit that is stopped, and the drive. `cache`
+/// says whether the drive's write cache is on. `LinkDown`: the link was lost while the task was carried out.
 pub fn run_task<D: Drive, L: Ledger>(
     down: bool,
     started: bool,
+    cache: bool,
     drive: &mut D,
     command: &Command,
     body: &mut Pages,
@@ -83,16 +44,19 @@ pub fn run_task<D: Drive, L: Ledger>(
     requires no_error { (D.state drive.old).error ≡ None }
     requires transfer { IsTransfer (D.state drive.old).capacity command.now (length body.old) }
     requires sound { AreSound (D.state drive.old).cells }
+    requires fit { IsFit (D.state drive.old) }
     requires mark { down ≡ (D.state drive.old).down }
+    requires cached { down ≡ false → (D.state drive.old).cache ≡ cache }
     ensures stays { Stays (D.state drive.old) (D.state drive.new) }
+    ensures cache { OnOk result ((D.state drive.new).cache ≡ (D.state drive.old).cache) }
+    ensures look { OnOk result ((D.state drive.new).look ≡ (D.state drive.old).look) }
     ensures up { OnOk result ((D.state drive.new).down ≡ down) }
     ensures faults { OnOk result ((D.state drive.new).faults ≡ (D.state drive.old).faults) }
-    ensures lost { OnErr result ((D.state drive.new).down ≡ true) }
     ensures ends { IfOk result (λ ending. TaskEnds down started command.now (D.state drive.old) body.old ending body.new (D.state drive.new)) }
-    ensures cut { OnErr result (IsLostInTask down started command.now (D.state drive.old) body.old (D.state drive.new)) }
+    ensures lost { OnErr result (IsLostInTask down started command.now (D.state drive.old) body.old (D.state drive.new)) }
     ensures size { length body.new ≡ length body.old }
-    ensures fit { IsFit (D.state drive.old) → IsFit (D.state drive.new) }
-    ensures step { steps.new ≤ steps.old + 1 }
+    ensures fit { IsFit (D.state drive.new) }
+    ensures step { steps.new ≤ steps.old + task_calls }
 {
     if down {
         return Ok(link_lost());
@@ -100,8 +64,7 @@ pub fn run_task<D: Drive, L: Ledger>(
     if !started {
         return Ok(Ending::Check(plain(0x2, 0x04, 0x02)));
     }
-    let ended = run_command(drive, command, body, steps)?;
-    Ok(ending_of(command, &ended))
+    transfer(cache, drive, command, body, steps)
 }
 
 /// LOGICAL UNIT COMMUNICATION FAILURE (SPC-4 4.5.6).

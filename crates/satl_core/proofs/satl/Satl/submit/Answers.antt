@@ -11,7 +11,6 @@ use Rattle.satl_core.proofs.ArrivalLemmas.{answers_at_once, becomes_arrives, hel
 use Rattle.satl_core.proofs.AddingLemmas.{becomes_whole}
 use Rattle.satl_core.proofs.CountedLemmas.{becomes_more, judged_more}
 use Rattle.satl_core.proofs.DeviceLemmas.{arrives_around}
-use Rattle.satl_core.proofs.UnforcedLemmas.{becomes_unforced, judged_unforced_all, same_unforced}
 use Rattle.satl_core.proofs.ValidLemmas.{becomes_tied, filled_up, filled_up_cut, filled_up_holds, once_judged_valid, tied_by}
 use Rattle.satl_core.proofs.satl.Satl.submit.Goals as goal
 
@@ -54,15 +53,6 @@ returns-in-Err-clause-around g c = λ w cut.
     arrives_around w _ _ _ (answers_at_once c.args.self.now _ (g.D.Drive.state c.args.drive.now) w c.in-Err.answer c.answer_at_once.new.replies c.requires.tied.mark judged_is
     (c.answer_at_once.ensures.reply ∙ (ap (λ (x : Request). reply_at_once c.self.inside.identity c.self.inside.modes x c.in-Err.answer ∷ []) cut.cut_is ∙ ap (λ (l : Layer). reply_at_once l.identity l.modes w c.in-Err.answer ∷ []) (c.self.view_is ∙ c.in-Err.ensures.kept)))
     (ap (λ l. view l (g.D.Drive.state c.args.drive.now)) (c.self.view_is ∙ c.in-Err.ensures.left) ∙ ap (λ (x : Request). view (once_judged c.args.self.now x) (g.D.Drive.state c.args.drive.now)) cut.cut_is))
-
-pub returns-in-Ok-clause-unforced : goal.returns-in-Ok-clause-unforced
-returns-in-Ok-clause-unforced g c = λ no free.
-    let becomes = subst (λ (l : Layer). Becomes c.args.request c.in-Ok.command l c.add_task.new.replies c.add_task.new.self) c.in-Ok.ensures.same c.add_task.ensures.becomes in
-    becomes_unforced c.args.self.now c.add_task.new.self (g.D.Drive.state c.args.drive.now) c.args.request c.in-Ok.command c.add_task.new.replies no (sym c.in-Ok.ensures.judged) becomes free
-
-pub returns-in-Err-clause-unforced : goal.returns-in-Err-clause-unforced
-returns-in-Err-clause-unforced g c = λ no free.
-    same_unforced _ _ (ap (λ l. view l (g.D.Drive.state c.args.drive.now)) (c.self.view_is ∙ c.in-Err.ensures.left)) (judged_unforced_all c.args.self.now (g.D.Drive.state c.args.drive.now) c.args.request free)
 
 pub returns-in-Ok-clause-more : goal.returns-in-Ok-clause-more
 returns-in-Ok-clause-more g c =

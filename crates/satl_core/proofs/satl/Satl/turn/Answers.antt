@@ -6,18 +6,17 @@ use Rattle.satl_direct.specs.Tasks.{task_of}
 use Rattle.satl_direct.specs.Quiet.{Around}
 use Rattle.satl_direct.specs.Turn.{Turn}
 use Rattle.satl_core.specs.Layer.{Layer, Tied, held_pages, view}
-use Rattle.satl_core.specs.Turning.{AreUnforced, data_in, lost_replies}
+use Rattle.satl_core.specs.Turning.{data_in, lost_replies}
 use Rattle.satl_core.proofs.CountedLemmas.{counted_rose, counted_same}
 use Rattle.satl_core.proofs.DeviceLemmas.{idle_around, seen}
 use Rattle.satl_core.proofs.HeldLemmas.{first_count, first_kept, first_of, first_pages, none_left, pushed}
 use Rattle.satl_core.proofs.ServedLemmas.{turn_ends, turn_loses}
 use Rattle.satl_core.proofs.TurningLemmas.{all_pages, entry_few, kept_few, lost_all_writable, lost_pages, one_pages, one_writable}
-use Rattle.satl_core.proofs.UnforcedLemmas.{none_unforced, rest_unforced}
 use Rattle.satl_core.proofs.ValidLemmas.{still_tied_none, still_tied_rest}
 use Rattle.satl_core.proofs.satl.Satl.turn.Goals as goal
 
 pub returns-then-pending-eq0-clause-turns : goal.returns-then-pending-eq0-clause-turns
-returns-then-pending-eq0-clause-turns g c = λ _.
+returns-then-pending-eq0-clause-turns g c =
     idle_around _ _ c.args.replies.now (ap (λ t. map task_of (entries_of t)) (none_left c.args.self.now.tasks (sym c.pending.ensures.count ∙ c.if-pending-eq0.true))) c.requires.empty refl
 
 pub returns-then-pending-eq0-clause-counted : goal.returns-then-pending-eq0-clause-counted
@@ -49,10 +48,9 @@ returns-in-Ok-clause-turns g c =
     let first = first_of c.self.inside.tasks c.remove-task.new.self c.remove-task.result c.remove-task.ensures.value c.remove-task.ensures.others in
     let old = g.D.Drive.state c.args.drive.now in
     let new = g.D.Drive.state c.run_task.new.drive in
-    subst (λ (l : Layer). AreUnforced (view l old) → Around Turn (view l old) c.push.new.self (seen c.self.inside.identity c.self.inside.modes c.self.inside.started c.self.inside.attentions (map task_of (entries_of c.remove-task.new.self)) new)) c.self.view_is
-    (λ free.
-    turn_ends c.self.inside.identity c.self.inside.modes c.self.inside.started c.self.inside.down c.self.inside.attentions c.self.inside.tasks c.remove-task.new.self c.self.inside.pool.free (c.self.inside.pool.out - held_pages c.self.inside.tasks) c.remove-task.result old new c.self.invariant.kept first
-    (subst (λ (l : Layer). Tied l old) (sym c.self.view_is) c.requires.tied) free c.in-Ok.ending c.run_task.new.body c.args.replies.now c.push.new.self c.end_task.result c.in-Ok.ensures.ends c.requires.empty c.push.ensures c.end_task.ensures.reply)
+    subst (λ (l : Layer). Around Turn (view l old) c.push.new.self (seen c.self.inside.identity c.self.inside.modes c.self.inside.started c.self.inside.attentions (map task_of (entries_of c.remove-task.new.self)) new)) c.self.view_is
+    (turn_ends c.self.inside.identity c.self.inside.modes c.self.inside.started c.self.inside.down c.self.inside.attentions c.self.inside.tasks c.remove-task.new.self c.self.inside.pool.free (c.self.inside.pool.out - held_pages c.self.inside.tasks) c.remove-task.result old new c.self.invariant.kept first
+    (subst (λ (l : Layer). Tied l old) (sym c.self.view_is) c.requires.tied) c.in-Ok.ending c.run_task.new.body c.args.replies.now c.push.new.self c.end_task.result c.in-Ok.ensures.ends c.requires.empty c.push.ensures c.end_task.ensures.reply)
 
 pub returns-in-Ok-clause-pages : goal.returns-in-Ok-clause-pages
 returns-in-Ok-clause-pages g c =
@@ -75,10 +73,9 @@ returns-in-Err-clause-turns g c =
     let first = first_of c.self.inside.tasks c.remove-task.new.self c.remove-task.result c.remove-task.ensures.value c.remove-task.ensures.others in
     let old = g.D.Drive.state c.args.drive.now in
     let new = g.D.Drive.state c.run_task.new.drive in
-    subst (λ (l : Layer). AreUnforced (view l old) → Around Turn (view l old) c.lose_tasks.new.replies (seen c.self.inside.identity c.self.inside.modes c.self.inside.started c.self.inside.attentions (map task_of (entries_of c.lose_tasks.new.tasks)) new)) c.self.view_is
-    (λ free.
-    turn_loses c.self.inside.identity c.self.inside.modes c.self.inside.started c.self.inside.down c.self.inside.attentions c.self.inside.tasks c.remove-task.new.self c.self.inside.pool.free (c.self.inside.pool.out - held_pages c.self.inside.tasks) c.remove-task.result old new c.self.invariant.kept first
-    (subst (λ (l : Layer). Tied l old) (sym c.self.view_is) c.requires.tied) free c.link_lost.result c.run_task.new.body c.args.replies.now c.push-in-Err.new.self c.lose_tasks.new.replies c.end_task-in-Err.result c.lose_tasks.new.tasks c.lose_tasks.ensures.none c.in-Err.ensures.cut c.requires.empty c.push-in-Err.ensures
+    subst (λ (l : Layer). Around Turn (view l old) c.lose_tasks.new.replies (seen c.self.inside.identity c.self.inside.modes c.self.inside.started c.self.inside.attentions (map task_of (entries_of c.lose_tasks.new.tasks)) new)) c.self.view_is
+    (turn_loses c.self.inside.identity c.self.inside.modes c.self.inside.started c.self.inside.down c.self.inside.attentions c.self.inside.tasks c.remove-task.new.self c.self.inside.pool.free (c.self.inside.pool.out - held_pages c.self.inside.tasks) c.remove-task.result old new c.self.invariant.kept first
+    (subst (λ (l : Layer). Tied l old) (sym c.self.view_is) c.requires.tied) c.link_lost.result c.run_task.new.body c.args.replies.now c.push-in-Err.new.self c.lose_tasks.new.replies c.end_task-in-Err.result c.lose_tasks.new.tasks c.lose_tasks.ensures.none c.in-Err.ensures.lost c.requires.empty c.push-in-Err.ensures
     c.lose_tasks.ensures.answers c.end_task-in-Err.ensures.reply c.link_lost.ensures)
 
 pub lose_tasks-requires-clause-few : goal.lose_tasks-requires-clause-few
@@ -114,14 +111,6 @@ returns-in-Err-clause-writable g c =
     lost_all_writable c.args.replies.now c.push-in-Err.new.self c.lose_tasks.new.replies c.end_task-in-Err.result task c.link_lost.result c.self.inside.modes.d_sense c.self.inside.identity c.remove-task.new.self c.requires.empty c.push-in-Err.ensures c.lose_tasks.ensures.answers
     c.end_task-in-Err.ensures.reply c.link_lost.ensures kept.0.expected kept.1
 
-pub returns-in-Ok-clause-unforced : goal.returns-in-Ok-clause-unforced
-returns-in-Ok-clause-unforced g c = λ free.
-    let first = first_of c.self.inside.tasks c.remove-task.new.self c.remove-task.result c.remove-task.ensures.value c.remove-task.ensures.others in
-    rest_unforced (view c.args.self.now (g.D.Drive.state c.args.drive.now)) (seen c.self.inside.identity c.self.inside.modes c.self.inside.started c.self.inside.attentions (map task_of (entries_of c.remove-task.new.self)) (g.D.Drive.state c.run_task.new.drive)) c.self.inside.tasks c.remove-task.new.self c.remove-task.result (ap (λ (l : Layer). map task_of (entries_of l.tasks)) (sym c.self.view_is)) refl (ap (λ (l : Layer). l.modes) c.self.view_is) first free
-
-pub returns-in-Err-clause-unforced : goal.returns-in-Err-clause-unforced
-returns-in-Err-clause-unforced g c = λ free. none_unforced (view c.args.self.now (g.D.Drive.state c.args.drive.now)) (seen c.self.inside.identity c.self.inside.modes c.self.inside.started c.self.inside.attentions (map task_of (entries_of c.lose_tasks.new.tasks)) (g.D.Drive.state c.run_task.new.drive)) (ap (λ t. map task_of (entries_of t)) c.lose_tasks.ensures.none)
-
 pub end_task-requires-in-Err-clause-held : goal.end_task-requires-in-Err-clause-held
 end_task-requires-in-Err-clause-held g c =
     let first = first_of c.self.inside.tasks c.remove-task.new.self c.remove-task.result c.remove-task.ensures.value c.remove-task.ensures.others in
@@ -147,14 +136,14 @@ returns-in-Ok-clause-tied g c =
     let old = g.D.Drive.state c.args.drive.now in
     let new = g.D.Drive.state c.run_task.new.drive in
     let tied = subst (λ (l : Layer). Tied l old) (sym c.self.view_is) c.requires.tied in
-    still_tied_rest c.self.inside.identity c.self.inside.modes c.self.inside.started c.self.inside.down c.self.inside.attentions c.self.inside.tasks c.remove-task.new.self c.remove-task.result _ _ _ _ old new first c.in-Ok.ensures.up c.run_task.ensures.stays (c.run_task.ensures.fit tied.fit) tied
+    still_tied_rest c.self.inside.identity c.self.inside.modes c.self.inside.started c.self.inside.down c.self.inside.attentions c.self.inside.tasks c.remove-task.new.self c.remove-task.result _ _ _ _ old new first c.in-Ok.ensures.up c.in-Ok.ensures.cache c.in-Ok.ensures.look c.run_task.ensures.stays c.run_task.ensures.fit tied
 
 pub returns-in-Err-clause-tied : goal.returns-in-Err-clause-tied
 returns-in-Err-clause-tied g c =
     let old = g.D.Drive.state c.args.drive.now in
     let new = g.D.Drive.state c.run_task.new.drive in
     let tied = subst (λ (l : Layer). Tied l old) (sym c.self.view_is) c.requires.tied in
-    still_tied_none c.self.inside.identity c.self.inside.modes c.self.inside.started c.self.inside.down c.self.inside.attentions c.self.inside.tasks c.lose_tasks.new.tasks _ _ _ _ old new c.lose_tasks.ensures.none c.in-Err.ensures.lost c.run_task.ensures.stays (c.run_task.ensures.fit tied.fit) tied
+    still_tied_none c.self.inside.identity c.self.inside.modes c.self.inside.started c.self.inside.down c.self.inside.attentions c.self.inside.tasks c.lose_tasks.new.tasks _ _ _ _ old new c.lose_tasks.ensures.none c.in-Err.ensures.lost.lost.down c.run_task.ensures.stays c.run_task.ensures.fit tied
 
 pub returns-in-Ok-clause-counted : goal.returns-in-Ok-clause-counted
 returns-in-Ok-clause-counted g c =
@@ -167,4 +156,4 @@ pub returns-in-Err-clause-counted : goal.returns-in-Err-clause-counted
 returns-in-Err-clause-counted g c =
     let old = g.D.Drive.state c.args.drive.now in
     let new = g.D.Drive.state c.run_task.new.drive in
-    counted_rose (view c.args.self.now old) (seen c.self.inside.identity c.self.inside.modes c.self.inside.started c.self.inside.attentions (map task_of (entries_of c.lose_tasks.new.tasks)) new) old.faults new.faults c.in-Err.ensures.cut.cut.cut.rose
+    counted_rose (view c.args.self.now old) (seen c.self.inside.identity c.self.inside.modes c.self.inside.started c.self.inside.attentions (map task_of (entries_of c.lose_tasks.new.tasks)) new) old.faults new.faults c.in-Err.ensures.lost.lost.rose
