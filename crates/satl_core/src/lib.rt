@@ -2,7 +2,10 @@
 #![tactic(auto)]
 
 mod arrival;
+mod benching;
 mod commands;
+mod leaving;
+mod managing;
 mod satl;
 mod settings;
 mod submitting;
