@@ -1,3 +1,4 @@
 pub mod CompletenessLemmas
 pub mod RunLemmas
 pub mod ServingLemmas
+pub mod ToldLemmas

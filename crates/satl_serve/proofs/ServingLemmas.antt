@@ -1,6 +1,6 @@
 -- A request that a reader gives may be handed to the layer.
 use Rattle.std.proofs.Common.{◌≡◌, ◌⊎◌, inl, inr, refl, sym, ap, subst, ◌∙◌, arith, ℕ, ◌+◌, ◌-◌, ◌*◌, ◌<◌, ◌≤◌, true, false, List, length, take}
-use Rattle.std.specs.Prelude.{Option, Some, None, Result, Ok, Err, IfErr, nat_lt}
+use Rattle.std.specs.Prelude.{Option, Some, None, Result, Ok, Err, IfErr, nat_lt, not}
 use Rattle.std.proofs.lemmas.Bool.{ltb-true, ltb-false}
 use Rattle.std.proofs.lemmas.List.{take_all, length-take-le}
 use Rattle.satl_base.specs.declared.request.Request.{Request}
@@ -22,6 +22,7 @@ use Rattle.satl_core.specs.Submitting.{CanSubmit}
 use Rattle.satl_drive.specs.State.{DriveState}
 use Rattle.satl_serve.specs.declared.serving.ServeFault.{ServeFault}
 use Rattle.satl_serve.specs.declared.serving.ServeFault.TheVariants as faults
+use Rattle.satl_serve.specs.declared.telling.Form.{Form}
 use Rattle.satl_serve.specs.Runs.{Tells}
 use Rattle.satl_serve.specs.Serving.{AtRest, HasFrameCause, HasWriteCause, place_offset}
 
@@ -73,6 +74,9 @@ tied_lent l l' d same t = record {
   no_error = t.no_error;
   fit = t.fit;
   cache = λ up. t.cache (sym (ap (λ (x : Layer). x.down) same) ∙ up) ∙ ap (λ (x : Layer). x.modes.wce) (sym same);
+  look = λ up. t.look (sym (ap (λ (x : Layer). x.down) same) ∙ up) ∙ ap (λ (x : Layer). not x.modes.dra) (sym same);
+  has_cache = t.has_cache ∙ ap (λ (x : Layer). x.identity.cache) (sym same);
+  has_look = t.has_look ∙ ap (λ (x : Layer). x.identity.look) (sym same);
   valid = subst IsValid (sym (ap (λ (x : Layer). view x d) same)) t.valid;
 }
 
@@ -104,7 +108,6 @@ write_cause (Err (faults.Open opening)) read_before read_now before mid now late
 write_cause (Err (faults.BadInput reason offset)) read_before read_now before mid now later h = tt
 write_cause (Err faults.Read) read_before read_now before mid now later h = absurd h
 write_cause (Err faults.Write) read_before read_now before mid now later h = omega arith
-write_cause (Err faults.NotBuilt) read_before read_now before mid now later h = tt
 
 -- a fault of the frames, seen from before the magic
 pub earlier_cause : {A : Type 0} (r : Result A ServeFault) (read_before read_now before mid now : ℕ) → before ≤ mid → IfErr r (HasFrameCause read_before read_now mid now) → IfErr r (HasFrameCause read_before read_now before now)
@@ -113,13 +116,11 @@ earlier_cause (Err (faults.Open opening)) read_before read_now before mid now la
 earlier_cause (Err (faults.BadInput reason offset)) read_before read_now before mid now later h = h
 earlier_cause (Err faults.Read) read_before read_now before mid now later h = h
 earlier_cause (Err faults.Write) read_before read_now before mid now later h = omega arith
-earlier_cause (Err faults.NotBuilt) read_before read_now before mid now later h = h
 
 -- a fault at a frame that was refused, seen from the beginning
-pub refused_cause : (fault : ServeFault) (why : FrameFault) (w w' : Option (List ℕ)) (read_before read_mid read_now before mid now : ℕ) → read_before ≤ read_mid → before ≤ mid → (why ≡ ReadFault → Rose read_mid read_now) → Tells why w w' fault → ((fault ≡ faults.Write) → Rose mid now)
+pub refused_cause : (form : Form) (fault : ServeFault) (why : FrameFault) (w w' : Option (List ℕ)) (read_before read_mid read_now before mid now : ℕ) → read_before ≤ read_mid → before ≤ mid → (why ≡ ReadFault → Rose read_mid read_now) → Tells form why w w' fault → ((fault ≡ faults.Write) → Rose mid now)
     → HasFrameCause read_before read_now before now fault
-refused_cause (faults.Open opening) why w w' read_before read_mid read_now before mid now earlier later read tells write = absurd tells
-refused_cause (faults.BadInput reason offset) why w w' read_before read_mid read_now before mid now earlier later read tells write = tt
-refused_cause faults.Read why w w' read_before read_mid read_now before mid now earlier later read tells write = let rose = read tells.0 in omega arith
-refused_cause faults.Write why w w' read_before read_mid read_now before mid now earlier later read tells write = let rose = write refl in omega arith
-refused_cause faults.NotBuilt why w w' read_before read_mid read_now before mid now earlier later read tells write = tt
+refused_cause form (faults.Open opening) why w w' read_before read_mid read_now before mid now earlier later read tells write = absurd tells
+refused_cause form (faults.BadInput reason offset) why w w' read_before read_mid read_now before mid now earlier later read tells write = tt
+refused_cause form faults.Read why w w' read_before read_mid read_now before mid now earlier later read tells write = let rose = read tells.0 in omega arith
+refused_cause form faults.Write why w w' read_before read_mid read_now before mid now earlier later read tells write = let rose = write refl in omega arith

@@ -1,5 +1,5 @@
--- The clauses by status in the form that they have once every command and every frame is served: without a premise on FUA, with the queue of
--- the drive in them (profile). No code stands on it yet.
+-- The clauses by status in the form that they have once commands are queued: with the queue of the drive in them (profile). No code stands
+-- on it yet.
 use Rattle.std.specs.Prelude.{◌≡◌, ℕ, ◌+◌, ◌-◌, ◌^◌, ◌≤◌, min, Bool, true, false, List, [], ◌∷◌, ◌++◌, map, Option}
 use Rattle.satl_base.specs.declared.bench.BenchEvent.{BenchEvent}
 use Rattle.satl_base.specs.declared.bench.BenchEvent.TheVariants as events
@@ -20,6 +20,7 @@ use Rattle.satl_drive.specs.State.{DriveState}
 use Rattle.satl_direct.specs.Device.{Device}
 use Rattle.satl_direct.specs.Run.{Run, RunCut, RunDeep, joined}
 use Rattle.satl_core.specs.Tie.{Given, IsQueue}
+use Rattle.satl_serve.specs.declared.telling.Form.TheVariants as forms
 use Rattle.satl_serve.specs.Runs.{IsBehind, IsFirst, IsLeftAs}
 
 -- whether a frame unplugs the drive (profile)
@@ -109,7 +110,7 @@ pub record IsServedInPart (limit : ℕ) (old : DriveState) (left left' written w
   pub limit_is : reader.limit ≡ limit
   pub newest_is : reader.newest ≡ Two
   pub read : HasRead reader left mid all
-  pub behind : IsBehind reader mid left' told
+  pub behind : IsBehind forms.Frames reader mid left' told
   pub part : WrotePart written written' (out answers ++ told)
   pub run : RunCut first all losses answers last
   pub queue : KeepsQueue last new

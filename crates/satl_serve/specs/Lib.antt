@@ -1,4 +1,5 @@
 pub mod Completeness
+pub mod Forms
 pub mod Headline
 pub mod Runs
 pub mod Serving

@@ -19,7 +19,9 @@ pub record AtRest (l : Layer) (d : DriveState) : Type 0 where
 -- a write fault comes only where the sink's count rose; no other fault comes from writing (profile)
 abbrev pub HasWriteCause : ℕ → ℕ → ServeFault → Type 0
 HasWriteCause before now faults.Write = Rose before now
-HasWriteCause before now _ = ⊥
+HasWriteCause before now (faults.Open fault) = ⊥
+HasWriteCause before now (faults.BadInput reason offset) = ⊥
+HasWriteCause before now faults.Read = ⊥
 
 -- a read fault comes only where the source's count rose, and a write fault only where the sink's did (profile)
 abbrev pub HasFrameCause : ℕ → ℕ → ℕ → ℕ → ServeFault → Type 0
@@ -27,7 +29,6 @@ HasFrameCause read_before read_now write_before write_now (faults.Open fault) = 
 HasFrameCause read_before read_now write_before write_now (faults.BadInput reason offset) = Unit {0}
 HasFrameCause read_before read_now write_before write_now faults.Read = Rose read_before read_now
 HasFrameCause read_before read_now write_before write_now faults.Write = Rose write_before write_now
-HasFrameCause read_before read_now write_before write_now faults.NotBuilt = Unit {0}
 
 -- the same, and a fault of opening the layer has its own cause (profile)
 abbrev pub HasServeCause : DriveState → DriveState → ℕ → ℕ → ℕ → ℕ → ServeFault → Type 0
@@ -35,7 +36,6 @@ HasServeCause old new read_before read_now write_before write_now (faults.Open f
 HasServeCause old new read_before read_now write_before write_now (faults.BadInput reason offset) = Unit {0}
 HasServeCause old new read_before read_now write_before write_now faults.Read = Rose read_before read_now
 HasServeCause old new read_before read_now write_before write_now faults.Write = Rose write_before write_now
-HasServeCause old new read_before read_now write_before write_now faults.NotBuilt = Unit {0}
 
 -- the drive's IDENTIFY DEVICE data are refused, and its count of faults has not risen (profile)
 pub record IsRefused (fault : IdentityFault) (old new : DriveState) : Type 0 where

@@ -2,5 +2,7 @@
 #![tactic(auto)]
 
 mod serving;
+mod telling;
 
-pub use serving::{Form, ServeFault, serve};
+pub use serving::{ServeFault, serve};
+pub use telling::Form;

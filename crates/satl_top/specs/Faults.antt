@@ -18,4 +18,3 @@ status_of (faults.Open fault) = status_of_open fault
 status_of (faults.BadInput reason offset) = statuses.BadInput
 status_of faults.Read = statuses.ReadFault
 status_of faults.Write = statuses.WriteFault
-status_of faults.NotBuilt = statuses.NotBuilt

@@ -1,5 +1,4 @@
--- The headline by status, in its last form: without a premise on FUA, and without the status of what is not built (profile). No code stands
--- on it yet.
+-- The headline by status, in its last form: with the queue of the drive in it (profile). No code stands on it yet.
 use Rattle.std.specs.Prelude.{◌≡◌, ℕ, List, Option}
 use Rattle.satl_frame.specs.declared.frames.Reason.{Reason}
 use Rattle.satl_frame.specs.declared.frames.FrameFault.TheVariants.{Bad, ReadFault}
@@ -17,4 +16,3 @@ Headline limit old left left' written written' new statuses.ReadFault = IsServed
 Headline limit old left left' written written' new statuses.WriteFault = IsServedInPart limit old left left' written written' new
 Headline limit old left left' written written' new statuses.NoMemory = IsNotServed old left left' written written' new
 Headline limit old left left' written written' new statuses.DriveRefused = IsNotServed old left left' written written' new
-Headline limit old left left' written written' new statuses.NotBuilt = ⊥

@@ -11,6 +11,7 @@ use Rattle.satl_frame.specs.declared.frames.Reason.{Reason}
 use Rattle.satl_text.specs.declared.summary.Summary.{Summary}
 use Rattle.satl_drive.specs.State.{DriveState}
 use Rattle.satl_serve.specs.declared.serving.ServeFault.TheVariants as faults
+use Rattle.satl_serve.specs.declared.telling.Form.TheVariants as forms
 use Rattle.satl_serve.specs.Runs.{IsServed, IsStoppedBehind, IsStoppedInMagic, IsUntouched}
 use Rattle.satl_top.specs.declared.status.Status.{Status}
 use Rattle.satl_top.specs.declared.status.Status.TheVariants as statuses
@@ -31,7 +32,6 @@ exit_number statuses.ReadFault = 4
 exit_number statuses.WriteFault = 5
 exit_number statuses.NoMemory = 6
 exit_number statuses.DriveRefused = 7
-exit_number statuses.NotBuilt = 8
 
 -- a read or a write fault comes only where the source's or the sink's count of faults rose, and a drive is refused only for its
 -- IDENTIFY DEVICE data or where its own count rose (profile)
@@ -43,28 +43,26 @@ HasCause old new read_before read_now write_before write_now statuses.ReadFault 
 HasCause old new read_before read_now write_before write_now statuses.WriteFault = Rose write_before write_now
 HasCause old new read_before read_now write_before write_now statuses.NoMemory = Unit {0}
 HasCause old new read_before read_now write_before write_now statuses.DriveRefused = ((fault : IdentityFault) × (identity_of old.identify ≡ Err fault)) ⊎ Rose old.faults new.faults
-HasCause old new read_before read_now write_before write_now statuses.NotBuilt = Unit {0}
 
--- what holds of the input, the output and the drive, by the status (profile): a whole input was served; or the input is refused,
--- was not read, or asks for what is not built yet, behind frames that were carried out; or a write failed, in the magic or in the
+-- what holds of the input, the output and the drive, by the status (profile): a whole input was served; or the input is refused, or
+-- was not read, behind frames that were carried out; or a write failed, in the magic or in the
 -- answers to the last frame; or nothing was read or written, and no sector reads otherwise than before
 abbrev pub Outcome : ℕ → DriveState → Option (List ℕ) → Option (List ℕ) → Option (List ℕ) → Option (List ℕ) → ℕ → ℕ → DriveState → Status → Type 0
-Outcome limit old left left' written written' calls calls' new statuses.Done = (summary : Summary) × IsServed limit old left left' written written' calls calls' new summary
+Outcome limit old left left' written written' calls calls' new statuses.Done = (summary : Summary) × IsServed forms.Frames limit old left left' written written' calls calls' new summary
 Outcome limit old left left' written written' calls calls' new statuses.Usage = (left' ≡ left) × (written' ≡ written) × (calls' ≡ calls) × (new ≡ old)
-Outcome limit old left left' written written' calls calls' new statuses.BadInput = (reason : Reason) × (offset : ℕ) × IsStoppedBehind limit old left left' written written' calls calls' new (faults.BadInput reason offset)
-Outcome limit old left left' written written' calls calls' new statuses.ReadFault = IsStoppedBehind limit old left left' written written' calls calls' new faults.Read
-Outcome limit old left left' written written' calls calls' new statuses.WriteFault = IsStoppedInMagic old left left' written written' calls calls' new ⊎ IsStoppedBehind limit old left left' written written' calls calls' new faults.Write
+Outcome limit old left left' written written' calls calls' new statuses.BadInput = (reason : Reason) × (offset : ℕ) × IsStoppedBehind forms.Frames limit old left left' written written' calls calls' new (faults.BadInput reason offset)
+Outcome limit old left left' written written' calls calls' new statuses.ReadFault = IsStoppedBehind forms.Frames limit old left left' written written' calls calls' new faults.Read
+Outcome limit old left left' written written' calls calls' new statuses.WriteFault = IsStoppedInMagic forms.Frames old left left' written written' calls calls' new ⊎ IsStoppedBehind forms.Frames limit old left left' written written' calls calls' new faults.Write
 Outcome limit old left left' written written' calls calls' new statuses.NoMemory = IsUntouched old left left' written written' calls calls' new
 Outcome limit old left left' written written' calls calls' new statuses.DriveRefused = IsUntouched old left left' written written' calls calls' new
-Outcome limit old left left' written written' calls calls' new statuses.NotBuilt = IsStoppedBehind limit old left left' written written' calls calls' new faults.NotBuilt
 
--- a good input is served whole where all goes well, up to END and no byte further (profile): but there may be no memory to begin
-abbrev pub Completes : List ℕ → Option (List ℕ) → Status → Type 0
-Completes rest left' statuses.Done = left' ≡ Some rest
-Completes rest left' statuses.Usage = ⊥
-Completes rest left' statuses.BadInput = ⊥
-Completes rest left' statuses.ReadFault = ⊥
-Completes rest left' statuses.WriteFault = ⊥
-Completes rest left' statuses.NoMemory = Unit {0}
-Completes rest left' statuses.DriveRefused = ⊥
-Completes rest left' statuses.NotBuilt = ⊥
+-- a good input is served whole where all goes well, up to END and no byte further (profile): but there may be no memory to begin, or
+-- the link was lost before the layer was open, where the drive's count of faults rose
+abbrev pub Completes : List ℕ → Option (List ℕ) → ℕ → ℕ → Status → Type 0
+Completes rest left' before now statuses.Done = left' ≡ Some rest
+Completes rest left' before now statuses.Usage = ⊥
+Completes rest left' before now statuses.BadInput = ⊥
+Completes rest left' before now statuses.ReadFault = ⊥
+Completes rest left' before now statuses.WriteFault = ⊥
+Completes rest left' before now statuses.NoMemory = Unit {0}
+Completes rest left' before now statuses.DriveRefused = Rose before now

@@ -22,12 +22,10 @@ pub enum Status {
     NoMemory,
     /// The layer does not serve the drive, or its link was lost before the layer was open.
     DriveRefused,
-    /// A frame asks for what is not built yet.
-    NotBuilt,
 }
 
 impl Status {
-    /// The exit number (profile): 0, and 2 to 8 in the order of the variants.
+    /// The exit number (profile): 0, and 2 to 7 in the order of the variants.
     pub fn code(&self) -> u8
         ensures { result ≡ exit_number self.now }
     {
@@ -39,7 +37,6 @@ impl Status {
             Status::WriteFault => 5,
             Status::NoMemory => 6,
             Status::DriveRefused => 7,
-            Status::NotBuilt => 8,
         }
     }
 }
@@ -57,7 +54,6 @@ impl From<ServeFault> for Status {
             ServeFault::BadInput { .. } => Status::BadInput,
             ServeFault::Read => Status::ReadFault,
             ServeFault::Write => Status::WriteFault,
-            ServeFault::NotBuilt => Status::NotBuilt,
         }
     }
 }

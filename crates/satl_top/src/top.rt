@@ -30,7 +30,8 @@ fn is_replay(words: &[RcStr]) -> bool
 
 /// Does all that the program does: where the words are two and the second is `replay`, it serves the frames of the source on
 /// the drive and writes the answers to the sink. The drive has nothing outstanding and is in no error state, and its IDENTIFY
-/// DEVICE data fit it. The status says how that ended. The drive is called once for its identity, and then at most once for each request (profile).
+/// DEVICE data fit it. The status says how that ended. The drive is called once for its
+/// identity, and then at most three times for each request (profile).
 pub fn satl<S: Source, K: Sink, D: Bench, L: Ledger>(
     alloc: Global,
     words: &[RcStr],
@@ -46,7 +47,7 @@ pub fn satl<S: Source, K: Sink, D: Bench, L: Ledger>(
     ensures outcome { Outcome input_limit (D.state drive.old) (S.left source.old) (S.left source.new) (K.written sink.old) (K.written sink.new) steps.old steps.new (D.state drive.new) result }
     ensures refused { is_replay words.now ≡ true → (fault : IdentityFault) → IsRefused fault (D.state drive.old) (D.state drive.new) → (result ≡ Status.DriveRefused) ⊎ (result ≡ Status.NoMemory) }
     ensures causes { HasCause (D.state drive.old) (D.state drive.new) (S.faults source.old) (S.faults source.new) (K.faults sink.old) (K.faults sink.new) result }
-    ensures complete { is_replay words.now ≡ true → (fs : List Frame) (rest : List ℕ) → IsGoodInput input_limit (S.left source.old) fs rest → GoesWell (D.state drive.old) (D.state drive.new) (S.faults source.old) (S.faults source.new) (K.faults sink.old) (K.faults sink.new) → Completes rest (S.left source.new) result }
+    ensures complete { is_replay words.now ≡ true → (fs : List Frame) (rest : List ℕ) → IsGoodInput input_limit (S.left source.old) fs rest → GoesWell (D.state drive.old) (S.faults source.old) (S.faults source.new) (K.faults sink.old) (K.faults sink.new) → Completes rest (S.left source.new) (D.state drive.old).faults (D.state drive.new).faults result }
 {
     if !is_replay(words) {
         return Status::Usage;

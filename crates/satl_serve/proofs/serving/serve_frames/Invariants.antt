@@ -12,7 +12,7 @@ invariant-frames g l = record {
   fresh : l.reader.refused ≡ None;
   newest : l.reader.newest ≡ Two;
   limit : l.reader.limit ≡ input_limit;
-  going : Going (view l.fn.satl (g.D.Drive.state l.fn.drive)) (tally_of (g.D.Drive.state l.fn.drive) l.fn.steps) l.reader (g.S.Source.left l.fn.source) (g.S.Source.left l.source) (g.K.Sink.written l.fn.sink) (g.K.Sink.written l.sink) l.totals (tally_of (g.D.Drive.state l.drive) l.steps) (view l.satl (g.D.Drive.state l.drive));
+  going : Going l.fn.form (view l.fn.satl (g.D.Drive.state l.fn.drive)) (tally_of (g.D.Drive.state l.fn.drive) l.fn.steps) l.reader (g.S.Source.left l.fn.source) (g.S.Source.left l.source) (g.K.Sink.written l.fn.sink) (g.K.Sink.written l.sink) l.totals (tally_of (g.D.Drive.state l.drive) l.steps) (view l.satl (g.D.Drive.state l.drive));
   read_later : g.S.Source.faults l.fn.source ≤ g.S.Source.faults l.source;
   write_later : g.K.Sink.faults l.fn.sink ≤ g.K.Sink.faults l.sink;
 }

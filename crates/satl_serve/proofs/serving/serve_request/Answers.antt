@@ -1,10 +1,9 @@
-use Rattle.std.proofs.Common.{◌∙◌, ap, arith, length, subst, sym}
+use Rattle.std.proofs.Common.{ap, arith, length, subst, sym}
 use Rattle.satl_direct.specs.Arrival.{Arrives}
 use Rattle.satl_direct.specs.Quiet.{Around}
 use Rattle.satl_direct.specs.Run.{MayLose}
 use Rattle.satl_core.specs.Layer.{Layer, view}
-use Rattle.satl_core.specs.Turning.{AreUnforced}
-use Rattle.satl_serve.proofs.RunLemmas.{on_both, on_err, on_ok, view_same}
+use Rattle.satl_serve.proofs.RunLemmas.{on_both, on_err, view_same}
 use Rattle.satl_serve.proofs.serving.serve_request.Goals as goal
 
 pub returns-clause-answered : goal.returns-clause-answered
@@ -17,11 +16,6 @@ returns-clause-answered g c =
       counts = counts;
     }) c.answer.ensures.wrote c.answer.ensures.counts
 
-pub returns-clause-unforced : goal.returns-clause-unforced
-returns-clause-unforced g c =
-    let same = view_same c.submit.new.self c.answer.new.satl (g.D.Drive.state c.submit.new.drive) c.answer.ensures.stays in
-    on_ok c.answer.result _ _ (λ _ clear free. subst AreUnforced (sym same) (c.submit.ensures.unforced clear free)) c.answer.ensures.wrote
-
 pub returns-clause-part : goal.returns-clause-part
 returns-clause-part g c =
     let same = view_same c.submit.new.self c.answer.new.satl (g.D.Drive.state c.submit.new.drive) c.answer.ensures.stays in
@@ -33,6 +27,3 @@ returns-clause-part g c =
 
 pub returns-clause-more : goal.returns-clause-more
 returns-clause-more g c = let tasks = ap (λ (l : Layer). length l.tasks) c.answer.ensures.stays in omega (arith, tasks, c.submit.ensures.more)
-
-pub returns-clause-modes : goal.returns-clause-modes
-returns-clause-modes g c = ap (λ (l : Layer). l.modes) c.answer.ensures.stays ∙ c.submit.ensures.modes

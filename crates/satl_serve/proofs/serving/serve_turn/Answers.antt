@@ -1,11 +1,10 @@
-use Rattle.std.proofs.Common.{◌∙◌, ap, arith, length, subst, sym}
+use Rattle.std.proofs.Common.{ap, arith, length, subst, sym}
 use Rattle.satl_io.specs.Causes.{RoseBy}
 use Rattle.satl_direct.specs.Quiet.{Around}
 use Rattle.satl_direct.specs.Run.{losses_of}
 use Rattle.satl_direct.specs.Turn.{Turn}
 use Rattle.satl_core.specs.Layer.{Layer, view}
-use Rattle.satl_core.specs.Turning.{AreUnforced}
-use Rattle.satl_serve.proofs.RunLemmas.{on_both, on_err, on_ok, view_same}
+use Rattle.satl_serve.proofs.RunLemmas.{on_both, on_err, view_same}
 use Rattle.satl_serve.proofs.serving.serve_turn.Goals as goal
 
 pub returns-clause-answered : goal.returns-clause-answered
@@ -13,22 +12,17 @@ returns-clause-answered g c =
     let same = view_same c.turn.new.self c.answer.new.satl (g.D.Drive.state c.turn.new.drive) c.answer.ensures.stays in
     on_both c.answer.result _ _ _ (λ wrote counts. record {
       replies = c.turn.new.replies;
-      step = λ free. subst (λ s. Around Turn (view c.args.satl.now (g.D.Drive.state c.args.drive.now)) c.turn.new.replies s) (sym same) (c.turn.ensures.turns free);
+      step = subst (λ s. Around Turn (view c.args.satl.now (g.D.Drive.state c.args.drive.now)) c.turn.new.replies s) (sym same) c.turn.ensures.turns;
       wrote = wrote;
       counts = counts;
     }) c.answer.ensures.wrote c.answer.ensures.counts
-
-pub returns-clause-unforced : goal.returns-clause-unforced
-returns-clause-unforced g c =
-    let same = view_same c.turn.new.self c.answer.new.satl (g.D.Drive.state c.turn.new.drive) c.answer.ensures.stays in
-    on_ok c.answer.result _ _ (λ _ free. subst AreUnforced (sym same) (c.turn.ensures.unforced free)) c.answer.ensures.wrote
 
 pub returns-clause-part : goal.returns-clause-part
 returns-clause-part g c =
     let same = view_same c.turn.new.self c.answer.new.satl (g.D.Drive.state c.turn.new.drive) c.answer.ensures.stays in
     on_err c.answer.result _ _ (λ part. record {
       replies = c.turn.new.replies;
-      step = λ free. subst (λ s. Around Turn (view c.args.satl.now (g.D.Drive.state c.args.drive.now)) c.turn.new.replies s) (sym same) (c.turn.ensures.turns free);
+      step = subst (λ s. Around Turn (view c.args.satl.now (g.D.Drive.state c.args.drive.now)) c.turn.new.replies s) (sym same) c.turn.ensures.turns;
       part = part;
     }) c.answer.ensures.part
 
@@ -39,6 +33,3 @@ returns-clause-counted g c =
 
 pub returns-clause-calls : goal.returns-clause-calls
 returns-clause-calls g c = let tasks = ap (λ (l : Layer). length l.tasks) c.answer.ensures.stays in omega (arith, tasks, c.turn.ensures.calls)
-
-pub returns-clause-modes : goal.returns-clause-modes
-returns-clause-modes g c = ap (λ (l : Layer). l.modes) c.answer.ensures.stays ∙ c.turn.ensures.modes
