@@ -3,6 +3,7 @@ pub mod ArrivalLemmas
 pub mod CommandsLemmas
 pub mod CountedLemmas
 pub mod DeviceLemmas
+pub mod FlushingLemmas
 pub mod HeldLemmas
 pub mod LeavingLemmas
 pub mod OpeningLemmas

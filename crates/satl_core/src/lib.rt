@@ -3,6 +3,7 @@
 
 mod arrival;
 mod commands;
+mod flushing;
 mod satl;
 mod settings;
 mod submitting;
