@@ -27,7 +27,7 @@ use Rattle.satl_drive.specs.State.{DriveState}
 use Rattle.satl_cdb.specs.declared.command.Form.{Form}
 use Rattle.satl_cdb.specs.declared.command.Form.TheVariants.{Six, Ten, Sixteen}
 use Rattle.satl_unit.specs.declared.attention.Attention.{Attention}
-use Rattle.satl_direct.specs.Device.{Device}
+use Rattle.satl_direct.specs.Device.{Device, is_of}
 use Rattle.satl_direct.specs.Senses.{attention_sense, no_sense, out_of_range, overlapped, refusal, sense_in, short_data, unknown_operation, unknown_unit}
 use Rattle.satl_direct.specs.Arrival as direct
 use Rattle.satl_direct.specs.Arrival.{untold_codes, attended, Arrival, ArrivesAs, Arrives, answered, waits, arrival, asks_for, attention_arrival, built, cdb_arrival, check, code_arrival, code_of, is_unit_0, other_arrival, unit_arrival}
@@ -35,7 +35,8 @@ use Rattle.satl_direct.specs.Tasks.{held_blocks, held_by, is_full, needed, range
 use Rattle.satl_core.specs.declared.submitting.AtOnce.{AtOnce}
 use Rattle.satl_core.specs.declared.submitting.AtOnce.TheVariants as at_once
 use Rattle.satl_core.specs.Layer.{IsServed, IsTask, IsWithin, Layer, view}
-use Rattle.satl_core.specs.Submitting.{sense_data, tell_attention, answer_to, is_for_unit, other_answer, Becomes, IsAdded, IsRefused, attention_answer, attention_of, cdb_answer, code_answer, command_answer, judged, left_by, once_judged, overlaps, readiness, reply_at_once, task_without_pages, untold}
+use Rattle.satl_core.specs.Leaving.{left_by}
+use Rattle.satl_core.specs.Submitting.{sense_data, tell_attention, answer_to, is_for_unit, other_answer, Becomes, IsAdded, IsRefused, attention_answer, attention_of, cdb_answer, code_answer, command_answer, judged, once_judged, overlaps, readiness, reply_at_once, task_without_pages, untold}
 use Rattle.satl_core.specs.declared.telling.Data.TheVariants as datas
 use Rattle.satl_core.proofs.LeavingLemmas.{found_is, left_tasks}
 
@@ -411,7 +412,7 @@ arrival_by unit over what s r = cond unit (cond over (direct.overlaps (check s r
 -- the layer by these tests
 abbrev once_judged_by : Bool → Bool → Option Attention → Layer → Request → Layer
 once_judged_by unit over what l r =
-    cond (not unit) l (cond over (record l { tasks = left_by r.nexus l.tasks }) (record l { attentions = untold what r.nexus l.attentions }))
+    cond (not unit) l (cond over (record l { tasks = left_by (is_of r.nexus) l.tasks }) (record l { attentions = untold what r.nexus l.attentions }))
 
 other_is : (l : Layer) (d : DriveState) (r : Request) → other_arrival (view l d) r ≡ answered (reply_at_once l.identity l.modes r (other_answer r))
 other_is l d r =
@@ -486,7 +487,7 @@ told_is l d r what = elim (code_of r == 0x03) as (λ b. cond b (direct.told r (b
 
 answers_by : (unit over : Bool) (what : Option Attention) (l : Layer) (d : DriveState) (r : Request) (a : AtOnce) → (slice_index r.cdb 0 ≡ 0x03 → first_of l r ≡ what) → l.down ≡ d.down → judged_by unit over what l r ≡ Err a → Answers (arrival_by unit over what (view l d) r) l d r a (once_judged_by unit over what l r)
 answers_by false over what l d r a first mark e = subst (λ x. Answers x l d r a l) (sym (other_is l d r)) (sensed l d r (other_answer r) a _ refl e, refl)
-answers_by true true what l d r a first mark e = (sensed l d r (at_once.Check overlapped) a _ refl e, ap (λ t. record (view l d) { tasks = t }) (left_tasks r.nexus l.tasks))
+answers_by true true what l d r a first mark e = (sensed l d r (at_once.Check overlapped) a _ refl e, ap (λ t. record (view l d) { tasks = t }) (left_tasks (is_of r.nexus) (is_of r.nexus) (λ t. refl) l.tasks))
 answers_by true false (Some what) l d r a first mark e = (sensed l d r (tell_attention what r.cdb) a _ (told_is l d r what) e, refl)
 answers_by true false None l d r a first mark e = subst (λ x. Answers x l d r a l) (sym (code_at_once l d r a first mark e)) (refl, refl)
 

@@ -83,14 +83,14 @@ cut_short old command r given new again run = record {
 -- ---- what it leaves
 
 -- the data say as before that there is a write cache and look-ahead
-record SaysSo (old new : List ℕ) : Type 0 where
-  cache : has_cache new ≡ has_cache old
-  look : has_look new ≡ has_look old
+pub record SaysSo (old new : List ℕ) : Type 0 where
+  pub cache : has_cache new ≡ has_cache old
+  pub look : has_look new ≡ has_look old
 
 says_same : (old new : List ℕ) → new ≡ old → SaysSo old new
 says_same old new same = record { cache = ap has_cache same; look = ap has_look same }
 
-says_told : (cache look : Bool) (old new : List ℕ) → IsTelling cache look old new → SaysSo old new
+pub says_told : (cache look : Bool) (old new : List ℕ) → IsTelling cache look old new → SaysSo old new
 says_told cache look old new tells = record { cache = ap (λ w. w / 2 ^ 5 % 2 == 1) word_82; look = ap (λ w. w / 2 ^ 6 % 2 == 1) word_82 }
   where
     low : slice_index new 164 ≡ slice_index old 164

@@ -12,7 +12,9 @@ use Rattle.satl_direct.specs.Device.{Device, is_of}
 use Rattle.satl_direct.specs.Tasks.{task_for, task_of}
 use Rattle.satl_direct.specs.Run.{losses_of}
 use Rattle.satl_core.specs.Layer.{Layer}
-use Rattle.satl_core.specs.Submitting.{is_for_unit, Becomes, IsAdded, IsRefused, attention_of, left_by, once_judged, overlaps, task_without_pages, untold}
+use Rattle.satl_core.specs.Leaving.{left_by}
+use Rattle.satl_core.specs.Submitting.{is_for_unit, Becomes, IsAdded, IsRefused, attention_of, once_judged, overlaps, task_without_pages, untold}
+use Rattle.satl_core.proofs.LeavingLemmas.{left_fewer}
 
 -- ---- losses
 
@@ -71,22 +73,13 @@ becomes_more r c old replies new b =
       | false ↦ λ a. (added_more r c old replies new a, ap (λ (l : Layer). l.modes) a.stays)
     ]) b
 
-left_fewer : (nexus : ℕ) (tasks : List Held) → length (left_by nexus tasks) ≤ length tasks
-left_fewer nexus [] = omega arith
-left_fewer nexus (h ∷ tasks) =
-    let rest = left_fewer nexus tasks in
-    elim (is_of nexus h.entry) as (λ b. length (cond (not b) (h ∷ left_by nexus tasks) (left_by nexus tasks)) ≤ length (h ∷ tasks)) [
-      | true ↦ omega (arith, rest)
-      | false ↦ omega (arith, rest)
-    ]
-
 -- judging a request adds no task
 pub judged_more : (l : Layer) (r : Request) → length (once_judged l r).tasks ≤ length l.tasks
 judged_more l r =
-    elim (is_for_unit r) as (λ b. length (cond (not b) l (cond (overlaps l.tasks r) (record l { tasks = left_by r.nexus l.tasks }) (record l { attentions = untold (attention_of l.attentions r) r.nexus l.attentions }))).tasks ≤ length l.tasks) [
+    elim (is_for_unit r) as (λ b. length (cond (not b) l (cond (overlaps l.tasks r) (record l { tasks = left_by (is_of r.nexus) l.tasks }) (record l { attentions = untold (attention_of l.attentions r) r.nexus l.attentions }))).tasks ≤ length l.tasks) [
       | false ↦ omega arith
-      | true ↦ (elim (overlaps l.tasks r) as (λ b. length (cond b (record l { tasks = left_by r.nexus l.tasks }) (record l { attentions = untold (attention_of l.attentions r) r.nexus l.attentions })).tasks ≤ length l.tasks) [
-        | true ↦ left_fewer r.nexus l.tasks
+      | true ↦ (elim (overlaps l.tasks r) as (λ b. length (cond b (record l { tasks = left_by (is_of r.nexus) l.tasks }) (record l { attentions = untold (attention_of l.attentions r) r.nexus l.attentions })).tasks ≤ length l.tasks) [
+        | true ↦ left_fewer (is_of r.nexus) l.tasks
         | false ↦ omega arith
       ])
     ]

@@ -103,7 +103,7 @@ first_checked identity modes started attentions entry others d taken sense = rec
 
 -- ---- a lost link
 
-rest_lost : (s : Device) (rest : List Held) → core.lost_replies s.modes.d_sense rest ≡ map (λ t. task_check s t link_lost) (map task_of (entries_of rest))
+pub rest_lost : (s : Device) (rest : List Held) → core.lost_replies s.modes.d_sense rest ≡ map (λ t. task_check s t link_lost) (map task_of (entries_of rest))
 rest_lost s [] = refl
 rest_lost s (h ∷ rest) = ap (λ l. task_check s (task_of h.entry) link_lost ∷ l) (rest_lost s rest)
 

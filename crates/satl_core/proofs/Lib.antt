@@ -1,11 +1,13 @@
 pub mod AddingLemmas
 pub mod ArrivalLemmas
+pub mod BenchingLemmas
 pub mod CommandsLemmas
 pub mod CountedLemmas
 pub mod DeviceLemmas
 pub mod FlushingLemmas
 pub mod HeldLemmas
 pub mod LeavingLemmas
+pub mod ManagingLemmas
 pub mod OpeningLemmas
 pub mod ServedLemmas
 pub mod TellingLemmas

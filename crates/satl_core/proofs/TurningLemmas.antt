@@ -24,7 +24,7 @@ pub lost_pages : (descriptor : Bool) (tasks : List Held) → reply_pages (lost_r
 lost_pages descriptor [] = refl
 lost_pages descriptor (h ∷ tasks) = let rest = lost_pages descriptor tasks in omega (arith, rest)
 
-lost_writable : (descriptor : Bool) (identity : Identity) (tasks : List Held) → AllByRecursion (IsKept identity) tasks → AllByRecursion IsWritable (lost_replies descriptor tasks)
+pub lost_writable : (descriptor : Bool) (identity : Identity) (tasks : List Held) → AllByRecursion (IsKept identity) tasks → AllByRecursion IsWritable (lost_replies descriptor tasks)
 lost_writable descriptor identity [] all = tt
 lost_writable descriptor identity (h ∷ tasks) all = (record { holds = omega arith; short = omega arith; expected = all.0.expected }, lost_writable descriptor identity tasks all.1)
 

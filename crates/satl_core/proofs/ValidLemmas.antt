@@ -19,11 +19,12 @@ use Rattle.satl_line.specs.declared.entry.Entry.{Entry}
 use Rattle.satl_line.specs.Tasks.{Held, entries_of, is_too_much}
 use Rattle.satl_drive.specs.State.{DriveState, IsFit}
 use Rattle.satl_direct.specs.Arrival.{waits}
-use Rattle.satl_direct.specs.Device.{Device, is_called, is_of, of_others, once_told}
+use Rattle.satl_direct.specs.Device.{Device, is_called, is_of, once_told}
 use Rattle.satl_direct.specs.Tasks.{held_blocks, held_by, is_full, task_for, task_of}
 use Rattle.satl_direct.specs.Valid.{AreOwn, HasCome, IsValid}
 use Rattle.satl_core.specs.Layer.{Layer, Tied, view}
-use Rattle.satl_core.specs.Submitting.{is_for_unit, Becomes, IsAdded, IsRefused, attention_of, code_answer, judged, left_by, once_judged, overlaps, task_without_pages, untold}
+use Rattle.satl_core.specs.Leaving.{left_by}
+use Rattle.satl_core.specs.Submitting.{is_for_unit, Becomes, IsAdded, IsRefused, attention_of, code_answer, judged, once_judged, overlaps, task_without_pages, untold}
 use Rattle.satl_core.specs.Running.{Stays}
 use Rattle.satl_core.proofs.ArrivalLemmas.{by_ok, code_waits, full_is, full_or_waits}
 use Rattle.satl_core.proofs.DeviceLemmas.{first_tasks, seen}
@@ -86,17 +87,18 @@ fewer p (t ∷ ts) =
       | false ↦ (omega (arith, rest.0), omega (arith, rest.1))
     ]
 
-valid_others : (nexus : ℕ) (s : Device) → IsValid s → IsValid (record s { tasks = of_others nexus s.tasks })
-valid_others nexus s v =
-    let less = fewer (λ t. not (is_of nexus t)) s.tasks in
+-- the tasks that pass a test are left
+pub valid_left : (p : Entry → Bool) (s : Device) → IsValid s → IsValid (record s { tasks = filter p s.tasks })
+valid_left p s v =
+    let less = fewer p s.tasks in
     record {
       identity = v.identity;
       cells = v.cells;
       sound = v.sound;
       few = omega (arith, less.0, v.few);
       blocks = omega (arith, less.1, v.blocks);
-      own = own_kept (λ t. not (is_of nexus t)) s.tasks v.own;
-      come = come_kept s.identity (λ t. not (is_of nexus t)) s.tasks v.come;
+      own = own_kept p s.tasks v.own;
+      come = come_kept s.identity p s.tasks v.come;
       modes = v.modes;
       nexuses = v.nexuses;
       attentions = v.attentions;
@@ -136,10 +138,10 @@ valid_untold (Some what) l d nexus v = valid_told nexus (view l d) v
 -- judging a request leaves a valid device
 pub once_judged_valid : (l : Layer) (d : DriveState) (r : Request) → IsValid (view l d) → IsValid (view (once_judged l r) d)
 once_judged_valid l d r v =
-    elim (is_for_unit r) as (λ b. IsValid (view (cond (not b) l (cond (overlaps l.tasks r) (record l { tasks = left_by r.nexus l.tasks }) (record l { attentions = untold (attention_of l.attentions r) r.nexus l.attentions }))) d)) [
+    elim (is_for_unit r) as (λ b. IsValid (view (cond (not b) l (cond (overlaps l.tasks r) (record l { tasks = left_by (is_of r.nexus) l.tasks }) (record l { attentions = untold (attention_of l.attentions r) r.nexus l.attentions }))) d)) [
       | false ↦ v
-      | true ↦ (elim (overlaps l.tasks r) as (λ b. IsValid (view (cond b (record l { tasks = left_by r.nexus l.tasks }) (record l { attentions = untold (attention_of l.attentions r) r.nexus l.attentions })) d)) [
-        | true ↦ subst (λ ts. IsValid (record (view l d) { tasks = ts })) (sym (left_tasks r.nexus l.tasks)) (valid_others r.nexus (view l d) v)
+      | true ↦ (elim (overlaps l.tasks r) as (λ b. IsValid (view (cond b (record l { tasks = left_by (is_of r.nexus) l.tasks }) (record l { attentions = untold (attention_of l.attentions r) r.nexus l.attentions })) d)) [
+        | true ↦ subst (λ ts. IsValid (record (view l d) { tasks = ts })) (sym (left_tasks (is_of r.nexus) (is_of r.nexus) (λ t. refl) l.tasks)) (valid_left (λ t. not (is_of r.nexus t)) (view l d) v)
         | false ↦ valid_untold (attention_of l.attentions r) l d r.nexus v
       ])
     ]

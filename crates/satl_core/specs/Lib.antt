@@ -1,4 +1,7 @@
+pub mod Benching
 pub mod Layer
+pub mod Leaving
+pub mod Managing
 pub mod Opening
 pub mod Running
 pub mod Submitting

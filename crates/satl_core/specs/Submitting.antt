@@ -1,5 +1,5 @@
 -- What the layer is asked with, and what becomes of it.
-use Rattle.std.specs.Prelude.{◌≡◌, ◌⊎◌, ℕ, ◌*◌, ◌+◌, ◌≤◌, ◌==◌, ◌||◌, ◌&&◌, not, nat_lt, Bool, if◌then◌else◌, Option, Some, None, Result, Ok, Err, List, [], ◌∷◌, ◌++◌, length, map, take, drop, filter, is_some, slice_get, slice_index, slice_index_or, slice_set, MatchBool}
+use Rattle.std.specs.Prelude.{◌≡◌, ◌⊎◌, ℕ, ◌*◌, ◌+◌, ◌≤◌, ◌==◌, ◌||◌, ◌&&◌, not, nat_lt, Bool, if◌then◌else◌, Option, Some, None, Result, Ok, Err, List, [], ◌∷◌, ◌++◌, length, map, take, drop, is_some, slice_get, slice_index, slice_index_or, slice_set, MatchBool}
 use Rattle.std.specs.List.{position_from}
 use Rattle.satl_base.specs.declared.request.Request.{Request}
 use Rattle.satl_base.specs.declared.reply.Reply.{Reply}
@@ -25,6 +25,7 @@ use Rattle.satl_line.specs.Tasks.{Held, entries_of, is_named, is_too_much}
 use Rattle.satl_core.specs.declared.telling.Data.TheVariants as datas
 use Rattle.satl_core.specs.Telling.{data_text}
 use Rattle.satl_core.specs.Layer.{IsExpectable, Layer}
+use Rattle.satl_core.specs.Leaving.{left_by}
 
 -- the pages out are the request's, which hold all of its data-out, or no page was free for more (profile)
 pub record CanSubmit (r : Request) (free out : ℕ) : Type 0 where
@@ -96,10 +97,6 @@ code_answer l r =
 abbrev pub overlaps : List Held → Request → Bool
 overlaps tasks r = is_some (position_from (is_named r.nexus r.tag) 0 tasks)
 
--- the tasks of the other nexuses (SAM-5 4.7)
-abbrev pub left_by : ℕ → List Held → List Held
-left_by nexus tasks = filter (λ h. not (is_of nexus h.entry)) tasks
-
 -- the unit attention condition that a request is answered with; REQUEST SENSE tells it as data (SAM-5 5.14, SPC-4 6.39)
 abbrev pub attention_of : List (List Attention) → Request → Option Attention
 attention_of attentions r =
@@ -146,7 +143,7 @@ judged l r =
 abbrev pub once_judged : Layer → Request → Layer
 once_judged l r =
     if not (is_for_unit r) then l
-    else if overlaps l.tasks r then record l { tasks = left_by r.nexus l.tasks }
+    else if overlaps l.tasks r then record l { tasks = left_by (is_of r.nexus) l.tasks }
     else record l { attentions = untold (attention_of l.attentions r) r.nexus l.attentions }
 
 -- a request finds a full task set: nothing else changes, and no page is out (SAM-5 5.3.1)

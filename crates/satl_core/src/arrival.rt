@@ -51,7 +51,7 @@ pub fn is_untold(code: u8) -> bool
 }
 
 /// Whether a LUN is that of logical unit 0.
-fn is_unit_0(lun: &[u8; 8]) -> bool
+pub fn is_unit_0(lun: &[u8; 8]) -> bool
     ensures { result ≡ is_unit_0 lun.now }
 {
     lun.iter().all(|byte| *byte == 0)

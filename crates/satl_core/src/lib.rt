@@ -2,8 +2,11 @@
 #![tactic(auto)]
 
 mod arrival;
+mod benching;
 mod commands;
 mod flushing;
+mod leaving;
+mod managing;
 mod satl;
 mod settings;
 mod submitting;

@@ -8,7 +8,9 @@ ghost use Rattle.satl_frame.specs.Output.{IsWritable};
 ghost use Rattle.satl_direct.specs.Arrival.{Arrives};
 ghost use Rattle.satl_direct.specs.Tasks.{held_blocks, needed};
 ghost use Rattle.satl_direct.specs.Quiet.{Around};
-ghost use Rattle.satl_direct.specs.Run.{MayLose, losses_of};
+ghost use Rattle.satl_direct.specs.Run.{Manages, MayLose, bench_losses, losses_of};
+ghost use Rattle.satl_direct.specs.Bench.{Happens};
+ghost use Rattle.satl_core.specs.Benching.{Follows, StartsAnew};
 ghost use Rattle.satl_direct.specs.Turn.{Turn};
 ghost use Rattle.satl_core.specs.Layer.{IsTask, Tied, reply_pages, view};
 ghost use Rattle.satl_core.specs.Opening.{IsCause, IsOpened};
@@ -16,15 +18,21 @@ ghost use Rattle.satl_core.specs.Submitting.{Becomes, CanSubmit, IsCutOf, judged
 ghost use Rattle.satl_core.specs.Turning.{task_calls};
 
 use crate::arrival::{is_for_unit, plain};
+use crate::benching::{act_on, default_modes, powered_on};
 use crate::commands::tell_identity;
+use crate::leaving::{Scope, drop_tasks};
+use crate::managing::{decide, post};
 use crate::submitting::{
-    AtOnce, answer_at_once, drop_tasks, judge_code, next_attention, other_answer, own_pages,
-    reply_to, task_without_pages, tell_attention,
+    AtOnce, answer_at_once, judge_code, next_attention, other_answer, own_pages, reply_to,
+    task_without_pages, tell_attention,
 };
 use crate::turning::{end_task, link_lost, lose_tasks, run_task, started_after};
-use satl_base::{Lender, Modes, NoMemory, Pages, Replies, Request, Scsi, SenseBytes, Steps};
+use satl_base::{
+    BenchEvent, Lender, Manage, Modes, NoMemory, Pages, Replies, Request, Response, Scsi,
+    SenseBytes, Steps,
+};
 use satl_cdb::Command;
-use satl_drive::{Drive, LinkDown};
+use satl_drive::{Bench, Drive, LinkDown};
 use satl_identify::{Identity, IdentityFault, read_identity};
 use satl_line::TaskSet;
 use satl_pages::Pool;
@@ -175,7 +183,11 @@ impl Satl {
             return Err(other_answer(request));
         }
         if self.tasks.find(request.nexus, request.tag).is_some() {
-            drop_tasks(&mut self.tasks, &mut self.pool, request.nexus);
+            drop_tasks(
+                &mut self.tasks,
+                &mut self.pool,
+                &Scope::OfNexus(request.nexus),
+            );
             return Err(AtOnce::Check(plain(0xB, 0x4E, 0x00)));
         }
         if let Some(what) = next_attention(&mut self.attentions, request) {
@@ -250,6 +262,93 @@ impl Satl {
                 lose_tasks(&mut self.tasks, &mut self.pool, descriptor, replies);
             }
         }
+    }
+
+    /// A task management function is carried out: tasks go without an answer, and unit attentions are posted (SAM-5 7; the
+    /// codes: profile).
+    pub fn manage<D: Drive, L: Ledger>(
+        &mut self,
+        manage: &Manage,
+        drive: &mut D,
+        replies: &mut Replies,
+        steps: &mut Steps<L>,
+    ) -> Response
+        requires empty { replies.old ≡ [] }
+        requires all_in { self.old.out ≡ 0 }
+        requires tied { Tied self.old (D.state drive.old) }
+        ensures manages { Around (MayLose (Manages manage.now result)) (view self.old (D.state drive.old)) replies.new (view self.new (D.state drive.new)) }
+        ensures tied { Tied self.new (D.state drive.new) }
+        ensures pages { self.new.out ≡ reply_pages replies.new }
+        ensures writable { AllByRecursion IsWritable replies.new }
+        ensures fewer { length self.new.tasks ≤ length self.old.tasks }
+        ensures modes { self.new.modes ≡ self.old.modes }
+        ensures drive { drive.new ≡ drive.old }
+        ensures steps { steps.new ≡ steps.old }
+    {
+        let effect = decide(manage, &self.tasks);
+        post(&mut self.attentions, &self.tasks, &effect.posts);
+        drop_tasks(&mut self.tasks, &mut self.pool, &effect.goes);
+        effect.response
+    }
+
+    /// An event of the test bench happens to the drive, and the layer to what follows from it: at a power cycle the tasks go
+    /// without an answer, the modes are the defaults and each nexus is told; at a lost link all tasks are answered (profile).
+    pub fn bench<D: Bench, L: Ledger>(
+        &mut self,
+        event: &BenchEvent,
+        drive: &mut D,
+        replies: &mut Replies,
+        steps: &mut Steps<L>,
+    )
+        requires empty { replies.old ≡ [] }
+        requires all_in { self.old.out ≡ 0 }
+        requires tied { Tied self.old (D.state drive.old) }
+        ensures happens { Around (Happens event.now) (view self.old (D.state drive.old)) replies.new (view self.new (D.state drive.new)) }
+        ensures tied { Tied self.new (D.state drive.new) }
+        ensures pages { self.new.out ≡ reply_pages replies.new }
+        ensures writable { AllByRecursion IsWritable replies.new }
+        ensures fewer { length self.new.tasks ≤ length self.old.tasks }
+        ensures counted { RoseBy (bench_losses event.now) (D.state drive.old).faults (D.state drive.new).faults }
+        ensures steps { steps.new ≡ steps.old }
+    {
+        act_on(drive, event);
+        self.follow(event, replies);
+    }
+
+    /// What follows from an event of the test bench (profile).
+    fn follow(&mut self, event: &BenchEvent, replies: &mut Replies)
+        requires empty { replies.old ≡ [] }
+        requires all_in { self.old.out ≡ 0 }
+        requires few { length self.old.tasks ≤ 64 }
+        ensures follows { Follows event.now self.old replies.new self.new }
+        ensures pages { self.new.out ≡ reply_pages replies.new }
+        ensures writable { AllByRecursion IsWritable replies.new }
+    {
+        match event {
+            BenchEvent::Power => self.start_anew(),
+            BenchEvent::Unplug => {
+                self.down = true;
+                let descriptor = self.modes.d_sense;
+                lose_tasks(&mut self.tasks, &mut self.pool, descriptor, replies);
+            }
+            BenchEvent::Strike { .. }
+            | BenchEvent::Mend { .. }
+            | BenchEvent::Glitch { .. }
+            | BenchEvent::Order { .. } => {}
+        }
+    }
+
+    /// The unit is as after power on: without tasks, started, and with the default modes (SAM-5 6.3; profile).
+    fn start_anew(&mut self)
+        requires all_in { self.old.out ≡ 0 }
+        ensures anew { StartsAnew self.old [] self.new }
+        ensures out { self.new.out ≡ 0 }
+    {
+        drop_tasks(&mut self.tasks, &mut self.pool, &Scope::All);
+        self.modes = default_modes(&self.identity);
+        self.started = true;
+        self.down = false;
+        self.attentions = powered_on();
     }
 
     /// The number of tasks that wait, at most 64 (profile).

@@ -4,8 +4,8 @@ ghost use Rattle.std.specs.List.{AllByRecursion};
 ghost use Rattle.satl_frame.specs.Output.{IsWritable};
 ghost use Rattle.satl_direct.specs.Arrival.{reply_to};
 ghost use Rattle.satl_direct.specs.Tasks.{data_out, held_blocks, needed};
-ghost use Rattle.satl_core.specs.Layer.{IsExpectable, IsServed, held_pages, reply_pages};
-ghost use Rattle.satl_core.specs.Submitting.{answer_to, attention_of, code_answer, command_answer, left_by, other_answer, readiness, reply_at_once, sense_data, task_without_pages, tell_attention, untold};
+ghost use Rattle.satl_core.specs.Layer.{IsExpectable, IsServed, reply_pages};
+ghost use Rattle.satl_core.specs.Submitting.{answer_to, attention_of, code_answer, command_answer, other_answer, readiness, reply_at_once, sense_data, task_without_pages, tell_attention, untold};
 
 use crate::arrival::{
     attention_sense, held_blocks, is_built, is_ordered, is_outside, is_untold, needed, plain,
@@ -14,10 +14,10 @@ use crate::arrival::{
 use crate::satl::Satl;
 use crate::telling::{Data, data_text, told};
 use arrayvec::ArrayVec;
-use satl_base::{Modes, Nexus, Pages, Replies, Reply, Request, Scsi, SenseBytes};
+use satl_base::{Modes, Pages, Replies, Reply, Request, Scsi, SenseBytes};
 use satl_cdb::{Command, read_cdb};
 use satl_identify::Identity;
-use satl_line::{Entry, Kind, TaskSet};
+use satl_line::{Entry, Kind};
 use satl_pages::Pool;
 use satl_sense::{Sense, sense_bytes};
 use satl_unit::{Attention, Attentions};
@@ -72,24 +72,6 @@ pub fn tell_attention(what: Attention, request: &Request) -> AtOnce
         return sense_data(request, sense);
     }
     AtOnce::Check(sense)
-}
-
-/// Takes all tasks of a nexus out, and gives their pages back. They have no answer (SAM-5 5.1, overlapped commands).
-pub fn drop_tasks(tasks: &mut TaskSet, pool: &mut Pool, nexus: Nexus)
-    requires { held_pages tasks.old ≤ pool.old.out }
-    ensures others { tasks.new ≡ left_by nexus tasks.old }
-    ensures free { pool.new.free + held_pages tasks.new ≡ pool.old.free + held_pages tasks.old }
-    ensures out { pool.new.out + held_pages tasks.old ≡ pool.old.out + held_pages tasks.new }
-{
-    let mut place = 0;
-    while place < tasks.len() {
-        if tasks.entry(place).nexus != nexus {
-            place += 1;
-            continue;
-        }
-        let Entry { body, .. } = tasks.remove(place);
-        pool.give(body);
-    }
 }
 
 /// The unit attention that a request is answered with, which is told by that (SAM-5 5.14; of REQUEST SENSE: SPC-4 6.39).

@@ -1,6 +1,7 @@
 use Rattle.std.proofs.Common.{◌-◌, arith, sym, subst}
 use Rattle.std.specs.List.{AllByRecursion}
 use Rattle.std.specs.Prelude.{IfOk}
+use Rattle.satl_direct.specs.Device.{is_of}
 use Rattle.satl_direct.specs.Tasks.{held_blocks}
 use Rattle.satl_core.specs.Layer.{IsKept, IsTask, Layer, held_pages}
 use Rattle.satl_core.proofs.ArrivalLemmas.{code_task}
@@ -12,7 +13,7 @@ invariant_of-self c =
     record {
       held = omega (arith, c.drop_tasks.ensures.out, c.self.invariant.held);
       all = omega (arith, c.drop_tasks.ensures.out, c.drop_tasks.ensures.free, c.self.invariant.all);
-      kept = subst (AllByRecursion (IsKept c.self.inside.identity)) (sym c.drop_tasks.ensures.others) (left_kept (IsKept c.self.inside.identity) c.args.request.now.nexus c.self.inside.tasks c.self.invariant.kept);
+      kept = subst (AllByRecursion (IsKept c.self.inside.identity)) (sym c.drop_tasks.ensures.others) (left_kept (IsKept c.self.inside.identity) (is_of c.args.request.now.nexus) c.self.inside.tasks c.self.invariant.kept);
       identity_is = c.self.invariant.identity_is;
     }
 

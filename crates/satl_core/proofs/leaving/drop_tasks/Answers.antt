@@ -1,9 +1,9 @@
 use Rattle.std.proofs.Common.{arith, refl, sym, ap, subst, ◌∙◌, length}
 use Rattle.satl_line.specs.Tasks.{entry_at}
 use Rattle.satl_core.specs.Layer.{held_pages}
-use Rattle.satl_core.specs.Submitting.{left_by}
+use Rattle.satl_core.specs.Leaving.{is_within, left_by}
 use Rattle.satl_core.proofs.LeavingLemmas.{AreOthers, all_looked_at, count_removed, goes_by, left_removed, others_removed, pages_removed}
-use Rattle.satl_core.proofs.submitting.drop_tasks.Goals as goal
+use Rattle.satl_core.proofs.leaving.drop_tasks.Goals as goal
 
 pub give-requires : goal.give-requires
 give-requires c =
@@ -14,17 +14,17 @@ pub loop-place-preserved : goal.loop-place-preserved
 loop-place-preserved c =
     let pages = pages_removed c.loop-place.tasks c.loop-place.place c.remove-body.result c.remove-body.ensures.value in
     let count = count_removed c.loop-place.tasks c.loop-place.place c.remove-body.result c.remove-body.ensures.value in
-    let goes = goes_by c.args.nexus c.entry.result.now c.remove-body.result (entry_at c.loop-place.tasks c.loop-place.place) c.entry.ensures c.remove-body.ensures.value (sym c.ne.ensures ∙ c.if-ne.false) in
+    let goes = goes_by (is_within c.args.scope.now) c.entry.result.now c.remove-body.result (entry_at c.loop-place.tasks c.loop-place.place) c.entry.ensures c.remove-body.ensures.value (sym c.is_within.ensures ∙ c.if-not-is_within.false) in
     let left = ap held_pages c.remove-body.ensures.others in
     let still = ap length c.remove-body.ensures.others in
     record {
       within = omega (arith, count, still, c.loop-place-test.true, c.len.ensures.value);
-      same = ap (left_by c.args.nexus) c.remove-body.ensures.others ∙ (left_removed c.args.nexus c.loop-place.tasks c.loop-place.place c.remove-body.result c.remove-body.ensures.value goes ∙ c.loop-place.invariant.same);
-      front = subst (AreOthers c.args.nexus c.loop-place.place) (sym c.remove-body.ensures.others) (others_removed c.args.nexus c.loop-place.tasks c.loop-place.place c.loop-place.invariant.front);
+      same = ap (left_by (is_within c.args.scope.now)) c.remove-body.ensures.others ∙ (left_removed (is_within c.args.scope.now) c.loop-place.tasks c.loop-place.place c.remove-body.result c.remove-body.ensures.value goes ∙ c.loop-place.invariant.same);
+      front = subst (AreOthers (is_within c.args.scope.now) c.loop-place.place) (sym c.remove-body.ensures.others) (others_removed (is_within c.args.scope.now) c.loop-place.tasks c.loop-place.place c.loop-place.invariant.front);
       free = omega (arith, pages, left, c.give.ensures.free, c.loop-place.invariant.free);
       out = omega (arith, pages, left, c.give.ensures.out, c.loop-place.invariant.out);
-      nexus = refl;
+      scope = refl;
     }
 
 pub returns-clause-others : goal.returns-clause-others
-returns-clause-others c = all_looked_at c.args.nexus c.args.tasks.now c.loop-place.tasks c.loop-place.place (omega (arith, c.loop-place-test.false, c.len.ensures.value)) c.loop-place.invariant.same c.loop-place.invariant.front
+returns-clause-others c = all_looked_at (is_within c.args.scope.now) c.args.tasks.now c.loop-place.tasks c.loop-place.place (omega (arith, c.loop-place-test.false, c.len.ensures.value)) c.loop-place.invariant.same c.loop-place.invariant.front

@@ -1,0 +1,203 @@
+-- What a task management function does to the layer is what it does to the device.
+use Rattle.std.proofs.Common.{◌≡◌, refl, sym, ap, subst, ◌∙◌, arith, cond, ℕ, zero, suc, ◌+◌, ◌≤◌, Bool, true, false, List, [], ◌∷◌, length, map, Option, Some, None}
+use Rattle.std.specs.Prelude.{if◌then◌else◌, not, ◌&&◌, ◌==◌, filter, slice_index_or, slice_set}
+use Rattle.std.specs.List.{AllByRecursion, list_any}
+use Rattle.satl_base.specs.declared.modes.Modes.{Modes}
+use Rattle.satl_base.specs.declared.request.Manage.{Manage}
+use Rattle.satl_base.specs.declared.reply.Reply.{Reply}
+use Rattle.satl_base.specs.declared.reply.Response.TheVariants.{IncorrectLun}
+use Rattle.satl_identify.specs.declared.identity.Identity.{Identity}
+use Rattle.satl_unit.specs.declared.attention.Attention.{Attention}
+use Rattle.satl_unit.specs.declared.attention.Attention.TheVariants as attentions
+use Rattle.satl_unit.specs.declared.function.Function.{Function}
+use Rattle.satl_unit.specs.declared.function.Function.TheVariants.{AbortTask, AbortTaskSet, ClearTaskSet, UnitReset, NexusReset, QueryTask, QueryTaskSet}
+use Rattle.satl_unit.specs.Conditions.{IsInReportOrder, posted}
+use Rattle.satl_unit.specs.Functions.{function_of}
+use Rattle.satl_unit.proofs.ConditionsLemmas.{posted-order}
+use Rattle.satl_line.specs.declared.entry.Entry.{Entry}
+use Rattle.satl_line.specs.Tasks.{Held, entries_of}
+use Rattle.satl_drive.specs.State.{DriveState}
+use Rattle.satl_direct.specs.Arrival.{is_unit_0}
+use Rattle.satl_direct.specs.Attentions.{posted_for}
+use Rattle.satl_direct.specs.Device.{Device, is_of}
+use Rattle.satl_direct.specs.Management as direct
+use Rattle.satl_direct.specs.Management.{IsManaged, found, has_unit}
+use Rattle.satl_direct.specs.Quiet.{Around}
+use Rattle.satl_direct.specs.Run.{Manages, MayLose}
+use Rattle.satl_direct.specs.Run.MayLose.{keeps}
+use Rattle.satl_direct.specs.Tasks.{task_of}
+use Rattle.satl_direct.specs.Valid.{IsValid}
+use Rattle.satl_core.specs.declared.leaving.Scope.{Scope}
+use Rattle.satl_core.specs.declared.leaving.Scope.TheVariants as scopes
+use Rattle.satl_core.specs.declared.managing.Effect.{Effect}
+use Rattle.satl_core.specs.declared.managing.Posting.{Posting}
+use Rattle.satl_core.specs.declared.managing.Posting.TheVariants as postings
+use Rattle.satl_core.specs.Layer.{Layer, Tied, view}
+use Rattle.satl_core.specs.Leaving.{is_within, left_by}
+use Rattle.satl_core.specs.Managing.{condition_of, effect, effect_of, effect_or_none, is_told, once_posted, only}
+use Rattle.satl_core.proofs.DeviceLemmas.{around_alone, seen}
+use Rattle.satl_core.proofs.LeavingLemmas.{any_tasks, left_tasks}
+use Rattle.satl_core.proofs.ValidLemmas.{tied_by, valid_left}
+
+-- ---- conditions that are posted one nexus after the other
+
+-- the conditions once those of the nexuses from a place on are posted
+abbrev pub rest_posted : (ℕ → Bool) → Attention → ℕ → ℕ → List (List Attention) → List (List Attention)
+rest_posted for what zero nexus lists = posted_for for what nexus lists
+rest_posted for what (suc place) nexus [] = []
+rest_posted for what (suc place) nexus (conditions ∷ lists) = conditions ∷ rest_posted for what place (nexus + 1) lists
+
+-- those of one more are posted
+rest_step : (for : ℕ → Bool) (what : Attention) (place nexus number : ℕ) (lists : List (List Attention)) → number ≡ nexus + place
+    → rest_posted for what (suc place) nexus (if for number then slice_set lists place (posted what (slice_index_or lists place [])) else lists) ≡ rest_posted for what place nexus lists
+rest_step for what zero nexus number [] e = elim (for number) as (λ b. rest_posted for what 1 nexus (cond b (slice_set [] 0 (posted what [])) []) ≡ []) [ true ↦ refl | false ↦ refl ]
+rest_step for what zero nexus number (conditions ∷ lists) e =
+    let same : nexus ≡ number = omega (arith, e) in
+    rw same (elim (for number) as (λ b. rest_posted for what 1 number (cond b (posted what conditions ∷ lists) (conditions ∷ lists)) ≡ cond b (posted what conditions) conditions ∷ posted_for for what (number + 1) lists) [ true ↦ refl | false ↦ refl ])
+rest_step for what (suc place) nexus number [] e = elim (for number) as (λ b. rest_posted for what (suc (suc place)) nexus (cond b (slice_set [] (suc place) (posted what [])) []) ≡ []) [ true ↦ refl | false ↦ refl ]
+rest_step for what (suc place) nexus number (conditions ∷ lists) e = pushed (for number) ∙ ap (λ l. conditions ∷ l) (rest_step for what place (nexus + 1) number lists (omega (arith, e)))
+  where
+    pushed : (b : Bool) → rest_posted for what (suc (suc place)) nexus (cond b (slice_set (conditions ∷ lists) (suc place) (posted what (slice_index_or lists place []))) (conditions ∷ lists)) ≡ conditions ∷ rest_posted for what (suc place) (nexus + 1) (cond b (slice_set lists place (posted what (slice_index_or lists place []))) lists)
+    pushed true = refl
+    pushed false = refl
+
+pub rest_next : (for : ℕ → Bool) (what : Attention) (number : ℕ) (lists : List (List Attention))
+    → rest_posted for what (suc number) 0 (if for number then slice_set lists number (posted what (slice_index_or lists number [])) else lists) ≡ rest_posted for what number 0 lists
+rest_next for what number lists = rest_step for what number 0 number lists (omega arith)
+
+-- all are posted
+pub rest_none : (for : ℕ → Bool) (what : Attention) (place nexus : ℕ) (lists : List (List Attention)) → length lists ≤ place → rest_posted for what place nexus lists ≡ lists
+rest_none for what zero nexus [] few = refl
+rest_none for what zero nexus (conditions ∷ lists) few = absurd (omega (arith, few))
+rest_none for what (suc place) nexus [] few = refl
+rest_none for what (suc place) nexus (conditions ∷ lists) few = ap (λ l. conditions ∷ l) (rest_none for what place (nexus + 1) lists (omega (arith, few)))
+
+posted_alike : (p q : ℕ → Bool) (what : Attention) (nexus : ℕ) (lists : List (List Attention)) → ((n : ℕ) → p n ≡ q n) → posted_for p what nexus lists ≡ posted_for q what nexus lists
+posted_alike p q what nexus [] same = refl
+posted_alike p q what nexus (conditions ∷ lists) same = ap (λ b. cond b (posted what conditions) conditions ∷ posted_for p what (nexus + 1) lists) (same nexus) ∙ ap (λ l. cond (q nexus) (posted what conditions) conditions ∷ l) (posted_alike p q what (nexus + 1) lists same)
+
+-- there are conditions for as many nexuses as before, in the order of report
+posted_length : (for : ℕ → Bool) (what : Attention) (nexus : ℕ) (lists : List (List Attention)) → length (posted_for for what nexus lists) ≡ length lists
+posted_length for what nexus [] = refl
+posted_length for what nexus (conditions ∷ lists) = ap suc (posted_length for what (nexus + 1) lists)
+
+posted_kept : (for : ℕ → Bool) (what : Attention) (nexus : ℕ) (lists : List (List Attention)) → AllByRecursion IsInReportOrder lists → AllByRecursion IsInReportOrder (posted_for for what nexus lists)
+posted_kept for what nexus [] all = tt
+posted_kept for what nexus (conditions ∷ lists) all =
+    ((elim (for nexus) as (λ b. IsInReportOrder (cond b (posted what conditions) conditions)) [ true ↦ posted-order what conditions | false ↦ all.0 ]), posted_kept for what (nexus + 1) lists all.1)
+
+once_length : (posts : Option Posting) (tasks : List Held) (lists : List (List Attention)) → length (once_posted posts tasks lists) ≡ length lists
+once_length None tasks lists = refl
+once_length (Some posting) tasks lists = posted_length (is_told posting tasks) (condition_of posting) 0 lists
+
+once_kept : (posts : Option Posting) (tasks : List Held) (lists : List (List Attention)) → AllByRecursion IsInReportOrder lists → AllByRecursion IsInReportOrder (once_posted posts tasks lists)
+once_kept None tasks lists all = all
+once_kept (Some posting) tasks lists all = posted_kept (is_told posting tasks) (condition_of posting) 0 lists all
+
+-- ---- the effect of a function
+
+-- a test says the same of a task in the layer and in the device
+pub within_seen : (scope : Scope) (t : Entry) → is_within scope (task_of t) ≡ is_within scope t
+within_seen (scopes.OneTask nexus tag) t = refl
+within_seen (scopes.OfNexus nexus) t = refl
+within_seen scopes.All t = refl
+within_seen scopes.Nothing t = refl
+
+any_seen : (scope : Scope) (tasks : List Held) → list_any (is_within scope) (entries_of tasks) ≡ list_any (is_within scope) (map task_of (entries_of tasks))
+any_seen scope tasks = any_tasks (is_within scope) (is_within scope) (within_seen scope) tasks
+
+-- what the layer does is what the device does
+record Mirrors (tasks : List Held) (lists : List (List Attention)) (own : Effect) (effect : direct.Effect) : Type 0 where
+  goes : (t : Entry) → effect.goes (task_of t) ≡ is_within own.goes t
+  posts : once_posted own.posts tasks lists ≡ effect.attentions
+  response : own.response ≡ effect.response
+
+-- the device of these tasks and conditions
+abbrev with_these : Device → List Held → List (List Attention) → Device
+with_these s tasks lists = record s { tasks = map task_of (entries_of tasks); attentions = lists }
+
+function_mirrors : (f : Function) (m : Manage) (s : Device) (tasks : List Held) (lists : List (List Attention)) → Mirrors tasks lists (effect_of f m tasks) (direct.effect_of f m (with_these s tasks lists))
+function_mirrors AbortTask m s tasks lists = record { goes = λ t. refl; posts = refl; response = refl }
+function_mirrors AbortTaskSet m s tasks lists = record { goes = λ t. refl; posts = refl; response = refl }
+function_mirrors ClearTaskSet m s tasks lists = record {
+  goes = λ t. refl;
+  posts = posted_alike (is_told (postings.ClearedBy m.nexus) tasks) (λ nexus. not (nexus == m.nexus) && list_any (is_of nexus) (map task_of (entries_of tasks))) attentions.Cleared 0 lists (λ n. ap (λ b. not (n == m.nexus) && b) (any_seen (scopes.OfNexus n) tasks));
+  response = refl;
+}
+function_mirrors UnitReset m s tasks lists = record { goes = λ t. refl; posts = posted_alike (is_told postings.UnitReset tasks) (λ nexus. true) attentions.UnitReset 0 lists (λ n. refl); response = refl }
+function_mirrors NexusReset m s tasks lists = record { goes = λ t. refl; posts = posted_alike (is_told (postings.NexusLoss m.nexus) tasks) (λ nexus. nexus == m.nexus) attentions.NexusLoss 0 lists (λ n. refl); response = refl }
+function_mirrors QueryTask m s tasks lists = record { goes = λ t. refl; posts = refl; response = ap found (any_seen (scopes.OneTask m.nexus m.tag) tasks) }
+function_mirrors QueryTaskSet m s tasks lists = record { goes = λ t. refl; posts = refl; response = ap found (any_seen (scopes.OfNexus m.nexus) tasks) }
+
+code_mirrors : (f : Option Function) (m : Manage) (s : Device) (tasks : List Held) (lists : List (List Attention)) → Mirrors tasks lists (effect_or_none f m tasks) (direct.effect_or_none f m (with_these s tasks lists))
+code_mirrors None m s tasks lists = record { goes = λ t. refl; posts = refl; response = refl }
+code_mirrors (Some f) m s tasks lists = function_mirrors f m s tasks lists
+
+effect_mirrors : (m : Manage) (s : Device) (tasks : List Held) (lists : List (List Attention)) → Mirrors tasks lists (effect m tasks) (direct.effect m (with_these s tasks lists))
+effect_mirrors m s tasks lists =
+    elim (has_unit (function_of m.function) && not (is_unit_0 m.lun)) as (λ b. Mirrors tasks lists (cond b (only IncorrectLun) (effect_or_none (function_of m.function) m tasks)) (cond b (direct.only IncorrectLun (with_these s tasks lists)) (direct.effect_or_none (function_of m.function) m (with_these s tasks lists)))) [
+      | true ↦ record { goes = λ t. refl; posts = refl; response = refl }
+      | false ↦ code_mirrors (function_of m.function) m s tasks lists
+    ]
+
+-- ---- the step
+
+-- the layer with the tasks that stay and the conditions that are posted is the device after the function
+pub manages : (m : Manage) (s new : Device) (tasks tasks' : List Held) (lists lists' : List (List Attention)) (own : Effect) → own ≡ effect m tasks → s.tasks ≡ map task_of (entries_of tasks) → s.attentions ≡ lists
+    → tasks' ≡ left_by (is_within own.goes) tasks → lists' ≡ once_posted own.posts tasks lists → new ≡ record s { tasks = map task_of (entries_of tasks'); attentions = lists' } → IsManaged m s own.response new
+manages m s new tasks tasks' lists lists' own is ts cs left posts same =
+    let mirrors = subst (λ e. Mirrors tasks lists e (direct.effect m s)) (sym is) (subst (λ (x : Device). Mirrors tasks lists (effect m tasks) (direct.effect m x)) these (effect_mirrors m s tasks lists)) in
+    record {
+      response_is = mirrors.response;
+      stays = same
+          ∙ (ap (λ l. record s { tasks = map task_of (entries_of tasks'); attentions = l }) (posts ∙ mirrors.posts)
+          ∙ ap (λ l. record s { tasks = l; attentions = (direct.effect m s).attentions }) (ap (λ l. map task_of (entries_of l)) left ∙ (left_tasks (is_within own.goes) (direct.effect m s).goes mirrors.goes tasks ∙ ap (filter (λ t. not ((direct.effect m s).goes t))) (sym ts))));
+    }
+  where
+    these : with_these s tasks lists ≡ s
+    these = ap (λ l. record s { tasks = l; attentions = lists }) (sym ts) ∙ ap (λ l. record s { attentions = l }) (sym cs)
+
+valid_posted : (posts : Option Posting) (tasks : List Held) (s : Device) → IsValid s → IsValid (record s { attentions = once_posted posts tasks s.attentions })
+valid_posted posts tasks s v = record {
+  identity = v.identity;
+  cells = v.cells;
+  sound = v.sound;
+  few = v.few;
+  blocks = v.blocks;
+  own = v.own;
+  come = v.come;
+  modes = v.modes;
+  nexuses = once_length posts tasks s.attentions ∙ v.nexuses;
+  attentions = once_kept posts tasks s.attentions v.attentions;
+}
+
+-- tasks that stay and conditions that are posted leave a valid device
+pub valid_managed : (s new : Device) (tasks tasks' : List Held) (lists' : List (List Attention)) (own : Effect) → s.tasks ≡ map task_of (entries_of tasks)
+    → tasks' ≡ left_by (is_within own.goes) tasks → lists' ≡ once_posted own.posts tasks s.attentions → new ≡ record s { tasks = map task_of (entries_of tasks'); attentions = lists' } → IsValid s → IsValid new
+valid_managed s new tasks tasks' lists' own ts left posts same v =
+    subst IsValid (sym (same ∙ (ap (λ l. record s { tasks = map task_of (entries_of tasks'); attentions = l }) posts ∙ ap (λ l. record s { tasks = l; attentions = once_posted own.posts tasks s.attentions }) stay)))
+    (valid_posted own.posts tasks (record s { tasks = filter (λ t. not (is_within own.goes t)) s.tasks }) (valid_left (λ t. not (is_within own.goes t)) s v))
+  where
+    stay : map task_of (entries_of tasks') ≡ filter (λ t. not (is_within own.goes t)) s.tasks
+    stay = ap (λ l. map task_of (entries_of l)) left ∙ (left_tasks (is_within own.goes) (is_within own.goes) (within_seen own.goes) tasks ∙ ap (filter (λ t. not (is_within own.goes t))) (sym ts))
+
+-- ---- the layer by its parts
+
+-- the function is a step of the device
+pub managed_around : (m : Manage) (own : Effect) (identity : Identity) (modes : Modes) (started down : Bool) (lists lists' : List (List Attention)) (tasks tasks' : List Held) (free out : ℕ) (d : DriveState) (l : Layer) (replies : List Reply)
+    → record { identity = identity; modes = modes; started = started; down = down; attentions = lists; tasks = tasks; free = free; out = out } ≡ l → replies ≡ [] → own ≡ effect m tasks → tasks' ≡ left_by (is_within own.goes) tasks → lists' ≡ once_posted own.posts tasks lists
+    → Around (MayLose (Manages m own.response)) (view l d) replies (seen identity modes started lists' (map task_of (entries_of tasks')) d)
+managed_around m own identity modes started down lists lists' tasks tasks' free out d l replies view_is empty is left posts =
+    let old = seen identity modes started lists (map task_of (entries_of tasks)) d in
+    let new = seen identity modes started lists' (map task_of (entries_of tasks')) d in
+    subst (λ x. Around (MayLose (Manages m own.response)) (view x d) replies new) view_is
+    (around_alone (MayLose (Manages m own.response)) old new replies (keeps (empty, manages m old new tasks tasks' lists lists' own is refl refl left posts refl)))
+
+-- and leaves the layer tied
+pub managed_tied : (own : Effect) (identity : Identity) (modes : Modes) (started down : Bool) (lists lists' : List (List Attention)) (tasks tasks' : List Held) (free out free' out' : ℕ) (d : DriveState)
+    → tasks' ≡ left_by (is_within own.goes) tasks → lists' ≡ once_posted own.posts tasks lists
+    → Tied (record { identity = identity; modes = modes; started = started; down = down; attentions = lists; tasks = tasks; free = free; out = out }) d
+    → Tied (record { identity = identity; modes = modes; started = started; down = down; attentions = lists'; tasks = tasks'; free = free'; out = out' }) d
+managed_tied own identity modes started down lists lists' tasks tasks' free out free' out' d left posts tied =
+    tied_by (record { identity = identity; modes = modes; started = started; down = down; attentions = lists; tasks = tasks; free = free; out = out }) (record { identity = identity; modes = modes; started = started; down = down; attentions = lists'; tasks = tasks'; free = free'; out = out' }) d refl refl refl
+    (valid_managed (seen identity modes started lists (map task_of (entries_of tasks)) d) (seen identity modes started lists' (map task_of (entries_of tasks')) d) tasks tasks' lists' own refl left posts refl tied.valid) tied

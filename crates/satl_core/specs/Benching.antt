@@ -1,0 +1,45 @@
+-- What a test bench does to the drive, and what follows for the layer (profile).
+use Rattle.std.specs.Prelude.{◌≡◌, true, false, List, [], ◌∷◌, replicate}
+use Rattle.satl_base.specs.declared.bench.BenchEvent.{BenchEvent}
+use Rattle.satl_base.specs.declared.bench.BenchEvent.TheVariants.{Strike, Mend, Glitch, Order, Power, Unplug}
+use Rattle.satl_base.specs.declared.reply.Reply.{Reply}
+use Rattle.satl_mode.specs.ModePages.{defaults}
+use Rattle.satl_unit.specs.declared.attention.Attention.TheVariants.{PowerOn}
+use Rattle.satl_drive.specs.State.{DriveState}
+use Rattle.satl_drive.specs.Bench.{IsGlitched, IsMended, IsOrdered, IsPowered, IsStruck, IsUnplugged}
+use Rattle.satl_core.specs.Layer.{Layer}
+use Rattle.satl_core.specs.Turning.{lost_replies}
+
+-- what an event does to the drive (profile)
+abbrev pub IsActedOn : BenchEvent → DriveState → DriveState → Type 0
+IsActedOn (Strike which lba) old new = IsStruck which lba old new
+IsActedOn (Mend lba) old new = IsMended lba old new
+IsActedOn (Glitch count) old new = IsGlitched count old new
+IsActedOn (Order order) old new = IsOrdered old new
+IsActedOn Power old new = IsPowered old new
+IsActedOn Unplug old new = IsUnplugged old new
+
+-- the layer is as before, and nothing is answered (profile)
+pub record StaysSame (old : Layer) (replies : List Reply) (new : Layer) : Type 0 where
+  pub none : replies ≡ []
+  pub stays : new ≡ old
+
+-- after a power cycle the tasks are gone without an answer, the mode values are the defaults, the unit is started, the link is up, and
+-- each nexus is to be told that the power was on (SAM-5 6.3; profile)
+pub record StartsAnew (old : Layer) (replies : List Reply) (new : Layer) : Type 0 where
+  pub none : replies ≡ []
+  pub stays : new ≡ record old { modes = defaults old.identity; started = true; down = false; attentions = replicate 4 (PowerOn ∷ []); tasks = []; free = new.free; out = new.out }
+
+-- the link is lost: all tasks are answered so, and none is left (profile)
+pub record LosesLink (old : Layer) (replies : List Reply) (new : Layer) : Type 0 where
+  pub answer : replies ≡ lost_replies old.modes.d_sense old.tasks
+  pub stays : new ≡ record old { down = true; tasks = []; free = new.free; out = new.out }
+
+-- what follows from an event for the layer, and what it answers (profile)
+abbrev pub Follows : BenchEvent → Layer → List Reply → Layer → Type 0
+Follows (Strike which lba) old replies new = StaysSame old replies new
+Follows (Mend lba) old replies new = StaysSame old replies new
+Follows (Glitch count) old replies new = StaysSame old replies new
+Follows (Order order) old replies new = StaysSame old replies new
+Follows Power old replies new = StartsAnew old replies new
+Follows Unplug old replies new = LosesLink old replies new
