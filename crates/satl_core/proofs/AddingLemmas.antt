@@ -1,9 +1,11 @@
 -- A request becomes the last task.
 use Rattle.std.proofs.Common.{◌≡◌, refl, sym, ap, subst, ◌∙◌, arith, ℕ, zero, suc, ◌+◌, ◌*◌, ◌≤◌, Bool, true, false, List, [], ◌∷◌, ◌++◌, length, map, take, Some}
-use Rattle.std.specs.Prelude.{MatchBool}
+use Rattle.std.specs.Prelude.{MatchBool, Option}
 use Rattle.std.specs.Option.{option_map}
 use Rattle.std.specs.List.{AllByRecursion}
 use Rattle.satl_base.specs.declared.block.Block.{Block}
+use Rattle.satl_base.specs.declared.block.Range.{Range}
+use Rattle.satl_base.specs.declared.modes.ModeChange.{ModeChange}
 use Rattle.satl_base.specs.declared.reply.Reply.{Reply}
 use Rattle.satl_base.specs.declared.request.Request.{Request}
 use Rattle.satl_cdb.specs.declared.command.Command.{Command}
@@ -12,10 +14,10 @@ use Rattle.satl_line.specs.declared.entry.Entry.{Entry}
 use Rattle.satl_line.specs.Kinds.{kind_of}
 use Rattle.satl_line.specs.Tasks.{Adds, Held, change_at, entries_of, entry_at, is_too_much, total_blocks, with_body}
 use Rattle.satl_line.proofs.SlotsLemmas.{All-append, total-append}
-use Rattle.satl_direct.specs.Tasks.{data_out, held_blocks, needed, task_for, task_of}
-use Rattle.satl_core.specs.Layer.{IsExpectable, IsKept, IsTransfer, Layer, held_pages}
+use Rattle.satl_direct.specs.Tasks.{asks, data_out, held_blocks, needed, task_for, task_of}
+use Rattle.satl_core.specs.Layer.{IsExpectable, IsKept, IsTask, Layer, held_pages}
 use Rattle.satl_core.specs.Submitting.{Becomes, IsAdded, IsRefused, task_without_pages}
-use Rattle.satl_core.proofs.Transfers.{of_transfer}
+use Rattle.satl_core.proofs.Transfers.{of_task}
 use Rattle.satl_core.proofs.HeldLemmas.{held-append, last_at, last_changed, length-push}
 
 -- the blocks of all tasks with one more
@@ -49,26 +51,25 @@ held_with old new entry body h =
     let same = ap held_pages h.are in
     omega (arith, both, same)
 
-pub kept_with : (identity : Identity) (old new : List Held) (entry : Entry) (body : List Block) → AllByRecursion (IsKept identity) old → length body ≡ entry.blocks → IsTransfer identity.capacity entry.command entry.blocks → entry.kind ≡ kind_of entry.command identity.queued_trim → IsExpectable entry.expected → HasPages old entry body new
+pub kept_with : (identity : Identity) (old new : List Held) (entry : Entry) (body : List Block) → AllByRecursion (IsKept identity) old → length body ≡ entry.blocks → IsTask identity.capacity entry.command entry.blocks → entry.kind ≡ kind_of entry.command identity.queued_trim → IsExpectable entry.expected → HasPages old entry body new
     → AllByRecursion (IsKept identity) new
-kept_with identity old new entry body all size transfer kind expected h =
-    subst (λ t. AllByRecursion (IsKept identity) t) (sym h.are) (All-append (IsKept identity) old (record { slot = h.slot; entry = record entry { body = body } } ∷ []) all (record { pages = size; transfer = transfer; kind = kind; expected = expected }, tt))
+kept_with identity old new entry body all size task kind expected h =
+    subst (λ t. AllByRecursion (IsKept identity) t) (sym h.are) (All-append (IsKept identity) old (record { slot = h.slot; entry = record entry { body = body } } ∷ []) all (record { pages = size; task = task; kind = kind; expected = expected }, tt))
 
 push_tasks : (old : List Held) (h : Held) → map task_of (entries_of (old ++ h ∷ [])) ≡ map task_of (entries_of old) ++ task_of h.entry ∷ []
 push_tasks [] h = refl
 push_tasks (x ∷ old) h = ap (λ l. task_of x.entry ∷ l) (push_tasks old h)
 
 -- the task without its pages, and then with its data-out, is that of the device
-task_is : (capacity n : ℕ) (r : Request) (c : Command) (queued_trim : Bool) → IsTransfer capacity c n → record (task_without_pages r c queued_trim) { body = data_out c (take (held_blocks c) r.body) } ≡ task_for queued_trim r c
-task_is capacity n r c queued_trim t =
-    of_transfer (λ c. record (task_without_pages r c queued_trim) { body = data_out c (take (held_blocks c) r.body) } ≡ task_for queued_trim r c) capacity n c (λ form lba count fua t. refl) (λ form lba count fua t. refl) t
+task_is : (r : Request) (c : Command) (queued_trim : Bool) → record (task_without_pages r c queued_trim) { body = data_out c (take (held_blocks c) r.body) } ≡ task_for queued_trim r c
+task_is r c queued_trim = refl
 
-pub tasks_with : (capacity n : ℕ) (old new : List Held) (r : Request) (c : Command) (queued_trim : Bool) (body : List Block) → IsTransfer capacity c n → data_out c body ≡ data_out c (take (held_blocks c) r.body) → HasPages old (task_without_pages r c queued_trim) body new
+pub tasks_with : (old new : List Held) (r : Request) (c : Command) (queued_trim : Bool) (body : List Block) → data_out c body ≡ data_out c (take (held_blocks c) r.body) → HasPages old (task_without_pages r c queued_trim) body new
     → map task_of (entries_of new) ≡ map task_of (entries_of old) ++ task_for queued_trim r c ∷ []
-tasks_with capacity n old new r c queued_trim body t same h =
+tasks_with old new r c queued_trim body same h =
     ap (λ t. map task_of (entries_of t)) h.are ∙ (push_tasks old (record { slot = h.slot; entry = record (task_without_pages r c queued_trim) { body = body } })
     ∙ (ap (λ b. map task_of (entries_of old) ++ record (task_without_pages r c queued_trim) { body = b } ∷ []) same
-    ∙ ap (λ t. map task_of (entries_of old) ++ t ∷ []) (task_is capacity n r c queued_trim t)))
+    ∙ ap (λ t. map task_of (entries_of old) ++ t ∷ []) (task_is r c queued_trim)))
 
 pub becomes_added : (r : Request) (c : Command) (old : Layer) (replies : List Reply) (new : Layer) → is_too_much old.tasks (task_without_pages r c old.identity.queued_trim) ≡ false → IsAdded r c old replies new → Becomes r c old replies new
 becomes_added r c old replies new fits added = rw fits added
@@ -80,13 +81,21 @@ take_take (suc m) (suc n) [] h = refl
 take_take (suc m) (suc n) (x ∷ xs) h = ap (λ l. x ∷ l) (take_take m n xs (omega (arith, h)))
 
 -- the data-out of a task is that of the whole request
-whole_data : (capacity n count : ℕ) (c : Command) (body : List Block) → IsTransfer capacity c n → needed c ≤ 512 * length (take count body) → data_out c (take (held_blocks c) (take count body)) ≡ data_out c (take (held_blocks c) body)
+whole_data : (capacity n count : ℕ) (c : Command) (body : List Block) → IsTask capacity c n → needed c ≤ 512 * length (take count body) → data_out c (take (held_blocks c) (take count body)) ≡ data_out c (take (held_blocks c) body)
 whole_data capacity n count c body t long =
-    of_transfer (λ c. needed c ≤ 512 * length (take count body) → data_out c (take (held_blocks c) (take count body)) ≡ data_out c (take (held_blocks c) body)) capacity n c (λ form lba blocks fua t long. refl)
-    (λ form lba blocks fua t long. take_take blocks count body (omega (arith, long))) t long
+    of_task (λ c. needed c ≤ 512 * length (take count body) → data_out c (take (held_blocks c) (take count body)) ≡ data_out c (take (held_blocks c) body)) capacity n c (λ form lba blocks fua t long. refl)
+    (λ form lba blocks fua t long. take_take blocks count body (omega (arith, long))) (λ form lba blocks none long. refl) (λ start no_flush none long. refl) t long
+
+-- a task with other data-out
+abbrev made : Entry → List Block → List Range → Option ModeChange → Entry
+made t body ranges change = record t { body = body; ranges = record { items = ranges }; modes = change }
+
+-- what a task keeps of the data-out beside its pages
+same_kept : (capacity n : ℕ) (c : Command) (a b : List Block) → IsTask capacity c n → ((asks c).ranges a ≡ (asks c).ranges b) × ((asks c).change a ≡ (asks c).change b)
+same_kept capacity n c a b t = of_task (λ c. ((asks c).ranges a ≡ (asks c).ranges b) × ((asks c).change a ≡ (asks c).change b)) capacity n c (λ form lba count fua t. (refl, refl)) (λ form lba count fua t. (refl, refl)) (λ form lba count none. (refl, refl)) (λ start no_flush none. (refl, refl)) t
 
 -- what becomes of a request is what becomes of the whole one
-pub becomes_whole : (w r : Request) (count capacity : ℕ) (c : Command) (old : Layer) (replies : List Reply) (new : Layer) → r ≡ record w { body = take count w.body } → IsTransfer capacity c (held_blocks c) → (replies ≡ [] → needed c ≤ 512 * length r.body)
+pub becomes_whole : (w r : Request) (count capacity : ℕ) (c : Command) (old : Layer) (replies : List Reply) (new : Layer) → r ≡ record w { body = take count w.body } → IsTask capacity c (held_blocks c) → (replies ≡ [] → needed c ≤ 512 * length r.body)
     → Becomes r c old replies new → Becomes w c old replies new
 becomes_whole w r count capacity c old replies new is t long b =
     (elim (is_too_much old.tasks (task_without_pages w c old.identity.queued_trim)) as (λ f. MatchBool f (IsRefused cut old replies new) (IsAdded cut c old replies new) → MatchBool f (IsRefused w old replies new) (IsAdded w c old replies new)) [
@@ -103,5 +112,6 @@ becomes_whole w r count capacity c old replies new is t long b =
 
     same_task : data_out c (take (held_blocks c) cut.body) ≡ data_out c (take (held_blocks c) w.body) → task_for old.identity.queued_trim cut c ≡ task_for old.identity.queued_trim w c
     same_task same =
-        sym (task_is capacity (held_blocks c) cut c old.identity.queued_trim t)
-        ∙ (ap (λ b. record (task_without_pages w c old.identity.queued_trim) { body = b }) same ∙ task_is capacity (held_blocks c) w c old.identity.queued_trim t)
+        let kept = same_kept capacity (held_blocks c) c cut.body w.body t in
+        ap (λ b. made (task_for old.identity.queued_trim w c) b ((asks c).ranges cut.body) ((asks c).change cut.body)) same
+        ∙ (ap (λ r. made (task_for old.identity.queued_trim w c) (data_out c (take (held_blocks c) w.body)) r ((asks c).change cut.body)) kept.0 ∙ ap (made (task_for old.identity.queued_trim w c) (data_out c (take (held_blocks c) w.body)) ((asks c).ranges w.body)) kept.1)

@@ -13,7 +13,7 @@ use Rattle.satl_cdb.specs.declared.command.Command.TheVariants as cdbs
 use Rattle.satl_cdb.specs.declared.command.Illegal.{Illegal}
 use Rattle.satl_cdb.specs.Refusals.{invalid_field}
 use Rattle.satl_cdb.specs.Rows.{Rule, found_says, format_of, unless_broken}
-use Rattle.satl_cdb.specs.BlockCommands.{Layout, read, read_capacity_16, six, sixteen, ten, transfer_rules, twelve, write}
+use Rattle.satl_cdb.specs.BlockCommands.{Layout, read, read_capacity_16, six, sixteen, start_stop, ten, transfer_rules, twelve, write}
 use Rattle.satl_cdb.specs.PrimaryCommands.{inquiry, mode_sense, report_luns}
 use Rattle.satl_cdb.specs.Table.{says, table}
 use Rattle.satl_base.specs.declared.modes.Modes.{Modes}
@@ -25,7 +25,7 @@ use Rattle.satl_identify.proofs.Judging.{capacity_bounds}
 use Rattle.satl_line.specs.Tasks.{Held, entries_of, is_too_much, total_blocks}
 use Rattle.satl_drive.specs.State.{DriveState}
 use Rattle.satl_cdb.specs.declared.command.Form.{Form}
-use Rattle.satl_cdb.specs.declared.command.Form.TheVariants.{Six}
+use Rattle.satl_cdb.specs.declared.command.Form.TheVariants.{Six, Ten, Sixteen}
 use Rattle.satl_unit.specs.declared.attention.Attention.{Attention}
 use Rattle.satl_direct.specs.Device.{Device, is_of}
 use Rattle.satl_direct.specs.Senses.{attention_sense, no_sense, out_of_range, overlapped, refusal, sense_in, short_data, unknown_operation, unknown_unit}
@@ -34,7 +34,7 @@ use Rattle.satl_direct.specs.Arrival.{untold_codes, attended, Arrival, ArrivesAs
 use Rattle.satl_direct.specs.Tasks.{held_blocks, held_by, is_full, needed, range_of, task_for, task_of}
 use Rattle.satl_core.specs.declared.submitting.AtOnce.{AtOnce}
 use Rattle.satl_core.specs.declared.submitting.AtOnce.TheVariants as at_once
-use Rattle.satl_core.specs.Layer.{IsServed, IsTransfer, Layer, view}
+use Rattle.satl_core.specs.Layer.{IsServed, IsTask, IsWithin, Layer, view}
 use Rattle.satl_core.specs.Leaving.{left_by}
 use Rattle.satl_core.specs.Submitting.{sense_data, tell_attention, answer_to, is_for_unit, other_answer, Becomes, IsAdded, IsRefused, attention_answer, attention_of, cdb_answer, code_answer, command_answer, judged, once_judged, overlaps, readiness, reply_at_once, task_without_pages, untold}
 use Rattle.satl_core.specs.declared.telling.Data.TheVariants as datas
@@ -53,6 +53,8 @@ IsSaid cdb (cdbs.ModeSense is_ten long_lba no_descriptor control page alloc) = U
 IsSaid cdb cdbs.ReadCapacity10 = Unit {0}
 IsSaid cdb (cdbs.ReadCapacity16 alloc) = Unit {0}
 IsSaid cdb (cdbs.ReportLuns select alloc) = Unit {0}
+IsSaid cdb (cdbs.StartStop start no_flush) = Unit {0}
+IsSaid cdb (cdbs.Flush form lba count) = Unit {0}
 IsSaid cdb _ = ⊥
 
 -- a transfer's rules are kept
@@ -105,11 +107,28 @@ in_all P (x ∷ xs) n all e =
 
 -- each operation code that is served
 said_by : (cdb : List ℕ) (trim : Bool) (c : Command) → AllByRecursion (λ code. slice_index cdb 0 ≡ code → found_says (format_of (table trim) code) cdb ≡ Ok c → IsSaid cdb c) built
-said_by cdb trim c = (λ is e. same_said cdb cdbs.TestUnitReady c e tt, (λ is e. same_said cdb (cdbs.RequestSense (bit 1 0 cdb) (bytes 4 4 cdb)) c e is, (λ is e. same_said cdb (cdbs.Read Six (six.lba cdb) (six.count cdb) false) c e (short_count cdb), (λ is e. same_said cdb (cdbs.Write Six (six.lba cdb) (six.count cdb) false) c e (short_count cdb), (λ is e. subst (IsSaid cdb) (unbroken inquiry.rules cdb (inquiry.command cdb) c e) tt, (λ is e. subst (IsSaid cdb) (unbroken (mode_sense false).rules cdb ((mode_sense false).command cdb) c e) tt, (λ is e. same_said cdb cdbs.ReadCapacity10 c e tt, (λ is e. said_read ten cdb c e, (λ is e. said_write ten cdb c e, (λ is e. subst (IsSaid cdb) (unbroken (mode_sense true).rules cdb ((mode_sense true).command cdb) c e) tt, (λ is e. said_read sixteen cdb c e, (λ is e. said_write sixteen cdb c e, (λ is e. subst (IsSaid cdb) (unbroken read_capacity_16.rules cdb (read_capacity_16.command cdb) c e) tt, (λ is e. subst (IsSaid cdb) (unbroken report_luns.rules cdb (report_luns.command cdb) c e) tt, (λ is e. said_read twelve cdb c e, (λ is e. said_write twelve cdb c e, tt))))))))))))))))
+said_by cdb trim c = (λ is e. same_said cdb cdbs.TestUnitReady c e tt, (λ is e. same_said cdb (cdbs.RequestSense (bit 1 0 cdb) (bytes 4 4 cdb)) c e is, (λ is e. same_said cdb (cdbs.Read Six (six.lba cdb) (six.count cdb) false) c e (short_count cdb), (λ is e. same_said cdb (cdbs.Write Six (six.lba cdb) (six.count cdb) false) c e (short_count cdb), (λ is e. subst (IsSaid cdb) (unbroken inquiry.rules cdb (inquiry.command cdb) c e) tt, (λ is e. subst (IsSaid cdb) (unbroken (mode_sense false).rules cdb ((mode_sense false).command cdb) c e) tt, (λ is e. subst (IsSaid cdb) (unbroken start_stop.rules cdb (start_stop.command cdb) c e) tt, (λ is e. same_said cdb cdbs.ReadCapacity10 c e tt, (λ is e. said_read ten cdb c e, (λ is e. said_write ten cdb c e, (λ is e. same_said cdb (cdbs.Flush Ten (ten.lba cdb) (ten.count cdb)) c e tt, (λ is e. subst (IsSaid cdb) (unbroken (mode_sense true).rules cdb ((mode_sense true).command cdb) c e) tt, (λ is e. said_read sixteen cdb c e, (λ is e. said_write sixteen cdb c e, (λ is e. same_said cdb (cdbs.Flush Sixteen (sixteen.lba cdb) (sixteen.count cdb)) c e tt, (λ is e. subst (IsSaid cdb) (unbroken read_capacity_16.rules cdb (read_capacity_16.command cdb) c e) tt, (λ is e. subst (IsSaid cdb) (unbroken report_luns.rules cdb (report_luns.command cdb) c e) tt, (λ is e. said_read twelve cdb c e, (λ is e. said_write twelve cdb c e, tt)))))))))))))))))))
 
 said_of : (cdb : List ℕ) (trim : Bool) (c : Command) → is_in (slice_index cdb 0) built ≡ true → says cdb trim ≡ Ok c → IsSaid cdb c
 unfolding says
 said_of cdb trim c in_it e = in_all (λ code. slice_index cdb 0 ≡ code → found_says (format_of (table trim) code) cdb ≡ Ok c → IsSaid cdb c) built (slice_index cdb 0) (said_by cdb trim c) in_it refl e
+
+-- a command that is answered from what the device says of itself
+abbrev pub IsTold : Command → Type 0
+IsTold cdbs.TestUnitReady = Unit {0}
+IsTold (cdbs.RequestSense a b) = Unit {0}
+IsTold (cdbs.Inquiry a b) = Unit {0}
+IsTold (cdbs.ModeSense a b e f g h) = Unit {0}
+IsTold cdbs.ReadCapacity10 = Unit {0}
+IsTold (cdbs.ReadCapacity16 a) = Unit {0}
+IsTold (cdbs.ReportLuns a b) = Unit {0}
+IsTold _ = ⊥
+
+-- a READ or a WRITE goes over some block
+abbrev HasSome : Command → Type 0
+HasSome (cdbs.Read form lba count fua) = (count == 0) ≡ false
+HasSome (cdbs.Write form lba count fua) = (count == 0) ≡ false
+HasSome _ = Unit {0}
 
 -- a READ or a WRITE that is not answered at once goes over some block
 some_ok : (l : Layer) (c d : Command) (count : ℕ) → cond (count == 0) (Err (readiness l)) (Ok c) ≡ Ok d → (c ≡ d) × ((count == 0) ≡ false)
@@ -119,33 +138,33 @@ some_ok l c d count e =
       | false ↦ λ f. (cc, refl)
     ]) e
 
-answer_ok : (l : Layer) (c d : Command) → answer_to l c ≡ Ok d → (c ≡ d) × (((range_of c).count == 0) ≡ false)
+answer_ok : (l : Layer) (c d : Command) → answer_to l c ≡ Ok d → (c ≡ d) × HasSome c × (IsTold c → ⊥)
 answer_ok l cdbs.TestUnitReady d e = absurd cc
 answer_ok l (cdbs.Inquiry a b) d e = absurd cc
 answer_ok l (cdbs.ModeSense x y z t u v) d e = absurd cc
 answer_ok l cdbs.ReadCapacity10 d e = absurd cc
 answer_ok l (cdbs.ReadCapacity16 a) d e = absurd cc
 answer_ok l (cdbs.ReportLuns a b) d e = absurd cc
-answer_ok l (cdbs.Read form lba count fua) d e = some_ok l (cdbs.Read form lba count fua) d count e
-answer_ok l (cdbs.Write form lba count fua) d e = some_ok l (cdbs.Write form lba count fua) d count e
+answer_ok l (cdbs.Read form lba count fua) d e = let k = some_ok l (cdbs.Read form lba count fua) d count e in (k.0, k.1, λ told. told)
+answer_ok l (cdbs.Write form lba count fua) d e = let k = some_ok l (cdbs.Write form lba count fua) d count e in (k.0, k.1, λ told. told)
 answer_ok l (cdbs.RequestSense a b) d e = absurd cc
 answer_ok l (cdbs.ModeSelect a b) d e = absurd cc
-answer_ok l (cdbs.StartStop a b) d e = absurd cc
+answer_ok l (cdbs.StartStop a b) d e = (cc, tt, λ told. told)
 answer_ok l (cdbs.Verify x y z t) d e = absurd cc
-answer_ok l (cdbs.Flush x y z) d e = absurd cc
+answer_ok l (cdbs.Flush x y z) d e = (cc, tt, λ told. told)
 answer_ok l (cdbs.WriteSame x y z t) d e = absurd cc
 answer_ok l (cdbs.Unmap a) d e = absurd cc
 answer_ok l (cdbs.Pass a) d e = absurd cc
 
 -- a command that is not answered at once is within the capacity and goes over some block
 command_ok : (l : Layer) (n : ℕ) (c d : Command) → command_answer l n c ≡ Ok d
-    → (c ≡ d) × (nat_lt l.identity.capacity ((range_of c).lba + (range_of c).count) ≡ false) × (nat_lt n (needed c) ≡ false) × (((range_of c).count == 0) ≡ false)
+    → (c ≡ d) × (nat_lt l.identity.capacity ((range_of c).lba + (range_of c).count) ≡ false) × (nat_lt n (needed c) ≡ false) × HasSome c × (IsTold c → ⊥)
 command_ok l n c d e =
-    (elim (nat_lt l.identity.capacity ((range_of c).lba + (range_of c).count)) as (λ b. cond b (Err (at_once.Check out_of_range)) (cond (nat_lt n (needed c)) (Err (at_once.Check short_data)) (answer_to l c)) ≡ Ok d → (c ≡ d) × (b ≡ false) × (nat_lt n (needed c) ≡ false) × (((range_of c).count == 0) ≡ false)) [
+    (elim (nat_lt l.identity.capacity ((range_of c).lba + (range_of c).count)) as (λ b. cond b (Err (at_once.Check out_of_range)) (cond (nat_lt n (needed c)) (Err (at_once.Check short_data)) (answer_to l c)) ≡ Ok d → (c ≡ d) × (b ≡ false) × (nat_lt n (needed c) ≡ false) × HasSome c × (IsTold c → ⊥)) [
       | true ↦ λ f. absurd cc
-      | false ↦ λ f. (elim (nat_lt n (needed c)) as (λ b. cond b (Err (at_once.Check short_data)) (answer_to l c) ≡ Ok d → (c ≡ d) × (false ≡ false) × (b ≡ false) × (((range_of c).count == 0) ≡ false)) [
+      | false ↦ λ f. (elim (nat_lt n (needed c)) as (λ b. cond b (Err (at_once.Check short_data)) (answer_to l c) ≡ Ok d → (c ≡ d) × (false ≡ false) × (b ≡ false) × HasSome c × (IsTold c → ⊥)) [
         | true ↦ λ g. absurd cc
-        | false ↦ λ g. let k = answer_ok l c d g in (k.0, refl, refl, k.1)
+        | false ↦ λ g. let k = answer_ok l c d g in (k.0, refl, refl, k.1, k.2)
       ]) f
     ]) e
 
@@ -155,13 +174,14 @@ pub record IsJudged (l : Layer) (r : Request) (c : Command) : Type 0 where
   pub said : says r.cdb l.identity.trim ≡ Ok c
   pub within : nat_lt l.identity.capacity ((range_of c).lba + (range_of c).count) ≡ false
   pub long : nat_lt r.data_len (needed c) ≡ false
-  pub some : ((range_of c).count == 0) ≡ false
+  pub some : HasSome c
+  pub untold : IsTold c → ⊥
 
 cdb_ok : (l : Layer) (r : Request) (c : Command) (found : Result Command Illegal) → is_in (slice_index r.cdb 0) built ≡ true → says r.cdb l.identity.trim ≡ found → cdb_answer l r.data_len found ≡ Ok c → IsJudged l r c
 cdb_ok l r c (Err why) served said e = absurd cc
 cdb_ok l r c (Ok d) served said e =
     let k = command_ok l r.data_len d c e in
-    subst (IsJudged l r) k.0 (record { served = served; said = said; within = k.1; long = k.2; some = k.3 })
+    subst (IsJudged l r) k.0 (record { served = served; said = said; within = k.1; long = k.2; some = k.3; untold = k.4 })
 
 code_ok : (l : Layer) (r : Request) (c : Command) → code_answer l r ≡ Ok c → IsJudged l r c
 code_ok l r c e =
@@ -184,35 +204,25 @@ by_ok P true false None l r c p e = p e
 pub judged_ok : (l : Layer) (r : Request) (c : Command) → judged l r ≡ Ok c → IsJudged l r c
 judged_ok l r c e = by_ok (λ unit over what. IsJudged l r c) (is_for_unit r) (overlaps l.tasks r) (attention_of l.attentions r) l r c (code_ok l r c) e
 
--- a command that is answered from what the device says of itself
-abbrev pub IsTold : Command → Type 0
-IsTold cdbs.TestUnitReady = Unit {0}
-IsTold (cdbs.RequestSense a b) = Unit {0}
-IsTold (cdbs.Inquiry a b) = Unit {0}
-IsTold (cdbs.ModeSense a b e f g h) = Unit {0}
-IsTold cdbs.ReadCapacity10 = Unit {0}
-IsTold (cdbs.ReadCapacity16 a) = Unit {0}
-IsTold (cdbs.ReportLuns a b) = Unit {0}
-IsTold _ = ⊥
-
--- what holds of each command that is told, each READ and each WRITE holds of a command that is served
-of_served : (P : Command → Type 0) → ((c : Command) → IsTold c → P c) → ((form : Form) (lba count : ℕ) (fua : Bool) → P (cdbs.Read form lba count fua)) → ((form : Form) (lba count : ℕ) (fua : Bool) → P (cdbs.Write form lba count fua)) → (c : Command) → IsServed c → P c
-of_served P told read write cdbs.TestUnitReady here = told cdbs.TestUnitReady tt
-of_served P told read write (cdbs.Inquiry a b) here = told (cdbs.Inquiry a b) tt
-of_served P told read write (cdbs.ModeSense a b e f g h) here = told (cdbs.ModeSense a b e f g h) tt
-of_served P told read write cdbs.ReadCapacity10 here = told cdbs.ReadCapacity10 tt
-of_served P told read write (cdbs.ReadCapacity16 a) here = told (cdbs.ReadCapacity16 a) tt
-of_served P told read write (cdbs.ReportLuns a b) here = told (cdbs.ReportLuns a b) tt
-of_served P told read write (cdbs.Read form lba count fua) here = read form lba count fua
-of_served P told read write (cdbs.Write form lba count fua) here = write form lba count fua
-of_served P told read write (cdbs.RequestSense a b) here = told (cdbs.RequestSense a b) tt
-of_served P told read write (cdbs.ModeSelect a b) here = absurd here
-of_served P told read write (cdbs.StartStop a b) here = absurd here
-of_served P told read write (cdbs.Verify a b e f) here = absurd here
-of_served P told read write (cdbs.Flush a b e) here = absurd here
-of_served P told read write (cdbs.WriteSame a b e f) here = absurd here
-of_served P told read write (cdbs.Unmap a) here = absurd here
-of_served P told read write (cdbs.Pass a) here = absurd here
+-- what holds of each command that is told, each READ, each WRITE, each SYNCHRONIZE CACHE and each START STOP UNIT holds of a command that
+-- is served
+of_served : (P : Command → Type 0) → ((c : Command) → IsTold c → P c) → ((form : Form) (lba count : ℕ) (fua : Bool) → P (cdbs.Read form lba count fua)) → ((form : Form) (lba count : ℕ) (fua : Bool) → P (cdbs.Write form lba count fua)) → ((form : Form) (lba count : ℕ) → P (cdbs.Flush form lba count)) → ((start no_flush : Bool) → P (cdbs.StartStop start no_flush)) → (c : Command) → IsServed c → P c
+of_served P told read write flush switch cdbs.TestUnitReady here = told cdbs.TestUnitReady tt
+of_served P told read write flush switch (cdbs.Inquiry a b) here = told (cdbs.Inquiry a b) tt
+of_served P told read write flush switch (cdbs.ModeSense a b e f g h) here = told (cdbs.ModeSense a b e f g h) tt
+of_served P told read write flush switch cdbs.ReadCapacity10 here = told cdbs.ReadCapacity10 tt
+of_served P told read write flush switch (cdbs.ReadCapacity16 a) here = told (cdbs.ReadCapacity16 a) tt
+of_served P told read write flush switch (cdbs.ReportLuns a b) here = told (cdbs.ReportLuns a b) tt
+of_served P told read write flush switch (cdbs.Read form lba count fua) here = read form lba count fua
+of_served P told read write flush switch (cdbs.Write form lba count fua) here = write form lba count fua
+of_served P told read write flush switch (cdbs.RequestSense a b) here = told (cdbs.RequestSense a b) tt
+of_served P told read write flush switch (cdbs.ModeSelect a b) here = absurd here
+of_served P told read write flush switch (cdbs.StartStop a b) here = switch a b
+of_served P told read write flush switch (cdbs.Verify a b e f) here = absurd here
+of_served P told read write flush switch (cdbs.Flush a b e) here = flush a b e
+of_served P told read write flush switch (cdbs.WriteSame a b e f) here = absurd here
+of_served P told read write flush switch (cdbs.Unmap a) here = absurd here
+of_served P told read write flush switch (cdbs.Pass a) here = absurd here
 
 -- what holds of each of them holds of a command that is told
 of_told : (P : Command → Type 0) → P cdbs.TestUnitReady → ((descriptor : Bool) (alloc : ℕ) → P (cdbs.RequestSense descriptor alloc)) → ((page : Option ℕ) (alloc : ℕ) → P (cdbs.Inquiry page alloc)) → ((ten long_lba no_descriptor : Bool) (control page alloc : ℕ) → P (cdbs.ModeSense ten long_lba no_descriptor control page alloc)) → P cdbs.ReadCapacity10 → ((alloc : ℕ) → P (cdbs.ReadCapacity16 alloc)) → ((select alloc : ℕ) → P (cdbs.ReportLuns select alloc)) → (c : Command) → IsTold c → P c
@@ -245,9 +255,9 @@ said_served cdb (cdbs.Read form lba count fua) said = tt
 said_served cdb (cdbs.Write form lba count fua) said = tt
 said_served cdb (cdbs.RequestSense a b) said = tt
 said_served cdb (cdbs.ModeSelect a b) said = said
-said_served cdb (cdbs.StartStop a b) said = said
+said_served cdb (cdbs.StartStop a b) said = tt
 said_served cdb (cdbs.Verify a b e f) said = said
-said_served cdb (cdbs.Flush a b e) said = said
+said_served cdb (cdbs.Flush a b e) said = tt
 said_served cdb (cdbs.WriteSame a b e f) said = said
 said_served cdb (cdbs.Unmap a) said = said
 said_served cdb (cdbs.Pass a) said = said
@@ -256,35 +266,35 @@ said_served cdb (cdbs.Pass a) said = said
 pub served : (cdb : List ℕ) (trim : Bool) (c : Command) → is_in (slice_index cdb 0) built ≡ true → says cdb trim ≡ Ok c → IsServed c
 served cdb trim c in_it e = said_served cdb c (said_of cdb trim c in_it e)
 
--- it goes over at most 4,096 blocks
-said_few : (cdb : List ℕ) (c : Command) → slice_index cdb 4 < 256 → IsSaid cdb c → (range_of c).count ≤ 4096
-said_few cdb c byte said = of_served (λ c. IsSaid cdb c → (range_of c).count ≤ 4096) (λ c here. of_told (λ c. IsSaid cdb c → (range_of c).count ≤ 4096) (λ said. omega arith) (λ descriptor alloc said. omega arith) (λ page alloc said. omega arith) (λ ten long_lba no_descriptor control page alloc said. omega arith) (λ said. omega arith) (λ alloc said. omega arith) (λ select alloc said. omega arith) c here) (λ form lba count fua said. said byte) (λ form lba count fua said. said byte) c (said_served cdb c said) said
+-- its task holds at most 4,096 blocks
+said_few : (cdb : List ℕ) (c : Command) → slice_index cdb 4 < 256 → IsSaid cdb c → held_blocks c ≤ 4096
+said_few cdb c byte said = of_served (λ c. IsSaid cdb c → held_blocks c ≤ 4096) (λ c here. of_told (λ c. IsSaid cdb c → held_blocks c ≤ 4096) (λ said. omega arith) (λ descriptor alloc said. omega arith) (λ page alloc said. omega arith) (λ ten long_lba no_descriptor control page alloc said. omega arith) (λ said. omega arith) (λ alloc said. omega arith) (λ select alloc said. omega arith) c here) (λ form lba count fua said. said byte) (λ form lba count fua said. said byte) (λ form lba count said. omega arith) (λ start no_flush said. omega arith) c (said_served cdb c said) said
 
--- a command that may become a task goes over at most 4,096 blocks
-pub answer_few : (l : Layer) (trim : Bool) (cdb : List ℕ) (n : ℕ) (c : Command) (found : Result Command AtOnce) → slice_index cdb 4 < 256 → is_in (slice_index cdb 0) built ≡ true → says cdb trim ≡ Ok c → found ≡ command_answer l n c → IfOk found (λ command. (range_of command).count ≤ 4096)
+-- a command that may become a task holds at most 4,096 blocks
+pub answer_few : (l : Layer) (trim : Bool) (cdb : List ℕ) (n : ℕ) (c : Command) (found : Result Command AtOnce) → slice_index cdb 4 < 256 → is_in (slice_index cdb 0) built ≡ true → says cdb trim ≡ Ok c → found ≡ command_answer l n c → IfOk found (λ command. held_blocks command ≤ 4096)
 answer_few l trim cdb n c (Ok d) byte in_it said e =
     let k = command_ok l n c d (sym e) in
-    subst (λ c. (range_of c).count ≤ 4096) k.0 (said_few cdb c byte (said_of cdb trim c in_it said))
+    subst (λ c. held_blocks c ≤ 4096) k.0 (said_few cdb c byte (said_of cdb trim c in_it said))
 answer_few l trim cdb n c (Err a) byte in_it said e = tt
 
-served_transfer : (capacity : ℕ) (c : Command) → IsServed c → (range_of c).count ≤ 4096 → capacity < 2 ^ 48 → nat_lt capacity ((range_of c).lba + (range_of c).count) ≡ false → ((range_of c).count == 0) ≡ false → IsTransfer capacity c (held_blocks c)
-served_transfer capacity c served few small =
-    of_served (λ c. (range_of c).count ≤ 4096 → nat_lt capacity ((range_of c).lba + (range_of c).count) ≡ false → ((range_of c).count == 0) ≡ false → IsTransfer capacity c (held_blocks c))
-    (λ c here. of_told (λ c. (range_of c).count ≤ 4096 → nat_lt capacity ((range_of c).lba + (range_of c).count) ≡ false → ((range_of c).count == 0) ≡ false → IsTransfer capacity c (held_blocks c)) (λ few within some. absurd cc) (λ descriptor alloc few within some. absurd cc) (λ page alloc few within some. absurd cc) (λ ten long_lba no_descriptor control page alloc few within some. absurd cc) (λ few within some. absurd cc) (λ alloc few within some. absurd cc) (λ select alloc few within some. absurd cc) c here)
-    (λ form lba count fua few within some. here lba count few within some) (λ form lba count fua few within some. here lba count few within some) c served few
+served_task : (capacity : ℕ) (c : Command) → IsServed c → HasSome c → held_blocks c ≤ 4096 → capacity < 2 ^ 48 → nat_lt capacity ((range_of c).lba + (range_of c).count) ≡ false → (IsTold c → ⊥) → IsTask capacity c (held_blocks c)
+served_task capacity c served some few small within untold =
+    of_served (λ c. HasSome c → held_blocks c ≤ 4096 → nat_lt capacity ((range_of c).lba + (range_of c).count) ≡ false → (IsTold c → ⊥) → IsTask capacity c (held_blocks c))
+    (λ c told some few within untold. absurd (untold told))
+    (λ form lba count fua some few within untold. here lba count few within some) (λ form lba count fua some few within untold. here lba count few within some) (λ form lba count some few within untold. refl) (λ start no_flush some few within untold. refl) c served some few within untold
   where
-    here : (lba count : ℕ) → count ≤ 4096 → nat_lt capacity (lba + count) ≡ false → (count == 0) ≡ false → (count ≡ count) × (lba < 2 ^ 48) × (1 ≤ count) × (count ≤ 4096) × (lba + count ≤ capacity)
+    here : (lba count : ℕ) → count ≤ 4096 → nat_lt capacity (lba + count) ≡ false → (count == 0) ≡ false → IsWithin capacity lba count count
     here lba count few within some =
         let in_it = ltb-false capacity (lba + count) within in
         let one = eqb-false count 0 some in
         (refl, omega (arith, in_it, small, one), omega (arith, one), few, omega (arith, in_it))
 
--- a command that may become a task is a transfer
-pub code_transfer : (l : Layer) (r : Request) (found : Result Command AtOnce) → IsIdentity l.identity → found ≡ code_answer l r → IfOk found (λ command. (range_of command).count ≤ 4096) → IfOk found (λ command. IsTransfer l.identity.capacity command (held_blocks command))
-code_transfer l r (Ok c) is e few =
+-- a command that may become a task makes one
+pub code_task : (l : Layer) (r : Request) (found : Result Command AtOnce) → IsIdentity l.identity → found ≡ code_answer l r → IfOk found (λ command. held_blocks command ≤ 4096) → IfOk found (λ command. IsTask l.identity.capacity command (held_blocks command))
+code_task l r (Ok c) is e few =
     let j = code_ok l r c (sym e) in
-    served_transfer l.identity.capacity c (served r.cdb l.identity.trim c j.served j.said) few (capacity_bounds l.identity is).1 j.within j.some
-code_transfer l r (Err a) is e few = tt
+    served_task l.identity.capacity c (served r.cdb l.identity.trim c j.served j.said) j.some few (capacity_bounds l.identity is).1 j.within j.untold
+code_task l r (Err a) is e few = tt
 
 -- a request has all the data-out that its command needs
 pub long_enough : (l : Layer) (r : Request) (c : Command) → judged l r ≡ Ok c → needed c ≤ r.data_len
@@ -332,7 +342,7 @@ served_arrival l d r c =
     (direct.becomes (view l d) r c))
 
 is_served_arrival : (l : Layer) (d : DriveState) (r : Request) (c : Command) → IsServed c → cdb_arrival (view l d) r (Ok c) ≡ served_arrival l d r c
-is_served_arrival l d r c here = of_served (λ c. cdb_arrival (view l d) r (Ok c) ≡ served_arrival l d r c) (λ c here. of_told (λ c. cdb_arrival (view l d) r (Ok c) ≡ served_arrival l d r c) refl (λ descriptor alloc. refl) (λ page alloc. refl) (λ ten long_lba no_descriptor control page alloc. refl) refl (λ alloc. refl) (λ select alloc. refl) c here) (λ form lba count fua. refl) (λ form lba count fua. refl) c here
+is_served_arrival l d r c here = of_served (λ c. cdb_arrival (view l d) r (Ok c) ≡ served_arrival l d r c) (λ c here. of_told (λ c. cdb_arrival (view l d) r (Ok c) ≡ served_arrival l d r c) refl (λ descriptor alloc. refl) (λ page alloc. refl) (λ ten long_lba no_descriptor control page alloc. refl) refl (λ alloc. refl) (λ select alloc. refl) c here) (λ form lba count fua. refl) (λ form lba count fua. refl) (λ form lba count. refl) (λ start no_flush. refl) c here
 
 -- the data of a MODE SENSE do not depend on its allocation length
 any_length : (i : Identity) (m : Modes) (is_ten long_lba no_descriptor : Bool) (control page alloc : ℕ) → mode_data i m (cdbs.ModeSense is_ten long_lba no_descriptor control page alloc) ≡ mode_data i m (cdbs.ModeSense is_ten long_lba no_descriptor control page 0)
@@ -362,9 +372,9 @@ becomes_at_once l d r a (cdbs.Read form lba count fua) here none mark e = idle_i
 becomes_at_once l d r a (cdbs.Write form lba count fua) here none mark e = idle_is l d r a (cdbs.Write form lba count fua) count mark e
 becomes_at_once l d r a (cdbs.RequestSense descriptor alloc) here none mark e = ap (λ what. direct.sense_told what r descriptor alloc) (none here) ∙ same_answer l d r (at_once.Tell (datas.Sense descriptor no_sense) alloc) a _ refl e
 becomes_at_once l d r a (cdbs.ModeSelect x y) here none mark e = absurd here
-becomes_at_once l d r a (cdbs.StartStop x y) here none mark e = absurd here
+becomes_at_once l d r a (cdbs.StartStop x y) here none mark e = absurd cc
 becomes_at_once l d r a (cdbs.Verify x y z t) here none mark e = absurd here
-becomes_at_once l d r a (cdbs.Flush x y z) here none mark e = absurd here
+becomes_at_once l d r a (cdbs.Flush x y z) here none mark e = absurd cc
 becomes_at_once l d r a (cdbs.WriteSame x y z t) here none mark e = absurd here
 becomes_at_once l d r a (cdbs.Unmap x) here none mark e = absurd here
 becomes_at_once l d r a (cdbs.Pass x) here none mark e = absurd here
@@ -510,9 +520,9 @@ becomes_waits l d r c (cdbs.Read form lba count fua) e = placed_is l d r c (cdbs
 becomes_waits l d r c (cdbs.Write form lba count fua) e = placed_is l d r c (cdbs.Write form lba count fua) count e
 becomes_waits l d r c (cdbs.RequestSense x y) e = absurd cc
 becomes_waits l d r c (cdbs.ModeSelect x y) e = absurd cc
-becomes_waits l d r c (cdbs.StartStop x y) e = absurd cc
+becomes_waits l d r c (cdbs.StartStop x y) e = ap (full_or_waits l d r) (ok_is (cdbs.StartStop x y) c e)
 becomes_waits l d r c (cdbs.Verify x y z t) e = absurd cc
-becomes_waits l d r c (cdbs.Flush x y z) e = absurd cc
+becomes_waits l d r c (cdbs.Flush x y z) e = ap (full_or_waits l d r) (ok_is (cdbs.Flush x y z) c e)
 becomes_waits l d r c (cdbs.WriteSame x y z t) e = absurd cc
 becomes_waits l d r c (cdbs.Unmap x) e = absurd cc
 becomes_waits l d r c (cdbs.Pass x) e = absurd cc

@@ -87,15 +87,11 @@ EndsSo down stops s t reply new = MatchBool down (IsChecked link_lost s t reply 
 pub ends_down : (s : Device) (t : Entry) (reply : Reply) (new : Device) → s.down ≡ true → IsChecked link_lost s t reply new → Ends s t reply new
 ends_down s t reply new down e = subst (λ b. EndsSo b (not s.started && (asks t.command).starts) s t reply new) (sym down) e
 
-pub ends_stopped : (s : Device) (t : Entry) (reply : Reply) (new : Device) → s.down ≡ false → s.started ≡ false → (asks t.command).starts ≡ true → IsChecked not_ready s t reply new → Ends s t reply new
-ends_stopped s t reply new up off starts e =
-    subst (λ b. EndsSo b (not s.started && (asks t.command).starts) s t reply new) (sym up)
-    (subst (λ b. EndsSo false (not b && (asks t.command).starts) s t reply new) (sym off)
-    (subst (λ b. EndsSo false b s t reply new) (sym starts) e))
+pub ends_stopped : (s : Device) (t : Entry) (reply : Reply) (new : Device) → s.down ≡ false → (not s.started && (asks t.command).starts) ≡ true → IsChecked not_ready s t reply new → Ends s t reply new
+ends_stopped s t reply new up stopped e = subst (λ b. EndsSo b (not s.started && (asks t.command).starts) s t reply new) (sym up) (subst (λ b. EndsSo false b s t reply new) (sym stopped) e)
 
-pub ends_by : (s : Device) (t : Entry) (reply : Reply) (new : Device) → s.down ≡ false → s.started ≡ true → EndsBy t.command s t reply new → Ends s t reply new
-ends_by s t reply new up on e =
-    subst (λ b. EndsSo b (not s.started && (asks t.command).starts) s t reply new) (sym up) (subst (λ b. EndsSo false (not b && (asks t.command).starts) s t reply new) (sym on) e)
+pub ends_by : (s : Device) (t : Entry) (reply : Reply) (new : Device) → s.down ≡ false → (not s.started && (asks t.command).starts) ≡ false → EndsBy t.command s t reply new → Ends s t reply new
+ends_by s t reply new up ready e = subst (λ b. EndsSo b (not s.started && (asks t.command).starts) s t reply new) (sym up) (subst (λ b. EndsSo false b s t reply new) (sym ready) e)
 
 -- the first task is gone, and nothing else has changed
 pub first_gone : (identity : Identity) (modes : Modes) (started : Bool) (attentions : List (List Attention)) (t : Entry) (others : List Entry) (d : DriveState) → seen identity modes started attentions others d ≡ record (seen identity modes started attentions (t ∷ others) d) { tasks = without t (t ∷ others) }

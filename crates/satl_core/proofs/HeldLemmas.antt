@@ -9,7 +9,7 @@ use Rattle.satl_line.specs.Kinds.{kind_of}
 use Rattle.satl_line.specs.Tasks.{Held, change_at, entry_at, total_blocks}
 use Rattle.satl_core.specs.declared.turning.Ending.TheVariants as endings
 use Rattle.satl_direct.specs.Senses.{link_lost}
-use Rattle.satl_core.specs.Layer.{IsExpectable, IsKept, IsTransfer, held_pages, reply_pages}
+use Rattle.satl_core.specs.Layer.{IsExpectable, IsKept, IsTask, held_pages, reply_pages}
 use Rattle.satl_core.specs.Turning.{ended_reply, lost_replies}
 
 -- ---- the first task
@@ -17,7 +17,7 @@ use Rattle.satl_core.specs.Turning.{ended_reply, lost_replies}
 -- a task is kept, whatever its slot
 pub record IsKeptEntry (identity : Identity) (e : Entry) : Type 0 where
   pub pages : length e.body ≡ e.blocks
-  pub transfer : IsTransfer identity.capacity e.command e.blocks
+  pub task : IsTask identity.capacity e.command e.blocks
   pub kind : e.kind ≡ kind_of e.command identity.queued_trim
   pub expected : IsExpectable e.expected
 
@@ -45,7 +45,7 @@ first_all P tasks rest entry all first =
 pub first_kept : (identity : Identity) (tasks rest : List Held) (entry : Entry) → AllByRecursion (IsKept identity) tasks → IsFirst tasks entry rest → IsKeptEntry identity entry × AllByRecursion (IsKept identity) rest
 first_kept identity tasks rest entry all first =
     let both : IsKept identity first.held × AllByRecursion (IsKept identity) rest = subst (λ x. AllByRecursion (IsKept identity) x) first.are all in
-    (subst (IsKeptEntry identity) first.entry_is (record { pages = both.0.pages; transfer = both.0.transfer; kind = both.0.kind; expected = both.0.expected }), both.1)
+    (subst (IsKeptEntry identity) first.entry_is (record { pages = both.0.pages; task = both.0.task; kind = both.0.kind; expected = both.0.expected }), both.1)
 
 -- answering the first task leaves the answers of all as they are
 pub first_lost : (descriptor : Bool) (tasks rest : List Held) (entry : Entry) (replies replies' all : List Reply) → IsFirst tasks entry rest → replies ++ lost_replies descriptor tasks ≡ all

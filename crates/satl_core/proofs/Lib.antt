@@ -4,6 +4,7 @@ pub mod BenchingLemmas
 pub mod CommandsLemmas
 pub mod CountedLemmas
 pub mod DeviceLemmas
+pub mod FlushingLemmas
 pub mod HeldLemmas
 pub mod LeavingLemmas
 pub mod ManagingLemmas

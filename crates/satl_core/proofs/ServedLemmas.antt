@@ -1,6 +1,6 @@
 -- A task that the drive carries out ends as the device says.
 use Rattle.std.proofs.Common.{◌≡◌, ◌⊎◌, ⊎_elim, inl, refl, sym, ap, subst, ◌∙◌, arith, ℕ, ◌+◌, ◌-◌, ◌≤◌, true, false, Bool, List, [], ◌∷◌, ◌++◌, length, map, take, drop, Some, None, length-drop}
-use Rattle.std.specs.Prelude.{MatchBool, MatchOption, not, ◌&&◌, slice_range}
+use Rattle.std.specs.Prelude.{MatchBool, MatchOption, not, ◌&&◌, ◌||◌, slice_range}
 use Rattle.std.proofs.lemmas.List.{append-nil}
 use Rattle.std.specs.List.{AllByRecursion}
 use Rattle.std.proofs.lemmas.Bool.{le-ltb}
@@ -9,7 +9,7 @@ use Rattle.satl_base.specs.declared.block.Block.{Block}
 use Rattle.satl_base.specs.declared.modes.Modes.{Modes}
 use Rattle.satl_base.specs.declared.reply.Reply.{Reply}
 use Rattle.satl_base.specs.declared.reply.Scsi.TheVariants.{Good}
-use Rattle.satl_base.specs.Cells.{Cell, Part, first_flaw, nows, pairs_from, whole}
+use Rattle.satl_base.specs.Cells.{Cell, Pair, Part, first_flaw, nows, pairs_from, settle, whole}
 use Rattle.satl_base.specs.Lists.{IsIn}
 use Rattle.satl_base.proofs.LossesLemmas.{loses-length}
 use Rattle.satl_base.proofs.MovesLemmas.{lose_once, moves_weaker}
@@ -17,6 +17,7 @@ use Rattle.satl_cdb.specs.declared.command.Form.{Form}
 use Rattle.satl_cdb.specs.declared.command.Command.{Command}
 use Rattle.satl_cdb.specs.declared.command.Command.TheVariants as cdbs
 use Rattle.satl_identify.specs.declared.identity.Identity.{Identity}
+use Rattle.satl_sense.specs.declared.sense.Sense.{Sense}
 use Rattle.satl_regs.specs.declared.values.Registers.{Registers}
 use Rattle.satl_regs.specs.declared.values.Taskfile.{Taskfile}
 use Rattle.satl_regs.specs.declared.values.How.TheVariants.{DmaExt}
@@ -32,21 +33,21 @@ use Rattle.satl_line.specs.Tasks.{Held, entries_of}
 use Rattle.satl_drive.specs.State.{DriveState, medium_of, with_medium}
 use Rattle.satl_direct.specs.Device.{Device, without}
 use Rattle.satl_direct.specs.Tasks.{asks, over, task_of}
-use Rattle.satl_direct.specs.Ending.{EndsBy, EndsOnMedium, active_after, medium_error, outcome_reply, task_check, task_reply}
-use Rattle.satl_direct.specs.Quiet.{Around, writes}
+use Rattle.satl_direct.specs.Ending.{Ends, EndsBy, EndsOnMedium, IsChecked, IsDone, active_after, medium_error, outcome_reply, task_check, task_reply}
+use Rattle.satl_direct.specs.Quiet.{Around, is_pass, writes}
 use Rattle.satl_direct.specs.Senses.{link_lost, not_ready}
 use Rattle.satl_direct.specs.Turn as turns
 use Rattle.satl_direct.specs.Turn.{Turn}
 use Rattle.satl_direct.specs.Turn.Turn.{loses}
 use Rattle.satl_core.specs.declared.turning.Ending.{Ending}
 use Rattle.satl_core.specs.declared.turning.Ending.TheVariants as endings
-use Rattle.satl_core.specs.Layer.{IsKept, IsTransfer, Tied}
+use Rattle.satl_core.specs.Layer.{IsKept, IsTask, IsTransfer, Tied}
 use Rattle.satl_core.specs.Turning as core
-use Rattle.satl_core.specs.Running.{IsLostIn}
-use Rattle.satl_core.specs.Turning.{IsLostInTask, IsTransferred, TaskEnds, asks_fua, ata_command, ended_reply, ending_of, flaw_sense, pairs_written, read_pages}
+use Rattle.satl_core.specs.Running.{IsLeftWith, IsLostIn, IsSwitched}
+use Rattle.satl_core.specs.Turning.{CarriedOut, IsLostInTask, IsTransferred, IsUnasked, TaskEnds, asks_fua, ata_command, ended_reply, ending_of, flaw_sense, pairs_written, read_pages, started_after, where_done}
 use Rattle.satl_core.proofs.DeviceLemmas.{all_lost, ends_around, ends_by, ends_down, ends_stopped, first_checked, first_gone, first_tasks, quiet_none, quiet_same, seen}
 use Rattle.satl_core.proofs.HeldLemmas.{IsFirst, IsKeptEntry, first_kept}
-use Rattle.satl_core.proofs.Transfers.{of_transfer}
+use Rattle.satl_core.proofs.Transfers.{of_task, of_transfer}
 
 -- ---- transfers
 
@@ -117,20 +118,26 @@ serves_write capacity modes d entry form lba count fua t size sectors cached =
       error = λ at. refl;
     }
 
-pub serves : (identity : Identity) (modes : Modes) (d : DriveState) (entry : Entry) → IsKeptEntry identity entry → length d.cells ≡ identity.capacity → d.cache ≡ (modes.wce && not (asks_fua entry.command)) → IsServed modes d entry
-serves identity modes d entry kept sectors cached =
+pub serves : (identity : Identity) (modes : Modes) (d : DriveState) (entry : Entry) → length entry.body ≡ entry.blocks → IsTransfer identity.capacity entry.command entry.blocks → length d.cells ≡ identity.capacity → d.cache ≡ (modes.wce && not (asks_fua entry.command)) → IsServed modes d entry
+serves identity modes d entry pages t sectors cached =
     of_transfer (λ c. d.cache ≡ (modes.wce && not (asks_fua c)) → IsServed modes d (record entry { command = c })) identity.capacity entry.blocks entry.command
-    (λ form lba count fua t cached. serves_read identity.capacity modes d entry form lba count fua t kept.pages sectors)
-    (λ form lba count fua t cached. serves_write identity.capacity modes d entry form lba count fua t kept.pages sectors cached)
-    kept.transfer cached
+    (λ form lba count fua t cached. serves_read identity.capacity modes d entry form lba count fua t pages sectors)
+    (λ form lba count fua t cached. serves_write identity.capacity modes d entry form lba count fua t pages sectors cached)
+    t cached
 
--- a transfer is for a started unit alone, and what it writes is what the device says
-transfer_starts : (capacity n : ℕ) (command : Command) → IsTransfer capacity command n → (asks command).starts ≡ true
-transfer_starts capacity n command t = of_transfer (λ c. (asks c).starts ≡ true) capacity n command (λ form lba count fua t. refl) (λ form lba count fua t. refl) t
+-- what a task writes is what the device says
+task_shows : (capacity n : ℕ) (s : Device) (entry : Entry) → IsTask capacity entry.command n → writes s (task_of entry) ≡ pairs_written s.modes.wce entry.command entry.body
+task_shows capacity n s entry t =
+    of_task (λ c. writes s (task_of (record entry { command = c })) ≡ pairs_written s.modes.wce c entry.body) capacity n entry.command (λ form lba count fua t. refl) (λ form lba count fua t. refl) (λ form lba count none. refl) (λ start no_flush none. refl) t
 
-transfer_shows : (capacity n : ℕ) (s : Device) (entry : Entry) → IsTransfer capacity entry.command n → writes s (task_of entry) ≡ pairs_written s.modes.wce entry.command entry.body
-transfer_shows capacity n s entry t =
-    of_transfer (λ c. writes s (task_of (record entry { command = c })) ≡ pairs_written s.modes.wce c entry.body) capacity n entry.command (λ form lba count fua t. refl) (λ form lba count fua t. refl) t
+is_on : (started : Bool) → (not started && true) ≡ false → started ≡ true
+is_on true ready = refl
+is_on false ready = absurd cc
+
+-- a task that writes is for a started unit alone
+writes_on : (capacity n : ℕ) (started cache : Bool) (command : Command) (given : List Block) (pair : Pair) → IsTask capacity command n → (not started && (asks command).starts) ≡ false → IsIn pair (pairs_written cache command given) → started ≡ true
+writes_on capacity n started cache command given pair t =
+    of_task (λ c. (not started && (asks c).starts) ≡ false → IsIn pair (pairs_written cache c given) → started ≡ true) capacity n command (λ form lba count fua t ready i. absurd i) (λ form lba count fua t ready i. is_on started ready) (λ form lba count none ready i. absurd i) (λ start no_flush none ready i. absurd i) t
 
 -- ---- how it ends on the medium
 
@@ -187,10 +194,10 @@ module _ (s : Device) (r : Registers) (d : DriveState) (entry : Entry) (served :
 
 -- ---- turns
 
-carried_turn : (identity : Identity) (modes : Modes) (attentions : List (List Attention)) (entry : Entry) (others : List Entry) (d d' : DriveState) (ending : Ending) (taken : List Block) (answers : List Reply) → IsKeptEntry identity entry → length d.cells ≡ identity.capacity → d.cache ≡ modes.wce
+carried_turn : (identity : Identity) (modes : Modes) (attentions : List (List Attention)) (entry : Entry) (others : List Entry) (d d' : DriveState) (ending : Ending) (taken : List Block) (answers : List Reply) → length entry.body ≡ entry.blocks → IsTransfer identity.capacity entry.command entry.blocks → length d.cells ≡ identity.capacity → d.cache ≡ modes.wce
     → IsTransferred entry.command d entry.body ending taken d' → answers ≡ ended_reply (record entry { body = taken }) ending modes.d_sense ∷ []
     → Around Turn (seen identity modes true attentions (task_of entry ∷ others) d) answers (seen identity modes true attentions others d')
-carried_turn identity modes attentions entry others d d' ending taken answers kept sectors cache x is =
+carried_turn identity modes attentions entry others d d' ending taken answers pages t sectors cache x is =
     let old : Device = seen identity modes true attentions (task_of entry ∷ others) d in
     let s : Device = seen identity modes true attentions (task_of entry ∷ others) x.ready in
     let mid : Device = seen identity modes true attentions others (with_medium x.ready x.after) in
@@ -199,7 +206,7 @@ carried_turn identity modes attentions entry others d d' ending taken answers ke
     let r : Registers = command_registers (ata_command entry.command) in
     let up : x.ready.down ≡ false = ap (λ (y : DriveState). y.down) x.ready_is ∙ x.was_up in
     let still : x.ready.active ≡ d.active = ap (λ (y : DriveState). y.active) x.ready_is in
-    let served = serves identity modes x.ready entry kept (loses-length d.cells x.ready.cells x.back ∙ sectors) (x.cached ∙ ap (λ b. b && not (asks_fua entry.command)) cache) in
+    let served = serves identity modes x.ready entry pages t (loses-length d.cells x.ready.cells x.back ∙ sectors) (x.cached ∙ ap (λ b. b && not (asks_fua entry.command)) cache) in
     let on = on_medium s r x.ready entry served x.ended taken x.after x.does in
     ends_around old s mid new (task_of entry) others reply answers
     (record {
@@ -219,17 +226,76 @@ carried_turn identity modes attentions entry others d d' ending taken answers ke
       stays = ap (λ b. record new { down = b }) (x.up ∙ sym up) ∙ ap (λ n. record new { down = x.ready.down; glitches = n }) x.glitches;
     })
 
-lost_turn : (identity : Identity) (modes : Modes) (attentions : List (List Attention)) (entry : Entry) (others : List Entry) (d d' : DriveState) (answers : List Reply) → IsKeptEntry identity entry → d.cache ≡ modes.wce → d.down ≡ false
-    → IsLostIn (pairs_written d.cache entry.command entry.body) d d' → answers ≡ turns.lost_replies (seen identity modes true attentions (task_of entry ∷ others) d) → Around Turn (seen identity modes true attentions (task_of entry ∷ others) d) answers (seen identity modes true attentions [] d')
-lost_turn identity modes attentions entry others d d' answers kept cache up x is =
-    let s : Device = seen identity modes true attentions (task_of entry ∷ others) d in
-    let new : Device = seen identity modes true attentions [] d' in
-    let same : pairs_written d.cache entry.command entry.body ≡ writes s (task_of entry) = ap (λ b. pairs_written b entry.command entry.body) cache ∙ sym (transfer_shows identity.capacity entry.blocks s entry kept.transfer) in
+-- a task that moves no data is done, and leaves these sectors
+left_turn : (identity : Identity) (modes : Modes) (started started' : Bool) (attentions : List (List Attention)) (entry : Entry) (others : List Entry) (d d' : DriveState) (cells : List Cell) (active : Bool) (ending : Ending) (taken : List Block) (answers : List Reply) → (not started && (asks entry.command).starts) ≡ false
+    → ((reply : Reply) (new : Device) → IsDone (record (seen identity modes started attentions (task_of entry ∷ others) d) { cells = cells; active = active; started = started' }) (task_of entry) reply new → EndsBy entry.command (seen identity modes started attentions (task_of entry ∷ others) d) (task_of entry) reply new)
+    → IsLeftWith cells active d d' → ending ≡ endings.Good → read_pages entry.command taken ≡ [] → answers ≡ ended_reply (record entry { body = taken }) ending modes.d_sense ∷ []
+    → Around Turn (seen identity modes started attentions (task_of entry ∷ others) d) answers (seen identity modes started' attentions others d')
+left_turn identity modes started started' attentions entry others d d' cells active ending taken answers ready how x good none is =
+    let s : Device = seen identity modes started attentions (task_of entry ∷ others) d in
+    let mid : Device = seen identity modes started' attentions others (record d { cells = cells; active = active }) in
+    let new : Device = seen identity modes started' attentions others d' in
+    let reply : Reply = ended_reply (record entry { body = taken }) endings.Good modes.d_sense in
+    let still : d'.active ≡ active = ap (λ (y : DriveState). y.active) x.stays in
+    ends_around s s mid new (task_of entry) others reply answers (quiet_none s) refl (is ∙ ap (λ e. ended_reply (record entry { body = taken }) e modes.d_sense ∷ []) good)
+    (ends_by s (task_of entry) reply mid x.was_up ready (how reply mid (record {
+      answer = ap (task_reply (task_of entry) Good []) none;
+      stays = first_gone identity modes started' attentions (task_of entry) others (record d { cells = cells; active = active });
+    })))
+    (record {
+      cells = lose_once x.lost;
+      active = inl still;
+      stays = ap (seen identity modes started' attentions others) x.stays ∙ ap (λ a. record mid { cells = d'.cells; active = a }) (sym still);
+    })
+
+-- whether it is started does not matter to a START STOP UNIT
+never : (b : Bool) → (not b && false) ≡ false
+never true = refl
+never false = refl
+
+switched_turn : (identity : Identity) (modes : Modes) (started start no_flush : Bool) (attentions : List (List Attention)) (entry : Entry) (others : List Entry) (d d' : DriveState) (ending : Ending) (taken : List Block) (answers : List Reply)
+    → IsSwitched start no_flush d d' → ending ≡ endings.Good → answers ≡ ended_reply (record entry { command = cdbs.StartStop start no_flush; body = taken }) ending modes.d_sense ∷ []
+    → Around Turn (seen identity modes started attentions (task_of (record entry { command = cdbs.StartStop start no_flush }) ∷ others) d) answers (seen identity modes start attentions others d')
+switched_turn identity modes started true no_flush attentions entry others d d' ending taken answers x good is = left_turn identity modes started true attentions (record entry { command = cdbs.StartStop true no_flush }) others d d' d.cells true ending taken answers (never started) (λ reply new e. e) x good refl is
+switched_turn identity modes started false true attentions entry others d d' ending taken answers x good is = left_turn identity modes started false attentions (record entry { command = cdbs.StartStop false true }) others d d' d.cells false ending taken answers (never started) (λ reply new e. e) x good refl is
+switched_turn identity modes started false false attentions entry others d d' ending taken answers x good is = left_turn identity modes started false attentions (record entry { command = cdbs.StartStop false false }) others d d' (map settle d.cells) false ending taken answers (never started) (λ reply new e. e) x good refl is
+
+-- what the drive did for a task ends it
+task_turn : (identity : Identity) (modes : Modes) (started : Bool) (attentions : List (List Attention)) (entry : Entry) (others : List Entry) (d d' : DriveState) (ending : Ending) (taken : List Block) (answers : List Reply) → IsKeptEntry identity entry → length d.cells ≡ identity.capacity → d.cache ≡ modes.wce
+    → (not started && (asks entry.command).starts) ≡ false → CarriedOut entry.command d entry.body ending taken d' → answers ≡ ended_reply (record entry { body = taken }) ending modes.d_sense ∷ []
+    → Around Turn (seen identity modes started attentions (task_of entry ∷ others) d) answers (seen identity modes (started_after entry.command ending started) attentions others d')
+task_turn identity modes started attentions entry others d d' ending taken answers kept sectors cache ready x is =
+    of_task (λ c. (not started && (asks c).starts) ≡ false → CarriedOut c d entry.body ending taken d' → answers ≡ ended_reply (record entry { command = c; body = taken }) ending modes.d_sense ∷ []
+    → Around Turn (seen identity modes started attentions (task_of (record entry { command = c }) ∷ others) d) answers (seen identity modes (started_after c ending started) attentions others d')) identity.capacity entry.blocks entry.command
+    (λ form lba count fua t ready x is. transferred (cdbs.Read form lba count fua) t (is_on started ready) x is)
+    (λ form lba count fua t ready x is. transferred (cdbs.Write form lba count fua) t (is_on started ready) x is)
+    (λ form lba count none ready x is. left_turn identity modes started started attentions (record entry { command = cdbs.Flush form lba count }) others d d' (map settle d.cells) d.active ending taken answers ready (λ reply new e. e) x.1 x.0 refl is)
+    (λ start no_flush none ready x is. subst (λ e. Around Turn (seen identity modes started attentions (task_of (record entry { command = cdbs.StartStop start no_flush }) ∷ others) d) answers (seen identity modes (where_done e start started) attentions others d')) (sym x.0)
+    (switched_turn identity modes started start no_flush attentions entry others d d' ending taken answers x.1 x.0 is))
+    kept.task ready x is
+  where
+    transferred : (c : Command) → IsTransfer identity.capacity c entry.blocks → started ≡ true → IsTransferred c d entry.body ending taken d' → answers ≡ ended_reply (record entry { command = c; body = taken }) ending modes.d_sense ∷ []
+        → Around Turn (seen identity modes started attentions (task_of (record entry { command = c }) ∷ others) d) answers (seen identity modes started attentions others d')
+    transferred c t on x is =
+        subst (λ b. Around Turn (seen identity modes b attentions (task_of (record entry { command = c }) ∷ others) d) answers (seen identity modes b attentions others d')) (sym on)
+        (carried_turn identity modes attentions (record entry { command = c }) others d d' ending taken answers kept.pages t sectors cache x is)
+
+lost_turn : (identity : Identity) (modes : Modes) (started : Bool) (attentions : List (List Attention)) (entry : Entry) (others : List Entry) (d d' : DriveState) (answers : List Reply) → IsKeptEntry identity entry → d.cache ≡ modes.wce → d.down ≡ false → (not started && (asks entry.command).starts) ≡ false
+    → IsLostIn (pairs_written d.cache entry.command entry.body) d d' → answers ≡ turns.lost_replies (seen identity modes started attentions (task_of entry ∷ others) d) → Around Turn (seen identity modes started attentions (task_of entry ∷ others) d) answers (seen identity modes started attentions [] d')
+lost_turn identity modes started attentions entry others d d' answers kept cache up ready x is =
+    let s : Device = seen identity modes started attentions (task_of entry ∷ others) d in
+    let new : Device = seen identity modes started attentions [] d' in
+    let same : pairs_written d.cache entry.command entry.body ≡ writes s (task_of entry) = ap (λ b. pairs_written b entry.command entry.body) cache ∙ sym (task_shows identity.capacity entry.blocks s entry kept.task) in
     record {
       before = record s { cells = d'.cells };
       after = new;
       quiet_before = record {
-        cells = moves_weaker (λ pair among. record { task = task_of entry; under_way = record { up = up; eligible = inl refl }; started = refl; among = subst (IsIn pair) same among }) x.cells;
+        cells = moves_weaker (λ pair among. record {
+          task = task_of entry;
+          under_way = record { up = up; eligible = inl refl };
+          started = ap (λ b. b || is_pass entry.command) (writes_on identity.capacity entry.blocks started d.cache entry.command entry.body pair kept.task ready among);
+          among = subst (IsIn pair) same among;
+        }) x.cells;
         active = inl refl;
         stays = refl;
       };
@@ -242,28 +308,47 @@ lost_turn identity modes attentions entry others d d' answers kept cache up x is
       quiet_after = quiet_none new;
     }
 
+-- a task is answered with this sense without the drive
+unasked_turn : (identity : Identity) (modes : Modes) (started : Bool) (attentions : List (List Attention)) (entry : Entry) (others : List Entry) (d d' : DriveState) (sense : Sense) (ending : Ending) (taken : List Block) (answers : List Reply)
+    → ((reply : Reply) (mid : Device) → IsChecked sense (seen identity modes started attentions (task_of entry ∷ others) d) (task_of entry) reply mid → Ends (seen identity modes started attentions (task_of entry ∷ others) d) (task_of entry) reply mid)
+    → IsUnasked sense d ending d' → IsKeptEntry identity entry → answers ≡ ended_reply (record entry { body = taken }) ending modes.d_sense ∷ []
+    → Around Turn (seen identity modes started attentions (task_of entry ∷ others) d) answers (seen identity modes (started_after entry.command ending started) attentions others d')
+unasked_turn identity modes started attentions entry others d d' sense ending taken answers how x kept is =
+    let s : Device = seen identity modes started attentions (task_of entry ∷ others) d in
+    let mid : Device = seen identity modes started attentions others d in
+    let reply : Reply = ended_reply (record entry { body = taken }) (endings.Check sense) modes.d_sense in
+    subst (λ b. Around Turn s answers (seen identity modes b attentions others d')) (sym (ap (λ e. started_after entry.command e started) x.sensed ∙ still))
+    (ends_around s s mid (seen identity modes started attentions others d') (task_of entry) others reply answers (quiet_none s) refl
+    (is ∙ ap (λ e. ended_reply (record entry { body = taken }) e modes.d_sense ∷ []) x.sensed)
+    (how reply mid (first_checked identity modes started attentions entry others d taken sense))
+    (quiet_same _ _ (ap (seen identity modes started attentions others) x.stays)))
+  where
+    still : started_after entry.command (endings.Check sense) started ≡ started
+    still = of_task (λ c. started_after c (endings.Check sense) started ≡ started) identity.capacity entry.blocks entry.command (λ form lba count fua t. refl) (λ form lba count fua t. refl) (λ form lba count none. refl) (λ start no_flush none. refl) kept.task
+
+-- a unit that is stopped, or the drive
+up_turn : (stopped : Bool) (identity : Identity) (modes : Modes) (started : Bool) (attentions : List (List Attention)) (entry : Entry) (others : List Entry) (d d' : DriveState) (ending : Ending) (taken : List Block) (answers : List Reply) → d.down ≡ false
+    → IsKeptEntry identity entry → length d.cells ≡ identity.capacity → d.cache ≡ modes.wce → (not started && (asks entry.command).starts) ≡ stopped
+    → MatchBool stopped (IsUnasked not_ready d ending d') (CarriedOut entry.command d entry.body ending taken d') → answers ≡ ended_reply (record entry { body = taken }) ending modes.d_sense ∷ []
+    → Around Turn (seen identity modes started attentions (task_of entry ∷ others) d) answers (seen identity modes (started_after entry.command ending started) attentions others d')
+up_turn true identity modes started attentions entry others d d' ending taken answers up kept sectors cache stopped x is =
+    unasked_turn identity modes started attentions entry others d d' not_ready ending taken answers (λ reply mid e. ends_stopped _ _ _ _ up stopped e) x kept is
+up_turn false identity modes started attentions entry others d d' ending taken answers up kept sectors cache ready x is = task_turn identity modes started attentions entry others d d' ending taken answers kept sectors cache ready x is
+
 -- whichever decides, a lost link, a unit that is stopped, or the drive
 ended_turn : (identity : Identity) (modes : Modes) (down started : Bool) (attentions : List (List Attention)) (entry : Entry) (others : List Entry) (d d' : DriveState) (ending : Ending) (taken : List Block) (answers : List Reply) → down ≡ d.down
     → IsKeptEntry identity entry → length d.cells ≡ identity.capacity → (down ≡ false → d.cache ≡ modes.wce)
     → TaskEnds down started entry.command d entry.body ending taken d' → answers ≡ ended_reply (record entry { body = taken }) ending modes.d_sense ∷ []
-    → Around Turn (seen identity modes started attentions (task_of entry ∷ others) d) answers (seen identity modes started attentions others d')
+    → Around Turn (seen identity modes started attentions (task_of entry ∷ others) d) answers (seen identity modes (started_after entry.command ending started) attentions others d')
 ended_turn identity modes true started attentions entry others d d' ending taken answers mark kept sectors cache x is =
-    ends_around (seen identity modes started attentions (task_of entry ∷ others) d) (seen identity modes started attentions (task_of entry ∷ others) d) (seen identity modes started attentions others d) (seen identity modes started attentions others d') (task_of entry) others (ended_reply (record entry { body = taken }) (endings.Check link_lost) modes.d_sense) answers
-    (quiet_none _) refl (is ∙ ap (λ e. ended_reply (record entry { body = taken }) e modes.d_sense ∷ []) x.sensed)
-    (ends_down _ _ _ _ (sym mark) (first_checked identity modes started attentions entry others d taken link_lost))
-    (quiet_same _ _ (ap (seen identity modes started attentions others) x.stays))
-ended_turn identity modes false false attentions entry others d d' ending taken answers mark kept sectors cache x is =
-    ends_around (seen identity modes false attentions (task_of entry ∷ others) d) (seen identity modes false attentions (task_of entry ∷ others) d) (seen identity modes false attentions others d) (seen identity modes false attentions others d') (task_of entry) others (ended_reply (record entry { body = taken }) (endings.Check not_ready) modes.d_sense) answers
-    (quiet_none _) refl (is ∙ ap (λ e. ended_reply (record entry { body = taken }) e modes.d_sense ∷ []) x.sensed)
-    (ends_stopped _ _ _ _ (sym mark) refl (transfer_starts identity.capacity entry.blocks entry.command kept.transfer) (first_checked identity modes false attentions entry others d taken not_ready))
-    (quiet_same _ _ (ap (seen identity modes false attentions others) x.stays))
-ended_turn identity modes false true attentions entry others d d' ending taken answers mark kept sectors cache x is = carried_turn identity modes attentions entry others d d' ending taken answers kept sectors (cache refl) x is
+    unasked_turn identity modes started attentions entry others d d' link_lost ending taken answers (λ reply mid e. ends_down _ _ _ _ (sym mark) e) x kept is
+ended_turn identity modes false started attentions entry others d d' ending taken answers mark kept sectors cache x is =
+    up_turn (not started && (asks entry.command).starts) identity modes started attentions entry others d d' ending taken answers (sym mark) kept sectors (cache refl) refl x is
 
 cut_turn : (identity : Identity) (modes : Modes) (down started : Bool) (attentions : List (List Attention)) (entry : Entry) (others : List Entry) (d d' : DriveState) (answers : List Reply) → down ≡ d.down → IsKeptEntry identity entry → (down ≡ false → d.cache ≡ modes.wce)
     → IsLostInTask down started entry.command d entry.body d' → answers ≡ turns.lost_replies (seen identity modes started attentions (task_of entry ∷ others) d)
     → Around Turn (seen identity modes started attentions (task_of entry ∷ others) d) answers (seen identity modes started attentions [] d')
-cut_turn identity modes down true attentions entry others d d' answers mark kept cache x is = lost_turn identity modes attentions entry others d d' answers kept (cache x.was_up) (sym mark ∙ x.was_up) x.lost is
-cut_turn identity modes down false attentions entry others d d' answers mark kept cache x is = let clash : false ≡ true = x.was_started in absurd cc
+cut_turn identity modes down started attentions entry others d d' answers mark kept cache x is = lost_turn identity modes started attentions entry others d d' answers kept (cache x.was_up) (sym mark ∙ x.was_up) x.ready x.lost is
 
 -- ---- turns of the layer
 
@@ -275,11 +360,12 @@ module _ (identity : Identity) (modes : Modes) (started down : Bool) (attentions
   here : IsKeptEntry identity entry
   here = (first_kept identity tasks rest entry kept first).0
 
-  pub turn_ends : (ending : Ending) (taken : List Block) (given answers : List Reply) (reply : Reply) → TaskEnds down started entry.command d entry.body ending taken d' → given ≡ [] → answers ≡ given ++ reply ∷ []
-      → reply ≡ ended_reply (record entry { body = taken }) ending modes.d_sense → Around Turn (seen identity modes started attentions (map task_of (entries_of tasks)) d) answers (seen identity modes started attentions (map task_of (entries_of rest)) d')
-  turn_ends ending taken given answers reply ends none push is =
-      subst (λ ts. Around Turn (seen identity modes started attentions ts d) answers (seen identity modes started attentions (map task_of (entries_of rest)) d')) (sym all)
-      (ended_turn identity modes down started attentions entry (map task_of (entries_of rest)) d d' ending taken answers tied.mark here tied.valid.cells tied.cache ends (push ∙ (ap (λ l. l ++ reply ∷ []) none ∙ ap (λ r. r ∷ []) is)))
+  pub turn_ends : (ending : Ending) (taken : List Block) (given answers : List Reply) (reply : Reply) (started' : Bool) → TaskEnds down started entry.command d entry.body ending taken d' → given ≡ [] → answers ≡ given ++ reply ∷ [] → reply ≡ ended_reply (record entry { body = taken }) ending modes.d_sense → started' ≡ started_after entry.command ending started
+      → Around Turn (seen identity modes started attentions (map task_of (entries_of tasks)) d) answers (seen identity modes started' attentions (map task_of (entries_of rest)) d')
+  turn_ends ending taken given answers reply started' ends none push is after =
+      subst (λ b. Around Turn (seen identity modes started attentions (map task_of (entries_of tasks)) d) answers (seen identity modes b attentions (map task_of (entries_of rest)) d')) (sym after)
+      (subst (λ ts. Around Turn (seen identity modes started attentions ts d) answers (seen identity modes (started_after entry.command ending started) attentions (map task_of (entries_of rest)) d')) (sym all)
+      (ended_turn identity modes down started attentions entry (map task_of (entries_of rest)) d d' ending taken answers tied.mark here tied.valid.cells tied.cache ends (push ∙ (ap (λ l. l ++ reply ∷ []) none ∙ ap (λ r. r ∷ []) is))))
 
   pub turn_loses : (ending : Ending) (taken : List Block) (given pushed answers : List Reply) (reply : Reply) (left : List Held) → left ≡ [] → IsLostInTask down started entry.command d entry.body d' → given ≡ [] → pushed ≡ given ++ reply ∷ []
       → answers ≡ pushed ++ core.lost_replies modes.d_sense rest → reply ≡ ended_reply (record entry { body = taken }) ending modes.d_sense → ending ≡ endings.Check link_lost

@@ -265,10 +265,10 @@ becomes_tied l new d r c replies e b pages tied = tied_by l new d (ap (λ (x : L
     ]) b
 
 -- the first task is gone, and the link is as it was
-pub still_tied_rest : (identity : Identity) (modes : Modes) (started down : Bool) (attentions : List (List Attention)) (tasks rest : List Held) (entry : Entry) (free out free' out' : ℕ) (d d' : DriveState) → IsFirst tasks entry rest → d'.down ≡ down → d'.cache ≡ d.cache → d'.look ≡ d.look → Stays d d' → IsFit d'
+pub still_tied_rest : (identity : Identity) (modes : Modes) (started started' down : Bool) (attentions : List (List Attention)) (tasks rest : List Held) (entry : Entry) (free out free' out' : ℕ) (d d' : DriveState) → IsFirst tasks entry rest → d'.down ≡ down → d'.cache ≡ d.cache → d'.look ≡ d.look → Stays d d' → IsFit d'
     → Tied (record { identity = identity; modes = modes; started = started; down = down; attentions = attentions; tasks = tasks; free = free; out = out }) d
-    → Tied (record { identity = identity; modes = modes; started = started; down = down; attentions = attentions; tasks = rest; free = free'; out = out' }) d'
-still_tied_rest identity modes started down attentions tasks rest entry free out free' out' d d' first mark cache look stays fit tied =
+    → Tied (record { identity = identity; modes = modes; started = started'; down = down; attentions = attentions; tasks = rest; free = free'; out = out' }) d'
+still_tied_rest identity modes started started' down attentions tasks rest entry free out free' out' d d' first mark cache look stays fit tied =
     let v = subst (λ ts. IsValid (seen identity modes started attentions ts d)) (first_tasks tasks rest entry first) tied.valid in
     record {
       mark = sym mark;

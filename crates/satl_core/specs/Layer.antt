@@ -5,7 +5,7 @@ use Rattle.satl_base.specs.declared.modes.Modes.{Modes}
 use Rattle.satl_base.specs.declared.reply.Reply.{Reply}
 use Rattle.satl_base.specs.Identify.{has_cache, has_look}
 use Rattle.satl_cdb.specs.declared.command.Command.{Command}
-use Rattle.satl_cdb.specs.declared.command.Command.TheVariants.{Inquiry, ModeSense, Read, ReadCapacity10, ReadCapacity16, ReportLuns, RequestSense, TestUnitReady, Write}
+use Rattle.satl_cdb.specs.declared.command.Command.TheVariants.{Flush, Inquiry, ModeSelect, ModeSense, Pass, Read, ReadCapacity10, ReadCapacity16, ReportLuns, RequestSense, StartStop, TestUnitReady, Unmap, Verify, Write, WriteSame}
 use Rattle.satl_identify.specs.declared.identity.Identity.{Identity}
 use Rattle.satl_identify.specs.Refusals.{IsIdentity}
 use Rattle.satl_line.specs.Kinds.{kind_of}
@@ -35,33 +35,77 @@ abbrev pub held_pages : List Held → ℕ
 held_pages [] = 0
 held_pages (h ∷ hs) = length h.entry.body + held_pages hs
 
--- the commands that are served so far: those that the device answers from what it says of itself, and a READ or a WRITE (profile)
+-- the commands that are served so far: those that the device answers from what it says of itself, READ, WRITE, SYNCHRONIZE CACHE and START
+-- STOP UNIT (profile)
 abbrev pub IsServed : Command → Type 0
 IsServed TestUnitReady = Unit {0}
 IsServed (RequestSense descriptor alloc) = Unit {0}
 IsServed (Inquiry page alloc) = Unit {0}
 IsServed (ModeSense ten long_lba no_descriptor control page alloc) = Unit {0}
+IsServed (ModeSelect ten size) = ⊥
+IsServed (StartStop start no_flush) = Unit {0}
 IsServed ReadCapacity10 = Unit {0}
 IsServed (ReadCapacity16 alloc) = Unit {0}
 IsServed (ReportLuns select alloc) = Unit {0}
 IsServed (Read form lba count fua) = Unit {0}
 IsServed (Write form lba count fua) = Unit {0}
-IsServed _ = ⊥
+IsServed (Verify form lba count compare) = ⊥
+IsServed (Flush form lba count) = Unit {0}
+IsServed (WriteSame form lba count unmap) = ⊥
+IsServed (Unmap size) = ⊥
+IsServed (Pass cdb) = ⊥
 
--- a READ or a WRITE of 1 to 4,096 blocks within the capacity and the 48 bits of an address (profile)
+-- 1 to 4,096 blocks within the capacity and the 48 bits of an address, and pages for each (profile)
+abbrev pub IsWithin : ℕ → ℕ → ℕ → ℕ → Type 0
+IsWithin capacity lba count blocks = (blocks ≡ count) × (lba < 2 ^ 48) × (1 ≤ count) × (count ≤ 4096) × (lba + count ≤ capacity)
+
+-- a READ or a WRITE of so many blocks (profile)
 abbrev pub IsTransfer : ℕ → Command → ℕ → Type 0
-IsTransfer capacity (Read form lba count fua) blocks = (blocks ≡ count) × (lba < 2 ^ 48) × (1 ≤ count) × (count ≤ 4096) × (lba + count ≤ capacity)
-IsTransfer capacity (Write form lba count fua) blocks = (blocks ≡ count) × (lba < 2 ^ 48) × (1 ≤ count) × (count ≤ 4096) × (lba + count ≤ capacity)
-IsTransfer capacity _ blocks = ⊥
+IsTransfer capacity TestUnitReady blocks = ⊥
+IsTransfer capacity (RequestSense descriptor alloc) blocks = ⊥
+IsTransfer capacity (Inquiry page alloc) blocks = ⊥
+IsTransfer capacity (ModeSense ten long_lba no_descriptor control page alloc) blocks = ⊥
+IsTransfer capacity (ModeSelect ten size) blocks = ⊥
+IsTransfer capacity (StartStop start no_flush) blocks = ⊥
+IsTransfer capacity ReadCapacity10 blocks = ⊥
+IsTransfer capacity (ReadCapacity16 alloc) blocks = ⊥
+IsTransfer capacity (ReportLuns select alloc) blocks = ⊥
+IsTransfer capacity (Read form lba count fua) blocks = IsWithin capacity lba count blocks
+IsTransfer capacity (Write form lba count fua) blocks = IsWithin capacity lba count blocks
+IsTransfer capacity (Verify form lba count compare) blocks = ⊥
+IsTransfer capacity (Flush form lba count) blocks = ⊥
+IsTransfer capacity (WriteSame form lba count unmap) blocks = ⊥
+IsTransfer capacity (Unmap size) blocks = ⊥
+IsTransfer capacity (Pass cdb) blocks = ⊥
+
+-- a command that makes a task, which holds so many blocks: a READ or a WRITE of its blocks, and SYNCHRONIZE CACHE and START STOP UNIT of
+-- none (profile)
+abbrev pub IsTask : ℕ → Command → ℕ → Type 0
+IsTask capacity TestUnitReady blocks = ⊥
+IsTask capacity (RequestSense descriptor alloc) blocks = ⊥
+IsTask capacity (Inquiry page alloc) blocks = ⊥
+IsTask capacity (ModeSense ten long_lba no_descriptor control page alloc) blocks = ⊥
+IsTask capacity (ModeSelect ten size) blocks = ⊥
+IsTask capacity (StartStop start no_flush) blocks = blocks ≡ 0
+IsTask capacity ReadCapacity10 blocks = ⊥
+IsTask capacity (ReadCapacity16 alloc) blocks = ⊥
+IsTask capacity (ReportLuns select alloc) blocks = ⊥
+IsTask capacity (Read form lba count fua) blocks = IsWithin capacity lba count blocks
+IsTask capacity (Write form lba count fua) blocks = IsWithin capacity lba count blocks
+IsTask capacity (Verify form lba count compare) blocks = ⊥
+IsTask capacity (Flush form lba count) blocks = blocks ≡ 0
+IsTask capacity (WriteSame form lba count unmap) blocks = ⊥
+IsTask capacity (Unmap size) blocks = ⊥
+IsTask capacity (Pass cdb) blocks = ⊥
 
 -- a number of bytes that a host may take: at most 2,097,152 (profile)
 abbrev pub IsExpectable : Option ℕ → Type 0
 IsExpectable expected = IfSome expected (λ count. count ≤ 2097152)
 
--- a task holds as many pages as blocks, goes over its range of the drive, and is of the kind of its command (profile)
+-- a task holds as many pages as blocks, is one that its command makes, and is of the kind of its command (profile)
 pub record IsKept (identity : Identity) (h : Held) : Type 0 where
   pub pages : length h.entry.body ≡ h.entry.blocks
-  pub transfer : IsTransfer identity.capacity h.entry.command h.entry.blocks
+  pub task : IsTask identity.capacity h.entry.command h.entry.blocks
   pub kind : h.entry.kind ≡ kind_of h.entry.command identity.queued_trim
   pub expected : IsExpectable h.entry.expected
 

@@ -1,7 +1,7 @@
 -- ATA commands on a drive with nothing outstanding and in no error state, one or several for a task.
-use Rattle.std.specs.Prelude.{◌≡◌, ◌⊎◌, ◌+◌, true, false, Bool, List, [], None}
+use Rattle.std.specs.Prelude.{◌≡◌, ◌⊎◌, ◌+◌, not, true, false, Bool, if◌then◌else◌, List, [], None, map}
 use Rattle.satl_base.specs.declared.block.Block.{Block}
-use Rattle.satl_base.specs.Cells.{AreSound, Pair}
+use Rattle.satl_base.specs.Cells.{AreSound, Cell, Pair, settle}
 use Rattle.satl_base.specs.Identify.{has_cache, has_look}
 use Rattle.satl_base.specs.Lists.{IsIn}
 use Rattle.satl_base.specs.Losses.{Loses}
@@ -80,3 +80,24 @@ pub record IsSetOn (what : Setting) (old new : DriveState) : Type 0 where
   pub lost : Loses (with_setting what (medium_of old)).cells new.cells
   pub tells : IsTelling new.cache new.look old.identify new.identify
   pub stays : new ≡ record (with_medium old (with_setting what (medium_of old))) { cells = new.cells; identify = new.identify }
+
+-- a command that moves no data was carried out (ACS-3 section 7)
+pub record HasRunBare (command : AtaCommand) (old new : DriveState) : Type 0 where
+  pub ended : Taskfile
+  pub taken : List Block
+  pub run : HasRun command old [] ended taken new
+
+-- every sector is written back where this holds (ACS-3, FLUSH CACHE EXT)
+abbrev pub settled_if : Bool → List Cell → List Cell
+settled_if settles cells = if settles then map settle cells else cells
+
+-- the drive is left with these sectors, which may have been written back since, and active or not; all else is as before (profile)
+pub record IsLeftWith (cells : List Cell) (active : Bool) (old new : DriveState) : Type 0 where
+  pub was_up : old.down ≡ false
+  pub lost : Loses cells new.cells
+  pub stays : new ≡ record old { cells = new.cells; active = active }
+
+-- the drive was started, or it was stopped, with all written back unless NO_FLUSH (SBC-3, START STOP UNIT; SAT-3)
+abbrev pub IsSwitched : Bool → Bool → DriveState → DriveState → Type 0
+IsSwitched true no_flush old new = IsLeftWith old.cells true old new
+IsSwitched false no_flush old new = IsLeftWith (settled_if (not no_flush) old.cells) false old new

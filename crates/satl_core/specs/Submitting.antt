@@ -14,12 +14,11 @@ use Rattle.satl_cdb.specs.Table.{says}
 use Rattle.satl_identify.specs.declared.identity.Identity.{Identity}
 use Rattle.satl_sense.specs.declared.sense.Sense.{Sense}
 use Rattle.satl_line.specs.declared.entry.Entry.{Entry}
-use Rattle.satl_line.specs.Kinds.{kind_of}
 use Rattle.satl_unit.specs.declared.attention.Attention.{Attention}
 use Rattle.satl_direct.specs.Arrival.{asks_for, built, code_of, is_unit_0, reply_to, told, untold_codes}
 use Rattle.satl_direct.specs.Device.{is_of}
 use Rattle.satl_direct.specs.Senses.{attention_sense, link_lost, no_sense, not_ready, out_of_range, overlapped, refusal, sense_text, short_data, unknown_operation, unknown_unit}
-use Rattle.satl_direct.specs.Tasks.{held_blocks, is_ordered, needed, range_of, task_for, task_of}
+use Rattle.satl_direct.specs.Tasks.{needed, range_of, task_for, task_of}
 use Rattle.satl_core.specs.declared.submitting.AtOnce.{AtOnce}
 use Rattle.satl_core.specs.declared.submitting.AtOnce.TheVariants as at_once
 use Rattle.satl_line.specs.Tasks.{Held, entries_of, is_named, is_too_much}
@@ -41,18 +40,7 @@ pub record IsCutOf (whole cut : Request) : Type 0 where
 
 -- the task that a request becomes, without its pages (profile)
 abbrev pub task_without_pages : Request → Command → Bool → Entry
-task_without_pages r command queued_trim = record {
-  nexus = r.nexus;
-  tag = r.tag;
-  kind = kind_of command queued_trim;
-  ordered = is_ordered r.attr;
-  blocks = held_blocks command;
-  command = command;
-  body = [];
-  ranges = record { items = range_of command ∷ [] };
-  modes = None;
-  expected = r.expected;
-}
+task_without_pages r command queued_trim = record (task_for queued_trim r command) { body = [] }
 
 -- the answer to a request that is answered at once (profile)
 abbrev pub reply_at_once : Identity → Modes → Request → AtOnce → Reply
@@ -79,7 +67,13 @@ answer_to l (commands.ReadCapacity16 alloc) = Err (at_once.Tell datas.Capacity16
 answer_to l (commands.ReportLuns select alloc) = Err (at_once.Tell (datas.Luns select) alloc)
 answer_to l (commands.Read form lba count fua) = if count == 0 then Err (readiness l) else Ok (commands.Read form lba count fua)
 answer_to l (commands.Write form lba count fua) = if count == 0 then Err (readiness l) else Ok (commands.Write form lba count fua)
-answer_to l _ = Err (at_once.Check unknown_operation)
+answer_to l (commands.ModeSelect ten size) = Err (at_once.Check unknown_operation)
+answer_to l (commands.StartStop start no_flush) = Ok (commands.StartStop start no_flush)
+answer_to l (commands.Verify form lba count compare) = Err (at_once.Check unknown_operation)
+answer_to l (commands.Flush form lba count) = Ok (commands.Flush form lba count)
+answer_to l (commands.WriteSame form lba count unmap) = Err (at_once.Check unknown_operation)
+answer_to l (commands.Unmap size) = Err (at_once.Check unknown_operation)
+answer_to l (commands.Pass cdb) = Err (at_once.Check unknown_operation)
 
 -- why a command whose fields are good is answered at once, but for a full task set (profile)
 abbrev pub command_answer : Layer → ℕ → Command → Result Command AtOnce

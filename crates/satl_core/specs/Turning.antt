@@ -1,11 +1,11 @@
 -- How the layer ends a task.
-use Rattle.std.specs.Prelude.{◌≡◌, ℕ, ◌*◌, ◌==◌, ◌&&◌, not, Bool, true, false, if◌then◌else◌, List, [], length, map, MatchBool, bit_and}
+use Rattle.std.specs.Prelude.{◌≡◌, ℕ, ◌*◌, ◌==◌, ◌&&◌, not, Bool, false, if◌then◌else◌, List, [], length, map, MatchBool, bit_and}
 use Rattle.satl_base.specs.declared.block.Block.{Block}
 use Rattle.satl_base.specs.declared.reply.Reply.{Reply}
 use Rattle.satl_base.specs.declared.reply.Scsi.{Scsi}
 use Rattle.satl_base.specs.declared.reply.Scsi.TheVariants as statuses
 use Rattle.satl_cdb.specs.declared.command.Command.{Command}
-use Rattle.satl_base.specs.Cells.{Pair, pairs_from}
+use Rattle.satl_base.specs.Cells.{Pair, pairs_from, settle}
 use Rattle.satl_base.specs.Losses.{Loses}
 use Rattle.satl_cdb.specs.declared.command.Command.TheVariants.{Flush, Inquiry, ModeSelect, ModeSense, Pass, Read, ReadCapacity10, ReadCapacity16, ReportLuns, RequestSense, StartStop, TestUnitReady, Unmap, Verify, Write, WriteSame}
 use Rattle.satl_sense.specs.declared.sense.Sense.{Sense}
@@ -18,10 +18,11 @@ use Rattle.satl_regs.specs.Spelling.{command_registers}
 use Rattle.satl_regs.specs.declared.values.AtaCommand.TheVariants as commands
 use Rattle.satl_regs.specs.declared.values.How.TheVariants.{DmaExt}
 use Rattle.satl_line.specs.Tasks.{Held}
+use Rattle.satl_direct.specs.Tasks.{asks}
 use Rattle.satl_direct.specs.Senses.{crc_error, link_lost, not_ready, out_of_range, plain, read_error, write_error}
 use Rattle.satl_regs.specs.Effects.{Does, Medium}
 use Rattle.satl_drive.specs.State.{DriveState, medium_of}
-use Rattle.satl_core.specs.Running.{IsLostIn}
+use Rattle.satl_core.specs.Running.{IsLeftWith, IsLostIn, IsSwitched}
 use Rattle.satl_core.specs.declared.turning.Ending.{Ending}
 use Rattle.satl_core.specs.declared.turning.Ending.TheVariants as endings
 
@@ -154,15 +155,60 @@ pub record IsTransferred (command : Command) (old : DriveState) (given : List Bl
   pub glitches : new.glitches ≡ after.glitches
   pub up : new.down ≡ false
 
--- how the task ends whose turn it is: the first that holds decides, a lost link, a unit that is stopped, and the drive (profile)
+-- what the drive did for the command of a task, and how the task ends: a READ and a WRITE by the end of their command, all others well
+-- (SAT-3 8 and 9)
+abbrev pub CarriedOut : Command → DriveState → List Block → Ending → List Block → DriveState → Type 0
+CarriedOut TestUnitReady old given ending taken new = ⊥
+CarriedOut (RequestSense descriptor alloc) old given ending taken new = ⊥
+CarriedOut (Inquiry page alloc) old given ending taken new = ⊥
+CarriedOut (ModeSense ten long_lba no_descriptor control page alloc) old given ending taken new = ⊥
+CarriedOut (ModeSelect ten size) old given ending taken new = ⊥
+CarriedOut (StartStop start no_flush) old given ending taken new = (ending ≡ endings.Good) × IsSwitched start no_flush old new
+CarriedOut ReadCapacity10 old given ending taken new = ⊥
+CarriedOut (ReadCapacity16 alloc) old given ending taken new = ⊥
+CarriedOut (ReportLuns select alloc) old given ending taken new = ⊥
+CarriedOut (Read form lba count fua) old given ending taken new = IsTransferred (Read form lba count fua) old given ending taken new
+CarriedOut (Write form lba count fua) old given ending taken new = IsTransferred (Write form lba count fua) old given ending taken new
+CarriedOut (Verify form lba count compare) old given ending taken new = ⊥
+CarriedOut (Flush form lba count) old given ending taken new = (ending ≡ endings.Good) × IsLeftWith (map settle old.cells) old.active old new
+CarriedOut (WriteSame form lba count unmap) old given ending taken new = ⊥
+CarriedOut (Unmap size) old given ending taken new = ⊥
+CarriedOut (Pass cdb) old given ending taken new = ⊥
+
+-- how the task ends whose turn it is: the first that holds decides, a lost link, a unit that is stopped where the command needs it started,
+-- and the drive (SAT-3 11; profile)
 abbrev pub TaskEnds : Bool → Bool → Command → DriveState → List Block → Ending → List Block → DriveState → Type 0
 TaskEnds down started command old given ending taken new =
     MatchBool down (IsUnasked link_lost old ending new)
-    (MatchBool (not started) (IsUnasked not_ready old ending new)
-    (IsTransferred command old given ending taken new))
+    (MatchBool (not started && (asks command).starts) (IsUnasked not_ready old ending new)
+    (CarriedOut command old given ending taken new))
 
--- the link was lost while a task was carried out, at a unit that is started (profile)
+-- the link was lost while a task was carried out, at a unit that is started where the command needs it (profile)
 pub record IsLostInTask (down started : Bool) (command : Command) (old : DriveState) (given : List Block) (new : DriveState) : Type 0 where
   pub was_up : down ≡ false
-  pub was_started : started ≡ true
+  pub ready : (not started && (asks command).starts) ≡ false
   pub lost : IsLostIn (pairs_written old.cache command given) old new
+
+-- one of two by how a task ended: the first where it is done (profile)
+abbrev pub where_done : Ending → Bool → Bool → Bool
+where_done endings.Good done kept = done
+where_done (endings.Check sense) done kept = kept
+
+-- whether a unit is started once a task has ended: a START STOP UNIT that is done decides (SBC-3, START STOP UNIT)
+abbrev pub started_after : Command → Ending → Bool → Bool
+started_after TestUnitReady ending started = started
+started_after (RequestSense descriptor alloc) ending started = started
+started_after (Inquiry page alloc) ending started = started
+started_after (ModeSense ten long_lba no_descriptor control page alloc) ending started = started
+started_after (ModeSelect ten size) ending started = started
+started_after (StartStop start no_flush) ending started = where_done ending start started
+started_after ReadCapacity10 ending started = started
+started_after (ReadCapacity16 alloc) ending started = started
+started_after (ReportLuns select alloc) ending started = started
+started_after (Read form lba count fua) ending started = started
+started_after (Write form lba count fua) ending started = started
+started_after (Verify form lba count compare) ending started = started
+started_after (Flush form lba count) ending started = started
+started_after (WriteSame form lba count unmap) ending started = started
+started_after (Unmap size) ending started = started
+started_after (Pass cdb) ending started = started

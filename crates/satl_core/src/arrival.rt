@@ -1,19 +1,21 @@
 // What becomes of a request, judged in the order of the steps.
-ghost use Rattle.std.specs.Prelude.{◌≡◌, ◌+◌, nat_lt};
+ghost use Rattle.std.specs.Prelude.{◌≡◌, ◌+◌, List, nat_lt};
 ghost use Rattle.satl_base.specs.Lists.{is_in};
 ghost use Rattle.satl_direct.specs.Arrival.{built, is_unit_0, untold_codes};
 ghost use Rattle.satl_direct.specs.Senses.{attention_sense, plain, refusal};
-ghost use Rattle.satl_direct.specs.Tasks.{is_ordered, needed, range_of};
+ghost use Rattle.satl_base.specs.declared.block.Block.{Block};
+ghost use Rattle.satl_direct.specs.Tasks.{asks, held_blocks, is_ordered, needed, range_of};
 ghost use Rattle.satl_core.specs.Layer.{IsServed};
 ghost use Rattle.satl_core.specs.Submitting.{is_for_unit};
 
+use arrayvec::ArrayVec;
 use satl_base::{Attr, Range, Request};
 use satl_cdb::{Command, Illegal};
 use satl_sense::{Extra, Sense};
 use satl_unit::Attention;
 
 /// The operation codes that are served so far: TEST UNIT READY, REQUEST SENSE, INQUIRY, MODE SENSE, READ CAPACITY and REPORT
-/// LUNS, and READ and WRITE in each form.
+/// LUNS, READ and WRITE in each form, START STOP UNIT, and SYNCHRONIZE CACHE in each form.
 pub fn is_built(code: u8) -> bool
     ensures { result ≡ is_in code built }
 {
@@ -24,12 +26,15 @@ pub fn is_built(code: u8) -> bool
             | 0x0A
             | 0x12
             | 0x1A
+            | 0x1B
             | 0x25
             | 0x28
             | 0x2A
+            | 0x35
             | 0x5A
             | 0x88
             | 0x8A
+            | 0x91
             | 0x9E
             | 0xA0
             | 0xA8
@@ -78,8 +83,32 @@ pub fn range_of(command: &Command) -> Range
             lba,
             count,
         },
+        Command::Flush { lba, count, .. } => Range { lba, count },
         _ => Range { lba: 0, count: 0 },
     }
+}
+
+/// The blocks that the task of a command holds (profile).
+pub fn held_blocks(command: &Command) -> u32
+    requires { IsServed command.now }
+    ensures { result ≡ held_blocks command.now }
+{
+    match *command {
+        Command::Read { count, .. } | Command::Write { count, .. } => count,
+        _ => 0,
+    }
+}
+
+/// The ranges that the task of a command reads or writes.
+pub fn ranges_of(command: &Command) -> ArrayVec<Range, 64>
+    requires { IsServed command.now }
+    ensures { (body : List Block) → result.items ≡ (asks command.now).ranges body }
+{
+    let mut ranges = ArrayVec::new();
+    if let Command::Read { lba, count, .. } | Command::Write { lba, count, .. } = *command {
+        ranges.push(Range { lba, count });
+    }
+    ranges
 }
 
 /// The bytes of data-out that a command needs.

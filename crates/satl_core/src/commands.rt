@@ -4,7 +4,7 @@ ghost use Rattle.satl_drive.specs.State.{IsFit, medium_of};
 ghost use Rattle.satl_regs.specs.Effects.{own_blocks, pairs_of};
 ghost use Rattle.satl_regs.specs.Spelling.{CommandFits};
 ghost use Rattle.satl_core.specs.Opening.{IsTold};
-ghost use Rattle.satl_core.specs.Running.{HasRun, IsCutShort, IsNamed, Stays};
+ghost use Rattle.satl_core.specs.Running.{HasRun, HasRunBare, IsCutShort, IsNamed, Stays};
 
 use satl_base::{Pages, Steps};
 use satl_drive::{Drive, LinkDown};
@@ -33,6 +33,29 @@ pub fn run<D: Drive, L: Ledger>(
     let regs = put_command(command);
     match drive.run(&regs, pages, steps) {
         Ok(ended) => Ok(ended),
+        Err(LinkDown) => Err(LinkDown),
+    }
+}
+
+/// Carries out one command that moves no data on the drive. How it ends is not told.
+pub fn run_bare<D: Drive, L: Ledger>(
+    drive: &mut D,
+    command: &AtaCommand,
+    steps: &mut Steps<L>,
+) -> Result<(), LinkDown>
+    requires idle { (D.state drive.old).outstanding ≡ [] }
+    requires no_error { (D.state drive.old).error ≡ None }
+    requires named { IsNamed command.now }
+    requires fits { CommandFits command.now }
+    requires bare { own_blocks command.now ≡ 0 }
+    ensures ok { OnOk result (HasRunBare command.now (D.state drive.old) (D.state drive.new)) }
+    ensures err { OnErr result (IsCutShort (pairs_of command.now (medium_of (D.state drive.old)) []) (D.state drive.old) (D.state drive.new)) }
+    ensures stays { Stays (D.state drive.old) (D.state drive.new) }
+    ensures fit { IsFit (D.state drive.old) → IsFit (D.state drive.new) }
+    ensures step { steps.new ≡ steps.old + 1 }
+{
+    match run(drive, command, &mut Pages::default(), steps) {
+        Ok(_) => Ok(()),
         Err(LinkDown) => Err(LinkDown),
     }
 }

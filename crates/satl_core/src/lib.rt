@@ -4,6 +4,7 @@
 mod arrival;
 mod benching;
 mod commands;
+mod flushing;
 mod leaving;
 mod managing;
 mod satl;

@@ -12,7 +12,7 @@ ghost use Rattle.satl_direct.specs.Run.{Manages, MayLose, bench_losses, losses_o
 ghost use Rattle.satl_direct.specs.Bench.{Happens};
 ghost use Rattle.satl_core.specs.Benching.{Follows, StartsAnew};
 ghost use Rattle.satl_direct.specs.Turn.{Turn};
-ghost use Rattle.satl_core.specs.Layer.{IsTransfer, Tied, reply_pages, view};
+ghost use Rattle.satl_core.specs.Layer.{IsTask, Tied, reply_pages, view};
 ghost use Rattle.satl_core.specs.Opening.{IsCause, IsOpened};
 ghost use Rattle.satl_core.specs.Submitting.{Becomes, CanSubmit, IsCutOf, judged, once_judged};
 ghost use Rattle.satl_core.specs.Turning.{task_calls};
@@ -26,7 +26,7 @@ use crate::submitting::{
     AtOnce, answer_at_once, judge_code, next_attention, other_answer, own_pages, reply_to,
     task_without_pages, tell_attention,
 };
-use crate::turning::{end_task, link_lost, lose_tasks, run_task};
+use crate::turning::{end_task, link_lost, lose_tasks, run_task, started_after};
 use satl_base::{
     BenchEvent, Lender, Manage, Modes, NoMemory, Pages, Replies, Request, Response, Scsi,
     SenseBytes, Steps,
@@ -177,7 +177,7 @@ impl Satl {
         ensures left { self.new ≡ record (once_judged self.old request.now) { free = self.new.free } }
         ensures kept { self.new ≡ record self.old { tasks = self.new.tasks; attentions = self.new.attentions; free = self.new.free } }
         ensures same { OnOk result (self.new ≡ self.old) }
-        ensures transfer { IfOk result (λ command. IsTransfer self.old.identity.capacity command (held_blocks command)) }
+        ensures task { IfOk result (λ command. IsTask self.old.identity.capacity command (held_blocks command)) }
     {
         if !is_for_unit(request) {
             return Err(other_answer(request));
@@ -200,7 +200,7 @@ impl Satl {
     fn add_task(&mut self, request: Request, command: Command, replies: &mut Replies)
         requires can { CanSubmit request self.old.free self.old.out }
         requires judged { judged self.old request ≡ Ok command }
-        requires transfer { IsTransfer self.old.identity.capacity command (held_blocks command) }
+        requires task { IsTask self.old.identity.capacity command (held_blocks command) }
         requires empty { replies.old ≡ [] }
         ensures becomes { Becomes request command self.old replies.new self.new }
         ensures long { replies.new ≡ [] → needed command ≤ 512 * length request.body }
@@ -252,7 +252,10 @@ impl Satl {
             &mut task.body,
             steps,
         ) {
-            Ok(ending) => replies.push(end_task(&mut self.pool, task, ending, descriptor)),
+            Ok(ending) => {
+                self.started = started_after(&command, ending, self.started);
+                replies.push(end_task(&mut self.pool, task, ending, descriptor));
+            }
             Err(LinkDown) => {
                 self.down = true;
                 replies.push(end_task(&mut self.pool, task, link_lost(), descriptor));

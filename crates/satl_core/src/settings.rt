@@ -4,8 +4,8 @@ ghost use Rattle.satl_drive.specs.State.{IsFit};
 ghost use Rattle.satl_regs.specs.Effects.{has_setting, setting_of};
 ghost use Rattle.satl_core.specs.Running.{IsCutShort, IsSetOn, Stays, setting};
 
-use crate::commands::run;
-use satl_base::{Pages, Steps};
+use crate::commands::run_bare;
+use satl_base::Steps;
 use satl_drive::{Drive, LinkDown};
 use satl_regs::AtaCommand;
 use std::sync::ledger::Ledger;
@@ -46,13 +46,5 @@ pub fn turn_feature<D: Drive, L: Ledger>(
     ensures step { steps.new ≡ steps.old + 1 }
 {
     let what = subcommand(feature, on);
-    match run(
-        drive,
-        &AtaCommand::SetFeatures { what },
-        &mut Pages::default(),
-        steps,
-    ) {
-        Ok(_) => Ok(()),
-        Err(LinkDown) => Err(LinkDown),
-    }
+    run_bare(drive, &AtaCommand::SetFeatures { what }, steps)
 }

@@ -3,12 +3,13 @@ ghost use Rattle.std.specs.Prelude.{◌≡◌, ◌≤◌, ◌+◌, ◌*◌, ◌�
 ghost use Rattle.std.specs.List.{AllByRecursion};
 ghost use Rattle.satl_frame.specs.Output.{IsWritable};
 ghost use Rattle.satl_direct.specs.Arrival.{reply_to};
-ghost use Rattle.satl_direct.specs.Tasks.{data_out, held_blocks, needed, range_of};
+ghost use Rattle.satl_direct.specs.Tasks.{data_out, held_blocks, needed};
 ghost use Rattle.satl_core.specs.Layer.{IsExpectable, IsServed, reply_pages};
 ghost use Rattle.satl_core.specs.Submitting.{answer_to, attention_of, code_answer, command_answer, other_answer, readiness, reply_at_once, sense_data, task_without_pages, tell_attention, untold};
 
 use crate::arrival::{
-    attention_sense, is_built, is_ordered, is_outside, is_untold, needed, plain, range_of, refusal,
+    attention_sense, held_blocks, is_built, is_ordered, is_outside, is_untold, needed, plain,
+    range_of, ranges_of, refusal,
 };
 use crate::satl::Satl;
 use crate::telling::{Data, data_text, told};
@@ -88,7 +89,7 @@ pub fn next_attention(attentions: &mut [Attentions; 4], request: &Request) -> Op
 /// answered at once.
 pub fn judge_code(satl: &Satl, request: &Request) -> Result<Command, AtOnce>
     ensures answer { result ≡ code_answer satl.now request.now }
-    ensures few { IfOk result (λ command. (range_of command).count ≤ 4096) }
+    ensures few { IfOk result (λ command. held_blocks command ≤ 4096) }
 {
     // Read so that it is known to be a byte: the count of six bytes.
     let _count = request.cdb[4];
@@ -123,7 +124,10 @@ fn answer_to(satl: &Satl, command: Command) -> Result<Command, AtOnce>
     let (what, alloc) = match command {
         Command::TestUnitReady | Command::Read { count: 0, .. } | Command::Write { count: 0, .. } =>
             return Err(readiness(satl)),
-        Command::Read { .. } | Command::Write { .. } => return Ok(command),
+        Command::Read { .. }
+        | Command::Write { .. }
+        | Command::Flush { .. }
+        | Command::StartStop { .. } => return Ok(command),
         Command::Inquiry { page, alloc } => (Data::Inquiry(page), u32::from(alloc)),
         Command::ModeSense {
             ten,
@@ -171,18 +175,15 @@ pub fn task_without_pages(request: &Request, command: Command, queued_trim: bool
     requires { IsServed command }
     ensures { result ≡ task_without_pages request.now command queued_trim }
 {
-    let range = range_of(&command);
-    let mut ranges = ArrayVec::new();
-    ranges.push(range);
     Entry {
         nexus: request.nexus,
         tag: request.tag,
         kind: Kind::of(&command, queued_trim),
         ordered: is_ordered(request.attr),
-        blocks: range.count,
+        blocks: held_blocks(&command),
+        ranges: ranges_of(&command),
         command,
         body: Pages::default(),
-        ranges,
         modes: None,
         expected: request.expected,
     }
@@ -200,7 +201,7 @@ pub fn own_pages(pool: &mut Pool, command: &Command, body: Pages) -> Pages
     ensures free { pool.new.free + held_blocks command.now ≡ pool.old.free + length body }
     ensures out { pool.new.out + length body ≡ pool.old.out + held_blocks command.now }
 {
-    let count = range_of(command).count;
+    let count = held_blocks(command);
     if let Command::Write { .. } = *command {
         let mut body = body;
         pool.give(body.split(count));

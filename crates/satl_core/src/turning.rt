@@ -1,16 +1,18 @@
 // A task ends.
-ghost use Rattle.std.specs.Prelude.{◌≡◌, ◌≤◌, ◌<◌, ◌+◌, ◌*◌, ◌-◌, ◌++◌, ◌∷◌, [], length, true, false, None, IfOk, OnOk, OnErr};
+ghost use Rattle.std.specs.Prelude.{◌≡◌, ◌≤◌, ◌<◌, ◌+◌, ◌*◌, ◌-◌, ◌++◌, ◌∷◌, ◌&&◌, ℕ, not, [], length, true, false, None, IfOk, OnOk, OnErr};
 ghost use Rattle.std.specs.List.{AllByRecursion};
 ghost use Rattle.satl_frame.specs.Output.{IsWritable};
 ghost use Rattle.satl_drive.specs.State.{IsFit};
 ghost use Rattle.satl_base.specs.Cells.{AreSound};
 ghost use Rattle.satl_direct.specs.Senses;
-ghost use Rattle.satl_core.specs.Layer.{IsTransfer, held_pages};
+ghost use Rattle.satl_core.specs.Layer.{IsTask, held_pages};
 ghost use Rattle.satl_core.specs.Turning;
-ghost use Rattle.satl_core.specs.Running.{Stays};
-ghost use Rattle.satl_core.specs.Turning.{IsLostInTask, TaskEnds, ended_reply, lost_replies, task_calls};
+ghost use Rattle.satl_core.specs.Running.{IsLostIn, Stays};
+ghost use Rattle.satl_core.specs.Turning.{CarriedOut, IsLostInTask, TaskEnds, ended_reply, lost_replies, pairs_written, started_after, task_calls};
+ghost use Rattle.satl_direct.specs.Tasks.{asks};
 
 use crate::arrival::plain;
+use crate::flushing::{flush, switch};
 use crate::transferring::transfer;
 use arrayvec::ArrayVec;
 use satl_base::{Pages, Replies, Reply, Scsi, Steps};
@@ -42,7 +44,7 @@ pub fn run_task<D: Drive, L: Ledger>(
 ) -> Result<Ending, LinkDown>
     requires idle { (D.state drive.old).outstanding ≡ [] }
     requires no_error { (D.state drive.old).error ≡ None }
-    requires transfer { IsTransfer (D.state drive.old).capacity command.now (length body.old) }
+    requires task { IsTask (D.state drive.old).capacity command.now (length body.old) }
     requires sound { AreSound (D.state drive.old).cells }
     requires fit { IsFit (D.state drive.old) }
     requires mark { down ≡ (D.state drive.old).down }
@@ -61,10 +63,66 @@ pub fn run_task<D: Drive, L: Ledger>(
     if down {
         return Ok(link_lost());
     }
-    if !started {
+    if has_to_start(started, command) {
         return Ok(Ending::Check(plain(0x2, 0x04, 0x02)));
     }
-    transfer(cache, drive, command, body, steps)
+    carry_out(cache, drive, command, body, steps)
+}
+
+/// Whether a unit is stopped that a command needs started (SPC-4 4.5.6, NOT READY).
+fn has_to_start(started: bool, command: &Command) -> bool
+    ensures { (capacity blocks : ℕ) → IsTask capacity command.now blocks → result ≡ (not started && (asks command.now).starts) }
+{
+    !started && !matches!(*command, Command::StartStop { .. })
+}
+
+/// Carries out the command of a task on a drive whose link is up. `LinkDown`: the link was lost meanwhile.
+fn carry_out<D: Drive, L: Ledger>(
+    cache: bool,
+    drive: &mut D,
+    command: &Command,
+    body: &mut Pages,
+    steps: &mut Steps<L>,
+) -> Result<Ending, LinkDown>
+    requires idle { (D.state drive.old).outstanding ≡ [] }
+    requires no_error { (D.state drive.old).error ≡ None }
+    requires task { IsTask (D.state drive.old).capacity command.now (length body.old) }
+    requires sound { AreSound (D.state drive.old).cells }
+    requires fit { IsFit (D.state drive.old) }
+    requires up { (D.state drive.old).down ≡ false }
+    requires cached { (D.state drive.old).cache ≡ cache }
+    ensures stays { Stays (D.state drive.old) (D.state drive.new) }
+    ensures cache { OnOk result ((D.state drive.new).cache ≡ (D.state drive.old).cache) }
+    ensures look { OnOk result ((D.state drive.new).look ≡ (D.state drive.old).look) }
+    ensures up { OnOk result ((D.state drive.new).down ≡ false) }
+    ensures faults { OnOk result ((D.state drive.new).faults ≡ (D.state drive.old).faults) }
+    ensures ends { IfOk result (λ ending. CarriedOut command.now (D.state drive.old) body.old ending body.new (D.state drive.new)) }
+    ensures lost { OnErr result (IsLostIn (pairs_written (D.state drive.old).cache command.now body.old) (D.state drive.old) (D.state drive.new)) }
+    ensures size { length body.new ≡ length body.old }
+    ensures fit { IsFit (D.state drive.new) }
+    ensures step { steps.new ≤ steps.old + 3 }
+{
+    match *command {
+        Command::Flush { .. } => {
+            flush(drive, steps)?;
+            Ok(Ending::Good)
+        }
+        Command::StartStop { start, no_flush } => {
+            switch(start, no_flush, drive, steps)?;
+            Ok(Ending::Good)
+        }
+        _ => transfer(cache, drive, command, body, steps),
+    }
+}
+
+/// Whether the unit is started once a task has ended: a START STOP UNIT that is done decides.
+pub fn started_after(command: &Command, ending: Ending, started: bool) -> bool
+    ensures { result ≡ started_after command.now ending started }
+{
+    match (command, ending) {
+        (Command::StartStop { start, .. }, Ending::Good) => *start,
+        _ => started,
+    }
 }
 
 /// LOGICAL UNIT COMMUNICATION FAILURE (SPC-4 4.5.6).

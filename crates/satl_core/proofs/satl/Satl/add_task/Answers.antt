@@ -3,19 +3,19 @@ use Rattle.satl_line.specs.declared.entry.Entry.{Entry}
 use Rattle.satl_line.specs.Kinds.{kind_of}
 use Rattle.satl_line.specs.Tasks.{is_too_much}
 use Rattle.satl_direct.specs.Tasks.{held_blocks}
-use Rattle.satl_core.specs.Layer.{IsExpectable, IsTransfer, Layer, held_pages}
+use Rattle.satl_core.specs.Layer.{IsExpectable, IsTask, Layer, held_pages}
 use Rattle.satl_core.proofs.ArrivalLemmas.{long_enough}
 use Rattle.satl_core.specs.Submitting.{Becomes}
 use Rattle.satl_core.proofs.HeldLemmas.{held_is, on_ok}
-use Rattle.satl_core.proofs.Transfers.{transfer_needs, transfer_served}
+use Rattle.satl_core.proofs.Transfers.{task_needs, task_served}
 use Rattle.satl_core.proofs.AddingLemmas.{HasPages, becomes_added, count_with, given_pages, held_with, kept_with, last_body, tasks_with, total_with}
 use Rattle.satl_core.proofs.satl.Satl.add_task.Goals as goal
 
 pub task_without_pages-task-requires : goal.task_without_pages-task-requires
-task_without_pages-task-requires c = transfer_served c.args.self.now.identity.capacity (held_blocks c.args.command) c.args.command c.requires.transfer
+task_without_pages-task-requires c = task_served c.args.self.now.identity.capacity (held_blocks c.args.command) c.args.command c.requires.task
 
 pub own_pages-body-requires-clause-served : goal.own_pages-body-requires-clause-served
-own_pages-body-requires-clause-served c = transfer_served c.args.self.now.identity.capacity (held_blocks c.args.command) c.args.command c.requires.transfer
+own_pages-body-requires-clause-served c = task_served c.args.self.now.identity.capacity (held_blocks c.args.command) c.args.command c.requires.task
 
 pub own_pages-body-requires-clause-room : goal.own_pages-body-requires-clause-room
 own_pages-body-requires-clause-room c =
@@ -28,7 +28,7 @@ own_pages-body-requires-clause-room c =
 
 pub own_pages-body-requires-clause-written : goal.own_pages-body-requires-clause-written
 own_pages-body-requires-clause-written c =
-    let needs = transfer_needs c.self.inside.identity.capacity (held_blocks c.args.command) c.args.command (subst (λ (l : Layer). IsTransfer l.identity.capacity c.args.command (held_blocks c.args.command)) (sym c.self.view_is) c.requires.transfer) in
+    let needs = task_needs c.self.inside.identity.capacity (held_blocks c.args.command) c.args.command (subst (λ (l : Layer). IsTask l.identity.capacity c.args.command (held_blocks c.args.command)) (sym c.self.view_is) c.requires.task) in
     let room = own_pages-body-requires-clause-room c in
     let long = long_enough c.args.self.now c.args.request c.args.command c.requires.judged in
     let view = ap (λ (l : Layer). l.free) c.self.view_is in
@@ -48,13 +48,13 @@ invariant_of-self-2 c =
     let has = given_pages c.self.inside.tasks c.add.new.self c.put_data.new.self c.task_without_pages-task.result c.own_pages-body.result (c.len-place.result - 1) adds (omega (arith, count, c.len-place.ensures.value)) c.put_data.ensures in
     let held = held_with c.self.inside.tasks c.put_data.new.self c.task_without_pages-task.result c.own_pages-body.result has in
     let view = ap (λ (l : Layer). l.out) c.self.view_is in
-    let transfer = subst (λ (l : Layer). IsTransfer l.identity.capacity c.args.command (held_blocks c.args.command)) (sym c.self.view_is) c.requires.transfer in
+    let transfer = subst (λ (l : Layer). IsTask l.identity.capacity c.args.command (held_blocks c.args.command)) (sym c.self.view_is) c.requires.task in
     record {
       held = omega (arith, held, view, c.self.invariant.held, c.requires.can.pages, c.own_pages-body.ensures.size, c.own_pages-body.ensures.out);
       all = omega (arith, view, c.self.invariant.held, c.self.invariant.all, c.requires.can.pages, c.own_pages-body.ensures.free, c.own_pages-body.ensures.out);
       kept = kept_with c.self.inside.identity c.self.inside.tasks c.put_data.new.self c.task_without_pages-task.result c.own_pages-body.result c.self.invariant.kept
           (c.own_pages-body.ensures.size ∙ sym (ap (λ (e : Entry). e.blocks) task))
-          (subst (λ (e : Entry). IsTransfer c.self.inside.identity.capacity e.command e.blocks) (sym task) transfer)
+          (subst (λ (e : Entry). IsTask c.self.inside.identity.capacity e.command e.blocks) (sym task) transfer)
           (subst (λ (e : Entry). e.kind ≡ kind_of e.command c.self.inside.identity.queued_trim) (sym task) refl)
           (subst (λ (e : Entry). IsExpectable e.expected) (sym task) c.requires.can.expected) has;
       identity_is = c.self.invariant.identity_is;
@@ -71,13 +71,12 @@ returns-clause-becomes c =
     let old : Layer = record { identity = c.self.inside.identity; modes = c.self.inside.modes; started = c.self.inside.started; down = c.self.inside.down; attentions = c.self.inside.attentions; tasks = c.self.inside.tasks; free = c.self.inside.pool.free; out = c.self.inside.pool.out - held_pages c.self.inside.tasks } in
     let held = held_with c.self.inside.tasks c.put_data.new.self c.task_without_pages-task.result c.own_pages-body.result has in
     let view = ap (λ (l : Layer). l.out) c.self.view_is in
-    let transfer = subst (λ (l : Layer). IsTransfer l.identity.capacity c.args.command (held_blocks c.args.command)) (sym c.self.view_is) c.requires.transfer in
     let none : c.own_pages-body.new.pool.out - held_pages c.put_data.new.self ≡ 0 = omega (arith, held, view, c.self.invariant.held, c.requires.can.pages, c.own_pages-body.ensures.size, c.own_pages-body.ensures.out) in
     subst (λ (l : Layer). Becomes c.args.request c.args.command l c.args.replies.now layer) c.self.view_is
     (becomes_added c.args.request c.args.command old c.args.replies.now layer (subst (λ (e : Entry). is_too_much c.self.inside.tasks e ≡ false) task full)
     (record {
       none = c.requires.empty;
-      last = tasks_with c.self.inside.identity.capacity (held_blocks c.args.command) c.self.inside.tasks c.put_data.new.self c.args.request c.args.command c.self.inside.identity.queued_trim c.own_pages-body.result transfer c.own_pages-body.ensures.data (subst (λ (e : Entry). HasPages c.self.inside.tasks e c.own_pages-body.result c.put_data.new.self) task has);
+      last = tasks_with c.self.inside.tasks c.put_data.new.self c.args.request c.args.command c.self.inside.identity.queued_trim c.own_pages-body.result c.own_pages-body.ensures.data (subst (λ (e : Entry). HasPages c.self.inside.tasks e c.own_pages-body.result c.put_data.new.self) task has);
       stays = ap (λ n. record layer { out = n }) none;
     }))
 

@@ -2,7 +2,7 @@ use Rattle.std.proofs.Common.{sym, ap, subst, arith, length, ◌≡◌, ◌≤�
 use Rattle.satl_base.specs.declared.request.Request.{Request}
 use Rattle.satl_direct.specs.Tasks.{held_blocks}
 use Rattle.satl_direct.specs.Valid.{IsValid}
-use Rattle.satl_core.specs.Layer.{IsTransfer, Layer, view}
+use Rattle.satl_core.specs.Layer.{IsTask, Layer, view}
 use Rattle.satl_core.specs.Submitting.{Becomes, judged, once_judged, reply_at_once}
 use Rattle.satl_identify.proofs.Judging.{capacity_bounds}
 use Rattle.satl_line.specs.Tasks.{total_blocks}
@@ -14,8 +14,8 @@ use Rattle.satl_core.proofs.DeviceLemmas.{arrives_around}
 use Rattle.satl_core.proofs.ValidLemmas.{becomes_tied, filled_up, filled_up_cut, filled_up_holds, once_judged_valid, tied_by}
 use Rattle.satl_core.proofs.satl.Satl.submit.Goals as goal
 
-pub add_task-requires-clause-transfer : goal.add_task-requires-clause-transfer
-add_task-requires-clause-transfer g c = subst (λ (l : Layer). IsTransfer l.identity.capacity c.in-Ok.command (held_blocks c.in-Ok.command)) (sym c.in-Ok.ensures.same) c.in-Ok.ensures.transfer
+pub add_task-requires-clause-task : goal.add_task-requires-clause-task
+add_task-requires-clause-task g c = subst (λ (l : Layer). IsTask l.identity.capacity c.in-Ok.command (held_blocks c.in-Ok.command)) (sym c.in-Ok.ensures.same) c.in-Ok.ensures.task
 
 pub returns-in-Ok-clause-arrives : goal.returns-in-Ok-clause-arrives
 returns-in-Ok-clause-arrives g c =
@@ -27,7 +27,7 @@ returns-in-Ok-clause-around g c = λ w cut.
     let becomes = subst (λ (l : Layer). Becomes c.args.request c.in-Ok.command l c.add_task.new.replies c.add_task.new.self) c.in-Ok.ensures.same c.add_task.ensures.becomes in
     let judged_is : judged c.args.self.now w ≡ Ok c.in-Ok.command = subst (λ (x : Request). judged c.args.self.now x ≡ Ok c.in-Ok.command) cut.cut_is (sym c.in-Ok.ensures.judged) in
     arrives_around w _ _ _ (becomes_arrives c.args.self.now c.add_task.new.self (g.D.Drive.state c.args.drive.now) w c.in-Ok.command c.add_task.new.replies judged_is
-    (becomes_whole w c.args.request cut.count c.args.self.now.identity.capacity c.in-Ok.command c.args.self.now c.add_task.new.replies c.add_task.new.self cut.cut_is c.in-Ok.ensures.transfer c.add_task.ensures.long becomes))
+    (becomes_whole w c.args.request cut.count c.args.self.now.identity.capacity c.in-Ok.command c.args.self.now c.add_task.new.replies c.add_task.new.self cut.cut_is c.in-Ok.ensures.task c.add_task.ensures.long becomes))
 
 pub answer_at_once-requires-clause-capacity : goal.answer_at_once-requires-clause-capacity
 answer_at_once-requires-clause-capacity g c = (capacity_bounds c.self.inside.identity c.self.invariant.identity_is).0
@@ -75,7 +75,7 @@ returns-in-Ok-clause-tied g c =
     let becomes = subst (λ (l : Layer). Becomes c.args.request c.in-Ok.command l c.add_task.new.replies c.add_task.new.self) c.in-Ok.ensures.same c.add_task.ensures.becomes in
     let r = c.args.request in
     becomes_tied c.args.self.now c.add_task.new.self (g.D.Drive.state c.args.drive.now) (filled_up r) c.in-Ok.command c.add_task.new.replies (sym c.in-Ok.ensures.judged)
-    (becomes_whole (filled_up r) r (length r.body) c.args.self.now.identity.capacity c.in-Ok.command c.args.self.now c.add_task.new.replies c.add_task.new.self (filled_up_cut r) c.in-Ok.ensures.transfer c.add_task.ensures.long becomes)
+    (becomes_whole (filled_up r) r (length r.body) c.args.self.now.identity.capacity c.in-Ok.command c.args.self.now c.add_task.new.replies c.add_task.new.self (filled_up_cut r) c.in-Ok.ensures.task c.add_task.ensures.long becomes)
     (filled_up_holds r) c.requires.tied
 
 pub returns-in-Err-clause-tied : goal.returns-in-Err-clause-tied

@@ -48,9 +48,9 @@ returns-in-Ok-clause-turns g c =
     let first = first_of c.self.inside.tasks c.remove-task.new.self c.remove-task.result c.remove-task.ensures.value c.remove-task.ensures.others in
     let old = g.D.Drive.state c.args.drive.now in
     let new = g.D.Drive.state c.run_task.new.drive in
-    subst (λ (l : Layer). Around Turn (view l old) c.push.new.self (seen c.self.inside.identity c.self.inside.modes c.self.inside.started c.self.inside.attentions (map task_of (entries_of c.remove-task.new.self)) new)) c.self.view_is
+    subst (λ (l : Layer). Around Turn (view l old) c.push.new.self (seen c.self.inside.identity c.self.inside.modes c.started_after-self-inside.result c.self.inside.attentions (map task_of (entries_of c.remove-task.new.self)) new)) c.self.view_is
     (turn_ends c.self.inside.identity c.self.inside.modes c.self.inside.started c.self.inside.down c.self.inside.attentions c.self.inside.tasks c.remove-task.new.self c.self.inside.pool.free (c.self.inside.pool.out - held_pages c.self.inside.tasks) c.remove-task.result old new c.self.invariant.kept first
-    (subst (λ (l : Layer). Tied l old) (sym c.self.view_is) c.requires.tied) c.in-Ok.ending c.run_task.new.body c.args.replies.now c.push.new.self c.end_task.result c.in-Ok.ensures.ends c.requires.empty c.push.ensures c.end_task.ensures.reply)
+    (subst (λ (l : Layer). Tied l old) (sym c.self.view_is) c.requires.tied) c.in-Ok.ending c.run_task.new.body c.args.replies.now c.push.new.self c.end_task.result c.started_after-self-inside.result c.in-Ok.ensures.ends c.requires.empty c.push.ensures c.end_task.ensures.reply c.started_after-self-inside.ensures)
 
 pub returns-in-Ok-clause-pages : goal.returns-in-Ok-clause-pages
 returns-in-Ok-clause-pages g c =
@@ -136,7 +136,7 @@ returns-in-Ok-clause-tied g c =
     let old = g.D.Drive.state c.args.drive.now in
     let new = g.D.Drive.state c.run_task.new.drive in
     let tied = subst (λ (l : Layer). Tied l old) (sym c.self.view_is) c.requires.tied in
-    still_tied_rest c.self.inside.identity c.self.inside.modes c.self.inside.started c.self.inside.down c.self.inside.attentions c.self.inside.tasks c.remove-task.new.self c.remove-task.result _ _ _ _ old new first c.in-Ok.ensures.up c.in-Ok.ensures.cache c.in-Ok.ensures.look c.run_task.ensures.stays c.run_task.ensures.fit tied
+    still_tied_rest c.self.inside.identity c.self.inside.modes c.self.inside.started c.started_after-self-inside.result c.self.inside.down c.self.inside.attentions c.self.inside.tasks c.remove-task.new.self c.remove-task.result _ _ _ _ old new first c.in-Ok.ensures.up c.in-Ok.ensures.cache c.in-Ok.ensures.look c.run_task.ensures.stays c.run_task.ensures.fit tied
 
 pub returns-in-Err-clause-tied : goal.returns-in-Err-clause-tied
 returns-in-Err-clause-tied g c =
@@ -150,7 +150,7 @@ returns-in-Ok-clause-counted g c =
     let old = g.D.Drive.state c.args.drive.now in
     let new = g.D.Drive.state c.run_task.new.drive in
     let mark = (subst (λ (l : Layer). Tied l old) (sym c.self.view_is) c.requires.tied).mark in
-    counted_same (view c.args.self.now old) (seen c.self.inside.identity c.self.inside.modes c.self.inside.started c.self.inside.attentions (map task_of (entries_of c.remove-task.new.self)) new) old.faults new.faults (c.in-Ok.ensures.up ∙ mark) c.in-Ok.ensures.faults
+    counted_same (view c.args.self.now old) (seen c.self.inside.identity c.self.inside.modes c.started_after-self-inside.result c.self.inside.attentions (map task_of (entries_of c.remove-task.new.self)) new) old.faults new.faults (c.in-Ok.ensures.up ∙ mark) c.in-Ok.ensures.faults
 
 pub returns-in-Err-clause-counted : goal.returns-in-Err-clause-counted
 returns-in-Err-clause-counted g c =
