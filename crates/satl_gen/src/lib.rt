@@ -6,5 +6,7 @@ mod draw;
 pub mod laws;
 mod pieces;
 mod source;
+#[cfg(test)]
+mod tests;
 
 pub use source::GenSource;
