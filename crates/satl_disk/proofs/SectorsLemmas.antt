@@ -121,21 +121,6 @@ blocks_step mask cached i lba count v left vs ss new goal h front is was =
     ∙ sym (ap (λ l. blocks_put mask cached i (lba + i) (take (count - i) l) ss) front)
     ∙ was
 
--- and none more
-pub blocks_stop : (mask : Option ℕ) (cached : Bool) (i lba count : ℕ) (vs : List Block) (ss goal : List Sector) → count ≤ i →
-    blocks_put mask cached i (lba + i) (take (count - i) vs) ss ≡ goal → ss ≡ goal
-blocks_stop mask cached i lba count vs ss goal h was =
-    let left : count - i ≡ zero = omega arith in
-    sym (ap (λ n. blocks_put mask cached i (lba + i) (take n vs) ss) left) ∙ was
-
-pub blocks_end : (mask : Option ℕ) (cached : Bool) (i lba n : ℕ) (vs : List Block) (ss goal : List Sector) → vs ≡ [] →
-    blocks_put mask cached i (lba + i) (take n vs) ss ≡ goal → ss ≡ goal
-blocks_end mask cached i lba n vs ss goal none was = sym (ap (λ l. blocks_put mask cached i (lba + i) (take n l) ss) none ∙ empty n) ∙ was
-  where
-    empty : (n : ℕ) → blocks_put mask cached i (lba + i) (take n []) ss ≡ ss
-    empty zero = refl
-    empty (suc n) = refl
-
 pub flag_at : (ss : List Sector) (which : Which) (lba : ℕ) (s : Sector) → lba < length ss → s ≡ slice_index_or ss lba s → has_flaw which (cell_of s) ≡ slice_index_or (map (has_flaw which) (cells_of ss)) lba false
 flag_at [] which lba s h e = absurd (omega arith)
 flag_at (x ∷ ss) which zero s h e = ap (λ y. has_flaw which (cell_of y)) e

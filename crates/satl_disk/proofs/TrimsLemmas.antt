@@ -1,9 +1,9 @@
 -- Steps of the loops over the payload of a trim.
-use Rattle.std.proofs.Common.{◌≡◌, refl, sym, ◌∙◌, ap, inl, inr, ℕ, ◌+◌, ◌<◌, ◌≤◌, zero, suc, Bool, true, false, List, [], ◌∷◌, ◌++◌, arith, append_assoc, length, take}
+use Rattle.std.proofs.Common.{◌≡◌, refl, sym, ◌∙◌, ap, inl, inr, ℕ, ◌+◌, ◌<◌, ◌≤◌, suc, Bool, true, false, List, [], ◌∷◌, ◌++◌, arith, append_assoc, length, take}
 use Rattle.std.specs.Prelude.{◌-◌, ◌||◌, drop, min, slice_index_or}
 use Rattle.std.specs.List.{list_any}
 use Rattle.std.proofs.lemmas.Bool.{cases_lt}
-use Rattle.std.proofs.lemmas.List.{drop_more, drop_all}
+use Rattle.std.proofs.lemmas.List.{drop_more}
 use Rattle.std.proofs.lemmas.List.Concat.{flat_map-cons}
 use Rattle.std.proofs.lemmas.List.Folds.{list_any-append}
 use Rattle.satl_base.specs.declared.block.Block.{Block}
@@ -35,16 +35,6 @@ payload_more count i v left vs h front =
     ∙ ap (payload_ranges (suc (count - (i + 1)))) front
     ∙ flat_map-cons (λ (b : Block). trimmed b.bytes) v (take (count - (i + 1)) vs)
 
-payload_none : (count i : ℕ) (vs : List Block) → count ≤ i → payload_ranges (count - i) vs ≡ []
-payload_none count i vs h = let left : count - i ≡ zero = omega arith in ap (λ n. payload_ranges n vs) left
-
-payload_over : (n : ℕ) (vs : List Block) → vs ≡ [] → payload_ranges n vs ≡ []
-payload_over n vs none = ap (payload_ranges n) none ∙ empty n
-  where
-    empty : (n : ℕ) → payload_ranges n [] ≡ []
-    empty zero = refl
-    empty (suc n) = refl
-
 module _ (p : Range → Bool) (count i : ℕ) (v : Block) (left vs : List Block) (goal : Bool) (more : i < count) (front : left ≡ v ∷ vs) (was : list_any p (payload_ranges (count - i) left) ≡ goal) where
   either : (list_any p (trimmed v.bytes) || list_any p (payload_ranges (count - (i + 1)) vs)) ≡ goal
   either = sym (list_any-append p (trimmed v.bytes) (payload_ranges (count - (i + 1)) vs)) ∙ sym (ap (list_any p) (payload_more count i v left vs more front)) ∙ was
@@ -54,12 +44,6 @@ module _ (p : Range → Bool) (count i : ℕ) (v : Block) (left vs : List Block)
 
   pub ranges_miss : list_any p (trimmed v.bytes) ≡ false → list_any p (payload_ranges (count - (i + 1)) vs) ≡ goal
   ranges_miss miss = sym (ap (λ b. b || list_any p (payload_ranges (count - (i + 1)) vs)) miss) ∙ either
-
-pub ranges_stop : (p : Range → Bool) (count i : ℕ) (vs : List Block) (goal : Bool) → count ≤ i → list_any p (payload_ranges (count - i) vs) ≡ goal → false ≡ goal
-ranges_stop p count i vs goal h was = sym (ap (list_any p) (payload_none count i vs h)) ∙ was
-
-pub ranges_end : (p : Range → Bool) (n : ℕ) (vs : List Block) (goal : Bool) → vs ≡ [] → list_any p (payload_ranges n vs) ≡ goal → false ≡ goal
-ranges_end p n vs goal h was = sym (ap (list_any p) (payload_over n vs h)) ∙ was
 
 -- one range of a block more
 pub range_step : (cached : Bool) (rs : List Range) (i : ℕ) (d : Range) (ss new goal : List Sector) → i < length rs → new ≡ zeros_put cached (addresses_from (slice_index_or rs i d).lba (slice_index_or rs i d).count) ss →
@@ -71,9 +55,6 @@ range_step cached rs i d ss new goal h is was =
     ∙ sym (ap (λ l. zeros_put cached (addresses l) ss) (drop_more rs i d h))
     ∙ was
 
-pub range_end : (cached : Bool) (rs : List Range) (i : ℕ) (ss goal : List Sector) → length rs ≤ i → zeros_put cached (addresses (drop i rs)) ss ≡ goal → ss ≡ goal
-range_end cached rs i ss goal h was = sym (ap (λ l. zeros_put cached (addresses l) ss) (drop_all i rs h)) ∙ was
-
 -- one block of a payload more
 pub payload_step : (cached : Bool) (count i : ℕ) (v : Block) (left vs : List Block) (ss new goal : List Sector) → i < count → left ≡ v ∷ vs → new ≡ zeros_put cached (addresses (trimmed v.bytes)) ss →
     zeros_put cached (addresses (payload_ranges (count - i) left)) ss ≡ goal → zeros_put cached (addresses (payload_ranges (count - (i + 1)) vs)) new ≡ goal
@@ -84,9 +65,3 @@ payload_step cached count i v left vs ss new goal h front is was =
     ∙ sym (ap (λ l. zeros_put cached l ss) (addresses-append (trimmed v.bytes) rest))
     ∙ sym (ap (λ l. zeros_put cached (addresses l) ss) (payload_more count i v left vs h front))
     ∙ was
-
-pub payload_stop : (cached : Bool) (count i : ℕ) (vs : List Block) (ss goal : List Sector) → count ≤ i → zeros_put cached (addresses (payload_ranges (count - i) vs)) ss ≡ goal → ss ≡ goal
-payload_stop cached count i vs ss goal h was = sym (ap (λ l. zeros_put cached (addresses l) ss) (payload_none count i vs h)) ∙ was
-
-pub payload_end : (cached : Bool) (n : ℕ) (vs : List Block) (ss goal : List Sector) → vs ≡ [] → zeros_put cached (addresses (payload_ranges n vs)) ss ≡ goal → ss ≡ goal
-payload_end cached n vs ss goal h was = sym (ap (λ l. zeros_put cached (addresses l) ss) (payload_over n vs h)) ∙ was

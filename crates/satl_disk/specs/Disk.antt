@@ -11,7 +11,7 @@ use Rattle.satl_disk.specs.Sectors.{cells_of}
 use Rattle.satl_disk.specs.Data.{identify_data}
 
 -- the drive: its sectors, the ring of order bytes, its settings, whether it is active, the CRC errors that are left, its IDENTIFY
--- DEVICE data, whether its link is lost, its counts of faults and of unplugs, and how many calls it answers before its link is lost
+-- DEVICE data, whether its link is lost, its counts of faults and of unplugs, and how many calls it answers before its link is lost (profile)
 pub record Disk : Type 0 where
   pub sectors : List Sector
   pub ring : Buffer ℕ
@@ -25,7 +25,7 @@ pub record Disk : Type 0 where
   pub unplugs : ℕ
   pub fuse : Option ℕ
 
--- what the rules see of it
+-- what the rules see of it (profile)
 abbrev pub state_of : Disk → DriveState
 state_of d = record {
   capacity = length d.sectors;
@@ -43,7 +43,7 @@ state_of d = record {
   unplugs = d.unplugs;
 }
 
--- what commands read and change of it
+-- what commands read and change of it (profile)
 abbrev pub medium : Disk → Medium
 medium d = medium_of (state_of d)
 
@@ -55,10 +55,11 @@ pub record IsTold (cache_on look_on : Bool) (identify : List ℕ) : Type 0 where
   pub cache_told : cache_is_on identify ≡ cache_on
   pub look_told : look_is_on identify ≡ look_on
 
--- a new drive: zeros, cache and look-ahead on, its link up
+-- a sector of a new drive (profile)
 abbrev pub blank_sector : Sector
 blank_sector = record { now = zero_block; stable = zero_block; dirty = false; read_flaw = false; write_flaw = false }
 
+-- a new drive: zeros, cache and look-ahead on, its link up (profile)
 abbrev pub fresh : ℕ → Disk
 fresh n = record {
   sectors = replicate n blank_sector;
@@ -74,36 +75,36 @@ fresh n = record {
   fuse = None;
 }
 
--- whether a range goes past the last sector
+-- whether a range goes past the last sector (ACS-3, IDNF)
 abbrev pub is_outside : Disk → ℕ → ℕ → Bool
 is_outside d lba count = nat_lt (length (cells_of d.sectors)) (lba + count)
 
--- whether no call is left before the link is lost
+-- whether no call is left before the link is lost (profile)
 abbrev pub is_spent : Option ℕ → Bool
 is_spent None = false
 is_spent (Some calls) = calls == 0
 
--- whether a call finds the link lost
+-- whether a call finds the link lost (profile)
 abbrev pub is_lost : Disk → Bool
 is_lost d = d.down || is_spent d.fuse
 
--- one call less before the link is lost
+-- one call less before the link is lost (profile)
 abbrev pub one_less : Option ℕ → Option ℕ
 one_less None = None
 one_less (Some calls) = Some (calls - 1)
 
--- a call found the link up
+-- a call found the link up (profile)
 abbrev pub called : Disk → Disk
 called d = record d { fuse = one_less d.fuse }
 
--- a count after one more; it stands still at its last value
+-- a count after one more; it stands still at its last value (profile)
 abbrev pub one_more : ℕ → ℕ
 one_more n = min (n + 1) (2 ^ 64 - 1)
 
--- a call found the link lost: the count of faults rises, and nothing else happens
+-- a call found the link lost: the count of faults rises, and nothing else happens (profile)
 abbrev pub cut_off : Disk → Disk
 cut_off d = record d { down = true; faults = one_more d.faults }
 
--- the link is lost after so many further calls
+-- the link is lost after so many further calls (profile)
 abbrev pub losing_after : ℕ → Disk → Disk
 losing_after calls d = record d { fuse = Some calls }

@@ -18,20 +18,21 @@ cells_of sectors = map cell_of sectors
 abbrev pub written : Sector → Block → Bool → Sector
 written s v cached = record { now = v; stable = (if cached then (if s.dirty then s.stable else s.now) else v); dirty = cached; read_flaw = false; write_flaw = s.write_flaw }
 
--- the sectors with a change at one address; past the last sector nothing changes
+-- the sectors with a change at one address; past the last sector nothing changes (profile)
 abbrev pub changed_at : (Sector → Sector) → List Sector → ℕ → List Sector
 changed_at f [] lba = []
 changed_at f (s ∷ ss) zero = f s ∷ ss
 changed_at f (s ∷ ss) (suc lba) = s ∷ changed_at f ss lba
 
+-- the sectors after one was written (SBC-3, WRITE commands)
 abbrev pub write_at : List Sector → ℕ → Block → Bool → List Sector
 write_at ss lba v cached = changed_at (λ s. written s v cached) ss lba
 
--- a sector that was written back
+-- a sector that was written back (ACS-3, FLUSH CACHE)
 abbrev pub settled : Sector → Sector
 settled s = record s { dirty = false }
 
--- zeros written at each address, in order
+-- zeros written at each address, in order (ACS-3, DATA SET MANAGEMENT)
 abbrev pub zeros_put : Bool → List ℕ → List Sector → List Sector
 zeros_put cached [] ss = ss
 zeros_put cached (lba ∷ lbas) ss = zeros_put cached lbas (write_at ss lba zero_block cached)
@@ -62,27 +63,29 @@ abbrev pub byte_of : List ℕ → ℕ
 byte_of [] = 0
 byte_of (b ∷ bs) = b
 
--- a sector with a flaw of a kind, or with none
+-- a sector with a flaw of a kind (profile)
 abbrev pub struck_sector : Which → Sector → Sector
 struck_sector Read s = record s { read_flaw = true }
 struck_sector Write s = record s { write_flaw = true }
 
+-- a sector without flaws (profile)
 abbrev pub mended_sector : Sector → Sector
 mended_sector s = record s { read_flaw = false; write_flaw = false }
 
--- a sector after a loss of power: where it is dirty, an even byte keeps the stable block, and an odd one the last
+-- a sector after a loss of power: where it is dirty, an even byte keeps the stable block, and an odd one the last (SBC-3 4.15; profile)
 abbrev pub left_by : ℕ → Sector → Sector
 left_by byte s = if s.dirty then record s { now = (if byte % 2 == 0 then s.stable else s.now); dirty = false } else s
 
--- the bytes that a sector leaves: it takes one where it is dirty
+-- the bytes that a sector leaves: it takes one where it is dirty (profile)
 abbrev pub rest_by : Sector → List ℕ → List ℕ
 rest_by s bytes = if s.dirty then drop 1 bytes else bytes
 
--- all sectors after a loss of power, and the bytes that they leave
+-- all sectors after a loss of power, each with the byte in front (profile)
 abbrev pub all_left : List Sector → List ℕ → List Sector
 all_left [] bytes = []
 all_left (s ∷ ss) bytes = left_by (byte_of bytes) s ∷ all_left ss (rest_by s bytes)
 
+-- the bytes that all sectors leave (profile)
 abbrev pub bytes_left : List Sector → List ℕ → List ℕ
 bytes_left [] bytes = bytes
 bytes_left (s ∷ ss) bytes = bytes_left ss (rest_by s bytes)

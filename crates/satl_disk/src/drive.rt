@@ -1,5 +1,6 @@
 // The modelled drive and its calls.
-ghost use Rattle.std.specs.Prelude.{◌≡◌, ◌≤◌, ◌+◌, ◌<◌, true, false, if◌then◌else◌, Some, None, IfOk, OnErr, length, take};
+ghost use Rattle.std.specs.Prelude.{◌≡◌, ◌≤◌, ◌+◌, ◌<◌, true, false, if◌then◌else◌, Some, None, IfOk, List, length, take};
+ghost use Rattle.satl_base.specs.declared.block.Block.{Block};
 ghost use Rattle.satl_base.specs.Identify.{has_cache, has_look};
 ghost use Rattle.satl_drive.specs.State.{IsFit};
 ghost use Rattle.satl_regs.specs.Commands.{command_in};
@@ -30,6 +31,15 @@ use std::sync::ledger::Ledger;
 /// How many order bytes may wait.
 const ORDER_BYTES: usize = 4096;
 
+// Subcommands of SET FEATURES (ACS-3, SET FEATURES).
+const ENABLE_CACHE: u8 = 0x02;
+
+const DISABLE_CACHE: u8 = 0x82;
+
+const ENABLE_LOOK: u8 = 0xAA;
+
+const DISABLE_LOOK: u8 = 0x55;
+
 /// LBA of SMART RETURN STATUS where no threshold is exceeded: the signature C24Fh in LBA(23:8) (ACS-3, SMART).
 const SMART_STATUS: u64 = 0x00C2_4F00;
 
@@ -46,6 +56,7 @@ pub struct ModelDrive {
     down: bool,
     faults: u64,
     unplugs: u64,
+    /// How many calls are answered before the link is lost, if it is going to be.
     fuse: Option<u32>,
 }
 
@@ -265,15 +276,8 @@ impl ModelDrive {
         good_end(regs, 0, 0)
     }
 
-    fn verify(
-        &mut self,
-        regs: &Registers,
-        ext: bool,
-        lba: u64,
-        count: u32,
-        pages: &Pages,
-    ) -> Taskfile
-        ensures { (record { ended = result; taken = pages.now; disk = self.new }) ≡ verify_ran ext lba count self.old regs.now pages.now }
+    fn verify(&mut self, regs: &Registers, ext: bool, lba: u64, count: u32) -> Taskfile
+        ensures { (given : List Block) → (record { ended = result; taken = given; disk = self.new }) ≡ verify_ran ext lba count self.old regs.now given }
     {
         if self.is_outside(lba, count) {
             return bad_end(regs, IDNF, regs.lba);
@@ -316,8 +320,8 @@ impl ModelDrive {
         has_look(&self.identify.bytes)
     }
 
-    fn set_cache(&mut self, regs: &Registers, on: bool, pages: &Pages) -> Taskfile
-        ensures { (record { ended = result; taken = pages.now; disk = self.new }) ≡ set_ran (settable self.old.identify (Some (sets_cache on))) self.old regs.now pages.now }
+    fn set_cache(&mut self, regs: &Registers, on: bool) -> Taskfile
+        ensures { (given : List Block) → (record { ended = result; taken = given; disk = self.new }) ≡ set_ran (settable self.old.identify (Some (sets_cache on))) self.old regs.now given }
     {
         if !self.has_cache() {
             return bad_end(regs, ABRT, 0);
@@ -329,8 +333,8 @@ impl ModelDrive {
         good_end(regs, 0, 0)
     }
 
-    fn set_look(&mut self, regs: &Registers, on: bool, pages: &Pages) -> Taskfile
-        ensures { (record { ended = result; taken = pages.now; disk = self.new }) ≡ set_ran (settable self.old.identify (Some (sets_look on))) self.old regs.now pages.now }
+    fn set_look(&mut self, regs: &Registers, on: bool) -> Taskfile
+        ensures { (given : List Block) → (record { ended = result; taken = given; disk = self.new }) ≡ set_ran (settable self.old.identify (Some (sets_look on))) self.old regs.now given }
     {
         if !self.has_look() {
             return bad_end(regs, ABRT, 0);
@@ -340,14 +344,14 @@ impl ModelDrive {
     }
 
     /// SET FEATURES.
-    fn set_features(&mut self, regs: &Registers, what: u8, pages: &Pages) -> Taskfile
-        ensures { (record { ended = result; taken = pages.now; disk = self.new }) ≡ set_ran (settable self.old.identify (setting_of what)) self.old regs.now pages.now }
+    fn set_features(&mut self, regs: &Registers, what: u8) -> Taskfile
+        ensures { (given : List Block) → (record { ended = result; taken = given; disk = self.new }) ≡ set_ran (settable self.old.identify (setting_of what)) self.old regs.now given }
     {
         match what {
-            0x02 => self.set_cache(regs, true, pages),
-            0x82 => self.set_cache(regs, false, pages),
-            0xAA => self.set_look(regs, true, pages),
-            0x55 => self.set_look(regs, false, pages),
+            ENABLE_CACHE => self.set_cache(regs, true),
+            DISABLE_CACHE => self.set_cache(regs, false),
+            ENABLE_LOOK => self.set_look(regs, true),
+            DISABLE_LOOK => self.set_look(regs, false),
             _ => bad_end(regs, ABRT, 0),
         }
     }
@@ -405,13 +409,13 @@ impl ModelDrive {
         match command_of(regs) {
             AtaCommand::Read { how, lba, sectors } => self.read(regs, how, lba, sectors, pages),
             AtaCommand::Write { how, lba, sectors } => self.write(regs, how, lba, sectors, pages),
-            AtaCommand::Verify { ext, lba, sectors } => self.verify(regs, ext, lba, sectors, pages),
+            AtaCommand::Verify { ext, lba, sectors } => self.verify(regs, ext, lba, sectors),
             AtaCommand::Flush { .. } => {
                 self.flush();
                 good_end(regs, 0, 0)
             }
             AtaCommand::Identify => self.identify(regs, pages),
-            AtaCommand::SetFeatures { what } => self.set_features(regs, what, pages),
+            AtaCommand::SetFeatures { what } => self.set_features(regs, what),
             AtaCommand::Standby => self.set_active(regs, false),
             AtaCommand::Idle => self.set_active(regs, true),
             AtaCommand::CheckPower => good_end(regs, self.power_count(), 0),

@@ -1,11 +1,11 @@
-// Commands at the smallest drive and at the largest, and what a drive of 8,192 sectors tells of itself.
+// Commands at the smallest drive and at the largest, what a drive of 8,192 sectors tells of itself, and what a test bench does.
 ghost use Rattle.std.specs.Prelude.{◌≡◌, ◌≤◌, ◌<◌, length};
 ghost use Rattle.satl_drive.specs.Rules.{CanRun};
 ghost use Rattle.satl_disk.specs.Disk.{state_of};
 
 use crate::ModelDrive;
 use satl_base::{Block, Pages, Steps};
-use satl_drive::{Drive, LinkDown, Registers, Taskfile};
+use satl_drive::{Bench, Drive, LinkDown, Registers, Taskfile};
 use std::alloc::Global;
 use std::marker::Brand;
 use std::process::Abort;
@@ -161,6 +161,10 @@ fn word_at(bytes: &[u8; 512], place: u8) -> u16 {
     u16::from_le_bytes([bytes[low], bytes[low + 1]])
 }
 
+fn sum_of(bytes: &[u8; 512]) -> u8 {
+    bytes.iter().fold(0u8, |sum, byte| sum.wrapping_add(*byte))
+}
+
 /// The texts stand with the two characters of each word the other way round, and all bytes add up to 0.
 fn expect_texts(rt: &impl Abort, bytes: &[u8; 512]) {
     assert_eq!(rt; &bytes[20..40], b"ASLT0000000000000010".as_slice());
@@ -170,10 +174,7 @@ fn expect_texts(rt: &impl Abort, bytes: &[u8; 512]) {
         b"OMED LCN QIDKS                          ".as_slice()
     );
     assert_eq!(rt; bytes[510], 0xA5);
-    assert_eq!(rt;
-        bytes.iter().fold(0u8, |sum, byte| sum.wrapping_add(*byte)),
-        0
-    );
+    assert_eq!(rt; sum_of(bytes), 0);
 }
 
 #[test]
@@ -187,5 +188,65 @@ fn identify_data_of_8192_sectors(rt: HostRuntime) -> Result<(), Fail> {
         assert_eq!(rt; word_at(&bytes, place), word, "in word {place}");
     }
     expect_texts(&rt, &bytes);
+    Ok(())
+}
+
+#[test]
+fn a_lost_link(rt: HostRuntime) -> Result<(), Fail> {
+    let mut drive = ModelDrive::new(rt.alloc(), 8)?;
+    let mut pages = Pages::zeroed(rt.alloc(), 1)?;
+    assert_eq!(rt; pages.blocks(), 1);
+    drive.lose_link_after(1);
+    assert_eq!(rt; identify(&mut drive, &mut pages), Ok(GOOD));
+    assert_eq!(rt; identify(&mut drive, &mut pages), Err(LinkDown));
+    drive.power();
+    assert_eq!(rt; identify(&mut drive, &mut pages), Ok(GOOD));
+    drive.unplug();
+    assert_eq!(rt; identify(&mut drive, &mut pages), Err(LinkDown));
+    Ok(())
+}
+
+/// The order bytes 2 and 1: the first dirty sector is left with its stable block, the second with its last.
+#[test]
+fn a_loss_of_power(rt: HostRuntime) -> Result<(), Fail> {
+    let mut drive = ModelDrive::new(rt.alloc(), 2)?;
+    let mut pages = Pages::zeroed(rt.alloc(), 1)?;
+    assert_eq!(rt; pages.blocks(), 1);
+    let block = Block { bytes: [0x5A; 512] };
+    pages.set_block(0, &block);
+    assert_eq!(rt; write(&mut drive, 0, &mut pages)?, GOOD);
+    assert_eq!(rt; write(&mut drive, 1, &mut pages)?, GOOD);
+    drive.order(&[2, 1]);
+    drive.power();
+    assert_eq!(rt; read(&mut drive, 0, &mut pages)?, GOOD);
+    assert_eq!(rt; *pages.block(0), Block::zero());
+    assert_eq!(rt; read(&mut drive, 1, &mut pages)?, GOOD);
+    assert_eq!(rt; *pages.block(0), block);
+    Ok(())
+}
+
+/// What IDENTIFY DEVICE tells.
+fn told(rt: &impl Abort, alloc: Global, drive: &mut ModelDrive) -> Result<[u8; 512], Fail> {
+    let mut pages = Pages::zeroed(alloc, 1)?;
+    assert_eq!(rt; pages.blocks(), 1);
+    assert_eq!(rt; identify(drive, &mut pages)?, GOOD);
+    Ok(pages.block(0).bytes)
+}
+
+/// Word 217 is changed; word 85 tells the settings in bits 5 and 6; without word 82 there are none.
+#[test]
+fn changed_words_of_the_identify_data(rt: HostRuntime) -> Result<(), Fail> {
+    let mut drive = ModelDrive::new(rt.alloc(), 8)?;
+    for (place, value, word, settings) in [
+        (217u8, 0x1C20u16, 0x1C20u16, 0x0061u16),
+        (85, 0x0001, 0x0061, 0x0061),
+        (82, 0x0001, 0x0001, 0x0001),
+    ] {
+        drive.set_identify_word(place, value);
+        let bytes = told(&rt, rt.alloc(), &mut drive)?;
+        assert_eq!(rt; word_at(&bytes, place), word, "in word {place}");
+        assert_eq!(rt; word_at(&bytes, 85), settings);
+        assert_eq!(rt; sum_of(&bytes), 0);
+    }
     Ok(())
 }
