@@ -6,7 +6,8 @@ use Rattle.satl_base.specs.Identify.{has_cache, has_look}
 use Rattle.satl_identify.specs.Data.{with_settings}
 use Rattle.satl_disk.specs.Data.{at, integrity_kept, set_word}
 use Rattle.satl_disk.specs.Sectors.{all_left, bytes_left, changed_at, mended_sector, struck_sector}
-use Rattle.satl_disk.specs.Disk.{Disk, cut_off, one_more}
+use Rattle.satl_io.specs.Causes.{next_count}
+use Rattle.satl_disk.specs.Disk.{Disk, cut_off}
 use Rattle.satl_disk.specs.Running.{telling}
 
 -- a flaw is set; past the last sector nothing changes (profile)
@@ -37,7 +38,7 @@ powered d = record (telling (has_cache d.identify) (has_look d.identify) d) {
 
 -- the link is lost, and the number of unplugs rises (profile)
 abbrev pub unplugged : Disk → Disk
-unplugged d = record (cut_off d) { unplugs = one_more d.unplugs }
+unplugged d = record (cut_off d) { unplugs = next_count d.unplugs }
 
 -- the drive with other IDENTIFY DEVICE data, in which a word was changed, and with these settings (ACS-3 7.12.7; profile)
 abbrev pub reworded : ℕ → Bool → Bool → List ℕ → Disk → Disk

@@ -5,6 +5,7 @@ use Rattle.circular_buffer.specs.Buffer.{Buffer, buffer}
 use Rattle.satl_base.specs.Blocks.{zero_block}
 use Rattle.satl_base.specs.Identify.{has_cache, has_look, cache_is_on, look_is_on}
 use Rattle.satl_regs.specs.Effects.{Medium}
+use Rattle.satl_io.specs.Causes.{next_count}
 use Rattle.satl_drive.specs.State.{DriveState, medium_of}
 use Rattle.satl_disk.specs.declared.sectors.Sector.{Sector}
 use Rattle.satl_disk.specs.Sectors.{cells_of}
@@ -97,13 +98,9 @@ one_less (Some calls) = Some (calls - 1)
 abbrev pub called : Disk → Disk
 called d = record d { fuse = one_less d.fuse }
 
--- a count after one more; it stands still at its last value (profile)
-abbrev pub one_more : ℕ → ℕ
-one_more n = min (n + 1) (2 ^ 64 - 1)
-
 -- a call found the link lost: the count of faults rises, and nothing else happens (profile)
 abbrev pub cut_off : Disk → Disk
-cut_off d = record d { down = true; faults = one_more d.faults }
+cut_off d = record d { down = true; faults = next_count d.faults }
 
 -- the link is lost after so many further calls (profile)
 abbrev pub losing_after : ℕ → Disk → Disk
