@@ -1,4 +1,5 @@
-//! `satl replay`: framed commands on standard input, framed answers on standard output, over a modelled drive.
+//! `satl replay` and `satl show`: framed commands on standard input, framed answers or lines of text on standard output, over a
+//! modelled drive.
 #![tactic(auto)]
 
 ghost use Rattle.std.specs.Prelude.{◌≡◌, ◌<◌, [], None, OnOk};
@@ -83,7 +84,7 @@ fn main(rt: HostRuntime) -> ExitCode {
         Err(NoMemory) => Status::NoMemory,
     };
     if status == Status::Usage {
-        let _ = eprintln!(rt; "usage: satl replay");
+        let _ = eprintln!(rt; "usage: satl replay | show");
     }
     ExitCode::from(status.code())
 }

@@ -1,12 +1,13 @@
 // The top call.
-ghost use Rattle.std.specs.Prelude.{◌≡◌, ◌⊎◌, ◌↔◌, ℕ, List, [], None, false, true};
+ghost use Rattle.std.specs.Prelude.{◌≡◌, ◌⊎◌, ◌↔◌, ℕ, List, [], None, Some};
 ghost use Rattle.satl_identify.specs.declared.identity.IdentityFault.{IdentityFault};
 ghost use Rattle.satl_frame.specs.declared.frames.Frame.{Frame};
 ghost use Rattle.satl_drive.specs.State.{IsFit};
 ghost use Rattle.satl_serve.specs.Completeness.{GoesWell, IsGoodInput};
 ghost use Rattle.satl_serve.specs.Runs.{input_limit};
 ghost use Rattle.satl_serve.specs.Serving.{IsRefused};
-ghost use Rattle.satl_top.specs.Top.{Completes, HasCause, Outcome, is_replay};
+ghost use Rattle.satl_top.specs.Top.{Completes, HasCause, Outcome, form_of};
+ghost use Rattle.satl_serve.specs.declared.telling.Form.{Form};
 
 use crate::status::Status;
 use satl_base::Steps;
@@ -17,19 +18,25 @@ use std::alloc::Global;
 use std::rc::RcStr;
 use std::sync::ledger::Ledger;
 
-/// Whether the words ask for a replay.
-fn is_replay(words: &[RcStr]) -> bool
-    ensures { result ≡ is_replay words.now }
+/// The form of output that the words ask for. None where they ask for none.
+fn form_of(words: &[RcStr]) -> Option<Form>
+    ensures { result ≡ form_of words.now }
 {
     if words.len() != 2 {
-        return false;
+        return None;
     }
     let second: &str = &words[1];
-    second == "replay"
+    if second == "replay" {
+        return Some(Form::Frames);
+    }
+    if second == "show" {
+        return Some(Form::Text);
+    }
+    None
 }
 
-/// Does all that the program does: where the words are two and the second is `replay`, it serves the frames of the source on
-/// the drive and writes the answers to the sink. The drive has nothing outstanding and is in no error state, and its IDENTIFY
+/// Does all that the program does: where the words are two and the second is `replay` or `show`, it serves the frames of the source
+/// on the drive and writes the answers to the sink, as frames or as lines of text. The drive has nothing outstanding and is in no error state, and its IDENTIFY
 /// DEVICE data fit it. The status says how that ended. The drive is called once for its
 /// identity, and then at most three times for each request (profile).
 pub fn satl<S: Source, K: Sink, D: Bench, L: Ledger>(
@@ -43,16 +50,16 @@ pub fn satl<S: Source, K: Sink, D: Bench, L: Ledger>(
     requires idle { (D.state drive.old).outstanding ≡ [] }
     requires no_error { (D.state drive.old).error ≡ None }
     requires fit { IsFit (D.state drive.old) }
-    ensures usage { (result ≡ Status.Usage) ↔ (is_replay words.now ≡ false) }
-    ensures outcome { Outcome input_limit (D.state drive.old) (S.left source.old) (S.left source.new) (K.written sink.old) (K.written sink.new) steps.old steps.new (D.state drive.new) result }
-    ensures refused { is_replay words.now ≡ true → (fault : IdentityFault) → IsRefused fault (D.state drive.old) (D.state drive.new) → (result ≡ Status.DriveRefused) ⊎ (result ≡ Status.NoMemory) }
+    ensures usage { (result ≡ Status.Usage) ↔ (form_of words.now ≡ None) }
+    ensures outcome { Outcome (form_of words.now) input_limit (D.state drive.old) (S.left source.old) (S.left source.new) (K.written sink.old) (K.written sink.new) steps.old steps.new (D.state drive.new) result }
+    ensures refused { (form : Form) → form_of words.now ≡ Some form → (fault : IdentityFault) → IsRefused fault (D.state drive.old) (D.state drive.new) → (result ≡ Status.DriveRefused) ⊎ (result ≡ Status.NoMemory) }
     ensures causes { HasCause (D.state drive.old) (D.state drive.new) (S.faults source.old) (S.faults source.new) (K.faults sink.old) (K.faults sink.new) result }
-    ensures complete { is_replay words.now ≡ true → (fs : List Frame) (rest : List ℕ) → IsGoodInput input_limit (S.left source.old) fs rest → GoesWell (D.state drive.old) (S.faults source.old) (S.faults source.new) (K.faults sink.old) (K.faults sink.new) → Completes rest (S.left source.new) (D.state drive.old).faults (D.state drive.new).faults result }
+    ensures complete { (form : Form) → form_of words.now ≡ Some form → (fs : List Frame) (rest : List ℕ) → IsGoodInput input_limit (S.left source.old) fs rest → GoesWell (D.state drive.old) (S.faults source.old) (S.faults source.new) (K.faults sink.old) (K.faults sink.new) → Completes rest (S.left source.new) (D.state drive.old).faults (D.state drive.new).faults result }
 {
-    if !is_replay(words) {
+    let Some(form) = form_of(words) else {
         return Status::Usage;
-    }
-    match serve(alloc, Form::Frames, source, sink, drive, steps) {
+    };
+    match serve(alloc, form, source, sink, drive, steps) {
         Ok(_) => Status::Done,
         Err(fault) => Status::from(fault),
     }
