@@ -31,7 +31,8 @@ use Rattle.satl_direct.specs.Device.{Device, is_of}
 use Rattle.satl_direct.specs.Senses.{attention_sense, no_sense, out_of_range, overlapped, refusal, sense_in, short_data, unknown_operation, unknown_unit}
 use Rattle.satl_direct.specs.Arrival as direct
 use Rattle.satl_direct.specs.Arrival.{untold_codes, attended, Arrival, ArrivesAs, Arrives, answered, waits, arrival, asks_for, attention_arrival, built, cdb_arrival, check, code_arrival, code_of, is_unit_0, other_arrival, unit_arrival}
-use Rattle.satl_direct.specs.Tasks.{held_blocks, held_by, is_full, needed, range_of, task_for, task_of}
+use Rattle.satl_base.specs.declared.block.Block.{Block}
+use Rattle.satl_direct.specs.Tasks.{asks, held_blocks, held_by, is_full, needed, range_of, task_for, task_of}
 use Rattle.satl_core.specs.declared.submitting.AtOnce.{AtOnce}
 use Rattle.satl_core.specs.declared.submitting.AtOnce.TheVariants as at_once
 use Rattle.satl_core.specs.Layer.{IsServed, IsTask, IsWithin, Layer, view}
@@ -295,6 +296,14 @@ code_task l r (Ok c) is e few =
     let j = code_ok l r c (sym e) in
     served_task l.identity.capacity c (served r.cdb l.identity.trim c j.served j.said) j.some few (capacity_bounds l.identity is).1 j.within j.untold
 code_task l r (Err a) is e few = tt
+
+pub code_served : (l : Layer) (r : Request) (found : Result Command AtOnce) → found ≡ code_answer l r → IfOk found IsServed
+code_served l r (Ok c) e = let j = code_ok l r c (sym e) in served r.cdb l.identity.trim c j.served j.said
+code_served l r (Err a) e = tt
+
+-- no command that is served so far changes mode values
+pub served_unchanging : (c : Command) (body : List Block) → IsServed c → (asks c).change body ≡ None
+served_unchanging c body here = of_served (λ c. (asks c).change body ≡ None) (λ c told. of_told (λ c. (asks c).change body ≡ None) refl (λ descriptor alloc. refl) (λ page alloc. refl) (λ ten long_lba no_descriptor control page alloc. refl) refl (λ alloc. refl) (λ select alloc. refl) c told) (λ form lba count fua. refl) (λ form lba count fua. refl) (λ form lba count. refl) (λ start no_flush. refl) c here
 
 -- a request has all the data-out that its command needs
 pub long_enough : (l : Layer) (r : Request) (c : Command) → judged l r ≡ Ok c → needed c ≤ r.data_len

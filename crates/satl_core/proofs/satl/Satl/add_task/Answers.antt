@@ -4,18 +4,20 @@ use Rattle.satl_line.specs.Kinds.{kind_of}
 use Rattle.satl_line.specs.Tasks.{is_too_much}
 use Rattle.satl_direct.specs.Tasks.{held_blocks}
 use Rattle.satl_core.specs.Layer.{IsExpectable, IsTask, Layer, held_pages}
-use Rattle.satl_core.proofs.ArrivalLemmas.{long_enough}
+use Rattle.satl_core.proofs.ArrivalLemmas.{long_enough, served_unchanging}
+use Rattle.std.specs.Prelude.{IfSome}
+use Rattle.satl_mode.specs.Changes.{IsChangeOf}
 use Rattle.satl_core.specs.Submitting.{Becomes}
 use Rattle.satl_core.proofs.HeldLemmas.{held_is, on_ok}
-use Rattle.satl_core.proofs.Transfers.{task_needs, task_served}
+use Rattle.satl_core.proofs.Transfers.{task_needs}
 use Rattle.satl_core.proofs.AddingLemmas.{HasPages, becomes_added, count_with, given_pages, held_with, kept_with, last_body, tasks_with, total_with}
 use Rattle.satl_core.proofs.satl.Satl.add_task.Goals as goal
 
 pub task_without_pages-task-requires : goal.task_without_pages-task-requires
-task_without_pages-task-requires c = task_served c.args.self.now.identity.capacity (held_blocks c.args.command) c.args.command c.requires.task
+task_without_pages-task-requires c = c.requires.served
 
 pub own_pages-body-requires-clause-served : goal.own_pages-body-requires-clause-served
-own_pages-body-requires-clause-served c = task_served c.args.self.now.identity.capacity (held_blocks c.args.command) c.args.command c.requires.task
+own_pages-body-requires-clause-served c = c.requires.served
 
 pub own_pages-body-requires-clause-room : goal.own_pages-body-requires-clause-room
 own_pages-body-requires-clause-room c =
@@ -28,7 +30,7 @@ own_pages-body-requires-clause-room c =
 
 pub own_pages-body-requires-clause-written : goal.own_pages-body-requires-clause-written
 own_pages-body-requires-clause-written c =
-    let needs = task_needs c.self.inside.identity.capacity (held_blocks c.args.command) c.args.command (subst (λ (l : Layer). IsTask l.identity.capacity c.args.command (held_blocks c.args.command)) (sym c.self.view_is) c.requires.task) in
+    let needs = task_needs c.self.inside.identity.capacity (held_blocks c.args.command) c.args.command c.requires.served (subst (λ (l : Layer). IsTask l.identity.capacity c.args.command (held_blocks c.args.command)) (sym c.self.view_is) c.requires.task) in
     let room = own_pages-body-requires-clause-room c in
     let long = long_enough c.args.self.now c.args.request c.args.command c.requires.judged in
     let view = ap (λ (l : Layer). l.free) c.self.view_is in
@@ -56,6 +58,7 @@ invariant_of-self-2 c =
           (c.own_pages-body.ensures.size ∙ sym (ap (λ (e : Entry). e.blocks) task))
           (subst (λ (e : Entry). IsTask c.self.inside.identity.capacity e.command e.blocks) (sym task) transfer)
           (subst (λ (e : Entry). e.kind ≡ kind_of e.command c.self.inside.identity.queued_trim) (sym task) refl)
+          (subst (λ (e : Entry). IfSome e.modes (IsChangeOf c.self.inside.identity)) (sym task) (subst (λ o. IfSome o (IsChangeOf c.self.inside.identity)) (sym (served_unchanging c.args.command c.args.request.body c.requires.served)) tt))
           (subst (λ (e : Entry). IsExpectable e.expected) (sym task) c.requires.can.expected) has;
       identity_is = c.self.invariant.identity_is;
     }

@@ -4,7 +4,7 @@ use Rattle.std.specs.Prelude.{IfOk}
 use Rattle.satl_direct.specs.Device.{is_of}
 use Rattle.satl_direct.specs.Tasks.{held_blocks}
 use Rattle.satl_core.specs.Layer.{IsKept, IsTask, Layer, held_pages}
-use Rattle.satl_core.proofs.ArrivalLemmas.{code_task}
+use Rattle.satl_core.proofs.ArrivalLemmas.{code_served, code_task}
 use Rattle.satl_core.proofs.LeavingLemmas.{left_kept}
 use Rattle.satl_core.proofs.satl.Satl.judge.Goals as goal
 
@@ -21,3 +21,8 @@ pub returns-clause-task : goal.returns-clause-task
 returns-clause-task c =
     let l : Layer = record { identity = c.self.inside.identity; modes = c.self.inside.modes; started = c.self.inside.started; down = c.self.inside.down; attentions = c.next_attention.new.attentions; tasks = c.self.inside.tasks; free = c.self.inside.pool.free; out = c.self.inside.pool.out - held_pages c.self.inside.tasks } in
     subst (λ (l : Layer). IfOk c.judge_code.result (λ command. IsTask l.identity.capacity command (held_blocks command))) c.self.view_is (code_task l c.args.request.now c.judge_code.result c.self.invariant.identity_is c.judge_code.ensures.answer c.judge_code.ensures.few)
+
+pub returns-clause-served : goal.returns-clause-served
+returns-clause-served c =
+    let l : Layer = record { identity = c.self.inside.identity; modes = c.self.inside.modes; started = c.self.inside.started; down = c.self.inside.down; attentions = c.next_attention.new.attentions; tasks = c.self.inside.tasks; free = c.self.inside.pool.free; out = c.self.inside.pool.out - held_pages c.self.inside.tasks } in
+    code_served l c.args.request.now c.judge_code.result c.judge_code.ensures.answer

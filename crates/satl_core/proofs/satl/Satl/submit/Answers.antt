@@ -27,7 +27,7 @@ returns-in-Ok-clause-around g c = λ w cut.
     let becomes = subst (λ (l : Layer). Becomes c.args.request c.in-Ok.command l c.add_task.new.replies c.add_task.new.self) c.in-Ok.ensures.same c.add_task.ensures.becomes in
     let judged_is : judged c.args.self.now w ≡ Ok c.in-Ok.command = subst (λ (x : Request). judged c.args.self.now x ≡ Ok c.in-Ok.command) cut.cut_is (sym c.in-Ok.ensures.judged) in
     arrives_around w _ _ _ (becomes_arrives c.args.self.now c.add_task.new.self (g.D.Drive.state c.args.drive.now) w c.in-Ok.command c.add_task.new.replies judged_is
-    (becomes_whole w c.args.request cut.count c.args.self.now.identity.capacity c.in-Ok.command c.args.self.now c.add_task.new.replies c.add_task.new.self cut.cut_is c.in-Ok.ensures.task c.add_task.ensures.long becomes))
+    (becomes_whole w c.args.request cut.count c.args.self.now.identity.capacity c.in-Ok.command c.args.self.now c.add_task.new.replies c.add_task.new.self cut.cut_is c.in-Ok.ensures.served c.in-Ok.ensures.task c.add_task.ensures.long becomes))
 
 pub answer_at_once-requires-clause-capacity : goal.answer_at_once-requires-clause-capacity
 answer_at_once-requires-clause-capacity g c = (capacity_bounds c.self.inside.identity c.self.invariant.identity_is).0
@@ -75,7 +75,7 @@ returns-in-Ok-clause-tied g c =
     let becomes = subst (λ (l : Layer). Becomes c.args.request c.in-Ok.command l c.add_task.new.replies c.add_task.new.self) c.in-Ok.ensures.same c.add_task.ensures.becomes in
     let r = c.args.request in
     becomes_tied c.args.self.now c.add_task.new.self (g.D.Drive.state c.args.drive.now) (filled_up r) c.in-Ok.command c.add_task.new.replies (sym c.in-Ok.ensures.judged)
-    (becomes_whole (filled_up r) r (length r.body) c.args.self.now.identity.capacity c.in-Ok.command c.args.self.now c.add_task.new.replies c.add_task.new.self (filled_up_cut r) c.in-Ok.ensures.task c.add_task.ensures.long becomes)
+    (becomes_whole (filled_up r) r (length r.body) c.args.self.now.identity.capacity c.in-Ok.command c.args.self.now c.add_task.new.replies c.add_task.new.self (filled_up_cut r) c.in-Ok.ensures.served c.in-Ok.ensures.task c.add_task.ensures.long becomes)
     (filled_up_holds r) c.requires.tied
 
 pub returns-in-Err-clause-tied : goal.returns-in-Err-clause-tied
