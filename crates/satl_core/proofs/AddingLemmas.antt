@@ -16,8 +16,10 @@ use Rattle.satl_mode.specs.Changes.{IsChangeOf}
 use Rattle.satl_line.specs.Tasks.{Adds, Held, change_at, entries_of, entry_at, is_too_much, total_blocks, with_body}
 use Rattle.satl_line.proofs.SlotsLemmas.{All-append, total-append}
 use Rattle.satl_direct.specs.Tasks.{asks, data_out, held_blocks, needed, task_for, task_of}
-use Rattle.satl_core.specs.Layer.{IsExpectable, IsKept, IsServed, IsTask, Layer, held_pages}
+use Rattle.satl_core.specs.Layer.{IsExpectable, IsKept, IsTask, Layer, held_pages}
 use Rattle.satl_core.specs.Submitting.{Becomes, IsAdded, IsRefused, task_without_pages}
+use Rattle.std.proofs.lemmas.List.{length-take}
+use Rattle.satl_core.proofs.SelectLemmas.{change_same, taken_agrees}
 use Rattle.satl_core.proofs.Transfers.{of_task}
 use Rattle.satl_core.proofs.HeldLemmas.{held-append, last_at, last_changed, length-push}
 
@@ -92,19 +94,21 @@ abbrev made : Entry → List Block → List Range → Option ModeChange → Entr
 made t body ranges change = record t { body = body; ranges = record { items = ranges }; modes = change }
 
 -- what a task keeps of the data-out beside its pages
-same_kept : (capacity n : ℕ) (c : Command) (a b : List Block) → IsServed c → IsTask capacity c n → ((asks c).ranges a ≡ (asks c).ranges b) × ((asks c).change a ≡ (asks c).change b)
-same_kept capacity n c a b served t =
-    of_task (λ c. IsServed c → ((asks c).ranges a ≡ (asks c).ranges b) × ((asks c).change a ≡ (asks c).change b)) capacity n c (λ form lba count fua t served. (refl, refl)) (λ form lba count fua t served. (refl, refl)) (λ form lba count none served. (refl, refl)) (λ start no_flush none served. (refl, refl)) (λ ten size none served. absurd served) t served
+same_kept : (capacity n : ℕ) (c : Command) (count : ℕ) (body : List Block) → needed c ≤ 512 * length (take count body) → IsTask capacity c n → ((asks c).ranges (take count body) ≡ (asks c).ranges body) × ((asks c).change (take count body) ≡ (asks c).change body)
+same_kept capacity n c count body long t =
+    of_task (λ c. needed c ≤ 512 * length (take count body) → ((asks c).ranges (take count body) ≡ (asks c).ranges body) × ((asks c).change (take count body) ≡ (asks c).change body)) capacity n c
+    (λ form lba blocks fua t long. (refl, refl)) (λ form lba blocks fua t long. (refl, refl)) (λ form lba blocks none long. (refl, refl)) (λ start no_flush none long. (refl, refl))
+    (λ ten size none long. (refl, ap Some (change_same (take count body) body size ten (taken_agrees size count body (omega (arith, long, length-take count body)))))) t long
 
 -- what becomes of a request is what becomes of the whole one
-pub becomes_whole : (w r : Request) (count capacity : ℕ) (c : Command) (old : Layer) (replies : List Reply) (new : Layer) → r ≡ record w { body = take count w.body } → IsServed c → IsTask capacity c (held_blocks c) → (replies ≡ [] → needed c ≤ 512 * length r.body)
+pub becomes_whole : (w r : Request) (count capacity : ℕ) (c : Command) (old : Layer) (replies : List Reply) (new : Layer) → r ≡ record w { body = take count w.body } → IsTask capacity c (held_blocks c) → (replies ≡ [] → needed c ≤ 512 * length r.body)
     → Becomes r c old replies new → Becomes w c old replies new
-becomes_whole w r count capacity c old replies new is served t long b =
+becomes_whole w r count capacity c old replies new is t long b =
     (elim (is_too_much old.tasks (task_without_pages w c old.identity.queued_trim)) as (λ f. MatchBool f (IsRefused cut old replies new) (IsAdded cut c old replies new) → MatchBool f (IsRefused w old replies new) (IsAdded w c old replies new)) [
       | true ↦ λ a. record { reply = a.reply; stays = a.stays }
       | false ↦ λ a. record {
         none = a.none;
-        last = a.last ∙ ap (λ t. map task_of (entries_of old.tasks) ++ t ∷ []) (same_task (whole_data capacity (held_blocks c) count c w.body t (subst (λ (x : Request). needed c ≤ 512 * length x.body) is (long a.none))));
+        last = a.last ∙ ap (λ t. map task_of (entries_of old.tasks) ++ t ∷ []) (same_task (subst (λ (x : Request). needed c ≤ 512 * length x.body) is (long a.none)));
         stays = a.stays;
       }
     ]) (subst (λ x. Becomes x c old replies new) is b)
@@ -112,8 +116,9 @@ becomes_whole w r count capacity c old replies new is served t long b =
     cut : Request
     cut = record w { body = take count w.body }
 
-    same_task : data_out c (take (held_blocks c) cut.body) ≡ data_out c (take (held_blocks c) w.body) → task_for old.identity.queued_trim cut c ≡ task_for old.identity.queued_trim w c
-    same_task same =
-        let kept = same_kept capacity (held_blocks c) c cut.body w.body served t in
+    same_task : needed c ≤ 512 * length cut.body → task_for old.identity.queued_trim cut c ≡ task_for old.identity.queued_trim w c
+    same_task room =
+        let same = whole_data capacity (held_blocks c) count c w.body t room in
+        let kept = same_kept capacity (held_blocks c) c count w.body room t in
         ap (λ b. made (task_for old.identity.queued_trim w c) b ((asks c).ranges cut.body) ((asks c).change cut.body)) same
         ∙ (ap (λ r. made (task_for old.identity.queued_trim w c) (data_out c (take (held_blocks c) w.body)) r ((asks c).change cut.body)) kept.0 ∙ ap (made (task_for old.identity.queued_trim w c) (data_out c (take (held_blocks c) w.body)) ((asks c).ranges w.body)) kept.1)

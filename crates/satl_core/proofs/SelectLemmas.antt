@@ -21,8 +21,8 @@ use Rattle.satl_mode.specs.declared.page.ModePage.{ModePage}
 use Rattle.satl_mode.specs.declared.page.ModePage.TheVariants.{ErrorRecovery, Caching, Control, Exceptions}
 use Rattle.satl_mode.specs.ModePages.{page_coded, row_of, size_of}
 use Rattle.satl_mode.specs.Descriptors.{BlockField, block_fields, descriptor_size}
-use Rattle.satl_mode.specs.Changes.{change_from, change_in, descriptor_length, first_page, header_size, no_change, on_page, page_at, whole_page, with_page}
-use Rattle.satl_mode.specs.SelectList.{agrees, bits_fault, descriptor_fault, descriptor_length_place, descriptor_sized, difference, fields_fault, first_fault, front_fault, has_long_lba, pages_fault, select_fault}
+use Rattle.satl_mode.specs.Changes.{change_from, change_in, descriptor_length, first_page, header_size, no_change, on_page, page_at, whole_page, with_page, applied}
+use Rattle.satl_mode.specs.SelectList.{agrees, bits_fault, descriptor_fault, descriptor_length_place, descriptor_sized, difference, fields_fault, first_fault, front_fault, has_long_lba, pages_fault, select_fault, select_says, unless_fault}
 
 -- two lists have the same first bytes
 abbrev pub Agree : ℕ → List Block → List Block → Type 0
@@ -169,3 +169,21 @@ change_same a b length ten agree =
       | true ↦ λ is. refl
       | false ↦ λ is. ap (λ n. change_from length a length (header_size ten + n) no_change) (length_same ten length a b agree (ltb-false length (header_size ten) is)) ∙ changes_same a b length length (first_page ten b) no_change agree
     ]) refl
+
+-- ---- what reading a list says
+
+pub said_ok : (i : Identity) (m new : Modes) (list : List Block) (length : ℕ) (ten : Bool) → Ok new ≡ select_says i m list length ten → None ≡ select_fault i m list length ten
+unfolding select_says
+said_ok i m new list length ten e = by (select_fault i m list length ten) (applied m (change_in list length ten)) e
+  where
+    by : (o : Option Illegal) (v : Modes) → Ok new ≡ unless_fault o v → None ≡ o
+    by None v e = refl
+    by (Some why) v e = absurd cc
+
+pub said_err : (i : Identity) (m : Modes) (why : Illegal) (list : List Block) (length : ℕ) (ten : Bool) → Err why ≡ select_says i m list length ten → Some why ≡ select_fault i m list length ten
+unfolding select_says
+said_err i m why list length ten e = by (select_fault i m list length ten) (applied m (change_in list length ten)) e
+  where
+    by : (o : Option Illegal) (v : Modes) → Err why ≡ unless_fault o v → Some why ≡ o
+    by None v e = absurd cc
+    by (Some other) v e = cc

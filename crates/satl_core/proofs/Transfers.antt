@@ -1,10 +1,10 @@
 -- The commands that make tasks, and READ and WRITE, which transfer.
-use Rattle.std.proofs.Common.{◌≡◌, arith, ℕ, ◌*◌, ◌≤◌, Bool}
+use Rattle.std.proofs.Common.{◌≡◌, ◌⊎◌, inl, inr, arith, ℕ, ◌*◌, ◌<◌, ◌≤◌, Bool}
 use Rattle.satl_cdb.specs.declared.command.Form.{Form}
 use Rattle.satl_cdb.specs.declared.command.Command.{Command}
 use Rattle.satl_cdb.specs.declared.command.Command.TheVariants as cdbs
 use Rattle.satl_direct.specs.Tasks.{held_blocks, needed}
-use Rattle.satl_core.specs.Layer.{IsServed, IsTask, IsTransfer, IsWithin}
+use Rattle.satl_core.specs.Layer.{IsTask, IsTransfer, IsWithin}
 
 -- what holds of each READ and each WRITE holds of a transfer
 pub of_transfer : (P : Command → Type 0) (capacity n : ℕ) (command : Command)
@@ -34,7 +34,7 @@ pub of_task : (P : Command → Type 0) (capacity n : ℕ) (command : Command)
     → ((form : Form) (lba count : ℕ) (fua : Bool) → IsWithin capacity lba count n → P (cdbs.Write form lba count fua))
     → ((form : Form) (lba count : ℕ) → n ≡ 0 → P (cdbs.Flush form lba count))
     → ((start no_flush : Bool) → n ≡ 0 → P (cdbs.StartStop start no_flush))
-    → ((ten : Bool) (size : ℕ) → n ≡ 0 → P (cdbs.ModeSelect ten size)) → IsTask capacity command n → P command
+    → ((ten : Bool) (size : ℕ) → (n ≡ 0) × (size < 65536) → P (cdbs.ModeSelect ten size)) → IsTask capacity command n → P command
 of_task P capacity n (cdbs.Read form lba count fua) read write flush switch select t = read form lba count fua t
 of_task P capacity n (cdbs.Write form lba count fua) read write flush switch select t = write form lba count fua t
 of_task P capacity n (cdbs.Flush form lba count) read write flush switch select t = flush form lba count t
@@ -53,8 +53,9 @@ of_task P capacity n (cdbs.Unmap a) read write flush switch select t = absurd t
 of_task P capacity n (cdbs.Pass a) read write flush switch select t = absurd t
 
 pub task_few : (capacity n : ℕ) (command : Command) → IsTask capacity command n → n ≤ 4096
-task_few capacity n command t = of_task (λ c. n ≤ 4096) capacity n command (λ form lba count fua t. omega (arith, t)) (λ form lba count fua t. omega (arith, t)) (λ form lba count none. omega (arith, none)) (λ start no_flush none. omega (arith, none)) (λ ten size none. omega (arith, none)) t
+task_few capacity n command t = of_task (λ c. n ≤ 4096) capacity n command (λ form lba count fua t. omega (arith, t)) (λ form lba count fua t. omega (arith, t)) (λ form lba count none. omega (arith, none)) (λ start no_flush none. omega (arith, none)) (λ ten size none. omega (arith, none.0)) t
 
-pub task_needs : (capacity n : ℕ) (command : Command) → IsServed command → IsTask capacity command n → needed command ≤ 512 * held_blocks command
-task_needs capacity n command served t =
-    of_task (λ c. IsServed c → needed c ≤ 512 * held_blocks c) capacity n command (λ form lba count fua t served. omega arith) (λ form lba count fua t served. omega arith) (λ form lba count none served. omega arith) (λ start no_flush none served. omega arith) (λ ten size none served. absurd served) t served
+-- a task holds the blocks that it needs, or needs a list of fewer than 65,536 bytes
+pub task_needs : (capacity n : ℕ) (command : Command) → IsTask capacity command n → (needed command ≤ 512 * held_blocks command) ⊎ (needed command < 65536)
+task_needs capacity n command t =
+    of_task (λ c. (needed c ≤ 512 * held_blocks c) ⊎ (needed c < 65536)) capacity n command (λ form lba count fua t. inl (omega arith)) (λ form lba count fua t. inl (omega arith)) (λ form lba count none. inl (omega arith)) (λ start no_flush none. inl (omega arith)) (λ ten size none. inr none.1) t

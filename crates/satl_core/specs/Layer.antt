@@ -36,14 +36,14 @@ abbrev pub held_pages : List Held → ℕ
 held_pages [] = 0
 held_pages (h ∷ hs) = length h.entry.body + held_pages hs
 
--- the commands that are served so far: those that the device answers from what it says of itself, READ, WRITE, SYNCHRONIZE CACHE and START
--- STOP UNIT (profile)
+-- the commands that are served so far: those that the device answers from what it says of itself, READ, WRITE, SYNCHRONIZE CACHE, START
+-- STOP UNIT and MODE SELECT (profile)
 abbrev pub IsServed : Command → Type 0
 IsServed TestUnitReady = Unit {0}
 IsServed (RequestSense descriptor alloc) = Unit {0}
 IsServed (Inquiry page alloc) = Unit {0}
 IsServed (ModeSense ten long_lba no_descriptor control page alloc) = Unit {0}
-IsServed (ModeSelect ten size) = ⊥
+IsServed (ModeSelect ten size) = Unit {0}
 IsServed (StartStop start no_flush) = Unit {0}
 IsServed ReadCapacity10 = Unit {0}
 IsServed (ReadCapacity16 alloc) = Unit {0}
@@ -86,7 +86,7 @@ IsTask capacity TestUnitReady blocks = ⊥
 IsTask capacity (RequestSense descriptor alloc) blocks = ⊥
 IsTask capacity (Inquiry page alloc) blocks = ⊥
 IsTask capacity (ModeSense ten long_lba no_descriptor control page alloc) blocks = ⊥
-IsTask capacity (ModeSelect ten size) blocks = blocks ≡ 0
+IsTask capacity (ModeSelect ten size) blocks = (blocks ≡ 0) × (size < 65536)
 IsTask capacity (StartStop start no_flush) blocks = blocks ≡ 0
 IsTask capacity ReadCapacity10 blocks = ⊥
 IsTask capacity (ReadCapacity16 alloc) blocks = ⊥
