@@ -1,6 +1,6 @@
 -- A request becomes the last task.
 use Rattle.std.proofs.Common.{◌≡◌, refl, sym, ap, subst, ◌∙◌, arith, ℕ, zero, suc, ◌+◌, ◌*◌, ◌≤◌, Bool, true, false, List, [], ◌∷◌, ◌++◌, length, map, take, Some}
-use Rattle.std.specs.Prelude.{MatchBool, Option}
+use Rattle.std.specs.Prelude.{IfSome, MatchBool, Option}
 use Rattle.std.specs.Option.{option_map}
 use Rattle.std.specs.List.{AllByRecursion}
 use Rattle.satl_base.specs.declared.block.Block.{Block}
@@ -12,11 +12,14 @@ use Rattle.satl_cdb.specs.declared.command.Command.{Command}
 use Rattle.satl_identify.specs.declared.identity.Identity.{Identity}
 use Rattle.satl_line.specs.declared.entry.Entry.{Entry}
 use Rattle.satl_line.specs.Kinds.{kind_of}
+use Rattle.satl_mode.specs.Changes.{IsChangeOf}
 use Rattle.satl_line.specs.Tasks.{Adds, Held, change_at, entries_of, entry_at, is_too_much, total_blocks, with_body}
 use Rattle.satl_line.proofs.SlotsLemmas.{All-append, total-append}
 use Rattle.satl_direct.specs.Tasks.{asks, data_out, held_blocks, needed, task_for, task_of}
 use Rattle.satl_core.specs.Layer.{IsExpectable, IsKept, IsTask, Layer, held_pages}
 use Rattle.satl_core.specs.Submitting.{Becomes, IsAdded, IsRefused, task_without_pages}
+use Rattle.std.proofs.lemmas.List.{length-take}
+use Rattle.satl_core.proofs.SelectLemmas.{change_same, taken_agrees}
 use Rattle.satl_core.proofs.Transfers.{of_task}
 use Rattle.satl_core.proofs.HeldLemmas.{held-append, last_at, last_changed, length-push}
 
@@ -51,10 +54,10 @@ held_with old new entry body h =
     let same = ap held_pages h.are in
     omega (arith, both, same)
 
-pub kept_with : (identity : Identity) (old new : List Held) (entry : Entry) (body : List Block) → AllByRecursion (IsKept identity) old → length body ≡ entry.blocks → IsTask identity.capacity entry.command entry.blocks → entry.kind ≡ kind_of entry.command identity.queued_trim → IsExpectable entry.expected → HasPages old entry body new
+pub kept_with : (identity : Identity) (old new : List Held) (entry : Entry) (body : List Block) → AllByRecursion (IsKept identity) old → length body ≡ entry.blocks → IsTask identity.capacity entry.command entry.blocks → entry.kind ≡ kind_of entry.command identity.queued_trim → IfSome entry.modes (IsChangeOf identity) → IsExpectable entry.expected → HasPages old entry body new
     → AllByRecursion (IsKept identity) new
-kept_with identity old new entry body all size task kind expected h =
-    subst (λ t. AllByRecursion (IsKept identity) t) (sym h.are) (All-append (IsKept identity) old (record { slot = h.slot; entry = record entry { body = body } } ∷ []) all (record { pages = size; task = task; kind = kind; expected = expected }, tt))
+kept_with identity old new entry body all size task kind change expected h =
+    subst (λ t. AllByRecursion (IsKept identity) t) (sym h.are) (All-append (IsKept identity) old (record { slot = h.slot; entry = record entry { body = body } } ∷ []) all (record { pages = size; task = task; kind = kind; change = change; expected = expected }, tt))
 
 push_tasks : (old : List Held) (h : Held) → map task_of (entries_of (old ++ h ∷ [])) ≡ map task_of (entries_of old) ++ task_of h.entry ∷ []
 push_tasks [] h = refl
@@ -84,15 +87,18 @@ take_take (suc m) (suc n) (x ∷ xs) h = ap (λ l. x ∷ l) (take_take m n xs (o
 whole_data : (capacity n count : ℕ) (c : Command) (body : List Block) → IsTask capacity c n → needed c ≤ 512 * length (take count body) → data_out c (take (held_blocks c) (take count body)) ≡ data_out c (take (held_blocks c) body)
 whole_data capacity n count c body t long =
     of_task (λ c. needed c ≤ 512 * length (take count body) → data_out c (take (held_blocks c) (take count body)) ≡ data_out c (take (held_blocks c) body)) capacity n c (λ form lba blocks fua t long. refl)
-    (λ form lba blocks fua t long. take_take blocks count body (omega (arith, long))) (λ form lba blocks none long. refl) (λ start no_flush none long. refl) t long
+    (λ form lba blocks fua t long. take_take blocks count body (omega (arith, long))) (λ form lba blocks none long. refl) (λ start no_flush none long. refl) (λ ten size none long. refl) t long
 
 -- a task with other data-out
 abbrev made : Entry → List Block → List Range → Option ModeChange → Entry
 made t body ranges change = record t { body = body; ranges = record { items = ranges }; modes = change }
 
 -- what a task keeps of the data-out beside its pages
-same_kept : (capacity n : ℕ) (c : Command) (a b : List Block) → IsTask capacity c n → ((asks c).ranges a ≡ (asks c).ranges b) × ((asks c).change a ≡ (asks c).change b)
-same_kept capacity n c a b t = of_task (λ c. ((asks c).ranges a ≡ (asks c).ranges b) × ((asks c).change a ≡ (asks c).change b)) capacity n c (λ form lba count fua t. (refl, refl)) (λ form lba count fua t. (refl, refl)) (λ form lba count none. (refl, refl)) (λ start no_flush none. (refl, refl)) t
+same_kept : (capacity n : ℕ) (c : Command) (count : ℕ) (body : List Block) → needed c ≤ 512 * length (take count body) → IsTask capacity c n → ((asks c).ranges (take count body) ≡ (asks c).ranges body) × ((asks c).change (take count body) ≡ (asks c).change body)
+same_kept capacity n c count body long t =
+    of_task (λ c. needed c ≤ 512 * length (take count body) → ((asks c).ranges (take count body) ≡ (asks c).ranges body) × ((asks c).change (take count body) ≡ (asks c).change body)) capacity n c
+    (λ form lba blocks fua t long. (refl, refl)) (λ form lba blocks fua t long. (refl, refl)) (λ form lba blocks none long. (refl, refl)) (λ start no_flush none long. (refl, refl))
+    (λ ten size none long. (refl, ap Some (change_same (take count body) body size ten (taken_agrees size count body (omega (arith, long, length-take count body)))))) t long
 
 -- what becomes of a request is what becomes of the whole one
 pub becomes_whole : (w r : Request) (count capacity : ℕ) (c : Command) (old : Layer) (replies : List Reply) (new : Layer) → r ≡ record w { body = take count w.body } → IsTask capacity c (held_blocks c) → (replies ≡ [] → needed c ≤ 512 * length r.body)
@@ -102,7 +108,7 @@ becomes_whole w r count capacity c old replies new is t long b =
       | true ↦ λ a. record { reply = a.reply; stays = a.stays }
       | false ↦ λ a. record {
         none = a.none;
-        last = a.last ∙ ap (λ t. map task_of (entries_of old.tasks) ++ t ∷ []) (same_task (whole_data capacity (held_blocks c) count c w.body t (subst (λ (x : Request). needed c ≤ 512 * length x.body) is (long a.none))));
+        last = a.last ∙ ap (λ t. map task_of (entries_of old.tasks) ++ t ∷ []) (same_task (subst (λ (x : Request). needed c ≤ 512 * length x.body) is (long a.none)));
         stays = a.stays;
       }
     ]) (subst (λ x. Becomes x c old replies new) is b)
@@ -110,8 +116,9 @@ becomes_whole w r count capacity c old replies new is t long b =
     cut : Request
     cut = record w { body = take count w.body }
 
-    same_task : data_out c (take (held_blocks c) cut.body) ≡ data_out c (take (held_blocks c) w.body) → task_for old.identity.queued_trim cut c ≡ task_for old.identity.queued_trim w c
-    same_task same =
-        let kept = same_kept capacity (held_blocks c) c cut.body w.body t in
+    same_task : needed c ≤ 512 * length cut.body → task_for old.identity.queued_trim cut c ≡ task_for old.identity.queued_trim w c
+    same_task room =
+        let same = whole_data capacity (held_blocks c) count c w.body t room in
+        let kept = same_kept capacity (held_blocks c) c count w.body room t in
         ap (λ b. made (task_for old.identity.queued_trim w c) b ((asks c).ranges cut.body) ((asks c).change cut.body)) same
         ∙ (ap (λ r. made (task_for old.identity.queued_trim w c) (data_out c (take (held_blocks c) w.body)) r ((asks c).change cut.body)) kept.0 ∙ ap (made (task_for old.identity.queued_trim w c) (data_out c (take (held_blocks c) w.body)) ((asks c).ranges w.body)) kept.1)

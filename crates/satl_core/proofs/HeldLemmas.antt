@@ -1,11 +1,12 @@
 -- The tasks of the layer and their pages.
 use Rattle.std.proofs.Common.{◌≡◌, append_assoc, refl, sym, ap, subst, ◌∙◌, arith, ℕ, suc, ◌+◌, Bool, false, List, [], ◌∷◌, ◌++◌, length, Some}
-use Rattle.std.specs.Prelude.{Result, Ok, Err, OnOk, is_err, remove, slice_get}
+use Rattle.std.specs.Prelude.{IfSome, Result, Ok, Err, OnOk, is_err, remove, slice_get}
 use Rattle.std.specs.List.{AllByRecursion}
 use Rattle.satl_base.specs.declared.reply.Reply.{Reply}
 use Rattle.satl_line.specs.declared.entry.Entry.{Entry}
 use Rattle.satl_identify.specs.declared.identity.Identity.{Identity}
 use Rattle.satl_line.specs.Kinds.{kind_of}
+use Rattle.satl_mode.specs.Changes.{IsChangeOf}
 use Rattle.satl_line.specs.Tasks.{Held, change_at, entry_at, total_blocks}
 use Rattle.satl_core.specs.declared.turning.Ending.TheVariants as endings
 use Rattle.satl_direct.specs.Senses.{link_lost}
@@ -19,6 +20,7 @@ pub record IsKeptEntry (identity : Identity) (e : Entry) : Type 0 where
   pub pages : length e.body ≡ e.blocks
   pub task : IsTask identity.capacity e.command e.blocks
   pub kind : e.kind ≡ kind_of e.command identity.queued_trim
+  pub change : IfSome e.modes (IsChangeOf identity)
   pub expected : IsExpectable e.expected
 
 -- the first task is this one, and the others are these
@@ -45,7 +47,7 @@ first_all P tasks rest entry all first =
 pub first_kept : (identity : Identity) (tasks rest : List Held) (entry : Entry) → AllByRecursion (IsKept identity) tasks → IsFirst tasks entry rest → IsKeptEntry identity entry × AllByRecursion (IsKept identity) rest
 first_kept identity tasks rest entry all first =
     let both : IsKept identity first.held × AllByRecursion (IsKept identity) rest = subst (λ x. AllByRecursion (IsKept identity) x) first.are all in
-    (subst (IsKeptEntry identity) first.entry_is (record { pages = both.0.pages; task = both.0.task; kind = both.0.kind; expected = both.0.expected }), both.1)
+    (subst (IsKeptEntry identity) first.entry_is (record { pages = both.0.pages; task = both.0.task; kind = both.0.kind; change = both.0.change; expected = both.0.expected }), both.1)
 
 -- answering the first task leaves the answers of all as they are
 pub first_lost : (descriptor : Bool) (tasks rest : List Held) (entry : Entry) (replies replies' all : List Reply) → IsFirst tasks entry rest → replies ++ lost_replies descriptor tasks ≡ all

@@ -9,7 +9,10 @@ pub mod HeldLemmas
 pub mod LeavingLemmas
 pub mod ManagingLemmas
 pub mod OpeningLemmas
+pub mod PostingLemmas
+pub mod SelectLemmas
 pub mod ServedLemmas
+pub mod SettingsLemmas
 pub mod TellingLemmas
 pub mod Transfers
 pub mod TurningLemmas

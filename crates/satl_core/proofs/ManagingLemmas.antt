@@ -37,6 +37,7 @@ use Rattle.satl_core.specs.Leaving.{is_within, left_by}
 use Rattle.satl_core.specs.Managing.{condition_of, effect, effect_of, effect_or_none, is_told, once_posted, only}
 use Rattle.satl_core.proofs.DeviceLemmas.{around_alone, seen}
 use Rattle.satl_core.proofs.LeavingLemmas.{any_tasks, left_tasks}
+use Rattle.satl_core.proofs.PostingLemmas.{once_kept, once_length}
 use Rattle.satl_core.proofs.ValidLemmas.{tied_by, valid_left}
 
 -- ---- conditions that are posted one nexus after the other
@@ -75,24 +76,6 @@ rest_none for what (suc place) nexus (conditions ∷ lists) few = ap (λ l. cond
 posted_alike : (p q : ℕ → Bool) (what : Attention) (nexus : ℕ) (lists : List (List Attention)) → ((n : ℕ) → p n ≡ q n) → posted_for p what nexus lists ≡ posted_for q what nexus lists
 posted_alike p q what nexus [] same = refl
 posted_alike p q what nexus (conditions ∷ lists) same = ap (λ b. cond b (posted what conditions) conditions ∷ posted_for p what (nexus + 1) lists) (same nexus) ∙ ap (λ l. cond (q nexus) (posted what conditions) conditions ∷ l) (posted_alike p q what (nexus + 1) lists same)
-
--- there are conditions for as many nexuses as before, in the order of report
-posted_length : (for : ℕ → Bool) (what : Attention) (nexus : ℕ) (lists : List (List Attention)) → length (posted_for for what nexus lists) ≡ length lists
-posted_length for what nexus [] = refl
-posted_length for what nexus (conditions ∷ lists) = ap suc (posted_length for what (nexus + 1) lists)
-
-posted_kept : (for : ℕ → Bool) (what : Attention) (nexus : ℕ) (lists : List (List Attention)) → AllByRecursion IsInReportOrder lists → AllByRecursion IsInReportOrder (posted_for for what nexus lists)
-posted_kept for what nexus [] all = tt
-posted_kept for what nexus (conditions ∷ lists) all =
-    ((elim (for nexus) as (λ b. IsInReportOrder (cond b (posted what conditions) conditions)) [ true ↦ posted-order what conditions | false ↦ all.0 ]), posted_kept for what (nexus + 1) lists all.1)
-
-once_length : (posts : Option Posting) (tasks : List Held) (lists : List (List Attention)) → length (once_posted posts tasks lists) ≡ length lists
-once_length None tasks lists = refl
-once_length (Some posting) tasks lists = posted_length (is_told posting tasks) (condition_of posting) 0 lists
-
-once_kept : (posts : Option Posting) (tasks : List Held) (lists : List (List Attention)) → AllByRecursion IsInReportOrder lists → AllByRecursion IsInReportOrder (once_posted posts tasks lists)
-once_kept None tasks lists all = all
-once_kept (Some posting) tasks lists all = posted_kept (is_told posting tasks) (condition_of posting) 0 lists all
 
 -- ---- the effect of a function
 

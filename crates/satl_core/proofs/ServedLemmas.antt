@@ -1,6 +1,6 @@
 -- A task that the drive carries out ends as the device says.
 use Rattle.std.proofs.Common.{◌≡◌, ◌⊎◌, ⊎_elim, inl, refl, sym, ap, subst, ◌∙◌, arith, ℕ, ◌+◌, ◌-◌, ◌≤◌, true, false, Bool, List, [], ◌∷◌, ◌++◌, length, map, take, drop, Some, None, length-drop}
-use Rattle.std.specs.Prelude.{MatchBool, MatchOption, not, ◌&&◌, ◌||◌, slice_range}
+use Rattle.std.specs.Prelude.{MatchBool, MatchOption, Option, if◌then◌else◌, not, ◌==◌, ◌&&◌, ◌||◌, slice_range}
 use Rattle.std.proofs.lemmas.List.{append-nil}
 use Rattle.std.specs.List.{AllByRecursion}
 use Rattle.std.proofs.lemmas.Bool.{le-ltb}
@@ -36,6 +36,13 @@ use Rattle.satl_direct.specs.Tasks.{asks, over, task_of}
 use Rattle.satl_direct.specs.Ending.{Ends, EndsBy, EndsOnMedium, IsChecked, IsDone, active_after, medium_error, outcome_reply, task_check, task_reply}
 use Rattle.satl_direct.specs.Quiet.{Around, is_pass, writes}
 use Rattle.satl_direct.specs.Senses.{link_lost, not_ready}
+use Rattle.satl_direct.specs.Attentions.{are_same, are_same_modes, post, with_modes_changed}
+use Rattle.satl_direct.specs.Ending as direct
+use Rattle.satl_unit.specs.declared.attention.Attention.TheVariants.{ModeChanged}
+use Rattle.satl_core.specs.declared.managing.Posting.{Posting}
+use Rattle.satl_core.specs.declared.managing.Posting.TheVariants.{ModesChanged}
+use Rattle.satl_core.specs.Managing.{once_posted}
+use Rattle.satl_base.specs.Losses.{Loses}
 use Rattle.satl_direct.specs.Turn as turns
 use Rattle.satl_direct.specs.Turn.{Turn}
 use Rattle.satl_direct.specs.Turn.Turn.{loses}
@@ -43,8 +50,8 @@ use Rattle.satl_core.specs.declared.turning.Ending.{Ending}
 use Rattle.satl_core.specs.declared.turning.Ending.TheVariants as endings
 use Rattle.satl_core.specs.Layer.{IsKept, IsTask, IsTransfer, Tied}
 use Rattle.satl_core.specs.Turning as core
-use Rattle.satl_core.specs.Running.{IsLeftWith, IsLostIn, IsSwitched}
-use Rattle.satl_core.specs.Turning.{CarriedOut, IsLostInTask, IsTransferred, IsUnasked, TaskEnds, asks_fua, ata_command, ended_reply, ending_of, flaw_sense, pairs_written, read_pages, started_after, where_done}
+use Rattle.satl_core.specs.Running.{IsLeftWith, IsLostIn, IsSwitched, IsTuned, settled_if}
+use Rattle.satl_core.specs.Turning.{CarriedOut, change_posting, IsLostInTask, IsTransferred, IsUnasked, TaskEnds, asks_fua, ata_command, ended_reply, ending_of, flaw_sense, modes_after, pairs_written, read_pages, started_after, wanted_by, where_done}
 use Rattle.satl_core.proofs.DeviceLemmas.{all_lost, ends_around, ends_by, ends_down, ends_stopped, first_checked, first_gone, first_tasks, quiet_none, quiet_same, seen}
 use Rattle.satl_core.proofs.HeldLemmas.{IsFirst, IsKeptEntry, first_kept}
 use Rattle.satl_core.proofs.Transfers.{of_task, of_transfer}
@@ -128,7 +135,7 @@ serves identity modes d entry pages t sectors cached =
 -- what a task writes is what the device says
 task_shows : (capacity n : ℕ) (s : Device) (entry : Entry) → IsTask capacity entry.command n → writes s (task_of entry) ≡ pairs_written s.modes.wce entry.command entry.body
 task_shows capacity n s entry t =
-    of_task (λ c. writes s (task_of (record entry { command = c })) ≡ pairs_written s.modes.wce c entry.body) capacity n entry.command (λ form lba count fua t. refl) (λ form lba count fua t. refl) (λ form lba count none. refl) (λ start no_flush none. refl) t
+    of_task (λ c. writes s (task_of (record entry { command = c })) ≡ pairs_written s.modes.wce c entry.body) capacity n entry.command (λ form lba count fua t. refl) (λ form lba count fua t. refl) (λ form lba count none. refl) (λ start no_flush none. refl) (λ ten size none. refl) t
 
 is_on : (started : Bool) → (not started && true) ≡ false → started ≡ true
 is_on true ready = refl
@@ -137,7 +144,7 @@ is_on false ready = absurd cc
 -- a task that writes is for a started unit alone
 writes_on : (capacity n : ℕ) (started cache : Bool) (command : Command) (given : List Block) (pair : Pair) → IsTask capacity command n → (not started && (asks command).starts) ≡ false → IsIn pair (pairs_written cache command given) → started ≡ true
 writes_on capacity n started cache command given pair t =
-    of_task (λ c. (not started && (asks c).starts) ≡ false → IsIn pair (pairs_written cache c given) → started ≡ true) capacity n command (λ form lba count fua t ready i. absurd i) (λ form lba count fua t ready i. is_on started ready) (λ form lba count none ready i. absurd i) (λ start no_flush none ready i. absurd i) t
+    of_task (λ c. (not started && (asks c).starts) ≡ false → IsIn pair (pairs_written cache c given) → started ≡ true) capacity n command (λ form lba count fua t ready i. absurd i) (λ form lba count fua t ready i. is_on started ready) (λ form lba count none ready i. absurd i) (λ start no_flush none ready i. absurd i) (λ ten size none ready i. absurd i) t
 
 -- ---- how it ends on the medium
 
@@ -227,28 +234,35 @@ carried_turn identity modes attentions entry others d d' ending taken answers pa
     })
 
 -- a task that moves no data is done, and leaves these sectors
-left_turn : (identity : Identity) (modes : Modes) (started started' : Bool) (attentions : List (List Attention)) (entry : Entry) (others : List Entry) (d d' : DriveState) (cells : List Cell) (active : Bool) (ending : Ending) (taken : List Block) (answers : List Reply) → (not started && (asks entry.command).starts) ≡ false
+left_turn : (identity : Identity) (modes modes' : Modes) (started started' : Bool) (attentions attentions' : List (List Attention)) (entry : Entry) (others : List Entry) (d d' : DriveState) (cells : List Cell) (active : Bool) (ending : Ending) (taken : List Block) (answers : List Reply) → (not started && (asks entry.command).starts) ≡ false
+    → ((reply : Reply) (new : Device) → IsDone (record (seen identity modes started attentions (task_of entry ∷ others) d) { cells = cells; active = active; started = started'; modes = modes'; attentions = attentions' }) (task_of entry) reply new → EndsBy entry.command (seen identity modes started attentions (task_of entry ∷ others) d) (task_of entry) reply new)
+    → d.down ≡ false → Loses cells d'.cells → d'.active ≡ active → d'.down ≡ d.down → d'.glitches ≡ d.glitches → ending ≡ endings.Good → read_pages entry.command taken ≡ [] → answers ≡ ended_reply (record entry { body = taken }) ending modes.d_sense ∷ []
+    → Around Turn (seen identity modes started attentions (task_of entry ∷ others) d) answers (seen identity modes' started' attentions' others d')
+left_turn identity modes modes' started started' attentions attentions' entry others d d' cells active ending taken answers ready how up lost still link glitches good none is =
+    let s : Device = seen identity modes started attentions (task_of entry ∷ others) d in
+    let mid : Device = seen identity modes' started' attentions' others (record d { cells = cells; active = active }) in
+    let new : Device = seen identity modes' started' attentions' others d' in
+    let reply : Reply = ended_reply (record entry { body = taken }) endings.Good modes.d_sense in
+    ends_around s s mid new (task_of entry) others reply answers (quiet_none s) refl (is ∙ ap (λ e. ended_reply (record entry { body = taken }) e modes.d_sense ∷ []) good)
+    (ends_by s (task_of entry) reply mid up ready (how reply mid (record {
+      answer = ap (task_reply (task_of entry) Good []) none;
+      stays = first_gone identity modes' started' attentions' (task_of entry) others (record d { cells = cells; active = active });
+    })))
+    (record {
+      cells = lose_once lost;
+      active = inl still;
+      stays = ap (λ b. record new { down = b }) link ∙ ap (λ n. record new { down = d.down; glitches = n }) glitches;
+    })
+
+-- the same where the mode values stay
+bare_turn : (identity : Identity) (modes : Modes) (started started' : Bool) (attentions : List (List Attention)) (entry : Entry) (others : List Entry) (d d' : DriveState) (cells : List Cell) (active : Bool) (ending : Ending) (taken : List Block) (answers : List Reply) → (not started && (asks entry.command).starts) ≡ false
     → ((reply : Reply) (new : Device) → IsDone (record (seen identity modes started attentions (task_of entry ∷ others) d) { cells = cells; active = active; started = started' }) (task_of entry) reply new → EndsBy entry.command (seen identity modes started attentions (task_of entry ∷ others) d) (task_of entry) reply new)
     → IsLeftWith cells active d d' → ending ≡ endings.Good → read_pages entry.command taken ≡ [] → answers ≡ ended_reply (record entry { body = taken }) ending modes.d_sense ∷ []
     → Around Turn (seen identity modes started attentions (task_of entry ∷ others) d) answers (seen identity modes started' attentions others d')
-left_turn identity modes started started' attentions entry others d d' cells active ending taken answers ready how x good none is =
-    let s : Device = seen identity modes started attentions (task_of entry ∷ others) d in
-    let mid : Device = seen identity modes started' attentions others (record d { cells = cells; active = active }) in
-    let new : Device = seen identity modes started' attentions others d' in
-    let reply : Reply = ended_reply (record entry { body = taken }) endings.Good modes.d_sense in
-    let still : d'.active ≡ active = ap (λ (y : DriveState). y.active) x.stays in
-    ends_around s s mid new (task_of entry) others reply answers (quiet_none s) refl (is ∙ ap (λ e. ended_reply (record entry { body = taken }) e modes.d_sense ∷ []) good)
-    (ends_by s (task_of entry) reply mid x.was_up ready (how reply mid (record {
-      answer = ap (task_reply (task_of entry) Good []) none;
-      stays = first_gone identity modes started' attentions (task_of entry) others (record d { cells = cells; active = active });
-    })))
-    (record {
-      cells = lose_once x.lost;
-      active = inl still;
-      stays = ap (seen identity modes started' attentions others) x.stays ∙ ap (λ a. record mid { cells = d'.cells; active = a }) (sym still);
-    })
+bare_turn identity modes started started' attentions entry others d d' cells active ending taken answers ready how x good none is =
+    left_turn identity modes modes started started' attentions attentions entry others d d' cells active ending taken answers ready how x.was_up x.lost (ap (λ (y : DriveState). y.active) x.stays) (ap (λ (y : DriveState). y.down) x.stays) (ap (λ (y : DriveState). y.glitches) x.stays) good none is
 
--- whether it is started does not matter to a START STOP UNIT
+-- whether it is started does not matter to a START STOP UNIT or a MODE SELECT
 never : (b : Bool) → (not b && false) ≡ false
 never true = refl
 never false = refl
@@ -256,24 +270,65 @@ never false = refl
 switched_turn : (identity : Identity) (modes : Modes) (started start no_flush : Bool) (attentions : List (List Attention)) (entry : Entry) (others : List Entry) (d d' : DriveState) (ending : Ending) (taken : List Block) (answers : List Reply)
     → IsSwitched start no_flush d d' → ending ≡ endings.Good → answers ≡ ended_reply (record entry { command = cdbs.StartStop start no_flush; body = taken }) ending modes.d_sense ∷ []
     → Around Turn (seen identity modes started attentions (task_of (record entry { command = cdbs.StartStop start no_flush }) ∷ others) d) answers (seen identity modes start attentions others d')
-switched_turn identity modes started true no_flush attentions entry others d d' ending taken answers x good is = left_turn identity modes started true attentions (record entry { command = cdbs.StartStop true no_flush }) others d d' d.cells true ending taken answers (never started) (λ reply new e. e) x good refl is
-switched_turn identity modes started false true attentions entry others d d' ending taken answers x good is = left_turn identity modes started false attentions (record entry { command = cdbs.StartStop false true }) others d d' d.cells false ending taken answers (never started) (λ reply new e. e) x good refl is
-switched_turn identity modes started false false attentions entry others d d' ending taken answers x good is = left_turn identity modes started false attentions (record entry { command = cdbs.StartStop false false }) others d d' (map settle d.cells) false ending taken answers (never started) (λ reply new e. e) x good refl is
+switched_turn identity modes started true no_flush attentions entry others d d' ending taken answers x good is = bare_turn identity modes started true attentions (record entry { command = cdbs.StartStop true no_flush }) others d d' d.cells true ending taken answers (never started) (λ reply new e. e) x good refl is
+switched_turn identity modes started false true attentions entry others d d' ending taken answers x good is = bare_turn identity modes started false attentions (record entry { command = cdbs.StartStop false true }) others d d' d.cells false ending taken answers (never started) (λ reply new e. e) x good refl is
+switched_turn identity modes started false false attentions entry others d d' ending taken answers x good is = bare_turn identity modes started false attentions (record entry { command = cdbs.StartStop false false }) others d d' (map settle d.cells) false ending taken answers (never started) (λ reply new e. e) x good refl is
+
+-- the device after a MODE SELECT, whether all was written back or not
+selected_so : (settles : Bool) (modes wanted : Modes) (attentions : List (List Attention)) (identity : Identity) (started : Bool) (tasks : List Entry) (d : DriveState) (t : Entry) (reply : Reply) (new : Device)
+    → IsDone (record (seen identity modes started attentions tasks d) { cells = settled_if settles d.cells; modes = wanted; attentions = with_modes_changed modes wanted t.nexus attentions }) t reply new
+    → IsDone (record (direct.settled_if settles (seen identity modes started attentions tasks d)) { modes = wanted; attentions = with_modes_changed modes wanted t.nexus attentions }) t reply new
+selected_so true modes wanted attentions identity started tasks d t reply new e = e
+selected_so false modes wanted attentions identity started tasks d t reply new e = e
+
+selected_turn : (identity : Identity) (modes : Modes) (started ten : Bool) (size : ℕ) (attentions : List (List Attention)) (entry : Entry) (others : List Entry) (d d' : DriveState) (ending : Ending) (taken : List Block) (answers : List Reply) → d.cache ≡ modes.wce
+    → IsTuned (wanted_by modes entry.modes).wce (not (wanted_by modes entry.modes).dra) d d' → ending ≡ endings.Good → answers ≡ ended_reply (record entry { command = cdbs.ModeSelect ten size; body = taken }) ending modes.d_sense ∷ []
+    → Around Turn (seen identity modes started attentions (task_of (record entry { command = cdbs.ModeSelect ten size }) ∷ others) d) answers (seen identity (wanted_by modes entry.modes) started (with_modes_changed modes (wanted_by modes entry.modes) entry.nexus attentions) others d')
+selected_turn identity modes started ten size attentions entry others d d' ending taken answers cache x good is =
+    let wanted : Modes = wanted_by modes entry.modes in
+    left_turn identity modes wanted started started attentions (with_modes_changed modes wanted entry.nexus attentions) (record entry { command = cdbs.ModeSelect ten size }) others d d' (settled_if (modes.wce && not wanted.wce) d.cells) d.active ending taken answers (never started)
+    (λ reply new e. selected_so (modes.wce && not wanted.wce) modes wanted attentions identity started (task_of (record entry { command = cdbs.ModeSelect ten size }) ∷ others) d (task_of (record entry { command = cdbs.ModeSelect ten size })) reply new e)
+    x.was_up (subst (λ b. Loses (settled_if (b && not wanted.wce) d.cells) d'.cells) cache x.lost) (ap (λ (y : DriveState). y.active) x.stays) (ap (λ (y : DriveState). y.down) x.stays) (ap (λ (y : DriveState). y.glitches) x.stays) good refl is
+
+-- nobody is told where nothing has changed
+unchanged : (modes : Modes) (nexus : ℕ) (attentions : List (List Attention)) → with_modes_changed modes modes nexus attentions ≡ attentions
+unchanged modes nexus attentions = by modes.wce modes.dra modes.d_sense
+  where
+    by : (a b c : Bool) → (if are_same a a && are_same b b && are_same c c then attentions else post (λ other. not (other == nexus)) ModeChanged attentions) ≡ attentions
+    by true true true = refl
+    by true true false = refl
+    by true false true = refl
+    by true false false = refl
+    by false true true = refl
+    by false true false = refl
+    by false false true = refl
+    by false false false = refl
+
+-- the device once a task has ended
+abbrev pub ended_seen : Identity → Modes → Modes → Bool → List (List Attention) → Entry → Ending → List Entry → DriveState → Device
+ended_seen identity modes wanted started attentions entry ending others d =
+    seen identity (modes_after entry.command ending modes wanted) (started_after entry.command ending started) (with_modes_changed modes (modes_after entry.command ending modes wanted) entry.nexus attentions) others d
 
 -- what the drive did for a task ends it
 task_turn : (identity : Identity) (modes : Modes) (started : Bool) (attentions : List (List Attention)) (entry : Entry) (others : List Entry) (d d' : DriveState) (ending : Ending) (taken : List Block) (answers : List Reply) → IsKeptEntry identity entry → length d.cells ≡ identity.capacity → d.cache ≡ modes.wce
-    → (not started && (asks entry.command).starts) ≡ false → CarriedOut entry.command d entry.body ending taken d' → answers ≡ ended_reply (record entry { body = taken }) ending modes.d_sense ∷ []
-    → Around Turn (seen identity modes started attentions (task_of entry ∷ others) d) answers (seen identity modes (started_after entry.command ending started) attentions others d')
+    → (not started && (asks entry.command).starts) ≡ false → CarriedOut (wanted_by modes entry.modes) entry.command d entry.body ending taken d' → answers ≡ ended_reply (record entry { body = taken }) ending modes.d_sense ∷ []
+    → Around Turn (seen identity modes started attentions (task_of entry ∷ others) d) answers (ended_seen identity modes (wanted_by modes entry.modes) started attentions entry ending others d')
 task_turn identity modes started attentions entry others d d' ending taken answers kept sectors cache ready x is =
-    of_task (λ c. (not started && (asks c).starts) ≡ false → CarriedOut c d entry.body ending taken d' → answers ≡ ended_reply (record entry { command = c; body = taken }) ending modes.d_sense ∷ []
-    → Around Turn (seen identity modes started attentions (task_of (record entry { command = c }) ∷ others) d) answers (seen identity modes (started_after c ending started) attentions others d')) identity.capacity entry.blocks entry.command
-    (λ form lba count fua t ready x is. transferred (cdbs.Read form lba count fua) t (is_on started ready) x is)
-    (λ form lba count fua t ready x is. transferred (cdbs.Write form lba count fua) t (is_on started ready) x is)
-    (λ form lba count none ready x is. left_turn identity modes started started attentions (record entry { command = cdbs.Flush form lba count }) others d d' (map settle d.cells) d.active ending taken answers ready (λ reply new e. e) x.1 x.0 refl is)
-    (λ start no_flush none ready x is. subst (λ e. Around Turn (seen identity modes started attentions (task_of (record entry { command = cdbs.StartStop start no_flush }) ∷ others) d) answers (seen identity modes (where_done e start started) attentions others d')) (sym x.0)
-    (switched_turn identity modes started start no_flush attentions entry others d d' ending taken answers x.1 x.0 is))
+    of_task (λ c. (not started && (asks c).starts) ≡ false → CarriedOut (wanted_by modes entry.modes) c d entry.body ending taken d' → answers ≡ ended_reply (record entry { command = c; body = taken }) ending modes.d_sense ∷ []
+    → Around Turn (seen identity modes started attentions (task_of (record entry { command = c }) ∷ others) d) answers (ended_seen identity modes (wanted_by modes entry.modes) started attentions (record entry { command = c }) ending others d')) identity.capacity entry.blocks entry.command
+    (λ form lba count fua t ready x is. untold (cdbs.Read form lba count fua) started (transferred (cdbs.Read form lba count fua) t (is_on started ready) x is))
+    (λ form lba count fua t ready x is. untold (cdbs.Write form lba count fua) started (transferred (cdbs.Write form lba count fua) t (is_on started ready) x is))
+    (λ form lba count none ready x is. untold (cdbs.Flush form lba count) started (bare_turn identity modes started started attentions (record entry { command = cdbs.Flush form lba count }) others d d' (map settle d.cells) d.active ending taken answers ready (λ reply new e. e) x.1 x.0 refl is))
+    (λ start no_flush none ready x is. untold (cdbs.StartStop start no_flush) (where_done ending start started) (subst (λ e. Around Turn (seen identity modes started attentions (task_of (record entry { command = cdbs.StartStop start no_flush }) ∷ others) d) answers (seen identity modes (where_done e start started) attentions others d')) (sym x.0)
+    (switched_turn identity modes started start no_flush attentions entry others d d' ending taken answers x.1 x.0 is)))
+    (λ ten size none ready x is. subst (λ e. Around Turn (seen identity modes started attentions (task_of (record entry { command = cdbs.ModeSelect ten size }) ∷ others) d) answers (seen identity (where_done e (wanted_by modes entry.modes) modes) started (with_modes_changed modes (where_done e (wanted_by modes entry.modes) modes) entry.nexus attentions) others d')) (sym x.0)
+    (selected_turn identity modes started ten size attentions entry others d d' ending taken answers cache x.1 x.0 is))
     kept.task ready x is
   where
+    untold : (c : Command) (now : Bool) → Around Turn (seen identity modes started attentions (task_of (record entry { command = c }) ∷ others) d) answers (seen identity modes now attentions others d')
+        → Around Turn (seen identity modes started attentions (task_of (record entry { command = c }) ∷ others) d) answers (seen identity modes now (with_modes_changed modes modes entry.nexus attentions) others d')
+    untold c now turn = subst (λ a. Around Turn (seen identity modes started attentions (task_of (record entry { command = c }) ∷ others) d) answers (seen identity modes now a others d')) (sym (unchanged modes entry.nexus attentions)) turn
+
     transferred : (c : Command) → IsTransfer identity.capacity c entry.blocks → started ≡ true → IsTransferred c d entry.body ending taken d' → answers ≡ ended_reply (record entry { command = c; body = taken }) ending modes.d_sense ∷ []
         → Around Turn (seen identity modes started attentions (task_of (record entry { command = c }) ∷ others) d) answers (seen identity modes started attentions others d')
     transferred c t on x is =
@@ -308,40 +363,51 @@ lost_turn identity modes started attentions entry others d d' answers kept cache
       quiet_after = quiet_none new;
     }
 
+-- a task that ends with sense data sets nothing
+still : (capacity n : ℕ) (modes wanted : Modes) (started : Bool) (sense : Sense) (command : Command) → IsTask capacity command n → (modes_after command (endings.Check sense) modes wanted ≡ modes) × (started_after command (endings.Check sense) started ≡ started)
+still capacity n modes wanted started sense command t =
+    of_task (λ c. (modes_after c (endings.Check sense) modes wanted ≡ modes) × (started_after c (endings.Check sense) started ≡ started)) capacity n command (λ form lba count fua t. (refl, refl)) (λ form lba count fua t. (refl, refl)) (λ form lba count none. (refl, refl)) (λ start no_flush none. (refl, refl)) (λ ten size none. (refl, refl)) t
+
+checked_seen : (identity : Identity) (modes wanted : Modes) (started : Bool) (attentions : List (List Attention)) (entry : Entry) (others : List Entry) (d' : DriveState) (sense : Sense) (ending : Ending) → IsKeptEntry identity entry → ending ≡ endings.Check sense
+    → ended_seen identity modes wanted started attentions entry ending others d' ≡ seen identity modes started attentions others d'
+checked_seen identity modes wanted started attentions entry others d' sense ending kept is =
+    let same = still identity.capacity entry.blocks modes wanted started sense entry.command kept.task in
+    ap (λ e. ended_seen identity modes wanted started attentions entry e others d') is
+    ∙ (ap (λ m. seen identity m (started_after entry.command (endings.Check sense) started) (with_modes_changed modes m entry.nexus attentions) others d') same.0
+    ∙ (ap (λ b. seen identity modes b (with_modes_changed modes modes entry.nexus attentions) others d') same.1
+    ∙ ap (λ a. seen identity modes started a others d') (unchanged modes entry.nexus attentions)))
+
 -- a task is answered with this sense without the drive
-unasked_turn : (identity : Identity) (modes : Modes) (started : Bool) (attentions : List (List Attention)) (entry : Entry) (others : List Entry) (d d' : DriveState) (sense : Sense) (ending : Ending) (taken : List Block) (answers : List Reply)
+unasked_turn : (identity : Identity) (modes wanted : Modes) (started : Bool) (attentions : List (List Attention)) (entry : Entry) (others : List Entry) (d d' : DriveState) (sense : Sense) (ending : Ending) (taken : List Block) (answers : List Reply)
     → ((reply : Reply) (mid : Device) → IsChecked sense (seen identity modes started attentions (task_of entry ∷ others) d) (task_of entry) reply mid → Ends (seen identity modes started attentions (task_of entry ∷ others) d) (task_of entry) reply mid)
     → IsUnasked sense d ending d' → IsKeptEntry identity entry → answers ≡ ended_reply (record entry { body = taken }) ending modes.d_sense ∷ []
-    → Around Turn (seen identity modes started attentions (task_of entry ∷ others) d) answers (seen identity modes (started_after entry.command ending started) attentions others d')
-unasked_turn identity modes started attentions entry others d d' sense ending taken answers how x kept is =
+    → Around Turn (seen identity modes started attentions (task_of entry ∷ others) d) answers (ended_seen identity modes wanted started attentions entry ending others d')
+unasked_turn identity modes wanted started attentions entry others d d' sense ending taken answers how x kept is =
     let s : Device = seen identity modes started attentions (task_of entry ∷ others) d in
     let mid : Device = seen identity modes started attentions others d in
     let reply : Reply = ended_reply (record entry { body = taken }) (endings.Check sense) modes.d_sense in
-    subst (λ b. Around Turn s answers (seen identity modes b attentions others d')) (sym (ap (λ e. started_after entry.command e started) x.sensed ∙ still))
+    subst (Around Turn s answers) (sym (checked_seen identity modes wanted started attentions entry others d' sense ending kept x.sensed))
     (ends_around s s mid (seen identity modes started attentions others d') (task_of entry) others reply answers (quiet_none s) refl
     (is ∙ ap (λ e. ended_reply (record entry { body = taken }) e modes.d_sense ∷ []) x.sensed)
     (how reply mid (first_checked identity modes started attentions entry others d taken sense))
     (quiet_same _ _ (ap (seen identity modes started attentions others) x.stays)))
-  where
-    still : started_after entry.command (endings.Check sense) started ≡ started
-    still = of_task (λ c. started_after c (endings.Check sense) started ≡ started) identity.capacity entry.blocks entry.command (λ form lba count fua t. refl) (λ form lba count fua t. refl) (λ form lba count none. refl) (λ start no_flush none. refl) kept.task
 
 -- a unit that is stopped, or the drive
 up_turn : (stopped : Bool) (identity : Identity) (modes : Modes) (started : Bool) (attentions : List (List Attention)) (entry : Entry) (others : List Entry) (d d' : DriveState) (ending : Ending) (taken : List Block) (answers : List Reply) → d.down ≡ false
     → IsKeptEntry identity entry → length d.cells ≡ identity.capacity → d.cache ≡ modes.wce → (not started && (asks entry.command).starts) ≡ stopped
-    → MatchBool stopped (IsUnasked not_ready d ending d') (CarriedOut entry.command d entry.body ending taken d') → answers ≡ ended_reply (record entry { body = taken }) ending modes.d_sense ∷ []
-    → Around Turn (seen identity modes started attentions (task_of entry ∷ others) d) answers (seen identity modes (started_after entry.command ending started) attentions others d')
+    → MatchBool stopped (IsUnasked not_ready d ending d') (CarriedOut (wanted_by modes entry.modes) entry.command d entry.body ending taken d') → answers ≡ ended_reply (record entry { body = taken }) ending modes.d_sense ∷ []
+    → Around Turn (seen identity modes started attentions (task_of entry ∷ others) d) answers (ended_seen identity modes (wanted_by modes entry.modes) started attentions entry ending others d')
 up_turn true identity modes started attentions entry others d d' ending taken answers up kept sectors cache stopped x is =
-    unasked_turn identity modes started attentions entry others d d' not_ready ending taken answers (λ reply mid e. ends_stopped _ _ _ _ up stopped e) x kept is
+    unasked_turn identity modes (wanted_by modes entry.modes) started attentions entry others d d' not_ready ending taken answers (λ reply mid e. ends_stopped _ _ _ _ up stopped e) x kept is
 up_turn false identity modes started attentions entry others d d' ending taken answers up kept sectors cache ready x is = task_turn identity modes started attentions entry others d d' ending taken answers kept sectors cache ready x is
 
 -- whichever decides, a lost link, a unit that is stopped, or the drive
 ended_turn : (identity : Identity) (modes : Modes) (down started : Bool) (attentions : List (List Attention)) (entry : Entry) (others : List Entry) (d d' : DriveState) (ending : Ending) (taken : List Block) (answers : List Reply) → down ≡ d.down
     → IsKeptEntry identity entry → length d.cells ≡ identity.capacity → (down ≡ false → d.cache ≡ modes.wce)
-    → TaskEnds down started entry.command d entry.body ending taken d' → answers ≡ ended_reply (record entry { body = taken }) ending modes.d_sense ∷ []
-    → Around Turn (seen identity modes started attentions (task_of entry ∷ others) d) answers (seen identity modes (started_after entry.command ending started) attentions others d')
+    → TaskEnds down started (wanted_by modes entry.modes) entry.command d entry.body ending taken d' → answers ≡ ended_reply (record entry { body = taken }) ending modes.d_sense ∷ []
+    → Around Turn (seen identity modes started attentions (task_of entry ∷ others) d) answers (ended_seen identity modes (wanted_by modes entry.modes) started attentions entry ending others d')
 ended_turn identity modes true started attentions entry others d d' ending taken answers mark kept sectors cache x is =
-    unasked_turn identity modes started attentions entry others d d' link_lost ending taken answers (λ reply mid e. ends_down _ _ _ _ (sym mark) e) x kept is
+    unasked_turn identity modes (wanted_by modes entry.modes) started attentions entry others d d' link_lost ending taken answers (λ reply mid e. ends_down _ _ _ _ (sym mark) e) x kept is
 ended_turn identity modes false started attentions entry others d d' ending taken answers mark kept sectors cache x is =
     up_turn (not started && (asks entry.command).starts) identity modes started attentions entry others d d' ending taken answers (sym mark) kept sectors (cache refl) refl x is
 
@@ -349,6 +415,10 @@ cut_turn : (identity : Identity) (modes : Modes) (down started : Bool) (attentio
     → IsLostInTask down started entry.command d entry.body d' → answers ≡ turns.lost_replies (seen identity modes started attentions (task_of entry ∷ others) d)
     → Around Turn (seen identity modes started attentions (task_of entry ∷ others) d) answers (seen identity modes started attentions [] d')
 cut_turn identity modes down started attentions entry others d d' answers mark kept cache x is = lost_turn identity modes started attentions entry others d d' answers kept (cache x.was_up) (sym mark ∙ x.was_up) x.ready x.lost is
+
+-- what is posted is what the device posts
+posted_changes : (old new : Modes) (nexus : ℕ) (tasks : List Held) (attentions : List (List Attention)) → once_posted (change_posting old new nexus) tasks attentions ≡ with_modes_changed old new nexus attentions
+posted_changes old new nexus tasks attentions = elim (are_same_modes old new) as (λ b. once_posted (if b then None else Some (ModesChanged nexus)) tasks attentions ≡ (if b then attentions else post (λ other. not (other == nexus)) ModeChanged attentions)) [ true ↦ refl | false ↦ refl ]
 
 -- ---- turns of the layer
 
@@ -360,12 +430,22 @@ module _ (identity : Identity) (modes : Modes) (started down : Bool) (attentions
   here : IsKeptEntry identity entry
   here = (first_kept identity tasks rest entry kept first).0
 
-  pub turn_ends : (ending : Ending) (taken : List Block) (given answers : List Reply) (reply : Reply) (started' : Bool) → TaskEnds down started entry.command d entry.body ending taken d' → given ≡ [] → answers ≡ given ++ reply ∷ [] → reply ≡ ended_reply (record entry { body = taken }) ending modes.d_sense → started' ≡ started_after entry.command ending started
-      → Around Turn (seen identity modes started attentions (map task_of (entries_of tasks)) d) answers (seen identity modes started' attentions (map task_of (entries_of rest)) d')
-  turn_ends ending taken given answers reply started' ends none push is after =
-      subst (λ b. Around Turn (seen identity modes started attentions (map task_of (entries_of tasks)) d) answers (seen identity modes b attentions (map task_of (entries_of rest)) d')) (sym after)
-      (subst (λ ts. Around Turn (seen identity modes started attentions ts d) answers (seen identity modes (started_after entry.command ending started) attentions (map task_of (entries_of rest)) d')) (sym all)
-      (ended_turn identity modes down started attentions entry (map task_of (entries_of rest)) d d' ending taken answers tied.mark here tied.valid.cells tied.cache ends (push ∙ (ap (λ l. l ++ reply ∷ []) none ∙ ap (λ r. r ∷ []) is))))
+  pub turn_ends : (ending : Ending) (taken : List Block) (given answers : List Reply) (reply : Reply) (started' : Bool) (wanted modes' : Modes) (posting : Option Posting) (attentions' : List (List Attention)) → wanted ≡ wanted_by modes entry.modes → TaskEnds down started wanted entry.command d entry.body ending taken d'
+      → given ≡ [] → answers ≡ given ++ reply ∷ [] → reply ≡ ended_reply (record entry { body = taken }) ending modes.d_sense → started' ≡ started_after entry.command ending started → modes' ≡ modes_after entry.command ending modes wanted → posting ≡ change_posting modes modes' entry.nexus → attentions' ≡ once_posted posting rest attentions
+      → Around Turn (seen identity modes started attentions (map task_of (entries_of tasks)) d) answers (seen identity modes' started' attentions' (map task_of (entries_of rest)) d')
+  turn_ends ending taken given answers reply started' wanted modes' posting attentions' wants ends none push is after changed posts told =
+      subst (Around Turn (seen identity modes started attentions (map task_of (entries_of tasks)) d) answers) (sym same)
+      (subst (λ ts. Around Turn (seen identity modes started attentions ts d) answers (ended_seen identity modes (wanted_by modes entry.modes) started attentions entry ending (map task_of (entries_of rest)) d')) (sym all)
+      (ended_turn identity modes down started attentions entry (map task_of (entries_of rest)) d d' ending taken answers tied.mark here tied.valid.cells tied.cache (subst (λ w. TaskEnds down started w entry.command d entry.body ending taken d') wants ends) (push ∙ (ap (λ l. l ++ reply ∷ []) none ∙ ap (λ r. r ∷ []) is))))
+    where
+      set : modes' ≡ modes_after entry.command ending modes (wanted_by modes entry.modes)
+      set = changed ∙ ap (modes_after entry.command ending modes) wants
+
+      listed : attentions' ≡ with_modes_changed modes (modes_after entry.command ending modes (wanted_by modes entry.modes)) entry.nexus attentions
+      listed = told ∙ (ap (λ p. once_posted p rest attentions) posts ∙ (posted_changes modes modes' entry.nexus rest attentions ∙ ap (λ m. with_modes_changed modes m entry.nexus attentions) set))
+
+      same : seen identity modes' started' attentions' (map task_of (entries_of rest)) d' ≡ ended_seen identity modes (wanted_by modes entry.modes) started attentions entry ending (map task_of (entries_of rest)) d'
+      same = ap (λ m. seen identity m started' attentions' (map task_of (entries_of rest)) d') set ∙ (ap (λ b. seen identity (modes_after entry.command ending modes (wanted_by modes entry.modes)) b attentions' (map task_of (entries_of rest)) d') after ∙ ap (λ a. seen identity (modes_after entry.command ending modes (wanted_by modes entry.modes)) (started_after entry.command ending started) a (map task_of (entries_of rest)) d') listed)
 
   pub turn_loses : (ending : Ending) (taken : List Block) (given pushed answers : List Reply) (reply : Reply) (left : List Held) → left ≡ [] → IsLostInTask down started entry.command d entry.body d' → given ≡ [] → pushed ≡ given ++ reply ∷ []
       → answers ≡ pushed ++ core.lost_replies modes.d_sense rest → reply ≡ ended_reply (record entry { body = taken }) ending modes.d_sense → ending ≡ endings.Check link_lost

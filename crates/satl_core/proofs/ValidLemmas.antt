@@ -1,6 +1,6 @@
 -- Each step of the layer leaves a valid device.
 use Rattle.std.proofs.Common.{◌≡◌, ⊎_elim, inl, refl, sym, ap, subst, ◌∙◌, arith, cond, ℕ, zero, suc, ◌+◌, ◌≤◌, Bool, true, false, List, [], ◌∷◌, ◌++◌, length, map, take, drop, get_or, set, Some, None}
-use Rattle.std.specs.Prelude.{Option, Ok, MatchBool, not, ◌||◌, ◌&&◌, ◌==◌, ◌*◌, nat_lt, filter, replicate}
+use Rattle.std.specs.Prelude.{Option, Ok, MatchBool, not, ◌||◌, ◌&&◌, ◌==◌, ◌*◌, nat_lt, filter, replicate, IfSome}
 use Rattle.std.specs.List.{AllByRecursion, list_any}
 use Rattle.std.proofs.lemmas.Bool.{eq-eqb, eqb-false, eqb-true, ltb-false}
 use Rattle.std.proofs.lemmas.List.{length-append, length-replicate, length-set}
@@ -22,13 +22,23 @@ use Rattle.satl_direct.specs.Arrival.{waits}
 use Rattle.satl_direct.specs.Device.{Device, is_called, is_of, once_told}
 use Rattle.satl_direct.specs.Tasks.{held_blocks, held_by, is_full, task_for, task_of}
 use Rattle.satl_direct.specs.Valid.{AreOwn, HasCome, IsValid}
-use Rattle.satl_core.specs.Layer.{Layer, Tied, view}
+use Rattle.satl_core.specs.Layer.{IsTask, Layer, Tied, view}
 use Rattle.satl_core.specs.Leaving.{left_by}
 use Rattle.satl_core.specs.Submitting.{is_for_unit, Becomes, IsAdded, IsRefused, attention_of, code_answer, judged, once_judged, overlaps, task_without_pages, untold}
 use Rattle.satl_core.specs.Running.{Stays}
 use Rattle.satl_core.proofs.ArrivalLemmas.{by_ok, code_waits, full_is, full_or_waits}
+use Rattle.satl_core.specs.declared.managing.Posting.{Posting}
+use Rattle.satl_core.specs.declared.turning.Ending.{Ending}
+use Rattle.satl_core.specs.declared.turning.Ending.TheVariants as endings
+use Rattle.satl_core.specs.Managing.{once_posted}
+use Rattle.satl_core.specs.Turning.{modes_after, wanted_by, where_done}
+use Rattle.satl_mode.specs.Changes.{AreModesOf, IsChangeOf}
+use Rattle.satl_mode.proofs.Unchanged.{applied_of}
+use Rattle.satl_base.specs.declared.modes.ModeChange.{ModeChange}
 use Rattle.satl_core.proofs.DeviceLemmas.{first_tasks, seen}
-use Rattle.satl_core.proofs.HeldLemmas.{IsFirst}
+use Rattle.satl_core.proofs.HeldLemmas.{IsFirst, IsKeptEntry}
+use Rattle.satl_core.proofs.PostingLemmas.{once_kept, once_length}
+use Rattle.satl_core.proofs.Transfers.{of_task}
 use Rattle.satl_core.proofs.LeavingLemmas.{found_is, left_tasks}
 
 -- ---- tests
@@ -264,19 +274,40 @@ becomes_tied l new d r c replies e b pages tied = tied_by l new d (ap (λ (x : L
       | false ↦ λ a. a.stays ∙ ap (λ (x : Layer). record l { tasks = new.tasks; free = new.free; out = x.out }) (sym a.stays)
     ]) b
 
+-- mode values that a task wants are such that the drive can have them
+wanted_valid : (identity : Identity) (modes : Modes) (change : Option ModeChange) → AreModesOf identity modes → IfSome change (IsChangeOf identity) → AreModesOf identity (wanted_by modes change)
+wanted_valid identity modes None valid may = valid
+wanted_valid identity modes (Some change) valid may = applied_of identity modes change valid may
+
+-- so what it does not set stays where the drive has not the feature
+pub wanted_cache : (identity : Identity) (modes wanted : Modes) (change : Option ModeChange) (has : Bool) → has ≡ identity.cache → wanted ≡ wanted_by modes change → AreModesOf identity modes → IfSome change (IsChangeOf identity) → has ≡ false → wanted.wce ≡ modes.wce
+wanted_cache identity modes wanted change has is wants valid may none = ap (λ (m : Modes). m.wce) wants ∙ ((wanted_valid identity modes change valid may).cache (sym is ∙ none) ∙ sym (valid.cache (sym is ∙ none)))
+
+pub wanted_look : (identity : Identity) (modes wanted : Modes) (change : Option ModeChange) (has : Bool) → has ≡ identity.look → wanted ≡ wanted_by modes change → AreModesOf identity modes → IfSome change (IsChangeOf identity) → has ≡ false → wanted.dra ≡ modes.dra
+wanted_look identity modes wanted change has is wants valid may none = ap (λ (m : Modes). m.dra) wants ∙ ((wanted_valid identity modes change valid may).look (sym is ∙ none) ∙ sym (valid.look (sym is ∙ none)))
+
+after_valid : (identity : Identity) (n : ℕ) (command : Command) (ending : Ending) (modes wanted : Modes) → IsTask identity.capacity command n → AreModesOf identity modes → AreModesOf identity wanted → AreModesOf identity (modes_after command ending modes wanted)
+after_valid identity n command ending modes wanted t old new =
+    of_task (λ c. AreModesOf identity (modes_after c ending modes wanted)) identity.capacity n command (λ form lba count fua t. old) (λ form lba count fua t. old) (λ form lba count none. old) (λ start no_flush none. old) (λ ten size none. by ending) t
+  where
+    by : (e : Ending) → AreModesOf identity (where_done e wanted modes)
+    by endings.Good = new
+    by (endings.Check sense) = old
+
 -- the first task is gone, and the link is as it was
-pub still_tied_rest : (identity : Identity) (modes : Modes) (started started' down : Bool) (attentions : List (List Attention)) (tasks rest : List Held) (entry : Entry) (free out free' out' : ℕ) (d d' : DriveState) → IsFirst tasks entry rest → d'.down ≡ down → d'.cache ≡ d.cache → d'.look ≡ d.look → Stays d d' → IsFit d'
+pub still_tied_rest : (identity : Identity) (modes wanted modes' : Modes) (started started' down : Bool) (posting : Option Posting) (attentions attentions' : List (List Attention)) (tasks rest : List Held) (entry : Entry) (ending : Ending) (free out free' out' : ℕ) (d d' : DriveState) → IsFirst tasks entry rest → IsKeptEntry identity entry → wanted ≡ wanted_by modes entry.modes
+    → modes' ≡ modes_after entry.command ending modes wanted → attentions' ≡ once_posted posting rest attentions → d'.down ≡ down → (down ≡ false → d'.cache ≡ (modes_after entry.command ending modes wanted).wce) → (down ≡ false → d'.look ≡ not (modes_after entry.command ending modes wanted).dra) → Stays d d' → IsFit d'
     → Tied (record { identity = identity; modes = modes; started = started; down = down; attentions = attentions; tasks = tasks; free = free; out = out }) d
-    → Tied (record { identity = identity; modes = modes; started = started'; down = down; attentions = attentions; tasks = rest; free = free'; out = out' }) d'
-still_tied_rest identity modes started started' down attentions tasks rest entry free out free' out' d d' first mark cache look stays fit tied =
+    → Tied (record { identity = identity; modes = modes'; started = started'; down = down; attentions = attentions'; tasks = rest; free = free'; out = out' }) d'
+still_tied_rest identity modes wanted modes' started started' down posting attentions attentions' tasks rest entry ending free out free' out' d d' first kept wants changed told mark cache look stays fit tied =
     let v = subst (λ ts. IsValid (seen identity modes started attentions ts d)) (first_tasks tasks rest entry first) tied.valid in
     record {
       mark = sym mark;
       idle = stays.idle;
       no_error = stays.no_error;
       fit = fit;
-      cache = λ up. cache ∙ tied.cache up;
-      look = λ up. look ∙ tied.look up;
+      cache = λ up. cache up ∙ sym (ap (λ (m : Modes). m.wce) changed);
+      look = λ up. look up ∙ sym (ap (λ (m : Modes). not m.dra) changed);
       has_cache = stays.has_cache ∙ tied.has_cache;
       has_look = stays.has_look ∙ tied.has_look;
       valid = record {
@@ -287,9 +318,9 @@ still_tied_rest identity modes started started' down attentions tasks rest entry
         blocks = omega (arith, v.blocks);
         own = v.own.1;
         come = v.come.1;
-        modes = v.modes;
-        nexuses = v.nexuses;
-        attentions = v.attentions;
+        modes = subst (AreModesOf identity) (sym changed) (after_valid identity entry.blocks entry.command ending modes wanted kept.task v.modes (subst (AreModesOf identity) (sym wants) (wanted_valid identity modes entry.modes v.modes kept.change)));
+        nexuses = ap length told ∙ (once_length posting rest attentions ∙ v.nexuses);
+        attentions = subst (AllByRecursion IsInReportOrder) (sym told) (once_kept posting rest attentions v.attentions);
       };
     }
 

@@ -8,6 +8,7 @@ use Rattle.satl_cdb.specs.declared.command.Command.{Command}
 use Rattle.satl_cdb.specs.declared.command.Command.TheVariants.{Flush, Inquiry, ModeSelect, ModeSense, Pass, Read, ReadCapacity10, ReadCapacity16, ReportLuns, RequestSense, StartStop, TestUnitReady, Unmap, Verify, Write, WriteSame}
 use Rattle.satl_identify.specs.declared.identity.Identity.{Identity}
 use Rattle.satl_identify.specs.Refusals.{IsIdentity}
+use Rattle.satl_mode.specs.Changes.{IsChangeOf}
 use Rattle.satl_line.specs.Kinds.{kind_of}
 use Rattle.satl_line.specs.Tasks.{Held, entries_of}
 use Rattle.satl_pages.specs.Counts.{Counts, number_of}
@@ -35,14 +36,14 @@ abbrev pub held_pages : List Held → ℕ
 held_pages [] = 0
 held_pages (h ∷ hs) = length h.entry.body + held_pages hs
 
--- the commands that are served so far: those that the device answers from what it says of itself, READ, WRITE, SYNCHRONIZE CACHE and START
--- STOP UNIT (profile)
+-- the commands that are served so far: those that the device answers from what it says of itself, READ, WRITE, SYNCHRONIZE CACHE, START
+-- STOP UNIT and MODE SELECT (profile)
 abbrev pub IsServed : Command → Type 0
 IsServed TestUnitReady = Unit {0}
 IsServed (RequestSense descriptor alloc) = Unit {0}
 IsServed (Inquiry page alloc) = Unit {0}
 IsServed (ModeSense ten long_lba no_descriptor control page alloc) = Unit {0}
-IsServed (ModeSelect ten size) = ⊥
+IsServed (ModeSelect ten size) = Unit {0}
 IsServed (StartStop start no_flush) = Unit {0}
 IsServed ReadCapacity10 = Unit {0}
 IsServed (ReadCapacity16 alloc) = Unit {0}
@@ -78,14 +79,14 @@ IsTransfer capacity (WriteSame form lba count unmap) blocks = ⊥
 IsTransfer capacity (Unmap size) blocks = ⊥
 IsTransfer capacity (Pass cdb) blocks = ⊥
 
--- a command that makes a task, which holds so many blocks: a READ or a WRITE of its blocks, and SYNCHRONIZE CACHE and START STOP UNIT of
--- none (profile)
+-- a command that makes a task, which holds so many blocks: a READ or a WRITE of its blocks, and MODE SELECT, SYNCHRONIZE CACHE and START
+-- STOP UNIT of none (profile)
 abbrev pub IsTask : ℕ → Command → ℕ → Type 0
 IsTask capacity TestUnitReady blocks = ⊥
 IsTask capacity (RequestSense descriptor alloc) blocks = ⊥
 IsTask capacity (Inquiry page alloc) blocks = ⊥
 IsTask capacity (ModeSense ten long_lba no_descriptor control page alloc) blocks = ⊥
-IsTask capacity (ModeSelect ten size) blocks = ⊥
+IsTask capacity (ModeSelect ten size) blocks = (blocks ≡ 0) × (size < 65536)
 IsTask capacity (StartStop start no_flush) blocks = blocks ≡ 0
 IsTask capacity ReadCapacity10 blocks = ⊥
 IsTask capacity (ReadCapacity16 alloc) blocks = ⊥
@@ -102,11 +103,13 @@ IsTask capacity (Pass cdb) blocks = ⊥
 abbrev pub IsExpectable : Option ℕ → Type 0
 IsExpectable expected = IfSome expected (λ count. count ≤ 2097152)
 
--- a task holds as many pages as blocks, is one that its command makes, and is of the kind of its command (profile)
+-- a task holds as many pages as blocks, is one that its command makes, is of the kind of its command, and changes mode values alone that
+-- the drive can change (profile)
 pub record IsKept (identity : Identity) (h : Held) : Type 0 where
   pub pages : length h.entry.body ≡ h.entry.blocks
   pub task : IsTask identity.capacity h.entry.command h.entry.blocks
   pub kind : h.entry.kind ≡ kind_of h.entry.command identity.queued_trim
+  pub change : IfSome h.entry.modes (IsChangeOf identity)
   pub expected : IsExpectable h.entry.expected
 
 -- the direct device that the layer and its drive are (profile)

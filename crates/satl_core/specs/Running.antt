@@ -1,5 +1,5 @@
 -- ATA commands on a drive with nothing outstanding and in no error state, one or several for a task.
-use Rattle.std.specs.Prelude.{◌≡◌, ◌⊎◌, ◌+◌, not, true, false, Bool, if◌then◌else◌, List, [], None, map}
+use Rattle.std.specs.Prelude.{◌≡◌, ◌⊎◌, ◌+◌, ◌&&◌, not, true, false, Bool, if◌then◌else◌, List, [], None, map}
 use Rattle.satl_base.specs.declared.block.Block.{Block}
 use Rattle.satl_base.specs.Cells.{AreSound, Cell, Pair, settle}
 use Rattle.satl_base.specs.Identify.{has_cache, has_look}
@@ -101,3 +101,11 @@ pub record IsLeftWith (cells : List Cell) (active : Bool) (old new : DriveState)
 abbrev pub IsSwitched : Bool → Bool → DriveState → DriveState → Type 0
 IsSwitched true no_flush old new = IsLeftWith old.cells true old new
 IsSwitched false no_flush old new = IsLeftWith (settled_if (not no_flush) old.cells) false old new
+
+-- write cache and look-ahead are on or off so, and all was written back where the cache was turned off (ACS-3, SET FEATURES)
+pub record IsTuned (cache look : Bool) (old new : DriveState) : Type 0 where
+  pub was_up : old.down ≡ false
+  pub cache_is : new.cache ≡ cache
+  pub look_is : new.look ≡ look
+  pub lost : Loses (settled_if (old.cache && not cache) old.cells) new.cells
+  pub stays : new ≡ record old { cells = new.cells; cache = new.cache; look = new.look; identify = new.identify }

@@ -1,5 +1,5 @@
 -- What the layer is asked with, and what becomes of it.
-use Rattle.std.specs.Prelude.{◌≡◌, ◌⊎◌, ℕ, ◌*◌, ◌+◌, ◌≤◌, ◌==◌, ◌||◌, ◌&&◌, not, nat_lt, Bool, if◌then◌else◌, Option, Some, None, Result, Ok, Err, List, [], ◌∷◌, ◌++◌, length, map, take, drop, is_some, slice_get, slice_index, slice_index_or, slice_set, MatchBool}
+use Rattle.std.specs.Prelude.{◌≡◌, ◌⊎◌, ℕ, ◌*◌, ◌+◌, ◌≤◌, ◌<◌, ◌==◌, ◌||◌, ◌&&◌, not, nat_lt, Bool, if◌then◌else◌, Option, Some, None, Result, Ok, Err, List, [], ◌∷◌, ◌++◌, length, map, take, drop, is_some, slice_get, slice_index, slice_index_or, slice_set, MatchBool}
 use Rattle.std.specs.List.{position_from}
 use Rattle.satl_base.specs.declared.request.Request.{Request}
 use Rattle.satl_base.specs.declared.reply.Reply.{Reply}
@@ -18,7 +18,7 @@ use Rattle.satl_unit.specs.declared.attention.Attention.{Attention}
 use Rattle.satl_direct.specs.Arrival.{asks_for, built, code_of, is_unit_0, reply_to, told, untold_codes}
 use Rattle.satl_direct.specs.Device.{is_of}
 use Rattle.satl_direct.specs.Senses.{attention_sense, link_lost, no_sense, not_ready, out_of_range, overlapped, refusal, sense_text, short_data, unknown_operation, unknown_unit}
-use Rattle.satl_direct.specs.Tasks.{needed, range_of, task_for, task_of}
+use Rattle.satl_direct.specs.Tasks.{asks, needed, range_of, task_for, task_of}
 use Rattle.satl_core.specs.declared.submitting.AtOnce.{AtOnce}
 use Rattle.satl_core.specs.declared.submitting.AtOnce.TheVariants as at_once
 use Rattle.satl_line.specs.Tasks.{Held, entries_of, is_named, is_too_much}
@@ -67,7 +67,7 @@ answer_to l (commands.ReadCapacity16 alloc) = Err (at_once.Tell datas.Capacity16
 answer_to l (commands.ReportLuns select alloc) = Err (at_once.Tell (datas.Luns select) alloc)
 answer_to l (commands.Read form lba count fua) = if count == 0 then Err (readiness l) else Ok (commands.Read form lba count fua)
 answer_to l (commands.Write form lba count fua) = if count == 0 then Err (readiness l) else Ok (commands.Write form lba count fua)
-answer_to l (commands.ModeSelect ten size) = Err (at_once.Check unknown_operation)
+answer_to l (commands.ModeSelect ten size) = if size == 0 then Err (readiness l) else Ok (commands.ModeSelect ten size)
 answer_to l (commands.StartStop start no_flush) = Ok (commands.StartStop start no_flush)
 answer_to l (commands.Verify form lba count compare) = Err (at_once.Check unknown_operation)
 answer_to l (commands.Flush form lba count) = Ok (commands.Flush form lba count)
@@ -75,23 +75,36 @@ answer_to l (commands.WriteSame form lba count unmap) = Err (at_once.Check unkno
 answer_to l (commands.Unmap size) = Err (at_once.Check unknown_operation)
 answer_to l (commands.Pass cdb) = Err (at_once.Check unknown_operation)
 
+-- refused with this, if there is something, and else what follows (SPC-4 4.5.6)
+abbrev pub unless_refused : Option Illegal → Result Command AtOnce → Result Command AtOnce
+unless_refused None next = next
+unless_refused (Some why) next = Err (at_once.Check (refusal why))
+
 -- why a command whose fields are good is answered at once, but for a full task set (profile)
-abbrev pub command_answer : Layer → ℕ → Command → Result Command AtOnce
-command_answer l data_len command =
+abbrev pub command_answer : Layer → Request → Command → Result Command AtOnce
+command_answer l r command =
     if nat_lt l.identity.capacity ((range_of command).lba + (range_of command).count) then Err (at_once.Check out_of_range)
-    else if nat_lt data_len (needed command) then Err (at_once.Check short_data)
-    else answer_to l command
+    else if nat_lt r.data_len (needed command) then Err (at_once.Check short_data)
+    else unless_refused ((asks command).data_fault l.identity l.modes r.body) (answer_to l command)
 
 -- the fields, and then the command (profile)
-abbrev pub cdb_answer : Layer → ℕ → Result Command Illegal → Result Command AtOnce
-cdb_answer l data_len (Err why) = Err (at_once.Check (refusal why))
-cdb_answer l data_len (Ok command) = command_answer l data_len command
+abbrev pub cdb_answer : Layer → Request → Result Command Illegal → Result Command AtOnce
+cdb_answer l r (Err why) = Err (at_once.Check (refusal why))
+cdb_answer l r (Ok command) = command_answer l r command
 
 -- the operation code, and then the fields (profile)
 abbrev pub code_answer : Layer → Request → Result Command AtOnce
 code_answer l r =
     if not (is_in (code_of r) built) then Err (at_once.Check unknown_operation)
-    else cdb_answer l r.data_len (says r.cdb l.identity.trim)
+    else cdb_answer l r (says r.cdb l.identity.trim)
+
+-- the pages of a request hold all of its data-out, or 65,536 bytes of it, more than a parameter list has (profile)
+abbrev pub HoldsList : Request → Type 0
+HoldsList r = (r.data_len ≤ 512 * length r.body) ⊎ (65536 ≤ 512 * length r.body)
+
+-- the bytes of a CDB that tell the length of a parameter list are bytes (SPC-4, MODE SELECT commands)
+abbrev pub HasLengths : List ℕ → Type 0
+HasLengths cdb = (slice_index cdb 4 < 256) × (slice_index cdb 7 < 256) × (slice_index cdb 8 < 256)
 
 -- whether a task has the nexus and tag of a request (SAM-5 5.1, overlapped commands)
 abbrev pub overlaps : List Held → Request → Bool

@@ -1,6 +1,8 @@
 -- How the layer ends a task.
-use Rattle.std.specs.Prelude.{◌≡◌, ℕ, ◌*◌, ◌==◌, ◌&&◌, not, Bool, false, if◌then◌else◌, List, [], length, map, MatchBool, bit_and}
+use Rattle.std.specs.Prelude.{◌≡◌, ℕ, ◌*◌, ◌==◌, ◌&&◌, not, Bool, false, if◌then◌else◌, List, [], length, map, MatchBool, bit_and, Option, Some, None, unwrap_or}
 use Rattle.satl_base.specs.declared.block.Block.{Block}
+use Rattle.satl_base.specs.declared.modes.ModeChange.{ModeChange}
+use Rattle.satl_base.specs.declared.modes.Modes.{Modes}
 use Rattle.satl_base.specs.declared.reply.Reply.{Reply}
 use Rattle.satl_base.specs.declared.reply.Scsi.{Scsi}
 use Rattle.satl_base.specs.declared.reply.Scsi.TheVariants as statuses
@@ -18,11 +20,15 @@ use Rattle.satl_regs.specs.Spelling.{command_registers}
 use Rattle.satl_regs.specs.declared.values.AtaCommand.TheVariants as commands
 use Rattle.satl_regs.specs.declared.values.How.TheVariants.{DmaExt}
 use Rattle.satl_line.specs.Tasks.{Held}
+use Rattle.satl_mode.specs.Changes.{applied, no_change}
+use Rattle.satl_direct.specs.Attentions.{are_same_modes}
 use Rattle.satl_direct.specs.Tasks.{asks}
 use Rattle.satl_direct.specs.Senses.{crc_error, link_lost, not_ready, out_of_range, plain, read_error, write_error}
 use Rattle.satl_regs.specs.Effects.{Does, Medium}
 use Rattle.satl_drive.specs.State.{DriveState, medium_of}
-use Rattle.satl_core.specs.Running.{IsLeftWith, IsLostIn, IsSwitched}
+use Rattle.satl_core.specs.Running.{IsLeftWith, IsLostIn, IsSwitched, IsTuned}
+use Rattle.satl_core.specs.declared.managing.Posting.{Posting}
+use Rattle.satl_core.specs.declared.managing.Posting.TheVariants.{ModesChanged}
 use Rattle.satl_core.specs.declared.turning.Ending.{Ending}
 use Rattle.satl_core.specs.declared.turning.Ending.TheVariants as endings
 
@@ -155,33 +161,33 @@ pub record IsTransferred (command : Command) (old : DriveState) (given : List Bl
   pub glitches : new.glitches ≡ after.glitches
   pub up : new.down ≡ false
 
--- what the drive did for the command of a task, and how the task ends: a READ and a WRITE by the end of their command, all others well
--- (SAT-3 8 and 9)
-abbrev pub CarriedOut : Command → DriveState → List Block → Ending → List Block → DriveState → Type 0
-CarriedOut TestUnitReady old given ending taken new = ⊥
-CarriedOut (RequestSense descriptor alloc) old given ending taken new = ⊥
-CarriedOut (Inquiry page alloc) old given ending taken new = ⊥
-CarriedOut (ModeSense ten long_lba no_descriptor control page alloc) old given ending taken new = ⊥
-CarriedOut (ModeSelect ten size) old given ending taken new = ⊥
-CarriedOut (StartStop start no_flush) old given ending taken new = (ending ≡ endings.Good) × IsSwitched start no_flush old new
-CarriedOut ReadCapacity10 old given ending taken new = ⊥
-CarriedOut (ReadCapacity16 alloc) old given ending taken new = ⊥
-CarriedOut (ReportLuns select alloc) old given ending taken new = ⊥
-CarriedOut (Read form lba count fua) old given ending taken new = IsTransferred (Read form lba count fua) old given ending taken new
-CarriedOut (Write form lba count fua) old given ending taken new = IsTransferred (Write form lba count fua) old given ending taken new
-CarriedOut (Verify form lba count compare) old given ending taken new = ⊥
-CarriedOut (Flush form lba count) old given ending taken new = (ending ≡ endings.Good) × IsLeftWith (map settle old.cells) old.active old new
-CarriedOut (WriteSame form lba count unmap) old given ending taken new = ⊥
-CarriedOut (Unmap size) old given ending taken new = ⊥
-CarriedOut (Pass cdb) old given ending taken new = ⊥
+-- what the drive did for the command of a task that wants these mode values, and how the task ends: a READ and a WRITE by the end of their
+-- command, all others well (SAT-3 8 and 9)
+abbrev pub CarriedOut : Modes → Command → DriveState → List Block → Ending → List Block → DriveState → Type 0
+CarriedOut wanted TestUnitReady old given ending taken new = ⊥
+CarriedOut wanted (RequestSense descriptor alloc) old given ending taken new = ⊥
+CarriedOut wanted (Inquiry page alloc) old given ending taken new = ⊥
+CarriedOut wanted (ModeSense ten long_lba no_descriptor control page alloc) old given ending taken new = ⊥
+CarriedOut wanted (ModeSelect ten size) old given ending taken new = (ending ≡ endings.Good) × IsTuned wanted.wce (not wanted.dra) old new
+CarriedOut wanted (StartStop start no_flush) old given ending taken new = (ending ≡ endings.Good) × IsSwitched start no_flush old new
+CarriedOut wanted ReadCapacity10 old given ending taken new = ⊥
+CarriedOut wanted (ReadCapacity16 alloc) old given ending taken new = ⊥
+CarriedOut wanted (ReportLuns select alloc) old given ending taken new = ⊥
+CarriedOut wanted (Read form lba count fua) old given ending taken new = IsTransferred (Read form lba count fua) old given ending taken new
+CarriedOut wanted (Write form lba count fua) old given ending taken new = IsTransferred (Write form lba count fua) old given ending taken new
+CarriedOut wanted (Verify form lba count compare) old given ending taken new = ⊥
+CarriedOut wanted (Flush form lba count) old given ending taken new = (ending ≡ endings.Good) × IsLeftWith (map settle old.cells) old.active old new
+CarriedOut wanted (WriteSame form lba count unmap) old given ending taken new = ⊥
+CarriedOut wanted (Unmap size) old given ending taken new = ⊥
+CarriedOut wanted (Pass cdb) old given ending taken new = ⊥
 
 -- how the task ends whose turn it is: the first that holds decides, a lost link, a unit that is stopped where the command needs it started,
 -- and the drive (SAT-3 11; profile)
-abbrev pub TaskEnds : Bool → Bool → Command → DriveState → List Block → Ending → List Block → DriveState → Type 0
-TaskEnds down started command old given ending taken new =
+abbrev pub TaskEnds : Bool → Bool → Modes → Command → DriveState → List Block → Ending → List Block → DriveState → Type 0
+TaskEnds down started wanted command old given ending taken new =
     MatchBool down (IsUnasked link_lost old ending new)
     (MatchBool (not started && (asks command).starts) (IsUnasked not_ready old ending new)
-    (CarriedOut command old given ending taken new))
+    (CarriedOut wanted command old given ending taken new))
 
 -- the link was lost while a task was carried out, at a unit that is started where the command needs it (profile)
 pub record IsLostInTask (down started : Bool) (command : Command) (old : DriveState) (given : List Block) (new : DriveState) : Type 0 where
@@ -190,7 +196,7 @@ pub record IsLostInTask (down started : Bool) (command : Command) (old : DriveSt
   pub lost : IsLostIn (pairs_written old.cache command given) old new
 
 -- one of two by how a task ended: the first where it is done (profile)
-abbrev pub where_done : Ending → Bool → Bool → Bool
+abbrev pub where_done : {A : Type 0} → Ending → A → A → A
 where_done endings.Good done kept = done
 where_done (endings.Check sense) done kept = kept
 
@@ -212,3 +218,30 @@ started_after (Flush form lba count) ending started = started
 started_after (WriteSame form lba count unmap) ending started = started
 started_after (Unmap size) ending started = started
 started_after (Pass cdb) ending started = started
+
+-- the mode values that a task wants: those that there are, with what it changes (SPC-4, MODE SELECT commands)
+abbrev pub wanted_by : Modes → Option ModeChange → Modes
+wanted_by modes change = applied modes (unwrap_or change no_change)
+
+-- the mode values once a task has ended: a MODE SELECT that is done sets those that it wants (SPC-4, MODE SELECT commands)
+abbrev pub modes_after : Command → Ending → Modes → Modes → Modes
+modes_after TestUnitReady ending modes wanted = modes
+modes_after (RequestSense descriptor alloc) ending modes wanted = modes
+modes_after (Inquiry page alloc) ending modes wanted = modes
+modes_after (ModeSense ten long_lba no_descriptor control page alloc) ending modes wanted = modes
+modes_after (ModeSelect ten size) ending modes wanted = where_done ending wanted modes
+modes_after (StartStop start no_flush) ending modes wanted = modes
+modes_after ReadCapacity10 ending modes wanted = modes
+modes_after (ReadCapacity16 alloc) ending modes wanted = modes
+modes_after (ReportLuns select alloc) ending modes wanted = modes
+modes_after (Read form lba count fua) ending modes wanted = modes
+modes_after (Write form lba count fua) ending modes wanted = modes
+modes_after (Verify form lba count compare) ending modes wanted = modes
+modes_after (Flush form lba count) ending modes wanted = modes
+modes_after (WriteSame form lba count unmap) ending modes wanted = modes
+modes_after (Unmap size) ending modes wanted = modes
+modes_after (Pass cdb) ending modes wanted = modes
+
+-- what is posted where mode values were set by a nexus: the others are told where a value has changed (SPC-4, MODE SELECT commands)
+abbrev pub change_posting : Modes → Modes → ℕ → Option Posting
+change_posting old new nexus = if are_same_modes old new then None else Some (ModesChanged nexus)

@@ -1,5 +1,5 @@
 // What becomes of a request, judged in the order of the steps.
-ghost use Rattle.std.specs.Prelude.{◌≡◌, ◌+◌, List, nat_lt};
+ghost use Rattle.std.specs.Prelude.{◌≡◌, ◌⊎◌, ◌≤◌, ◌+◌, ◌*◌, List, length, nat_lt};
 ghost use Rattle.satl_base.specs.Lists.{is_in};
 ghost use Rattle.satl_direct.specs.Arrival.{built, is_unit_0, untold_codes};
 ghost use Rattle.satl_direct.specs.Senses.{attention_sense, plain, refusal};
@@ -9,13 +9,15 @@ ghost use Rattle.satl_core.specs.Layer.{IsServed};
 ghost use Rattle.satl_core.specs.Submitting.{is_for_unit};
 
 use arrayvec::ArrayVec;
-use satl_base::{Attr, Range, Request};
+use satl_base::{Attr, ModeChange, Pages, Range, Request};
 use satl_cdb::{Command, Illegal};
+use satl_mode::select_change;
 use satl_sense::{Extra, Sense};
 use satl_unit::Attention;
 
 /// The operation codes that are served so far: TEST UNIT READY, REQUEST SENSE, INQUIRY, MODE SENSE, READ CAPACITY and REPORT
-/// LUNS, READ and WRITE in each form, START STOP UNIT, and SYNCHRONIZE CACHE in each form.
+/// LUNS, READ and WRITE in each form, START STOP UNIT, and MODE SELECT and SYNCHRONIZE CACHE in each
+/// form.
 pub fn is_built(code: u8) -> bool
     ensures { result ≡ is_in code built }
 {
@@ -25,12 +27,14 @@ pub fn is_built(code: u8) -> bool
             | 0x08
             | 0x0A
             | 0x12
+            | 0x15
             | 0x1A
             | 0x1B
             | 0x25
             | 0x28
             | 0x2A
             | 0x35
+            | 0x55
             | 0x5A
             | 0x88
             | 0x8A
@@ -118,7 +122,20 @@ pub fn needed(command: &Command) -> u64
 {
     match *command {
         Command::Write { count, .. } => 512 * u64::from(count),
+        Command::ModeSelect { length, .. } => u64::from(length),
         _ => 0,
+    }
+}
+
+/// What a command changes of the mode values: what its parameter list sets (SPC-4, MODE SELECT commands).
+pub fn change_of(command: &Command, body: &Pages) -> Option<ModeChange>
+    requires served { IsServed command.now }
+    requires holds { needed command.now ≤ 512 * length body.now ⊎ needed command.now ≤ 512 * held_blocks command.now }
+    ensures { result ≡ (asks command.now).change body.now }
+{
+    match *command {
+        Command::ModeSelect { ten, length } => Some(select_change(body, length, ten)),
+        _ => None,
     }
 }
 

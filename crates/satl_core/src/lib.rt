@@ -8,6 +8,7 @@ mod flushing;
 mod leaving;
 mod managing;
 mod satl;
+mod selecting;
 mod settings;
 mod submitting;
 mod telling;

@@ -10,7 +10,7 @@ use satl_base::{Manage, Nexus, Response};
 use satl_line::TaskSet;
 use satl_unit::{Attention, Attentions, Function};
 
-/// Which nexuses are told of a function (SAM-5 7).
+/// Which nexuses are told of a function, or of mode values (SAM-5 7).
 #[derive(Clone, Copy, Debug, PartialEq, Eq)]
 pub enum Posting {
     /// This nexus cleared the tasks of all: each other one that has a task is told.
@@ -19,6 +19,8 @@ pub enum Posting {
     UnitReset,
     /// This nexus was reset: it is told.
     NexusLoss(Nexus),
+    /// This nexus changed mode values: each other one is told (SPC-4, MODE SELECT commands).
+    ModesChanged(Nexus),
 }
 
 /// What a function does: which tasks go, what it posts, and its response (SAM-5 7).
@@ -134,6 +136,7 @@ fn condition_of(posting: &Posting) -> Attention
         Posting::ClearedBy(_) => Attention::Cleared,
         Posting::UnitReset => Attention::UnitReset,
         Posting::NexusLoss(_) => Attention::NexusLoss,
+        Posting::ModesChanged(_) => Attention::ModeChanged,
     }
 }
 
@@ -145,5 +148,6 @@ fn is_told(posting: &Posting, tasks: &TaskSet, nexus: Nexus) -> bool
         Posting::ClearedBy(asker) => nexus != *asker && has_any(tasks, &Scope::OfNexus(nexus)),
         Posting::UnitReset => true,
         Posting::NexusLoss(lost) => nexus == *lost,
+        Posting::ModesChanged(by) => nexus != *by,
     }
 }

@@ -6,15 +6,17 @@ ghost use Rattle.satl_io.specs.Causes.{RoseBy};
 ghost use Rattle.satl_drive.specs.State.{IsFit};
 ghost use Rattle.satl_frame.specs.Output.{IsWritable};
 ghost use Rattle.satl_direct.specs.Arrival.{Arrives};
-ghost use Rattle.satl_direct.specs.Tasks.{held_blocks, needed};
+ghost use Rattle.satl_direct.specs.Tasks.{asks, held_blocks, needed};
 ghost use Rattle.satl_direct.specs.Quiet.{Around};
 ghost use Rattle.satl_direct.specs.Run.{Manages, MayLose, bench_losses, losses_of};
 ghost use Rattle.satl_direct.specs.Bench.{Happens};
 ghost use Rattle.satl_core.specs.Benching.{Follows, StartsAnew};
 ghost use Rattle.satl_direct.specs.Turn.{Turn};
-ghost use Rattle.satl_core.specs.Layer.{IsTask, Tied, reply_pages, view};
+ghost use Rattle.satl_core.specs.Layer.{IsServed, IsTask, Tied, reply_pages, view};
 ghost use Rattle.satl_core.specs.Opening.{IsCause, IsOpened};
-ghost use Rattle.satl_core.specs.Submitting.{Becomes, CanSubmit, IsCutOf, judged, once_judged};
+ghost use Rattle.satl_core.specs.Submitting.{Becomes, CanSubmit, HasLengths, HoldsList, IsCutOf, judged, once_judged};
+ghost use Rattle.satl_mode.specs.Changes.{AreModesOf, IsChangeOf};
+ghost use Rattle.satl_line.specs.Tasks.{total_blocks};
 ghost use Rattle.satl_core.specs.Turning.{task_calls};
 
 use crate::arrival::{is_for_unit, plain};
@@ -22,9 +24,10 @@ use crate::benching::{act_on, default_modes, powered_on};
 use crate::commands::tell_identity;
 use crate::leaving::{Scope, drop_tasks};
 use crate::managing::{decide, post};
+use crate::selecting::{change_posting, modes_after, wanted_by};
 use crate::submitting::{
-    AtOnce, answer_at_once, judge_code, next_attention, other_answer, own_pages, reply_to,
-    task_without_pages, tell_attention,
+    AtOnce, answer_at_once, judge_code, next_attention, other_answer, own_pages, read_lengths,
+    reply_to, task_without_pages, tell_attention,
 };
 use crate::turning::{end_task, link_lost, lose_tasks, run_task, started_after};
 use satl_base::{
@@ -173,16 +176,24 @@ impl Satl {
     /// tasks of its nexus go without an answer (SAM-5 5.1). A unit attention that it is answered with is told by that (SAM-5
     /// 5.14).
     fn judge(&mut self, request: &Request) -> Result<Command, AtOnce>
+        requires can { CanSubmit request.now self.old.free self.old.out }
+        requires few { total_blocks self.old.tasks ≤ 32768 }
         ensures judged { result ≡ judged self.old request.now }
         ensures left { self.new ≡ record (once_judged self.old request.now) { free = self.new.free } }
         ensures kept { self.new ≡ record self.old { tasks = self.new.tasks; attentions = self.new.attentions; free = self.new.free } }
         ensures same { OnOk result (self.new ≡ self.old) }
+        ensures holds { HoldsList request.now }
+        ensures lengths { HasLengths request.now.cdb }
+        ensures served { IfOk result (λ command. IsServed command) }
         ensures task { IfOk result (λ command. IsTask self.old.identity.capacity command (held_blocks command)) }
+        ensures change { AreModesOf self.old.identity self.old.modes → IfOk result (λ command. IfSome ((asks command).change request.now.body) (IsChangeOf self.old.identity)) }
     {
+        read_lengths(request);
+        let overlaps = self.tasks.find(request.nexus, request.tag).is_some();
         if !is_for_unit(request) {
             return Err(other_answer(request));
         }
-        if self.tasks.find(request.nexus, request.tag).is_some() {
+        if overlaps {
             drop_tasks(
                 &mut self.tasks,
                 &mut self.pool,
@@ -200,6 +211,9 @@ impl Satl {
     fn add_task(&mut self, request: Request, command: Command, replies: &mut Replies)
         requires can { CanSubmit request self.old.free self.old.out }
         requires judged { judged self.old request ≡ Ok command }
+        requires served { IsServed command }
+        requires holds { HoldsList request }
+        requires change { IfSome ((asks command).change request.body) (IsChangeOf self.old.identity) }
         requires task { IsTask self.old.identity.capacity command (held_blocks command) }
         requires empty { replies.old ≡ [] }
         ensures becomes { Becomes request command self.old replies.new self.new }
@@ -232,7 +246,6 @@ impl Satl {
         ensures pages { self.new.out ≡ reply_pages replies.new }
         ensures writable { AllByRecursion IsWritable replies.new }
         ensures fewer { length self.new.tasks ≤ length self.old.tasks - 1 }
-        ensures modes { self.new.modes ≡ self.old.modes }
         ensures counted { RoseBy (losses_of (view self.old (D.state drive.old)) (view self.new (D.state drive.new))) (D.state drive.old).faults (D.state drive.new).faults }
         ensures steps { steps.new ≤ steps.old + task_calls }
         ensures calls { steps.new + task_calls * length self.new.tasks ≤ steps.old + task_calls * length self.old.tasks }
@@ -243,16 +256,22 @@ impl Satl {
         let mut task = self.tasks.remove(0);
         let command = task.command;
         let descriptor = self.modes.d_sense;
+        let wanted = wanted_by(&self.modes, &task.modes);
         match run_task(
             self.down,
             self.started,
-            self.modes.wce,
+            &self.modes,
+            &wanted,
             drive,
             &command,
             &mut task.body,
             steps,
         ) {
             Ok(ending) => {
+                let modes = modes_after(&command, ending, &self.modes, &wanted);
+                let posting = change_posting(&self.modes, &modes, task.nexus);
+                post(&mut self.attentions, &self.tasks, &posting);
+                self.modes = modes;
                 self.started = started_after(&command, ending, self.started);
                 replies.push(end_task(&mut self.pool, task, ending, descriptor));
             }

@@ -1,11 +1,13 @@
 // The settings of a drive: its write cache, and read look-ahead.
-ghost use Rattle.std.specs.Prelude.{◌≡◌, ◌+◌, [], None, Some, true, OnOk, OnErr};
+ghost use Rattle.std.specs.Prelude.{◌≡◌, ◌+◌, [], None, Some, true, OnOk, OnErr, ◌≤◌, not, false};
 ghost use Rattle.satl_drive.specs.State.{IsFit};
 ghost use Rattle.satl_regs.specs.Effects.{has_setting, setting_of};
-ghost use Rattle.satl_core.specs.Running.{IsCutShort, IsSetOn, Stays, setting};
+ghost use Rattle.satl_base.specs.Cells.{AreSound};
+ghost use Rattle.satl_base.specs.Identify.{has_cache, has_look};
+ghost use Rattle.satl_core.specs.Running.{IsCutShort, IsLostIn, IsSetOn, IsTuned, Stays, setting};
 
 use crate::commands::run_bare;
-use satl_base::Steps;
+use satl_base::{Modes, Steps};
 use satl_drive::{Drive, LinkDown};
 use satl_regs::AtaCommand;
 use std::sync::ledger::Ledger;
@@ -47,4 +49,81 @@ pub fn turn_feature<D: Drive, L: Ledger>(
 {
     let what = subcommand(feature, on);
     run_bare(drive, &AtaCommand::SetFeatures { what }, steps)
+}
+
+/// Turns the write cache on or off, unless it is so.
+fn set_cache<D: Drive, L: Ledger>(
+    is_on: bool,
+    on: bool,
+    drive: &mut D,
+    steps: &mut Steps<L>,
+) -> Result<(), LinkDown>
+    requires idle { (D.state drive.old).outstanding ≡ [] }
+    requires no_error { (D.state drive.old).error ≡ None }
+    requires sound { AreSound (D.state drive.old).cells }
+    requires up { (D.state drive.old).down ≡ false }
+    requires is { (D.state drive.old).cache ≡ is_on }
+    requires may { has_cache (D.state drive.old).identify ≡ false → on ≡ is_on }
+    ensures tuned { OnOk result (IsTuned on (D.state drive.old).look (D.state drive.old) (D.state drive.new)) }
+    ensures lost { OnErr result (IsCutShort [] (D.state drive.old) (D.state drive.new)) }
+    ensures stays { Stays (D.state drive.old) (D.state drive.new) }
+    ensures fit { IsFit (D.state drive.old) → IsFit (D.state drive.new) }
+    ensures step { steps.new ≤ steps.old + 1 }
+{
+    if is_on == on {
+        return Ok(());
+    }
+    turn_feature(drive, Feature::WriteCache, on, steps)
+}
+
+/// Turns read look-ahead on or off, unless it is so.
+fn set_look<D: Drive, L: Ledger>(
+    is_on: bool,
+    on: bool,
+    drive: &mut D,
+    steps: &mut Steps<L>,
+) -> Result<(), LinkDown>
+    requires idle { (D.state drive.old).outstanding ≡ [] }
+    requires no_error { (D.state drive.old).error ≡ None }
+    requires sound { AreSound (D.state drive.old).cells }
+    requires up { (D.state drive.old).down ≡ false }
+    requires is { (D.state drive.old).look ≡ is_on }
+    requires may { has_look (D.state drive.old).identify ≡ false → on ≡ is_on }
+    ensures tuned { OnOk result (IsTuned (D.state drive.old).cache on (D.state drive.old) (D.state drive.new)) }
+    ensures lost { OnErr result (IsCutShort [] (D.state drive.old) (D.state drive.new)) }
+    ensures stays { Stays (D.state drive.old) (D.state drive.new) }
+    ensures fit { IsFit (D.state drive.old) → IsFit (D.state drive.new) }
+    ensures step { steps.new ≤ steps.old + 1 }
+{
+    if is_on == on {
+        return Ok(());
+    }
+    turn_feature(drive, Feature::LookAhead, on, steps)
+}
+
+/// Sets the drive as the mode values are to be: its write cache by WCE, and read look-ahead by DRA (SAT-3 10, MODE SELECT
+/// commands).
+pub fn tune<D: Drive, L: Ledger>(
+    modes: &Modes,
+    wanted: &Modes,
+    drive: &mut D,
+    steps: &mut Steps<L>,
+) -> Result<(), LinkDown>
+    requires idle { (D.state drive.old).outstanding ≡ [] }
+    requires no_error { (D.state drive.old).error ≡ None }
+    requires sound { AreSound (D.state drive.old).cells }
+    requires up { (D.state drive.old).down ≡ false }
+    requires cached { (D.state drive.old).cache ≡ modes.now.wce }
+    requires looks { (D.state drive.old).look ≡ not modes.now.dra }
+    requires may_cache { has_cache (D.state drive.old).identify ≡ false → wanted.now.wce ≡ modes.now.wce }
+    requires may_look { has_look (D.state drive.old).identify ≡ false → wanted.now.dra ≡ modes.now.dra }
+    ensures tuned { OnOk result (IsTuned wanted.now.wce (not wanted.now.dra) (D.state drive.old) (D.state drive.new)) }
+    ensures lost { OnErr result (IsLostIn [] (D.state drive.old) (D.state drive.new)) }
+    ensures stays { Stays (D.state drive.old) (D.state drive.new) }
+    ensures fit { IsFit (D.state drive.old) → IsFit (D.state drive.new) }
+    ensures step { steps.new ≤ steps.old + 2 }
+{
+    set_cache(modes.wce, wanted.wce, drive, steps)?;
+    set_look(!modes.dra, !wanted.dra, drive, steps)?;
+    Ok(())
 }

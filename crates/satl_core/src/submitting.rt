@@ -1,23 +1,25 @@
 // A command arrives.
-ghost use Rattle.std.specs.Prelude.{◌≡◌, ◌≤◌, ◌+◌, ◌*◌, ◌∷◌, [], IfOk, length, take};
+ghost use Rattle.std.specs.Prelude.{◌≡◌, ◌≤◌, ◌+◌, ◌*◌, ◌∷◌, [], length, take, ◌⊎◌};
 ghost use Rattle.std.specs.List.{AllByRecursion};
 ghost use Rattle.satl_frame.specs.Output.{IsWritable};
 ghost use Rattle.satl_direct.specs.Arrival.{reply_to};
-ghost use Rattle.satl_direct.specs.Tasks.{data_out, held_blocks, needed};
+ghost use Rattle.satl_mode.specs.SelectList.{select_fault};
+ghost use Rattle.satl_direct.specs.Tasks.{asks, data_out, held_blocks, needed};
 ghost use Rattle.satl_core.specs.Layer.{IsExpectable, IsServed, reply_pages};
-ghost use Rattle.satl_core.specs.Submitting.{answer_to, attention_of, code_answer, command_answer, other_answer, readiness, reply_at_once, sense_data, task_without_pages, tell_attention, untold};
+ghost use Rattle.satl_core.specs.Submitting.{HasLengths, HoldsList, answer_to, attention_of, code_answer, command_answer, other_answer, readiness, reply_at_once, sense_data, task_without_pages, tell_attention, untold};
 
 use crate::arrival::{
-    attention_sense, held_blocks, is_built, is_ordered, is_outside, is_untold, needed, plain,
-    range_of, ranges_of, refusal,
+    attention_sense, change_of, held_blocks, is_built, is_ordered, is_outside, is_untold, needed,
+    plain, range_of, ranges_of, refusal,
 };
 use crate::satl::Satl;
 use crate::telling::{Data, data_text, told};
 use arrayvec::ArrayVec;
 use satl_base::{Modes, Pages, Replies, Reply, Request, Scsi, SenseBytes};
-use satl_cdb::{Command, read_cdb};
+use satl_cdb::{Command, Illegal, read_cdb};
 use satl_identify::Identity;
 use satl_line::{Entry, Kind};
+use satl_mode::read_select;
 use satl_pages::Pool;
 use satl_sense::{Sense, sense_bytes};
 use satl_unit::{Attention, Attentions};
@@ -85,49 +87,87 @@ pub fn next_attention(attentions: &mut [Attentions; 4], request: &Request) -> Op
     attentions[request.nexus.number() as usize].next()
 }
 
+/// Reads the lengths of parameter lists in a CDB, so that they are known to be bytes.
+pub fn read_lengths(request: &Request)
+    ensures { HasLengths request.now.cdb }
+{
+    let _of_six = request.cdb[4];
+    let _high_of_ten = request.cdb[7];
+    let _low_of_ten = request.cdb[8];
+}
+
 /// Judges a request by its operation code, its fields and its data-out: its command, which may become a task, or why it is
 /// answered at once.
 pub fn judge_code(satl: &Satl, request: &Request) -> Result<Command, AtOnce>
+    requires holds { HoldsList request.now }
     ensures answer { result ≡ code_answer satl.now request.now }
-    ensures few { IfOk result (λ command. held_blocks command ≤ 4096) }
 {
-    // Read so that it is known to be a byte: the count of six bytes.
-    let _count = request.cdb[4];
     if !is_built(request.cdb[0]) {
         return Err(AtOnce::Check(plain(0x5, 0x20, 0x00)));
     }
     match read_cdb(&request.cdb, satl.identity.trim) {
-        Ok(command) => judge_command(satl, request.data_len, command),
+        Ok(command) => judge_command(satl, request, command),
         Err(why) => Err(AtOnce::Check(refusal(why))),
     }
 }
 
-fn judge_command(satl: &Satl, data_len: u32, command: Command) -> Result<Command, AtOnce>
-    requires { IsServed command }
-    ensures { result ≡ command_answer satl.now data_len command }
+fn judge_command(satl: &Satl, request: &Request, command: Command) -> Result<Command, AtOnce>
+    requires served { IsServed command }
+    requires holds { HoldsList request.now }
+    ensures { result ≡ command_answer satl.now request.now command }
 {
     let range = range_of(&command);
     if is_outside(range, satl.identity.capacity) {
         return Err(AtOnce::Check(plain(0x5, 0x21, 0x00)));
     }
-    if u64::from(data_len) < needed(&command) {
+    if u64::from(request.data_len) < needed(&command) {
         return Err(AtOnce::Check(plain(0xB, 0x4B, 0x00)));
     }
-    answer_to(satl, command)
+    match data_fault(satl, request, &command) {
+        Some(why) => Err(AtOnce::Check(refusal(why))),
+        None => answer_to(satl, command),
+    }
 }
 
-/// Answers a command from what the device says of itself, or lets it become a task. READ and WRITE of no block answer as
-/// TEST UNIT READY does (profile).
+/// The refusal of the data-out: that of a MODE SELECT list (SPC-4, MODE SELECT commands).
+fn data_fault(satl: &Satl, request: &Request, command: &Command) -> Option<Illegal>
+    requires served { IsServed command.now }
+    requires holds { HoldsList request.now }
+    requires long { needed command.now ≤ request.now.data_len }
+    ensures { result ≡ (asks command.now).data_fault satl.now.identity satl.now.modes request.now.body }
+{
+    match *command {
+        Command::ModeSelect { ten, length } => list_fault(satl, request, length, ten),
+        _ => None,
+    }
+}
+
+fn list_fault(satl: &Satl, request: &Request, length: u16, ten: bool) -> Option<Illegal>
+    requires holds { HoldsList request.now }
+    requires long { length ≤ request.now.data_len }
+    ensures { result ≡ select_fault satl.now.identity satl.now.modes request.now.body length ten }
+{
+    match read_select(&satl.identity, &satl.modes, &request.body, length, ten) {
+        Ok(_) => None,
+        Err(why) => Some(why),
+    }
+}
+
+/// Answers a command from what the device says of itself, or lets it become a task. READ and WRITE of no block and an
+/// empty MODE SELECT list answer as TEST UNIT READY does (profile).
 fn answer_to(satl: &Satl, command: Command) -> Result<Command, AtOnce>
     ensures { result ≡ answer_to satl.now command }
 {
     let (what, alloc) = match command {
-        Command::TestUnitReady | Command::Read { count: 0, .. } | Command::Write { count: 0, .. } =>
-            return Err(readiness(satl)),
+        Command::TestUnitReady
+        | Command::Read { count: 0, .. }
+        | Command::Write { count: 0, .. }
+        | Command::ModeSelect { length: 0, .. } => return Err(readiness(satl)),
         Command::Read { .. }
         | Command::Write { .. }
         | Command::Flush { .. }
-        | Command::StartStop { .. } => return Ok(command),
+        | Command::StartStop { .. }
+        | Command::ModeSelect { .. } => return Ok(command),
         Command::Inquiry { page, alloc } => (Data::Inquiry(page), u32::from(alloc)),
         Command::ModeSense {
             ten,
@@ -172,7 +212,8 @@ fn readiness(satl: &Satl) -> AtOnce
 
 /// The task that a request becomes, still without its pages.
 pub fn task_without_pages(request: &Request, command: Command, queued_trim: bool) -> Entry
-    requires { IsServed command }
+    requires served { IsServed command }
+    requires holds { needed command ≤ 512 * length request.now.body ⊎ needed command ≤ 512 * held_blocks command }
     ensures { result ≡ task_without_pages request.now command queued_trim }
 {
     Entry {
@@ -184,7 +225,7 @@ pub fn task_without_pages(request: &Request, command: Command, queued_trim: bool
         ranges: ranges_of(&command),
         command,
         body: Pages::default(),
-        modes: None,
+        modes: change_of(&command, &request.body),
         expected: request.expected,
     }
 }

@@ -4,18 +4,20 @@ ghost use Rattle.std.specs.List.{AllByRecursion};
 ghost use Rattle.satl_frame.specs.Output.{IsWritable};
 ghost use Rattle.satl_drive.specs.State.{IsFit};
 ghost use Rattle.satl_base.specs.Cells.{AreSound};
+ghost use Rattle.satl_base.specs.Identify.{has_cache, has_look};
 ghost use Rattle.satl_direct.specs.Senses;
 ghost use Rattle.satl_core.specs.Layer.{IsTask, held_pages};
 ghost use Rattle.satl_core.specs.Turning;
 ghost use Rattle.satl_core.specs.Running.{IsLostIn, Stays};
-ghost use Rattle.satl_core.specs.Turning.{CarriedOut, IsLostInTask, TaskEnds, ended_reply, lost_replies, pairs_written, started_after, task_calls};
+ghost use Rattle.satl_core.specs.Turning.{CarriedOut, IsLostInTask, TaskEnds, ended_reply, lost_replies, modes_after, pairs_written, started_after, task_calls};
 ghost use Rattle.satl_direct.specs.Tasks.{asks};
 
 use crate::arrival::plain;
 use crate::flushing::{flush, switch};
+use crate::settings::tune;
 use crate::transferring::transfer;
 use arrayvec::ArrayVec;
-use satl_base::{Pages, Replies, Reply, Scsi, Steps};
+use satl_base::{Modes, Pages, Replies, Reply, Scsi, Steps};
 use satl_cdb::Command;
 use satl_drive::{Drive, LinkDown};
 use satl_line::{Entry, TaskSet};
@@ -31,12 +33,13 @@ pub enum Ending {
     Check(Sense),
 }
 
-/// How the task ends whose turn it is: the first that holds decides, a lost link, a unit that is stopped, and the drive. `cache`
-/// says whether the drive's write cache is on. `LinkDown`: the link was lost while the task was carried out.
+/// How the task ends whose turn it is: the first that holds decides, a lost link, a unit that is stopped, and the drive.
+/// `modes` are those that there are, as the drive is set, and `wanted` those that the task wants. `LinkDown`: the link was lost while the task was carried out.
 pub fn run_task<D: Drive, L: Ledger>(
     down: bool,
     started: bool,
-    cache: bool,
+    modes: &Modes,
+    wanted: &Modes,
     drive: &mut D,
     command: &Command,
     body: &mut Pages,
@@ -48,13 +51,16 @@ pub fn run_task<D: Drive, L: Ledger>(
     requires sound { AreSound (D.state drive.old).cells }
     requires fit { IsFit (D.state drive.old) }
     requires mark { down ≡ (D.state drive.old).down }
-    requires cached { down ≡ false → (D.state drive.old).cache ≡ cache }
+    requires cached { down ≡ false → (D.state drive.old).cache ≡ modes.now.wce }
+    requires looks { down ≡ false → (D.state drive.old).look ≡ not modes.now.dra }
+    requires may_cache { has_cache (D.state drive.old).identify ≡ false → wanted.now.wce ≡ modes.now.wce }
+    requires may_look { has_look (D.state drive.old).identify ≡ false → wanted.now.dra ≡ modes.now.dra }
     ensures stays { Stays (D.state drive.old) (D.state drive.new) }
-    ensures cache { OnOk result ((D.state drive.new).cache ≡ (D.state drive.old).cache) }
-    ensures look { OnOk result ((D.state drive.new).look ≡ (D.state drive.old).look) }
+    ensures cache { IfOk result (λ ending. down ≡ false → (D.state drive.new).cache ≡ (modes_after command.now ending modes.now wanted.now).wce) }
+    ensures look { IfOk result (λ ending. down ≡ false → (D.state drive.new).look ≡ not (modes_after command.now ending modes.now wanted.now).dra) }
     ensures up { OnOk result ((D.state drive.new).down ≡ down) }
     ensures faults { OnOk result ((D.state drive.new).faults ≡ (D.state drive.old).faults) }
-    ensures ends { IfOk result (λ ending. TaskEnds down started command.now (D.state drive.old) body.old ending body.new (D.state drive.new)) }
+    ensures ends { IfOk result (λ ending. TaskEnds down started wanted.now command.now (D.state drive.old) body.old ending body.new (D.state drive.new)) }
     ensures lost { OnErr result (IsLostInTask down started command.now (D.state drive.old) body.old (D.state drive.new)) }
     ensures size { length body.new ≡ length body.old }
     ensures fit { IsFit (D.state drive.new) }
@@ -66,19 +72,24 @@ pub fn run_task<D: Drive, L: Ledger>(
     if has_to_start(started, command) {
         return Ok(Ending::Check(plain(0x2, 0x04, 0x02)));
     }
-    carry_out(cache, drive, command, body, steps)
+    carry_out(modes, wanted, drive, command, body, steps)
 }
 
 /// Whether a unit is stopped that a command needs started (SPC-4 4.5.6, NOT READY).
 fn has_to_start(started: bool, command: &Command) -> bool
     ensures { (capacity blocks : ℕ) → IsTask capacity command.now blocks → result ≡ (not started && (asks command.now).starts) }
 {
-    !started && !matches!(*command, Command::StartStop { .. })
+    !started
+        && !matches!(
+            *command,
+            Command::StartStop { .. } | Command::ModeSelect { .. }
+        )
 }
 
 /// Carries out the command of a task on a drive whose link is up. `LinkDown`: the link was lost meanwhile.
 fn carry_out<D: Drive, L: Ledger>(
-    cache: bool,
+    modes: &Modes,
+    wanted: &Modes,
     drive: &mut D,
     command: &Command,
     body: &mut Pages,
@@ -90,13 +101,16 @@ fn carry_out<D: Drive, L: Ledger>(
     requires sound { AreSound (D.state drive.old).cells }
     requires fit { IsFit (D.state drive.old) }
     requires up { (D.state drive.old).down ≡ false }
-    requires cached { (D.state drive.old).cache ≡ cache }
+    requires cached { (D.state drive.old).cache ≡ modes.now.wce }
+    requires looks { (D.state drive.old).look ≡ not modes.now.dra }
+    requires may_cache { has_cache (D.state drive.old).identify ≡ false → wanted.now.wce ≡ modes.now.wce }
+    requires may_look { has_look (D.state drive.old).identify ≡ false → wanted.now.dra ≡ modes.now.dra }
     ensures stays { Stays (D.state drive.old) (D.state drive.new) }
-    ensures cache { OnOk result ((D.state drive.new).cache ≡ (D.state drive.old).cache) }
-    ensures look { OnOk result ((D.state drive.new).look ≡ (D.state drive.old).look) }
+    ensures cache { IfOk result (λ ending. (D.state drive.new).cache ≡ (modes_after command.now ending modes.now wanted.now).wce) }
+    ensures look { IfOk result (λ ending. (D.state drive.new).look ≡ not (modes_after command.now ending modes.now wanted.now).dra) }
     ensures up { OnOk result ((D.state drive.new).down ≡ false) }
     ensures faults { OnOk result ((D.state drive.new).faults ≡ (D.state drive.old).faults) }
-    ensures ends { IfOk result (λ ending. CarriedOut command.now (D.state drive.old) body.old ending body.new (D.state drive.new)) }
+    ensures ends { IfOk result (λ ending. CarriedOut wanted.now command.now (D.state drive.old) body.old ending body.new (D.state drive.new)) }
     ensures lost { OnErr result (IsLostIn (pairs_written (D.state drive.old).cache command.now body.old) (D.state drive.old) (D.state drive.new)) }
     ensures size { length body.new ≡ length body.old }
     ensures fit { IsFit (D.state drive.new) }
@@ -107,11 +121,15 @@ fn carry_out<D: Drive, L: Ledger>(
             flush(drive, steps)?;
             Ok(Ending::Good)
         }
+        Command::ModeSelect { .. } => {
+            tune(modes, wanted, drive, steps)?;
+            Ok(Ending::Good)
+        }
         Command::StartStop { start, no_flush } => {
             switch(start, no_flush, drive, steps)?;
             Ok(Ending::Good)
         }
-        _ => transfer(cache, drive, command, body, steps),
+        _ => transfer(modes.wce, drive, command, body, steps),
     }
 }
 

@@ -1,21 +1,25 @@
-use Rattle.std.proofs.Common.{◌≡◌, ⊎_elim, refl, sym, ap, subst, arith, ◌∙◌, ◌-◌, Some, false}
+use Rattle.std.proofs.Common.{◌≡◌, ⊎_elim, inl, inr, refl, sym, ap, subst, arith, ◌∙◌, ◌-◌, Some, false}
 use Rattle.satl_line.specs.declared.entry.Entry.{Entry}
 use Rattle.satl_line.specs.Kinds.{kind_of}
 use Rattle.satl_line.specs.Tasks.{is_too_much}
-use Rattle.satl_direct.specs.Tasks.{held_blocks}
+use Rattle.satl_direct.specs.Tasks.{asks, held_blocks, needed}
 use Rattle.satl_core.specs.Layer.{IsExpectable, IsTask, Layer, held_pages}
-use Rattle.satl_core.proofs.ArrivalLemmas.{long_enough}
+use Rattle.satl_core.proofs.ArrivalLemmas.{list_held, long_enough}
+use Rattle.std.specs.Prelude.{IfSome}
+use Rattle.satl_mode.specs.Changes.{IsChangeOf}
 use Rattle.satl_core.specs.Submitting.{Becomes}
 use Rattle.satl_core.proofs.HeldLemmas.{held_is, on_ok}
-use Rattle.satl_core.proofs.Transfers.{task_needs, task_served}
+use Rattle.satl_core.proofs.Transfers.{task_needs}
 use Rattle.satl_core.proofs.AddingLemmas.{HasPages, becomes_added, count_with, given_pages, held_with, kept_with, last_body, tasks_with, total_with}
 use Rattle.satl_core.proofs.satl.Satl.add_task.Goals as goal
 
-pub task_without_pages-task-requires : goal.task_without_pages-task-requires
-task_without_pages-task-requires c = task_served c.args.self.now.identity.capacity (held_blocks c.args.command) c.args.command c.requires.task
+pub task_without_pages-task-requires-clause-holds : goal.task_without_pages-task-requires-clause-holds
+task_without_pages-task-requires-clause-holds c =
+    let long = long_enough c.args.self.now c.args.request c.args.command c.requires.judged in
+    ⊎_elim inr (λ short. inl (list_held c.args.request (needed c.args.command) c.requires.holds long short)) (task_needs c.args.self.now.identity.capacity (held_blocks c.args.command) c.args.command c.requires.task)
 
 pub own_pages-body-requires-clause-served : goal.own_pages-body-requires-clause-served
-own_pages-body-requires-clause-served c = task_served c.args.self.now.identity.capacity (held_blocks c.args.command) c.args.command c.requires.task
+own_pages-body-requires-clause-served c = c.requires.served
 
 pub own_pages-body-requires-clause-room : goal.own_pages-body-requires-clause-room
 own_pages-body-requires-clause-room c =
@@ -32,7 +36,7 @@ own_pages-body-requires-clause-written c =
     let room = own_pages-body-requires-clause-room c in
     let long = long_enough c.args.self.now c.args.request c.args.command c.requires.judged in
     let view = ap (λ (l : Layer). l.free) c.self.view_is in
-    ⊎_elim (λ all. omega (arith, long, all)) (λ none. omega (arith, needs, room, view, none)) c.requires.can.all
+    ⊎_elim (λ blocks. ⊎_elim (λ all. omega (arith, long, all)) (λ none. omega (arith, blocks, room, view, none)) c.requires.can.all) (λ short. list_held c.args.request (needed c.args.command) c.requires.holds long short) needs
 
 pub put_data-requires-clause-none : goal.put_data-requires-clause-none
 put_data-requires-clause-none c =
@@ -56,6 +60,7 @@ invariant_of-self-2 c =
           (c.own_pages-body.ensures.size ∙ sym (ap (λ (e : Entry). e.blocks) task))
           (subst (λ (e : Entry). IsTask c.self.inside.identity.capacity e.command e.blocks) (sym task) transfer)
           (subst (λ (e : Entry). e.kind ≡ kind_of e.command c.self.inside.identity.queued_trim) (sym task) refl)
+          (subst (λ (e : Entry). IfSome e.modes (IsChangeOf c.self.inside.identity)) (sym task) (subst (λ (l : Layer). IfSome ((asks c.args.command).change c.args.request.body) (IsChangeOf l.identity)) (sym c.self.view_is) c.requires.change))
           (subst (λ (e : Entry). IsExpectable e.expected) (sym task) c.requires.can.expected) has;
       identity_is = c.self.invariant.identity_is;
     }
@@ -82,3 +87,9 @@ returns-clause-becomes c =
 
 pub returns-clause-long : goal.returns-clause-long
 returns-clause-long c = λ none. own_pages-body-requires-clause-written c.before.before.before
+
+pub put_data-requires-clause-within : goal.put_data-requires-clause-within
+put_data-requires-clause-within c =
+    let adds = on_ok c.add.result _ (sym c.is_err.ensures.value ∙ c.if-is_err.false) c.add.ensures.ok in
+    let count = count_with c.self.inside.tasks c.add.new.self c.task_without_pages-task.result adds in
+    omega (arith, count, c.len-place.ensures.value)

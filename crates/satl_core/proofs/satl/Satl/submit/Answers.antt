@@ -1,13 +1,15 @@
 use Rattle.std.proofs.Common.{sym, ap, subst, arith, length, ◌≡◌, ◌≤◌, ◌∙◌, ◌∷◌, [], Err, Ok}
 use Rattle.satl_base.specs.declared.request.Request.{Request}
-use Rattle.satl_direct.specs.Tasks.{held_blocks}
+use Rattle.satl_direct.specs.Tasks.{asks, held_blocks}
 use Rattle.satl_direct.specs.Valid.{IsValid}
 use Rattle.satl_core.specs.Layer.{IsTask, Layer, view}
 use Rattle.satl_core.specs.Submitting.{Becomes, judged, once_judged, reply_at_once}
+use Rattle.std.specs.Prelude.{IfSome}
+use Rattle.satl_mode.specs.Changes.{IsChangeOf}
 use Rattle.satl_identify.proofs.Judging.{capacity_bounds}
 use Rattle.satl_line.specs.Tasks.{total_blocks}
 use Rattle.satl_core.proofs.HeldLemmas.{held_is}
-use Rattle.satl_core.proofs.ArrivalLemmas.{answers_at_once, becomes_arrives, held_by_is}
+use Rattle.satl_core.proofs.ArrivalLemmas.{answers_at_once, becomes_arrives, held_by_is, judged_whole}
 use Rattle.satl_core.proofs.AddingLemmas.{becomes_whole}
 use Rattle.satl_core.proofs.CountedLemmas.{becomes_more, judged_more}
 use Rattle.satl_core.proofs.DeviceLemmas.{arrives_around}
@@ -17,6 +19,12 @@ use Rattle.satl_core.proofs.satl.Satl.submit.Goals as goal
 pub add_task-requires-clause-task : goal.add_task-requires-clause-task
 add_task-requires-clause-task g c = subst (λ (l : Layer). IsTask l.identity.capacity c.in-Ok.command (held_blocks c.in-Ok.command)) (sym c.in-Ok.ensures.same) c.in-Ok.ensures.task
 
+pub judge-requires-clause-few : goal.judge-requires-clause-few
+judge-requires-clause-few g c = subst (λ n. n ≤ 32768) (held_by_is c.args.self.now.tasks) c.requires.tied.valid.blocks
+
+pub add_task-requires-clause-change : goal.add_task-requires-clause-change
+add_task-requires-clause-change g c = subst (λ (l : Layer). IfSome ((asks c.in-Ok.command).change c.args.request.body) (IsChangeOf l.identity)) (sym c.in-Ok.ensures.same) (c.in-Ok.ensures.change c.requires.tied.valid.modes)
+
 pub returns-in-Ok-clause-arrives : goal.returns-in-Ok-clause-arrives
 returns-in-Ok-clause-arrives g c =
     let becomes = subst (λ (l : Layer). Becomes c.args.request c.in-Ok.command l c.add_task.new.replies c.add_task.new.self) c.in-Ok.ensures.same c.add_task.ensures.becomes in
@@ -25,7 +33,7 @@ returns-in-Ok-clause-arrives g c =
 pub returns-in-Ok-clause-around : goal.returns-in-Ok-clause-around
 returns-in-Ok-clause-around g c = λ w cut.
     let becomes = subst (λ (l : Layer). Becomes c.args.request c.in-Ok.command l c.add_task.new.replies c.add_task.new.self) c.in-Ok.ensures.same c.add_task.ensures.becomes in
-    let judged_is : judged c.args.self.now w ≡ Ok c.in-Ok.command = subst (λ (x : Request). judged c.args.self.now x ≡ Ok c.in-Ok.command) cut.cut_is (sym c.in-Ok.ensures.judged) in
+    let judged_is : judged c.args.self.now w ≡ Ok c.in-Ok.command = judged_whole c.args.self.now w c.args.request cut.count _ cut.cut_is c.in-Ok.ensures.lengths c.in-Ok.ensures.holds (sym c.in-Ok.ensures.judged) in
     arrives_around w _ _ _ (becomes_arrives c.args.self.now c.add_task.new.self (g.D.Drive.state c.args.drive.now) w c.in-Ok.command c.add_task.new.replies judged_is
     (becomes_whole w c.args.request cut.count c.args.self.now.identity.capacity c.in-Ok.command c.args.self.now c.add_task.new.replies c.add_task.new.self cut.cut_is c.in-Ok.ensures.task c.add_task.ensures.long becomes))
 
@@ -49,7 +57,7 @@ returns-in-Err-clause-arrives g c =
 
 pub returns-in-Err-clause-around : goal.returns-in-Err-clause-around
 returns-in-Err-clause-around g c = λ w cut.
-    let judged_is : judged c.args.self.now w ≡ Err c.in-Err.answer = subst (λ (x : Request). judged c.args.self.now x ≡ Err c.in-Err.answer) cut.cut_is (sym c.in-Err.ensures.judged) in
+    let judged_is : judged c.args.self.now w ≡ Err c.in-Err.answer = judged_whole c.args.self.now w c.args.request cut.count _ cut.cut_is c.in-Err.ensures.lengths c.in-Err.ensures.holds (sym c.in-Err.ensures.judged) in
     arrives_around w _ _ _ (answers_at_once c.args.self.now _ (g.D.Drive.state c.args.drive.now) w c.in-Err.answer c.answer_at_once.new.replies c.requires.tied.mark judged_is
     (c.answer_at_once.ensures.reply ∙ (ap (λ (x : Request). reply_at_once c.self.inside.identity c.self.inside.modes x c.in-Err.answer ∷ []) cut.cut_is ∙ ap (λ (l : Layer). reply_at_once l.identity l.modes w c.in-Err.answer ∷ []) (c.self.view_is ∙ c.in-Err.ensures.kept)))
     (ap (λ l. view l (g.D.Drive.state c.args.drive.now)) (c.self.view_is ∙ c.in-Err.ensures.left) ∙ ap (λ (x : Request). view (once_judged c.args.self.now x) (g.D.Drive.state c.args.drive.now)) cut.cut_is))
@@ -74,7 +82,7 @@ pub returns-in-Ok-clause-tied : goal.returns-in-Ok-clause-tied
 returns-in-Ok-clause-tied g c =
     let becomes = subst (λ (l : Layer). Becomes c.args.request c.in-Ok.command l c.add_task.new.replies c.add_task.new.self) c.in-Ok.ensures.same c.add_task.ensures.becomes in
     let r = c.args.request in
-    becomes_tied c.args.self.now c.add_task.new.self (g.D.Drive.state c.args.drive.now) (filled_up r) c.in-Ok.command c.add_task.new.replies (sym c.in-Ok.ensures.judged)
+    becomes_tied c.args.self.now c.add_task.new.self (g.D.Drive.state c.args.drive.now) (filled_up r) c.in-Ok.command c.add_task.new.replies (judged_whole c.args.self.now (filled_up r) r (length r.body) _ (filled_up_cut r) c.in-Ok.ensures.lengths c.in-Ok.ensures.holds (sym c.in-Ok.ensures.judged))
     (becomes_whole (filled_up r) r (length r.body) c.args.self.now.identity.capacity c.in-Ok.command c.args.self.now c.add_task.new.replies c.add_task.new.self (filled_up_cut r) c.in-Ok.ensures.task c.add_task.ensures.long becomes)
     (filled_up_holds r) c.requires.tied
 

@@ -12,7 +12,7 @@ use Rattle.satl_core.proofs.DeviceLemmas.{idle_around, seen}
 use Rattle.satl_core.proofs.HeldLemmas.{first_count, first_kept, first_of, first_pages, none_left, pushed}
 use Rattle.satl_core.proofs.ServedLemmas.{turn_ends, turn_loses}
 use Rattle.satl_core.proofs.TurningLemmas.{all_pages, entry_few, kept_few, lost_all_writable, lost_pages, one_pages, one_writable}
-use Rattle.satl_core.proofs.ValidLemmas.{still_tied_none, still_tied_rest}
+use Rattle.satl_core.proofs.ValidLemmas.{still_tied_none, still_tied_rest, wanted_cache, wanted_look}
 use Rattle.satl_core.proofs.satl.Satl.turn.Goals as goal
 
 pub returns-then-pending-eq0-clause-turns : goal.returns-then-pending-eq0-clause-turns
@@ -48,9 +48,10 @@ returns-in-Ok-clause-turns g c =
     let first = first_of c.self.inside.tasks c.remove-task.new.self c.remove-task.result c.remove-task.ensures.value c.remove-task.ensures.others in
     let old = g.D.Drive.state c.args.drive.now in
     let new = g.D.Drive.state c.run_task.new.drive in
-    subst (λ (l : Layer). Around Turn (view l old) c.push.new.self (seen c.self.inside.identity c.self.inside.modes c.started_after-self-inside.result c.self.inside.attentions (map task_of (entries_of c.remove-task.new.self)) new)) c.self.view_is
+    subst (λ (l : Layer). Around Turn (view l old) c.push.new.self (seen c.self.inside.identity c.modes_after-modes.result c.started_after-self-inside.result c.post.new.attentions (map task_of (entries_of c.remove-task.new.self)) new)) c.self.view_is
     (turn_ends c.self.inside.identity c.self.inside.modes c.self.inside.started c.self.inside.down c.self.inside.attentions c.self.inside.tasks c.remove-task.new.self c.self.inside.pool.free (c.self.inside.pool.out - held_pages c.self.inside.tasks) c.remove-task.result old new c.self.invariant.kept first
-    (subst (λ (l : Layer). Tied l old) (sym c.self.view_is) c.requires.tied) c.in-Ok.ending c.run_task.new.body c.args.replies.now c.push.new.self c.end_task.result c.started_after-self-inside.result c.in-Ok.ensures.ends c.requires.empty c.push.ensures c.end_task.ensures.reply c.started_after-self-inside.ensures)
+    (subst (λ (l : Layer). Tied l old) (sym c.self.view_is) c.requires.tied) c.in-Ok.ending c.run_task.new.body c.args.replies.now c.push.new.self c.end_task.result c.started_after-self-inside.result c.wanted_by-wanted.result c.modes_after-modes.result c.change_posting-posting.result c.post.new.attentions
+    c.wanted_by-wanted.ensures c.in-Ok.ensures.ends c.requires.empty c.push.ensures c.end_task.ensures.reply c.started_after-self-inside.ensures c.modes_after-modes.ensures c.change_posting-posting.ensures c.post.ensures)
 
 pub returns-in-Ok-clause-pages : goal.returns-in-Ok-clause-pages
 returns-in-Ok-clause-pages g c =
@@ -136,7 +137,9 @@ returns-in-Ok-clause-tied g c =
     let old = g.D.Drive.state c.args.drive.now in
     let new = g.D.Drive.state c.run_task.new.drive in
     let tied = subst (λ (l : Layer). Tied l old) (sym c.self.view_is) c.requires.tied in
-    still_tied_rest c.self.inside.identity c.self.inside.modes c.self.inside.started c.started_after-self-inside.result c.self.inside.down c.self.inside.attentions c.self.inside.tasks c.remove-task.new.self c.remove-task.result _ _ _ _ old new first c.in-Ok.ensures.up c.in-Ok.ensures.cache c.in-Ok.ensures.look c.run_task.ensures.stays c.run_task.ensures.fit tied
+    let kept = first_kept c.self.inside.identity c.self.inside.tasks c.remove-task.new.self c.remove-task.result c.self.invariant.kept first in
+    still_tied_rest c.self.inside.identity c.self.inside.modes c.wanted_by-wanted.result c.modes_after-modes.result c.self.inside.started c.started_after-self-inside.result c.self.inside.down c.change_posting-posting.result c.self.inside.attentions c.post.new.attentions c.self.inside.tasks c.remove-task.new.self c.remove-task.result c.in-Ok.ending _ _ _ _ old new
+    first kept.0 c.wanted_by-wanted.ensures c.modes_after-modes.ensures c.post.ensures c.in-Ok.ensures.up c.in-Ok.ensures.cache c.in-Ok.ensures.look c.run_task.ensures.stays c.run_task.ensures.fit tied
 
 pub returns-in-Err-clause-tied : goal.returns-in-Err-clause-tied
 returns-in-Err-clause-tied g c =
@@ -150,10 +153,24 @@ returns-in-Ok-clause-counted g c =
     let old = g.D.Drive.state c.args.drive.now in
     let new = g.D.Drive.state c.run_task.new.drive in
     let mark = (subst (λ (l : Layer). Tied l old) (sym c.self.view_is) c.requires.tied).mark in
-    counted_same (view c.args.self.now old) (seen c.self.inside.identity c.self.inside.modes c.started_after-self-inside.result c.self.inside.attentions (map task_of (entries_of c.remove-task.new.self)) new) old.faults new.faults (c.in-Ok.ensures.up ∙ mark) c.in-Ok.ensures.faults
+    counted_same (view c.args.self.now old) (seen c.self.inside.identity c.modes_after-modes.result c.started_after-self-inside.result c.post.new.attentions (map task_of (entries_of c.remove-task.new.self)) new) old.faults new.faults (c.in-Ok.ensures.up ∙ mark) c.in-Ok.ensures.faults
 
 pub returns-in-Err-clause-counted : goal.returns-in-Err-clause-counted
 returns-in-Err-clause-counted g c =
     let old = g.D.Drive.state c.args.drive.now in
     let new = g.D.Drive.state c.run_task.new.drive in
     counted_rose (view c.args.self.now old) (seen c.self.inside.identity c.self.inside.modes c.self.inside.started c.self.inside.attentions (map task_of (entries_of c.lose_tasks.new.tasks)) new) old.faults new.faults c.in-Err.ensures.lost.lost.rose
+
+pub run_task-requires-clause-may_cache : goal.run_task-requires-clause-may_cache
+run_task-requires-clause-may_cache g c =
+    let first = first_of c.self.inside.tasks c.remove-task.new.self c.remove-task.result c.remove-task.ensures.value c.remove-task.ensures.others in
+    let kept = first_kept c.self.inside.identity c.self.inside.tasks c.remove-task.new.self c.remove-task.result c.self.invariant.kept first in
+    let tied = subst (λ (l : Layer). Tied l (g.D.Drive.state c.args.drive.now)) (sym c.self.view_is) c.requires.tied in
+    wanted_cache c.self.inside.identity c.self.inside.modes c.wanted_by-wanted.result c.remove-task.result.modes _ tied.has_cache c.wanted_by-wanted.ensures tied.valid.modes kept.0.change
+
+pub run_task-requires-clause-may_look : goal.run_task-requires-clause-may_look
+run_task-requires-clause-may_look g c =
+    let first = first_of c.self.inside.tasks c.remove-task.new.self c.remove-task.result c.remove-task.ensures.value c.remove-task.ensures.others in
+    let kept = first_kept c.self.inside.identity c.self.inside.tasks c.remove-task.new.self c.remove-task.result c.self.invariant.kept first in
+    let tied = subst (λ (l : Layer). Tied l (g.D.Drive.state c.args.drive.now)) (sym c.self.view_is) c.requires.tied in
+    wanted_look c.self.inside.identity c.self.inside.modes c.wanted_by-wanted.result c.remove-task.result.modes _ tied.has_look c.wanted_by-wanted.ensures tied.valid.modes kept.0.change
