@@ -8,6 +8,8 @@ mod frames;
 #[cfg(test)]
 mod replaying;
 #[cfg(test)]
+mod rows;
+#[cfg(test)]
 mod streams;
 #[cfg(test)]
 mod tests;
