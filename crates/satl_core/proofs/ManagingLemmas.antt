@@ -1,7 +1,7 @@
 -- What a task management function does to the layer is what it does to the device.
 use Rattle.std.proofs.Common.{◌≡◌, refl, sym, ap, subst, ◌∙◌, arith, cond, ℕ, zero, suc, ◌+◌, ◌≤◌, Bool, true, false, List, [], ◌∷◌, length, map, Option, Some, None}
 use Rattle.std.specs.Prelude.{if◌then◌else◌, not, ◌&&◌, ◌==◌, filter, slice_index_or, slice_set}
-use Rattle.std.specs.List.{AllByRecursion, list_any}
+use Rattle.std.specs.List.{list_any}
 use Rattle.satl_base.specs.declared.modes.Modes.{Modes}
 use Rattle.satl_base.specs.declared.request.Manage.{Manage}
 use Rattle.satl_base.specs.declared.reply.Reply.{Reply}
@@ -11,9 +11,8 @@ use Rattle.satl_unit.specs.declared.attention.Attention.{Attention}
 use Rattle.satl_unit.specs.declared.attention.Attention.TheVariants as attentions
 use Rattle.satl_unit.specs.declared.function.Function.{Function}
 use Rattle.satl_unit.specs.declared.function.Function.TheVariants.{AbortTask, AbortTaskSet, ClearTaskSet, UnitReset, NexusReset, QueryTask, QueryTaskSet}
-use Rattle.satl_unit.specs.Conditions.{IsInReportOrder, posted}
+use Rattle.satl_unit.specs.Conditions.{posted}
 use Rattle.satl_unit.specs.Functions.{function_of}
-use Rattle.satl_unit.proofs.ConditionsLemmas.{posted-order}
 use Rattle.satl_line.specs.declared.entry.Entry.{Entry}
 use Rattle.satl_line.specs.Tasks.{Held, entries_of}
 use Rattle.satl_drive.specs.State.{DriveState}
@@ -34,7 +33,7 @@ use Rattle.satl_core.specs.declared.managing.Posting.{Posting}
 use Rattle.satl_core.specs.declared.managing.Posting.TheVariants as postings
 use Rattle.satl_core.specs.Layer.{Layer, Tied, view}
 use Rattle.satl_core.specs.Leaving.{is_within, left_by}
-use Rattle.satl_core.specs.Managing.{condition_of, effect, effect_of, effect_or_none, is_told, once_posted, only}
+use Rattle.satl_core.specs.Managing.{effect, effect_of, effect_or_none, is_told, once_posted, only}
 use Rattle.satl_core.proofs.DeviceLemmas.{around_alone, seen}
 use Rattle.satl_core.proofs.LeavingLemmas.{any_tasks, left_tasks}
 use Rattle.satl_core.proofs.PostingLemmas.{once_kept, once_length}

@@ -1,6 +1,6 @@
 -- What a MODE SELECT list says depends on its own bytes alone, so not on the pages behind them.
-use Rattle.std.proofs.Common.{◌≡◌, refl, sym, ap, subst, ◌∙◌, arith, cond, ℕ, zero, suc, ◌+◌, ◌*◌, ◌/◌, ◌%◌, ◌^◌, ◌<◌, ◌≤◌, Bool, true, false, List, [], ◌∷◌, length, take, get_or, Some, None}
-use Rattle.std.specs.Prelude.{Option, Result, Ok, Err, not, nat_lt, nat_le, ◌==◌, ◌&&◌, slice_index}
+use Rattle.std.proofs.Common.{◌≡◌, refl, ap, subst, ◌∙◌, arith, cond, ℕ, zero, suc, ◌+◌, ◌*◌, ◌/◌, ◌%◌, ◌^◌, ◌<◌, ◌≤◌, Bool, true, false, List, [], ◌∷◌, length, take, Some, None}
+use Rattle.std.specs.Prelude.{Option, Result, Ok, Err, not, nat_lt, nat_le, ◌==◌, slice_index}
 use Rattle.std.specs.Option.{option_map}
 use Rattle.std.specs.List.{AllByRecursion}
 use Rattle.std.proofs.lemmas.Bool.{ltb-false}
@@ -22,7 +22,7 @@ use Rattle.satl_mode.specs.declared.page.ModePage.TheVariants.{ErrorRecovery, Ca
 use Rattle.satl_mode.specs.ModePages.{page_coded, row_of, size_of}
 use Rattle.satl_mode.specs.Descriptors.{BlockField, block_fields, descriptor_size}
 use Rattle.satl_mode.specs.Changes.{change_from, change_in, descriptor_length, first_page, header_size, no_change, on_page, page_at, whole_page, with_page, applied}
-use Rattle.satl_mode.specs.SelectList.{agrees, bits_fault, descriptor_fault, descriptor_length_place, descriptor_sized, difference, fields_fault, first_fault, front_fault, has_long_lba, pages_fault, select_fault, select_says, unless_fault}
+use Rattle.satl_mode.specs.SelectList.{bits_fault, descriptor_fault, descriptor_sized, difference, fields_fault, first_fault, has_long_lba, pages_fault, select_fault, select_says, unless_fault}
 
 -- two lists have the same first bytes
 abbrev pub Agree : ℕ → List Block → List Block → Type 0

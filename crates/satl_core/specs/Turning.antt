@@ -34,9 +34,22 @@ use Rattle.satl_core.specs.declared.turning.Ending.TheVariants as endings
 
 -- the ATA command of a READ and of a WRITE (SAT-3 9, READ and WRITE commands)
 abbrev pub ata_command : Command → AtaCommand
+ata_command TestUnitReady = commands.Identify
+ata_command (RequestSense descriptor alloc) = commands.Identify
+ata_command (Inquiry page alloc) = commands.Identify
+ata_command (ModeSense ten long_lba no_descriptor control page alloc) = commands.Identify
+ata_command (ModeSelect ten size) = commands.Identify
+ata_command (StartStop start no_flush) = commands.Identify
+ata_command ReadCapacity10 = commands.Identify
+ata_command (ReadCapacity16 alloc) = commands.Identify
+ata_command (ReportLuns select alloc) = commands.Identify
 ata_command (Read form lba count fua) = commands.Read DmaExt lba count
 ata_command (Write form lba count fua) = commands.Write DmaExt lba count
-ata_command _ = commands.Identify
+ata_command (Verify form lba count compare) = commands.Identify
+ata_command (Flush form lba count) = commands.Identify
+ata_command (WriteSame form lba count unmap) = commands.Identify
+ata_command (Unmap size) = commands.Identify
+ata_command (Pass cdb) = commands.Identify
 
 -- the status of an end (SAM-5 5.3.1)
 abbrev pub ending_status : Ending → Scsi
@@ -50,8 +63,22 @@ ending_sense (endings.Check sense) descriptor = if descriptor then descriptor_fo
 
 -- the pages of a READ are its data-in (profile)
 abbrev pub read_pages : Command → List Block → List Block
+read_pages TestUnitReady body = []
+read_pages (RequestSense descriptor alloc) body = []
+read_pages (Inquiry page alloc) body = []
+read_pages (ModeSense ten long_lba no_descriptor control page alloc) body = []
+read_pages (ModeSelect ten size) body = []
+read_pages (StartStop start no_flush) body = []
+read_pages ReadCapacity10 body = []
+read_pages (ReadCapacity16 alloc) body = []
+read_pages (ReportLuns select alloc) body = []
 read_pages (Read form lba count fua) body = body
-read_pages _ body = []
+read_pages (Write form lba count fua) body = []
+read_pages (Verify form lba count compare) body = []
+read_pages (Flush form lba count) body = []
+read_pages (WriteSame form lba count unmap) body = []
+read_pages (Unmap size) body = []
+read_pages (Pass cdb) body = []
 
 -- the data-in of a task that ends: that of a READ that is done (profile)
 abbrev pub data_in : Ending → Command → List Block → List Block
@@ -122,8 +149,22 @@ is_set mask register = not (bit_and register mask == 0)
 
 -- the medium error of a command at a flawed address: WRITE ERROR, or UNRECOVERED READ ERROR (SPC-4 4.5.6; of a WRITE: profile)
 abbrev pub flaw_sense : Command → ℕ → Sense
+flaw_sense TestUnitReady at = read_error at
+flaw_sense (RequestSense descriptor alloc) at = read_error at
+flaw_sense (Inquiry page alloc) at = read_error at
+flaw_sense (ModeSense ten long_lba no_descriptor control page alloc) at = read_error at
+flaw_sense (ModeSelect ten size) at = read_error at
+flaw_sense (StartStop start no_flush) at = read_error at
+flaw_sense ReadCapacity10 at = read_error at
+flaw_sense (ReadCapacity16 alloc) at = read_error at
+flaw_sense (ReportLuns select alloc) at = read_error at
+flaw_sense (Read form lba count fua) at = read_error at
 flaw_sense (Write form lba count fua) at = write_error at
-flaw_sense _ at = read_error at
+flaw_sense (Verify form lba count compare) at = read_error at
+flaw_sense (Flush form lba count) at = read_error at
+flaw_sense (WriteSame form lba count unmap) at = read_error at
+flaw_sense (Unmap size) at = read_error at
+flaw_sense (Pass cdb) at = read_error at
 
 -- ABORTED COMMAND (SPC-4 4.5.6)
 abbrev pub aborted : Sense

@@ -16,8 +16,7 @@ use satl_sense::{Extra, Sense};
 use satl_unit::Attention;
 
 /// The operation codes that are served so far: TEST UNIT READY, REQUEST SENSE, INQUIRY, MODE SENSE, READ CAPACITY and REPORT
-/// LUNS, READ and WRITE in each form, START STOP UNIT, and MODE SELECT and SYNCHRONIZE CACHE in each
-/// form.
+/// LUNS, READ and WRITE in each form, START STOP UNIT, and MODE SELECT and SYNCHRONIZE CACHE in each form.
 pub fn is_built(code: u8) -> bool
     ensures { result ≡ is_in code built }
 {

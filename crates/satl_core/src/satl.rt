@@ -231,7 +231,8 @@ impl Satl {
     }
 
     /// One turn: the first task ends, if there is one. At a lost link all tasks are answered, in order of arrival (SAM-5 5;
-    /// lost links: profile). A WRITE with FUA goes past a cache that is on, which is off meanwhile: WRITE DMA EXT has no FUA.
+    /// lost links: profile). A WRITE with FUA goes past a cache that is on, which is off meanwhile: WRITE DMA EXT has no FUA. A
+    /// MODE SELECT sets the drive first, then the mode values, and the other nexuses are told (SPC-4, MODE SELECT commands).
     pub fn turn<D: Drive, L: Ledger>(
         &mut self,
         drive: &mut D,

@@ -33,8 +33,9 @@ pub enum Ending {
     Check(Sense),
 }
 
-/// How the task ends whose turn it is: the first that holds decides, a lost link, a unit that is stopped, and the drive.
-/// `modes` are those that there are, as the drive is set, and `wanted` those that the task wants. `LinkDown`: the link was lost while the task was carried out.
+/// How the task ends whose turn it is: the first that holds decides, a lost link, a unit that is stopped where the command needs
+/// it started, and the drive. `modes` are the mode values that there are, as the drive is set, and `wanted` those that the task
+/// wants. `LinkDown`: the link was lost while the task was carried out.
 pub fn run_task<D: Drive, L: Ledger>(
     down: bool,
     started: bool,
