@@ -1,13 +1,11 @@
 // What a test bench does to the drive, and what follows for the layer.
 ghost use Rattle.std.specs.Prelude.{◌≡◌, ◌∷◌, []};
 ghost use Rattle.satl_drive.specs.State.{IsFit};
-ghost use Rattle.satl_mode.specs.ModePages.{defaults};
 ghost use Rattle.satl_unit.specs.declared.attention.Attention.TheVariants as attentions;
 ghost use Rattle.satl_core.specs.Benching.{IsActedOn};
 
-use satl_base::{BenchEvent, Modes};
+use satl_base::BenchEvent;
 use satl_drive::Bench;
-use satl_identify::Identity;
 use satl_unit::{Attention, Attentions};
 
 /// An event happens to the drive (profile).
@@ -22,17 +20,6 @@ pub fn act_on<D: Bench>(drive: &mut D, event: &BenchEvent)
         BenchEvent::Order { bytes } => drive.order(bytes.as_slice()),
         BenchEvent::Power => drive.power(),
         BenchEvent::Unplug => drive.unplug(),
-    }
-}
-
-/// The mode values at power on (SPC-4 5.14, 7.5).
-pub fn default_modes(identity: &Identity) -> Modes
-    ensures { result ≡ defaults identity.now }
-{
-    Modes {
-        wce: identity.cache,
-        dra: !identity.look,
-        d_sense: false,
     }
 }
 

@@ -20,7 +20,7 @@ ghost use Rattle.satl_line.specs.Tasks.{total_blocks};
 ghost use Rattle.satl_core.specs.Turning.{task_calls};
 
 use crate::arrival::{is_for_unit, plain};
-use crate::benching::{act_on, default_modes, powered_on};
+use crate::benching::{act_on, powered_on};
 use crate::commands::tell_identity;
 use crate::leaving::{Scope, drop_tasks};
 use crate::managing::{decide, post};
@@ -38,6 +38,7 @@ use satl_cdb::Command;
 use satl_drive::{Bench, Drive, LinkDown};
 use satl_identify::{Identity, IdentityFault, read_identity};
 use satl_line::TaskSet;
+use satl_mode::defaults;
 use satl_pages::Pool;
 use satl_unit::Attentions;
 use std::alloc::Global;
@@ -365,7 +366,7 @@ impl Satl {
         ensures out { self.new.out ≡ 0 }
     {
         drop_tasks(&mut self.tasks, &mut self.pool, &Scope::All);
-        self.modes = default_modes(&self.identity);
+        self.modes = defaults(&self.identity);
         self.started = true;
         self.down = false;
         self.attentions = powered_on();

@@ -12,8 +12,8 @@ ghost use Rattle.satl_disk.specs.Running.{after_stop, flushed, is_garbled, ran, 
 use crate::data_in::fill;
 use crate::ends::{ABRT, IDNF, Stop, bad_end, good_end, is_dma, stopped_end};
 use crate::identify::{
-    has_cache, has_look, has_trim, identify_bytes, keep_integrity, retell, trim_blocks,
-    write_settings, write_word,
+    has_cache, has_look, identify_bytes, keep_integrity, retell, trim_blocks, write_settings,
+    write_word,
 };
 use crate::logs::read_log;
 use crate::sectors::{
@@ -23,6 +23,7 @@ use crate::trims::{goes_outside, trim};
 use circular_buffer::HeapCircularBuffer;
 use satl_base::{Block, NoMemory, Pages, Steps, Which};
 use satl_drive::{Bench, Drive, LinkDown, Registers, Taskfile};
+use satl_identify::serves_trim;
 use satl_regs::{AtaCommand, How, command_of};
 use std::alloc::Global;
 use std::marker::Model;
@@ -367,7 +368,7 @@ impl ModelDrive {
     fn refuses_trim(&self, blocks: u32, pages: &Pages) -> bool
         ensures { result ≡ is_no_trim blocks pages.now (medium self.now) }
     {
-        !has_trim(&self.identify.bytes)
+        !serves_trim(&self.identify.bytes)
             || blocks > u32::from(trim_blocks(&self.identify.bytes))
             || goes_outside(self.sectors.len() as u64, pages, blocks)
     }

@@ -1,10 +1,10 @@
 // The IDENTIFY DEVICE data of the modelled drive.
 ghost use Rattle.std.specs.Prelude.{◌≡◌, ◌≤◌, ◌<◌, ◌/◌, ◌%◌, ◌^◌};
-ghost use Rattle.satl_base.specs.Identify.{has_cache, has_look, has_trim, trim_blocks, word, word_bit};
-ghost use Rattle.satl_identify.specs.Data.{settings_byte, with_settings};
+ghost use Rattle.satl_base.specs.Identify.{has_cache, has_look, trim_blocks};
+ghost use Rattle.satl_identify.specs.Data.{with_settings};
 ghost use Rattle.satl_disk.specs.Data.{fixed_words, identify_data, integrity_kept, retold, set_word, set_words};
 
-use satl_identify::mend;
+use satl_identify::{bit_at, mend, settings_of, word_at};
 
 /// A word of IDENTIFY DEVICE data: its place from 0 to 255, and its value.
 type Word = (u8, u16);
@@ -97,20 +97,11 @@ fn write_fixed_words(data_bytes: &mut [u8; 512])
     write_words(data_bytes, &FIXED_WORDS);
 }
 
-/// The low byte of word 85 with its settings as given.
-fn settings_byte(byte: u8, cache_on: bool, look_on: bool) -> u8
-    ensures value { result ≡ settings_byte byte cache_on look_on }
-{
-    let look = if look_on { 0x40 } else { 0 };
-    let cache = if cache_on { 0x20 } else { 0 };
-    (byte >> 7 << 7) + look + cache + (byte & 0x1F)
-}
-
 /// Writes the settings into word 85.
 pub fn write_settings(data_bytes: &mut [u8; 512], cache_on: bool, look_on: bool)
     ensures { data_bytes.new ≡ with_settings data_bytes.old cache_on look_on }
 {
-    data_bytes[SETTINGS] = settings_byte(data_bytes[SETTINGS], cache_on, look_on);
+    data_bytes[SETTINGS] = settings_of(data_bytes[SETTINGS], cache_on, look_on);
 }
 
 /// Brings the integrity byte up to date after a word was changed, but not where it stands in that word.
@@ -127,7 +118,7 @@ pub fn retell(data_bytes: &mut [u8; 512], cache_on: bool, look_on: bool)
     ensures { data_bytes.new ≡ retold cache_on look_on data_bytes.old }
 {
     let before = data_bytes[SETTINGS];
-    let after = settings_byte(before, cache_on, look_on);
+    let after = settings_of(before, cache_on, look_on);
     data_bytes[SETTINGS] = after;
     if data_bytes[510] == 0xA5 {
         let sum = data_bytes[INTEGRITY].wrapping_add(before);
@@ -165,20 +156,6 @@ pub fn identify_bytes(sectors: u32) -> [u8; 512]
     data_bytes
 }
 
-fn word_at(data_bytes: &[u8; 512], place: u8) -> u16
-    ensures { result ≡ word place data_bytes.now }
-{
-    let low = 2 * usize::from(place);
-    u16::from_le_bytes([data_bytes[low], data_bytes[low + 1]])
-}
-
-fn bit_at(data_bytes: &[u8; 512], place: u8, low: u8) -> bool
-    requires { low < 16 }
-    ensures { result ≡ word_bit place low data_bytes.now }
-{
-    word_at(data_bytes, place) >> low & 1 == 1
-}
-
 /// Whether there is a write cache.
 pub fn has_cache(data_bytes: &[u8; 512]) -> bool
     ensures { result ≡ has_cache data_bytes.now }
@@ -191,13 +168,6 @@ pub fn has_look(data_bytes: &[u8; 512]) -> bool
     ensures { result ≡ has_look data_bytes.now }
 {
     bit_at(data_bytes, 82, 6)
-}
-
-/// Whether the drive trims.
-pub fn has_trim(data_bytes: &[u8; 512]) -> bool
-    ensures { result ≡ has_trim data_bytes.now }
-{
-    bit_at(data_bytes, 169, 0) && bit_at(data_bytes, 69, 14) && bit_at(data_bytes, 69, 5)
 }
 
 /// The most blocks of one trim.

@@ -9,5 +9,6 @@ mod words;
 mod writing;
 
 pub use identity::{Identity, IdentityFault};
-pub use reading::read_identity;
-pub use writing::{identity_bytes, mend};
+pub use reading::{read_identity, serves_trim};
+pub use words::{bit_at, word_at};
+pub use writing::{identity_bytes, mend, settings_of};

@@ -52,7 +52,8 @@ fn exponent_of(bytes: &[u8; 512]) -> u8
     }
 }
 
-fn serves_trim(bytes: &[u8; 512]) -> bool
+/// Whether the drive trims, and a read of what was trimmed gives zeros (ACS-3, words 69 and 169).
+pub fn serves_trim(bytes: &[u8; 512]) -> bool
     ensures { result ≡ has_trim bytes.now }
 {
     bit_at(bytes, 169, 0) && bit_at(bytes, 69, 14) && bit_at(bytes, 69, 5)

@@ -4,6 +4,7 @@ ghost use Rattle.satl_base.specs.Identify.{checksum, four_words, word, word_bit}
 
 use byteorder::{ByteOrder, LittleEndian};
 
+/// The word at a place of 0 to 255, its low byte first (ACS-3, IDENTIFY DEVICE data).
 pub fn word_at(bytes: &[u8; 512], place: usize) -> u16
     requires { place < 256 }
     ensures { result ≡ word place bytes.now }
@@ -11,6 +12,7 @@ pub fn word_at(bytes: &[u8; 512], place: usize) -> u16
     LittleEndian::read_u16(&bytes[2 * place..])
 }
 
+/// Whether bit `low`, 0 to 15, of the word at a place of 0 to 255 is 1 (ACS-3, IDENTIFY DEVICE data).
 pub fn bit_at(bytes: &[u8; 512], place: usize, low: u8) -> bool
     requires place { place < 256 }
     requires low { low < 16 }

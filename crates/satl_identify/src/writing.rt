@@ -13,7 +13,8 @@ const SETTINGS: usize = 2 * 85;
 // The place of the high byte of word 255.
 const INTEGRITY: usize = 2 * 255 + 1;
 
-fn settings_of(byte: u8, cache_on: bool, look_on: bool) -> u8
+/// The low byte of word 85 with its settings, bits 5 and 6, as given, and all else as it was (ACS-3, word 85).
+pub fn settings_of(byte: u8, cache_on: bool, look_on: bool) -> u8
     ensures { result ≡ settings_byte byte cache_on look_on }
 {
     let look = if look_on { 0x40 } else { 0 };

@@ -10,6 +10,7 @@ mod select;
 mod sense;
 
 pub use change::{apply, select_change};
+pub use page::defaults;
 pub use satl_base::{ModeChange, Modes};
 pub use select::read_select;
 pub use sense::mode_sense;

@@ -177,8 +177,8 @@ pub record IsLeftAs (s : Device) (d : DriveState) : Type 0 where
   pub glitches : d.glitches ≡ s.glitches
   pub down : d.down ≡ s.down
 
--- a whole input was served: its frames up to END were read and no byte behind them; the magic and the answers of a run over
--- exactly these frames were written; the drive is left as that run's last device is; it was called once for its identity, and for
+-- a whole input was served: its frames up to END were read and no byte behind them; the output of a run over exactly
+-- these frames was written; the drive is left as that run's last device is; it was called once for its identity, and for
 -- each request as often at most as a task takes; and the totals are those of the requests and these answers (profile)
 pub record IsServed (form : Form) (limit : ℕ) (old : DriveState) (left left' written written' : Option (List ℕ)) (calls calls' : ℕ) (new : DriveState) (summary : Summary) : Type 0 where
   pub first : Device
@@ -201,7 +201,7 @@ pub record CutsTo (before now : ℕ) (first : Device) (events : List Frame) (ans
   pub run : RunCut first events losses answers last
   pub counted : RoseBy losses before now
 
--- behind the frames that were read nothing was taken and nothing is told; or a frame was refused, which a FAULT tells (profile)
+-- behind the frames that were read nothing was taken and nothing is told; or a frame was refused, which is told (profile)
 abbrev pub IsBehind : Form → Reading → Option (List ℕ) → Option (List ℕ) → List ℕ → Type 0
 IsBehind form reader mid left' told = ((left' ≡ mid) × (told ≡ [])) ⊎ ((reason : Reason) × (offset : ℕ) × Blames reader mid left' (Bad reason offset) × (told ≡ fault_told form reason offset))
 
@@ -242,14 +242,14 @@ StoppedBehind form limit first before left left' written written' now last (faul
 StoppedBehind form limit first before left left' written written' now last faults.Read = Refused form limit first before left left' written written' ReadFault [] now last
 StoppedBehind form limit first before left left' written written' now last faults.Write = Cut form limit first before left left' written written' now last
 
--- a reader's refusal is told: a bad frame by a FAULT (profile)
+-- a reader's refusal is told, where a frame is bad (profile)
 abbrev pub Tells : Form → FrameFault → Option (List ℕ) → Option (List ℕ) → ServeFault → Type 0
 Tells form fault written written' (faults.Open opening) = ⊥
 Tells form fault written written' (faults.BadInput reason offset) = (fault ≡ Bad reason offset) × Wrote written written' (fault_told form reason offset)
 Tells form fault written written' faults.Read = (fault ≡ ReadFault) × (written' ≡ written)
 Tells form fault written written' faults.Write = (reason : Reason) × (offset : ℕ) × (fault ≡ Bad reason offset) × WrotePart written written' (fault_told form reason offset)
 
--- serving stopped: the layer was opened on the drive by one call at most, the magic was written, and then it came so far (profile)
+-- serving stopped: the layer was opened on the drive by one call at most, what stands before all answers was written, and then it came so far (profile)
 pub record IsStoppedBehind (form : Form) (limit : ℕ) (old : DriveState) (left left' written written' : Option (List ℕ)) (calls calls' : ℕ) (new : DriveState) (fault : ServeFault) : Type 0 where
   pub first : Device
   pub last : Device
@@ -261,7 +261,7 @@ pub record IsStoppedBehind (form : Form) (limit : ℕ) (old : DriveState) (left 
   pub stopped : StoppedBehind form limit first (tally_of old opened) left left' behind written' (tally_of new calls') last fault
   pub ends : IsLeftAs last new
 
--- the layer was opened on the drive, and a write failed in the magic before anything was read (profile)
+-- the layer was opened on the drive, and a write failed in what stands before all answers, before anything was read (profile)
 pub record IsStoppedInMagic (form : Form) (old : DriveState) (left left' written written' : Option (List ℕ)) (calls calls' : ℕ) (new : DriveState) : Type 0 where
   pub first : Device
   pub begins : IsFirst old first
@@ -278,7 +278,7 @@ pub record IsUntouched (old : DriveState) (left left' written written' : Option 
   pub nows : map (λ c. c.now) new.cells ≡ map (λ c. c.now) old.cells
   pub one_call : calls' ≤ calls + 1
 
--- the same by the fault; a write may fail in the magic already (profile)
+-- the same by the fault; a write may fail in what stands before all answers already (profile)
 abbrev pub IsStopped : Form → ℕ → DriveState → Option (List ℕ) → Option (List ℕ) → Option (List ℕ) → Option (List ℕ) → ℕ → ℕ → DriveState → ServeFault → Type 0
 IsStopped form limit old left left' written written' calls calls' new (faults.Open fault) = IsUntouched old left left' written written' calls calls' new
 IsStopped form limit old left left' written written' calls calls' new (faults.BadInput reason offset) = IsStoppedBehind form limit old left left' written written' calls calls' new (faults.BadInput reason offset)

@@ -12,7 +12,7 @@ pub enum Status {
     Done,
     /// The words are not understood.
     Usage,
-    /// The input is refused. A FAULT frame says why and where.
+    /// The input is refused. A FAULT frame, or a line of text, says why and where.
     BadInput,
     /// A read failed.
     ReadFault,

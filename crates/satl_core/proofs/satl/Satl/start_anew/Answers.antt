@@ -16,5 +16,5 @@ invariant_of-self c =
 
 pub returns-clause-anew : goal.returns-clause-anew
 returns-clause-anew c =
-    anew_by c.self.inside.identity c.self.inside.modes c.default_modes-self-inside.result c.self.inside.started c.self.inside.down c.self.inside.attentions c.powered_on-self-inside.result c.self.inside.tasks c.drop_tasks.new.tasks _ _ _ _ c.args.self.now
-    c.self.view_is c.default_modes-self-inside.ensures c.powered_on-self-inside.ensures (c.drop_tasks.ensures.others ∙ left_none c.self.inside.tasks)
+    anew_by c.self.inside.identity c.self.inside.modes c.defaults-self-inside.result c.self.inside.started c.self.inside.down c.self.inside.attentions c.powered_on-self-inside.result c.self.inside.tasks c.drop_tasks.new.tasks _ _ _ _ c.args.self.now
+    c.self.view_is c.defaults-self-inside.ensures c.powered_on-self-inside.ensures (c.drop_tasks.ensures.others ∙ left_none c.self.inside.tasks)
