@@ -5,7 +5,7 @@ use Rattle.satl_cdb.specs.declared.command.Form.{Form}
 use Rattle.satl_cdb.specs.declared.command.Form.TheVariants.{Six, Ten, Twelve, Sixteen}
 use Rattle.satl_cdb.specs.declared.command.Command.TheVariants as commands
 use Rattle.satl_cdb.specs.Refusals.{invalid_operation_code}
-use Rattle.satl_cdb.specs.Rows.{Rule, Format, at, is, is_not, is_above, never}
+use Rattle.satl_cdb.specs.Rows.{Rule, Format, at, on, is, is_not, is_above, never}
 
 -- where a form has its LOGICAL BLOCK ADDRESS, and its TRANSFER LENGTH or NUMBER OF LOGICAL BLOCKS (SPC-4 4.3)
 pub record Layout : Type 0 where
@@ -45,7 +45,7 @@ write_6 = record { rules = []; command = λ cdb. commands.Write Six (six.lba cdb
 
 -- RDPROTECT or WRPROTECT, byte 1 bits 7 to 5, and a count of at most 4,096 blocks
 abbrev pub transfer_rules : Layout → List Rule
-transfer_rules long = at 1 (is_not 0 (bits 1 7 5)) ∷ at long.count_place (is_above 4096 long.count) ∷ []
+transfer_rules long = on 1 7 5 (is_not 0) ∷ at long.count_place (is_above 4096 long.count) ∷ []
 
 -- SBC-3, READ (10), (12) and (16) commands: FUA byte 1 bit 3
 abbrev pub read : Layout → Format
@@ -65,8 +65,8 @@ write long = record {
 abbrev pub verify : Layout → Format
 verify long = record {
   rules =
-      at 1 (is_not 0 (bits 1 7 5))
-      ∷ at 1 (is_above 1 (bits 1 2 1))
+      on 1 7 5 (is_not 0)
+      ∷ on 1 2 1 (is_above 1)
       ∷ at long.count_place (λ cdb. is_above (if is 0 (bits 1 2 1) cdb then 65536 else 4096) long.count cdb)
       ∷ [];
   command = λ cdb. commands.Verify long.form (long.lba cdb) (long.count cdb) (is 1 (bits 1 2 1) cdb);
@@ -83,9 +83,9 @@ synchronize_cache long = record {
 abbrev pub write_same : Bool → Layout → Format
 write_same trim long = record {
   rules =
-      at 1 (is_not 0 (bits 1 7 5))
-      ∷ at 1 (bit 1 4)
-      ∷ at 1 (is_not 0 (bits 1 2 0))
+      on 1 7 5 (is_not 0)
+      ∷ on 1 4 4 (is 1)
+      ∷ on 1 2 0 (is_not 0)
       ∷ at 1 (if trim then never else bit 1 3)
       ∷ at long.count_place (is 0 long.count)
       ∷ at long.count_place (is_above 65536 long.count)
@@ -98,7 +98,7 @@ abbrev pub unmap : Bool → Format
 unmap trim = record {
   rules =
       record { place = 0; breaks = λ cdb. not trim; refusal = invalid_operation_code }
-      ∷ at 1 (bit 1 0)
+      ∷ on 1 0 0 (is 1)
       ∷ [];
   command = λ cdb. commands.Unmap (bytes 7 8 cdb);
 }
@@ -106,7 +106,7 @@ unmap trim = record {
 -- SBC-3, START STOP UNIT command: POWER CONDITION byte 4 bits 7 to 4, NO_FLUSH bit 2, LOEJ bit 1, START bit 0
 abbrev pub start_stop : Format
 start_stop = record {
-  rules = at 4 (is_not 0 (bits 4 7 4)) ∷ at 4 (bit 4 1) ∷ [];
+  rules = on 4 7 4 (is_not 0) ∷ on 4 1 1 (is 1) ∷ [];
   command = λ cdb. commands.StartStop (bit 4 0 cdb) (bit 4 2 cdb);
 }
 
@@ -117,6 +117,6 @@ read_capacity_10 = record { rules = []; command = λ cdb. commands.ReadCapacity1
 -- SBC-3, READ CAPACITY (16) command: SERVICE ACTION byte 1 bits 4 to 0, ALLOCATION LENGTH bytes 10 to 13
 abbrev pub read_capacity_16 : Format
 read_capacity_16 = record {
-  rules = at 1 (is_not 0x10 (bits 1 4 0)) ∷ [];
+  rules = on 1 4 0 (is_not 0x10) ∷ [];
   command = λ cdb. commands.ReadCapacity16 (bytes 10 13 cdb);
 }

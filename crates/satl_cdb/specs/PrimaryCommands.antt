@@ -3,7 +3,7 @@ use Rattle.std.specs.Prelude.{ℕ, Bool, true, false, List, [], ◌∷◌, Some,
 use Rattle.satl_base.specs.Fields.{Field, Flag, bytes, bits, bit}
 use Rattle.satl_cdb.specs.declared.command.Command.TheVariants as commands
 use Rattle.satl_cdb.specs.Refusals.{saving_not_supported}
-use Rattle.satl_cdb.specs.Rows.{Format, at, is, is_above, is_none_of, never}
+use Rattle.satl_cdb.specs.Rows.{Format, at, on, is, is_above, is_none_of, never}
 
 -- SPC-4, TEST UNIT READY command
 abbrev pub test_unit_ready : Format
@@ -32,7 +32,7 @@ mode_length true = bytes 7 8
 -- SPC-4, MODE SELECT (6) and (10) commands: PF byte 1 bit 4, SP byte 1 bit 0
 abbrev pub mode_select : Bool → Format
 mode_select ten = record {
-  rules = at 1 (is 0 (bits 1 4 4)) ∷ at 1 (bit 1 0) ∷ [];
+  rules = on 1 4 4 (is 0) ∷ on 1 0 0 (is 1) ∷ [];
   command = λ cdb. commands.ModeSelect ten (mode_length ten cdb);
 }
 
@@ -50,7 +50,7 @@ abbrev pub mode_sense : Bool → Format
 mode_sense ten = record {
   rules =
       record { place = 2; breaks = is 3 (bits 2 7 6); refusal = saving_not_supported }
-      ∷ at 2 (is_none_of mode_pages (bits 2 5 0))
+      ∷ on 2 5 0 (is_none_of mode_pages)
       ∷ at 3 (λ cdb. is_none_of (if is 0x3F (bits 2 5 0) cdb then 0x00 ∷ 0xFF ∷ [] else 0x00 ∷ []) (bytes 3 3) cdb)
       ∷ [];
   command = λ cdb. commands.ModeSense ten (long_lba ten cdb) (bit 1 3 cdb) (bits 2 7 6 cdb) (bits 2 5 0 cdb) (mode_length ten cdb);

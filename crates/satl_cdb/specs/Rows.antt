@@ -1,6 +1,6 @@
 -- The shape of the table of operation codes, and what a table says of a command descriptor block (SPC-4 4.3).
 use Rattle.std.specs.Prelude.{ℕ, false, ◌==◌, nat_lt, not, List, [], ◌∷◌, Option, Some, None, Result, Ok, Err, if◌then◌else◌}
-use Rattle.satl_base.specs.Fields.{Field, Flag}
+use Rattle.satl_base.specs.Fields.{Field, Flag, bits}
 use Rattle.satl_base.specs.Lists.{is_in}
 use Rattle.satl_cdb.specs.declared.command.Command.{Command}
 use Rattle.satl_cdb.specs.declared.command.Illegal.{Illegal}
@@ -31,6 +31,10 @@ pub record Rule : Type 0 where
 -- a rule whose refusal is INVALID FIELD IN CDB at its byte
 abbrev pub at : ℕ → Flag → Rule
 at place breaks = record { place = place; breaks = breaks; refusal = invalid_field place }
+
+-- the same for a field of one byte, bits high to low, which is named once
+abbrev pub on : ℕ → ℕ → ℕ → (Field → Flag) → Rule
+on place high low test = at place (test (bits place high low))
 
 -- what an operation code stands for: rules by ascending byte, and the command where none is broken
 pub record Format : Type 0 where

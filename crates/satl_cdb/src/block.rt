@@ -110,8 +110,11 @@ pub fn synchronize_cache_of(cdb: &[u8; 16], form: Form) -> Command
 pub fn write_same_of(cdb: &[u8; 16], trim: bool, form: Form) -> Result<Command, Illegal>
     ensures { result ≡ format_says (write_same trim (layout_of form)) cdb.now }
 {
+    let protect = cdb[1] >> 5;
+    let anchor = flag(cdb, 1, 4);
     let unmap = flag(cdb, 1, 3);
-    if cdb[1] >> 5 != 0 || flag(cdb, 1, 4) || cdb[1] & 7 != 0 || unmap && !trim {
+    let reserved = cdb[1] & 7;
+    if protect != 0 || anchor || reserved != 0 || unmap && !trim {
         return Err(Illegal::invalid_field(1));
     }
     let count = count_of(cdb, form);
@@ -143,7 +146,9 @@ pub fn unmap_of(cdb: &[u8; 16], trim: bool) -> Result<Command, Illegal>
 pub fn start_stop_of(cdb: &[u8; 16]) -> Result<Command, Illegal>
     ensures { result ≡ format_says start_stop cdb.now }
 {
-    if cdb[4] >> 4 != 0 || flag(cdb, 4, 1) {
+    let power_condition = cdb[4] >> 4;
+    let loej = flag(cdb, 4, 1);
+    if power_condition != 0 || loej {
         return Err(Illegal::invalid_field(4));
     }
     Ok(Command::StartStop {

@@ -15,56 +15,19 @@ use crate::primary::{inquiry_of, mode_select_of, mode_sense_of, report_luns_of, 
 fn pass_through_12_of(cdb: &[u8; 16]) -> Command
     ensures { format_says pass_through_12 cdb.now ≡ Ok result }
 {
-    let [code, protocol, b2, b3, b4, b5, b6, b7, b8, b9, ..] = *cdb;
-    Command::Pass {
-        cdb: [
-            code,
-            protocol & 0xFE,
-            b2,
-            b3,
-            b4,
-            b5,
-            b6,
-            b7,
-            b8,
-            b9,
-            0,
-            0,
-            0,
-            0,
-            0,
-            0,
-        ],
-    }
+    let mut kept = [0u8; 16];
+    kept[..10].copy_from_slice(&cdb[..10]);
+    kept[1] &= 0xFE;
+    Command::Pass { cdb: kept }
 }
 
 /// Byte 15 is the control byte.
 fn pass_through_16_of(cdb: &[u8; 16]) -> Command
     ensures { format_says pass_through_16 cdb.now ≡ Ok result }
 {
-    let [
-        code,
-        protocol,
-        b2,
-        b3,
-        b4,
-        b5,
-        b6,
-        b7,
-        b8,
-        b9,
-        b10,
-        b11,
-        b12,
-        b13,
-        b14,
-        _,
-    ] = *cdb;
-    Command::Pass {
-        cdb: [
-            code, protocol, b2, b3, b4, b5, b6, b7, b8, b9, b10, b11, b12, b13, b14, 0,
-        ],
-    }
+    let mut kept = [0u8; 16];
+    kept[..15].copy_from_slice(&cdb[..15]);
+    Command::Pass { cdb: kept }
 }
 
 /// The command that a command descriptor block asks for, on a drive with or without trim. A block shorter than 16

@@ -7,6 +7,7 @@ ghost use Rattle.satl_cdb.specs.Table.{says};
 ghost use Rattle.satl_cdb.specs.Spelling.{bit_of, page_byte, short, sixteen, spelled, ten, twelve};
 
 use crate::command::{Command, Form};
+use byteorder::{BigEndian, ByteOrder};
 
 fn flag_byte(place: u8, set: bool) -> u8
     requires { place < 8 }
@@ -47,7 +48,7 @@ fn twelve_bytes(code: u8, one: u8, lba: u64, count: u32) -> [u8; 16]
     cdb[0] = code;
     cdb[1] = one;
     cdb[2..6].copy_from_slice(&lba.to_be_bytes()[4..]);
-    cdb[6..10].copy_from_slice(&count.to_be_bytes());
+    BigEndian::write_u32(&mut cdb[6..], count);
     cdb
 }
 
@@ -57,8 +58,8 @@ fn sixteen_bytes(code: u8, one: u8, lba: u64, count: u32) -> [u8; 16]
     let mut cdb = [0u8; 16];
     cdb[0] = code;
     cdb[1] = one;
-    cdb[2..10].copy_from_slice(&lba.to_be_bytes());
-    cdb[10..14].copy_from_slice(&count.to_be_bytes());
+    BigEndian::write_u64(&mut cdb[2..], lba);
+    BigEndian::write_u32(&mut cdb[10..], count);
     cdb
 }
 

@@ -354,7 +354,7 @@ lost_turn identity modes started attentions entry others d d' answers kept cache
         active = inl refl;
         stays = refl;
       };
-      step = loses (record {
+      step = loses some (record {
         was_up = up;
         answer = is;
         glitches = x.glitches;
@@ -362,6 +362,9 @@ lost_turn identity modes started attentions entry others d d' answers kept cache
       });
       quiet_after = quiet_none new;
     }
+  where
+    some : (task_of entry ∷ others) ≡ [] → ⊥
+    some empty = absurd cc
 
 -- a task that ends with sense data sets nothing
 still : (capacity n : ℕ) (modes wanted : Modes) (started : Bool) (sense : Sense) (command : Command) → IsTask capacity command n → (modes_after command (endings.Check sense) modes wanted ≡ modes) × (started_after command (endings.Check sense) started ≡ started)

@@ -217,6 +217,7 @@ added_valid l new d r c replies e fits a pages v =
       pages = pages;
       at = view l d;
       same = refl;
+      modes = v.modes;
       became = code_waits l d r c answer ∙ waits_so room;
     }) v)
   where

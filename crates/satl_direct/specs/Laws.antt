@@ -1,5 +1,5 @@
 -- What holds of all runs of the device: the statements of four laws (profile).
-use Rattle.std.specs.Prelude.{◌≡◌, ℕ, ◌+◌, ◌-◌, ◌==◌, ◌&&◌, not, nat_le, nat_lt, ◌<◌, Bool, true, false, if◌then◌else◌, List, [], ◌∷◌, ◌++◌, Option, Some, Result, Ok, Err, filter, get_or, map, slice_get}
+use Rattle.std.specs.Prelude.{◌≡◌, ◌⊎◌, ℕ, ◌+◌, ◌-◌, ◌==◌, ◌&&◌, not, nat_le, nat_lt, ◌<◌, Bool, true, false, if◌then◌else◌, List, [], ◌∷◌, ◌++◌, Option, Some, Result, Ok, Err, filter, get_or, map, slice_get}
 use Rattle.std.specs.Option.{option_map}
 use Rattle.std.specs.List.{AllByRecursion, list_any}
 use Rattle.satl_base.specs.declared.block.Block.{Block}
@@ -32,6 +32,7 @@ use Rattle.satl_direct.specs.Valid.{IsValid}
 use Rattle.satl_direct.specs.Quiet.{Around, Quiet, writes}
 use Rattle.satl_direct.specs.Run.{Run, RunDeep, TurnsOf, joined}
 use Rattle.satl_direct.specs.Run.RunDeep.{start, step}
+use Rattle.satl_direct.specs.Turn.{TurnLoss}
 
 -- what a read of a sector gives (SBC-3)
 abbrev pub now_at : List Cell → ℕ → Option Block
@@ -254,10 +255,13 @@ pub record IsSpan (x : ℕ) (s after : Device) : Type 0 where
   pub last : Device
   pub quiet : Quiet s begin
   pub none : SparedBy x begin begin.tasks
+  pub lost : List Reply
+  pub going : Device
+  pub loss : (going ≡ begin) ⊎ TurnLoss begin lost going
   pub count : ℕ
   pub replies : List Reply
   pub deep : ℕ
-  pub turns : TurnsOf count begin replies mid deep
+  pub turns : TurnsOf count going replies mid deep
   pub all : List Frame
   pub groups : List (List Answer)
   pub losses : ℕ

@@ -49,5 +49,5 @@ pub record OneEnds (s : Device) (reply : Reply) (new : Device) : Type 0 where
 pub data Turn (s : Device) : List Reply → Device → Type 0 where
   idle : s.tasks ≡ [] → Turn s [] s
   ends : {new : Device} (reply : Reply) → OneEnds s reply new → Turn s (reply ∷ []) new
-  loses : {new : Device} {answers : List Reply} → TurnLoss s answers new → Turn s answers new
+  loses : {new : Device} {answers : List Reply} → (s.tasks ≡ [] → ⊥) → TurnLoss s answers new → Turn s answers new
   ends_and_loses : {mid after new : Device} {answers : List Reply} (reply : Reply) → OneEnds s reply mid → Quiet mid after → TurnLoss after answers new → Turn s (reply ∷ answers) new

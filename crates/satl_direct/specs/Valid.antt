@@ -25,6 +25,7 @@ pub record HasCome (identity : Identity) (t : Entry) : Type 0 where
   pub pages : request.data_len ≤ 512 * length request.body
   pub at : Device
   pub same : at.identity ≡ identity
+  pub modes : AreModesOf identity at.modes
   pub became : code_arrival at request ≡ waits t
 
 -- a device that there can be: what its drive says of itself; as many sound sectors as its capacity; at most 64 tasks with at most 32,768 blocks, each with a nexus and

@@ -1,5 +1,5 @@
 // Bytes of frames into a sink, gathered into few writes.
-ghost use Rattle.std.specs.Prelude.{◌≡◌, ◌≤◌, ◌+◌, ◌*◌, ◌++◌, None, Some, OnOk, OnErr, is_ok, length};
+ghost use Rattle.std.specs.Prelude.{◌≡◌, ◌≤◌, ◌+◌, ◌*◌, ◌++◌, [], None, Some, OnOk, OnErr, is_ok, length};
 ghost use Rattle.arrayvec.specs.ArrayVec.{array_vec_len};
 ghost use Rattle.byteorder.specs.Endian.{big_bytes};
 ghost use Rattle.satl_base.specs.Blocks.{first_bytes};
@@ -138,22 +138,16 @@ fn second_head(reply: &Reply, expected: u32) -> [u8; 16]
     ]
 }
 
-/// A reply up to its sense, gathered.
-fn gathered_fields(reply: &Reply) -> Gathered
-    requires { IsWritable reply.now }
-    ensures bytes { result.items ≡ framed (reply_kind reply.now.expected) (reply_len reply.now) (reply_fields reply.now) }
-    ensures few { array_vec_len result ≤ 16 }
+/// A reply up to its sense, gathered first.
+fn gather_fields(reply: &Reply, gathered: &mut Gathered)
+    requires writable { IsWritable reply.now }
+    requires empty { gathered.old.items ≡ [] }
+    ensures bytes { gathered.new.items ≡ framed (reply_kind reply.now.expected) (reply_len reply.now) (reply_fields reply.now) }
+    ensures few { array_vec_len gathered.new ≤ 16 }
 {
-    let mut gathered = Gathered::new();
     match reply.expected {
-        None => {
-            append(&mut gathered, &first_head(reply));
-            gathered
-        }
-        Some(expected) => {
-            append(&mut gathered, &second_head(reply, expected));
-            gathered
-        }
+        None => append(gathered, &first_head(reply)),
+        Some(expected) => append(gathered, &second_head(reply, expected)),
     }
 }
 
@@ -163,7 +157,8 @@ fn write_reply<K: Sink>(sink: &mut K, reply: &Reply) -> Result<(), Failed>
     ensures part { OnErr result (WrotePart (K.written sink.old) (K.written sink.new) (reply_bytes reply.now)) }
     ensures cause { HasCause (K.faults sink.old) (K.faults sink.new) result }
 {
-    let mut gathered = gathered_fields(reply);
+    let mut gathered = Gathered::new();
+    gather_fields(reply, &mut gathered);
     append(&mut gathered, reply.sense.as_slice());
     let len = sent_len(reply.expected, reply.data_len);
     match gather_data(sink, &mut gathered, &reply.body, len) {

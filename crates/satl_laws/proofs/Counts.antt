@@ -40,11 +40,11 @@ quiet_tasks old new q = ap (λ d. d.tasks) q.stays
 
 module _ (nexus tag : ℕ) where
   -- one of the nexus and tag counts 1, another 0
-  abbrev weigh : ℕ → Tag → ℕ
+  abbrev pub weigh : ℕ → Tag → ℕ
   weigh n g = (if (n == nexus) && (g.0 == tag) then 1 else 0) + 0
 
   -- how many tasks have the nexus and tag
-  abbrev mine : List Entry → ℕ
+  abbrev pub mine : List Entry → ℕ
   mine tasks = how_many (is_called nexus tag) tasks
 
   -- how many replies do
@@ -87,7 +87,7 @@ module _ (nexus tag : ℕ) where
   quiet_counts old new q = ap mine (quiet_tasks old new q)
 
   -- a task that ends goes, and is answered once
-  one_counts : (s new : Device) (reply : Reply) → OneEnds s reply new → weigh reply.nexus reply.tag + mine new.tasks ≡ mine s.tasks
+  pub one_counts : (s new : Device) (reply : Reply) → OneEnds s reply new → weigh reply.nexus reply.tag + mine new.tasks ≡ mine s.tasks
   one_counts s new reply e =
       let l = ends_leaves s new e.task reply e.ends in
       let to : weigh reply.nexus reply.tag ≡ weigh (e.task).nexus (e.task).tag = same_weight reply.nexus (e.task).nexus reply.tag (e.task).tag l.nexus l.tag in
@@ -102,7 +102,7 @@ module _ (nexus tag : ℕ) where
   turn_counts : {s new : Device} {answers : List Reply} → Turn s answers new → replies answers + mine new.tasks ≡ mine s.tasks
   turn_counts (idle h) = omega arith
   turn_counts {s = s} (ends {new = new} reply e) = omega (arith, one_counts s new reply e)
-  turn_counts {s = s} (loses {new = new} {answers = answers} l) = loss_counts s new answers l.answer (ap (λ d. d.tasks) l.stays)
+  turn_counts {s = s} (loses {new = new} {answers = answers} some l) = loss_counts s new answers l.answer (ap (λ d. d.tasks) l.stays)
   turn_counts {s = s} (ends_and_loses {mid = mid} {after = after} {new = new} {answers = answers} reply e q l) =
       omega (arith, one_counts s mid reply e, quiet_counts mid after q, loss_counts after new answers l.answer (ap (λ d. d.tasks) l.stays))
 

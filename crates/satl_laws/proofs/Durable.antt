@@ -26,6 +26,7 @@ use Rattle.satl_direct.specs.Quiet.{Around, written_by}
 use Rattle.satl_direct.specs.Valid.{HasCome, IsValid}
 use Rattle.satl_direct.specs.Laws.{IsSpan, now_at, secures, SparedThrough, WithoutPower}
 use Rattle.satl_direct.specs.Run.{RunDeep}
+use Rattle.satl_direct.specs.Turn.{TurnLoss}
 use Rattle.satl_frame.specs.declared.frames.Frame.{Frame}
 use Rattle.satl_frame.specs.Output.{Answer}
 use Rattle.satl_laws.proofs.Addresses.{Alike}
@@ -36,7 +37,7 @@ use Rattle.satl_laws.proofs.Ends.{ends_leaves}
 use Rattle.satl_laws.proofs.Kept.{KeptAs, KeptAt, apart, at_now, elsewhere}
 use Rattle.satl_laws.proofs.Reaching.{WritesItsOwn}
 use Rattle.satl_laws.proofs.Runs.{none_writes, run_keeps}
-use Rattle.satl_laws.proofs.Sparing.{Keeps, NoneWrites, SparesAt, keeps_on, none_still, quiet_alike, quiet_keeps, turns_keep}
+use Rattle.satl_laws.proofs.Sparing.{Keeps, NoneWrites, SparesAt, keeps_none, keeps_on, loss_keeps, none_still, quiet_alike, quiet_keeps, turns_keep}
 
 -- a loss of power leaves what a read gives
 pub record IsSingle (x : ℕ) (cells : List Cell) : Type 0 where
@@ -215,6 +216,11 @@ own_of x s h = All-weaken (SparesAt x s) (λ t. WritesItsOwn t.command) (λ t k.
 alike_back : (s u : Device) → Alike s u → Alike u s
 alike_back s u a = record { identity = sym a.identity; size = sym a.size }
 
+-- so does a link that is lost in the turn in which the task ended
+going_keeps : (x : ℕ) (begin going : Device) (lost : List Reply) → ((going ≡ begin) ⊎ TurnLoss begin lost going) → NoneWrites x begin → Keeps x begin going
+going_keeps x begin going lost (inl same) h = subst (λ d. Keeps x begin d) (sym same) (keeps_none x begin h)
+going_keeps x begin going lost (inr l) h = loss_keeps x begin going (ap (λ d. d.cells) l.stays) (ap (λ d. d.identity) l.stays) (ap (λ d. d.tasks) l.stays)
+
 -- from the end of a task up to a loss of power
 span_keeps : (x : ℕ) (mid after : Device) → AllByRecursion (λ t. WritesItsOwn t.command) mid.tasks → (span : IsSpan x mid after) → Keeps x mid span.last
 span_keeps x mid after own span =
@@ -222,7 +228,7 @@ span_keeps x mid after own span =
     let begin : NoneWrites x span.begin = none_writes x span.begin span.none (subst (AllByRecursion (λ t. WritesItsOwn t.command)) (sym same) own) in
     let here : NoneWrites x mid = none_still x span.begin mid (span.begin).tasks (alike_back mid span.begin (quiet_alike x mid span.begin span.quiet)) (sym same) begin.each in
     keeps_on x mid span.mid span.last
-    (keeps_on x mid span.begin span.mid (quiet_keeps x mid span.begin span.quiet here) (turns_keep x span.turns))
+    (keeps_on x mid span.going span.mid (keeps_on x mid span.begin span.going (quiet_keeps x mid span.begin span.quiet here) (going_keeps x span.begin span.going span.lost span.loss)) (turns_keep x span.turns))
     (λ h. run_keeps x span.run span.no_power span.spared (own_of x span.mid h))
 
 -- the law of durable sectors

@@ -119,11 +119,11 @@ put_keeps x cells p other =
     record { at = subst (KeptAs (slice_get cells x)) (sym (elsewhere (λ c. put c p.block p.cached) cells p.lba x (apart p.lba x other))) (as_none (slice_get cells x)) }
 
 -- where neither holds, each fails
-or_left : (a b : Bool) → (a || b) ≡ false → a ≡ false
+pub or_left : (a b : Bool) → (a || b) ≡ false → a ≡ false
 or_left true b h = h
 or_left false b h = refl
 
-or_right : (a b : Bool) → (a || b) ≡ false → b ≡ false
+pub or_right : (a b : Bool) → (a || b) ≡ false → b ≡ false
 or_right true b h = absurd cc
 or_right false b h = h
 

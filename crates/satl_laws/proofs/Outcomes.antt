@@ -69,7 +69,7 @@ good_end : {s new : Device} {answers : List Reply} (reply : Reply) → Turn s an
 good_end reply (idle h) i good = absurd i
 good_end {s = s} reply (ends {new = new} other e) i good =
     ⊎_elim (λ same. record { mid = new; one = subst (λ r. OneEnds s r new) (sym same) e; rest = λ x h. keeps_none x new h }) (λ nothing. absurd nothing) i
-good_end {s = s} reply (loses l) i good = absurd (lost_is_bad s s.tasks reply (subst (IsIn reply) l.answer i) good)
+good_end {s = s} reply (loses some l) i good = absurd (lost_is_bad s s.tasks reply (subst (IsIn reply) l.answer i) good)
 good_end {s = s} reply (ends_and_loses {mid = mid} {after = after} {new = new} other e q l) i good =
     ⊎_elim
     (λ same. record { mid = mid; one = subst (λ r. OneEnds s r mid) (sym same) e; rest = λ x h. keeps_on x mid after new (quiet_keeps x mid after q h) (λ g. loss_keeps x after new (ap (λ d. d.cells) l.stays) (ap (λ d. d.identity) l.stays) (ap (λ d. d.tasks) l.stays)) })

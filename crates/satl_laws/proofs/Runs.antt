@@ -34,7 +34,7 @@ last_same (a ∷ xs) (b ∷ ys) x y h =
     ((ap (λ l. l ∷ xs) front ∙ ap (λ l. b ∷ l) r.0), r.1)
 
 -- one more group of answers
-joined-push : (groups : List (List Answer)) (group : List Answer) → joined (groups ++ group ∷ []) ≡ joined groups ++ group
+pub joined-push : (groups : List (List Answer)) (group : List Answer) → joined (groups ++ group ∷ []) ≡ joined groups ++ group
 joined-push [] group = append-nil group
 joined-push (g ∷ groups) group = ap (λ l. g ++ l) (joined-push groups group) ∙ sym (append_assoc g (joined groups) group)
 

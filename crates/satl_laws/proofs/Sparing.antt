@@ -37,7 +37,7 @@ use Rattle.satl_laws.proofs.Kept.{KeptAt, at_none, at_on, at_same, mend_keeps, m
 use Rattle.satl_laws.proofs.Reaching.{WritesItsOwn, ends_reach, steps-length, steps_keep}
 
 -- what holds of each holds of one of them
-in_all : {X : Type 0} (P : X → Type 0) (xs : List X) (x : X) → AllByRecursion P xs → IsIn x xs → P x
+pub in_all : {X : Type 0} (P : X → Type 0) (xs : List X) (x : X) → AllByRecursion P xs → IsIn x xs → P x
 in_all P [] x all i = elim i [ ]
 in_all P (y ∷ ys) x all i = ⊎_elim (λ same. subst P (sym same) all.0) (λ later. in_all P ys x all.1 later) i
 
@@ -128,7 +128,7 @@ module _ (x : ℕ) where
   turn_keeps : {s new : Device} {answers : List Reply} → Turn s answers new → NoneWrites s → Keeps s new
   turn_keeps {s = s} (idle e) h = keeps_none s h
   turn_keeps {s = s} (ends {new = new} reply e) h = one_keeps s new reply e h
-  turn_keeps {s = s} (loses {new = new} l) h = loss_keeps s new (ap (λ d. d.cells) l.stays) (ap (λ d. d.identity) l.stays) (ap (λ d. d.tasks) l.stays)
+  turn_keeps {s = s} (loses {new = new} some l) h = loss_keeps s new (ap (λ d. d.cells) l.stays) (ap (λ d. d.identity) l.stays) (ap (λ d. d.tasks) l.stays)
   turn_keeps {s = s} (ends_and_loses {mid = mid} {after = after} {new = new} reply e q l) h =
       keeps_on s after new (keeps_on s mid after (one_keeps s mid reply e h) (quiet_keeps mid after q))
       (λ g. loss_keeps after new (ap (λ d. d.cells) l.stays) (ap (λ d. d.identity) l.stays) (ap (λ d. d.tasks) l.stays))

@@ -1,5 +1,5 @@
 //! Laws of all runs of the device.
-ghost use Rattle.satl_direct.specs.Laws.{Durable, OnceEach, Untouched};
+ghost use Rattle.satl_direct.specs.Laws.{ArrivalOrder, Durable, OnceEach, Untouched};
 
 /// Law of one answer: in a run from a device without tasks, the replies to a nexus and tag, the tasks of it that still
 /// wait, and those that were taken off without an answer are together as many as its requests (SAM-5 5).
@@ -17,4 +17,11 @@ pub fn secured_sectors_endure_a_loss_of_power()
 /// the run writes keeps its block (SBC-3).
 pub fn untouched_sectors_keep_their_blocks()
     ensures { Untouched }
+{}
+
+/// Law of arrival order: in a run of READs and WRITEs to END, from a device at rest and without a loss of the link, where
+/// each nexus and tag asks once, each READ that is answered with GOOD gives the blocks of the WRITEs answered with GOOD
+/// before it in the input, and at the end each sector has the block of the last of all these (SAM-5 8; SBC-3 5).
+pub fn transfers_act_in_order_of_arrival()
+    ensures { ArrivalOrder }
 {}

@@ -1,5 +1,6 @@
 -- The mode pages and their bytes (SPC-4 and SBC-3; the values that are not named there, and which bits a host can change: profile).
 use Rattle.std.specs.Prelude.{ℕ, ◌+◌, ◌==◌, not, true, false, List, [], ◌∷◌, ◌++◌, Option, Some, None, if◌then◌else◌}
+use Rattle.std.specs.List.{find}
 use Rattle.satl_base.specs.declared.modes.Modes.{Modes}
 use Rattle.satl_base.specs.Places.{Line, byte, at_place, laid}
 use Rattle.satl_identify.specs.declared.identity.Identity.{Identity}
@@ -35,12 +36,8 @@ abbrev pub all_pages : List ModePage
 all_pages = ErrorRecovery ∷ Caching ∷ Control ∷ Exceptions ∷ []
 
 -- the page of a code
-abbrev pub first_coded : List ModePage → ℕ → Option ModePage
-first_coded [] code = None
-first_coded (page ∷ pages) code = if code == (row_of page).code then Some page else first_coded pages code
-
 abbrev pub page_coded : ℕ → Option ModePage
-page_coded code = first_coded all_pages code
+page_coded code = find (λ (page : ModePage). code == (row_of page).code) all_pages
 
 -- the bits that a host can change: the write cache and look-ahead where the drive has them, and the form of sense data
 abbrev pub changeable : Identity → Modes

@@ -5,6 +5,7 @@
 mod bytes;
 mod change;
 mod descriptor;
+pub mod laws;
 mod page;
 mod select;
 mod sense;

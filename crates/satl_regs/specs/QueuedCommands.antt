@@ -1,6 +1,8 @@
 -- The registers of a queued command: READ FPDMA QUEUED, WRITE FPDMA QUEUED (ACS-3 section 7), and for a trim the
 -- profile's form of SEND FPDMA QUEUED, whose payload is one trim block.
 use Rattle.std.specs.Prelude.{◌≡◌, ℕ, ◌*◌, ◌^◌, ◌<◌, ◌≤◌, ◌==◌, Bool, false, List, [], ◌∷◌, Option, Some, None, if◌then◌else◌}
+use Rattle.std.specs.List.{find}
+use Rattle.std.specs.Option.{option_map}
 use Rattle.satl_base.specs.Fields.{bits_of}
 use Rattle.satl_regs.specs.declared.values.Registers.{Registers}
 use Rattle.satl_regs.specs.declared.values.Queued.{Queued}
@@ -28,14 +30,9 @@ queued_fields kind r = record {
   fua = bits_of 7 7 r.device == 1;
 }
 
--- The first of these kinds that has the code of the registers.
-abbrev pub first_kind : List QueuedKind → Registers → Option Queued
-first_kind [] r = None
-first_kind (kind ∷ kinds) r = if r.command == queued_code kind then Some (queued_fields kind r) else first_kind kinds r
-
 -- The queued command in the registers, if they hold one.
 abbrev pub queued_in : Registers → Option Queued
-queued_in r = first_kind (Read ∷ Write ∷ Trim ∷ []) r
+queued_in r = option_map (λ kind. queued_fields kind r) (find (λ (kind : QueuedKind). r.command == queued_code kind) (Read ∷ Write ∷ Trim ∷ []))
 
 -- The registers of a queued command. DEVICE(6) is 1 in each.
 abbrev pub queued_registers : Queued → Registers

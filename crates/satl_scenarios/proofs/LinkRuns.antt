@@ -1,5 +1,5 @@
 -- The link to the drive is lost.
-use Rattle.std.proofs.Common.{inl, inr, refl, true, false, [], ◌∷◌}
+use Rattle.std.proofs.Common.{◌≡◌, inl, inr, refl, true, false, [], ◌∷◌}
 use Rattle.satl_cdb.specs.declared.command.Command.TheVariants.{Read, Write}
 use Rattle.satl_cdb.specs.declared.command.Form.TheVariants.{Ten}
 use Rattle.satl_cdb.specs.Table.{says}
@@ -37,8 +37,11 @@ link_lost_in_turn =
     it_can_happen lost_in_turn
     (next (arrives [] (record (blank 3) { tasks = waiting_write ∷ [] }) (refl, refl))
     (next (arrives [] (record (blank 3) { tasks = waiting_write ∷ waiting_read ∷ [] }) (refl, refl))
-    (next (one_turn (record (blank 3) { down = true }) (loses (record { was_up = refl; answer = refl; glitches = inl refl; stays = refl })))
+    (next (one_turn (record (blank 3) { down = true }) (loses some (record { was_up = refl; answer = refl; glitches = inl refl; stays = refl })))
     ends_here)))
+  where
+    some : (waiting_write ∷ waiting_read ∷ []) ≡ [] → ⊥
+    some empty = absurd cc
 
 -- ---- by hand, twice
 

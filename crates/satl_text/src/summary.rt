@@ -17,14 +17,15 @@ fn count(before: u64, wanted: Scsi, status: Scsi) -> u64
 }
 
 /// The sum of the values of some bytes.
-fn sum_of(bytes: &[u8]) -> u64
+fn sum_of(bytes: &[u8]) -> u32
     requires { length bytes.now ≤ 512 }
     ensures value { result ≡ sum bytes.now }
     ensures small { result ≤ 255 * length bytes.now }
 {
-    let mut total: u64 = 0;
+    // In 32 bits, which x86-64 adds up sixteen bytes at a time.
+    let mut total: u32 = 0;
     for byte in bytes {
-        total += u64::from(*byte);
+        total += u32::from(*byte);
     }
     total
 }
@@ -39,7 +40,7 @@ fn data_sum(pages: &Pages, len: u32) -> u64
     for block in pages.iter() {
         let bytes = block.as_bytes();
         let count = left.min(512);
-        total += sum_of(&bytes[..count]);
+        total += u64::from(sum_of(&bytes[..count]));
         left -= count;
     }
     total

@@ -25,21 +25,16 @@ serial_number = record { code = 0x80; rest = λ i. characters 10 19 i.bytes }
 abbrev pub has_name : List ℕ → Bool
 has_name d = (word_bits 87 15 14 d == 1) && word_bit 87 8 d
 
--- a designation descriptor of the ASCII code set, T10 vendor identification: vendor, model and serial number (SAT-3, Device
--- Identification)
-abbrev pub vendor_designator : List ℕ → List ℕ
-vendor_designator d = 0x02 ∷ 0x01 ∷ 0x00 ∷ 0x44 ∷ (ata_vendor ++ characters 27 46 d ++ characters 10 19 d)
+-- a designation descriptor of the ASCII code set, T10 vendor identification, from byte 4 on: vendor, model and serial number;
+-- and from byte 76 on one of the binary code set, NAA: the world wide name in words 108 to 111 (SAT-3, Device Identification)
+abbrev pub designators : List ℕ → List Line
+designators d =
+    byte 4 0x02 ∷ byte 5 0x01 ∷ byte 7 0x44 ∷ text 8 ata_vendor ∷ text 16 (characters 27 46 d) ∷ text 56 (characters 10 19 d)
+    ∷ byte 76 0x01 ∷ byte 77 0x03 ∷ byte 79 0x08 ∷ text 80 (characters 108 111 d) ∷ []
 
--- a designation descriptor of the binary code set, NAA: the world wide name in words 108 to 111 (SAT-3, Device Identification)
-abbrev pub name_designator : List ℕ → List ℕ
-name_designator d = 0x01 ∷ 0x03 ∷ 0x00 ∷ 0x08 ∷ characters 108 111 d
-
--- SPC-4, Device Identification
+-- SPC-4, Device Identification: both descriptors, or the first alone where there is no world wide name
 abbrev pub identification : Page
-identification = record {
-  code = 0x83;
-  rest = λ i. vendor_designator i.bytes ++ (if has_name i.bytes then name_designator i.bytes else []);
-}
+identification = record { code = 0x83; rest = λ i. if has_name i.bytes then from_byte_4 84 (designators i.bytes) else from_byte_4 72 (designators i.bytes) }
 
 -- "SATL    "
 abbrev layer_vendor : List ℕ

@@ -3,6 +3,7 @@
 #![tactic(auto)]
 
 mod capacity;
+pub mod laws;
 mod lun_list;
 mod standard;
 mod text;

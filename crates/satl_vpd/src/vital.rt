@@ -7,7 +7,7 @@ ghost use Rattle.satl_vpd.specs.Vital.{ata_information, block_characteristics, b
 
 use crate::text::{append, characters};
 use arrayvec::ArrayVec;
-use byteorder::{ByteOrder, LittleEndian};
+use byteorder::{BigEndian, ByteOrder, LittleEndian};
 use satl_identify::Identity;
 
 /// A page of vital product data, at most 572 bytes (SPC-4, Vital product data).
@@ -90,30 +90,18 @@ fn ata_information(identity: &Identity) -> VitalPage
     page
 }
 
-/// The most blocks of one UNMAP command.
-fn unmap_blocks(trim: bool) -> u32
-    ensures { result ≡ (if trim then 65536 else 0) }
-{
-    if trim { 65_536 } else { 0 }
-}
-
-/// The most descriptors of one UNMAP command.
-fn unmap_descriptors(trim: bool) -> u32
-    ensures { result ≡ (if trim then 64 else 0) }
-{
-    if trim { 64 } else { 0 }
-}
-
 /// SBC-3, Block Limits.
 fn block_limits(identity: &Identity) -> VitalPage
     ensures { result.items ≡ page_bytes block_limits identity.now }
 {
     let mut bytes = [0; 64];
-    bytes[4] = 0x01;
-    bytes[8..12].copy_from_slice(&4096u32.to_be_bytes());
-    bytes[20..24].copy_from_slice(&unmap_blocks(identity.trim).to_be_bytes());
-    bytes[24..28].copy_from_slice(&unmap_descriptors(identity.trim).to_be_bytes());
-    bytes[36..44].copy_from_slice(&65_536u64.to_be_bytes());
+    bytes[4] = 0x01; // WSNZ
+    BigEndian::write_u32(&mut bytes[8..], 4096); // MAXIMUM TRANSFER LENGTH
+    if identity.trim {
+        BigEndian::write_u32(&mut bytes[20..], 65_536); // MAXIMUM UNMAP LBA COUNT
+        BigEndian::write_u32(&mut bytes[24..], 64); // MAXIMUM UNMAP BLOCK DESCRIPTOR COUNT
+    }
+    BigEndian::write_u64(&mut bytes[36..], 65_536); // MAXIMUM WRITE SAME LENGTH
     let mut page = begun(0xB0, 0x3C);
     append(&mut page, &bytes[4..]);
     page

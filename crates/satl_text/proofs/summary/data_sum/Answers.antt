@@ -10,7 +10,7 @@ loop-block-preserved c =
     c.as_bytes-bytes.ensures.value c.as_bytes-bytes.ensures.size c.min-count.ensures c.in-Some.ensures.steps in
     let counted = length-take-le c.min-count.result c.as_bytes-bytes.result.now (omega (arith, c.min-count.ensures, ap length c.as_bytes-bytes.ensures.value, c.as_bytes-bytes.ensures.size)) in
     record {
-      value = omega (arith, before.value, more, c.sum_of-total.ensures.value);
+      value = omega (arith, before.value, more, c.sum_of.ensures.value, c.from-total.ensures);
       holds = omega (arith, ap length c.in-Some.ensures.steps, c.min-count.ensures);
-      small = omega (arith, before.small, c.sum_of-total.ensures.small, counted, c.min-count.ensures);
+      small = omega (arith, before.small, c.sum_of.ensures.small, c.from-total.ensures, counted, c.min-count.ensures);
     }
