@@ -5,6 +5,7 @@ pub mod Codes
 pub mod Fields
 pub mod Identify
 pub mod Lending
+pub mod Limits
 pub mod Lists
 pub mod Losses
 pub mod Moves

@@ -80,7 +80,7 @@ taken_off frames.End s = []
 
 -- how many tasks of a nexus and tag a run takes off without an answer (profile)
 abbrev pub removed : ℕ → ℕ → {first last : Device} {events : List Frame} {groups : List (List Answer)} {losses deep : ℕ} → RunDeep first events groups losses last deep → ℕ
-removed nexus tag start = 0
+removed nexus tag (start quiet) = 0
 removed nexus tag (step {s = s} event now d so_far does) = removed nexus tag so_far + how_many (is_called nexus tag) (taken_off event s)
 
 -- law of one answer: from a device without tasks, the replies to a nexus and tag, the tasks of it that wait and those that were taken off
@@ -204,7 +204,7 @@ SparedIn x frames.End s = Unit {0}
 
 -- no task of a run writes a sector (profile)
 abbrev pub SparedThrough : ℕ → {first last : Device} {events : List Frame} {groups : List (List Answer)} {losses deep : ℕ} → RunDeep first events groups losses last deep → Type 0
-SparedThrough x {first = first} start = SparedBy x first first.tasks
+SparedThrough x {first = first} (start quiet) = SparedBy x first first.tasks
 SparedThrough x (step {s = s} {new = new} event now d so_far does) = SparedThrough x so_far × SparedIn x event s × SparedBy x new new.tasks
 
 -- a loss of power (profile)

@@ -72,7 +72,8 @@ abbrev pub Does : Frame → Device → List Answer → Device → ℕ → Type 0
 Does (frames.Request r) s answers new deep =
     (replies : List Reply) × (answers ≡ map replied replies) × Around (MayLose (Arrives r)) s replies new × (deep ≡ depth new)
 Does (frames.Manage m) s answers new deep = ManagedAnswers m s answers new × (deep ≡ depth new)
-Does (frames.Turn n) s answers new deep = (replies : List Reply) × (answers ≡ map replied replies) × TurnsOf n s replies new deep
+Does (frames.Turn n) s answers new deep =
+    (replies : List Reply) × (turned : ℕ) × (answers ≡ map replied replies) × TurnsOf n s replies new turned × (deep ≡ max turned (depth new))
 Does (frames.Bench event) s answers new deep =
     (replies : List Reply) × (answers ≡ map replied replies) × Around (Happens event) s replies new × (deep ≡ depth new)
 Does frames.End s answers new deep = (replies : List Reply) × (answers ≡ map replied replies ++ ended ∷ []) × Drains s replies new deep
@@ -98,10 +99,10 @@ losses_in (frames.Turn n) old new = losses_of old new
 losses_in (frames.Bench event) old new = bench_losses event
 losses_in frames.End old new = losses_of old new
 
--- the events one after the other: a group of answers for each, the number of losses, the last device, and the greatest depth
--- after an event or a turn (profile)
+-- the events one after the other, with quiet moves before the first: a group of answers for each, the number of losses, the last
+-- device, and the greatest depth after an event or a turn (profile)
 pub data RunDeep (first : Device) : List Frame → List (List Answer) → ℕ → Device → ℕ → Type 0 where
-  start : RunDeep first [] [] 0 first 0
+  start : {s : Device} → Quiet first s → RunDeep first [] [] 0 s 0
   step : {events : List Frame} {groups : List (List Answer)} {losses deep : ℕ} {s new : Device} (event : Frame) (now : List Answer) (d : ℕ)
       → RunDeep first events groups losses s deep → Does event s now new d
       → RunDeep first (events ++ event ∷ []) (groups ++ now ∷ []) (losses + losses_in event s new) new (max deep d)

@@ -9,6 +9,7 @@ use Rattle.satl_base.specs.declared.request.Attr.{Attr}
 use Rattle.satl_base.specs.declared.request.Attr.TheVariants.{Simple, Ordered}
 use Rattle.satl_base.specs.declared.modes.Modes.{Modes}
 use Rattle.satl_base.specs.Blocks.{first_bytes, no_block}
+use Rattle.satl_base.specs.Limits.{most_held, most_tasks}
 use Rattle.satl_cdb.specs.declared.command.Command.{Command}
 use Rattle.satl_cdb.specs.declared.command.Command.TheVariants as commands
 use Rattle.satl_cdb.specs.declared.command.Illegal.{Illegal}
@@ -144,7 +145,7 @@ held_by (t ∷ ts) = t.blocks + held_by ts
 
 -- the task set has no place for a command: 64 tasks, or more than 32,768 blocks (SAM-5 5.3.1, TASK SET FULL; the figures: profile)
 abbrev pub is_full : List Entry → Command → Bool
-is_full tasks command = (length tasks == 64) || nat_lt 32768 (held_by tasks + held_blocks command)
+is_full tasks command = (length tasks == most_tasks) || nat_lt most_held (held_by tasks + held_blocks command)
 
 -- the attribute ORDERED (SAM-5 8.6)
 abbrev pub is_ordered : Attr → Bool

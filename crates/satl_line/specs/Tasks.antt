@@ -5,6 +5,7 @@ use Rattle.std.specs.Option.{option_map}
 use Rattle.std.specs.List.{list_any}
 use Rattle.satl_base.specs.declared.block.Block.{Block}
 use Rattle.satl_base.specs.declared.request.Tag.{Tag}
+use Rattle.satl_base.specs.Limits.{most_held, most_tasks}
 use Rattle.satl_base.specs.Lists.{how_many}
 use Rattle.satl_line.specs.declared.entry.Entry.{Entry}
 use Rattle.satl_line.specs.Conflict.{conflicts}
@@ -42,7 +43,7 @@ is_named nexus tag held = held.entry.nexus == nexus && held.entry.tag.0 == tag.0
 
 -- whether 64 tasks are held, or its blocks and theirs would exceed 32,768 (SAM-5 5.3.1, TASK SET FULL; figures of the profile)
 abbrev pub is_too_much : List Held → Entry → Bool
-is_too_much tasks entry = length tasks == 64 || nat_lt 32768 (total_blocks tasks + entry.blocks)
+is_too_much tasks entry = length tasks == most_tasks || nat_lt most_held (total_blocks tasks + entry.blocks)
 
 -- the task comes last, in a slot of its own, and all others stay (profile)
 pub record Adds (old : List Held) (entry : Entry) (new : List Held) : Type 0 where

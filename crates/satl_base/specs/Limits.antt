@@ -1,0 +1,27 @@
+-- Limits of the profile.
+use Rattle.std.specs.Prelude.{ℕ}
+
+-- the most tasks that wait at once (SAM-5 5.3.1, TASK SET FULL; the figure: profile)
+abbrev pub most_tasks : ℕ
+most_tasks = 64
+
+-- the most blocks that all waiting tasks hold together (SAM-5 5.3.1, TASK SET FULL; the figure: profile)
+abbrev pub most_held : ℕ
+most_held = 32768
+
+-- the most blocks that one command moves: READ, WRITE, VERIFY with comparison and ATA PASS-THROUGH (SBC-3, MAXIMUM TRANSFER LENGTH; the figure: profile)
+abbrev pub most_moved : ℕ
+most_moved = 4096
+
+-- the most blocks that one command goes over without moving each: VERIFY without comparison, WRITE SAME, and an UNMAP in all its ranges
+-- (SBC-3, MAXIMUM WRITE SAME LENGTH and MAXIMUM UNMAP LBA COUNT; the figure: profile)
+abbrev pub most_covered : ℕ
+most_covered = 65536
+
+-- the most ranges of one UNMAP (SBC-3, MAXIMUM UNMAP BLOCK DESCRIPTOR COUNT; the figure: profile)
+abbrev pub most_ranges : ℕ
+most_ranges = 64
+
+-- the most bytes of data of one command: those of 4,096 blocks (profile)
+abbrev pub longest_data : ℕ
+longest_data = 2097152

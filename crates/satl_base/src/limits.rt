@@ -1,0 +1,20 @@
+// Limits of the profile, each of which stands here alone.
+
+/// The most tasks that wait at once (profile).
+pub const MOST_TASKS: usize = 64;
+
+/// The most blocks that all waiting tasks hold together: 16,777,216 bytes (profile).
+pub const MOST_HELD: u32 = 32_768;
+
+/// The most blocks that one command moves: READ, WRITE, VERIFY with comparison and ATA PASS-THROUGH (profile).
+pub const MOST_MOVED: u32 = 4096;
+
+/// The most blocks that one command goes over without moving each: VERIFY without comparison, WRITE SAME, and an UNMAP in
+/// all its ranges (profile).
+pub const MOST_COVERED: u32 = 65_536;
+
+/// The most ranges of one UNMAP (profile).
+pub const MOST_RANGES: usize = 64;
+
+/// The most bytes of data of one command: those of 4,096 blocks (profile).
+pub const LONGEST_DATA: u32 = 2_097_152;
