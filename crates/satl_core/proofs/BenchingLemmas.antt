@@ -16,6 +16,8 @@ use Rattle.satl_base.proofs.LossesLemmas.{loses-length, loses-sound}
 use Rattle.satl_base.proofs.MovesLemmas.{lose_once}
 use Rattle.satl_io.specs.Causes.{RoseBy}
 use Rattle.satl_io.proofs.Counting.{RoseBy-none}
+use Rattle.satl_identify.specs.Data.{identity_data}
+use Rattle.satl_regs.specs.Effects.{IsTelling}
 use Rattle.satl_regs.specs.Sectors.{IsLeftBehind, with_flaw, without_flaws}
 use Rattle.satl_identify.specs.declared.identity.Identity.{Identity}
 use Rattle.satl_mode.specs.ModePages.{defaults}
@@ -34,7 +36,9 @@ use Rattle.satl_direct.specs.Run.{bench_losses}
 use Rattle.satl_direct.specs.Valid.{IsValid}
 use Rattle.satl_core.specs.Benching.{Follows, IsActedOn, LosesLink, StartsAnew, StaysSame}
 use Rattle.satl_core.specs.Layer.{Layer, Tied, view}
-use Rattle.satl_core.proofs.CommandsLemmas.{says_told}
+use Rattle.satl_barrier.specs.Leaving.{TellsOf}
+use Rattle.satl_barrier.proofs.ToldLemmas.{all_bytes, retold}
+use Rattle.satl_core.proofs.TieLemmas.{bytes_long, has_as_noted}
 use Rattle.satl_core.proofs.DeviceLemmas.{around_alone, quiet_none, rest_lost}
 
 -- ---- what the drive does
@@ -147,6 +151,10 @@ happens Unplug l new d d' replies tied acted r = unplugged l new d d' replies ti
 
 -- ---- the tie
 
+-- data and settings that stay tell the same
+still_told : (bytes : List ℕ) (d d' : DriveState) → d'.identify ≡ d.identify → d'.cache ≡ d.cache → d'.look ≡ d.look → TellsOf bytes d → TellsOf bytes d'
+still_told bytes d d' same cache look told = same ∙ (told ∙ (ap (λ b. identity_data bytes b d.look) (sym cache) ∙ ap (λ b. identity_data bytes d'.cache b) (sym look)))
+
 -- the medium alone has changed
 tied_changed : (l new : Layer) (d d' : DriveState) → ChangesMedium d d' → new ≡ l → IsFit d' → Tied l d → Tied new d'
 tied_changed l new d d' change same fit tied =
@@ -157,8 +165,7 @@ tied_changed l new d d' change same fit tied =
       fit = fit;
       cache = λ up. ap (λ (x : DriveState). x.cache) change.stays ∙ tied.cache up;
       look = λ up. ap (λ (x : DriveState). x.look) change.stays ∙ tied.look up;
-      has_cache = ap (λ (x : DriveState). has_cache x.identify) change.stays ∙ tied.has_cache;
-      has_look = ap (λ (x : DriveState). has_look x.identify) change.stays ∙ tied.has_look;
+      told = still_told l.identity.bytes d d' (ap (λ (x : DriveState). x.identify) change.stays) (ap (λ (x : DriveState). x.cache) change.stays) (ap (λ (x : DriveState). x.look) change.stays) tied.told;
       valid = record {
         identity = tied.valid.identity;
         cells = change.size ∙ tied.valid.cells;
@@ -197,16 +204,15 @@ valid_powered l d d' free out p v = record {
 
 tied_powered : (l new : Layer) (d d' : DriveState) (replies : List Reply) → IsPowered d d' → StartsAnew l replies new → IsFit d' → Tied l d → Tied new d'
 tied_powered l new d d' replies p r fit tied =
-    let says = says_told (has_cache d.identify) (has_look d.identify) d.identify d'.identify p.tells in
+    let noted = has_as_noted l d tied in
     subst (λ x. Tied x d') (sym r.stays) (record {
       mark = sym (ap (λ (x : DriveState). x.down) p.stays);
       idle = ap (λ (x : DriveState). x.outstanding) p.stays;
       no_error = ap (λ (x : DriveState). x.error) p.stays;
       fit = fit;
-      cache = λ up. ap (λ (x : DriveState). x.cache) p.stays ∙ tied.has_cache;
-      look = λ up. ap (λ (x : DriveState). x.look) p.stays ∙ (tied.has_look ∙ twice l.identity.look);
-      has_cache = says.cache ∙ tied.has_cache;
-      has_look = says.look ∙ tied.has_look;
+      cache = λ up. ap (λ (x : DriveState). x.cache) p.stays ∙ noted.cache;
+      look = λ up. ap (λ (x : DriveState). x.look) p.stays ∙ (noted.look ∙ twice l.identity.look);
+      told = retold l.identity.bytes d.identify d'.identify d.cache d.look d'.cache d'.look (bytes_long l d tied) (all_bytes d'.identify fit.bytes) tied.told (subst (λ b. IsTelling b d'.look d.identify d'.identify) (sym (ap (λ (x : DriveState). x.cache) p.stays)) (subst (λ b. IsTelling (has_cache d.identify) b d.identify d'.identify) (sym (ap (λ (x : DriveState). x.look) p.stays)) p.tells));
       valid = valid_powered l d d' new.free new.out p tied.valid;
     })
 
@@ -221,8 +227,7 @@ tied_unplugged l new d d' replies u r fit tied =
       fit = fit;
       cache = λ up. absurd cc;
       look = λ up. absurd cc;
-      has_cache = ap (λ (x : DriveState). has_cache x.identify) u.cut.0.stays ∙ tied.has_cache;
-      has_look = ap (λ (x : DriveState). has_look x.identify) u.cut.0.stays ∙ tied.has_look;
+      told = still_told l.identity.bytes d d' (ap (λ (x : DriveState). x.identify) u.cut.0.stays) (ap (λ (x : DriveState). x.cache) u.cut.0.stays) (ap (λ (x : DriveState). x.look) u.cut.0.stays) tied.told;
       valid = record {
         identity = tied.valid.identity;
         cells = loses-length d.cells d'.cells lost ∙ tied.valid.cells;

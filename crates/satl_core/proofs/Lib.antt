@@ -1,10 +1,9 @@
 pub mod AddingLemmas
 pub mod ArrivalLemmas
 pub mod BenchingLemmas
-pub mod CommandsLemmas
 pub mod CountedLemmas
 pub mod DeviceLemmas
-pub mod FlushingLemmas
+pub mod FlushedLemmas
 pub mod HeldLemmas
 pub mod LeavingLemmas
 pub mod ManagingLemmas
@@ -12,8 +11,8 @@ pub mod OpeningLemmas
 pub mod PostingLemmas
 pub mod SelectLemmas
 pub mod ServedLemmas
-pub mod SettingsLemmas
 pub mod TellingLemmas
+pub mod TieLemmas
 pub mod Transfers
 pub mod TurningLemmas
 pub mod TransferringLemmas

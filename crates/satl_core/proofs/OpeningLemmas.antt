@@ -1,19 +1,28 @@
 -- What opening the layer gives.
 use Rattle.std.proofs.Common.{subst, ◌≡◌, refl, sym, ap, ◌∙◌, arith, ℕ, Bool, true, false, List, [], map, None}
-use Rattle.std.specs.Prelude.{Result, Ok, not, replicate, slice_index_or}
+use Rattle.std.specs.Prelude.{Result, Ok, Err, OnErr, not, replicate, slice_index_or}
 use Rattle.satl_base.specs.declared.block.Block.{Block}
 use Rattle.satl_base.specs.declared.modes.Modes.{Modes}
 use Rattle.satl_base.proofs.LossesLemmas.{loses-nows, loses-sound}
-use Rattle.satl_base.specs.Identify.{has_cache, has_look}
+use Rattle.satl_base.specs.Identify.{has_cache, has_look, look_is_on}
 use Rattle.satl_identify.specs.declared.identity.Identity.{Identity}
 use Rattle.satl_identify.specs.declared.identity.IdentityFault.{IdentityFault}
-use Rattle.satl_identify.specs.Refusals.{identity_of}
-use Rattle.satl_identify.proofs.Judging.{unbroken}
+use Rattle.satl_identify.specs.Data.{identity_data}
+use Rattle.satl_identify.specs.Refusals.{identity_of, rules}
+use Rattle.satl_identify.proofs.Judging.{Unbroken, unbroken}
 use Rattle.satl_unit.specs.declared.attention.Attention.{Attention}
 use Rattle.satl_line.specs.Tasks.{Held}
 use Rattle.satl_drive.specs.State.{DriveState, IsFit}
+use Rattle.satl_barrier.specs.Leaving.{TellsOf}
+use Rattle.satl_barrier.proofs.ToldLemmas.{all_bytes, own_data, right_sum}
 use Rattle.satl_core.specs.Layer.{Tied}
-use Rattle.satl_core.specs.Opening.{IsOpened, IsTold}
+use Rattle.satl_barrier.specs.Commands.{IsTold}
+use Rattle.satl_core.specs.Opening.{IsOpened}
+
+-- what holds in any case holds at an error
+pub at_error : {A E P : Type 0} (r : Result A E) → P → OnErr r P
+at_error (Ok a) p = tt
+at_error (Err e) p = p
 
 pub told_nows : (old new : DriveState) (given taken : List Block) → IsTold old given taken new → map (λ c. c.now) new.cells ≡ map (λ c. c.now) old.cells
 told_nows old new given taken told = loses-nows old.cells new.cells told.lost
@@ -32,6 +41,14 @@ twice : (b : Bool) → not (not b) ≡ b
 twice true = refl
 twice false = refl
 
+-- the data of a drive that fits them are those of themselves, with its settings in them
+own : (old new : DriveState) → new ≡ record old { cells = new.cells } → IsFit old → Unbroken rules old.identify → TellsOf old.identify new
+own old new stays fit right =
+    ap (λ (d : DriveState). d.identify) stays
+    ∙ (own_data old.identify fit.size (all_bytes old.identify fit.bytes) (right_sum old.identify right.1.0)
+    ∙ (ap (λ b. identity_data old.identify b (look_is_on old.identify)) (fit.cache_told ∙ sym (ap (λ (d : DriveState). d.cache) stays))
+    ∙ ap (λ b. identity_data old.identify new.cache b) (fit.look_told ∙ sym (ap (λ (d : DriveState). d.look) stays))))
+
 tied : (old new : DriveState) (given taken : List Block) (i : Identity) (modes : Modes) (free : ℕ) → old.outstanding ≡ [] → old.error ≡ None → IsTold old given taken new → IsFit old → IsFit new → identity_of old.identify ≡ Ok i → modes.wce ≡ i.cache_on → modes.dra ≡ not i.look_on
     → Tied (record { identity = i; modes = modes; started = true; down = false; attentions = replicate 4 []; tasks = []; free = free; out = 0 }) new
 tied old new given taken i modes free idle no_error told fit fit' judged wce dra =
@@ -43,8 +60,7 @@ tied old new given taken i modes free idle no_error told fit fit' judged wce dra
       fit = fit';
       cache = λ up. ap (λ (d : DriveState). d.cache) told.stays ∙ (sym fit.cache_told ∙ (ap (λ (j : Identity). j.cache_on) say ∙ sym wce));
       look = λ up. ap (λ (d : DriveState). d.look) told.stays ∙ (sym fit.look_told ∙ (ap (λ (j : Identity). j.look_on) say ∙ (sym (twice i.look_on) ∙ ap not (sym dra))));
-      has_cache = ap (λ (d : DriveState). has_cache d.identify) told.stays ∙ ap (λ (j : Identity). j.cache) say;
-      has_look = ap (λ (d : DriveState). has_look d.identify) told.stays ∙ ap (λ (j : Identity). j.look) say;
+      told = subst (λ b. TellsOf b new) (ap (λ (j : Identity). j.bytes) say) (own old new told.stays fit (unbroken old.identify i judged).0);
       valid = record {
         identity = subst (λ b. identity_of b ≡ Ok i) (ap (λ (j : Identity). j.bytes) say) judged;
         cells = fit'.sectors ∙ (ap (λ (d : DriveState). d.capacity) told.stays ∙ (sym fit.told ∙ ap (λ (j : Identity). j.capacity) say));

@@ -50,7 +50,9 @@ use Rattle.satl_core.specs.declared.turning.Ending.{Ending}
 use Rattle.satl_core.specs.declared.turning.Ending.TheVariants as endings
 use Rattle.satl_core.specs.Layer.{IsKept, IsTask, IsTransfer, Tied}
 use Rattle.satl_core.specs.Turning as core
-use Rattle.satl_core.specs.Running.{IsLeftWith, IsLostIn, IsSwitched, IsTuned, settled_if}
+use Rattle.satl_barrier.specs.Leaving.{IsLostIn}
+use Rattle.satl_barrier.specs.Settings.{IsTuned}
+use Rattle.satl_barrier.specs.Flushing.{IsLeftWith, IsSwitched, settled_if}
 use Rattle.satl_core.specs.Turning.{CarriedOut, change_posting, IsLostInTask, IsTransferred, IsUnasked, TaskEnds, asks_fua, ata_command, ended_reply, ending_of, flaw_sense, modes_after, pairs_written, read_pages, started_after, wanted_by, where_done}
 use Rattle.satl_core.proofs.DeviceLemmas.{all_lost, ends_around, ends_by, ends_down, ends_stopped, first_checked, first_gone, first_tasks, quiet_none, quiet_same, seen}
 use Rattle.satl_core.proofs.HeldLemmas.{IsFirst, IsKeptEntry, first_kept}

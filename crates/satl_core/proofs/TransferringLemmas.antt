@@ -24,9 +24,11 @@ use Rattle.satl_regs.specs.Effects.Setting.{sets_cache}
 use Rattle.satl_drive.specs.State.{DriveState, IsFit, medium_of}
 use Rattle.satl_core.specs.declared.turning.Ending.{Ending}
 use Rattle.satl_core.specs.Layer.{IsTransfer}
-use Rattle.satl_core.specs.Running.{HasRun, IsCutShort, IsLostIn, IsNamed, IsSetOn, OneGlitchAtMost}
+use Rattle.satl_barrier.specs.Commands.{HasRun, IsCutShort, IsNamed}
+use Rattle.satl_barrier.specs.Leaving.{IsLostIn, OneGlitchAtMost}
+use Rattle.satl_barrier.specs.Settings.{IsSetOn}
 use Rattle.satl_core.specs.Turning.{IsTransferred, asks_fua, ata_command, ending_of, pairs_written}
-use Rattle.satl_core.proofs.CommandsLemmas.{IsAsSet, among, carries_set, lost_after, lost_first, settled_loses}
+use Rattle.satl_barrier.proofs.CommandsLemmas.{IsAsSet, among, carries_set, lost_after, lost_first, settled_loses}
 use Rattle.satl_core.proofs.Transfers.{of_transfer}
 
 -- ---- its command may be run

@@ -22,10 +22,11 @@ use Rattle.satl_direct.specs.Arrival.{waits}
 use Rattle.satl_direct.specs.Device.{Device, is_called, is_of, once_told}
 use Rattle.satl_direct.specs.Tasks.{held_blocks, held_by, is_full, task_for, task_of}
 use Rattle.satl_direct.specs.Valid.{AreOwn, HasCome, IsValid}
-use Rattle.satl_core.specs.Layer.{IsTask, Layer, Tied, view}
+use Rattle.satl_core.specs.Layer.{IsExpectable, IsTask, Layer, Tied, view}
 use Rattle.satl_core.specs.Leaving.{left_by}
 use Rattle.satl_core.specs.Submitting.{is_for_unit, Becomes, IsAdded, IsRefused, attention_of, code_answer, judged, once_judged, overlaps, task_without_pages, untold}
-use Rattle.satl_core.specs.Running.{Stays}
+use Rattle.satl_barrier.specs.Leaving.{Stays, TellsOf}
+use Rattle.satl_core.proofs.TieLemmas.{bytes_long}
 use Rattle.satl_core.proofs.ArrivalLemmas.{by_ok, code_waits, full_is, full_or_waits}
 use Rattle.satl_core.specs.declared.managing.Posting.{Posting}
 use Rattle.satl_core.specs.declared.turning.Ending.{Ending}
@@ -205,8 +206,8 @@ valid_with s t room fits apart come v =
       attentions = v.attentions;
     }
 
-added_valid : (l new : Layer) (d : DriveState) (r : Request) (c : Command) (replies : List Reply) → judged l r ≡ Ok c → is_too_much l.tasks (task_without_pages r c l.identity.queued_trim) ≡ false → IsAdded r c l replies new → r.data_len ≤ 512 * length r.body → IsValid (view l d) → IsValid (view new d)
-added_valid l new d r c replies e fits a pages v =
+added_valid : (l new : Layer) (d : DriveState) (r : Request) (c : Command) (replies : List Reply) → judged l r ≡ Ok c → is_too_much l.tasks (task_without_pages r c l.identity.queued_trim) ≡ false → IsAdded r c l replies new → r.data_len ≤ 512 * length r.body → IsExpectable r.expected → IsValid (view l d) → IsValid (view new d)
+added_valid l new d r c replies e fits a pages expected v =
     let room : is_full (map task_of (entries_of l.tasks)) c ≡ false = full_is l.tasks r c l.identity.queued_trim ∙ fits in
     let both = neither (length (map task_of (entries_of l.tasks)) == 64) (nat_lt 32768 (held_by (map task_of (entries_of l.tasks)) + held_blocks c)) room in
     let apart : overlaps l.tasks r ≡ false = by_ok (λ unit over what. over ≡ false) (is_for_unit r) (overlaps l.tasks r) (attention_of l.attentions r) l r c (λ ok. refl) e in
@@ -215,6 +216,7 @@ added_valid l new d r c replies e fits a pages v =
     (valid_with (view l d) (task_for l.identity.queued_trim r c) both.0 both.1 (sym (found_is r.nexus r.tag l.tasks 0) ∙ apart) (record {
       request = r;
       pages = pages;
+      expected = expected;
       at = view l d;
       same = refl;
       modes = v.modes;
@@ -224,11 +226,11 @@ added_valid l new d r c replies e fits a pages v =
     waits_so : is_full (map task_of (entries_of l.tasks)) c ≡ false → full_or_waits l d r c ≡ waits (task_for l.identity.queued_trim r c)
     waits_so room = rw room refl
 
-becomes_valid : (l new : Layer) (d : DriveState) (r : Request) (c : Command) (replies : List Reply) → judged l r ≡ Ok c → Becomes r c l replies new → r.data_len ≤ 512 * length r.body → IsValid (view l d) → IsValid (view new d)
-becomes_valid l new d r c replies e b pages v =
+becomes_valid : (l new : Layer) (d : DriveState) (r : Request) (c : Command) (replies : List Reply) → judged l r ≡ Ok c → Becomes r c l replies new → r.data_len ≤ 512 * length r.body → IsExpectable r.expected → IsValid (view l d) → IsValid (view new d)
+becomes_valid l new d r c replies e b pages expected v =
     (elim (is_too_much l.tasks (task_without_pages r c l.identity.queued_trim)) as (λ f. is_too_much l.tasks (task_without_pages r c l.identity.queued_trim) ≡ f → MatchBool f (IsRefused r l replies new) (IsAdded r c l replies new) → IsValid (view new d)) [
       | true ↦ λ is a. subst IsValid (sym (ap (λ x. view x d) a.stays)) v
-      | false ↦ λ is a. added_valid l new d r c replies e is a pages v
+      | false ↦ λ is a. added_valid l new d r c replies e is a pages expected v
     ]) refl b
 
 -- a request with zeros behind its pages, so that they hold its data-out
@@ -260,14 +262,13 @@ tied_by l new d mark modes same valid tied = record {
   fit = tied.fit;
   cache = λ up. tied.cache (sym mark ∙ up) ∙ sym (ap (λ (m : Modes). m.wce) modes);
   look = λ up. tied.look (sym mark ∙ up) ∙ sym (ap (λ (m : Modes). not m.dra) modes);
-  has_cache = tied.has_cache ∙ sym (ap (λ (i : Identity). i.cache) same);
-  has_look = tied.has_look ∙ sym (ap (λ (i : Identity). i.look) same);
+  told = subst (λ (i : Identity). TellsOf i.bytes d) (sym same) tied.told;
   valid = valid;
 }
 
 -- what becomes of a request leaves the layer tied
-pub becomes_tied : (l new : Layer) (d : DriveState) (r : Request) (c : Command) (replies : List Reply) → judged l r ≡ Ok c → Becomes r c l replies new → r.data_len ≤ 512 * length r.body → Tied l d → Tied new d
-becomes_tied l new d r c replies e b pages tied = tied_by l new d (ap (λ (x : Layer). x.down) same) (ap (λ (x : Layer). x.modes) same) (ap (λ (x : Layer). x.identity) same) (becomes_valid l new d r c replies e b pages tied.valid) tied
+pub becomes_tied : (l new : Layer) (d : DriveState) (r : Request) (c : Command) (replies : List Reply) → judged l r ≡ Ok c → Becomes r c l replies new → r.data_len ≤ 512 * length r.body → IsExpectable r.expected → Tied l d → Tied new d
+becomes_tied l new d r c replies e b pages expected tied = tied_by l new d (ap (λ (x : Layer). x.down) same) (ap (λ (x : Layer). x.modes) same) (ap (λ (x : Layer). x.identity) same) (becomes_valid l new d r c replies e b pages expected tied.valid) tied
   where
     same : new ≡ record l { tasks = new.tasks; free = new.free; out = new.out }
     same = (elim (is_too_much l.tasks (task_without_pages r c l.identity.queued_trim)) as (λ f. MatchBool f (IsRefused r l replies new) (IsAdded r c l replies new) → new ≡ record l { tasks = new.tasks; free = new.free; out = new.out }) [
@@ -297,23 +298,22 @@ after_valid identity n command ending modes wanted t old new =
 
 -- the first task is gone, and the link is as it was
 pub still_tied_rest : (identity : Identity) (modes wanted modes' : Modes) (started started' down : Bool) (posting : Option Posting) (attentions attentions' : List (List Attention)) (tasks rest : List Held) (entry : Entry) (ending : Ending) (free out free' out' : ℕ) (d d' : DriveState) → IsFirst tasks entry rest → IsKeptEntry identity entry → wanted ≡ wanted_by modes entry.modes
-    → modes' ≡ modes_after entry.command ending modes wanted → attentions' ≡ once_posted posting rest attentions → d'.down ≡ down → (down ≡ false → d'.cache ≡ (modes_after entry.command ending modes wanted).wce) → (down ≡ false → d'.look ≡ not (modes_after entry.command ending modes wanted).dra) → Stays d d' → IsFit d'
+    → modes' ≡ modes_after entry.command ending modes wanted → attentions' ≡ once_posted posting rest attentions → d'.down ≡ down → (down ≡ false → d'.cache ≡ (modes_after entry.command ending modes wanted).wce) → (down ≡ false → d'.look ≡ not (modes_after entry.command ending modes wanted).dra) → Stays d d'
     → Tied (record { identity = identity; modes = modes; started = started; down = down; attentions = attentions; tasks = tasks; free = free; out = out }) d
     → Tied (record { identity = identity; modes = modes'; started = started'; down = down; attentions = attentions'; tasks = rest; free = free'; out = out' }) d'
-still_tied_rest identity modes wanted modes' started started' down posting attentions attentions' tasks rest entry ending free out free' out' d d' first kept wants changed told mark cache look stays fit tied =
+still_tied_rest identity modes wanted modes' started started' down posting attentions attentions' tasks rest entry ending free out free' out' d d' first kept wants changed told mark cache look stays tied =
     let v = subst (λ ts. IsValid (seen identity modes started attentions ts d)) (first_tasks tasks rest entry first) tied.valid in
     record {
       mark = sym mark;
-      idle = stays.idle;
-      no_error = stays.no_error;
-      fit = fit;
+      idle = stays.free.idle;
+      no_error = stays.free.no_error;
+      fit = stays.free.fit;
       cache = λ up. cache up ∙ sym (ap (λ (m : Modes). m.wce) changed);
       look = λ up. look up ∙ sym (ap (λ (m : Modes). not m.dra) changed);
-      has_cache = stays.has_cache ∙ tied.has_cache;
-      has_look = stays.has_look ∙ tied.has_look;
+      told = stays.tells identity.bytes (bytes_long _ d tied) tied.told;
       valid = record {
         identity = v.identity;
-        cells = sectors_still d d' identity.capacity fit tied.fit stays v.cells;
+        cells = sectors_still d d' identity.capacity stays.free.fit tied.fit stays v.cells;
         sound = stays.sound;
         few = omega (arith, v.few);
         blocks = omega (arith, v.blocks);
@@ -326,22 +326,21 @@ still_tied_rest identity modes wanted modes' started started' down posting atten
     }
 
 -- the link is lost, and no task is left
-pub still_tied_none : (identity : Identity) (modes : Modes) (started down : Bool) (attentions : List (List Attention)) (tasks none : List Held) (free out free' out' : ℕ) (d d' : DriveState) → none ≡ [] → d'.down ≡ true → Stays d d' → IsFit d'
+pub still_tied_none : (identity : Identity) (modes : Modes) (started down : Bool) (attentions : List (List Attention)) (tasks none : List Held) (free out free' out' : ℕ) (d d' : DriveState) → none ≡ [] → d'.down ≡ true → Stays d d'
     → Tied (record { identity = identity; modes = modes; started = started; down = down; attentions = attentions; tasks = tasks; free = free; out = out }) d
     → Tied (record { identity = identity; modes = modes; started = started; down = true; attentions = attentions; tasks = none; free = free'; out = out' }) d'
-still_tied_none identity modes started down attentions tasks none free out free' out' d d' left lost stays fit tied =
+still_tied_none identity modes started down attentions tasks none free out free' out' d d' left lost stays tied =
     subst (λ (ts : List Held). Tied (record { identity = identity; modes = modes; started = started; down = true; attentions = attentions; tasks = ts; free = free'; out = out' }) d') (sym left) (record {
       mark = sym lost;
-      idle = stays.idle;
-      no_error = stays.no_error;
-      fit = fit;
+      idle = stays.free.idle;
+      no_error = stays.free.no_error;
+      fit = stays.free.fit;
       cache = λ up. absurd cc;
       look = λ up. absurd cc;
-      has_cache = stays.has_cache ∙ tied.has_cache;
-      has_look = stays.has_look ∙ tied.has_look;
+      told = stays.tells identity.bytes (bytes_long _ d tied) tied.told;
       valid = record {
         identity = tied.valid.identity;
-        cells = sectors_still d d' identity.capacity fit tied.fit stays tied.valid.cells;
+        cells = sectors_still d d' identity.capacity stays.free.fit tied.fit stays tied.valid.cells;
         sound = stays.sound;
         few = omega arith;
         blocks = omega arith;

@@ -1,8 +1,9 @@
 -- What a test bench does to the drive, and what follows for the layer (profile).
-use Rattle.std.specs.Prelude.{◌≡◌, true, false, List, [], ◌∷◌, replicate}
+use Rattle.std.specs.Prelude.{◌≡◌, ℕ, true, false, List, [], ◌∷◌, replicate}
 use Rattle.satl_base.specs.declared.bench.BenchEvent.{BenchEvent}
 use Rattle.satl_base.specs.declared.bench.BenchEvent.TheVariants.{Strike, Mend, Glitch, Order, Power, Unplug}
 use Rattle.satl_base.specs.declared.reply.Reply.{Reply}
+use Rattle.satl_io.specs.Causes.{next_count}
 use Rattle.satl_mode.specs.ModePages.{defaults}
 use Rattle.satl_unit.specs.declared.attention.Attention.TheVariants.{PowerOn}
 use Rattle.satl_drive.specs.State.{DriveState}
@@ -43,3 +44,8 @@ Follows (Glitch count) old replies new = StaysSame old replies new
 Follows (Order order) old replies new = StaysSame old replies new
 Follows Power old replies new = StartsAnew old replies new
 Follows Unplug old replies new = LosesLink old replies new
+
+-- how often the drive was unplugged after an event: once more at UNPLUG, or still so often where the number is at its last value (profile)
+abbrev pub unplugs_after : BenchEvent → ℕ → ℕ
+unplugs_after Unplug before = next_count before
+unplugs_after _ before = before

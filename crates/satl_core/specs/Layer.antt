@@ -3,7 +3,7 @@ use Rattle.std.specs.Prelude.{◌≡◌, ℕ, ◌+◌, ◌≤◌, ◌<◌, ◌^�
 use Rattle.std.specs.List.{AllByRecursion}
 use Rattle.satl_base.specs.declared.modes.Modes.{Modes}
 use Rattle.satl_base.specs.declared.reply.Reply.{Reply}
-use Rattle.satl_base.specs.Identify.{has_cache, has_look}
+use Rattle.satl_base.specs.Limits.{longest_data, most_moved}
 use Rattle.satl_cdb.specs.declared.command.Command.{Command}
 use Rattle.satl_cdb.specs.declared.command.Command.TheVariants.{Flush, Inquiry, ModeSelect, ModeSense, Pass, Read, ReadCapacity10, ReadCapacity16, ReportLuns, RequestSense, StartStop, TestUnitReady, Unmap, Verify, Write, WriteSame}
 use Rattle.satl_identify.specs.declared.identity.Identity.{Identity}
@@ -14,6 +14,7 @@ use Rattle.satl_line.specs.Tasks.{Held, entries_of}
 use Rattle.satl_pages.specs.Counts.{Counts, number_of}
 use Rattle.satl_drive.specs.State.{DriveState, IsFit}
 use Rattle.satl_unit.specs.declared.attention.Attention.{Attention}
+use Rattle.satl_barrier.specs.Leaving.{TellsOf}
 use Rattle.satl_direct.specs.Device.{Device}
 use Rattle.satl_direct.specs.Tasks.{task_of}
 use Rattle.satl_direct.specs.Valid.{IsValid}
@@ -58,7 +59,7 @@ IsServed (Pass cdb) = ⊥
 
 -- 1 to 4,096 blocks within the capacity and the 48 bits of an address, and pages for each (profile)
 abbrev pub IsWithin : ℕ → ℕ → ℕ → ℕ → Type 0
-IsWithin capacity lba count blocks = (blocks ≡ count) × (lba < 2 ^ 48) × (1 ≤ count) × (count ≤ 4096) × (lba + count ≤ capacity)
+IsWithin capacity lba count blocks = (blocks ≡ count) × (lba < 2 ^ 48) × (1 ≤ count) × (count ≤ most_moved) × (lba + count ≤ capacity)
 
 -- a READ or a WRITE of so many blocks (profile)
 abbrev pub IsTransfer : ℕ → Command → ℕ → Type 0
@@ -101,7 +102,7 @@ IsTask capacity (Pass cdb) blocks = ⊥
 
 -- a number of bytes that a host may take: at most 2,097,152 (profile)
 abbrev pub IsExpectable : Option ℕ → Type 0
-IsExpectable expected = IfSome expected (λ count. count ≤ 2097152)
+IsExpectable expected = IfSome expected (λ count. count ≤ longest_data)
 
 -- a task holds as many pages as blocks, is one that its command makes, is of the kind of its command, and changes mode values alone that
 -- the drive can change (profile)
@@ -127,8 +128,8 @@ view l d = record {
 }
 
 -- the layer's record of its drive is right: together they are a valid device; nothing is outstanding and no queued command has failed;
--- the drive fits its data; as long as the link is up the cache is on where WCE is, and look-ahead where DRA is not; the drive's data say
--- that it has a cache and look-ahead where the layer has noted so; and the mark of a lost link is set where the link is lost (profile)
+-- the drive fits its data; as long as the link is up the cache is on where WCE is, and look-ahead where DRA is not; the drive's data are
+-- those of the identity with the drive's settings in them; and the mark of a lost link is set where the link is lost (profile)
 pub record Tied (l : Layer) (d : DriveState) : Type 0 where
   pub mark : l.down ≡ d.down
   pub idle : d.outstanding ≡ []
@@ -136,8 +137,7 @@ pub record Tied (l : Layer) (d : DriveState) : Type 0 where
   pub fit : IsFit d
   pub cache : l.down ≡ false → d.cache ≡ l.modes.wce
   pub look : l.down ≡ false → d.look ≡ not l.modes.dra
-  pub has_cache : has_cache d.identify ≡ l.identity.cache
-  pub has_look : has_look d.identify ≡ l.identity.look
+  pub told : TellsOf l.identity.bytes d
   pub valid : IsValid (view l d)
 
 -- the pages in replies (profile)

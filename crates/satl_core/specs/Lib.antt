@@ -1,9 +1,9 @@
 pub mod Benching
+pub mod Flushed
 pub mod Layer
 pub mod Leaving
 pub mod Managing
 pub mod Opening
-pub mod Running
 pub mod Submitting
 pub mod Telling
 pub mod Tie

@@ -26,7 +26,9 @@ use Rattle.satl_direct.specs.Tasks.{asks}
 use Rattle.satl_direct.specs.Senses.{crc_error, link_lost, not_ready, out_of_range, plain, read_error, write_error}
 use Rattle.satl_regs.specs.Effects.{Does, Medium}
 use Rattle.satl_drive.specs.State.{DriveState, medium_of}
-use Rattle.satl_core.specs.Running.{IsLeftWith, IsLostIn, IsSwitched, IsTuned}
+use Rattle.satl_barrier.specs.Leaving.{IsLostIn}
+use Rattle.satl_barrier.specs.Settings.{IsTuned}
+use Rattle.satl_barrier.specs.Flushing.{IsLeftWith, IsSwitched}
 use Rattle.satl_core.specs.declared.managing.Posting.{Posting}
 use Rattle.satl_core.specs.declared.managing.Posting.TheVariants.{ModesChanged}
 use Rattle.satl_core.specs.declared.turning.Ending.{Ending}

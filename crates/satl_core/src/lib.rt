@@ -3,13 +3,10 @@
 
 mod arrival;
 mod benching;
-mod commands;
-mod flushing;
 mod leaving;
 mod managing;
 mod satl;
 mod selecting;
-mod settings;
 mod submitting;
 mod telling;
 mod transferring;

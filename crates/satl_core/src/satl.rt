@@ -1,8 +1,9 @@
 // The layer: what it holds, how it is opened, and the pages that it lends.
-ghost use Rattle.std.specs.Prelude.{◌≡◌, ◌≤◌, ◌+◌, ◌-◌, ◌<◌, ◌↔◌, ◌*◌, [], Ok, None, IfOk, IfErr, IfSome, IfNone, IsNone, OnOk, OnSome, map, length};
-ghost use Rattle.std.specs.List.{AllByRecursion};
+ghost use Rattle.std.specs.Prelude.{◌≡◌, ◌≤◌, ◌+◌, ◌-◌, ◌<◌, ◌↔◌, ◌*◌, [], Ok, None, true, IfOk, IfErr, IfSome, IfNone, IsNone, OnOk, OnErr, OnSome, map, length};
+ghost use Rattle.std.specs.List.{AllByRecursion, AllZip};
 ghost use Rattle.satl_base.specs.declared.request.Request.{Request};
-ghost use Rattle.satl_io.specs.Causes.{RoseBy};
+ghost use Rattle.satl_io.specs.Causes.{Rose, RoseBy};
+ghost use Rattle.satl_regs.specs.Sectors.{IsLeftBehind};
 ghost use Rattle.satl_drive.specs.State.{IsFit};
 ghost use Rattle.satl_frame.specs.Output.{IsWritable};
 ghost use Rattle.satl_direct.specs.Arrival.{Arrives};
@@ -10,18 +11,19 @@ ghost use Rattle.satl_direct.specs.Tasks.{asks, held_blocks, needed};
 ghost use Rattle.satl_direct.specs.Quiet.{Around};
 ghost use Rattle.satl_direct.specs.Run.{Manages, MayLose, bench_losses, losses_of};
 ghost use Rattle.satl_direct.specs.Bench.{Happens};
-ghost use Rattle.satl_core.specs.Benching.{Follows, StartsAnew};
+ghost use Rattle.satl_core.specs.Benching.{Follows, StartsAnew, unplugs_after};
 ghost use Rattle.satl_direct.specs.Turn.{Turn};
 ghost use Rattle.satl_core.specs.Layer.{IsServed, IsTask, Tied, reply_pages, view};
-ghost use Rattle.satl_core.specs.Opening.{IsCause, IsOpened};
+ghost use Rattle.satl_core.specs.Opening.{IsCause, IsOpened, IsUndisturbed};
 ghost use Rattle.satl_core.specs.Submitting.{Becomes, CanSubmit, HasLengths, HoldsList, IsCutOf, judged, once_judged};
 ghost use Rattle.satl_mode.specs.Changes.{AreModesOf, IsChangeOf};
 ghost use Rattle.satl_line.specs.Tasks.{total_blocks};
+ghost use Rattle.satl_base.specs.Limits.{most_held, most_tasks};
+ghost use Rattle.satl_core.specs.Flushed.{IsFlushed, IsSettled};
 ghost use Rattle.satl_core.specs.Turning.{task_calls};
 
 use crate::arrival::{is_for_unit, plain};
 use crate::benching::{act_on, powered_on};
-use crate::commands::tell_identity;
 use crate::leaving::{Scope, drop_tasks};
 use crate::managing::{decide, post};
 use crate::selecting::{change_posting, modes_after, wanted_by};
@@ -30,6 +32,7 @@ use crate::submitting::{
     reply_to, task_without_pages, tell_attention,
 };
 use crate::turning::{end_task, link_lost, lose_tasks, run_task, started_after};
+use satl_barrier::tell_identity;
 use satl_base::{
     BenchEvent, Lender, Manage, Modes, NoMemory, Pages, Replies, Request, Response, Scsi,
     SenseBytes, Steps,
@@ -109,7 +112,9 @@ impl Satl {
         requires fit { IsFit (D.state drive.old) }
         ensures opened { IfOk result (λ s. IsOpened (D.state drive.old) s (D.state drive.new)) }
         ensures cause { IfErr result (IsCause (D.state drive.old) (D.state drive.new)) }
+        ensures alone { OnErr result (IsUndisturbed (D.state drive.old) (D.state drive.new)) }
         ensures nows { map (λ c. c.now) (D.state drive.new).cells ≡ map (λ c. c.now) (D.state drive.old).cells }
+        ensures unplugs { (D.state drive.new).unplugs ≡ (D.state drive.old).unplugs }
         ensures steps { steps.new ≤ steps.old + 1 }
     {
         let tasks = TaskSet::new(alloc)?;
@@ -158,6 +163,9 @@ impl Satl {
         ensures tied { Tied self.new (D.state drive.new) }
         ensures pages { self.new.out ≡ reply_pages replies.new }
         ensures writable { AllByRecursion IsWritable replies.new }
+        ensures counted { RoseBy (losses_of (view self.old (D.state drive.old)) (view self.new (D.state drive.new))) (D.state drive.old).faults (D.state drive.new).faults }
+        ensures unplugs { (D.state drive.new).unplugs ≡ (D.state drive.old).unplugs }
+        ensures calls { steps.new + task_calls * length self.new.tasks ≤ steps.old + task_calls * (length self.old.tasks + 1) }
         ensures steps { steps.new ≡ steps.old }
     {
         match self.judge(&request) {
@@ -178,7 +186,7 @@ impl Satl {
     /// 5.14).
     fn judge(&mut self, request: &Request) -> Result<Command, AtOnce>
         requires can { CanSubmit request.now self.old.free self.old.out }
-        requires few { total_blocks self.old.tasks ≤ 32768 }
+        requires few { total_blocks self.old.tasks ≤ most_held }
         ensures judged { result ≡ judged self.old request.now }
         ensures left { self.new ≡ record (once_judged self.old request.now) { free = self.new.free } }
         ensures kept { self.new ≡ record self.old { tasks = self.new.tasks; attentions = self.new.attentions; free = self.new.free } }
@@ -249,6 +257,10 @@ impl Satl {
         ensures writable { AllByRecursion IsWritable replies.new }
         ensures fewer { length self.new.tasks ≤ length self.old.tasks - 1 }
         ensures counted { RoseBy (losses_of (view self.old (D.state drive.old)) (view self.new (D.state drive.new))) (D.state drive.old).faults (D.state drive.new).faults }
+        ensures unplugs { (D.state drive.new).unplugs ≡ (D.state drive.old).unplugs }
+        ensures unasked { self.old.down ≡ true → drive.new ≡ drive.old }
+        ensures uncalled { self.old.down ≡ true → steps.new ≡ steps.old }
+        ensures flushed { IsFlushed self.old.tasks replies.new → (Rose (D.state drive.old).faults (D.state drive.new).faults → ⊥) → AllByRecursion IsSettled (D.state drive.new).cells }
         ensures steps { steps.new ≤ steps.old + task_calls }
         ensures calls { steps.new + task_calls * length self.new.tasks ≤ steps.old + task_calls * length self.old.tasks }
     {
@@ -303,6 +315,9 @@ impl Satl {
         ensures writable { AllByRecursion IsWritable replies.new }
         ensures fewer { length self.new.tasks ≤ length self.old.tasks }
         ensures modes { self.new.modes ≡ self.old.modes }
+        ensures counted { RoseBy (losses_of (view self.old (D.state drive.old)) (view self.new (D.state drive.new))) (D.state drive.old).faults (D.state drive.new).faults }
+        ensures unplugs { (D.state drive.new).unplugs ≡ (D.state drive.old).unplugs }
+        ensures calls { steps.new + task_calls * length self.new.tasks ≤ steps.old + task_calls * length self.old.tasks }
         ensures drive { drive.new ≡ drive.old }
         ensures steps { steps.new ≡ steps.old }
     {
@@ -330,6 +345,8 @@ impl Satl {
         ensures writable { AllByRecursion IsWritable replies.new }
         ensures fewer { length self.new.tasks ≤ length self.old.tasks }
         ensures counted { RoseBy (bench_losses event.now) (D.state drive.old).faults (D.state drive.new).faults }
+        ensures unplugs { (D.state drive.new).unplugs ≡ unplugs_after event.now (D.state drive.old).unplugs }
+        ensures powered { event.now ≡ BenchEvent.Power → AllZip IsLeftBehind (D.state drive.old).cells (D.state drive.new).cells }
         ensures steps { steps.new ≡ steps.old }
     {
         act_on(drive, event);
@@ -340,7 +357,7 @@ impl Satl {
     fn follow(&mut self, event: &BenchEvent, replies: &mut Replies)
         requires empty { replies.old ≡ [] }
         requires all_in { self.old.out ≡ 0 }
-        requires few { length self.old.tasks ≤ 64 }
+        requires few { length self.old.tasks ≤ most_tasks }
         ensures follows { Follows event.now self.old replies.new self.new }
         ensures pages { self.new.out ≡ reply_pages replies.new }
         ensures writable { AllByRecursion IsWritable replies.new }
@@ -375,7 +392,7 @@ impl Satl {
     /// The number of tasks that wait, at most 64 (profile).
     pub fn pending(&self) -> usize
         ensures count { result ≡ length self.now.tasks }
-        ensures few { length self.now.tasks ≤ 64 }
+        ensures few { length self.now.tasks ≤ most_tasks }
     {
         self.tasks.len()
     }

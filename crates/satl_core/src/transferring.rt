@@ -1,14 +1,12 @@
 // READ and WRITE.
 ghost use Rattle.std.specs.Prelude.{◌≡◌, ◌≤◌, ◌+◌, ◌&&◌, [], None, IfOk, OnOk, OnErr, length, true, false};
 ghost use Rattle.satl_base.specs.Cells.{AreSound};
-ghost use Rattle.satl_drive.specs.State.{IsFit};
 ghost use Rattle.satl_core.specs.Layer.{IsTransfer};
-ghost use Rattle.satl_core.specs.Running.{IsLostIn, Stays};
+ghost use Rattle.satl_barrier.specs.Leaving.{IsFree, IsLostIn, Stays};
 ghost use Rattle.satl_core.specs.Turning.{IsTransferred, asks_fua, ata_command, pairs_written};
 
-use crate::commands::run;
-use crate::settings::{Feature, turn_feature};
 use crate::turning::{Ending, ending_of};
+use satl_barrier::{Feature, run, turn_feature};
 use satl_base::{Pages, Steps};
 use satl_cdb::Command;
 use satl_drive::{Drive, LinkDown};
@@ -49,11 +47,9 @@ pub fn transfer<D: Drive, L: Ledger>(
     body: &mut Pages,
     steps: &mut Steps<L>,
 ) -> Result<Ending, LinkDown>
-    requires idle { (D.state drive.old).outstanding ≡ [] }
-    requires no_error { (D.state drive.old).error ≡ None }
+    requires free { IsFree (D.state drive.old) }
     requires transfer { IsTransfer (D.state drive.old).capacity command.now (length body.old) }
     requires sound { AreSound (D.state drive.old).cells }
-    requires fit { IsFit (D.state drive.old) }
     requires cached { (D.state drive.old).cache ≡ cache }
     ensures stays { Stays (D.state drive.old) (D.state drive.new) }
     ensures cache { OnOk result ((D.state drive.new).cache ≡ (D.state drive.old).cache) }
@@ -62,7 +58,6 @@ pub fn transfer<D: Drive, L: Ledger>(
     ensures ends { IfOk result (λ ending. IsTransferred command.now (D.state drive.old) body.old ending body.new (D.state drive.new)) }
     ensures lost { OnErr result (IsLostIn (pairs_written (D.state drive.old).cache command.now body.old) (D.state drive.old) (D.state drive.new)) }
     ensures size { length body.new ≡ length body.old }
-    ensures fit { IsFit (D.state drive.new) }
     ensures step { steps.new ≤ steps.old + 3 }
 {
     if goes_past(cache, command) {
@@ -79,12 +74,10 @@ fn write_past_cache<D: Drive, L: Ledger>(
     body: &mut Pages,
     steps: &mut Steps<L>,
 ) -> Result<Ending, LinkDown>
-    requires idle { (D.state drive.old).outstanding ≡ [] }
-    requires no_error { (D.state drive.old).error ≡ None }
+    requires free { IsFree (D.state drive.old) }
     requires transfer { IsTransfer (D.state drive.old).capacity command.now (length body.old) }
     requires forced { asks_fua command.now ≡ true }
     requires sound { AreSound (D.state drive.old).cells }
-    requires fit { IsFit (D.state drive.old) }
     requires cached { (D.state drive.old).cache ≡ true }
     ensures stays { Stays (D.state drive.old) (D.state drive.new) }
     ensures cache { OnOk result ((D.state drive.new).cache ≡ (D.state drive.old).cache) }
@@ -93,7 +86,6 @@ fn write_past_cache<D: Drive, L: Ledger>(
     ensures ends { IfOk result (λ ending. IsTransferred command.now (D.state drive.old) body.old ending body.new (D.state drive.new)) }
     ensures lost { OnErr result (IsLostIn (pairs_written (D.state drive.old).cache command.now body.old) (D.state drive.old) (D.state drive.new)) }
     ensures size { length body.new ≡ length body.old }
-    ensures fit { IsFit (D.state drive.new) }
     ensures step { steps.new ≤ steps.old + 3 }
 {
     turn_feature(drive, Feature::WriteCache, false, steps)?;

@@ -2,21 +2,20 @@
 ghost use Rattle.std.specs.Prelude.{◌≡◌, ◌≤◌, ◌<◌, ◌+◌, ◌*◌, ◌-◌, ◌++◌, ◌∷◌, ◌&&◌, ℕ, not, [], length, true, false, None, IfOk, OnOk, OnErr};
 ghost use Rattle.std.specs.List.{AllByRecursion};
 ghost use Rattle.satl_frame.specs.Output.{IsWritable};
-ghost use Rattle.satl_drive.specs.State.{IsFit};
 ghost use Rattle.satl_base.specs.Cells.{AreSound};
-ghost use Rattle.satl_base.specs.Identify.{has_cache, has_look};
 ghost use Rattle.satl_direct.specs.Senses;
 ghost use Rattle.satl_core.specs.Layer.{IsTask, held_pages};
 ghost use Rattle.satl_core.specs.Turning;
-ghost use Rattle.satl_core.specs.Running.{IsLostIn, Stays};
+ghost use Rattle.satl_barrier.specs.Leaving.{IsFree, IsLostIn, Stays};
+ghost use Rattle.satl_barrier.specs.Settings.{CanSet, IsSetBy};
+ghost use Rattle.satl_base.specs.Limits.{most_moved};
 ghost use Rattle.satl_core.specs.Turning.{CarriedOut, IsLostInTask, TaskEnds, ended_reply, lost_replies, modes_after, pairs_written, started_after, task_calls};
 ghost use Rattle.satl_direct.specs.Tasks.{asks};
 
 use crate::arrival::plain;
-use crate::flushing::{flush, switch};
-use crate::settings::tune;
 use crate::transferring::transfer;
 use arrayvec::ArrayVec;
+use satl_barrier::{flush, switch, tune};
 use satl_base::{Modes, Pages, Replies, Reply, Scsi, Steps};
 use satl_cdb::Command;
 use satl_drive::{Drive, LinkDown};
@@ -46,16 +45,12 @@ pub fn run_task<D: Drive, L: Ledger>(
     body: &mut Pages,
     steps: &mut Steps<L>,
 ) -> Result<Ending, LinkDown>
-    requires idle { (D.state drive.old).outstanding ≡ [] }
-    requires no_error { (D.state drive.old).error ≡ None }
+    requires free { IsFree (D.state drive.old) }
     requires task { IsTask (D.state drive.old).capacity command.now (length body.old) }
     requires sound { AreSound (D.state drive.old).cells }
-    requires fit { IsFit (D.state drive.old) }
     requires mark { down ≡ (D.state drive.old).down }
-    requires cached { down ≡ false → (D.state drive.old).cache ≡ modes.now.wce }
-    requires looks { down ≡ false → (D.state drive.old).look ≡ not modes.now.dra }
-    requires may_cache { has_cache (D.state drive.old).identify ≡ false → wanted.now.wce ≡ modes.now.wce }
-    requires may_look { has_look (D.state drive.old).identify ≡ false → wanted.now.dra ≡ modes.now.dra }
+    requires set { down ≡ false → IsSetBy modes.now (D.state drive.old) }
+    requires may { CanSet modes.now wanted.now (D.state drive.old) }
     ensures stays { Stays (D.state drive.old) (D.state drive.new) }
     ensures cache { IfOk result (λ ending. down ≡ false → (D.state drive.new).cache ≡ (modes_after command.now ending modes.now wanted.now).wce) }
     ensures look { IfOk result (λ ending. down ≡ false → (D.state drive.new).look ≡ not (modes_after command.now ending modes.now wanted.now).dra) }
@@ -64,7 +59,8 @@ pub fn run_task<D: Drive, L: Ledger>(
     ensures ends { IfOk result (λ ending. TaskEnds down started wanted.now command.now (D.state drive.old) body.old ending body.new (D.state drive.new)) }
     ensures lost { OnErr result (IsLostInTask down started command.now (D.state drive.old) body.old (D.state drive.new)) }
     ensures size { length body.new ≡ length body.old }
-    ensures fit { IsFit (D.state drive.new) }
+    ensures unasked { down ≡ true → drive.new ≡ drive.old }
+    ensures uncalled { down ≡ true → steps.new ≡ steps.old }
     ensures step { steps.new ≤ steps.old + task_calls }
 {
     if down {
@@ -96,16 +92,11 @@ fn carry_out<D: Drive, L: Ledger>(
     body: &mut Pages,
     steps: &mut Steps<L>,
 ) -> Result<Ending, LinkDown>
-    requires idle { (D.state drive.old).outstanding ≡ [] }
-    requires no_error { (D.state drive.old).error ≡ None }
+    requires free { IsFree (D.state drive.old) }
     requires task { IsTask (D.state drive.old).capacity command.now (length body.old) }
     requires sound { AreSound (D.state drive.old).cells }
-    requires fit { IsFit (D.state drive.old) }
-    requires up { (D.state drive.old).down ≡ false }
-    requires cached { (D.state drive.old).cache ≡ modes.now.wce }
-    requires looks { (D.state drive.old).look ≡ not modes.now.dra }
-    requires may_cache { has_cache (D.state drive.old).identify ≡ false → wanted.now.wce ≡ modes.now.wce }
-    requires may_look { has_look (D.state drive.old).identify ≡ false → wanted.now.dra ≡ modes.now.dra }
+    requires set { IsSetBy modes.now (D.state drive.old) }
+    requires may { CanSet modes.now wanted.now (D.state drive.old) }
     ensures stays { Stays (D.state drive.old) (D.state drive.new) }
     ensures cache { IfOk result (λ ending. (D.state drive.new).cache ≡ (modes_after command.now ending modes.now wanted.now).wce) }
     ensures look { IfOk result (λ ending. (D.state drive.new).look ≡ not (modes_after command.now ending modes.now wanted.now).dra) }
@@ -114,7 +105,6 @@ fn carry_out<D: Drive, L: Ledger>(
     ensures ends { IfOk result (λ ending. CarriedOut wanted.now command.now (D.state drive.old) body.old ending body.new (D.state drive.new)) }
     ensures lost { OnErr result (IsLostIn (pairs_written (D.state drive.old).cache command.now body.old) (D.state drive.old) (D.state drive.new)) }
     ensures size { length body.new ≡ length body.old }
-    ensures fit { IsFit (D.state drive.new) }
     ensures step { steps.new ≤ steps.old + 3 }
 {
     match *command {
@@ -154,7 +144,7 @@ pub fn link_lost() -> Ending
 /// Answers all tasks in order of arrival: the link is lost.
 pub fn lose_tasks(tasks: &mut TaskSet, pool: &mut Pool, descriptor: bool, replies: &mut Replies)
     requires held { held_pages tasks.old ≤ pool.old.out }
-    requires few { AllByRecursion (λ h. length h.entry.body ≤ 4096) tasks.old }
+    requires few { AllByRecursion (λ h. length h.entry.body ≤ most_moved) tasks.old }
     requires room { length replies.old + length tasks.old ≤ 65 }
     ensures none { tasks.new ≡ [] }
     ensures answers { replies.new ≡ replies.old ++ lost_replies descriptor tasks.old }
@@ -205,7 +195,7 @@ fn medium_error(command: &Command, lba: u64) -> Sense
 /// Answers a task. A READ that is done gives its pages as data-in; all other pages are given back.
 pub fn end_task(pool: &mut Pool, task: Entry, ending: Ending, descriptor: bool) -> Reply
     requires held { length task.body ≤ pool.old.out }
-    requires few { length task.body ≤ 4096 }
+    requires few { length task.body ≤ most_moved }
     ensures reply { result ≡ ended_reply task ending descriptor }
     ensures free { pool.new.free + length result.body ≡ pool.old.free + length task.body }
     ensures out { pool.new.out + length task.body ≡ pool.old.out + length result.body }

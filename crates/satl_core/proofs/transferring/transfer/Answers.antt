@@ -21,7 +21,7 @@ pub returns-in_err-ended-clause-lost : goal.returns-in_err-ended-clause-lost
 returns-in_err-ended-clause-lost g c =
     let old = g.D.Drive.state c.args.drive.now in
     let p = err_from_is_err_and c.from_residual.result c.from_residual.ensures.1 in
-    rw p.1 (transfer_lost old.capacity c.args.command.now _ old _ c.args.body.now c.ata_command.ensures c.requires.transfer c.requires.fit.sectors (through old c.args.cache _ _ c.goes_past.ensures c.if-goes_past.false c.requires.cached) c.in_err-ended.ensures.err)
+    rw p.1 (transfer_lost old.capacity c.args.command.now _ old _ c.args.body.now c.ata_command.ensures c.requires.transfer c.requires.free.fit.sectors (through old c.args.cache _ _ c.goes_past.ensures c.if-goes_past.false c.requires.cached) c.in_err-ended.ensures.err)
 
 pub returns-clause-cache : goal.returns-clause-cache
 returns-clause-cache g c =

@@ -1,5 +1,5 @@
 use Rattle.std.proofs.lemmas.Result.{err_from_is_err_and}
-use Rattle.satl_core.proofs.CommandsLemmas.{lost_first}
+use Rattle.satl_barrier.proofs.CommandsLemmas.{lost_first}
 use Rattle.satl_core.proofs.turning.carry_out.Goals as goal
 
 pub returns-in_err-flush-in-Flush-clause-lost : goal.returns-in_err-flush-in-Flush-clause-lost

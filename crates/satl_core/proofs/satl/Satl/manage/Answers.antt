@@ -31,3 +31,10 @@ returns-clause-fewer g c =
     let left = ap length c.drop_tasks.ensures.others in
     let view = ap (λ (l : Layer). length l.tasks) c.self.view_is in
     omega (arith, few, left, view)
+
+pub returns-clause-calls : goal.returns-clause-calls
+returns-clause-calls g c =
+    let few = left_fewer (is_within c.decide-effect.result.goes) c.self.inside.tasks in
+    let left = ap length c.drop_tasks.ensures.others in
+    let view = ap (λ (l : Layer). length l.tasks) c.self.view_is in
+    omega (arith, few, left, view)

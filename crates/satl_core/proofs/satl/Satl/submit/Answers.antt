@@ -84,7 +84,7 @@ returns-in-Ok-clause-tied g c =
     let r = c.args.request in
     becomes_tied c.args.self.now c.add_task.new.self (g.D.Drive.state c.args.drive.now) (filled_up r) c.in-Ok.command c.add_task.new.replies (judged_whole c.args.self.now (filled_up r) r (length r.body) _ (filled_up_cut r) c.in-Ok.ensures.lengths c.in-Ok.ensures.holds (sym c.in-Ok.ensures.judged))
     (becomes_whole (filled_up r) r (length r.body) c.args.self.now.identity.capacity c.in-Ok.command c.args.self.now c.add_task.new.replies c.add_task.new.self (filled_up_cut r) c.in-Ok.ensures.task c.add_task.ensures.long becomes)
-    (filled_up_holds r) c.requires.tied
+    (filled_up_holds r) c.requires.can.expected c.requires.tied
 
 pub returns-in-Err-clause-tied : goal.returns-in-Err-clause-tied
 returns-in-Err-clause-tied g c =
@@ -92,3 +92,15 @@ returns-in-Err-clause-tied g c =
     let kept = c.self.view_is ∙ c.in-Err.ensures.kept in
     tied_by c.args.self.now _ d (ap (λ (l : Layer). l.down) kept) (ap (λ (l : Layer). l.modes) kept) (ap (λ (l : Layer). l.identity) kept)
     (subst IsValid (sym (ap (λ l. view l d) (c.self.view_is ∙ c.in-Err.ensures.left))) (once_judged_valid c.args.self.now d c.args.request c.requires.tied.valid)) c.requires.tied
+
+pub returns-in-Ok-clause-calls : goal.returns-in-Ok-clause-calls
+returns-in-Ok-clause-calls g c =
+    let becomes = subst (λ (l : Layer). Becomes c.args.request c.in-Ok.command l c.add_task.new.replies c.add_task.new.self) c.in-Ok.ensures.same c.add_task.ensures.becomes in
+    let more = (becomes_more c.args.request c.in-Ok.command c.args.self.now c.add_task.new.replies c.add_task.new.self becomes).0 in
+    omega (arith, more)
+
+pub returns-in-Err-clause-calls : goal.returns-in-Err-clause-calls
+returns-in-Err-clause-calls g c =
+    let few = judged_more c.args.self.now c.args.request in
+    let same = ap (λ (l : Layer). length l.tasks) (c.self.view_is ∙ c.in-Err.ensures.left) in
+    omega (arith, few, same)

@@ -8,11 +8,15 @@ use Rattle.satl_direct.specs.Turn.{Turn}
 use Rattle.satl_core.specs.Layer.{Layer, Tied, held_pages, view}
 use Rattle.satl_core.specs.Turning.{data_in, lost_replies}
 use Rattle.satl_core.proofs.CountedLemmas.{counted_rose, counted_same}
-use Rattle.satl_core.proofs.DeviceLemmas.{idle_around, seen}
+use Rattle.satl_core.proofs.DeviceLemmas.{first_tasks, idle_around, seen}
 use Rattle.satl_core.proofs.HeldLemmas.{first_count, first_kept, first_of, first_pages, none_left, pushed}
 use Rattle.satl_core.proofs.ServedLemmas.{turn_ends, turn_loses}
+use Rattle.satl_core.proofs.TieLemmas.{has_as_noted}
 use Rattle.satl_core.proofs.TurningLemmas.{all_pages, entry_few, kept_few, lost_all_writable, lost_pages, one_pages, one_writable}
+use Rattle.satl_core.proofs.FlushedLemmas.{first_flush, flush_done}
 use Rattle.satl_core.proofs.ValidLemmas.{still_tied_none, still_tied_rest, wanted_cache, wanted_look}
+use Rattle.satl_core.specs.Flushed.{IsFlushed}
+use Rattle.satl_direct.specs.Valid.{AreOwn}
 use Rattle.satl_core.proofs.satl.Satl.turn.Goals as goal
 
 pub returns-then-pending-eq0-clause-turns : goal.returns-then-pending-eq0-clause-turns
@@ -139,14 +143,14 @@ returns-in-Ok-clause-tied g c =
     let tied = subst (λ (l : Layer). Tied l old) (sym c.self.view_is) c.requires.tied in
     let kept = first_kept c.self.inside.identity c.self.inside.tasks c.remove-task.new.self c.remove-task.result c.self.invariant.kept first in
     still_tied_rest c.self.inside.identity c.self.inside.modes c.wanted_by-wanted.result c.modes_after-modes.result c.self.inside.started c.started_after-self-inside.result c.self.inside.down c.change_posting-posting.result c.self.inside.attentions c.post.new.attentions c.self.inside.tasks c.remove-task.new.self c.remove-task.result c.in-Ok.ending _ _ _ _ old new
-    first kept.0 c.wanted_by-wanted.ensures c.modes_after-modes.ensures c.post.ensures c.in-Ok.ensures.up c.in-Ok.ensures.cache c.in-Ok.ensures.look c.run_task.ensures.stays c.run_task.ensures.fit tied
+    first kept.0 c.wanted_by-wanted.ensures c.modes_after-modes.ensures c.post.ensures c.in-Ok.ensures.up c.in-Ok.ensures.cache c.in-Ok.ensures.look c.run_task.ensures.stays tied
 
 pub returns-in-Err-clause-tied : goal.returns-in-Err-clause-tied
 returns-in-Err-clause-tied g c =
     let old = g.D.Drive.state c.args.drive.now in
     let new = g.D.Drive.state c.run_task.new.drive in
     let tied = subst (λ (l : Layer). Tied l old) (sym c.self.view_is) c.requires.tied in
-    still_tied_none c.self.inside.identity c.self.inside.modes c.self.inside.started c.self.inside.down c.self.inside.attentions c.self.inside.tasks c.lose_tasks.new.tasks _ _ _ _ old new c.lose_tasks.ensures.none c.in-Err.ensures.lost.lost.down c.run_task.ensures.stays c.run_task.ensures.fit tied
+    still_tied_none c.self.inside.identity c.self.inside.modes c.self.inside.started c.self.inside.down c.self.inside.attentions c.self.inside.tasks c.lose_tasks.new.tasks _ _ _ _ old new c.lose_tasks.ensures.none c.in-Err.ensures.lost.lost.down c.run_task.ensures.stays tied
 
 pub returns-in-Ok-clause-counted : goal.returns-in-Ok-clause-counted
 returns-in-Ok-clause-counted g c =
@@ -161,16 +165,29 @@ returns-in-Err-clause-counted g c =
     let new = g.D.Drive.state c.run_task.new.drive in
     counted_rose (view c.args.self.now old) (seen c.self.inside.identity c.self.inside.modes c.self.inside.started c.self.inside.attentions (map task_of (entries_of c.lose_tasks.new.tasks)) new) old.faults new.faults c.in-Err.ensures.lost.lost.rose
 
-pub run_task-requires-clause-may_cache : goal.run_task-requires-clause-may_cache
-run_task-requires-clause-may_cache g c =
+pub run_task-requires-clause-may : goal.run_task-requires-clause-may
+run_task-requires-clause-may g c =
     let first = first_of c.self.inside.tasks c.remove-task.new.self c.remove-task.result c.remove-task.ensures.value c.remove-task.ensures.others in
     let kept = first_kept c.self.inside.identity c.self.inside.tasks c.remove-task.new.self c.remove-task.result c.self.invariant.kept first in
     let tied = subst (λ (l : Layer). Tied l (g.D.Drive.state c.args.drive.now)) (sym c.self.view_is) c.requires.tied in
-    wanted_cache c.self.inside.identity c.self.inside.modes c.wanted_by-wanted.result c.remove-task.result.modes _ tied.has_cache c.wanted_by-wanted.ensures tied.valid.modes kept.0.change
+    let noted = has_as_noted _ (g.D.Drive.state c.args.drive.now) tied in
+    record {
+      cache = wanted_cache c.self.inside.identity c.self.inside.modes c.wanted_by-wanted.result c.remove-task.result.modes _ noted.cache c.wanted_by-wanted.ensures tied.valid.modes kept.0.change;
+      look = wanted_look c.self.inside.identity c.self.inside.modes c.wanted_by-wanted.result c.remove-task.result.modes _ noted.look c.wanted_by-wanted.ensures tied.valid.modes kept.0.change;
+    }
 
-pub run_task-requires-clause-may_look : goal.run_task-requires-clause-may_look
-run_task-requires-clause-may_look g c =
+pub returns-in-Ok-clause-flushed : goal.returns-in-Ok-clause-flushed
+returns-in-Ok-clause-flushed g c = λ flushed quiet.
     let first = first_of c.self.inside.tasks c.remove-task.new.self c.remove-task.result c.remove-task.ensures.value c.remove-task.ensures.others in
-    let kept = first_kept c.self.inside.identity c.self.inside.tasks c.remove-task.new.self c.remove-task.result c.self.invariant.kept first in
     let tied = subst (λ (l : Layer). Tied l (g.D.Drive.state c.args.drive.now)) (sym c.self.view_is) c.requires.tied in
-    wanted_look c.self.inside.identity c.self.inside.modes c.wanted_by-wanted.result c.remove-task.result.modes _ tied.has_look c.wanted_by-wanted.ensures tied.valid.modes kept.0.change
+    let own = (subst (λ ts. AreOwn ts) (first_tasks c.self.inside.tasks c.remove-task.new.self c.remove-task.result first) tied.valid.own).0 in
+    let done = first_flush c.self.inside.tasks c.remove-task.new.self c.remove-task.result (record c.remove-task.result { body = c.run_task.new.body }) c.in-Ok.ending c.self.inside.modes.d_sense c.args.replies.now c.push.new.self c.end_task.result first refl refl own c.requires.empty c.push.ensures c.end_task.ensures.reply
+    (subst (λ (l : Layer). IsFlushed l.tasks c.push.new.self) (sym c.self.view_is) flushed) in
+    flush_done c.self.inside.down c.self.inside.started c.wanted_by-wanted.result c.remove-task.result.command (g.D.Drive.state c.args.drive.now) (g.D.Drive.state c.run_task.new.drive) c.remove-task.result.body c.run_task.new.body c.in-Ok.ending done.flush done.good c.in-Ok.ensures.ends
+
+pub returns-in-Ok-clause-calls : goal.returns-in-Ok-clause-calls
+returns-in-Ok-clause-calls g c =
+    let first = first_of c.self.inside.tasks c.remove-task.new.self c.remove-task.result c.remove-task.ensures.value c.remove-task.ensures.others in
+    let count = first_count c.self.inside.tasks c.remove-task.new.self c.remove-task.result first in
+    let view = ap (λ (l : Layer). length l.tasks) c.self.view_is in
+    omega (arith, count, view, c.run_task.ensures.step)

@@ -1,0 +1,258 @@
+-- What a command does to a drive, and what it leaves.
+use Rattle.std.proofs.Common.{◌≡◌, ⊎_elim, inl, inr, refl, sym, ap, subst, arith, ◌∙◌, ℕ, ◌+◌, ◌*◌, ◌≤◌, Bool, true, false, List, [], ◌∷◌, length, map, Some, None}
+use Rattle.std.specs.Prelude.{MatchBool, MatchOption, Option, if◌then◌else◌, nat_lt, slice_index, ◌⊎◌, ◌/◌, ◌%◌, ◌^◌, ◌==◌}
+use Rattle.std.specs.List.{AllByRecursion}
+use Rattle.satl_base.specs.declared.block.Block.{Block}
+use Rattle.satl_base.specs.Cells.{AreSound, Cell, Pair, first_flaw, settle}
+use Rattle.satl_base.specs.Identify.{has_cache, has_look, word}
+use Rattle.satl_base.specs.Lists.{IsIn, is_in}
+use Rattle.satl_base.specs.Losses.{Loses}
+use Rattle.satl_base.specs.Moves.{Moves}
+use Rattle.satl_base.specs.Moves.{stay}
+use Rattle.satl_base.proofs.ListsLemmas.{All-in, leaves_only}
+use Rattle.satl_base.proofs.LossesLemmas.{loses-nows, loses-sound}
+use Rattle.satl_base.proofs.MovesLemmas.{lose_once, moves_of_part, moves_on}
+use Rattle.satl_io.specs.Causes.{Rose}
+use Rattle.satl_regs.specs.declared.values.Registers.{Registers}
+use Rattle.satl_regs.specs.declared.values.Taskfile.{Taskfile}
+use Rattle.satl_regs.specs.declared.values.How.TheVariants.{Pio, PioExt, Dma, DmaExt}
+use Rattle.satl_regs.specs.declared.values.AtaCommand.{AtaCommand}
+use Rattle.satl_regs.specs.declared.values.AtaCommand.TheVariants as commands
+use Rattle.satl_regs.specs.Commands.{command_in}
+use Rattle.satl_regs.specs.Spelling.{command_registers}
+use Rattle.satl_regs.specs.QueuedCommands.{queued_codes}
+use Rattle.satl_regs.specs.Effects.{Carries, Does, IsCarriedOut, IsFlawed, IsGarbled, IsLogged, IsRefused, IsSet, IsTelling, Medium, Setting, Transfer, abrt, has_setting, idnf, is_error_log, is_no_trim, no_error_log, own_blocks, pairs_of, reading, setting_of, settable, trimming, verifying, with_setting, writing}
+use Rattle.satl_identify.specs.Data.{identity_data}
+use Rattle.satl_drive.specs.State.{DriveState, IsFit, medium_of, with_medium}
+use Rattle.satl_drive.specs.Rules.{CanRun, IsCarriedOut as IsRunOut, IsCutOff, IsRun, IsRunBy, IsRunCutOff, MayRun}
+use Rattle.satl_barrier.specs.Commands.{IsTold}
+use Rattle.satl_barrier.specs.Commands.{HasRun, IsCutShort, IsNamed}
+use Rattle.satl_barrier.specs.Leaving.{IsFree, IsLostIn, OneGlitchAtMost, SaysSo, Stays, TellsOf}
+use Rattle.satl_barrier.proofs.ToldLemmas.{all_bytes, retold}
+use Rattle.satl_barrier.specs.Settings.{IsSetOn}
+
+-- ---- a command may be run
+
+plain : (c : AtaCommand) → IsNamed c → is_in (command_registers c).command queued_codes ≡ false
+unfolding command_registers
+plain (commands.Read Pio lba sectors) named = refl
+plain (commands.Read PioExt lba sectors) named = refl
+plain (commands.Read Dma lba sectors) named = refl
+plain (commands.Read DmaExt lba sectors) named = refl
+plain (commands.Write Pio lba sectors) named = refl
+plain (commands.Write PioExt lba sectors) named = refl
+plain (commands.Write Dma lba sectors) named = refl
+plain (commands.Write DmaExt lba sectors) named = refl
+plain (commands.Verify true lba sectors) named = refl
+plain (commands.Verify false lba sectors) named = refl
+plain (commands.Flush true) named = refl
+plain (commands.Flush false) named = refl
+plain commands.Identify named = refl
+plain (commands.SetFeatures what) named = refl
+plain commands.Standby named = refl
+plain commands.Idle named = refl
+plain commands.CheckPower named = refl
+plain (commands.ReadLog log page blocks) named = refl
+plain (commands.Trim blocks) named = refl
+plain commands.SmartStatus named = refl
+plain (commands.Other code) named = absurd named
+
+pub can_run : (d : DriveState) (command : AtaCommand) (r : Registers) (pages : List Block) → d.outstanding ≡ [] → d.error ≡ None → IsNamed command → own_blocks command ≤ length pages → r ≡ command_registers command → command_in r ≡ command → CanRun d r pages
+can_run d command r pages idle no_error named room is again = record {
+  idle = idle;
+  not_queued = ap (λ x. is_in x.command queued_codes) is ∙ plain command named;
+  error = subst (λ e. MayRun e (command_in r)) (sym no_error) tt;
+  room = subst (λ x. own_blocks x ≤ length pages) (sym again) room;
+}
+
+-- ---- what it did
+
+pub has_run : (old : DriveState) (command : AtaCommand) (r : Registers) (given taken : List Block) (ended : Taskfile) (new : DriveState) → old.error ≡ None → r ≡ command_registers command → command_in r ≡ command → IsRun old r given ended taken new → HasRun command old given ended taken new
+has_run old command r given taken ended new no_error is again run =
+    let out : IsRunOut old r given ended taken new = subst (λ e. IsRunBy e old r given ended taken new) no_error run in
+    record {
+      was_up = out.was_up;
+      after = out.after;
+      does = subst (λ x. Does command x (medium_of old) given ended taken out.after) is (subst (λ c. Does c r (medium_of old) given ended taken out.after) again out.does);
+      lost = out.lost;
+      stays = out.stays;
+    }
+
+pub cut_short : (old : DriveState) (command : AtaCommand) (r : Registers) (given : List Block) (new : DriveState) → command_in r ≡ command → IsRunCutOff old r given new → IsCutShort (pairs_of command (medium_of old) given) old new
+cut_short old command r given new again run = record {
+  settings = run.settings;
+  cut = subst (λ c. IsCutOff old (pairs_of c (medium_of old) given) (record new { cache = old.cache; look = old.look; identify = old.identify })) again run.cut;
+}
+
+-- ---- what it leaves
+
+pub says_told : (cache look : Bool) (old new : List ℕ) → IsTelling cache look old new → SaysSo old new
+says_told cache look old new tells = record { cache = ap (λ w. w / 2 ^ 5 % 2 == 1) word_82; look = ap (λ w. w / 2 ^ 6 % 2 == 1) word_82 }
+  where
+    low : slice_index new 164 ≡ slice_index old 164
+    low = tells.others 164 (λ e. absurd (omega (arith, e))) (λ e. absurd (omega (arith, e)))
+
+    high : slice_index new 165 ≡ slice_index old 165
+    high = tells.others 165 (λ e. absurd (omega (arith, e))) (λ e. absurd (omega (arith, e)))
+
+    word_82 : word 82 new ≡ word 82 old
+    word_82 = ap (λ n. n + 256 * slice_index new 165) low ∙ ap (λ n. slice_index old 164 + 256 * n) high
+
+-- what a transfer leaves of a medium
+pub record IsAsSet (old new : Medium) : Type 0 where
+  pub cache : new.cache ≡ old.cache
+  pub look : new.look ≡ old.look
+  pub identify : new.identify ≡ old.identify
+
+-- what a command leaves of the settings and of the data that tell them: all as it was, or the data tell other settings
+abbrev pub IsRetold : Medium → Medium → Type 0
+IsRetold old new = IsAsSet old new ⊎ IsTelling new.cache new.look old.identify new.identify
+
+as_set : (old new : Medium) (cells : List Cell) (active : Bool) (glitches : ℕ) → new ≡ record old { cells = cells; active = active; glitches = glitches } → IsAsSet old new
+as_set old new cells active glitches is = record { cache = ap (λ (m : Medium). m.cache) is; look = ap (λ (m : Medium). m.look) is; identify = ap (λ (m : Medium). m.identify) is }
+
+pub carries_set : (r : Registers) (t : Transfer) (old : Medium) (given : List Block) (ended : Taskfile) (taken : List Block) (new : Medium) → Carries r t old given ended taken new → IsAsSet old new
+carries_set r t old given ended taken new =
+    elim (nat_lt (length old.cells) (t.lba + t.sectors)) as (λ b. MatchBool b (IsRefused r idnf r.lba old given ended taken new) (MatchOption (first_flaw t.stopped_by old.cells t.lba t.sectors) (IsCarriedOut r t old given ended taken new ⊎ IsGarbled r t old given ended taken new) (λ at. IsFlawed r t at old given ended taken new)) → IsAsSet old new) [
+      | true ↦ λ x. as_set old new _ _ _ x.medium
+      | false ↦
+          elim (first_flaw t.stopped_by old.cells t.lba t.sectors) as (λ o. MatchOption o (IsCarriedOut r t old given ended taken new ⊎ IsGarbled r t old given ended taken new) (λ at. IsFlawed r t at old given ended taken new) → IsAsSet old new) [
+            | None ↦ λ h. ⊎_elim (λ x. as_set old new _ _ _ x.medium) (λ x. as_set old new _ _ _ x.medium) h
+            | Some at ↦ λ x. as_set old new _ _ _ x.medium
+          ]
+    ]
+
+says_retold : (old new : Medium) → IsRetold old new → SaysSo old.identify new.identify
+says_retold old new (inl set) = record { cache = ap has_cache set.identify; look = ap has_look set.identify }
+says_retold old new (inr tells) = says_told new.cache new.look old.identify new.identify tells
+
+-- so the data are those of the same identity as before
+tells_retold : (bytes : List ℕ) (old new : DriveState) → length bytes ≡ 512 → IsFit new → IsRetold (medium_of old) (medium_of new) → TellsOf bytes old → TellsOf bytes new
+tells_retold bytes old new long fit (inl set) was = set.identify ∙ (was ∙ (ap (λ b. identity_data bytes b old.look) (sym set.cache) ∙ ap (λ b. identity_data bytes new.cache b) (sym set.look)))
+tells_retold bytes old new long fit (inr tells) was = retold bytes old.identify new.identify old.cache old.look new.cache new.look long (all_bytes new.identify fit.bytes) was tells
+
+set_retold : (found : Option Setting) (r : Registers) (old : Medium) (given : List Block) (ended : Taskfile) (taken : List Block) (new : Medium) → MatchOption found (IsRefused r abrt 0 old given ended taken new) (λ s. IsSet s r old given ended taken new) → IsRetold old new
+set_retold None r old given ended taken new x = inl (as_set old new _ _ _ x.medium)
+set_retold (Some s) r old given ended taken new x = inr x.tells
+
+log_set : (found : Bool) (r : Registers) (old : Medium) (given : List Block) (ended : Taskfile) (taken : List Block) (new : Medium) → MatchBool found (IsLogged r no_error_log old given ended taken new) (IsRefused r abrt 0 old given ended taken new) → IsAsSet old new
+log_set true r old given ended taken new x = as_set old new _ _ _ x.medium
+log_set false r old given ended taken new x = as_set old new _ _ _ x.medium
+
+trim_set : (none : Bool) (blocks : ℕ) (r : Registers) (old : Medium) (given : List Block) (ended : Taskfile) (taken : List Block) (new : Medium) → MatchBool none (IsRefused r abrt 0 old given ended taken new) (Carries r (trimming blocks given old) old given ended taken new) → IsAsSet old new
+trim_set true blocks r old given ended taken new x = as_set old new _ _ _ x.medium
+trim_set false blocks r old given ended taken new x = carries_set r (trimming blocks given old) old given ended taken new x
+
+does_retell : (c : AtaCommand) (r : Registers) (old : Medium) (given : List Block) (ended : Taskfile) (taken : List Block) (new : Medium) → Does c r old given ended taken new → IsRetold old new
+does_retell (commands.Read how lba sectors) r old given ended taken new x = inl (carries_set r (reading how lba sectors old) old given ended taken new x)
+does_retell (commands.Write how lba sectors) r old given ended taken new x = inl (carries_set r (writing how lba sectors given old) old given ended taken new x)
+does_retell (commands.Verify ext lba sectors) r old given ended taken new x = inl (carries_set r (verifying ext lba sectors) old given ended taken new x)
+does_retell (commands.Flush ext) r old given ended taken new x = inl (as_set old new _ _ _ x.medium)
+does_retell commands.Identify r old given ended taken new x = inl (as_set old new _ _ _ x.medium)
+does_retell (commands.SetFeatures what) r old given ended taken new x = set_retold (settable old.identify (setting_of what)) r old given ended taken new x
+does_retell commands.Standby r old given ended taken new x = inl (as_set old new _ _ _ x.medium)
+does_retell commands.Idle r old given ended taken new x = inl (as_set old new _ _ _ x.medium)
+does_retell commands.CheckPower r old given ended taken new x = inl (as_set old new _ _ _ x.medium)
+does_retell (commands.ReadLog log page blocks) r old given ended taken new x = inl (log_set (is_error_log log page blocks) r old given ended taken new x)
+does_retell (commands.Trim blocks) r old given ended taken new x = inl (trim_set (is_no_trim blocks given old) blocks r old given ended taken new x)
+does_retell commands.SmartStatus r old given ended taken new x = inl (as_set old new _ _ _ x.medium)
+does_retell (commands.Other code) r old given ended taken new x = inl (as_set old new _ _ _ x.medium)
+
+pub run_stays : (old new : DriveState) (c : AtaCommand) (given taken : List Block) (ended : Taskfile) → IsFree old → IsFit new → HasRun c old given ended taken new → Stays old new
+run_stays old new c given taken ended free fit run = record {
+  free = record { idle = ap (λ (d : DriveState). d.outstanding) run.stays ∙ free.idle; no_error = ap (λ (d : DriveState). d.error) run.stays ∙ free.no_error; fit = fit };
+  capacity = ap (λ (d : DriveState). d.capacity) run.stays;
+  sound = loses-sound run.after.cells new.cells run.lost;
+  says = says_retold (medium_of old) (medium_of new) told;
+  tells = λ bytes long. tells_retold bytes old new long fit told;
+  unplugs = ap (λ (d : DriveState). d.unplugs) run.stays;
+}
+  where
+    told : IsRetold (medium_of old) (medium_of new)
+    told = subst (IsRetold (medium_of old)) (sym (ap medium_of run.stays)) (by (does_retell c (command_registers c) (medium_of old) given ended taken run.after run.does))
+      where
+        by : IsRetold (medium_of old) run.after → IsRetold (medium_of old) (record run.after { cells = new.cells })
+        by (inl x) = inl (record { cache = x.cache; look = x.look; identify = x.identify })
+        by (inr x) = inr x
+
+pub cut_stays : (old new : DriveState) (pairs : List Pair) → IsFit new → IsCutShort pairs old new → Stays old new
+cut_stays old new pairs fit run = record {
+  free = record { idle = ap (λ (d : DriveState). d.outstanding) run.cut.stays; no_error = ap (λ (d : DriveState). d.error) run.cut.stays; fit = fit };
+  capacity = ap (λ (d : DriveState). d.capacity) run.cut.stays;
+  sound = loses-sound run.cut.mid new.cells run.cut.lost;
+  says = says_told new.cache new.look old.identify new.identify run.settings.tells;
+  tells = λ bytes long was. retold bytes old.identify new.identify old.cache old.look new.cache new.look long (all_bytes new.identify fit.bytes) was run.settings.tells;
+  unplugs = ap (λ (d : DriveState). d.unplugs) run.cut.stays;
+}
+
+-- one command after the other
+pub stays_on : (old mid new : DriveState) → Stays old mid → Stays mid new → Stays old new
+stays_on old mid new first rest = record {
+  free = rest.free;
+  capacity = rest.capacity ∙ first.capacity;
+  sound = rest.sound;
+  says = record { cache = rest.says.cache ∙ first.says.cache; look = rest.says.look ∙ first.says.look };
+  tells = λ bytes long was. rest.tells bytes long (first.tells bytes long was);
+  unplugs = rest.unplugs ∙ first.unplugs;
+}
+
+-- ---- IDENTIFY DEVICE
+
+pub told : (old new : DriveState) (given taken : List Block) (ended : Taskfile) → HasRun commands.Identify old given ended taken new → IsTold old given taken new
+told old new given taken ended run = record {
+  was_up = run.was_up;
+  pages = run.does.data_in;
+  lost = subst (λ (m : Medium). Loses m.cells new.cells) run.does.medium run.lost;
+  stays = run.stays ∙ ap (λ (m : Medium). record old { cells = new.cells; cache = m.cache; look = m.look; active = m.active; glitches = m.glitches; identify = m.identify }) run.does.medium;
+}
+
+-- a link that is lost with nothing under way leaves what reads give
+pub cut_nows : (old new : DriveState) → IsCutShort [] old new → map (λ c. c.now) new.cells ≡ map (λ c. c.now) old.cells
+cut_nows old new lost = loses-nows old.cells new.cells (subst (λ cells. Loses cells new.cells) lost.cut.part lost.cut.lost)
+
+-- ---- a lost link
+
+-- after what was done before of the task, the link was lost while some of its pairs were under way
+pub lost_after : (pairs under_way : List Pair) (old mid new : DriveState) → Moves (λ p. IsIn p pairs) old.cells mid.cells → OneGlitchAtMost old mid → mid.faults ≡ old.faults → AllByRecursion (λ p. IsIn p pairs) under_way → IsCutShort under_way mid new → IsLostIn pairs old new
+lost_after pairs under_way old mid new before glitch faults among run =
+    let same : new.glitches ≡ mid.glitches = ap (λ (d : DriveState). d.glitches) run.cut.stays in
+    record {
+      cells = moves_on before (moves_on (moves_of_part (λ p. IsIn p pairs) under_way mid.cells run.cut.mid among run.cut.part) (lose_once run.cut.lost));
+      glitches = subst (λ n. (n ≡ old.glitches) ⊎ (n + 1 ≡ old.glitches)) (sym same) glitch;
+      rose = subst (λ n. Rose n new.faults) faults run.cut.rose;
+      down = ap (λ (d : DriveState). d.down) run.cut.stays;
+    }
+
+-- the link was lost in the first command
+pub lost_first : (pairs under_way : List Pair) (old new : DriveState) → AllByRecursion (λ p. IsIn p pairs) under_way → IsCutShort under_way old new → IsLostIn pairs old new
+lost_first pairs under_way old new among run = lost_after pairs under_way old old new stay (inl refl) refl among run
+
+-- the same pairs are among them
+pub among : (pairs under_way : List Pair) → under_way ≡ pairs → AllByRecursion (λ p. IsIn p pairs) under_way
+among pairs under_way same = All-in (λ p. IsIn p pairs) under_way (λ p i. subst (IsIn p) same i)
+
+-- ---- settings
+
+-- a setting that the drive has is made
+pub set_on : (old new : DriveState) (what : ℕ) (s : Setting) (given taken : List Block) (ended : Taskfile) → setting_of what ≡ Some s → has_setting old.identify s ≡ true → HasRun (commands.SetFeatures what) old given ended taken new → IsSetOn s old new
+set_on old new what s given taken ended is has run =
+    let set : IsSet s (command_registers (commands.SetFeatures what)) (medium_of old) given ended taken run.after =
+    subst (λ o. MatchOption o (IsRefused (command_registers (commands.SetFeatures what)) abrt 0 (medium_of old) given ended taken run.after) (λ s. IsSet s (command_registers (commands.SetFeatures what)) (medium_of old) given ended taken run.after)) settable_is run.does in
+    let told : new.identify ≡ run.after.identify = ap (λ (d : DriveState). d.identify) run.stays in
+    let cache : new.cache ≡ run.after.cache = ap (λ (d : DriveState). d.cache) run.stays in
+    let look : new.look ≡ run.after.look = ap (λ (d : DriveState). d.look) run.stays in
+    record {
+      was_up = run.was_up;
+      lost = subst (λ (cells : List Cell). Loses cells new.cells) (ap (λ (m : Medium). m.cells) set.medium) run.lost;
+      tells = subst (λ b. IsTelling b new.look old.identify new.identify) (sym cache) (subst (λ b. IsTelling run.after.cache b old.identify new.identify) (sym look) (subst (λ d. IsTelling run.after.cache run.after.look old.identify d) (sym told) set.tells));
+      stays = run.stays ∙ (ap (λ (m : Medium). record old { cells = new.cells; cache = m.cache; look = m.look; active = m.active; glitches = m.glitches; identify = m.identify }) set.medium
+          ∙ ap (λ d. record old { cells = new.cells; cache = (with_setting s (medium_of old)).cache; look = (with_setting s (medium_of old)).look; active = (with_setting s (medium_of old)).active; glitches = (with_setting s (medium_of old)).glitches; identify = d }) (sym told));
+    }
+  where
+    settable_is : settable old.identify (setting_of what) ≡ Some s
+    settable_is = ap (settable old.identify) is ∙ ap (λ b. if b then Some s else None) has
+
+-- the sectors may lose all but what reads give
+pub settled_loses : (cells : List Cell) → AreSound cells → Loses cells (map settle cells)
+settled_loses [] sound = tt
+settled_loses (c ∷ cells) sound = (record { now = refl; read_flaw = refl; write_flaw = refl; fewer = leaves_only c.now c.may sound.0; sound = inl refl }, settled_loses cells sound.1)

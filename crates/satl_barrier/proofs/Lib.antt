@@ -1,0 +1,4 @@
+pub mod CommandsLemmas
+pub mod FlushingLemmas
+pub mod SettingsLemmas
+pub mod ToldLemmas

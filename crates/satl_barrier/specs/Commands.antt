@@ -1,0 +1,54 @@
+-- One ATA command on a drive with nothing outstanding and in no error state.
+use Rattle.std.specs.Prelude.{◌≡◌, ◌∷◌, false, List, [], drop}
+use Rattle.satl_base.specs.declared.block.Block.{Block}
+use Rattle.satl_base.specs.Cells.{Pair}
+use Rattle.satl_base.specs.Losses.{Loses}
+use Rattle.satl_regs.specs.declared.values.AtaCommand.{AtaCommand}
+use Rattle.satl_regs.specs.declared.values.AtaCommand.TheVariants as commands
+use Rattle.satl_regs.specs.declared.values.Taskfile.{Taskfile}
+use Rattle.satl_regs.specs.Spelling.{command_registers}
+use Rattle.satl_regs.specs.Effects.{Does, Medium}
+use Rattle.satl_drive.specs.State.{DriveState, medium_of, with_medium}
+use Rattle.satl_drive.specs.Rules.{IsCutOff, MaySet}
+
+-- a command by its name, not by a code alone (ACS-3 section 7; which commands there are: profile)
+abbrev pub IsNamed : AtaCommand → Type 0
+IsNamed (commands.Read how lba sectors) = Unit {0}
+IsNamed (commands.Write how lba sectors) = Unit {0}
+IsNamed (commands.Verify ext lba sectors) = Unit {0}
+IsNamed (commands.Flush ext) = Unit {0}
+IsNamed commands.Identify = Unit {0}
+IsNamed (commands.SetFeatures what) = Unit {0}
+IsNamed commands.Standby = Unit {0}
+IsNamed commands.Idle = Unit {0}
+IsNamed commands.CheckPower = Unit {0}
+IsNamed (commands.ReadLog log page blocks) = Unit {0}
+IsNamed (commands.Trim blocks) = Unit {0}
+IsNamed commands.SmartStatus = Unit {0}
+IsNamed (commands.Other code) = ⊥
+
+-- a command was carried out: its effect, and sectors may have been written back (ACS-3 section 7)
+pub record HasRun (command : AtaCommand) (old : DriveState) (given : List Block) (ended : Taskfile) (taken : List Block) (new : DriveState) : Type 0 where
+  pub was_up : old.down ≡ false
+  pub after : Medium
+  pub does : Does command (command_registers command) (medium_of old) given ended taken after
+  pub lost : Loses after.cells new.cells
+  pub stays : new ≡ record (with_medium old after) { cells = new.cells }
+
+-- the link was lost while these pairs were under way: each is written or not, and the settings may be others (profile)
+pub record IsCutShort (pairs : List Pair) (old new : DriveState) : Type 0 where
+  pub settings : MaySet old new
+  pub cut : IsCutOff old pairs (record new { cache = old.cache; look = old.look; identify = old.identify })
+
+-- a command that moves no data was carried out (ACS-3 section 7)
+pub record HasRunBare (command : AtaCommand) (old new : DriveState) : Type 0 where
+  pub ended : Taskfile
+  pub taken : List Block
+  pub run : HasRun command old [] ended taken new
+
+-- the drive's data stand in the first page, and sectors were written back at most (ACS-3, IDENTIFY DEVICE)
+pub record IsTold (old : DriveState) (given taken : List Block) (new : DriveState) : Type 0 where
+  pub was_up : old.down ≡ false
+  pub pages : taken ≡ record { bytes = old.identify } ∷ drop 1 given
+  pub lost : Loses old.cells new.cells
+  pub stays : new ≡ record old { cells = new.cells }

@@ -1,0 +1,4 @@
+pub mod Commands
+pub mod Flushing
+pub mod Leaving
+pub mod Settings

@@ -1,0 +1,27 @@
+-- What the tie says of the drive's data.
+use Rattle.std.proofs.Common.{◌≡◌, sym, ap, ◌∙◌, length}
+use Rattle.satl_base.specs.Identify.{has_cache, has_look}
+use Rattle.satl_identify.specs.declared.identity.Identity.{Identity}
+use Rattle.satl_identify.proofs.Judging.{unbroken}
+use Rattle.satl_drive.specs.State.{DriveState}
+use Rattle.satl_barrier.specs.Leaving.{SaysSo}
+use Rattle.satl_barrier.proofs.ToldLemmas.{data_says, length-data}
+use Rattle.satl_core.specs.Layer.{Layer, Tied}
+
+-- the data of the identity are as long as the drive's
+pub bytes_long : (l : Layer) (d : DriveState) → Tied l d → length l.identity.bytes ≡ 512
+bytes_long l d tied = sym (length-data l.identity.bytes d.cache d.look) ∙ (sym (ap length tied.told) ∙ tied.fit.size)
+
+-- the drive has a write cache and look-ahead where the layer has noted so
+pub record HasAsNoted (l : Layer) (d : DriveState) : Type 0 where
+  pub cache : has_cache d.identify ≡ l.identity.cache
+  pub look : has_look d.identify ≡ l.identity.look
+
+pub has_as_noted : (l : Layer) (d : DriveState) → Tied l d → HasAsNoted l d
+has_as_noted l d tied =
+    let says = data_says l.identity.bytes d.cache d.look (bytes_long l d tied) in
+    let noted = (unbroken l.identity.bytes l.identity tied.valid.identity).1 in
+    record {
+      cache = ap has_cache tied.told ∙ (says.cache ∙ ap (λ (i : Identity). i.cache) noted);
+      look = ap has_look tied.told ∙ (says.look ∙ ap (λ (i : Identity). i.look) noted);
+    }

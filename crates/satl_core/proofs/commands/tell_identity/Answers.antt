@@ -1,5 +1,0 @@
-use Rattle.satl_core.proofs.CommandsLemmas.{told}
-use Rattle.satl_core.proofs.commands.tell_identity.Goals as goal
-
-pub returns-in-Ok-clause-told : goal.returns-in-Ok-clause-told
-returns-in-Ok-clause-told g c = told _ _ _ _ _ c.in-Ok.ensures.ok
