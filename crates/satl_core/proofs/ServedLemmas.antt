@@ -25,7 +25,7 @@ use Rattle.satl_regs.specs.Spelling.{command_registers}
 use Rattle.satl_regs.specs.Effects.{Carries, Does, IsCarriedOut, IsFlawed, IsGarbled, IsRefused, Medium, Transfer, flawed_end, idnf, reading, writing}
 use Rattle.satl_line.specs.declared.entry.Entry.{Entry}
 use Rattle.satl_unit.specs.declared.attention.Attention.{Attention}
-use Rattle.satl_line.specs.Ending.{EndsAs, Outcome, blocks_read, flaw_met}
+use Rattle.satl_line.specs.Ending.{EndsAs, Outcome, blocks_read, flaw_met, active_after}
 use Rattle.satl_line.specs.Ending.Outcome.{ends_done, ends_flawed, ends_glitched}
 use Rattle.satl_line.specs.Ranged.{RangedTask, written_pairs}
 use Rattle.satl_line.specs.Ranged.RangedTask.{ranged_read, ranged_write}
@@ -33,7 +33,7 @@ use Rattle.satl_line.specs.Tasks.{Held, entries_of}
 use Rattle.satl_drive.specs.State.{DriveState, medium_of, with_medium}
 use Rattle.satl_direct.specs.Device.{Device, without}
 use Rattle.satl_direct.specs.Tasks.{asks, over, task_of}
-use Rattle.satl_direct.specs.Ending.{Ends, EndsBy, EndsOnMedium, IsChecked, IsDone, active_after, medium_error, outcome_reply, task_check, task_reply}
+use Rattle.satl_direct.specs.Ending.{Ends, EndsBy, EndsOnMedium, IsChecked, IsDone, medium_error, outcome_reply, task_check, task_reply}
 use Rattle.satl_direct.specs.Quiet.{Around, is_pass, writes}
 use Rattle.satl_direct.specs.Senses.{link_lost, not_ready}
 use Rattle.satl_direct.specs.Attentions.{are_same, are_same_modes, post, with_modes_changed}

@@ -10,12 +10,12 @@ use Rattle.satl_regs.specs.Trim.{trim_block}
 use Rattle.satl_pages.specs.Slots.{pages_at}
 use Rattle.satl_line.specs.declared.entry.Entry.{Entry}
 use Rattle.satl_line.specs.Eligible.{IsEligible}
+use Rattle.satl_line.specs.Kinds.{is_ranged}
 use Rattle.satl_line.specs.Ranged.{RangedTask, ranged_of}
 use Rattle.satl_line.specs.Ranged.RangedTask.{ranged_read, ranged_write, ranged_trim}
 use Rattle.satl_drive.specs.State.{DriveState, IsFit, Outstanding}
 use Rattle.satl_drive.specs.Queue.{HasPages, Slots, is_tagged}
 use Rattle.satl_direct.specs.Device.{Device, is_called}
-use Rattle.satl_direct.specs.Run.{is_ranged}
 use Rattle.satl_direct.specs.Valid.{IsValid}
 use Rattle.satl_core.specs.Layer.{Layer, view}
 

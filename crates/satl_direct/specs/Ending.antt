@@ -21,7 +21,7 @@ use Rattle.satl_frame.specs.DataPages.{page_count, pages_of}
 use Rattle.satl_line.specs.declared.entry.Entry.{Entry}
 use Rattle.satl_line.specs.Ranged.{RangedTask}
 use Rattle.satl_line.specs.Ranged.RangedTask.{ranged_read, ranged_write, ranged_trim}
-use Rattle.satl_line.specs.Ending.{Outcome, EndsAs}
+use Rattle.satl_line.specs.Ending.{Outcome, EndsAs, active_after}
 use Rattle.satl_line.specs.Ending.Outcome.{ends_done, ends_flawed, ends_glitched}
 use Rattle.satl_direct.specs.Device.{Device, without}
 use Rattle.satl_direct.specs.Tasks.{asks, over, pass_of}
@@ -57,12 +57,6 @@ abbrev pub outcome_reply : Device → Entry → RangedTask → Outcome → Reply
 outcome_reply s t ranged (ends_done blocks) = task_reply t Good [] blocks
 outcome_reply s t ranged (ends_flawed lba) = task_check s t (medium_error ranged lba)
 outcome_reply s t ranged ends_glitched = task_check s t crc_error
-
--- a command that is done makes the drive active (ACS-3, power modes)
-abbrev pub active_after : Outcome → Bool → Bool
-active_after (ends_done blocks) active = true
-active_after (ends_flawed lba) active = active
-active_after ends_glitched active = active
 
 -- a READ, a WRITE or a trim ends by its outcome on the medium: at a flaw of its kind with the lowest flawed address; while glitches
 -- are left it may end with a CRC error, which takes one; else it is done (SBC-3 5; of CRC errors: profile)

@@ -11,9 +11,8 @@ use Rattle.satl_frame.specs.declared.frames.Frame.TheVariants as frames
 use Rattle.satl_frame.specs.Output.{Answer}
 use Rattle.satl_frame.specs.Output.Answer.{replied, managed, ended}
 use Rattle.satl_line.specs.declared.entry.Entry.{Entry}
-use Rattle.satl_line.specs.declared.entry.Kind.{Kind}
-use Rattle.satl_line.specs.declared.entry.Kind.TheVariants.{Ranged, Barrier}
 use Rattle.satl_line.specs.Conflict.{conflicts}
+use Rattle.satl_line.specs.Kinds.{is_ranged}
 use Rattle.satl_direct.specs.Device.{Device}
 use Rattle.satl_direct.specs.Arrival.{Arrives}
 use Rattle.satl_direct.specs.Quiet.{Quiet, Around}
@@ -26,15 +25,8 @@ abbrev pub eligibles : List Entry → List Entry
 eligibles [] = []
 eligibles (t ∷ ts) = t ∷ filter (λ u. not (conflicts t u)) (eligibles ts)
 
--- whether a task is ranged, and not a barrier (profile)
-abbrev pub is_ranged : Entry → Bool
-is_ranged t = by_kind t.kind
-  where
-    by_kind : Kind → Bool
-    by_kind (Ranged write) = true
-    by_kind Barrier = false
-
--- how many commands the device lets a drive hold at once: its eligible ranged tasks, 32 at most, and none while it is down or stopped (ACS-3, native command queuing; profile)
+-- how many commands the device lets a drive hold at once: its eligible ranged tasks, 32 at most, and none while it is down or stopped
+-- (ACS-3, native command queuing; profile)
 abbrev pub depth : Device → ℕ
 depth s = if s.down || not s.started then 0 else min 32 (length (filter is_ranged (eligibles s.tasks)))
 

@@ -6,6 +6,7 @@ use Rattle.std.specs.List.{list_any, AllByRecursion, remove, position_from}
 use Rattle.std.specs.Int.Bits.{and_zero_l}
 use Rattle.std.specs.Int.{bit_at, bit_not, w64}
 use Rattle.std.proofs.lemmas.Nat.Bits.{bit_at_set_same, bit_at_set_other}
+use Rattle.satl_base.proofs.ListsLemmas.{All-weaken}
 use Rattle.satl_base.specs.declared.block.Block.{Block}
 use Rattle.std.proofs.Math.ListN.{length-set, get_or-map}
 use Rattle.std.proofs.Math.Seq.{take-suc}
@@ -15,7 +16,7 @@ use Rattle.std.proofs.lemmas.List.{get_or-set_same, get_or-set_other, length-app
 use Rattle.satl_line.specs.declared.entry.Entry.{Entry}
 use Rattle.satl_line.specs.Conflict.{access_of, accesses_conflict, conflicts}
 use Rattle.satl_line.specs.Eligible.{eligible_at, is_clear_by}
-use Rattle.satl_line.specs.Tasks.{AreMasks, is_barred_from, entries_of, Held, count_of, slots_of, total_blocks, entry_at, Adds, with_body, change_at}
+use Rattle.satl_line.specs.Tasks.{AreOwnSlots, AreMasks, is_barred_from, entries_of, Held, count_of, slots_of, total_blocks, entry_at, Adds, with_body, change_at}
 use Rattle.satl_line.specs.Layout.{Mark, mark_of, is_marked, IsMask, HaveMasks, IsMasked, clear_bit, cleared, entry_or, held_in, tasks_in, IsFilled, IsSound, is_unbarred_at}
 use Rattle.satl_line.proofs.MasksLemmas.{bit, HasNot, AreSmall, is_struck, zero_mask, are_removed, are_added, get_or-cleared, mask_more_yes, mask_more_no}
 
@@ -542,6 +543,27 @@ slot_alone slots order free masks blocks tasks place seen sound is lt same =
     let one : count_of (get_or order place 0) order ≡ 1 = omega arith in
     subst (λ l. (get_or l place 0 < 64) × (count_of (get_or l place 0) (slots_of tasks) ≡ 1)) (sym same)
     (filled.0, ap (count_of (get_or order place 0)) (sym (sym (slots_of_tasks slots order) ∙ ap slots_of is)) ∙ one)
+
+-- a slot that none of these has
+not_in : (slots : List (Option Entry)) (s : ℕ) (order : List ℕ) → count_of s order ≡ 0 → AllByRecursion (λ (other : Held). (s == other.slot) ≡ false) (tasks_in slots order)
+not_in slots s [] h = tt
+not_in slots s (q ∷ qs) h =
+    let out = head_out s q (count_of s qs) h in
+    (eqb-differs s q (λ e. eqb-false q s out.0 (sym e)), not_in slots s qs out.1)
+
+-- the slots of all tasks differ
+pub own_slots : (slots : List (Option Entry)) (order : List ℕ) → AllByRecursion (λ s. count_of s order ≤ 1) order → AreOwnSlots (tasks_in slots order)
+own_slots slots [] once = tt
+own_slots slots (q ∷ qs) once =
+    let one : count_of q (q ∷ qs) ≡ 1 + count_of q qs = rw (eq-eqb q q refl) (omega arith) in
+    (not_in slots q qs (omega (arith, one, once.0)), own_slots slots qs (All-weaken (λ s. count_of s (q ∷ qs) ≤ 1) (λ s. count_of s qs ≤ 1) (λ s few. fewer s (q == s) few) qs once.1))
+  where
+    fewer : (s : ℕ) (b : Bool) → (if q == s then 1 else 0) + count_of s qs ≤ 1 → count_of s qs ≤ 1
+    fewer s b few = omega (arith, few)
+
+pub own_of : (slots : List (Option Entry)) (order free masks : List ℕ) (blocks : ℕ) (tasks : List Held) → IsSound slots order free masks blocks → tasks_in slots order ≡ tasks → AreOwnSlots tasks
+own_of slots order free masks blocks tasks sound is =
+    subst AreOwnSlots is (own_slots slots order (All-weaken (IsFilled slots) (λ s. count_of s order ≤ 1) (λ s filled. omega (arith, sound.once s filled.0)) order sound.filled))
 
 -- ---- the masks of the tasks, place by place
 

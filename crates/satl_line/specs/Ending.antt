@@ -1,5 +1,5 @@
 -- How a ranged task ends on the medium.
-use Rattle.std.specs.Prelude.{◌≡◌, ℕ, ◌+◌, Bool, List, [], Option, Some, None}
+use Rattle.std.specs.Prelude.{◌≡◌, ℕ, ◌+◌, Bool, true, List, [], Option, Some, None}
 use Rattle.satl_base.specs.declared.block.Block.{Block}
 use Rattle.satl_base.specs.declared.bench.Which.TheVariants.{Read, Write}
 use Rattle.satl_base.specs.Cells.{Cell, Part, first_flaw, nows, whole}
@@ -11,6 +11,12 @@ pub data Outcome : Type 0 where
   ends_done : List Block → Outcome
   ends_flawed : ℕ → Outcome
   ends_glitched : Outcome
+
+-- whether the drive is active once a task has ended: one that is done makes it so (ACS-3, power modes)
+abbrev pub active_after : Outcome → Bool → Bool
+active_after (ends_done blocks) active = true
+active_after (ends_flawed lba) active = active
+active_after ends_glitched active = active
 
 -- the lowest address of its range with a flaw of its kind; a trim meets none (ACS-3, UNC; profile)
 abbrev pub flaw_met : List Cell → RangedTask → Option ℕ

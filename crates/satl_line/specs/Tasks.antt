@@ -1,8 +1,8 @@
 -- The tasks of a set, each in its slot.
-use Rattle.std.specs.Prelude.{◌≡◌, ℕ, zero, suc, ◌+◌, ◌<◌, ◌==◌, Bool, ◌&&◌, ◌||◌, if◌then◌else◌, nat_lt, List, [], ◌∷◌, ◌++◌, map, take, length, slice_get, slice_index, Option, Some}
+use Rattle.std.specs.Prelude.{◌≡◌, ℕ, zero, suc, ◌+◌, ◌<◌, ◌==◌, Bool, false, ◌&&◌, ◌||◌, if◌then◌else◌, nat_lt, List, [], ◌∷◌, ◌++◌, map, take, length, slice_get, slice_index, Option, Some}
 use Rattle.std.specs.Int.{bit_at}
 use Rattle.std.specs.Option.{option_map}
-use Rattle.std.specs.List.{list_any}
+use Rattle.std.specs.List.{AllByRecursion, list_any}
 use Rattle.satl_base.specs.declared.block.Block.{Block}
 use Rattle.satl_base.specs.declared.request.Tag.{Tag}
 use Rattle.satl_base.specs.Limits.{most_held, most_tasks}
@@ -23,6 +23,11 @@ entries_of tasks = map (λ held. held.entry) tasks
 -- the slots of the tasks, in order of arrival (profile)
 abbrev pub slots_of : List Held → List ℕ
 slots_of tasks = map (λ held. held.slot) tasks
+
+-- no two tasks lie in one slot (profile)
+abbrev pub AreOwnSlots : List Held → Type 0
+AreOwnSlots [] = Unit {0}
+AreOwnSlots (held ∷ rest) = AllByRecursion (λ (other : Held). (held.slot == other.slot) ≡ false) rest × AreOwnSlots rest
 
 -- how many of these numbers are n (profile, of slots)
 abbrev pub count_of : ℕ → List ℕ → ℕ

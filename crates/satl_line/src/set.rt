@@ -5,7 +5,7 @@ ghost use Rattle.std.specs.Option.{option_copied, option_map};
 ghost use Rattle.std.specs.List.{AllByRecursion, position_from};
 ghost use Rattle.satl_line.specs.Conflict.{access_of};
 ghost use Rattle.satl_line.specs.Eligible.{eligible_at};
-ghost use Rattle.satl_line.specs.Tasks.{Adds, AreMasks, IsReady, change_at, count_of, entries_of, entry_at, is_named, is_too_much, slots_of, total_blocks, with_body};
+ghost use Rattle.satl_line.specs.Tasks.{Adds, AreMasks, AreOwnSlots, IsReady, change_at, count_of, entries_of, entry_at, is_named, is_too_much, slots_of, total_blocks, with_body};
 ghost use Rattle.satl_line.specs.Layout.{IsFilled, IsMask, cleared, entry_or, held_in, is_unbarred_at, mark_of, tasks_in};
 
 use crate::conflict::conflict;
@@ -62,11 +62,12 @@ impl TaskSet {
         })
     }
 
-    /// How many tasks are held: at most 64, which hold room for at most 32,768 blocks (profile).
+    /// How many tasks are held: at most 64, each in a slot of its own, which hold room for at most 32,768 blocks (profile).
     pub fn len(&self) -> usize
         ensures value { result ≡ length self.now }
         ensures few { length self.now ≤ 64 }
         ensures blocks { total_blocks self.now ≤ 32768 }
+        ensures own { AreOwnSlots self.now }
     {
         self.order.len()
     }

@@ -1,0 +1,313 @@
+-- What issuing, resetting and a lost link do to the tie.
+use Rattle.std.proofs.Common.{◌≡◌, ◌⊎◌, refl, sym, ◌∙◌, ap, subst, inl, inr, ⊎_elim, ℕ, zero, suc, ◌+◌, ◌≤◌, ◌<◌, ◌^◌, Bool, true, false, cond, List, [], ◌∷◌, ◌++◌, Option, Some, None, arith, length, length-append, append_assoc}
+use Rattle.std.specs.Prelude.{◌==◌, ◌||◌, map, max, min, slice_get, MatchOption}
+use Rattle.std.specs.List.{AllByRecursion, AllZip, find, list_any}
+use Rattle.std.proofs.Math.Nat.{le-max_left, le-max_right}
+use Rattle.satl_base.specs.declared.block.Block.{Block}
+use Rattle.satl_base.specs.Cells.{Cell, Pair, Part}
+use Rattle.satl_base.specs.Moves.{Moves}
+use Rattle.satl_base.specs.Moves.{stay}
+use Rattle.satl_base.proofs.ListsLemmas.{All-find, All-push_end}
+use Rattle.satl_base.proofs.MovesLemmas.{moves_on, moves_of_part, lose_once}
+use Rattle.satl_io.specs.Causes.{Rose}
+use Rattle.satl_regs.specs.declared.values.Registers.{Registers}
+use Rattle.satl_regs.specs.declared.values.Queued.{Queued}
+use Rattle.satl_regs.specs.QueuedCommands.{QueuedFits, queued_registers}
+use Rattle.satl_regs.specs.Commands.{command_in}
+use Rattle.satl_regs.specs.declared.values.AtaCommand.{AtaCommand}
+use Rattle.satl_regs.specs.declared.values.AtaCommand.TheVariants.{ReadLog}
+use Rattle.satl_base.specs.declared.block.Range.{Range}
+use Rattle.satl_base.specs.Identify.{has_cache, has_look}
+use Rattle.satl_cdb.specs.declared.command.Command.{Command}
+use Rattle.satl_cdb.specs.declared.command.Command.TheVariants as commands
+use Rattle.satl_errlog.specs.declared.entry.NcqError.{NcqError}
+use Rattle.satl_regs.specs.Effects.{IsTelling, pairs_of}
+use Rattle.satl_line.specs.declared.entry.Entry.{Entry}
+use Rattle.satl_line.specs.declared.entry.Kind.{Kind}
+use Rattle.satl_line.specs.declared.entry.Kind.TheVariants.{Ranged, Barrier}
+use Rattle.satl_line.specs.Eligible.{IsEligibleBy}
+use Rattle.satl_line.specs.Ranged.{MayPut, RangedTask, ranged_by, ranged_of, written_pairs}
+use Rattle.satl_line.specs.Ranged.RangedTask.{ranged_read, ranged_write, ranged_trim}
+use Rattle.satl_line.specs.Tasks.{Held, entries_of}
+use Rattle.satl_drive.specs.State.{DriveState, Outstanding, medium_of}
+use Rattle.satl_drive.specs.Queue.{CanIssue, CanPoll, FailsAtFlaw, FailsByCrc, HasBlocks, HasPages, IsFailed, IsIssueCutOff, IsIssued, IsPollCutOff, IsReset, IsResetCutOff, LiesWithin, Slots, all_pairs, is_tagged, issued, issued_blocks, queued_flaw, queued_pairs}
+use Rattle.satl_drive.specs.Rules.{IsCutOff, IsRunCutOff, MaySet}
+use Rattle.satl_pages.specs.Slots.{pages_at}
+use Rattle.satl_flight.specs.declared.flight.Flying.{Flying}
+use Rattle.satl_flight.specs.Flown.{AreApart, FitsDrive, IsFlown, IsInFlight, RangedFits, blocks_for, clash, holds, is_in_slot, outstanding_for, queued_for}
+use Rattle.satl_flight.specs.Settled.{Deepens, IsCut, IsLaunched, IsLostInFlight, IsLostQuietly}
+use Rattle.satl_line.proofs.SlotsLemmas.{All-append}
+use Rattle.satl_flight.proofs.ZipLemmas.{zip-any, zip-none, zip-push, zip-right}
+use Rattle.satl_flight.proofs.FlownLemmas.{all_may_put, apart_push, flown_puts, moves_of_each}
+use Rattle.satl_flight.proofs.SettledLemmas.{deepens_shorter, tags_agree}
+
+-- ---- the deepest queue
+
+pub deepens_same : (d : DriveState) → Deepens d d
+deepens_same d = record { rises = omega arith; covers = λ h. h }
+
+pub deepens_on : (a b c : DriveState) → Deepens a b → Deepens b c → Deepens a c
+deepens_on a b c d e = record { rises = omega (arith, d.rises, e.rises); covers = λ h. e.covers (d.covers h) }
+
+deepens_issued : (old new : DriveState) → length new.outstanding ≡ length old.outstanding + 1 → new.deepest ≡ max old.deepest (length old.outstanding + 1) → Deepens old new
+deepens_issued old new longer is = record {
+  rises = omega (arith, is, le-max_left old.deepest (length old.outstanding + 1));
+  covers = λ h. omega (arith, is, longer, le-max_right old.deepest (length old.outstanding + 1));
+}
+
+deepens_emptied : (old new : DriveState) → new.deepest ≡ old.deepest → new.outstanding ≡ [] → Deepens old new
+deepens_emptied old new is none = deepens_shorter old new is (omega (arith, ap length none))
+
+-- ---- issuing
+
+-- a write's blocks are its pages
+abbrev pub Follows : List Block → RangedTask → Type 0
+Follows body (ranged_read fua range) = Unit {0}
+Follows body (ranged_write fua range blocks) = body ≡ blocks
+Follows body (ranged_trim ranges) = Unit {0}
+
+-- the kind's pages: as many as sectors, with the blocks that it is issued with
+issued_is : (tag capacity : ℕ) (body : List Block) (task : RangedTask) → RangedFits capacity body task → Follows body task → issued (queued_for tag task) body ≡ outstanding_for tag task
+issued_is tag capacity body (ranged_read fua range) fits of = refl
+issued_is tag capacity body (ranged_write fua range blocks) fits of = ap (λ b. record { command = queued_for tag (ranged_write fua range blocks); blocks = b }) of
+issued_is tag capacity body (ranged_trim ranges) fits of = ap (λ b. record { command = queued_for tag (ranged_trim ranges); blocks = b }) fits.0
+
+pub size_is : (tag capacity : ℕ) (body : List Block) (task : RangedTask) → RangedFits capacity body task → length body ≡ (queued_for tag task).sectors
+size_is tag capacity body (ranged_read fua range) fits = fits.0
+size_is tag capacity body (ranged_write fua range blocks) fits = fits.0
+size_is tag capacity body (ranged_trim ranges) fits = ap length fits.0
+
+lies_within : (tag capacity : ℕ) (body : List Block) (task : RangedTask) → RangedFits capacity body task → LiesWithin (queued_for tag task).kind capacity (queued_for tag task) body
+lies_within tag capacity body (ranged_read fua range) fits = fits.1.within
+lies_within tag capacity body (ranged_write fua range blocks) fits = fits.1.within
+lies_within tag capacity body (ranged_trim ranges) fits = fits.2
+
+pub queued_fits : (tag capacity : ℕ) (body : List Block) (task : RangedTask) → tag < 32 → RangedFits capacity body task → QueuedFits (queued_for tag task)
+queued_fits tag capacity body (ranged_read fua range) small fits = record { lba = fits.1.lba; some = fits.1.some; sectors = omega (arith, fits.1.few); tag = small; kind = tt }
+queued_fits tag capacity body (ranged_write fua range blocks) small fits = record { lba = fits.1.lba; some = fits.1.some; sectors = omega (arith, fits.1.few); tag = small; kind = tt }
+queued_fits tag capacity body (ranged_trim ranges) small fits = record { lba = omega arith; some = omega arith; sectors = omega arith; tag = small; kind = (refl, refl, refl) }
+
+module _ (flying : List Flying) (tasks : List Held) (old : DriveState) (tie : IsInFlight flying tasks old) where
+  pub tag_free : (tag : ℕ) → list_any (λ (f : Flying). f.tag == tag) flying ≡ false → list_any (is_tagged tag) old.outstanding ≡ false
+  tag_free tag free = sym (zip-any (IsFlown tasks) (λ (f : Flying). f.tag == tag) (is_tagged tag) (tags_agree tasks tag) flying old.outstanding tie.each) ∙ free
+
+  pub can_issue : (tag : ℕ) (held : Held) (task : RangedTask) (slots : Slots) → tag < 32 → list_any (λ (f : Flying). f.tag == tag) flying ≡ false → ranged_of held.entry ≡ Some task → FitsDrive old.capacity held → pages_at slots tag ≡ Some held.entry.body
+      → CanIssue old (queued_registers (queued_for tag task)) slots (queued_for tag task) held.entry.body
+  can_issue tag held task slots small free is fits filled = record {
+    spelled = refl;
+    fits = queued_fits tag old.capacity held.entry.body task small (fits task is);
+    free = subst (λ n. list_any (is_tagged n) old.outstanding ≡ false) (sym (tag_of tag task)) (tag_free tag free);
+    filled = subst (λ n. pages_at slots n ≡ Some held.entry.body) (sym (tag_of tag task)) filled;
+    size = size_is tag old.capacity held.entry.body task (fits task is);
+    within = lies_within tag old.capacity held.entry.body task (fits task is);
+    no_error = tie.no_error;
+  }
+    where
+      tag_of : (tag : ℕ) (task : RangedTask) → (queued_for tag task).tag ≡ tag
+      tag_of tag (ranged_read fua range) = refl
+      tag_of tag (ranged_write fua range blocks) = refl
+      tag_of tag (ranged_trim ranges) = refl
+
+-- ---- what a task's pages are to its command
+
+follows_by : (command : Command) (ranges : List Range) (body : List Block) (task : RangedTask) → ranged_by command ranges body ≡ Some task → Follows body task
+follows_by commands.TestUnitReady ranges body task h = absurd cc
+follows_by (commands.RequestSense descriptor alloc) ranges body task h = absurd cc
+follows_by (commands.Inquiry page alloc) ranges body task h = absurd cc
+follows_by (commands.ModeSense ten long_lba no_descriptor control page alloc) ranges body task h = absurd cc
+follows_by (commands.ModeSelect ten size) ranges body task h = absurd cc
+follows_by (commands.StartStop start no_flush) ranges body task h = absurd cc
+follows_by commands.ReadCapacity10 ranges body task h = absurd cc
+follows_by (commands.ReadCapacity16 alloc) ranges body task h = absurd cc
+follows_by (commands.ReportLuns select alloc) ranges body task h = absurd cc
+follows_by (commands.Read form lba count fua) ranges body task h = let is : ranged_read fua (record { lba = lba; count = count }) ≡ task = cc in subst (Follows body) is tt
+follows_by (commands.Write form lba count fua) ranges body task h = let is : ranged_write fua (record { lba = lba; count = count }) body ≡ task = cc in subst (Follows body) is refl
+follows_by (commands.Verify form lba count compare) ranges body task h = absurd cc
+follows_by (commands.Flush form lba count) ranges body task h = absurd cc
+follows_by (commands.WriteSame form lba count unmap) ranges body task h = absurd cc
+follows_by (commands.Unmap size) ranges body task h = let is : ranged_trim ranges ≡ task = cc in subst (Follows body) is tt
+follows_by (commands.Pass cdb) ranges body task h = absurd cc
+
+pub follows_of : (e : Entry) (task : RangedTask) → ranged_of e ≡ Some task → Follows e.body task
+follows_of e task h = go e.kind refl
+  where
+    go : (k : Kind) → e.kind ≡ k → Follows e.body task
+    go (Ranged write) is = follows_by e.command e.ranges.items e.body task (subst (λ k. ranged_of (record e { kind = k }) ≡ Some task) is h)
+    go Barrier is = let none : ranged_of (record e { kind = Barrier }) ≡ Some task = subst (λ k. ranged_of (record e { kind = k }) ≡ Some task) is h in absurd cc
+
+module _ (flying : List Flying) (tasks : List Held) (old : DriveState) (tie : IsInFlight flying tasks old) where
+  pub launched_one : (tag slot : ℕ) (held : Held) (task : RangedTask) (new : DriveState) → tag < 32 → find (is_in_slot slot) tasks ≡ Some held → IsEligibleBy clash tasks held → ranged_of held.entry ≡ Some task
+      → holds flying slot ≡ false → list_any (λ (f : Flying). f.tag == tag) flying ≡ false → length flying < 32 → IsIssued old (queued_for tag task) held.entry.body new
+      → IsLaunched flying old tasks (flying ++ record { tag = tag; slot = slot } ∷ []) new
+  launched_one tag slot held task new small found eligible is fresh free room done = record {
+    tie = record {
+      each = subst (λ qs. AllZip (IsFlown tasks) (flying ++ record { tag = tag; slot = slot } ∷ []) qs) (sym outstanding)
+          (zip-push (IsFlown tasks) flying old.outstanding (record { tag = tag; slot = slot }) (outstanding_for tag task) tie.each
+          (record { held = held; found = found; eligible = eligible; ranged = task; ranged_is = is; small = small; command = refl }));
+      apart = apart_push flying (record { tag = tag; slot = slot }) tie.apart fresh free;
+      few = omega (arith, length-append flying (record { tag = tag; slot = slot } ∷ []));
+      fits = subst (λ n. AllByRecursion (FitsDrive n) tasks) (sym capacity) tie.fits;
+      small = omega (arith, tie.small, capacity);
+      no_error = ap (λ (d : DriveState). d.error) done.stays ∙ tie.no_error;
+    };
+    rest = record { tag = tag; slot = slot } ∷ [];
+    more = refl;
+    moves = lose_once done.lost;
+    stays = done.stays ∙ ap (λ x. record old { cells = new.cells; outstanding = x; deepest = max old.deepest (length old.outstanding + 1) }) (sym raw)
+        ∙ ap (λ n. record old { cells = new.cells; outstanding = new.outstanding; deepest = n }) (sym deepest);
+    deep = deepens_issued old new (omega (arith, ap length raw, length-append old.outstanding (issued (queued_for tag task) held.entry.body ∷ []))) deepest;
+  }
+    where
+      each : RangedFits old.capacity held.entry.body task
+      each = All-find (FitsDrive old.capacity) (is_in_slot slot) tasks held tie.fits found task is
+
+      capacity : new.capacity ≡ old.capacity
+      capacity = ap (λ (d : DriveState). d.capacity) done.stays
+
+      deepest : new.deepest ≡ max old.deepest (length old.outstanding + 1)
+      deepest = ap (λ (d : DriveState). d.deepest) done.stays
+
+      raw : new.outstanding ≡ old.outstanding ++ issued (queued_for tag task) held.entry.body ∷ []
+      raw = ap (λ (d : DriveState). d.outstanding) done.stays
+
+      outstanding : new.outstanding ≡ old.outstanding ++ outstanding_for tag task ∷ []
+      outstanding = raw ∙ ap (λ o. old.outstanding ++ o ∷ []) (issued_is tag old.capacity held.entry.body task each (follows_of held.entry task is))
+
+  -- the link is lost while these were under way
+  cut_moves : (pairs : List Pair) (new : DriveState) → AllByRecursion (MayPut old.cache (entries_of tasks)) pairs → IsCutOff old pairs new → Moves (MayPut old.cache (entries_of tasks)) old.cells new.cells
+  cut_moves pairs new all cut = moves_on (moves_of_part (MayPut old.cache (entries_of tasks)) pairs old.cells cut.mid all cut.part) (lose_once cut.lost)
+
+  abbrev all_of : List Outstanding → Type 0
+  all_of qs = AllByRecursion (λ q. AllByRecursion (MayPut old.cache (entries_of tasks)) (queued_pairs old.cache q)) qs
+
+  flat : (qs : List Outstanding) → all_of qs → AllByRecursion (MayPut old.cache (entries_of tasks)) (all_pairs old.cache qs)
+  flat [] all = tt
+  flat (q ∷ qs) all = All-append (MayPut old.cache (entries_of tasks)) (queued_pairs old.cache q) (all_pairs old.cache qs) all.0 (flat qs all.1)
+
+  quiet_cut : (pairs : List Pair) (new : DriveState) → AllByRecursion (MayPut old.cache (entries_of tasks)) pairs → IsCutOff old pairs new → new.active ≡ old.active → IsLostQuietly tasks old new
+  quiet_cut pairs new all cut active = record {
+    moves = cut_moves pairs new all cut;
+    rose = cut.rose;
+    stays = cut.stays ∙ ap (λ a. record old { cells = new.cells; outstanding = []; error = None; active = a; down = true; faults = new.faults }) active
+        ∙ ap (λ n. record old { cells = new.cells; outstanding = []; error = None; down = true; faults = new.faults; deepest = n }) (sym (ap (λ (d : DriveState). d.deepest) cut.stays));
+    deep = deepens_emptied old new (ap (λ (d : DriveState). d.deepest) cut.stays) (ap (λ (d : DriveState). d.outstanding) cut.stays);
+  }
+
+  pub lost_issue : (tag slot : ℕ) (held : Held) (task : RangedTask) (new : DriveState) → tag < 32 → find (is_in_slot slot) tasks ≡ Some held → IsEligibleBy clash tasks held → ranged_of held.entry ≡ Some task
+      → IsIssueCutOff old (queued_for tag task) held.entry.body new → IsLostQuietly tasks old new
+  lost_issue tag slot held task new small found eligible is cut =
+      let fits = All-find (FitsDrive old.capacity) (is_in_slot slot) tasks held tie.fits found task is in
+      let one = flown_puts old.cache old.capacity tasks (record { tag = tag; slot = slot }) (outstanding_for tag task) tie.fits (record { held = held; found = found; eligible = eligible; ranged = task; ranged_is = is; small = small; command = refl }) in
+      let this = subst (λ o. AllByRecursion (MayPut old.cache (entries_of tasks)) (queued_pairs old.cache o)) (sym (issued_is tag old.capacity held.entry.body task fits (follows_of held.entry task is))) one in
+      quiet_cut (all_pairs old.cache (old.outstanding ++ issued (queued_for tag task) held.entry.body ∷ [])) new
+      (flat (old.outstanding ++ issued (queued_for tag task) held.entry.body ∷ []) (All-push_end (λ q. AllByRecursion (MayPut old.cache (entries_of tasks)) (queued_pairs old.cache q)) old.outstanding (issued (queued_for tag task) held.entry.body) (all_may_put old.cache flying tasks old tie) this))
+      cut.0 cut.1
+
+  pub lost_reset : (new : DriveState) → IsResetCutOff old new → IsLostQuietly tasks old new
+  lost_reset new cut = quiet_cut (all_pairs old.cache old.outstanding) new (flat old.outstanding (all_may_put old.cache flying tasks old tie)) cut.0 cut.1
+
+  pub lost_poll : (slots taken : Slots) (new : DriveState) → IsPollCutOff old slots taken new → IsLostInFlight tasks old new
+  lost_poll slots taken new lost = record {
+    moves = cut_moves (all_pairs old.cache old.outstanding) new (flat old.outstanding (all_may_put old.cache flying tasks old tie)) lost.cut;
+    glitches = inl glitches;
+    rose = lost.cut.rose;
+    settings = inr (cache, look, identify);
+    stays = lost.cut.stays
+        ∙ ap (λ c. record old { cells = new.cells; outstanding = []; error = None; cache = c; active = new.active; down = true; faults = new.faults }) (sym cache)
+        ∙ ap (λ l. record old { cells = new.cells; outstanding = []; error = None; cache = new.cache; look = l; active = new.active; down = true; faults = new.faults }) (sym look)
+        ∙ ap (λ n. record old { cells = new.cells; outstanding = []; error = None; cache = new.cache; look = new.look; active = new.active; glitches = n; down = true; faults = new.faults }) (sym glitches)
+        ∙ ap (λ i. record old { cells = new.cells; outstanding = []; error = None; cache = new.cache; look = new.look; active = new.active; glitches = new.glitches; down = true; identify = i; faults = new.faults }) (sym identify);
+    deep = deepens_emptied old new (ap (λ (d : DriveState). d.deepest) lost.cut.stays) (ap (λ (d : DriveState). d.outstanding) lost.cut.stays);
+  }
+    where
+      glitches : new.glitches ≡ old.glitches
+      glitches = ap (λ (d : DriveState). d.glitches) lost.cut.stays
+
+      cache : new.cache ≡ old.cache
+      cache = ap (λ (d : DriveState). d.cache) lost.cut.stays
+
+      look : new.look ≡ old.look
+      look = ap (λ (d : DriveState). d.look) lost.cut.stays
+
+      identify : new.identify ≡ old.identify
+      identify = ap (λ (d : DriveState). d.identify) lost.cut.stays
+
+  -- the drive was reset
+  pub cut_all : (new : DriveState) → IsReset old new → IsCut tasks old new
+  cut_all new reset = record {
+    tie = record {
+      each = subst (λ qs. AllZip (IsFlown tasks) [] qs) (sym outstanding) tt;
+      apart = tt;
+      few = omega arith;
+      fits = subst (λ n. AllByRecursion (FitsDrive n) tasks) (sym capacity) tie.fits;
+      small = omega (arith, tie.small, capacity);
+      no_error = ap (λ (d : DriveState). d.error) reset.stays;
+    };
+    moves = moves_on (moves_of_each (MayPut old.cache (entries_of tasks)) old.cache old.outstanding old.cells reset.mid (all_may_put old.cache flying tasks old tie) reset.part) (lose_once reset.lost);
+    stays = reset.stays;
+    deep = deepens_emptied old new (ap (λ (d : DriveState). d.deepest) reset.stays) outstanding;
+  }
+    where
+      outstanding : new.outstanding ≡ []
+      outstanding = ap (λ (d : DriveState). d.outstanding) reset.stays
+
+      capacity : new.capacity ≡ old.capacity
+      capacity = ap (λ (d : DriveState). d.capacity) reset.stays
+
+  -- the link is lost while the error log is read
+  pub lost_log : (slots taken : Slots) (mid new : DriveState) (r : Registers) (given : List Block) → IsFailed old slots taken mid → command_in r ≡ ReadLog 0x10 0 1 → IsRunCutOff mid r given new → IsLostInFlight tasks old new
+  lost_log slots taken mid new r given failed reads cut = record {
+    moves = moves_on (moves_of_each (MayPut old.cache (entries_of tasks)) old.cache old.outstanding old.cells failed.mid (all_may_put old.cache flying tasks old tie) failed.part)
+        (moves_on (lose_once failed.lost) (subst (λ c. Moves (MayPut old.cache (entries_of tasks)) c new.cells) nothing (lose_once cut.cut.lost)));
+    glitches = subst (λ n. (n ≡ old.glitches) ⊎ (n + 1 ≡ old.glitches)) (sym glitches) (by_cause (queued_flaw old.cells failed.failed.command) failed.failed.command failed.entry failed.cause);
+    rose = subst (λ n. Rose n new.faults) (ap (λ (d : DriveState). d.faults) failed.stays) cut.cut.rose;
+    settings = inl (record {
+      cache = λ on. ap has_cache (sym identify) ∙ cut.settings.cache on;
+      look = λ on. ap has_look (sym identify) ∙ cut.settings.look on;
+      tells = subst (λ i. IsTelling new.cache new.look i new.identify) identify cut.settings.tells;
+    });
+    stays = after ∙ ap (λ (d : DriveState). record d { cells = new.cells; outstanding = []; error = None; cache = new.cache; look = new.look; active = new.active; down = true; identify = new.identify; faults = new.faults }) failed.stays
+        ∙ ap (λ n. record old { cells = new.cells; outstanding = []; error = None; cache = new.cache; look = new.look; active = new.active; glitches = n; down = true; identify = new.identify; faults = new.faults }) (sym glitches);
+    deep = deepens_emptied old new (ap (λ (d : DriveState). d.deepest) after ∙ ap (λ (d : DriveState). d.deepest) failed.stays) (ap (λ (d : DriveState). d.outstanding) after);
+  }
+    where
+      -- the new drive, with what the command may have set
+      after : new ≡ record mid { cells = new.cells; outstanding = []; error = None; cache = new.cache; look = new.look; active = new.active; down = true; identify = new.identify; faults = new.faults }
+      after = ap (λ (d : DriveState). record d { cache = new.cache; look = new.look; identify = new.identify }) cut.cut.stays
+
+      glitches : new.glitches ≡ mid.glitches
+      glitches = ap (λ (d : DriveState). d.glitches) after
+
+      identify : mid.identify ≡ old.identify
+      identify = ap (λ (d : DriveState). d.identify) failed.stays
+
+      nothing : cut.cut.mid ≡ mid.cells
+      nothing = subst (λ c. Part mid.cells (pairs_of c (medium_of mid) given) cut.cut.mid) reads cut.cut.part
+
+      by_cause : (o : Option ℕ) (q : Queued) (e : NcqError) → MatchOption o (FailsByCrc q old.glitches mid.glitches e) (λ lba. FailsAtFlaw q lba old.glitches mid.glitches e) → (mid.glitches ≡ old.glitches) ⊎ (mid.glitches + 1 ≡ old.glitches)
+      by_cause None q e c = inr c.one_glitch
+      by_cause (Some lba) q e c = inl c.glitches_stay
+
+-- ---- one launch after another
+
+module _ (tasks : List Held) (first_flying : List Flying) (first : DriveState) (mid_flying : List Flying) (mid : DriveState) (so_far : IsLaunched first_flying first tasks mid_flying mid) where
+  same_cache : mid.cache ≡ first.cache
+  same_cache = ap (λ (d : DriveState). d.cache) so_far.stays
+
+  pub launched_on : (flying : List Flying) (new : DriveState) → IsLaunched mid_flying mid tasks flying new → IsLaunched first_flying first tasks flying new
+  launched_on flying new step = record {
+    tie = step.tie;
+    rest = so_far.rest ++ step.rest;
+    more = step.more ∙ ap (λ fs. fs ++ step.rest) so_far.more ∙ append_assoc first_flying so_far.rest step.rest;
+    moves = moves_on so_far.moves (subst (λ c. Moves (MayPut c (entries_of tasks)) mid.cells new.cells) same_cache step.moves);
+    stays = step.stays ∙ ap (λ (d : DriveState). record d { cells = new.cells; outstanding = new.outstanding; deepest = new.deepest }) so_far.stays;
+    deep = deepens_on first mid new so_far.deep step.deep;
+  }
+
+  pub lost_on : (new : DriveState) → IsLostQuietly tasks mid new → IsLostQuietly tasks first new
+  lost_on new lost = record {
+    moves = moves_on so_far.moves (subst (λ c. Moves (MayPut c (entries_of tasks)) mid.cells new.cells) same_cache lost.moves);
+    rose = subst (λ n. Rose n new.faults) (ap (λ (d : DriveState). d.faults) so_far.stays) lost.rose;
+    stays = lost.stays ∙ ap (λ (d : DriveState). record d { cells = new.cells; outstanding = []; error = None; down = true; faults = new.faults; deepest = new.deepest }) so_far.stays;
+    deep = deepens_on first mid new so_far.deep lost.deep;
+  }

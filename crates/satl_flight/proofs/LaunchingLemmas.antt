@@ -1,0 +1,223 @@
+-- Issuing, as the code does it.
+use Rattle.std.proofs.Common.{◌≡◌, ◌⊎◌, refl, sym, ◌∙◌, ap, subst, inl, inr, ⊎_elim, ℕ, zero, suc, ◌+◌, ◌≤◌, ◌<◌, Bool, true, false, cond, List, [], ◌∷◌, ◌++◌, Option, Some, None, arith, length, length-append, eqb-true, eq-eqb}
+use Rattle.std.specs.Prelude.{◌==◌, ◌||◌, map, slice_get, slice_set, take, unwrap_or}
+use Rattle.std.specs.Option.{option_and_then, option_map}
+use Rattle.std.specs.List.{AllByRecursion, find, list_any}
+use Rattle.std.proofs.lemmas.Bool.{cases_eq}
+use Rattle.satl_base.specs.declared.block.Block.{Block}
+use Rattle.satl_base.specs.Cells.{Cell}
+use Rattle.satl_base.specs.Moves.{stay}
+use Rattle.satl_base.proofs.ListsLemmas.{All-find}
+use Rattle.satl_regs.specs.declared.values.Registers.{Registers}
+use Rattle.satl_regs.specs.declared.values.Queued.{Queued}
+use Rattle.satl_regs.specs.QueuedCommands.{QueuedFits, queued_registers}
+use Rattle.satl_line.specs.declared.entry.Entry.{Entry}
+use Rattle.satl_line.specs.Conflict.{conflicts}
+use Rattle.satl_line.specs.Eligible.{IsEligibleBy, eligible_at, eligible_by, is_clear_by}
+use Rattle.satl_line.specs.Ranged.{RangedTask, ranged_of}
+use Rattle.satl_line.specs.Ranged.RangedTask.{ranged_read, ranged_write, ranged_trim}
+use Rattle.satl_line.specs.Tasks.{Held, change_at, count_of, entries_of, entry_at, slots_of, with_body}
+use Rattle.satl_line.proofs.EligibleLemmas.{eligible_by-formed, eligible_passes, eligible_stands}
+use Rattle.satl_drive.specs.State.{DriveState}
+use Rattle.satl_drive.specs.Queue.{CanIssue, IsIssueCutOff, IsIssued, Slots}
+use Rattle.satl_pages.specs.Slots.{pages_at}
+use Rattle.satl_flight.specs.declared.flight.Flying.{Flying}
+use Rattle.satl_flight.specs.Flown.{FitsDrive, IsInFlight, clash, holds, is_in_slot, queued_for}
+use Rattle.satl_flight.specs.Lending.{IsLending, has_tag, is_of_slot, lent, whole_task, whole_tasks}
+use Rattle.satl_flight.specs.Settled.{IsCovered, IsFilled, IsLaunched, IsLostQuietly}
+use Rattle.satl_flight.proofs.LendingLemmas.{at_found, find-none, get-set, lend_lending, lend_same, whole_get, whole-slots}
+use Rattle.satl_flight.proofs.LaunchedLemmas.{can_issue, deepens_same, launched_one, lost_issue, queued_fits}
+
+-- the task at a place, from what the set tells
+pub held_at : (tasks : List Held) (place slot : ℕ) (entry : Entry) → entry_at tasks place ≡ Some entry → slice_get (slots_of tasks) place ≡ Some slot → slice_get tasks place ≡ Some (record { slot = slot; entry = entry })
+held_at [] place slot entry e s = absurd cc
+held_at (k ∷ ks) zero slot entry e s = let one : k.entry ≡ entry = cc in let two : k.slot ≡ slot = cc in ap (λ x. Some (record { slot = k.slot; entry = x })) one ∙ ap (λ n. Some (record { slot = n; entry = entry })) two
+held_at (k ∷ ks) (suc place) slot entry e s = held_at ks place slot entry e s
+
+-- the same command under a tag
+pub retagged : (tag : ℕ) (task : RangedTask) → record (queued_for 0 task) { tag = tag } ≡ queued_for tag task
+retagged tag (ranged_read fua range) = refl
+retagged tag (ranged_write fua range blocks) = refl
+retagged tag (ranged_trim ranges) = refl
+
+-- what was told of a task is that of one that is ranged
+pub the_task : (o : Option RangedTask) (q : Queued) → option_map (queued_for 0) o ≡ Some q → (task : RangedTask) × ((o ≡ Some task) × (q ≡ queued_for 0 task))
+the_task None q h = absurd cc
+the_task (Some task) q h = (task, (refl, cc))
+
+pub no_task : (o : Option RangedTask) → option_map (queued_for 0) o ≡ None → o ≡ None
+no_task None h = refl
+no_task (Some task) h = absurd cc
+
+-- the test at a place, for the tasks with their pages
+pub same_test : (flying : List Flying) (slots : Slots) (tasks : List Held) (place : ℕ) → eligible_by clash (whole_tasks flying slots tasks) place ≡ eligible_at (entries_of tasks) place
+same_test flying slots tasks place =
+    eligible_by-formed clash clash (whole_task flying slots) (λ a b. refl) tasks place
+    ∙ sym (eligible_by-formed clash conflicts (λ (h : Held). h.entry) (λ a b. refl) tasks place)
+
+pub length-whole : (flying : List Flying) (slots : Slots) (tasks : List Held) → length (whole_tasks flying slots tasks) ≡ length tasks
+length-whole flying slots [] = refl
+length-whole flying slots (k ∷ ks) = ap suc (length-whole flying slots ks)
+
+pub launched_none : (flying : List Flying) (tasks : List Held) (old : DriveState) → IsInFlight flying tasks old → IsLaunched flying old tasks flying old
+launched_none flying tasks old tie = record { tie = tie; rest = []; more = append_nil flying; moves = stay; stays = refl; deep = deepens_same old }
+  where
+    append_nil : (xs : List Flying) → xs ≡ xs ++ []
+    append_nil [] = refl
+    append_nil (x ∷ xs) = ap (λ r. x ∷ r) (append_nil xs)
+
+module _ (flying : List Flying) (slots : Slots) (tasks : List Held) (lending : IsLending flying slots tasks) (old : DriveState) (tie : IsInFlight flying (whole_tasks flying slots tasks) old)
+    (place slot : ℕ) (entry : Entry) (is : entry_at tasks place ≡ Some entry) (in_slot : slice_get (slots_of tasks) place ≡ Some slot) (alone : count_of slot (slots_of tasks) ≡ 1) where
+  stands : slice_get tasks place ≡ Some (record { slot = slot; entry = entry })
+  stands = held_at tasks place slot entry is in_slot
+
+  -- a task that has lent nothing is whole
+  bare : holds flying slot ≡ false → whole_task flying slots (record { slot = slot; entry = entry }) ≡ record { slot = slot; entry = entry }
+  bare fresh = ap (λ o. with_body (unwrap_or (option_and_then (λ (f : Flying). pages_at slots f.tag) o) entry.body) (record { slot = slot; entry = entry })) (find-none (is_of_slot slot) flying fresh)
+
+  whole_stands : slice_get (whole_tasks flying slots tasks) place ≡ Some (whole_task flying slots (record { slot = slot; entry = entry }))
+  whole_stands = whole_get flying slots tasks place (record { slot = slot; entry = entry }) stands
+
+  its_slot : (h : Held) → slice_get (whole_tasks flying slots tasks) place ≡ Some h → h.slot ≡ slot
+  its_slot h at = let same : Some h ≡ Some (whole_task flying slots (record { slot = slot; entry = entry })) = sym at ∙ whole_stands in let one : h ≡ whole_task flying slots (record { slot = slot; entry = entry }) = cc in ap (λ (x : Held). x.slot) one
+
+  -- a barrier is not issued
+  pub covered_barrier : ranged_of entry ≡ None → IsCovered flying (whole_tasks flying slots tasks) place
+  covered_barrier none = inr (λ h task at passes ranged. ap (holds flying) (its_slot h at) ∙ go (holds flying slot) refl h task at ranged)
+    where
+      go : (b : Bool) → holds flying slot ≡ b → (h : Held) (task : RangedTask) → slice_get (whole_tasks flying slots tasks) place ≡ Some h → ranged_of h.entry ≡ Some task → holds flying slot ≡ true
+      go true held h task at ranged = held
+      go false fresh h task at ranged =
+          let same : Some h ≡ Some (record { slot = slot; entry = entry }) = sym at ∙ whole_stands ∙ ap Some (bare fresh) in
+          let one : h ≡ record { slot = slot; entry = entry } = cc in
+          let clash_of : Some task ≡ None = sym ranged ∙ ap (λ (x : Held). ranged_of x.entry) one ∙ none in absurd cc
+
+  -- one that may not be issued is outstanding, or not eligible, or no tag is free
+  pub covered_kept : (eligible_at (entries_of tasks) place ≡ true → holds flying slot ≡ false → length flying ≡ 32) → IsCovered flying (whole_tasks flying slots tasks) place
+  covered_kept otherwise = go (holds flying slot) refl (eligible_at (entries_of tasks) place) refl
+    where
+      go : (b : Bool) → holds flying slot ≡ b → (e : Bool) → eligible_at (entries_of tasks) place ≡ e → IsCovered flying (whole_tasks flying slots tasks) place
+      go true held e test = inr (λ h task at passes ranged. ap (holds flying) (its_slot h at) ∙ held)
+      go false fresh true test = inl (otherwise test fresh)
+      go false fresh false test = inr (λ h task at passes ranged. let no_pass : true ≡ false = sym passes ∙ same_test flying slots tasks place ∙ test in absurd cc)
+
+  -- one is issued
+  module _ (fresh : holds flying slot ≡ false) (passes : eligible_at (entries_of tasks) place ≡ true) (task : RangedTask) (ranged : ranged_of entry ≡ Some task) (tag : ℕ) (small : tag < 32) (free : list_any (has_tag tag) flying ≡ false) where
+    found : find (is_in_slot slot) (whole_tasks flying slots tasks) ≡ Some (record { slot = slot; entry = entry })
+    found = at_found (whole_tasks flying slots tasks) place (record { slot = slot; entry = entry }) (whole_stands ∙ ap Some (bare fresh)) (ap (count_of slot) (whole-slots flying slots tasks) ∙ alone)
+
+    eligible : IsEligibleBy clash (whole_tasks flying slots tasks) (record { slot = slot; entry = entry })
+    eligible = eligible_passes clash (whole_tasks flying slots tasks) place (record { slot = slot; entry = entry }) (whole_stands ∙ ap Some (bare fresh)) (same_test flying slots tasks place ∙ passes)
+
+    fits : FitsDrive old.capacity (record { slot = slot; entry = entry })
+    fits = All-find (FitsDrive old.capacity) (is_in_slot slot) (whole_tasks flying slots tasks) (record { slot = slot; entry = entry }) tie.fits found
+
+    pub queued_does : QueuedFits (queued_for tag task)
+    queued_does = queued_fits tag old.capacity entry.body task small (fits task ranged)
+
+    module _ (slots' : Slots) (tasks' : List Held) (pages : List Block) (taken : option_map (λ (e : Entry). e.body) (entry_at tasks place) ≡ Some pages) (slots_are : slots' ≡ slice_set slots tag (Some pages)) (tasks_are : tasks' ≡ change_at (with_body []) tasks place) where
+      body_is : pages ≡ entry.body
+      body_is = let same : Some pages ≡ Some entry.body = sym taken ∙ ap (option_map (λ (e : Entry). e.body)) is in cc
+
+      slots_is : slots' ≡ slice_set slots tag (Some entry.body)
+      slots_is = slots_are ∙ ap (λ p. slice_set slots tag (Some p)) body_is
+
+      pub can : (r : Registers) → r ≡ queued_registers (queued_for tag task) → CanIssue old r slots' (queued_for tag task) entry.body
+      can r spelled =
+          subst (λ x. CanIssue old x slots' (queued_for tag task) entry.body) (sym spelled)
+          (subst (λ x. CanIssue old (queued_registers (queued_for tag task)) x (queued_for tag task) entry.body) (sym slots_is)
+          (can_issue flying (whole_tasks flying slots tasks) old tie tag (record { slot = slot; entry = entry }) task (slice_set slots tag (Some entry.body)) small free ranged fits
+          (ap (λ o. option_and_then (λ s. s) o) (get-set slots tag None (Some entry.body) (lending.others tag small free)))))
+
+      pub lent_lending : (flown : List Flying) → flown ≡ flying ++ record { tag = tag; slot = slot } ∷ [] → IsLending flown slots' tasks'
+      lent_lending flown is_flown =
+          subst (λ x. IsLending x slots' tasks') (sym is_flown) (subst (λ x. IsLending (flying ++ record { tag = tag; slot = slot } ∷ []) x tasks') (sym slots_is) (subst (λ x. IsLending (flying ++ record { tag = tag; slot = slot } ∷ []) (slice_set slots tag (Some entry.body)) x) (sym tasks_are)
+          (lend_lending flying slots tasks lending place (record { slot = slot; entry = entry }) stands alone tag small fresh free)))
+
+      pub lent_same : (flown : List Flying) → flown ≡ flying ++ record { tag = tag; slot = slot } ∷ [] → whole_tasks flown slots' tasks' ≡ whole_tasks flying slots tasks
+      lent_same flown is_flown =
+          ap (λ x. whole_tasks x slots' tasks') is_flown ∙ ap (λ x. whole_tasks (flying ++ record { tag = tag; slot = slot } ∷ []) x tasks') slots_is ∙ ap (λ x. whole_tasks (flying ++ record { tag = tag; slot = slot } ∷ []) (slice_set slots tag (Some entry.body)) x) tasks_are
+          ∙ lend_same flying slots tasks lending place (record { slot = slot; entry = entry }) stands alone tag small fresh free
+
+    pub launched : (flown : List Flying) (new : DriveState) → length flying < 32 → flown ≡ flying ++ record { tag = tag; slot = slot } ∷ [] → IsIssued old (queued_for tag task) entry.body new → IsLaunched flying old (whole_tasks flying slots tasks) flown new
+    launched flown new room is_flown issued =
+        subst (λ fs. IsLaunched flying old (whole_tasks flying slots tasks) fs new) (sym is_flown)
+        (launched_one flying (whole_tasks flying slots tasks) old tie tag slot (record { slot = slot; entry = entry }) task new small found eligible ranged fresh free room issued)
+
+    pub lost : (new : DriveState) → IsIssueCutOff old (queued_for tag task) entry.body new → IsLostQuietly (whole_tasks flying slots tasks) old new
+    lost new cut = lost_issue flying (whole_tasks flying slots tasks) old tie tag slot (record { slot = slot; entry = entry }) task new small found eligible ranged cut
+
+  pub covered_new : (flown : List Flying) (tag : ℕ) → flown ≡ flying ++ record { tag = tag; slot = slot } ∷ [] → IsCovered flown (whole_tasks flying slots tasks) place
+  covered_new flown tag is_flown = inr (λ h task at passes ranged. ap (holds flown) (its_slot h at) ∙ ap (λ fs. holds fs slot) is_flown ∙ last flying)
+    where
+      last : (fs : List Flying) → holds (fs ++ record { tag = tag; slot = slot } ∷ []) slot ≡ true
+      last [] = ap (λ b. b || false) (eq-eqb slot slot refl)
+      last (f ∷ fs) = elim (f.slot == slot) as (λ b. (b || holds (fs ++ record { tag = tag; slot = slot } ∷ []) slot) ≡ true) [ true ↦ refl | false ↦ last fs ]
+
+-- ---- place after place
+
+holds_append : (fs more : List Flying) (slot : ℕ) → holds fs slot ≡ true → holds (fs ++ more) slot ≡ true
+holds_append [] more slot h = absurd cc
+holds_append (f ∷ fs) more slot h =
+    (elim (f.slot == slot) as (λ b. (b || holds fs slot) ≡ true → (b || holds (fs ++ more) slot) ≡ true)
+    [ true ↦ λ e. refl | false ↦ λ e. holds_append fs more slot e ]) h
+
+-- a place that is covered stays so
+pub covered_still : (tasks : List Held) (flying flown : List Flying) (old new : DriveState) (place : ℕ) → IsLaunched flying old tasks flown new → IsCovered flying tasks place → IsCovered flown tasks place
+covered_still tasks flying flown old new place step covered =
+    ⊎_elim
+    (λ full. inl (omega (arith, full, step.tie.few, ap length step.more, length-append flying step.rest)))
+    (λ each. inr (λ h task at passes ranged. ap (λ fs. holds fs h.slot) step.more ∙ holds_append flying step.rest h.slot (each h task at passes ranged)))
+    covered
+
+-- where each place is covered the queue is used
+pub filled : (flying : List Flying) (tasks : List Held) → ((k : ℕ) → k < length tasks → IsCovered flying tasks k) → IsFilled flying tasks
+filled flying tasks covered = go (cases_eq (length flying) 32)
+  where
+    within : (ts : List Held) (k : ℕ) (h : Held) → slice_get ts k ≡ Some h → k < length ts
+    within [] k h at = absurd cc
+    within (t ∷ ts) zero h at = omega arith
+    within (t ∷ ts) (suc k) h at = let r = within ts k h at in omega (arith, r)
+
+    go : (length flying ≡ 32) ⊎ (length flying ≡ 32 → ⊥) → IsFilled flying tasks
+    go (inl full) = inl full
+    go (inr room) = inr (λ h task e ranged. let r = eligible_stands clash tasks h e in ⊎_elim (λ full. absurd (room full)) (λ each. each h task r.1 r.2 ranged) (covered r.0 (within tasks r.0 h r.1)))
+
+-- ---- one more task
+
+get-front : (tasks : List Held) (h k : Held) (p : ℕ) → slice_get (tasks ++ h ∷ []) p ≡ Some k → (slice_get tasks p ≡ Some k) ⊎ (p ≡ length tasks)
+get-front [] h k zero at = inr refl
+get-front [] h k (suc p) at = absurd cc
+get-front (t ∷ ts) h k zero at = inl at
+get-front (t ∷ ts) h k (suc p) at = ⊎_elim inl (λ e. inr (ap suc e)) (get-front ts h k p at)
+
+take-front : (tasks : List Held) (h k : Held) (p : ℕ) → slice_get tasks p ≡ Some k → take p (tasks ++ h ∷ []) ≡ take p tasks
+take-front [] h k p at = absurd cc
+take-front (t ∷ ts) h k zero at = refl
+take-front (t ∷ ts) h k (suc p) at = ap (λ xs. t ∷ xs) (take-front ts h k p at)
+
+get-come : (tasks : List Held) (h k : Held) (p : ℕ) → slice_get tasks p ≡ Some k → slice_get (tasks ++ h ∷ []) p ≡ Some k
+get-come [] h k p at = absurd cc
+get-come (t ∷ ts) h k zero at = at
+get-come (t ∷ ts) h k (suc p) at = get-come ts h k p at
+
+-- where the queue was used, and the new task is covered, it is used
+pub filled_come : (flying flown : List Flying) (tasks : List Held) (h : Held) (old new : DriveState) → IsFilled flying tasks → IsLaunched flying old (tasks ++ h ∷ []) flown new → IsCovered flown (tasks ++ h ∷ []) (length tasks) → IsFilled flown (tasks ++ h ∷ [])
+filled_come flying flown tasks h old new was step covered =
+    ⊎_elim
+    (λ full. inl (omega (arith, full, step.tie.few, ap length step.more, length-append flying step.rest)))
+    (λ each. ⊎_elim inl (λ last. inr (λ k task e ranged. all each last k task ranged (eligible_stands clash (tasks ++ h ∷ []) k e))) covered)
+    was
+  where
+    all : ((k : Held) (task : RangedTask) → IsEligibleBy clash tasks k → ranged_of k.entry ≡ Some task → holds flying k.slot ≡ true)
+        → ((k : Held) (task : RangedTask) → slice_get (tasks ++ h ∷ []) (length tasks) ≡ Some k → eligible_by clash (tasks ++ h ∷ []) (length tasks) ≡ true → ranged_of k.entry ≡ Some task → holds flown k.slot ≡ true)
+        → (k : Held) (task : RangedTask) → ranged_of k.entry ≡ Some task → (p : ℕ) × (slice_get (tasks ++ h ∷ []) p ≡ Some k) × (eligible_by clash (tasks ++ h ∷ []) p ≡ true) → holds flown k.slot ≡ true
+    all each last k task ranged r =
+        ⊎_elim
+        (λ front.
+        let same : eligible_by clash (tasks ++ h ∷ []) r.0 ≡ eligible_by clash tasks r.0 =
+        ap (λ o. unwrap_or (option_map (is_clear_by clash (take r.0 (tasks ++ h ∷ []))) o) false) (get-come tasks h k r.0 front ∙ sym front)
+        ∙ ap (λ ts. unwrap_or (option_map (is_clear_by clash ts) (slice_get tasks r.0)) false) (take-front tasks h k r.0 front) in
+        ap (λ fs. holds fs k.slot) step.more ∙ holds_append flying step.rest k.slot (each k task (eligible_passes clash tasks r.0 k front (sym same ∙ r.2)) ranged))
+        (λ here. last k task (ap (slice_get (tasks ++ h ∷ [])) (sym here) ∙ r.1) (ap (eligible_by clash (tasks ++ h ∷ [])) (sym here) ∙ r.2) ranged)
+        (get-front tasks h k r.0 r.1)

@@ -1,0 +1,11 @@
+pub mod AlikeLemmas
+pub mod ZipLemmas
+pub mod TagsLemmas
+pub mod FlownLemmas
+pub mod LendingLemmas
+pub mod SettledLemmas
+pub mod LaunchedLemmas
+pub mod SettlingLemmas
+pub mod LaunchingLemmas
+pub mod ComingLemmas
+pub mod QueueLemmas

@@ -1,0 +1,124 @@
+-- What the calls of the flight do (ACS-3, native command queuing; profile).
+use Rattle.std.specs.Prelude.{◌≡◌, ◌⊎◌, ℕ, ◌+◌, ◌≤◌, ◌==◌, Bool, true, false, List, [], ◌∷◌, ◌++◌, Option, Some, None, if◌then◌else◌, length, slice_get}
+use Rattle.std.specs.List.{remove}
+use Rattle.satl_base.specs.declared.block.Block.{Block}
+use Rattle.satl_base.specs.Cells.{Cell}
+use Rattle.satl_base.specs.Moves.{Moves}
+use Rattle.satl_io.specs.Causes.{Rose}
+use Rattle.satl_regs.specs.declared.values.Registers.{Registers}
+use Rattle.satl_regs.specs.declared.values.Taskfile.{Taskfile}
+use Rattle.satl_regs.specs.declared.values.AtaCommand.TheVariants.{ReadLog}
+use Rattle.satl_regs.specs.Commands.{command_in}
+use Rattle.satl_regs.specs.Effects.{unc}
+use Rattle.satl_errlog.specs.declared.entry.NcqError.{NcqError}
+use Rattle.satl_line.specs.Eligible.{IsEligibleBy, eligible_by}
+use Rattle.satl_line.specs.Ending.{EndsAs, Outcome, active_after}
+use Rattle.satl_line.specs.Ending.Outcome.{ends_done, ends_flawed, ends_glitched}
+use Rattle.satl_line.specs.Ranged.{MayPut, RangedTask, ranged_of}
+use Rattle.satl_line.specs.Ranged.RangedTask.{ranged_read, ranged_write, ranged_trim}
+use Rattle.satl_line.specs.Tasks.{Held, entries_of, with_body}
+use Rattle.satl_drive.specs.Queue.{Slots}
+use Rattle.satl_drive.specs.State.{DriveState}
+use Rattle.satl_drive.specs.Rules.{IsLogRead, IsRunCutOff, MaySet}
+use Rattle.satl_flight.specs.declared.flight.Flying.{Flying}
+use Rattle.satl_flight.specs.Flown.{IsInFlight, clash, holds}
+use Rattle.satl_flight.specs.Lending.{IsLending, whole_tasks}
+
+-- the deepest queue never falls, and stays at least the queue where it was (profile)
+pub record Deepens (old new : DriveState) : Type 0 where
+  pub rises : old.deepest ≤ new.deepest
+  pub covers : length old.outstanding ≤ old.deepest → length new.outstanding ≤ new.deepest
+
+-- the link was lost: nothing is outstanding, pairs of eligible tasks were put, a glitch may have gone, and the settings may be others (profile)
+pub record IsLostInFlight (tasks : List Held) (old new : DriveState) : Type 0 where
+  pub moves : Moves (MayPut old.cache (entries_of tasks)) old.cells new.cells
+  pub glitches : (new.glitches ≡ old.glitches) ⊎ (new.glitches + 1 ≡ old.glitches)
+  pub rose : Rose old.faults new.faults
+  pub settings : MaySet old new ⊎ ((new.cache ≡ old.cache) × (new.look ≡ old.look) × (new.identify ≡ old.identify))
+  pub stays : new ≡ record old { cells = new.cells; outstanding = []; error = None; cache = new.cache; look = new.look; active = new.active; glitches = new.glitches; down = true; identify = new.identify; faults = new.faults }
+  pub deep : Deepens old new
+
+-- the link was lost where a command was issued or the drive was reset: beside the sectors all else is as before (profile)
+pub record IsLostQuietly (tasks : List Held) (old new : DriveState) : Type 0 where
+  pub moves : Moves (MayPut old.cache (entries_of tasks)) old.cells new.cells
+  pub rose : Rose old.faults new.faults
+  pub stays : new ≡ record old { cells = new.cells; outstanding = []; error = None; down = true; faults = new.faults; deepest = new.deepest }
+  pub deep : Deepens old new
+
+-- more is outstanding, and nothing else changes but entries of sectors that are lost (profile)
+pub record IsLaunched (flying : List Flying) (old : DriveState) (tasks : List Held) (flown : List Flying) (new : DriveState) : Type 0 where
+  pub tie : IsInFlight flown tasks new
+  pub rest : List Flying
+  pub more : flown ≡ flying ++ rest
+  pub moves : Moves (MayPut old.cache (entries_of tasks)) old.cells new.cells
+  pub stays : new ≡ record old { cells = new.cells; outstanding = new.outstanding; deepest = new.deepest }
+  pub deep : Deepens old new
+
+-- the blocks that a task has read, once it is done (profile)
+abbrev pub read_into : RangedTask → List Block → List Block
+read_into (ranged_read fua range) body = body
+read_into (ranged_write fua range blocks) body = []
+read_into (ranged_trim ranges) body = []
+
+-- the outcome that an entry of the error log stands for, and that of a command that is done (SAT-3 11; profile)
+abbrev pub outcome_of : Option NcqError → RangedTask → List Block → Outcome
+outcome_of None ranged body = ends_done (read_into ranged body)
+outcome_of (Some e) ranged body = if e.error == unc then ends_flawed e.lba else ends_glitched
+
+-- one task has ended: what the others put before it, its own end, and what they put after it (profile)
+pub record IsSettled (tasks : List Held) (old : DriveState) (place : ℕ) (outcome : Outcome) (flown : List Flying) (new : DriveState) : Type 0 where
+  pub held : Held
+  pub stands : slice_get tasks place ≡ Some held
+  pub eligible : IsEligibleBy clash tasks held
+  pub ranged : RangedTask
+  pub ranged_is : ranged_of held.entry ≡ Some ranged
+  pub before : List Cell
+  pub after : List Cell
+  pub moves_before : Moves (MayPut old.cache (entries_of tasks)) old.cells before
+  pub ends : EndsAs old.cache ranged outcome before old.glitches after new.glitches
+  pub moves_after : Moves (MayPut old.cache (entries_of (remove tasks place))) after new.cells
+  pub tie : IsInFlight flown (remove tasks place) new
+  pub stays : new ≡ record old { cells = new.cells; outstanding = new.outstanding; active = active_after outcome old.active; glitches = new.glitches }
+  pub deep : Deepens old new
+
+-- the drive was reset: nothing is outstanding, and each task waits on (profile)
+pub record IsCut (tasks : List Held) (old new : DriveState) : Type 0 where
+  pub tie : IsInFlight [] tasks new
+  pub moves : Moves (MayPut old.cache (entries_of tasks)) old.cells new.cells
+  pub stays : new ≡ record old { cells = new.cells; outstanding = []; error = None }
+  pub deep : Deepens old new
+
+-- the task at this place, with the pages that it has now, is the one that has ended; those that it read stand in them (profile)
+pub record Settles (flying : List Flying) (slots : Slots) (tasks : List Held) (old : DriveState) (place : ℕ) (error : Option NcqError) (flown : List Flying) (slots' : Slots) (tasks' : List Held) (new : DriveState) : Type 0 where
+  pub ranged : RangedTask
+  pub body : List Block
+  pub settled : IsSettled (whole_tasks flying slots tasks) old place (outcome_of error ranged body) flown new
+  pub ranged_is : ranged_of settled.held.entry ≡ Some ranged
+  pub ended : slice_get tasks' place ≡ Some (with_body body settled.held)
+  pub size : length body ≡ length settled.held.entry.body
+  pub leaves : IsLending flown slots' (remove tasks' place)
+  pub others : remove (whole_tasks flown slots' tasks') place ≡ remove (whole_tasks flying slots tasks) place
+
+-- the error log was read (ACS-3 annex A, log 10h)
+pub record HasReadLog (e : NcqError) (old new : DriveState) : Type 0 where
+  pub registers : Registers
+  pub given : List Block
+  pub ended : Taskfile
+  pub taken : List Block
+  pub read : IsLogRead e old registers given ended taken new
+
+-- the link was lost while it was read (profile)
+pub record IsLogCutOff (old new : DriveState) : Type 0 where
+  pub registers : Registers
+  pub reads : command_in registers ≡ ReadLog 0x10 0 1
+  pub given : List Block
+  pub cut : IsRunCutOff old registers given new
+
+-- the task at a place is outstanding, or may not be, or no tag is left (profile)
+abbrev pub IsCovered : List Flying → List Held → ℕ → Type 0
+IsCovered flying tasks place =
+    (length flying ≡ 32) ⊎ ((h : Held) (task : RangedTask) → slice_get tasks place ≡ Some h → eligible_by clash tasks place ≡ true → ranged_of h.entry ≡ Some task → holds flying h.slot ≡ true)
+
+-- the queue is used: 32 tasks are outstanding, or each eligible ranged task is (profile)
+abbrev pub IsFilled : List Flying → List Held → Type 0
+IsFilled flying tasks = (length flying ≡ 32) ⊎ ((h : Held) (task : RangedTask) → IsEligibleBy clash tasks h → ranged_of h.entry ≡ Some task → holds flying h.slot ≡ true)
