@@ -1,18 +1,22 @@
 // The tasks that wait, and which of them are outstanding.
-ghost use Rattle.std.specs.Prelude.{◌≡◌, ◌≢◌, ◌≤◌, ◌<◌, ◌+◌, ◌↔◌, [], length, Some, false, IfErr, IfOk, IsTrue, OnOk, OnErr, is_err, remove, slice_get};
-ghost use Rattle.satl_line.specs.Tasks.{Adds, Held, entry_at, is_too_much};
+ghost use Rattle.std.specs.Option.{option_map};
+ghost use Rattle.std.specs.List.{position_from};
+ghost use Rattle.std.specs.Prelude.{◌≡◌, ◌≢◌, ◌≤◌, ◌<◌, ◌+◌, ◌-◌, ◌↔◌, [], length, Some, false, IfErr, IfOk, IsTrue, OnOk, OnErr, is_err, remove, slice_get};
+ghost use Rattle.satl_base.specs.Limits.{most_held, most_tasks};
+ghost use Rattle.satl_line.specs.Tasks.{Adds, AreOwnSlots, Held, change_at, entry_at, is_named, is_too_much, total_blocks, with_body};
 ghost use Rattle.satl_flight.specs.Flown.{holds};
 ghost use Rattle.satl_drive.specs.State.{IsFit};
 ghost use Rattle.satl_flight.specs.Lending.{AreAlike};
-ghost use Rattle.satl_flight.specs.Queueing.{Ends, IsQueued};
-ghost use Rattle.satl_flight.specs.Settled.{IsCut, IsFilled, IsLaunched, IsLostInFlight, IsLostQuietly};
+ghost use Rattle.satl_flight.specs.Queueing.{Ends, IsQueued, empty, without_pages};
+ghost use Rattle.satl_flight.specs.Settled.{IsCovered, IsCut, IsFilled, IsLaunched, IsLostInFlight, IsLostQuietly};
 
 use crate::flight::Flight;
-use satl_base::Steps;
+use satl_base::{Nexus, NoMemory, Pages, Steps, Tag};
 use satl_drive::{Drive, LinkDown};
 use satl_errlog::NcqError;
 use satl_line::{Entry, TaskSet};
 use satl_pages::Dma;
+use std::alloc::Global;
 use std::marker::Model;
 use std::sync::ledger::Ledger;
 
@@ -36,6 +40,17 @@ impl Model for Queue {
 }
 
 impl Queue {
+    /// A queue without tasks. It takes all memory that it ever needs, and the error is want of it (profile).
+    pub fn new(alloc: Global) -> Result<Queue, NoMemory>
+        ensures { IfOk result (λ queue. queue ≡ empty) }
+    {
+        Ok(Queue {
+            set: TaskSet::new(alloc)?,
+            flight: Flight::new(alloc)?,
+            dma: Dma::new(),
+        })
+    }
+
     /// Issues the eligible ranged tasks that are not outstanding, in order of arrival, while a tag is free.
     pub fn launch<D: Drive, L: Ledger>(
         &mut self,
@@ -108,11 +123,74 @@ impl Queue {
         }
     }
 
-    /// How many tasks wait (profile).
+    /// How many tasks wait: at most 64, each in a slot of its own, which hold at most 32,768 blocks (profile).
     pub fn len(&self) -> usize
-        ensures { result ≡ length self.now.tasks }
+        ensures value { result ≡ length self.now.tasks }
+        ensures few { length self.now.tasks ≤ most_tasks }
+        ensures blocks { total_blocks self.now.tasks ≤ most_held }
+        ensures own { AreOwnSlots self.now.tasks }
     {
         self.set.len()
+    }
+
+    /// The place of the task of a nexus and tag, counted from 0 in order of arrival. None exactly where there is none (SAM-5,
+    /// I_T_L_Q nexus).
+    pub fn find(&self, nexus: Nexus, tag: Tag) -> Option<usize>
+        ensures { result ≡ position_from (is_named nexus tag) 0 self.now.tasks }
+    {
+        self.set.find(nexus, tag)
+    }
+
+    /// The task at a place, but for its pages, which may be lent.
+    pub fn entry(&self, place: usize) -> &Entry
+        requires { place < length self.now.tasks }
+        ensures { option_map without_pages (entry_at self.now.tasks place) ≡ Some (without_pages result.now) }
+    {
+        self.set.entry(place)
+    }
+
+    /// Whether the task at a place is outstanding.
+    pub fn is_outstanding(&self, place: usize) -> bool
+        requires { place < length self.now.tasks }
+        ensures { (h : Held) → slice_get self.now.tasks place ≡ Some h → result ≡ holds self.now.flying h.slot }
+    {
+        self.flight.holds_slot(self.set.slot_of(place))
+    }
+
+    /// Issues the last task, if it is eligible, ranged and not outstanding, and a tag is free. At a lost link all tasks have
+    /// their pages back.
+    pub fn launch_last<D: Drive, L: Ledger>(
+        &mut self,
+        drive: &mut D,
+        steps: &mut Steps<L>,
+    ) -> Result<(), LinkDown>
+        requires some { 0 < length self.old.tasks }
+        requires queued { IsQueued self.old (D.state drive.old) }
+        ensures ok { OnOk result (IsLaunched self.old.flying (D.state drive.old) self.old.tasks self.new.flying (D.state drive.new)) }
+        ensures covered { OnOk result (IsCovered self.new.flying self.new.tasks (length self.old.tasks - 1)) }
+        ensures err { OnErr result (IsLostQuietly self.old.tasks (D.state drive.old) (D.state drive.new)) }
+        ensures emptied { OnErr result (self.new.flying ≡ []) }
+        ensures same { self.new.tasks ≡ self.old.tasks }
+        ensures fit { IsFit (D.state drive.old) → IsFit (D.state drive.new) }
+        ensures steps { steps.new ≤ steps.old + 1 }
+    {
+        let place = self.set.len() - 1;
+        self.flight
+            .launch_one(place, &mut self.set, &mut self.dma, drive, steps)
+    }
+
+    /// Puts pages into the last task, which has none and is not outstanding.
+    pub fn fill_last(&mut self, body: Pages)
+        requires some { 0 < length self.old.tasks }
+        requires waits { (h : Held) → slice_get self.old.tasks (length self.old.tasks - 1) ≡ Some h → (holds self.old.flying h.slot ≡ false) × (h.entry.body ≡ []) }
+        ensures filled { self.new.tasks ≡ change_at (with_body body) self.old.tasks (length self.old.tasks - 1) }
+        ensures flying { self.new.flying ≡ self.old.flying }
+        ensures slots { self.new.slots ≡ self.old.slots }
+    {
+        let place = self.set.len() - 1;
+        // It tells that no other task has the slot.
+        let _alone = self.set.slot_of(place);
+        self.set.put_data(place, body);
     }
 
     /// Whether nothing is outstanding.
@@ -129,6 +207,7 @@ impl Queue {
         ensures back { IfErr result (λ refused. refused ≡ entry) }
         ensures kept { OnErr result (self.new ≡ self.old) }
         ensures flying { self.new.flying ≡ self.old.flying }
+        ensures slots { self.new.slots ≡ self.old.slots }
     {
         self.set.add(entry)
     }
@@ -140,6 +219,7 @@ impl Queue {
         ensures value { entry_at self.old.tasks place ≡ Some result }
         ensures others { self.new.tasks ≡ remove self.old.tasks place }
         ensures flying { self.new.flying ≡ self.old.flying }
+        ensures slots { self.new.slots ≡ self.old.slots }
     {
         // It tells that no other task has the slot.
         let _alone = self.set.slot_of(place);

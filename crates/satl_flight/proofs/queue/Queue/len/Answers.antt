@@ -1,0 +1,14 @@
+use Rattle.std.proofs.Common.{ap, arith, subst, sym, ◌∙◌, ◌≤◌}
+use Rattle.satl_line.specs.Tasks.{AreOwnSlots, total_blocks}
+use Rattle.satl_flight.specs.Queueing.{Waiting}
+use Rattle.satl_flight.proofs.QueueLemmas.{own-whole, total-whole}
+use Rattle.satl_flight.proofs.queue.Queue.len.Goals as goal
+
+pub returns-clause-blocks : goal.returns-clause-blocks
+returns-clause-blocks c =
+    let same = ap (λ (w : Waiting). total_blocks w.tasks) c.self.view_is in
+    let whole = total-whole c.self.inside.flight c.self.inside.dma c.self.inside.set in
+    omega (arith, same, whole, c.len.ensures.blocks)
+
+pub returns-clause-own : goal.returns-clause-own
+returns-clause-own c = subst (λ (w : Waiting). AreOwnSlots w.tasks) c.self.view_is (own-whole c.self.inside.flight c.self.inside.dma c.self.inside.set c.len.ensures.own)
