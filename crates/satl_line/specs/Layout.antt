@@ -89,4 +89,4 @@ pub record IsSound (slots : List (Option Entry)) (order free masks : List ℕ) (
   pub count : length order + length free ≡ 64
   pub masked : IsMasked (tasks_in slots order) masks
   pub total : total_blocks (tasks_in slots order) ≡ blocks
-  pub few : blocks ≤ 32768
+  pub few : blocks ≤ most_held
