@@ -210,7 +210,7 @@ module _ (nexus tag : ℕ) where
         quiet_taken (frames.Manage m) s a.before a.quiet_before,
         manages,
       )
-  step_counts (frames.Turn count) s new now d h = omega (arith, ap (how_many (answers_to nexus tag)) h.1, turns_count h.2)
+  step_counts (frames.Turn count) s new now d h = omega (arith, ap (how_many (answers_to nexus tag)) h.2, turns_count h.3)
   step_counts (frames.Bench event) s new now d h =
       let a = h.2 in
       omega (
@@ -232,7 +232,7 @@ module _ (nexus tag : ℕ) where
   -- a run
   pub run_counts : {first last : Device} {events : List Frame} {groups : List (List Answer)} {losses deep : ℕ} (run : RunDeep first events groups losses last deep)
       → how_many (answers_to nexus tag) (joined groups) + mine last.tasks + removed nexus tag run ≡ how_many (asks_by nexus tag) events + mine first.tasks
-  run_counts start = omega arith
+  run_counts {first = first} {last = last} (start quiet) = omega (arith, quiet_counts first last quiet)
   run_counts {last = last} (step {events = events} {groups = groups} {s = s} event now d so_far does) =
       omega (
         arith,

@@ -134,8 +134,8 @@ module _ (first : Device) (size : length first.cells ≡ first.identity.capacity
   does_in_order (frames.Manage m) events answers now old new d plain once o h zero_losses = absurd cc
   does_in_order (frames.Turn count) events answers now old new d plain once o h zero_losses =
       other_in_order first events (answers ++ now) new (frames.Turn count) (λ r same. let no : frames.Request r ≡ frames.Turn count = same in cc) (λ f x v. refl) (λ nexus tag. refl)
-      (subst (λ l. InOrder first events (answers ++ l) new) (sym h.1)
-      (goes_up new.down (still_up old.down new.down o.up zero_losses) (turns_go first events (fewer events (frames.Turn count) once) answers (inl o) h.2)))
+      (subst (λ l. InOrder first events (answers ++ l) new) (sym h.2)
+      (goes_up new.down (still_up old.down new.down o.up zero_losses) (turns_go first events (fewer events (frames.Turn count) once) answers (inl o) h.3)))
   does_in_order (frames.Bench (bench.Order order)) events answers now old new d plain once o h zero_losses =
       let a = h.2 in
       let k = a.step in
@@ -154,10 +154,9 @@ module _ (first : Device) (size : length first.cells ≡ first.identity.capacity
       (told_in_order first events (answers ++ map replied h.0) new
       (goes_up new.down (still_up old.down new.down o.up zero_losses) (turns_go first events (fewer events frames.End once) answers (inl o) (h.2).turns))))
 
-  -- a run
-  run_in_order : {events : List Frame} {groups : List (List Answer)} {losses deep : ℕ} {last : Device} → RunDeep first events groups losses last deep → losses ≡ 0 → IsFresh first
-      → AllByRecursion (λ f. is_plain first.identity.trim f ≡ true) events → ((nexus tag : ℕ) → how_many (asks_by nexus tag) events < 2) → InOrder first events (joined groups) last
-  run_in_order start zero_losses fresh plain once = record {
+  -- a device at rest
+  rest_in_order : IsFresh first → InOrder first [] [] first
+  rest_in_order fresh = record {
     placed = [];
     tasks = fresh.no_tasks;
     up = fresh.up;
@@ -172,6 +171,11 @@ module _ (first : Device) (size : length first.cells ≡ first.identity.capacity
     asked = tt;
     right = λ before rest r reply lba count place is among done. absurd among;
   }
+
+  -- a run
+  run_in_order : {events : List Frame} {groups : List (List Answer)} {losses deep : ℕ} {last : Device} → RunDeep first events groups losses last deep → losses ≡ 0 → IsFresh first
+      → AllByRecursion (λ f. is_plain first.identity.trim f ≡ true) events → ((nexus tag : ℕ) → how_many (asks_by nexus tag) events < 2) → InOrder first events (joined groups) last
+  run_in_order {last = last} (start quiet) zero_losses fresh plain once = quiet_in_order first [] [] first last quiet (rest_in_order fresh)
   run_in_order {last = last} (step {events = events} {groups = groups} {losses = losses} {s = s} event now d so_far does) zero_losses fresh plain once =
       let parts = split_plain events event plain in
       let before : losses ≡ 0 = omega (arith, zero_losses) in

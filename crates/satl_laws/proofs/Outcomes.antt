@@ -118,9 +118,11 @@ same_name n m g h p q = ap (λ b. b && (g == h)) (eq-eqb n m p) ∙ eq-eqb g h q
 
 -- one turn, in which a reply with GOOD was given
 record GoodTurn (first last : Device) (reply : Reply) : Type 0 where
+  begin : Device
   before : Device
   after : Device
-  quiet_before : Quiet first before
+  quiet_first : Quiet first begin
+  quiet_before : Quiet begin before
   good : GoodEnd before reply after
   quiet_after : Quiet after last
 
@@ -129,13 +131,13 @@ good_turn : {first last : Device} {groups : List (List Answer)} {losses deep : �
 good_turn reply run i good =
     let o = once (frames.Turn 1) run in
     let t = o.does in
-    let a = one_taken t.2 refl in
-    let among : IsIn reply t.0 = replied_in reply t.0 (subst (IsIn (replied reply)) (o.answers ∙ t.1) i) in
-    record { before = a.before; after = a.after; quiet_before = a.quiet_before; good = good_end reply a.step among good; quiet_after = a.quiet_after }
+    let a = one_taken t.3 refl in
+    let among : IsIn reply t.0 = replied_in reply t.0 (subst (IsIn (replied reply)) (o.answers ∙ t.2) i) in
+    record { begin = o.begin; quiet_first = o.quiet; before = a.before; after = a.after; quiet_before = a.quiet_before; good = good_end reply a.step among good; quiet_after = a.quiet_after }
 
 -- a task that may end after quiet moves of a device at work is eligible there
-may_still : (a b : Cell) (tasks : List Entry) (s before : Device) (t : Entry) → Quiet (at_work a b tasks s) before → MayEnd before t → IsEligible tasks t
-may_still a b tasks s before t q may = subst (λ d. MayEnd d t) q.stays may
+may_still : (a b : Cell) (tasks : List Entry) (s begin before : Device) (t : Entry) → Quiet (at_work a b tasks s) begin → Quiet begin before → MayEnd before t → IsEligible tasks t
+may_still a b tasks s begin before t first q may = subst (λ d. MayEnd d t) first.stays (subst (λ d. MayEnd d t) q.stays may)
 
 -- ---- a WRITE and a READ of one sector
 
@@ -161,7 +163,7 @@ module _ (write read : Request) (a b : Cell) (s last : Device) (losses : ℕ) (a
       (λ later. ⊎_elim
       (λ same. let clash : true ≡ false = sym (conflict_here write read) ∙ subst (λ t. conflicts (writes_sector_0 write) t ≡ false) (sym same) later.0 in absurd cc)
       (λ nothing. nothing.1) later.1)
-      (may_still a b (writes_sector_0 write ∷ reads_sector_0 read ∷ []) s turn.before one.task turn.quiet_before one.may)
+      (may_still a b (writes_sector_0 write ∷ reads_sector_0 read ∷ []) s turn.begin turn.before one.task turn.quiet_first turn.quiet_before one.may)
     where
       d : IsDoneBy read reply
       d = done_by read reply answers good
@@ -241,10 +243,12 @@ flush_then_power flush cell b s mid last said reply turn good power =
     first = at_work cell b (flushes flush ∷ []) s
 
     begun : Keeps 0 first turn.before
-    begun = quiet_keeps 0 first turn.before turn.quiet_before (record { each = (record { spares = refl; own = tt }, tt) })
+    begun =
+        keeps_on 0 first turn.begin turn.before (quiet_keeps 0 first turn.begin turn.quiet_first (record { each = (record { spares = refl; own = tt }, tt) }))
+        (quiet_keeps 0 turn.begin turn.before turn.quiet_before)
 
     task_is : flushes flush ≡ ((turn.good).one).task
-    task_is = ⊎_elim (λ same. same) (λ later. absurd later.1) (may_still cell b (flushes flush ∷ []) s turn.before ((turn.good).one).task turn.quiet_before ((turn.good).one).may)
+    task_is = ⊎_elim (λ same. same) (λ later. absurd later.1) (may_still cell b (flushes flush ∷ []) s turn.begin turn.before ((turn.good).one).task turn.quiet_first turn.quiet_before ((turn.good).one).may)
 
     single : IsSingle 0 ((turn.good).mid).cells
     single = secured 0 turn.before (turn.good).mid ((turn.good).one).task reply good (subst (λ t. secures t.command turn.before t 0 ≡ true) task_is refl) ((turn.good).one).ends
@@ -293,4 +297,7 @@ pub others_stay : (write : Request) (a b : Cell) (s last : Device) (turns : Fram
     Run (at_work a b (writes_sector_0 write ∷ []) s) (turns ∷ []) losses answers last → now_at last.cells 1 ≢ Some b.now → ⊥
 others_stay write a b s last turns losses answers are run changed =
     let o = once turns run.run in
-    changed (at_now 1 (a ∷ b ∷ []) last.cells (turns_spare 1 turns (at_work a b (writes_sector_0 write ∷ []) s) last o.now o.depth are o.does (record { each = (record { spares = spares_sector_1 write.body true; own = tt }, tt) })).cells)
+    let first : Device = at_work a b (writes_sector_0 write ∷ []) s in
+    let spared : NoneWrites 1 first = record { each = (record { spares = spares_sector_1 write.body true; own = tt }, tt) } in
+    let kept = keeps_on 1 first o.begin last (quiet_keeps 1 first o.begin o.quiet spared) (turns_spare 1 turns o.begin last o.now o.depth are o.does) in
+    changed (at_now 1 (a ∷ b ∷ []) last.cells kept.cells)

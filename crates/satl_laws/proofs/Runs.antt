@@ -16,7 +16,7 @@ use Rattle.satl_direct.specs.Run.RunDeep.{start, step}
 use Rattle.satl_direct.specs.Laws.{SparedBy, SparedByNew, SparedIn, SparedThrough, WithoutPower, is_power}
 use Rattle.satl_laws.proofs.Arrivals.{IsFor, arrival_for, arrival_quiet}
 use Rattle.satl_laws.proofs.Reaching.{WritesItsOwn}
-use Rattle.satl_laws.proofs.Sparing.{Keeps, NoneComes, NoneComesBy, NoneWrites, SparesAt, does_keep, keeps_none, keeps_on, quiet_alike, spares_alike}
+use Rattle.satl_laws.proofs.Sparing.{Keeps, NoneComes, NoneComesBy, NoneWrites, SparesAt, does_keep, keeps_on, quiet_alike, quiet_keeps, spares_alike}
 
 -- ---- the last event
 
@@ -53,8 +53,8 @@ pub record Split (first last : Device) (before : List Frame) (event : Frame) (gr
 -- each run that is not empty has a last event
 pub split : {first last : Device} {all : List Frame} {groups : List (List Answer)} {losses deep : ℕ} → RunDeep first all groups losses last deep
     → (before : List Frame) (event : Frame) → all ≡ before ++ event ∷ [] → Split first last before event groups
-split start [] event h = absurd cc
-split start (b ∷ before) event h = absurd cc
+split (start quiet) [] event h = absurd cc
+split (start quiet) (b ∷ before) event h = absurd cc
 split {first = first} {last = last} (step {events = events} {groups = groups} {losses = losses} {deep = deep} {s = s} other now d so_far does) before event h =
     let r = last_same events before other event h in
     record {
@@ -71,28 +71,30 @@ split {first = first} {last = last} (step {events = events} {groups = groups} {l
 
 -- no event
 record Rests (first last : Device) (groups : List (List Answer)) : Type 0 where
-  pub same : last ≡ first
+  pub quiet : Quiet first last
   pub silent : joined groups ≡ []
 
--- a run of no event answers nothing
+-- a run of no event is quiet moves, and answers nothing
 rests : {first last : Device} {all : List Frame} {groups : List (List Answer)} {losses deep : ℕ} → RunDeep first all groups losses last deep → all ≡ [] → Rests first last groups
-rests start h = record { same = refl; silent = refl }
+rests (start quiet) h = record { quiet = quiet; silent = refl }
 rests (step {events = []} event now d so_far does) h = absurd cc
 rests (step {events = e ∷ events} event now d so_far does) h = absurd cc
 
 -- a run of one event
 pub record Once (first last : Device) (event : Frame) (groups : List (List Answer)) : Type 0 where
+  pub begin : Device
+  pub quiet : Quiet first begin
   pub now : List Answer
   pub depth : ℕ
-  pub does : Does event first now last depth
+  pub does : Does event begin now last depth
   pub answers : joined groups ≡ now
 
--- a run of one event is that event
+-- a run of one event is that event behind quiet moves
 pub once : {first last : Device} {groups : List (List Answer)} {losses deep : ℕ} (event : Frame) → RunDeep first (event ∷ []) groups losses last deep → Once first last event groups
-once {first = first} {last = last} event run =
+once event run =
     let s = split run [] event refl in
     let r = rests s.run refl in
-    record { now = s.now; depth = s.depth; does = subst (λ d. Does event d s.now last s.depth) r.same s.does; answers = s.answers ∙ ap (λ l. l ++ s.now) r.silent }
+    record { begin = s.mid; quiet = r.quiet; now = s.now; depth = s.depth; does = s.does; answers = s.answers ∙ ap (λ l. l ++ s.now) r.silent }
 
 -- ---- no task writes a sector
 
@@ -142,7 +144,7 @@ module _ (x : ℕ) where
   -- a sector that no task of a run writes is kept
   pub run_keeps : {first last : Device} {all : List Frame} {groups : List (List Answer)} {losses deep : ℕ} (run : RunDeep first all groups losses last deep)
       → WithoutPower all → SparedThrough x run → AllByRecursion (λ t. WritesItsOwn t.command) first.tasks → Keeps x first last
-  run_keeps {first = first} start calm spared own = keeps_none x first (none_writes first spared own)
+  run_keeps {first = first} {last = last} (start quiet) calm spared own = quiet_keeps x first last quiet (none_writes first spared own)
   run_keeps {first = first} {last = last} (step {events = events} {s = s} event now d so_far does) calm spared own =
       keeps_on x first s last (run_keeps so_far (calm_before events event calm) spared.0 own)
       (does_keep x event s last now d (calm_last events event calm) (none_comes_by event s spared.1) does)

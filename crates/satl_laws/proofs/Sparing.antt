@@ -203,6 +203,6 @@ module _ (x : ℕ) where
   does_keep (frames.Manage m) s new now d mains comes h =
       around_keeps (MayLose (Manages m (h.0).response)) s new (h.0).replies (h.0).step
       (λ step g. may_lose_keeps (Manages m (h.0).response) ((h.0).step).before ((h.0).step).after (h.0).replies (λ mid said k. manages_keeps m (h.0).response ((h.0).step).before mid said k g) step)
-  does_keep (frames.Turn count) s new now d mains comes h = turns_keep h.2
+  does_keep (frames.Turn count) s new now d mains comes h = turns_keep h.3
   does_keep (frames.Bench event) s new now d mains comes h = around_keeps (Happens event) s new h.0 h.2 (λ step g. bench_keeps event (h.2).before (h.2).after h.0 mains step g)
   does_keep frames.End s new now d mains comes h = turns_keep (h.2).turns

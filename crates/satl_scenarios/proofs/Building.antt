@@ -50,10 +50,10 @@ happens {event = event} {s = s} replies new h = record { does = (replies, refl, 
 pub turn_more : {n deep : ℕ} {s mid : Device} {first rest : List Reply} (new : Device) → TurnsOf n s first mid deep → Turn mid rest new → TurnsOf (suc n) s (first ++ rest) new (max deep (depth new))
 turn_more {mid = mid} {rest = rest} new before turn = more before (alone Turn mid new rest turn)
 
-pub turns : {n deep : ℕ} {s new : Device} {replies : List Reply} → TurnsOf n s replies new deep → Occurs (frames.Turn n) s (map replied replies) new deep
-turns {replies = replies} all = record { does = (replies, refl, all) }
+pub turns : {n deep : ℕ} {s new : Device} {replies : List Reply} → TurnsOf n s replies new deep → Occurs (frames.Turn n) s (map replied replies) new (max deep (depth new))
+turns {deep = deep} {replies = replies} all = record { does = (replies, deep, refl, all, refl) }
 
-pub one_turn : {s : Device} {replies : List Reply} (new : Device) → Turn s replies new → Occurs (frames.Turn 1) s (map replied replies) new (max 0 (depth new))
+pub one_turn : {s : Device} {replies : List Reply} (new : Device) → Turn s replies new → Occurs (frames.Turn 1) s (map replied replies) new (max (max 0 (depth new)) (depth new))
 one_turn new turn = turns (turn_more new none turn)
 
 pub drained : {n deep : ℕ} {s new : Device} {replies : List Reply} → TurnsOf n s replies new deep → new.tasks ≡ [] → Occurs frames.End s (map replied replies ++ ended ∷ []) new deep
@@ -99,4 +99,4 @@ run_on (now ∷ rest) events groups r (next {deep = deep} now_does follows) =
 -- a scenario whose steps follow one another is a run
 pub it_can_happen : (scenario : Scenario) → Follows scenario.losses scenario.depth scenario.last 0 0 scenario.first scenario.steps → CanHappen scenario
 it_can_happen scenario follows =
-    record { run = record { groups = groups_of scenario; deep = scenario.depth; answer = refl; run = run_on scenario.steps [] [] start follows }; groups = refl; depth = refl }
+    record { run = record { groups = groups_of scenario; deep = scenario.depth; answer = refl; run = run_on scenario.steps [] [] (start (still scenario.first)) follows }; groups = refl; depth = refl }

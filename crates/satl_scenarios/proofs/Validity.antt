@@ -53,8 +53,8 @@ waiting_valid = record {
   blocks = omega arith;
   own = (refl, (refl, tt));
   come = (
-    record { request = request 1 (cdb_10 0x2A 0 1) (aa ∷ []); pages = omega arith; at = blank 3; same = refl; modes = record { cache = λ off. absurd cc; look = λ off. absurd cc }; became = refl },
-    (record { request = request 2 (cdb_10 0x28 1 1) []; pages = omega arith; at = blank 3; same = refl; modes = record { cache = λ off. absurd cc; look = λ off. absurd cc }; became = refl }, tt),
+    record { request = request 1 (cdb_10 0x2A 0 1) (aa ∷ []); pages = omega arith; expected = tt; at = blank 3; same = refl; modes = record { cache = λ off. absurd cc; look = λ off. absurd cc }; became = refl },
+    (record { request = request 2 (cdb_10 0x28 1 1) []; pages = omega arith; expected = tt; at = blank 3; same = refl; modes = record { cache = λ off. absurd cc; look = λ off. absurd cc }; became = refl }, tt),
   );
   modes = record { cache = λ off. absurd cc; look = λ off. absurd cc };
   nexuses = refl;
