@@ -1,5 +1,5 @@
 -- A device whose tasks end out of order, and what it has answered, as if each WRITE had acted, or not, on arrival.
-use Rattle.std.proofs.Common.{◌≡◌, ◌⊎◌, ⊎_elim, inl, inr, refl, sym, ap, ◌∙◌, subst, ℕ, ◌+◌, ◌≤◌, ◌<◌, Bool, true, false, List, [], ◌∷◌, ◌++◌, Some, None, arith, map, length}
+use Rattle.std.proofs.Common.{◌≡◌, ◌⊎◌, ⊎_elim, inl, inr, refl, sym, ap, ◌∙◌, subst, ℕ, ◌+◌, ◌≤◌, ◌<◌, Bool, true, false, List, [], ◌∷◌, ◌++◌, None, arith, map, length}
 use Rattle.std.specs.Prelude.{◌&&◌, ◌||◌, ◌==◌, if◌then◌else◌}
 use Rattle.std.specs.List.{AllByRecursion, list_any}
 use Rattle.std.proofs.lemmas.Bool.{cases_lt}
@@ -9,8 +9,8 @@ use Rattle.satl_base.specs.declared.block.Block.{Block}
 use Rattle.satl_base.specs.declared.request.Request.{Request}
 use Rattle.satl_base.specs.declared.reply.Reply.{Reply}
 use Rattle.satl_base.specs.Cells.{Cell}
-use Rattle.satl_base.specs.Lists.{IsIn, how_many}
-use Rattle.satl_base.proofs.ListsLemmas.{in_either, none_counted}
+use Rattle.satl_base.specs.Lists.{how_many}
+use Rattle.satl_base.proofs.ListsLemmas.{in_either}
 use Rattle.satl_cdb.specs.Table.{says}
 use Rattle.satl_frame.specs.declared.frames.Frame.{Frame}
 use Rattle.satl_frame.specs.Output.{Answer}
@@ -26,7 +26,7 @@ use Rattle.satl_laws.proofs.Requests.{AreApart, are_apart, asked_as_often, has_n
 use Rattle.satl_laws.proofs.Settling.{AllRight, GivesRight, IsTold, pending, right_leave, sorted_leave}
 use Rattle.satl_laws.proofs.Standing.{Leaves, NoneCovers, Stands, writes_at}
 use Rattle.satl_laws.proofs.Seen.{by_test}
-use Rattle.satl_laws.proofs.Transferring.{after, brings, gives, spans, still}
+use Rattle.satl_laws.proofs.Transferring.{brings, still}
 
 -- ---- items in a row
 
@@ -238,14 +238,14 @@ module _ (first : Device) where
         tasks_are = sym (waiting-append place.front (settled ∷ place.back) ∙ ap (λ l. l ++ waiting place.back) place.fronts ∙ ap (λ l. before ++ l) place.backs);
         size = l.size ∙ o.size;
         counts = λ nexus tag. omega (
-            arith,
-            o.counts nexus tag,
-            l.few nexus tag,
-            how_many-append (answers_to nexus tag) answers more,
-            ap (how_many (is_called nexus tag)) split,
-            how_many-append (is_called nexus tag) before (t ∷ later),
-            how_many-append (is_called nexus tag) before later,
-          );
+          arith,
+          o.counts nexus tag,
+          l.few nexus tag,
+          how_many-append (answers_to nexus tag) answers more,
+          ap (how_many (is_called nexus tag)) split,
+          how_many-append (is_called nexus tag) before (t ∷ later),
+          how_many-append (is_called nexus tag) before later,
+        );
         well = all_joined (IsWell trim sectors) place.front place.back settled
             (all_front (IsWell trim sectors) place.front place.back item (all_in (IsWell trim sectors) o.well))
             (record { waits = tt })

@@ -1,45 +1,30 @@
 -- Quiet moves keep the order of arrival.
-use Rattle.std.proofs.Common.{◌≡◌, ◌⊎◌, ⊎_elim, inl, inr, refl, sym, ap, ◌∙◌, subst, ℕ, ◌+◌, ◌≤◌, ◌<◌, Bool, true, false, List, [], ◌∷◌, ◌++◌, arith, map, length}
-use Rattle.std.specs.Prelude.{◌&&◌, ◌||◌, ◌==◌, if◌then◌else◌, not, Ok}
-use Rattle.std.specs.List.{AllByRecursion, list_any}
+use Rattle.std.proofs.Common.{◌≡◌, ◌⊎◌, inl, inr, refl, sym, ap, ◌∙◌, subst, ℕ, ◌<◌, Bool, true, false, List, arith, length}
+use Rattle.std.specs.Prelude.{◌&&◌}
+use Rattle.std.specs.List.{AllByRecursion}
 use Rattle.std.proofs.lemmas.Bool.{cases_eq}
 use Rattle.satl_base.specs.declared.block.Block.{Block}
-use Rattle.satl_base.specs.declared.request.Request.{Request}
-use Rattle.satl_base.specs.declared.reply.Reply.{Reply}
-use Rattle.satl_base.specs.Cells.{Cell, Pair, nows, put_at}
-use Rattle.satl_base.specs.Lists.{IsIn, how_many}
+use Rattle.satl_base.specs.Cells.{Cell, Pair, put_at}
+use Rattle.satl_base.specs.Lists.{IsIn}
 use Rattle.satl_base.specs.Losses.{Loses}
 use Rattle.satl_base.specs.Moves.{Moves, stay, lose, write}
 use Rattle.satl_base.proofs.CellsLemmas.{change_at-length}
 use Rattle.satl_base.proofs.LossesLemmas.{loses-length}
-use Rattle.satl_cdb.specs.declared.command.Command.{Command}
-use Rattle.satl_cdb.specs.declared.command.Command.TheVariants as commands
-use Rattle.satl_cdb.specs.Table.{says}
-use Rattle.satl_regs.specs.Trim.{addresses_from}
 use Rattle.satl_frame.specs.declared.frames.Frame.{Frame}
 use Rattle.satl_frame.specs.Output.{Answer}
-use Rattle.satl_frame.specs.Output.Answer.{replied}
 use Rattle.satl_line.specs.declared.entry.Entry.{Entry}
-use Rattle.satl_line.specs.Conflict.{conflicts}
 use Rattle.satl_line.specs.Eligible.{IsEligible}
-use Rattle.satl_direct.specs.Device.{Device, is_called}
-use Rattle.satl_direct.specs.Ending.{Ends}
-use Rattle.satl_direct.specs.Laws.{IsGoodReply, IsReadOf, answers_to, asks_by, block_at, is_done, is_good, writes_plainly}
-use Rattle.satl_direct.specs.Quiet.{MayShow, Quiet, writes, written_by}
-use Rattle.satl_direct.specs.Tasks.{range_of}
-use Rattle.satl_direct.specs.Turn.{OneEnds}
-use Rattle.satl_laws.proofs.Ends.{eligible_in, ends_leaves}
-use Rattle.satl_laws.proofs.InOrder.{InOrder, all_front, awaits, holds, item, left_in_order, own, place, sectors, trim}
-use Rattle.satl_laws.proofs.Items.{AreSorted, IsWell, before_free, held, held-append, split_at, waiting, without_is}
-use Rattle.satl_laws.proofs.Names.{asks_self}
-use Rattle.satl_laws.proofs.Requests.{has_name}
-use Rattle.satl_laws.proofs.Seen.{loses_seen, nows_seen, put_elsewhere, put_seen, range_same, within, within_to}
-use Rattle.satl_laws.proofs.Settling.{GivesRight, none_covers, none_to_write, pending, pending_none}
+use Rattle.satl_direct.specs.Device.{Device}
+use Rattle.satl_direct.specs.Laws.{block_at}
+use Rattle.satl_direct.specs.Quiet.{MayShow, writes}
+use Rattle.satl_laws.proofs.Ends.{eligible_in}
+use Rattle.satl_laws.proofs.InOrder.{InOrder, holds, sectors, trim}
+use Rattle.satl_laws.proofs.Seen.{loses_seen, put_elsewhere, put_seen}
 use Rattle.satl_laws.proofs.Sparing.{in_all}
-use Rattle.satl_laws.proofs.Standing.{IsEarly, Leaves, NoneCovers, Stands, later, leaves_done, leaves_still, writes_at}
-use Rattle.satl_laws.proofs.TaskEnds.{Changed, ends_change, ends_read, ends_size, none_written}
-use Rattle.satl_laws.proofs.Tasks.{IsPlainTask, done_good, good_done, may_eligible, reader_fits, reply_apart, tasks_plain, writer_fits, writes_alone}
-use Rattle.satl_laws.proofs.Transferring.{Transfers, after, brings, clash, gives, pair_of, spans}
+use Rattle.satl_laws.proofs.Standing.{Stands}
+use Rattle.satl_laws.proofs.TaskEnds.{none_written}
+use Rattle.satl_laws.proofs.Tasks.{IsPlainTask, tasks_plain, writer_fits}
+use Rattle.satl_laws.proofs.Transferring.{after, brings, pair_of, spans}
 
 module _ (first : Device) where
   -- ---- quiet moves

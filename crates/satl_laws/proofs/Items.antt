@@ -1,7 +1,7 @@
 -- The requests of an input, each a task that waits or settled, and what a sector holds by them.
-use Rattle.std.proofs.Common.{◌≡◌, ◌⊎◌, ⊎_elim, inl, inr, refl, sym, ap, ◌∙◌, subst, ℕ, ◌+◌, ◌<◌, Bool, true, false, List, [], ◌∷◌, ◌++◌, Option, Some, None, arith}
+use Rattle.std.proofs.Common.{◌≡◌, ◌⊎◌, ⊎_elim, inl, inr, refl, sym, ap, ◌∙◌, subst, ℕ, Bool, true, false, List, [], ◌∷◌, ◌++◌, Option, Some, None}
 use Rattle.std.specs.Prelude.{if◌then◌else◌, ◌&&◌, ◌||◌, Ok}
-use Rattle.std.specs.List.{AllByRecursion, list_any}
+use Rattle.std.specs.List.{AllByRecursion}
 use Rattle.satl_base.specs.declared.block.Block.{Block}
 use Rattle.satl_base.specs.declared.request.Request.{Request}
 use Rattle.satl_base.specs.Lists.{IsIn}
@@ -14,7 +14,6 @@ use Rattle.satl_direct.specs.Device.{is_called, without}
 use Rattle.satl_direct.specs.Laws.{brought, writes_plainly}
 use Rattle.satl_direct.specs.Valid.{AreOwn}
 use Rattle.satl_laws.proofs.Names.{called_back, called_self, none_in}
-use Rattle.satl_laws.proofs.Kept.{or_left, or_right}
 use Rattle.satl_laws.proofs.Transferring.{Transfers, after, brings, gives, spans}
 
 -- a request, the task that it is while it waits, and on which sectors it has acted
@@ -90,18 +89,18 @@ place_of (i ∷ is) before t later h = of i.task refl before h (λ b k. place_of
 
 -- ---- tasks
 
--- a task of a list, by its place
-pub record SplitAt (tasks : List Entry) (t : Entry) : Type 0 where
-  pub before : List Entry
-  pub later : List Entry
-  pub split : tasks ≡ before ++ t ∷ later
+-- one of a list, by its place
+pub record SplitAt {X : Type 0} (xs : List X) (x : X) : Type 0 where
+  pub before : List X
+  pub later : List X
+  pub split : xs ≡ before ++ x ∷ later
 
-pub split_at : (tasks : List Entry) (t : Entry) → IsIn t tasks → SplitAt tasks t
-split_at [] t i = elim i [ ]
-split_at (u ∷ us) t i =
+pub split_at : {X : Type 0} (xs : List X) (x : X) → IsIn x xs → SplitAt xs x
+split_at [] x i = elim i [ ]
+split_at (y ∷ ys) x i =
     ⊎_elim
-    (λ same. record { before = []; later = us; split = ap (λ k. k ∷ us) (sym same) })
-    (λ later. let r = split_at us t later in record { before = u ∷ r.before; later = r.later; split = ap (λ l. u ∷ l) r.split })
+    (λ same. record { before = []; later = ys; split = ap (λ k. k ∷ ys) (sym same) })
+    (λ later. let r = split_at ys x later in record { before = y ∷ r.before; later = r.later; split = ap (λ l. y ∷ l) r.split })
     i
 
 -- tasks with names of their own, but for one

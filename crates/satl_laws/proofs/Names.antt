@@ -1,23 +1,19 @@
 -- The nexus and tag of requests, tasks and answers.
-use Rattle.std.proofs.Common.{◌≡◌, ⊎_elim, inl, inr, refl, sym, ap, ◌∙◌, subst, ℕ, ◌+◌, ◌≤◌, ◌<◌, Bool, true, false, List, [], ◌∷◌, ◌++◌, arith, eqb-true, eq-eqb}
+use Rattle.std.proofs.Common.{◌≡◌, ⊎_elim, refl, sym, ap, ◌∙◌, ℕ, ◌+◌, ◌<◌, Bool, true, false, List, [], ◌∷◌, arith, eqb-true, eq-eqb}
 use Rattle.std.specs.Prelude.{if◌then◌else◌, ◌==◌, ◌&&◌, ◌||◌}
 use Rattle.std.specs.List.{list_any}
-use Rattle.satl_base.specs.declared.block.Block.{Block}
 use Rattle.satl_base.specs.declared.request.Request.{Request}
 use Rattle.satl_base.specs.declared.reply.Reply.{Reply}
 use Rattle.satl_base.specs.Lists.{IsIn, how_many}
 use Rattle.satl_base.proofs.ListsLemmas.{none_counted}
-use Rattle.satl_cdb.specs.Table.{says}
-use Rattle.satl_frame.specs.declared.frames.Frame.{Frame}
 use Rattle.satl_frame.specs.declared.frames.Frame.TheVariants as frames
 use Rattle.satl_frame.specs.Output.{Answer}
 use Rattle.satl_frame.specs.Output.Answer.{replied, managed, ended}
 use Rattle.satl_line.specs.declared.entry.Entry.{Entry}
-use Rattle.satl_direct.specs.Device.{is_called, without}
-use Rattle.satl_direct.specs.Laws.{answers_to, asks_by, block_after, brought, content, is_done, is_good}
+use Rattle.satl_direct.specs.Device.{is_called}
+use Rattle.satl_direct.specs.Laws.{answers_to, asks_by, is_done, is_good}
 use Rattle.satl_direct.specs.Valid.{AreOwn}
 use Rattle.satl_laws.proofs.Cases.{both_left, both_right}
-
 use Rattle.satl_laws.proofs.Kept.{or_left, or_right}
 use Rattle.satl_laws.proofs.Seen.{by_test}
 
@@ -96,4 +92,3 @@ own_counted (t ∷ ts) h =
   where
     less : (a b : ℕ) → a + b < 2 → b < 2
     less a b h = omega (arith, h)
-

@@ -7,7 +7,6 @@ use Rattle.std.proofs.lemmas.List.{get_or_past}
 use Rattle.satl_base.specs.declared.block.Block.{Block}
 use Rattle.satl_base.specs.declared.bench.Which.{Which}
 use Rattle.satl_base.specs.declared.bench.Which.TheVariants as flaws
-use Rattle.satl_base.specs.Blocks.{no_block}
 use Rattle.satl_base.specs.Cells.{Cell, Pair, change_at, first_flaw, first_set, has_flaw, nows, pairs_from, put, put_at, whole}
 use Rattle.satl_base.specs.Lists.{IsIn}
 use Rattle.satl_base.specs.Losses.{Loses}

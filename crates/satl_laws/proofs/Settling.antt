@@ -1,6 +1,6 @@
 -- Requests that settle: what stays of their order, and what READs were given.
-use Rattle.std.proofs.Common.{◌≡◌, ◌⊎◌, ⊎_elim, inl, inr, refl, sym, ap, ◌∙◌, subst, ℕ, ◌+◌, ◌≤◌, ◌<◌, Bool, true, false, List, [], ◌∷◌, ◌++◌, Option, Some, None, map, arith}
-use Rattle.std.specs.Prelude.{if◌then◌else◌, ◌&&◌, ◌||◌}
+use Rattle.std.proofs.Common.{◌≡◌, ◌⊎◌, inl, inr, refl, sym, ap, ◌∙◌, ℕ, ◌+◌, ◌≤◌, ◌<◌, Bool, true, false, List, [], ◌∷◌, ◌++◌, Option, Some, None, map}
+use Rattle.std.specs.Prelude.{◌||◌}
 use Rattle.std.specs.List.{AllByRecursion}
 use Rattle.satl_base.specs.declared.block.Block.{Block}
 use Rattle.satl_base.specs.declared.reply.Reply.{Reply}
@@ -11,7 +11,7 @@ use Rattle.satl_line.specs.declared.entry.Entry.{Entry}
 use Rattle.satl_line.specs.Conflict.{conflicts}
 use Rattle.satl_direct.specs.Laws.{IsGoodReply, IsReadOf}
 use Rattle.satl_laws.proofs.Cases.{both_left, both_right}
-use Rattle.satl_laws.proofs.Items.{AreSorted, Awaits, AwaitsIf, IsWell, Item, before_all, covers, held, held-append, is_to_write, left, waiting}
+use Rattle.satl_laws.proofs.Items.{AreSorted, AwaitsIf, IsWell, Item, before_all, covers, held, held-append, is_to_write, left, waiting}
 use Rattle.satl_laws.proofs.Kept.{or_left, or_right}
 use Rattle.satl_laws.proofs.Seen.{by_test, range_same}
 use Rattle.satl_laws.proofs.Standing.{NoneCovers}

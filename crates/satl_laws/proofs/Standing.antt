@@ -1,14 +1,13 @@
 -- What a sector holds while tasks wait, and when one of them leaves.
-use Rattle.std.proofs.Common.{◌≡◌, ◌⊎◌, ⊎_elim, inl, inr, refl, sym, ap, ◌∙◌, subst, ℕ, ◌+◌, ◌<◌, Bool, true, false, List, [], ◌∷◌, ◌++◌, Option, Some, None, arith}
+use Rattle.std.proofs.Common.{◌≡◌, ◌⊎◌, ⊎_elim, inl, inr, refl, sym, ap, ◌∙◌, subst, ℕ, Bool, true, false, List, [], ◌∷◌, ◌++◌, Some}
 use Rattle.std.specs.Prelude.{if◌then◌else◌, ◌&&◌, ◌||◌}
 use Rattle.std.specs.List.{AllByRecursion}
 use Rattle.satl_base.specs.declared.block.Block.{Block}
 use Rattle.satl_cdb.specs.Table.{says}
 use Rattle.satl_line.specs.declared.entry.Entry.{Entry}
-use Rattle.satl_line.specs.Conflict.{conflicts}
 use Rattle.satl_line.specs.Eligible.{IsEligible}
 use Rattle.satl_direct.specs.Laws.{brought}
-use Rattle.satl_laws.proofs.Items.{AreSorted, Awaits, Item, covers, held, held-append, left, still_eligible, waiting}
+use Rattle.satl_laws.proofs.Items.{AreSorted, Awaits, Item, covers, held, held-append, still_eligible, waiting}
 use Rattle.satl_laws.proofs.Seen.{by_test}
 use Rattle.satl_laws.proofs.Transferring.{after, after_twice, brings, gives, spans, still}
 
@@ -76,26 +75,35 @@ module _ (trim : Bool) (n x : ℕ) (v now first : Block) (front back : List Item
     -- it leaves as it waited, where it does not end with GOOD
     pub leaves_still : good ≡ false → now ≡ v → (IsEligible (waiting front ++ t ∷ waiting back) t → writes_at t x ≡ true → NoneCovers x front)
         → Stands x v sum (waiting front ++ t ∷ waiting back) → (acted : Bool) × Leaves acted
-    leaves_still bad same clear (inl holds) = (false, record {
-      sure = λ h. absurd (let no : true ≡ false = sym h ∙ bad in cc);
-      only = λ h. absurd cc;
-      free = λ h. absurd cc;
-      stands = inl (same ∙ holds ∙ not_yet);
-    })
+    leaves_still bad same clear (inl holds) = (
+      false,
+      record {
+        sure = λ h. absurd (let no : true ≡ false = sym h ∙ bad in cc);
+        only = λ h. absurd cc;
+        free = λ h. absurd cc;
+        stands = inl (same ∙ holds ∙ not_yet);
+      },
+    )
     leaves_still bad same clear (inr early) =
         ⊎_elim
-        (λ it. (true, record {
-          sure = λ h. refl;
-          only = λ h. inr (both_first (brings t.command) (spans t.command x) (subst (λ u. writes_at u x ≡ true) it early.writes_it));
-          free = λ h writes. clear (subst (IsEligible (waiting front ++ t ∷ waiting back)) it early.eligible) writes;
-          stands = inl (same ∙ early.is ∙ ap (λ u. after u x sum) it ∙ sym has_acted);
-        }))
-        (λ other. (false, record {
-          sure = λ h. absurd (let no : true ≡ false = sym h ∙ bad in cc);
-          only = λ h. absurd cc;
-          free = λ h. absurd cc;
-          stands = inr (record { task = early.task; eligible = other; writes_it = early.writes_it; is = same ∙ early.is ∙ ap (after early.task x) not_yet });
-        }))
+        (λ it. (
+          true,
+          record {
+            sure = λ h. refl;
+            only = λ h. inr (both_first (brings t.command) (spans t.command x) (subst (λ u. writes_at u x ≡ true) it early.writes_it));
+            free = λ h writes. clear (subst (IsEligible (waiting front ++ t ∷ waiting back)) it early.eligible) writes;
+            stands = inl (same ∙ early.is ∙ ap (λ u. after u x sum) it ∙ sym has_acted);
+          },
+        ))
+        (λ other. (
+          false,
+          record {
+            sure = λ h. absurd (let no : true ≡ false = sym h ∙ bad in cc);
+            only = λ h. absurd cc;
+            free = λ h. absurd cc;
+            stands = inr (record { task = early.task; eligible = other; writes_it = early.writes_it; is = same ∙ early.is ∙ ap (after early.task x) not_yet });
+          },
+        ))
         (still_eligible (waiting front) t (waiting back) early.task early.eligible)
       where
         both_first : (p q : Bool) → (p && q) ≡ true → p ≡ true
@@ -106,28 +114,34 @@ module _ (trim : Bool) (n x : ℕ) (v now first : Block) (front back : List Item
     pub leaves_done : (good ≡ true) ⊎ (brings t.command ≡ true) → now ≡ after t x v → (writes_at t x ≡ true → NoneCovers x front)
         → ((u : Entry) → IsEligible (waiting front ++ t ∷ waiting back) u → writes_at u x ≡ true → writes_at t x ≡ true → u ≡ t)
         → Stands x v sum (waiting front ++ t ∷ waiting back) → (acted : Bool) × Leaves acted
-    leaves_done why is_after clear alone (inl holds) = (true, record {
-      sure = λ h. refl;
-      only = λ h. why;
-      free = λ h. clear;
-      stands = inl (is_after ∙ ap (after t x) holds ∙ sym has_acted);
-    })
-    leaves_done why is_after clear alone (inr early) = (true, record {
-      sure = λ h. refl;
-      only = λ h. why;
-      free = λ h. clear;
-      stands =
-          by_test (λ b. writes_at t x ≡ b → Stands x now (then_holds true) (waiting front ++ waiting back)) (writes_at t x)
-          (λ writes h. let it = alone early.task early.eligible early.writes_it writes in
-          inl (is_after ∙ ap (after t x) (early.is ∙ ap (λ u. after u x sum) it) ∙ after_twice t x sum ∙ sym has_acted))
-          (λ none h. ⊎_elim
-          (λ it. absurd (let no : true ≡ false = sym (subst (λ u. writes_at u x ≡ true) it early.writes_it) ∙ none in cc))
-          (λ other. inr (record {
-            task = early.task;
-            eligible = other;
-            writes_it = early.writes_it;
-            is = is_after ∙ still t x v none ∙ early.is ∙ ap (after early.task x) (sym (has_acted ∙ still t x sum none));
-          }))
-          (still_eligible (waiting front) t (waiting back) early.task early.eligible))
-          refl;
-    })
+    leaves_done why is_after clear alone (inl holds) = (
+      true,
+      record {
+        sure = λ h. refl;
+        only = λ h. why;
+        free = λ h. clear;
+        stands = inl (is_after ∙ ap (after t x) holds ∙ sym has_acted);
+      },
+    )
+    leaves_done why is_after clear alone (inr early) = (
+      true,
+      record {
+        sure = λ h. refl;
+        only = λ h. why;
+        free = λ h. clear;
+        stands =
+            by_test (λ b. writes_at t x ≡ b → Stands x now (then_holds true) (waiting front ++ waiting back)) (writes_at t x)
+            (λ writes h. let it = alone early.task early.eligible early.writes_it writes in
+            inl (is_after ∙ ap (after t x) (early.is ∙ ap (λ u. after u x sum) it) ∙ after_twice t x sum ∙ sym has_acted))
+            (λ none h. ⊎_elim
+            (λ it. absurd (let no : true ≡ false = sym (subst (λ u. writes_at u x ≡ true) it early.writes_it) ∙ none in cc))
+            (λ other. inr (record {
+              task = early.task;
+              eligible = other;
+              writes_it = early.writes_it;
+              is = is_after ∙ still t x v none ∙ early.is ∙ ap (after early.task x) (sym (has_acted ∙ still t x sum none));
+            }))
+            (still_eligible (waiting front) t (waiting back) early.task early.eligible))
+            refl;
+      },
+    )

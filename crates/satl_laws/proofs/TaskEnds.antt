@@ -1,26 +1,22 @@
 -- How the task of a command that changes no block but as a WRITE does ends: what is read, and what its sectors hold.
-use Rattle.std.proofs.Common.{◌≡◌, ◌⊎◌, ⊎_elim, inl, inr, refl, sym, ap, ◌∙◌, subst, ℕ, zero, suc, ◌+◌, ◌≤◌, ◌<◌, Bool, true, false, List, [], ◌∷◌, Option, Some, None, arith, length, map}
-use Rattle.std.specs.Prelude.{◌&&◌, ◌||◌, not, MatchBool, Ok, get_or, slice_get}
-use Rattle.std.specs.Option.{option_map}
-use Rattle.std.specs.List.{AllByRecursion}
+use Rattle.std.proofs.Common.{◌≡◌, ◌⊎◌, ⊎_elim, inl, inr, refl, sym, ap, ◌∙◌, subst, ℕ, zero, suc, ◌<◌, Bool, true, false, List, [], ◌∷◌, Option, Some, None, length}
+use Rattle.std.specs.Prelude.{◌&&◌, ◌||◌, not, Ok}
 use Rattle.std.proofs.lemmas.Bool.{cases_eq}
-use Rattle.satl_base.specs.declared.bench.Which.TheVariants as flaws
 use Rattle.satl_base.specs.declared.block.Block.{Block}
 use Rattle.satl_base.specs.declared.reply.Reply.{Reply}
 use Rattle.satl_base.specs.Blocks.{no_block}
-use Rattle.satl_base.specs.Cells.{Cell, Pair, Part, first_flaw, nows, put_at, settle, whole}
+use Rattle.satl_base.specs.Cells.{Cell, Pair, Part, nows, put_at, whole}
 use Rattle.satl_base.specs.Lists.{IsIn}
 use Rattle.satl_base.proofs.CellsLemmas.{change_at-length}
 use Rattle.satl_cdb.specs.declared.command.Command.{Command}
 use Rattle.satl_cdb.specs.declared.command.Command.TheVariants as commands
 use Rattle.satl_sense.specs.declared.sense.Sense.{Sense}
 use Rattle.satl_line.specs.declared.entry.Entry.{Entry}
-use Rattle.satl_line.specs.Ranged.{RangedTask}
 use Rattle.satl_line.specs.Ranged.RangedTask.{ranged_read, ranged_write}
 use Rattle.satl_line.specs.Ending.{EndsAs, Outcome}
 use Rattle.satl_line.specs.Ending.Outcome.{ends_done, ends_flawed, ends_glitched}
 use Rattle.satl_direct.specs.Device.{Device}
-use Rattle.satl_direct.specs.Ending.{Ends, EndsBy, EndsOnMedium, IsChecked, outcome_reply}
+use Rattle.satl_direct.specs.Ending.{Ends, EndsBy, IsChecked, outcome_reply}
 use Rattle.satl_direct.specs.Laws.{Spares, block_at, is_good, now_at, writes_plainly}
 use Rattle.satl_direct.specs.Quiet.{writes, written_by}
 use Rattle.satl_direct.specs.Tasks.{asks, over, range_of}
@@ -123,7 +119,7 @@ module _ (s new : Device) (t : Entry) (reply : Reply) where
     where
       bad : is_good reply.status ≡ false → reply.body ≡ nows s.cells lba count
       bad h = let no : true ≡ false = sym good ∙ h in absurd cc
-  
+
       go : (o : Outcome) → EndsAs s.modes.wce (ranged_read fua (over lba count)) o s.cells s.glitches new.cells new.glitches → reply ≡ outcome_reply s t (ranged_read fua (over lba count)) o → reply.body ≡ nows s.cells lba count
       go (ends_done blocks) d is = ap (λ r. r.body) is ∙ d.read
       go (ends_flawed lba_of) f is = bad (ap (λ r. is_good r.status) is)

@@ -1,19 +1,18 @@
 -- The tasks that wait, with what their items say of them.
-use Rattle.std.proofs.Common.{◌≡◌, ◌⊎◌, ⊎_elim, inl, inr, refl, sym, ap, ◌∙◌, subst, ℕ, ◌+◌, ◌≤◌, ◌<◌, Bool, true, false, List, [], ◌∷◌, ◌++◌, Option, Some, None, arith, length}
+use Rattle.std.proofs.Common.{◌≡◌, ⊎_elim, inl, inr, refl, sym, ap, ◌∙◌, ℕ, Bool, true, false, List, [], ◌∷◌, Option, Some, None}
 use Rattle.std.specs.Prelude.{◌&&◌, ◌||◌, ◌==◌, not, Ok}
-use Rattle.std.specs.List.{AllByRecursion, list_any}
+use Rattle.std.specs.List.{AllByRecursion}
 use Rattle.satl_base.specs.declared.request.Request.{Request}
 use Rattle.satl_base.specs.declared.reply.Reply.{Reply}
 use Rattle.satl_frame.specs.Output.Answer.{replied}
 use Rattle.satl_line.specs.declared.entry.Entry.{Entry}
-use Rattle.satl_line.specs.Conflict.{conflicts}
 use Rattle.satl_line.specs.Eligible.{IsEligible}
 use Rattle.satl_direct.specs.Laws.{is_done, is_good, writes_plainly}
 use Rattle.satl_direct.specs.Turn.{IsFirst, MayEnd}
 use Rattle.satl_direct.specs.Device.{Device}
 use Rattle.satl_laws.proofs.Cases.{both_left, both_right, by_bool}
 use Rattle.satl_laws.proofs.Items.{AwaitsIf, IsWell, Item, before_all, both_eligible, waiting}
-use Rattle.satl_laws.proofs.Names.{and_three, swapped}
+use Rattle.satl_laws.proofs.Names.{and_three, asks_self, swapped}
 use Rattle.satl_laws.proofs.Requests.{has_name}
 use Rattle.satl_laws.proofs.Standing.{writes_at}
 use Rattle.satl_laws.proofs.Transferring.{Transfers, brings, clash, gives, spans}
@@ -67,12 +66,16 @@ may_eligible s t = by_bool (s.down || not s.started) (first s.tasks) (λ e. e)
 
 -- ---- answers
 
--- a reply to a task is none to a request of another name
-pub reply_apart : (t : Entry) (r : Request) (reply : Reply) → reply.nexus ≡ t.nexus → reply.tag ≡ t.tag → has_name t.nexus (t.tag).0 r ≡ false → (is_done r (replied reply) || false) ≡ false
-reply_apart t r reply n g h =
+-- a reply to one name is none to a request of another
+pub reply_other : (nexus tag : ℕ) (r : Request) (reply : Reply) → reply.nexus ≡ nexus → (reply.tag).0 ≡ tag → has_name nexus tag r ≡ false → (is_done r (replied reply) || false) ≡ false
+reply_other nexus tag r reply n g h =
     ap (λ b. b || false)
     (and_three (reply.nexus == r.nexus) ((reply.tag).0 == (r.tag).0) (is_good reply.status)
-    (ap (λ k. (k == r.nexus) && ((reply.tag).0 == (r.tag).0)) n ∙ ap (λ k. (t.nexus == r.nexus) && (k.0 == (r.tag).0)) g ∙ swapped r.nexus t.nexus (r.tag).0 (t.tag).0 h))
+    (ap (λ k. (k == r.nexus) && ((reply.tag).0 == (r.tag).0)) n ∙ ap (λ k. (nexus == r.nexus) && (k == (r.tag).0)) g ∙ swapped r.nexus nexus (r.tag).0 tag h))
+
+-- one to its own name is named so
+pub reply_named : (r : Request) (reply : Reply) → reply.nexus ≡ r.nexus → reply.tag ≡ r.tag → ((reply.nexus == r.nexus) && ((reply.tag).0 == (r.tag).0)) ≡ true
+reply_named r reply n g = ap (λ k. (k == r.nexus) && ((reply.tag).0 == (r.tag).0)) n ∙ ap (λ k. (r.nexus == r.nexus) && (k.0 == (r.tag).0)) g ∙ asks_self r
 
 -- a reply that is done is GOOD
 pub done_good : (r : Request) (reply : Reply) → (is_done r (replied reply) || false) ≡ true → is_good reply.status ≡ true

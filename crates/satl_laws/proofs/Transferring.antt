@@ -1,25 +1,20 @@
 -- Tasks of READ and WRITE: when they conflict, and what they write.
-use Rattle.std.proofs.Common.{◌≡◌, ◌⊎◌, ⊎_elim, inl, inr, refl, sym, ap, ◌∙◌, subst, ℕ, zero, suc, ◌+◌, ◌≤◌, ◌<◌, Bool, true, false, List, [], ◌∷◌, ◌++◌, arith, map, length, eqb-true, eq-eqb}
-use Rattle.std.specs.Prelude.{if◌then◌else◌, not, ◌==◌, ◌&&◌, ◌||◌, min, max, ◌-◌, get_or, Ok}
-use Rattle.std.specs.List.{AllByRecursion, list_any}
+use Rattle.std.proofs.Common.{◌≡◌, ◌⊎◌, ⊎_elim, inl, inr, refl, ap, ◌∙◌, ℕ, zero, suc, ◌+◌, ◌≤◌, ◌<◌, Bool, true, false, List, [], ◌∷◌, arith, length}
+use Rattle.std.specs.Prelude.{if◌then◌else◌, not, ◌&&◌, ◌||◌, min, max, ◌-◌, get_or, Ok}
 use Rattle.std.proofs.lemmas.Bool.{lt-ltb}
 use Rattle.satl_base.specs.declared.block.Block.{Block}
 use Rattle.satl_base.specs.declared.block.Range.{Range}
 use Rattle.satl_base.specs.Cells.{Cell, Pair, whole}
-use Rattle.satl_base.specs.Lists.{IsIn, remove_first}
+use Rattle.satl_base.specs.Lists.{IsIn}
 use Rattle.satl_cdb.specs.declared.command.Command.{Command}
 use Rattle.satl_cdb.specs.declared.command.Command.TheVariants as commands
 use Rattle.satl_line.specs.declared.entry.Entry.{Entry}
 use Rattle.satl_line.specs.declared.entry.Kind.TheVariants.{Ranged}
 use Rattle.satl_line.specs.Conflict.{access_of, accesses_conflict, any_meet, conflicts, is_write, ranges_meet}
-use Rattle.satl_line.specs.Eligible.{IsEligible, IsEligibleBy}
-use Rattle.satl_direct.specs.Device.{Device, is_called}
+use Rattle.satl_direct.specs.Device.{Device}
 use Rattle.satl_direct.specs.Laws.{block_at, brought}
 use Rattle.satl_direct.specs.Quiet.{writes, written_by}
 use Rattle.satl_direct.specs.Tasks.{range_of}
-use Rattle.satl_direct.specs.Valid.{AreOwn}
-use Rattle.satl_laws.proofs.Cases.{both_left, both_right}
-use Rattle.satl_laws.proofs.Kept.{or_left, or_right}
 use Rattle.satl_laws.proofs.Seen.{by_test, in_row, row_seen, within, within_from, within_to}
 
 -- whether a command is a READ
