@@ -97,11 +97,15 @@ is_good Good = true
 is_good CheckCondition = false
 is_good TaskSetFull = false
 
--- whether a request was answered with GOOD (SAM-5 5.3.1)
+-- whether an answer is GOOD to a request (SAM-5 5.3.1)
 abbrev pub is_done : Request → Answer → Bool
 is_done r (replied reply) = (reply.nexus == r.nexus) && ((reply.tag).0 == (r.tag).0) && is_good reply.status
 is_done r (managed from function response named) = false
 is_done r ended = false
+
+-- whether a request was answered with GOOD (SAM-5 5.3.1)
+abbrev pub was_done : List Answer → Request → Bool
+was_done answers r = list_any (is_done r) answers
 
 -- the block that a WRITE brings to a sector of its range, and else what was there (SBC-3 5.31)
 abbrev pub brought : Result Command Illegal → List Block → ℕ → Block → Block
@@ -109,29 +113,58 @@ brought (Ok (commands.Write form lba count fua)) body x was = if nat_le lba x &&
 brought (Ok command) body x was = was
 brought (Err why) body x was = was
 
--- a sector's block after an event, where the requests were answered so (SBC-3 5)
-abbrev pub block_after : Bool → List Answer → ℕ → Frame → Block → Block
-block_after trim answers x (frames.Request r) was = if list_any (is_done r) answers then brought (says r.cdb trim) r.body x was else was
-block_after trim answers x (frames.Manage m) was = was
-block_after trim answers x (frames.Turn count) was = was
-block_after trim answers x (frames.Bench event) was = was
-block_after trim answers x frames.End was = was
+-- a sector's block after an event, where these requests have acted on it (SBC-3 5)
+abbrev pub block_after : (Request → Bool) → Bool → ℕ → Frame → Block → Block
+block_after acted trim x (frames.Request r) was = if acted r then brought (says r.cdb trim) r.body x was else was
+block_after acted trim x (frames.Manage m) was = was
+block_after acted trim x (frames.Turn count) was = was
+block_after acted trim x (frames.Bench event) was = was
+block_after acted trim x frames.End was = was
 
--- a sector's block by the WRITEs answered with GOOD, in the order of the input (SBC-3 5)
-abbrev pub content : Bool → List Answer → ℕ → List Frame → Block → Block
-content trim answers x [] was = was
-content trim answers x (event ∷ events) was = content trim answers x events (block_after trim answers x event was)
+-- a sector's block by the WRITEs that have acted on it, in the order of the input (SBC-3 5)
+abbrev pub content : (Request → Bool) → Bool → ℕ → List Frame → Block → Block
+content acted trim x [] was = was
+content acted trim x (event ∷ events) was = content acted trim x events (block_after acted trim x event was)
 
--- READ and WRITE, on a drive that trims or not (SBC-3 5)
-abbrev pub is_transfer : Result Command Illegal → Bool
-is_transfer (Ok (commands.Read form lba count fua)) = true
-is_transfer (Ok (commands.Write form lba count fua)) = true
-is_transfer (Ok command) = false
-is_transfer (Err why) = true
+-- what a read of a sector gives, and no block past the last (SBC-3)
+abbrev pub block_at : List Cell → ℕ → Block
+block_at cells x = get_or (map (λ c. c.now) cells) x no_block
 
--- a request for a transfer, TURN, ORDER or END (profile)
+-- a READ of a range (SBC-3 5.10)
+abbrev pub IsReadOf : Result Command Illegal → ℕ → ℕ → Type 0
+IsReadOf (Ok (commands.Read form from number fua)) lba count = (from ≡ lba) × (number ≡ count)
+IsReadOf (Ok command) lba count = ⊥
+IsReadOf (Err why) lba count = ⊥
+
+-- a reply that answers a request with GOOD (SAM-5 5.3.1)
+pub record IsGoodReply (r : Request) (reply : Reply) (answers : List Answer) : Type 0 where
+  pub among : IsIn (replied reply) answers
+  pub done : is_done r (replied reply) ≡ true
+
+-- each READ that is answered with GOOD gives for each sector the block of the last WRITE before it in the input that has acted on the
+-- sector, and at the end each sector has the block of the last of all these; without one, the block that it had at first (SBC-3 5)
+pub record IsInOrder (acted : ℕ → Request → Bool) (first : Device) (all : List Frame) (answers : List Answer) (last : Device) : Type 0 where
+  pub reads : (before after : List Frame) (r : Request) (reply : Reply) (lba count : ℕ) → all ≡ before ++ frames.Request r ∷ after → IsReadOf (says r.cdb first.identity.trim) lba count →
+      IsGoodReply r reply answers → reply.body ≡ map (λ x. content (acted x) first.identity.trim x before (block_at first.cells x)) (addresses_from lba count)
+  pub writes : (x : ℕ) (c : Cell) → slice_get last.cells x ≡ Some c → c.now ≡ content (acted x) first.identity.trim x all (block_at first.cells x)
+
+-- whether a CDB changes no block but as a WRITE does: it is no WRITE SAME, UNMAP or ATA PASS-THROUGH (SBC-3 5; SAT-3 12.2)
+abbrev pub writes_plainly : Result Command Illegal → Bool
+writes_plainly (Ok (commands.WriteSame form lba count unmap)) = false
+writes_plainly (Ok (commands.Unmap size)) = false
+writes_plainly (Ok (commands.Pass cdb)) = false
+writes_plainly (Ok command) = true
+writes_plainly (Err why) = true
+
+-- whether it stops or starts the unit (SBC-3, START STOP UNIT)
+abbrev pub stops_or_starts : Result Command Illegal → Bool
+stops_or_starts (Ok (commands.StartStop starts no_flush)) = true
+stops_or_starts (Ok command) = false
+stops_or_starts (Err why) = false
+
+-- a request that changes no block but as a WRITE does, and is no START STOP UNIT; TURN, ORDER or END (profile)
 abbrev pub is_plain : Bool → Frame → Bool
-is_plain trim (frames.Request r) = is_transfer (says r.cdb trim)
+is_plain trim (frames.Request r) = writes_plainly (says r.cdb trim) && not (stops_or_starts (says r.cdb trim))
 is_plain trim (frames.Manage m) = false
 is_plain trim (frames.Turn count) = true
 is_plain trim (frames.Bench (events.Order order)) = true
@@ -150,32 +183,35 @@ pub record IsFresh (s : Device) : Type 0 where
   pub no_flaws : AllByRecursion (λ c. (c.read_flaw ≡ false) × (c.write_flaw ≡ false)) s.cells
   pub no_glitches : s.glitches ≡ 0
 
--- the blocks of a range by the WRITEs before (SBC-3 5)
-abbrev pub contents : Bool → List Answer → List Frame → List Cell → ℕ → ℕ → List Block
-contents trim answers before cells lba count = map (λ x. content trim answers x before (get_or (map (λ c. c.now) cells) x no_block)) (addresses_from lba count)
-
--- a READ of a range (SBC-3 5.10)
-abbrev pub IsReadOf : Result Command Illegal → ℕ → ℕ → Type 0
-IsReadOf (Ok (commands.Read form from number fua)) lba count = (from ≡ lba) × (number ≡ count)
-IsReadOf (Ok command) lba count = ⊥
-IsReadOf (Err why) lba count = ⊥
-
--- a reply that answers a request with GOOD (SAM-5 5.3.1)
-pub record IsGoodReply (r : Request) (reply : Reply) (answers : List Answer) : Type 0 where
-  pub among : IsIn (replied reply) answers
-  pub done : is_done r (replied reply) ≡ true
-
--- each READ that is answered with GOOD gives the blocks of the WRITEs answered with GOOD before it in the input, and at the end each
--- sector has the block of the last of all these (SBC-3 5)
-pub record IsInOrder (first : Device) (all : List Frame) (answers : List Answer) (last : Device) : Type 0 where
-  pub reads : (before after : List Frame) (r : Request) (reply : Reply) (lba count : ℕ) → all ≡ before ++ frames.Request r ∷ after → IsReadOf (says r.cdb first.identity.trim) lba count →
-      IsGoodReply r reply answers → reply.body ≡ contents first.identity.trim answers before first.cells lba count
-  pub writes : (x : ℕ) (c : Cell) → slice_get last.cells x ≡ Some c → c.now ≡ content first.identity.trim answers x all (get_or (map (λ c. c.now) first.cells) x no_block)
-
--- law of arrival order: in a run of transfers to END, from a device at rest, without losses (SAM-5 8, command order; SBC-3 5)
+-- law of arrival order: in a run to END, without losses, from a device at rest, the WRITEs that are answered with GOOD have acted, and no
+-- other (SAM-5 8, command order; SBC-3 5)
 abbrev pub ArrivalOrder : Type 0
 ArrivalOrder = (first last : Device) (all : List Frame) (answers : List Answer) → Run first (all ++ frames.End ∷ []) 0 answers last →
-    IsValid first → IsFresh first → AllByRecursion (λ f. is_plain first.identity.trim f ≡ true) all → AskOnce all → IsInOrder first all answers last
+    IsValid first → IsFresh first → AllByRecursion (λ f. is_plain first.identity.trim f ≡ true) all → AskOnce all → IsInOrder (λ x. was_done answers) first all answers last
+
+-- Law of order under errors.
+
+-- whether an event is neither a loss of power nor a request that changes blocks other than as a WRITE does (profile)
+abbrev pub is_mild : Bool → Frame → Bool
+is_mild trim (frames.Request r) = writes_plainly (says r.cdb trim)
+is_mild trim (frames.Manage m) = true
+is_mild trim (frames.Turn count) = true
+is_mild trim (frames.Bench events.Power) = false
+is_mild trim (frames.Bench event) = true
+is_mild trim frames.End = true
+
+-- on each sector each WRITE has acted or not, once and for all; one that was answered with GOOD has (SBC-3 5)
+pub record HasOutcomes (first : Device) (all : List Frame) (answers : List Answer) (last : Device) : Type 0 where
+  pub acted : ℕ → Request → Bool
+  pub done : (x : ℕ) (r : Request) → IsIn (frames.Request r) all → was_done answers r ≡ true → acted x r ≡ true
+  pub in_order : IsInOrder acted first all answers last
+
+-- law of order under errors: in a run with flaws, glitches, losses of the link and task management functions, from a device without
+-- tasks, each WRITE that is not answered with GOOD has acted on each sector or not, and for the rest all is in order of arrival
+-- (SAM-5 8, command order; SBC-3 5)
+abbrev pub OrderUnderErrors : Type 0
+OrderUnderErrors = (first last : Device) (all : List Frame) (losses : ℕ) (answers : List Answer) → Run first all losses answers last →
+    IsValid first → first.tasks ≡ [] → AllByRecursion (λ f. is_mild first.identity.trim f ≡ true) all → AskOnce all → HasOutcomes first all answers last
 
 -- Law of untouched sectors.
 

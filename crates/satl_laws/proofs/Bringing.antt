@@ -1,6 +1,6 @@
--- What the request of a READ or a WRITE becomes when it arrives.
+-- What a request that changes no block but as a WRITE does becomes when it arrives.
 use Rattle.std.proofs.Common.{◌≡◌, refl, sym, ap, ◌∙◌, subst, ℕ, ◌+◌, ◌≤◌, Bool, true, false, List, [], ◌∷◌, Option, Some, None, arith, take, eqb-true}
-use Rattle.std.specs.Prelude.{◌-◌, if◌then◌else◌, not, ◌==◌, ◌||◌, ◌&&◌, nat_lt, slice_index, get_or, Result, Ok, Err}
+use Rattle.std.specs.Prelude.{◌-◌, if◌then◌else◌, not, ◌==◌, ◌||◌, ◌&&◌, nat_lt, slice_get, slice_index, get_or, Result, Ok, Err}
 use Rattle.std.specs.List.{list_any}
 use Rattle.std.proofs.lemmas.Bool.{ltb-false}
 use Rattle.std.proofs.lemmas.List.{get_or-take, length-take}
@@ -17,13 +17,13 @@ use Rattle.satl_cdb.specs.PrimaryCommands.{inquiry, request_sense}
 use Rattle.satl_cdb.specs.Table.{says, table}
 use Rattle.satl_unit.specs.declared.attention.Attention.{Attention}
 use Rattle.satl_line.specs.declared.entry.Entry.{Entry}
-use Rattle.satl_direct.specs.Device.{Device, is_called}
-use Rattle.satl_direct.specs.Tasks.{asks, is_full, needed, range_of}
-use Rattle.satl_direct.specs.Arrival.{Arrival, arrival, asks_for, attention_arrival, attention_for, becomes, built, cdb_arrival, code_arrival, code_of, command_arrival, is_unit_0, other_arrival, readiness, unless_refused}
+use Rattle.satl_direct.specs.Device.{Device, attentions_of, is_called}
+use Rattle.satl_direct.specs.Tasks.{asks, is_full, needed, range_of, task_for}
+use Rattle.satl_direct.specs.Arrival.{Arrival, arrival, asks_for, attention_arrival, attention_for, becomes, built, cdb_arrival, code_arrival, code_of, command_arrival, is_unit_0, other_arrival, placed, placed_unless, readiness, sense_told, unless_refused}
 use Rattle.satl_direct.specs.Arrival.Arrival.{answered, attended, overlaps, waits}
-use Rattle.satl_direct.specs.Laws.{IsReadOf, brought, is_good, is_transfer}
+use Rattle.satl_direct.specs.Laws.{IsReadOf, brought, is_good, writes_plainly}
 use Rattle.satl_laws.proofs.Cases.{both_left}
-use Rattle.satl_laws.proofs.Following.{Transfers, after}
+use Rattle.satl_laws.proofs.Transferring.{Transfers, after, brings, gives}
 use Rattle.satl_laws.proofs.Seen.{by_test, within, within_from}
 
 -- an answer at once: where it says GOOD, the request writes nothing, and reads nothing
@@ -34,10 +34,10 @@ pub record Answers (said : Result Command Illegal) (body : List Block) (reply : 
 -- a task of the request
 pub record Waits (n : ℕ) (said : Result Command Illegal) (body : List Block) (t : Entry) : Type 0 where
   pub says_it : said ≡ Ok t.command
-  pub transfers : Transfers n t
+  pub fits : gives t.command || brings t.command ≡ true → Transfers n t
   pub leaves : (x : ℕ) (v : Block) → after t x v ≡ brought said body x v
 
--- what a READ or a WRITE becomes on a device of so many sectors, that has a task of its nexus and tag or not
+-- what a request becomes on a device of so many sectors, that has a task of its nexus and tag or not
 abbrev pub Gets : ℕ → Bool → Result Command Illegal → List Block → Arrival → Type 0
 Gets n has said body (answered reply) = Answers said body reply
 Gets n has said body (attended reply) = Answers said body reply
@@ -55,27 +55,69 @@ refused said body reply h = record {
 unknown : (why : Illegal) (body : List Block) (reply : Reply) → Answers (Err why) body reply
 unknown why body reply = record { writes_none = λ good x v. refl; reads_none = λ good lba count is. absurd is }
 
+-- a command that is no READ and no WRITE brings nothing
+none_brought : (c : Command) → gives c || brings c ≡ false → (body : List Block) (x : ℕ) (v : Block) → brought (Ok c) body x v ≡ v
+none_brought commands.TestUnitReady h body x v = refl
+none_brought (commands.RequestSense descriptor alloc) h body x v = refl
+none_brought (commands.Inquiry page alloc) h body x v = refl
+none_brought (commands.ModeSense ten long_lba no_descriptor control page alloc) h body x v = refl
+none_brought (commands.ModeSelect ten size) h body x v = refl
+none_brought (commands.StartStop start no_flush) h body x v = refl
+none_brought commands.ReadCapacity10 h body x v = refl
+none_brought (commands.ReadCapacity16 alloc) h body x v = refl
+none_brought (commands.ReportLuns select alloc) h body x v = refl
+none_brought (commands.Read form lba count fua) h body x v = refl
+none_brought (commands.Write form lba count fua) h body x v = absurd cc
+none_brought (commands.Verify form lba count compare) h body x v = refl
+none_brought (commands.Flush form lba count) h body x v = refl
+none_brought (commands.WriteSame form lba count unmap) h body x v = refl
+none_brought (commands.Unmap size) h body x v = refl
+none_brought (commands.Pass cdb) h body x v = refl
+
+-- and is no READ
+none_read : (c : Command) → gives c || brings c ≡ false → (lba count : ℕ) → IsReadOf (Ok c) lba count → ⊥
+none_read commands.TestUnitReady h lba count is = is
+none_read (commands.RequestSense descriptor alloc) h lba count is = is
+none_read (commands.Inquiry page alloc) h lba count is = is
+none_read (commands.ModeSense ten long_lba no_descriptor control page alloc) h lba count is = is
+none_read (commands.ModeSelect ten size) h lba count is = is
+none_read (commands.StartStop start no_flush) h lba count is = is
+none_read commands.ReadCapacity10 h lba count is = is
+none_read (commands.ReadCapacity16 alloc) h lba count is = is
+none_read (commands.ReportLuns select alloc) h lba count is = is
+none_read (commands.Read form from number fua) h lba count is = cc
+none_read (commands.Write form from number fua) h lba count is = is
+none_read (commands.Verify form from number compare) h lba count is = is
+none_read (commands.Flush form from number) h lba count is = is
+none_read (commands.WriteSame form from number unmap) h lba count is = is
+none_read (commands.Unmap size) h lba count is = is
+none_read (commands.Pass cdb) h lba count is = is
+
+-- any answer to such a command
+silent : (c : Command) → gives c || brings c ≡ false → (body : List Block) (reply : Reply) → Answers (Ok c) body reply
+silent c h body reply = record { writes_none = λ good x v. none_brought c h body x v; reads_none = λ good lba count is. absurd (none_read c h lba count is) }
+
 -- a row of the table that is no READ and no WRITE
-found_unknown : (rules : List Rule) (cdb : List ℕ) (c : Command) → is_transfer (Ok c) ≡ false → is_transfer (unless_broken rules cdb c) ≡ true → (body : List Block) (reply : Reply) → Answers (unless_broken rules cdb c) body reply
-found_unknown [] cdb c other h body reply = absurd (let no : true ≡ false = sym h ∙ other in cc)
-found_unknown (rule ∷ rules) cdb c other h body reply =
-    by_test (λ b. is_transfer (if b then Err rule.refusal else unless_broken rules cdb c) ≡ true → Answers (if b then Err rule.refusal else unless_broken rules cdb c) body reply) (rule.breaks cdb)
-    (λ broken k. unknown rule.refusal body reply)
-    (λ fine k. found_unknown rules cdb c other k body reply) h
+found_unknown : (rules : List Rule) (cdb : List ℕ) (c : Command) → gives c || brings c ≡ false → (body : List Block) (reply : Reply) → Answers (unless_broken rules cdb c) body reply
+found_unknown [] cdb c other body reply = silent c other body reply
+found_unknown (rule ∷ rules) cdb c other body reply =
+    by_test (λ b. Answers (if b then Err rule.refusal else unless_broken rules cdb c) body reply) (rule.breaks cdb)
+    (λ broken. unknown rule.refusal body reply)
+    (λ fine. found_unknown rules cdb c other body reply)
 
 -- no INQUIRY is a READ or a WRITE
-inquiry_unknown : (cdb : List ℕ) (trim : Bool) → slice_index cdb 0 ≡ 0x12 → is_transfer (says cdb trim) ≡ true → (body : List Block) (reply : Reply) → Answers (says cdb trim) body reply
+inquiry_unknown : (cdb : List ℕ) (trim : Bool) → slice_index cdb 0 ≡ 0x12 → (body : List Block) (reply : Reply) → Answers (says cdb trim) body reply
 unfolding says
-inquiry_unknown cdb trim code h body reply =
+inquiry_unknown cdb trim code body reply =
     let is : says cdb trim ≡ found_says (Some inquiry) cdb = ap (λ c. found_says (format_of (table trim) c) cdb) code in
-    subst (λ said. Answers said body reply) (sym is) (found_unknown (inquiry.rules) cdb (inquiry.command cdb) refl (sym (ap is_transfer is) ∙ h) body reply)
+    subst (λ said. Answers said body reply) (sym is) (found_unknown (inquiry.rules) cdb (inquiry.command cdb) refl body reply)
 
 -- nor is REQUEST SENSE
-sense_unknown : (cdb : List ℕ) (trim : Bool) → slice_index cdb 0 ≡ 0x03 → is_transfer (says cdb trim) ≡ true → (body : List Block) (reply : Reply) → Answers (says cdb trim) body reply
+sense_unknown : (cdb : List ℕ) (trim : Bool) → slice_index cdb 0 ≡ 0x03 → (body : List Block) (reply : Reply) → Answers (says cdb trim) body reply
 unfolding says
-sense_unknown cdb trim code h body reply =
+sense_unknown cdb trim code body reply =
     let is : says cdb trim ≡ found_says (Some request_sense) cdb = ap (λ c. found_says (format_of (table trim) c) cdb) code in
-    subst (λ said. Answers said body reply) (sym is) (found_unknown (request_sense.rules) cdb (request_sense.command cdb) refl (sym (ap is_transfer is) ∙ h) body reply)
+    subst (λ said. Answers said body reply) (sym is) (found_unknown (request_sense.rules) cdb (request_sense.command cdb) refl body reply)
 
 module _ (s : Device) (r : Request) where
   -- how many sectors there are
@@ -128,7 +170,7 @@ module _ (s : Device) (r : Request) where
       (λ full. refused _ r.body _ refl)
       (λ room. record {
         says_it = refl;
-        transfers = record { either = refl; kind = refl; ranges = refl; inside = inside; fits = omega arith };
+        fits = λ h. record { either = refl; kind = refl; ranges = refl; inside = inside; fits = omega arith };
         leaves = λ x v. refl;
       }))
 
@@ -140,24 +182,43 @@ module _ (s : Device) (r : Request) where
       (λ full. refused _ r.body _ refl)
       (λ room. record {
         says_it = refl;
-        transfers = record { either = refl; kind = refl; ranges = refl; inside = inside; fits = omega (arith, length-take count r.body) };
+        fits = λ h. record { either = refl; kind = refl; ranges = refl; inside = inside; fits = omega (arith, length-take count r.body) };
         leaves = λ x v. first_blocks lba count x v;
       }))
 
-  becomes_gets : (c : Command) → is_transfer (Ok c) ≡ true → (range_of c).lba + (range_of c).count ≤ n → Gets n has (Ok c) r.body (becomes s r c)
-  becomes_gets commands.TestUnitReady h inside = absurd cc
-  becomes_gets (commands.RequestSense descriptor alloc) h inside = absurd cc
-  becomes_gets (commands.Inquiry page alloc) h inside = absurd cc
-  becomes_gets (commands.ModeSense ten long_lba no_descriptor control page alloc) h inside = absurd cc
-  becomes_gets (commands.ModeSelect ten size) h inside = absurd cc
-  becomes_gets (commands.StartStop start no_flush) h inside = absurd cc
-  becomes_gets commands.ReadCapacity10 h inside = absurd cc
-  becomes_gets (commands.ReadCapacity16 alloc) h inside = absurd cc
-  becomes_gets (commands.ReportLuns select alloc) h inside = absurd cc
+  -- another command that makes a task
+  placed_gets : (c : Command) → gives c || brings c ≡ false → Gets n has (Ok c) r.body (placed s r c)
+  placed_gets c h =
+      either_gets (Ok c) (is_full s.tasks c) _ _
+      (λ full. refused _ r.body _ refl)
+      (λ room. record {
+        says_it = refl;
+        fits = λ some. absurd (let no : true ≡ false = sym some ∙ h in cc);
+        leaves = λ x v. none_brought c h (task_for s.identity.queued_trim r c).body x v ∙ sym (none_brought c h r.body x v);
+      })
+
+  unless_idle : (c : Command) (idle : Bool) → gives c || brings c ≡ false → Gets n has (Ok c) r.body (placed_unless idle s r c)
+  unless_idle c idle h = either_gets (Ok c) idle _ _ (λ none. silent c h r.body _) (λ some. placed_gets c h)
+
+  -- REQUEST SENSE tells the first condition, if there is one
+  sense_gets : (o : Option Attention) (descriptor : Bool) (alloc : ℕ) → Gets n has (Ok (commands.RequestSense descriptor alloc)) r.body (sense_told o r descriptor alloc)
+  sense_gets None descriptor alloc = silent _ refl r.body _
+  sense_gets (Some what) descriptor alloc = silent _ refl r.body _
+
+  becomes_gets : (c : Command) → writes_plainly (Ok c) ≡ true → (range_of c).lba + (range_of c).count ≤ n → Gets n has (Ok c) r.body (becomes s r c)
+  becomes_gets commands.TestUnitReady h inside = silent _ refl r.body _
+  becomes_gets (commands.RequestSense descriptor alloc) h inside = sense_gets (slice_get (attentions_of r.nexus s) 0) descriptor alloc
+  becomes_gets (commands.Inquiry page alloc) h inside = silent _ refl r.body _
+  becomes_gets (commands.ModeSense ten long_lba no_descriptor control page alloc) h inside = silent _ refl r.body _
+  becomes_gets (commands.ModeSelect ten size) h inside = unless_idle (commands.ModeSelect ten size) (size == 0) refl
+  becomes_gets (commands.StartStop start no_flush) h inside = placed_gets (commands.StartStop start no_flush) refl
+  becomes_gets commands.ReadCapacity10 h inside = silent _ refl r.body _
+  becomes_gets (commands.ReadCapacity16 alloc) h inside = silent _ refl r.body _
+  becomes_gets (commands.ReportLuns select alloc) h inside = silent _ refl r.body _
   becomes_gets (commands.Read form lba count fua) h inside = read_gets form lba count fua inside
   becomes_gets (commands.Write form lba count fua) h inside = write_gets form lba count fua inside
-  becomes_gets (commands.Verify form lba count compare) h inside = absurd cc
-  becomes_gets (commands.Flush form lba count) h inside = absurd cc
+  becomes_gets (commands.Verify form lba count compare) h inside = unless_idle (commands.Verify form lba count compare) (count == 0) refl
+  becomes_gets (commands.Flush form lba count) h inside = placed_gets (commands.Flush form lba count) refl
   becomes_gets (commands.WriteSame form lba count unmap) h inside = absurd cc
   becomes_gets (commands.Unmap size) h inside = absurd cc
   becomes_gets (commands.Pass cdb) h inside = absurd cc
@@ -167,7 +228,7 @@ module _ (s : Device) (r : Request) where
   unless_gets said None next h = h
   unless_gets said (Some why) next h = refused said r.body _ refl
 
-  command_gets : (c : Command) → is_transfer (Ok c) ≡ true → Gets n has (Ok c) r.body (command_arrival s r c)
+  command_gets : (c : Command) → writes_plainly (Ok c) ≡ true → Gets n has (Ok c) r.body (command_arrival s r c)
   command_gets c h =
       either_gets (Ok c) (nat_lt n ((range_of c).lba + (range_of c).count)) _ _
       (λ outside. refused (Ok c) r.body _ refl)
@@ -176,11 +237,11 @@ module _ (s : Device) (r : Request) where
       (λ short. refused (Ok c) r.body _ refl)
       (λ enough. unless_gets (Ok c) ((asks c).data_fault s.identity s.modes r.body) _ (becomes_gets c h (ltb-false n ((range_of c).lba + (range_of c).count) inside)))))
 
-  cdb_gets : (said : Result Command Illegal) → is_transfer said ≡ true → Gets n has said r.body (cdb_arrival s r said)
+  cdb_gets : (said : Result Command Illegal) → writes_plainly said ≡ true → Gets n has said r.body (cdb_arrival s r said)
   cdb_gets (Err why) h = refused (Err why) r.body _ refl
   cdb_gets (Ok c) h = unless_gets (Ok c) (asks c).fields_fault _ (command_gets c h)
 
-  module _ (plain : is_transfer (says r.cdb s.identity.trim) ≡ true) where
+  module _ (plain : writes_plainly (says r.cdb s.identity.trim) ≡ true) where
     -- what the CDB says
     abbrev it : Result Command Illegal
     it = says r.cdb s.identity.trim
@@ -195,9 +256,9 @@ module _ (s : Device) (r : Request) where
     other_gets : Gets n has it r.body (other_arrival s r)
     other_gets =
         either_gets it (asks_for 0x12 r && not (bit 1 0 r.cdb)) _ _
-        (λ h. inquiry_unknown r.cdb s.identity.trim (eqb-true (code_of r) 0x12 (both_left (code_of r == 0x12) (is_in 0x12 built) (both_left (asks_for 0x12 r) (not (bit 1 0 r.cdb)) h))) plain r.body _)
+        (λ h. inquiry_unknown r.cdb s.identity.trim (eqb-true (code_of r) 0x12 (both_left (code_of r == 0x12) (is_in 0x12 built) (both_left (asks_for 0x12 r) (not (bit 1 0 r.cdb)) h))) r.body _)
         (λ h. either_gets it (asks_for 0x03 r) _ _
-        (λ k. sense_unknown r.cdb s.identity.trim (eqb-true (code_of r) 0x03 (both_left (code_of r == 0x03) (is_in 0x03 built) k)) plain r.body _)
+        (λ k. sense_unknown r.cdb s.identity.trim (eqb-true (code_of r) 0x03 (both_left (code_of r == 0x03) (is_in 0x03 built) k)) r.body _)
         (λ k. refused it r.body _ refl))
 
     -- what the request becomes

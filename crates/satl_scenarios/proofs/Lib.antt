@@ -4,6 +4,7 @@ pub mod Endings
 pub mod FlawRuns
 pub mod FunctionRuns
 pub mod LinkRuns
+pub mod OrderRuns
 pub mod PassRuns
 pub mod PowerRuns
 pub mod RefusedRuns

@@ -2,6 +2,7 @@ pub mod Commands
 pub mod Flaws
 pub mod Functions
 pub mod Links
+pub mod Orders
 pub mod Passes
 pub mod Power
 pub mod Refused

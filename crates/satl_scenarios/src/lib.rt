@@ -9,6 +9,7 @@ ghost use Rattle.satl_scenarios.specs.Commands.{compared, miscompared, same_writ
 ghost use Rattle.satl_scenarios.specs.Flaws.{described, flaw_among_writes, garbled_read, spared_read, torn_write};
 ghost use Rattle.satl_scenarios.specs.Functions.{cleared, queried, reset};
 ghost use Rattle.satl_scenarios.specs.Links.{done_and_lost, lost_at_an_abort, lost_in_turn, lost_on_arrival, unplugged_again};
+ghost use Rattle.satl_scenarios.specs.Orders.{IsOfArrivalOrder, IsOfOrderUnderErrors, torn_out_of_order, written_out_of_order};
 ghost use Rattle.satl_scenarios.specs.Passes.{cache_disabled, identified, power_checked, unreadable_through, written_through};
 ghost use Rattle.satl_scenarios.specs.Power.{flushed, flushed_then_written, told_once, turned_off, turned_off_then_power};
 ghost use Rattle.satl_scenarios.specs.Refused.{not_started, refused};
@@ -124,6 +125,20 @@ pub fn commands_refused_on_arrival()
 /// A stopped unit reads nothing (SPC-4 4.5.6).
 pub fn a_read_of_a_stopped_unit()
     ensures { CanHappen not_started }
+{}
+
+/// Two WRITEs and a READ over both, sent without waiting, end out of order, and the READ gives both blocks; the law of arrival
+/// order speaks of this run (SAM-5 8; SBC-3 5).
+pub fn transfers_out_of_order()
+    ensures run { CanHappen written_out_of_order }
+    ensures law { IsOfArrivalOrder written_out_of_order }
+{}
+
+/// A WRITE is torn by a CRC error after a later one has ended, and a READ over both gives what was written; then the link is
+/// lost. The law of order under errors speaks of this run (SAM-5 8; SPC-4 4.5.6; profile).
+pub fn a_torn_write_out_of_order()
+    ensures run { CanHappen torn_out_of_order }
+    ensures law { IsOfOrderUnderErrors torn_out_of_order }
 {}
 
 /// Tasks are asked for, and functions are refused (SAM-5 7.1, 7.9).
