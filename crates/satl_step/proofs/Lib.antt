@@ -1,0 +1,6 @@
+mod EventLemmas
+mod LoopLemmas
+mod OutcomeLemmas
+mod RunLemmas
+mod TallyLemmas
+mod TellingLemmas
