@@ -22,7 +22,7 @@ use Rattle.satl_direct.specs.Run.{joined}
 use Rattle.satl_core.specs.Layer.{IsExpectable}
 use Rattle.satl_core.specs.Submitting.{CanSubmit}
 use Rattle.satl_step.specs.Events.{CanTake, Done, DoneInPart, IsTallied, IsWholeOf, Scene}
-use Rattle.satl_step.specs.Loop.{Ended, Going, HasGiven, Stage, StoppedInAnswers, counted_requests, is_end, place_offset}
+use Rattle.satl_step.specs.Loop.{Ended, Going, HasGiven, SoFar, Stage, StoppedInAnswers, counted_requests, is_end, place_offset}
 use Rattle.satl_step.specs.Runs.{is_request, requests_in}
 use Rattle.satl_step.specs.Telling.{IsTold}
 use Rattle.satl_step.proofs.TellingLemmas.{told_more, told_none}
@@ -94,6 +94,13 @@ not_end room frame whole cut other is =
     let bad : true ≡ false = sym (ap is_end end) ∙ other in
     absurd cc
 
+is_the_end : (room : ℕ) (frame whole : Frame) → frame ≡ cut_to room whole → is_end frame ≡ true → whole ≡ frames.End
+is_the_end room frame (frames.Request w) cut last = let bad : true ≡ false = sym last ∙ ap is_end cut in absurd cc
+is_the_end room frame (frames.Manage m) cut last = let bad : true ≡ false = sym last ∙ ap is_end cut in absurd cc
+is_the_end room frame (frames.Turn n) cut last = let bad : true ≡ false = sym last ∙ ap is_end cut in absurd cc
+is_the_end room frame (frames.Bench b) cut last = let bad : true ≡ false = sym last ∙ ap is_end cut in absurd cc
+is_the_end room frame frames.End cut last = refl
+
 -- a whole frame is a request where the one that was carried out is
 request_whole : (room : ℕ) (frame whole : Frame) → frame ≡ cut_to room whole → requests_in (frame ∷ []) ≡ requests_in (whole ∷ [])
 request_whole room frame (frames.Request w) cut = ap (λ f. requests_in (f ∷ [])) cut
@@ -131,8 +138,8 @@ module _ {T : Type 0} (told : T → Answer → List ℕ) (behind : T → Answer 
 
   -- one frame more
   module _ (a b c : Stage T) (n m room : ℕ) (frame : Frame) where
-    pub ended_more : Going told behind a b n → (gave : Gave b.reader room frame c.reader b.left c.left) → Done told behind frame b.scene c.scene → IsTallied frame b.scene.stand c.scene.stand → m ≡ min (n + requests_in (frame ∷ [])) (2 ^ 64 - 1) → Ended told behind a c m
-    ended_more going gave done tallied count =
+    so_far_more : Going told behind a b n → (gave : Gave b.reader room frame c.reader b.left c.left) → Done told behind frame b.scene c.scene → IsTallied frame b.scene.stand c.scene.stand → m ≡ min (n + requests_in (frame ∷ [])) (2 ^ 64 - 1) → SoFar told behind a c m
+    so_far_more going gave done tallied count =
         let so_far = going.so_far in
         record {
           events = so_far.events ++ gave.whole ∷ [];
@@ -144,10 +151,19 @@ module _ {T : Type 0} (told : T → Answer → List ℕ) (behind : T → Answer 
         }
 
     pub going_more : is_end frame ≡ false → Going told behind a b n → (gave : Gave b.reader room frame c.reader b.left c.left) → Done told behind frame b.scene c.scene → IsTallied frame b.scene.stand c.scene.stand → m ≡ min (n + requests_in (frame ∷ [])) (2 ^ 64 - 1) → Going told behind a c m
-    unfolding ended_more
+    unfolding so_far_more
     going_more other going gave done tallied count = record {
-      so_far = ended_more going gave done tallied count;
+      so_far = so_far_more going gave done tallied count;
       none_ends = All-append (λ f. f ≡ frames.End → ⊥) going.so_far.events (gave.whole ∷ []) going.none_ends (not_end room frame gave.whole gave.cut other, tt);
+    }
+
+    -- the last one is END
+    pub ended : is_end frame ≡ true → Going told behind a b n → (gave : Gave b.reader room frame c.reader b.left c.left) → Done told behind frame b.scene c.scene → IsTallied frame b.scene.stand c.scene.stand → m ≡ min (n + requests_in (frame ∷ [])) (2 ^ 64 - 1) → Ended told behind a c m
+    unfolding so_far_more
+    ended last going gave done tallied count = record {
+      so_far = so_far_more going gave done tallied count;
+      earlier = going.so_far.events;
+      ends = ap (λ f. going.so_far.events ++ f ∷ []) (is_the_end room frame gave.whole gave.cut last);
     }
 
     -- the last one was told in part

@@ -47,7 +47,7 @@ pub record HasGiven {T : Type 0} (before after : Stage T) (events : List Frame) 
   pub read : HasRead after.reader before.left after.left events
 
 -- frames were read and carried out, so many of them requests, and their answers were told (profile)
-pub record Ended {T : Type 0} (told : T → Answer → List ℕ) (behind : T → Answer → T) (before after : Stage T) (requests : ℕ) : Type 0 where
+pub record SoFar {T : Type 0} (told : T → Answer → List ℕ) (behind : T → Answer → T) (before after : Stage T) (requests : ℕ) : Type 0 where
   pub events : List Frame
   pub groups : List (List Answer)
   pub given : HasGiven before after events
@@ -57,8 +57,14 @@ pub record Ended {T : Type 0} (told : T → Answer → List ℕ) (behind : T →
 
 -- the same, and none of them is END (profile)
 pub record Going {T : Type 0} (told : T → Answer → List ℕ) (behind : T → Answer → T) (before after : Stage T) (requests : ℕ) : Type 0 where
-  pub so_far : Ended told behind before after requests
+  pub so_far : SoFar told behind before after requests
   pub none_ends : NoneEnds so_far.events
+
+-- the same, and the last of them is END (profile)
+pub record Ended {T : Type 0} (told : T → Answer → List ℕ) (behind : T → Answer → T) (before after : Stage T) (requests : ℕ) : Type 0 where
+  pub so_far : SoFar told behind before after requests
+  pub earlier : List Frame
+  pub ends : so_far.events ≡ earlier ++ frames.End ∷ []
 
 -- frames were carried out, none of which is END, and what follows them was refused or not read (profile)
 pub record Refused {T : Type 0} (told : T → Answer → List ℕ) (behind : T → Answer → T) (before after : Stage T) (why : FrameFault) : Type 0 where

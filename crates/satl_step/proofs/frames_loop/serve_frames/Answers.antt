@@ -4,7 +4,7 @@ use Rattle.satl_line.specs.Tasks.{entries_of}
 use Rattle.satl_direct.specs.Tasks.{task_of}
 use Rattle.satl_core.specs.Layer.{Layer, view}
 use Rattle.satl_step.specs.Events.{scene_of}
-use Rattle.satl_step.proofs.LoopLemmas.{can_take, ended_more, going_more, going_start, lent, nearer, part_more}
+use Rattle.satl_step.proofs.LoopLemmas.{can_take, ended, going_more, going_start, lent, nearer, part_more}
 use Rattle.satl_step.proofs.TallyLemmas.{tied_lent}
 use Rattle.satl_step.proofs.frames_loop.serve_frames.Goals as goal
 
@@ -38,7 +38,7 @@ returns-in-Err-serve_event-clause-stopped g c =
 pub returns-then-last-clause-ended : goal.returns-then-last-clause-ended
 returns-then-last-clause-ended g c =
     let same = ap (λ (l : Layer). view l (g.D.Drive.state c.frames.drive)) c.in-Ok.ensures.rest in
-    ended_more g.T.Teller.told g.T.Teller.behind (record { reader = c.args.reader.now; left = g.S.Source.left c.args.source.now; scene = scene_of c.args.satl.now (g.D.Drive.state c.args.drive.now) c.args.steps.now c.args.teller.now (g.K.Sink.written c.args.sink.now) }) (record { reader = c.frames.reader; left = g.S.Source.left c.frames.source; scene = scene_of c.next.new.lender (g.D.Drive.state c.frames.drive) c.frames.steps c.frames.teller (g.K.Sink.written c.frames.sink) }) _ c.frames.requests c.count_request-counted.result _ c.in-Ok.frame
+    ended g.T.Teller.told g.T.Teller.behind (record { reader = c.args.reader.now; left = g.S.Source.left c.args.source.now; scene = scene_of c.args.satl.now (g.D.Drive.state c.args.drive.now) c.args.steps.now c.args.teller.now (g.K.Sink.written c.args.sink.now) }) (record { reader = c.frames.reader; left = g.S.Source.left c.frames.source; scene = scene_of c.next.new.lender (g.D.Drive.state c.frames.drive) c.frames.steps c.frames.teller (g.K.Sink.written c.frames.sink) }) _ c.frames.requests c.count_request-counted.result _ c.in-Ok.frame (sym c.is_end-last.ensures ∙ c.if-last.true)
     (lent g.T.Teller.told g.T.Teller.behind (record { reader = c.args.reader.now; left = g.S.Source.left c.args.source.now; scene = scene_of c.args.satl.now (g.D.Drive.state c.args.drive.now) c.args.steps.now c.args.teller.now (g.K.Sink.written c.args.sink.now) }) (record { reader = c.frames.reader; left = g.S.Source.left c.frames.source; scene = scene_of c.frames.satl (g.D.Drive.state c.frames.drive) c.frames.steps c.frames.teller (g.K.Sink.written c.frames.sink) }) (view c.next.new.lender (g.D.Drive.state c.frames.drive)) c.frames.requests same c.frames.invariant.going)
     c.in-Ok.ensures.gave c.in-Ok-serve_event.ensures.done c.serve_event.ensures.tallied c.count_request-counted.ensures
 
