@@ -4,34 +4,21 @@ use Rattle.std.proofs.lemmas.List.{append-nil}
 use Rattle.std.specs.Prelude.{sum_by}
 use Rattle.std.proofs.lemmas.List.Sums.{sum_by_push}
 use Rattle.satl_base.specs.declared.reply.Scsi.TheVariants.{Good, CheckCondition, TaskSetFull}
-use Rattle.satl_base.specs.declared.reply.Reply.{Reply}
 use Rattle.satl_frame.specs.Output.{Answer}
 use Rattle.satl_frame.specs.Output.Answer.{replied, managed, ended}
 use Rattle.satl_text.specs.Totals.{data_count, data_sum, one_with, summary_of, total}
 use Rattle.satl_text.specs.declared.summary.Summary.{Summary}
-use Rattle.satl_step.specs.Telling.{all_behind} 
-use Rattle.satl_step.specs.Telling.{all_told as all_told_by}
+use Rattle.satl_text.proofs.TotalsLemmas.{totals_grow}
+use Rattle.satl_step.specs.Telling.{all_behind, all_told as all_told_by}
 use Rattle.satl_serve.specs.Forms.{all_told, told}
-use Rattle.satl_serve.specs.Growing.{printer_behind, with_answer}
+use Rattle.satl_serve.specs.Growing.{printer_behind, totals_behind}
 use Rattle.satl_serve.specs.declared.printer.Printer.{Printer}
 use Rattle.satl_serve.specs.declared.telling.Form.{Form}
 
 -- ---- totals
 
-one_more : (f : Answer → ℕ) (answers : List Answer) (answer : Answer) → total (sum_by f (answers ++ answer ∷ [])) ≡ total (total (sum_by f answers) + f answer)
-one_more f answers answer = omega (arith, sum_by_push f answers answer)
-
 none_more : (f : Answer → ℕ) (answers : List Answer) (answer : Answer) → f answer ≡ 0 → total (sum_by f (answers ++ answer ∷ [])) ≡ total (sum_by f answers)
 none_more f answers answer uncounted = omega (arith, sum_by_push f answers answer, uncounted)
-
-reply_more : (n : ℕ) (answers : List Answer) (r : Reply) → summary_of n (answers ++ replied r ∷ []) ≡ with_answer (summary_of n answers) (replied r)
-reply_more n answers r =
-    let good = one_more (one_with Good) answers (replied r) in
-    let check = one_more (one_with CheckCondition) answers (replied r) in
-    let full = one_more (one_with TaskSetFull) answers (replied r) in
-    let bytes = one_more data_count answers (replied r) in
-    let sum = one_more data_sum answers (replied r) in
-    cc
 
 nothing_more : (n : ℕ) (answers : List Answer) (answer : Answer) → one_with Good answer ≡ 0 → one_with CheckCondition answer ≡ 0 → one_with TaskSetFull answer ≡ 0 → data_count answer ≡ 0 → data_sum answer ≡ 0 → summary_of n (answers ++ answer ∷ []) ≡ summary_of n answers
 nothing_more n answers answer p q r s t =
@@ -43,8 +30,8 @@ nothing_more n answers answer p q r s t =
     cc
 
 -- the totals of answers and one more
-totals_more : (n : ℕ) (answers : List Answer) (answer : Answer) → summary_of n (answers ++ answer ∷ []) ≡ with_answer (summary_of n answers) answer
-totals_more n answers (replied r) = reply_more n answers r
+totals_more : (n : ℕ) (answers : List Answer) (answer : Answer) → summary_of n (answers ++ answer ∷ []) ≡ totals_behind (summary_of n answers) answer
+totals_more n answers (replied r) = totals_grow n answers (replied r)
 totals_more n answers (managed nexus function response tag) = nothing_more n answers (managed nexus function response tag) refl refl refl refl refl
 totals_more n answers ended = nothing_more n answers ended refl refl refl refl refl
 

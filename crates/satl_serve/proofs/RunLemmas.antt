@@ -1,5 +1,5 @@
 -- What a run by a printer is.
-use Rattle.std.proofs.Common.{◌≡◌, append_assoc, inl, inr, refl, sym, ap, subst, arith, ◌∙◌, ℕ, ◌+◌, List, [], ◌∷◌, ◌++◌, length}
+use Rattle.std.proofs.Common.{◌≡◌, append_assoc, inl, inr, refl, sym, ap, subst, arith, ◌∙◌, ℕ, ◌+◌, ◌≤◌, List, [], ◌∷◌, ◌++◌, length, map}
 use Rattle.std.proofs.lemmas.List.{append-nil, length-append}
 use Rattle.std.specs.Prelude.{Option, None, Some}
 use Rattle.satl_base.proofs.ListsLemmas.{how_many-push}
@@ -18,15 +18,21 @@ use Rattle.satl_frame.specs.Progress.{HasRead, ReadTo, ReadUpTo}
 use Rattle.satl_frame.specs.Reading.{Reading}
 use Rattle.satl_text.specs.Totals.{summary_of, total}
 use Rattle.satl_text.specs.declared.summary.Summary.{Summary}
+use Rattle.satl_line.specs.Tasks.{entries_of}
 use Rattle.satl_direct.specs.Run.{joined}
-use Rattle.satl_step.specs.Loop.{Ended, Going, HasGiven, Refused, Stage, StoppedInAnswers}
+use Rattle.satl_direct.specs.Tasks.{task_of}
+use Rattle.satl_core.specs.Layer.{Layer}
+use Rattle.satl_step.specs.Loop.{Ended, HasStopCause, Refused, Stage, StoppedInAnswers, StoppedSo}
+use Rattle.satl_step.specs.declared.frames_loop.Stop.{Stop}
+use Rattle.satl_step.specs.declared.frames_loop.Stop.TheVariants as stops
 use Rattle.satl_step.specs.Runs.{RunSoFar, Stand, is_request, requests_in}
 use Rattle.satl_step.specs.Telling.{IsTold, Telling, all_behind}
+use Rattle.satl_step.proofs.RunLemmas.{run_start}
 use Rattle.satl_serve.specs.Forms.{all_told, begun, fault_told, output, told, told_of}
 use Rattle.satl_serve.specs.Growing.{printer_behind}
-use Rattle.satl_serve.specs.Moments.{Spot}
-use Rattle.satl_serve.specs.Runs.{BrokeInAnswers, BrokeInFault, RanBefore, RanInPart, RanWhole, ReadBefore, input_limit}
-use Rattle.satl_serve.specs.Stopping.{RanTo, Tells}
+use Rattle.satl_serve.specs.Moments.{Reads, Spot, Writes}
+use Rattle.satl_serve.specs.Runs.{BrokeInAnswers, BrokeInFault, BrokeInMagic, RanBefore, RanInPart, RanWhole, ReadBefore, input_limit}
+use Rattle.satl_serve.specs.Stopping.{HasStreamCause, RanTo, Tells, TellsSo, TellsStop}
 use Rattle.satl_serve.specs.declared.printer.Printer.{Printer}
 use Rattle.satl_serve.specs.declared.serving.ServeFault.{ServeFault}
 use Rattle.satl_serve.specs.declared.serving.ServeFault.TheVariants as faults
@@ -162,3 +168,26 @@ in_answers form written a b begins t =
       part = subst (λ l. WrotePart mid.written b.scene.telling.written l) same t.told_so.part;
       run = t.run;
     }
+
+-- where frames are carried out no further
+pub stopped : (form : Form) (written : Option (List ℕ)) (a b : Stage Printer) (before after : Writes) (fault : ServeFault) (stop : Stop) → before.written ≡ b.scene.telling.written → Begins form written a → StoppedSo by behind a b stop → TellsStop form before after fault stop → RanTo form input_limit (spot_of written a) (spot_of after.written b) fault
+stopped form written a b before after fault (stops.Refused why) same begins r told =
+    refused form written after.written a b why fault begins r (subst (λ w. Tells form why w after.written fault) same told.tells)
+stopped form written a b before after fault stops.Write same begins t (is, stays) =
+    subst (RanTo form input_limit (spot_of written a) (spot_of after.written b)) (sym is) (inr (inl (subst (λ w. BrokeInAnswers form input_limit (spot_of written a) (spot_of w b)) (sym same ∙ ap (λ (w : Writes). w.written) (sym stays)) (in_answers form written a b begins t))))
+
+-- and why
+pub stop_cause : (form : Form) (read read' : Reads) (first begun_at before after : Writes) (fault : ServeFault) (stop : Stop) → first.faults ≤ begun_at.faults → HasStopCause read.faults read'.faults begun_at.faults before.faults stop → TellsStop form before after fault stop → begun_at.faults ≤ before.faults → HasStreamCause read read' first after fault
+stop_cause form read read' first begun_at before after fault (stops.Refused why) earlier cause told later = by_fault fault why cause told
+  where
+    by_fault : (fault : ServeFault) (why : FrameFault) → HasStopCause read.faults read'.faults begun_at.faults before.faults (stops.Refused why) → TellsSo form why before after fault → HasStreamCause read read' first after fault
+    by_fault (faults.Open opening) why cause told = absurd told.tells
+    by_fault (faults.BadInput reason offset) why cause told = tt
+    by_fault faults.Read why cause told = subst (λ w. HasStopCause read.faults read'.faults begun_at.faults before.faults (stops.Refused w)) told.tells.0 cause
+    by_fault faults.Write why cause told = let rose = told.cause refl in omega (arith, rose, earlier, later)
+stop_cause form read read' first begun_at before after fault stops.Write earlier cause (is, stays) later =
+    let same = ap (λ (w : Writes). w.faults) stays in subst (HasStreamCause read read' first after) (sym is) (omega (arith, cause, earlier, same))
+
+-- nothing was read, and what stands before all answers was written in part
+pub in_magic : (form : Form) (left written written' : Option (List ℕ)) (l : Layer) (a : Stand) → l.tasks ≡ [] → a.device.tasks ≡ map task_of (entries_of l.tasks) → WrotePart written written' (begun form) → BrokeInMagic form (record { left = left; written = written; stand = a }) (record { left = left; written = written'; stand = a })
+in_magic form left written written' l a idle seen part = record { read = refl; part = part; run = run_start a (seen ∙ ap (λ t. map task_of (entries_of t)) idle) }

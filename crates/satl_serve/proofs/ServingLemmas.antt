@@ -1,6 +1,7 @@
 -- Serving from before the layer was opened.
 use Rattle.std.proofs.Common.{◌≡◌, ◌⊎◌, inl, inr, refl, sym, ap, subst, arith, ◌∙◌, ℕ, ◌+◌, ◌≤◌, List, [], map}
-use Rattle.std.specs.Prelude.{Option, not, false}
+use Rattle.std.specs.Prelude.{Option, Ok, Err, Result, IfErr}
+use Rattle.std.specs.Result.{IsErrAnd}
 use Rattle.satl_io.specs.Causes.{RoseBy}
 use Rattle.satl_frame.specs.declared.frames.Frame.{Frame}
 use Rattle.satl_frame.specs.declared.frames.FrameFault.{FrameFault}
@@ -124,3 +125,8 @@ module _ (form : Form) (limit : ℕ) (before after : Moment) (mid : DriveState) 
   stops (faults.BadInput reason offset) r = serves_before (Bad reason offset) r
   stops faults.Read r = serves_before ReadFault r
   stops faults.Write r = serves_part r
+
+-- a write failed before anything was read
+pub any_write : (form : Form) (limit : ℕ) (before after : Spot) (r : Result Summary ServeFault) (P : ServeFault → Type 0) → IsErrAnd r P → ((e : ServeFault) → P e → e ≡ faults.Write) → RanInPart form limit before after → IfErr r (RanTo form limit before after)
+any_write form limit before after (Ok u) P is same part = tt
+any_write form limit before after (Err e) P is same part = subst (RanTo form limit before after) (sym (same e is)) part

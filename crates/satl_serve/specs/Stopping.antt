@@ -1,5 +1,5 @@
 -- Why serving stops, and what holds where it stopped behind the opening of the layer (profile).
-use Rattle.std.specs.Prelude.{◌≡◌, ◌⊎◌, ℕ, List, Option, Err}
+use Rattle.std.specs.Prelude.{◌≡◌, ◌⊎◌, ℕ, ◌≤◌, List, Option, Err}
 use Rattle.satl_io.specs.Causes.{Rose}
 use Rattle.satl_io.specs.Known.{Wrote, WrotePart}
 use Rattle.satl_identify.specs.declared.identity.IdentityFault.{IdentityFault}
@@ -10,6 +10,8 @@ use Rattle.satl_frame.specs.declared.frames.Reason.{Reason}
 use Rattle.satl_drive.specs.State.{DriveState}
 use Rattle.satl_core.specs.declared.satl.OpenFault.TheVariants as opening
 use Rattle.satl_core.specs.Opening.{IsCause}
+use Rattle.satl_step.specs.declared.frames_loop.Stop.{Stop}
+use Rattle.satl_step.specs.declared.frames_loop.Stop.TheVariants as stops
 use Rattle.satl_serve.specs.declared.serving.ServeFault.{ServeFault}
 use Rattle.satl_serve.specs.declared.serving.ServeFault.TheVariants as faults
 use Rattle.satl_serve.specs.declared.telling.Form.{Form}
@@ -53,3 +55,14 @@ Tells form why written written' (faults.Open fault) = ⊥
 Tells form why written written' (faults.BadInput reason offset) = (why ≡ Bad reason offset) × Wrote written written' (fault_told form reason offset)
 Tells form why written written' faults.Read = (why ≡ ReadFault) × (written' ≡ written)
 Tells form why written written' faults.Write = (reason : Reason) × (offset : ℕ) × (why ≡ Bad reason offset) × WrotePart written written' (fault_told form reason offset)
+
+-- the same, which takes no fault of writing back, and has one where a write failed (profile)
+pub record TellsSo (form : Form) (why : FrameFault) (before after : Writes) (fault : ServeFault) : Type 0 where
+  pub tells : Tells form why before.written after.written fault
+  pub later : before.faults ≤ after.faults
+  pub cause : (fault ≡ faults.Write) → Rose before.faults after.faults
+
+-- why serving stops where frames are carried out no further: a refusal is told, and behind a write that failed nothing is (profile)
+abbrev pub TellsStop : Form → Writes → Writes → ServeFault → Stop → Type 0
+TellsStop form before after fault (stops.Refused why) = TellsSo form why before after fault
+TellsStop form before after fault stops.Write = (fault ≡ faults.Write) × (after ≡ before)

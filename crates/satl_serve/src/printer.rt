@@ -1,10 +1,8 @@
 // Who prints answers in a form, and counts them.
-ghost use Rattle.std.specs.Prelude.{◌≡◌, ◌≤◌, ◌*◌, [], OnErr, OnOk, length};
+ghost use Rattle.std.specs.Prelude.{◌≡◌, [], OnErr, OnOk};
 ghost use Rattle.satl_io.specs.Causes.{HasCause};
 ghost use Rattle.satl_io.specs.Known.{Wrote, WrotePart};
-ghost use Rattle.satl_frame.specs.Output.Answer.{replied};
 ghost use Rattle.satl_text.specs.Totals.{summary_of};
-ghost use Rattle.satl_serve.specs.Growing.{with_answer};
 
 use crate::telling::{Form, tell_end, tell_managed, tell_reply};
 use satl_base::{Manage, Reply, Response};
@@ -19,23 +17,6 @@ pub struct Printer {
     form: Form,
     /// The totals of the replies so far, with no request.
     pub totals: Summary,
-}
-
-/// The totals with one reply more.
-fn with_reply(totals: Summary, reply: &Reply) -> Summary
-    requires { reply.now.data_len ≤ 512 * length reply.now.body }
-    ensures { result ≡ with_answer totals (replied reply.now) }
-{
-    let mut one = Summary::default();
-    one.add_reply(reply);
-    Summary {
-        requests: totals.requests,
-        good: totals.good.saturating_add(one.good),
-        check: totals.check.saturating_add(one.check),
-        full: totals.full.saturating_add(one.full),
-        bytes: totals.bytes.saturating_add(one.bytes),
-        sum: totals.sum.saturating_add(one.sum),
-    }
 }
 
 impl Printer {
@@ -60,7 +41,7 @@ impl Teller for Printer {
 
     fn tell_reply<K: Sink>(&mut self, reply: &Reply, sink: &mut K) -> Result<(), WriteFault> {
         tell_reply(self.form, reply, sink)?;
-        self.totals = with_reply(self.totals, reply);
+        self.totals.add_reply(reply);
         Ok(())
     }
 

@@ -11,7 +11,7 @@ ghost use Rattle.satl_serve.specs.Completeness.{GoesWell, IsGoodInput, MayStop};
 ghost use Rattle.satl_serve.specs.Headline.{IsServedWhole, IsStopped};
 ghost use Rattle.satl_serve.specs.Moments.{moment, reads, writes};
 ghost use Rattle.satl_serve.specs.Runs.{RanWhole, input_limit};
-ghost use Rattle.satl_serve.specs.Stopping.{HasServeCause, HasStreamCause, IsRefused, RanTo, Tells, TellsRefusal};
+ghost use Rattle.satl_serve.specs.Stopping.{HasServeCause, HasStreamCause, IsRefused, RanTo, Tells, TellsRefusal, TellsStop};
 
 use crate::printer::Printer;
 use crate::telling::{Form, tell_beginning, tell_fault};
@@ -119,15 +119,14 @@ fn serve_opened<S: Source, K: Sink, D: Bench, L: Ledger>(
             requests,
             ..printer.totals
         }),
-        Err(Stop::Refused(fault)) => Err(refuse(form, fault, sink)),
-        Err(Stop::Write) => Err(ServeFault::Write),
+        Err(stop) => Err(tell_stop(form, stop, sink)),
     }
 }
 
 /// Why serving stops at a reader's refusal: of a bad frame is told first.
 fn refuse<K: Sink>(form: Form, fault: FrameFault, sink: &mut K) -> ServeFault
-    ensures later { K.faults sink.old ≤ K.faults sink.new }
     ensures tells { Tells form fault (K.written sink.old) (K.written sink.new) result }
+    ensures later { K.faults sink.old ≤ K.faults sink.new }
     ensures write { (result ≡ ServeFault.Write) → Rose (K.faults sink.old) (K.faults sink.new) }
 {
     match fault {
@@ -138,5 +137,15 @@ fn refuse<K: Sink>(form: Form, fault: FrameFault, sink: &mut K) -> ServeFault
                 Err(WriteFault) => ServeFault::Write,
             }
         }
+    }
+}
+
+/// Why serving stops where frames are carried out no further.
+fn tell_stop<K: Sink>(form: Form, stop: Stop, sink: &mut K) -> ServeFault
+    ensures { TellsStop form (writes (K.written sink.old) (K.faults sink.old)) (writes (K.written sink.new) (K.faults sink.new)) result stop }
+{
+    match stop {
+        Stop::Refused(fault) => refuse(form, fault, sink),
+        Stop::Write => ServeFault::Write,
     }
 }

@@ -1,6 +1,6 @@
 mod EventLemmas
 mod LoopLemmas
-mod OutcomeLemmas
-mod RunLemmas
+pub mod OutcomeLemmas
+pub mod RunLemmas
 mod TallyLemmas
 mod TellingLemmas

@@ -66,6 +66,7 @@ pub fn serve_frames<S: Source, T: Teller, K: Sink, D: Bench, L: Ledger>(
     ensures ended { IfOk result (Ended T.told T.behind (record { reader = reader.old; left = S.left source.old; scene = scene_of satl.old (D.state drive.old) steps.old teller.old (K.written sink.old) }) (record { reader = reader.new; left = S.left source.new; scene = scene_of satl.new (D.state drive.new) steps.new teller.new (K.written sink.new) })) }
     ensures stopped { IfErr result (StoppedSo T.told T.behind (record { reader = reader.old; left = S.left source.old; scene = scene_of satl.old (D.state drive.old) steps.old teller.old (K.written sink.old) }) (record { reader = reader.new; left = S.left source.new; scene = scene_of satl.new (D.state drive.new) steps.new teller.new (K.written sink.new) })) }
     ensures causes { IfErr result (HasStopCause (S.faults source.old) (S.faults source.new) (K.faults sink.old) (K.faults sink.new)) }
+    ensures later { K.faults sink.old ≤ K.faults sink.new }
 {
     let mut replies = Replies::new(alloc);
     let mut requests = 0;
