@@ -21,7 +21,7 @@ use Rattle.satl_direct.specs.Device.{Device, attentions_of, is_called}
 use Rattle.satl_direct.specs.Tasks.{asks, is_full, needed, range_of, task_for}
 use Rattle.satl_direct.specs.Arrival.{Arrival, arrival, asks_for, attention_arrival, attention_for, becomes, built, cdb_arrival, code_arrival, code_of, command_arrival, is_unit_0, other_arrival, placed, placed_unless, readiness, sense_told, unless_refused}
 use Rattle.satl_direct.specs.Arrival.Arrival.{answered, attended, overlaps, waits}
-use Rattle.satl_direct.specs.Laws.{IsReadOf, brought, is_good, writes_plainly}
+use Rattle.satl_laws.specs.ArrivalOrder.{IsReadOf, brought, is_good, writes_plainly}
 use Rattle.satl_laws.proofs.Cases.{both_left}
 use Rattle.satl_laws.proofs.Transferring.{Transfers, after, brings, gives}
 use Rattle.satl_laws.proofs.Seen.{by_test, within, within_from}

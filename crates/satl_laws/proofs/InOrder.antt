@@ -17,7 +17,8 @@ use Rattle.satl_frame.specs.Output.{Answer}
 use Rattle.satl_frame.specs.Output.Answer.{replied}
 use Rattle.satl_line.specs.declared.entry.Entry.{Entry}
 use Rattle.satl_direct.specs.Device.{Device, is_called}
-use Rattle.satl_direct.specs.Laws.{IsGoodReply, IsReadOf, answers_to, asks_by, block_at, brought, is_done, was_done}
+use Rattle.satl_laws.specs.ArrivalOrder.{IsGoodReply, IsReadOf, block_at, brought, is_done, was_done}
+use Rattle.satl_laws.specs.OnceEach.{answers_to, asks_by}
 use Rattle.satl_direct.specs.Valid.{AreOwn}
 use Rattle.satl_laws.proofs.Cases.{how_many-append}
 use Rattle.satl_laws.proofs.Items.{AreSorted, Awaits, AwaitsIf, IsWell, Item, PlaceOf, held, held-append, is_to_write, left, place_of, waiting, waiting-append}

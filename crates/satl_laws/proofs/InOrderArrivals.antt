@@ -19,7 +19,8 @@ use Rattle.satl_frame.specs.Output.Answer.{replied}
 use Rattle.satl_line.specs.declared.entry.Entry.{Entry}
 use Rattle.satl_line.specs.Eligible.{IsEligible}
 use Rattle.satl_direct.specs.Device.{Device, is_called}
-use Rattle.satl_direct.specs.Laws.{IsGoodReply, IsReadOf, answers_to, asks_by, block_at, brought, is_done, is_good, was_done, writes_plainly}
+use Rattle.satl_laws.specs.ArrivalOrder.{IsGoodReply, IsReadOf, block_at, brought, is_done, is_good, was_done, writes_plainly}
+use Rattle.satl_laws.specs.OnceEach.{answers_to, asks_by}
 use Rattle.satl_laws.proofs.Arrivals.{IsOf, IsTo}
 use Rattle.satl_laws.proofs.Bringing.{Answers, Waits}
 use Rattle.satl_laws.proofs.Cases.{how_many-append}

@@ -14,7 +14,8 @@ use Rattle.satl_frame.specs.Output.Answer.{replied}
 use Rattle.satl_line.specs.declared.entry.Entry.{Entry}
 use Rattle.satl_line.specs.Eligible.{IsEligible}
 use Rattle.satl_direct.specs.Device.{Device, is_called, without}
-use Rattle.satl_direct.specs.Laws.{IsGoodReply, IsReadOf, answers_to, asks_by, block_at, brought, is_done, is_good}
+use Rattle.satl_laws.specs.ArrivalOrder.{IsGoodReply, IsReadOf, block_at, brought, is_done, is_good}
+use Rattle.satl_laws.specs.OnceEach.{answers_to, asks_by}
 use Rattle.satl_direct.specs.Quiet.{writes}
 use Rattle.satl_direct.specs.Tasks.{range_of}
 use Rattle.satl_direct.specs.Turn.{OneEnds}

@@ -20,7 +20,8 @@ use Rattle.satl_frame.specs.Output.Answer.{ended, managed, replied}
 use Rattle.satl_direct.specs.Device.{Device}
 use Rattle.satl_direct.specs.Arrival.{Arrives}
 use Rattle.satl_direct.specs.Bench.{Happens}
-use Rattle.satl_direct.specs.Laws.{asks_by, block_at}
+use Rattle.satl_laws.specs.ArrivalOrder.{block_at}
+use Rattle.satl_laws.specs.OnceEach.{asks_by}
 use Rattle.satl_direct.specs.Management.{effect}
 use Rattle.satl_direct.specs.Run.{Does, Manages}
 use Rattle.satl_laws.proofs.Cases.{both_left, how_many-append}

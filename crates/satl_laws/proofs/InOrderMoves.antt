@@ -15,7 +15,7 @@ use Rattle.satl_frame.specs.Output.{Answer}
 use Rattle.satl_line.specs.declared.entry.Entry.{Entry}
 use Rattle.satl_line.specs.Eligible.{IsEligible}
 use Rattle.satl_direct.specs.Device.{Device}
-use Rattle.satl_direct.specs.Laws.{block_at}
+use Rattle.satl_laws.specs.ArrivalOrder.{block_at}
 use Rattle.satl_direct.specs.Quiet.{MayShow, writes}
 use Rattle.satl_laws.proofs.Ends.{eligible_in}
 use Rattle.satl_laws.proofs.InOrder.{InOrder, holds, sectors, trim}

@@ -16,7 +16,9 @@ use Rattle.satl_frame.specs.Output.Answer.{replied}
 use Rattle.satl_direct.specs.Device.{Device, is_called}
 use Rattle.satl_direct.specs.Arrival.{Arrival, Arrives, ArrivesAs, arrival}
 use Rattle.satl_direct.specs.Arrival.Arrival.{answered, attended, overlaps, waits}
-use Rattle.satl_direct.specs.Laws.{answers_to, asks_by, block_at, is_done, is_mild, is_plain, stops_or_starts, was_done, writes_plainly}
+use Rattle.satl_laws.specs.ArrivalOrder.{block_at, is_done, is_plain, stops_or_starts, was_done, writes_plainly}
+use Rattle.satl_laws.specs.OnceEach.{answers_to, asks_by}
+use Rattle.satl_laws.specs.OrderUnderErrors.{is_mild}
 use Rattle.satl_laws.proofs.Arrivals.{IsFor, IsTo, arrival_for}
 use Rattle.satl_laws.proofs.Bringing.{Answers, Gets, arrival_gets}
 use Rattle.satl_laws.proofs.Calm.{IsCalm}

@@ -14,7 +14,8 @@ use Rattle.satl_frame.specs.Output.Answer.{replied}
 use Rattle.satl_line.specs.declared.entry.Entry.{Entry}
 use Rattle.satl_direct.specs.Device.{Device, is_called}
 use Rattle.satl_direct.specs.Ending.{IsChecked, task_check}
-use Rattle.satl_direct.specs.Laws.{asks_by, is_done, stops_or_starts}
+use Rattle.satl_laws.specs.ArrivalOrder.{is_done, stops_or_starts}
+use Rattle.satl_laws.specs.OnceEach.{asks_by}
 use Rattle.satl_direct.specs.Quiet.{Quiet}
 use Rattle.satl_direct.specs.Senses.{link_lost}
 use Rattle.satl_direct.specs.Turn.{OneEnds, lost_replies}

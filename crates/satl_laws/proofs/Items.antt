@@ -11,7 +11,7 @@ use Rattle.satl_line.specs.declared.entry.Entry.{Entry}
 use Rattle.satl_line.specs.Conflict.{conflicts}
 use Rattle.satl_line.specs.Eligible.{IsEligible}
 use Rattle.satl_direct.specs.Device.{is_called, without}
-use Rattle.satl_direct.specs.Laws.{brought, writes_plainly}
+use Rattle.satl_laws.specs.ArrivalOrder.{brought, writes_plainly}
 use Rattle.satl_direct.specs.Valid.{AreOwn}
 use Rattle.satl_laws.proofs.Names.{called_back, called_self, none_in}
 use Rattle.satl_laws.proofs.Transferring.{Transfers, after, brings, gives, spans}

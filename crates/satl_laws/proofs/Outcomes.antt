@@ -20,7 +20,10 @@ use Rattle.satl_line.specs.Eligible.{IsEligible}
 use Rattle.satl_direct.specs.Bench.{Happens}
 use Rattle.satl_direct.specs.Device.{Device, is_called}
 use Rattle.satl_direct.specs.Ending.{task_check}
-use Rattle.satl_direct.specs.Laws.{IsGoodReply, Spares, answers_to, asks_by, is_good, now_at, secures}
+use Rattle.satl_laws.specs.ArrivalOrder.{IsGoodReply, is_good}
+use Rattle.satl_laws.specs.Durable.{secures}
+use Rattle.satl_laws.specs.OnceEach.{answers_to, asks_by}
+use Rattle.satl_laws.specs.Untouched.{Spares, now_at}
 use Rattle.satl_direct.specs.Quiet.{Around, Quiet}
 use Rattle.satl_direct.specs.Run.{Does, Run, RunDeep, TurnsOf, joined}
 use Rattle.satl_direct.specs.Run.TurnsOf.{none, more}

@@ -13,7 +13,7 @@ use Rattle.satl_base.specs.Losses.{Loses}
 use Rattle.satl_base.proofs.CellsLemmas.{change_at-length}
 use Rattle.satl_base.proofs.ListsLemmas.{All-weaken}
 use Rattle.satl_regs.specs.Trim.{addresses_from}
-use Rattle.satl_direct.specs.Laws.{block_at}
+use Rattle.satl_laws.specs.ArrivalOrder.{block_at}
 use Rattle.satl_laws.proofs.Cases.{both_left, both_right}
 
 -- a sector without flaws

@@ -17,7 +17,8 @@ use Rattle.satl_line.specs.Ending.{EndsAs, Outcome}
 use Rattle.satl_line.specs.Ending.Outcome.{ends_done, ends_flawed, ends_glitched}
 use Rattle.satl_direct.specs.Device.{Device}
 use Rattle.satl_direct.specs.Ending.{Ends, EndsBy, IsChecked, outcome_reply}
-use Rattle.satl_direct.specs.Laws.{Spares, block_at, is_good, now_at, writes_plainly}
+use Rattle.satl_laws.specs.ArrivalOrder.{block_at, is_good, writes_plainly}
+use Rattle.satl_laws.specs.Untouched.{Spares, now_at}
 use Rattle.satl_direct.specs.Quiet.{writes, written_by}
 use Rattle.satl_direct.specs.Tasks.{asks, over, range_of}
 use Rattle.satl_laws.proofs.Cases.{by_bool}

@@ -12,7 +12,7 @@ use Rattle.satl_line.specs.declared.entry.Entry.{Entry}
 use Rattle.satl_line.specs.declared.entry.Kind.TheVariants.{Ranged}
 use Rattle.satl_line.specs.Conflict.{access_of, accesses_conflict, any_meet, conflicts, is_write, ranges_meet}
 use Rattle.satl_direct.specs.Device.{Device}
-use Rattle.satl_direct.specs.Laws.{block_at, brought}
+use Rattle.satl_laws.specs.ArrivalOrder.{block_at, brought}
 use Rattle.satl_direct.specs.Quiet.{writes, written_by}
 use Rattle.satl_direct.specs.Tasks.{range_of}
 use Rattle.satl_laws.proofs.Seen.{by_test, in_row, row_seen, within, within_from, within_to}

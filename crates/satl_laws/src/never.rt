@@ -10,7 +10,9 @@ ghost use Rattle.satl_frame.specs.declared.frames.Frame.{Frame};
 ghost use Rattle.satl_frame.specs.declared.frames.Frame.TheVariants as frames;
 ghost use Rattle.satl_frame.specs.Output.{Answer};
 ghost use Rattle.satl_direct.specs.Device.{Device};
-ghost use Rattle.satl_direct.specs.Laws.{IsGoodReply, answers_to, now_at};
+ghost use Rattle.satl_laws.specs.ArrivalOrder.{IsGoodReply};
+ghost use Rattle.satl_laws.specs.OnceEach.{answers_to};
+ghost use Rattle.satl_laws.specs.Untouched.{now_at};
 ghost use Rattle.satl_direct.specs.Run.{Run};
 ghost use Rattle.satl_laws.specs.Scenes.{AreApart, AreTurns, at_work, cached, flushes, reads_sector_0, writes_sector_0};
 
