@@ -21,7 +21,8 @@ use Rattle.satl_direct.specs.Quiet.{Quiet}
 use Rattle.satl_direct.specs.Senses.{link_lost, not_ready}
 use Rattle.satl_direct.specs.Tasks.{asks, over}
 use Rattle.satl_laws.proofs.Cases.{by_option}
-use Rattle.satl_laws.proofs.Seen.{IsClean, loses_clean, no_flaw, pair_clean, whole_clean}
+use Rattle.satl_laws.proofs.Flawless.{IsClean}
+use Rattle.satl_laws.proofs.Flawless.{loses_clean, no_flaw, pair_clean, whole_clean}
 use Rattle.satl_laws.proofs.Transferring.{brings}
 
 pub record IsCalm (s : Device) : Type 0 where

@@ -21,9 +21,11 @@ use Rattle.satl_direct.specs.Tasks.{range_of}
 use Rattle.satl_direct.specs.Turn.{OneEnds}
 use Rattle.satl_laws.proofs.Cases.{both_left, both_right}
 use Rattle.satl_laws.proofs.Ends.{eligible_in, ends_leaves}
-use Rattle.satl_laws.proofs.InOrder.{InOrder, awaits, holds, left_in_order, own, place, sectors, trim}
+use Rattle.satl_laws.proofs.InOrder.{InOrder, holds, sectors, trim}
+use Rattle.satl_laws.proofs.InOrderLeaves.{awaits, left_in_order, own, place}
 use Rattle.satl_laws.proofs.InOrderPlace.{clear, free, it, plain, sorted_at, stands_at, tasks_at, well_front}
-use Rattle.satl_laws.proofs.Items.{AreSorted, Awaits, Item, PlaceOf, SplitAt, covers, held, held-append, split_at, waiting, without_is}
+use Rattle.satl_laws.proofs.Items.{AreSorted, Awaits, Item, PlaceOf, covers, held, held-append, waiting}
+use Rattle.satl_laws.proofs.Eligibles.{SplitAt, split_at, without_is}
 use Rattle.satl_laws.proofs.Names.{one}
 use Rattle.satl_laws.proofs.Seen.{nows_seen, range_same, within, within_to}
 use Rattle.satl_laws.proofs.Settling.{GivesRight, none_to_write, pending, pending_none}

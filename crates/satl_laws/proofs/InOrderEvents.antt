@@ -29,7 +29,8 @@ use Rattle.satl_laws.proofs.InOrder.{InOrder, holds}
 use Rattle.satl_laws.proofs.InOrderArrivals.{unasking_in_order}
 use Rattle.satl_laws.proofs.InOrderRequests.{MayStand, arrives_at, told_at}
 use Rattle.satl_laws.proofs.InOrderTurns.{fewer, may_lose_at, turns_at}
-use Rattle.satl_laws.proofs.InOrderSteps.{InOrderAt, filtered_in_order, lost_at, lowered, quiet_at}
+use Rattle.satl_laws.proofs.InOrderSteps.{InOrderAt, lowered, quiet_at}
+use Rattle.satl_laws.proofs.InOrderDrops.{filtered_in_order, lost_at}
 use Rattle.satl_laws.proofs.Names.{asks_self, one}
 use Rattle.satl_laws.proofs.Requests.{asked_in}
 use Rattle.satl_laws.proofs.Standing.{Stands}

@@ -19,7 +19,8 @@ use Rattle.satl_laws.specs.ArrivalOrder.{block_at}
 use Rattle.satl_direct.specs.Quiet.{MayShow, writes}
 use Rattle.satl_laws.proofs.Ends.{eligible_in}
 use Rattle.satl_laws.proofs.InOrder.{InOrder, holds, sectors, trim}
-use Rattle.satl_laws.proofs.Seen.{loses_seen, put_elsewhere, put_seen}
+use Rattle.satl_laws.proofs.Seen.{put_elsewhere, put_seen}
+use Rattle.satl_laws.proofs.Flawless.{loses_seen}
 use Rattle.satl_laws.proofs.Sparing.{in_all}
 use Rattle.satl_laws.proofs.Standing.{Stands}
 use Rattle.satl_laws.proofs.TaskEnds.{none_written}

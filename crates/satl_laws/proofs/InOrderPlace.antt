@@ -16,8 +16,11 @@ use Rattle.satl_laws.specs.ArrivalOrder.{block_at, is_done}
 use Rattle.satl_laws.specs.OnceEach.{answers_to, asks_by}
 use Rattle.satl_direct.specs.Quiet.{writes}
 use Rattle.satl_laws.proofs.Cases.{both_left, both_right}
-use Rattle.satl_laws.proofs.InOrder.{InOrder, all_front, awaits, holds, left_in_order, own, place, sectors, trim}
-use Rattle.satl_laws.proofs.Items.{AreSorted, IsWell, Item, PlaceOf, before_free, waiting}
+use Rattle.satl_laws.proofs.InOrder.{InOrder, holds, sectors, trim}
+use Rattle.satl_laws.proofs.InOrderLeaves.{awaits, left_in_order, own, place}
+use Rattle.satl_laws.proofs.Rows.{all_front}
+use Rattle.satl_laws.proofs.Items.{AreSorted, IsWell, Item, PlaceOf, waiting}
+use Rattle.satl_laws.proofs.Eligibles.{before_free}
 use Rattle.satl_laws.proofs.Names.{none_in}
 use Rattle.satl_laws.proofs.Settling.{none_covers}
 use Rattle.satl_laws.proofs.Sparing.{in_all}

@@ -20,14 +20,16 @@ use Rattle.satl_laws.specs.ArrivalOrder.{block_at, is_done, is_plain, stops_or_s
 use Rattle.satl_laws.specs.OnceEach.{answers_to, asks_by}
 use Rattle.satl_laws.specs.OrderUnderErrors.{is_mild}
 use Rattle.satl_laws.proofs.Arrivals.{IsFor, IsTo, arrival_for}
-use Rattle.satl_laws.proofs.Bringing.{Answers, Gets, arrival_gets}
+use Rattle.satl_laws.proofs.Bringing.{Answers, Gets}
+use Rattle.satl_laws.proofs.Becoming.{arrival_gets}
 use Rattle.satl_laws.proofs.Calm.{IsCalm}
 use Rattle.satl_laws.proofs.Cases.{how_many-append}
 use Rattle.satl_laws.proofs.InOrder.{InOrder, IsOnly, IsSure, sectors, trim}
-use Rattle.satl_laws.proofs.InOrderArrivals.{answered_in_order, waits_in_order}
+use Rattle.satl_laws.proofs.InOrderArrivals.{answered_in_order}
+use Rattle.satl_laws.proofs.InOrderWaits.{waits_in_order}
 use Rattle.satl_laws.proofs.InOrderSteps.{InOrderAt}
 use Rattle.satl_laws.proofs.Names.{one}
-use Rattle.satl_laws.proofs.Seen.{IsClean}
+use Rattle.satl_laws.proofs.Flawless.{IsClean}
 use Rattle.satl_laws.proofs.Settling.{IsTold, right_on}
 use Rattle.satl_laws.proofs.Items.{Item}
 

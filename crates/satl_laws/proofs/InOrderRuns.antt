@@ -21,7 +21,8 @@ use Rattle.satl_laws.proofs.Cases.{both_left, how_many-append}
 use Rattle.satl_laws.proofs.InOrder.{InOrder}
 use Rattle.satl_laws.proofs.InOrderRequests.{MayStand}
 use Rattle.satl_laws.proofs.InOrderTurns.{fewer}
-use Rattle.satl_laws.proofs.InOrderSteps.{InOrderAt, filtered_in_order, quiet_at}
+use Rattle.satl_laws.proofs.InOrderSteps.{InOrderAt, quiet_at}
+use Rattle.satl_laws.proofs.InOrderDrops.{filtered_in_order}
 use Rattle.satl_laws.specs.ArrivalOrder.{ArrivalOrder, AskOnce, IsFresh}
 use Rattle.satl_laws.specs.OrderUnderErrors.{OrderUnderErrors}
 use Rattle.satl_laws.proofs.InOrderEnd.{act_as_done, act_as_items, acted_by, done_acts, in_order_as}

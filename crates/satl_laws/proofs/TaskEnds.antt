@@ -29,40 +29,15 @@ use Rattle.satl_laws.proofs.Transferring.{IsItsOwn, Transfers, after, and_left, 
 
 -- such a command writes what its WRITE has, and nothing else
 pub none_written : (c : Command) (s : Device) (t : Entry) → writes_plainly (Ok c) ≡ true → brings c ≡ false → written_by c s t ≡ []
-none_written commands.TestUnitReady s t plain none = refl
-none_written (commands.RequestSense descriptor alloc) s t plain none = refl
-none_written (commands.Inquiry page alloc) s t plain none = refl
-none_written (commands.ModeSense ten long_lba no_descriptor control page alloc) s t plain none = refl
-none_written (commands.ModeSelect ten size) s t plain none = refl
-none_written (commands.StartStop start no_flush) s t plain none = refl
-none_written commands.ReadCapacity10 s t plain none = refl
-none_written (commands.ReadCapacity16 alloc) s t plain none = refl
-none_written (commands.ReportLuns select alloc) s t plain none = refl
-none_written (commands.Read form lba count fua) s t plain none = refl
 none_written (commands.Write form lba count fua) s t plain none = absurd cc
-none_written (commands.Verify form lba count compare) s t plain none = refl
-none_written (commands.Flush form lba count) s t plain none = refl
 none_written (commands.WriteSame form lba count unmap) s t plain none = absurd cc
 none_written (commands.Unmap size) s t plain none = absurd cc
 none_written (commands.Pass cdb) s t plain none = absurd cc
+none_written c s t plain none = refl
 
 own_alone : (c : Command) → writes_plainly (Ok c) ≡ true → WritesItsOwn c
-own_alone commands.TestUnitReady plain = tt
-own_alone (commands.RequestSense descriptor alloc) plain = tt
-own_alone (commands.Inquiry page alloc) plain = tt
-own_alone (commands.ModeSense ten long_lba no_descriptor control page alloc) plain = tt
-own_alone (commands.ModeSelect ten size) plain = tt
-own_alone (commands.StartStop start no_flush) plain = tt
-own_alone commands.ReadCapacity10 plain = tt
-own_alone (commands.ReadCapacity16 alloc) plain = tt
-own_alone (commands.ReportLuns select alloc) plain = tt
-own_alone (commands.Read form lba count fua) plain = tt
-own_alone (commands.Write form lba count fua) plain = tt
-own_alone (commands.Verify form lba count compare) plain = tt
-own_alone (commands.Flush form lba count) plain = tt
-own_alone (commands.WriteSame form lba count unmap) plain = tt
-own_alone (commands.Unmap size) plain = tt
 own_alone (commands.Pass cdb) plain = absurd cc
+own_alone c plain = tt
 
 -- what is read is the same where the sectors' blocks are
 same_block : (old new : List Cell) (x : ℕ) → now_at new x ≡ now_at old x → block_at new x ≡ block_at old x
@@ -83,39 +58,16 @@ module _ (s new : Device) (t : Entry) (reply : Reply) where
   WriteEnds c = ((is_good reply.status ≡ true) × (new.cells ≡ whole s.cells (written_by c s t))) ⊎ ((is_good reply.status ≡ false) × Part s.cells (written_by c s t) new.cells)
 
   write_ends : (c : Command) → brings c ≡ true → EndsBy c s t reply new → WriteEnds c
-  write_ends commands.TestUnitReady b e = absurd cc
-  write_ends (commands.RequestSense descriptor alloc) b e = absurd cc
-  write_ends (commands.Inquiry page alloc) b e = absurd cc
-  write_ends (commands.ModeSense ten long_lba no_descriptor control page alloc) b e = absurd cc
-  write_ends (commands.ModeSelect ten size) b e = absurd cc
-  write_ends (commands.StartStop start no_flush) b e = absurd cc
-  write_ends commands.ReadCapacity10 b e = absurd cc
-  write_ends (commands.ReadCapacity16 alloc) b e = absurd cc
-  write_ends (commands.ReportLuns select alloc) b e = absurd cc
-  write_ends (commands.Read form lba count fua) b e = absurd cc
   write_ends (commands.Write form lba count fua) b e = go e.outcome e.ends e.answer
     where
       go : (o : Outcome) → EndsAs s.modes.wce (ranged_write fua (over lba count) t.body) o s.cells s.glitches new.cells new.glitches → reply ≡ outcome_reply s t (ranged_write fua (over lba count) t.body) o → WriteEnds (commands.Write form lba count fua)
       go (ends_done blocks) d is = inl (ap (λ r. is_good r.status) is, d.written)
       go (ends_flawed lba_of) f is = inr (ap (λ r. is_good r.status) is, f.written)
       go ends_glitched g is = inr (ap (λ r. is_good r.status) is, g.written)
-  write_ends (commands.Verify form lba count compare) b e = absurd cc
-  write_ends (commands.Flush form lba count) b e = absurd cc
-  write_ends (commands.WriteSame form lba count unmap) b e = absurd cc
-  write_ends (commands.Unmap size) b e = absurd cc
-  write_ends (commands.Pass cdb) b e = absurd cc
+  write_ends c b e = absurd cc
 
   -- a READ that is done gives what its sectors hold
   read_ends : (c : Command) → gives c ≡ true → is_good reply.status ≡ true → EndsBy c s t reply new → reply.body ≡ nows s.cells (range_of c).lba (range_of c).count
-  read_ends commands.TestUnitReady g good e = absurd cc
-  read_ends (commands.RequestSense descriptor alloc) g good e = absurd cc
-  read_ends (commands.Inquiry page alloc) g good e = absurd cc
-  read_ends (commands.ModeSense ten long_lba no_descriptor control page alloc) g good e = absurd cc
-  read_ends (commands.ModeSelect ten size) g good e = absurd cc
-  read_ends (commands.StartStop start no_flush) g good e = absurd cc
-  read_ends commands.ReadCapacity10 g good e = absurd cc
-  read_ends (commands.ReadCapacity16 alloc) g good e = absurd cc
-  read_ends (commands.ReportLuns select alloc) g good e = absurd cc
   read_ends (commands.Read form lba count fua) g good e = go e.outcome e.ends e.answer
     where
       bad : is_good reply.status ≡ false → reply.body ≡ nows s.cells lba count
@@ -125,12 +77,7 @@ module _ (s new : Device) (t : Entry) (reply : Reply) where
       go (ends_done blocks) d is = ap (λ r. r.body) is ∙ d.read
       go (ends_flawed lba_of) f is = bad (ap (λ r. is_good r.status) is)
       go ends_glitched g is = bad (ap (λ r. is_good r.status) is)
-  read_ends (commands.Write form lba count fua) g good e = absurd cc
-  read_ends (commands.Verify form lba count compare) g good e = absurd cc
-  read_ends (commands.Flush form lba count) g good e = absurd cc
-  read_ends (commands.WriteSame form lba count unmap) g good e = absurd cc
-  read_ends (commands.Unmap size) g good e = absurd cc
-  read_ends (commands.Pass cdb) g good e = absurd cc
+  read_ends c g good e = absurd cc
 
   -- or it is checked, and nothing is written
   checked_writes : (c : Command) (sense : Sense) → IsChecked sense s t reply new → (is_good reply.status ≡ false) × (new.cells ≡ s.cells)
