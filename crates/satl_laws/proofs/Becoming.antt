@@ -1,27 +1,22 @@
 -- What a request that changes no block but as a WRITE does becomes when it arrives.
 use Rattle.std.proofs.Common.{◌≡◌, refl, sym, ◌∙◌, ℕ, ◌+◌, ◌≤◌, Bool, true, false, [], Option, Some, None, arith, take, eqb-true}
-use Rattle.std.specs.Prelude.{◌-◌, if◌then◌else◌, not, ◌==◌, ◌||◌, ◌&&◌, nat_lt, slice_get, get_or, Result, Ok, Err}
+use Rattle.std.specs.Prelude.{◌-◌, if◌then◌else◌, not, ◌==◌, ◌||◌, slice_get, get_or, Result, Ok}
 use Rattle.std.specs.List.{list_any}
-use Rattle.std.proofs.lemmas.Bool.{ltb-false}
 use Rattle.std.proofs.lemmas.List.{get_or-take, length-take}
 use Rattle.satl_base.specs.declared.block.Block.{Block}
 use Rattle.satl_base.specs.declared.request.Request.{Request}
 use Rattle.satl_base.specs.declared.reply.Reply.{Reply}
-use Rattle.satl_base.specs.Fields.{bit}
-use Rattle.satl_base.specs.Lists.{is_in}
 use Rattle.satl_cdb.specs.declared.command.Command.{Command}
 use Rattle.satl_cdb.specs.declared.command.Command.TheVariants as commands
 use Rattle.satl_cdb.specs.declared.command.Illegal.{Illegal}
-use Rattle.satl_cdb.specs.Table.{says}
 use Rattle.satl_unit.specs.declared.attention.Attention.{Attention}
 use Rattle.satl_direct.specs.Device.{Device, attentions_of, is_called}
-use Rattle.satl_direct.specs.Tasks.{asks, is_full, needed, range_of, task_for}
-use Rattle.satl_direct.specs.Arrival.{Arrival, arrival, asks_for, attention_arrival, attention_for, becomes, built, cdb_arrival, code_arrival, code_of, command_arrival, is_unit_0, other_arrival, placed, placed_unless, readiness, sense_told, unless_refused}
+use Rattle.satl_direct.specs.Tasks.{is_full, range_of, task_for}
+use Rattle.satl_direct.specs.Arrival.{Arrival, becomes, placed, placed_unless, readiness, sense_told}
 use Rattle.satl_laws.specs.ArrivalOrder.{writes_plainly}
-use Rattle.satl_laws.proofs.Cases.{both_left}
 use Rattle.satl_laws.proofs.Transferring.{brings, gives}
 use Rattle.satl_laws.proofs.Seen.{by_test, within, within_from}
-use Rattle.satl_laws.proofs.Bringing.{Answers, Gets, inquiry_unknown, none_brought, refused, sense_unknown, silent}
+use Rattle.satl_laws.proofs.Bringing.{Answers, Gets, none_brought, refused, silent}
 
 module _ (s : Device) (r : Request) where
   -- how many sectors there are
@@ -33,7 +28,7 @@ module _ (s : Device) (r : Request) where
   has = list_any (is_called r.nexus (r.tag).0) s.tasks
 
   -- of two arrivals, one that a test chooses
-  either_gets : (said : Result Command Illegal) (b : Bool) (x y : Arrival) → (b ≡ true → Gets n has said r.body x) → (b ≡ false → Gets n has said r.body y) → Gets n has said r.body (if b then x else y)
+  pub either_gets : (said : Result Command Illegal) (b : Bool) (x y : Arrival) → (b ≡ true → Gets n has said r.body x) → (b ≡ false → Gets n has said r.body y) → Gets n has said r.body (if b then x else y)
   either_gets said b x y p q = by_test (λ t. Gets n has said r.body (if t then x else y)) b p q
 
   -- of two replies without data, one that a test chooses
@@ -109,7 +104,7 @@ module _ (s : Device) (r : Request) where
   sense_gets None descriptor alloc = silent _ refl r.body _
   sense_gets (Some what) descriptor alloc = silent _ refl r.body _
 
-  becomes_gets : (c : Command) → writes_plainly (Ok c) ≡ true → (range_of c).lba + (range_of c).count ≤ n → Gets n has (Ok c) r.body (becomes s r c)
+  pub becomes_gets : (c : Command) → writes_plainly (Ok c) ≡ true → (range_of c).lba + (range_of c).count ≤ n → Gets n has (Ok c) r.body (becomes s r c)
   becomes_gets commands.TestUnitReady h inside = silent _ refl r.body _
   becomes_gets (commands.RequestSense descriptor alloc) h inside = sense_gets (slice_get (attentions_of r.nexus s) 0) descriptor alloc
   becomes_gets (commands.Inquiry page alloc) h inside = silent _ refl r.body _
@@ -126,48 +121,3 @@ module _ (s : Device) (r : Request) where
   becomes_gets (commands.WriteSame form lba count unmap) h inside = absurd cc
   becomes_gets (commands.Unmap size) h inside = absurd cc
   becomes_gets (commands.Pass cdb) h inside = absurd cc
-
-  -- the steps before that
-  unless_gets : (said : Result Command Illegal) (o : Option Illegal) (next : Arrival) → Gets n has said r.body next → Gets n has said r.body (unless_refused o s r next)
-  unless_gets said None next h = h
-  unless_gets said (Some why) next h = refused said r.body _ refl
-
-  command_gets : (c : Command) → writes_plainly (Ok c) ≡ true → Gets n has (Ok c) r.body (command_arrival s r c)
-  command_gets c h =
-      either_gets (Ok c) (nat_lt n ((range_of c).lba + (range_of c).count)) _ _
-      (λ outside. refused (Ok c) r.body _ refl)
-      (λ inside. unless_gets (Ok c) (asks c).length_fault _
-      (either_gets (Ok c) (nat_lt r.data_len (needed c)) _ _
-      (λ short. refused (Ok c) r.body _ refl)
-      (λ enough. unless_gets (Ok c) ((asks c).data_fault s.identity s.modes r.body) _ (becomes_gets c h (ltb-false n ((range_of c).lba + (range_of c).count) inside)))))
-
-  cdb_gets : (said : Result Command Illegal) → writes_plainly said ≡ true → Gets n has said r.body (cdb_arrival s r said)
-  cdb_gets (Err why) h = refused (Err why) r.body _ refl
-  cdb_gets (Ok c) h = unless_gets (Ok c) (asks c).fields_fault _ (command_gets c h)
-
-  module _ (plain : writes_plainly (says r.cdb s.identity.trim) ≡ true) where
-    -- what the CDB says
-    abbrev it : Result Command Illegal
-    it = says r.cdb s.identity.trim
-
-    code_gets : Gets n has it r.body (code_arrival s r)
-    code_gets = either_gets it (not (is_in (code_of r) built)) _ _ (λ none. refused it r.body _ refl) (λ some. cdb_gets it plain)
-
-    told_gets : (o : Option Attention) → Gets n has it r.body (attention_arrival o s r)
-    told_gets (Some what) = refused it r.body _ refl
-    told_gets None = code_gets
-
-    other_gets : Gets n has it r.body (other_arrival s r)
-    other_gets =
-        either_gets it (asks_for 0x12 r && not (bit 1 0 r.cdb)) _ _
-        (λ h. inquiry_unknown r.cdb s.identity.trim (eqb-true (code_of r) 0x12 (both_left (code_of r == 0x12) (is_in 0x12 built) (both_left (asks_for 0x12 r) (not (bit 1 0 r.cdb)) h))) r.body _)
-        (λ h. either_gets it (asks_for 0x03 r) _ _
-        (λ k. sense_unknown r.cdb s.identity.trim (eqb-true (code_of r) 0x03 (both_left (code_of r == 0x03) (is_in 0x03 built) k)) r.body _)
-        (λ k. refused it r.body _ refl))
-
-    -- what the request becomes
-    pub arrival_gets : Gets n has it r.body (arrival s r)
-    arrival_gets =
-        either_gets it (is_unit_0 r.lun || asks_for 0xA0 r) _ _
-        (λ here. either_gets it has _ _ (λ some. some) (λ none. told_gets (attention_for s r)))
-        (λ there. other_gets)

@@ -23,7 +23,7 @@ use Rattle.satl_laws.proofs.Seen.{put_elsewhere, put_seen}
 use Rattle.satl_laws.proofs.Flawless.{loses_seen}
 use Rattle.satl_laws.proofs.Sparing.{in_all}
 use Rattle.satl_laws.proofs.Standing.{Stands}
-use Rattle.satl_laws.proofs.TaskEnds.{none_written}
+use Rattle.satl_laws.proofs.PlainTasks.{none_written}
 use Rattle.satl_laws.proofs.Tasks.{IsPlainTask, tasks_plain, writer_fits}
 use Rattle.satl_laws.proofs.Transferring.{after, brings, pair_of, spans}
 

@@ -17,7 +17,8 @@ use Rattle.satl_laws.specs.OnceEach.{answers_to, asks_by}
 use Rattle.satl_direct.specs.Quiet.{writes}
 use Rattle.satl_laws.proofs.Cases.{both_left, both_right}
 use Rattle.satl_laws.proofs.InOrder.{InOrder, holds, sectors, trim}
-use Rattle.satl_laws.proofs.InOrderLeaves.{awaits, left_in_order, own, place}
+use Rattle.satl_laws.proofs.InOrderLeaves.{awaits, own, place}
+use Rattle.satl_laws.proofs.InOrderLeft.{left_in_order}
 use Rattle.satl_laws.proofs.Rows.{all_front}
 use Rattle.satl_laws.proofs.Items.{AreSorted, IsWell, Item, PlaceOf, waiting}
 use Rattle.satl_laws.proofs.Eligibles.{before_free}

@@ -21,7 +21,7 @@ use Rattle.satl_laws.specs.OnceEach.{answers_to, asks_by}
 use Rattle.satl_laws.specs.OrderUnderErrors.{is_mild}
 use Rattle.satl_laws.proofs.Arrivals.{IsFor, IsTo, arrival_for}
 use Rattle.satl_laws.proofs.Bringing.{Answers, Gets}
-use Rattle.satl_laws.proofs.Becoming.{arrival_gets}
+use Rattle.satl_laws.proofs.Arriving.{arrival_gets}
 use Rattle.satl_laws.proofs.Calm.{IsCalm}
 use Rattle.satl_laws.proofs.Cases.{how_many-append}
 use Rattle.satl_laws.proofs.InOrder.{InOrder, IsOnly, IsSure, sectors, trim}

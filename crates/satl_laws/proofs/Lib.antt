@@ -1,5 +1,6 @@
 pub mod Addresses
 pub mod Arrivals
+pub mod Arriving
 pub mod Becoming
 pub mod Bringing
 pub mod Calm
@@ -16,7 +17,9 @@ pub mod InOrderDrops
 pub mod InOrderEnd
 pub mod InOrderEnds
 pub mod InOrderEvents
+pub mod InOrderFlaws
 pub mod InOrderLeaves
+pub mod InOrderLeft
 pub mod InOrderMoves
 pub mod InOrderPlace
 pub mod InOrderRequests
@@ -28,6 +31,7 @@ pub mod Items
 pub mod Kept
 pub mod Names
 pub mod Outcomes
+pub mod PlainTasks
 pub mod Reaching
 pub mod Requests
 pub mod Rows

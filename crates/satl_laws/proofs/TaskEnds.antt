@@ -1,10 +1,9 @@
 -- How the task of a command that changes no block but as a WRITE does ends: what is read, and what its sectors hold.
-use Rattle.std.proofs.Common.{◌≡◌, ◌⊎◌, ⊎_elim, inl, inr, refl, sym, ap, ◌∙◌, subst, ℕ, zero, suc, ◌<◌, Bool, true, false, List, [], ◌∷◌, Option, Some, None, length}
+use Rattle.std.proofs.Common.{◌≡◌, ◌⊎◌, ⊎_elim, inl, inr, refl, sym, ap, ◌∙◌, subst, ℕ, ◌<◌, Bool, true, false, List, [], ◌∷◌, length}
 use Rattle.std.specs.Prelude.{◌&&◌, ◌||◌, not, Ok}
 use Rattle.std.proofs.lemmas.Bool.{cases_eq}
 use Rattle.satl_base.specs.declared.block.Block.{Block}
 use Rattle.satl_base.specs.declared.reply.Reply.{Reply}
-use Rattle.satl_base.specs.Blocks.{no_block}
 use Rattle.satl_base.specs.Cells.{Cell, Pair, Part, nows, put_at, whole}
 use Rattle.satl_base.specs.Lists.{IsIn}
 use Rattle.satl_base.proofs.CellsLemmas.{change_at-length}
@@ -18,39 +17,15 @@ use Rattle.satl_line.specs.Ending.Outcome.{ends_done, ends_flawed, ends_glitched
 use Rattle.satl_direct.specs.Device.{Device}
 use Rattle.satl_direct.specs.Ending.{Ends, EndsBy, IsChecked, outcome_reply}
 use Rattle.satl_laws.specs.ArrivalOrder.{block_at, is_good, writes_plainly}
-use Rattle.satl_laws.specs.Untouched.{Spares, now_at}
+use Rattle.satl_laws.specs.Untouched.{Spares}
 use Rattle.satl_direct.specs.Quiet.{writes, written_by}
 use Rattle.satl_direct.specs.Tasks.{asks, over, range_of}
 use Rattle.satl_laws.proofs.Cases.{by_bool}
 use Rattle.satl_laws.proofs.Kept.{at_now}
-use Rattle.satl_laws.proofs.Reaching.{WritesItsOwn, ends_reach, steps-length, steps_keep}
+use Rattle.satl_laws.proofs.PlainTasks.{none_written, own_alone, same_block}
+use Rattle.satl_laws.proofs.Reaching.{ends_reach, steps-length, steps_keep}
 use Rattle.satl_laws.proofs.Seen.{by_test, put_elsewhere, put_seen}
 use Rattle.satl_laws.proofs.Transferring.{IsItsOwn, Transfers, after, and_left, brings, gives, pair_of, spans, still, written_seen}
-
--- such a command writes what its WRITE has, and nothing else
-pub none_written : (c : Command) (s : Device) (t : Entry) → writes_plainly (Ok c) ≡ true → brings c ≡ false → written_by c s t ≡ []
-none_written (commands.Write form lba count fua) s t plain none = absurd cc
-none_written (commands.WriteSame form lba count unmap) s t plain none = absurd cc
-none_written (commands.Unmap size) s t plain none = absurd cc
-none_written (commands.Pass cdb) s t plain none = absurd cc
-none_written c s t plain none = refl
-
-own_alone : (c : Command) → writes_plainly (Ok c) ≡ true → WritesItsOwn c
-own_alone (commands.Pass cdb) plain = absurd cc
-own_alone c plain = tt
-
--- what is read is the same where the sectors' blocks are
-same_block : (old new : List Cell) (x : ℕ) → now_at new x ≡ now_at old x → block_at new x ≡ block_at old x
-same_block old new x h = is_block_in new x ∙ ap block_in h ∙ sym (is_block_in old x)
-  where
-    block_in : Option Block → Block
-    block_in None = no_block
-    block_in (Some v) = v
-
-    is_block_in : (cells : List Cell) (x : ℕ) → block_at cells x ≡ block_in (now_at cells x)
-    is_block_in [] x = refl
-    is_block_in (c ∷ cs) zero = refl
-    is_block_in (c ∷ cs) (suc x) = is_block_in cs x
 
 module _ (s new : Device) (t : Entry) (reply : Reply) where
   -- a WRITE is done, or it fails and is written in part

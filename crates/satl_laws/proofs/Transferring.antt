@@ -12,7 +12,7 @@ use Rattle.satl_line.specs.declared.entry.Entry.{Entry}
 use Rattle.satl_line.specs.declared.entry.Kind.TheVariants.{Ranged}
 use Rattle.satl_line.specs.Conflict.{access_of, accesses_conflict, any_meet, conflicts, is_write, ranges_meet}
 use Rattle.satl_direct.specs.Device.{Device}
-use Rattle.satl_laws.specs.ArrivalOrder.{block_at, brought}
+use Rattle.satl_laws.specs.ArrivalOrder.{IsReadOf, block_at, brought}
 use Rattle.satl_direct.specs.Quiet.{writes, written_by}
 use Rattle.satl_direct.specs.Tasks.{range_of}
 use Rattle.satl_laws.proofs.Seen.{by_test, in_row, row_seen, within, within_from, within_to}
@@ -67,6 +67,16 @@ twice_by c body x v = refl
 
 pub after_twice : (t : Entry) (x : ℕ) (v : Block) → after t x (after t x v) ≡ after t x v
 after_twice t x v = twice_by t.command t.body x v
+
+-- what a READ reads
+pub read_of : (c : Command) (lba count : ℕ) → IsReadOf (Ok c) lba count → (gives c ≡ true) × ((range_of c).lba ≡ lba) × ((range_of c).count ≡ count)
+read_of (commands.Read form from number fua) lba count h = (refl, h.0, h.1)
+read_of c lba count h = absurd h
+
+-- no READ writes
+pub reads_only : (c : Command) → gives c ≡ true → brings c ≡ true → ⊥
+reads_only (commands.Read form lba count fua) g b = cc
+reads_only c g b = cc
 
 -- ---- conflicts
 
