@@ -1,30 +1,20 @@
--- What a request that changes no block but as a WRITE does becomes when it arrives.
-use Rattle.std.proofs.Common.{◌≡◌, refl, sym, ap, ◌∙◌, subst, ℕ, ◌+◌, ◌≤◌, Bool, true, false, List, [], ◌∷◌, Option, Some, None, arith, take, eqb-true}
-use Rattle.std.specs.Prelude.{◌-◌, if◌then◌else◌, not, ◌==◌, ◌||◌, ◌&&◌, nat_lt, slice_get, slice_index, get_or, Result, Ok, Err}
-use Rattle.std.specs.List.{list_any}
-use Rattle.std.proofs.lemmas.Bool.{ltb-false}
-use Rattle.std.proofs.lemmas.List.{get_or-take, length-take}
+-- What an arrival may be of a request that changes no block but as a WRITE does.
+use Rattle.std.proofs.Common.{◌≡◌, refl, sym, ap, ◌∙◌, subst, ℕ, Bool, true, false, List, [], ◌∷◌, Some}
+use Rattle.std.specs.Prelude.{if◌then◌else◌, ◌||◌, slice_index, Result, Ok, Err}
 use Rattle.satl_base.specs.declared.block.Block.{Block}
-use Rattle.satl_base.specs.declared.request.Request.{Request}
 use Rattle.satl_base.specs.declared.reply.Reply.{Reply}
-use Rattle.satl_base.specs.Fields.{bit}
-use Rattle.satl_base.specs.Lists.{is_in}
 use Rattle.satl_cdb.specs.declared.command.Command.{Command}
 use Rattle.satl_cdb.specs.declared.command.Command.TheVariants as commands
 use Rattle.satl_cdb.specs.declared.command.Illegal.{Illegal}
 use Rattle.satl_cdb.specs.Rows.{Rule, format_of, found_says, unless_broken}
 use Rattle.satl_cdb.specs.PrimaryCommands.{inquiry, request_sense}
 use Rattle.satl_cdb.specs.Table.{says, table}
-use Rattle.satl_unit.specs.declared.attention.Attention.{Attention}
 use Rattle.satl_line.specs.declared.entry.Entry.{Entry}
-use Rattle.satl_direct.specs.Device.{Device, attentions_of, is_called}
-use Rattle.satl_direct.specs.Tasks.{asks, is_full, needed, range_of, task_for}
-use Rattle.satl_direct.specs.Arrival.{Arrival, arrival, asks_for, attention_arrival, attention_for, becomes, built, cdb_arrival, code_arrival, code_of, command_arrival, is_unit_0, other_arrival, placed, placed_unless, readiness, sense_told, unless_refused}
+use Rattle.satl_direct.specs.Arrival.{Arrival}
 use Rattle.satl_direct.specs.Arrival.Arrival.{answered, attended, overlaps, waits}
-use Rattle.satl_direct.specs.Laws.{IsReadOf, brought, is_good, writes_plainly}
-use Rattle.satl_laws.proofs.Cases.{both_left}
+use Rattle.satl_laws.specs.ArrivalOrder.{IsReadOf, brought, is_good}
 use Rattle.satl_laws.proofs.Transferring.{Transfers, after, brings, gives}
-use Rattle.satl_laws.proofs.Seen.{by_test, within, within_from}
+use Rattle.satl_laws.proofs.Seen.{by_test}
 
 -- an answer at once: where it says GOOD, the request writes nothing, and reads nothing
 pub record Answers (said : Result Command Illegal) (body : List Block) (reply : Reply) : Type 0 where
@@ -45,60 +35,32 @@ Gets n has said body (overlaps reply) = has ≡ true
 Gets n has said body (waits task) = Waits n said body task
 
 -- an answer that is not GOOD
-refused : (said : Result Command Illegal) (body : List Block) (reply : Reply) → is_good reply.status ≡ false → Answers said body reply
+pub refused : (said : Result Command Illegal) (body : List Block) (reply : Reply) → is_good reply.status ≡ false → Answers said body reply
 refused said body reply h = record {
   writes_none = λ good. absurd (let no : true ≡ false = sym good ∙ h in cc);
   reads_none = λ good. absurd (let no : true ≡ false = sym good ∙ h in cc);
 }
 
 -- GOOD to a request that is not understood
-unknown : (why : Illegal) (body : List Block) (reply : Reply) → Answers (Err why) body reply
+pub unknown : (why : Illegal) (body : List Block) (reply : Reply) → Answers (Err why) body reply
 unknown why body reply = record { writes_none = λ good x v. refl; reads_none = λ good lba count is. absurd is }
 
 -- a command that is no READ and no WRITE brings nothing
-none_brought : (c : Command) → gives c || brings c ≡ false → (body : List Block) (x : ℕ) (v : Block) → brought (Ok c) body x v ≡ v
-none_brought commands.TestUnitReady h body x v = refl
-none_brought (commands.RequestSense descriptor alloc) h body x v = refl
-none_brought (commands.Inquiry page alloc) h body x v = refl
-none_brought (commands.ModeSense ten long_lba no_descriptor control page alloc) h body x v = refl
-none_brought (commands.ModeSelect ten size) h body x v = refl
-none_brought (commands.StartStop start no_flush) h body x v = refl
-none_brought commands.ReadCapacity10 h body x v = refl
-none_brought (commands.ReadCapacity16 alloc) h body x v = refl
-none_brought (commands.ReportLuns select alloc) h body x v = refl
-none_brought (commands.Read form lba count fua) h body x v = refl
+pub none_brought : (c : Command) → gives c || brings c ≡ false → (body : List Block) (x : ℕ) (v : Block) → brought (Ok c) body x v ≡ v
 none_brought (commands.Write form lba count fua) h body x v = absurd cc
-none_brought (commands.Verify form lba count compare) h body x v = refl
-none_brought (commands.Flush form lba count) h body x v = refl
-none_brought (commands.WriteSame form lba count unmap) h body x v = refl
-none_brought (commands.Unmap size) h body x v = refl
-none_brought (commands.Pass cdb) h body x v = refl
+none_brought c h body x v = refl
 
 -- and is no READ
-none_read : (c : Command) → gives c || brings c ≡ false → (lba count : ℕ) → IsReadOf (Ok c) lba count → ⊥
-none_read commands.TestUnitReady h lba count is = is
-none_read (commands.RequestSense descriptor alloc) h lba count is = is
-none_read (commands.Inquiry page alloc) h lba count is = is
-none_read (commands.ModeSense ten long_lba no_descriptor control page alloc) h lba count is = is
-none_read (commands.ModeSelect ten size) h lba count is = is
-none_read (commands.StartStop start no_flush) h lba count is = is
-none_read commands.ReadCapacity10 h lba count is = is
-none_read (commands.ReadCapacity16 alloc) h lba count is = is
-none_read (commands.ReportLuns select alloc) h lba count is = is
+pub none_read : (c : Command) → gives c || brings c ≡ false → (lba count : ℕ) → IsReadOf (Ok c) lba count → ⊥
 none_read (commands.Read form from number fua) h lba count is = cc
-none_read (commands.Write form from number fua) h lba count is = is
-none_read (commands.Verify form from number compare) h lba count is = is
-none_read (commands.Flush form from number) h lba count is = is
-none_read (commands.WriteSame form from number unmap) h lba count is = is
-none_read (commands.Unmap size) h lba count is = is
-none_read (commands.Pass cdb) h lba count is = is
+none_read c h lba count is = is
 
 -- any answer to such a command
-silent : (c : Command) → gives c || brings c ≡ false → (body : List Block) (reply : Reply) → Answers (Ok c) body reply
+pub silent : (c : Command) → gives c || brings c ≡ false → (body : List Block) (reply : Reply) → Answers (Ok c) body reply
 silent c h body reply = record { writes_none = λ good x v. none_brought c h body x v; reads_none = λ good lba count is. absurd (none_read c h lba count is) }
 
 -- a row of the table that is no READ and no WRITE
-found_unknown : (rules : List Rule) (cdb : List ℕ) (c : Command) → gives c || brings c ≡ false → (body : List Block) (reply : Reply) → Answers (unless_broken rules cdb c) body reply
+pub found_unknown : (rules : List Rule) (cdb : List ℕ) (c : Command) → gives c || brings c ≡ false → (body : List Block) (reply : Reply) → Answers (unless_broken rules cdb c) body reply
 found_unknown [] cdb c other body reply = silent c other body reply
 found_unknown (rule ∷ rules) cdb c other body reply =
     by_test (λ b. Answers (if b then Err rule.refusal else unless_broken rules cdb c) body reply) (rule.breaks cdb)
@@ -106,164 +68,15 @@ found_unknown (rule ∷ rules) cdb c other body reply =
     (λ fine. found_unknown rules cdb c other body reply)
 
 -- no INQUIRY is a READ or a WRITE
-inquiry_unknown : (cdb : List ℕ) (trim : Bool) → slice_index cdb 0 ≡ 0x12 → (body : List Block) (reply : Reply) → Answers (says cdb trim) body reply
+pub inquiry_unknown : (cdb : List ℕ) (trim : Bool) → slice_index cdb 0 ≡ 0x12 → (body : List Block) (reply : Reply) → Answers (says cdb trim) body reply
 unfolding says
 inquiry_unknown cdb trim code body reply =
     let is : says cdb trim ≡ found_says (Some inquiry) cdb = ap (λ c. found_says (format_of (table trim) c) cdb) code in
     subst (λ said. Answers said body reply) (sym is) (found_unknown (inquiry.rules) cdb (inquiry.command cdb) refl body reply)
 
 -- nor is REQUEST SENSE
-sense_unknown : (cdb : List ℕ) (trim : Bool) → slice_index cdb 0 ≡ 0x03 → (body : List Block) (reply : Reply) → Answers (says cdb trim) body reply
+pub sense_unknown : (cdb : List ℕ) (trim : Bool) → slice_index cdb 0 ≡ 0x03 → (body : List Block) (reply : Reply) → Answers (says cdb trim) body reply
 unfolding says
 sense_unknown cdb trim code body reply =
     let is : says cdb trim ≡ found_says (Some request_sense) cdb = ap (λ c. found_says (format_of (table trim) c) cdb) code in
     subst (λ said. Answers said body reply) (sym is) (found_unknown (request_sense.rules) cdb (request_sense.command cdb) refl body reply)
-
-module _ (s : Device) (r : Request) where
-  -- how many sectors there are
-  abbrev n : ℕ
-  n = s.identity.capacity
-
-  -- whether a task has the nexus and tag
-  abbrev has : Bool
-  has = list_any (is_called r.nexus (r.tag).0) s.tasks
-
-  -- of two arrivals, one that a test chooses
-  either_gets : (said : Result Command Illegal) (b : Bool) (x y : Arrival) → (b ≡ true → Gets n has said r.body x) → (b ≡ false → Gets n has said r.body y) → Gets n has said r.body (if b then x else y)
-  either_gets said b x y p q = by_test (λ t. Gets n has said r.body (if t then x else y)) b p q
-
-  -- of two replies without data, one that a test chooses
-  either_empty : (b : Bool) (x y : Reply) → x.body ≡ [] → y.body ≡ [] → (if b then x else y).body ≡ []
-  either_empty true x y p q = p
-  either_empty false x y p q = q
-
-  -- TEST UNIT READY has no data
-  ready_empty : (readiness s r).body ≡ []
-  ready_empty = either_empty s.down _ _ refl (either_empty (not s.started) _ _ refl refl)
-
-  -- a READ of no block
-  idle_read : (form : _) (lba count : ℕ) (fua : Bool) → count ≡ 0 → Answers (Ok (commands.Read form lba count fua)) r.body (readiness s r)
-  idle_read form lba count fua none = record { writes_none = λ good x v. refl; reads_none = λ good from number is. (sym is.1 ∙ none, ready_empty) }
-
-  -- a WRITE of no block
-  idle_write : (form : _) (lba count : ℕ) (fua : Bool) → count ≡ 0 → Answers (Ok (commands.Write form lba count fua)) r.body (readiness s r)
-  idle_write form lba count fua none = record {
-    writes_none = λ good x v. by_test (λ b. (if b then get_or r.body (x - lba) v else v) ≡ v) (within lba count x)
-        (λ t. absurd (let k = within_from lba count x t in omega (arith, k.0, k.1, none)))
-        (λ f. refl);
-    reads_none = λ good from number is. absurd is;
-  }
-
-  -- the first blocks of the data-out are those of the range
-  first_blocks : (lba count x : ℕ) (v : Block) → (if within lba count x then get_or (take count r.body) (x - lba) v else v) ≡ (if within lba count x then get_or r.body (x - lba) v else v)
-  first_blocks lba count x v =
-      by_test (λ b. (if b then get_or (take count r.body) (x - lba) v else v) ≡ (if b then get_or r.body (x - lba) v else v)) (within lba count x)
-      (λ t. let k = within_from lba count x t in get_or-take count r.body (x - lba) v (omega (arith, k.0, k.1)))
-      (λ f. refl)
-
-  -- a READ or a WRITE in range
-  read_gets : (form : _) (lba count : ℕ) (fua : Bool) → lba + count ≤ n → Gets n has (Ok (commands.Read form lba count fua)) r.body (becomes s r (commands.Read form lba count fua))
-  read_gets form lba count fua inside =
-      either_gets (Ok (commands.Read form lba count fua)) (count == 0) _ _
-      (λ none. idle_read form lba count fua (eqb-true count 0 none))
-      (λ some. either_gets (Ok (commands.Read form lba count fua)) (is_full s.tasks (commands.Read form lba count fua)) _ _
-      (λ full. refused _ r.body _ refl)
-      (λ room. record {
-        says_it = refl;
-        fits = λ h. record { either = refl; kind = refl; ranges = refl; inside = inside; fits = omega arith };
-        leaves = λ x v. refl;
-      }))
-
-  write_gets : (form : _) (lba count : ℕ) (fua : Bool) → lba + count ≤ n → Gets n has (Ok (commands.Write form lba count fua)) r.body (becomes s r (commands.Write form lba count fua))
-  write_gets form lba count fua inside =
-      either_gets (Ok (commands.Write form lba count fua)) (count == 0) _ _
-      (λ none. idle_write form lba count fua (eqb-true count 0 none))
-      (λ some. either_gets (Ok (commands.Write form lba count fua)) (is_full s.tasks (commands.Write form lba count fua)) _ _
-      (λ full. refused _ r.body _ refl)
-      (λ room. record {
-        says_it = refl;
-        fits = λ h. record { either = refl; kind = refl; ranges = refl; inside = inside; fits = omega (arith, length-take count r.body) };
-        leaves = λ x v. first_blocks lba count x v;
-      }))
-
-  -- another command that makes a task
-  placed_gets : (c : Command) → gives c || brings c ≡ false → Gets n has (Ok c) r.body (placed s r c)
-  placed_gets c h =
-      either_gets (Ok c) (is_full s.tasks c) _ _
-      (λ full. refused _ r.body _ refl)
-      (λ room. record {
-        says_it = refl;
-        fits = λ some. absurd (let no : true ≡ false = sym some ∙ h in cc);
-        leaves = λ x v. none_brought c h (task_for s.identity.queued_trim r c).body x v ∙ sym (none_brought c h r.body x v);
-      })
-
-  unless_idle : (c : Command) (idle : Bool) → gives c || brings c ≡ false → Gets n has (Ok c) r.body (placed_unless idle s r c)
-  unless_idle c idle h = either_gets (Ok c) idle _ _ (λ none. silent c h r.body _) (λ some. placed_gets c h)
-
-  -- REQUEST SENSE tells the first condition, if there is one
-  sense_gets : (o : Option Attention) (descriptor : Bool) (alloc : ℕ) → Gets n has (Ok (commands.RequestSense descriptor alloc)) r.body (sense_told o r descriptor alloc)
-  sense_gets None descriptor alloc = silent _ refl r.body _
-  sense_gets (Some what) descriptor alloc = silent _ refl r.body _
-
-  becomes_gets : (c : Command) → writes_plainly (Ok c) ≡ true → (range_of c).lba + (range_of c).count ≤ n → Gets n has (Ok c) r.body (becomes s r c)
-  becomes_gets commands.TestUnitReady h inside = silent _ refl r.body _
-  becomes_gets (commands.RequestSense descriptor alloc) h inside = sense_gets (slice_get (attentions_of r.nexus s) 0) descriptor alloc
-  becomes_gets (commands.Inquiry page alloc) h inside = silent _ refl r.body _
-  becomes_gets (commands.ModeSense ten long_lba no_descriptor control page alloc) h inside = silent _ refl r.body _
-  becomes_gets (commands.ModeSelect ten size) h inside = unless_idle (commands.ModeSelect ten size) (size == 0) refl
-  becomes_gets (commands.StartStop start no_flush) h inside = placed_gets (commands.StartStop start no_flush) refl
-  becomes_gets commands.ReadCapacity10 h inside = silent _ refl r.body _
-  becomes_gets (commands.ReadCapacity16 alloc) h inside = silent _ refl r.body _
-  becomes_gets (commands.ReportLuns select alloc) h inside = silent _ refl r.body _
-  becomes_gets (commands.Read form lba count fua) h inside = read_gets form lba count fua inside
-  becomes_gets (commands.Write form lba count fua) h inside = write_gets form lba count fua inside
-  becomes_gets (commands.Verify form lba count compare) h inside = unless_idle (commands.Verify form lba count compare) (count == 0) refl
-  becomes_gets (commands.Flush form lba count) h inside = placed_gets (commands.Flush form lba count) refl
-  becomes_gets (commands.WriteSame form lba count unmap) h inside = absurd cc
-  becomes_gets (commands.Unmap size) h inside = absurd cc
-  becomes_gets (commands.Pass cdb) h inside = absurd cc
-
-  -- the steps before that
-  unless_gets : (said : Result Command Illegal) (o : Option Illegal) (next : Arrival) → Gets n has said r.body next → Gets n has said r.body (unless_refused o s r next)
-  unless_gets said None next h = h
-  unless_gets said (Some why) next h = refused said r.body _ refl
-
-  command_gets : (c : Command) → writes_plainly (Ok c) ≡ true → Gets n has (Ok c) r.body (command_arrival s r c)
-  command_gets c h =
-      either_gets (Ok c) (nat_lt n ((range_of c).lba + (range_of c).count)) _ _
-      (λ outside. refused (Ok c) r.body _ refl)
-      (λ inside. unless_gets (Ok c) (asks c).length_fault _
-      (either_gets (Ok c) (nat_lt r.data_len (needed c)) _ _
-      (λ short. refused (Ok c) r.body _ refl)
-      (λ enough. unless_gets (Ok c) ((asks c).data_fault s.identity s.modes r.body) _ (becomes_gets c h (ltb-false n ((range_of c).lba + (range_of c).count) inside)))))
-
-  cdb_gets : (said : Result Command Illegal) → writes_plainly said ≡ true → Gets n has said r.body (cdb_arrival s r said)
-  cdb_gets (Err why) h = refused (Err why) r.body _ refl
-  cdb_gets (Ok c) h = unless_gets (Ok c) (asks c).fields_fault _ (command_gets c h)
-
-  module _ (plain : writes_plainly (says r.cdb s.identity.trim) ≡ true) where
-    -- what the CDB says
-    abbrev it : Result Command Illegal
-    it = says r.cdb s.identity.trim
-
-    code_gets : Gets n has it r.body (code_arrival s r)
-    code_gets = either_gets it (not (is_in (code_of r) built)) _ _ (λ none. refused it r.body _ refl) (λ some. cdb_gets it plain)
-
-    told_gets : (o : Option Attention) → Gets n has it r.body (attention_arrival o s r)
-    told_gets (Some what) = refused it r.body _ refl
-    told_gets None = code_gets
-
-    other_gets : Gets n has it r.body (other_arrival s r)
-    other_gets =
-        either_gets it (asks_for 0x12 r && not (bit 1 0 r.cdb)) _ _
-        (λ h. inquiry_unknown r.cdb s.identity.trim (eqb-true (code_of r) 0x12 (both_left (code_of r == 0x12) (is_in 0x12 built) (both_left (asks_for 0x12 r) (not (bit 1 0 r.cdb)) h))) r.body _)
-        (λ h. either_gets it (asks_for 0x03 r) _ _
-        (λ k. sense_unknown r.cdb s.identity.trim (eqb-true (code_of r) 0x03 (both_left (code_of r == 0x03) (is_in 0x03 built) k)) r.body _)
-        (λ k. refused it r.body _ refl))
-
-    -- what the request becomes
-    pub arrival_gets : Gets n has it r.body (arrival s r)
-    arrival_gets =
-        either_gets it (is_unit_0 r.lun || asks_for 0xA0 r) _ _
-        (λ here. either_gets it has _ _ (λ some. some) (λ none. told_gets (attention_for s r)))
-        (λ there. other_gets)

@@ -16,12 +16,13 @@ use Rattle.satl_line.specs.Ending.{EndsAs, Outcome, flaw_met}
 use Rattle.satl_line.specs.Ending.Outcome.{ends_done, ends_flawed, ends_glitched}
 use Rattle.satl_direct.specs.Device.{Device}
 use Rattle.satl_direct.specs.Ending.{Ends, EndsBy, EndsCompared, EndsOnMedium, EndsVerified, IsChecked, IsDone, outcome_reply, selected, settled, settled_if}
-use Rattle.satl_direct.specs.Laws.{is_good, stops_or_starts, writes_plainly}
+use Rattle.satl_laws.specs.ArrivalOrder.{is_good, stops_or_starts, writes_plainly}
 use Rattle.satl_direct.specs.Quiet.{Quiet}
 use Rattle.satl_direct.specs.Senses.{link_lost, not_ready}
 use Rattle.satl_direct.specs.Tasks.{asks, over}
 use Rattle.satl_laws.proofs.Cases.{by_option}
-use Rattle.satl_laws.proofs.Seen.{IsClean, loses_clean, no_flaw, pair_clean, whole_clean}
+use Rattle.satl_laws.proofs.Flawless.{IsClean}
+use Rattle.satl_laws.proofs.Flawless.{loses_clean, no_flaw, pair_clean, whole_clean}
 use Rattle.satl_laws.proofs.Transferring.{brings}
 
 pub record IsCalm (s : Device) : Type 0 where

@@ -1,5 +1,5 @@
 -- Requests that arrive keep the order of arrival, and so do events that ask nothing.
-use Rattle.std.proofs.Common.{◌≡◌, ⊎_elim, inl, inr, refl, sym, ap, ◌∙◌, subst, ℕ, Bool, true, false, List, [], ◌∷◌, ◌++◌, Some, None, arith, map}
+use Rattle.std.proofs.Common.{◌≡◌, ⊎_elim, refl, sym, ap, ◌∙◌, subst, ℕ, Bool, true, false, List, [], ◌∷◌, ◌++◌, None, arith, map}
 use Rattle.std.specs.Prelude.{◌||◌, if◌then◌else◌}
 use Rattle.std.specs.List.{AllByRecursion}
 use Rattle.std.proofs.lemmas.List.{append-nil, map-append}
@@ -17,11 +17,11 @@ use Rattle.satl_frame.specs.declared.frames.Frame.TheVariants as frames
 use Rattle.satl_frame.specs.Output.{Answer}
 use Rattle.satl_frame.specs.Output.Answer.{replied}
 use Rattle.satl_line.specs.declared.entry.Entry.{Entry}
-use Rattle.satl_line.specs.Eligible.{IsEligible}
-use Rattle.satl_direct.specs.Device.{Device, is_called}
-use Rattle.satl_direct.specs.Laws.{IsGoodReply, IsReadOf, answers_to, asks_by, block_at, brought, is_done, is_good, was_done, writes_plainly}
-use Rattle.satl_laws.proofs.Arrivals.{IsOf, IsTo}
-use Rattle.satl_laws.proofs.Bringing.{Answers, Waits}
+use Rattle.satl_direct.specs.Device.{Device}
+use Rattle.satl_laws.specs.ArrivalOrder.{IsGoodReply, IsReadOf, block_at, brought, is_done, is_good, was_done}
+use Rattle.satl_laws.specs.OnceEach.{answers_to, asks_by}
+use Rattle.satl_laws.proofs.Arrivals.{IsTo}
+use Rattle.satl_laws.proofs.Bringing.{Answers}
 use Rattle.satl_laws.proofs.Cases.{how_many-append}
 use Rattle.satl_laws.proofs.Counts.{weigh}
 use Rattle.satl_laws.proofs.InOrder.{InOrder, IsOnly, IsSure, holds, sectors, trim}
@@ -32,11 +32,6 @@ use Rattle.satl_laws.proofs.Seen.{by_test, range_none}
 use Rattle.satl_laws.proofs.Settling.{GivesRight, IsTold, pending, right_on, right_push, sorted_push}
 use Rattle.satl_laws.proofs.Standing.{Stands}
 use Rattle.satl_laws.proofs.Tasks.{done_good, good_done, reply_named, reply_other}
-
--- a task that is eligible stays so when more come
-pub eligible_push : (tasks more : List Entry) (u : Entry) → IsEligible tasks u → IsEligible (tasks ++ more) u
-eligible_push [] more u el = elim el [ ]
-eligible_push (t ∷ ts) more u el = ⊎_elim (λ same. inl same) (λ rest. inr (rest.0, eligible_push ts more u rest.1)) el
 
 module _ (first : Device) where
   -- an event that asks nothing
@@ -67,14 +62,14 @@ module _ (first : Device) where
         (sym (how_many-map (λ k. k.request) (has_name r.nexus (r.tag).0) o.items) ∙ ap (how_many (has_name r.nexus (r.tag).0)) o.requests ∙ asked_as_often r.nexus (r.tag).0 events ∙ unasked)
 
     -- nor an answer
-    not_done : was_done answers r ≡ false
+    pub not_done : was_done answers r ≡ false
     not_done = none_done r answers (omega (arith, o.counts r.nexus (r.tag).0, unasked))
 
     -- the requests, and one more
-    abbrev more_requests : Item → Type 0
+    abbrev pub more_requests : Item → Type 0
     more_requests j = map (λ i. i.request) (o.items ++ j ∷ []) ≡ requests_of (events ++ frames.Request r ∷ [])
 
-    requests_push : (j : Item) → j.request ≡ r → more_requests j
+    pub requests_push : (j : Item) → j.request ≡ r → more_requests j
     requests_push j same =
         map-append (λ i. i.request) o.items (j ∷ []) ∙ ap (λ l. l ++ j.request ∷ []) o.requests ∙ ap (λ q. requests_of events ++ q ∷ []) same ∙ sym (requests-append events (frames.Request r ∷ []))
 
@@ -155,28 +150,3 @@ module _ (first : Device) where
                   blocks = ap (λ a. a.body) same ∙ k.1 ∙ sym (ap (λ m. map (holds first o.items) (addresses_from lba m)) k.0 ∙ range_none lba (holds first o.items));
                   settled = λ x from to. absurd (omega (arith, from, to, k.0));
                 }
-
-    -- it waits
-    pub waits_in_order : (task : Entry) → IsOf r task → Waits (sectors first) (says r.cdb (trim first)) r.body task → writes_plainly (says r.cdb (trim first)) ≡ true
-        → InOrder first (events ++ frames.Request r ∷ []) answers cells (tasks ++ task ∷ []) faithful
-    waits_in_order task of it plain = record {
-      items = o.items ++ mine ∷ [];
-      requests = requests_push mine refl;
-      tasks_are = ap (λ l. l ++ task ∷ []) o.tasks_are ∙ sym (waiting-append o.items (mine ∷ []));
-      size = o.size;
-      counts = λ nexus tag.
-          let named : weigh nexus tag task.nexus task.tag ≡ weigh nexus tag r.nexus r.tag = ap (λ k. weigh nexus tag k task.tag) of.nexus ∙ ap (weigh nexus tag r.nexus) of.tag in
-          omega (arith, o.counts nexus tag, named, how_many-append (is_called nexus tag) tasks (task ∷ []), how_many-append (asks_by nexus tag) events (frames.Request r ∷ []));
-      well = All-push_end (IsWell (trim first) (sectors first)) o.items mine o.well
-          (record { waits = record { idle = λ x. refl; nexus = of.nexus; tag = of.tag; says_it = it.says_it; leaves = it.leaves; plain = sym (ap writes_plainly it.says_it) ∙ plain; fits = it.fits } });
-      sorted = λ x inside. sorted_push (trim first) x o.items mine (λ w. refl) (o.sorted x inside);
-      stands = λ x inside. subst (λ h. Stands x (block_at cells x) h (tasks ++ task ∷ [])) (sym (held-append (trim first) x (block_at first.cells x) o.items (mine ∷ [])))
-          (⊎_elim (λ is. inl is) (λ early. inr (record { task = early.task; eligible = eligible_push tasks (task ∷ []) early.task early.eligible; writes_it = early.writes_it; is = early.is })) (o.stands x inside));
-      sure = All-push_end (IsSure first answers) o.items mine o.sure (λ h x. let no : true ≡ false = sym h ∙ not_done in absurd cc);
-      only = λ f. All-push_end (IsOnly first answers) o.items mine (o.only f) (λ x h. absurd cc);
-      right = right_push (trim first) answers o.items mine (block_at first.cells) (λ x. false)
-          (λ q lba count reads g. let no : true ≡ false = sym g.done ∙ none_in (is_done r) answers (replied q) not_done g.among in absurd cc) o.right;
-    }
-      where
-        mine : Item
-        mine = record { request = r; task = Some task; acted = λ x. false }

@@ -10,15 +10,17 @@ use Rattle.satl_frame.specs.declared.frames.Frame.{Frame}
 use Rattle.satl_frame.specs.declared.frames.Frame.TheVariants as frames
 use Rattle.satl_frame.specs.Output.{Answer}
 use Rattle.satl_direct.specs.Device.{Device}
-use Rattle.satl_direct.specs.Laws.{IsGoodReply, asks_by, block_at, was_done}
+use Rattle.satl_laws.specs.ArrivalOrder.{IsGoodReply, block_at, was_done}
+use Rattle.satl_laws.specs.OnceEach.{asks_by}
 use Rattle.satl_laws.proofs.InOrder.{InOrder, holds, trim}
 use Rattle.satl_laws.proofs.Names.{asks_self}
 use Rattle.satl_laws.proofs.Items.{Item}
 use Rattle.std.proofs.lemmas.Option.{slice_get_within}
 use Rattle.satl_base.proofs.ListsLemmas.{All-in}
-use Rattle.satl_direct.specs.Laws.{IsInOrder, IsReadOf, content}
-use Rattle.satl_laws.proofs.InOrder.{all_at, all_front, IsOnly, IsSure}
-use Rattle.satl_laws.proofs.Items.{split_at}
+use Rattle.satl_laws.specs.ArrivalOrder.{IsInOrder, IsReadOf, content}
+use Rattle.satl_laws.proofs.InOrder.{IsOnly, IsSure}
+use Rattle.satl_laws.proofs.Rows.{all_at, all_front}
+use Rattle.satl_laws.proofs.Eligibles.{split_at}
 use Rattle.satl_laws.proofs.Requests.{AreApart, are_apart, asked_as_often, content_held, has_name, how_many-map, placed_at, requests-append, requests_of}
 use Rattle.satl_laws.proofs.Seen.{range_same, seen_get}
 use Rattle.satl_laws.proofs.Settling.{AllRight, right_at}

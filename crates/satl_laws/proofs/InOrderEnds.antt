@@ -1,12 +1,10 @@
 -- The end of a task keeps the order of arrival.
 use Rattle.std.proofs.Common.{◌≡◌, ⊎_elim, refl, sym, ap, ◌∙◌, subst, ℕ, ◌+◌, ◌≤◌, ◌<◌, Bool, true, false, List, [], ◌∷◌, ◌++◌, arith}
-use Rattle.std.specs.Prelude.{◌&&◌, ◌||◌, ◌==◌, if◌then◌else◌, Ok}
+use Rattle.std.specs.Prelude.{◌&&◌, ◌||◌, ◌==◌, if◌then◌else◌}
 use Rattle.satl_base.specs.declared.block.Block.{Block}
 use Rattle.satl_base.specs.declared.reply.Reply.{Reply}
 use Rattle.satl_base.specs.Cells.{nows}
 use Rattle.satl_base.specs.Lists.{how_many}
-use Rattle.satl_cdb.specs.declared.command.Command.{Command}
-use Rattle.satl_cdb.specs.declared.command.Command.TheVariants as commands
 use Rattle.satl_cdb.specs.Table.{says}
 use Rattle.satl_frame.specs.declared.frames.Frame.{Frame}
 use Rattle.satl_frame.specs.Output.{Answer}
@@ -14,15 +12,19 @@ use Rattle.satl_frame.specs.Output.Answer.{replied}
 use Rattle.satl_line.specs.declared.entry.Entry.{Entry}
 use Rattle.satl_line.specs.Eligible.{IsEligible}
 use Rattle.satl_direct.specs.Device.{Device, is_called, without}
-use Rattle.satl_direct.specs.Laws.{IsGoodReply, IsReadOf, answers_to, asks_by, block_at, brought, is_done, is_good}
+use Rattle.satl_laws.specs.ArrivalOrder.{IsGoodReply, IsReadOf, block_at, brought, is_done, is_good}
+use Rattle.satl_laws.specs.OnceEach.{answers_to, asks_by}
 use Rattle.satl_direct.specs.Quiet.{writes}
 use Rattle.satl_direct.specs.Tasks.{range_of}
 use Rattle.satl_direct.specs.Turn.{OneEnds}
 use Rattle.satl_laws.proofs.Cases.{both_left, both_right}
 use Rattle.satl_laws.proofs.Ends.{eligible_in, ends_leaves}
-use Rattle.satl_laws.proofs.InOrder.{InOrder, awaits, holds, left_in_order, own, place, sectors, trim}
+use Rattle.satl_laws.proofs.InOrder.{InOrder, holds, sectors, trim}
+use Rattle.satl_laws.proofs.InOrderLeaves.{awaits, own, place}
+use Rattle.satl_laws.proofs.InOrderLeft.{left_in_order}
 use Rattle.satl_laws.proofs.InOrderPlace.{clear, free, it, plain, sorted_at, stands_at, tasks_at, well_front}
-use Rattle.satl_laws.proofs.Items.{AreSorted, Awaits, Item, PlaceOf, SplitAt, covers, held, held-append, split_at, waiting, without_is}
+use Rattle.satl_laws.proofs.Items.{AreSorted, Awaits, Item, PlaceOf, covers, held, held-append, waiting}
+use Rattle.satl_laws.proofs.Eligibles.{SplitAt, split_at, without_is}
 use Rattle.satl_laws.proofs.Names.{one}
 use Rattle.satl_laws.proofs.Seen.{nows_seen, range_same, within, within_to}
 use Rattle.satl_laws.proofs.Settling.{GivesRight, none_to_write, pending, pending_none}
@@ -30,17 +32,7 @@ use Rattle.satl_laws.proofs.Sparing.{in_all}
 use Rattle.satl_laws.proofs.Standing.{Leaves, NoneCovers, Stands, leaves_done, leaves_still, writes_at}
 use Rattle.satl_laws.proofs.TaskEnds.{ends_change, ends_read, ends_size}
 use Rattle.satl_laws.proofs.Tasks.{IsPlainTask, done_good, good_done, may_eligible, reader_fits, reply_named, reply_other, writer_fits, writes_alone}
-use Rattle.satl_laws.proofs.Transferring.{Transfers, brings, gives, spans}
-
--- what a READ reads
-read_of : (c : Command) (lba count : ℕ) → IsReadOf (Ok c) lba count → (gives c ≡ true) × ((range_of c).lba ≡ lba) × ((range_of c).count ≡ count)
-read_of (commands.Read form from number fua) lba count h = (refl, h.0, h.1)
-read_of c lba count h = absurd h
-
--- no READ writes
-reads_only : (c : Command) → gives c ≡ true → brings c ≡ true → ⊥
-reads_only (commands.Read form lba count fua) g b = cc
-reads_only c g b = cc
+use Rattle.satl_laws.proofs.Transferring.{read_of, reads_only, Transfers, brings, gives, spans}
 
 module _ (first : Device) (events : List Frame) (answers : List Answer) (s new : Device) (faithful still_faithful : Bool) (o : InOrder first events answers s.cells s.tasks faithful)
     (once : (nexus tag : ℕ) → how_many (asks_by nexus tag) events < 2) (reply : Reply) (e : OneEnds s reply new)

@@ -1,17 +1,13 @@
 -- The events of a run keep the order of arrival.
-use Rattle.std.proofs.Common.{◌≡◌, refl, sym, ap, ◌∙◌, subst, ℕ, zero, suc, ◌<◌, Bool, true, false, List, [], ◌∷◌, ◌++◌, arith, map, length, append_assoc}
+use Rattle.std.proofs.Common.{◌≡◌, refl, sym, ap, ◌∙◌, subst, ℕ, ◌<◌, Bool, true, false, List, [], ◌∷◌, ◌++◌, arith, map, length, append_assoc}
 use Rattle.std.specs.Prelude.{◌&&◌, not, filter}
 use Rattle.std.proofs.lemmas.List.{append-nil}
 use Rattle.satl_base.specs.declared.bench.BenchEvent.{BenchEvent}
 use Rattle.satl_base.specs.declared.bench.BenchEvent.TheVariants as bench
-use Rattle.satl_base.specs.declared.bench.Which.{Which}
-use Rattle.satl_base.specs.declared.bench.Which.TheVariants as flaws
 use Rattle.satl_base.specs.declared.request.Manage.{Manage}
 use Rattle.satl_base.specs.declared.reply.Reply.{Reply}
 use Rattle.satl_base.specs.declared.reply.Response.{Response}
-use Rattle.satl_base.specs.Cells.{Cell, change_at}
 use Rattle.satl_base.specs.Lists.{how_many}
-use Rattle.satl_base.proofs.CellsLemmas.{change_at-length}
 use Rattle.satl_regs.specs.Sectors.{with_flaw, without_flaws}
 use Rattle.satl_frame.specs.declared.frames.Frame.{Frame}
 use Rattle.satl_frame.specs.declared.frames.Frame.TheVariants as frames
@@ -20,18 +16,18 @@ use Rattle.satl_frame.specs.Output.Answer.{ended, managed, replied}
 use Rattle.satl_direct.specs.Device.{Device}
 use Rattle.satl_direct.specs.Arrival.{Arrives}
 use Rattle.satl_direct.specs.Bench.{Happens}
-use Rattle.satl_direct.specs.Laws.{asks_by, block_at}
+use Rattle.satl_laws.specs.OnceEach.{asks_by}
 use Rattle.satl_direct.specs.Management.{effect}
 use Rattle.satl_direct.specs.Run.{Does, Manages}
 use Rattle.satl_laws.proofs.Cases.{both_left, how_many-append}
-use Rattle.satl_laws.proofs.InOrder.{InOrder, holds}
 use Rattle.satl_laws.proofs.InOrderArrivals.{unasking_in_order}
+use Rattle.satl_laws.proofs.InOrderFlaws.{flaw_now, flaws_at}
 use Rattle.satl_laws.proofs.InOrderRequests.{MayStand, arrives_at, told_at}
 use Rattle.satl_laws.proofs.InOrderTurns.{fewer, may_lose_at, turns_at}
-use Rattle.satl_laws.proofs.InOrderSteps.{InOrderAt, filtered_in_order, lost_at, lowered, quiet_at}
+use Rattle.satl_laws.proofs.InOrderSteps.{InOrderAt, lowered, quiet_at}
+use Rattle.satl_laws.proofs.InOrderDrops.{filtered_in_order, lost_at}
 use Rattle.satl_laws.proofs.Names.{asks_self, one}
 use Rattle.satl_laws.proofs.Requests.{asked_in}
-use Rattle.satl_laws.proofs.Standing.{Stands}
 
 module _ (first : Device) (exact : Bool) where
   -- so many events, and one that asks nothing
@@ -58,44 +54,6 @@ module _ (first : Device) (exact : Bool) where
         steady = λ x. absurd (loose x);
       })))
 
-  -- flaws that come and go leave what is read
-  flaws_at : (events : List Frame) (answers : List Answer) (s new : Device) (lba : ℕ) (f : Cell → Cell) → ((c : Cell) → (f c).now ≡ c.now) → (exact ≡ true → ⊥) → new ≡ record s { cells = change_at s.cells lba f }
-      → InOrderAt first exact events answers s → InOrderAt first exact events answers new
-  flaws_at events answers s new lba f same loose is o =
-      subst (InOrderAt first exact events answers) (sym is)
-      (record {
-        identity = o.identity;
-        order = record {
-          items = p.items;
-          requests = p.requests;
-          tasks_are = p.tasks_are;
-          size = change_at-length s.cells lba f ∙ p.size;
-          counts = p.counts;
-          well = p.well;
-          sorted = p.sorted;
-          stands = λ x inside. subst (λ v. Stands x v (holds first p.items x) s.tasks) (sym (unchanged s.cells lba x)) (p.stands x inside);
-          sure = p.sure;
-          only = p.only;
-          right = p.right;
-        };
-        calm = λ x. absurd (loose x);
-        steady = λ x. absurd (loose x);
-      })
-    where
-      p : InOrder first events answers s.cells s.tasks (exact && not s.down)
-      p = o.order
-
-      unchanged : (cells : List Cell) (lba x : ℕ) → block_at (change_at cells lba f) x ≡ block_at cells x
-      unchanged [] lba x = refl
-      unchanged (c ∷ cs) zero zero = same c
-      unchanged (c ∷ cs) zero (suc x) = refl
-      unchanged (c ∷ cs) (suc lba) zero = refl
-      unchanged (c ∷ cs) (suc lba) (suc x) = unchanged cs lba x
-
-  flaw_now : (which : Which) (c : Cell) → (with_flaw which c).now ≡ c.now
-  flaw_now flaws.Read c = refl
-  flaw_now flaws.Write c = refl
-
   -- nothing is answered
   quietly : (events : List Frame) (answers : List Answer) (new : Device) (said : List Reply) → said ≡ [] → InOrderAt first exact events answers new → InOrderAt first exact events (answers ++ map replied said) new
   quietly events answers new said is k = subst (λ l. InOrderAt first exact events (answers ++ map replied l) new) (sym is) (subst (λ a. InOrderAt first exact events a new) (sym (append-nil answers)) k)
@@ -104,9 +62,9 @@ module _ (first : Device) (exact : Bool) where
   bench_at : (events : List Frame) (answers : List Answer) (s new : Device) (event : BenchEvent) (said : List Reply) → ((nexus tag : ℕ) → how_many (asks_by nexus tag) events < 2) → MayStand first exact (frames.Bench event)
       → Happens event s said new → InOrderAt first exact events answers s → InOrderAt first exact events (answers ++ map replied said) new
   bench_at events answers s new (bench.Strike which lba) said once fits h o =
-      quietly events answers new said h.none (flaws_at events answers s new lba (with_flaw which) (flaw_now which) (λ x. let no : false ≡ true = fits.1 x in cc) h.new_is o)
+      quietly events answers new said h.none (flaws_at first exact events answers s new lba (with_flaw which) (flaw_now first exact which) (λ x. let no : false ≡ true = fits.1 x in cc) h.new_is o)
   bench_at events answers s new (bench.Mend lba) said once fits h o =
-      quietly events answers new said h.none (flaws_at events answers s new lba without_flaws (λ c. refl) (λ x. let no : false ≡ true = fits.1 x in cc) h.new_is o)
+      quietly events answers new said h.none (flaws_at first exact events answers s new lba without_flaws (λ c. refl) (λ x. let no : false ≡ true = fits.1 x in cc) h.new_is o)
   bench_at events answers s new (bench.Glitch count) said once fits h o =
       quietly events answers new said h.none
       (subst (InOrderAt first exact events answers) (sym h.new_is)

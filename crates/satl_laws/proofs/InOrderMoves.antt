@@ -15,14 +15,15 @@ use Rattle.satl_frame.specs.Output.{Answer}
 use Rattle.satl_line.specs.declared.entry.Entry.{Entry}
 use Rattle.satl_line.specs.Eligible.{IsEligible}
 use Rattle.satl_direct.specs.Device.{Device}
-use Rattle.satl_direct.specs.Laws.{block_at}
+use Rattle.satl_laws.specs.ArrivalOrder.{block_at}
 use Rattle.satl_direct.specs.Quiet.{MayShow, writes}
 use Rattle.satl_laws.proofs.Ends.{eligible_in}
 use Rattle.satl_laws.proofs.InOrder.{InOrder, holds, sectors, trim}
-use Rattle.satl_laws.proofs.Seen.{loses_seen, put_elsewhere, put_seen}
+use Rattle.satl_laws.proofs.Seen.{put_elsewhere, put_seen}
+use Rattle.satl_laws.proofs.Flawless.{loses_seen}
 use Rattle.satl_laws.proofs.Sparing.{in_all}
 use Rattle.satl_laws.proofs.Standing.{Stands}
-use Rattle.satl_laws.proofs.TaskEnds.{none_written}
+use Rattle.satl_laws.proofs.PlainTasks.{none_written}
 use Rattle.satl_laws.proofs.Tasks.{IsPlainTask, tasks_plain, writer_fits}
 use Rattle.satl_laws.proofs.Transferring.{after, brings, pair_of, spans}
 

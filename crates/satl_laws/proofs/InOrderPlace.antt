@@ -12,11 +12,16 @@ use Rattle.satl_line.specs.declared.entry.Entry.{Entry}
 use Rattle.satl_line.specs.Conflict.{conflicts}
 use Rattle.satl_line.specs.Eligible.{IsEligible}
 use Rattle.satl_direct.specs.Device.{Device, is_called}
-use Rattle.satl_direct.specs.Laws.{answers_to, asks_by, block_at, is_done}
+use Rattle.satl_laws.specs.ArrivalOrder.{block_at, is_done}
+use Rattle.satl_laws.specs.OnceEach.{answers_to, asks_by}
 use Rattle.satl_direct.specs.Quiet.{writes}
 use Rattle.satl_laws.proofs.Cases.{both_left, both_right}
-use Rattle.satl_laws.proofs.InOrder.{InOrder, all_front, awaits, holds, left_in_order, own, place, sectors, trim}
-use Rattle.satl_laws.proofs.Items.{AreSorted, IsWell, Item, PlaceOf, before_free, waiting}
+use Rattle.satl_laws.proofs.InOrder.{InOrder, holds, sectors, trim}
+use Rattle.satl_laws.proofs.InOrderLeaves.{awaits, own, place}
+use Rattle.satl_laws.proofs.InOrderLeft.{left_in_order}
+use Rattle.satl_laws.proofs.Rows.{all_front}
+use Rattle.satl_laws.proofs.Items.{AreSorted, IsWell, Item, PlaceOf, waiting}
+use Rattle.satl_laws.proofs.Eligibles.{before_free}
 use Rattle.satl_laws.proofs.Names.{none_in}
 use Rattle.satl_laws.proofs.Settling.{none_covers}
 use Rattle.satl_laws.proofs.Sparing.{in_all}

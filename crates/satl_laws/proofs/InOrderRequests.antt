@@ -16,16 +16,20 @@ use Rattle.satl_frame.specs.Output.Answer.{replied}
 use Rattle.satl_direct.specs.Device.{Device, is_called}
 use Rattle.satl_direct.specs.Arrival.{Arrival, Arrives, ArrivesAs, arrival}
 use Rattle.satl_direct.specs.Arrival.Arrival.{answered, attended, overlaps, waits}
-use Rattle.satl_direct.specs.Laws.{answers_to, asks_by, block_at, is_done, is_mild, is_plain, stops_or_starts, was_done, writes_plainly}
+use Rattle.satl_laws.specs.ArrivalOrder.{block_at, is_done, is_plain, stops_or_starts, was_done, writes_plainly}
+use Rattle.satl_laws.specs.OnceEach.{answers_to, asks_by}
+use Rattle.satl_laws.specs.OrderUnderErrors.{is_mild}
 use Rattle.satl_laws.proofs.Arrivals.{IsFor, IsTo, arrival_for}
-use Rattle.satl_laws.proofs.Bringing.{Answers, Gets, arrival_gets}
+use Rattle.satl_laws.proofs.Bringing.{Answers, Gets}
+use Rattle.satl_laws.proofs.Arriving.{arrival_gets}
 use Rattle.satl_laws.proofs.Calm.{IsCalm}
 use Rattle.satl_laws.proofs.Cases.{how_many-append}
 use Rattle.satl_laws.proofs.InOrder.{InOrder, IsOnly, IsSure, sectors, trim}
-use Rattle.satl_laws.proofs.InOrderArrivals.{answered_in_order, waits_in_order}
+use Rattle.satl_laws.proofs.InOrderArrivals.{answered_in_order}
+use Rattle.satl_laws.proofs.InOrderWaits.{waits_in_order}
 use Rattle.satl_laws.proofs.InOrderSteps.{InOrderAt}
 use Rattle.satl_laws.proofs.Names.{one}
-use Rattle.satl_laws.proofs.Seen.{IsClean}
+use Rattle.satl_laws.proofs.Flawless.{IsClean}
 use Rattle.satl_laws.proofs.Settling.{IsTold, right_on}
 use Rattle.satl_laws.proofs.Items.{Item}
 

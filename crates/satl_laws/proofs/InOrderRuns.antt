@@ -12,15 +12,19 @@ use Rattle.satl_frame.specs.declared.frames.Frame.TheVariants as frames
 use Rattle.satl_frame.specs.Output.{Answer}
 use Rattle.satl_line.specs.declared.entry.Entry.{Entry}
 use Rattle.satl_direct.specs.Device.{Device}
-use Rattle.satl_direct.specs.Laws.{asks_by, is_mild, is_plain, stops_or_starts, was_done, writes_plainly}
+use Rattle.satl_laws.specs.ArrivalOrder.{is_plain, stops_or_starts, was_done, writes_plainly}
+use Rattle.satl_laws.specs.OnceEach.{asks_by}
+use Rattle.satl_laws.specs.OrderUnderErrors.{is_mild}
 use Rattle.satl_direct.specs.Run.{Does, RunDeep, joined, losses_in}
 use Rattle.satl_direct.specs.Run.RunDeep.{start, step}
 use Rattle.satl_laws.proofs.Cases.{both_left, how_many-append}
 use Rattle.satl_laws.proofs.InOrder.{InOrder}
 use Rattle.satl_laws.proofs.InOrderRequests.{MayStand}
 use Rattle.satl_laws.proofs.InOrderTurns.{fewer}
-use Rattle.satl_laws.proofs.InOrderSteps.{InOrderAt, filtered_in_order, quiet_at}
-use Rattle.satl_direct.specs.Laws.{ArrivalOrder, AskOnce, IsFresh, OrderUnderErrors}
+use Rattle.satl_laws.proofs.InOrderSteps.{InOrderAt, quiet_at}
+use Rattle.satl_laws.proofs.InOrderDrops.{filtered_in_order}
+use Rattle.satl_laws.specs.ArrivalOrder.{ArrivalOrder, AskOnce, IsFresh}
+use Rattle.satl_laws.specs.OrderUnderErrors.{OrderUnderErrors}
 use Rattle.satl_laws.proofs.InOrderEnd.{act_as_done, act_as_items, acted_by, done_acts, in_order_as}
 use Rattle.satl_laws.proofs.InOrderEvents.{does_at}
 use Rattle.satl_laws.proofs.Requests.{requests-append, requests_of}

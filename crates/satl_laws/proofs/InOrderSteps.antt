@@ -1,9 +1,7 @@
 -- The steps of the device keep the order of arrival.
-use Rattle.std.proofs.Common.{◌≡◌, refl, sym, ap, ◌∙◌, subst, ℕ, ◌<◌, Bool, true, false, cond, List, [], ◌∷◌, ◌++◌, arith, map, append_assoc}
-use Rattle.std.specs.Prelude.{◌&&◌, ◌||◌, ◌==◌, MatchBool, not, Ok, filter}
-use Rattle.std.specs.List.{AllByRecursion, list_any}
-use Rattle.std.proofs.lemmas.List.{append-nil}
-use Rattle.satl_base.specs.declared.request.Request.{Request}
+use Rattle.std.proofs.Common.{◌≡◌, refl, sym, ap, ◌∙◌, subst, ℕ, ◌<◌, Bool, true, false, List, [], ◌∷◌, ◌++◌}
+use Rattle.std.specs.Prelude.{◌&&◌, MatchBool, not, Ok}
+use Rattle.std.specs.List.{AllByRecursion}
 use Rattle.satl_base.specs.declared.reply.Reply.{Reply}
 use Rattle.satl_base.specs.Cells.{Cell}
 use Rattle.satl_base.specs.Lists.{IsIn, how_many}
@@ -13,11 +11,12 @@ use Rattle.satl_frame.specs.Output.{Answer}
 use Rattle.satl_frame.specs.Output.Answer.{replied}
 use Rattle.satl_line.specs.declared.entry.Entry.{Entry}
 use Rattle.satl_direct.specs.Device.{Device, is_called}
-use Rattle.satl_direct.specs.Ending.{IsChecked, task_check}
-use Rattle.satl_direct.specs.Laws.{asks_by, is_done, stops_or_starts}
+use Rattle.satl_direct.specs.Ending.{IsChecked}
+use Rattle.satl_laws.specs.ArrivalOrder.{stops_or_starts}
+use Rattle.satl_laws.specs.OnceEach.{asks_by}
 use Rattle.satl_direct.specs.Quiet.{Quiet}
 use Rattle.satl_direct.specs.Senses.{link_lost}
-use Rattle.satl_direct.specs.Turn.{OneEnds, lost_replies}
+use Rattle.satl_direct.specs.Turn.{OneEnds}
 use Rattle.satl_laws.proofs.Calm.{EndsCalm, IsCalm, ends_calm, quiet_calm}
 use Rattle.satl_laws.proofs.Cases.{both_left}
 use Rattle.satl_laws.proofs.Counts.{quiet_tasks}
@@ -25,7 +24,6 @@ use Rattle.satl_laws.proofs.Ends.{eligible_in, ends_leaves}
 use Rattle.satl_laws.proofs.InOrder.{InOrder, sectors, trim}
 use Rattle.satl_laws.proofs.InOrderEnds.{one_in_order}
 use Rattle.satl_laws.proofs.InOrderMoves.{moved_in_order}
-use Rattle.satl_laws.proofs.InOrderPlace.{dropped_in_order}
 use Rattle.satl_laws.proofs.Reaching.{ends_reach}
 use Rattle.satl_laws.proofs.Seen.{by_test}
 use Rattle.satl_laws.proofs.Sparing.{in_all}
@@ -50,12 +48,12 @@ up_of true true h = absurd cc
 up_of true false h = refl
 up_of false q h = absurd cc
 
-not_both : (p q : Bool) → q ≡ true → (p && not q) ≡ true → ⊥
+pub not_both : (p q : Bool) → q ≡ true → (p && not q) ≡ true → ⊥
 not_both p q h k = let no : true ≡ false = sym h ∙ up_of p q k in cc
 
 module _ (first : Device) (exact : Bool) where
   -- no task stops or starts the unit
-  abbrev AreSteady : List Entry → Type 0
+  abbrev pub AreSteady : List Entry → Type 0
   AreSteady tasks = AllByRecursion (λ t. stops_or_starts (Ok t.command) ≡ false) tasks
 
   -- the device after some events and answers; where the run is exact and its link is up it is calm, and each WRITE that has acted was answered with GOOD
@@ -118,50 +116,3 @@ module _ (first : Device) (exact : Bool) where
           ends_calm s new e.task reply (o.calm x up) up
           (in_all (IsPlainTask (sectors first)) s.tasks e.task (subst (AllByRecursion (IsPlainTask (sectors first))) (sym o.order.tasks_are) (tasks_plain (trim first) (sectors first) o.order.items o.order.well)) there).plain
           (in_all (λ t. stops_or_starts (Ok t.command) ≡ false) s.tasks e.task (o.steady x) there) e.ends
-
-  -- ---- tasks that go
-
-  module _ (events : List Frame) (cells : List Cell) (once : (nexus tag : ℕ) → how_many (asks_by nexus tag) events < 2) where
-    -- all are answered that the link is lost
-    pub lost_in_order : (s : Device) (answers : List Answer) (tasks : List Entry) (f : Bool) → InOrder first events answers cells tasks f
-        → InOrder first events (answers ++ map replied (map (λ t. task_check s t link_lost) tasks)) cells [] false
-    lost_in_order s answers [] f o = subst (λ a. InOrder first events a cells [] false) (sym (append-nil answers)) (lowered events answers cells [] f false (λ h. absurd cc) o)
-    lost_in_order s answers (t ∷ ts) f o =
-        subst (λ a. InOrder first events a cells [] false) (append_assoc answers (replied (task_check s t link_lost) ∷ []) (map replied (map (λ u. task_check s u link_lost) ts)))
-        (lost_in_order s (answers ++ replied (task_check s t link_lost) ∷ []) ts false
-        (dropped_in_order first events answers cells (t ∷ ts) f o once [] ts t refl (replied (task_check s t link_lost) ∷ []) (λ nexus tag. omega arith) bad))
-      where
-        third : (p q : Bool) → ((p && q && false) || false) ≡ false
-        third true true = refl
-        third true false = refl
-        third false q = refl
-
-        bad : (r : Request) → list_any (is_done r) (replied (task_check s t link_lost) ∷ []) ≡ false
-        bad r = third (t.nexus == r.nexus) ((t.tag).0 == (r.tag).0)
-
-    -- some go without an answer
-    pub filtered_in_order : (goes : Entry → Bool) (answers : List Answer) (before rest : List Entry) (f : Bool) → InOrder first events answers cells (before ++ rest) f
-        → InOrder first events answers cells (before ++ filter (λ t. not (goes t)) rest) false
-    filtered_in_order goes answers before [] f o = lowered events answers cells (before ++ []) f false (λ h. absurd cc) o
-    filtered_in_order goes answers before (t ∷ ts) f o =
-        elim (goes t) as (λ b. InOrder first events answers cells (before ++ cond (not b) (t ∷ filter (λ u. not (goes u)) ts) (filter (λ u. not (goes u)) ts)) false) [
-          | true ↦ filtered_in_order goes answers before ts false
-              (subst (λ a. InOrder first events a cells (before ++ ts) false) (append-nil answers)
-              (dropped_in_order first events answers cells (before ++ t ∷ ts) f o once before ts t refl [] (λ nexus tag. omega arith) (λ r. refl)))
-          | false ↦ subst (λ l. InOrder first events answers cells l false) (append_assoc before (t ∷ []) (filter (λ u. not (goes u)) ts))
-              (filtered_in_order goes answers (before ++ t ∷ []) ts f (subst (λ l. InOrder first events answers cells l f) (sym (append_assoc before (t ∷ []) ts)) o))
-        ]
-
-  -- a lost link
-  pub lost_at : (events : List Frame) (answers : List Answer) (s new : Device) (said : List Reply) → ((nexus tag : ℕ) → how_many (asks_by nexus tag) events < 2)
-      → said ≡ lost_replies s → new.cells ≡ s.cells → new.tasks ≡ [] → new.down ≡ true → new.identity ≡ s.identity → InOrderAt events answers s → InOrderAt events (answers ++ map replied said) new
-  lost_at events answers s new said once is cells tasks down identity o = record {
-    identity = identity ∙ o.identity;
-    order = subst (λ c. InOrder first events (answers ++ map replied said) c new.tasks (exact && not new.down)) (sym cells)
-        (subst (λ ts. InOrder first events (answers ++ map replied said) s.cells ts (exact && not new.down)) (sym tasks)
-        (subst (λ l. InOrder first events (answers ++ map replied l) s.cells [] (exact && not new.down)) (sym is)
-        (lowered events (answers ++ map replied (lost_replies s)) s.cells [] false (exact && not new.down) (λ f. absurd (not_both exact new.down down f))
-        (lost_in_order events s.cells once s answers s.tasks (exact && not s.down) o.order))));
-    calm = λ x up. absurd (both_ways new.down down up);
-    steady = λ x. subst AreSteady (sym tasks) tt;
-  }

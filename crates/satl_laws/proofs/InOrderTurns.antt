@@ -7,14 +7,15 @@ use Rattle.satl_frame.specs.declared.frames.Frame.{Frame}
 use Rattle.satl_frame.specs.Output.{Answer}
 use Rattle.satl_frame.specs.Output.Answer.{replied}
 use Rattle.satl_direct.specs.Device.{Device}
-use Rattle.satl_direct.specs.Laws.{asks_by}
+use Rattle.satl_laws.specs.OnceEach.{asks_by}
 use Rattle.satl_direct.specs.Turn.{Turn}
 use Rattle.satl_direct.specs.Turn.Turn.{idle, ends, loses, ends_and_loses}
 use Rattle.satl_direct.specs.Run.{MayLose, TurnsOf}
 use Rattle.satl_direct.specs.Run.MayLose.{keeps, loses as steps_and_loses}
 use Rattle.satl_direct.specs.Run.TurnsOf.{none, more}
 use Rattle.satl_laws.proofs.Cases.{how_many-append}
-use Rattle.satl_laws.proofs.InOrderSteps.{InOrderAt, lost_at, one_at, quiet_at}
+use Rattle.satl_laws.proofs.InOrderSteps.{InOrderAt, one_at, quiet_at}
+use Rattle.satl_laws.proofs.InOrderDrops.{lost_at}
 
 -- fewer events ask fewer times
 pub fewer : (events : List Frame) (event : Frame) → ((nexus tag : ℕ) → how_many (asks_by nexus tag) (events ++ event ∷ []) < 2) → (nexus tag : ℕ) → how_many (asks_by nexus tag) events < 2

@@ -11,7 +11,8 @@ use Rattle.satl_frame.specs.Output.{Answer}
 use Rattle.satl_frame.specs.Output.Answer.{replied, managed, ended}
 use Rattle.satl_line.specs.declared.entry.Entry.{Entry}
 use Rattle.satl_direct.specs.Device.{is_called}
-use Rattle.satl_direct.specs.Laws.{answers_to, asks_by, is_done, is_good}
+use Rattle.satl_laws.specs.ArrivalOrder.{is_done, is_good}
+use Rattle.satl_laws.specs.OnceEach.{answers_to, asks_by}
 use Rattle.satl_direct.specs.Valid.{AreOwn}
 use Rattle.satl_laws.proofs.Cases.{both_left, both_right}
 use Rattle.satl_laws.proofs.Kept.{or_left, or_right}

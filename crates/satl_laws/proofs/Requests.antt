@@ -8,7 +8,8 @@ use Rattle.satl_base.specs.Lists.{how_many}
 use Rattle.satl_cdb.specs.Table.{says}
 use Rattle.satl_frame.specs.declared.frames.Frame.{Frame}
 use Rattle.satl_frame.specs.declared.frames.Frame.TheVariants as frames
-use Rattle.satl_direct.specs.Laws.{asks_by, brought, content}
+use Rattle.satl_laws.specs.ArrivalOrder.{brought, content}
+use Rattle.satl_laws.specs.OnceEach.{asks_by}
 use Rattle.satl_laws.proofs.Cases.{how_many-append}
 use Rattle.satl_laws.proofs.Items.{Item, held, left}
 use Rattle.satl_laws.proofs.Names.{one}

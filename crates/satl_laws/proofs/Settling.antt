@@ -9,7 +9,7 @@ use Rattle.satl_regs.specs.Trim.{addresses_from}
 use Rattle.satl_frame.specs.Output.{Answer}
 use Rattle.satl_line.specs.declared.entry.Entry.{Entry}
 use Rattle.satl_line.specs.Conflict.{conflicts}
-use Rattle.satl_direct.specs.Laws.{IsGoodReply, IsReadOf}
+use Rattle.satl_laws.specs.ArrivalOrder.{IsGoodReply, IsReadOf}
 use Rattle.satl_laws.proofs.Cases.{both_left, both_right}
 use Rattle.satl_laws.proofs.Items.{AreSorted, AwaitsIf, IsWell, Item, before_all, covers, held, held-append, is_to_write, left, waiting}
 use Rattle.satl_laws.proofs.Kept.{or_left, or_right}

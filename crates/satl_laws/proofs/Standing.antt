@@ -6,8 +6,9 @@ use Rattle.satl_base.specs.declared.block.Block.{Block}
 use Rattle.satl_cdb.specs.Table.{says}
 use Rattle.satl_line.specs.declared.entry.Entry.{Entry}
 use Rattle.satl_line.specs.Eligible.{IsEligible}
-use Rattle.satl_direct.specs.Laws.{brought}
-use Rattle.satl_laws.proofs.Items.{AreSorted, Awaits, Item, covers, held, held-append, still_eligible, waiting}
+use Rattle.satl_laws.specs.ArrivalOrder.{brought}
+use Rattle.satl_laws.proofs.Items.{AreSorted, Awaits, Item, covers, held, held-append, waiting}
+use Rattle.satl_laws.proofs.Eligibles.{still_eligible}
 use Rattle.satl_laws.proofs.Seen.{by_test}
 use Rattle.satl_laws.proofs.Transferring.{after, after_twice, brings, gives, spans, still}
 

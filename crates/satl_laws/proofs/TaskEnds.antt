@@ -1,10 +1,9 @@
 -- How the task of a command that changes no block but as a WRITE does ends: what is read, and what its sectors hold.
-use Rattle.std.proofs.Common.{◌≡◌, ◌⊎◌, ⊎_elim, inl, inr, refl, sym, ap, ◌∙◌, subst, ℕ, zero, suc, ◌<◌, Bool, true, false, List, [], ◌∷◌, Option, Some, None, length}
+use Rattle.std.proofs.Common.{◌≡◌, ◌⊎◌, ⊎_elim, inl, inr, refl, sym, ap, ◌∙◌, subst, ℕ, ◌<◌, Bool, true, false, List, [], ◌∷◌, length}
 use Rattle.std.specs.Prelude.{◌&&◌, ◌||◌, not, Ok}
 use Rattle.std.proofs.lemmas.Bool.{cases_eq}
 use Rattle.satl_base.specs.declared.block.Block.{Block}
 use Rattle.satl_base.specs.declared.reply.Reply.{Reply}
-use Rattle.satl_base.specs.Blocks.{no_block}
 use Rattle.satl_base.specs.Cells.{Cell, Pair, Part, nows, put_at, whole}
 use Rattle.satl_base.specs.Lists.{IsIn}
 use Rattle.satl_base.proofs.CellsLemmas.{change_at-length}
@@ -17,64 +16,16 @@ use Rattle.satl_line.specs.Ending.{EndsAs, Outcome}
 use Rattle.satl_line.specs.Ending.Outcome.{ends_done, ends_flawed, ends_glitched}
 use Rattle.satl_direct.specs.Device.{Device}
 use Rattle.satl_direct.specs.Ending.{Ends, EndsBy, IsChecked, outcome_reply}
-use Rattle.satl_direct.specs.Laws.{Spares, block_at, is_good, now_at, writes_plainly}
+use Rattle.satl_laws.specs.ArrivalOrder.{block_at, is_good, writes_plainly}
+use Rattle.satl_laws.specs.Untouched.{Spares}
 use Rattle.satl_direct.specs.Quiet.{writes, written_by}
 use Rattle.satl_direct.specs.Tasks.{asks, over, range_of}
 use Rattle.satl_laws.proofs.Cases.{by_bool}
 use Rattle.satl_laws.proofs.Kept.{at_now}
-use Rattle.satl_laws.proofs.Reaching.{WritesItsOwn, ends_reach, steps-length, steps_keep}
+use Rattle.satl_laws.proofs.PlainTasks.{none_written, own_alone, same_block}
+use Rattle.satl_laws.proofs.Reaching.{ends_reach, steps-length, steps_keep}
 use Rattle.satl_laws.proofs.Seen.{by_test, put_elsewhere, put_seen}
 use Rattle.satl_laws.proofs.Transferring.{IsItsOwn, Transfers, after, and_left, brings, gives, pair_of, spans, still, written_seen}
-
--- such a command writes what its WRITE has, and nothing else
-pub none_written : (c : Command) (s : Device) (t : Entry) → writes_plainly (Ok c) ≡ true → brings c ≡ false → written_by c s t ≡ []
-none_written commands.TestUnitReady s t plain none = refl
-none_written (commands.RequestSense descriptor alloc) s t plain none = refl
-none_written (commands.Inquiry page alloc) s t plain none = refl
-none_written (commands.ModeSense ten long_lba no_descriptor control page alloc) s t plain none = refl
-none_written (commands.ModeSelect ten size) s t plain none = refl
-none_written (commands.StartStop start no_flush) s t plain none = refl
-none_written commands.ReadCapacity10 s t plain none = refl
-none_written (commands.ReadCapacity16 alloc) s t plain none = refl
-none_written (commands.ReportLuns select alloc) s t plain none = refl
-none_written (commands.Read form lba count fua) s t plain none = refl
-none_written (commands.Write form lba count fua) s t plain none = absurd cc
-none_written (commands.Verify form lba count compare) s t plain none = refl
-none_written (commands.Flush form lba count) s t plain none = refl
-none_written (commands.WriteSame form lba count unmap) s t plain none = absurd cc
-none_written (commands.Unmap size) s t plain none = absurd cc
-none_written (commands.Pass cdb) s t plain none = absurd cc
-
-own_alone : (c : Command) → writes_plainly (Ok c) ≡ true → WritesItsOwn c
-own_alone commands.TestUnitReady plain = tt
-own_alone (commands.RequestSense descriptor alloc) plain = tt
-own_alone (commands.Inquiry page alloc) plain = tt
-own_alone (commands.ModeSense ten long_lba no_descriptor control page alloc) plain = tt
-own_alone (commands.ModeSelect ten size) plain = tt
-own_alone (commands.StartStop start no_flush) plain = tt
-own_alone commands.ReadCapacity10 plain = tt
-own_alone (commands.ReadCapacity16 alloc) plain = tt
-own_alone (commands.ReportLuns select alloc) plain = tt
-own_alone (commands.Read form lba count fua) plain = tt
-own_alone (commands.Write form lba count fua) plain = tt
-own_alone (commands.Verify form lba count compare) plain = tt
-own_alone (commands.Flush form lba count) plain = tt
-own_alone (commands.WriteSame form lba count unmap) plain = tt
-own_alone (commands.Unmap size) plain = tt
-own_alone (commands.Pass cdb) plain = absurd cc
-
--- what is read is the same where the sectors' blocks are
-same_block : (old new : List Cell) (x : ℕ) → now_at new x ≡ now_at old x → block_at new x ≡ block_at old x
-same_block old new x h = is_block_in new x ∙ ap block_in h ∙ sym (is_block_in old x)
-  where
-    block_in : Option Block → Block
-    block_in None = no_block
-    block_in (Some v) = v
-
-    is_block_in : (cells : List Cell) (x : ℕ) → block_at cells x ≡ block_in (now_at cells x)
-    is_block_in [] x = refl
-    is_block_in (c ∷ cs) zero = refl
-    is_block_in (c ∷ cs) (suc x) = is_block_in cs x
 
 module _ (s new : Device) (t : Entry) (reply : Reply) where
   -- a WRITE is done, or it fails and is written in part
@@ -82,39 +33,16 @@ module _ (s new : Device) (t : Entry) (reply : Reply) where
   WriteEnds c = ((is_good reply.status ≡ true) × (new.cells ≡ whole s.cells (written_by c s t))) ⊎ ((is_good reply.status ≡ false) × Part s.cells (written_by c s t) new.cells)
 
   write_ends : (c : Command) → brings c ≡ true → EndsBy c s t reply new → WriteEnds c
-  write_ends commands.TestUnitReady b e = absurd cc
-  write_ends (commands.RequestSense descriptor alloc) b e = absurd cc
-  write_ends (commands.Inquiry page alloc) b e = absurd cc
-  write_ends (commands.ModeSense ten long_lba no_descriptor control page alloc) b e = absurd cc
-  write_ends (commands.ModeSelect ten size) b e = absurd cc
-  write_ends (commands.StartStop start no_flush) b e = absurd cc
-  write_ends commands.ReadCapacity10 b e = absurd cc
-  write_ends (commands.ReadCapacity16 alloc) b e = absurd cc
-  write_ends (commands.ReportLuns select alloc) b e = absurd cc
-  write_ends (commands.Read form lba count fua) b e = absurd cc
   write_ends (commands.Write form lba count fua) b e = go e.outcome e.ends e.answer
     where
       go : (o : Outcome) → EndsAs s.modes.wce (ranged_write fua (over lba count) t.body) o s.cells s.glitches new.cells new.glitches → reply ≡ outcome_reply s t (ranged_write fua (over lba count) t.body) o → WriteEnds (commands.Write form lba count fua)
       go (ends_done blocks) d is = inl (ap (λ r. is_good r.status) is, d.written)
       go (ends_flawed lba_of) f is = inr (ap (λ r. is_good r.status) is, f.written)
       go ends_glitched g is = inr (ap (λ r. is_good r.status) is, g.written)
-  write_ends (commands.Verify form lba count compare) b e = absurd cc
-  write_ends (commands.Flush form lba count) b e = absurd cc
-  write_ends (commands.WriteSame form lba count unmap) b e = absurd cc
-  write_ends (commands.Unmap size) b e = absurd cc
-  write_ends (commands.Pass cdb) b e = absurd cc
+  write_ends c b e = absurd cc
 
   -- a READ that is done gives what its sectors hold
   read_ends : (c : Command) → gives c ≡ true → is_good reply.status ≡ true → EndsBy c s t reply new → reply.body ≡ nows s.cells (range_of c).lba (range_of c).count
-  read_ends commands.TestUnitReady g good e = absurd cc
-  read_ends (commands.RequestSense descriptor alloc) g good e = absurd cc
-  read_ends (commands.Inquiry page alloc) g good e = absurd cc
-  read_ends (commands.ModeSense ten long_lba no_descriptor control page alloc) g good e = absurd cc
-  read_ends (commands.ModeSelect ten size) g good e = absurd cc
-  read_ends (commands.StartStop start no_flush) g good e = absurd cc
-  read_ends commands.ReadCapacity10 g good e = absurd cc
-  read_ends (commands.ReadCapacity16 alloc) g good e = absurd cc
-  read_ends (commands.ReportLuns select alloc) g good e = absurd cc
   read_ends (commands.Read form lba count fua) g good e = go e.outcome e.ends e.answer
     where
       bad : is_good reply.status ≡ false → reply.body ≡ nows s.cells lba count
@@ -124,12 +52,7 @@ module _ (s new : Device) (t : Entry) (reply : Reply) where
       go (ends_done blocks) d is = ap (λ r. r.body) is ∙ d.read
       go (ends_flawed lba_of) f is = bad (ap (λ r. is_good r.status) is)
       go ends_glitched g is = bad (ap (λ r. is_good r.status) is)
-  read_ends (commands.Write form lba count fua) g good e = absurd cc
-  read_ends (commands.Verify form lba count compare) g good e = absurd cc
-  read_ends (commands.Flush form lba count) g good e = absurd cc
-  read_ends (commands.WriteSame form lba count unmap) g good e = absurd cc
-  read_ends (commands.Unmap size) g good e = absurd cc
-  read_ends (commands.Pass cdb) g good e = absurd cc
+  read_ends c g good e = absurd cc
 
   -- or it is checked, and nothing is written
   checked_writes : (c : Command) (sense : Sense) → IsChecked sense s t reply new → (is_good reply.status ≡ false) × (new.cells ≡ s.cells)

@@ -7,11 +7,12 @@ use Rattle.satl_base.specs.declared.reply.Reply.{Reply}
 use Rattle.satl_frame.specs.Output.Answer.{replied}
 use Rattle.satl_line.specs.declared.entry.Entry.{Entry}
 use Rattle.satl_line.specs.Eligible.{IsEligible}
-use Rattle.satl_direct.specs.Laws.{is_done, is_good, writes_plainly}
+use Rattle.satl_laws.specs.ArrivalOrder.{is_done, is_good, writes_plainly}
 use Rattle.satl_direct.specs.Turn.{IsFirst, MayEnd}
 use Rattle.satl_direct.specs.Device.{Device}
 use Rattle.satl_laws.proofs.Cases.{both_left, both_right, by_bool}
-use Rattle.satl_laws.proofs.Items.{AwaitsIf, IsWell, Item, before_all, both_eligible, waiting}
+use Rattle.satl_laws.proofs.Items.{AwaitsIf, IsWell, Item, before_all, waiting}
+use Rattle.satl_laws.proofs.Eligibles.{both_eligible}
 use Rattle.satl_laws.proofs.Names.{and_three, asks_self, swapped}
 use Rattle.satl_laws.proofs.Requests.{has_name}
 use Rattle.satl_laws.proofs.Standing.{writes_at}

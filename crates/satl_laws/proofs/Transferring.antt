@@ -12,7 +12,7 @@ use Rattle.satl_line.specs.declared.entry.Entry.{Entry}
 use Rattle.satl_line.specs.declared.entry.Kind.TheVariants.{Ranged}
 use Rattle.satl_line.specs.Conflict.{access_of, accesses_conflict, any_meet, conflicts, is_write, ranges_meet}
 use Rattle.satl_direct.specs.Device.{Device}
-use Rattle.satl_direct.specs.Laws.{block_at, brought}
+use Rattle.satl_laws.specs.ArrivalOrder.{IsReadOf, block_at, brought}
 use Rattle.satl_direct.specs.Quiet.{writes, written_by}
 use Rattle.satl_direct.specs.Tasks.{range_of}
 use Rattle.satl_laws.proofs.Seen.{by_test, in_row, row_seen, within, within_from, within_to}
@@ -45,22 +45,8 @@ pub record Transfers (n : ℕ) (t : Entry) : Type 0 where
 
 -- a command that writes no such sector leaves it
 still_by : (c : Command) (body : List Block) (x : ℕ) (v : Block) → (brings c && spans c x) ≡ false → brought (Ok c) body x v ≡ v
-still_by commands.TestUnitReady body x v h = refl
-still_by (commands.RequestSense descriptor alloc) body x v h = refl
-still_by (commands.Inquiry page alloc) body x v h = refl
-still_by (commands.ModeSense ten long_lba no_descriptor control page alloc) body x v h = refl
-still_by (commands.ModeSelect ten size) body x v h = refl
-still_by (commands.StartStop start no_flush) body x v h = refl
-still_by commands.ReadCapacity10 body x v h = refl
-still_by (commands.ReadCapacity16 alloc) body x v h = refl
-still_by (commands.ReportLuns select alloc) body x v h = refl
-still_by (commands.Read form lba count fua) body x v h = refl
 still_by (commands.Write form lba count fua) body x v h = rw h refl
-still_by (commands.Verify form lba count compare) body x v h = refl
-still_by (commands.Flush form lba count) body x v h = refl
-still_by (commands.WriteSame form lba count unmap) body x v h = refl
-still_by (commands.Unmap size) body x v h = refl
-still_by (commands.Pass cdb) body x v h = refl
+still_by c body x v h = refl
 
 pub still : (t : Entry) (x : ℕ) (v : Block) → (brings t.command && spans t.command x) ≡ false → after t x v ≡ v
 still t x v h = still_by t.command t.body x v h
@@ -73,28 +59,24 @@ get_twice (b ∷ bs) (suc k) v = get_twice bs k v
 
 -- what is written twice is as written once
 twice_by : (c : Command) (body : List Block) (x : ℕ) (v : Block) → brought (Ok c) body x (brought (Ok c) body x v) ≡ brought (Ok c) body x v
-twice_by commands.TestUnitReady body x v = refl
-twice_by (commands.RequestSense descriptor alloc) body x v = refl
-twice_by (commands.Inquiry page alloc) body x v = refl
-twice_by (commands.ModeSense ten long_lba no_descriptor control page alloc) body x v = refl
-twice_by (commands.ModeSelect ten size) body x v = refl
-twice_by (commands.StartStop start no_flush) body x v = refl
-twice_by commands.ReadCapacity10 body x v = refl
-twice_by (commands.ReadCapacity16 alloc) body x v = refl
-twice_by (commands.ReportLuns select alloc) body x v = refl
-twice_by (commands.Read form lba count fua) body x v = refl
 twice_by (commands.Write form lba count fua) body x v =
     by_test (λ b. (if b then get_or body (x - lba) (if b then get_or body (x - lba) v else v) else (if b then get_or body (x - lba) v else v)) ≡ (if b then get_or body (x - lba) v else v)) (within lba count x)
     (λ has. get_twice body (x - lba) v)
     (λ no. refl)
-twice_by (commands.Verify form lba count compare) body x v = refl
-twice_by (commands.Flush form lba count) body x v = refl
-twice_by (commands.WriteSame form lba count unmap) body x v = refl
-twice_by (commands.Unmap size) body x v = refl
-twice_by (commands.Pass cdb) body x v = refl
+twice_by c body x v = refl
 
 pub after_twice : (t : Entry) (x : ℕ) (v : Block) → after t x (after t x v) ≡ after t x v
 after_twice t x v = twice_by t.command t.body x v
+
+-- what a READ reads
+pub read_of : (c : Command) (lba count : ℕ) → IsReadOf (Ok c) lba count → (gives c ≡ true) × ((range_of c).lba ≡ lba) × ((range_of c).count ≡ count)
+read_of (commands.Read form from number fua) lba count h = (refl, h.0, h.1)
+read_of c lba count h = absurd h
+
+-- no READ writes
+pub reads_only : (c : Command) → gives c ≡ true → brings c ≡ true → ⊥
+reads_only (commands.Read form lba count fua) g b = cc
+reads_only c g b = cc
 
 -- ---- conflicts
 
@@ -136,22 +118,9 @@ clash n t u x a b one h k =
 
 -- what a READ or a WRITE writes is what it leaves
 by_seen : (c : Command) (s : Device) (t : Entry) (cells : List Cell) (x : ℕ) → gives c || brings c ≡ true → length t.body ≤ (range_of c).count → x < length cells → block_at (whole cells (written_by c s t)) x ≡ brought (Ok c) t.body x (block_at cells x)
-by_seen commands.TestUnitReady s t cells x h fits inside = absurd cc
-by_seen (commands.RequestSense descriptor alloc) s t cells x h fits inside = absurd cc
-by_seen (commands.Inquiry page alloc) s t cells x h fits inside = absurd cc
-by_seen (commands.ModeSense ten long_lba no_descriptor control page alloc) s t cells x h fits inside = absurd cc
-by_seen (commands.ModeSelect ten size) s t cells x h fits inside = absurd cc
-by_seen (commands.StartStop start no_flush) s t cells x h fits inside = absurd cc
-by_seen commands.ReadCapacity10 s t cells x h fits inside = absurd cc
-by_seen (commands.ReadCapacity16 alloc) s t cells x h fits inside = absurd cc
-by_seen (commands.ReportLuns select alloc) s t cells x h fits inside = absurd cc
 by_seen (commands.Read form lba count fua) s t cells x h fits inside = refl
 by_seen (commands.Write form lba count fua) s t cells x h fits inside = row_seen t.body lba count x (s.modes.wce && not fua) cells fits inside
-by_seen (commands.Verify form lba count compare) s t cells x h fits inside = absurd cc
-by_seen (commands.Flush form lba count) s t cells x h fits inside = absurd cc
-by_seen (commands.WriteSame form lba count unmap) s t cells x h fits inside = absurd cc
-by_seen (commands.Unmap size) s t cells x h fits inside = absurd cc
-by_seen (commands.Pass cdb) s t cells x h fits inside = absurd cc
+by_seen c s t cells x h fits inside = absurd cc
 
 pub written_seen : (n : ℕ) (s : Device) (t : Entry) (cells : List Cell) (x : ℕ) → Transfers n t → x < length cells → block_at (whole cells (writes s t)) x ≡ after t x (block_at cells x)
 written_seen n s t cells x a inside = by_seen t.command s t cells x a.either a.fits inside
@@ -163,15 +132,6 @@ pub record IsItsOwn (c : Command) (t : Entry) (p : Pair) : Type 0 where
   pub leaves_it : (v : Block) → brought (Ok c) t.body p.lba v ≡ p.block
 
 by_pair : (c : Command) (s : Device) (t : Entry) (p : Pair) → gives c || brings c ≡ true → length t.body ≤ (range_of c).count → IsIn p (written_by c s t) → IsItsOwn c t p
-by_pair commands.TestUnitReady s t p h fits i = absurd cc
-by_pair (commands.RequestSense descriptor alloc) s t p h fits i = absurd cc
-by_pair (commands.Inquiry page alloc) s t p h fits i = absurd cc
-by_pair (commands.ModeSense ten long_lba no_descriptor control page alloc) s t p h fits i = absurd cc
-by_pair (commands.ModeSelect ten size) s t p h fits i = absurd cc
-by_pair (commands.StartStop start no_flush) s t p h fits i = absurd cc
-by_pair commands.ReadCapacity10 s t p h fits i = absurd cc
-by_pair (commands.ReadCapacity16 alloc) s t p h fits i = absurd cc
-by_pair (commands.ReportLuns select alloc) s t p h fits i = absurd cc
 by_pair (commands.Read form lba count fua) s t p h fits i = absurd i
 by_pair (commands.Write form lba count fua) s t p h fits i =
     let r = in_row t.body lba (s.modes.wce && not fua) p i in
@@ -182,11 +142,7 @@ by_pair (commands.Write form lba count fua) s t p h fits i =
       spans_it = has;
       leaves_it = λ v. ap (λ b. if b then get_or t.body (p.lba - lba) v else v) has ∙ ap (λ k. get_or t.body k v) place ∙ r.block v;
     }
-by_pair (commands.Verify form lba count compare) s t p h fits i = absurd cc
-by_pair (commands.Flush form lba count) s t p h fits i = absurd cc
-by_pair (commands.WriteSame form lba count unmap) s t p h fits i = absurd cc
-by_pair (commands.Unmap size) s t p h fits i = absurd cc
-by_pair (commands.Pass cdb) s t p h fits i = absurd cc
+by_pair c s t p h fits i = absurd cc
 
 pub pair_of : (n : ℕ) (s : Device) (t : Entry) (p : Pair) → Transfers n t → IsIn p (writes s t) → IsItsOwn t.command t p
 pair_of n s t p a i = by_pair t.command s t p a.either a.fits i

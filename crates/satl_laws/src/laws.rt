@@ -1,5 +1,9 @@
 //! Laws of all runs of the device.
-ghost use Rattle.satl_direct.specs.Laws.{ArrivalOrder, Durable, OnceEach, OrderUnderErrors, Untouched};
+ghost use Rattle.satl_laws.specs.ArrivalOrder.{ArrivalOrder};
+ghost use Rattle.satl_laws.specs.Durable.{Durable};
+ghost use Rattle.satl_laws.specs.OnceEach.{OnceEach};
+ghost use Rattle.satl_laws.specs.OrderUnderErrors.{OrderUnderErrors};
+ghost use Rattle.satl_laws.specs.Untouched.{Untouched};
 
 /// Law of one answer: in a run from a device without tasks, the replies to a nexus and tag, the tasks of it that still
 /// wait, and those that were taken off without an answer are together as many as its requests (SAM-5 5).

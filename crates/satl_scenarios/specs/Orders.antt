@@ -6,7 +6,8 @@ use Rattle.satl_unit.specs.declared.attention.Attention.TheVariants.{PowerOn}
 use Rattle.satl_frame.specs.declared.frames.Frame.{Frame}
 use Rattle.satl_frame.specs.declared.frames.Frame.TheVariants.{Bench, End, Request, Turn}
 use Rattle.satl_frame.specs.Output.Answer.{ended}
-use Rattle.satl_direct.specs.Laws.{AskOnce, IsFresh, is_mild, is_plain}
+use Rattle.satl_laws.specs.ArrivalOrder.{AskOnce, IsFresh, is_plain}
+use Rattle.satl_laws.specs.OrderUnderErrors.{is_mild}
 use Rattle.satl_direct.specs.Valid.{IsValid}
 use Rattle.satl_scenarios.specs.Scenario.{Scenario, events_of}
 use Rattle.satl_scenarios.specs.Words.{aa, answered, bb, blank, cached_over, cdb_10, check, device, good, holds, powered, read, request, sense, silent, write, zeros}
