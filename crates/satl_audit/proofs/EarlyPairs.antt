@@ -5,7 +5,6 @@ use Rattle.std.proofs.lemmas.Bool.{eqb-true, ne_eqb}
 use Rattle.satl_base.specs.declared.block.Block.{Block}
 use Rattle.satl_base.specs.Cells.{Cell, Pair, pairs_from, put}
 use Rattle.satl_base.specs.Lists.{IsIn}
-use Rattle.satl_cdb.specs.declared.command.Command.TheVariants as commands
 use Rattle.satl_audit.specs.Deeds.{put_at_one}
 use Rattle.satl_audit.proofs.Each.{is_same}
 

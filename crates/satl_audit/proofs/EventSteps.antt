@@ -21,7 +21,8 @@ use Rattle.satl_direct.specs.Quiet.{Around, Quiet}
 use Rattle.satl_direct.specs.Run.{Does, MayLose, TurnsOf, losses_in}
 use Rattle.satl_audit.specs.Deeds.{Deed, DoneBy, Walks}
 use Rattle.satl_audit.specs.Deeds.Deed.{shows, powers}
-use Rattle.satl_audit.specs.Skeleton.{Stepped, bare, is_known, is_known_frame, powered, shown}
+use Rattle.satl_cover.specs.Known.{is_known, is_known_frame}
+use Rattle.satl_audit.specs.Skeleton.{Stepped, bare, powered, shown}
 use Rattle.satl_audit.proofs.Coming.{arrival_comes}
 use Rattle.satl_audit.proofs.Keeping.{IsSane, sane_on}
 use Rattle.satl_audit.proofs.Stepping.{Behind, arrival_bare, arrives_split, behind_now, quiet_bare, quiet_behind, quiet_down, quiet_sane, walks_on}

@@ -1,5 +1,5 @@
 -- The bytes of the answers fix what an event does.
-use Rattle.std.proofs.Common.{◌≡◌, refl, sym, ap, ◌∙◌, subst, ℕ, ◌+◌, Bool, true, false, List, [], ◌∷◌, ◌++◌, map, append_assoc}
+use Rattle.std.proofs.Common.{◌≡◌, refl, sym, ap, ◌∙◌, subst, ℕ, Bool, true, false, List, [], ◌∷◌, ◌++◌, map, append_assoc}
 use Rattle.std.specs.Prelude.{◌<◌, ◌^◌, filter, not, if◌then◌else◌}
 use Rattle.std.specs.List.{AllByRecursion}
 use Rattle.satl_base.specs.declared.bench.BenchEvent.{BenchEvent}
@@ -16,7 +16,8 @@ use Rattle.satl_direct.specs.Device.{Device, is_of}
 use Rattle.satl_direct.specs.Arrival.{Arrival, ArrivesAs, arrival, is_unit_0}
 use Rattle.satl_direct.specs.Arrival.Arrival.{answered, attended, overlaps, waits}
 use Rattle.satl_audit.specs.Deeds.{Deed}
-use Rattle.satl_audit.specs.Skeleton.{Benched, Stepped, is_known, is_known_frame}
+use Rattle.satl_cover.specs.Known.{is_known, is_known_frame}
+use Rattle.satl_audit.specs.Skeleton.{Benched, Stepped}
 use Rattle.satl_audit.proofs.Forming.{IsNewIn, arrival_new}
 use Rattle.satl_audit.proofs.Naming.{own_filtered, own_pushed}
 use Rattle.satl_audit.proofs.Links.{both_right}

@@ -1,10 +1,8 @@
 -- The bytes of the answers fix which tasks end at turns.
 use Rattle.std.proofs.Common.{arith, ◌≡◌, refl, sym, ap, ◌∙◌, subst, ℕ, zero, suc, ◌+◌, Bool, List, [], ◌∷◌, ◌++◌, map, append_assoc}
 use Rattle.std.specs.List.{AllByRecursion}
-use Rattle.satl_base.specs.declared.bench.BenchEvent.TheVariants as events
 use Rattle.satl_base.specs.declared.reply.Reply.{Reply}
 use Rattle.satl_base.proofs.ListsLemmas.{All-remove_first}
-use Rattle.satl_frame.specs.declared.frames.Frame.TheVariants as frames
 use Rattle.satl_frame.specs.Output.{all_answered, reply_bytes}
 use Rattle.satl_frame.specs.Output.Answer.{replied}
 use Rattle.satl_line.specs.declared.entry.Entry.{Entry}

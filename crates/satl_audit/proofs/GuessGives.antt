@@ -1,5 +1,5 @@
 -- Guesses behind a READ, a flush and a loss of power.
-use Rattle.std.proofs.Common.{◌≡◌, ◌⊎◌, ⊎_elim, inl, refl, sym, ◌∙◌, subst, ℕ, ◌+◌, true, false, List, [], ◌∷◌, map}
+use Rattle.std.proofs.Common.{◌≡◌, ⊎_elim, inl, refl, sym, ◌∙◌, subst, ℕ, ◌+◌, true, false, List, [], ◌∷◌, map}
 use Rattle.std.specs.Prelude.{◌==◌, if◌then◌else◌, filter}
 use Rattle.std.proofs.lemmas.Bool.{eqb-true}
 use Rattle.satl_base.specs.declared.block.Block.{Block}

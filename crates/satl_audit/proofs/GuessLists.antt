@@ -1,5 +1,5 @@
 -- Guesses as lists.
-use Rattle.std.proofs.Common.{◌≡◌, ◌⊎◌, ⊎_elim, inl, inr, refl, ap, ◌∙◌, subst, ℕ, Bool, true, false, List, [], ◌∷◌, map}
+use Rattle.std.proofs.Common.{◌≡◌, ⊎_elim, inl, inr, refl, ap, ◌∙◌, subst, ℕ, Bool, true, false, List, [], ◌∷◌, map}
 use Rattle.std.specs.Prelude.{◌==◌, ◌&&◌, if◌then◌else◌, filter}
 use Rattle.std.proofs.lemmas.Bool.{eqb-true}
 use Rattle.satl_base.specs.declared.block.Block.{Block}

@@ -1,10 +1,9 @@
 -- Steps keep what the drive says of itself.
-use Rattle.std.proofs.Common.{◌≡◌, refl, sym, ap, ◌∙◌, ℕ, ◌+◌, Bool, true, List, [], ◌∷◌, ◌++◌, append_assoc}
+use Rattle.std.proofs.Common.{◌≡◌, refl, sym, ap, ◌∙◌, ℕ, Bool, true, List, [], ◌∷◌, ◌++◌, append_assoc}
 use Rattle.std.proofs.lemmas.List.{append-nil}
 use Rattle.std.specs.List.{AllByRecursion}
 use Rattle.satl_base.specs.declared.reply.Reply.{Reply}
 use Rattle.satl_base.specs.declared.request.Request.{Request}
-use Rattle.satl_cdb.specs.declared.command.Command.TheVariants as commands
 use Rattle.satl_frame.specs.declared.frames.Frame.{Frame}
 use Rattle.satl_frame.specs.declared.frames.Frame.TheVariants as frames
 use Rattle.satl_frame.specs.Output.{Answer}
@@ -15,7 +14,8 @@ use Rattle.satl_direct.specs.Arrival.{Arrival, ArrivesAs, arrival}
 use Rattle.satl_direct.specs.Arrival.Arrival.{answered, attended, overlaps, waits}
 use Rattle.satl_direct.specs.Run.{joined}
 use Rattle.satl_audit.specs.Deeds.{Deed}
-use Rattle.satl_audit.specs.Skeleton.{Benched, Skeleton, Stepped, TurnsDone, bare, is_known_frame}
+use Rattle.satl_cover.specs.Known.{is_known_frame}
+use Rattle.satl_audit.specs.Skeleton.{Benched, Skeleton, Stepped, TurnsDone, bare}
 use Rattle.satl_audit.proofs.Keeping.{IsSane}
 use Rattle.satl_audit.proofs.Stepping.{Behind}
 

@@ -20,7 +20,8 @@ use Rattle.satl_direct.specs.Arrival.{Arrival, ArrivesAs, arrival, is_unit_0}
 use Rattle.satl_direct.specs.Arrival.Arrival.{answered, attended, overlaps, waits}
 use Rattle.satl_audit.specs.Deeds.{Deed}
 use Rattle.satl_audit.specs.Deeds.Deed.{shows}
-use Rattle.satl_audit.specs.Skeleton.{Benched, DoneAs, is_known, Skeleton, Stepped, TurnsDone, is_known_frame, shown}
+use Rattle.satl_cover.specs.Known.{is_known, is_known_frame}
+use Rattle.satl_audit.specs.Skeleton.{Benched, DoneAs, Skeleton, Stepped, TurnsDone, shown}
 use Rattle.satl_audit.specs.Skeleton.Skeleton.{begin, further}
 use Rattle.satl_audit.proofs.Coming.{Comes, IsKnown, KnownBy, arrival_comes}
 use Rattle.satl_audit.proofs.Showing.{all_of, eligible_there}

@@ -3,7 +3,6 @@ use Rattle.std.proofs.Common.{arith, ◌≡◌, refl, ap, ◌∙◌, ℕ, ◌+�
 use Rattle.std.specs.Prelude.{◌≤◌, ◌<◌, ◌||◌, ◌&&◌}
 use Rattle.std.proofs.lemmas.Bool.{lt-ltb}
 use Rattle.satl_base.specs.declared.block.Range.{Range}
-use Rattle.satl_cdb.specs.declared.command.Command.TheVariants as commands
 use Rattle.satl_line.specs.Conflict.{Access, accesses_conflict, any_meet, ranges_meet}
 use Rattle.satl_direct.specs.Tasks.{over}
 

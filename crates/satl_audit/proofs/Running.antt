@@ -19,7 +19,8 @@ use Rattle.satl_direct.specs.Quiet.{Quiet}
 use Rattle.satl_direct.specs.Run.{Does, MayLose, depth, losses_in}
 use Rattle.satl_audit.specs.Deeds.{Deed, DoneBy, Walks}
 use Rattle.satl_audit.specs.Deeds.Deed.{shows, powers}
-use Rattle.satl_audit.specs.Skeleton.{Benched, Stepped, bare, is_known, is_known_frame, powered, shown}
+use Rattle.satl_cover.specs.Known.{is_known, is_known_frame}
+use Rattle.satl_audit.specs.Skeleton.{Benched, Stepped, bare, powered, shown}
 use Rattle.satl_audit.proofs.Coming.{arrival_comes}
 use Rattle.satl_audit.proofs.Keeping.{IsSane, sane_on}
 use Rattle.satl_audit.proofs.Stepping.{arrival_bare, arrives_made, quiet_made, quiet_none, quiet_sane}

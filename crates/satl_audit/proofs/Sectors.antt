@@ -1,12 +1,9 @@
 -- The law of sectors: runs are put together from sectors.
 use Rattle.std.proofs.Common.{refl, sym, ap, ◌∙◌, subst, List, length}
 use Rattle.std.specs.List.{AllByRecursion}
-use Rattle.satl_cdb.specs.declared.command.Command.TheVariants as commands
 use Rattle.satl_frame.specs.declared.frames.Frame.{Frame}
-use Rattle.satl_frame.specs.declared.frames.Frame.TheVariants as frames
 use Rattle.satl_frame.specs.Output.{out}
 use Rattle.satl_direct.specs.Device.{Device}
-use Rattle.satl_base.specs.declared.bench.BenchEvent.TheVariants as events
 use Rattle.satl_direct.specs.Run.{RunDeep, joined}
 use Rattle.satl_audit.specs.Laws.{IsAudited, PiecesAreRuns, RunsArePieced}
 use Rattle.satl_audit.specs.Skeleton.{bare}

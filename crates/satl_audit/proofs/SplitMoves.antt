@@ -1,6 +1,5 @@
 -- Moves of all sectors are moves of each.
-use Rattle.std.proofs.Common.{arith, ◌≡◌, refl, sym, ap, ◌∙◌, subst, ℕ, suc, ◌+◌, List, [], ◌∷◌, ◌++◌, length, append_assoc}
-use Rattle.std.specs.Prelude.{◌-◌}
+use Rattle.std.proofs.Common.{arith, ◌≡◌, refl, sym, ap, ◌∙◌, subst, ℕ, suc, List, [], ◌∷◌, ◌++◌, length, append_assoc}
 use Rattle.satl_base.specs.Cells.{Cell, Pair, IsSound, AreSound, put, change_at}
 use Rattle.satl_base.specs.Losses.{Lost, Loses}
 use Rattle.satl_base.specs.Moves.{Moves}

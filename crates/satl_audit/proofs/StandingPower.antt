@@ -1,5 +1,5 @@
 -- A sector that is kept, behind a flush and a loss of power.
-use Rattle.std.proofs.Common.{◌≡◌, ⊎_elim, inl, refl, sym, subst, ℕ, ◌+◌, List, [], ◌∷◌, ◌++◌, map, Option, Some, None}
+use Rattle.std.proofs.Common.{◌≡◌, ⊎_elim, inl, refl, sym, subst, ℕ, List, [], ◌∷◌, ◌++◌, map, Option, Some, None}
 use Rattle.satl_base.specs.declared.block.Block.{Block}
 use Rattle.satl_base.specs.Cells.{Cell, Pair, settle}
 use Rattle.satl_base.specs.Lists.{IsIn}
@@ -7,7 +7,7 @@ use Rattle.satl_base.proofs.ListsLemmas.{in_either, in_left, in_right}
 use Rattle.satl_regs.specs.Sectors.{IsLeftBehind}
 use Rattle.satl_audit.specs.Deeds.{MovesAt}
 use Rattle.satl_audit.specs.Guesses.{Guess, after_shows, all_may, blocks_at, shown_of, sure}
-use Rattle.satl_audit.specs.Sectors.{Sector, guesses_of, sector_power, settled_in, shown_in}
+use Rattle.satl_audit.specs.Sectors.{Sector, guesses_of, sector_power, settled_in}
 use Rattle.satl_audit.proofs.Fitting.{After, Fits}
 use Rattle.satl_audit.proofs.GuessShows.{guess_of, in_before, own_shown}
 use Rattle.satl_audit.proofs.GuessLists.{in_all, of_all}

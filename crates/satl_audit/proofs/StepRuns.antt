@@ -2,16 +2,14 @@
 use Rattle.std.proofs.Common.{arith, ◌≡◌, refl, sym, ap, ◌∙◌, subst, ℕ, ◌+◌, true, List, [], ◌∷◌, ◌++◌}
 use Rattle.std.specs.Prelude.{max}
 use Rattle.satl_base.specs.Cells.{Cell}
-use Rattle.satl_cdb.specs.declared.command.Command.TheVariants as commands
 use Rattle.satl_frame.specs.declared.frames.Frame.{Frame}
-use Rattle.satl_frame.specs.declared.frames.Frame.TheVariants as frames
 use Rattle.satl_frame.specs.Output.{Answer}
 use Rattle.satl_direct.specs.Device.{Device}
-use Rattle.satl_base.specs.declared.bench.BenchEvent.TheVariants as events
 use Rattle.satl_direct.specs.Run.{RunDeep, joined, losses_in}
 use Rattle.satl_direct.specs.Run.RunDeep.{start, step}
 use Rattle.satl_audit.specs.Deeds.{Deed, DoneBy, Walks}
-use Rattle.satl_audit.specs.Skeleton.{Skeleton, Stepped, bare, is_known_frame}
+use Rattle.satl_cover.specs.Known.{is_known_frame}
+use Rattle.satl_audit.specs.Skeleton.{Skeleton, Stepped, bare}
 use Rattle.satl_audit.specs.Skeleton.Skeleton.{begin, further}
 use Rattle.satl_audit.proofs.Keeping.{IsSane}
 use Rattle.satl_audit.proofs.Running.{event_made}

@@ -2,13 +2,10 @@
 use Rattle.std.proofs.Common.{⊎_elim, sym, subst, ℕ, zero, suc, ◌+◌, Bool, true, false, List, [], ◌∷◌, ◌++◌, length, map}
 use Rattle.std.specs.Prelude.{◌==◌, if◌then◌else◌, drop, slice_range}
 use Rattle.std.specs.List.{AllByRecursion}
-use Rattle.satl_base.specs.declared.bench.BenchEvent.TheVariants as events
 use Rattle.satl_base.specs.declared.block.Block.{Block}
 use Rattle.satl_base.specs.Cells.{Cell, Pair, put}
 use Rattle.satl_base.specs.Lists.{IsIn}
 use Rattle.satl_base.proofs.ListsLemmas.{in_either, leaves_in}
-use Rattle.satl_cdb.specs.declared.command.Command.TheVariants as commands
-use Rattle.satl_frame.specs.declared.frames.Frame.TheVariants as frames
 use Rattle.satl_audit.specs.Deeds.{Deed, DoneAt, DoneBy, EachAt, MovesAt, put_at_one}
 use Rattle.satl_audit.specs.Deeds.Deed.{shows, puts, gives, settles, powers}
 use Rattle.satl_audit.specs.Deeds.MovesAt.{still, fewer, gets}

@@ -1,0 +1,13 @@
+//! Says which recorded inputs can be audited, and why and where another is refused.
+#![tactic(auto)]
+
+mod covering;
+mod fault;
+mod frames;
+mod known;
+mod nothing;
+mod noting;
+mod slice;
+
+pub use covering::cover;
+pub use fault::AuditFault;
