@@ -8,6 +8,8 @@ mod known;
 mod nothing;
 mod noting;
 mod slice;
+#[cfg(test)]
+mod tests;
 
 pub use covering::cover;
 pub use fault::AuditFault;
