@@ -5,6 +5,7 @@ mod covering;
 mod fault;
 mod frames;
 mod known;
+pub mod laws;
 mod nothing;
 mod noting;
 mod slice;
