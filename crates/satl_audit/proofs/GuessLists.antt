@@ -1,11 +1,12 @@
 -- Guesses as lists.
-use Rattle.std.proofs.Common.{◌≡◌, ⊎_elim, inl, inr, refl, ap, ◌∙◌, subst, ℕ, Bool, true, false, List, [], ◌∷◌, map}
-use Rattle.std.specs.Prelude.{◌==◌, ◌&&◌, if◌then◌else◌, filter}
-use Rattle.std.proofs.lemmas.Bool.{eqb-true}
+use Rattle.std.proofs.Common.{◌≡◌, sym, ⊎_elim, inl, inr, refl, ap, ◌∙◌, subst, ℕ, Bool, true, false, List, [], ◌∷◌, map}
+use Rattle.std.specs.Prelude.{if◌then◌else◌, filter}
+use Rattle.std.specs.Cmp.Lexicographic.{pointwise, same_text}
+use Rattle.std.specs.Prelude.{nat_eq}
 use Rattle.satl_base.specs.declared.block.Block.{Block}
 use Rattle.satl_base.specs.Lists.{IsIn}
 use Rattle.satl_base.proofs.ListsLemmas.{in_either, in_left, in_right}
-use Rattle.satl_audit.specs.Guesses.{Guess, all_may, has_now, same_bytes}
+use Rattle.satl_audit.specs.Guesses.{Guess, all_may, has_now}
 use Rattle.satl_audit.proofs.Each.{is_same}
 
 -- ---- lists
@@ -46,15 +47,10 @@ filter_in p (y ∷ xs) x h t =
     no_bool false t f = cc
 
 -- the same bytes
-pub bytes_same : (a b : List ℕ) → same_bytes a b ≡ true → a ≡ b
-bytes_same [] [] h = refl
-bytes_same [] (y ∷ b) h = absurd cc
-bytes_same (x ∷ a) [] h = absurd cc
-bytes_same (x ∷ a) (y ∷ b) h =
-    (elim (x == y) as (λ t. (x == y) ≡ t → (t && same_bytes a b) ≡ true → x ∷ a ≡ y ∷ b)
-    [ true ↦ λ s r. ap (λ n. n ∷ a) (eqb-true x y s) ∙ ap (λ l. y ∷ l) (bytes_same a b r) | false ↦ λ s r. absurd cc ]) refl h
+pub bytes_same : (a b : List ℕ) → pointwise nat_eq b a ≡ true → a ≡ b
+bytes_same a b h = sym (same_text b a (sym h))
 
-pub same_is : (a : List ℕ) → same_bytes a a ≡ true
+pub same_is : (a : List ℕ) → pointwise nat_eq a a ≡ true
 same_is [] = refl
 same_is (x ∷ a) = rw (is_same x) (same_is a)
 
@@ -65,7 +61,7 @@ now_same v g h = block_same g.now v (bytes_same g.now.bytes v.bytes h)
     block_same a b e = ap (λ (bytes : List ℕ). record { bytes = bytes }) e
 
 pub same_now : (v : Block) (g : Guess) → g.now ≡ v → has_now v g ≡ true
-same_now v g e = subst (λ w. same_bytes g.now.bytes w.bytes ≡ true) e (same_is g.now.bytes)
+same_now v g e = subst (λ w. pointwise nat_eq w.bytes g.now.bytes ≡ true) e (same_is g.now.bytes)
 
 -- the union
 pub record Told (gs : List Guess) (w : Block) : Type 0 where

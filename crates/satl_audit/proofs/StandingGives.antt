@@ -3,11 +3,13 @@ use Rattle.std.proofs.Common.{◌≡◌, ⊎_elim, inl, inr, refl, sym, ap, ◌�
 use Rattle.std.specs.Prelude.{◌==◌, ◌||◌, if◌then◌else◌, filter}
 use Rattle.std.specs.List.{list_any}
 use Rattle.std.proofs.lemmas.Bool.{eqb-true}
+use Rattle.std.specs.Cmp.Lexicographic.{pointwise}
+use Rattle.std.specs.Prelude.{nat_eq}
 use Rattle.satl_base.specs.declared.block.Block.{Block}
 use Rattle.satl_base.specs.Cells.{Cell}
 use Rattle.satl_base.specs.Lists.{IsIn}
 use Rattle.satl_audit.specs.Deeds.{GivesAt}
-use Rattle.satl_audit.specs.Guesses.{Guess, has_now, same_bytes, sure}
+use Rattle.satl_audit.specs.Guesses.{Guess, has_now, sure}
 use Rattle.satl_audit.specs.Sectors.{Sector, sector_gives, sector_show, shown_in}
 use Rattle.satl_audit.proofs.Fitting.{Fits}
 use Rattle.satl_audit.proofs.GuessGives.{Only, filter_fits, not_here}
@@ -50,7 +52,7 @@ module _ (v : Block) (K : Cell → Type 0) where
   Now = Only K (λ c. c.now ≡ v)
 
   abbrev is_v : Block → Bool
-  is_v w = same_bytes w.bytes v.bytes
+  is_v w = pointwise nat_eq v.bytes w.bytes
 
   known_stands : (w : Block) (may : List Block) → Stands K (record { now = Some w; may = may }) → StandsOr Now (shown_in (Some w) v may)
   known_stands w may h =
@@ -98,7 +100,7 @@ module _ (v : Block) (K : Cell → Type 0) where
           let m = (filter_fits v K (map sure may) h.fits).only c k in
           let f = in_filter (has_now v) (map sure may) m.guess m.among in
           let t = in_map sure may m.guess f.0 in
-          clash (in_any is_v may t.of t.among (subst (λ y. same_bytes y.now.bytes v.bytes ≡ true) t.same f.1)) e
+          clash (in_any is_v may t.of t.among (subst (λ y. pointwise nat_eq v.bytes y.now.bytes ≡ true) t.same f.1)) e
 
   show_stands : (o : Option Block) (may : List Block) → Stands K (record { now = o; may = may }) → StandsOr Now (shown_in o v may)
   show_stands None may h = one_stands may h
