@@ -1,7 +1,7 @@
 // All sectors.
-ghost use Rattle.std.specs.Prelude.{◌≡◌, ◌<◌, ◌≤◌, OnOk, IfOk, length, map, replicate, slice_index_or, slice_set, [], ◌∷◌, Some, drop, if◌then◌else◌, nat_lt};
+ghost use Rattle.std.specs.Prelude.{◌≡◌, ◌≤◌, OnOk, IfOk, length, map, replicate, [], ◌∷◌, Some, drop, if◌then◌else◌, nat_lt};
 ghost use Rattle.satl_audit.specs.declared.content.Content.TheVariants.{Zero};
-ghost use Rattle.satl_audit.specs.Kept.{kept_pending, kept_power, kept_put, kept_settle};
+ghost use Rattle.satl_audit.specs.Kept.{kept_power, kept_settle};
 ghost use Rattle.satl_audit.specs.Sweeps.{after_first, caught_up, has_power};
 
 use crate::content::Content;

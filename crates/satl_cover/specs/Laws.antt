@@ -6,4 +6,5 @@ use Rattle.satl_cover.specs.Reading.{Covers}
 
 -- two answers that hold of one input, neither of which is want of memory, are the same (profile)
 abbrev pub OneAnswer : Type 0
-OneAnswer = (trim : Bool) (input : List ℕ) (a b : Result (Option ℕ) AuditFault) → Covers trim input a → Covers trim input b → a ≢ Err faults.NoMemory → b ≢ Err faults.NoMemory → a ≡ b
+OneAnswer = (trim : Bool) (input : List ℕ) (a b : Result (Option ℕ) AuditFault) → Covers trim input a →
+    Covers trim input b → a ≢ Err faults.NoMemory → b ≢ Err faults.NoMemory → a ≡ b

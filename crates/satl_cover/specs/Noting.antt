@@ -9,7 +9,8 @@ use Rattle.satl_cover.specs.Covered.{AreCovered, FirstUncovered}
 
 -- these are the names, nexus and tag in one number, with which frames have asked (SAM-5 4.7, I_T_L_Q nexus)
 abbrev pub AreNames : List Frame → BTreeSet ℕ → Type 0
-AreNames earlier names = (nexus tag : ℕ) → tag < 2 ^ 32 → contains nat_cmp names (nexus * 2 ^ 32 + tag) ≡ list_any (asks_by nexus tag) earlier
+AreNames earlier names = (nexus tag : ℕ) → tag < 2 ^ 32 →
+    contains nat_cmp names (nexus * 2 ^ 32 + tag) ≡ list_any (asks_by nexus tag) earlier
 
 -- where the first frame stands that is not covered; or all are, and have asked with these names (profile)
 abbrev pub Knows : Bool → List Frame → BTreeSet ℕ → Option ℕ → Type 0

@@ -26,7 +26,8 @@ Refuses input faults.NoMemory = Unit {0}
 -- where the first frame of an input stands that is not covered: none is in an input of version 2 (profile)
 abbrev pub IsNotCovered : Bool → List ℕ → ℕ → Type 0
 IsNotCovered trim input offset =
-    ((all : List Frame) × IsWholeInput input Two all × (offset ≡ 0)) ⊎ ((all : List Frame) × IsWholeInput input One all × FirstUncovered trim all offset)
+    ((all : List Frame) × IsWholeInput input Two all × (offset ≡ 0))
+        ⊎ ((all : List Frame) × IsWholeInput input One all × FirstUncovered trim all offset)
 
 -- an input of version 1 all of whose frames are covered; or where the first stands that is not; or why it is refused (profile)
 abbrev pub Covers : Bool → List ℕ → Result (Option ℕ) AuditFault → Type 0
