@@ -1,3 +1,4 @@
+pub mod ArrivalRuns
 pub mod Building
 pub mod CommandRuns
 pub mod Endings
@@ -5,7 +6,9 @@ pub mod FlawRuns
 pub mod FunctionRuns
 pub mod LinkRuns
 pub mod PassRuns
+pub mod PieceRuns
 pub mod PowerRuns
 pub mod RefusedRuns
+pub mod StandbyRuns
 pub mod TransferRuns
 pub mod Validity
