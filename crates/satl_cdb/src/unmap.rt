@@ -86,7 +86,11 @@ fn push_used(ranges: &mut ArrayVec<Range, MOST_RANGES>, range: Range)
 }
 
 /// The ranges of the first `count` descriptors, or the first fault of one.
-fn ranges_up_to(list: &Pages, count: usize, capacity: u64) -> Result<ArrayVec<Range, MOST_RANGES>, Illegal>
+fn ranges_up_to(
+    list: &Pages,
+    count: usize,
+    capacity: u64,
+) -> Result<ArrayVec<Range, MOST_RANGES>, Illegal>
     requires count { count ≤ most_ranges }
     requires room { 8 + 16 * count ≤ 512 * length list.now }
     ensures ranges { IfOk result (λ ranges. (descriptor_fault capacity 0 0 (descriptors_from 0 count list.now) ≡ None) × (ranges.items ≡ filter is_used (descriptors_from 0 count list.now))) }
