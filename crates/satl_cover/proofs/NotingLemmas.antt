@@ -8,7 +8,7 @@ use Rattle.std.proofs.lemmas.List.Folds.{list_any-append}
 use Rattle.satl_frame.specs.declared.frames.Frame.{Frame}
 use Rattle.satl_frame.specs.declared.frames.Frame.TheVariants as frames
 use Rattle.satl_frame.specs.Pulls.{cut_to}
-use Rattle.satl_direct.specs.Laws.{asks_by}
+use Rattle.satl_laws.specs.OnceEach.{asks_by}
 use Rattle.satl_cover.specs.Covered.{AreCovered, FirstUncovered, is_covered, place_behind}
 use Rattle.satl_cover.specs.Noting.{AreNames, Knows}
 

@@ -4,7 +4,7 @@ use Rattle.std.specs.BTreeSet.{BTreeSet, contains}
 use Rattle.std.specs.List.{list_any}
 use Rattle.std.specs.Ordering.{nat_cmp}
 use Rattle.satl_frame.specs.declared.frames.Frame.{Frame}
-use Rattle.satl_direct.specs.Laws.{asks_by}
+use Rattle.satl_laws.specs.OnceEach.{asks_by}
 use Rattle.satl_cover.specs.Covered.{AreCovered, FirstUncovered}
 
 -- these are the names, nexus and tag in one number, with which frames have asked (SAM-5 4.7, I_T_L_Q nexus)

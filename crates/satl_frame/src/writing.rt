@@ -65,8 +65,9 @@ pub fn gather<K: Sink>(sink: &mut K, gathered: &mut Gathered, bytes: &[u8]) -> R
     Ok(())
 }
 
-/// Gathers the first bytes that the pages hold.
-fn gather_data<K: Sink>(
+/// Gathers the first `len` bytes that the pages hold, in order (profile). `Failed` comes only where the sink's count of faults rose;
+/// then some front of what was gathered and of these bytes was written.
+pub fn gather_data<K: Sink>(
     sink: &mut K,
     gathered: &mut Gathered,
     pages: &Pages,

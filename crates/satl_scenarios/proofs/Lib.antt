@@ -1,3 +1,4 @@
+pub mod ArrivalRuns
 pub mod Building
 pub mod CommandRuns
 pub mod Endings
@@ -6,7 +7,9 @@ pub mod FunctionRuns
 pub mod LinkRuns
 pub mod OrderRuns
 pub mod PassRuns
+pub mod PieceRuns
 pub mod PowerRuns
 pub mod RefusedRuns
+pub mod StandbyRuns
 pub mod TransferRuns
 pub mod Validity

@@ -8,16 +8,17 @@ ghost use Rattle.satl_frame.specs.Pulls.{PullCauses, FewerThan, Stopped};
 
 use satl_io::{Failed, Source};
 
-/// Why bytes could not be pulled.
+/// Why bytes could not be pulled (profile).
 #[derive(Clone, Copy, Debug, PartialEq, Eq)]
 pub enum PullError {
-    /// Fewer bytes were left.
+    /// Fewer bytes were left, and all of them were taken.
     Short,
-    /// A read failed.
+    /// A read failed, and fewer bytes were taken than were asked for.
     Failed,
 }
 
-/// Fills the buffer, or as much of its front as the source has bytes for.
+/// Fills the buffer, or as much of its front as the source has bytes for, and gives their number (profile). `Failed` comes only
+/// where the source's count of faults rose; then fewer bytes were taken than the buffer has.
 pub fn fill<S: Source>(source: &mut S, buf: &mut [u8]) -> Result<usize, Failed>
     ensures bound { ReadsAtMost result buf.new }
     ensures bytes { IfOk result (λ n. Took (S.left source.old) (S.left source.new) (take n buf.new)) }
@@ -36,7 +37,8 @@ pub fn fill<S: Source>(source: &mut S, buf: &mut [u8]) -> Result<usize, Failed>
     Ok(at)
 }
 
-/// Fills the whole buffer.
+/// Fills the whole buffer (profile). `Short` comes only where the source had fewer bytes, and `Failed` only where its count of
+/// faults rose.
 pub fn pull<S: Source>(source: &mut S, buf: &mut [u8]) -> Result<(), PullError>
     ensures bytes { OnOk result (Took (S.left source.old) (S.left source.new) buf.new) }
     ensures stopped { Stopped (S.left source.old) (S.left source.new) (length buf.old) result }
