@@ -1,18 +1,18 @@
 -- The drive's data tell its settings, and are those of the identity.
-use Rattle.std.proofs.Common.{◌≡◌, refl, sym, ◌∙◌, ap, subst, ℕ, zero, suc, ◌+◌, ◌-◌, ◌*◌, ◌/◌, ◌%◌, ◌^◌, ◌<◌, Bool, true, false, cond, List, [], ◌∷◌, length, set, arith, get_or-set_other, get_or-set_same, eqb-true, eq-eqb, ◌⊎◌, ⊎_elim}
+use Rattle.std.proofs.Common.{◌≡◌, refl, sym, ◌∙◌, ap, subst, ℕ, zero, suc, ◌+◌, ◌*◌, ◌/◌, ◌%◌, ◌^◌, ◌<◌, Bool, true, false, List, [], ◌∷◌, length, set, arith, get_or-set_other, get_or-set_same, eqb-true, ⊎_elim}
 use Rattle.std.proofs.lemmas.Bool.{cases_eq}
 use Rattle.std.proofs.lemmas.List.{length-set, set-get_or}
 use Rattle.std.specs.List.{AllByRecursion}
-use Rattle.std.specs.Prelude.{◌==◌, ◌&&◌, not, MatchBool, sum, slice_index, slice_set, if◌then◌else◌}
+use Rattle.std.specs.Prelude.{◌==◌, ◌&&◌, not, MatchBool, slice_index, slice_set, if◌then◌else◌}
 use Rattle.std.proofs.lemmas.List.Sums.{sum_by-set}
 use Rattle.satl_base.specs.Identify.{cache_is_on, checksum, has_bad_sum, look_is_on, word, word_bits}
-use Rattle.satl_base.specs.Fields.{IsBytes, bits_of}
+use Rattle.satl_base.specs.Fields.{IsBytes}
 use Rattle.satl_base.specs.Places.{places}
 use Rattle.satl_base.proofs.PlacesLemmas.{by_places, places_ext}
 use Rattle.satl_regs.specs.Effects.{IsTelling}
 use Rattle.satl_identify.proofs.Settings.{sum_again}
 use Rattle.satl_barrier.specs.Leaving.{SaysSo}
-use Rattle.satl_identify.specs.Data.{identity_data, integrity_byte, settings_byte, with_integrity, with_settings}
+use Rattle.satl_identify.specs.Data.{identity_data, integrity_byte, settings_byte}
 
 -- each of these is a byte, place by place
 pub all_bytes : (d : List ℕ) → AllByRecursion (λ byte. byte < 256) d → IsBytes d

@@ -1,5 +1,5 @@
 -- What commands for one task leave of a drive.
-use Rattle.std.specs.Prelude.{◌≡◌, ◌⊎◌, ◌+◌, true, Bool, List, [], None, length, ℕ}
+use Rattle.std.specs.Prelude.{◌≡◌, ◌⊎◌, ◌+◌, true, List, [], None, length, ℕ}
 use Rattle.satl_base.specs.Cells.{AreSound, Pair}
 use Rattle.satl_base.specs.Identify.{has_cache, has_look}
 use Rattle.satl_base.specs.Lists.{IsIn}

@@ -1,6 +1,7 @@
 -- The commands of block devices: fields, rules and commands (SBC-3; the values that are refused are the profile's).
 use Rattle.std.specs.Prelude.{ℕ, ◌+◌, ◌*◌, ◌^◌, Bool, false, ◌==◌, not, List, [], ◌∷◌, if◌then◌else◌}
 use Rattle.satl_base.specs.Fields.{Field, bytes, bits, bit}
+use Rattle.satl_base.specs.Limits.{most_moved, most_covered}
 use Rattle.satl_cdb.specs.declared.command.Form.{Form}
 use Rattle.satl_cdb.specs.declared.command.Form.TheVariants.{Six, Ten, Twelve, Sixteen}
 use Rattle.satl_cdb.specs.declared.command.Command.TheVariants as commands
@@ -45,7 +46,7 @@ write_6 = record { rules = []; command = λ cdb. commands.Write Six (six.lba cdb
 
 -- RDPROTECT or WRPROTECT, byte 1 bits 7 to 5, and a count of at most 4,096 blocks
 abbrev pub transfer_rules : Layout → List Rule
-transfer_rules long = on 1 7 5 (is_not 0) ∷ at long.count_place (is_above 4096 long.count) ∷ []
+transfer_rules long = on 1 7 5 (is_not 0) ∷ at long.count_place (is_above most_moved long.count) ∷ []
 
 -- SBC-3, READ (10), (12) and (16) commands: FUA byte 1 bit 3
 abbrev pub read : Layout → Format
@@ -67,7 +68,7 @@ verify long = record {
   rules =
       on 1 7 5 (is_not 0)
       ∷ on 1 2 1 (is_above 1)
-      ∷ at long.count_place (λ cdb. is_above (if is 0 (bits 1 2 1) cdb then 65536 else 4096) long.count cdb)
+      ∷ at long.count_place (λ cdb. is_above (if is 0 (bits 1 2 1) cdb then most_covered else most_moved) long.count cdb)
       ∷ [];
   command = λ cdb. commands.Verify long.form (long.lba cdb) (long.count cdb) (is 1 (bits 1 2 1) cdb);
 }
@@ -88,7 +89,7 @@ write_same trim long = record {
       ∷ on 1 2 0 (is_not 0)
       ∷ at 1 (if trim then never else bit 1 3)
       ∷ at long.count_place (is 0 long.count)
-      ∷ at long.count_place (is_above 65536 long.count)
+      ∷ at long.count_place (is_above most_covered long.count)
       ∷ [];
   command = λ cdb. commands.WriteSame long.form (long.lba cdb) (long.count cdb) (bit 1 3 cdb);
 }

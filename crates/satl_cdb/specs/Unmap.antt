@@ -4,6 +4,7 @@ use Rattle.byteorder.specs.Endian.{big_number}
 use Rattle.satl_base.specs.declared.block.Block.{Block}
 use Rattle.satl_base.specs.declared.block.Range.{Range}
 use Rattle.satl_base.specs.Blocks.{byte_at}
+use Rattle.satl_base.specs.Limits.{most_covered, most_ranges}
 use Rattle.satl_base.specs.Places.{places}
 use Rattle.satl_cdb.specs.declared.command.Illegal.{Illegal}
 use Rattle.satl_cdb.specs.Refusals.{list_length_error, invalid_list_field, list_out_of_range}
@@ -35,7 +36,7 @@ abbrev pub descriptor_fault : ℕ → ℕ → ℕ → List Range → Option Ille
 descriptor_fault capacity i sum [] = None
 descriptor_fault capacity i sum (r ∷ rs) =
     if nat_lt capacity (r.lba + r.count) then Some list_out_of_range
-    else if nat_lt 65536 (sum + r.count) then Some (invalid_list_field (16 + 16 * i))
+    else if nat_lt most_covered (sum + r.count) then Some (invalid_list_field (16 + 16 * i))
     else descriptor_fault capacity (i + 1) (sum + r.count) rs
 
 -- the first fault of a list of so many bytes: a block descriptor data length that exceeds them, more than 64
@@ -43,7 +44,7 @@ descriptor_fault capacity i sum (r ∷ rs) =
 abbrev pub list_fault : List Block → ℕ → ℕ → Option Illegal
 list_fault list length capacity =
     if nat_lt length (descriptors_length list + 8) then Some list_length_error
-    else if nat_lt 64 (descriptors_length list / 16) then Some (invalid_list_field 2)
+    else if nat_lt most_ranges (descriptors_length list / 16) then Some (invalid_list_field 2)
     else descriptor_fault capacity 0 0 (descriptors list)
 
 -- a descriptor without a block gives no range

@@ -6,12 +6,7 @@ ghost use Rattle.satl_cdb.specs.BlockCommands.{layout_of, read, read_6, write, w
 
 use crate::command::{Command, Form, Illegal};
 use crate::fields::{count_of, count_place, flag, lba_of, u16_at, u32_at};
-
-/// The most blocks that one command moves.
-const TRANSFER_LIMIT: u32 = 4096;
-
-/// The most blocks that one command verifies without data, or writes the same.
-const MEDIUM_LIMIT: u32 = 65_536;
+use satl_base::{MOST_COVERED, MOST_MOVED};
 
 pub fn read_6_of(cdb: &[u8; 16]) -> Command
     ensures { format_says read_6 cdb.now ≡ Ok result }
@@ -42,7 +37,7 @@ fn check_transfer(cdb: &[u8; 16], form: Form) -> Result<(), Illegal>
     if cdb[1] >> 5 != 0 {
         return Err(Illegal::invalid_field(1));
     }
-    if count_of(cdb, form) > TRANSFER_LIMIT {
+    if count_of(cdb, form) > MOST_MOVED {
         return Err(Illegal::invalid_field(count_place(form)));
     }
     Ok(())
@@ -80,11 +75,7 @@ pub fn verify_of(cdb: &[u8; 16], form: Form) -> Result<Command, Illegal>
         return Err(Illegal::invalid_field(1));
     }
     let compare = check == 1;
-    let limit = if compare {
-        TRANSFER_LIMIT
-    } else {
-        MEDIUM_LIMIT
-    };
+    let limit = if compare { MOST_MOVED } else { MOST_COVERED };
     let count = count_of(cdb, form);
     if count > limit {
         return Err(Illegal::invalid_field(count_place(form)));
@@ -118,7 +109,7 @@ pub fn write_same_of(cdb: &[u8; 16], trim: bool, form: Form) -> Result<Command, 
         return Err(Illegal::invalid_field(1));
     }
     let count = count_of(cdb, form);
-    if count == 0 || count > MEDIUM_LIMIT {
+    if count == 0 || count > MOST_COVERED {
         return Err(Illegal::invalid_field(count_place(form)));
     }
     Ok(Command::WriteSame {

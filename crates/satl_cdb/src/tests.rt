@@ -1,7 +1,7 @@
 // Command descriptor blocks and parameter lists from outside, and what they mean.
 
 use super::*;
-use satl_base::{Block, Pages};
+use satl_base::{Block, Pages, Range};
 use std::test::*;
 
 /// A command descriptor block with zeros behind it.
@@ -159,6 +159,7 @@ fn commands(rt: HostRuntime) {
 
 #[test]
 fn unmap_lists(rt: HostRuntime) {
+    let range = Range { lba: 16, count: 4 };
     let cases: [(&[u8], u16, Result<usize, Illegal>); 7] = [
         (&[0, 6, 0, 0], 8, Ok(0)),
         (
@@ -208,8 +209,13 @@ fn unmap_lists(rt: HostRuntime) {
         let mut list = Pages::zeroed(rt.alloc(), 3).expect(&rt, "memory");
         list.set_block(0, &block);
         if *list_length >= 8 && *list_length <= 1536 {
-            let read = read_unmap_list(&list, *list_length, 1 << 32).map(|ranges| ranges.len());
-            assert_eq!(rt; read, *wanted);
+            let read = read_unmap_list(&list, *list_length, 1 << 32);
+            if let Ok(ranges) = &read {
+                for found in ranges.iter() {
+                    assert_eq!(rt; *found, range);
+                }
+            }
+            assert_eq!(rt; read.map(|ranges| ranges.len()), *wanted);
         }
     }
 }

@@ -3,15 +3,13 @@
 ghost use Rattle.std.specs.Prelude.{◌≡◌, ◌≢◌, ◌<◌, ◌≤◌, ◌+◌, ◌*◌, ◌/◌, ◌++◌, [], ◌∷◌, IfOk, IfErr, IfSome, Some, None, MatchOption, MatchResult, filter, length, nat_lt, ◌==◌};
 ghost use Rattle.arrayvec.specs.ArrayVec.{array_vec_len};
 ghost use Rattle.satl_base.specs.Blocks.{byte_at};
+ghost use Rattle.satl_base.specs.Limits.{most_ranges};
 ghost use Rattle.satl_cdb.specs.Unmap.{descriptor, descriptors_from, descriptor_fault, is_used, list_fault, number_at, ranges_of};
 
 use crate::command::Illegal;
 use arrayvec::ArrayVec;
 use byteorder::{BigEndian, ByteOrder};
-use satl_base::{Pages, Range};
-
-/// The most blocks that one list trims.
-const LIMIT: u32 = 65_536;
+use satl_base::{MOST_COVERED, MOST_RANGES, Pages, Range};
 
 fn byte_of(list: &Pages, place: usize) -> u8
     requires place { place < 2048 }
@@ -61,7 +59,7 @@ fn u64_at(list: &Pages, place: usize) -> u64
 
 #[tactic(auto, unfolding(crate::specs::Unmap::descriptor))]
 fn descriptor_at(list: &Pages, i: usize) -> Range
-    requires i { i < 64 }
+    requires i { i < most_ranges }
     requires room { 8 + 16 * (i + 1) ≤ 512 * length list.now }
     ensures { result ≡ descriptor list.now i }
 {
@@ -77,8 +75,8 @@ fn exceeds(range: Range, capacity: u64) -> bool
     u64::from(range.count) > capacity || range.lba > capacity - u64::from(range.count)
 }
 
-fn push_used(ranges: &mut ArrayVec<Range, 64>, range: Range)
-    requires { array_vec_len ranges.old < 64 }
+fn push_used(ranges: &mut ArrayVec<Range, MOST_RANGES>, range: Range)
+    requires { array_vec_len ranges.old < most_ranges }
     ensures items { ranges.new.items ≡ ranges.old.items ++ filter is_used (range ∷ []) }
     ensures len { array_vec_len ranges.new ≤ array_vec_len ranges.old + 1 }
 {
@@ -88,8 +86,12 @@ fn push_used(ranges: &mut ArrayVec<Range, 64>, range: Range)
 }
 
 /// The ranges of the first `count` descriptors, or the first fault of one.
-fn ranges_up_to(list: &Pages, count: usize, capacity: u64) -> Result<ArrayVec<Range, 64>, Illegal>
-    requires count { count ≤ 64 }
+fn ranges_up_to(
+    list: &Pages,
+    count: usize,
+    capacity: u64,
+) -> Result<ArrayVec<Range, MOST_RANGES>, Illegal>
+    requires count { count ≤ most_ranges }
     requires room { 8 + 16 * count ≤ 512 * length list.now }
     ensures ranges { IfOk result (λ ranges. (descriptor_fault capacity 0 0 (descriptors_from 0 count list.now) ≡ None) × (ranges.items ≡ filter is_used (descriptors_from 0 count list.now))) }
     ensures refusal { IfErr result (λ refusal. descriptor_fault capacity 0 0 (descriptors_from 0 count list.now) ≡ Some refusal) }
@@ -101,7 +103,7 @@ fn ranges_up_to(list: &Pages, count: usize, capacity: u64) -> Result<ArrayVec<Ra
         if exceeds(range, capacity) {
             return Err(Illegal::list_out_of_range());
         }
-        if range.count > LIMIT - sum {
+        if range.count > MOST_COVERED - sum {
             return Err(Illegal::invalid_list_field(16 + 16 * i as u16));
         }
         sum += range.count;
@@ -119,7 +121,7 @@ pub fn read_unmap_list(
     list: &Pages,
     list_length: u16,
     capacity: u64,
-) -> Result<ArrayVec<Range, 64>, Illegal>
+) -> Result<ArrayVec<Range, MOST_RANGES>, Illegal>
     requires header { 8 ≤ list_length }
     requires whole { list_length ≤ 512 * length list.now }
     ensures ranges { IfOk result (λ ranges. (list_fault list.now list_length capacity ≡ None) × (ranges.items ≡ ranges_of list.now)) }
@@ -129,9 +131,9 @@ pub fn read_unmap_list(
     if u32::from(descriptors_length) + 8 > u32::from(list_length) {
         return Err(Illegal::list_length_error());
     }
-    let count = descriptors_length / 16;
-    if count > 64 {
+    let count = usize::from(descriptors_length / 16);
+    if count > MOST_RANGES {
         return Err(Illegal::invalid_list_field(2));
     }
-    ranges_up_to(list, usize::from(count), capacity)
+    ranges_up_to(list, count, capacity)
 }

@@ -9,7 +9,7 @@ use Rattle.satl_base.specs.declared.bench.Which.TheVariants as flaws
 use Rattle.satl_base.specs.declared.modes.Modes.{Modes}
 use Rattle.satl_base.specs.declared.reply.Reply.{Reply}
 use Rattle.satl_base.specs.Cells.{AreSound, Cell, IsSound, Part, change_at}
-use Rattle.satl_base.specs.Identify.{has_cache, has_look}
+use Rattle.satl_base.specs.Identify.{has_cache}
 use Rattle.satl_base.specs.Losses.{Loses}
 use Rattle.satl_base.proofs.CellsLemmas.{change_at-length}
 use Rattle.satl_base.proofs.LossesLemmas.{loses-length, loses-sound}

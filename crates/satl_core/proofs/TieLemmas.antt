@@ -4,7 +4,6 @@ use Rattle.satl_base.specs.Identify.{has_cache, has_look}
 use Rattle.satl_identify.specs.declared.identity.Identity.{Identity}
 use Rattle.satl_identify.proofs.Judging.{unbroken}
 use Rattle.satl_drive.specs.State.{DriveState}
-use Rattle.satl_barrier.specs.Leaving.{SaysSo}
 use Rattle.satl_barrier.proofs.ToldLemmas.{data_says, length-data}
 use Rattle.satl_core.specs.Layer.{Layer, Tied}
 

@@ -2,19 +2,15 @@
 -- native command queuing; profile). No code stands on it yet.
 use Rattle.std.specs.Prelude.{◌≡◌, ◌⊎◌, ℕ, ◌<◌, ◌==◌, ◌&&◌, not, Bool, true, false, List, [], ◌∷◌, Some, None, MatchBool, length}
 use Rattle.std.specs.List.{AllByRecursion, AllZip, list_any}
-use Rattle.satl_base.specs.declared.block.Block.{Block}
 use Rattle.satl_identify.specs.Data.{identity_data}
-use Rattle.satl_regs.specs.declared.values.Queued.{Queued}
-use Rattle.satl_regs.specs.declared.values.QueuedKind.TheVariants.{Read, Write, Trim}
-use Rattle.satl_regs.specs.Trim.{trim_block}
 use Rattle.satl_pages.specs.Slots.{pages_at}
 use Rattle.satl_line.specs.declared.entry.Entry.{Entry}
 use Rattle.satl_line.specs.Eligible.{IsEligible}
 use Rattle.satl_line.specs.Kinds.{is_ranged}
 use Rattle.satl_line.specs.Ranged.{RangedTask, ranged_of}
-use Rattle.satl_line.specs.Ranged.RangedTask.{ranged_read, ranged_write, ranged_trim}
 use Rattle.satl_drive.specs.State.{DriveState, IsFit, Outstanding}
 use Rattle.satl_drive.specs.Queue.{HasPages, Slots, is_tagged}
+use Rattle.satl_flight.specs.Flown.{blocks_for, queued_for}
 use Rattle.satl_direct.specs.Device.{Device, is_called}
 use Rattle.satl_direct.specs.Valid.{IsValid}
 use Rattle.satl_core.specs.Layer.{Layer, view}
@@ -23,18 +19,6 @@ use Rattle.satl_core.specs.Layer.{Layer, view}
 pub record Given : Type 0 where
   pub tag : ℕ
   pub task : Entry
-
--- the queued command of a ranged task: a READ and a WRITE go over their range, and a trim has one block of entries (SAT-3 9)
-abbrev pub queued_for : ℕ → RangedTask → Queued
-queued_for tag (ranged_read fua range) = record { kind = Read; lba = range.lba; sectors = range.count; tag = tag; fua = fua }
-queued_for tag (ranged_write fua range blocks) = record { kind = Write; lba = range.lba; sectors = range.count; tag = tag; fua = fua }
-queued_for tag (ranged_trim ranges) = record { kind = Trim; lba = 0; sectors = 1; tag = tag; fua = false }
-
--- the blocks that it is issued with: none for a READ, and its ranges as entries for a trim (profile)
-abbrev pub blocks_for : RangedTask → List Block
-blocks_for (ranged_read fua range) = []
-blocks_for (ranged_write fua range blocks) = blocks
-blocks_for (ranged_trim ranges) = record { bytes = trim_block ranges } ∷ []
 
 -- a command that is outstanding is that of an eligible ranged task, under its tag (profile)
 pub record IsGiven (s : Device) (g : Given) (q : Outstanding) : Type 0 where

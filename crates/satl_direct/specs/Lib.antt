@@ -3,7 +3,6 @@ pub mod Attentions
 pub mod Bench
 pub mod Device
 pub mod Ending
-pub mod Laws
 pub mod Management
 pub mod Quiet
 pub mod Run

@@ -1,17 +1,17 @@
 -- A link that is lost in a poll leaves each slot its number of pages, and says no more of them.
-use Rattle.std.proofs.Common.{◌≡◌, refl, sym, ◌∙◌, ap, subst, ℕ, ◌<◌, ◌==◌, false, List, [], ◌∷◌, Option, Some, None, length}
+use Rattle.std.proofs.Common.{◌≡◌, refl, sym, ◌∙◌, ap, ℕ, List, [], ◌∷◌, Option, Some, None, length}
 use Rattle.std.proofs.lemmas.List.{length-map}
 use Rattle.std.proofs.lemmas.Option.{slice_get-map}
 use Rattle.std.specs.Prelude.{map, slice_get, unwrap_or}
 use Rattle.std.specs.Option.{option_and_then, option_map}
-use Rattle.std.specs.List.{AllByRecursion, find, list_any}
+use Rattle.std.specs.List.{find}
 use Rattle.satl_base.specs.declared.block.Block.{Block}
 use Rattle.satl_base.proofs.ListsLemmas.{All-weaken}
-use Rattle.satl_line.specs.Tasks.{Held, with_body}
+use Rattle.satl_line.specs.Tasks.{Held}
 use Rattle.satl_drive.specs.Queue.{Slots}
 use Rattle.satl_pages.specs.Slots.{pages_at}
 use Rattle.satl_flight.specs.declared.flight.Flying.{Flying}
-use Rattle.satl_flight.specs.Lending.{AreAlike, IsAlike, IsLending, IsLent, has_tag, is_of_slot, lent, whole_task, whole_tasks}
+use Rattle.satl_flight.specs.Lending.{AreAlike, IsLending, IsLent, is_of_slot, lent, whole_tasks}
 
 pub alike_same : (tasks : List Held) → AreAlike tasks tasks
 alike_same [] = tt

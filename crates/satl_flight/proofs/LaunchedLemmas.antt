@@ -1,12 +1,11 @@
 -- What issuing, resetting and a lost link do to the tie.
-use Rattle.std.proofs.Common.{◌≡◌, ◌⊎◌, refl, sym, ◌∙◌, ap, subst, inl, inr, ⊎_elim, ℕ, zero, suc, ◌+◌, ◌≤◌, ◌<◌, ◌^◌, Bool, true, false, cond, List, [], ◌∷◌, ◌++◌, Option, Some, None, arith, length, length-append, append_assoc}
-use Rattle.std.specs.Prelude.{◌==◌, ◌||◌, map, max, min, slice_get, MatchOption}
+use Rattle.std.proofs.Common.{◌≡◌, ◌⊎◌, refl, sym, ◌∙◌, ap, subst, inl, inr, ℕ, ◌+◌, ◌<◌, true, false, List, [], ◌∷◌, ◌++◌, Option, Some, None, arith, length, length-append, append_assoc}
+use Rattle.std.specs.Prelude.{◌==◌, max, MatchOption}
 use Rattle.std.specs.List.{AllByRecursion, AllZip, find, list_any}
 use Rattle.std.proofs.Math.Nat.{le-max_left, le-max_right}
 use Rattle.satl_base.specs.declared.block.Block.{Block}
-use Rattle.satl_base.specs.Cells.{Cell, Pair, Part}
+use Rattle.satl_base.specs.Cells.{Pair, Part}
 use Rattle.satl_base.specs.Moves.{Moves}
-use Rattle.satl_base.specs.Moves.{stay}
 use Rattle.satl_base.proofs.ListsLemmas.{All-find, All-push_end}
 use Rattle.satl_base.proofs.MovesLemmas.{moves_on, moves_of_part, lose_once}
 use Rattle.satl_io.specs.Causes.{Rose}
@@ -14,7 +13,6 @@ use Rattle.satl_regs.specs.declared.values.Registers.{Registers}
 use Rattle.satl_regs.specs.declared.values.Queued.{Queued}
 use Rattle.satl_regs.specs.QueuedCommands.{QueuedFits, queued_registers}
 use Rattle.satl_regs.specs.Commands.{command_in}
-use Rattle.satl_regs.specs.declared.values.AtaCommand.{AtaCommand}
 use Rattle.satl_regs.specs.declared.values.AtaCommand.TheVariants.{ReadLog}
 use Rattle.satl_base.specs.declared.block.Range.{Range}
 use Rattle.satl_base.specs.Identify.{has_cache, has_look}
@@ -26,18 +24,18 @@ use Rattle.satl_line.specs.declared.entry.Entry.{Entry}
 use Rattle.satl_line.specs.declared.entry.Kind.{Kind}
 use Rattle.satl_line.specs.declared.entry.Kind.TheVariants.{Ranged, Barrier}
 use Rattle.satl_line.specs.Eligible.{IsEligibleBy}
-use Rattle.satl_line.specs.Ranged.{MayPut, RangedTask, ranged_by, ranged_of, written_pairs}
+use Rattle.satl_line.specs.Ranged.{MayPut, RangedTask, ranged_by, ranged_of}
 use Rattle.satl_line.specs.Ranged.RangedTask.{ranged_read, ranged_write, ranged_trim}
 use Rattle.satl_line.specs.Tasks.{Held, entries_of}
 use Rattle.satl_drive.specs.State.{DriveState, Outstanding, medium_of}
-use Rattle.satl_drive.specs.Queue.{CanIssue, CanPoll, FailsAtFlaw, FailsByCrc, HasBlocks, HasPages, IsFailed, IsIssueCutOff, IsIssued, IsPollCutOff, IsReset, IsResetCutOff, LiesWithin, Slots, all_pairs, is_tagged, issued, issued_blocks, queued_flaw, queued_pairs}
-use Rattle.satl_drive.specs.Rules.{IsCutOff, IsRunCutOff, MaySet}
+use Rattle.satl_drive.specs.Queue.{CanIssue, FailsAtFlaw, FailsByCrc, IsFailed, IsIssueCutOff, IsIssued, IsPollCutOff, IsReset, IsResetCutOff, LiesWithin, Slots, all_pairs, is_tagged, issued, queued_flaw, queued_pairs}
+use Rattle.satl_drive.specs.Rules.{IsCutOff, IsRunCutOff}
 use Rattle.satl_pages.specs.Slots.{pages_at}
 use Rattle.satl_flight.specs.declared.flight.Flying.{Flying}
-use Rattle.satl_flight.specs.Flown.{AreApart, FitsDrive, IsFlown, IsInFlight, RangedFits, blocks_for, clash, holds, is_in_slot, outstanding_for, queued_for}
+use Rattle.satl_flight.specs.Flown.{FitsDrive, IsFlown, IsInFlight, RangedFits, clash, holds, is_in_slot, outstanding_for, queued_for}
 use Rattle.satl_flight.specs.Settled.{Deepens, IsCut, IsLaunched, IsLostInFlight, IsLostQuietly}
 use Rattle.satl_line.proofs.SlotsLemmas.{All-append}
-use Rattle.satl_flight.proofs.ZipLemmas.{zip-any, zip-none, zip-push, zip-right}
+use Rattle.satl_flight.proofs.ZipLemmas.{zip-any, zip-push}
 use Rattle.satl_flight.proofs.FlownLemmas.{all_may_put, apart_push, flown_puts, moves_of_each}
 use Rattle.satl_flight.proofs.SettledLemmas.{deepens_shorter, tags_agree}
 

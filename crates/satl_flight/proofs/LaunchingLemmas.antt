@@ -1,11 +1,10 @@
 -- Issuing, as the code does it.
-use Rattle.std.proofs.Common.{◌≡◌, ◌⊎◌, refl, sym, ◌∙◌, ap, subst, inl, inr, ⊎_elim, ℕ, zero, suc, ◌+◌, ◌≤◌, ◌<◌, Bool, true, false, cond, List, [], ◌∷◌, ◌++◌, Option, Some, None, arith, length, length-append, eqb-true, eq-eqb}
-use Rattle.std.specs.Prelude.{◌==◌, ◌||◌, map, slice_get, slice_set, take, unwrap_or}
+use Rattle.std.proofs.Common.{◌≡◌, ◌⊎◌, refl, sym, ◌∙◌, ap, subst, inl, inr, ⊎_elim, ℕ, zero, suc, ◌<◌, Bool, true, false, List, [], ◌∷◌, ◌++◌, Option, Some, None, arith, length, length-append, eq-eqb}
+use Rattle.std.specs.Prelude.{◌==◌, ◌||◌, slice_get, slice_set, take, unwrap_or}
 use Rattle.std.specs.Option.{option_and_then, option_map}
-use Rattle.std.specs.List.{AllByRecursion, find, list_any}
+use Rattle.std.specs.List.{find, list_any}
 use Rattle.std.proofs.lemmas.Bool.{cases_eq}
 use Rattle.satl_base.specs.declared.block.Block.{Block}
-use Rattle.satl_base.specs.Cells.{Cell}
 use Rattle.satl_base.specs.Moves.{stay}
 use Rattle.satl_base.proofs.ListsLemmas.{All-find}
 use Rattle.satl_regs.specs.declared.values.Registers.{Registers}
@@ -23,7 +22,7 @@ use Rattle.satl_drive.specs.Queue.{CanIssue, IsIssueCutOff, IsIssued, Slots}
 use Rattle.satl_pages.specs.Slots.{pages_at}
 use Rattle.satl_flight.specs.declared.flight.Flying.{Flying}
 use Rattle.satl_flight.specs.Flown.{FitsDrive, IsInFlight, clash, holds, is_in_slot, queued_for}
-use Rattle.satl_flight.specs.Lending.{IsLending, has_tag, is_of_slot, lent, whole_task, whole_tasks}
+use Rattle.satl_flight.specs.Lending.{IsLending, has_tag, is_of_slot, whole_task, whole_tasks}
 use Rattle.satl_flight.specs.Settled.{IsCovered, IsFilled, IsLaunched, IsLostQuietly}
 use Rattle.satl_flight.proofs.LendingLemmas.{at_found, find-none, get-set, lend_lending, lend_same, whole_get, whole-slots}
 use Rattle.satl_flight.proofs.LaunchedLemmas.{can_issue, deepens_same, launched_one, lost_issue, queued_fits}

@@ -8,8 +8,8 @@ use Rattle.satl_base.specs.Lists.{remove_first}
 use Rattle.satl_base.specs.Cells.{Cell, Pair, Part, first_flaw, first_set, has_flaw, whole}
 use Rattle.satl_base.specs.Losses.{Loses}
 use Rattle.satl_base.specs.Moves.{Moves}
-use Rattle.satl_base.specs.Moves.{stay, lose}
-use Rattle.satl_base.proofs.ListsLemmas.{All-find, All-remove_first, All-weaken, find_passes, length-remove_first}
+use Rattle.satl_base.specs.Moves.{stay}
+use Rattle.satl_base.proofs.ListsLemmas.{All-find, All-remove_first, find_passes, length-remove_first}
 use Rattle.satl_base.proofs.CellsLemmas.{part_split, part-write_flaws}
 use Rattle.satl_base.proofs.MovesLemmas.{moves_on, moves_of_part, lose_once}
 use Rattle.satl_regs.specs.declared.values.Registers.{Registers}
@@ -18,8 +18,8 @@ use Rattle.satl_regs.specs.Effects.{unc}
 use Rattle.satl_errlog.specs.declared.entry.NcqError.{NcqError}
 use Rattle.satl_errlog.specs.Log.{log_of, log_says}
 use Rattle.satl_errlog.proofs.Logs.{log_back}
-use Rattle.satl_line.specs.Ending.{EndsAs, Outcome, flaw_met, blocks_read, active_after}
-use Rattle.satl_line.specs.Ending.Outcome.{ends_done, ends_flawed, ends_glitched}
+use Rattle.satl_line.specs.Ending.{EndsAs, flaw_met, blocks_read, active_after}
+use Rattle.satl_line.specs.Ending.Outcome.{ends_flawed, ends_glitched}
 use Rattle.satl_line.specs.Eligible.{IsEligibleBy}
 use Rattle.satl_line.specs.Ranged.{MayPut, RangedTask, ranged_of, written_pairs}
 use Rattle.satl_line.specs.Ranged.RangedTask.{ranged_read, ranged_write, ranged_trim}
@@ -29,10 +29,10 @@ use Rattle.satl_drive.specs.Queue.{FailsAtFlaw, FailsByCrc, IsDone, IsFailed, Sl
 use Rattle.satl_drive.specs.Rules.{IsLogRead}
 use Rattle.satl_pages.specs.Slots.{pages_at}
 use Rattle.satl_flight.specs.declared.flight.Flying.{Flying}
-use Rattle.satl_flight.specs.Flown.{FitsDrive, IsFlown, IsInFlight, RangedFits, clash, is_in_slot, outstanding_for, queued_for}
+use Rattle.satl_flight.specs.Flown.{FitsDrive, IsFlown, IsInFlight, RangedFits, clash, is_in_slot, queued_for}
 use Rattle.satl_flight.specs.Lending.{IsAt, has_tag}
 use Rattle.satl_flight.specs.Settled.{Deepens, IsSettled, outcome_of, read_into}
-use Rattle.satl_flight.proofs.ZipLemmas.{All-remove, zip-find, zip-none, zip-remove_first, zip-with}
+use Rattle.satl_flight.proofs.ZipLemmas.{All-remove, zip-find, zip-remove_first, zip-with}
 use Rattle.satl_flight.proofs.FlownLemmas.{all_may_put, flown_still, moves_of_each, others_differ, apart_removed, pairs_of_task}
 
 -- ---- the deepest queue

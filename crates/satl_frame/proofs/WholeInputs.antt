@@ -3,7 +3,7 @@ use Rattle.std.proofs.Common.{◌≡◌, ℕ, ◌+◌, List, [], ◌∷◌, ◌+
 use Rattle.std.proofs.lemmas.List.{length-append, append-nil}
 use Rattle.satl_io.specs.Known.{Took}
 use Rattle.satl_frame.specs.Frames.{spelled, IsFrame}
-use Rattle.satl_frame.specs.Faults.{frame_fault}
+use Rattle.satl_frame.specs.Faults.{fault, frame_fault}
 use Rattle.satl_frame.specs.Inputs.{all_spelled, AreFrames, NoneEnds, Reads, Stands}
 use Rattle.satl_frame.specs.Magic.{magic}
 use Rattle.satl_frame.specs.Progress.{ReadTo, ReadUpTo, HasRead, ReadsToEnd}
@@ -15,7 +15,7 @@ use Rattle.satl_frame.specs.declared.frames.Frame.TheVariants as frames
 use Rattle.satl_frame.specs.declared.frames.FrameFault.TheVariants.{Bad}
 use Rattle.satl_frame.specs.declared.frames.Place.{Place}
 use Rattle.satl_frame.proofs.OneReading.{same_frame, same_version}
-use Rattle.satl_frame.proofs.ProgressLemmas.{all_spelled-push, has_read_all, some_same}
+use Rattle.satl_frame.proofs.ProgressLemmas.{all_spelled-push, has_read_all, refused_there, some_same}
 use Rattle.satl_frame.proofs.Refusals.{computed}
 use Rattle.satl_frame.proofs.Standing.{stands_good}
 
@@ -108,6 +108,12 @@ none_refused r input fs given rest mid left' reason offset all read none blames 
     by_mid : (mid : Option (List ℕ)) → HasRead r (Some input) mid given → Blames r mid left' (Bad reason offset) → ⊥
     by_mid None read blames = nowhere r.limit r.newest r.place input given read
     by_mid (Some left) read blames = by_place r.limit r.newest r.place left all read blames.0
+
+-- what a reader refuses is refused in its input
+pub refused_in_input : (r : Reading) (input : List ℕ) (given : List Frame) (mid left' : Option (List ℕ)) (reason : Reason) (offset : ℕ) →
+    HasRead r (Some input) mid given → Blames r mid left' (Bad reason offset) → fault r.newest r.limit input offset ≡ Some reason
+refused_in_input r input given None left' reason offset read blames = absurd (nowhere r.limit r.newest r.place input given read)
+refused_in_input r input given (Some rest) left' reason offset read blames = refused_there r input rest given reason offset read blames.0
 
 -- a frame in front of what stands ahead is the next one
 front_frame : (version : Version) (limit offset : ℕ) (fs given : List Frame) (rest left behind : List ℕ) (whole : Frame) → Ahead version limit offset fs given rest left → IsFrame version whole →

@@ -1,6 +1,7 @@
 -- Why bytes are refused (profile). The rules stand in their order: of two that hold the first one counts.
 use Rattle.std.specs.Prelude.{ℕ, zero, suc, ◌+◌, Bool, false, not, ◌||◌, ◌&&◌, ◌==◌, if◌then◌else◌, nat_lt, List, length, take, drop, slice_index, Option, Some, None}
 use Rattle.satl_base.specs.Fields.{bytes}
+use Rattle.satl_base.specs.Limits.{longest_data}
 use Rattle.satl_frame.specs.Frames.{frame_rows, event_rows, has_code, allows}
 use Rattle.satl_frame.specs.Magic.{magic_fault, version_of}
 use Rattle.satl_frame.specs.declared.frames.Version.{Version}
@@ -34,7 +35,7 @@ head_fault version limit offset head =
 -- a nexus above 3, an attribute above 1, or in version 2 an `expected` above 2,097,152
 abbrev pub has_bad_request : Version → List ℕ → Bool
 has_bad_request One payload = nat_lt 3 (slice_index payload 0) || nat_lt 1 (slice_index payload 1)
-has_bad_request Two payload = nat_lt 3 (slice_index payload 0) || nat_lt 1 (slice_index payload 1) || nat_lt 2097152 (bytes 30 33 payload)
+has_bad_request Two payload = nat_lt 3 (slice_index payload 0) || nat_lt 1 (slice_index payload 1) || nat_lt longest_data (bytes 30 33 payload)
 
 -- an event or a length that the table does not have, or a STRIKE of neither reads nor writes
 abbrev pub has_bad_event : List ℕ → Bool

@@ -3,6 +3,7 @@
 use Rattle.std.specs.Prelude.{ℕ, ◌+◌, ◌≤◌, ◌<◌, ◌^◌, ◌≡◌, Bool, true, false, ◌||◌, ◌&&◌, if◌then◌else◌, nat_le, ◌==◌, List, [], ◌∷◌, ◌++◌, length, Option, Some, None}
 use Rattle.byteorder.specs.Endian.{big_bytes}
 use Rattle.satl_base.specs.Blocks.{first_bytes}
+use Rattle.satl_base.specs.Limits.{longest_data}
 use Rattle.satl_base.specs.Fields.{bytes}
 use Rattle.satl_base.specs.declared.request.Request.{Request}
 use Rattle.satl_base.specs.declared.request.Manage.{Manage}
@@ -35,7 +36,7 @@ head_size Two = 34
 -- REQUEST with at most 2,097,152 bytes of data-out, MANAGE, TURN, BENCH and END, with the lengths of their payloads
 abbrev pub frame_rows : Version → List Row
 frame_rows version =
-    row 0x01 (head_size version) (head_size version + 2097152) ∷
+    row 0x01 (head_size version) (head_size version + longest_data) ∷
     row 0x02 14 14 ∷
     row 0x03 2 2 ∷
     row 0x04 1 257 ∷
@@ -76,7 +77,7 @@ expected_in Two head = Some (bytes 30 33 head)
 -- the host takes at most 2,097,152 bytes
 abbrev pub is_expectable : Option ℕ → Bool
 is_expectable None = true
-is_expectable (Some count) = nat_le count 2097152
+is_expectable (Some count) = nat_le count longest_data
 
 -- nexus 1, attribute 1, LUN 8, tag 4, CDB 16, expected 4
 abbrev pub request_fields : Request → List ℕ
@@ -120,7 +121,7 @@ spelled f = (kind f ∷ big_bytes 4 (length (payload_bytes f))) ++ payload_bytes
 abbrev pub HasExpected : Version → Option ℕ → Type 0
 HasExpected One expected = expected ≡ None
 HasExpected Two None = ⊥
-HasExpected Two (Some count) = count ≤ 2097152
+HasExpected Two (Some count) = count ≤ longest_data
 
 -- the fields fit their places
 pub record HasFields (version : Version) (r : Request) : Type 0 where
@@ -133,7 +134,7 @@ pub record HasFields (version : Version) (r : Request) : Type 0 where
 -- the pages are the fewest that hold the data-out, and what is left of the last is zero
 pub record HasData (r : Request) : Type 0 where
   pub size : length (data_out r) ≡ r.data_len
-  pub short : r.data_len ≤ 2097152
+  pub short : r.data_len ≤ longest_data
   pub pages : r.body ≡ pages_of (data_out r)
 
 pub record IsRequest (version : Version) (r : Request) : Type 0 where

@@ -4,6 +4,7 @@ use Rattle.std.specs.Prelude.{ℕ, pos, ◌-ℤ◌, ◌+◌, ◌*◌, ◌≤◌,
 use Rattle.std.specs.Int.{w32, cast_unsigned}
 use Rattle.byteorder.specs.Endian.{big_bytes}
 use Rattle.satl_base.specs.Blocks.{first_bytes}
+use Rattle.satl_base.specs.Limits.{longest_data}
 use Rattle.satl_base.specs.Codes.{scsi_code, response_code}
 use Rattle.satl_base.specs.declared.reply.Reply.{Reply}
 use Rattle.satl_base.specs.declared.reply.Response.{Response}
@@ -95,8 +96,8 @@ written_bytes (written.Fault reason offset) = fault_bytes reason offset
 -- the pages hold the data, and neither it nor what the host expects exceeds 2,097,152 bytes
 pub record IsWritable (r : Reply) : Type 0 where
   pub holds : r.data_len ≤ 512 * length r.body
-  pub short : r.data_len ≤ 2097152
-  pub expected : IfSome r.expected (λ expected. expected ≤ 2097152)
+  pub short : r.data_len ≤ longest_data
+  pub expected : IfSome r.expected (λ expected. expected ≤ longest_data)
 
 -- a reply can be written where that holds; all other frames always can
 abbrev pub CanWrite : OutFrame → Type 0

@@ -1,6 +1,7 @@
 -- How far a reader has come in its input (profile).
 use Rattle.std.specs.Prelude.{ℕ, ◌+◌, ◌≡◌, true, List, [], ◌∷◌, ◌++◌, length, Option, Some, None}
 use Rattle.satl_io.specs.Known.{Took}
+use Rattle.satl_frame.specs.Faults.{fault}
 use Rattle.satl_frame.specs.Inputs.{all_spelled, AreFrames, NoneEnds}
 use Rattle.satl_frame.specs.Magic.{magic, version_code, names_version}
 use Rattle.satl_frame.specs.Reading.{Reading, Gave, Blames}
@@ -42,6 +43,11 @@ abbrev pub NextGiven : Type 0
 NextGiven = (old new : Reading) (input : List ℕ) (fs given : List Frame) (rest : List ℕ) (mid left' : Option (List ℕ)) (room : ℕ) (frame : Frame) →
     ReadsToEnd old.limit old.newest input fs rest → HasRead old (Some input) mid given → NoneEnds given → (gave : Gave old room frame new mid left') →
     (later : List Frame) × (given ++ gave.whole ∷ later ≡ fs ++ frames.End ∷ [])
+
+-- what a reader refuses, behind the frames that it gave, is refused in its input, at that offset and for that reason
+abbrev pub RefusedThere : Type 0
+RefusedThere = (r : Reading) (input : List ℕ) (given : List Frame) (mid left' : Option (List ℕ)) (reason : Reason) (offset : ℕ) →
+    HasRead r (Some input) mid given → Blames r mid left' (Bad reason offset) → fault r.newest r.limit input offset ≡ Some reason
 
 -- an input is read to END in one way: the frames and the rest are the same
 abbrev pub OneEnd : Type 0

@@ -12,8 +12,8 @@ use Rattle.satl_frame.specs.Frames.{kind, payload_bytes, IsFrame}
 use Rattle.satl_frame.specs.declared.frames.Version.{Version}
 use Rattle.satl_frame.specs.declared.frames.Frame.{Frame}
 use Rattle.satl_frame.specs.declared.frames.Frame.TheVariants as frames
-use Rattle.satl_frame.specs.declared.pull.PullError.{PullError}
-use Rattle.satl_frame.specs.declared.pull.PullError.TheVariants.{Short, Failed}
+use Rattle.satl_frame.specs.declared.pulling.PullError.{PullError}
+use Rattle.satl_frame.specs.declared.pulling.PullError.TheVariants.{Short, Failed}
 
 -- fewer bytes than this were left, and all of them were taken
 pub record Lacks (left left' : Option (List ℕ)) (n : ℕ) : Type 0 where

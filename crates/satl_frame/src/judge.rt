@@ -7,10 +7,9 @@ ghost use Rattle.satl_frame.specs.Magic.{names_version, version_of, magic_fault}
 
 use crate::frames::{Reason, Version};
 use byteorder::{BigEndian, ByteOrder};
+use satl_base::LONGEST_DATA;
 
 const MAGIC_NAME: [u8; 7] = *b"SATLRPL";
-
-const LONGEST_DATA: u32 = 2_097_152;
 
 /// The number in the four bytes from a place on.
 pub fn number_4(bytes: &[u8], at: usize) -> u32

@@ -5,7 +5,7 @@ mod frames;
 mod judge;
 pub mod laws;
 mod payloads;
-mod pull;
+mod pulling;
 mod reader;
 mod refill;
 #[cfg(test)]
@@ -13,5 +13,7 @@ mod tests;
 mod writing;
 
 pub use frames::{Frame, FrameFault, OutFrame, Place, Reason, Version, WriteFault};
+pub use pulling::{PullError, fill, pull};
 pub use reader::FrameReader;
-pub use writing::{Gathered, append, gather, push, sent_len, write_frame};
+pub use refill::pull_data;
+pub use writing::{Gathered, append, gather, gather_data, push, sent_len, write_frame};

@@ -8,9 +8,9 @@ use crate::frames::{Frame, Version};
 use crate::judge::{number_4, number_8};
 use arrayvec::ArrayVec;
 use byteorder::{BigEndian, ByteOrder};
-use satl_base::{Attr, BenchEvent, Manage, Nexus, OrderBytes, Pages, Request, Tag, Which};
-
-const LONGEST_DATA: u32 = 2_097_152;
+use satl_base::{
+    Attr, BenchEvent, LONGEST_DATA, Manage, Nexus, OrderBytes, Pages, Request, Tag, Which,
+};
 
 fn attr_of(code: u8) -> Option<Attr>
     ensures { MatchOption result (1 < code) (λ a. attr_code a ≡ code) }

@@ -9,7 +9,7 @@ ghost use Rattle.satl_frame.specs.Steps.{Began, BlamesMagic, StoodAt, StoodBehin
 use crate::frames::{Frame, FrameFault, Place, Reason, Version};
 use crate::judge::{head_fault, head_size, magic_fault, told_length, version_of};
 use crate::payloads::{request_of, small_frame};
-use crate::pull::{PullError, fill, pull};
+use crate::pulling::{PullError, fill, pull};
 use crate::refill::{pull_data, skip};
 use satl_base::{Lender, Request};
 use satl_io::{Failed, Source};

@@ -4,7 +4,7 @@ ghost use Rattle.satl_base.specs.Blocks.{zero_block};
 ghost use Rattle.satl_frame.specs.DataPages.{page_count, padded_block, pages_from, zeros};
 ghost use Rattle.satl_frame.specs.Pulls.{PullCauses, Stopped, TookCount, TookPages, Placed, given_pages};
 
-use crate::pull::{PullError, pull};
+use crate::pulling::{PullError, pull};
 use satl_base::{Block, Lender, Pages};
 use satl_io::Source;
 
@@ -101,7 +101,9 @@ pub fn skip<S: Source>(source: &mut S, len: u32) -> Result<(), PullError>
     fill_pages(source, len, &mut Pages::default(), &mut Pages::default())
 }
 
-/// Takes bytes into the first pages that are free. What does not fit is dropped.
+/// Takes `len` bytes into as many pages as they need and as are free, each of 512 bytes, with zeros behind the last byte (profile).
+/// What does not fit is taken too, and dropped. `Short` comes only where the source had fewer bytes, and `Failed` only where its
+/// count of faults rose; then no page is kept.
 pub fn pull_data<S: Source, P: Lender>(
     source: &mut S,
     lender: &mut P,

@@ -3,6 +3,7 @@ ghost use Rattle.std.specs.Prelude.{◌≡◌, ◌≤◌, ◌+◌, ◌*◌, ◌+
 ghost use Rattle.arrayvec.specs.ArrayVec.{array_vec_len};
 ghost use Rattle.byteorder.specs.Endian.{big_bytes};
 ghost use Rattle.satl_base.specs.Blocks.{first_bytes};
+ghost use Rattle.satl_base.specs.Limits.{longest_data};
 ghost use Rattle.satl_io.specs.Causes.{HasCause};
 ghost use Rattle.satl_io.specs.Known.{Wrote, WrotePart};
 ghost use Rattle.satl_frame.specs.Gathering.{Gathers};
@@ -64,8 +65,9 @@ pub fn gather<K: Sink>(sink: &mut K, gathered: &mut Gathered, bytes: &[u8]) -> R
     Ok(())
 }
 
-/// Gathers the first bytes that the pages hold.
-fn gather_data<K: Sink>(
+/// Gathers the first `len` bytes that the pages hold, in order (profile). `Failed` comes only where the sink's count of faults rose;
+/// then some front of what was gathered and of these bytes was written.
+pub fn gather_data<K: Sink>(
     sink: &mut K,
     gathered: &mut Gathered,
     pages: &Pages,
@@ -99,8 +101,8 @@ pub fn sent_len(expected: Option<u32>, len: u32) -> u32
 }
 
 fn residual(expected: u32, len: u32) -> u32
-    requires expected { expected ≤ 2097152 }
-    requires short { len ≤ 2097152 }
+    requires expected { expected ≤ longest_data }
+    requires short { len ≤ longest_data }
     ensures { result ≡ residual expected len }
 {
     (expected as i32 - len as i32).cast_unsigned()
@@ -109,7 +111,7 @@ fn residual(expected: u32, len: u32) -> u32
 /// A reply of version 1 up to its sense.
 fn first_head(reply: &Reply) -> [u8; 12]
     requires version { reply.now.expected ≡ None }
-    requires short { reply.now.data_len ≤ 2097152 }
+    requires short { reply.now.data_len ≤ longest_data }
     ensures { result ≡ framed 0x81 (reply_len reply.now) (reply_fields reply.now) }
 {
     let sense = reply.sense.len() as u8;
@@ -123,8 +125,8 @@ fn first_head(reply: &Reply) -> [u8; 12]
 /// A reply of version 2 up to its sense.
 fn second_head(reply: &Reply, expected: u32) -> [u8; 16]
     requires version { reply.now.expected ≡ Some expected }
-    requires expected { expected ≤ 2097152 }
-    requires short { reply.now.data_len ≤ 2097152 }
+    requires expected { expected ≤ longest_data }
+    requires short { reply.now.data_len ≤ longest_data }
     ensures { result ≡ framed 0x83 (reply_len reply.now) (reply_fields reply.now) }
 {
     let sense = reply.sense.len() as u8;

@@ -1,30 +1,20 @@
--- What the request of a READ or a WRITE becomes when it arrives.
-use Rattle.std.proofs.Common.{◌≡◌, refl, sym, ap, ◌∙◌, subst, ℕ, ◌+◌, ◌≤◌, Bool, true, false, List, [], ◌∷◌, Option, Some, None, arith, take, eqb-true}
-use Rattle.std.specs.Prelude.{◌-◌, if◌then◌else◌, not, ◌==◌, ◌||◌, ◌&&◌, nat_lt, slice_index, get_or, Result, Ok, Err}
-use Rattle.std.specs.List.{list_any}
-use Rattle.std.proofs.lemmas.Bool.{ltb-false}
-use Rattle.std.proofs.lemmas.List.{get_or-take, length-take}
+-- What an arrival may be of a request that changes no block but as a WRITE does.
+use Rattle.std.proofs.Common.{◌≡◌, refl, sym, ap, ◌∙◌, subst, ℕ, Bool, true, false, List, [], ◌∷◌, Some}
+use Rattle.std.specs.Prelude.{if◌then◌else◌, ◌||◌, slice_index, Result, Ok, Err}
 use Rattle.satl_base.specs.declared.block.Block.{Block}
-use Rattle.satl_base.specs.declared.request.Request.{Request}
 use Rattle.satl_base.specs.declared.reply.Reply.{Reply}
-use Rattle.satl_base.specs.Fields.{bit}
-use Rattle.satl_base.specs.Lists.{is_in}
 use Rattle.satl_cdb.specs.declared.command.Command.{Command}
 use Rattle.satl_cdb.specs.declared.command.Command.TheVariants as commands
 use Rattle.satl_cdb.specs.declared.command.Illegal.{Illegal}
 use Rattle.satl_cdb.specs.Rows.{Rule, format_of, found_says, unless_broken}
 use Rattle.satl_cdb.specs.PrimaryCommands.{inquiry, request_sense}
 use Rattle.satl_cdb.specs.Table.{says, table}
-use Rattle.satl_unit.specs.declared.attention.Attention.{Attention}
 use Rattle.satl_line.specs.declared.entry.Entry.{Entry}
-use Rattle.satl_direct.specs.Device.{Device, is_called}
-use Rattle.satl_direct.specs.Tasks.{asks, is_full, needed, range_of}
-use Rattle.satl_direct.specs.Arrival.{Arrival, arrival, asks_for, attention_arrival, attention_for, becomes, built, cdb_arrival, code_arrival, code_of, command_arrival, is_unit_0, other_arrival, readiness, unless_refused}
+use Rattle.satl_direct.specs.Arrival.{Arrival}
 use Rattle.satl_direct.specs.Arrival.Arrival.{answered, attended, overlaps, waits}
-use Rattle.satl_direct.specs.Laws.{IsReadOf, brought, is_good, is_transfer}
-use Rattle.satl_laws.proofs.Cases.{both_left}
-use Rattle.satl_laws.proofs.Following.{Transfers, after}
-use Rattle.satl_laws.proofs.Seen.{by_test, within, within_from}
+use Rattle.satl_laws.specs.ArrivalOrder.{IsReadOf, brought, is_good}
+use Rattle.satl_laws.proofs.Transferring.{Transfers, after, brings, gives}
+use Rattle.satl_laws.proofs.Seen.{by_test}
 
 -- an answer at once: where it says GOOD, the request writes nothing, and reads nothing
 pub record Answers (said : Result Command Illegal) (body : List Block) (reply : Reply) : Type 0 where
@@ -34,10 +24,10 @@ pub record Answers (said : Result Command Illegal) (body : List Block) (reply : 
 -- a task of the request
 pub record Waits (n : ℕ) (said : Result Command Illegal) (body : List Block) (t : Entry) : Type 0 where
   pub says_it : said ≡ Ok t.command
-  pub transfers : Transfers n t
+  pub fits : gives t.command || brings t.command ≡ true → Transfers n t
   pub leaves : (x : ℕ) (v : Block) → after t x v ≡ brought said body x v
 
--- what a READ or a WRITE becomes on a device of so many sectors, that has a task of its nexus and tag or not
+-- what a request becomes on a device of so many sectors, that has a task of its nexus and tag or not
 abbrev pub Gets : ℕ → Bool → Result Command Illegal → List Block → Arrival → Type 0
 Gets n has said body (answered reply) = Answers said body reply
 Gets n has said body (attended reply) = Answers said body reply
@@ -45,164 +35,48 @@ Gets n has said body (overlaps reply) = has ≡ true
 Gets n has said body (waits task) = Waits n said body task
 
 -- an answer that is not GOOD
-refused : (said : Result Command Illegal) (body : List Block) (reply : Reply) → is_good reply.status ≡ false → Answers said body reply
+pub refused : (said : Result Command Illegal) (body : List Block) (reply : Reply) → is_good reply.status ≡ false → Answers said body reply
 refused said body reply h = record {
   writes_none = λ good. absurd (let no : true ≡ false = sym good ∙ h in cc);
   reads_none = λ good. absurd (let no : true ≡ false = sym good ∙ h in cc);
 }
 
 -- GOOD to a request that is not understood
-unknown : (why : Illegal) (body : List Block) (reply : Reply) → Answers (Err why) body reply
+pub unknown : (why : Illegal) (body : List Block) (reply : Reply) → Answers (Err why) body reply
 unknown why body reply = record { writes_none = λ good x v. refl; reads_none = λ good lba count is. absurd is }
 
+-- a command that is no READ and no WRITE brings nothing
+pub none_brought : (c : Command) → gives c || brings c ≡ false → (body : List Block) (x : ℕ) (v : Block) → brought (Ok c) body x v ≡ v
+none_brought (commands.Write form lba count fua) h body x v = absurd cc
+none_brought c h body x v = refl
+
+-- and is no READ
+pub none_read : (c : Command) → gives c || brings c ≡ false → (lba count : ℕ) → IsReadOf (Ok c) lba count → ⊥
+none_read (commands.Read form from number fua) h lba count is = cc
+none_read c h lba count is = is
+
+-- any answer to such a command
+pub silent : (c : Command) → gives c || brings c ≡ false → (body : List Block) (reply : Reply) → Answers (Ok c) body reply
+silent c h body reply = record { writes_none = λ good x v. none_brought c h body x v; reads_none = λ good lba count is. absurd (none_read c h lba count is) }
+
 -- a row of the table that is no READ and no WRITE
-found_unknown : (rules : List Rule) (cdb : List ℕ) (c : Command) → is_transfer (Ok c) ≡ false → is_transfer (unless_broken rules cdb c) ≡ true → (body : List Block) (reply : Reply) → Answers (unless_broken rules cdb c) body reply
-found_unknown [] cdb c other h body reply = absurd (let no : true ≡ false = sym h ∙ other in cc)
-found_unknown (rule ∷ rules) cdb c other h body reply =
-    by_test (λ b. is_transfer (if b then Err rule.refusal else unless_broken rules cdb c) ≡ true → Answers (if b then Err rule.refusal else unless_broken rules cdb c) body reply) (rule.breaks cdb)
-    (λ broken k. unknown rule.refusal body reply)
-    (λ fine k. found_unknown rules cdb c other k body reply) h
+pub found_unknown : (rules : List Rule) (cdb : List ℕ) (c : Command) → gives c || brings c ≡ false → (body : List Block) (reply : Reply) → Answers (unless_broken rules cdb c) body reply
+found_unknown [] cdb c other body reply = silent c other body reply
+found_unknown (rule ∷ rules) cdb c other body reply =
+    by_test (λ b. Answers (if b then Err rule.refusal else unless_broken rules cdb c) body reply) (rule.breaks cdb)
+    (λ broken. unknown rule.refusal body reply)
+    (λ fine. found_unknown rules cdb c other body reply)
 
 -- no INQUIRY is a READ or a WRITE
-inquiry_unknown : (cdb : List ℕ) (trim : Bool) → slice_index cdb 0 ≡ 0x12 → is_transfer (says cdb trim) ≡ true → (body : List Block) (reply : Reply) → Answers (says cdb trim) body reply
+pub inquiry_unknown : (cdb : List ℕ) (trim : Bool) → slice_index cdb 0 ≡ 0x12 → (body : List Block) (reply : Reply) → Answers (says cdb trim) body reply
 unfolding says
-inquiry_unknown cdb trim code h body reply =
+inquiry_unknown cdb trim code body reply =
     let is : says cdb trim ≡ found_says (Some inquiry) cdb = ap (λ c. found_says (format_of (table trim) c) cdb) code in
-    subst (λ said. Answers said body reply) (sym is) (found_unknown (inquiry.rules) cdb (inquiry.command cdb) refl (sym (ap is_transfer is) ∙ h) body reply)
+    subst (λ said. Answers said body reply) (sym is) (found_unknown (inquiry.rules) cdb (inquiry.command cdb) refl body reply)
 
 -- nor is REQUEST SENSE
-sense_unknown : (cdb : List ℕ) (trim : Bool) → slice_index cdb 0 ≡ 0x03 → is_transfer (says cdb trim) ≡ true → (body : List Block) (reply : Reply) → Answers (says cdb trim) body reply
+pub sense_unknown : (cdb : List ℕ) (trim : Bool) → slice_index cdb 0 ≡ 0x03 → (body : List Block) (reply : Reply) → Answers (says cdb trim) body reply
 unfolding says
-sense_unknown cdb trim code h body reply =
+sense_unknown cdb trim code body reply =
     let is : says cdb trim ≡ found_says (Some request_sense) cdb = ap (λ c. found_says (format_of (table trim) c) cdb) code in
-    subst (λ said. Answers said body reply) (sym is) (found_unknown (request_sense.rules) cdb (request_sense.command cdb) refl (sym (ap is_transfer is) ∙ h) body reply)
-
-module _ (s : Device) (r : Request) where
-  -- how many sectors there are
-  abbrev n : ℕ
-  n = s.identity.capacity
-
-  -- whether a task has the nexus and tag
-  abbrev has : Bool
-  has = list_any (is_called r.nexus (r.tag).0) s.tasks
-
-  -- of two arrivals, one that a test chooses
-  either_gets : (said : Result Command Illegal) (b : Bool) (x y : Arrival) → (b ≡ true → Gets n has said r.body x) → (b ≡ false → Gets n has said r.body y) → Gets n has said r.body (if b then x else y)
-  either_gets said b x y p q = by_test (λ t. Gets n has said r.body (if t then x else y)) b p q
-
-  -- of two replies without data, one that a test chooses
-  either_empty : (b : Bool) (x y : Reply) → x.body ≡ [] → y.body ≡ [] → (if b then x else y).body ≡ []
-  either_empty true x y p q = p
-  either_empty false x y p q = q
-
-  -- TEST UNIT READY has no data
-  ready_empty : (readiness s r).body ≡ []
-  ready_empty = either_empty s.down _ _ refl (either_empty (not s.started) _ _ refl refl)
-
-  -- a READ of no block
-  idle_read : (form : _) (lba count : ℕ) (fua : Bool) → count ≡ 0 → Answers (Ok (commands.Read form lba count fua)) r.body (readiness s r)
-  idle_read form lba count fua none = record { writes_none = λ good x v. refl; reads_none = λ good from number is. (sym is.1 ∙ none, ready_empty) }
-
-  -- a WRITE of no block
-  idle_write : (form : _) (lba count : ℕ) (fua : Bool) → count ≡ 0 → Answers (Ok (commands.Write form lba count fua)) r.body (readiness s r)
-  idle_write form lba count fua none = record {
-    writes_none = λ good x v. by_test (λ b. (if b then get_or r.body (x - lba) v else v) ≡ v) (within lba count x)
-        (λ t. absurd (let k = within_from lba count x t in omega (arith, k.0, k.1, none)))
-        (λ f. refl);
-    reads_none = λ good from number is. absurd is;
-  }
-
-  -- the first blocks of the data-out are those of the range
-  first_blocks : (lba count x : ℕ) (v : Block) → (if within lba count x then get_or (take count r.body) (x - lba) v else v) ≡ (if within lba count x then get_or r.body (x - lba) v else v)
-  first_blocks lba count x v =
-      by_test (λ b. (if b then get_or (take count r.body) (x - lba) v else v) ≡ (if b then get_or r.body (x - lba) v else v)) (within lba count x)
-      (λ t. let k = within_from lba count x t in get_or-take count r.body (x - lba) v (omega (arith, k.0, k.1)))
-      (λ f. refl)
-
-  -- a READ or a WRITE in range
-  read_gets : (form : _) (lba count : ℕ) (fua : Bool) → lba + count ≤ n → Gets n has (Ok (commands.Read form lba count fua)) r.body (becomes s r (commands.Read form lba count fua))
-  read_gets form lba count fua inside =
-      either_gets (Ok (commands.Read form lba count fua)) (count == 0) _ _
-      (λ none. idle_read form lba count fua (eqb-true count 0 none))
-      (λ some. either_gets (Ok (commands.Read form lba count fua)) (is_full s.tasks (commands.Read form lba count fua)) _ _
-      (λ full. refused _ r.body _ refl)
-      (λ room. record {
-        says_it = refl;
-        transfers = record { either = refl; kind = refl; ranges = refl; inside = inside; fits = omega arith };
-        leaves = λ x v. refl;
-      }))
-
-  write_gets : (form : _) (lba count : ℕ) (fua : Bool) → lba + count ≤ n → Gets n has (Ok (commands.Write form lba count fua)) r.body (becomes s r (commands.Write form lba count fua))
-  write_gets form lba count fua inside =
-      either_gets (Ok (commands.Write form lba count fua)) (count == 0) _ _
-      (λ none. idle_write form lba count fua (eqb-true count 0 none))
-      (λ some. either_gets (Ok (commands.Write form lba count fua)) (is_full s.tasks (commands.Write form lba count fua)) _ _
-      (λ full. refused _ r.body _ refl)
-      (λ room. record {
-        says_it = refl;
-        transfers = record { either = refl; kind = refl; ranges = refl; inside = inside; fits = omega (arith, length-take count r.body) };
-        leaves = λ x v. first_blocks lba count x v;
-      }))
-
-  becomes_gets : (c : Command) → is_transfer (Ok c) ≡ true → (range_of c).lba + (range_of c).count ≤ n → Gets n has (Ok c) r.body (becomes s r c)
-  becomes_gets commands.TestUnitReady h inside = absurd cc
-  becomes_gets (commands.RequestSense descriptor alloc) h inside = absurd cc
-  becomes_gets (commands.Inquiry page alloc) h inside = absurd cc
-  becomes_gets (commands.ModeSense ten long_lba no_descriptor control page alloc) h inside = absurd cc
-  becomes_gets (commands.ModeSelect ten size) h inside = absurd cc
-  becomes_gets (commands.StartStop start no_flush) h inside = absurd cc
-  becomes_gets commands.ReadCapacity10 h inside = absurd cc
-  becomes_gets (commands.ReadCapacity16 alloc) h inside = absurd cc
-  becomes_gets (commands.ReportLuns select alloc) h inside = absurd cc
-  becomes_gets (commands.Read form lba count fua) h inside = read_gets form lba count fua inside
-  becomes_gets (commands.Write form lba count fua) h inside = write_gets form lba count fua inside
-  becomes_gets (commands.Verify form lba count compare) h inside = absurd cc
-  becomes_gets (commands.Flush form lba count) h inside = absurd cc
-  becomes_gets (commands.WriteSame form lba count unmap) h inside = absurd cc
-  becomes_gets (commands.Unmap size) h inside = absurd cc
-  becomes_gets (commands.Pass cdb) h inside = absurd cc
-
-  -- the steps before that
-  unless_gets : (said : Result Command Illegal) (o : Option Illegal) (next : Arrival) → Gets n has said r.body next → Gets n has said r.body (unless_refused o s r next)
-  unless_gets said None next h = h
-  unless_gets said (Some why) next h = refused said r.body _ refl
-
-  command_gets : (c : Command) → is_transfer (Ok c) ≡ true → Gets n has (Ok c) r.body (command_arrival s r c)
-  command_gets c h =
-      either_gets (Ok c) (nat_lt n ((range_of c).lba + (range_of c).count)) _ _
-      (λ outside. refused (Ok c) r.body _ refl)
-      (λ inside. unless_gets (Ok c) (asks c).length_fault _
-      (either_gets (Ok c) (nat_lt r.data_len (needed c)) _ _
-      (λ short. refused (Ok c) r.body _ refl)
-      (λ enough. unless_gets (Ok c) ((asks c).data_fault s.identity s.modes r.body) _ (becomes_gets c h (ltb-false n ((range_of c).lba + (range_of c).count) inside)))))
-
-  cdb_gets : (said : Result Command Illegal) → is_transfer said ≡ true → Gets n has said r.body (cdb_arrival s r said)
-  cdb_gets (Err why) h = refused (Err why) r.body _ refl
-  cdb_gets (Ok c) h = unless_gets (Ok c) (asks c).fields_fault _ (command_gets c h)
-
-  module _ (plain : is_transfer (says r.cdb s.identity.trim) ≡ true) where
-    -- what the CDB says
-    abbrev it : Result Command Illegal
-    it = says r.cdb s.identity.trim
-
-    code_gets : Gets n has it r.body (code_arrival s r)
-    code_gets = either_gets it (not (is_in (code_of r) built)) _ _ (λ none. refused it r.body _ refl) (λ some. cdb_gets it plain)
-
-    told_gets : (o : Option Attention) → Gets n has it r.body (attention_arrival o s r)
-    told_gets (Some what) = refused it r.body _ refl
-    told_gets None = code_gets
-
-    other_gets : Gets n has it r.body (other_arrival s r)
-    other_gets =
-        either_gets it (asks_for 0x12 r && not (bit 1 0 r.cdb)) _ _
-        (λ h. inquiry_unknown r.cdb s.identity.trim (eqb-true (code_of r) 0x12 (both_left (code_of r == 0x12) (is_in 0x12 built) (both_left (asks_for 0x12 r) (not (bit 1 0 r.cdb)) h))) plain r.body _)
-        (λ h. either_gets it (asks_for 0x03 r) _ _
-        (λ k. sense_unknown r.cdb s.identity.trim (eqb-true (code_of r) 0x03 (both_left (code_of r == 0x03) (is_in 0x03 built) k)) plain r.body _)
-        (λ k. refused it r.body _ refl))
-
-    -- what the request becomes
-    pub arrival_gets : Gets n has it r.body (arrival s r)
-    arrival_gets =
-        either_gets it (is_unit_0 r.lun || asks_for 0xA0 r) _ _
-        (λ here. either_gets it has _ _ (λ some. some) (λ none. told_gets (attention_for s r)))
-        (λ there. other_gets)
+    subst (λ said. Answers said body reply) (sym is) (found_unknown (request_sense.rules) cdb (request_sense.command cdb) refl body reply)

@@ -29,7 +29,7 @@ use Rattle.satl_direct.specs.Run.{Does, Manages, MayLose, RunDeep, TurnsOf, join
 use Rattle.satl_direct.specs.Run.MayLose.{keeps, loses as steps_and_loses}
 use Rattle.satl_direct.specs.Run.RunDeep.{start, step}
 use Rattle.satl_direct.specs.Run.TurnsOf.{none, more}
-use Rattle.satl_direct.specs.Laws.{answers_to, asks_by, cleared_by, cut_by, removed, taken_off}
+use Rattle.satl_laws.specs.OnceEach.{answers_to, asks_by, cleared_by, cut_by, removed, taken_off}
 use Rattle.satl_laws.proofs.Cases.{both_left, both_right, how_many-append, how_many-filter}
 use Rattle.satl_laws.proofs.Ends.{ends_leaves, may_end_in}
 use Rattle.satl_laws.proofs.Arrivals.{IsFor, IsTo, arrival_for, arrival_quiet, effect_quiet}

@@ -24,7 +24,8 @@ use Rattle.satl_base.specs.declared.bench.BenchEvent.TheVariants as bench
 use Rattle.satl_direct.specs.Bench.{Happens}
 use Rattle.satl_direct.specs.Quiet.{Around, written_by}
 use Rattle.satl_direct.specs.Valid.{HasCome, IsValid}
-use Rattle.satl_direct.specs.Laws.{IsSpan, now_at, secures, SparedThrough, WithoutPower}
+use Rattle.satl_laws.specs.Durable.{IsSpan, secures}
+use Rattle.satl_laws.specs.Untouched.{SparedThrough, WithoutPower, now_at}
 use Rattle.satl_direct.specs.Run.{RunDeep}
 use Rattle.satl_direct.specs.Turn.{TurnLoss}
 use Rattle.satl_frame.specs.declared.frames.Frame.{Frame}

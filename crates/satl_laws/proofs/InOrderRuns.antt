@@ -1,201 +1,123 @@
--- The law of arrival order.
-use Rattle.std.proofs.Common.{◌≡◌, ◌⊎◌, ⊎_elim, inl, inr, refl, sym, ap, ◌∙◌, subst, ℕ, ◌+◌, ◌<◌, Bool, true, false, List, [], ◌∷◌, ◌++◌, arith, map, length, append_assoc}
-use Rattle.std.specs.Prelude.{if◌then◌else◌, ◌||◌, MatchBool}
-use Rattle.std.specs.List.{AllByRecursion, list_any}
-use Rattle.std.proofs.lemmas.List.{append-nil, map-append}
-use Rattle.std.proofs.lemmas.Option.{slice_get_within}
+-- Runs keep the order of arrival: the two laws.
+use Rattle.std.proofs.Common.{◌≡◌, inl, refl, sym, ap, ◌∙◌, subst, ℕ, ◌+◌, ◌<◌, Bool, true, false, List, [], ◌∷◌, ◌++◌, arith, length}
+use Rattle.std.specs.Prelude.{◌&&◌, if◌then◌else◌, not, Ok, filter}
+use Rattle.std.specs.List.{AllByRecursion}
+use Rattle.std.proofs.lemmas.List.{append-nil}
 use Rattle.satl_base.specs.declared.bench.BenchEvent.TheVariants as bench
-use Rattle.satl_base.specs.declared.block.Block.{Block}
-use Rattle.satl_base.specs.declared.request.Request.{Request}
-use Rattle.satl_base.specs.declared.reply.Reply.{Reply}
 use Rattle.satl_base.specs.Lists.{how_many}
-use Rattle.satl_base.proofs.ListsLemmas.{All-push_end}
+use Rattle.satl_base.proofs.ListsLemmas.{All-push_end, All-weaken}
+use Rattle.satl_cdb.specs.Table.{says}
 use Rattle.satl_frame.specs.declared.frames.Frame.{Frame}
 use Rattle.satl_frame.specs.declared.frames.Frame.TheVariants as frames
 use Rattle.satl_frame.specs.Output.{Answer}
-use Rattle.satl_frame.specs.Output.Answer.{replied, ended}
-use Rattle.satl_direct.specs.Device.{Device, is_called}
-use Rattle.satl_direct.specs.Arrival.{Arrives}
-use Rattle.satl_direct.specs.Ending.{IsChecked}
-use Rattle.satl_direct.specs.Senses.{link_lost}
-use Rattle.satl_direct.specs.Quiet.{Around, Quiet}
-use Rattle.satl_direct.specs.Turn.{OneEnds, Turn}
-use Rattle.satl_direct.specs.Turn.Turn.{idle, ends, loses, ends_and_loses}
-use Rattle.satl_direct.specs.Run.{Does, MayLose, RunDeep, TurnsOf, joined, losses_in}
-use Rattle.satl_direct.specs.Run.MayLose.{keeps, loses as steps_and_loses}
+use Rattle.satl_line.specs.declared.entry.Entry.{Entry}
+use Rattle.satl_direct.specs.Device.{Device}
+use Rattle.satl_laws.specs.ArrivalOrder.{is_plain, stops_or_starts, was_done, writes_plainly}
+use Rattle.satl_laws.specs.OnceEach.{asks_by}
+use Rattle.satl_laws.specs.OrderUnderErrors.{is_mild}
+use Rattle.satl_direct.specs.Run.{Does, RunDeep, joined, losses_in}
 use Rattle.satl_direct.specs.Run.RunDeep.{start, step}
-use Rattle.satl_direct.specs.Run.TurnsOf.{none, more}
-use Rattle.satl_direct.specs.Laws.{ArrivalOrder, AskOnce, IsFresh, asks_by, content, is_done, is_plain}
-use Rattle.satl_laws.proofs.Cases.{how_many-append}
-use Rattle.satl_laws.proofs.Contents.{asks_self, content_is, content_push, content_same, counts_by, one}
-use Rattle.satl_laws.proofs.Following.{Follows, Placed}
-use Rattle.satl_laws.proofs.InOrder.{InOrder, block_of, one_in_order, quiet_in_order}
-use Rattle.satl_laws.proofs.InOrderEvents.{arrives_in_order, other_in_order, told_in_order}
+use Rattle.satl_laws.proofs.Cases.{both_left, how_many-append}
+use Rattle.satl_laws.proofs.InOrder.{InOrder}
+use Rattle.satl_laws.proofs.InOrderRequests.{MayStand}
+use Rattle.satl_laws.proofs.InOrderTurns.{fewer}
+use Rattle.satl_laws.proofs.InOrderSteps.{InOrderAt, quiet_at}
+use Rattle.satl_laws.proofs.InOrderDrops.{filtered_in_order}
+use Rattle.satl_laws.specs.ArrivalOrder.{ArrivalOrder, AskOnce, IsFresh}
+use Rattle.satl_laws.specs.OrderUnderErrors.{OrderUnderErrors}
+use Rattle.satl_laws.proofs.InOrderEnd.{act_as_done, act_as_items, acted_by, done_acts, in_order_as}
+use Rattle.satl_laws.proofs.InOrderEvents.{does_at}
+use Rattle.satl_laws.proofs.Requests.{requests-append, requests_of}
 use Rattle.satl_laws.proofs.Runs.{joined-push, split}
-use Rattle.satl_laws.proofs.Seen.{range_same, seen, seen_get}
 
--- ---- a device that is down stays down
+-- a device at rest
+rest_at : (first : Device) (exact : Bool) → first.tasks ≡ [] → (exact ≡ true → IsFresh first) → InOrderAt first exact [] [] first
+rest_at first exact empty fresh = record {
+  identity = refl;
+  order = subst (λ ts. InOrder first [] [] first.cells ts (exact && not first.down)) (sym empty)
+      (record { items = []; requests = refl; tasks_are = refl; size = refl; counts = λ nexus tag. omega arith; well = tt; sorted = λ x inside. tt; stands = λ x inside. inl refl; sure = tt; only = λ f. tt; right = tt });
+  calm = λ x up. let k = fresh x in record { started = k.started; no_glitches = k.no_glitches; clean = k.no_flaws };
+  steady = λ x. subst (AllByRecursion (λ t. stops_or_starts (Ok t.command) ≡ false)) (sym empty) tt;
+}
 
--- the first of two cases
-by_true : (A B : Type 0) (b : Bool) → b ≡ true → MatchBool b A B → A
-by_true A B true h m = m
-by_true A B false h m = absurd cc
+-- all but the last, and the last
+pushed : {X : Type 0} (P : X → Type 0) (xs : List X) (x : X) → AllByRecursion P (xs ++ x ∷ []) → AllByRecursion P xs × P x
+pushed P [] x h = (tt, h.0)
+pushed P (y ∷ ys) x h = let k = pushed P ys x h.1 in ((h.0, k.0), k.1)
 
--- a lost link is not up
-both_ways : (b : Bool) → b ≡ true → b ≡ false → ⊥
-both_ways b h k = let no : true ≡ false = sym h ∙ k in cc
+-- a run
+run_at : {first last : Device} {events : List Frame} {groups : List (List Answer)} {losses deep : ℕ} (exact : Bool) → RunDeep first events groups losses last deep → length first.cells ≡ first.identity.capacity
+    → first.tasks ≡ [] → (exact ≡ true → IsFresh first) → AllByRecursion (MayStand first exact) events → ((nexus tag : ℕ) → how_many (asks_by nexus tag) events < 2) → InOrderAt first exact events (joined groups) last
+run_at {first = first} {last = last} exact (start quiet) size empty fresh fits once = quiet_at first exact [] [] first last quiet (rest_at first exact empty fresh)
+run_at {first = first} {last = last} exact (step {events = events} {groups = groups} {s = s} event now d so_far does) size empty fresh fits once =
+    let parts = pushed (MayStand first exact) events event fits in
+    subst (λ a. InOrderAt first exact (events ++ event ∷ []) a last) (sym (joined-push groups now))
+    (does_at first exact event events (joined groups) now s last d size parts.1 once does (run_at exact so_far size empty fresh parts.0 (fewer events event once)))
 
-one_down : (s new : Device) (reply : Reply) → s.down ≡ true → OneEnds s reply new → new.down ≡ true
-one_down s new reply down e = ap (λ d. d.down) (by_true (IsChecked link_lost s e.task reply new) _ s.down down e.ends).stays ∙ down
+-- ---- a run without losses
 
-quiet_down : (old new : Device) → Quiet old new → new.down ≡ old.down
-quiet_down old new q = ap (λ d. d.down) q.stays
-
-turn_down : (s new : Device) (said : List Reply) → s.down ≡ true → Turn s said new → new.down ≡ true
-turn_down s new said down (idle h) = down
-turn_down s new said down (ends reply e) = one_down s new reply down e
-turn_down s new said down (loses some l) = absurd (both_ways s.down down l.was_up)
-turn_down s new said down (ends_and_loses {mid = mid} {after = after} reply e q l) = absurd (both_ways after.down (quiet_down mid after q ∙ one_down s mid reply down e) l.was_up)
-
-module _ (first : Device) (events : List Frame) (once : (nexus tag : ℕ) → how_many (asks_by nexus tag) events < 2) where
-  -- in order still, or the link is lost
-  abbrev Goes : List Answer → Device → Type 0
-  Goes answers s = InOrder first events answers s ⊎ (s.down ≡ true)
-
-  -- a turn
-  turn_goes : (answers : List Answer) (s new : Device) (said : List Reply) → InOrder first events answers s → Turn s said new → Goes (answers ++ map replied said) new
-  turn_goes answers s new said o (idle h) = inl (subst (λ a. InOrder first events a s) (sym (append-nil answers)) o)
-  turn_goes answers s new said o (ends reply e) = inl (one_in_order first events answers s new o once reply e)
-  turn_goes answers s new said o (loses some l) = inr (ap (λ d. d.down) l.stays)
-  turn_goes answers s new said o (ends_and_loses reply e q l) = inr (ap (λ d. d.down) l.stays)
-
-  -- with quiet moves around
-  around_goes : (answers : List Answer) (old new : Device) (said : List Reply) → Goes answers old → Around Turn old said new → Goes (answers ++ map replied said) new
-  around_goes answers old new said g a =
-      ⊎_elim
-      (λ o. ⊎_elim
-      (λ p. inl (quiet_in_order first events (answers ++ map replied said) a.after new a.quiet_after p))
-      (λ down. inr (quiet_down a.after new a.quiet_after ∙ down))
-      (turn_goes answers a.before a.after said (quiet_in_order first events answers old a.before a.quiet_before o) a.step))
-      (λ down. inr (quiet_down a.after new a.quiet_after ∙ turn_down a.before a.after said (quiet_down old a.before a.quiet_before ∙ down) a.step))
-      g
-
-  -- many turns
-  turns_go : (answers : List Answer) {n deep : ℕ} {s new : Device} {said : List Reply} → Goes answers s → TurnsOf n s said new deep → Goes (answers ++ map replied said) new
-  turns_go answers {s = s} g none = subst (λ a. Goes a s) (sym (append-nil answers)) g
-  turns_go answers {new = new} g (more {mid = mid} {first = one} {rest = rest} so_far next) =
-      subst (λ a. Goes a new) (append_assoc answers (map replied one) (map replied rest) ∙ ap (λ l. answers ++ l) (sym (map-append replied one rest)))
-      (around_goes (answers ++ map replied one) mid new rest (turns_go answers g so_far) next)
-
--- how often the link was lost (profile)
+-- how often the link was lost
 abbrev lost : Bool → Bool → ℕ
 lost a b = if a then 0 else (if b then 1 else 0)
 
--- no loss between two, the first of which is up
 still_up : (a b : Bool) → a ≡ false → lost a b ≡ 0 → b ≡ false
 still_up true b h z = absurd cc
 still_up false true h z = absurd (omega (arith, z))
 still_up false false h z = refl
 
--- fewer events ask fewer times
-fewer : (events : List Frame) (event : Frame) → ((nexus tag : ℕ) → how_many (asks_by nexus tag) (events ++ event ∷ []) < 2) → (nexus tag : ℕ) → how_many (asks_by nexus tag) events < 2
-fewer events event once nexus tag = less _ _ _ (how_many-append (asks_by nexus tag) events (event ∷ [])) (once nexus tag)
+-- a plain event without a loss leaves the link up
+event_up : (trims : Bool) (event : Frame) (old new : Device) (now : List Answer) (d : ℕ) → is_plain trims event ≡ true → Does event old now new d → losses_in event old new ≡ 0 → old.down ≡ false → new.down ≡ false
+event_up trims (frames.Request r) old new now d plain h z up = still_up old.down new.down up z
+event_up trims (frames.Manage m) old new now d plain h z up = absurd cc
+event_up trims (frames.Turn count) old new now d plain h z up = still_up old.down new.down up z
+event_up trims (frames.Bench (bench.Order order)) old new now d plain h z up =
+    let a = h.2 in ap (λ k. k.down) (a.quiet_after).stays ∙ ap (λ k. k.down) (a.step).new_is ∙ ap (λ k. k.down) (a.quiet_before).stays ∙ up
+event_up trims (frames.Bench (bench.Strike which lba)) old new now d plain h z up = absurd cc
+event_up trims (frames.Bench (bench.Mend lba)) old new now d plain h z up = absurd cc
+event_up trims (frames.Bench (bench.Glitch count)) old new now d plain h z up = absurd cc
+event_up trims (frames.Bench bench.Power) old new now d plain h z up = absurd cc
+event_up trims (frames.Bench bench.Unplug) old new now d plain h z up = absurd cc
+event_up trims frames.End old new now d plain h z up = still_up old.down new.down up z
+
+run_up : {first last : Device} {events : List Frame} {groups : List (List Answer)} {losses deep : ℕ} (trims : Bool) → RunDeep first events groups losses last deep → losses ≡ 0 → first.down ≡ false
+    → AllByRecursion (λ f. is_plain trims f ≡ true) events → last.down ≡ false
+run_up trims (start quiet) z up plain = ap (λ k. k.down) quiet.stays ∙ up
+run_up {last = last} trims (step {events = events} {losses = losses} {s = s} event now d so_far does) z up plain =
+    let parts = pushed (λ f. is_plain trims f ≡ true) events event plain in
+    event_up trims event s last now d parts.1 does (omega (arith, z)) (run_up trims so_far (omega (arith, z)) up parts.0)
+
+-- ---- the laws
+
+-- a plain event may stand in each run
+plain_stands : (first : Device) (event : Frame) → is_plain first.identity.trim event ≡ true → MayStand first true event
+plain_stands first (frames.Request r) h = (both_left (writes_plainly (says r.cdb first.identity.trim)) (not (stops_or_starts (says r.cdb first.identity.trim))) h, λ x. h)
+plain_stands first (frames.Manage m) h = absurd cc
+plain_stands first (frames.Turn count) h = (refl, λ x. h)
+plain_stands first (frames.Bench (bench.Order order)) h = (refl, λ x. h)
+plain_stands first (frames.Bench (bench.Strike which lba)) h = absurd cc
+plain_stands first (frames.Bench (bench.Mend lba)) h = absurd cc
+plain_stands first (frames.Bench (bench.Glitch count)) h = absurd cc
+plain_stands first (frames.Bench bench.Power) h = absurd cc
+plain_stands first (frames.Bench bench.Unplug) h = absurd cc
+plain_stands first frames.End h = (refl, λ x. h)
+
+-- order under errors: the tasks that still wait have acted as far as they show
+pub order_under_errors : OrderUnderErrors
+order_under_errors first last all losses answers run valid empty mild once =
+    let at : InOrderAt first false all (joined run.groups) last =
+    run_at false run.run valid.cells empty (λ x. absurd cc) (All-weaken (λ f. is_mild first.identity.trim f ≡ true) (MayStand first false) (λ f h. (h, λ x. absurd cc)) all mild) once in
+    let o : InOrder first all answers last.cells [] false =
+    subst (λ ts. InOrder first all answers last.cells ts false) (none_left last.tasks)
+    (subst (λ a. InOrder first all a last.cells (filter (λ t. not true) last.tasks) false) (sym run.answer) (filtered_in_order first false all last.cells once (λ t. true) (joined run.groups) [] last.tasks false at.order)) in
+    record {
+      acted = acted_by o.items;
+      done = done_acts first last all answers false o once;
+      in_order = in_order_as first last all answers false o (acted_by o.items) (act_as_items first last all answers false o once) all refl;
+    }
   where
-    less : (a b c : ℕ) → a ≡ b + c → a < 2 → b < 2
-    less a b c h k = omega (arith, h, k)
-
--- in order where the link is up
-goes_up : {A : Type 0} (b : Bool) → b ≡ false → A ⊎ (b ≡ true) → A
-goes_up b up g = ⊎_elim (λ a. a) (λ down. absurd (both_ways b down up)) g
-
-module _ (first : Device) (size : length first.cells ≡ first.identity.capacity) where
-  -- a request, which loses no link
-  request_goes : (events : List Frame) (answers : List Answer) (old new : Device) (r : Request) (said : List Reply) → InOrder first events answers old → how_many (asks_by r.nexus (r.tag).0) events ≡ 0
-      → is_plain first.identity.trim (frames.Request r) ≡ true → Around (MayLose (Arrives r)) old said new → new.down ≡ false → InOrder first (events ++ frames.Request r ∷ []) (answers ++ map replied said) new
-  request_goes events answers old new r said o unasked plain a up =
-      quiet_in_order first (events ++ frames.Request r ∷ []) (answers ++ map replied said) a.after new a.quiet_after (arrived a.after said a.step (sym (quiet_down a.after new a.quiet_after) ∙ up))
-    where
-      arrived : (b : Device) (s : List Reply) → MayLose (Arrives r) a.before s b → b.down ≡ false → InOrder first (events ++ frames.Request r ∷ []) (answers ++ map replied s) b
-      arrived b s (keeps h) u = arrives_in_order first events answers a.before r (quiet_in_order first events answers old a.before a.quiet_before o) unasked size plain s b h
-      arrived b s (steps_and_loses h q l) u = absurd (both_ways b.down (ap (λ d. d.down) l.stays) u)
-
-  -- each event
-  does_in_order : (event : Frame) (events : List Frame) (answers now : List Answer) (old new : Device) (d : ℕ) → is_plain first.identity.trim event ≡ true
-      → ((nexus tag : ℕ) → how_many (asks_by nexus tag) (events ++ event ∷ []) < 2) → InOrder first events answers old → Does event old now new d → losses_in event old new ≡ 0
-      → InOrder first (events ++ event ∷ []) (answers ++ now) new
-  does_in_order (frames.Request r) events answers now old new d plain once o h zero_losses =
-      subst (λ l. InOrder first (events ++ frames.Request r ∷ []) (answers ++ l) new) (sym h.1)
-      (request_goes events answers old new r h.0 o unasked plain h.2 (still_up old.down new.down o.up zero_losses))
-    where
-      unasked : how_many (asks_by r.nexus (r.tag).0) events ≡ 0
-      unasked =
-          let self : one (asks_by r.nexus (r.tag).0 (frames.Request r)) ≡ 1 = ap one (asks_self r) in
-          omega (arith, once r.nexus (r.tag).0, how_many-append (asks_by r.nexus (r.tag).0) events (frames.Request r ∷ []), self)
-  does_in_order (frames.Manage m) events answers now old new d plain once o h zero_losses = absurd cc
-  does_in_order (frames.Turn count) events answers now old new d plain once o h zero_losses =
-      other_in_order first events (answers ++ now) new (frames.Turn count) (λ r same. let no : frames.Request r ≡ frames.Turn count = same in cc) (λ f x v. refl) (λ nexus tag. refl)
-      (subst (λ l. InOrder first events (answers ++ l) new) (sym h.2)
-      (goes_up new.down (still_up old.down new.down o.up zero_losses) (turns_go first events (fewer events (frames.Turn count) once) answers (inl o) h.3)))
-  does_in_order (frames.Bench (bench.Order order)) events answers now old new d plain once o h zero_losses =
-      let a = h.2 in
-      let k = a.step in
-      other_in_order first events (answers ++ now) new (frames.Bench (bench.Order order)) (λ r same. let no : frames.Request r ≡ frames.Bench (bench.Order order) = same in cc) (λ f x v. refl) (λ nexus tag. refl)
-      (subst (λ l. InOrder first events (answers ++ l) new) (sym (h.1 ∙ ap (map replied) k.none))
-      (subst (λ l. InOrder first events l new) (sym (append-nil answers))
-      (quiet_in_order first events answers a.after new a.quiet_after (subst (InOrder first events answers) (sym k.new_is) (quiet_in_order first events answers old a.before a.quiet_before o)))))
-  does_in_order (frames.Bench (bench.Strike which lba)) events answers now old new d plain once o h zero_losses = absurd cc
-  does_in_order (frames.Bench (bench.Mend lba)) events answers now old new d plain once o h zero_losses = absurd cc
-  does_in_order (frames.Bench (bench.Glitch count)) events answers now old new d plain once o h zero_losses = absurd cc
-  does_in_order (frames.Bench bench.Power) events answers now old new d plain once o h zero_losses = absurd cc
-  does_in_order (frames.Bench bench.Unplug) events answers now old new d plain once o h zero_losses = absurd cc
-  does_in_order frames.End events answers now old new d plain once o h zero_losses =
-      other_in_order first events (answers ++ now) new frames.End (λ r same. let no : frames.Request r ≡ frames.End = same in cc) (λ f x v. refl) (λ nexus tag. refl)
-      (subst (λ l. InOrder first events l new) (append_assoc answers (map replied h.0) (ended ∷ []) ∙ ap (λ l. answers ++ l) (sym h.1))
-      (told_in_order first events (answers ++ map replied h.0) new
-      (goes_up new.down (still_up old.down new.down o.up zero_losses) (turns_go first events (fewer events frames.End once) answers (inl o) (h.2).turns))))
-
-  -- a device at rest
-  rest_in_order : IsFresh first → InOrder first [] [] first
-  rest_in_order fresh = record {
-    placed = [];
-    tasks = fresh.no_tasks;
-    up = fresh.up;
-    started = fresh.started;
-    calm = fresh.no_glitches;
-    identity = refl;
-    size = refl;
-    clean = fresh.no_flaws;
-    counts = λ nexus tag. omega (arith, ap (how_many (is_called nexus tag)) fresh.no_tasks);
-    transfers = tt;
-    follows = λ x inside. refl;
-    asked = tt;
-    right = λ before rest r reply lba count place is among done. absurd among;
-  }
-
-  -- a run
-  run_in_order : {events : List Frame} {groups : List (List Answer)} {losses deep : ℕ} {last : Device} → RunDeep first events groups losses last deep → losses ≡ 0 → IsFresh first
-      → AllByRecursion (λ f. is_plain first.identity.trim f ≡ true) events → ((nexus tag : ℕ) → how_many (asks_by nexus tag) events < 2) → InOrder first events (joined groups) last
-  run_in_order {last = last} (start quiet) zero_losses fresh plain once = quiet_in_order first [] [] first last quiet (rest_in_order fresh)
-  run_in_order {last = last} (step {events = events} {groups = groups} {losses = losses} {s = s} event now d so_far does) zero_losses fresh plain once =
-      let parts = split_plain events event plain in
-      let before : losses ≡ 0 = omega (arith, zero_losses) in
-      let here : losses_in event s last ≡ 0 = omega (arith, zero_losses) in
-      subst (λ a. InOrder first (events ++ event ∷ []) a last) (sym (joined-push groups now))
-      (does_in_order event events (joined groups) now s last d parts.1 once (run_in_order so_far before fresh parts.0 (fewer events event once)) does here)
-    where
-      split_plain : (es : List Frame) (e : Frame) → AllByRecursion (λ f. is_plain first.identity.trim f ≡ true) (es ++ e ∷ []) → AllByRecursion (λ f. is_plain first.identity.trim f ≡ true) es × (is_plain first.identity.trim e ≡ true)
-      split_plain [] e h = (tt, h.0)
-      split_plain (f ∷ es) e h = let k = split_plain es e h.1 in ((h.0, k.0), k.1)
-
--- ---- the law
-
--- where no task waits, those that count are done
-counts_done : (answers : List Answer) (s : Device) (r : Request) → s.tasks ≡ [] → counts_by answers s.tasks r ≡ list_any (is_done r) answers
-counts_done answers s r empty = ap (λ ts. list_any (is_done r) answers || list_any (is_called r.nexus (r.tag).0) ts) empty ∙ or_false (list_any (is_done r) answers)
-  where
-    or_false : (b : Bool) → (b || false) ≡ b
-    or_false true = refl
-    or_false false = refl
+    none_left : (tasks : List Entry) → filter (λ t. not true) tasks ≡ []
+    none_left [] = refl
+    none_left (t ∷ ts) = none_left ts
 
 -- a run to END leaves no task
 run_empty : {first last : Device} {all : List Frame} {groups : List (List Answer)} {losses deep : ℕ} → RunDeep first all groups losses last deep → (before : List Frame) → all ≡ before ++ frames.End ∷ [] → last.tasks ≡ []
@@ -208,32 +130,16 @@ asks_end all once nexus tag = same _ _ (how_many-append (asks_by nexus tag) all 
     same : (a b : ℕ) → a ≡ b + 0 → b < 2 → a < 2
     same a b h k = omega (arith, h, k)
 
--- and is plain
-plain_end : (trims : Bool) (all : List Frame) → AllByRecursion (λ f. is_plain trims f ≡ true) all → AllByRecursion (λ f. is_plain trims f ≡ true) (all ++ frames.End ∷ [])
-plain_end trims all h = All-push_end (λ f. is_plain trims f ≡ true) all frames.End h refl
-
--- nothing is asked twice, so the device is in order, and where no task waits that is the law
+-- arrival order
 pub arrival_order : ArrivalOrder
 arrival_order first last all answers run valid fresh plain once =
-    let o : InOrder first (all ++ frames.End ∷ []) (joined run.groups) last = run_in_order first valid.cells run.run refl fresh (plain_end first.identity.trim all plain) (asks_end all once) in
-    let empty : last.tasks ≡ [] = run_empty run.run all refl in
-    let p : InOrder first (all ++ frames.End ∷ []) answers last = subst (λ a. InOrder first (all ++ frames.End ∷ []) a last) (sym run.answer) o in
-    record {
-      reads = λ before after r reply lba count place is good.
-          p.right before (after ++ frames.End ∷ []) r reply lba count (ap (λ l. l ++ frames.End ∷ []) place ∙ append_assoc before (frames.Request r ∷ after) (frames.End ∷ [])) is good.among good.done
-          ∙ range_same count lba (block_of first (counts_by answers last.tasks) before) (λ x. content first.identity.trim answers x before (seen first.cells x)) (λ x from to. left answers last empty first before x);
-      writes = λ x c there.
-          seen_get last.cells x c there
-          ∙ ended_at p.placed (sym p.tasks ∙ empty) x _ _ (p.follows x (omega (arith, slice_get_within last.cells x c there, p.size)))
-          ∙ content_push first.identity.trim x (counts_by answers last.tasks) all frames.End (seen first.cells x)
-          ∙ left answers last empty first all x;
-    }
-  where
-    left : (told : List Answer) (s : Device) → s.tasks ≡ [] → (d : Device) (events : List Frame) (x : ℕ) → block_of d (counts_by told s.tasks) events x ≡ content d.identity.trim told x events (seen d.cells x)
-    left told s empty d events x =
-        content_same d.identity.trim x (counts_by told s.tasks) (λ r. list_any (is_done r) told) events (seen d.cells x) (λ r i. counts_done told s r empty)
-        ∙ sym (content_is d.identity.trim x told events (seen d.cells x))
-
-    ended_at : (placed : List Placed) → map (λ e. e.task) placed ≡ [] → (x : ℕ) (v final : Block) → Follows x v placed final → v ≡ final
-    ended_at [] empty x v final f = f
-    ended_at (e ∷ placed) empty x v final f = absurd cc
+    let plain_to_end : AllByRecursion (λ f. is_plain first.identity.trim f ≡ true) (all ++ frames.End ∷ []) = All-push_end (λ f. is_plain first.identity.trim f ≡ true) all frames.End plain refl in
+    let once_to_end = asks_end all once in
+    let up : last.down ≡ false = run_up first.identity.trim run.run refl fresh.up plain_to_end in
+    let at : InOrderAt first true (all ++ frames.End ∷ []) (joined run.groups) last =
+    run_at true run.run valid.cells fresh.no_tasks (λ x. fresh) (All-weaken (λ f. is_plain first.identity.trim f ≡ true) (MayStand first true) (plain_stands first) (all ++ frames.End ∷ []) plain_to_end) once_to_end in
+    let o : InOrder first (all ++ frames.End ∷ []) answers last.cells [] (not last.down) =
+    subst (λ ts. InOrder first (all ++ frames.End ∷ []) answers last.cells ts (not last.down)) (run_empty run.run all refl)
+    (subst (λ a. InOrder first (all ++ frames.End ∷ []) a last.cells last.tasks (not last.down)) (sym run.answer) at.order) in
+    in_order_as first last (all ++ frames.End ∷ []) answers (not last.down) o (λ x. was_done answers) (act_as_done first last (all ++ frames.End ∷ []) answers (not last.down) o (ap not up)) all
+    (sym (requests-append all (frames.End ∷ []) ∙ append-nil (requests_of all)))

@@ -12,7 +12,7 @@ use Rattle.satl_base.specs.Losses.{Lost, Loses}
 use Rattle.satl_base.specs.Moves.{Moves, stay, lose, write}
 use Rattle.satl_base.proofs.ListsLemmas.{leaves_in}
 use Rattle.satl_regs.specs.Sectors.{with_flaw, without_flaws}
-use Rattle.satl_direct.specs.Laws.{Spares, now_at}
+use Rattle.satl_laws.specs.Untouched.{Spares, now_at}
 
 -- the same block is read, and a loss of power leaves no other block than before but for that one
 pub record Kept (old new : Cell) : Type 0 where

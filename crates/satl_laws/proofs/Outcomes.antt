@@ -20,7 +20,10 @@ use Rattle.satl_line.specs.Eligible.{IsEligible}
 use Rattle.satl_direct.specs.Bench.{Happens}
 use Rattle.satl_direct.specs.Device.{Device, is_called}
 use Rattle.satl_direct.specs.Ending.{task_check}
-use Rattle.satl_direct.specs.Laws.{IsGoodReply, Spares, answers_to, asks_by, is_good, now_at, secures}
+use Rattle.satl_laws.specs.ArrivalOrder.{IsGoodReply, is_good}
+use Rattle.satl_laws.specs.Durable.{secures}
+use Rattle.satl_laws.specs.OnceEach.{answers_to, asks_by}
+use Rattle.satl_laws.specs.Untouched.{Spares, now_at}
 use Rattle.satl_direct.specs.Quiet.{Around, Quiet}
 use Rattle.satl_direct.specs.Run.{Does, Run, RunDeep, TurnsOf, joined}
 use Rattle.satl_direct.specs.Run.TurnsOf.{none, more}
@@ -28,7 +31,7 @@ use Rattle.satl_direct.specs.Senses.{link_lost}
 use Rattle.satl_direct.specs.Tasks.{is_ordered}
 use Rattle.satl_direct.specs.Turn.{MayEnd, OneEnds, Turn}
 use Rattle.satl_direct.specs.Turn.Turn.{idle, ends, loses, ends_and_loses}
-use Rattle.satl_laws.specs.Scenes.{AreApart, AreTurns, at_work, cached, flushes, reads_sector_0, writes_sector_0}
+use Rattle.satl_laws.specs.Scenes.{AreApart, AreTurns, at_work, cached, flushes, reads_sector_0, writes_both_sectors, writes_sector_0}
 use Rattle.satl_laws.proofs.Cases.{both_left, both_right}
 use Rattle.satl_laws.proofs.Counts.{run_counts}
 use Rattle.satl_laws.proofs.Durable.{IsSingle, power_keeps, secured}
@@ -139,36 +142,40 @@ good_turn reply run i good =
 may_still : (a b : Cell) (tasks : List Entry) (s begin before : Device) (t : Entry) → Quiet (at_work a b tasks s) begin → Quiet begin before → MayEnd before t → IsEligible tasks t
 may_still a b tasks s begin before t first q may = subst (λ d. MayEnd d t) first.stays (subst (λ d. MayEnd d t) q.stays may)
 
--- ---- a WRITE and a READ of one sector
+-- ---- a WRITE, and a task behind it that overlaps it
 
--- they conflict
-conflict_here : (w r : Request) → conflicts (writes_sector_0 w) (reads_sector_0 r) ≡ true
+-- a READ of the sector conflicts with it, and so does a WRITE of both sectors
+ordered_or_met : (p q : Bool) → (p || q || true) ≡ true
+ordered_or_met true q = refl
+ordered_or_met false true = refl
+ordered_or_met false false = refl
+
+read_conflicts : (w r : Request) → conflicts (writes_sector_0 w) (reads_sector_0 r) ≡ true
 unfolding accesses_conflict
-conflict_here w r = ordered (is_ordered w.attr) (is_ordered r.attr)
-  where
-    ordered : (p q : Bool) → (p || q || true) ≡ true
-    ordered true q = refl
-    ordered false true = refl
-    ordered false false = refl
+read_conflicts w r = ordered_or_met (is_ordered w.attr) (is_ordered r.attr)
 
-module _ (write read : Request) (a b : Cell) (s last : Device) (losses : ℕ) (answers : List Answer) (reply : Reply) where
-  -- so the READ does not end in the first turn
-  pub no_read_passes : AreApart write read →
-      Run (at_work a b (writes_sector_0 write ∷ reads_sector_0 read ∷ []) s) (frames.Turn 1 ∷ []) losses answers last → IsGoodReply read reply answers → ⊥
-  no_read_passes apart run good =
+write_conflicts : (w v : Request) → conflicts (writes_sector_0 w) (writes_both_sectors v) ≡ true
+unfolding accesses_conflict
+write_conflicts w v = ordered_or_met (is_ordered w.attr) (is_ordered v.attr)
+
+module _ (write other : Request) (a b : Cell) (s last : Device) (losses : ℕ) (answers : List Answer) (reply : Reply) where
+  -- so the second does not end in the first turn
+  none_passes : (second : Entry) → conflicts (writes_sector_0 write) second ≡ true → AreApart write other →
+      Run (at_work a b (writes_sector_0 write ∷ second ∷ []) s) (frames.Turn 1 ∷ []) losses answers last → IsGoodReply other reply answers → ⊥
+  none_passes second conflict apart run good =
       ⊎_elim
       (λ same. let clash : true ≡ false =
-      sym (same_name write.nexus read.nexus (write.tag).0 (read.tag).0 (ap (λ e. e.nexus) same ∙ sym l.nexus ∙ d.nexus) (ap (λ e. (e.tag).0) same ∙ sym (ap (λ g. g.0) l.tag) ∙ d.tag)) ∙ apart in
+      sym (same_name write.nexus other.nexus (write.tag).0 (other.tag).0 (ap (λ e. e.nexus) same ∙ sym l.nexus ∙ d.nexus) (ap (λ e. (e.tag).0) same ∙ sym (ap (λ g. g.0) l.tag) ∙ d.tag)) ∙ apart in
       absurd cc)
       (λ later. ⊎_elim
-      (λ same. let clash : true ≡ false = sym (conflict_here write read) ∙ subst (λ t. conflicts (writes_sector_0 write) t ≡ false) (sym same) later.0 in absurd cc)
+      (λ same. let clash : true ≡ false = sym conflict ∙ subst (λ t. conflicts (writes_sector_0 write) t ≡ false) (sym same) later.0 in absurd cc)
       (λ nothing. nothing.1) later.1)
-      (may_still a b (writes_sector_0 write ∷ reads_sector_0 read ∷ []) s turn.begin turn.before one.task turn.quiet_first turn.quiet_before one.may)
+      (may_still a b (writes_sector_0 write ∷ second ∷ []) s turn.begin turn.before one.task turn.quiet_first turn.quiet_before one.may)
     where
-      d : IsDoneBy read reply
-      d = done_by read reply answers good
+      d : IsDoneBy other reply
+      d = done_by other reply answers good
 
-      turn : GoodTurn (at_work a b (writes_sector_0 write ∷ reads_sector_0 read ∷ []) s) last reply
+      turn : GoodTurn (at_work a b (writes_sector_0 write ∷ second ∷ []) s) last reply
       turn = good_turn reply run.run (subst (IsIn (replied reply)) run.answer good.among) d.good
 
       one : OneEnds turn.before reply (turn.good).mid
@@ -176,6 +183,14 @@ module _ (write read : Request) (a b : Cell) (s last : Device) (losses : ℕ) (a
 
       l : Leaves turn.before one.task reply (turn.good).mid
       l = ends_leaves turn.before (turn.good).mid one.task reply one.ends
+
+  pub no_read_passes : AreApart write other →
+      Run (at_work a b (writes_sector_0 write ∷ reads_sector_0 other ∷ []) s) (frames.Turn 1 ∷ []) losses answers last → IsGoodReply other reply answers → ⊥
+  no_read_passes = none_passes (reads_sector_0 other) (read_conflicts write other)
+
+  pub no_write_passes : AreApart write other →
+      Run (at_work a b (writes_sector_0 write ∷ writes_both_sectors other ∷ []) s) (frames.Turn 1 ∷ []) losses answers last → IsGoodReply other reply answers → ⊥
+  no_write_passes = none_passes (writes_both_sectors other) (write_conflicts write other)
 
 -- ---- two READs
 

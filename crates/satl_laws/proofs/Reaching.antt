@@ -26,7 +26,7 @@ use Rattle.satl_direct.specs.Device.{Device}
 use Rattle.satl_direct.specs.Tasks.{asks, pass_of}
 use Rattle.satl_direct.specs.Ending.{Ends, EndsBy, EndsCompared, EndsInPieces, EndsOnMedium, EndsPassed, EndsVerified, IsChecked, IsDone, after_select, after_start_stop, medium_of, selected, settled, settled_if}
 use Rattle.satl_direct.specs.Quiet.{written_by}
-use Rattle.satl_direct.specs.Laws.{Spares}
+use Rattle.satl_laws.specs.Untouched.{Spares}
 use Rattle.satl_laws.proofs.Cases.{by_bool, by_option}
 use Rattle.satl_laws.proofs.Kept.{KeptAt, part_keeps, settle_keeps}
 

@@ -13,7 +13,7 @@ use Rattle.satl_direct.specs.Arrival.Arrival.{answered, attended, overlaps, wait
 use Rattle.satl_direct.specs.Quiet.{Quiet}
 use Rattle.satl_direct.specs.Run.{Does, RunDeep, joined}
 use Rattle.satl_direct.specs.Run.RunDeep.{start, step}
-use Rattle.satl_direct.specs.Laws.{SparedBy, SparedByNew, SparedIn, SparedThrough, WithoutPower, is_power}
+use Rattle.satl_laws.specs.Untouched.{SparedBy, SparedByNew, SparedIn, SparedThrough, WithoutPower, is_power}
 use Rattle.satl_laws.proofs.Arrivals.{IsFor, arrival_for, arrival_quiet}
 use Rattle.satl_laws.proofs.Reaching.{WritesItsOwn}
 use Rattle.satl_laws.proofs.Sparing.{Keeps, NoneComes, NoneComesBy, NoneWrites, SparesAt, does_keep, keeps_on, quiet_alike, quiet_keeps, spares_alike}

@@ -1,37 +1,24 @@
 -- What reads of a sector give, as writes and quiet moves change it.
-use Rattle.std.proofs.Common.{◌≡◌, ◌⊎◌, ⊎_elim, inl, inr, refl, sym, ap, ◌∙◌, subst, ℕ, zero, suc, ◌+◌, ◌≤◌, ◌<◌, Bool, true, false, List, [], ◌∷◌, Some, None, arith, map, length, take, drop}
-use Rattle.std.specs.Prelude.{◌-◌, if◌then◌else◌, get_or, nat_le, nat_lt, ◌&&◌, slice_get, slice_index_or}
-use Rattle.std.specs.List.{AllByRecursion}
+use Rattle.std.proofs.Common.{◌≡◌, ◌⊎◌, ⊎_elim, inl, inr, refl, sym, ap, ◌∙◌, subst, ℕ, zero, suc, ◌+◌, ◌≤◌, ◌<◌, Bool, true, false, List, [], ◌∷◌, Some, arith, map, length, take, drop}
+use Rattle.std.specs.Prelude.{◌-◌, if◌then◌else◌, get_or, nat_le, nat_lt, ◌&&◌, slice_get}
 use Rattle.std.proofs.lemmas.Bool.{cases_lt, le-leb, leb-true, lt-ltb, ltb-true}
 use Rattle.std.proofs.lemmas.List.{get_or_past}
 use Rattle.satl_base.specs.declared.block.Block.{Block}
-use Rattle.satl_base.specs.declared.bench.Which.{Which}
-use Rattle.satl_base.specs.declared.bench.Which.TheVariants as flaws
-use Rattle.satl_base.specs.Blocks.{no_block}
-use Rattle.satl_base.specs.Cells.{Cell, Pair, change_at, first_flaw, first_set, has_flaw, nows, pairs_from, put, put_at, whole}
+use Rattle.satl_base.specs.Cells.{Cell, Pair, change_at, nows, pairs_from, put, put_at, whole}
 use Rattle.satl_base.specs.Lists.{IsIn}
-use Rattle.satl_base.specs.Losses.{Loses}
 use Rattle.satl_base.proofs.CellsLemmas.{change_at-length}
-use Rattle.satl_base.proofs.ListsLemmas.{All-weaken}
 use Rattle.satl_regs.specs.Trim.{addresses_from}
+use Rattle.satl_laws.specs.ArrivalOrder.{block_at}
 use Rattle.satl_laws.proofs.Cases.{both_left, both_right}
 
--- what a read of a sector gives, and no block past the last
-abbrev pub seen : List Cell → ℕ → Block
-seen cells x = get_or (map (λ c. c.now) cells) x no_block
-
--- a sector without flaws
-abbrev pub IsClean : Cell → Type 0
-IsClean c = (c.read_flaw ≡ false) × (c.write_flaw ≡ false)
-
 -- a block that was put is read
-pub put_seen : (cells : List Cell) (x : ℕ) (v : Block) (cached : Bool) → x < length cells → seen (change_at cells x (λ c. put c v cached)) x ≡ v
+pub put_seen : (cells : List Cell) (x : ℕ) (v : Block) (cached : Bool) → x < length cells → block_at (change_at cells x (λ c. put c v cached)) x ≡ v
 put_seen [] x v cached h = absurd (omega (arith, h))
 put_seen (c ∷ cs) zero v cached h = refl
 put_seen (c ∷ cs) (suc x) v cached h = put_seen cs x v cached (omega (arith, h))
 
 -- elsewhere the same is read as before
-pub put_elsewhere : (cells : List Cell) (lba x : ℕ) (v : Block) (cached : Bool) → (lba ≡ x → ⊥) → seen (change_at cells lba (λ c. put c v cached)) x ≡ seen cells x
+pub put_elsewhere : (cells : List Cell) (lba x : ℕ) (v : Block) (cached : Bool) → (lba ≡ x → ⊥) → block_at (change_at cells lba (λ c. put c v cached)) x ≡ block_at cells x
 put_elsewhere [] lba x v cached other = refl
 put_elsewhere (c ∷ cs) zero zero v cached other = absurd (other refl)
 put_elsewhere (c ∷ cs) zero (suc x) v cached other = refl
@@ -39,25 +26,25 @@ put_elsewhere (c ∷ cs) (suc lba) zero v cached other = refl
 put_elsewhere (c ∷ cs) (suc lba) (suc x) v cached other = put_elsewhere cs lba x v cached (λ same. other (ap suc same))
 
 -- blocks in a row leave the sectors before them
-row_before : (vs : List Block) (lba x : ℕ) (cached : Bool) (cells : List Cell) → x < lba → seen (whole cells (pairs_from lba vs cached)) x ≡ seen cells x
+row_before : (vs : List Block) (lba x : ℕ) (cached : Bool) (cells : List Cell) → x < lba → block_at (whole cells (pairs_from lba vs cached)) x ≡ block_at cells x
 row_before [] lba x cached cells h = refl
 row_before (v ∷ vs) lba x cached cells h =
     row_before vs (lba + 1) x cached (put_at cells (record { lba = lba; block = v; cached = cached })) (omega (arith, h))
     ∙ put_elsewhere cells lba x v cached (λ same. omega (arith, same, h))
 
 -- and are read where they were put
-row_at : (vs : List Block) (lba i : ℕ) (cached : Bool) (cells : List Cell) → lba + i < length cells → seen (whole cells (pairs_from lba vs cached)) (lba + i) ≡ get_or vs i (seen cells (lba + i))
+row_at : (vs : List Block) (lba i : ℕ) (cached : Bool) (cells : List Cell) → lba + i < length cells → block_at (whole cells (pairs_from lba vs cached)) (lba + i) ≡ get_or vs i (block_at cells (lba + i))
 row_at [] lba i cached cells h = refl
 row_at (v ∷ vs) lba zero cached cells h =
     let here : lba + 0 ≡ lba = omega arith in
-    ap (seen (whole (put_at cells (record { lba = lba; block = v; cached = cached })) (pairs_from (lba + 1) vs cached))) here
+    ap (block_at (whole (put_at cells (record { lba = lba; block = v; cached = cached })) (pairs_from (lba + 1) vs cached))) here
     ∙ row_before vs (lba + 1) lba cached (put_at cells (record { lba = lba; block = v; cached = cached })) (omega arith)
     ∙ put_seen cells lba v cached (omega (arith, h))
 row_at (v ∷ vs) lba (suc i) cached cells h =
     let there : lba + suc i ≡ (lba + 1) + i = omega arith in
-    let other : seen (put_at cells (record { lba = lba; block = v; cached = cached })) ((lba + 1) + i) ≡ seen cells (lba + suc i) =
-    put_elsewhere cells lba ((lba + 1) + i) v cached (λ same. omega (arith, same)) ∙ ap (seen cells) (sym there) in
-    ap (seen (whole (put_at cells (record { lba = lba; block = v; cached = cached })) (pairs_from (lba + 1) vs cached))) there
+    let other : block_at (put_at cells (record { lba = lba; block = v; cached = cached })) ((lba + 1) + i) ≡ block_at cells (lba + suc i) =
+    put_elsewhere cells lba ((lba + 1) + i) v cached (λ same. omega (arith, same)) ∙ ap (block_at cells) (sym there) in
+    ap (block_at (whole (put_at cells (record { lba = lba; block = v; cached = cached })) (pairs_from (lba + 1) vs cached))) there
     ∙ row_at vs (lba + 1) i cached (put_at cells (record { lba = lba; block = v; cached = cached })) (omega (arith, h, change_at-length cells lba (λ c. put c v cached)))
     ∙ ap (get_or vs i) other
 
@@ -80,23 +67,23 @@ within_to lba count x h k = ap (λ b. b && nat_lt x (lba + count)) (le-leb lba x
 
 -- blocks in a row, at most as many as a range has, are read in the range, and nothing else changes
 pub row_seen : (vs : List Block) (lba count x : ℕ) (cached : Bool) (cells : List Cell) → length vs ≤ count → x < length cells
-    → seen (whole cells (pairs_from lba vs cached)) x ≡ (if within lba count x then get_or vs (x - lba) (seen cells x) else seen cells x)
+    → block_at (whole cells (pairs_from lba vs cached)) x ≡ (if within lba count x then get_or vs (x - lba) (block_at cells x) else block_at cells x)
 row_seen vs lba count x cached cells fits inside = of (cases_lt x lba)
   where
-    at : lba ≤ x → seen (whole cells (pairs_from lba vs cached)) x ≡ get_or vs (x - lba) (seen cells x)
+    at : lba ≤ x → block_at (whole cells (pairs_from lba vs cached)) x ≡ get_or vs (x - lba) (block_at cells x)
     at from =
         let place : lba + (x - lba) ≡ x = omega (arith, from) in
-        subst (λ y. seen (whole cells (pairs_from lba vs cached)) y ≡ get_or vs (x - lba) (seen cells y)) place (row_at vs lba (x - lba) cached cells (omega (arith, place, inside)))
+        subst (λ y. block_at (whole cells (pairs_from lba vs cached)) y ≡ get_or vs (x - lba) (block_at cells y)) place (row_at vs lba (x - lba) cached cells (omega (arith, place, inside)))
 
-    of : (x < lba) ⊎ (lba ≤ x) → seen (whole cells (pairs_from lba vs cached)) x ≡ (if within lba count x then get_or vs (x - lba) (seen cells x) else seen cells x)
+    of : (x < lba) ⊎ (lba ≤ x) → block_at (whole cells (pairs_from lba vs cached)) x ≡ (if within lba count x then get_or vs (x - lba) (block_at cells x) else block_at cells x)
     of (inl before) =
-        by_test (λ b. seen (whole cells (pairs_from lba vs cached)) x ≡ (if b then get_or vs (x - lba) (seen cells x) else seen cells x)) (within lba count x)
+        by_test (λ b. block_at (whole cells (pairs_from lba vs cached)) x ≡ (if b then get_or vs (x - lba) (block_at cells x) else block_at cells x)) (within lba count x)
         (λ t. absurd (let r = within_from lba count x t in omega (arith, r.0, before)))
         (λ f. row_before vs lba x cached cells before)
     of (inr from) =
-        by_test (λ b. seen (whole cells (pairs_from lba vs cached)) x ≡ (if b then get_or vs (x - lba) (seen cells x) else seen cells x)) (within lba count x)
+        by_test (λ b. block_at (whole cells (pairs_from lba vs cached)) x ≡ (if b then get_or vs (x - lba) (block_at cells x) else block_at cells x)) (within lba count x)
         (λ t. at from)
-        (λ f. at from ∙ get_or_past vs (x - lba) (seen cells x) (⊎_elim (λ less. absurd (let no : true ≡ false = sym (within_to lba count x from less) ∙ f in cc)) (λ past. omega (arith, past, fits)) (cases_lt x (lba + count))))
+        (λ f. at from ∙ get_or_past vs (x - lba) (block_at cells x) (⊎_elim (λ less. absurd (let no : true ≡ false = sym (within_to lba count x from less) ∙ f in cc)) (λ past. omega (arith, past, fits)) (cases_lt x (lba + count))))
 
 -- one of the blocks in a row
 pub record IsPlaced (lba : ℕ) (vs : List Block) (p : Pair) : Type 0 where
@@ -114,59 +101,11 @@ in_row (v ∷ vs) lba cached p i =
     (λ later. let r = in_row vs (lba + 1) cached p later in record { place = suc r.place; small = omega (arith, r.small); at = omega (arith, r.at); block = r.block })
     i
 
--- ---- no flaw
-
--- a put leaves no flaw where there was none
-put_clean : (cells : List Cell) (lba : ℕ) (v : Block) (cached : Bool) → AllByRecursion IsClean cells → AllByRecursion IsClean (change_at cells lba (λ c. put c v cached))
-put_clean [] lba v cached all = all
-put_clean (c ∷ cs) zero v cached all = ((refl, all.0.1), all.1)
-put_clean (c ∷ cs) (suc lba) v cached all = (all.0, put_clean cs lba v cached all.1)
-
-pub pair_clean : (cells : List Cell) (p : Pair) → AllByRecursion IsClean cells → AllByRecursion IsClean (put_at cells p)
-pair_clean cells p all = put_clean cells p.lba p.block p.cached all
-
--- nor do many
-pub whole_clean : (ps : List Pair) (cells : List Cell) → AllByRecursion IsClean cells → AllByRecursion IsClean (whole cells ps)
-whole_clean [] cells all = all
-whole_clean (p ∷ ps) cells all = whole_clean ps (put_at cells p) (pair_clean cells p all)
-
--- nor do losses of entries
-pub loses_clean : (a b : List Cell) → Loses a b → AllByRecursion IsClean a → AllByRecursion IsClean b
-loses_clean [] [] h all = tt
-loses_clean [] (d ∷ ds) h all = absurd h
-loses_clean (c ∷ cs) [] h all = absurd h
-loses_clean (c ∷ cs) (d ∷ ds) h all = ((h.0.read_flaw ∙ all.0.0, h.0.write_flaw ∙ all.0.1), loses_clean cs ds h.1 all.1)
-
--- which leave what is read
-pub loses_seen : (a b : List Cell) (x : ℕ) → Loses a b → seen b x ≡ seen a x
-loses_seen [] [] x h = refl
-loses_seen [] (d ∷ ds) x h = absurd h
-loses_seen (c ∷ cs) [] x h = absurd h
-loses_seen (c ∷ cs) (d ∷ ds) zero h = h.0.now
-loses_seen (c ∷ cs) (d ∷ ds) (suc x) h = loses_seen cs ds x h.1
-
--- no flag of sectors none of which has it
-no_flag : (f : Cell → Bool) (cells : List Cell) (x : ℕ) → AllByRecursion (λ c. f c ≡ false) cells → slice_index_or (map f cells) x false ≡ false
-no_flag f [] x all = refl
-no_flag f (c ∷ cs) zero all = all.0
-no_flag f (c ∷ cs) (suc x) all = no_flag f cs x all.1
-
-none_set : (f : Cell → Bool) (cells : List Cell) (n x : ℕ) → AllByRecursion (λ c. f c ≡ false) cells → first_set (map f cells) x n ≡ None
-none_set f cells zero x all = refl
-none_set f cells (suc n) x all = ap (λ b. if b then Some x else first_set (map f cells) (x + 1) n) (no_flag f cells x all) ∙ none_set f cells n (x + 1) all
-
--- no flaw is met
-pub no_flaw : (which : Which) (cells : List Cell) (lba count : ℕ) → AllByRecursion IsClean cells → first_flaw which cells lba count ≡ None
-no_flaw flaws.Read cells lba count all = none_set (has_flaw flaws.Read) cells count lba (All-weaken IsClean (λ c. c.read_flaw ≡ false) (λ c h. h.0) cells all)
-no_flaw flaws.Write cells lba count all = none_set (has_flaw flaws.Write) cells count lba (All-weaken IsClean (λ c. c.write_flaw ≡ false) (λ c h. h.1) cells all)
-
--- ---- ranges
-
 -- the sectors from one on: that one, and those from the next on
 record IsFrom (cells : List Cell) (lba : ℕ) : Type 0 where
   pub first : Cell
   pub rest : drop lba cells ≡ first ∷ drop (suc lba) cells
-  pub now : first.now ≡ seen cells lba
+  pub now : first.now ≡ block_at cells lba
 
 from : (cells : List Cell) (lba : ℕ) → lba < length cells → IsFrom cells lba
 from [] lba h = absurd (omega (arith, h))
@@ -174,7 +113,7 @@ from (c ∷ cs) zero h = record { first = c; rest = refl; now = refl }
 from (c ∷ cs) (suc lba) h = let r = from cs lba (omega (arith, h)) in record { first = r.first; rest = r.rest; now = r.now }
 
 -- reads of a range, sector by sector
-taken_seen : (count lba : ℕ) (cells : List Cell) → lba + count ≤ length cells → map (λ c. c.now) (take count (drop lba cells)) ≡ map (seen cells) (addresses_from lba count)
+taken_seen : (count lba : ℕ) (cells : List Cell) → lba + count ≤ length cells → map (λ c. c.now) (take count (drop lba cells)) ≡ map (block_at cells) (addresses_from lba count)
 unfolding addresses_from
 taken_seen zero lba cells h = refl
 taken_seen (suc count) lba cells h =
@@ -182,9 +121,9 @@ taken_seen (suc count) lba cells h =
     let next : suc lba ≡ lba + 1 = omega arith in
     ap (λ cs. map (λ c. c.now) (take (suc count) cs)) r.rest
     ∙ ap (λ v. v ∷ map (λ c. c.now) (take count (drop (suc lba) cells))) r.now
-    ∙ ap (λ vs. seen cells lba ∷ vs) (ap (λ n. map (λ c. c.now) (take count (drop n cells))) next ∙ taken_seen count (lba + 1) cells (omega (arith, h)))
+    ∙ ap (λ vs. block_at cells lba ∷ vs) (ap (λ n. map (λ c. c.now) (take count (drop n cells))) next ∙ taken_seen count (lba + 1) cells (omega (arith, h)))
 
-pub nows_seen : (lba count : ℕ) (cells : List Cell) → lba + count ≤ length cells → nows cells lba count ≡ map (seen cells) (addresses_from lba count)
+pub nows_seen : (lba count : ℕ) (cells : List Cell) → lba + count ≤ length cells → nows cells lba count ≡ map (block_at cells) (addresses_from lba count)
 nows_seen lba count cells h = let n : (lba + count) - lba ≡ count = omega arith in ap (λ k. map (λ c. c.now) (take k (drop lba cells))) n ∙ taken_seen count lba cells h
 
 -- two that agree on each sector of a range
@@ -201,7 +140,7 @@ unfolding addresses_from
 range_none lba f = refl
 
 -- a sector that there is
-pub seen_get : (cells : List Cell) (x : ℕ) (c : Cell) → slice_get cells x ≡ Some c → c.now ≡ seen cells x
+pub seen_get : (cells : List Cell) (x : ℕ) (c : Cell) → slice_get cells x ≡ Some c → c.now ≡ block_at cells x
 seen_get [] x c h = absurd cc
 seen_get (d ∷ cs) zero c h = let same : d ≡ c = cc in ap (λ k. k.now) (sym same)
 seen_get (d ∷ cs) (suc x) c h = seen_get cs x c h

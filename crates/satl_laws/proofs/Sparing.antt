@@ -29,7 +29,7 @@ use Rattle.satl_direct.specs.Turn.Turn.{idle, ends, loses, ends_and_loses}
 use Rattle.satl_direct.specs.Run.{Does, Manages, MayLose, TurnsOf}
 use Rattle.satl_direct.specs.Run.MayLose.{keeps, loses as steps_and_loses}
 use Rattle.satl_direct.specs.Run.TurnsOf.{none, more}
-use Rattle.satl_direct.specs.Laws.{Spares, is_power}
+use Rattle.satl_laws.specs.Untouched.{Spares, is_power}
 use Rattle.satl_laws.proofs.Addresses.{Alike, alike_none, alike_on, writes_alike}
 use Rattle.satl_laws.proofs.Counts.{quiet_tasks}
 use Rattle.satl_laws.proofs.Ends.{eligible_in, ends_leaves, may_end_in}

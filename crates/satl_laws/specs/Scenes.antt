@@ -27,6 +27,10 @@ reads_sector_0 r = task_for false r (commands.Read forms.Ten 0 1 false)
 abbrev pub writes_sector_0 : Request → Entry
 writes_sector_0 r = task_for false r (commands.Write forms.Ten 0 1 false)
 
+-- the task of a request for WRITE(10) of both sectors (SBC-3, WRITE (10))
+abbrev pub writes_both_sectors : Request → Entry
+writes_both_sectors r = task_for false r (commands.Write forms.Ten 0 2 false)
+
 -- the task of a request for SYNCHRONIZE CACHE(10) of all sectors (SBC-3, SYNCHRONIZE CACHE (10))
 abbrev pub flushes : Request → Entry
 flushes r = task_for false r (commands.Flush forms.Ten 0 0)

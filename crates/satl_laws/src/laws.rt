@@ -1,5 +1,9 @@
 //! Laws of all runs of the device.
-ghost use Rattle.satl_direct.specs.Laws.{ArrivalOrder, Durable, OnceEach, Untouched};
+ghost use Rattle.satl_laws.specs.ArrivalOrder.{ArrivalOrder};
+ghost use Rattle.satl_laws.specs.Durable.{Durable};
+ghost use Rattle.satl_laws.specs.OnceEach.{OnceEach};
+ghost use Rattle.satl_laws.specs.OrderUnderErrors.{OrderUnderErrors};
+ghost use Rattle.satl_laws.specs.Untouched.{Untouched};
 
 /// Law of one answer: in a run from a device without tasks, the replies to a nexus and tag, the tasks of it that still
 /// wait, and those that were taken off without an answer are together as many as its requests (SAM-5 5).
@@ -19,9 +23,17 @@ pub fn untouched_sectors_keep_their_blocks()
     ensures { Untouched }
 {}
 
-/// Law of arrival order: in a run of READs and WRITEs to END, from a device at rest and without a loss of the link, where
-/// each nexus and tag asks once, each READ that is answered with GOOD gives the blocks of the WRITEs answered with GOOD
-/// before it in the input, and at the end each sector has the block of the last of all these (SAM-5 8; SBC-3 5).
+/// Law of arrival order: in a run to END from a device at rest and without a loss of the link, where each nexus and tag asks
+/// once and no command changes blocks but WRITE, each READ that is answered with GOOD gives the blocks of the WRITEs answered
+/// with GOOD before it in the input, and at the end each sector has the block of the last of all these (SAM-5 8; SBC-3 5).
 pub fn transfers_act_in_order_of_arrival()
     ensures { ArrivalOrder }
+{}
+
+/// Law of order under errors: in a run with flaws, CRC errors, losses of the link and task management functions, where each
+/// nexus and tag asks once and no command changes blocks but WRITE, each WRITE that was not answered with GOOD has acted on
+/// each sector or not, once and for all; each READ that is answered with GOOD gives the blocks of the WRITEs before it in
+/// the input that have acted, and at the end each sector has the block of the last of all these (SAM-5 8; SBC-3 5).
+pub fn each_write_acts_in_order_or_not_at_all()
+    ensures { OrderUnderErrors }
 {}

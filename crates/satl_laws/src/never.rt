@@ -10,15 +10,25 @@ ghost use Rattle.satl_frame.specs.declared.frames.Frame.{Frame};
 ghost use Rattle.satl_frame.specs.declared.frames.Frame.TheVariants as frames;
 ghost use Rattle.satl_frame.specs.Output.{Answer};
 ghost use Rattle.satl_direct.specs.Device.{Device};
-ghost use Rattle.satl_direct.specs.Laws.{IsGoodReply, answers_to, now_at};
+ghost use Rattle.satl_laws.specs.ArrivalOrder.{IsGoodReply};
+ghost use Rattle.satl_laws.specs.OnceEach.{answers_to};
+ghost use Rattle.satl_laws.specs.Untouched.{now_at};
 ghost use Rattle.satl_direct.specs.Run.{Run};
-ghost use Rattle.satl_laws.specs.Scenes.{AreApart, AreTurns, at_work, cached, flushes, reads_sector_0, writes_sector_0};
+ghost use Rattle.satl_laws.specs.Scenes.{AreApart, AreTurns, at_work, cached, flushes, reads_sector_0, writes_both_sectors, writes_sector_0};
 
 /// Where a WRITE of a sector waits, and then a READ of it, one turn never ends the READ with GOOD (SAM-5 8; profile).
 pub fn no_read_passes_an_earlier_write()
     ensures { (write read : Request) (a b : Cell) (s last : Device) (losses : ℕ) (answers : List Answer) (reply : Reply) → AreApart write read →
         Run (at_work a b (writes_sector_0 write ∷ reads_sector_0 read ∷ []) s) (frames.Turn 1 ∷ []) losses answers last →
         IsGoodReply read reply answers → ⊥ }
+{}
+
+/// Where a WRITE of a sector waits, and then another that overlaps it, one turn never ends the second with GOOD (SAM-5 8;
+/// profile).
+pub fn no_write_passes_an_earlier_write()
+    ensures { (first second : Request) (a b : Cell) (s last : Device) (losses : ℕ) (answers : List Answer) (reply : Reply) → AreApart first second →
+        Run (at_work a b (writes_sector_0 first ∷ writes_both_sectors second ∷ []) s) (frames.Turn 1 ∷ []) losses answers last →
+        IsGoodReply second reply answers → ⊥ }
 {}
 
 /// Where two READs wait, turns never answer one of them twice (SAM-5 5).

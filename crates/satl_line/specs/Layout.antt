@@ -2,6 +2,7 @@
 use Rattle.std.specs.Prelude.{◌≡◌, ℕ, ◌+◌, ◌*◌, ◌%◌, ◌^◌, ◌<◌, ◌≤◌, ◌==◌, Bool, true, false, ◌&&◌, if◌then◌else◌, nat_lt, List, [], ◌∷◌, ◌++◌, map, length, slice_index_or, slice_set, Option, Some, None, is_some, bit_and}
 use Rattle.std.specs.Int.{bit_at, bit_not, w64}
 use Rattle.std.specs.List.{list_any, AllByRecursion}
+use Rattle.satl_base.specs.Limits.{most_held}
 use Rattle.satl_cdb.specs.declared.command.Command.TheVariants.{TestUnitReady}
 use Rattle.satl_line.specs.declared.entry.Entry.{Entry}
 use Rattle.satl_line.specs.declared.entry.Kind.TheVariants.{Barrier}
@@ -89,4 +90,4 @@ pub record IsSound (slots : List (Option Entry)) (order free masks : List ℕ) (
   pub count : length order + length free ≡ 64
   pub masked : IsMasked (tasks_in slots order) masks
   pub total : total_blocks (tasks_in slots order) ≡ blocks
-  pub few : blocks ≤ 32768
+  pub few : blocks ≤ most_held

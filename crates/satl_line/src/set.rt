@@ -3,6 +3,7 @@ ghost use Rattle.std.specs.Prelude.{◌≡◌, ◌≤◌, ◌<◌, ◌==◌, ◌
 ghost use Rattle.std.specs.Int.{bit_at};
 ghost use Rattle.std.specs.Option.{option_copied, option_map};
 ghost use Rattle.std.specs.List.{AllByRecursion, position_from};
+ghost use Rattle.satl_base.specs.Limits.{most_held, most_tasks};
 ghost use Rattle.satl_line.specs.Conflict.{access_of};
 ghost use Rattle.satl_line.specs.Eligible.{eligible_at};
 ghost use Rattle.satl_line.specs.Tasks.{Adds, AreMasks, AreOwnSlots, IsReady, change_at, count_of, entries_of, entry_at, is_named, is_too_much, slots_of, total_blocks, with_body};
@@ -11,7 +12,7 @@ ghost use Rattle.satl_line.specs.Layout.{IsFilled, IsMask, cleared, entry_or, he
 use crate::conflict::conflict;
 use crate::entry::Entry;
 use arrayvec::ArrayVec;
-use satl_base::{Nexus, NoMemory, Pages, Tag};
+use satl_base::{MOST_HELD, MOST_TASKS, Nexus, NoMemory, Pages, Tag};
 use std::alloc::Global;
 use std::marker::Model;
 use std::mem;
@@ -45,7 +46,7 @@ impl TaskSet {
     pub fn new(alloc: Global) -> Result<TaskSet, NoMemory>
         ensures { IfOk result (λ set. set ≡ []) }
     {
-        let mut slots = Vec::with_capacity(alloc, 64)?;
+        let mut slots = Vec::with_capacity(alloc, MOST_TASKS)?;
         let mut free = ArrayVec::new();
         for slot in 0..64u8 {
             let Ok(()) = slots.push(None) else {
@@ -65,8 +66,8 @@ impl TaskSet {
     /// How many tasks are held: at most 64, each in a slot of its own, which hold room for at most 32,768 blocks (profile).
     pub fn len(&self) -> usize
         ensures value { result ≡ length self.now }
-        ensures few { length self.now ≤ 64 }
-        ensures blocks { total_blocks self.now ≤ 32768 }
+        ensures few { length self.now ≤ most_tasks }
+        ensures blocks { total_blocks self.now ≤ most_held }
         ensures own { AreOwnSlots self.now }
     {
         self.order.len()
@@ -87,7 +88,9 @@ impl TaskSet {
         ensures back { IfErr result (λ refused. refused ≡ entry) }
         ensures kept { OnErr result (self.new ≡ self.old) }
     {
-        if self.order.len() == 64 || entry.blocks as u64 + self.blocks as u64 > 32768 {
+        if self.order.len() == MOST_TASKS
+            || u64::from(entry.blocks) + u64::from(self.blocks) > u64::from(MOST_HELD)
+        {
             return Err(entry);
         }
         let Some(slot) = self.free.pop() else {

@@ -1,4 +1,5 @@
 pub mod ChangeSteps
 pub mod PageSteps
 pub mod SelectSteps
+pub mod ShownLemmas
 pub mod Unchanged

@@ -3,3 +3,4 @@ pub mod Descriptors
 pub mod ModeData
 pub mod Changes
 pub mod SelectList
+pub mod Shown

@@ -1,5 +1,6 @@
 -- What ATA PASS-THROUGH says, and which values it is refused for, in their order (SAT-3 12.2; the refusals: profile).
 use Rattle.std.specs.Prelude.{ℕ, ◌*◌, ◌==◌, ◌&&◌, ◌≤◌, ◌<◌, ◌^◌, not, Bool, List, [], ◌∷◌, Result, IsFalse, if◌then◌else◌}
+use Rattle.satl_base.specs.Limits.{longest_data}
 use Rattle.satl_base.specs.Lists.{is_in}
 use Rattle.satl_cdb.specs.declared.command.Illegal.{Illegal}
 use Rattle.satl_cdb.specs.Rows.{Rule, at, is, is_above, is_none_of, unless_broken}
@@ -10,10 +11,6 @@ use Rattle.satl_regs.specs.QueuedCommands.{queued_codes}
 use Rattle.satl_pass.specs.declared.pass.Pass.{Pass}
 use Rattle.satl_pass.specs.Fields.{Form, form_of, pass_in, protocol, t_length, transfer_length}
 use Rattle.satl_pass.specs.Transfers.{protocols, own_protocols, is_writing, is_other}
-
--- the most bytes of one transfer: 4,096 blocks
-abbrev pub most_bytes : ℕ
-most_bytes = 2097152
 
 -- a queued command: the layer keeps the queue for itself
 abbrev pub is_queued : Pass → Bool
@@ -37,7 +34,7 @@ abbrev pub rules : Form → List Rule
 rules form =
     at 1 (is_none_of protocols protocol)
     ∷ at 2 (is 3 t_length)
-    ∷ at 2 (is_above most_bytes (transfer_length form))
+    ∷ at 2 (is_above longest_data (transfer_length form))
     ∷ at form.command_place (λ cdb. is_queued (pass_in form cdb))
     ∷ at 1 (λ cdb. has_other_protocol (command_in (form.registers cdb)) (pass_in form cdb))
     ∷ at 2 (λ cdb. has_other_length (command_in (form.registers cdb)) (pass_in form cdb))
@@ -50,7 +47,7 @@ pass_says cdb = unless_broken (rules (form_of cdb)) cdb (pass_in (form_of cdb) c
 
 -- what a layer may rely on: it can be run as it stands
 pub record CanRun (pass : Pass) : Type 0 where
-  pub length : pass.length ≤ most_bytes
+  pub length : pass.length ≤ longest_data
   pub lba : pass.regs.lba < 2 ^ 48
   pub not_queued : IsFalse (is_queued pass)
   pub own_length : IsFalse (has_other_length (command_in pass.regs) pass)

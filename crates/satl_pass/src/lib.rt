@@ -10,7 +10,7 @@ mod transfers;
 
 pub use pass::Pass;
 pub use reading::{plan, read_pass};
-pub use status::{error_sense, status_return};
+pub use status::{error_sense, error_sense_at, status_return};
 
 #[cfg(test)]
 mod tests;

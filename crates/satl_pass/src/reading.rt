@@ -9,11 +9,9 @@ ghost use Rattle.satl_pass.specs.Reading.{CanRun, has_other_direction, has_other
 use crate::fields::{command_place, pass_of};
 use crate::pass::Pass;
 use crate::transfers::{goes_by, is_other, is_protocol, is_writing, own_blocks};
+use satl_base::LONGEST_DATA;
 use satl_cdb::Illegal;
 use satl_regs::{AtaCommand, command_of, queued_of};
-
-/// The most bytes of one transfer.
-const MOST_BYTES: u32 = 2_097_152;
 
 fn is_queued(pass: &Pass) -> bool
     ensures { result ≡ is_queued pass.now }
@@ -42,7 +40,7 @@ fn judge(cdb: &[u8; 16]) -> Result<Pass, Illegal>
     if !is_protocol(pass.protocol) {
         return Err(Illegal::invalid_field(1));
     }
-    if cdb[2] & 3 == 3 || pass.length > MOST_BYTES {
+    if cdb[2] & 3 == 3 || pass.length > LONGEST_DATA {
         return Err(Illegal::invalid_field(2));
     }
     if is_queued(&pass) {

@@ -1,5 +1,5 @@
 -- The registers of a command are read as that command.
-use Rattle.std.proofs.Common.{◌≡◌, ℕ, ◌+◌, ◌*◌, ◌/◌, ◌%◌, ◌^◌, ◌<◌, ◌≤◌, true, false, cond, List, [], ◌∷◌, Option, Some, None, is_some, refl, ap, arith, eqb, inl, inr}
+use Rattle.std.proofs.Common.{◌≡◌, ℕ, ◌+◌, ◌*◌, ◌/◌, ◌%◌, ◌^◌, ◌<◌, ◌≤◌, ◌&&◌, true, false, cond, List, [], ◌∷◌, Option, Some, None, is_some, refl, ap, arith, eqb, inl, inr}
 use Rattle.std.specs.Prelude.{IsNone}
 use Rattle.std.proofs.lemmas.Bool.{cases_lt, ne_eqb}
 use Rattle.satl_regs.specs.declared.values.Registers.{Registers}
@@ -8,7 +8,7 @@ use Rattle.satl_regs.specs.declared.values.How.TheVariants.{Pio, PioExt, Dma, Dm
 use Rattle.satl_regs.specs.declared.values.AtaCommand.{AtaCommand}
 use Rattle.satl_regs.specs.declared.values.AtaCommand.TheVariants as commands
 use Rattle.satl_regs.specs.Fields.{count_8, count_16}
-use Rattle.satl_regs.specs.Commands.{Row, table, first_row, row_of, command_by, command_in, code_of}
+use Rattle.satl_regs.specs.Commands.{Row, table, first_row, row_of, command_by, command_in}
 use Rattle.satl_regs.specs.Spelling.{command_registers, plain, CommandFits}
 
 -- fields are read back
@@ -49,8 +49,8 @@ table_named r = (λ n e. cc, (λ n e. cc, (λ n e. cc, (λ n e. cc, (λ n e. cc,
 row_is_named : (rows : List Row) (r : Registers) (code : ℕ) → AreNamed rows r → command_by (first_row rows r) r ≡ commands.Other code → first_row rows r ≡ None
 row_is_named [] r code named e = refl
 row_is_named (row ∷ rows) r code named e =
-    (elim (eqb r.command (code_of (row.command r))) as (λ b. command_by (cond b (cond (row.needs r) (Some row) (first_row rows r)) (first_row rows r)) r ≡ commands.Other code → cond b (cond (row.needs r) (Some row) (first_row rows r)) (first_row rows r) ≡ None) [
-      | true ↦ elim (row.needs r) as (λ n. command_by (cond n (Some row) (first_row rows r)) r ≡ commands.Other code → cond n (Some row) (first_row rows r) ≡ None) [ true ↦ λ f. absurd (named.0 code f) | false ↦ λ f. row_is_named rows r code named.1 f ]
+    (elim (eqb r.command row.code && row.needs r) as (λ b. command_by (cond b (Some row) (first_row rows r)) r ≡ commands.Other code → cond b (Some row) (first_row rows r) ≡ None) [
+      | true ↦ λ f. absurd (named.0 code f)
       | false ↦ λ f. row_is_named rows r code named.1 f
     ]) e
 

@@ -1,6 +1,6 @@
 -- The registers of a queued command: READ FPDMA QUEUED, WRITE FPDMA QUEUED (ACS-3 section 7), and for a trim the
 -- profile's form of SEND FPDMA QUEUED, whose payload is one trim block.
-use Rattle.std.specs.Prelude.{◌≡◌, ℕ, ◌*◌, ◌^◌, ◌<◌, ◌≤◌, ◌==◌, Bool, false, List, [], ◌∷◌, Option, Some, None, if◌then◌else◌}
+use Rattle.std.specs.Prelude.{◌≡◌, ℕ, ◌*◌, ◌^◌, ◌<◌, ◌≤◌, ◌==◌, Bool, false, List, [], ◌∷◌, Option, if◌then◌else◌}
 use Rattle.std.specs.List.{find}
 use Rattle.std.specs.Option.{option_map}
 use Rattle.satl_base.specs.Fields.{bits_of}

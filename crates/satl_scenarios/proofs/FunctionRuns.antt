@@ -7,11 +7,12 @@ use Rattle.satl_cdb.specs.Table.{says}
 use Rattle.satl_sense.specs.Fixed.{fixed_form}
 use Rattle.satl_unit.specs.Conditions.{posted}
 use Rattle.satl_unit.specs.Functions.{function_of}
-use Rattle.satl_unit.specs.declared.attention.Attention.TheVariants.{Cleared, UnitReset}
+use Rattle.satl_unit.specs.declared.attention.Attention.TheVariants.{Cleared, NexusLoss, UnitReset}
+use Rattle.satl_line.specs.Conflict.{accesses_conflict}
 use Rattle.satl_direct.specs.Device.{Device}
 use Rattle.satl_direct.specs.Run.TurnsOf.{none}
 use Rattle.satl_scenarios.specs.Scenario.{CanHappen}
-use Rattle.satl_scenarios.specs.Functions.{cleared, queried, reset}
+use Rattle.satl_scenarios.specs.Functions.{cleared, nexus_reset, queried, reset, set_aborted}
 use Rattle.satl_scenarios.specs.Words.{task, blank}
 use Rattle.satl_scenarios.proofs.Building.{it_can_happen, arrives, drained, manages, still}
 use Rattle.satl_scenarios.proofs.Building.Follows.{next, ends_here}
@@ -49,3 +50,32 @@ unit_reset =
     (next (manages _ Complete _ waiting (record (blank 2) { attentions = (UnitReset ∷ []) ∷ (UnitReset ∷ []) ∷ (UnitReset ∷ []) ∷ (UnitReset ∷ []) ∷ [] }) (still waiting) (record { response_is = refl; stays = refl }))
     (next (arrives _ reset.last (refl, refl))
     ends_here)))
+
+-- two reads of one nexus, or of two
+abbrev both_waiting : Device
+both_waiting = record waiting { tasks = task 1 (Read Ten 0 1 false) [] ∷ task 2 (Read Ten 1 1 false) [] ∷ [] }
+
+abbrev of_two : Device
+of_two = record waiting { tasks = task 1 (Read Ten 0 1 false) [] ∷ record (task 2 (Read Ten 1 1 false) []) { nexus = 1 } ∷ [] }
+
+pub tasks_aborted : CanHappen set_aborted
+unfolding says function_of accesses_conflict
+tasks_aborted =
+    it_can_happen set_aborted
+    (next (arrives [] waiting (refl, refl))
+    (next (arrives [] both_waiting (refl, refl))
+    (next (manages _ Succeeded _ both_waiting both_waiting (still both_waiting) (record { response_is = refl; stays = refl }))
+    (next (manages _ Complete _ both_waiting both_waiting (still both_waiting) (record { response_is = refl; stays = refl }))
+    (next (manages _ Complete _ both_waiting (blank 2) (still both_waiting) (record { response_is = refl; stays = refl }))
+    (next (manages _ Complete _ (blank 2) (blank 2) (still (blank 2)) (record { response_is = refl; stays = refl }))
+    ends_here))))))
+
+pub nexus_is_reset : CanHappen nexus_reset
+unfolding says fixed_form function_of posted accesses_conflict
+nexus_is_reset =
+    it_can_happen nexus_reset
+    (next (arrives [] waiting (refl, refl))
+    (next (arrives [] of_two (refl, refl))
+    (next (manages _ Complete _ of_two (record nexus_reset.last { attentions = (NexusLoss ∷ []) ∷ [] ∷ [] ∷ [] ∷ [] }) (still of_two) (record { response_is = refl; stays = refl }))
+    (next (arrives _ nexus_reset.last (refl, refl))
+    ends_here))))

@@ -1,11 +1,15 @@
+pub mod ArrivalRuns
 pub mod Building
 pub mod CommandRuns
 pub mod Endings
 pub mod FlawRuns
 pub mod FunctionRuns
 pub mod LinkRuns
+pub mod OrderRuns
 pub mod PassRuns
+pub mod PieceRuns
 pub mod PowerRuns
 pub mod RefusedRuns
+pub mod StandbyRuns
 pub mod TransferRuns
 pub mod Validity

@@ -18,7 +18,7 @@ use Rattle.satl_unit.specs.Functions.{function_of}
 use Rattle.satl_line.specs.Ranged.RangedTask.{ranged_read}
 use Rattle.satl_scenarios.proofs.Endings.{done, ended}
 use Rattle.satl_scenarios.specs.Scenario.{CanHappen}
-use Rattle.satl_scenarios.specs.Links.{done_and_lost, lost_at_an_abort, lost_in_turn, lost_on_arrival, unplugged_again}
+use Rattle.satl_scenarios.specs.Links.{done_and_lost, glitch_lost, lost_at_an_abort, lost_at_the_end, lost_in_turn, lost_on_arrival, unplugged_again}
 use Rattle.satl_scenarios.specs.Words.{aa, task, blank, device}
 use Rattle.satl_scenarios.proofs.Building.{it_can_happen, arrives, arrives_and_loses, drained, happens, manages_and_loses, one_turn, turn_more}
 use Rattle.satl_scenarios.proofs.Building.Follows.{next, ends_here}
@@ -109,3 +109,38 @@ link_lost_at_an_abort =
     (next (arrives [] two_reads (refl, refl))
     (next (manages_and_loses Complete _ (record (blank 2) { tasks = task 2 (Read Ten 1 1 false) [] ∷ [] }) unplugged (record { response_is = refl; stays = refl }) (record { was_up = refl; answer = refl; stays = refl }))
     ends_here)))
+
+-- ---- with a glitch
+
+abbrev glitchy_read : Device
+glitchy_read = record glitch_lost.first { tasks = task 1 (Read Ten 0 1 false) [] ∷ [] }
+
+pub glitch_lost_in_turn : CanHappen glitch_lost
+unfolding says fixed_form
+glitch_lost_in_turn =
+    it_can_happen glitch_lost
+    (next (arrives [] glitchy_read (refl, refl))
+    (next (one_turn glitch_lost.last (loses some (record { was_up = refl; answer = refl; glitches = inr refl; stays = refl })))
+    ends_here))
+  where
+    some : (task 1 (Read Ten 0 1 false) [] ∷ []) ≡ [] → ⊥
+    some empty = absurd cc
+
+-- ---- at the end
+
+pub link_lost_at_the_end : CanHappen lost_at_the_end
+unfolding says fixed_form accesses_conflict
+link_lost_at_the_end =
+    it_can_happen lost_at_the_end
+    (next (arrives [] (record (blank 2) { tasks = task 1 (Read Ten 0 1 false) [] ∷ [] }) (refl, refl))
+    (next (arrives [] two_reads (refl, refl))
+    (next (drained
+    (turn_more unplugged
+    (turn_more (record (blank 2) { tasks = task 1 (Read Ten 0 1 false) [] ∷ [] }) none
+    (ended waiting_read (inr (refl, inl refl)) (done (ranged_read false (over 1 1)) two_reads waiting_read refl)))
+    (loses some (record { was_up = refl; answer = refl; glitches = inl refl; stays = refl })))
+    refl)
+    ends_here)))
+  where
+    some : (task 1 (Read Ten 0 1 false) [] ∷ []) ≡ [] → ⊥
+    some empty = absurd cc

@@ -18,8 +18,8 @@ use Rattle.satl_direct.specs.Ending.{after_select, settled}
 use Rattle.satl_direct.specs.Tasks.{over}
 use Rattle.satl_direct.specs.Run.TurnsOf.{none}
 use Rattle.satl_scenarios.specs.Scenario.{CanHappen}
-use Rattle.satl_scenarios.specs.Power.{caching_list, flush, flushed, flushed_then_written, select, told_once, turned_off, turned_off_then_power}
-use Rattle.satl_scenarios.specs.Words.{aa, bb, task, blank, device, cached_over, holds, powered, zeros}
+use Rattle.satl_scenarios.specs.Power.{caching_list, flush, flushed, flushed_then_written, select, power_with_a_task, told_once, turned_off, turned_off_then_power}
+use Rattle.satl_scenarios.specs.Words.{aa, bb, task, blank, device, cached_over, holds, powered, zeros, unreadable}
 use Rattle.satl_scenarios.proofs.Building.{it_can_happen, arrives, happens, one_turn, turn_more, turns}
 use Rattle.satl_scenarios.proofs.Building.Follows.{next, ends_here}
 use Rattle.satl_scenarios.proofs.Endings.{ended, done, carried_out}
@@ -105,3 +105,11 @@ attention_once =
     (next (arrives [] (record told_once.last { tasks = read_task ∷ [] }) (refl, refl))
     (next (one_turn told_once.last (ended read_task (inl refl) (done (ranged_read false (over 0 1)) _ read_task refl)))
     ends_here))))
+
+-- ---- a task goes
+
+pub task_gone : CanHappen power_with_a_task
+task_gone =
+    it_can_happen power_with_a_task
+    (next (happens [] power_with_a_task.last (record { none = refl; cells = (left_with (cached_over zeros aa) zeros (inl refl), (left_with (unreadable bb) bb (inl refl), tt)); stays = refl }))
+    ends_here)

@@ -4,10 +4,10 @@ use Rattle.satl_base.specs.declared.reply.Response.TheVariants.{Complete, Incorr
 use Rattle.satl_cdb.specs.declared.command.Command.TheVariants.{Read}
 use Rattle.satl_cdb.specs.declared.command.Form.TheVariants.{Ten}
 use Rattle.satl_unit.specs.declared.attention.Attention.TheVariants.{UnitReset}
-use Rattle.satl_frame.specs.declared.frames.Frame.TheVariants.{End, Manage}
+use Rattle.satl_frame.specs.declared.frames.Frame.TheVariants.{End, Manage, Request}
 use Rattle.satl_frame.specs.Output.Answer.{ended}
 use Rattle.satl_scenarios.specs.Scenario.{Scenario}
-use Rattle.satl_scenarios.specs.Words.{answered, blank, check, manage, read, response, sense, silent, task}
+use Rattle.satl_scenarios.specs.Words.{answered, blank, cdb_10, check, manage, read, request, response, sense, silent, task}
 
 -- QUERY TASK of a task that waits and of one that does not, a code that stands for no function, and another logical unit (SAM-5 7.1, 7.9)
 abbrev pub queried : Scenario
@@ -52,4 +52,36 @@ reset = record {
   losses = 0;
   depth = 1;
   last = record (blank 2) { attentions = [] ∷ (UnitReset ∷ []) ∷ (UnitReset ∷ []) ∷ (UnitReset ∷ []) ∷ [] };
+}
+
+-- ABORT TASK SET: all tasks of the nexus go without an answer, which QUERY TASK SET tells, and nobody is told of it (SAM-5 7.3, 7.9)
+abbrev pub set_aborted : Scenario
+set_aborted = record {
+  first = blank 2;
+  steps =
+      silent (read 1 0 1)
+      ∷ silent (read 2 1 1)
+      ∷ answered (Manage (manage 0 0x81 0)) (response 0 0x81 0 Succeeded ∷ [])
+      ∷ answered (Manage (manage 1 0x81 0)) (response 1 0x81 0 Complete ∷ [])
+      ∷ answered (Manage (manage 0 0x02 0)) (response 0 0x02 0 Complete ∷ [])
+      ∷ answered (Manage (manage 0 0x81 0)) (response 0 0x81 0 Complete ∷ [])
+      ∷ [];
+  losses = 0;
+  depth = 2;
+  last = blank 2;
+}
+
+-- I_T NEXUS RESET, whatever the logical unit: the tasks of the nexus go, and it alone is told; the task of nexus 1 stays (SAM-5 7.6)
+abbrev pub nexus_reset : Scenario
+nexus_reset = record {
+  first = blank 2;
+  steps =
+      silent (read 1 0 1)
+      ∷ silent (Request (record (request 2 (cdb_10 0x28 1 1) []) { nexus = 1 }))
+      ∷ answered (Manage (record (manage 0 0x10 0) { lun = 0 ∷ 1 ∷ replicate 6 0 })) (response 0 0x10 0 Complete ∷ [])
+      ∷ answered (read 3 0 1) (check 3 (sense 0x6 0x29 0x07) ∷ [])
+      ∷ [];
+  losses = 0;
+  depth = 2;
+  last = record (blank 2) { tasks = record (task 2 (Read Ten 1 1 false) []) { nexus = 1 } ∷ [] };
 }

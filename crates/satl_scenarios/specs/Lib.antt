@@ -1,10 +1,14 @@
+pub mod Arrivals
 pub mod Commands
 pub mod Flaws
 pub mod Functions
 pub mod Links
+pub mod Orders
 pub mod Passes
+pub mod Pieces
 pub mod Power
 pub mod Refused
 pub mod Scenario
+pub mod Standby
 pub mod Transfers
 pub mod Words

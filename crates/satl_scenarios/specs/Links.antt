@@ -1,5 +1,5 @@
 -- The link to the drive is lost.
-use Rattle.std.specs.Prelude.{true, [], ◌∷◌}
+use Rattle.std.specs.Prelude.{false, true, [], ◌∷◌}
 use Rattle.satl_base.specs.declared.bench.BenchEvent.TheVariants.{Unplug}
 use Rattle.satl_base.specs.declared.reply.Response.TheVariants.{Complete}
 use Rattle.satl_frame.specs.declared.frames.Frame.TheVariants.{Bench, End, Manage, Turn}
@@ -72,6 +72,30 @@ lost_at_an_abort = record {
       silent (read 1 0 1)
       ∷ silent (read 2 1 1)
       ∷ answered (Manage (manage 0 0x01 1)) (check 2 (sense 0x4 0x08 0x00) ∷ response 0 0x01 1 Complete ∷ [])
+      ∷ [];
+  losses = 1;
+  depth = 2;
+  last = record (blank 2) { down = true };
+}
+
+-- a glitch goes with the link in a turn, and leaves the drive in standby (profile)
+abbrev pub glitch_lost : Scenario
+glitch_lost = record {
+  first = record (blank 2) { glitches = 2 };
+  steps = silent (read 1 0 1) ∷ answered (Turn 1) (check 1 (sense 0x4 0x08 0x00) ∷ []) ∷ [];
+  losses = 1;
+  depth = 1;
+  last = record (blank 2) { down = true; active = false; glitches = 1 };
+}
+
+-- END with a loss: one read is done in a turn, and in the next the link is lost, with which the other is answered (profile)
+abbrev pub lost_at_the_end : Scenario
+lost_at_the_end = record {
+  first = blank 2;
+  steps =
+      silent (read 1 0 1)
+      ∷ silent (read 2 1 1)
+      ∷ answered End (good 2 (zeros ∷ []) ∷ check 1 (sense 0x4 0x08 0x00) ∷ ended ∷ [])
       ∷ [];
   losses = 1;
   depth = 2;

@@ -1,5 +1,5 @@
 -- Power cycles, and what is on the medium after them.
-use Rattle.std.specs.Prelude.{false, List, [], ◌∷◌, ◌++◌, replicate}
+use Rattle.std.specs.Prelude.{false, true, List, [], ◌∷◌, ◌++◌, replicate}
 use Rattle.satl_base.specs.declared.bench.BenchEvent.TheVariants as bench
 use Rattle.satl_base.specs.declared.block.Block.{Block}
 use Rattle.satl_cdb.specs.declared.command.Command.{Command}
@@ -9,7 +9,7 @@ use Rattle.satl_unit.specs.declared.attention.Attention.TheVariants.{ModeChanged
 use Rattle.satl_frame.specs.declared.frames.Frame.TheVariants.{Bench, Turn}
 use Rattle.satl_direct.specs.Device.{Device}
 use Rattle.satl_scenarios.specs.Scenario.{Scenario}
-use Rattle.satl_scenarios.specs.Words.{aa, answered, bb, blank, cached_over, check, device, good, holds, powered, read, sense, silent, with_task, write, zeros}
+use Rattle.satl_scenarios.specs.Words.{aa, answered, bb, blank, cached_over, check, device, good, holds, powered, read, sense, silent, unreadable, with_task, write, zeros}
 
 -- a device whose first sector was written through the cache, with a command of tag 1 that waits
 abbrev pub cached_with : Command → List Block → Device
@@ -86,4 +86,21 @@ told_once = record {
   losses = 0;
   depth = 1;
   last = record (blank 2) { attentions = [] ∷ (PowerOn ∷ []) ∷ (PowerOn ∷ []) ∷ (PowerOn ∷ []) ∷ [] };
+}
+
+-- a power cycle of a unit that is stopped and has lost its link: its task goes without an answer, a sector that was written through the
+-- cache has its old block, flaws and glitches stay, and the mode values are the defaults (SAM-5 6.3; SBC-3 4.15; profile)
+abbrev pub power_with_a_task : Scenario
+power_with_a_task = record {
+  first = record (with_task 1 (commands.Read Ten 0 1 false) [] (cached_over zeros aa ∷ unreadable bb ∷ [])) {
+    started = false;
+    active = false;
+    down = true;
+    glitches = 3;
+    modes = record { wce = false; dra = true; d_sense = true };
+  };
+  steps = silent (Bench bench.Power) ∷ [];
+  losses = 0;
+  depth = 0;
+  last = record (powered (holds zeros ∷ unreadable bb ∷ [])) { glitches = 3 };
 }

@@ -2,15 +2,20 @@
 //! definitions are not empty words.
 #![tactic(auto)]
 
+pub mod arrivals;
+pub mod pieces;
+pub mod standby;
+
 ghost use Rattle.std.specs.Prelude.{◌≡◌, ◌<◌, ℕ};
 ghost use Rattle.satl_direct.specs.Valid.{IsValid};
 ghost use Rattle.satl_identify.specs.Refusals.{IsIdentity};
 ghost use Rattle.satl_scenarios.specs.Commands.{compared, miscompared, same_written, started, stopped, stopped_unflushed, unmapped, verify_failed};
 ghost use Rattle.satl_scenarios.specs.Flaws.{described, flaw_among_writes, garbled_read, spared_read, torn_write};
-ghost use Rattle.satl_scenarios.specs.Functions.{cleared, queried, reset};
-ghost use Rattle.satl_scenarios.specs.Links.{done_and_lost, lost_at_an_abort, lost_in_turn, lost_on_arrival, unplugged_again};
+ghost use Rattle.satl_scenarios.specs.Functions.{cleared, nexus_reset, queried, reset, set_aborted};
+ghost use Rattle.satl_scenarios.specs.Links.{done_and_lost, glitch_lost, lost_at_an_abort, lost_at_the_end, lost_in_turn, lost_on_arrival, unplugged_again};
+ghost use Rattle.satl_scenarios.specs.Orders.{IsOfArrivalOrder, IsOfOrderUnderErrors, torn_out_of_order, written_out_of_order};
 ghost use Rattle.satl_scenarios.specs.Passes.{cache_disabled, identified, power_checked, unreadable_through, written_through};
-ghost use Rattle.satl_scenarios.specs.Power.{flushed, flushed_then_written, told_once, turned_off, turned_off_then_power};
+ghost use Rattle.satl_scenarios.specs.Power.{flushed, flushed_then_written, power_with_a_task, told_once, turned_off, turned_off_then_power};
 ghost use Rattle.satl_scenarios.specs.Refused.{not_started, refused};
 ghost use Rattle.satl_scenarios.specs.Scenario.{CanBeCut, CanHappen};
 ghost use Rattle.satl_scenarios.specs.Transfers.{aborted_half_done, cut_off, garbled_write, one_too_many, ordered_read, overlapped_reads, reads_in_order, reads_in_reverse, two_waiting, waking_read, written_past_the_cache, written_then_read};
@@ -124,6 +129,20 @@ pub fn commands_refused_on_arrival()
 /// A stopped unit reads nothing (SPC-4 4.5.6).
 pub fn a_read_of_a_stopped_unit()
     ensures { CanHappen not_started }
+{}
+
+/// Two WRITEs and a READ over both, sent without waiting, end out of order, and the READ gives both blocks; the law of arrival
+/// order speaks of this run (SAM-5 8; SBC-3 5).
+pub fn transfers_out_of_order()
+    ensures run { CanHappen written_out_of_order }
+    ensures law { IsOfArrivalOrder written_out_of_order }
+{}
+
+/// A WRITE is torn by a CRC error after a later one has ended, and a READ over both gives what was written; then the link is
+/// lost. The law of order under errors speaks of this run (SAM-5 8; SPC-4 4.5.6; profile).
+pub fn a_torn_write_out_of_order()
+    ensures run { CanHappen torn_out_of_order }
+    ensures law { IsOfOrderUnderErrors torn_out_of_order }
 {}
 
 /// Tasks are asked for, and functions are refused (SAM-5 7.1, 7.9).
@@ -259,4 +278,29 @@ pub fn a_lost_link_on_arrival()
 /// The link is lost as a task is aborted (profile).
 pub fn a_lost_link_at_an_abort()
     ensures { CanHappen lost_at_an_abort }
+{}
+
+/// All tasks of a nexus are aborted (SAM-5 7.3).
+pub fn tasks_aborted_as_a_set()
+    ensures { CanHappen set_aborted }
+{}
+
+/// A nexus is told that it was reset, and another's task stays (SAM-5 7.6).
+pub fn a_nexus_reset()
+    ensures { CanHappen nexus_reset }
+{}
+
+/// A glitch goes with the link in a turn (profile).
+pub fn a_glitch_lost_with_the_link()
+    ensures { CanHappen glitch_lost }
+{}
+
+/// The link is lost in one of the turns at the end (profile).
+pub fn a_lost_link_at_the_end()
+    ensures { CanHappen lost_at_the_end }
+{}
+
+/// A power cycle takes a task without an answer (SAM-5 6.3).
+pub fn power_with_a_task_pending()
+    ensures { CanHappen power_with_a_task }
 {}

@@ -1,4 +1,4 @@
-pub mod CompletenessLemmas
-pub mod RunLemmas
-pub mod ServingLemmas
-pub mod ToldLemmas
+mod CompletenessLemmas
+mod PrintingLemmas
+mod RunLemmas
+mod ServingLemmas

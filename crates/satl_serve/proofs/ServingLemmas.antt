@@ -1,126 +1,132 @@
--- A request that a reader gives may be handed to the layer.
-use Rattle.std.proofs.Common.{◌≡◌, ◌⊎◌, inl, inr, refl, sym, ap, subst, ◌∙◌, arith, ℕ, ◌+◌, ◌-◌, ◌*◌, ◌<◌, ◌≤◌, true, false, List, length, take}
-use Rattle.std.specs.Prelude.{Option, Some, None, Result, Ok, Err, IfErr, nat_lt, not}
-use Rattle.std.proofs.lemmas.Bool.{ltb-true, ltb-false}
-use Rattle.std.proofs.lemmas.List.{take_all, length-take-le}
-use Rattle.satl_base.specs.declared.request.Request.{Request}
-use Rattle.satl_frame.specs.Frames.{HasExpected, IsFrame, IsRequest, data_out, spelled}
-use Rattle.satl_frame.specs.Pulls.{cut_to, frame_pages}
-use Rattle.satl_frame.specs.Reading.{Gave, IsNext, Reading}
-use Rattle.satl_frame.specs.declared.frames.Place.{Place}
-use Rattle.satl_frame.specs.declared.frames.Version.{Version}
-use Rattle.satl_frame.specs.declared.frames.Version.TheVariants.{One, Two}
+-- Serving from before the layer was opened.
+use Rattle.std.proofs.Common.{◌≡◌, ◌⊎◌, inl, inr, refl, sym, ap, subst, arith, ◌∙◌, ℕ, ◌+◌, ◌≤◌, List, [], map}
+use Rattle.std.specs.Prelude.{Option, Ok, Err, Result, IfErr}
+use Rattle.std.specs.Result.{IsErrAnd}
+use Rattle.satl_io.specs.Causes.{RoseBy}
 use Rattle.satl_frame.specs.declared.frames.Frame.{Frame}
-use Rattle.satl_frame.specs.declared.frames.Frame.TheVariants as frames
 use Rattle.satl_frame.specs.declared.frames.FrameFault.{FrameFault}
-use Rattle.satl_frame.specs.declared.frames.FrameFault.TheVariants.{ReadFault}
-use Rattle.satl_io.specs.Causes.{Rose}
-use Rattle.satl_frame.proofs.Paging.{length-pages_of}
-use Rattle.satl_direct.specs.Valid.{IsValid}
-use Rattle.satl_core.specs.Layer.{IsExpectable, Layer, Tied, view}
-use Rattle.satl_core.specs.Submitting.{CanSubmit}
+use Rattle.satl_frame.specs.declared.frames.FrameFault.TheVariants.{Bad, ReadFault}
+use Rattle.satl_frame.specs.Output.{Answer}
+use Rattle.satl_line.specs.Tasks.{entries_of}
+use Rattle.satl_text.specs.declared.summary.Summary.{Summary}
 use Rattle.satl_drive.specs.State.{DriveState}
+use Rattle.satl_direct.specs.Device.{Device}
+use Rattle.satl_direct.specs.Tasks.{task_of}
+use Rattle.satl_core.specs.Layer.{Layer, Tied, view}
+use Rattle.satl_core.specs.Opening.{IsOpened}
+use Rattle.satl_step.specs.Runs.{AreCounted, RunCutSoFar, RunSoFar, Stand, Tally, tally_of, unplugs_in}
+use Rattle.satl_serve.specs.Headline.{IsStopped}
+use Rattle.satl_serve.specs.Moments.{Moment, Spot, spot_at}
+use Rattle.satl_serve.specs.Runs.{BrokeInAnswers, BrokeInFault, BrokeInMagic, IsFirst, IsLeftAs, RanBefore, RanInPart, RanWhole, Serves}
+use Rattle.satl_serve.specs.Stopping.{RanTo}
 use Rattle.satl_serve.specs.declared.serving.ServeFault.{ServeFault}
 use Rattle.satl_serve.specs.declared.serving.ServeFault.TheVariants as faults
 use Rattle.satl_serve.specs.declared.telling.Form.{Form}
-use Rattle.satl_serve.specs.Runs.{Tells}
-use Rattle.satl_serve.specs.Serving.{AtRest, HasFrameCause, HasWriteCause, place_offset}
 
-expectable : (version : Version) (expected : Option ℕ) → HasExpected version expected → IsExpectable expected
-expectable One expected h = rw h tt
-expectable Two None h = absurd h
-expectable Two (Some count) h = h
-
--- the pages of a whole request hold its data-out
-holds : (version : Version) (w : Request) → IsRequest version w → w.data_len ≤ 512 * length w.body
-holds version w is =
-    let pages = ap length is.sent.pages ∙ length-pages_of (data_out w) in
-    let size = is.sent.size in
-    omega (arith, pages, size)
-
--- a whole request whose pages were cut to those that were free
-cut_request : (version : Version) (w : Request) (room free out : ℕ) → IsRequest version w → free + length (take room w.body) ≡ room → out ≡ length (take room w.body) → CanSubmit (record w { body = take room w.body }) free out
-cut_request version w room free out is left lent = record {
-  pages = lent;
-  all =
-      (elim (nat_lt room (length w.body)) as (λ b. nat_lt room (length w.body) ≡ b → (w.data_len ≤ 512 * length (take room w.body)) ⊎ (free ≡ 0)) [
-        | true ↦ λ cut. let few = ltb-true room (length w.body) cut in let all = length-take-le room w.body (omega (arith, few)) in inr (omega (arith, all, left))
-        | false ↦ λ cut. let enough = ltb-false room (length w.body) cut in let same = ap length (take_all room w.body (omega (arith, enough))) in let hold = holds version w is in inl (omega (arith, same, hold))
-      ]) refl;
-  expected = expectable version w.expected is.fields.expected;
+-- an opened layer and its drive are a first device
+first_of : (old new : DriveState) (l : Layer) → IsOpened old l new → IsFirst old (view l new)
+first_of old new l o = record {
+  cells = o.lost;
+  tasks = ap (λ t. map task_of (entries_of t)) o.tasks;
+  identity = o.identity;
+  wce = o.wce;
+  dra = o.dra;
+  d_sense = o.d_sense;
+  started = o.started;
+  up = sym o.tied.mark ∙ o.up;
+  active = ap (λ (d : DriveState). d.active) o.stays;
+  attentions = o.attentions;
+  glitches = ap (λ (d : DriveState). d.glitches) o.stays;
+  valid = o.tied.valid;
 }
 
-by_whole : (version : Version) (whole : Frame) (r : Request) (room free out : ℕ) → IsFrame version whole → frames.Request r ≡ cut_to room whole → free + length r.body ≡ room → out ≡ length r.body → CanSubmit r free out
-by_whole version (frames.Request w) r room free out is e left lent =
-    let same : r ≡ record w { body = take room w.body } = cc in
-    subst (λ x. CanSubmit x free out) (sym same) (cut_request version w room free out is (ap (λ (x : Request). free + length x.body) (sym same) ∙ left) (lent ∙ ap (λ (x : Request). length x.body) same))
-by_whole version (frames.Manage m) r room free out is e left lent = absurd cc
-by_whole version (frames.Turn n) r room free out is e left lent = absurd cc
-by_whole version (frames.Bench event) r room free out is e left lent = absurd cc
-by_whole version frames.End r room free out is e left lent = absurd cc
-
-pub can_submit : (old new : Reading) (room free before out : ℕ) (frame : Frame) (r : Request) (left left' : Option (List ℕ)) → Gave old room frame new left left' → frame ≡ frames.Request r → before ≡ 0 → free + frame_pages frame ≡ room → out ≡ before + frame_pages frame → CanSubmit r free out
-can_submit old new room free before out frame r left left' gave is none lent out_is =
-    let pages = ap frame_pages is in
-    by_whole gave.place.version gave.whole r room free out gave.is_frame (sym is ∙ gave.cut) (omega (arith, pages, lent)) (omega (arith, pages, none, out_is))
-
--- ---- the layer, whose pages were lent to a frame
-
--- the tie does not see pages
-pub tied_lent : (l l' : Layer) (d : DriveState) → record l' { free = 0; out = 0 } ≡ record l { free = 0; out = 0 } → Tied l d → Tied l' d
-tied_lent l l' d same t = record {
-  mark = ap (λ (x : Layer). x.down) same ∙ t.mark;
-  idle = t.idle;
-  no_error = t.no_error;
-  fit = t.fit;
-  cache = λ up. t.cache (sym (ap (λ (x : Layer). x.down) same) ∙ up) ∙ ap (λ (x : Layer). x.modes.wce) (sym same);
-  look = λ up. t.look (sym (ap (λ (x : Layer). x.down) same) ∙ up) ∙ ap (λ (x : Layer). not x.modes.dra) (sym same);
-  has_cache = t.has_cache ∙ ap (λ (x : Layer). x.identity.cache) (sym same);
-  has_look = t.has_look ∙ ap (λ (x : Layer). x.identity.look) (sym same);
-  valid = subst IsValid (sym (ap (λ (x : Layer). view x d) same)) t.valid;
+-- a drive is left as the device that it and its layer are
+left_as : (l : Layer) (d : DriveState) → Tied l d → IsLeftAs (view l d) d
+left_as l d t = record {
+  cells = refl;
+  active = refl;
+  glitches = refl;
+  down = refl;
+  cache = λ up. t.cache (t.mark ∙ up);
+  look = λ up. t.look (t.mark ∙ up);
 }
 
--- a frame without pages leaves the layer at rest
-pub rest_lent : (l l' : Layer) (d : DriveState) (pages : ℕ) → record l' { free = 0; out = 0 } ≡ record l { free = 0; out = 0 } → pages ≡ 0 → l'.out ≡ l.out + pages → AtRest l d → AtRest l' d
-rest_lent l l' d pages same none out r = record { tied = tied_lent l l' d same r.tied; all_in = omega (arith, none, out, r.all_in) }
+-- ---- a run is counted from an earlier stand
 
--- ---- each frame takes the reader further towards its limit
+module _ (s : Device) (old new : Tally) (faults_same : new.faults ≡ old.faults) (unplugs_same : new.unplugs ≡ old.unplugs) (few : new.calls ≤ old.calls) where
+  sooner_counted : (events : List Frame) (losses : ℕ) (b : Stand) → AreCounted events losses (record { device = s; tally = new }) b → AreCounted events losses (record { device = s; tally = old }) b
+  sooner_counted events losses b c = record {
+    faults = subst (λ n. RoseBy losses n b.tally.faults) faults_same c.faults;
+    unplugged = subst (λ n. RoseBy (unplugs_in events) n b.tally.unplugs) unplugs_same c.unplugged;
+    few_unplugs = omega (arith, unplugs_same, c.few_unplugs);
+    few_calls = omega (arith, few, c.few_calls);
+  }
 
--- what is left to the limit gets less
-pub nearer : {old new : Reading} {room : ℕ} {frame : Frame} {left left' : Option (List ℕ)} → Gave old room frame new left left' → new.limit - place_offset new.place < old.limit - place_offset old.place
-nearer {old} {new} gave =
-    subst (λ (r : Reading). r.limit - place_offset r.place < old.limit - place_offset old.place) (sym gave.new_is)
-    (by_place old.limit old.newest old.place gave.place (length (spelled gave.whole)) gave.next gave.within some_bytes)
-  where
-    some_bytes : 0 < length (spelled gave.whole)
-    some_bytes = omega arith
+  sooner : (b : Stand) (events : List Frame) (groups : List (List Answer)) → RunSoFar (record { device = s; tally = new }) b events groups → RunSoFar (record { device = s; tally = old }) b events groups
+  sooner b events groups r = record { losses = r.losses; deep = r.deep; run = r.run; counted = sooner_counted events r.losses b r.counted }
 
-    by_place : (limit : ℕ) (newest : Version) (at : Option Place) (place : Place) (size : ℕ) → IsNext newest at place → place.offset + size ≤ limit → 0 < size → limit - (place.offset + size) < limit - place_offset at
-    by_place limit newest None place size next within some = omega arith
-    by_place limit newest (Some p) place size next within some = let same : place.offset ≡ p.offset = ap (λ (x : Place). x.offset) next in omega arith
+  sooner_cut : (b : Stand) (events : List Frame) (groups : List (List Answer)) → RunCutSoFar (record { device = s; tally = new }) b events groups → RunCutSoFar (record { device = s; tally = old }) b events groups
+  sooner_cut b events groups r = record { losses = r.losses; run = r.run; counted = sooner_counted events r.losses b r.counted }
 
--- ---- causes
+  module _ (form : Form) (limit : ℕ) (left written : Option (List ℕ)) (b : Spot) where
+    sooner_whole : (summary : Summary) → RanWhole form limit summary (record { left = left; written = written; stand = record { device = s; tally = new } }) b → RanWhole form limit summary (record { left = left; written = written; stand = record { device = s; tally = old } }) b
+    sooner_whole summary r = record { events = r.events; groups = r.groups; place = r.place; read = r.read; wrote = r.wrote; run = sooner b.stand _ _ r.run; totals = r.totals }
 
--- a fault of the last frame's answers, seen from the beginning
-pub write_cause : {A : Type 0} (r : Result A ServeFault) (read_before read_now before mid now : ℕ) → before ≤ mid → IfErr r (HasWriteCause mid now) → IfErr r (HasFrameCause read_before read_now before now)
-write_cause (Ok x) read_before read_now before mid now later h = tt
-write_cause (Err (faults.Open opening)) read_before read_now before mid now later h = absurd h
-write_cause (Err (faults.BadInput reason offset)) read_before read_now before mid now later h = tt
-write_cause (Err faults.Read) read_before read_now before mid now later h = absurd h
-write_cause (Err faults.Write) read_before read_now before mid now later h = omega arith
+    sooner_before : (why : FrameFault) → RanBefore form limit why (record { left = left; written = written; stand = record { device = s; tally = new } }) b → RanBefore form limit why (record { left = left; written = written; stand = record { device = s; tally = old } }) b
+    sooner_before why r = record { events = r.events; groups = r.groups; read = r.read; wrote = r.wrote; run = sooner b.stand _ _ r.run }
 
--- a fault of the frames, seen from before the magic
-pub earlier_cause : {A : Type 0} (r : Result A ServeFault) (read_before read_now before mid now : ℕ) → before ≤ mid → IfErr r (HasFrameCause read_before read_now mid now) → IfErr r (HasFrameCause read_before read_now before now)
-earlier_cause (Ok x) read_before read_now before mid now later h = tt
-earlier_cause (Err (faults.Open opening)) read_before read_now before mid now later h = h
-earlier_cause (Err (faults.BadInput reason offset)) read_before read_now before mid now later h = h
-earlier_cause (Err faults.Read) read_before read_now before mid now later h = h
-earlier_cause (Err faults.Write) read_before read_now before mid now later h = omega arith
+    sooner_part : RanInPart form limit (record { left = left; written = written; stand = record { device = s; tally = new } }) b → RanInPart form limit (record { left = left; written = written; stand = record { device = s; tally = old } }) b
+    sooner_part (inl r) = inl (record { read = r.read; part = r.part; run = sooner b.stand [] [] r.run })
+    sooner_part (inr (inl r)) = inr (inl (record { events = r.events; groups = r.groups; event = r.event; answers = r.answers; reader = r.reader; behind = r.behind; limit_is = r.limit_is; newest_is = r.newest_is; none_ends = r.none_ends; read = r.read; wrote = r.wrote; part = r.part; run = sooner_cut b.stand _ _ r.run }))
+    sooner_part (inr (inr r)) = inr (inr (record { events = r.events; groups = r.groups; reason = r.reason; offset = r.offset; behind = r.behind; read = r.read; wrote = r.wrote; part = r.part; run = sooner b.stand _ _ r.run }))
 
--- a fault at a frame that was refused, seen from the beginning
-pub refused_cause : (form : Form) (fault : ServeFault) (why : FrameFault) (w w' : Option (List ℕ)) (read_before read_mid read_now before mid now : ℕ) → read_before ≤ read_mid → before ≤ mid → (why ≡ ReadFault → Rose read_mid read_now) → Tells form why w w' fault → ((fault ≡ faults.Write) → Rose mid now)
-    → HasFrameCause read_before read_now before now fault
-refused_cause form (faults.Open opening) why w w' read_before read_mid read_now before mid now earlier later read tells write = absurd tells
-refused_cause form (faults.BadInput reason offset) why w w' read_before read_mid read_now before mid now earlier later read tells write = tt
-refused_cause form faults.Read why w w' read_before read_mid read_now before mid now earlier later read tells write = let rose = read tells.0 in omega arith
-refused_cause form faults.Write why w w' read_before read_mid read_now before mid now earlier later read tells write = let rose = write refl in omega arith
+-- ---- serving
+
+-- how the layer was opened and served, on a drive that was first so, then opened, and last so
+module _ (form : Form) (limit : ℕ) (before after : Moment) (mid : DriveState) (opened : ℕ) (l l' : Layer) (is : IsOpened before.drive l mid) (unplugs_same : mid.unplugs ≡ before.drive.unplugs) (one : opened ≤ before.calls + 1) (tied : Tied l' after.drive) where
+  abbrev a : Spot
+  a = record { left = before.source.left; written = before.sink.written; stand = record { device = view l mid; tally = tally_of mid opened } }
+
+  abbrev b : Spot
+  b = spot_at (view l' after.drive) after.calls after
+
+  faults_same : mid.faults ≡ before.drive.faults
+  faults_same = ap (λ (d : DriveState). d.faults) is.stays
+
+  pub serves_whole : (summary : Summary) → RanWhole form limit summary a b → Serves (RanWhole form limit summary) before after
+  serves_whole summary r = record {
+    first = view l mid;
+    last = view l' after.drive;
+    begins = first_of before.drive mid l is;
+    run = sooner_whole (view l mid) (tally_of before.drive (before.calls + 1)) (tally_of mid opened) faults_same unplugs_same one form limit before.source.left before.sink.written b summary r;
+    ends = left_as l' after.drive tied;
+  }
+
+  serves_before : (why : FrameFault) → RanBefore form limit why a b → Serves (RanBefore form limit why) before after
+  serves_before why r = record {
+    first = view l mid;
+    last = view l' after.drive;
+    begins = first_of before.drive mid l is;
+    run = sooner_before (view l mid) (tally_of before.drive (before.calls + 1)) (tally_of mid opened) faults_same unplugs_same one form limit before.source.left before.sink.written b why r;
+    ends = left_as l' after.drive tied;
+  }
+
+  serves_part : RanInPart form limit a b → Serves (RanInPart form limit) before after
+  serves_part r = record {
+    first = view l mid;
+    last = view l' after.drive;
+    begins = first_of before.drive mid l is;
+    run = sooner_part (view l mid) (tally_of before.drive (before.calls + 1)) (tally_of mid opened) faults_same unplugs_same one form limit before.source.left before.sink.written b r;
+    ends = left_as l' after.drive tied;
+  }
+
+  pub stops : (fault : ServeFault) → RanTo form limit a b fault → IsStopped form limit before after fault
+  stops (faults.Open opening) r = absurd r
+  stops (faults.BadInput reason offset) r = serves_before (Bad reason offset) r
+  stops faults.Read r = serves_before ReadFault r
+  stops faults.Write r = serves_part r
+
+-- a write failed before anything was read
+pub any_write : (form : Form) (limit : ℕ) (before after : Spot) (r : Result Summary ServeFault) (P : ServeFault → Type 0) → IsErrAnd r P → ((e : ServeFault) → P e → e ≡ faults.Write) → RanInPart form limit before after → IfErr r (RanTo form limit before after)
+any_write form limit before after (Ok u) P is same part = tt
+any_write form limit before after (Err e) P is same part = subst (RanTo form limit before after) (sym (same e is)) part

@@ -1,5 +1,7 @@
 -- How an output is told: as frames, as lines of text, or not at all but for a refused input (profile).
 use Rattle.std.specs.Prelude.{ℕ, List, [], ◌∷◌, ◌++◌}
+use Rattle.satl_frame.specs.declared.frames.FrameFault.{FrameFault}
+use Rattle.satl_frame.specs.declared.frames.FrameFault.TheVariants.{Bad, ReadFault}
 use Rattle.satl_frame.specs.declared.frames.Reason.{Reason}
 use Rattle.satl_frame.specs.Output.{Answer, answer_bytes, fault_bytes, out_magic}
 use Rattle.satl_text.specs.Lines.{answer_line, fault_line}
@@ -23,6 +25,11 @@ abbrev pub fault_told : Form → Reason → ℕ → List ℕ
 fault_told forms.Frames reason offset = fault_bytes reason offset
 fault_told forms.Text reason offset = fault_line reason offset
 fault_told forms.Count reason offset = fault_line reason offset
+
+-- what is told of a frame that was refused or not read: a FAULT, or nothing (profile)
+abbrev pub told_of : Form → FrameFault → List ℕ
+told_of form (Bad reason offset) = fault_told form reason offset
+told_of form ReadFault = []
 
 -- answers, one after the other (profile)
 abbrev pub all_told : Form → List Answer → List ℕ

@@ -1,5 +1,7 @@
 pub mod Completeness
 pub mod Forms
+pub mod Growing
 pub mod Headline
+pub mod Moments
 pub mod Runs
-pub mod Serving
+pub mod Stopping

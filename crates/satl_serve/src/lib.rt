@@ -1,6 +1,7 @@
-//! The loop over frames: each one read is carried out on the layer, and its answers are written before the next is read.
+//! An input of frames is served: it is carried out frame by frame, and its answers are written in a form.
 #![tactic(auto)]
 
+mod printer;
 mod serving;
 mod telling;
 

@@ -1,34 +1,26 @@
-// The loop over frames.
-ghost use Rattle.std.specs.Prelude.{◌≡◌, ◌≤◌, ◌+◌, ◌*◌, ◌-◌, ℕ, List, [], Some, None, IfErr, IfOk, MatchResult, OnErr, OnOk, length, map};
-ghost use Rattle.std.specs.List.{AllByRecursion};
+// An input is served.
+ghost use Rattle.std.specs.Prelude.{◌≡◌, ◌≤◌, ℕ, List, [], Some, None, IfErr, IfOk, MatchResult};
 ghost use Rattle.std.specs.Result.{IsErrAnd};
-ghost use Rattle.satl_base.specs.declared.request.Request.{Request};
-ghost use Rattle.satl_io.specs.Causes.{Rose, RoseBy};
-ghost use Rattle.satl_io.specs.Known.{Wrote, WrotePart};
+ghost use Rattle.satl_io.specs.Causes.{Rose};
 ghost use Rattle.satl_identify.specs.declared.identity.IdentityFault.{IdentityFault};
 ghost use Rattle.satl_frame.specs.declared.frames.Frame.{Frame};
-ghost use Rattle.satl_frame.specs.Output.{IsWritable};
-ghost use Rattle.satl_serve.specs.Forms.{all_told};
-ghost use Rattle.satl_frame.specs.Output.Answer.{ended, replied};
 ghost use Rattle.satl_drive.specs.State.{IsFit};
-ghost use Rattle.satl_direct.specs.Arrival.{Arrives};
-ghost use Rattle.satl_direct.specs.Quiet.{Around};
-ghost use Rattle.satl_direct.specs.Bench.{Happens};
-ghost use Rattle.satl_direct.specs.Run.{MayLose, bench_losses, losses_of};
-ghost use Rattle.satl_direct.specs.Turn.{Turn};
-ghost use Rattle.satl_core.specs.Layer.{Tied, reply_pages, view};
-ghost use Rattle.satl_core.specs.Submitting.{CanSubmit, IsCutOf};
-ghost use Rattle.satl_core.specs.Turning.{task_calls};
+ghost use Rattle.satl_core.specs.Layer.{Tied};
+ghost use Rattle.satl_step.specs.Runs.{stand_of};
 ghost use Rattle.satl_serve.specs.Completeness.{GoesWell, IsGoodInput, MayStop};
-ghost use Rattle.satl_serve.specs.Runs.{Answered, AnsweredBehind, AnsweredManage, AnsweredPart, AnsweredPartManage, Counts, DrainsSo, Ended, EndsPart, IsServed, IsStopped, StoppedBehind, Tells, TookSome, TookTurns, input_limit, tally_of};
-ghost use Rattle.satl_serve.specs.Serving.{AtRest, HasFrameCause, HasServeCause, HasWriteCause, IsRefused, TellsRefusal};
+ghost use Rattle.satl_serve.specs.Headline.{IsServedWhole, IsStopped};
+ghost use Rattle.satl_serve.specs.Moments.{moment, reads, writes};
+ghost use Rattle.satl_serve.specs.Runs.{RanWhole, input_limit};
+ghost use Rattle.satl_serve.specs.Stopping.{HasServeCause, HasStreamCause, IsRefused, RanTo, Tells, TellsRefusal, TellsStop};
 
-use crate::telling::{Form, tell_beginning, tell_end, tell_fault, tell_managed, tell_reply};
-use satl_base::{BenchEvent, Manage, Replies, Request, Steps};
+use crate::printer::Printer;
+use crate::telling::{Form, tell_beginning, tell_fault};
+use satl_base::Steps;
 use satl_core::{OpenFault, Satl};
-use satl_drive::{Bench, Drive};
-use satl_frame::{Frame, FrameFault, FrameReader, Reason, WriteFault};
+use satl_drive::Bench;
+use satl_frame::{FrameFault, FrameReader, Reason, WriteFault};
 use satl_io::{Sink, Source};
+use satl_step::{Stop, serve_frames};
 use satl_text::Summary;
 use std::alloc::Global;
 use std::sync::ledger::Ledger;
@@ -72,210 +64,6 @@ impl From<OpenFault> for ServeFault {
 // The number of bytes within which each frame of an input ends: 2^40 (profile).
 const LIMIT: u64 = 1 << 40;
 
-/// Writes the replies in order, counts them, and takes their pages back.
-fn answer<K: Sink>(
-    form: Form,
-    satl: &mut Satl,
-    sink: &mut K,
-    replies: &mut Replies,
-    totals: &mut Summary,
-) -> Result<(), ServeFault>
-    requires writable { AllByRecursion IsWritable replies.old }
-    requires pages { satl.old.out ≡ reply_pages replies.old }
-    ensures stays { satl.new ≡ record satl.old { free = satl.new.free; out = satl.new.out } }
-    ensures all_in { OnOk result (satl.new.out ≡ 0) }
-    ensures none { OnOk result (replies.new ≡ []) }
-    ensures wrote { OnOk result (Wrote (K.written sink.old) (K.written sink.new) (all_told form (map replied replies.old))) }
-    ensures counts { OnOk result (Counts totals.old totals.new (map replied replies.old)) }
-    ensures part { OnErr result (WrotePart (K.written sink.old) (K.written sink.new) (all_told form (map replied replies.old))) }
-    ensures later { K.faults sink.old ≤ K.faults sink.new }
-    ensures cause { IfErr result (HasWriteCause (K.faults sink.old) (K.faults sink.new)) }
-{
-    for _ in 0..replies.len() {
-        let Some(reply) = replies.pop_first() else {
-            unreachable!();
-        };
-        tell_reply(form, &reply, sink)?;
-        totals.add_reply(&reply);
-        satl.recycle(reply.body);
-    }
-    Ok(())
-}
-
-/// A request arrives, and what is answered at once is written.
-fn serve_request<K: Sink, D: Drive, L: Ledger>(
-    form: Form,
-    satl: &mut Satl,
-    request: Request,
-    sink: &mut K,
-    drive: &mut D,
-    replies: &mut Replies,
-    totals: &mut Summary,
-    steps: &mut Steps<L>,
-) -> Result<(), ServeFault>
-    requires tied { Tied satl.old (D.state drive.old) }
-    requires can { CanSubmit request satl.old.free satl.old.out }
-    requires none { replies.old ≡ [] }
-    ensures rest { OnOk result (AtRest satl.new (D.state drive.new)) }
-    ensures none { OnOk result (replies.new ≡ []) }
-    ensures answered { OnOk result (Answered form (λ replies. (whole : Request) → IsCutOf whole request → Around (MayLose (Arrives whole)) (view satl.old (D.state drive.old)) replies (view satl.new (D.state drive.new))) (K.written sink.old) (K.written sink.new) totals.old totals.new) }
-    ensures part { OnErr result (AnsweredPart form (λ replies. (whole : Request) → IsCutOf whole request → Around (MayLose (Arrives whole)) (view satl.old (D.state drive.old)) replies (view satl.new (D.state drive.new))) (K.written sink.old) (K.written sink.new)) }
-    ensures more { length satl.new.tasks ≤ length satl.old.tasks + 1 }
-    ensures drive { drive.new ≡ drive.old }
-    ensures steps { steps.new ≡ steps.old }
-    ensures later { K.faults sink.old ≤ K.faults sink.new }
-    ensures cause { IfErr result (HasWriteCause (K.faults sink.old) (K.faults sink.new)) }
-{
-    satl.submit(request, drive, replies, steps);
-    answer(form, satl, sink, replies, totals)
-}
-
-/// A task management function is carried out, and what it answers is written.
-fn serve_manage<K: Sink, D: Drive, L: Ledger>(
-    form: Form,
-    satl: &mut Satl,
-    manage: &Manage,
-    sink: &mut K,
-    drive: &mut D,
-    replies: &mut Replies,
-    totals: &mut Summary,
-    steps: &mut Steps<L>,
-) -> Result<(), ServeFault>
-    requires rest { AtRest satl.old (D.state drive.old) }
-    requires none { replies.old ≡ [] }
-    ensures rest { OnOk result (AtRest satl.new (D.state drive.new)) }
-    ensures none { OnOk result (replies.new ≡ []) }
-    ensures answered { OnOk result (AnsweredManage form manage.now (view satl.old (D.state drive.old)) (K.written sink.old) (K.written sink.new) totals.old totals.new (view satl.new (D.state drive.new))) }
-    ensures part { OnErr result (AnsweredPartManage form manage.now (view satl.old (D.state drive.old)) (K.written sink.old) (K.written sink.new) (view satl.new (D.state drive.new))) }
-    ensures fewer { length satl.new.tasks ≤ length satl.old.tasks }
-    ensures drive { drive.new ≡ drive.old }
-    ensures steps { steps.new ≡ steps.old }
-    ensures later { K.faults sink.old ≤ K.faults sink.new }
-    ensures cause { IfErr result (HasWriteCause (K.faults sink.old) (K.faults sink.new)) }
-{
-    let response = satl.manage(manage, drive, replies, steps);
-    answer(form, satl, sink, replies, totals)?;
-    tell_managed(form, manage, response, sink)?;
-    Ok(())
-}
-
-/// An event of the test bench happens, and what it answers is written.
-fn serve_bench<K: Sink, D: Bench, L: Ledger>(
-    form: Form,
-    satl: &mut Satl,
-    event: &BenchEvent,
-    sink: &mut K,
-    drive: &mut D,
-    replies: &mut Replies,
-    totals: &mut Summary,
-    steps: &mut Steps<L>,
-) -> Result<(), ServeFault>
-    requires rest { AtRest satl.old (D.state drive.old) }
-    requires none { replies.old ≡ [] }
-    ensures rest { OnOk result (AtRest satl.new (D.state drive.new)) }
-    ensures none { OnOk result (replies.new ≡ []) }
-    ensures answered { OnOk result (Answered form (λ replies. Around (Happens event.now) (view satl.old (D.state drive.old)) replies (view satl.new (D.state drive.new))) (K.written sink.old) (K.written sink.new) totals.old totals.new) }
-    ensures part { OnErr result (AnsweredPart form (λ replies. Around (Happens event.now) (view satl.old (D.state drive.old)) replies (view satl.new (D.state drive.new))) (K.written sink.old) (K.written sink.new)) }
-    ensures fewer { length satl.new.tasks ≤ length satl.old.tasks }
-    ensures counted { RoseBy (bench_losses event.now) (D.state drive.old).faults (D.state drive.new).faults }
-    ensures steps { steps.new ≡ steps.old }
-    ensures later { K.faults sink.old ≤ K.faults sink.new }
-    ensures cause { IfErr result (HasWriteCause (K.faults sink.old) (K.faults sink.new)) }
-{
-    satl.bench(event, drive, replies, steps);
-    answer(form, satl, sink, replies, totals)
-}
-
-/// One turn, whose answers are written.
-fn serve_turn<K: Sink, D: Drive, L: Ledger>(
-    form: Form,
-    satl: &mut Satl,
-    sink: &mut K,
-    drive: &mut D,
-    replies: &mut Replies,
-    totals: &mut Summary,
-    steps: &mut Steps<L>,
-) -> Result<(), ServeFault>
-    requires rest { AtRest satl.old (D.state drive.old) }
-    requires none { replies.old ≡ [] }
-    ensures rest { OnOk result (AtRest satl.new (D.state drive.new)) }
-    ensures none { OnOk result (replies.new ≡ []) }
-    ensures answered { OnOk result (Answered form (λ replies. Around Turn (view satl.old (D.state drive.old)) replies (view satl.new (D.state drive.new))) (K.written sink.old) (K.written sink.new) totals.old totals.new) }
-    ensures part { OnErr result (AnsweredPart form (λ replies. Around Turn (view satl.old (D.state drive.old)) replies (view satl.new (D.state drive.new))) (K.written sink.old) (K.written sink.new)) }
-    ensures fewer { OnOk result (length satl.new.tasks ≤ length satl.old.tasks - 1) }
-    ensures counted { RoseBy (losses_of (view satl.old (D.state drive.old)) (view satl.new (D.state drive.new))) (D.state drive.old).faults (D.state drive.new).faults }
-    ensures calls { steps.new + task_calls * length satl.new.tasks ≤ steps.old + task_calls * length satl.old.tasks }
-    ensures later { K.faults sink.old ≤ K.faults sink.new }
-    ensures cause { IfErr result (HasWriteCause (K.faults sink.old) (K.faults sink.new)) }
-{
-    satl.turn(drive, replies, steps);
-    answer(form, satl, sink, replies, totals)
-}
-
-/// So many turns, each answered before the next.
-fn serve_turns<K: Sink, D: Drive, L: Ledger>(
-    form: Form,
-    satl: &mut Satl,
-    count: u16,
-    sink: &mut K,
-    drive: &mut D,
-    replies: &mut Replies,
-    totals: &mut Summary,
-    steps: &mut Steps<L>,
-) -> Result<(), ServeFault>
-    requires rest { AtRest satl.old (D.state drive.old) }
-    requires none { replies.old ≡ [] }
-    ensures rest { OnOk result (AtRest satl.new (D.state drive.new)) }
-    ensures none { OnOk result (replies.new ≡ []) }
-    ensures answered { OnOk result (Answered form (λ replies. TookTurns count (view satl.old (D.state drive.old)) replies (view satl.new (D.state drive.new))) (K.written sink.old) (K.written sink.new) totals.old totals.new) }
-    ensures part { OnErr result (AnsweredPart form (λ replies. TookSome count (view satl.old (D.state drive.old)) replies (view satl.new (D.state drive.new))) (K.written sink.old) (K.written sink.new)) }
-    ensures fewer { OnOk result (length satl.new.tasks ≤ length satl.old.tasks - count) }
-    ensures counted { RoseBy (losses_of (view satl.old (D.state drive.old)) (view satl.new (D.state drive.new))) (D.state drive.old).faults (D.state drive.new).faults }
-    ensures calls { steps.new + task_calls * length satl.new.tasks ≤ steps.old + task_calls * length satl.old.tasks }
-    ensures later { K.faults sink.old ≤ K.faults sink.new }
-    ensures cause { IfErr result (HasWriteCause (K.faults sink.old) (K.faults sink.new)) }
-{
-    for _ in 0..count {
-        serve_turn(form, satl, sink, drive, replies, totals, steps)?;
-    }
-    Ok(())
-}
-
-/// Turns until no task waits, and the end of the output.
-fn serve_end<K: Sink, D: Drive, L: Ledger>(
-    form: Form,
-    satl: &mut Satl,
-    sink: &mut K,
-    drive: &mut D,
-    replies: &mut Replies,
-    totals: Summary,
-    steps: &mut Steps<L>,
-) -> Result<Summary, ServeFault>
-    requires rest { AtRest satl.old (D.state drive.old) }
-    requires none { replies.old ≡ [] }
-    ensures ended { IfOk result (AnsweredBehind form ended (λ replies. DrainsSo (view satl.old (D.state drive.old)) replies (view satl.new (D.state drive.new))) (K.written sink.old) (K.written sink.new) totals) }
-    ensures part { OnErr result (EndsPart form (view satl.old (D.state drive.old)) (K.written sink.old) (K.written sink.new) (view satl.new (D.state drive.new))) }
-    ensures counted { RoseBy (losses_of (view satl.old (D.state drive.old)) (view satl.new (D.state drive.new))) (D.state drive.old).faults (D.state drive.new).faults }
-    ensures calls { steps.new + task_calls * length satl.new.tasks ≤ steps.old + task_calls * length satl.old.tasks }
-    ensures later { K.faults sink.old ≤ K.faults sink.new }
-    ensures cause { IfErr result (HasWriteCause (K.faults sink.old) (K.faults sink.new)) }
-{
-    let mut totals = totals;
-    // Each turn ends one task at least.
-    serve_turns(
-        form,
-        satl,
-        satl.pending() as u16,
-        sink,
-        drive,
-        replies,
-        &mut totals,
-        steps,
-    )?;
-    tell_end(form, sink)?;
-    Ok(totals)
-}
-
 /// Serves an input of frames: opens the layer on the drive, and carries out one frame after the other up to END, which ends it.
 /// Answers are written in the form, each before the next frame is read; before frames stands the magic of the output. `Open`: the layer was not opened, for
 /// the reason told, and nothing was read or written; refused IDENTIFY DEVICE data are told, but for a lost link and want of memory.
@@ -295,19 +83,18 @@ pub fn serve<S: Source, K: Sink, D: Bench, L: Ledger>(
     requires idle { (D.state drive.old).outstanding ≡ [] }
     requires no_error { (D.state drive.old).error ≡ None }
     requires fit { IsFit (D.state drive.old) }
-    ensures served { IfOk result (IsServed form input_limit (D.state drive.old) (S.left source.old) (S.left source.new) (K.written sink.old) (K.written sink.new) steps.old steps.new (D.state drive.new)) }
-    ensures stopped { IfErr result (IsStopped form input_limit (D.state drive.old) (S.left source.old) (S.left source.new) (K.written sink.old) (K.written sink.new) steps.old steps.new (D.state drive.new)) }
-    ensures causes { IfErr result (HasServeCause (D.state drive.old) (D.state drive.new) (S.faults source.old) (S.faults source.new) (K.faults sink.old) (K.faults sink.new)) }
+    ensures served { IfOk result (λ summary. IsServedWhole form input_limit summary (moment (reads (S.left source.old) (S.faults source.old)) (writes (K.written sink.old) (K.faults sink.old)) steps.old (D.state drive.old)) (moment (reads (S.left source.new) (S.faults source.new)) (writes (K.written sink.new) (K.faults sink.new)) steps.new (D.state drive.new))) }
+    ensures stopped { IfErr result (IsStopped form input_limit (moment (reads (S.left source.old) (S.faults source.old)) (writes (K.written sink.old) (K.faults sink.old)) steps.old (D.state drive.old)) (moment (reads (S.left source.new) (S.faults source.new)) (writes (K.written sink.new) (K.faults sink.new)) steps.new (D.state drive.new))) }
+    ensures causes { IfErr result (HasServeCause (moment (reads (S.left source.old) (S.faults source.old)) (writes (K.written sink.old) (K.faults sink.old)) steps.old (D.state drive.old)) (moment (reads (S.left source.new) (S.faults source.new)) (writes (K.written sink.new) (K.faults sink.new)) steps.new (D.state drive.new))) }
     ensures refused { (fault : IdentityFault) → IsRefused fault (D.state drive.old) (D.state drive.new) → IsErrAnd result (TellsRefusal fault) }
-    ensures complete { (fs : List Frame) (rest : List ℕ) → IsGoodInput input_limit (S.left source.old) fs rest → GoesWell (D.state drive.old) (S.faults source.old) (S.faults source.new) (K.faults sink.old) (K.faults sink.new) → MatchResult result (λ _. S.left source.new ≡ Some rest) (MayStop (D.state drive.old).faults (D.state drive.new).faults) }
+    ensures complete { (fs : List Frame) (rest : List ℕ) → IsGoodInput input_limit (S.left source.old) fs rest → GoesWell (moment (reads (S.left source.old) (S.faults source.old)) (writes (K.written sink.old) (K.faults sink.old)) steps.old (D.state drive.old)) (moment (reads (S.left source.new) (S.faults source.new)) (writes (K.written sink.new) (K.faults sink.new)) steps.new (D.state drive.new)) → MatchResult result (λ _. S.left source.new ≡ Some rest) (MayStop (moment (reads (S.left source.old) (S.faults source.old)) (writes (K.written sink.old) (K.faults sink.old)) steps.old (D.state drive.old)) (moment (reads (S.left source.new) (S.faults source.new)) (writes (K.written sink.new) (K.faults sink.new)) steps.new (D.state drive.new))) }
 {
     let mut satl = Satl::open(alloc, drive, steps)?;
-    tell_beginning(form, sink)?;
-    serve_frames(alloc, form, &mut satl, source, sink, drive, steps)
+    serve_opened(alloc, form, &mut satl, source, sink, drive, steps)
 }
 
-/// Carries out frames up to END.
-fn serve_frames<S: Source, K: Sink, D: Bench, L: Ledger>(
+/// The same, on a layer that was opened: what stands before all answers is written, and the frames are carried out up to END.
+fn serve_opened<S: Source, K: Sink, D: Bench, L: Ledger>(
     alloc: Global,
     form: Form,
     satl: &mut Satl,
@@ -316,73 +103,39 @@ fn serve_frames<S: Source, K: Sink, D: Bench, L: Ledger>(
     drive: &mut D,
     steps: &mut Steps<L>,
 ) -> Result<Summary, ServeFault>
-    requires rest { AtRest satl.old (D.state drive.old) }
-    requires new { satl.old.tasks ≡ [] }
-    ensures ended { IfOk result (Ended form input_limit (view satl.old (D.state drive.old)) (tally_of (D.state drive.old) steps.old) (S.left source.old) (S.left source.new) (K.written sink.old) (K.written sink.new) (tally_of (D.state drive.new) steps.new) (view satl.new (D.state drive.new))) }
-    ensures stopped { IfErr result (StoppedBehind form input_limit (view satl.old (D.state drive.old)) (tally_of (D.state drive.old) steps.old) (S.left source.old) (S.left source.new) (K.written sink.old) (K.written sink.new) (tally_of (D.state drive.new) steps.new) (view satl.new (D.state drive.new))) }
-    ensures causes { IfErr result (HasFrameCause (S.faults source.old) (S.faults source.new) (K.faults sink.old) (K.faults sink.new)) }
+    requires tied { Tied satl.old (D.state drive.old) }
+    requires all_in { satl.old.out ≡ 0 }
+    requires idle { satl.old.tasks ≡ [] }
+    ensures tied { Tied satl.new (D.state drive.new) }
+    ensures whole { IfOk result (λ summary. RanWhole form input_limit summary (record { left = S.left source.old; written = K.written sink.old; stand = stand_of satl.old (D.state drive.old) steps.old }) (record { left = S.left source.new; written = K.written sink.new; stand = stand_of satl.new (D.state drive.new) steps.new })) }
+    ensures stopped { IfErr result (RanTo form input_limit (record { left = S.left source.old; written = K.written sink.old; stand = stand_of satl.old (D.state drive.old) steps.old }) (record { left = S.left source.new; written = K.written sink.new; stand = stand_of satl.new (D.state drive.new) steps.new })) }
+    ensures causes { IfErr result (HasStreamCause (reads (S.left source.old) (S.faults source.old)) (reads (S.left source.new) (S.faults source.new)) (writes (K.written sink.old) (K.faults sink.old)) (writes (K.written sink.new) (K.faults sink.new))) }
 {
+    tell_beginning(form, sink)?;
     let mut reader = FrameReader::new(alloc, LIMIT);
-    let mut replies = Replies::new(alloc);
-    let mut totals = Summary::default();
-    'frames: loop {
-        let frame = match reader.next(source, satl) {
-            Ok(frame) => frame,
-            Err(fault) => return Err(refuse(form, fault, sink)),
-        };
-        match frame {
-            Frame::Request(request) => {
-                totals.add_request();
-                serve_request(
-                    form,
-                    satl,
-                    request,
-                    sink,
-                    drive,
-                    &mut replies,
-                    &mut totals,
-                    steps,
-                )?;
-            }
-            Frame::Turn(count) => serve_turns(
-                form,
-                satl,
-                count,
-                sink,
-                drive,
-                &mut replies,
-                &mut totals,
-                steps,
-            )?,
-            Frame::End => return serve_end(form, satl, sink, drive, &mut replies, totals, steps),
-            Frame::Manage(manage) => serve_manage(
-                form,
-                satl,
-                &manage,
-                sink,
-                drive,
-                &mut replies,
-                &mut totals,
-                steps,
-            )?,
-            Frame::Bench(event) => serve_bench(
-                form,
-                satl,
-                &event,
-                sink,
-                drive,
-                &mut replies,
-                &mut totals,
-                steps,
-            )?,
-        }
+    let mut printer = Printer::new(form);
+    match serve_frames(
+        alloc,
+        &mut reader,
+        satl,
+        source,
+        &mut printer,
+        sink,
+        drive,
+        steps,
+    ) {
+        Ok(requests) => Ok(Summary {
+            requests,
+            ..printer.totals
+        }),
+        Err(stop) => Err(tell_stop(form, stop, sink)),
     }
 }
 
 /// Why serving stops at a reader's refusal: of a bad frame is told first.
 fn refuse<K: Sink>(form: Form, fault: FrameFault, sink: &mut K) -> ServeFault
-    ensures later { K.faults sink.old ≤ K.faults sink.new }
     ensures tells { Tells form fault (K.written sink.old) (K.written sink.new) result }
+    ensures later { K.faults sink.old ≤ K.faults sink.new }
     ensures write { (result ≡ ServeFault.Write) → Rose (K.faults sink.old) (K.faults sink.new) }
 {
     match fault {
@@ -393,5 +146,15 @@ fn refuse<K: Sink>(form: Form, fault: FrameFault, sink: &mut K) -> ServeFault
                 Err(WriteFault) => ServeFault::Write,
             }
         }
+    }
+}
+
+/// Why serving stops where frames are carried out no further.
+fn tell_stop<K: Sink>(form: Form, stop: Stop, sink: &mut K) -> ServeFault
+    ensures { TellsStop form (writes (K.written sink.old) (K.faults sink.old)) (writes (K.written sink.new) (K.faults sink.new)) result stop }
+{
+    match stop {
+        Stop::Refused(fault) => refuse(form, fault, sink),
+        Stop::Write => ServeFault::Write,
     }
 }

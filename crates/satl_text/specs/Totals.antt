@@ -1,5 +1,5 @@
 -- The totals of a replay (profile).
-use Rattle.std.specs.Prelude.{ℕ, ◌-◌, ◌^◌, ◌==◌, if◌then◌else◌, min, sum, sum_by, List}
+use Rattle.std.specs.Prelude.{ℕ, ◌≡◌, ◌+◌, ◌-◌, ◌^◌, ◌==◌, if◌then◌else◌, min, sum, sum_by, List, [], ◌∷◌, ◌++◌}
 use Rattle.satl_base.specs.Blocks.{first_bytes}
 use Rattle.satl_base.specs.Codes.{scsi_code}
 use Rattle.satl_base.specs.declared.reply.Scsi.{Scsi}
@@ -44,3 +44,23 @@ summary_of requests answers = record {
   bytes = total (sum_by data_count answers);
   sum = total (sum_by data_sum answers);
 }
+
+-- the totals behind one request more (profile)
+abbrev pub with_request : Summary → Summary
+with_request u = record u { requests = total (u.requests + 1) }
+
+-- the totals behind one answer more (profile)
+abbrev pub with_answer : Summary → Answer → Summary
+with_answer u answer = record {
+  requests = u.requests;
+  good = total (u.good + one_with Good answer);
+  check = total (u.check + one_with CheckCondition answer);
+  full = total (u.full + one_with TaskSetFull answer);
+  bytes = total (u.bytes + data_count answer);
+  sum = total (u.sum + data_sum answer);
+}
+
+-- the totals of answers and one more are those of the answers, and the one more (profile)
+abbrev pub TotalsGrow : Type 0
+TotalsGrow = (requests : ℕ) (answers : List Answer) (answer : Answer) →
+    summary_of requests (answers ++ answer ∷ []) ≡ with_answer (summary_of requests answers) answer

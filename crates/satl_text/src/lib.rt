@@ -2,6 +2,7 @@
 #![tactic(auto)]
 
 mod digits;
+pub mod laws;
 mod lines;
 mod summary;
 #[cfg(test)]

@@ -66,11 +66,12 @@ pub struct Summary {
 impl Summary {
     ghost use Rattle.satl_frame.specs.Output.{Answer};
     ghost use Rattle.satl_frame.specs.Output.Answer.{replied};
-    ghost use Rattle.satl_text.specs.Totals.{summary_of};
+    ghost use Rattle.satl_text.specs.Totals.{summary_of, with_answer, with_request};
 
     /// Counts a request (profile).
     pub fn add_request(&mut self)
-        ensures { (requests : ℕ) (answers : List Answer) → self.old ≡ summary_of requests answers → self.new ≡ summary_of (requests + 1) answers }
+        ensures grown { self.new ≡ with_request self.old }
+        ensures counted { (requests : ℕ) (answers : List Answer) → self.old ≡ summary_of requests answers → self.new ≡ summary_of (requests + 1) answers }
     {
         self.requests = self.requests.saturating_add(1);
     }
@@ -78,7 +79,8 @@ impl Summary {
     /// Counts a reply by its status, and its data-in (profile). The pages hold the data.
     pub fn add_reply(&mut self, reply: &Reply)
         requires { reply.now.data_len ≤ 512 * length reply.now.body }
-        ensures { (requests : ℕ) (answers : List Answer) → self.old ≡ summary_of requests answers → self.new ≡ summary_of requests (answers ++ replied reply.now ∷ []) }
+        ensures grown { self.new ≡ with_answer self.old (replied reply.now) }
+        ensures counted { (requests : ℕ) (answers : List Answer) → self.old ≡ summary_of requests answers → self.new ≡ summary_of requests (answers ++ replied reply.now ∷ []) }
     {
         self.good = count(self.good, Scsi::Good, reply.status);
         self.check = count(self.check, Scsi::CheckCondition, reply.status);

@@ -7,13 +7,13 @@ use Rattle.std.specs.Rc.{rc_str_bytes}
 use Rattle.satl_io.specs.Causes.{Rose}
 use Rattle.satl_identify.specs.declared.identity.IdentityFault.{IdentityFault}
 use Rattle.satl_identify.specs.Refusals.{identity_of}
+use Rattle.satl_frame.specs.declared.frames.FrameFault.TheVariants.{Bad, ReadFault}
 use Rattle.satl_frame.specs.declared.frames.Reason.{Reason}
 use Rattle.satl_text.specs.declared.summary.Summary.{Summary}
-use Rattle.satl_drive.specs.State.{DriveState}
-use Rattle.satl_serve.specs.declared.serving.ServeFault.TheVariants as faults
 use Rattle.satl_serve.specs.declared.telling.Form.{Form}
 use Rattle.satl_serve.specs.declared.telling.Form.TheVariants as forms
-use Rattle.satl_serve.specs.Runs.{IsServed, IsStoppedBehind, IsStoppedInMagic, IsUntouched}
+use Rattle.satl_serve.specs.Headline.{IsNotServed, IsServedBefore, IsServedInPart, IsServedWhole}
+use Rattle.satl_serve.specs.Moments.{Moment}
 use Rattle.satl_top.specs.declared.status.Status.{Status}
 use Rattle.satl_top.specs.declared.status.Status.TheVariants as statuses
 
@@ -40,47 +40,43 @@ exit_number statuses.DriveRefused = 7
 
 -- a read or a write fault comes only where the source's or the sink's count of faults rose, and a drive is refused only for its
 -- IDENTIFY DEVICE data or where its own count rose (profile)
-abbrev pub HasCause : DriveState → DriveState → ℕ → ℕ → ℕ → ℕ → Status → Type 0
-HasCause old new read_before read_now write_before write_now statuses.Done = Unit {0}
-HasCause old new read_before read_now write_before write_now statuses.Usage = Unit {0}
-HasCause old new read_before read_now write_before write_now statuses.BadInput = Unit {0}
-HasCause old new read_before read_now write_before write_now statuses.ReadFault = Rose read_before read_now
-HasCause old new read_before read_now write_before write_now statuses.WriteFault = Rose write_before write_now
-HasCause old new read_before read_now write_before write_now statuses.NoMemory = Unit {0}
-HasCause old new read_before read_now write_before write_now statuses.DriveRefused = ((fault : IdentityFault) × (identity_of old.identify ≡ Err fault)) ⊎ Rose old.faults new.faults
+abbrev pub HasCause : Moment → Moment → Status → Type 0
+HasCause before after statuses.Done = Unit {0}
+HasCause before after statuses.Usage = Unit {0}
+HasCause before after statuses.BadInput = Unit {0}
+HasCause before after statuses.ReadFault = Rose before.source.faults after.source.faults
+HasCause before after statuses.WriteFault = Rose before.sink.faults after.sink.faults
+HasCause before after statuses.NoMemory = Unit {0}
+HasCause before after statuses.DriveRefused = ((fault : IdentityFault) × (identity_of before.drive.identify ≡ Err fault)) ⊎ Rose before.drive.faults after.drive.faults
 
--- what holds of the input, the output in a form and the drive, by the status (profile): a whole input was served; or the input is
--- refused, or was not read, behind frames that were carried out; or a write failed, in what stands before all answers or in the
--- answers to the last frame; or nothing was read or written, and no sector reads otherwise than before
-abbrev pub EndsSo : Form → ℕ → DriveState → Option (List ℕ) → Option (List ℕ) → Option (List ℕ) → Option (List ℕ) → ℕ → ℕ → DriveState → Status → Type 0
-EndsSo form limit old left left' written written' calls calls' new statuses.Done = (summary : Summary) × IsServed form limit old left left' written written' calls calls' new summary
-EndsSo form limit old left left' written written' calls calls' new statuses.Usage = ⊥
-EndsSo form limit old left left' written written' calls calls' new statuses.BadInput = (reason : Reason) × (offset : ℕ) × IsStoppedBehind form limit old left left' written written' calls calls' new (faults.BadInput reason offset)
-EndsSo form limit old left left' written written' calls calls' new statuses.ReadFault = IsStoppedBehind form limit old left left' written written' calls calls' new faults.Read
-EndsSo form limit old left left' written written' calls calls' new statuses.WriteFault = IsStoppedInMagic form old left left' written written' calls calls' new ⊎ IsStoppedBehind form limit old left left' written written' calls calls' new faults.Write
-EndsSo form limit old left left' written written' calls calls' new statuses.NoMemory = IsUntouched old left left' written written' calls calls' new
-EndsSo form limit old left left' written written' calls calls' new statuses.DriveRefused = IsUntouched old left left' written written' calls calls' new
+-- what holds of the input, the output in a form and the drive, by the status (profile): a whole input was served; or it was served up to a
+-- frame that was refused or not read, or up to a write that failed; or it was not served
+abbrev pub EndsSo : Form → ℕ → Moment → Moment → Status → Type 0
+EndsSo form limit before after statuses.Done = (summary : Summary) × IsServedWhole form limit summary before after
+EndsSo form limit before after statuses.Usage = ⊥
+EndsSo form limit before after statuses.BadInput = (reason : Reason) × (offset : ℕ) × IsServedBefore form limit (Bad reason offset) before after
+EndsSo form limit before after statuses.ReadFault = IsServedBefore form limit ReadFault before after
+EndsSo form limit before after statuses.WriteFault = IsServedInPart form limit before after
+EndsSo form limit before after statuses.NoMemory = IsNotServed before after
+EndsSo form limit before after statuses.DriveRefused = IsNotServed before after
 
 -- the words ask for no form: nothing was done (profile)
-pub record IsUnused (old : DriveState) (left left' written written' : Option (List ℕ)) (calls calls' : ℕ) (new : DriveState) (status : Status) : Type 0 where
+pub record IsUnused (before after : Moment) (status : Status) : Type 0 where
   pub usage : status ≡ statuses.Usage
-  pub read : left' ≡ left
-  pub wrote : written' ≡ written
-  pub uncalled : calls' ≡ calls
-  pub stays : new ≡ old
+  pub stays : after ≡ before
 
 -- the outcome, by the form that the words ask for (profile)
-abbrev pub Outcome : Option Form → ℕ → DriveState → Option (List ℕ) → Option (List ℕ) → Option (List ℕ) → Option (List ℕ) → ℕ → ℕ → DriveState → Status → Type 0
-Outcome None limit old left left' written written' calls calls' new status = IsUnused old left left' written written' calls calls' new status
-Outcome (Some form) limit old left left' written written' calls calls' new status = EndsSo form limit old left left' written written' calls calls' new status
+abbrev pub Outcome : Option Form → ℕ → Moment → Moment → Status → Type 0
+Outcome None limit before after status = IsUnused before after status
+Outcome (Some form) limit before after status = EndsSo form limit before after status
 
 -- a good input is served whole where all goes well, up to END and no byte further (profile): but there may be no memory to begin, or
 -- the link was lost before the layer was open, where the drive's count of faults rose
-abbrev pub Completes : List ℕ → Option (List ℕ) → ℕ → ℕ → Status → Type 0
-Completes rest left' before now statuses.Done = left' ≡ Some rest
-Completes rest left' before now statuses.Usage = ⊥
-Completes rest left' before now statuses.BadInput = ⊥
-Completes rest left' before now statuses.ReadFault = ⊥
-Completes rest left' before now statuses.WriteFault = ⊥
-Completes rest left' before now statuses.NoMemory = Unit {0}
-Completes rest left' before now statuses.DriveRefused = Rose before now
+abbrev pub Completes : List ℕ → Moment → Moment → Status → Type 0
+Completes rest before after statuses.Done = after.source.left ≡ Some rest
+Completes rest before after statuses.Usage = ⊥
+Completes rest before after statuses.BadInput = ⊥
+Completes rest before after statuses.ReadFault = ⊥
+Completes rest before after statuses.WriteFault = ⊥
+Completes rest before after statuses.NoMemory = Unit {0}
+Completes rest before after statuses.DriveRefused = Rose before.drive.faults after.drive.faults

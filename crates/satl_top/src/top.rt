@@ -4,8 +4,9 @@ ghost use Rattle.satl_identify.specs.declared.identity.IdentityFault.{IdentityFa
 ghost use Rattle.satl_frame.specs.declared.frames.Frame.{Frame};
 ghost use Rattle.satl_drive.specs.State.{IsFit};
 ghost use Rattle.satl_serve.specs.Completeness.{GoesWell, IsGoodInput};
+ghost use Rattle.satl_serve.specs.Moments.{moment, reads, writes};
 ghost use Rattle.satl_serve.specs.Runs.{input_limit};
-ghost use Rattle.satl_serve.specs.Serving.{IsRefused};
+ghost use Rattle.satl_serve.specs.Stopping.{IsRefused};
 ghost use Rattle.satl_top.specs.Top.{Completes, HasCause, Outcome, form_of};
 ghost use Rattle.satl_serve.specs.declared.telling.Form.{Form};
 
@@ -51,10 +52,10 @@ pub fn satl<S: Source, K: Sink, D: Bench, L: Ledger>(
     requires no_error { (D.state drive.old).error ≡ None }
     requires fit { IsFit (D.state drive.old) }
     ensures usage { (result ≡ Status.Usage) ↔ (form_of words.now ≡ None) }
-    ensures outcome { Outcome (form_of words.now) input_limit (D.state drive.old) (S.left source.old) (S.left source.new) (K.written sink.old) (K.written sink.new) steps.old steps.new (D.state drive.new) result }
+    ensures outcome { Outcome (form_of words.now) input_limit (moment (reads (S.left source.old) (S.faults source.old)) (writes (K.written sink.old) (K.faults sink.old)) steps.old (D.state drive.old)) (moment (reads (S.left source.new) (S.faults source.new)) (writes (K.written sink.new) (K.faults sink.new)) steps.new (D.state drive.new)) result }
     ensures refused { (form : Form) → form_of words.now ≡ Some form → (fault : IdentityFault) → IsRefused fault (D.state drive.old) (D.state drive.new) → (result ≡ Status.DriveRefused) ⊎ (result ≡ Status.NoMemory) }
-    ensures causes { HasCause (D.state drive.old) (D.state drive.new) (S.faults source.old) (S.faults source.new) (K.faults sink.old) (K.faults sink.new) result }
-    ensures complete { (form : Form) → form_of words.now ≡ Some form → (fs : List Frame) (rest : List ℕ) → IsGoodInput input_limit (S.left source.old) fs rest → GoesWell (D.state drive.old) (S.faults source.old) (S.faults source.new) (K.faults sink.old) (K.faults sink.new) → Completes rest (S.left source.new) (D.state drive.old).faults (D.state drive.new).faults result }
+    ensures causes { HasCause (moment (reads (S.left source.old) (S.faults source.old)) (writes (K.written sink.old) (K.faults sink.old)) steps.old (D.state drive.old)) (moment (reads (S.left source.new) (S.faults source.new)) (writes (K.written sink.new) (K.faults sink.new)) steps.new (D.state drive.new)) result }
+    ensures complete { (form : Form) → form_of words.now ≡ Some form → (fs : List Frame) (rest : List ℕ) → IsGoodInput input_limit (S.left source.old) fs rest → GoesWell (moment (reads (S.left source.old) (S.faults source.old)) (writes (K.written sink.old) (K.faults sink.old)) steps.old (D.state drive.old)) (moment (reads (S.left source.new) (S.faults source.new)) (writes (K.written sink.new) (K.faults sink.new)) steps.new (D.state drive.new)) → Completes rest (moment (reads (S.left source.old) (S.faults source.old)) (writes (K.written sink.old) (K.faults sink.old)) steps.old (D.state drive.old)) (moment (reads (S.left source.new) (S.faults source.new)) (writes (K.written sink.new) (K.faults sink.new)) steps.new (D.state drive.new)) result }
 {
     let Some(form) = form_of(words) else {
         return Status::Usage;

@@ -4,6 +4,7 @@ use Rattle.std.specs.Int.{bytes_high_first}
 use Rattle.std.specs.List.{find}
 use Rattle.std.specs.Option.{option_map}
 use Rattle.satl_base.specs.Identify.{word, word_bits, word_bit}
+use Rattle.satl_base.specs.Limits.{most_moved, most_covered, most_ranges}
 use Rattle.satl_base.specs.Places.{Line, byte, number, text, places, at_place}
 use Rattle.satl_identify.specs.declared.identity.Identity.{Identity}
 use Rattle.satl_vpd.specs.Texts.{characters, ata_vendor}
@@ -62,8 +63,8 @@ abbrev pub block_limits : Page
 block_limits = record {
   code = 0xB0;
   rest = λ i. from_byte_4 60 (
-      byte 4 0x01 ∷ number 8 11 4096 ∷ number 20 23 (if i.trim then 65536 else 0) ∷ number 24 27 (if i.trim then 64 else 0)
-      ∷ number 36 43 65536 ∷ []);
+      byte 4 0x01 ∷ number 8 11 most_moved ∷ number 20 23 (if i.trim then most_covered else 0) ∷ number 24 27 (if i.trim then most_ranges else 0)
+      ∷ number 36 43 most_covered ∷ []);
 }
 
 -- MEDIUM ROTATION RATE as in word 217, NOMINAL FORM FACTOR as in word 168 (SBC-3, Block Device Characteristics)

@@ -8,6 +8,7 @@ ghost use Rattle.satl_vpd.specs.Vital.{ata_information, block_characteristics, b
 use crate::text::{append, characters};
 use arrayvec::ArrayVec;
 use byteorder::{BigEndian, ByteOrder, LittleEndian};
+use satl_base::{MOST_COVERED, MOST_MOVED, MOST_RANGES};
 use satl_identify::Identity;
 
 /// A page of vital product data, at most 572 bytes (SPC-4, Vital product data).
@@ -96,12 +97,12 @@ fn block_limits(identity: &Identity) -> VitalPage
 {
     let mut bytes = [0; 64];
     bytes[4] = 0x01; // WSNZ
-    BigEndian::write_u32(&mut bytes[8..], 4096); // MAXIMUM TRANSFER LENGTH
+    BigEndian::write_u32(&mut bytes[8..], MOST_MOVED); // MAXIMUM TRANSFER LENGTH
     if identity.trim {
-        BigEndian::write_u32(&mut bytes[20..], 65_536); // MAXIMUM UNMAP LBA COUNT
-        BigEndian::write_u32(&mut bytes[24..], 64); // MAXIMUM UNMAP BLOCK DESCRIPTOR COUNT
+        BigEndian::write_u32(&mut bytes[20..], MOST_COVERED); // MAXIMUM UNMAP LBA COUNT
+        BigEndian::write_u32(&mut bytes[24..], MOST_RANGES as u32); // MAXIMUM UNMAP BLOCK DESCRIPTOR COUNT
     }
-    BigEndian::write_u64(&mut bytes[36..], 65_536); // MAXIMUM WRITE SAME LENGTH
+    BigEndian::write_u64(&mut bytes[36..], u64::from(MOST_COVERED)); // MAXIMUM WRITE SAME LENGTH
     let mut page = begun(0xB0, 0x3C);
     append(&mut page, &bytes[4..]);
     page

@@ -1,6 +1,6 @@
 use Rattle.std.proofs.Common.{◌≡◌, ◌≤◌, ◌∙◌, ap, arith, length, Err}
-use Rattle.satl_frame.specs.declared.pull.PullError.{PullError}
-use Rattle.satl_frame.specs.declared.pull.PullError.TheVariants.{Failed}
+use Rattle.satl_frame.specs.declared.pulling.PullError.{PullError}
+use Rattle.satl_frame.specs.declared.pulling.PullError.TheVariants.{Failed}
 use Rattle.std.proofs.lemmas.List.{length-take-le}
 use Rattle.satl_frame.proofs.Requested.{request_taken, request_bad, request_lengths, at_most_34}
 use Rattle.satl_frame.proofs.Stopping.{fewer_after}

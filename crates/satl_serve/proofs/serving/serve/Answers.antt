@@ -1,31 +1,16 @@
-use Rattle.satl_serve.proofs.CompletenessLemmas.{frames_complete, magic_complete, opening_complete}
-use Rattle.satl_serve.proofs.RunLemmas.{if_err, if_ok}
-use Rattle.satl_serve.proofs.ToldLemmas.{magic_stops, served, stops}
-use Rattle.satl_serve.proofs.ServingLemmas.{earlier_cause}
+use Rattle.satl_step.specs.Runs.{stand_of}
+use Rattle.satl_serve.specs.Moments.{moment, reads, writes}
+use Rattle.satl_serve.specs.Runs.{input_limit}
+use Rattle.satl_serve.proofs.CompletenessLemmas.{all_complete, opening_complete}
+use Rattle.satl_serve.proofs.ServingLemmas.{serves_whole, stops}
+use Rattle.satl_step.proofs.OutcomeLemmas.{if_err, if_ok}
 use Rattle.satl_serve.proofs.serving.serve.Goals as goal
 
 pub returns-clause-served : goal.returns-clause-served
-returns-clause-served g c =
-    if_ok c.serve_frames.result _ _
-    (λ summary. served c.args.form _ (g.D.Drive.state c.args.drive.now) (g.D.Drive.state c.open.new.drive) (g.D.Drive.state c.serve_frames.new.drive) c.args.steps.now c.open.new.steps c.serve_frames.new.steps c.in_ok-satl.satl c.serve_frames.new.satl _ _ _ _ _ summary c.in_ok-satl.ensures.opened c.in_ok-satl.ensures.steps c.in_ok-tell_beginning.ensures.all) c.serve_frames.ensures.ended
-
-pub returns-in_err-tell_beginning-clause-stopped : goal.returns-in_err-tell_beginning-clause-stopped
-returns-in_err-tell_beginning-clause-stopped g c =
-    magic_stops c.args.form c.from_residual-in_err-tell_beginning.result _ _ (g.D.Drive.state c.args.drive.now) (g.D.Drive.state c.open.new.drive) c.args.steps.now c.open.new.steps c.in_ok-satl.satl _ _ _ c.from_residual-in_err-tell_beginning.ensures.1 (λ e is. is) c.in_ok-satl.ensures.opened c.in_ok-satl.ensures.steps c.in_err-tell_beginning.ensures.part
-
-pub returns-clause-complete : goal.returns-clause-complete
-returns-clause-complete g c =
-    frames_complete c.args.form c.serve_frames.result _ (g.D.Drive.state c.args.drive.now) (g.D.Drive.state c.open.new.drive) (g.D.Drive.state c.serve_frames.new.drive) c.in_ok-satl.satl c.serve_frames.new.satl _ _ _ _ _ _ _ _ _ _
-    c.serve_frames.ensures.ended c.serve_frames.ensures.stopped (earlier_cause c.serve_frames.result _ _ _ _ _ c.in_ok-tell_beginning.ensures.cause.later c.serve_frames.ensures.causes)
-
-pub returns-in_err-satl-clause-complete : goal.returns-in_err-satl-clause-complete
-returns-in_err-satl-clause-complete g c = λ fs rest good well. opening_complete c.from_residual.result c.in_err-satl.field-0.0 _ (g.D.Drive.state c.args.drive.now) (g.D.Drive.state c.open.new.drive) _ _ _ _ fs _ c.from_residual.ensures.1 (λ e is. is) c.in_err-satl.ensures.cause well
-
-pub returns-in_err-tell_beginning-clause-complete : goal.returns-in_err-tell_beginning-clause-complete
-returns-in_err-tell_beginning-clause-complete g c =
-    λ fs rest good well. magic_complete c.from_residual-in_err-tell_beginning.result _ (g.D.Drive.state c.args.drive.now) (g.D.Drive.state c.open.new.drive) _ _ _ _ fs _ c.from_residual-in_err-tell_beginning.ensures.1 (λ e is. is) c.in_err-tell_beginning.ensures.cause.failed well
+returns-clause-served g c = if_ok c.serve_opened.result _ _ (λ summary. serves_whole c.args.form input_limit (moment (reads (g.S.Source.left c.args.source.now) (g.S.Source.faults c.args.source.now)) (writes (g.K.Sink.written c.args.sink.now) (g.K.Sink.faults c.args.sink.now)) c.args.steps.now (g.D.Drive.state c.args.drive.now)) (moment (reads (g.S.Source.left c.serve_opened.new.source) (g.S.Source.faults c.serve_opened.new.source)) (writes (g.K.Sink.written c.serve_opened.new.sink) (g.K.Sink.faults c.serve_opened.new.sink)) c.serve_opened.new.steps (g.D.Drive.state c.serve_opened.new.drive)) (g.D.Drive.state c.open.new.drive) c.open.new.steps c.in_ok-satl.satl c.serve_opened.new.satl c.in_ok-satl.ensures.opened c.in_ok-satl.ensures.unplugs c.in_ok-satl.ensures.steps c.serve_opened.ensures.tied summary) c.serve_opened.ensures.whole
 
 pub returns-clause-stopped : goal.returns-clause-stopped
-returns-clause-stopped g c =
-    if_err c.serve_frames.result _ _
-    (λ fault. stops c.args.form _ (g.D.Drive.state c.args.drive.now) (g.D.Drive.state c.open.new.drive) (g.D.Drive.state c.serve_frames.new.drive) c.args.steps.now c.open.new.steps c.serve_frames.new.steps c.in_ok-satl.satl c.serve_frames.new.satl _ _ _ _ _ fault c.in_ok-satl.ensures.opened c.in_ok-satl.ensures.steps c.in_ok-tell_beginning.ensures.all) c.serve_frames.ensures.stopped
+returns-clause-stopped g c = if_err c.serve_opened.result _ _ (λ fault. stops c.args.form input_limit (moment (reads (g.S.Source.left c.args.source.now) (g.S.Source.faults c.args.source.now)) (writes (g.K.Sink.written c.args.sink.now) (g.K.Sink.faults c.args.sink.now)) c.args.steps.now (g.D.Drive.state c.args.drive.now)) (moment (reads (g.S.Source.left c.serve_opened.new.source) (g.S.Source.faults c.serve_opened.new.source)) (writes (g.K.Sink.written c.serve_opened.new.sink) (g.K.Sink.faults c.serve_opened.new.sink)) c.serve_opened.new.steps (g.D.Drive.state c.serve_opened.new.drive)) (g.D.Drive.state c.open.new.drive) c.open.new.steps c.in_ok-satl.satl c.serve_opened.new.satl c.in_ok-satl.ensures.opened c.in_ok-satl.ensures.unplugs c.in_ok-satl.ensures.steps c.serve_opened.ensures.tied fault) c.serve_opened.ensures.stopped
+
+pub returns-clause-complete : goal.returns-clause-complete
+returns-clause-complete g c = λ fs rest good well. all_complete c.args.form input_limit _ _ (moment (reads (g.S.Source.left c.args.source.now) (g.S.Source.faults c.args.source.now)) (writes (g.K.Sink.written c.args.sink.now) (g.K.Sink.faults c.args.sink.now)) c.args.steps.now (g.D.Drive.state c.args.drive.now)) (moment (reads (g.S.Source.left c.serve_opened.new.source) (g.S.Source.faults c.serve_opened.new.source)) (writes (g.K.Sink.written c.serve_opened.new.sink) (g.K.Sink.faults c.serve_opened.new.sink)) c.serve_opened.new.steps (g.D.Drive.state c.serve_opened.new.drive)) fs rest c.serve_opened.result c.serve_opened.ensures.whole c.serve_opened.ensures.stopped c.serve_opened.ensures.causes good well

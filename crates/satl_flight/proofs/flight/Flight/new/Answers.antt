@@ -1,4 +1,3 @@
-use Rattle.std.proofs.Common.{arith}
 use Rattle.satl_flight.proofs.TagsLemmas.{free_more}
 use Rattle.satl_flight.proofs.flight.Flight.new.Goals as goal
 

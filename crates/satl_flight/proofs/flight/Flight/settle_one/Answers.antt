@@ -1,9 +1,9 @@
-use Rattle.std.proofs.Common.{◌≡◌, refl, sym, ◌∙◌, ap, subst, Some, None, Ok, List, []}
+use Rattle.std.proofs.Common.{sym, ap, subst}
 use Rattle.std.specs.Prelude.{length, map}
 use Rattle.std.specs.Option.{option_map}
 use Rattle.satl_drive.specs.Queue.{IsPolled}
 use Rattle.satl_flight.specs.Lending.{AreAlike, IsLending, whole_tasks}
-use Rattle.satl_flight.proofs.AlikeLemmas.{alike_lending, alike_same, alike_tasks}
+use Rattle.satl_flight.proofs.AlikeLemmas.{alike_lending, alike_tasks}
 use Rattle.satl_flight.proofs.LaunchedLemmas.{lost_poll}
 use Rattle.satl_flight.proofs.SettlingLemmas.{can_poll, done_lending, done_there, error_there, not_idle, read_there, settles_done, settles_failed, settles_lost_log}
 use Rattle.satl_flight.proofs.flight.Flight.settle_one.Goals as goal

@@ -1,4 +1,4 @@
-use Rattle.std.proofs.Common.{ap, arith, subst, sym, ◌∙◌, ◌-◌, ◌≡◌, ℕ, false, [], length, Some}
+use Rattle.std.proofs.Common.{ap, subst, sym, ◌∙◌, ◌-◌, ◌≡◌, ℕ, false, [], length, Some}
 use Rattle.std.specs.Prelude.{slice_get}
 use Rattle.satl_line.specs.Tasks.{Held, change_at, with_body}
 use Rattle.satl_flight.specs.Flown.{holds}

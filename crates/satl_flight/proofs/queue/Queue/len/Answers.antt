@@ -1,4 +1,4 @@
-use Rattle.std.proofs.Common.{ap, arith, subst, sym, ◌∙◌, ◌≤◌}
+use Rattle.std.proofs.Common.{ap, arith, subst}
 use Rattle.satl_line.specs.Tasks.{AreOwnSlots, total_blocks}
 use Rattle.satl_flight.specs.Queueing.{Waiting}
 use Rattle.satl_flight.proofs.QueueLemmas.{own-whole, total-whole}

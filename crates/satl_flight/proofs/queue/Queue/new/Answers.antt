@@ -1,5 +1,3 @@
-use Rattle.std.proofs.Common.{sym, subst}
-use Rattle.satl_flight.specs.Lending.{IsLending}
 use Rattle.satl_flight.proofs.QueueLemmas.{empty_lending}
 use Rattle.satl_flight.proofs.queue.Queue.new.Goals as goal
 

@@ -1,0 +1,156 @@
+-- Steps of a sane device without a loss are steps of its bare device, and a deed of its sectors.
+use Rattle.std.proofs.Common.{◌≡◌, ◌⊎◌, inl, inr, refl, sym, ap, ◌∙◌, subst, ℕ, suc, Bool, true, false, List, [], ◌∷◌, ◌++◌, append_assoc}
+use Rattle.std.specs.Prelude.{not, filter, if◌then◌else◌}
+use Rattle.std.proofs.lemmas.List.{append-nil}
+use Rattle.std.specs.List.{AllByRecursion}
+use Rattle.satl_base.specs.declared.request.Request.{Request}
+use Rattle.satl_base.specs.declared.reply.Reply.{Reply}
+use Rattle.satl_base.specs.Cells.{Cell}
+use Rattle.satl_base.specs.Lists.{IsIn}
+use Rattle.satl_base.specs.Moves.{Moves}
+use Rattle.satl_base.specs.Moves.{stay}
+use Rattle.satl_base.proofs.ListsLemmas.{All-push_end}
+use Rattle.satl_base.proofs.MovesLemmas.{moves_on}
+use Rattle.satl_direct.specs.Device.{Device, is_of, of_others, once_told}
+use Rattle.satl_direct.specs.Arrival.{Arrival, ArrivesAs, arrival}
+use Rattle.satl_direct.specs.Arrival.Arrival.{answered, attended, overlaps, waits}
+use Rattle.satl_direct.specs.Quiet.{Quiet}
+use Rattle.satl_direct.specs.Turn.{Turn}
+use Rattle.satl_direct.specs.Turn.Turn.{idle, ends, loses, ends_and_loses}
+use Rattle.satl_audit.specs.Deeds.{Deed, DoneBy, Walks}
+use Rattle.satl_audit.specs.Deeds.Deed.{shows}
+use Rattle.satl_audit.specs.Skeleton.{TurnsDone, bare, shown}
+use Rattle.satl_audit.proofs.Coming.{Comes, IsKnown, arrival_quiet}
+use Rattle.satl_audit.proofs.Ending.{turn_split}
+use Rattle.satl_audit.proofs.Keeping.{IsSane, sane_on, sane_same}
+use Rattle.satl_audit.proofs.Showing.{may_of_moves, moves_of_may}
+
+-- ---- walks
+
+pub walks_on : (ds es : List Deed) (a b c : List Cell) → Walks DoneBy ds a b → Walks DoneBy es b c → Walks DoneBy (ds ++ es) a c
+walks_on [] es a b c p q = subst (λ x. Walks DoneBy es x c) p q
+walks_on (d ∷ ds) es a b c p q = (p.0, p.1, walks_on ds es p.0 b c p.2 q)
+
+pub record WalkSplit (ds es : List Deed) (a c : List Cell) : Type 0 where
+  pub mid : List Cell
+  pub before : Walks DoneBy ds a mid
+  pub after : Walks DoneBy es mid c
+
+pub walks_split : (ds es : List Deed) (a c : List Cell) → Walks DoneBy (ds ++ es) a c → WalkSplit ds es a c
+walks_split [] es a c p = record { mid = a; before = refl; after = p }
+walks_split (d ∷ ds) es a c p = let r = walks_split ds es p.0 c p.2 in record { mid = r.mid; before = (p.0, p.1, r.before); after = r.after }
+
+-- ---- quiet moves
+
+-- a walk, and then moves that may show
+pub record Behind (first : List Cell) (ds : List Deed) (s : Device) : Type 0 where
+  pub mid : List Cell
+  pub walk : Walks DoneBy ds first mid
+  pub moves : Moves (λ p. IsIn p (shown (bare s))) mid s.cells
+
+-- no moves
+pub behind_now : (first : List Cell) (ds : List Deed) (s : Device) → Walks DoneBy ds first s.cells → Behind first ds s
+behind_now first ds s w = record { mid = s.cells; walk = w; moves = stay }
+
+pub quiet_bare : (s u : Device) → Quiet s u → bare u ≡ bare s
+quiet_bare s u q = ap bare q.stays
+
+pub quiet_sane : (s u : Device) → IsSane s → Quiet s u → IsSane u
+quiet_sane s u h q =
+    sane_on (shows (shown (bare s))) s u (moves_of_may s.identity.capacity s h.known q.cells)
+    (ap (λ (x : Device). x.down) q.stays ∙ h.up) (ap (λ (x : Device). x.started) q.stays ∙ h.started) (ap (λ (x : Device). x.glitches) q.stays ∙ h.glitches) (ap (λ (x : Device). x.identity) q.stays)
+    (subst (AllByRecursion (IsKnown s.identity.capacity)) (sym (ap (λ (x : Device). x.tasks) q.stays)) h.known) h
+
+pub quiet_behind : (first : List Cell) (ds : List Deed) (s u : Device) → IsSane s → Quiet s u → Behind first ds s → Behind first ds u
+quiet_behind first ds s u h q b = record {
+  mid = b.mid;
+  walk = b.walk;
+  moves = subst (λ x. Moves (λ p. IsIn p (shown x)) b.mid u.cells) (sym (quiet_bare s u q)) (moves_on b.moves (moves_of_may s.identity.capacity s h.known q.cells));
+}
+
+pub quiet_none : (s : Device) → Quiet s s
+quiet_none s = record { cells = stay; active = inl refl; stays = refl }
+
+-- moves that may show are quiet
+pub quiet_made : (s : Device) (cells : List Cell) → IsSane s → Moves (λ p. IsIn p (shown (bare s))) s.cells cells → Quiet s (record s { cells = cells })
+quiet_made s cells h m = record { cells = may_of_moves s.identity.capacity s h.known h.up h.started m; active = inl refl; stays = refl }
+
+pub quiet_down : (s u : Device) → Quiet s u → s.down ≡ true → u.down ≡ true
+quiet_down s u q h = ap (λ (x : Device). x.down) q.stays ∙ h
+
+-- ---- arrivals
+
+pub All-filter : {X : Type 0} (P : X → Type 0) (p : X → Bool) (xs : List X) → AllByRecursion P xs → AllByRecursion P (filter p xs)
+All-filter P p [] all = all
+All-filter P p (x ∷ xs) all = elim (p x) as (λ b. AllByRecursion P (if b then x ∷ filter p xs else filter p xs)) [ true ↦ (all.0, All-filter P p xs all.1) | false ↦ All-filter P p xs all.1 ]
+
+-- the same arrival at the bare device
+pub arrival_bare : (s : Device) (r : Request) → arrival (bare s) r ≡ arrival s r
+arrival_bare s r = arrival_quiet s r [] true
+
+pub record Arrived (a : Arrival) (r : Request) (u : Device) (replies : List Reply) (v : Device) : Type 0 where
+  pub bared : ArrivesAs a r (bare u) replies (bare v)
+  pub cells : v.cells ≡ u.cells
+  pub sane : IsSane v
+
+pub arrives_split : (a : Arrival) (r : Request) (u v : Device) (replies : List Reply) → Comes u.identity.capacity a → IsSane u → ArrivesAs a r u replies v → Arrived a r u replies v
+arrives_split (answered reply) r u v replies c h e = record { bared = (e.0, ap bare e.1); cells = ap (λ (x : Device). x.cells) e.1; sane = subst IsSane (sym e.1) h }
+arrives_split (attended reply) r u v replies c h e = record {
+  bared = (e.0, ap bare e.1);
+  cells = ap (λ (x : Device). x.cells) e.1;
+  sane = subst IsSane (sym e.1) (sane_same u (once_told r.nexus u) refl h.up h.started h.glitches refl h.known h);
+}
+arrives_split (overlaps reply) r u v replies c h e = record {
+  bared = (e.0, ap bare e.1);
+  cells = ap (λ (x : Device). x.cells) e.1;
+  sane = subst IsSane (sym e.1) (sane_same u (record u { tasks = of_others r.nexus u.tasks }) refl h.up h.started h.glitches refl (All-filter (IsKnown u.identity.capacity) (λ t. not (is_of r.nexus t)) u.tasks h.known) h);
+}
+arrives_split (waits task) r u v replies c h e = record {
+  bared = (e.0, ap bare e.1);
+  cells = ap (λ (x : Device). x.cells) e.1;
+  sane = subst IsSane (sym e.1) (sane_same u (record u { tasks = u.tasks ++ task ∷ [] }) refl h.up h.started h.glitches refl (All-push_end (IsKnown u.identity.capacity) u.tasks task h.known c) h);
+}
+
+pub record ArrivalMade (a : Arrival) (r : Request) (u : Device) (replies : List Reply) (bared : Device) : Type 0 where
+  pub new : Device
+  pub arrives : ArrivesAs a r u replies new
+  pub bared_is : bare new ≡ bared
+  pub cells : new.cells ≡ u.cells
+  pub sane : IsSane new
+
+pub arrives_made : (a : Arrival) (r : Request) (u bared : Device) (replies : List Reply) → Comes u.identity.capacity a → IsSane u → ArrivesAs a r (bare u) replies bared → ArrivalMade a r u replies bared
+arrives_made (answered reply) r u bared replies c h e = record { new = u; arrives = (e.0, refl); bared_is = sym e.1; cells = refl; sane = h }
+arrives_made (attended reply) r u bared replies c h e =
+    record { new = once_told r.nexus u; arrives = (e.0, refl); bared_is = sym e.1; cells = refl; sane = (arrives_split (attended reply) r u (once_told r.nexus u) replies c h (e.0, refl)).sane }
+arrives_made (overlaps reply) r u bared replies c h e =
+    let new : Device = record u { tasks = of_others r.nexus u.tasks } in
+    record { new = new; arrives = (e.0, refl); bared_is = sym e.1; cells = refl; sane = (arrives_split (overlaps reply) r u new replies c h (e.0, refl)).sane }
+arrives_made (waits task) r u bared replies c h e =
+    let new : Device = record u { tasks = u.tasks ++ task ∷ [] } in
+    record { new = new; arrives = (e.0, refl); bared_is = sym e.1; cells = refl; sane = (arrives_split (waits task) r u new replies c h (e.0, refl)).sane }
+
+-- ---- turns
+
+-- one turn: nothing, or a task that is done
+pub record TurnWent (first : List Cell) (ds : List Deed) (before : Device) (n : ℕ) (s : Device) (earlier : List Reply) (so_far : List Deed) (rest : List Reply) (after : Device) : Type 0 where
+  pub deeds : List Deed
+  pub turns : TurnsDone (bare s) (suc n) (earlier ++ rest) deeds (bare after)
+  pub behind : Behind first (ds ++ deeds) after
+  pub sane : IsSane after
+
+module _ (first : List Cell) (ds so_far : List Deed) (s before : Device) (n : ℕ) (earlier : List Reply) where
+  pub turn_went : (rest : List Reply) (after : Device) → TurnsDone (bare s) n earlier so_far (bare before) → IsSane before → Behind first (ds ++ so_far) before → Turn before rest after →
+      (after.down ≡ true) ⊎ TurnWent first ds before n s earlier so_far rest after
+  turn_went _ _ t h b (idle e) = inr (record { deeds = so_far; turns = subst (λ l. TurnsDone (bare s) (suc n) l so_far (bare before)) (sym (append-nil earlier)) (TurnsDone.idle t e); behind = b; sane = h })
+  turn_went _ after t h b (ends reply e) =
+      let r = turn_split before reply after h e in
+      let more : List Deed = shows (shown (bare before)) ∷ r.deed ∷ [] in
+      let w : Walks DoneBy ((ds ++ so_far) ++ more) first after.cells = walks_on (ds ++ so_far) more first b.mid after.cells b.walk (before.cells, b.moves, (after.cells, r.does, refl)) in
+      inr (record {
+        deeds = so_far ++ more;
+        turns = TurnsDone.more reply r.deed t r.done;
+        behind = behind_now first (ds ++ (so_far ++ more)) after (subst (λ l. Walks DoneBy l first after.cells) (append_assoc ds so_far more) w);
+        sane = r.sane;
+      })
+  turn_went _ after t h b (loses some l) = inl (ap (λ (x : Device). x.down) l.stays)
+  turn_went _ after t h b (ends_and_loses reply e q l) = inl (ap (λ (x : Device). x.down) l.stays)

@@ -1,0 +1,27 @@
+-- What is done to all sectors at once.
+use Rattle.std.specs.Prelude.{Bool, true, false, List, [], ◌∷◌, Option, Some, None}
+use Rattle.satl_audit.specs.Kept.{Keeping, kept_power, kept_settle}
+use Rattle.satl_audit.specs.declared.sectors.Sweep.{Sweep}
+use Rattle.satl_audit.specs.declared.sectors.Sweep.TheVariants.{Settled, Powered}
+
+-- all is written back, or the power is lost (SBC-3 4.15)
+abbrev pub swept : Sweep → Keeping → Keeping
+swept Settled k = kept_settle k
+swept Powered k = kept_power k
+
+-- a sector that has missed these, in order (profile)
+abbrev pub caught_up : List Sweep → Keeping → Keeping
+caught_up [] k = k
+caught_up (s ∷ ss) k = caught_up ss (swept s k)
+
+-- whether the power was lost (profile)
+abbrev pub has_power : List Sweep → Bool
+has_power [] = false
+has_power (Settled ∷ ss) = has_power ss
+has_power (Powered ∷ ss) = true
+
+-- a sector behind the first sweep that it missed, where that wrote it back (profile)
+abbrev pub after_first : Option Sweep → Keeping → Keeping
+after_first None k = k
+after_first (Some Settled) k = kept_settle k
+after_first (Some Powered) k = k

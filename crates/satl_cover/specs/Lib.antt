@@ -1,0 +1,5 @@
+pub mod Covered
+pub mod Known
+pub mod Laws
+pub mod Noting
+pub mod Reading

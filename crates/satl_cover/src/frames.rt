@@ -1,0 +1,38 @@
+// Reading an input to its END.
+ghost use Rattle.std.specs.Prelude.{◌≡◌, IfOk, IfErr};
+ghost use Rattle.satl_cover.specs.Reading.{ReadWhole, Refuses};
+
+use crate::fault::AuditFault;
+use crate::nothing::NoPages;
+use crate::noting::Noted;
+use crate::slice::Slice;
+use satl_frame::{Frame, FrameFault, FrameReader};
+use std::alloc::Global;
+
+// The number of bytes within which each frame of an input ends: 2^40 (profile).
+const LIMIT: u64 = 1 << 40;
+
+/// Reads frames up to END, and takes note of each.
+pub fn read_to_end(alloc: Global, trim: bool, source: &mut Slice<'_>) -> Result<Noted, AuditFault>
+    ensures whole { IfOk result (λ noted. ReadWhole trim source.old source.new noted.names noted.uncovered) }
+    ensures refuses { IfErr result (Refuses source.old) }
+{
+    let mut reader = FrameReader::new(alloc, LIMIT);
+    let mut lender = NoPages;
+    let mut noted = Noted::new(alloc, trim);
+    let len = source.left();
+    loop {
+        let at = (len - source.left()).max(8) as u64;
+        let frame = match reader.next(source, &mut lender) {
+            Ok(frame) => frame,
+            Err(FrameFault::Bad { reason, offset }) => {
+                return Err(AuditFault::BadInput { reason, offset });
+            }
+            Err(FrameFault::ReadFault) => unreachable!(),
+        };
+        noted.note(at, &frame)?;
+        if let Frame::End = frame {
+            return Ok(noted);
+        }
+    }
+}

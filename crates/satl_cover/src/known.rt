@@ -1,0 +1,45 @@
+// What the auditor knows.
+ghost use Rattle.std.specs.Prelude.{◌≡◌};
+ghost use Rattle.satl_direct.specs.Arrival.{is_unit_0};
+ghost use Rattle.satl_cover.specs.Known.{is_known, is_known_frame};
+
+use satl_base::BenchEvent;
+use satl_cdb::{Command, Illegal, read_cdb};
+use satl_frame::Frame;
+
+/// Whether the auditor knows a command (profile).
+fn is_known(command: Result<Command, Illegal>) -> bool
+    ensures { result ≡ is_known command }
+{
+    match command {
+        Err(_) => true,
+        Ok(command) => matches!(
+            command,
+            Command::TestUnitReady
+                | Command::Read { .. }
+                | Command::Write { .. }
+                | Command::Flush { .. }
+        ),
+    }
+}
+
+/// Whether a LUN is that of logical unit 0 (SAM-5 4.6.4).
+fn is_unit_0(lun: &[u8; 8]) -> bool
+    ensures { result ≡ is_unit_0 lun.now }
+{
+    lun.iter().all(|byte| *byte == 0)
+}
+
+/// Whether the auditor knows a frame, on a drive that trims or not (profile).
+pub fn is_known_frame(trim: bool, frame: &Frame) -> bool
+    ensures { result ≡ is_known_frame trim frame.now }
+{
+    match frame {
+        Frame::Request(request) => {
+            is_unit_0(&request.lun) && is_known(read_cdb(&request.cdb, trim))
+        }
+        Frame::Manage(_) => false,
+        Frame::Bench(event) => matches!(event, BenchEvent::Order { .. } | BenchEvent::Power),
+        Frame::Turn(_) | Frame::End => true,
+    }
+}

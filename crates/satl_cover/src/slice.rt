@@ -1,0 +1,55 @@
+// A source over bytes that stand elsewhere.
+ghost use Rattle.std.specs.Prelude.{◌≡◌, Some, length};
+ghost use Rattle.std.specs.Io.{ReadsAtMost};
+ghost use Rattle.std.specs.Io.KnownBytes.{ReadConsumes};
+ghost use Rattle.satl_io.specs.Causes.{HasCause};
+
+use satl_io::{Failed, Source};
+use std::marker::Model;
+
+/// Bytes that are left to read. No read fails (profile). A clause sees the bytes.
+#[derive(Drop)]
+pub struct Slice<'a> {
+    rest: &'a [u8],
+}
+
+impl<'a> Model for Slice<'a> {
+    ghost use Rattle.std.specs.Prelude.{ℕ, List};
+
+    ghost Value = { List ℕ };
+
+    ghost view = { λ s. s.rest.now };
+}
+
+impl<'a> Slice<'a> {
+    /// A source of these bytes (profile).
+    pub fn new(rest: &'a [u8]) -> Slice<'a>
+        ensures { result ≡ rest.now }
+    {
+        Slice { rest }
+    }
+
+    /// How many bytes are left (profile).
+    pub fn left(&self) -> usize
+        ensures { result ≡ length self.now }
+    {
+        self.rest.len()
+    }
+}
+
+impl<'a> Source for Slice<'a> {
+    ghost left = { λ s. Some s };
+
+    ghost faults = { λ _. 0 };
+
+    fn read(&mut self, buf: &mut [u8]) -> Result<usize, Failed>
+        ensures bound { ReadsAtMost result buf.new }
+        ensures bytes { ReadConsumes (Some self.old) (Some self.new) result buf.new }
+        ensures cause { HasCause 0 0 result }
+    {
+        let count = self.rest.len().min(buf.len());
+        buf[..count].copy_from_slice(&self.rest[..count]);
+        self.rest = &self.rest[count..];
+        Ok(count)
+    }
+}

@@ -1,0 +1,52 @@
+// Bytes by the buffer, however the source cuts them.
+ghost use Rattle.std.specs.Prelude.{◌≡◌, ◌<◌, IfOk, OnOk, OnErr, length, take};
+ghost use Rattle.std.specs.Io.{ReadsAtMost};
+ghost use Rattle.std.specs.Io.KnownBytes.{IsAtEnd};
+ghost use Rattle.satl_io.specs.Causes.{HasCause};
+ghost use Rattle.satl_io.specs.Known.{Took};
+ghost use Rattle.satl_frame.specs.Pulls.{PullCauses, FewerThan, Stopped};
+
+use satl_io::{Failed, Source};
+
+/// Why bytes could not be pulled (profile).
+#[derive(Clone, Copy, Debug, PartialEq, Eq)]
+pub enum PullError {
+    /// Fewer bytes were left, and all of them were taken.
+    Short,
+    /// A read failed, and fewer bytes were taken than were asked for.
+    Failed,
+}
+
+/// Fills the buffer, or as much of its front as the source has bytes for, and gives their number (profile). `Failed` comes only
+/// where the source's count of faults rose; then fewer bytes were taken than the buffer has.
+pub fn fill<S: Source>(source: &mut S, buf: &mut [u8]) -> Result<usize, Failed>
+    ensures bound { ReadsAtMost result buf.new }
+    ensures bytes { IfOk result (λ n. Took (S.left source.old) (S.left source.new) (take n buf.new)) }
+    ensures short { IfOk result (λ n. n < length buf.new → IsAtEnd (S.left source.new)) }
+    ensures stopped { OnErr result (FewerThan (S.left source.old) (S.left source.new) (λ _. length buf.old)) }
+    ensures cause { HasCause (S.faults source.old) (S.faults source.new) result }
+{
+    let mut at = 0;
+    while at < buf.len() {
+        let count = source.read(&mut buf[at..])?;
+        if count == 0 {
+            return Ok(at);
+        }
+        at += count;
+    }
+    Ok(at)
+}
+
+/// Fills the whole buffer (profile). `Short` comes only where the source had fewer bytes, and `Failed` only where its count of
+/// faults rose.
+pub fn pull<S: Source>(source: &mut S, buf: &mut [u8]) -> Result<(), PullError>
+    ensures bytes { OnOk result (Took (S.left source.old) (S.left source.new) buf.new) }
+    ensures stopped { Stopped (S.left source.old) (S.left source.new) (length buf.old) result }
+    ensures causes { PullCauses (S.left source.old) (S.left source.new) (length buf.old) (S.faults source.old) (S.faults source.new) result }
+{
+    match fill(source, buf) {
+        Ok(count) if count == buf.len() => Ok(()),
+        Ok(_) => Err(PullError::Short),
+        Err(Failed) => Err(PullError::Failed),
+    }
+}

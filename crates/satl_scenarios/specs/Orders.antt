@@ -1,0 +1,67 @@
+-- Transfers that end out of order, as if each had ended on arrival: runs that the laws of order speak of.
+use Rattle.std.specs.Prelude.{◌≡◌, true, List, [], ◌∷◌, ◌++◌}
+use Rattle.std.specs.List.{AllByRecursion}
+use Rattle.satl_base.specs.declared.bench.BenchEvent.TheVariants as bench
+use Rattle.satl_unit.specs.declared.attention.Attention.TheVariants.{PowerOn}
+use Rattle.satl_frame.specs.declared.frames.Frame.{Frame}
+use Rattle.satl_frame.specs.declared.frames.Frame.TheVariants.{Bench, End, Request, Turn}
+use Rattle.satl_frame.specs.Output.Answer.{ended}
+use Rattle.satl_laws.specs.ArrivalOrder.{AskOnce, IsFresh, is_plain}
+use Rattle.satl_laws.specs.OrderUnderErrors.{is_mild}
+use Rattle.satl_direct.specs.Valid.{IsValid}
+use Rattle.satl_scenarios.specs.Scenario.{Scenario, events_of}
+use Rattle.satl_scenarios.specs.Words.{aa, answered, bb, blank, cached_over, cdb_10, check, device, good, holds, powered, read, request, sense, silent, write, zeros}
+
+-- just after the power came back: TEST UNIT READY is told so; then two WRITEs, a READ over both and SYNCHRONIZE CACHE, sent without
+-- waiting. The second WRITE ends first, and the READ gives both blocks (SAM-5 5.14, 8; SBC-3 5)
+abbrev pub written_out_of_order : Scenario
+written_out_of_order = record {
+  first = powered (blank 3).cells;
+  steps =
+      answered (Request (request 1 (cdb_10 0x00 0 0) [])) (check 1 (sense 0x6 0x29 0x01) ∷ [])
+      ∷ silent (write 2 0 (aa ∷ []))
+      ∷ silent (write 3 1 (bb ∷ []))
+      ∷ silent (read 4 0 2)
+      ∷ silent (Request (request 5 (cdb_10 0x35 0 0) []))
+      ∷ answered End (good 3 [] ∷ good 2 [] ∷ good 4 (aa ∷ bb ∷ []) ∷ good 5 [] ∷ ended ∷ [])
+      ∷ [];
+  losses = 0;
+  depth = 2;
+  last = record (device (holds aa ∷ holds bb ∷ holds zeros ∷ [])) { attentions = [] ∷ (PowerOn ∷ []) ∷ (PowerOn ∷ []) ∷ (PowerOn ∷ []) ∷ [] };
+}
+
+-- a CRC error: of two WRITEs the second ends first; of the first, the second block alone is written, and a READ over both gives it so;
+-- then a third WRITE waits as the link is lost (SAM-5 8; SPC-4 4.5.6; profile)
+abbrev pub torn_out_of_order : Scenario
+torn_out_of_order = record {
+  first = blank 3;
+  steps =
+      silent (Bench (bench.Glitch 1))
+      ∷ silent (write 1 0 (aa ∷ bb ∷ []))
+      ∷ silent (write 2 2 (aa ∷ []))
+      ∷ silent (read 3 0 3)
+      ∷ answered (Turn 3) (good 2 [] ∷ check 1 (sense 0xB 0x47 0x03) ∷ good 3 (zeros ∷ bb ∷ aa ∷ []) ∷ [])
+      ∷ silent (write 4 1 (aa ∷ []))
+      ∷ answered (Bench bench.Unplug) (check 4 (sense 0x4 0x08 0x00) ∷ [])
+      ∷ [];
+  losses = 1;
+  depth = 2;
+  last = record (device (holds zeros ∷ cached_over zeros bb ∷ cached_over zeros aa ∷ [])) { down = true };
+}
+
+-- the law of arrival order speaks of a scenario (profile)
+pub record IsOfArrivalOrder (scenario : Scenario) : Type 0 where
+  pub all : List Frame
+  pub to_end : events_of scenario ≡ all ++ End ∷ []
+  pub without_loss : scenario.losses ≡ 0
+  pub valid : IsValid scenario.first
+  pub fresh : IsFresh scenario.first
+  pub plain : AllByRecursion (λ f. is_plain scenario.first.identity.trim f ≡ true) all
+  pub once : AskOnce all
+
+-- the law of order under errors does (profile)
+pub record IsOfOrderUnderErrors (scenario : Scenario) : Type 0 where
+  pub valid : IsValid scenario.first
+  pub no_tasks : scenario.first.tasks ≡ []
+  pub mild : AllByRecursion (λ f. is_mild scenario.first.identity.trim f ≡ true) (events_of scenario)
+  pub once : AskOnce (events_of scenario)

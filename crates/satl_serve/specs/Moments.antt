@@ -1,0 +1,41 @@
+-- What serving meets, before and after (profile).
+use Rattle.std.specs.Prelude.{ℕ, List, Option}
+use Rattle.satl_drive.specs.State.{DriveState}
+use Rattle.satl_direct.specs.Device.{Device}
+use Rattle.satl_step.specs.Runs.{Stand, tally_of}
+
+-- a source: what is left to read, where it tells that, and its count of faults (profile)
+pub record Reads : Type 0 where
+  pub left : Option (List ℕ)
+  pub faults : ℕ
+
+abbrev pub reads : Option (List ℕ) → ℕ → Reads
+reads left faults = record { left = left; faults = faults }
+
+-- a sink: what was written, where it tells that, and its count of faults (profile)
+pub record Writes : Type 0 where
+  pub written : Option (List ℕ)
+  pub faults : ℕ
+
+abbrev pub writes : Option (List ℕ) → ℕ → Writes
+writes written faults = record { written = written; faults = faults }
+
+-- a moment: the source, the sink, how often the drive was called, and the drive (profile)
+pub record Moment : Type 0 where
+  pub source : Reads
+  pub sink : Writes
+  pub calls : ℕ
+  pub drive : DriveState
+
+abbrev pub moment : Reads → Writes → ℕ → DriveState → Moment
+moment source sink calls drive = record { source = source; sink = sink; calls = calls; drive = drive }
+
+-- how far a run has come: what is left to read, what was written, the device, and what was counted (profile)
+pub record Spot : Type 0 where
+  pub left : Option (List ℕ)
+  pub written : Option (List ℕ)
+  pub stand : Stand
+
+-- how far it has come at a moment with this device, where the drive was called so often (profile)
+abbrev pub spot_at : Device → ℕ → Moment → Spot
+spot_at device calls m = record { left = m.source.left; written = m.sink.written; stand = record { device = device; tally = tally_of m.drive calls } }

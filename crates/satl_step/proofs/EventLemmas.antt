@@ -1,0 +1,230 @@
+-- What each event does, from what the layer did, and how it is told.
+use Rattle.std.proofs.Common.{◌≡◌, refl, sym, ap, subst, arith, ℕ, suc, ◌+◌, ◌-◌, ◌≤◌, max, inl, inr, List, [], ◌∷◌, ◌++◌, length, map, take}
+use Rattle.std.proofs.lemmas.List.{length-append, length-map}
+use Rattle.satl_base.specs.declared.bench.BenchEvent.{BenchEvent}
+use Rattle.satl_base.specs.declared.reply.Reply.{Reply}
+use Rattle.satl_base.specs.declared.reply.Response.{Response}
+use Rattle.satl_base.specs.declared.request.Manage.{Manage}
+use Rattle.satl_base.specs.declared.request.Request.{Request}
+use Rattle.satl_io.specs.Known.{Wrote, WrotePart}
+use Rattle.satl_frame.specs.declared.frames.Frame.{Frame}
+use Rattle.satl_frame.specs.declared.frames.Frame.TheVariants as frames
+use Rattle.satl_frame.specs.Output.{Answer}
+use Rattle.satl_frame.specs.Output.Answer.{replied, managed, ended}
+use Rattle.satl_frame.specs.Pulls.{cut_to}
+use Rattle.satl_line.specs.Tasks.{Held, entries_of}
+use Rattle.satl_direct.specs.Arrival.{Arrives}
+use Rattle.satl_direct.specs.Bench.{Happens}
+use Rattle.satl_direct.specs.Device.{Device}
+use Rattle.satl_direct.specs.Quiet.{Around}
+use Rattle.satl_direct.specs.Tasks.{task_of}
+use Rattle.satl_direct.specs.Run.{Does, Manages, MayLose, TurnsOf, depth}
+use Rattle.satl_direct.specs.Run.TurnsOf.{none, more}
+use Rattle.satl_core.specs.Layer.{Layer, view}
+use Rattle.satl_core.specs.Submitting.{IsCutOf}
+use Rattle.satl_step.specs.Telling.{IsTold, IsToldInPart, Telling}
+use Rattle.satl_step.specs.Events.{Carried, Done, DoneInPart, IsWholeOf, Scene, SomeTurnsTold, TurnTold, TurnToldInPart, TurnsTold}
+use Rattle.satl_step.proofs.TellingLemmas.{part_before, part_one, told_more, told_none, told_one, told_part}
+
+pub map-append : (xs ys : List Reply) → map replied (xs ++ ys) ≡ map replied xs ++ map replied ys
+map-append [] ys = refl
+map-append (x ∷ xs) ys = ap (λ l. replied x ∷ l) (map-append xs ys)
+
+-- ---- whole events
+
+-- a request of which this one is the cut form
+pub record WholeRequest (room : ℕ) (whole : Frame) (r : Request) : Type 0 where
+  pub w : Request
+  pub is : whole ≡ frames.Request w
+  pub cut : r ≡ record w { body = take room w.body }
+
+whole_request : (room : ℕ) (r : Request) (whole : Frame) → frames.Request r ≡ cut_to room whole → WholeRequest room whole r
+whole_request room r (frames.Request w) e = record { w = w; is = refl; cut = cc }
+whole_request room r (frames.Manage m) e = absurd cc
+whole_request room r (frames.Turn k) e = absurd cc
+whole_request room r (frames.Bench event) e = absurd cc
+whole_request room r frames.End e = absurd cc
+
+whole_turn : (room n : ℕ) (whole : Frame) → frames.Turn n ≡ cut_to room whole → whole ≡ frames.Turn n
+whole_turn room n (frames.Request w) e = absurd cc
+whole_turn room n (frames.Manage m) e = absurd cc
+whole_turn room n (frames.Turn k) e = cc
+whole_turn room n (frames.Bench event) e = absurd cc
+whole_turn room n frames.End e = absurd cc
+
+whole_end : (room : ℕ) (whole : Frame) → frames.End ≡ cut_to room whole → whole ≡ frames.End
+whole_end room (frames.Request w) e = absurd cc
+whole_end room (frames.Manage m) e = absurd cc
+whole_end room (frames.Turn k) e = absurd cc
+whole_end room (frames.Bench event) e = absurd cc
+whole_end room frames.End e = refl
+
+whole_manage : (room : ℕ) (m : Manage) (whole : Frame) → frames.Manage m ≡ cut_to room whole → whole ≡ frames.Manage m
+whole_manage room m (frames.Request w) e = absurd cc
+whole_manage room m (frames.Manage k) e = cc
+whole_manage room m (frames.Turn k) e = absurd cc
+whole_manage room m (frames.Bench event) e = absurd cc
+whole_manage room m frames.End e = absurd cc
+
+whole_bench : (room : ℕ) (event : BenchEvent) (whole : Frame) → frames.Bench event ≡ cut_to room whole → whole ≡ frames.Bench event
+whole_bench room event (frames.Request w) e = absurd cc
+whole_bench room event (frames.Manage m) e = absurd cc
+whole_bench room event (frames.Turn k) e = absurd cc
+whole_bench room event (frames.Bench k) e = cc
+whole_bench room event frames.End e = absurd cc
+
+-- ---- what they do
+
+pub carried_request : (r : Request) (s new : Device) (replies : List Reply) → ((whole : Request) → IsCutOf whole r → Around (MayLose (Arrives whole)) s replies new) → Carried (frames.Request r) s (map replied replies) new
+carried_request r s new replies step = record {
+  deep = depth new;
+  does = λ whole is.
+      let found = whole_request is.room r whole is.cut in
+      subst (λ f. Does f s (map replied replies) new (depth new)) (sym found.is) (replies, refl, step found.w (record { count = is.room; cut_is = found.cut }), refl);
+}
+
+pub carried_manage : (m : Manage) (response : Response) (s new : Device) (replies : List Reply) → Around (MayLose (Manages m response)) s replies new → Carried (frames.Manage m) s (map replied replies ++ managed m.nexus m.function response m.tag ∷ []) new
+carried_manage m response s new replies step = record {
+  deep = depth new;
+  does = λ whole is. subst (λ f. Does f s (map replied replies ++ managed m.nexus m.function response m.tag ∷ []) new (depth new)) (sym (whole_manage is.room m whole is.cut))
+      (record { response = response; replies = replies; step = step; answer = refl }, refl);
+}
+
+pub carried_bench : (event : BenchEvent) (s new : Device) (replies : List Reply) → Around (Happens event) s replies new → Carried (frames.Bench event) s (map replied replies) new
+carried_bench event s new replies step = record {
+  deep = depth new;
+  does = λ whole is. subst (λ f. Does f s (map replied replies) new (depth new)) (sym (whole_bench is.room event whole is.cut)) (replies, refl, step, refl);
+}
+
+pub carried_turns : (n : ℕ) (s new : Device) (replies : List Reply) (deep : ℕ) → TurnsOf n s replies new deep → Carried (frames.Turn n) s (map replied replies) new
+carried_turns n s new replies deep turns = record {
+  deep = max deep (depth new);
+  does = λ whole is. subst (λ f. Does f s (map replied replies) new (max deep (depth new))) (sym (whole_turn is.room n whole is.cut)) (replies, deep, refl, turns, refl);
+}
+
+pub carried_end : (n : ℕ) (s new : Device) (replies : List Reply) (deep : ℕ) → TurnsOf n s replies new deep → new.tasks ≡ [] → Carried frames.End s (map replied replies ++ ended ∷ []) new
+carried_end n s new replies deep turns empty = record {
+  deep = deep;
+  does = λ whole is. subst (λ f. Does f s (map replied replies ++ ended ∷ []) new deep) (sym (whole_end is.room whole is.cut)) (replies, refl, record { count = n; turns = turns; empty = empty });
+}
+
+none_left : (tasks : List Held) → length tasks ≤ 0 → map task_of (entries_of tasks) ≡ []
+none_left [] few = refl
+none_left (h ∷ tasks) few = absurd (omega (arith, few))
+
+-- turns that leave no task
+pub all_ended : (n : ℕ) (l new : Layer) → n ≡ length l.tasks → length new.tasks ≤ length l.tasks - n → map task_of (entries_of new.tasks) ≡ []
+all_ended n l new all few = none_left new.tasks (omega (arith, all, few))
+
+-- ---- and how it is told
+
+module _ {T : Type 0} (told : T → Answer → List ℕ) (behind : T → Answer → T) where
+  -- ---- turns
+
+  pub turns_none : (a : Scene T) → TurnsTold told behind 0 a a
+  turns_none a = record { replies = []; deep = 0; turns = none; told_so = told_none told behind a.telling }
+
+  pub turns_more : (n : ℕ) (a b c : Scene T) → TurnsTold told behind n a b → TurnTold told behind b c → TurnsTold told behind (n + 1) a c
+  turns_more n a b c first rest =
+      let new = c.stand.device in
+      record {
+        replies = first.replies ++ rest.replies;
+        deep = max first.deep (depth new);
+        turns = subst (λ m. TurnsOf m a.stand.device (first.replies ++ rest.replies) new (max first.deep (depth new))) (omega arith) (more first.turns rest.step);
+        told_so = subst (λ l. IsTold told behind a.telling c.telling l) (sym (map-append first.replies rest.replies)) (told_more told behind a.telling b.telling c.telling (map replied first.replies) (map replied rest.replies) first.told_so rest.told_so);
+      }
+
+  pub turns_cut : (n count : ℕ) (a b c : Scene T) → n + 1 ≤ count → TurnsTold told behind n a b → TurnToldInPart told behind b c → SomeTurnsTold told behind count a c
+  turns_cut n count a b c few first rest = record {
+    taken = suc n;
+    some = omega arith;
+    most = omega (arith, few);
+    replies = first.replies ++ rest.replies;
+    told_some = omega (arith, length-append first.replies rest.replies, rest.some);
+    deep = max first.deep (depth c.stand.device);
+    turns = more first.turns rest.step;
+    told_so = subst (λ l. IsToldInPart told behind a.telling c.telling l) (sym (map-append first.replies rest.replies)) (told_part told behind a.telling b.telling c.telling (map replied first.replies) (map replied rest.replies) first.told_so rest.told_so);
+  }
+
+  -- ---- whole events
+
+  -- an event that is known
+  pub done_is : (event known : Frame) (a c : Scene T) → event ≡ known → Done told behind known a c → Done told behind event a c
+  done_is event known a c is done = subst (λ e. Done told behind e a c) (sym is) done
+
+  pub part_is : (event known : Frame) (a c : Scene T) → event ≡ known → DoneInPart told behind known a c → DoneInPart told behind event a c
+  part_is event known a c is done = subst (λ e. DoneInPart told behind e a c) (sym is) done
+
+  pub turns_done : (n : ℕ) (a c : Scene T) → TurnsTold told behind n a c → Done told behind (frames.Turn n) a c
+  turns_done n a c turns = record { answers = map replied turns.replies; carried = carried_turns n a.stand.device c.stand.device turns.replies turns.deep turns.turns; told_so = turns.told_so }
+
+  pub turns_in_part : (n : ℕ) (a c : Scene T) → SomeTurnsTold told behind n a c → DoneInPart told behind (frames.Turn n) a c
+  turns_in_part n a c turns = record {
+    answers = map replied turns.replies;
+    some = omega (arith, length-map turns.replies replied, turns.told_some);
+    carried = inr (record { count = turns.taken; some = turns.some; asked = turns.most; replies = turns.replies; deep = turns.deep; turns = turns.turns; answer = refl });
+    told_so = turns.told_so;
+  }
+
+  pub end_done : (n : ℕ) (a b c : Scene T) → b.stand ≡ c.stand → c.stand.device.tasks ≡ [] → TurnsTold told behind n a b → Wrote b.telling.written c.telling.written (told b.telling.teller ended) → c.telling.teller ≡ behind b.telling.teller ended → Done told behind frames.End a c
+  end_done n a b c same empty turns wrote next = record {
+    answers = map replied turns.replies ++ ended ∷ [];
+    carried = carried_end n a.stand.device c.stand.device turns.replies turns.deep (subst (λ s. TurnsOf n a.stand.device turns.replies s.device turns.deep) same turns.turns) empty;
+    told_so = told_more told behind a.telling b.telling c.telling (map replied turns.replies) (ended ∷ []) turns.told_so (told_one told behind b.telling c.telling ended wrote next);
+  }
+
+  pub end_in_part : (n : ℕ) (a b c : Scene T) → b.stand ≡ c.stand → c.stand.device.tasks ≡ [] → TurnsTold told behind n a b → WrotePart b.telling.written c.telling.written (told b.telling.teller ended) → DoneInPart told behind frames.End a c
+  end_in_part n a b c same empty turns part = record {
+    answers = map replied turns.replies ++ ended ∷ [];
+    some = omega (arith, length-append (map replied turns.replies) (ended ∷ []));
+    carried = inl (carried_end n a.stand.device c.stand.device turns.replies turns.deep (subst (λ s. TurnsOf n a.stand.device turns.replies s.device turns.deep) same turns.turns) empty);
+    told_so = told_part told behind a.telling b.telling c.telling (map replied turns.replies) (ended ∷ []) turns.told_so (part_one told behind b.telling c.telling ended part);
+  }
+
+  pub end_cut : (n : ℕ) (a c : Scene T) → SomeTurnsTold told behind n a c → DoneInPart told behind frames.End a c
+  end_cut n a c turns = record {
+    answers = map replied turns.replies;
+    some = omega (arith, length-map turns.replies replied, turns.told_some);
+    carried = inr (record { count = turns.taken; some = turns.some; asked = tt; replies = turns.replies; deep = turns.deep; turns = turns.turns; answer = refl });
+    told_so = turns.told_so;
+  }
+
+  -- an event whose answers are replies
+  pub replies_done : (event : Frame) (a c : Scene T) (replies : List Reply) → Carried event a.stand.device (map replied replies) c.stand.device → IsTold told behind a.telling c.telling (map replied replies) → Done told behind event a c
+  replies_done event a c replies carried told_so = record { answers = map replied replies; carried = carried; told_so = told_so }
+
+  pub replies_in_part : (event : Frame) (a c : Scene T) (replies : List Reply) → Carried event a.stand.device (map replied replies) c.stand.device → 1 ≤ length replies → IsToldInPart told behind a.telling c.telling (map replied replies) → DoneInPart told behind event a c
+  replies_in_part event a c replies carried some told_so = record { answers = map replied replies; some = omega (arith, length-map replies replied, some); carried = inl carried; told_so = told_so }
+
+  -- a task management function, whose response is told behind replies
+  pub manage_done : (m : Manage) (response : Response) (a c : Scene T) (b : Telling T) (replies : List Reply) → Around (MayLose (Manages m response)) a.stand.device replies c.stand.device → IsTold told behind a.telling b (map replied replies) → Wrote b.written c.telling.written (told b.teller (managed m.nexus m.function response m.tag)) → c.telling.teller ≡ behind b.teller (managed m.nexus m.function response m.tag) →
+      Done told behind (frames.Manage m) a c
+  manage_done m response a c b replies step told_so wrote next =
+      let last = managed m.nexus m.function response m.tag in
+      record {
+        answers = map replied replies ++ last ∷ [];
+        carried = carried_manage m response a.stand.device c.stand.device replies step;
+        told_so = told_more told behind a.telling b c.telling (map replied replies) (last ∷ []) told_so (told_one told behind b c.telling last wrote next);
+      }
+
+  pub manage_in_part : (m : Manage) (response : Response) (a c : Scene T) (b : Telling T) (replies : List Reply) → Around (MayLose (Manages m response)) a.stand.device replies c.stand.device → IsTold told behind a.telling b (map replied replies) → WrotePart b.written c.telling.written (told b.teller (managed m.nexus m.function response m.tag)) →
+      DoneInPart told behind (frames.Manage m) a c
+  manage_in_part m response a c b replies step told_so part =
+      let last = managed m.nexus m.function response m.tag in
+      record {
+        answers = map replied replies ++ last ∷ [];
+        some = omega (arith, length-append (map replied replies) (last ∷ []));
+        carried = inl (carried_manage m response a.stand.device c.stand.device replies step);
+        told_so = told_part told behind a.telling b c.telling (map replied replies) (last ∷ []) told_so (part_one told behind b c.telling last part);
+      }
+
+  -- a write failed before the response
+  pub manage_before : (m : Manage) (response : Response) (a c : Scene T) (replies : List Reply) → Around (MayLose (Manages m response)) a.stand.device replies c.stand.device → IsToldInPart told behind a.telling c.telling (map replied replies) → DoneInPart told behind (frames.Manage m) a c
+  manage_before m response a c replies step part =
+      let last = managed m.nexus m.function response m.tag in
+      record {
+        answers = map replied replies ++ last ∷ [];
+        some = omega (arith, length-append (map replied replies) (last ∷ []));
+        carried = inl (carried_manage m response a.stand.device c.stand.device replies step);
+        told_so = part_before told behind a.telling c.telling (map replied replies) (last ∷ []) part;
+      }

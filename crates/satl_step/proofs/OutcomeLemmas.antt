@@ -1,0 +1,32 @@
+-- What follows of what holds where all went well, or did not.
+use Rattle.std.specs.Prelude.{Result, Ok, Err, IfErr, IfOk, OnErr, OnOk}
+
+pub on_ok : {A E : Type 0} (r : Result A E) (P Q : Type 0) → (P → Q) → OnOk r P → OnOk r Q
+on_ok (Ok x) P Q f p = f p
+on_ok (Err e) P Q f p = tt
+
+-- the same of two facts
+pub on_both : {A E : Type 0} (r : Result A E) (P P' Q : Type 0) → (P → P' → Q) → OnOk r P → OnOk r P' → OnOk r Q
+on_both (Ok x) P P' Q f p q = f p q
+on_both (Err e) P P' Q f p q = tt
+
+pub on_err : {A E : Type 0} (r : Result A E) (P Q : Type 0) → (P → Q) → OnErr r P → OnErr r Q
+on_err (Ok x) P Q f p = tt
+on_err (Err e) P Q f p = f p
+
+pub on_both_err : {A E : Type 0} (r : Result A E) (P P' Q : Type 0) → (P → P' → Q) → OnErr r P → OnErr r P' → OnErr r Q
+on_both_err (Ok x) P P' Q f p q = tt
+on_both_err (Err e) P P' Q f p q = f p q
+
+pub any_err : {A E : Type 0} (r : Result A E) (P : Type 0) → P → OnErr r P
+any_err (Ok x) P p = tt
+any_err (Err e) P p = p
+
+-- the same of the value
+pub if_ok : {A E : Type 0} (r : Result A E) (P Q : A → Type 0) → ((x : A) → P x → Q x) → IfOk r P → IfOk r Q
+if_ok (Ok x) P Q f p = f x p
+if_ok (Err e) P Q f p = tt
+
+pub if_err : {A E : Type 0} (r : Result A E) (P Q : E → Type 0) → ((e : E) → P e → Q e) → IfErr r P → IfErr r Q
+if_err (Ok x) P Q f p = tt
+if_err (Err e) P Q f p = f e p

@@ -1,0 +1,73 @@
+-- What one event counts.
+use Rattle.std.proofs.Common.{◌≡◌, refl, sym, ap, subst, ◌∙◌, arith, ℕ, ◌+◌, ◌*◌, ◌≤◌, List, [], ◌∷◌, length}
+use Rattle.std.specs.Prelude.{not}
+use Rattle.satl_io.specs.Causes.{RoseBy}
+use Rattle.satl_frame.specs.declared.frames.Frame.{Frame}
+use Rattle.satl_frame.specs.declared.frames.Frame.TheVariants as frames
+use Rattle.satl_identify.specs.Data.{identity_data}
+use Rattle.satl_drive.specs.State.{DriveState}
+use Rattle.satl_direct.specs.Run.{losses_in}
+use Rattle.satl_direct.specs.Valid.{IsValid}
+use Rattle.satl_core.specs.Layer.{Layer, Tied, view}
+use Rattle.satl_core.specs.Turning.{task_calls}
+use Rattle.satl_core.proofs.CountedLemmas.{counted_more, counted_same, tasks_seen}
+use Rattle.satl_step.specs.Events.{IsTallied, unplugs_behind}
+use Rattle.satl_step.specs.Runs.{Stand, requests_in, stand_of}
+
+-- ---- the layer and free pages
+
+-- the device is the same however many pages are free
+pub view_same : (l l' : Layer) (d : DriveState) → l' ≡ record l { free = l'.free; out = l'.out } → view l' d ≡ view l d
+view_same l l' d same = ap (λ x. view x d) same
+
+-- the tie does not see pages
+pub tied_lent : (l l' : Layer) (d : DriveState) → record l' { free = 0; out = 0 } ≡ record l { free = 0; out = 0 } → Tied l d → Tied l' d
+tied_lent l l' d same t = record {
+  mark = ap (λ (x : Layer). x.down) same ∙ t.mark;
+  idle = t.idle;
+  no_error = t.no_error;
+  fit = t.fit;
+  cache = λ up. t.cache (sym (ap (λ (x : Layer). x.down) same) ∙ up) ∙ ap (λ (x : Layer). x.modes.wce) (sym same);
+  look = λ up. t.look (sym (ap (λ (x : Layer). x.down) same) ∙ up) ∙ ap (λ (x : Layer). not x.modes.dra) (sym same);
+  told = t.told ∙ ap (λ (x : Layer). identity_data x.identity.bytes d.cache d.look) (sym same);
+  valid = subst IsValid (sym (ap (λ (x : Layer). view x d) same)) t.valid;
+}
+
+-- nor recycled ones
+pub tied_same : (l l' : Layer) (d : DriveState) → l' ≡ record l { free = l'.free; out = l'.out } → Tied l d → Tied l' d
+tied_same l l' d same t = tied_lent l l' d (ap (λ (x : Layer). record x { free = 0; out = 0 }) same) t
+
+-- recycled pages change no other part of the layer
+pub stays_on : (a b c : Layer) (n m : ℕ) → b ≡ record a { free = b.free; out = b.out } → c ≡ record b { free = n; out = m } → c ≡ record a { free = c.free; out = c.out }
+stays_on a b c n m p q =
+    q ∙ (ap (λ (s : Layer). record s { free = n; out = m }) p
+    ∙ (ap (λ x. record a { free = x; out = m }) (sym (ap (λ (l : Layer). l.free) q)) ∙ ap (λ x. record a { free = c.free; out = x }) (sym (ap (λ (l : Layer). l.out) q))))
+
+-- ---- tallies
+
+-- what an event counts, once its replies were told
+pub tallied : (event : Frame) (l mid l' : Layer) (d d' : DriveState) (calls calls' : ℕ) → l' ≡ record mid { free = l'.free; out = l'.out } → RoseBy (losses_in event (view l d) (view mid d')) d.faults d'.faults → d'.unplugs ≡ unplugs_behind event d.unplugs →
+    calls' + task_calls * length mid.tasks ≤ calls + task_calls * length l.tasks + task_calls * requests_in (event ∷ []) → IsTallied event (stand_of l d calls) (stand_of l' d' calls')
+tallied event l mid l' d d' calls calls' stays faults unplugs few =
+    let tasks = ap (λ (x : Layer). length x.tasks) stays in
+    record {
+      faults = subst (λ s. RoseBy (losses_in event (view l d) s) d.faults d'.faults) (sym (view_same mid l' d' stays)) faults;
+      unplugs = unplugs;
+      calls = omega (arith, few, tasks, tasks_seen l.tasks, tasks_seen l'.tasks);
+    }
+
+-- no turn
+pub turns_start : (a : Stand) → IsTallied (frames.Turn 0) a a
+turns_start a = record { faults = counted_same a.device a.device _ _ refl refl; unplugs = refl; calls = omega arith }
+
+-- one turn more
+pub turns_on : (n m k : ℕ) (a b c : Stand) → IsTallied (frames.Turn n) a b → IsTallied (frames.Turn m) b c → IsTallied (frames.Turn k) a c
+turns_on n m k a b c p q = record {
+  faults = counted_more a.device b.device c.device _ _ _ p.faults q.faults;
+  unplugs = q.unplugs ∙ p.unplugs;
+  calls = omega (arith, p.calls, q.calls);
+}
+
+-- turns of END
+pub end_tallied : (n : ℕ) (a b : Stand) → IsTallied (frames.Turn n) a b → IsTallied frames.End a b
+end_tallied n a b p = record { faults = p.faults; unplugs = p.unplugs; calls = p.calls }

@@ -1,0 +1,108 @@
+-- One event on one unit: what it does, how its answers are told, and what is counted (profile).
+use Rattle.std.specs.Prelude.{◌≡◌, ◌⊎◌, ℕ, ◌+◌, ◌*◌, ◌≤◌, List, [], ◌∷◌, length, map, Option}
+use Rattle.satl_base.specs.declared.reply.Reply.{Reply}
+use Rattle.satl_io.specs.Causes.{RoseBy}
+use Rattle.satl_frame.specs.declared.frames.Frame.{Frame}
+use Rattle.satl_frame.specs.declared.frames.Frame.TheVariants as frames
+use Rattle.satl_frame.specs.Output.{Answer}
+use Rattle.satl_frame.specs.Output.Answer.{replied}
+use Rattle.satl_frame.specs.Pulls.{cut_to}
+use Rattle.satl_drive.specs.State.{DriveState}
+use Rattle.satl_direct.specs.Device.{Device}
+use Rattle.satl_direct.specs.Quiet.{Around}
+use Rattle.satl_direct.specs.Turn.{Turn}
+use Rattle.satl_direct.specs.Run.{Does, TurnsOf, losses_in}
+use Rattle.satl_core.specs.Benching.{unplugs_after}
+use Rattle.satl_core.specs.Layer.{Layer}
+use Rattle.satl_core.specs.Submitting.{CanSubmit}
+use Rattle.satl_core.specs.Turning.{task_calls}
+use Rattle.satl_step.specs.Runs.{DoesShort, Stand, requests_in, stand_of}
+use Rattle.satl_step.specs.Telling.{IsTold, IsToldInPart, Telling}
+
+-- where a run stands, and who tells its answers (profile)
+pub record Scene (T : Type 0) : Type 0 where
+  pub stand : Stand
+  pub telling : Telling T
+
+-- a layer, its drive, which was called so often, and who tells what they answer behind what was written (profile)
+abbrev pub scene_of : {T : Type 0} → Layer → DriveState → ℕ → T → Option (List ℕ) → Scene T
+scene_of l d calls teller written = record { stand = stand_of l d calls; telling = record { teller = teller; written = written } }
+
+-- the pages that are out are those of a request, or none (profile)
+abbrev pub CanTake : Frame → ℕ → ℕ → Type 0
+CanTake (frames.Request r) free out = CanSubmit r free out
+CanTake (frames.Manage m) free out = out ≡ 0
+CanTake (frames.Turn count) free out = out ≡ 0
+CanTake (frames.Bench event) free out = out ≡ 0
+CanTake frames.End free out = out ≡ 0
+
+-- a whole event, of which this one has the pages that were free (profile)
+pub record IsWholeOf (event whole : Frame) : Type 0 where
+  pub room : ℕ
+  pub cut : event ≡ cut_to room whole
+
+-- an event was carried out, with these answers: it does what each whole event does of which it is the cut form (profile)
+pub record Carried (event : Frame) (s : Device) (answers : List Answer) (new : Device) : Type 0 where
+  pub deep : ℕ
+  pub does : (whole : Frame) → IsWholeOf event whole → Does whole s answers new deep
+
+-- an event was carried out, and its answers were told (profile)
+pub record Done {T : Type 0} (told : T → Answer → List ℕ) (behind : T → Answer → T) (event : Frame) (before after : Scene T) : Type 0 where
+  pub answers : List Answer
+  pub carried : Carried event before.stand.device answers after.stand.device
+  pub told_so : IsTold told behind before.telling after.telling answers
+
+-- an event was carried out or cut short, and of its answers, one at least, a front was told (profile)
+pub record DoneInPart {T : Type 0} (told : T → Answer → List ℕ) (behind : T → Answer → T) (event : Frame) (before after : Scene T) : Type 0 where
+  pub answers : List Answer
+  pub some : 1 ≤ length answers
+  pub carried : Carried event before.stand.device answers after.stand.device ⊎ DoesShort event before.stand.device answers after.stand.device
+  pub told_so : IsToldInPart told behind before.telling after.telling answers
+
+-- how often the drive was unplugged behind an event (profile)
+abbrev pub unplugs_behind : Frame → ℕ → ℕ
+unplugs_behind (frames.Request r) before = before
+unplugs_behind (frames.Manage m) before = before
+unplugs_behind (frames.Turn count) before = before
+unplugs_behind (frames.Bench event) before = unplugs_after event before
+unplugs_behind frames.End before = before
+
+-- an event raised the count of faults by its losses; the drive was unplugged by it alone; and it was called as often at most as a
+-- task takes for each that is gone (profile)
+pub record IsTallied (event : Frame) (before after : Stand) : Type 0 where
+  pub faults : RoseBy (losses_in event before.device after.device) before.tally.faults after.tally.faults
+  pub unplugs : after.tally.unplugs ≡ unplugs_behind event before.tally.unplugs
+  pub calls : after.tally.calls + task_calls * length after.device.tasks ≤ before.tally.calls + task_calls * length before.device.tasks + task_calls * requests_in (event ∷ [])
+
+-- ---- turns
+
+-- a turn was taken and told (profile)
+pub record TurnTold {T : Type 0} (told : T → Answer → List ℕ) (behind : T → Answer → T) (before after : Scene T) : Type 0 where
+  pub replies : List Reply
+  pub step : Around Turn before.stand.device replies after.stand.device
+  pub told_so : IsTold told behind before.telling after.telling (map replied replies)
+
+-- a turn was taken, and told in part (profile)
+pub record TurnToldInPart {T : Type 0} (told : T → Answer → List ℕ) (behind : T → Answer → T) (before after : Scene T) : Type 0 where
+  pub replies : List Reply
+  pub some : 1 ≤ length replies
+  pub step : Around Turn before.stand.device replies after.stand.device
+  pub told_so : IsToldInPart told behind before.telling after.telling (map replied replies)
+
+-- so many turns were taken and told (profile)
+pub record TurnsTold {T : Type 0} (told : T → Answer → List ℕ) (behind : T → Answer → T) (count : ℕ) (before after : Scene T) : Type 0 where
+  pub replies : List Reply
+  pub deep : ℕ
+  pub turns : TurnsOf count before.stand.device replies after.stand.device deep
+  pub told_so : IsTold told behind before.telling after.telling (map replied replies)
+
+-- some of so many turns were taken, and told in part (profile)
+pub record SomeTurnsTold {T : Type 0} (told : T → Answer → List ℕ) (behind : T → Answer → T) (count : ℕ) (before after : Scene T) : Type 0 where
+  pub taken : ℕ
+  pub some : 1 ≤ taken
+  pub most : taken ≤ count
+  pub replies : List Reply
+  pub told_some : 1 ≤ length replies
+  pub deep : ℕ
+  pub turns : TurnsOf taken before.stand.device replies after.stand.device deep
+  pub told_so : IsToldInPart told behind before.telling after.telling (map replied replies)

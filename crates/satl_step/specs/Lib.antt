@@ -1,0 +1,4 @@
+pub mod Events
+pub mod Loop
+pub mod Runs
+pub mod Telling

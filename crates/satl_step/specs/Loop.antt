@@ -1,0 +1,98 @@
+-- The frames of an input, carried out on one unit (profile).
+use Rattle.std.specs.Prelude.{◌≡◌, ℕ, ◌-◌, ◌^◌, min, Bool, true, false, List, [], ◌∷◌, ◌++◌, Option, None, Some}
+use Rattle.satl_io.specs.Causes.{Rose}
+use Rattle.satl_frame.specs.declared.frames.Frame.{Frame}
+use Rattle.satl_frame.specs.declared.frames.Frame.TheVariants as frames
+use Rattle.satl_frame.specs.declared.frames.Place.{Place}
+use Rattle.satl_frame.specs.declared.frames.FrameFault.{FrameFault}
+use Rattle.satl_frame.specs.declared.frames.FrameFault.TheVariants.{Bad, ReadFault}
+use Rattle.satl_frame.specs.Inputs.{NoneEnds}
+use Rattle.satl_frame.specs.Output.{Answer}
+use Rattle.satl_frame.specs.Progress.{HasRead}
+use Rattle.satl_frame.specs.Reading.{Blames, Reading}
+use Rattle.satl_direct.specs.Run.{joined}
+use Rattle.satl_step.specs.declared.frames_loop.Stop.{Stop}
+use Rattle.satl_step.specs.declared.frames_loop.Stop.TheVariants as stops
+use Rattle.satl_step.specs.Events.{Scene}
+use Rattle.satl_step.specs.Runs.{RunCutSoFar, RunSoFar, requests_in}
+use Rattle.satl_step.specs.Telling.{IsTold, IsToldInPart}
+
+-- whether a frame is END (profile)
+abbrev pub is_end : Frame → Bool
+is_end (frames.Request r) = false
+is_end (frames.Manage m) = false
+is_end (frames.Turn count) = false
+is_end (frames.Bench event) = false
+is_end frames.End = true
+
+-- how many bytes of the input stand before the next frame; none where the magic was not read yet (profile)
+abbrev pub place_offset : Option Place → ℕ
+place_offset None = 0
+place_offset (Some place) = place.offset
+
+-- a reader, what is left to read, and the scene that its frames are carried out on (profile)
+pub record Stage (T : Type 0) : Type 0 where
+  pub reader : Reading
+  pub left : Option (List ℕ)
+  pub scene : Scene T
+
+-- the number of requests, which stands still at 2^64 - 1 (profile)
+abbrev pub counted_requests : List Frame → ℕ
+counted_requests events = min (requests_in events) (2 ^ 64 - 1)
+
+-- the reader is the same but for where it stands, and has given these frames (profile)
+pub record HasGiven {T : Type 0} (before after : Stage T) (events : List Frame) : Type 0 where
+  pub limit : after.reader.limit ≡ before.reader.limit
+  pub newest : after.reader.newest ≡ before.reader.newest
+  pub read : HasRead after.reader before.left after.left events
+
+-- frames were read and carried out, so many of them requests, and their answers were told (profile)
+pub record SoFar {T : Type 0} (told : T → Answer → List ℕ) (behind : T → Answer → T) (before after : Stage T) (requests : ℕ) : Type 0 where
+  pub events : List Frame
+  pub groups : List (List Answer)
+  pub given : HasGiven before after events
+  pub told_so : IsTold told behind before.scene.telling after.scene.telling (joined groups)
+  pub run : RunSoFar before.scene.stand after.scene.stand events groups
+  pub requests_are : requests ≡ counted_requests events
+
+-- the same, and none of them is END (profile)
+pub record Going {T : Type 0} (told : T → Answer → List ℕ) (behind : T → Answer → T) (before after : Stage T) (requests : ℕ) : Type 0 where
+  pub so_far : SoFar told behind before after requests
+  pub none_ends : NoneEnds so_far.events
+
+-- the same, and the last of them is END (profile)
+pub record Ended {T : Type 0} (told : T → Answer → List ℕ) (behind : T → Answer → T) (before after : Stage T) (requests : ℕ) : Type 0 where
+  pub so_far : SoFar told behind before after requests
+  pub earlier : List Frame
+  pub ends : so_far.events ≡ earlier ++ frames.End ∷ []
+
+-- frames were carried out, none of which is END, and what follows them was refused or not read (profile)
+pub record Refused {T : Type 0} (told : T → Answer → List ℕ) (behind : T → Answer → T) (before after : Stage T) (why : FrameFault) : Type 0 where
+  pub reader : Reading
+  pub mid : Option (List ℕ)
+  pub requests : ℕ
+  pub going : Going told behind before (record after { reader = reader; left = mid }) requests
+  pub blames : Blames reader mid after.left why
+
+-- frames were carried out, none of which is END, and their answers were told; then one frame more was read, which was carried out or
+-- cut short, and a front of its answers was told (profile)
+pub record StoppedInAnswers {T : Type 0} (told : T → Answer → List ℕ) (behind : T → Answer → T) (before after : Stage T) : Type 0 where
+  pub mid : Stage T
+  pub requests : ℕ
+  pub going : Going told behind before mid requests
+  pub event : Frame
+  pub answers : List Answer
+  pub given : HasGiven before after (going.so_far.events ++ event ∷ [])
+  pub told_so : IsToldInPart told behind mid.scene.telling after.scene.telling answers
+  pub run : RunCutSoFar before.scene.stand after.scene.stand (going.so_far.events ++ event ∷ []) (going.so_far.groups ++ answers ∷ [])
+
+-- by why they are carried out no further (profile)
+abbrev pub StoppedSo : {T : Type 0} → (T → Answer → List ℕ) → (T → Answer → T) → Stage T → Stage T → Stop → Type 0
+StoppedSo told behind before after (stops.Refused why) = Refused told behind before after why
+StoppedSo told behind before after stops.Write = StoppedInAnswers told behind before after
+
+-- a read fault comes only where the source's count rose, and a write fault only where the sink's did (profile)
+abbrev pub HasStopCause : ℕ → ℕ → ℕ → ℕ → Stop → Type 0
+HasStopCause read_before read_now write_before write_now (stops.Refused (Bad reason offset)) = Unit {0}
+HasStopCause read_before read_now write_before write_now (stops.Refused ReadFault) = Rose read_before read_now
+HasStopCause read_before read_now write_before write_now stops.Write = Rose write_before write_now

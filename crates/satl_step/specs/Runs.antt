@@ -1,0 +1,111 @@
+-- Runs as far as they came, and what was counted meanwhile (profile).
+use Rattle.std.specs.Prelude.{◌≡◌, ℕ, ◌+◌, ◌*◌, ◌≤◌, Bool, true, false, List, [], ◌∷◌, ◌++◌, length, map}
+use Rattle.satl_base.specs.declared.bench.BenchEvent.{BenchEvent}
+use Rattle.satl_base.specs.declared.bench.BenchEvent.TheVariants as events
+use Rattle.satl_base.specs.declared.reply.Reply.{Reply}
+use Rattle.satl_base.specs.Lists.{how_many}
+use Rattle.satl_io.specs.Causes.{RoseBy}
+use Rattle.satl_frame.specs.declared.frames.Frame.{Frame}
+use Rattle.satl_frame.specs.declared.frames.Frame.TheVariants as frames
+use Rattle.satl_frame.specs.Output.{Answer}
+use Rattle.satl_frame.specs.Output.Answer.{replied}
+use Rattle.satl_drive.specs.State.{DriveState}
+use Rattle.satl_direct.specs.Device.{Device}
+use Rattle.satl_direct.specs.Run.{CutTurns, Does, RunDeep, TurnsOf, losses_in}
+use Rattle.satl_core.specs.Layer.{Layer, view}
+use Rattle.satl_core.specs.Turning.{task_calls}
+
+-- what was counted so far: a drive's faults, how often it was unplugged, and how often it was called (profile)
+pub record Tally : Type 0 where
+  pub faults : ℕ
+  pub unplugs : ℕ
+  pub calls : ℕ
+
+-- the same of a drive that was called so often (profile)
+abbrev pub tally_of : DriveState → ℕ → Tally
+tally_of d calls = record { faults = d.faults; unplugs = d.unplugs; calls = calls }
+
+-- where a run stands: the device, and what was counted so far (profile)
+pub record Stand : Type 0 where
+  pub device : Device
+  pub tally : Tally
+
+-- where a layer and its drive stand, which was called so often (profile)
+abbrev pub stand_of : Layer → DriveState → ℕ → Stand
+stand_of l d calls = record { device = view l d; tally = tally_of d calls }
+
+-- whether an event is a request (profile)
+abbrev pub is_request : Frame → Bool
+is_request (frames.Request r) = true
+is_request (frames.Manage m) = false
+is_request (frames.Turn count) = false
+is_request (frames.Bench event) = false
+is_request frames.End = false
+
+-- how many of the events are requests (profile)
+abbrev pub requests_in : List Frame → ℕ
+requests_in events = how_many is_request events
+
+-- whether a bench event unplugs the drive (profile)
+abbrev pub unplugs : BenchEvent → Bool
+unplugs (events.Strike which lba) = false
+unplugs (events.Mend lba) = false
+unplugs (events.Glitch count) = false
+unplugs (events.Order order) = false
+unplugs events.Power = false
+unplugs events.Unplug = true
+
+-- whether an event unplugs the drive (profile)
+abbrev pub is_unplug : Frame → Bool
+is_unplug (frames.Request r) = false
+is_unplug (frames.Manage m) = false
+is_unplug (frames.Turn count) = false
+is_unplug (frames.Bench event) = unplugs event
+is_unplug frames.End = false
+
+-- how many of the events unplug the drive (profile)
+abbrev pub unplugs_in : List Frame → ℕ
+unplugs_in events = how_many is_unplug events
+
+-- events with so many losses were counted: the drive's count of faults rose by the losses at least, or stands at its last value; its
+-- number of unplugs rose by the events that unplug it, or stands at its last value; and it was called as often at most as the requests
+-- allow that are no longer tasks (profile)
+pub record AreCounted (events : List Frame) (losses : ℕ) (before after : Stand) : Type 0 where
+  pub faults : RoseBy losses before.tally.faults after.tally.faults
+  pub unplugged : RoseBy (unplugs_in events) before.tally.unplugs after.tally.unplugs
+  pub few_unplugs : after.tally.unplugs ≤ before.tally.unplugs + unplugs_in events
+  pub few_calls : after.tally.calls + task_calls * length after.device.tasks ≤ before.tally.calls + task_calls * requests_in events
+
+-- events were carried out one after the other, from a device without tasks on, and were counted: a group of answers for each (profile)
+pub record RunSoFar (before after : Stand) (events : List Frame) (groups : List (List Answer)) : Type 0 where
+  pub losses : ℕ
+  pub deep : ℕ
+  pub run : RunDeep before.device events groups losses after.device deep
+  pub counted : AreCounted events losses before after
+
+-- an event that asks for turns was cut short between two of them, and one was taken at least (profile)
+pub record DoesShort (event : Frame) (s : Device) (answers : List Answer) (new : Device) : Type 0 where
+  pub count : ℕ
+  pub some : 1 ≤ count
+  pub asked : CutTurns event count
+  pub replies : List Reply
+  pub deep : ℕ
+  pub turns : TurnsOf count s replies new deep
+  pub answer : answers ≡ map replied replies
+
+-- an event was carried out, or was cut short between two of its turns (profile)
+pub data DoesInPart (event : Frame) (s : Device) (answers : List Answer) (new : Device) : Type 0 where
+  does_all : (deep : ℕ) → Does event s answers new deep → DoesInPart event s answers new
+  does_some : DoesShort event s answers new → DoesInPart event s answers new
+
+-- a run, and one event more, which was carried out or cut short between two of its turns (profile)
+pub data RunInPart (first : Device) : List Frame → List (List Answer) → ℕ → Device → Type 0 where
+  last : {events : List Frame} {groups : List (List Answer)} {losses deep : ℕ} {s new : Device} (event : Frame) (now : List Answer)
+      → RunDeep first events groups losses s deep → DoesInPart event s now new
+      → RunInPart first (events ++ event ∷ []) (groups ++ now ∷ []) (losses + losses_in event s new) new
+
+-- events were carried out one after the other, and the last one perhaps in part, and were counted: a group of answers for each (profile)
+pub record RunCutSoFar (before after : Stand) (events : List Frame) (groups : List (List Answer)) : Type 0 where
+  pub losses : ℕ
+  pub run : RunInPart before.device events groups losses after.device
+  pub counted : AreCounted events losses before after

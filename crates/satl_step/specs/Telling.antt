@@ -1,0 +1,28 @@
+-- How answers are told, one after the other, where the next one may depend on those before it (profile).
+use Rattle.std.specs.Prelude.{◌≡◌, ℕ, List, [], ◌∷◌, ◌++◌, Option}
+use Rattle.satl_io.specs.Known.{Wrote, WrotePart}
+use Rattle.satl_frame.specs.Output.{Answer}
+
+-- who tells answers, and what was written (profile)
+pub record Telling (T : Type 0) : Type 0 where
+  pub teller : T
+  pub written : Option (List ℕ)
+
+-- the bytes in which answers are told (profile)
+abbrev pub all_told : {T : Type 0} → (T → Answer → List ℕ) → (T → Answer → T) → T → List Answer → List ℕ
+all_told told behind t [] = []
+all_told told behind t (answer ∷ answers) = told t answer ++ all_told told behind (behind t answer) answers
+
+-- the teller behind them (profile)
+abbrev pub all_behind : {T : Type 0} → (T → Answer → T) → T → List Answer → T
+all_behind behind t [] = t
+all_behind behind t (answer ∷ answers) = all_behind behind (behind t answer) answers
+
+-- answers were told (profile)
+pub record IsTold {T : Type 0} (told : T → Answer → List ℕ) (behind : T → Answer → T) (before after : Telling T) (answers : List Answer) : Type 0 where
+  pub wrote : Wrote before.written after.written (all_told told behind before.teller answers)
+  pub teller : after.teller ≡ all_behind behind before.teller answers
+
+-- of answers a front was written (profile)
+pub record IsToldInPart {T : Type 0} (told : T → Answer → List ℕ) (behind : T → Answer → T) (before after : Telling T) (answers : List Answer) : Type 0 where
+  pub part : WrotePart before.written after.written (all_told told behind before.teller answers)

@@ -1,0 +1,128 @@
+// One event on one unit.
+ghost use Rattle.std.specs.Prelude.{◌≡◌, [], OnErr, OnOk};
+ghost use Rattle.satl_io.specs.Causes.{HasCause};
+ghost use Rattle.satl_frame.specs.declared.frames.Frame.{Frame};
+ghost use Rattle.satl_core.specs.Layer.{Tied};
+ghost use Rattle.satl_core.specs.Submitting.{CanSubmit};
+ghost use Rattle.satl_step.specs.Runs.{stand_of};
+ghost use Rattle.satl_step.specs.Events.{CanTake, Done, DoneInPart, IsTallied, scene_of};
+
+use crate::replies::tell_replies;
+use crate::teller::Teller;
+use crate::turns::{serve_end, serve_turns};
+use satl_base::{BenchEvent, Manage, Replies, Request, Steps};
+use satl_core::Satl;
+use satl_drive::{Bench, Drive};
+use satl_frame::{Frame, WriteFault};
+use satl_io::Sink;
+use std::sync::ledger::Ledger;
+
+/// A request arrives.
+fn serve_request<T: Teller, K: Sink, D: Drive, L: Ledger>(
+    satl: &mut Satl,
+    request: Request,
+    teller: &mut T,
+    sink: &mut K,
+    drive: &mut D,
+    replies: &mut Replies,
+    steps: &mut Steps<L>,
+) -> Result<(), WriteFault>
+    requires tied { Tied satl.old (D.state drive.old) }
+    requires can { CanSubmit request satl.old.free satl.old.out }
+    requires none { replies.old ≡ [] }
+    ensures tied { Tied satl.new (D.state drive.new) }
+    ensures all_in { OnOk result (satl.new.out ≡ 0) }
+    ensures none { OnOk result (replies.new ≡ []) }
+    ensures done { OnOk result (Done T.told T.behind (Frame.Request request) (scene_of satl.old (D.state drive.old) steps.old teller.old (K.written sink.old)) (scene_of satl.new (D.state drive.new) steps.new teller.new (K.written sink.new))) }
+    ensures part { OnErr result (DoneInPart T.told T.behind (Frame.Request request) (scene_of satl.old (D.state drive.old) steps.old teller.old (K.written sink.old)) (scene_of satl.new (D.state drive.new) steps.new teller.new (K.written sink.new))) }
+    ensures tallied { IsTallied (Frame.Request request) (stand_of satl.old (D.state drive.old) steps.old) (stand_of satl.new (D.state drive.new) steps.new) }
+    ensures cause { HasCause (K.faults sink.old) (K.faults sink.new) result }
+{
+    satl.submit(request, drive, replies, steps);
+    tell_replies(satl, teller, sink, replies)
+}
+
+/// A task management function is carried out.
+fn serve_manage<T: Teller, K: Sink, D: Drive, L: Ledger>(
+    satl: &mut Satl,
+    manage: Manage,
+    teller: &mut T,
+    sink: &mut K,
+    drive: &mut D,
+    replies: &mut Replies,
+    steps: &mut Steps<L>,
+) -> Result<(), WriteFault>
+    requires tied { Tied satl.old (D.state drive.old) }
+    requires all_in { satl.old.out ≡ 0 }
+    requires none { replies.old ≡ [] }
+    ensures tied { Tied satl.new (D.state drive.new) }
+    ensures all_in { OnOk result (satl.new.out ≡ 0) }
+    ensures none { OnOk result (replies.new ≡ []) }
+    ensures done { OnOk result (Done T.told T.behind (Frame.Manage manage) (scene_of satl.old (D.state drive.old) steps.old teller.old (K.written sink.old)) (scene_of satl.new (D.state drive.new) steps.new teller.new (K.written sink.new))) }
+    ensures part { OnErr result (DoneInPart T.told T.behind (Frame.Manage manage) (scene_of satl.old (D.state drive.old) steps.old teller.old (K.written sink.old)) (scene_of satl.new (D.state drive.new) steps.new teller.new (K.written sink.new))) }
+    ensures tallied { IsTallied (Frame.Manage manage) (stand_of satl.old (D.state drive.old) steps.old) (stand_of satl.new (D.state drive.new) steps.new) }
+    ensures cause { HasCause (K.faults sink.old) (K.faults sink.new) result }
+{
+    let response = satl.manage(&manage, drive, replies, steps);
+    tell_replies(satl, teller, sink, replies)?;
+    teller.tell_managed(&manage, response, sink)
+}
+
+/// Something happens to the drive.
+fn serve_bench<T: Teller, K: Sink, D: Bench, L: Ledger>(
+    satl: &mut Satl,
+    event: BenchEvent,
+    teller: &mut T,
+    sink: &mut K,
+    drive: &mut D,
+    replies: &mut Replies,
+    steps: &mut Steps<L>,
+) -> Result<(), WriteFault>
+    requires tied { Tied satl.old (D.state drive.old) }
+    requires all_in { satl.old.out ≡ 0 }
+    requires none { replies.old ≡ [] }
+    ensures tied { Tied satl.new (D.state drive.new) }
+    ensures all_in { OnOk result (satl.new.out ≡ 0) }
+    ensures none { OnOk result (replies.new ≡ []) }
+    ensures done { OnOk result (Done T.told T.behind (Frame.Bench event) (scene_of satl.old (D.state drive.old) steps.old teller.old (K.written sink.old)) (scene_of satl.new (D.state drive.new) steps.new teller.new (K.written sink.new))) }
+    ensures part { OnErr result (DoneInPart T.told T.behind (Frame.Bench event) (scene_of satl.old (D.state drive.old) steps.old teller.old (K.written sink.old)) (scene_of satl.new (D.state drive.new) steps.new teller.new (K.written sink.new))) }
+    ensures tallied { IsTallied (Frame.Bench event) (stand_of satl.old (D.state drive.old) steps.old) (stand_of satl.new (D.state drive.new) steps.new) }
+    ensures cause { HasCause (K.faults sink.old) (K.faults sink.new) result }
+{
+    satl.bench(&event, drive, replies, steps);
+    tell_replies(satl, teller, sink, replies)
+}
+
+/// Carries out one event on one unit, and tells what it answers, each reply before the next call of the layer. `WriteFault`
+/// comes only where the sink's count of faults rose; then a front of the answers was told, of which there is one at least, and
+/// the event was carried out in whole, or was cut short between two of its turns (profile).
+pub fn serve_event<T: Teller, K: Sink, D: Bench, L: Ledger>(
+    satl: &mut Satl,
+    event: Frame,
+    teller: &mut T,
+    sink: &mut K,
+    drive: &mut D,
+    replies: &mut Replies,
+    steps: &mut Steps<L>,
+) -> Result<(), WriteFault>
+    requires tied { Tied satl.old (D.state drive.old) }
+    requires can { CanTake event satl.old.free satl.old.out }
+    requires none { replies.old ≡ [] }
+    ensures tied { Tied satl.new (D.state drive.new) }
+    ensures all_in { OnOk result (satl.new.out ≡ 0) }
+    ensures none { OnOk result (replies.new ≡ []) }
+    ensures done { OnOk result (Done T.told T.behind event (scene_of satl.old (D.state drive.old) steps.old teller.old (K.written sink.old)) (scene_of satl.new (D.state drive.new) steps.new teller.new (K.written sink.new))) }
+    ensures part { OnErr result (DoneInPart T.told T.behind event (scene_of satl.old (D.state drive.old) steps.old teller.old (K.written sink.old)) (scene_of satl.new (D.state drive.new) steps.new teller.new (K.written sink.new))) }
+    ensures tallied { IsTallied event (stand_of satl.old (D.state drive.old) steps.old) (stand_of satl.new (D.state drive.new) steps.new) }
+    ensures cause { HasCause (K.faults sink.old) (K.faults sink.new) result }
+{
+    match event {
+        Frame::Request(request) => serve_request(
+            satl, request, teller, sink, drive, replies, steps,
+        ),
+        Frame::Manage(manage) => serve_manage(satl, manage, teller, sink, drive, replies, steps),
+        Frame::Turn(count) => serve_turns(satl, count, teller, sink, drive, replies, steps),
+        Frame::Bench(event) => serve_bench(satl, event, teller, sink, drive, replies, steps),
+        Frame::End => serve_end(satl, teller, sink, drive, replies, steps),
+    }
+}

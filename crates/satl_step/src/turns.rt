@@ -1,0 +1,95 @@
+// Turns, and the end of an input.
+ghost use Rattle.std.specs.Prelude.{◌≡◌, ◌≤◌, ◌-◌, [], OnErr, OnOk, length};
+ghost use Rattle.satl_io.specs.Causes.{HasCause};
+ghost use Rattle.satl_frame.specs.declared.frames.Frame.{Frame};
+ghost use Rattle.satl_core.specs.Layer.{Tied};
+ghost use Rattle.satl_step.specs.Runs.{stand_of};
+ghost use Rattle.satl_step.specs.Events.{Done, DoneInPart, IsTallied, SomeTurnsTold, TurnTold, TurnToldInPart, TurnsTold, scene_of};
+
+use crate::replies::tell_replies;
+use crate::teller::Teller;
+use satl_base::{Replies, Steps};
+use satl_core::Satl;
+use satl_drive::Drive;
+use satl_frame::{Frame, WriteFault};
+use satl_io::Sink;
+use std::sync::ledger::Ledger;
+
+/// One turn.
+fn serve_turn<T: Teller, K: Sink, D: Drive, L: Ledger>(
+    satl: &mut Satl,
+    teller: &mut T,
+    sink: &mut K,
+    drive: &mut D,
+    replies: &mut Replies,
+    steps: &mut Steps<L>,
+) -> Result<(), WriteFault>
+    requires tied { Tied satl.old (D.state drive.old) }
+    requires all_in { satl.old.out ≡ 0 }
+    requires none { replies.old ≡ [] }
+    ensures tied { Tied satl.new (D.state drive.new) }
+    ensures all_in { OnOk result (satl.new.out ≡ 0) }
+    ensures none { OnOk result (replies.new ≡ []) }
+    ensures told { OnOk result (TurnTold T.told T.behind (scene_of satl.old (D.state drive.old) steps.old teller.old (K.written sink.old)) (scene_of satl.new (D.state drive.new) steps.new teller.new (K.written sink.new))) }
+    ensures part { OnErr result (TurnToldInPart T.told T.behind (scene_of satl.old (D.state drive.old) steps.old teller.old (K.written sink.old)) (scene_of satl.new (D.state drive.new) steps.new teller.new (K.written sink.new))) }
+    ensures fewer { length satl.new.tasks ≤ length satl.old.tasks - 1 }
+    ensures tallied { IsTallied (Frame.Turn 1) (stand_of satl.old (D.state drive.old) steps.old) (stand_of satl.new (D.state drive.new) steps.new) }
+    ensures cause { HasCause (K.faults sink.old) (K.faults sink.new) result }
+{
+    satl.turn(drive, replies, steps);
+    tell_replies(satl, teller, sink, replies)
+}
+
+/// So many turns, each told before the next.
+pub fn serve_turns<T: Teller, K: Sink, D: Drive, L: Ledger>(
+    satl: &mut Satl,
+    count: u16,
+    teller: &mut T,
+    sink: &mut K,
+    drive: &mut D,
+    replies: &mut Replies,
+    steps: &mut Steps<L>,
+) -> Result<(), WriteFault>
+    requires tied { Tied satl.old (D.state drive.old) }
+    requires all_in { satl.old.out ≡ 0 }
+    requires none { replies.old ≡ [] }
+    ensures tied { Tied satl.new (D.state drive.new) }
+    ensures all_in { OnOk result (satl.new.out ≡ 0) }
+    ensures none { OnOk result (replies.new ≡ []) }
+    ensures told { OnOk result (TurnsTold T.told T.behind count (scene_of satl.old (D.state drive.old) steps.old teller.old (K.written sink.old)) (scene_of satl.new (D.state drive.new) steps.new teller.new (K.written sink.new))) }
+    ensures part { OnErr result (SomeTurnsTold T.told T.behind count (scene_of satl.old (D.state drive.old) steps.old teller.old (K.written sink.old)) (scene_of satl.new (D.state drive.new) steps.new teller.new (K.written sink.new))) }
+    ensures fewer { OnOk result (length satl.new.tasks ≤ length satl.old.tasks - count) }
+    ensures tallied { IsTallied (Frame.Turn count) (stand_of satl.old (D.state drive.old) steps.old) (stand_of satl.new (D.state drive.new) steps.new) }
+    ensures cause { HasCause (K.faults sink.old) (K.faults sink.new) result }
+{
+    for _ in 0..count {
+        serve_turn(satl, teller, sink, drive, replies, steps)?;
+    }
+    Ok(())
+}
+
+/// Turns until no task waits, and the end of the output.
+pub fn serve_end<T: Teller, K: Sink, D: Drive, L: Ledger>(
+    satl: &mut Satl,
+    teller: &mut T,
+    sink: &mut K,
+    drive: &mut D,
+    replies: &mut Replies,
+    steps: &mut Steps<L>,
+) -> Result<(), WriteFault>
+    requires tied { Tied satl.old (D.state drive.old) }
+    requires all_in { satl.old.out ≡ 0 }
+    requires none { replies.old ≡ [] }
+    ensures tied { Tied satl.new (D.state drive.new) }
+    ensures all_in { OnOk result (satl.new.out ≡ 0) }
+    ensures none { OnOk result (replies.new ≡ []) }
+    ensures done { OnOk result (Done T.told T.behind Frame.End (scene_of satl.old (D.state drive.old) steps.old teller.old (K.written sink.old)) (scene_of satl.new (D.state drive.new) steps.new teller.new (K.written sink.new))) }
+    ensures part { OnErr result (DoneInPart T.told T.behind Frame.End (scene_of satl.old (D.state drive.old) steps.old teller.old (K.written sink.old)) (scene_of satl.new (D.state drive.new) steps.new teller.new (K.written sink.new))) }
+    ensures tallied { IsTallied Frame.End (stand_of satl.old (D.state drive.old) steps.old) (stand_of satl.new (D.state drive.new) steps.new) }
+    ensures cause { HasCause (K.faults sink.old) (K.faults sink.new) result }
+{
+    // Each turn ends one task at least.
+    let count = satl.pending() as u16;
+    serve_turns(satl, count, teller, sink, drive, replies, steps)?;
+    teller.tell_end(sink)
+}
