@@ -27,7 +27,7 @@ Refuses input faults.NoMemory = Unit {0}
 abbrev pub IsNotCovered : Bool → List ℕ → ℕ → Type 0
 IsNotCovered trim input offset =
     ((all : List Frame) × IsWholeInput input Two all × (offset ≡ 0))
-        ⊎ ((all : List Frame) × IsWholeInput input One all × FirstUncovered trim all offset)
+    ⊎ ((all : List Frame) × IsWholeInput input One all × FirstUncovered trim all offset)
 
 -- an input of version 1 all of whose frames are covered; or where the first stands that is not; or why it is refused (profile)
 abbrev pub Covers : Bool → List ℕ → Result (Option ℕ) AuditFault → Type 0
