@@ -114,7 +114,16 @@ fn serve_opened<S: Source, K: Sink, D: Bench, L: Ledger>(
     tell_beginning(form, sink)?;
     let mut reader = FrameReader::new(alloc, LIMIT);
     let mut printer = Printer::new(form);
-    match serve_frames(alloc, &mut reader, satl, source, &mut printer, sink, drive, steps) {
+    match serve_frames(
+        alloc,
+        &mut reader,
+        satl,
+        source,
+        &mut printer,
+        sink,
+        drive,
+        steps,
+    ) {
         Ok(requests) => Ok(Summary {
             requests,
             ..printer.totals

@@ -117,7 +117,9 @@ pub fn serve_event<T: Teller, K: Sink, D: Bench, L: Ledger>(
     ensures cause { HasCause (K.faults sink.old) (K.faults sink.new) result }
 {
     match event {
-        Frame::Request(request) => serve_request(satl, request, teller, sink, drive, replies, steps),
+        Frame::Request(request) => serve_request(
+            satl, request, teller, sink, drive, replies, steps,
+        ),
         Frame::Manage(manage) => serve_manage(satl, manage, teller, sink, drive, replies, steps),
         Frame::Turn(count) => serve_turns(satl, count, teller, sink, drive, replies, steps),
         Frame::Bench(event) => serve_bench(satl, event, teller, sink, drive, replies, steps),

@@ -1,7 +1,7 @@
 // Replays of a few requests, and inputs that are refused.
 use crate::frames::{
-    END, TURN, check, command, fault, full, good, input, output, read, request, write, write_and_read,
-    written_and_read,
+    END, TURN, check, command, fault, full, good, input, output, read, request, write,
+    write_and_read, written_and_read,
 };
 use crate::replaying::{expect, expect_replies, pieces, run};
 use satl_top::Status;
@@ -42,7 +42,8 @@ fn shown_in_lines(rt: HostRuntime) -> Result<(), Fail> {
     command(&mut frames, 2, [0xFF; 16])?;
     frames.extend_from_slice(&END)?;
     let (status, lines) = run(alloc, "show", frames, pieces(65536))?;
-    let expected = b"reply 0 00000001 00 - -\nreply 0 00000002 02 700005000000000a00000000200000000000 -\nend\n";
+    let expected =
+        b"reply 0 00000001 00 - -\nreply 0 00000002 02 700005000000000a00000000200000000000 -\nend\n";
     assert_eq!(rt; status, Status::Done);
     assert_eq!(rt; lines.as_slice(), expected.as_slice());
     Ok(())
