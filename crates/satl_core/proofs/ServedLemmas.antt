@@ -22,7 +22,9 @@ use Rattle.satl_regs.specs.declared.values.Registers.{Registers}
 use Rattle.satl_regs.specs.declared.values.Taskfile.{Taskfile}
 use Rattle.satl_regs.specs.declared.values.How.TheVariants.{DmaExt}
 use Rattle.satl_regs.specs.Spelling.{command_registers}
-use Rattle.satl_regs.specs.Effects.{Carries, Does, IsCarriedOut, IsFlawed, IsGarbled, IsRefused, Medium, Transfer, flawed_end, idnf, reading, writing}
+use Rattle.satl_regs.specs.Effects.{Carries, Does, IsCarriedOut, IsFlawed, IsGarbled, IsRefused, Medium, Transfer, flawed_end, icrc, idnf, reading, unc, writing}
+use Rattle.satl_pass.specs.Status.{error_sense_at}
+use Rattle.satl_pass.specs.Transfers.{is_writing}
 use Rattle.satl_line.specs.declared.entry.Entry.{Entry}
 use Rattle.satl_unit.specs.declared.attention.Attention.{Attention}
 use Rattle.satl_line.specs.Ending.{EndsAs, Outcome, blocks_read, flaw_met, active_after}
@@ -35,7 +37,7 @@ use Rattle.satl_direct.specs.Device.{Device, without}
 use Rattle.satl_direct.specs.Tasks.{asks, over, task_of}
 use Rattle.satl_direct.specs.Ending.{Ends, EndsBy, EndsOnMedium, IsChecked, IsDone, medium_error, outcome_reply, task_check, task_reply}
 use Rattle.satl_direct.specs.Quiet.{Around, is_pass, writes}
-use Rattle.satl_direct.specs.Senses.{link_lost, not_ready}
+use Rattle.satl_direct.specs.Senses.{crc_error, link_lost, not_ready, read_error, write_error}
 use Rattle.satl_direct.specs.Attentions.{are_same, are_same_modes, post, with_modes_changed}
 use Rattle.satl_direct.specs.Ending as direct
 use Rattle.satl_unit.specs.declared.attention.Attention.TheVariants.{ModeChanged}
@@ -53,7 +55,7 @@ use Rattle.satl_core.specs.Turning as core
 use Rattle.satl_barrier.specs.Leaving.{IsLostIn}
 use Rattle.satl_barrier.specs.Settings.{IsTuned}
 use Rattle.satl_barrier.specs.Flushing.{IsLeftWith, IsSwitched, settled_if}
-use Rattle.satl_core.specs.Turning.{CarriedOut, change_posting, IsLostInTask, IsTransferred, IsUnasked, TaskEnds, asks_fua, ata_command, ended_reply, ending_of, flaw_sense, modes_after, pairs_written, read_pages, started_after, wanted_by, where_done}
+use Rattle.satl_core.specs.Turning.{CarriedOut, change_posting, IsLostInTask, IsTransferred, IsUnasked, TaskEnds, asks_fua, ata_command, ended_reply, ending_of, modes_after, pairs_written, read_pages, started_after, wanted_by, where_done}
 use Rattle.satl_core.proofs.DeviceLemmas.{all_lost, ends_around, ends_by, ends_down, ends_stopped, first_checked, first_gone, first_tasks, quiet_none, quiet_same, seen}
 use Rattle.satl_core.proofs.HeldLemmas.{IsFirst, IsKeptEntry, first_kept}
 use Rattle.satl_core.proofs.Transfers.{of_task, of_transfer}
@@ -91,7 +93,20 @@ pub record IsServed (modes : Modes) (d : DriveState) (entry : Entry) : Type 0 wh
   pub flaw : flaw_met d.cells ranged ≡ first_flaw transfer.stopped_by d.cells transfer.lba transfer.sectors
   pub writes : transfer.writes ≡ written_pairs modes.wce ranged
   pub data_in : (taken : List Block) → taken ≡ transfer.reads ++ drop (length transfer.reads) entry.body → read_pages entry.command taken ≡ blocks_read d.cells ranged
-  pub error : (at : ℕ) → flaw_sense entry.command at ≡ medium_error ranged at
+  pub error : (at : ℕ) → error_sense_at (is_writing (ata_command entry.command)) unc at ≡ medium_error ranged at
+
+-- the rows of the table of errors
+read_flaw : (at : ℕ) → error_sense_at false unc at ≡ read_error at
+unfolding error_sense_at
+read_flaw at = refl
+
+write_flaw : (at : ℕ) → error_sense_at true unc at ≡ write_error at
+unfolding error_sense_at
+write_flaw at = refl
+
+garbled_sense : (writes : Bool) → error_sense_at writes icrc 0 ≡ crc_error
+unfolding error_sense_at
+garbled_sense writes = refl
 
 serves_read : (capacity : ℕ) (modes : Modes) (d : DriveState) (entry : Entry) (form : Form) (lba count : ℕ) (fua : Bool) → IsTransfer capacity (cdbs.Read form lba count fua) entry.blocks → length entry.body ≡ entry.blocks → length d.cells ≡ capacity → IsServed modes d (record entry { command = cdbs.Read form lba count fua })
 serves_read capacity modes d entry form lba count fua t size sectors =
@@ -108,7 +123,7 @@ serves_read capacity modes d entry form lba count fua t size sectors =
       flaw = refl;
       writes = refl;
       data_in = λ taken is. is ∙ (ap (λ l. nows d.cells lba count ++ l) none ∙ append-nil (nows d.cells lba count));
-      error = λ at. refl;
+      error = read_flaw;
     }
 
 serves_write : (capacity : ℕ) (modes : Modes) (d : DriveState) (entry : Entry) (form : Form) (lba count : ℕ) (fua : Bool) → IsTransfer capacity (cdbs.Write form lba count fua) entry.blocks → length entry.body ≡ entry.blocks → length d.cells ≡ capacity → d.cache ≡ (modes.wce && not fua) → IsServed modes d (record entry { command = cdbs.Write form lba count fua })
@@ -124,7 +139,7 @@ serves_write capacity modes d entry form lba count fua t size sectors cached =
       flaw = refl;
       writes = ap (λ b. pairs_from lba b d.cache) all ∙ ap (pairs_from lba entry.body) cached;
       data_in = λ taken is. refl;
-      error = λ at. refl;
+      error = write_flaw;
     }
 
 pub serves : (identity : Identity) (modes : Modes) (d : DriveState) (entry : Entry) → length entry.body ≡ entry.blocks → IsTransfer identity.capacity entry.command entry.blocks → length d.cells ≡ identity.capacity → d.cache ≡ (modes.wce && not (asks_fua entry.command)) → IsServed modes d entry
@@ -182,7 +197,7 @@ module _ (s : Device) (r : Registers) (d : DriveState) (entry : Entry) (served :
       one_glitch = omega (arith, ap (λ (m : Medium). m.glitches) x.medium, x.some);
     };
     active = ap (λ (m : Medium). m.active) x.medium;
-    answer = ap answer_by x.ends;
+    answer = ap answer_by x.ends ∙ ap (task_check s (task_of entry)) (garbled_sense (is_writing (ata_command entry.command)));
   }
 
   flawed : (at : ℕ) → first_flaw served.transfer.stopped_by d.cells served.transfer.lba served.transfer.sectors ≡ Some at → IsFlawed r served.transfer at (medium_of d) entry.body ended taken after → IsOnMedium s d entry served.ranged ended taken after

@@ -23,7 +23,9 @@ use Rattle.satl_line.specs.Tasks.{Held}
 use Rattle.satl_mode.specs.Changes.{applied, no_change}
 use Rattle.satl_direct.specs.Attentions.{are_same_modes}
 use Rattle.satl_direct.specs.Tasks.{asks}
-use Rattle.satl_direct.specs.Senses.{crc_error, link_lost, not_ready, out_of_range, plain, read_error, write_error}
+use Rattle.satl_pass.specs.Status.{error_sense_at, is_bad}
+use Rattle.satl_pass.specs.Transfers.{is_writing}
+use Rattle.satl_direct.specs.Senses.{link_lost, not_ready}
 use Rattle.satl_regs.specs.Effects.{Does, Medium}
 use Rattle.satl_drive.specs.State.{DriveState, medium_of}
 use Rattle.satl_barrier.specs.Leaving.{IsLostIn}
@@ -145,42 +147,11 @@ pairs_written cache (Pass cdb) given = []
 abbrev pub task_calls : ℕ
 task_calls = 3
 
--- whether a bit of a register is set, by its mask (profile)
-abbrev pub is_set : ℕ → ℕ → Bool
-is_set mask register = not (bit_and register mask == 0)
-
--- the medium error of a command at a flawed address: WRITE ERROR, or UNRECOVERED READ ERROR (SPC-4 4.5.6; of a WRITE: profile)
-abbrev pub flaw_sense : Command → ℕ → Sense
-flaw_sense TestUnitReady at = read_error at
-flaw_sense (RequestSense descriptor alloc) at = read_error at
-flaw_sense (Inquiry page alloc) at = read_error at
-flaw_sense (ModeSense ten long_lba no_descriptor control page alloc) at = read_error at
-flaw_sense (ModeSelect ten size) at = read_error at
-flaw_sense (StartStop start no_flush) at = read_error at
-flaw_sense ReadCapacity10 at = read_error at
-flaw_sense (ReadCapacity16 alloc) at = read_error at
-flaw_sense (ReportLuns select alloc) at = read_error at
-flaw_sense (Read form lba count fua) at = read_error at
-flaw_sense (Write form lba count fua) at = write_error at
-flaw_sense (Verify form lba count compare) at = read_error at
-flaw_sense (Flush form lba count) at = read_error at
-flaw_sense (WriteSame form lba count unmap) at = read_error at
-flaw_sense (Unmap size) at = read_error at
-flaw_sense (Pass cdb) at = read_error at
-
--- ABORTED COMMAND (SPC-4 4.5.6)
-abbrev pub aborted : Sense
-aborted = plain 0xB 0x00 0x00
-
--- how a task ends by the end of its command: done where STATUS has no ERR; else the first that is set in ERROR tells why, ICRC,
--- UNC, or IDNF, and without them it was aborted (SAT-3 11, error mapping; ACS-3, ERROR field)
+-- how a task ends by the end of its command: with GOOD, or at an error with the sense data of the table of errors (SAT-3 11)
 abbrev pub ending_of : Command → Taskfile → Ending
 ending_of command ended =
-    if not (is_set 0x01 ended.status) then endings.Good
-    else if is_set 0x80 ended.error then endings.Check crc_error
-    else if is_set 0x40 ended.error then endings.Check (flaw_sense command ended.lba)
-    else if is_set 0x10 ended.error then endings.Check out_of_range
-    else endings.Check aborted
+    if is_bad ended then endings.Check (error_sense_at (is_writing (ata_command command)) ended.error ended.lba)
+    else endings.Good
 
 -- a task ends with this sense, and the drive is not asked (profile)
 pub record IsUnasked (sense : Sense) (old : DriveState) (ending : Ending) (new : DriveState) : Type 0 where

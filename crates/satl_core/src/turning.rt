@@ -11,6 +11,7 @@ ghost use Rattle.satl_barrier.specs.Settings.{CanSet, IsSetBy};
 ghost use Rattle.satl_base.specs.Limits.{most_moved};
 ghost use Rattle.satl_core.specs.Turning.{CarriedOut, IsLostInTask, TaskEnds, ended_reply, lost_replies, modes_after, pairs_written, started_after, task_calls};
 ghost use Rattle.satl_direct.specs.Tasks.{asks};
+ghost use Rattle.satl_pass.specs.Transfers.{is_writing};
 
 use crate::arrival::plain;
 use crate::transferring::transfer;
@@ -21,8 +22,9 @@ use satl_cdb::Command;
 use satl_drive::{Drive, LinkDown};
 use satl_line::{Entry, TaskSet};
 use satl_pages::Pool;
+use satl_pass::error_sense_at;
 use satl_regs::Taskfile;
-use satl_sense::{Extra, Sense, sense_bytes};
+use satl_sense::{Sense, sense_bytes};
 use std::sync::ledger::Ledger;
 
 /// How a task ends: with GOOD, or with CHECK CONDITION and its sense data.
@@ -157,39 +159,22 @@ pub fn lose_tasks(tasks: &mut TaskSet, pool: &mut Pool, descriptor: bool, replie
     }
 }
 
-/// How a task ends by the end of its command: GOOD, or by the first bit that is set in ERROR, a CRC error, a medium error at
-/// the address, an address out of range, or an abort (SAT-3 11; for the address and a WRITE: profile).
+/// How a task ends by the end of its command: GOOD, or by the table of errors, a CRC error, a medium error at the address, an
+/// address out of range, or an abort (SAT-3 11; for the address and a WRITE: profile).
 pub fn ending_of(command: &Command, ended: &Taskfile) -> Ending
     ensures { result ≡ Turning.ending_of command.now ended.now }
 {
-    if ended.status & 0x01 == 0 {
-        return Ending::Good;
+    if ended.status & 1 == 1 {
+        return Ending::Check(error_sense_at(writes(command), ended.error, ended.lba));
     }
-    if ended.error & 0x80 != 0 {
-        return Ending::Check(plain(0xB, 0x47, 0x03));
-    }
-    if ended.error & 0x40 != 0 {
-        return Ending::Check(medium_error(command, ended.lba));
-    }
-    if ended.error & 0x10 != 0 {
-        return Ending::Check(plain(0x5, 0x21, 0x00));
-    }
-    Ending::Check(plain(0xB, 0x00, 0x00))
+    Ending::Good
 }
 
-fn medium_error(command: &Command, lba: u64) -> Sense
-    ensures { result ≡ Turning.flaw_sense command.now lba }
+/// Whether the ATA command of a READ or of a WRITE writes.
+fn writes(command: &Command) -> bool
+    ensures { result ≡ is_writing (Turning.ata_command command.now) }
 {
-    let (asc, ascq) = match command {
-        Command::Write { .. } => (0x0C, 0x02),
-        _ => (0x11, 0x00),
-    };
-    Sense {
-        key: 0x3,
-        asc,
-        ascq,
-        extra: Extra::Information(lba),
-    }
+    matches!(*command, Command::Write { .. })
 }
 
 /// Answers a task. A READ that is done gives its pages as data-in; all other pages are given back.

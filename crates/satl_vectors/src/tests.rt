@@ -1,9 +1,9 @@
 // Replays of a few requests, and inputs that are refused.
 use crate::frames::{
-    TURN, check, fault, full, good, input, output, read, request, write, write_and_read,
-    written_and_read,
+    END, TURN, check, command, fault, full, good, input, output, read, request, write,
+    write_and_read, written_and_read,
 };
-use crate::replaying::{expect, expect_replies};
+use crate::replaying::{expect, expect_replies, pieces, run};
 use satl_top::Status;
 use std::alloc::Global;
 use std::process::Abort;
@@ -31,6 +31,22 @@ fn empty_input(rt: HostRuntime) -> Result<(), Fail> {
 fn only_end(rt: HostRuntime) -> Result<(), Fail> {
     let alloc = rt.alloc();
     expect_replies(&rt, alloc, b"SATLRPL1", b"SATLRSP1")
+}
+
+/// `show` answers in lines: TEST UNIT READY, a code that is not served, and END.
+#[test]
+fn shown_in_lines(rt: HostRuntime) -> Result<(), Fail> {
+    let alloc = rt.alloc();
+    let mut frames = input(alloc)?;
+    command(&mut frames, 1, [0; 16])?;
+    command(&mut frames, 2, [0xFF; 16])?;
+    frames.extend_from_slice(&END)?;
+    let (status, lines) = run(alloc, "show", frames, pieces(65536))?;
+    let expected =
+        b"reply 0 00000001 00 - -\nreply 0 00000002 02 700005000000000a00000000200000000000 -\nend\n";
+    assert_eq!(rt; status, Status::Done);
+    assert_eq!(rt; lines.as_slice(), expected.as_slice());
+    Ok(())
 }
 
 #[test]

@@ -16,6 +16,7 @@ use std::test::Fail;
 
 fn served<S: Source, K: Sink, D: Bench, L: Ledger>(
     alloc: Global,
+    form: Form,
     source: &mut S,
     sink: &mut K,
     drive: &mut D,
@@ -29,29 +30,13 @@ fn served<S: Source, K: Sink, D: Bench, L: Ledger>(
     requires some { 0 < blank.parts }
 {
     let mut steps = Steps::<L>::new(blank);
-    serve(alloc, Form::Frames, source, sink, drive, &mut steps)
+    serve(alloc, form, source, sink, drive, &mut steps)
 }
 
-/// A write and a read of a block, and a read beyond the capacity.
+/// A write and a read of a block, and a read beyond the capacity: the same totals in each form, and no byte where answers are counted.
 #[test]
 fn totals(rt: HostRuntime) -> Result<(), Fail> {
     let alloc = rt.alloc();
-    let mut frames = input(alloc)?;
-    request(&mut frames, write(1, 0, 1), &[0xA5; 512])?;
-    frames.extend_from_slice(&TURN)?;
-    request(&mut frames, read(2, 0, 1), &[])?;
-    request(&mut frames, read(3, 8191, 2), &[])?;
-    frames.extend_from_slice(&END)?;
-    let mut source = MemorySource::new(frames, 4096, Vec::new(alloc));
-    let mut sink = MemorySink::new(alloc, 65536, 4096, Vec::new(alloc))?;
-    let mut drive = ModelDrive::new(alloc, 8192)?;
-    let totals = served::<_, _, _, Brand>(
-        alloc,
-        &mut source,
-        &mut sink,
-        &mut drive,
-        Blank::new(1),
-    )?;
     let expected = Summary {
         requests: 3,
         good: 2,
@@ -60,6 +45,26 @@ fn totals(rt: HostRuntime) -> Result<(), Fail> {
         bytes: 512,
         sum: 84_480,
     };
-    assert_eq!(rt; totals, expected);
+    for form in [Form::Frames, Form::Text, Form::Count] {
+        let mut frames = input(alloc)?;
+        request(&mut frames, write(1, 0, 1), &[0xA5; 512])?;
+        frames.extend_from_slice(&TURN)?;
+        request(&mut frames, read(2, 0, 1), &[])?;
+        request(&mut frames, read(3, 8191, 2), &[])?;
+        frames.extend_from_slice(&END)?;
+        let mut source = MemorySource::new(frames, 4096, Vec::new(alloc));
+        let mut sink = MemorySink::new(alloc, 65536, 4096, Vec::new(alloc))?;
+        let mut drive = ModelDrive::new(alloc, 8192)?;
+        let totals = served::<_, _, _, Brand>(
+            alloc,
+            form,
+            &mut source,
+            &mut sink,
+            &mut drive,
+            Blank::new(1),
+        )?;
+        assert_eq!(rt; totals, expected);
+        assert_eq!(rt; sink.written().is_empty(), form == Form::Count);
+    }
     Ok(())
 }
