@@ -1,5 +1,5 @@
 //! `satl replay` and `satl show`: framed commands on standard input, framed answers or lines of text on standard output, over a
-//! modelled drive.
+//! modelled drive. `satl gen --seed N --requests N`: a generated input over the same drive, and its totals on standard output.
 #![tactic(auto)]
 
 ghost use Rattle.std.specs.Prelude.{◌≡◌, ◌<◌, [], None, OnOk};
@@ -56,8 +56,8 @@ fn words_of(rt: &HostRuntime) -> Result<Option<Vec<RcStr>>, NoMemory> {
     Ok(Some(words))
 }
 
-/// Replays standard input.
-fn replay(rt: &HostRuntime) -> Result<Status, NoMemory> {
+/// Does what the words ask for.
+fn run(rt: &HostRuntime) -> Result<Status, NoMemory> {
     let alloc = rt.alloc();
     let Some(words) = words_of(rt)? else {
         return Ok(Status::Usage);
@@ -79,12 +79,25 @@ fn replay(rt: &HostRuntime) -> Result<Status, NoMemory> {
 }
 
 fn main(rt: HostRuntime) -> ExitCode {
-    let status = match replay(&rt) {
+    let status = match run(&rt) {
         Ok(status) => status,
         Err(NoMemory) => Status::NoMemory,
     };
-    if status == Status::Usage {
-        let _ = eprintln!(rt; "usage: satl replay | show");
+    if let Some(line) = told(status) {
+        let _ = eprintln!(rt; "{line}");
     }
     ExitCode::from(status.code())
+}
+
+/// What a person is told on standard error (profile). None where all was done.
+fn told(status: Status) -> Option<&'static str> {
+    match status {
+        Status::Done => None,
+        Status::Usage => Some("usage: satl replay | show | gen --seed N --requests N"),
+        Status::BadInput => Some("satl: the input is refused"),
+        Status::ReadFault => Some("satl: a read failed"),
+        Status::WriteFault => Some("satl: a write failed"),
+        Status::NoMemory => Some("satl: there is not the memory"),
+        Status::DriveRefused => Some("satl: the drive is not served, or its link was lost"),
+    }
 }

@@ -1,32 +1,26 @@
 -- The words of the program, how it ends, and why (profile).
-use Rattle.std.specs.Prelude.{◌≡◌, ◌⊎◌, ℕ, Bool, if◌then◌else◌, List, [], ◌∷◌, codes, nat_eq, Option, Some, None, Err}
-use Rattle.std.specs.Cmp.Lexicographic.{pointwise}
-use Rattle.std.specs.declared.rc.RcStr.{RcStr}
-use Rattle.std.specs.declared.alloc.Global.{Global}
-use Rattle.std.specs.Rc.{rc_str_bytes}
+use Rattle.std.specs.Prelude.{◌≡◌, ◌⊎◌, ℕ, Bool, true, false, List, Some, Err}
+use Rattle.clap.specs.Words.{Text, subcommand_of}
 use Rattle.satl_io.specs.Causes.{Rose}
 use Rattle.satl_identify.specs.declared.identity.IdentityFault.{IdentityFault}
 use Rattle.satl_identify.specs.Refusals.{identity_of}
+use Rattle.satl_frame.specs.declared.frames.Frame.{Frame}
 use Rattle.satl_frame.specs.declared.frames.FrameFault.TheVariants.{Bad, ReadFault}
 use Rattle.satl_frame.specs.declared.frames.Reason.{Reason}
 use Rattle.satl_text.specs.declared.summary.Summary.{Summary}
 use Rattle.satl_serve.specs.declared.telling.Form.{Form}
 use Rattle.satl_serve.specs.declared.telling.Form.TheVariants as forms
 use Rattle.satl_serve.specs.Headline.{IsNotServed, IsServedBefore, IsServedInPart, IsServedWhole}
+use Rattle.satl_serve.specs.Completeness.{GoesWell, IsGoodInput}
 use Rattle.satl_serve.specs.Moments.{Moment}
+use Rattle.satl_serve.specs.Stopping.{IsRefused}
+use Rattle.satl_words.specs.declared.modes.Mode.{Mode}
+use Rattle.satl_words.specs.declared.modes.Mode.TheVariants as modes
+use Rattle.satl_words.specs.CommandLine.{IsModeOf, command_line}
+use Rattle.satl_words.specs.Plain.{ArePlain}
+use Rattle.satl_top.specs.Load.{LoadEnds, load_of}
 use Rattle.satl_top.specs.declared.status.Status.{Status}
 use Rattle.satl_top.specs.declared.status.Status.TheVariants as statuses
-
--- whether a word is this one (profile)
-abbrev pub is_word : List ℕ → RcStr Global → Bool
-is_word text word = pointwise nat_eq (rc_str_bytes word) text
-
--- the form that two words ask for, of which the second is `replay` or `show` (profile)
-abbrev pub form_of : List (RcStr Global) → Option Form
-form_of [] = None
-form_of (w ∷ []) = None
-form_of (w ∷ v ∷ []) = if is_word (codes "replay") v then Some forms.Frames else if is_word (codes "show") v then Some forms.Text else None
-form_of (w ∷ v ∷ u ∷ ws) = None
 
 -- the exit number of each status (profile)
 abbrev pub exit_number : Status → ℕ
@@ -51,24 +45,26 @@ HasCause before after statuses.DriveRefused = ((fault : IdentityFault) × (ident
 
 -- what holds of the input, the output in a form and the drive, by the status (profile): a whole input was served; or it was served up to a
 -- frame that was refused or not read, or up to a write that failed; or it was not served
-abbrev pub EndsSo : Form → ℕ → Moment → Moment → Status → Type 0
-EndsSo form limit before after statuses.Done = (summary : Summary) × IsServedWhole form limit summary before after
-EndsSo form limit before after statuses.Usage = ⊥
-EndsSo form limit before after statuses.BadInput = (reason : Reason) × (offset : ℕ) × IsServedBefore form limit (Bad reason offset) before after
-EndsSo form limit before after statuses.ReadFault = IsServedBefore form limit ReadFault before after
-EndsSo form limit before after statuses.WriteFault = IsServedInPart form limit before after
-EndsSo form limit before after statuses.NoMemory = IsNotServed before after
-EndsSo form limit before after statuses.DriveRefused = IsNotServed before after
+abbrev pub ServeEnds : Form → ℕ → Moment → Moment → Status → Type 0
+ServeEnds form limit before after statuses.Done = (summary : Summary) × IsServedWhole form limit summary before after
+ServeEnds form limit before after statuses.Usage = ⊥
+ServeEnds form limit before after statuses.BadInput = (reason : Reason) × (offset : ℕ) × IsServedBefore form limit (Bad reason offset) before after
+ServeEnds form limit before after statuses.ReadFault = IsServedBefore form limit ReadFault before after
+ServeEnds form limit before after statuses.WriteFault = IsServedInPart form limit before after
+ServeEnds form limit before after statuses.NoMemory = IsNotServed before after
+ServeEnds form limit before after statuses.DriveRefused = IsNotServed before after
 
--- the words ask for no form: nothing was done (profile)
-pub record IsUnused (before after : Moment) (status : Status) : Type 0 where
-  pub usage : status ≡ statuses.Usage
-  pub stays : after ≡ before
+-- the same by the mode (profile)
+abbrev pub EndsSo : Mode → ℕ → Moment → Moment → Status → Type 0
+EndsSo modes.Replay limit before after status = ServeEnds forms.Frames limit before after status
+EndsSo modes.Show limit before after status = ServeEnds forms.Text limit before after status
+EndsSo (modes.Generate seed requests) limit before after status = LoadEnds limit (load_of seed requests) before after status
 
--- the outcome, by the form that the words ask for (profile)
-abbrev pub Outcome : Option Form → ℕ → Moment → Moment → Status → Type 0
-Outcome None limit before after status = IsUnused before after status
-Outcome (Some form) limit before after status = EndsSo form limit before after status
+-- whether a mode serves the input that was handed in (profile)
+abbrev pub serves_input : Mode → Bool
+serves_input modes.Replay = true
+serves_input modes.Show = true
+serves_input (modes.Generate seed requests) = false
 
 -- a good input is served whole where all goes well, up to END and no byte further (profile): but there may be no memory to begin, or
 -- the link was lost before the layer was open, where the drive's count of faults rose
@@ -80,3 +76,24 @@ Completes rest before after statuses.ReadFault = ⊥
 Completes rest before after statuses.WriteFault = ⊥
 Completes rest before after statuses.NoMemory = Unit {0}
 Completes rest before after statuses.DriveRefused = Rose before.drive.faults after.drive.faults
+
+-- a mode was carried out (profile): what holds by the status, and why it is that one; a drive whose data are refused is told so, unless there was no
+-- memory; and a good input is served whole where all goes well
+pub record IsCarriedOut (mode : Mode) (limit : ℕ) (before after : Moment) (status : Status) : Type 0 where
+  pub ends : EndsSo mode limit before after status
+  pub causes : HasCause before after status
+  pub refused : (fault : IdentityFault) → IsRefused fault before.drive after.drive → (status ≡ statuses.DriveRefused) ⊎ (status ≡ statuses.NoMemory)
+  pub complete : serves_input mode ≡ true → (fs : List Frame) (rest : List ℕ) → IsGoodInput limit before.source.left fs rest → GoesWell before after → Completes rest before after status
+
+-- these words ask for a mode: plainly, or as clap reads them (profile)
+abbrev pub AskFor : List Text → Mode → Type 0
+AskFor words mode = ArePlain words mode ⊎ IsModeOf (subcommand_of command_line words) mode
+
+-- nothing was done: the words are not understood, or there was not the memory to read them (profile)
+pub record IsUnused (before after : Moment) (status : Status) : Type 0 where
+  pub why : (status ≡ statuses.Usage) ⊎ (status ≡ statuses.NoMemory)
+  pub stays : after ≡ before
+
+-- the outcome by the words (profile)
+abbrev pub Outcome : List Text → ℕ → Moment → Moment → Status → Type 0
+Outcome words limit before after status = IsUnused before after status ⊎ ((mode : Mode) × AskFor words mode × IsCarriedOut mode limit before after status)

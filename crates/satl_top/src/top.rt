@@ -1,5 +1,7 @@
 // The top call.
-ghost use Rattle.std.specs.Prelude.{◌≡◌, ◌⊎◌, ◌↔◌, ℕ, List, [], None, Some};
+ghost use Rattle.std.specs.Prelude.{◌≡◌, ◌⊎◌, ℕ, List, [], None, map, true};
+ghost use Rattle.std.specs.Rc.{rc_str_bytes};
+ghost use Rattle.clap.specs.Words.{takes};
 ghost use Rattle.satl_identify.specs.declared.identity.IdentityFault.{IdentityFault};
 ghost use Rattle.satl_frame.specs.declared.frames.Frame.{Frame};
 ghost use Rattle.satl_drive.specs.State.{IsFit};
@@ -7,39 +9,26 @@ ghost use Rattle.satl_serve.specs.Completeness.{GoesWell, IsGoodInput};
 ghost use Rattle.satl_serve.specs.Moments.{moment, reads, writes};
 ghost use Rattle.satl_serve.specs.Runs.{input_limit};
 ghost use Rattle.satl_serve.specs.Stopping.{IsRefused};
-ghost use Rattle.satl_top.specs.Top.{Completes, HasCause, Outcome, form_of};
-ghost use Rattle.satl_serve.specs.declared.telling.Form.{Form};
+ghost use Rattle.satl_top.specs.Top.{Completes, HasCause, IsCarriedOut, Outcome, ServeEnds};
+ghost use Rattle.satl_words.specs.CommandLine.{command_line};
+ghost use Rattle.satl_words.specs.Plain.{ArePlain, IsInRange};
 
+use crate::loading::load;
 use crate::status::Status;
 use satl_base::Steps;
 use satl_drive::Bench;
 use satl_io::{Sink, Source};
 use satl_serve::{Form, serve};
+use satl_words::{Mode, WordsFault, mode_asked};
 use std::alloc::Global;
 use std::rc::RcStr;
 use std::sync::ledger::Ledger;
 
-/// The form of output that the words ask for. None where they ask for none.
-fn form_of(words: &[RcStr]) -> Option<Form>
-    ensures { result ≡ form_of words.now }
-{
-    if words.len() != 2 {
-        return None;
-    }
-    let second: &str = &words[1];
-    if second == "replay" {
-        return Some(Form::Frames);
-    }
-    if second == "show" {
-        return Some(Form::Text);
-    }
-    None
-}
-
-/// Does all that the program does: where the words are two and the second is `replay` or `show`, it serves the frames of the source
-/// on the drive and writes the answers to the sink, as frames or as lines of text. The drive has nothing outstanding and is in no error state, and its IDENTIFY
-/// DEVICE data fit it. The status says how that ended. The drive is called once for its
-/// identity, and then at most three times for each request (profile).
+/// Does all that the program does (profile): `replay` and `show` serve the frames of the source on the drive and write the answers to
+/// the sink, as frames or as lines of text; `gen` serves a generated input and writes its totals, and reads nothing. Plain words mean
+/// what they spell, and all others what clap makes of them. The drive has nothing outstanding and is in no error state, and its
+/// IDENTIFY DEVICE data fit it. The status says how that ended. The drive is called once for its identity, and then at most three
+/// times for each request.
 pub fn satl<S: Source, K: Sink, D: Bench, L: Ledger>(
     alloc: Global,
     words: &[RcStr],
@@ -51,15 +40,56 @@ pub fn satl<S: Source, K: Sink, D: Bench, L: Ledger>(
     requires idle { (D.state drive.old).outstanding ≡ [] }
     requires no_error { (D.state drive.old).error ≡ None }
     requires fit { IsFit (D.state drive.old) }
-    ensures usage { (result ≡ Status.Usage) ↔ (form_of words.now ≡ None) }
-    ensures outcome { Outcome (form_of words.now) input_limit (moment (reads (S.left source.old) (S.faults source.old)) (writes (K.written sink.old) (K.faults sink.old)) steps.old (D.state drive.old)) (moment (reads (S.left source.new) (S.faults source.new)) (writes (K.written sink.new) (K.faults sink.new)) steps.new (D.state drive.new)) result }
-    ensures refused { (form : Form) → form_of words.now ≡ Some form → (fault : IdentityFault) → IsRefused fault (D.state drive.old) (D.state drive.new) → (result ≡ Status.DriveRefused) ⊎ (result ≡ Status.NoMemory) }
-    ensures causes { HasCause (moment (reads (S.left source.old) (S.faults source.old)) (writes (K.written sink.old) (K.faults sink.old)) steps.old (D.state drive.old)) (moment (reads (S.left source.new) (S.faults source.new)) (writes (K.written sink.new) (K.faults sink.new)) steps.new (D.state drive.new)) result }
-    ensures complete { (form : Form) → form_of words.now ≡ Some form → (fs : List Frame) (rest : List ℕ) → IsGoodInput input_limit (S.left source.old) fs rest → GoesWell (moment (reads (S.left source.old) (S.faults source.old)) (writes (K.written sink.old) (K.faults sink.old)) steps.old (D.state drive.old)) (moment (reads (S.left source.new) (S.faults source.new)) (writes (K.written sink.new) (K.faults sink.new)) steps.new (D.state drive.new)) → Completes rest (moment (reads (S.left source.old) (S.faults source.old)) (writes (K.written sink.old) (K.faults sink.old)) steps.old (D.state drive.old)) (moment (reads (S.left source.new) (S.faults source.new)) (writes (K.written sink.new) (K.faults sink.new)) steps.new (D.state drive.new)) result }
+    ensures plain { (mode : Mode) → IsInRange mode → ArePlain (map rc_str_bytes words.now) mode → IsCarriedOut mode input_limit (moment (reads (S.left source.old) (S.faults source.old)) (writes (K.written sink.old) (K.faults sink.old)) steps.old (D.state drive.old)) (moment (reads (S.left source.new) (S.faults source.new)) (writes (K.written sink.new) (K.faults sink.new)) steps.new (D.state drive.new)) result }
+    ensures usage { (result ≡ Status.Usage) → (takes command_line (map rc_str_bytes words.now) ≡ true) → ⊥ }
+    ensures outcome { Outcome (map rc_str_bytes words.now) input_limit (moment (reads (S.left source.old) (S.faults source.old)) (writes (K.written sink.old) (K.faults sink.old)) steps.old (D.state drive.old)) (moment (reads (S.left source.new) (S.faults source.new)) (writes (K.written sink.new) (K.faults sink.new)) steps.new (D.state drive.new)) result }
 {
-    let Some(form) = form_of(words) else {
-        return Status::Usage;
-    };
+    match mode_asked(alloc, words) {
+        Ok(mode) => carry_out(alloc, mode, source, sink, drive, steps),
+        Err(WordsFault::Refused) => Status::Usage,
+        Err(WordsFault::NoMemory) => Status::NoMemory,
+    }
+}
+
+/// Carries out a mode.
+fn carry_out<S: Source, K: Sink, D: Bench, L: Ledger>(
+    alloc: Global,
+    mode: Mode,
+    source: &mut S,
+    sink: &mut K,
+    drive: &mut D,
+    steps: &mut Steps<L>,
+) -> Status
+    requires range { IsInRange mode }
+    requires idle { (D.state drive.old).outstanding ≡ [] }
+    requires no_error { (D.state drive.old).error ≡ None }
+    requires fit { IsFit (D.state drive.old) }
+    ensures { IsCarriedOut mode input_limit (moment (reads (S.left source.old) (S.faults source.old)) (writes (K.written sink.old) (K.faults sink.old)) steps.old (D.state drive.old)) (moment (reads (S.left source.new) (S.faults source.new)) (writes (K.written sink.new) (K.faults sink.new)) steps.new (D.state drive.new)) result }
+{
+    match mode {
+        Mode::Replay => serve_input(alloc, Form::Frames, source, sink, drive, steps),
+        Mode::Show => serve_input(alloc, Form::Text, source, sink, drive, steps),
+        Mode::Generate { seed, requests } => load(alloc, seed, requests, sink, drive, steps),
+    }
+}
+
+/// Serves the input that was handed in.
+fn serve_input<S: Source, K: Sink, D: Bench, L: Ledger>(
+    alloc: Global,
+    form: Form,
+    source: &mut S,
+    sink: &mut K,
+    drive: &mut D,
+    steps: &mut Steps<L>,
+) -> Status
+    requires idle { (D.state drive.old).outstanding ≡ [] }
+    requires no_error { (D.state drive.old).error ≡ None }
+    requires fit { IsFit (D.state drive.old) }
+    ensures ends { ServeEnds form input_limit (moment (reads (S.left source.old) (S.faults source.old)) (writes (K.written sink.old) (K.faults sink.old)) steps.old (D.state drive.old)) (moment (reads (S.left source.new) (S.faults source.new)) (writes (K.written sink.new) (K.faults sink.new)) steps.new (D.state drive.new)) result }
+    ensures refused { (fault : IdentityFault) → IsRefused fault (D.state drive.old) (D.state drive.new) → (result ≡ Status.DriveRefused) ⊎ (result ≡ Status.NoMemory) }
+    ensures causes { HasCause (moment (reads (S.left source.old) (S.faults source.old)) (writes (K.written sink.old) (K.faults sink.old)) steps.old (D.state drive.old)) (moment (reads (S.left source.new) (S.faults source.new)) (writes (K.written sink.new) (K.faults sink.new)) steps.new (D.state drive.new)) result }
+    ensures complete { (fs : List Frame) (rest : List ℕ) → IsGoodInput input_limit (S.left source.old) fs rest → GoesWell (moment (reads (S.left source.old) (S.faults source.old)) (writes (K.written sink.old) (K.faults sink.old)) steps.old (D.state drive.old)) (moment (reads (S.left source.new) (S.faults source.new)) (writes (K.written sink.new) (K.faults sink.new)) steps.new (D.state drive.new)) → Completes rest (moment (reads (S.left source.old) (S.faults source.old)) (writes (K.written sink.old) (K.faults sink.old)) steps.old (D.state drive.old)) (moment (reads (S.left source.new) (S.faults source.new)) (writes (K.written sink.new) (K.faults sink.new)) steps.new (D.state drive.new)) result }
+{
     match serve(alloc, form, source, sink, drive, steps) {
         Ok(_) => Status::Done,
         Err(fault) => Status::from(fault),

@@ -15,3 +15,5 @@ mod streams;
 mod tests;
 #[cfg(test)]
 mod totals;
+#[cfg(test)]
+mod words;

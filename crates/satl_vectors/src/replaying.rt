@@ -66,19 +66,21 @@ pub fn replay(
     input: Vec<u8>,
     streams: Streams,
 ) -> Result<(Status, Vec<u8>), NoMemory> {
-    run(alloc, "replay", input, streams)
+    run(alloc, &["replay"], input, streams)
 }
 
-/// How the program ends with this word, and what it writes.
+/// How the program ends with these words behind its name, and what it writes.
 pub fn run(
     alloc: Global,
-    word: &str,
+    given: &[&str],
     input: Vec<u8>,
     streams: Streams,
 ) -> Result<(Status, Vec<u8>), NoMemory> {
     let mut words = Vec::new(alloc);
     words.push(RcStr::from_str(alloc, "satl")?)?;
-    words.push(RcStr::from_str(alloc, word)?)?;
+    for word in given {
+        words.push(RcStr::from_str(alloc, word)?)?;
+    }
     let piece = streams.piece.max(1);
     let mut source = MemorySource::new(input, piece, calls(alloc, streams.failing_read)?);
     let failing = calls(alloc, streams.failing_write)?;

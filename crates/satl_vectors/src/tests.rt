@@ -41,7 +41,7 @@ fn shown_in_lines(rt: HostRuntime) -> Result<(), Fail> {
     command(&mut frames, 1, [0; 16])?;
     command(&mut frames, 2, [0xFF; 16])?;
     frames.extend_from_slice(&END)?;
-    let (status, lines) = run(alloc, "show", frames, pieces(65536))?;
+    let (status, lines) = run(alloc, &["show"], frames, pieces(65536))?;
     let expected =
         b"reply 0 00000001 00 - -\nreply 0 00000002 02 700005000000000a00000000200000000000 -\nend\n";
     assert_eq!(rt; status, Status::Done);

@@ -1,7 +1,13 @@
+use Rattle.std.proofs.Common.{◌≡◌, Ok, sym, subst, ◌∙◌}
 use Rattle.satl_serve.specs.Moments.{moment, reads, writes}
-use Rattle.satl_top.proofs.StatusLemmas.{fault_completes}
+use Rattle.satl_serve.specs.Runs.{input_limit}
+use Rattle.satl_words.specs.declared.modes.Mode.{Mode}
+use Rattle.satl_top.specs.Top.{IsCarriedOut}
 use Rattle.satl_top.proofs.top.satl.Goals as goal
 
-pub returns-in-Err-clause-complete : goal.returns-in-Err-clause-complete
-returns-in-Err-clause-complete g c = λ form asked fs rest good well.
-    fault_completes rest (moment (reads (g.S.Source.left c.args.source.now) (g.S.Source.faults c.args.source.now)) (writes (g.K.Sink.written c.args.sink.now) (g.K.Sink.faults c.args.sink.now)) c.args.steps.now (g.D.Drive.state c.args.drive.now)) (moment (reads (g.S.Source.left c.serve.new.source) (g.S.Source.faults c.serve.new.source)) (writes (g.K.Sink.written c.serve.new.sink) (g.K.Sink.faults c.serve.new.sink)) c.serve.new.steps (g.D.Drive.state c.serve.new.drive)) c.in-Err.fault c.from.result c.from.ensures (c.in-Err.ensures.complete fs rest good well)
+pub returns-in-Ok-clause-plain : goal.returns-in-Ok-clause-plain
+returns-in-Ok-clause-plain g c = λ mode range plain.
+    let is : c.mode_asked.result ≡ Ok mode = c.mode_asked.ensures.plain mode range plain in
+    let other : c.mode_asked.result ≡ Ok c.in-Ok.mode = c.in-Ok.is in
+    let same : c.in-Ok.mode ≡ mode = cc in
+    subst (λ m. IsCarriedOut m input_limit (moment (reads (g.S.Source.left c.args.source.now) (g.S.Source.faults c.args.source.now)) (writes (g.K.Sink.written c.args.sink.now) (g.K.Sink.faults c.args.sink.now)) c.args.steps.now (g.D.Drive.state c.args.drive.now)) (moment (reads (g.S.Source.left c.carry_out.new.source) (g.S.Source.faults c.carry_out.new.source)) (writes (g.K.Sink.written c.carry_out.new.sink) (g.K.Sink.faults c.carry_out.new.sink)) c.carry_out.new.steps (g.D.Drive.state c.carry_out.new.drive)) c.carry_out.result) same c.carry_out.ensures
