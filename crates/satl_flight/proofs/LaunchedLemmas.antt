@@ -1,11 +1,13 @@
 -- What issuing, resetting and a lost link do to the tie.
-use Rattle.std.proofs.Common.{◌≡◌, ◌⊎◌, refl, sym, ◌∙◌, ap, subst, inl, inr, ℕ, ◌+◌, ◌<◌, true, false, List, [], ◌∷◌, ◌++◌, Option, Some, None, arith, length, length-append, append_assoc}
+use Rattle.std.proofs.Common.{◌≡◌, ◌⊎◌, ⊎_elim, refl, sym, ◌∙◌, ap, subst, inl, inr, ℕ, ◌+◌, ◌<◌, true, false, List, [], ◌∷◌, ◌++◌, Option, Some, None, arith, length, length-append, append_assoc}
 use Rattle.std.specs.Prelude.{◌==◌, max, MatchOption}
 use Rattle.std.specs.List.{AllByRecursion, AllZip, find, list_any}
 use Rattle.std.proofs.Math.Nat.{le-max_left, le-max_right}
 use Rattle.satl_base.specs.declared.block.Block.{Block}
 use Rattle.satl_base.specs.Cells.{Pair, Part}
-use Rattle.satl_base.specs.Moves.{Moves}
+use Rattle.satl_base.specs.Losses.{Loses}
+use Rattle.satl_base.specs.Moves.{Moves, stay}
+use Rattle.satl_base.proofs.LossesLemmas.{loses_on}
 use Rattle.satl_base.proofs.ListsLemmas.{All-find, All-push_end}
 use Rattle.satl_base.proofs.MovesLemmas.{moves_on, moves_of_part, lose_once}
 use Rattle.satl_io.specs.Causes.{Rose}
@@ -150,7 +152,7 @@ module _ (flying : List Flying) (tasks : List Held) (old : DriveState) (tie : Is
     };
     rest = record { tag = tag; slot = slot } ∷ [];
     more = refl;
-    moves = lose_once done.lost;
+    lost = inr done.lost;
     stays = done.stays ∙ ap (λ x. record old { cells = new.cells; outstanding = x; deepest = max old.deepest (length old.outstanding + 1) }) (sym raw)
         ∙ ap (λ n. record old { cells = new.cells; outstanding = new.outstanding; deepest = n }) (sym deepest);
     deep = deepens_issued old new (omega (arith, ap length raw, length-append old.outstanding (issued (queued_for tag task) held.entry.body ∷ []))) deepest;
@@ -288,6 +290,10 @@ module _ (flying : List Flying) (tasks : List Held) (old : DriveState) (tie : Is
 
 -- ---- one launch after another
 
+-- what is lost meanwhile are moves of the queue
+pub launched_moves : (tasks : List Held) (flying flown : List Flying) (old new : DriveState) → IsLaunched flying old tasks flown new → Moves (MayPut old.cache (entries_of tasks)) old.cells new.cells
+launched_moves tasks flying flown old new step = ⊎_elim (λ same. subst (Moves (MayPut old.cache (entries_of tasks)) old.cells) (sym same) stay) lose_once step.lost
+
 module _ (tasks : List Held) (first_flying : List Flying) (first : DriveState) (mid_flying : List Flying) (mid : DriveState) (so_far : IsLaunched first_flying first tasks mid_flying mid) where
   same_cache : mid.cache ≡ first.cache
   same_cache = ap (λ (d : DriveState). d.cache) so_far.stays
@@ -297,14 +303,14 @@ module _ (tasks : List Held) (first_flying : List Flying) (first : DriveState) (
     tie = step.tie;
     rest = so_far.rest ++ step.rest;
     more = step.more ∙ ap (λ fs. fs ++ step.rest) so_far.more ∙ append_assoc first_flying so_far.rest step.rest;
-    moves = moves_on so_far.moves (subst (λ c. Moves (MayPut c (entries_of tasks)) mid.cells new.cells) same_cache step.moves);
+    lost = ⊎_elim (λ same. subst (λ cs. (cs ≡ first.cells) ⊎ Loses first.cells cs) (sym same) so_far.lost) (λ more. inr (⊎_elim (λ same. subst (λ cs. Loses cs new.cells) same more) (λ lost. loses_on first.cells mid.cells new.cells lost more) so_far.lost)) step.lost;
     stays = step.stays ∙ ap (λ (d : DriveState). record d { cells = new.cells; outstanding = new.outstanding; deepest = new.deepest }) so_far.stays;
     deep = deepens_on first mid new so_far.deep step.deep;
   }
 
   pub lost_on : (new : DriveState) → IsLostQuietly tasks mid new → IsLostQuietly tasks first new
   lost_on new lost = record {
-    moves = moves_on so_far.moves (subst (λ c. Moves (MayPut c (entries_of tasks)) mid.cells new.cells) same_cache lost.moves);
+    moves = moves_on (launched_moves tasks first_flying mid_flying first mid so_far) (subst (λ c. Moves (MayPut c (entries_of tasks)) mid.cells new.cells) same_cache lost.moves);
     rose = subst (λ n. Rose n new.faults) (ap (λ (d : DriveState). d.faults) so_far.stays) lost.rose;
     stays = lost.stays ∙ ap (λ (d : DriveState). record d { cells = new.cells; outstanding = []; error = None; down = true; faults = new.faults; deepest = new.deepest }) so_far.stays;
     deep = deepens_on first mid new so_far.deep lost.deep;

@@ -5,7 +5,6 @@ use Rattle.std.specs.Option.{option_and_then, option_map}
 use Rattle.std.specs.List.{find, list_any}
 use Rattle.std.proofs.lemmas.Bool.{cases_eq}
 use Rattle.satl_base.specs.declared.block.Block.{Block}
-use Rattle.satl_base.specs.Moves.{stay}
 use Rattle.satl_base.proofs.ListsLemmas.{All-find}
 use Rattle.satl_regs.specs.declared.values.Registers.{Registers}
 use Rattle.satl_regs.specs.declared.values.Queued.{Queued}
@@ -59,7 +58,7 @@ length-whole flying slots [] = refl
 length-whole flying slots (k ∷ ks) = ap suc (length-whole flying slots ks)
 
 pub launched_none : (flying : List Flying) (tasks : List Held) (old : DriveState) → IsInFlight flying tasks old → IsLaunched flying old tasks flying old
-launched_none flying tasks old tie = record { tie = tie; rest = []; more = append_nil flying; moves = stay; stays = refl; deep = deepens_same old }
+launched_none flying tasks old tie = record { tie = tie; rest = []; more = append_nil flying; lost = inl refl; stays = refl; deep = deepens_same old }
   where
     append_nil : (xs : List Flying) → xs ≡ xs ++ []
     append_nil [] = refl

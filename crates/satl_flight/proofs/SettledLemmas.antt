@@ -31,7 +31,7 @@ use Rattle.satl_pages.specs.Slots.{pages_at}
 use Rattle.satl_flight.specs.declared.flight.Flying.{Flying}
 use Rattle.satl_flight.specs.Flown.{FitsDrive, IsFlown, IsInFlight, RangedFits, clash, is_in_slot, queued_for}
 use Rattle.satl_flight.specs.Lending.{IsAt, has_tag}
-use Rattle.satl_flight.specs.Settled.{Deepens, IsSettled, outcome_of, read_into}
+use Rattle.satl_flight.specs.Settled.{Deepens, IsFlawOrCrc, IsSettled, outcome_of, read_into}
 use Rattle.satl_flight.proofs.ZipLemmas.{All-remove, zip-find, zip-remove_first, zip-with}
 use Rattle.satl_flight.proofs.FlownLemmas.{all_may_put, flown_still, moves_of_each, others_differ, apart_removed, pairs_of_task}
 
@@ -238,6 +238,14 @@ entry_fits tag glitches left capacity cells body ranged e (Some lba) small low f
   lba = omega (arith, c.entry.lba_is, flaw_within cells capacity lba body ranged fits flaw, low);
   count = omega (arith, c.entry.count);
 }
+
+-- a command fails by a flaw or by a CRC error
+pub flaw_or_crc : (old : DriveState) (slots taken : Slots) (mid : DriveState) (failed : IsFailed old slots taken mid) → IsFlawOrCrc (Some failed.entry)
+flaw_or_crc old slots taken mid failed = by (queued_flaw old.cells failed.failed.command) failed.cause
+  where
+    by : (o : Option ℕ) → MatchOption o (FailsByCrc failed.failed.command old.glitches mid.glitches failed.entry) (λ lba. FailsAtFlaw failed.failed.command lba old.glitches mid.glitches failed.entry) → IsFlawOrCrc (Some failed.entry)
+    by None c = inr c.entry.error_is
+    by (Some lba) c = inl c.entry.error_is
 
 abbrev IsNoRead : RangedTask → Type 0
 IsNoRead (ranged_read fua range) = ⊥

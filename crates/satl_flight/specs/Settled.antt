@@ -3,13 +3,14 @@ use Rattle.std.specs.Prelude.{◌≡◌, ◌⊎◌, ℕ, ◌+◌, ◌≤◌, ◌
 use Rattle.std.specs.List.{remove}
 use Rattle.satl_base.specs.declared.block.Block.{Block}
 use Rattle.satl_base.specs.Cells.{Cell}
+use Rattle.satl_base.specs.Losses.{Loses}
 use Rattle.satl_base.specs.Moves.{Moves}
 use Rattle.satl_io.specs.Causes.{Rose}
 use Rattle.satl_regs.specs.declared.values.Registers.{Registers}
 use Rattle.satl_regs.specs.declared.values.Taskfile.{Taskfile}
 use Rattle.satl_regs.specs.declared.values.AtaCommand.TheVariants.{ReadLog}
 use Rattle.satl_regs.specs.Commands.{command_in}
-use Rattle.satl_regs.specs.Effects.{unc}
+use Rattle.satl_regs.specs.Effects.{icrc, unc}
 use Rattle.satl_errlog.specs.declared.entry.NcqError.{NcqError}
 use Rattle.satl_line.specs.Eligible.{IsEligibleBy, eligible_by}
 use Rattle.satl_line.specs.Ending.{EndsAs, Outcome, active_after}
@@ -45,12 +46,12 @@ pub record IsLostQuietly (tasks : List Held) (old new : DriveState) : Type 0 whe
   pub stays : new ≡ record old { cells = new.cells; outstanding = []; error = None; down = true; faults = new.faults; deepest = new.deepest }
   pub deep : Deepens old new
 
--- more is outstanding, and nothing else changes but entries of sectors that are lost (profile)
+-- more is outstanding, and nothing else changes but entries of sectors that are lost, if anything was issued (profile)
 pub record IsLaunched (flying : List Flying) (old : DriveState) (tasks : List Held) (flown : List Flying) (new : DriveState) : Type 0 where
   pub tie : IsInFlight flown tasks new
   pub rest : List Flying
   pub more : flown ≡ flying ++ rest
-  pub moves : Moves (MayPut old.cache (entries_of tasks)) old.cells new.cells
+  pub lost : (new.cells ≡ old.cells) ⊎ Loses old.cells new.cells
   pub stays : new ≡ record old { cells = new.cells; outstanding = new.outstanding; deepest = new.deepest }
   pub deep : Deepens old new
 
@@ -64,6 +65,11 @@ read_into (ranged_trim ranges) body = []
 abbrev pub outcome_of : Option NcqError → RangedTask → List Block → Outcome
 outcome_of None ranged body = ends_done (read_into ranged body)
 outcome_of (Some e) ranged body = if e.error == unc then ends_flawed e.lba else ends_glitched
+
+-- an error of a queued command is a flaw or a CRC error (ACS-3, UNC and ICRC; profile)
+abbrev pub IsFlawOrCrc : Option NcqError → Type 0
+IsFlawOrCrc None = Unit {0}
+IsFlawOrCrc (Some e) = (e.error ≡ unc) ⊎ (e.error ≡ icrc)
 
 -- one task has ended: what the others put before it, its own end, and what they put after it (profile)
 pub record IsSettled (tasks : List Held) (old : DriveState) (place : ℕ) (outcome : Outcome) (flown : List Flying) (new : DriveState) : Type 0 where
@@ -93,6 +99,7 @@ pub record Settles (flying : List Flying) (slots : Slots) (tasks : List Held) (o
   pub ranged : RangedTask
   pub body : List Block
   pub settled : IsSettled (whole_tasks flying slots tasks) old place (outcome_of error ranged body) flown new
+  pub error_is : IsFlawOrCrc error
   pub ranged_is : ranged_of settled.held.entry ≡ Some ranged
   pub ended : slice_get tasks' place ≡ Some (with_body body settled.held)
   pub size : length body ≡ length settled.held.entry.body

@@ -5,9 +5,9 @@ ghost use Rattle.std.specs.Prelude.{◌≡◌, ◌≢◌, ◌≤◌, ◌<◌, �
 ghost use Rattle.satl_base.specs.Limits.{most_held, most_tasks};
 ghost use Rattle.satl_line.specs.Tasks.{Adds, AreOwnSlots, Held, change_at, entry_at, is_named, is_too_much, total_blocks, with_body};
 ghost use Rattle.satl_flight.specs.Flown.{holds};
-ghost use Rattle.satl_drive.specs.State.{IsFit};
+ghost use Rattle.satl_drive.specs.State.{DriveState, IsFit};
 ghost use Rattle.satl_flight.specs.Lending.{AreAlike};
-ghost use Rattle.satl_flight.specs.Queueing.{Ends, IsQueued, empty, without_pages};
+ghost use Rattle.satl_flight.specs.Queueing.{Ends, IsQueued, IsSlotted, empty, without_pages};
 ghost use Rattle.satl_flight.specs.Settled.{IsCovered, IsCut, IsFilled, IsLaunched, IsLostInFlight, IsLostQuietly};
 
 use crate::flight::Flight;
@@ -123,12 +123,14 @@ impl Queue {
         }
     }
 
-    /// How many tasks wait: at most 64, each in a slot of its own, which hold at most 32,768 blocks (profile).
+    /// How many tasks wait: at most 64, each in a slot of its own, which hold at most 32,768 blocks. The slots of the tags that
+    /// are given out hold the pages of their commands (profile).
     pub fn len(&self) -> usize
         ensures value { result ≡ length self.now.tasks }
         ensures few { length self.now.tasks ≤ most_tasks }
         ensures blocks { total_blocks self.now.tasks ≤ most_held }
         ensures own { AreOwnSlots self.now.tasks }
+        ensures slotted { (d : DriveState) → IsQueued self.now d → IsSlotted d.outstanding self.now.slots }
     {
         self.set.len()
     }
