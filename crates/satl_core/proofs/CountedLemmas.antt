@@ -11,7 +11,11 @@ use Rattle.satl_line.specs.Tasks.{Held, entries_of, is_too_much}
 use Rattle.satl_direct.specs.Device.{Device, is_of}
 use Rattle.satl_direct.specs.Tasks.{task_for, task_of}
 use Rattle.satl_direct.specs.Run.{losses_of}
-use Rattle.satl_core.specs.Layer.{Layer}
+use Rattle.satl_drive.specs.State.{DriveState}
+use Rattle.satl_flight.specs.Settled.{Deepens}
+use Rattle.satl_flight.proofs.LaunchedLemmas.{deepens_on, deepens_same}
+use Rattle.satl_core.specs.Layer.{Layer, view}
+use Rattle.satl_core.specs.Refilling.{AreKept}
 use Rattle.satl_core.specs.Leaving.{left_by}
 use Rattle.satl_core.specs.Submitting.{is_for_unit, Becomes, IsAdded, IsRefused, attention_of, once_judged, overlaps, task_without_pages, untold}
 use Rattle.satl_core.proofs.LeavingLemmas.{left_fewer}
@@ -53,6 +57,28 @@ counted_rose a b before now rose = RoseBy-fewer (losses_of a b) 1 before now (on
 pub counted_more : (a b c : Device) (before mid now : ℕ) → RoseBy (losses_of a b) before mid → RoseBy (losses_of b c) mid now → RoseBy (losses_of a c) before now
 counted_more a b c before mid now first rest =
     RoseBy-fewer (losses_of a c) (losses_of a b + losses_of b c) before now (adds_up a.down b.down c.down) (RoseBy-more (losses_of a b) (losses_of b c) before mid now first rest)
+
+-- ---- counts of the drive
+
+-- nothing was counted
+pub kept_none : (a : Layer) (d : DriveState) → AreKept a d a d
+kept_none a d = record { losses = counted_same (view a d) (view a d) d.faults d.faults refl refl; unplugs = refl; deep = deepens_same d }
+
+-- where neither the link nor the counts changed
+pub kept_same : (a b : Layer) (d d' : DriveState) → d'.down ≡ d.down → d'.faults ≡ d.faults → d'.unplugs ≡ d.unplugs → Deepens d d' → AreKept a d b d'
+kept_same a b d d' link faults unplugs deep = record { losses = counted_same (view a d) (view b d') d.faults d'.faults link faults; unplugs = unplugs; deep = deep }
+
+-- where the count of faults rose
+pub kept_rose : (a b : Layer) (d d' : DriveState) → Rose d.faults d'.faults → d'.unplugs ≡ d.unplugs → Deepens d d' → AreKept a d b d'
+kept_rose a b d d' rose unplugs deep = record { losses = counted_rose (view a d) (view b d') d.faults d'.faults rose; unplugs = unplugs; deep = deep }
+
+-- one part of a call after the other
+pub kept_on : (a b c : Layer) (d e f : DriveState) → AreKept a d b e → AreKept b e c f → AreKept a d c f
+kept_on a b c d e f first rest = record {
+  losses = counted_more (view a d) (view b e) (view c f) d.faults e.faults f.faults first.losses rest.losses;
+  unplugs = rest.unplugs ∙ first.unplugs;
+  deep = deepens_on d e f first.deep rest.deep;
+}
 
 -- ---- tasks
 

@@ -24,9 +24,10 @@ use Rattle.satl_direct.specs.Run.MayLose.{keeps}
 use Rattle.satl_direct.specs.Senses.{link_lost, not_ready}
 use Rattle.satl_direct.specs.Turn as turns
 use Rattle.satl_direct.specs.Turn.{MayEnd, Turn}
-use Rattle.satl_direct.specs.Turn.Turn.{ends, idle}
+use Rattle.satl_direct.specs.Turn.Turn.{idle}
 use Rattle.satl_core.specs.declared.turning.Ending.{Ending}
 use Rattle.satl_core.specs.declared.turning.Ending.TheVariants as endings
+use Rattle.satl_core.specs.Refilling.{EndsOne}
 use Rattle.satl_core.specs.Turning as core
 use Rattle.satl_core.specs.Turning.{ended_reply}
 use Rattle.satl_core.proofs.HeldLemmas.{IsFirst}
@@ -68,12 +69,12 @@ idle_around s new answers none silent same =
     subst (λ a. Around Turn s a new) (sym silent) (subst (Around Turn s []) (sym same) (around_alone Turn s s [] (idle none)))
 
 -- the first task ends between quiet moves
-pub ends_around : (old s mid new : Device) (t : Entry) (others : List Entry) (reply : Reply) (answers : List Reply) → Quiet old s → s.tasks ≡ t ∷ others → answers ≡ reply ∷ [] → Ends s t reply mid → Quiet mid new → Around Turn old answers new
-ends_around old s mid new t others reply answers before first is e quiet = record {
+pub ends_around : (old s mid new : Device) (t : Entry) (others : List Entry) (reply : Reply) → Quiet old s → s.tasks ≡ t ∷ others → Ends s t reply mid → Quiet mid new → EndsOne old reply new
+ends_around old s mid new t others reply before first e quiet = record {
   before = s;
   after = mid;
   quiet_before = before;
-  step = subst (λ a. Turn s a mid) (sym is) (ends reply (record { task = t; may = may; ends = e }));
+  ends = record { task = t; may = may; ends = e };
   quiet_after = quiet;
 }
   where
@@ -97,9 +98,9 @@ ends_by s t reply new up ready e = subst (λ b. EndsSo b (not s.started && (asks
 pub first_gone : (identity : Identity) (modes : Modes) (started : Bool) (attentions : List (List Attention)) (t : Entry) (others : List Entry) (d : DriveState) → seen identity modes started attentions others d ≡ record (seen identity modes started attentions (t ∷ others) d) { tasks = without t (t ∷ others) }
 first_gone identity modes started attentions t others d = ap (λ ts. seen identity modes started attentions ts d) (sym (without_first t others))
 
-pub first_checked : (identity : Identity) (modes : Modes) (started : Bool) (attentions : List (List Attention)) (entry : Entry) (others : List Entry) (d : DriveState) (taken : List Block) (sense : Sense)
-    → IsChecked sense (seen identity modes started attentions (task_of entry ∷ others) d) (task_of entry) (ended_reply (record entry { body = taken }) (endings.Check sense) modes.d_sense) (seen identity modes started attentions others d)
-first_checked identity modes started attentions entry others d taken sense = record { answer = refl; stays = first_gone identity modes started attentions (task_of entry) others d }
+pub first_checked : (identity : Identity) (modes : Modes) (started : Bool) (attentions : List (List Attention)) (entry : Entry) (others : List Entry) (d : DriveState) (sense : Sense)
+    → IsChecked sense (seen identity modes started attentions (task_of entry ∷ others) d) (task_of entry) (ended_reply entry (endings.Check sense) modes.d_sense) (seen identity modes started attentions others d)
+first_checked identity modes started attentions entry others d sense = record { answer = refl; stays = first_gone identity modes started attentions (task_of entry) others d }
 
 -- ---- a lost link
 
@@ -108,11 +109,11 @@ rest_lost s [] = refl
 rest_lost s (h ∷ rest) = ap (λ l. task_check s (task_of h.entry) link_lost ∷ l) (rest_lost s rest)
 
 -- the answer to the first task and those to the others are those of the device
-pub all_lost : (s : Device) (entry : Entry) (taken : List Block) (rest : List Held) (given pushed all : List Reply) (reply : Reply) (ending : Ending) → s.tasks ≡ task_of entry ∷ map task_of (entries_of rest) → given ≡ []
-    → pushed ≡ given ++ reply ∷ [] → all ≡ pushed ++ core.lost_replies s.modes.d_sense rest → reply ≡ ended_reply (record entry { body = taken }) ending s.modes.d_sense → ending ≡ endings.Check link_lost → all ≡ turns.lost_replies s
-all_lost s entry taken rest given pushed all reply ending first none push is one lost =
+pub all_lost : (s : Device) (entry : Entry) (rest : List Held) (given pushed all : List Reply) (reply : Reply) (ending : Ending) → s.tasks ≡ task_of entry ∷ map task_of (entries_of rest) → given ≡ []
+    → pushed ≡ given ++ reply ∷ [] → all ≡ pushed ++ core.lost_replies s.modes.d_sense rest → reply ≡ ended_reply entry ending s.modes.d_sense → ending ≡ endings.Check link_lost → all ≡ turns.lost_replies s
+all_lost s entry rest given pushed all reply ending first none push is one lost =
     is
     ∙ ap (λ l. l ++ core.lost_replies s.modes.d_sense rest) (push ∙ ap (λ l. l ++ reply ∷ []) none)
-    ∙ ap (λ r. r ∷ core.lost_replies s.modes.d_sense rest) (one ∙ ap (λ e. ended_reply (record entry { body = taken }) e s.modes.d_sense) lost)
+    ∙ ap (λ r. r ∷ core.lost_replies s.modes.d_sense rest) (one ∙ ap (λ e. ended_reply entry e s.modes.d_sense) lost)
     ∙ ap (λ l. task_check s (task_of entry) link_lost ∷ l) (rest_lost s rest)
     ∙ sym (ap (map (λ t. task_check s t link_lost)) first)

@@ -1,8 +1,9 @@
 -- A SYNCHRONIZE CACHE that ends with GOOD leaves nothing to a loss of power.
-use Rattle.std.proofs.Common.{◌≡◌, ⊎_elim, refl, sym, ap, subst, ◌∙◌, ℕ, Bool, true, false, List, [], ◌∷◌, ◌++◌, map, eq-eqb}
-use Rattle.std.specs.Prelude.{MatchBool, not, ◌&&◌, ◌||◌, ◌==◌}
+use Rattle.std.proofs.Common.{◌≡◌, ⊎_elim, inl, inr, refl, sym, ap, subst, ◌∙◌, ℕ, zero, suc, Bool, true, false, List, [], ◌∷◌, ◌++◌, map, eq-eqb, Some}
+use Rattle.std.specs.Prelude.{MatchBool, slice_get, not, ◌&&◌, ◌||◌, ◌==◌}
 use Rattle.std.specs.List.{AllByRecursion, list_any}
 use Rattle.satl_base.specs.declared.block.Block.{Block}
+use Rattle.satl_base.specs.declared.block.Range.{Range}
 use Rattle.satl_base.specs.declared.modes.Modes.{Modes}
 use Rattle.satl_base.specs.declared.reply.Reply.{Reply}
 use Rattle.satl_base.specs.declared.reply.Scsi.TheVariants.{Good}
@@ -13,6 +14,7 @@ use Rattle.satl_base.specs.Losses.{Loses, Lost}
 use Rattle.satl_cdb.specs.declared.command.Command.{Command}
 use Rattle.satl_cdb.specs.declared.command.Command.TheVariants as commands
 use Rattle.satl_line.specs.declared.entry.Entry.{Entry}
+use Rattle.satl_line.specs.Ranged.{RangedTask, ranged_by, ranged_of}
 use Rattle.satl_line.specs.Tasks.{Held, entries_of}
 use Rattle.satl_drive.specs.State.{DriveState}
 use Rattle.satl_direct.specs.Device.{is_called}
@@ -23,7 +25,9 @@ use Rattle.satl_core.specs.declared.turning.Ending.{Ending}
 use Rattle.satl_core.specs.declared.turning.Ending.TheVariants as endings
 use Rattle.satl_core.specs.Flushed.{IsFlush, IsFlushed, IsSettled}
 use Rattle.satl_core.specs.Turning.{CarriedOut, IsUnasked, TaskEnds, ended_reply, ending_status}
+use Rattle.satl_direct.specs.Valid.{AreOwn}
 use Rattle.satl_core.proofs.HeldLemmas.{IsFirst}
+use Rattle.satl_core.proofs.QueuedLemmas.{by_command}
 
 -- ---- sectors that were written back stay so
 
@@ -41,17 +45,24 @@ all_settled (c ∷ cells) (c' ∷ new) loses = (settled_one c c' loses.0, all_se
 all_settled [] (c ∷ new) loses = absurd loses
 all_settled (c ∷ cells) [] loses = absurd loses
 
+-- sectors that were written back stay so where entries are lost
+pub still_settled : (cells new : List Cell) → AllByRecursion IsSettled cells → Loses cells new → AllByRecursion IsSettled new
+still_settled [] [] all loses = tt
+still_settled (c ∷ cells) (c' ∷ new) all loses = (settled_may c.now c'.now c'.may loses.0.now (subst (λ may. LeavesOut may c'.may) all.0 loses.0.fewer) loses.0.sound, still_settled cells new all.1 loses.1)
+still_settled [] (c ∷ new) all loses = absurd loses
+still_settled (c ∷ cells) [] all loses = absurd loses
+
 -- ---- a task that is done was carried out
 
-pub flush_done : (down started : Bool) (wanted : Modes) (command : Command) (old new : DriveState) (given taken : List Block) (ending : Ending) → IsFlush command → ending ≡ endings.Good → TaskEnds down started wanted command old given ending taken new → AllByRecursion IsSettled new.cells
-flush_done true started wanted command old new given taken ending flush good = λ ends. let sensed = ends.sensed in absurd cc
-flush_done false started wanted command old new given taken ending flush good =
-    elim (not started && (asks command).starts) as (λ b. MatchBool b (IsUnasked not_ready old ending new) (CarriedOut wanted command old given ending taken new) → AllByRecursion IsSettled new.cells) [
+pub flush_done : (down started : Bool) (wanted : Modes) (command : Command) (old new : DriveState) (ending : Ending) → IsFlush command → ending ≡ endings.Good → TaskEnds down started wanted command old ending new → AllByRecursion IsSettled new.cells
+flush_done true started wanted command old new ending flush good = λ ends. let sensed = ends.sensed in absurd cc
+flush_done false started wanted command old new ending flush good =
+    elim (not started && (asks command).starts) as (λ b. MatchBool b (IsUnasked not_ready old ending new) (CarriedOut wanted command old ending new) → AllByRecursion IsSettled new.cells) [
       | true ↦ λ x. let sensed = x.sensed in absurd cc
       | false ↦ λ x. carried command flush x
     ]
   where
-    carried : (c : Command) → IsFlush c → CarriedOut wanted c old given ending taken new → AllByRecursion IsSettled new.cells
+    carried : (c : Command) → IsFlush c → CarriedOut wanted c old ending new → AllByRecursion IsSettled new.cells
     carried (commands.Flush form lba count) flush done = all_settled old.cells new.cells done.1.lost
     carried commands.TestUnitReady flush done = absurd flush
     carried (commands.RequestSense descriptor alloc) flush done = absurd flush
@@ -106,3 +117,50 @@ first_flush tasks rest first entry ending descriptor given replies r is nexus ta
   where
     other : IsIn flushed.task rest → flushed.task.entry.nexus ≡ first.nexus → flushed.task.entry.tag ≡ first.tag → IsFlush first.command
     other i n t = let there = called_in first.nexus first.tag flushed.task rest i n t in absurd cc
+
+-- ---- a task that was queued is no SYNCHRONIZE CACHE
+
+not_flush : (c : Command) (ranges : List Range) (body : List Block) (ranged : RangedTask) → ranged_by c ranges body ≡ Some ranged → IsFlush c → ⊥
+not_flush (commands.Flush form lba count) ranges body ranged is flush = absurd cc
+not_flush commands.TestUnitReady ranges body ranged is flush = flush
+not_flush (commands.RequestSense descriptor alloc) ranges body ranged is flush = flush
+not_flush (commands.Inquiry page alloc) ranges body ranged is flush = flush
+not_flush (commands.ModeSense ten long_lba no_descriptor control page alloc) ranges body ranged is flush = flush
+not_flush (commands.ModeSelect ten size) ranges body ranged is flush = flush
+not_flush (commands.StartStop start no_flush) ranges body ranged is flush = flush
+not_flush commands.ReadCapacity10 ranges body ranged is flush = flush
+not_flush (commands.ReadCapacity16 alloc) ranges body ranged is flush = flush
+not_flush (commands.ReportLuns select alloc) ranges body ranged is flush = flush
+not_flush (commands.Read form lba count fua) ranges body ranged is flush = flush
+not_flush (commands.Write form lba count fua) ranges body ranged is flush = flush
+not_flush (commands.Verify form lba count compare) ranges body ranged is flush = flush
+not_flush (commands.WriteSame form lba count unmap) ranges body ranged is flush = flush
+not_flush (commands.Unmap size) ranges body ranged is flush = flush
+not_flush (commands.Pass cdb) ranges body ranged is flush = flush
+
+-- tasks of one nexus and tag are one
+one_named : (tasks : List Held) (t u : Held) (place : ℕ) → AreOwn (map task_of (entries_of tasks)) → IsIn t tasks → slice_get tasks place ≡ Some u → t.entry.nexus ≡ u.entry.nexus → t.entry.tag ≡ u.entry.tag → t.entry ≡ u.entry
+one_named [] t u place own among stands nexus tag = absurd among
+one_named (h ∷ tasks) t u zero own among stands nexus tag =
+    let here : h ≡ u = cc in
+    ⊎_elim (λ e. ap (λ (x : Held). x.entry) (e ∙ here))
+    (λ i. let there = called_in h.entry.nexus h.entry.tag t tasks i (nexus ∙ ap (λ (x : Held). x.entry.nexus) (sym here)) (tag ∙ ap (λ (x : Held). x.entry.tag) (sym here)) in let none = own.0 in absurd cc) among
+one_named (h ∷ tasks) t u (suc place) own among stands nexus tag =
+    ⊎_elim
+    (λ e. let there = called_in h.entry.nexus h.entry.tag u tasks (is_in_at tasks place u stands) (sym nexus ∙ ap (λ (x : Held). x.entry.nexus) e) (sym tag ∙ ap (λ (x : Held). x.entry.tag) e) in let none = own.0 in absurd cc)
+    (λ i. one_named tasks t u place own.1 i stands nexus tag) among
+  where
+    is_in_at : (ts : List Held) (k : ℕ) (x : Held) → slice_get ts k ≡ Some x → IsIn x ts
+    is_in_at [] k x at = absurd cc
+    is_in_at (y ∷ ts) zero x at = let one : x ≡ y = cc in inl one
+    is_in_at (y ∷ ts) (suc k) x at = inr (is_in_at ts k x at)
+
+-- so its answer is that of no SYNCHRONIZE CACHE
+pub queued_no_flush : (tasks : List Held) (place : ℕ) (held : Held) (ranged : RangedTask) (ending : Ending) (descriptor : Bool) (body : List Block) (given replies : List Reply) (r : Reply) → AreOwn (map task_of (entries_of tasks)) → slice_get tasks place ≡ Some held → ranged_of held.entry ≡ Some ranged
+    → given ≡ [] → replies ≡ given ++ r ∷ [] → r ≡ ended_reply (record held.entry { body = body }) ending descriptor → IsFlushed tasks replies → ⊥
+queued_no_flush tasks place held ranged ending descriptor body given replies r own stands is none push reply flushed =
+    let one : replies ≡ r ∷ [] = push ∙ ap (λ l. l ++ r ∷ []) none in
+    let answer : task_reply flushed.task.entry Good [] [] ≡ r = ⊎_elim (λ e. e) (λ i. absurd i) (subst (IsIn (task_reply flushed.task.entry Good [] [])) one flushed.answer) in
+    let same : task_reply flushed.task.entry Good [] [] ≡ ended_reply (record held.entry { body = body }) ending descriptor = answer ∙ reply in
+    let entry = one_named tasks flushed.task held place own flushed.among stands (ap (λ (x : Reply). x.nexus) same) (ap (λ (x : Reply). x.tag) same) in
+    not_flush held.entry.command held.entry.ranges.items held.entry.body ranged (by_command held.entry ranged is) (subst (λ (x : Entry). IsFlush x.command) entry flushed.flush)

@@ -10,6 +10,7 @@ use Rattle.satl_mode.specs.Changes.{IsChangeOf}
 use Rattle.satl_line.specs.Tasks.{Held, change_at, entry_at, total_blocks}
 use Rattle.satl_core.specs.declared.turning.Ending.TheVariants as endings
 use Rattle.satl_direct.specs.Senses.{link_lost}
+use Rattle.satl_flight.specs.Lending.{AreAlike}
 use Rattle.satl_core.specs.Layer.{IsExpectable, IsKept, IsTask, held_pages, reply_pages}
 use Rattle.satl_core.specs.Turning.{ended_reply, lost_replies}
 
@@ -107,3 +108,32 @@ pushed replies replies' r is = ap length is ∙ count replies
     count : (l : List Reply) → length (l ++ r ∷ []) ≡ suc (length l)
     count [] = refl
     count (x ∷ l) = ap suc (count l)
+
+-- ---- the same tasks, whatever their pages hold
+
+pub alike_kept : (identity : Identity) (old new : List Held) → AreAlike old new → AllByRecursion (IsKept identity) old → AllByRecursion (IsKept identity) new
+alike_kept identity [] [] alike kept = tt
+alike_kept identity [] (h ∷ new) alike kept = absurd alike
+alike_kept identity (k ∷ old) [] alike kept = absurd alike
+alike_kept identity (k ∷ old) (h ∷ new) alike kept =
+    (subst (IsKept identity) (sym alike.0.stays) (record { pages = alike.0.size ∙ kept.0.pages; task = kept.0.task; kind = kept.0.kind; change = kept.0.change; expected = kept.0.expected }), alike_kept identity old new alike.1 kept.1)
+
+pub alike_held : (old new : List Held) → AreAlike old new → held_pages new ≡ held_pages old
+alike_held [] [] alike = refl
+alike_held [] (h ∷ new) alike = absurd alike
+alike_held (k ∷ old) [] alike = absurd alike
+alike_held (k ∷ old) (h ∷ new) alike = let here = alike.0.size in let rest = alike_held old new alike.1 in omega (arith, here, rest)
+
+pub alike_count : (old new : List Held) → AreAlike old new → length new ≡ length old
+alike_count [] [] alike = refl
+alike_count [] (h ∷ new) alike = absurd alike
+alike_count (k ∷ old) [] alike = absurd alike
+alike_count (k ∷ old) (h ∷ new) alike = ap suc (alike_count old new alike.1)
+
+-- at a lost link they are answered alike
+pub alike_lost : (descriptor : Bool) (old new : List Held) → AreAlike old new → lost_replies descriptor new ≡ lost_replies descriptor old
+alike_lost descriptor [] [] alike = refl
+alike_lost descriptor [] (h ∷ new) alike = absurd alike
+alike_lost descriptor (k ∷ old) [] alike = absurd alike
+alike_lost descriptor (k ∷ old) (h ∷ new) alike =
+    ap (λ (x : Held). ended_reply x.entry (endings.Check link_lost) descriptor ∷ lost_replies descriptor new) alike.0.stays ∙ ap (λ l. ended_reply k.entry (endings.Check link_lost) descriptor ∷ l) (alike_lost descriptor old new alike.1)

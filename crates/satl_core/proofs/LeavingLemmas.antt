@@ -1,6 +1,7 @@
 -- Tasks go without an answer, and the others stay.
-use Rattle.std.proofs.Common.{◌≡◌, refl, sym, ap, subst, ◌∙◌, arith, cond, ℕ, zero, suc, ◌+◌, ◌≤◌, Bool, true, false, List, [], ◌∷◌, length, map, take, drop, Option, Some}
-use Rattle.std.specs.Prelude.{not, ◌||◌, filter, remove, is_some}
+use Rattle.std.proofs.Common.{◌≡◌, refl, sym, ap, subst, ◌∙◌, arith, cond, ℕ, zero, suc, ◌+◌, ◌≤◌, ◌<◌, ◌≢◌, Bool, true, false, List, [], ◌∷◌, length, map, take, drop, Option, Some}
+use Rattle.std.specs.Option.{option_map}
+use Rattle.std.specs.Prelude.{not, ◌||◌, filter, remove, is_some, slice_get}
 use Rattle.std.specs.List.{AllByRecursion, list_any, position_from}
 use Rattle.std.proofs.lemmas.List.{take_all}
 use Rattle.satl_base.specs.declared.request.Tag.{Tag}
@@ -9,7 +10,12 @@ use Rattle.satl_line.specs.Tasks.{Held, entries_of, entry_at, is_named}
 use Rattle.satl_direct.specs.Device.{is_called}
 use Rattle.satl_direct.specs.Tasks.{task_of}
 use Rattle.satl_core.specs.Layer.{held_pages}
-use Rattle.satl_core.specs.Leaving.{left_by}
+use Rattle.satl_flight.specs.declared.flight.Flying.{Flying}
+use Rattle.satl_flight.specs.Flown.{holds}
+use Rattle.satl_flight.specs.Queueing.{without_pages}
+use Rattle.satl_core.specs.declared.leaving.Scope.{Scope}
+use Rattle.satl_core.specs.declared.leaving.Scope.TheVariants as scopes
+use Rattle.satl_core.specs.Leaving.{AreWaiting, is_within, left_by}
 
 -- a task that is to go is taken out
 pub left_removed : (goes : Entry → Bool) (tasks : List Held) (place : ℕ) (entry : Entry) → entry_at tasks place ≡ Some entry → goes entry ≡ true → left_by goes (remove tasks place) ≡ left_by goes tasks
@@ -20,10 +26,6 @@ left_removed goes (h ∷ tasks) zero entry at is =
     rw test refl
 left_removed goes (h ∷ tasks) (suc place) entry at is =
     ap (λ l. cond (not (goes h.entry)) (h ∷ l) l) (left_removed goes tasks place entry at is)
-
--- what is found at a place is one task
-pub goes_by : (goes : Entry → Bool) (a b : Entry) (found : Option Entry) → found ≡ Some a → found ≡ Some b → goes a ≡ true → goes b ≡ true
-goes_by goes a b found one two e = let same : a ≡ b = cc in subst (λ t. goes t ≡ true) same e
 
 -- the tasks before a place stay
 abbrev pub AreOthers : (Entry → Bool) → ℕ → List Held → Type 0
@@ -91,26 +93,94 @@ left_tasks goes is_gone same (h ∷ tasks) = rw (same h.entry) (both (left_tasks
 
 -- ---- whether one is there
 
+-- a test that does not look at pages
+abbrev pub IsBare : (Entry → Bool) → Type 0
+IsBare p = (t : Entry) → p t ≡ p (without_pages t)
+
+pub within_bare : (scope : Scope) → IsBare (is_within scope)
+within_bare (scopes.OneTask nexus tag) t = refl
+within_bare (scopes.OfNexus nexus) t = refl
+within_bare scopes.All t = refl
+within_bare scopes.Nothing t = refl
+
+-- what is seen of a task at a place tells whether it passes
+pub seen_passes : (p : Entry → Bool) → IsBare p → (tasks : List Held) (place : ℕ) (entry : Entry) (b : Bool) (h : Held) → option_map without_pages (entry_at tasks place) ≡ Some (without_pages entry) → slice_get tasks place ≡ Some h → p entry ≡ b → p h.entry ≡ b
+seen_passes p bare tasks place entry b h at stands is =
+    let same : Some (without_pages h.entry) ≡ Some (without_pages entry) = sym (ap (λ o. option_map without_pages (option_map (λ (k : Held). k.entry) o)) stands) ∙ at in
+    let one : without_pages h.entry ≡ without_pages entry = cc in
+    bare h.entry ∙ (ap p one ∙ (sym (bare entry) ∙ is))
+
+-- what is taken out at a place passes as what was seen there
+pub bare_goes : (p : Entry → Bool) → IsBare p → (tasks : List Held) (place : ℕ) (entry taken : Entry) → option_map without_pages (entry_at tasks place) ≡ Some (without_pages entry) → entry_at tasks place ≡ Some taken → p entry ≡ true → p taken ≡ true
+bare_goes p bare tasks place entry taken at is passes =
+    let same : Some (without_pages taken) ≡ Some (without_pages entry) = sym (ap (option_map without_pages) is) ∙ at in
+    let one : without_pages taken ≡ without_pages entry = cc in
+    bare taken ∙ (ap p one ∙ (sym (bare entry) ∙ passes))
+
 -- the task at a place is one
-pub any_here : (p : Entry → Bool) (tasks : List Held) (place : ℕ) (entry : Entry) → entry_at tasks place ≡ Some entry → p entry ≡ true → list_any p (entries_of (drop place tasks)) ≡ true
-any_here p [] place entry at is = absurd cc
-any_here p (h ∷ tasks) zero entry at is =
-    let here : h.entry ≡ entry = cc in
-    let test : p h.entry ≡ true = ap p here ∙ is in
-    ap (λ b. b || list_any p (entries_of tasks)) test
-any_here p (h ∷ tasks) (suc place) entry at is = any_here p tasks place entry at is
+pub any_here : (p : Entry → Bool) → IsBare p → (tasks : List Held) (place : ℕ) (entry : Entry) → option_map without_pages (entry_at tasks place) ≡ Some (without_pages entry) → p entry ≡ true → list_any p (entries_of (drop place tasks)) ≡ true
+any_here p bare [] place entry at is = absurd cc
+any_here p bare (h ∷ tasks) zero entry at is = ap (λ b. b || list_any p (entries_of tasks)) (seen_passes p bare (h ∷ tasks) zero entry true h at refl is)
+any_here p bare (h ∷ tasks) (suc place) entry at is = any_here p bare tasks place entry at is
 
 -- it is none, and the others are looked at
-any_step : (p : Entry → Bool) (tasks : List Held) (place : ℕ) (entry : Entry) → entry_at tasks place ≡ Some entry → p entry ≡ false → list_any p (entries_of (drop place tasks)) ≡ list_any p (entries_of (drop (suc place) tasks))
-any_step p [] place entry at is = absurd cc
-any_step p (h ∷ tasks) zero entry at is =
-    let here : h.entry ≡ entry = cc in
-    let test : p h.entry ≡ false = ap p here ∙ is in
-    ap (λ b. b || list_any p (entries_of tasks)) test
-any_step p (h ∷ tasks) (suc place) entry at is = any_step p tasks place entry at is
+any_step : (p : Entry → Bool) → IsBare p → (tasks : List Held) (place : ℕ) (entry : Entry) → option_map without_pages (entry_at tasks place) ≡ Some (without_pages entry) → p entry ≡ false → list_any p (entries_of (drop place tasks)) ≡ list_any p (entries_of (drop (suc place) tasks))
+any_step p bare [] place entry at is = absurd cc
+any_step p bare (h ∷ tasks) zero entry at is = ap (λ b. b || list_any p (entries_of tasks)) (seen_passes p bare (h ∷ tasks) zero entry false h at refl is)
+any_step p bare (h ∷ tasks) (suc place) entry at is = any_step p bare tasks place entry at is
 
-pub any_next : (p : Entry → Bool) (tasks : List Held) (place next : ℕ) (entry : Entry) → next ≡ suc place → entry_at tasks place ≡ Some entry → p entry ≡ false → list_any p (entries_of (drop place tasks)) ≡ list_any p (entries_of (drop next tasks))
-any_next p tasks place next entry e at is = any_step p tasks place entry at is ∙ ap (λ n. list_any p (entries_of (drop n tasks))) (sym e)
+pub any_next : (p : Entry → Bool) → IsBare p → (tasks : List Held) (place next : ℕ) (entry : Entry) → next ≡ suc place → option_map without_pages (entry_at tasks place) ≡ Some (without_pages entry) → p entry ≡ false → list_any p (entries_of (drop place tasks)) ≡ list_any p (entries_of (drop next tasks))
+any_next p bare tasks place next entry e at is = any_step p bare tasks place entry at is ∙ ap (λ n. list_any p (entries_of (drop n tasks))) (sym e)
+
+-- ---- whether one is outstanding
+
+-- of the tasks before a place none that passes is outstanding
+abbrev pub WaitBefore : (Entry → Bool) → List Flying → ℕ → List Held → Type 0
+WaitBefore goes flying place tasks = AreWaiting goes flying (take place tasks)
+
+wait_step : (goes : Entry → Bool) (flying : List Flying) (tasks : List Held) (place : ℕ) → ((h : Held) → slice_get tasks place ≡ Some h → goes h.entry ≡ true → holds flying h.slot ≡ false) → WaitBefore goes flying place tasks → WaitBefore goes flying (suc place) tasks
+wait_step goes flying [] place one all = tt
+wait_step goes flying (h ∷ tasks) zero one all = (one h refl, tt)
+wait_step goes flying (h ∷ tasks) (suc place) one all = (all.0, wait_step goes flying tasks place one all.1)
+
+-- nor is the next
+pub wait_next : (goes : Entry → Bool) → IsBare goes → (flying : List Flying) (tasks : List Held) (place next : ℕ) (entry : Entry) (out : Bool) → next ≡ suc place → option_map without_pages (entry_at tasks place) ≡ Some (without_pages entry)
+    → (goes entry ≡ true → (h : Held) → slice_get tasks place ≡ Some h → out ≡ holds flying h.slot) → (goes entry ≡ true → out ≡ false) → WaitBefore goes flying place tasks → WaitBefore goes flying next tasks
+wait_next goes bare flying tasks place next entry out e at told none all =
+    subst (λ n. WaitBefore goes flying n tasks) (sym e) (wait_step goes flying tasks place
+    (λ h stands is. let here : goes entry ≡ true = bare entry ∙ (sym (ap goes (seen_one h stands)) ∙ (sym (bare h.entry) ∙ is)) in sym (told here h stands) ∙ none here) all)
+  where
+    seen_one : (h : Held) → slice_get tasks place ≡ Some h → without_pages h.entry ≡ without_pages entry
+    seen_one h stands = let same : Some (without_pages h.entry) ≡ Some (without_pages entry) = sym (ap (λ o. option_map without_pages (option_map (λ (k : Held). k.entry) o)) stands) ∙ at in cc
+
+pub all_wait : (goes : Entry → Bool) (flying : List Flying) (tasks : List Held) (place : ℕ) → length tasks ≤ place → WaitBefore goes flying place tasks → AreWaiting goes flying tasks
+all_wait goes flying tasks place whole all = subst (AreWaiting goes flying) (take_all place tasks whole) all
+
+-- where a task is outstanding something is
+pub some_held : (flying : List Flying) (slot : ℕ) → holds flying slot ≡ true → flying ≢ []
+some_held [] slot held = absurd cc
+some_held (f ∷ flying) slot held = λ none. absurd cc
+
+pub stands : (tasks : List Held) (place : ℕ) → place < length tasks → (h : Held) × (slice_get tasks place ≡ Some h)
+stands [] place less = absurd (omega (arith, less))
+stands (h ∷ tasks) zero less = (h, refl)
+stands (h ∷ tasks) (suc place) less = stands tasks place (omega (arith, less))
+
+-- nothing is outstanding
+pub idle_waits : (goes : Entry → Bool) (flying : List Flying) (tasks : List Held) → flying ≡ [] → AreWaiting goes flying tasks
+idle_waits goes flying [] idle = tt
+idle_waits goes flying (h ∷ tasks) idle = ((λ is. ap (λ fs. holds fs h.slot) idle), idle_waits goes flying tasks idle)
+
+pub waits_at : (goes : Entry → Bool) (flying : List Flying) (tasks : List Held) (place : ℕ) (h : Held) → AreWaiting goes flying tasks → slice_get tasks place ≡ Some h → goes h.entry ≡ true → holds flying h.slot ≡ false
+waits_at goes flying [] place h all at is = absurd cc
+waits_at goes flying (k ∷ tasks) zero h all at is = let one : k ≡ h = cc in subst (λ (x : Held). holds flying x.slot ≡ false) one (all.0 (ap (λ (x : Held). goes x.entry) one ∙ is))
+waits_at goes flying (k ∷ tasks) (suc place) h all at is = waits_at goes flying tasks place h all.1 at is
+
+pub waits_removed : (goes : Entry → Bool) (flying : List Flying) (tasks : List Held) (place : ℕ) → AreWaiting goes flying tasks → AreWaiting goes flying (remove tasks place)
+waits_removed goes flying [] zero all = all
+waits_removed goes flying [] (suc place) all = all
+waits_removed goes flying (h ∷ tasks) zero all = all.1
+waits_removed goes flying (h ∷ tasks) (suc place) all = (all.0, waits_removed goes flying tasks place all.1)
 
 -- the device has one where the layer has, by a test that says the same of them there
 pub any_tasks : (p q : Entry → Bool) → ((t : Entry) → q (task_of t) ≡ p t) → (tasks : List Held) → list_any p (entries_of tasks) ≡ list_any q (map task_of (entries_of tasks))

@@ -23,7 +23,6 @@ use Rattle.satl_direct.specs.Management as direct
 use Rattle.satl_direct.specs.Management.{IsManaged, found, has_unit}
 use Rattle.satl_direct.specs.Quiet.{Around}
 use Rattle.satl_direct.specs.Run.{Manages, MayLose}
-use Rattle.satl_direct.specs.Run.MayLose.{keeps}
 use Rattle.satl_direct.specs.Tasks.{task_of}
 use Rattle.satl_direct.specs.Valid.{IsValid}
 use Rattle.satl_core.specs.declared.leaving.Scope.{Scope}
@@ -34,10 +33,12 @@ use Rattle.satl_core.specs.declared.managing.Posting.TheVariants as postings
 use Rattle.satl_core.specs.Layer.{Layer, Tied, view}
 use Rattle.satl_core.specs.Leaving.{is_within, left_by}
 use Rattle.satl_core.specs.Managing.{effect, effect_of, effect_or_none, is_told, once_posted, only}
-use Rattle.satl_core.proofs.DeviceLemmas.{around_alone, seen}
+use Rattle.satl_core.specs.Refilling.{Removes}
+use Rattle.satl_core.proofs.ComposeLemmas.{map_step}
+use Rattle.satl_core.proofs.QuietLemmas.{quiet_posted}
 use Rattle.satl_core.proofs.LeavingLemmas.{any_tasks, left_tasks}
 use Rattle.satl_core.proofs.PostingLemmas.{once_kept, once_length}
-use Rattle.satl_core.proofs.ValidLemmas.{tied_by, valid_left}
+use Rattle.satl_core.proofs.ValidLemmas.{tied_told}
 
 -- ---- conditions that are posted one nexus after the other
 
@@ -125,7 +126,7 @@ effect_mirrors m s tasks lists =
 -- ---- the step
 
 -- the layer with the tasks that stay and the conditions that are posted is the device after the function
-pub manages : (m : Manage) (s new : Device) (tasks tasks' : List Held) (lists lists' : List (List Attention)) (own : Effect) → own ≡ effect m tasks → s.tasks ≡ map task_of (entries_of tasks) → s.attentions ≡ lists
+manages : (m : Manage) (s new : Device) (tasks tasks' : List Held) (lists lists' : List (List Attention)) (own : Effect) → own ≡ effect m tasks → s.tasks ≡ map task_of (entries_of tasks) → s.attentions ≡ lists
     → tasks' ≡ left_by (is_within own.goes) tasks → lists' ≡ once_posted own.posts tasks lists → new ≡ record s { tasks = map task_of (entries_of tasks'); attentions = lists' } → IsManaged m s own.response new
 manages m s new tasks tasks' lists lists' own is ts cs left posts same =
     let mirrors = subst (λ e. Mirrors tasks lists e (direct.effect m s)) (sym is) (subst (λ (x : Device). Mirrors tasks lists (effect m tasks) (direct.effect m x)) these (effect_mirrors m s tasks lists)) in
@@ -153,33 +154,37 @@ valid_posted posts tasks s v = record {
   attentions = once_kept posts tasks s.attentions v.attentions;
 }
 
--- tasks that stay and conditions that are posted leave a valid device
-pub valid_managed : (s new : Device) (tasks tasks' : List Held) (lists' : List (List Attention)) (own : Effect) → s.tasks ≡ map task_of (entries_of tasks)
-    → tasks' ≡ left_by (is_within own.goes) tasks → lists' ≡ once_posted own.posts tasks s.attentions → new ≡ record s { tasks = map task_of (entries_of tasks'); attentions = lists' } → IsValid s → IsValid new
-valid_managed s new tasks tasks' lists' own ts left posts same v =
-    subst IsValid (sym (same ∙ (ap (λ l. record s { tasks = map task_of (entries_of tasks'); attentions = l }) posts ∙ ap (λ l. record s { tasks = l; attentions = once_posted own.posts tasks s.attentions }) stay)))
-    (valid_posted own.posts tasks (record s { tasks = filter (λ t. not (is_within own.goes t)) s.tasks }) (valid_left (λ t. not (is_within own.goes t)) s v))
+-- ---- the layer
+
+-- conditions that are posted leave the layer tied
+pub posted_tied : (posts : Option Posting) (l new : Layer) (d : DriveState) → new ≡ record l { attentions = once_posted posts l.tasks l.attentions } → Tied l d → Tied new d
+posted_tied posts l new d same tied =
+    tied_told l new d (same ∙ (ap (λ lists. record l { attentions = lists }) (sym (ap (λ (x : Layer). x.attentions) same)) ∙ (ap (λ n. record l { attentions = new.attentions; free = n }) (sym (ap (λ (x : Layer). x.free) same)) ∙ ap (λ n. record l { attentions = new.attentions; free = new.free; out = n }) (sym (ap (λ (x : Layer). x.out) same)))))
+    (subst IsValid (sym (ap (λ x. view x d) same)) (valid_posted posts l.tasks (view l d) tied.agrees.valid)) tied
+
+-- tasks go at a device with the conditions that were posted: that is the function
+pub managed_around : (m : Manage) (own : Effect) (l : Layer) (d : DriveState) (answers : List Reply) (new : Device) → own ≡ effect m l.tasks → Around (MayLose (Removes (is_within own.goes))) (record (view l d) { attentions = once_posted own.posts l.tasks l.attentions }) answers new
+    → Around (MayLose (Manages m own.response)) (view l d) answers new
+managed_around m own l d answers new is a = record {
+  before = before;
+  after = a.after;
+  quiet_before = quiet_posted l.attentions (record (view l d) { attentions = once_posted own.posts l.tasks l.attentions }) a.before a.quiet_before;
+  step = map_step (Removes (is_within own.goes)) (Manages m own.response) [] a.before before (λ mid given r. (r.none, step mid r)) answers a.after a.step;
+  quiet_after = a.quiet_after;
+}
   where
-    stay : map task_of (entries_of tasks') ≡ filter (λ t. not (is_within own.goes t)) s.tasks
-    stay = ap (λ l. map task_of (entries_of l)) left ∙ (left_tasks (is_within own.goes) (is_within own.goes) (within_seen own.goes) tasks ∙ ap (filter (λ t. not (is_within own.goes t))) (sym ts))
+    before : Device
+    before = record a.before { attentions = l.attentions }
 
--- ---- the layer by its parts
+    listed : a.before.attentions ≡ once_posted own.posts l.tasks l.attentions
+    listed = ap (λ (x : Device). x.attentions) a.quiet_before.stays
 
--- the function is a step of the device
-pub managed_around : (m : Manage) (own : Effect) (identity : Identity) (modes : Modes) (started down : Bool) (lists lists' : List (List Attention)) (tasks tasks' : List Held) (free out : ℕ) (d : DriveState) (l : Layer) (replies : List Reply)
-    → record { identity = identity; modes = modes; started = started; down = down; attentions = lists; tasks = tasks; free = free; out = out } ≡ l → replies ≡ [] → own ≡ effect m tasks → tasks' ≡ left_by (is_within own.goes) tasks → lists' ≡ once_posted own.posts tasks lists
-    → Around (MayLose (Manages m own.response)) (view l d) replies (seen identity modes started lists' (map task_of (entries_of tasks')) d)
-managed_around m own identity modes started down lists lists' tasks tasks' free out d l replies view_is empty is left posts =
-    let old = seen identity modes started lists (map task_of (entries_of tasks)) d in
-    let new = seen identity modes started lists' (map task_of (entries_of tasks')) d in
-    subst (λ x. Around (MayLose (Manages m own.response)) (view x d) replies new) view_is
-    (around_alone (MayLose (Manages m own.response)) old new replies (keeps (empty, manages m old new tasks tasks' lists lists' own is refl refl left posts refl)))
+    there : a.before.tasks ≡ map task_of (entries_of l.tasks)
+    there = ap (λ (x : Device). x.tasks) a.quiet_before.stays
 
--- and leaves the layer tied
-pub managed_tied : (own : Effect) (identity : Identity) (modes : Modes) (started down : Bool) (lists lists' : List (List Attention)) (tasks tasks' : List Held) (free out free' out' : ℕ) (d : DriveState)
-    → tasks' ≡ left_by (is_within own.goes) tasks → lists' ≡ once_posted own.posts tasks lists
-    → Tied (record { identity = identity; modes = modes; started = started; down = down; attentions = lists; tasks = tasks; free = free; out = out }) d
-    → Tied (record { identity = identity; modes = modes; started = started; down = down; attentions = lists'; tasks = tasks'; free = free'; out = out' }) d
-managed_tied own identity modes started down lists lists' tasks tasks' free out free' out' d left posts tied =
-    tied_by (record { identity = identity; modes = modes; started = started; down = down; attentions = lists; tasks = tasks; free = free; out = out }) (record { identity = identity; modes = modes; started = started; down = down; attentions = lists'; tasks = tasks'; free = free'; out = out' }) d refl refl refl
-    (valid_managed (seen identity modes started lists (map task_of (entries_of tasks)) d) (seen identity modes started lists' (map task_of (entries_of tasks')) d) tasks tasks' lists' own refl left posts refl tied.valid) tied
+    step : (mid : Device) {given : List Reply} → Removes (is_within own.goes) a.before given mid → IsManaged m before own.response mid
+    step mid r =
+        manages m before mid l.tasks (left_by (is_within own.goes) l.tasks) l.attentions (once_posted own.posts l.tasks l.attentions) own is there refl refl refl
+        (r.stays ∙ (ap (λ ts. record a.before { tasks = filter (λ t. not (is_within own.goes t)) ts }) there
+        ∙ (ap (λ ts. record a.before { tasks = ts }) (sym (left_tasks (is_within own.goes) (is_within own.goes) (within_seen own.goes) l.tasks))
+        ∙ ap (λ lists. record before { tasks = map task_of (entries_of (left_by (is_within own.goes) l.tasks)); attentions = lists }) listed)))

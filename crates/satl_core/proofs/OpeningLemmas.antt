@@ -1,5 +1,5 @@
 -- What opening the layer gives.
-use Rattle.std.proofs.Common.{subst, ◌≡◌, refl, sym, ap, ◌∙◌, arith, ℕ, Bool, true, false, List, [], map, None}
+use Rattle.std.proofs.Common.{subst, ◌≡◌, refl, sym, ap, inr, ◌∙◌, ◌-◌, arith, ℕ, Bool, true, false, List, [], map, None}
 use Rattle.std.specs.Prelude.{Result, Ok, Err, OnErr, not, replicate, slice_index_or}
 use Rattle.satl_base.specs.declared.block.Block.{Block}
 use Rattle.satl_base.specs.declared.modes.Modes.{Modes}
@@ -9,13 +9,18 @@ use Rattle.satl_identify.specs.declared.identity.Identity.{Identity}
 use Rattle.satl_identify.specs.declared.identity.IdentityFault.{IdentityFault}
 use Rattle.satl_identify.specs.Data.{identity_data}
 use Rattle.satl_identify.specs.Refusals.{identity_of, rules}
-use Rattle.satl_identify.proofs.Judging.{Unbroken, unbroken}
+use Rattle.satl_identify.proofs.Judging.{Unbroken, capacity_bounds, unbroken}
 use Rattle.satl_unit.specs.declared.attention.Attention.{Attention}
-use Rattle.satl_line.specs.Tasks.{Held}
 use Rattle.satl_drive.specs.State.{DriveState, IsFit}
 use Rattle.satl_barrier.specs.Leaving.{TellsOf}
 use Rattle.satl_barrier.proofs.ToldLemmas.{all_bytes, own_data, right_sum}
-use Rattle.satl_core.specs.Layer.{Tied}
+use Rattle.satl_pages.specs.Counts.{Counts}
+use Rattle.satl_drive.specs.Queue.{Slots}
+use Rattle.satl_flight.specs.Queueing.{Waiting, empty}
+use Rattle.satl_flight.specs.Settled.{IsFilled}
+use Rattle.satl_core.specs.Layer.{Agrees, held_pages}
+use Rattle.satl_core.proofs.AgreeingLemmas.{idle_in_flight}
+use Rattle.satl_core.proofs.TieLemmas.{layer_of}
 use Rattle.satl_barrier.specs.Commands.{IsTold}
 use Rattle.satl_core.specs.Opening.{IsOpened}
 
@@ -49,14 +54,13 @@ own old new stays fit right =
     ∙ (ap (λ b. identity_data old.identify b (look_is_on old.identify)) (fit.cache_told ∙ sym (ap (λ (d : DriveState). d.cache) stays))
     ∙ ap (λ b. identity_data old.identify new.cache b) (fit.look_told ∙ sym (ap (λ (d : DriveState). d.look) stays))))
 
-tied : (old new : DriveState) (given taken : List Block) (i : Identity) (modes : Modes) (free : ℕ) → old.outstanding ≡ [] → old.error ≡ None → IsTold old given taken new → IsFit old → IsFit new → identity_of old.identify ≡ Ok i → modes.wce ≡ i.cache_on → modes.dra ≡ not i.look_on
-    → Tied (record { identity = i; modes = modes; started = true; down = false; attentions = replicate 4 []; tasks = []; free = free; out = 0 }) new
-tied old new given taken i modes free idle no_error told fit fit' judged wce dra =
+agrees : (old new : DriveState) (given taken : List Block) (i : Identity) (modes : Modes) (slots : Slots) (free : ℕ) → old.outstanding ≡ [] → old.error ≡ None → IsTold old given taken new → IsFit old → IsFit new → identity_of old.identify ≡ Ok i → modes.wce ≡ i.cache_on → modes.dra ≡ not i.look_on
+    → Agrees (record { identity = i; modes = modes; started = true; down = false; attentions = replicate 4 []; tasks = []; flying = []; slots = slots; free = free; out = 0 }) new
+agrees old new given taken i modes slots free idle no_error told fit fit' judged wce dra =
     let say = (unbroken old.identify i judged).1 in
     record {
       mark = sym told.was_up ∙ sym (ap (λ (d : DriveState). d.down) told.stays);
-      idle = ap (λ (d : DriveState). d.outstanding) told.stays ∙ idle;
-      no_error = ap (λ (d : DriveState). d.error) told.stays ∙ no_error;
+      queue = idle_in_flight [] new (ap (λ (d : DriveState). d.outstanding) told.stays ∙ idle) (ap (λ (d : DriveState). d.error) told.stays ∙ no_error) tt (omega (arith, (capacity_bounds i (subst (λ b. identity_of b ≡ Ok i) (ap (λ (j : Identity). j.bytes) say) judged)).1, ap (λ (d : DriveState). d.capacity) told.stays, fit.told, ap (λ (j : Identity). j.capacity) say));
       fit = fit';
       cache = λ up. ap (λ (d : DriveState). d.cache) told.stays ∙ (sym fit.cache_told ∙ (ap (λ (j : Identity). j.cache_on) say ∙ sym wce));
       look = λ up. ap (λ (d : DriveState). d.look) told.stays ∙ (sym fit.look_told ∙ (ap (λ (j : Identity). j.look_on) say ∙ (sym (twice i.look_on) ∙ ap not (sym dra))));
@@ -78,11 +82,12 @@ tied old new given taken i modes free idle no_error told fit fit' judged wce dra
       };
     }
 
-pub opened : (old new : DriveState) (given taken : List Block) (i : Identity) (modes : Modes) (tasks : List Held) (attentions : List (List Attention)) (free out : ℕ) → old.outstanding ≡ [] → old.error ≡ None → IsTold old given taken new → IsFit old → IsFit new → identity_of old.identify ≡ Ok i
-    → modes.wce ≡ i.cache_on → modes.dra ≡ not i.look_on → modes.d_sense ≡ false → tasks ≡ [] → attentions ≡ replicate 4 [] → out ≡ 0 → IsOpened old (record { identity = i; modes = modes; started = true; down = false; attentions = attentions; tasks = tasks; free = free; out = out }) new
-opened old new given taken i modes tasks attentions free out idle no_error told fit fit' judged wce dra d_sense none untold in_all = record {
+pub opened : (old new : DriveState) (given taken : List Block) (i : Identity) (modes : Modes) (q : Waiting) (attentions : List (List Attention)) (pool : Counts) → old.outstanding ≡ [] → old.error ≡ None → IsTold old given taken new → IsFit old → IsFit new → identity_of old.identify ≡ Ok i
+    → modes.wce ≡ i.cache_on → modes.dra ≡ not i.look_on → modes.d_sense ≡ false → q ≡ empty → attentions ≡ replicate 4 [] → pool.out - held_pages q.tasks ≡ 0 → IsOpened old (layer_of i modes true false attentions q pool) new
+opened old new given taken i modes q attentions pool idle no_error told fit fit' judged wce dra d_sense none untold in_all = record {
   identity = judged;
-  tasks = none;
+  tasks = ap (λ (w : Waiting). w.tasks) none;
+  idle = ap (λ (w : Waiting). w.flying) none;
   wce = wce;
   dra = dra;
   d_sense = d_sense;
@@ -90,7 +95,13 @@ opened old new given taken i modes tasks attentions free out idle no_error told 
   up = refl;
   attentions = untold;
   out = in_all;
-  tied = rw (none, untold, in_all) (tied old new given taken i modes free idle no_error told fit fit' judged wce dra);
+  tied = record {
+    agrees = subst (λ n. Agrees (record (layer_of i modes true false attentions q pool) { out = n }) new) (sym in_all)
+        (subst (λ (w : Waiting). Agrees (record { identity = i; modes = modes; started = true; down = false; attentions = attentions; tasks = w.tasks; flying = w.flying; slots = w.slots; free = pool.free; out = 0 }) new) (sym none)
+        (subst (λ lists. Agrees (record { identity = i; modes = modes; started = true; down = false; attentions = lists; tasks = []; flying = []; slots = empty.slots; free = pool.free; out = 0 }) new) (sym untold)
+        (agrees old new given taken i modes empty.slots pool.free idle no_error told fit fit' judged wce dra)));
+    used = subst (λ (w : Waiting). IsFilled w.flying w.tasks) (sym none) (inr (λ h task eligible ranged. absurd eligible));
+  };
   lost = told.lost;
   stays = told.stays;
 }

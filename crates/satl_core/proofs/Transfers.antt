@@ -1,31 +1,10 @@
--- The commands that make tasks, and READ and WRITE, which transfer.
+-- The commands that make tasks.
 use Rattle.std.proofs.Common.{◌≡◌, ◌⊎◌, inl, inr, arith, ℕ, ◌*◌, ◌<◌, ◌≤◌, Bool}
 use Rattle.satl_cdb.specs.declared.command.Form.{Form}
 use Rattle.satl_cdb.specs.declared.command.Command.{Command}
 use Rattle.satl_cdb.specs.declared.command.Command.TheVariants as cdbs
 use Rattle.satl_direct.specs.Tasks.{held_blocks, needed}
-use Rattle.satl_core.specs.Layer.{IsTask, IsTransfer, IsWithin}
-
--- what holds of each READ and each WRITE holds of a transfer
-pub of_transfer : (P : Command → Type 0) (capacity n : ℕ) (command : Command)
-    → ((form : Form) (lba count : ℕ) (fua : Bool) → IsTransfer capacity (cdbs.Read form lba count fua) n → P (cdbs.Read form lba count fua))
-    → ((form : Form) (lba count : ℕ) (fua : Bool) → IsTransfer capacity (cdbs.Write form lba count fua) n → P (cdbs.Write form lba count fua)) → IsTransfer capacity command n → P command
-of_transfer P capacity n (cdbs.Read form lba count fua) read write t = read form lba count fua t
-of_transfer P capacity n (cdbs.Write form lba count fua) read write t = write form lba count fua t
-of_transfer P capacity n cdbs.TestUnitReady read write t = absurd t
-of_transfer P capacity n (cdbs.RequestSense a b) read write t = absurd t
-of_transfer P capacity n (cdbs.Inquiry a b) read write t = absurd t
-of_transfer P capacity n (cdbs.ModeSense a b e f g h) read write t = absurd t
-of_transfer P capacity n (cdbs.ModeSelect a b) read write t = absurd t
-of_transfer P capacity n (cdbs.StartStop a b) read write t = absurd t
-of_transfer P capacity n cdbs.ReadCapacity10 read write t = absurd t
-of_transfer P capacity n (cdbs.ReadCapacity16 a) read write t = absurd t
-of_transfer P capacity n (cdbs.ReportLuns a b) read write t = absurd t
-of_transfer P capacity n (cdbs.Verify a b e f) read write t = absurd t
-of_transfer P capacity n (cdbs.Flush a b e) read write t = absurd t
-of_transfer P capacity n (cdbs.WriteSame a b e f) read write t = absurd t
-of_transfer P capacity n (cdbs.Unmap a) read write t = absurd t
-of_transfer P capacity n (cdbs.Pass a) read write t = absurd t
+use Rattle.satl_core.specs.Layer.{IsTask, IsWithin}
 
 -- what holds of each READ, each WRITE, each SYNCHRONIZE CACHE, each START STOP UNIT and each MODE SELECT holds of a command that makes a
 -- task

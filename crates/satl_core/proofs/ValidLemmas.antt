@@ -17,15 +17,20 @@ use Rattle.satl_unit.specs.Conditions.{IsInReportOrder, report_order}
 use Rattle.satl_frame.specs.DataPages.{page_count}
 use Rattle.satl_line.specs.declared.entry.Entry.{Entry}
 use Rattle.satl_line.specs.Tasks.{Held, entries_of, is_too_much}
-use Rattle.satl_drive.specs.State.{DriveState, IsFit}
+use Rattle.satl_drive.specs.State.{DriveState}
 use Rattle.satl_direct.specs.Arrival.{waits}
 use Rattle.satl_direct.specs.Device.{Device, is_called, is_of, once_told}
 use Rattle.satl_direct.specs.Tasks.{held_blocks, held_by, is_full, task_for, task_of}
 use Rattle.satl_direct.specs.Valid.{AreOwn, HasCome, IsValid}
-use Rattle.satl_core.specs.Layer.{IsExpectable, IsTask, Layer, Tied, view}
+use Rattle.satl_flight.specs.Flown.{FitsDrive, IsInFlight}
+use Rattle.satl_flight.specs.Settled.{IsFilled}
+use Rattle.satl_flight.proofs.ComingLemmas.{tie_come}
+use Rattle.satl_core.specs.Refilling.{Comes}
+use Rattle.satl_core.specs.Layer.{Agrees, IsExpectable, IsTask, IsUsed, Layer, Tied, view, works}
+use Rattle.satl_core.proofs.AgreeingLemmas.{agrees_by, capacity_is, idle_in_flight}
 use Rattle.satl_core.specs.Leaving.{left_by}
 use Rattle.satl_core.specs.Submitting.{is_for_unit, Becomes, IsAdded, IsRefused, attention_of, code_answer, judged, once_judged, overlaps, task_without_pages, untold}
-use Rattle.satl_barrier.specs.Leaving.{Stays, TellsOf}
+use Rattle.satl_barrier.specs.Leaving.{Stays}
 use Rattle.satl_core.proofs.TieLemmas.{bytes_long}
 use Rattle.satl_core.proofs.ArrivalLemmas.{by_ok, code_waits, full_is, full_or_waits}
 use Rattle.satl_core.specs.declared.managing.Posting.{Posting}
@@ -249,32 +254,52 @@ filled_up_cut r = ap (λ b. record r { body = b }) (sym (take-append_seam r.body
 
 -- ---- the tie
 
--- there are as many sectors after a run as before it
-sectors_still : (d d' : DriveState) (capacity : ℕ) → IsFit d' → IsFit d → Stays d d' → length d.cells ≡ capacity → length d'.cells ≡ capacity
-sectors_still d d' capacity fit' fit stays sectors = fit'.sectors ∙ (stays.capacity ∙ (sym fit.sectors ∙ sectors))
-
--- another layer is tied as this one is, where its mark, its modes and its identity are the same and its device is valid
-pub tied_by : (l new : Layer) (d : DriveState) → new.down ≡ l.down → new.modes ≡ l.modes → new.identity ≡ l.identity → IsValid (view new d) → Tied l d → Tied new d
-tied_by l new d mark modes same valid tied = record {
-  mark = mark ∙ tied.mark;
-  idle = tied.idle;
-  no_error = tied.no_error;
-  fit = tied.fit;
-  cache = λ up. tied.cache (sym mark ∙ up) ∙ sym (ap (λ (m : Modes). m.wce) modes);
-  look = λ up. tied.look (sym mark ∙ up) ∙ sym (ap (λ (m : Modes). not m.dra) modes);
-  told = subst (λ (i : Identity). TellsOf i.bytes d) (sym same) tied.told;
-  valid = valid;
+-- other conditions leave the layer tied, where its device is valid
+pub tied_told : (l new : Layer) (d : DriveState) → new ≡ record l { attentions = new.attentions; free = new.free; out = new.out } → IsValid (view new d) → Tied l d → Tied new d
+tied_told l new d same valid tied = record {
+  agrees = agrees_by l new d d (ap (λ (x : Layer). x.down) same) (ap (λ (x : Layer). x.modes) same) (ap (λ (x : Layer). x.identity) same) (record { down = refl; cache = refl; look = refl; identify = refl })
+      (subst (λ fs. IsInFlight fs new.tasks d) (sym (ap (λ (x : Layer). x.flying) same)) (subst (λ ts. IsInFlight l.flying ts d) (sym (ap (λ (x : Layer). x.tasks) same)) tied.agrees.queue)) tied.agrees.fit valid tied.agrees;
+  used = subst IsUsed (sym same) tied.used;
 }
 
--- what becomes of a request leaves the layer tied
-pub becomes_tied : (l new : Layer) (d : DriveState) (r : Request) (c : Command) (replies : List Reply) → judged l r ≡ Ok c → Becomes r c l replies new → r.data_len ≤ 512 * length r.body → IsExpectable r.expected → Tied l d → Tied new d
-becomes_tied l new d r c replies e b pages expected tied = tied_by l new d (ap (λ (x : Layer). x.down) same) (ap (λ (x : Layer). x.modes) same) (ap (λ (x : Layer). x.identity) same) (becomes_valid l new d r c replies e b pages expected tied.valid) tied
-  where
-    same : new ≡ record l { tasks = new.tasks; free = new.free; out = new.out }
-    same = (elim (is_too_much l.tasks (task_without_pages r c l.identity.queued_trim)) as (λ f. MatchBool f (IsRefused r l replies new) (IsAdded r c l replies new) → new ≡ record l { tasks = new.tasks; free = new.free; out = new.out }) [
-      | true ↦ λ a. a.stays ∙ ap (λ (x : Layer). record l { tasks = x.tasks; free = new.free; out = x.out }) (sym a.stays)
-      | false ↦ λ a. a.stays ∙ ap (λ (x : Layer). record l { tasks = new.tasks; free = new.free; out = x.out }) (sym a.stays)
-    ]) b
+-- what becomes of a request leaves the layer and its drive in agreement
+module _ (l new : Layer) (d : DriveState) (r : Request) (c : Command) (replies : List Reply) (b : Becomes r c l replies new) where
+  becomes_same : new ≡ record l { tasks = new.tasks; free = new.free; out = new.out }
+  becomes_same = (elim (is_too_much l.tasks (task_without_pages r c l.identity.queued_trim)) as (λ f. MatchBool f (IsRefused r l replies new) (IsAdded r c l replies new) → new ≡ record l { tasks = new.tasks; free = new.free; out = new.out }) [
+    | true ↦ λ a. a.stays ∙ ap (λ (x : Layer). record l { tasks = x.tasks; free = new.free; out = x.out }) (sym a.stays)
+    | false ↦ λ a. a.stays ∙ ap (λ (x : Layer). record l { tasks = new.tasks; free = new.free; out = x.out }) (sym a.stays)
+  ]) b
+
+  -- a full set stays as it is
+  full_same : (replies ≡ [] → ⊥) → new ≡ record l { free = new.free; out = new.out }
+  full_same some = (elim (is_too_much l.tasks (task_without_pages r c l.identity.queued_trim)) as (λ f. MatchBool f (IsRefused r l replies new) (IsAdded r c l replies new) → new ≡ record l { free = new.free; out = new.out }) [
+    | true ↦ λ a. a.stays ∙ ap (λ (x : Layer). record l { free = new.free; out = x.out }) (sym a.stays)
+    | false ↦ λ a. absurd (some a.none)
+  ]) b
+
+  pub full_tied : (replies ≡ [] → ⊥) → Tied l d → Tied new d
+  full_tied some tied =
+      let same = full_same some in
+      tied_told l new d (same ∙ ap (λ lists. record l { attentions = lists; free = new.free; out = new.out }) (sym (ap (λ (x : Layer). x.attentions) same))) (subst IsValid (sym (ap (λ x. view x d) same)) tied.agrees.valid) tied
+
+  module _ (added : replies ≡ []) (comes : replies ≡ [] → Comes l.identity.capacity l.tasks new.tasks) (tied : Tied l d) where
+    come : Comes l.identity.capacity l.tasks new.tasks
+    come = comes added
+
+    pub came_agrees : judged l r ≡ Ok c → r.data_len ≤ 512 * length r.body → IsExpectable r.expected → Agrees new d
+    came_agrees e pages expected =
+        agrees_by l new d d (ap (λ (x : Layer). x.down) becomes_same) (ap (λ (x : Layer). x.modes) becomes_same) (ap (λ (x : Layer). x.identity) becomes_same) (record { down = refl; cache = refl; look = refl; identify = refl })
+        (subst (λ fs. IsInFlight fs new.tasks d) (sym (ap (λ (x : Layer). x.flying) becomes_same)) (subst (λ ts. IsInFlight l.flying ts d) (sym come.last)
+        (tie_come l.flying l.tasks come.held d (subst (λ n. FitsDrive n come.held) (sym (capacity_is l d tied.agrees)) come.fits) tied.agrees.queue)))
+        tied.agrees.fit (becomes_valid l new d r c replies e b pages expected tied.agrees.valid) tied.agrees
+
+    -- the others are covered
+    pub came_last : (before : List Held) × Comes d.capacity before new.tasks × MatchBool (works new) (IsFilled new.flying before) (new.flying ≡ [])
+    came_last = (
+      l.tasks,
+      record { held = come.held; last = come.last; fits = subst (λ n. FitsDrive n come.held) (sym (capacity_is l d tied.agrees)) come.fits },
+      subst (λ (x : Layer). MatchBool (works x) (IsFilled x.flying l.tasks) (x.flying ≡ [])) (sym becomes_same) tied.used,
+    )
 
 -- mode values that a task wants are such that the drive can have them
 wanted_valid : (identity : Identity) (modes : Modes) (change : Option ModeChange) → AreModesOf identity modes → IfSome change (IsChangeOf identity) → AreModesOf identity (wanted_by modes change)
@@ -296,58 +321,30 @@ after_valid identity n command ending modes wanted t old new =
     by endings.Good = new
     by (endings.Check sense) = old
 
--- the first task is gone, and the link is as it was
-pub still_tied_rest : (identity : Identity) (modes wanted modes' : Modes) (started started' down : Bool) (posting : Option Posting) (attentions attentions' : List (List Attention)) (tasks rest : List Held) (entry : Entry) (ending : Ending) (free out free' out' : ℕ) (d d' : DriveState) → IsFirst tasks entry rest → IsKeptEntry identity entry → wanted ≡ wanted_by modes entry.modes
-    → modes' ≡ modes_after entry.command ending modes wanted → attentions' ≡ once_posted posting rest attentions → d'.down ≡ down → (down ≡ false → d'.cache ≡ (modes_after entry.command ending modes wanted).wce) → (down ≡ false → d'.look ≡ not (modes_after entry.command ending modes wanted).dra) → Stays d d'
-    → Tied (record { identity = identity; modes = modes; started = started; down = down; attentions = attentions; tasks = tasks; free = free; out = out }) d
-    → Tied (record { identity = identity; modes = modes'; started = started'; down = down; attentions = attentions'; tasks = rest; free = free'; out = out' }) d'
-still_tied_rest identity modes wanted modes' started started' down posting attentions attentions' tasks rest entry ending free out free' out' d d' first kept wants changed told mark cache look stays tied =
-    let v = subst (λ ts. IsValid (seen identity modes started attentions ts d)) (first_tasks tasks rest entry first) tied.valid in
-    record {
+-- the first task is gone, with nothing outstanding, and the link is as it was
+pub agrees_rest : (l new : Layer) (wanted : Modes) (posting : Option Posting) (rest : List Held) (entry : Entry) (ending : Ending) (d d' : DriveState) → IsFirst l.tasks entry rest → IsKeptEntry l.identity entry → wanted ≡ wanted_by l.modes entry.modes
+    → new.modes ≡ modes_after entry.command ending l.modes wanted → new.attentions ≡ once_posted posting rest l.attentions → d'.down ≡ l.down → (l.down ≡ false → d'.cache ≡ (modes_after entry.command ending l.modes wanted).wce) → (l.down ≡ false → d'.look ≡ not (modes_after entry.command ending l.modes wanted).dra) → Stays d d'
+    → new ≡ record l { modes = new.modes; started = new.started; attentions = new.attentions; tasks = rest; flying = []; slots = new.slots; free = new.free; out = new.out } → Agrees l d → Agrees new d'
+agrees_rest l new wanted posting rest entry ending d d' first kept wants changed told mark cache look stays same agrees =
+    let v = subst (λ ts. IsValid (seen l.identity l.modes l.started l.attentions ts d)) (first_tasks l.tasks rest entry first) agrees.valid in
+    let fits : FitsDrive d.capacity first.held × AllByRecursion (FitsDrive d.capacity) rest = subst (λ ts. AllByRecursion (FitsDrive d.capacity) ts) first.are agrees.queue.fits in
+    subst (λ x. Agrees x d') (sym same) (record {
       mark = sym mark;
-      idle = stays.free.idle;
-      no_error = stays.free.no_error;
+      queue = idle_in_flight rest d' stays.free.idle stays.free.no_error (subst (λ n. AllByRecursion (FitsDrive n) rest) (sym stays.capacity) fits.1) (omega (arith, stays.capacity, agrees.queue.small));
       fit = stays.free.fit;
       cache = λ up. cache up ∙ sym (ap (λ (m : Modes). m.wce) changed);
       look = λ up. look up ∙ sym (ap (λ (m : Modes). not m.dra) changed);
-      told = stays.tells identity.bytes (bytes_long _ d tied) tied.told;
+      told = stays.tells l.identity.bytes (bytes_long l d agrees) agrees.told;
       valid = record {
         identity = v.identity;
-        cells = sectors_still d d' identity.capacity stays.free.fit tied.fit stays v.cells;
+        cells = stays.free.fit.sectors ∙ (stays.capacity ∙ (sym agrees.fit.sectors ∙ v.cells));
         sound = stays.sound;
         few = omega (arith, v.few);
         blocks = omega (arith, v.blocks);
         own = v.own.1;
         come = v.come.1;
-        modes = subst (AreModesOf identity) (sym changed) (after_valid identity entry.blocks entry.command ending modes wanted kept.task v.modes (subst (AreModesOf identity) (sym wants) (wanted_valid identity modes entry.modes v.modes kept.change)));
-        nexuses = ap length told ∙ (once_length posting rest attentions ∙ v.nexuses);
-        attentions = subst (AllByRecursion IsInReportOrder) (sym told) (once_kept posting rest attentions v.attentions);
-      };
-    }
-
--- the link is lost, and no task is left
-pub still_tied_none : (identity : Identity) (modes : Modes) (started down : Bool) (attentions : List (List Attention)) (tasks none : List Held) (free out free' out' : ℕ) (d d' : DriveState) → none ≡ [] → d'.down ≡ true → Stays d d'
-    → Tied (record { identity = identity; modes = modes; started = started; down = down; attentions = attentions; tasks = tasks; free = free; out = out }) d
-    → Tied (record { identity = identity; modes = modes; started = started; down = true; attentions = attentions; tasks = none; free = free'; out = out' }) d'
-still_tied_none identity modes started down attentions tasks none free out free' out' d d' left lost stays tied =
-    subst (λ (ts : List Held). Tied (record { identity = identity; modes = modes; started = started; down = true; attentions = attentions; tasks = ts; free = free'; out = out' }) d') (sym left) (record {
-      mark = sym lost;
-      idle = stays.free.idle;
-      no_error = stays.free.no_error;
-      fit = stays.free.fit;
-      cache = λ up. absurd cc;
-      look = λ up. absurd cc;
-      told = stays.tells identity.bytes (bytes_long _ d tied) tied.told;
-      valid = record {
-        identity = tied.valid.identity;
-        cells = sectors_still d d' identity.capacity stays.free.fit tied.fit stays tied.valid.cells;
-        sound = stays.sound;
-        few = omega arith;
-        blocks = omega arith;
-        own = tt;
-        come = tt;
-        modes = tied.valid.modes;
-        nexuses = tied.valid.nexuses;
-        attentions = tied.valid.attentions;
+        modes = subst (AreModesOf l.identity) (sym changed) (after_valid l.identity entry.blocks entry.command ending l.modes wanted kept.task v.modes (subst (AreModesOf l.identity) (sym wants) (wanted_valid l.identity l.modes entry.modes v.modes kept.change)));
+        nexuses = ap length told ∙ (once_length posting rest l.attentions ∙ v.nexuses);
+        attentions = subst (AllByRecursion IsInReportOrder) (sym told) (once_kept posting rest l.attentions v.attentions);
       };
     })

@@ -29,12 +29,12 @@ pub record StaysSame (old : Layer) (replies : List Reply) (new : Layer) : Type 0
 -- each nexus is to be told that the power was on (SAM-5 6.3; profile)
 pub record StartsAnew (old : Layer) (replies : List Reply) (new : Layer) : Type 0 where
   pub none : replies ≡ []
-  pub stays : new ≡ record old { modes = defaults old.identity; started = true; down = false; attentions = replicate 4 (PowerOn ∷ []); tasks = []; free = new.free; out = new.out }
+  pub stays : new ≡ record old { modes = defaults old.identity; started = true; down = false; attentions = replicate 4 (PowerOn ∷ []); tasks = []; flying = []; slots = new.slots; free = new.free; out = new.out }
 
 -- the link is lost: all tasks are answered so, and none is left (profile)
 pub record LosesLink (old : Layer) (replies : List Reply) (new : Layer) : Type 0 where
   pub answer : replies ≡ lost_replies old.modes.d_sense old.tasks
-  pub stays : new ≡ record old { down = true; tasks = []; free = new.free; out = new.out }
+  pub stays : new ≡ record old { down = true; tasks = []; flying = []; slots = new.slots; free = new.free; out = new.out }
 
 -- what follows from an event for the layer, and what it answers (profile)
 abbrev pub Follows : BenchEvent → Layer → List Reply → Layer → Type 0

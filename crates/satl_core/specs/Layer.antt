@@ -1,5 +1,5 @@
 -- What the layer holds, and the direct device that it and its drive are.
-use Rattle.std.specs.Prelude.{◌≡◌, ℕ, ◌+◌, ◌≤◌, ◌<◌, ◌^◌, Bool, false, not, List, [], ◌∷◌, map, length, Option, None, IfSome}
+use Rattle.std.specs.Prelude.{◌≡◌, ℕ, ◌+◌, ◌≤◌, ◌<◌, ◌^◌, ◌&&◌, Bool, false, not, List, [], ◌∷◌, map, length, Option, IfSome, MatchBool}
 use Rattle.std.specs.List.{AllByRecursion}
 use Rattle.satl_base.specs.declared.modes.Modes.{Modes}
 use Rattle.satl_base.specs.declared.reply.Reply.{Reply}
@@ -13,6 +13,10 @@ use Rattle.satl_line.specs.Kinds.{kind_of}
 use Rattle.satl_line.specs.Tasks.{Held, entries_of}
 use Rattle.satl_pages.specs.Counts.{Counts, number_of}
 use Rattle.satl_drive.specs.State.{DriveState, IsFit}
+use Rattle.satl_drive.specs.Queue.{Slots}
+use Rattle.satl_flight.specs.declared.flight.Flying.{Flying}
+use Rattle.satl_flight.specs.Flown.{IsInFlight}
+use Rattle.satl_flight.specs.Settled.{IsFilled}
 use Rattle.satl_unit.specs.declared.attention.Attention.{Attention}
 use Rattle.satl_barrier.specs.Leaving.{TellsOf}
 use Rattle.satl_direct.specs.Device.{Device}
@@ -20,8 +24,8 @@ use Rattle.satl_direct.specs.Tasks.{task_of}
 use Rattle.satl_direct.specs.Valid.{IsValid}
 
 -- the layer: what its drive says of itself, the mode values, whether the unit is started, its mark of a lost link, the unit attention
--- conditions of each nexus from nexus 0 on, its tasks in their slots, and how many pages are free and out (a task's pages are neither)
--- (SAM-5 5.14; the rest: profile)
+-- conditions of each nexus from nexus 0 on; its tasks with their pages, those that are outstanding on the drive in order of issue, and
+-- the slots of the tags; and how many pages are free and out (a task's pages are neither) (SAM-5 5.14; the rest: profile)
 pub record Layer : Type 0 where
   pub identity : Identity
   pub modes : Modes
@@ -29,6 +33,8 @@ pub record Layer : Type 0 where
   pub down : Bool
   pub attentions : List (List Attention)
   pub tasks : List Held
+  pub flying : List Flying
+  pub slots : Slots
   pub free : ℕ
   pub out : ℕ
 
@@ -60,25 +66,6 @@ IsServed (Pass cdb) = ⊥
 -- 1 to 4,096 blocks within the capacity and the 48 bits of an address, and pages for each (profile)
 abbrev pub IsWithin : ℕ → ℕ → ℕ → ℕ → Type 0
 IsWithin capacity lba count blocks = (blocks ≡ count) × (lba < 2 ^ 48) × (1 ≤ count) × (count ≤ most_moved) × (lba + count ≤ capacity)
-
--- a READ or a WRITE of so many blocks (profile)
-abbrev pub IsTransfer : ℕ → Command → ℕ → Type 0
-IsTransfer capacity TestUnitReady blocks = ⊥
-IsTransfer capacity (RequestSense descriptor alloc) blocks = ⊥
-IsTransfer capacity (Inquiry page alloc) blocks = ⊥
-IsTransfer capacity (ModeSense ten long_lba no_descriptor control page alloc) blocks = ⊥
-IsTransfer capacity (ModeSelect ten size) blocks = ⊥
-IsTransfer capacity (StartStop start no_flush) blocks = ⊥
-IsTransfer capacity ReadCapacity10 blocks = ⊥
-IsTransfer capacity (ReadCapacity16 alloc) blocks = ⊥
-IsTransfer capacity (ReportLuns select alloc) blocks = ⊥
-IsTransfer capacity (Read form lba count fua) blocks = IsWithin capacity lba count blocks
-IsTransfer capacity (Write form lba count fua) blocks = IsWithin capacity lba count blocks
-IsTransfer capacity (Verify form lba count compare) blocks = ⊥
-IsTransfer capacity (Flush form lba count) blocks = ⊥
-IsTransfer capacity (WriteSame form lba count unmap) blocks = ⊥
-IsTransfer capacity (Unmap size) blocks = ⊥
-IsTransfer capacity (Pass cdb) blocks = ⊥
 
 -- a command that makes a task, which holds so many blocks: a READ or a WRITE of its blocks, and MODE SELECT, SYNCHRONIZE CACHE and START
 -- STOP UNIT of none (profile)
@@ -127,18 +114,31 @@ view l d = record {
   identity = l.identity;
 }
 
--- the layer's record of its drive is right: together they are a valid device; nothing is outstanding and no queued command has failed;
--- the drive fits its data; as long as the link is up the cache is on where WCE is, and look-ahead where DRA is not; the drive's data are
--- those of the identity with the drive's settings in them; and the mark of a lost link is set where the link is lost (profile)
-pub record Tied (l : Layer) (d : DriveState) : Type 0 where
+-- the layer's record of its drive is right: together they are a valid device; what was given to the drive is outstanding there, and no
+-- queued command has failed; the drive fits its data; as long as the link is up the cache is on where WCE is, and look-ahead where DRA is
+-- not; the drive's data are those of the identity with the drive's settings in them; and the mark of a lost link is set where the link is
+-- lost (profile)
+pub record Agrees (l : Layer) (d : DriveState) : Type 0 where
   pub mark : l.down ≡ d.down
-  pub idle : d.outstanding ≡ []
-  pub no_error : d.error ≡ None
+  pub queue : IsInFlight l.flying l.tasks d
   pub fit : IsFit d
   pub cache : l.down ≡ false → d.cache ≡ l.modes.wce
   pub look : l.down ≡ false → d.look ≡ not l.modes.dra
   pub told : TellsOf l.identity.bytes d
   pub valid : IsValid (view l d)
+
+-- a unit that is up and started gives tasks to its drive (SBC-3, START STOP UNIT; profile)
+abbrev pub works : Layer → Bool
+works l = not l.down && l.started
+
+-- the queue is used: while the unit is up and started, 32 tasks are outstanding or each eligible ranged task is, and else none (profile)
+abbrev pub IsUsed : Layer → Type 0
+IsUsed l = MatchBool (works l) (IsFilled l.flying l.tasks) (l.flying ≡ [])
+
+-- the layer and its drive agree, and the queue is used (profile)
+pub record Tied (l : Layer) (d : DriveState) : Type 0 where
+  pub agrees : Agrees l d
+  pub used : IsUsed l
 
 -- the pages in replies (profile)
 abbrev pub reply_pages : List Reply → ℕ

@@ -4,6 +4,7 @@ pub mod Layer
 pub mod Leaving
 pub mod Managing
 pub mod Opening
+pub mod Refilling
 pub mod Submitting
 pub mod Telling
 pub mod Tie

@@ -14,6 +14,7 @@ use Rattle.satl_core.specs.Layer.{Layer, Tied}
 pub record IsOpened (old : DriveState) (l : Layer) (new : DriveState) : Type 0 where
   pub identity : identity_of old.identify ≡ Ok l.identity
   pub tasks : l.tasks ≡ []
+  pub idle : l.flying ≡ []
   pub wce : l.modes.wce ≡ l.identity.cache_on
   pub dra : l.modes.dra ≡ not l.identity.look_on
   pub d_sense : l.modes.d_sense ≡ false

@@ -26,6 +26,7 @@ use Rattle.satl_core.specs.declared.telling.Data.TheVariants as datas
 use Rattle.satl_core.specs.Telling.{data_text}
 use Rattle.satl_core.specs.Layer.{IsExpectable, Layer}
 use Rattle.satl_core.specs.Leaving.{left_by}
+use Rattle.satl_core.specs.Turning.{off_calls}
 
 -- the pages out are the request's, which hold all of its data-out, or no page was free for more (profile)
 pub record CanSubmit (r : Request) (free out : ℕ) : Type 0 where
@@ -110,6 +111,19 @@ HasLengths cdb = (slice_index cdb 4 < 256) × (slice_index cdb 7 < 256) × (slic
 abbrev pub overlaps : List Held → Request → Bool
 overlaps tasks r = is_some (position_from (is_named r.nexus r.tag) 0 tasks)
 
+-- to logical unit 0, or REPORT LUNS to any (SPC-4 6.33)
+abbrev pub is_for_unit : Request → Bool
+is_for_unit r = is_unit_0 r.lun || asks_for 0xA0 r
+
+-- whether it is for logical unit 0 and has the nexus and tag of a task (SAM-5 5.1, overlapped commands)
+abbrev pub is_overlapping : List Held → Request → Bool
+is_overlapping tasks r = is_for_unit r && overlaps tasks r
+
+-- the most calls of a drive that a request takes as it arrives: one, in which its task is issued, or those of taking tasks off where it
+-- overlaps one (profile)
+abbrev pub arrival_calls : List Held → Request → ℕ
+arrival_calls tasks r = if is_overlapping tasks r then off_calls else 1
+
 -- the unit attention condition that a request is answered with; REQUEST SENSE tells it as data (SAM-5 5.14, SPC-4 6.39)
 abbrev pub attention_of : List (List Attention) → Request → Option Attention
 attention_of attentions r =
@@ -133,10 +147,6 @@ untold (Some what) nexus attentions = slice_set attentions nexus (drop 1 (slice_
 abbrev pub attention_answer : Option Attention → List ℕ → Result Command AtOnce → Result Command AtOnce
 attention_answer (Some what) cdb next = Err (tell_attention what cdb)
 attention_answer None cdb next = next
-
--- to logical unit 0, or REPORT LUNS to any (SPC-4 6.33)
-abbrev pub is_for_unit : Request → Bool
-is_for_unit r = is_unit_0 r.lun || asks_for 0xA0 r
 
 -- the answer of a LUN at which there is no logical unit (SPC-4 6.6, 6.39; SAM-5 5.3; profile)
 abbrev pub other_answer : Request → AtOnce

@@ -1,18 +1,20 @@
 -- The tie of the layer and its drive where commands are queued: what the layer has given to its drive and what it knows of it (ACS-3,
--- native command queuing; profile). No code stands on it yet.
-use Rattle.std.specs.Prelude.{◌≡◌, ◌⊎◌, ℕ, ◌<◌, ◌==◌, ◌&&◌, not, Bool, true, false, List, [], ◌∷◌, Some, None, MatchBool, length}
-use Rattle.std.specs.List.{AllByRecursion, AllZip, list_any}
-use Rattle.satl_identify.specs.Data.{identity_data}
-use Rattle.satl_pages.specs.Slots.{pages_at}
+-- native command queuing; profile).
+use Rattle.std.specs.Prelude.{◌≡◌, ◌⊎◌, ℕ, ◌<◌, ◌==◌, ◌&&◌, not, Bool, true, false, List, [], ◌∷◌, Some, MatchBool, length, map, unwrap_or}
+use Rattle.std.specs.Option.{option_map}
+use Rattle.std.specs.List.{AllZip, find, list_any}
 use Rattle.satl_line.specs.declared.entry.Entry.{Entry}
 use Rattle.satl_line.specs.Eligible.{IsEligible}
 use Rattle.satl_line.specs.Kinds.{is_ranged}
+use Rattle.satl_line.specs.Layout.{no_entry}
 use Rattle.satl_line.specs.Ranged.{RangedTask, ranged_of}
-use Rattle.satl_drive.specs.State.{DriveState, IsFit, Outstanding}
-use Rattle.satl_drive.specs.Queue.{HasPages, Slots, is_tagged}
-use Rattle.satl_flight.specs.Flown.{blocks_for, queued_for}
+use Rattle.satl_line.specs.Tasks.{Held}
+use Rattle.satl_drive.specs.State.{DriveState, Outstanding}
+use Rattle.satl_flight.specs.declared.flight.Flying.{Flying}
+use Rattle.satl_flight.specs.Flown.{blocks_for, is_in_slot, queued_for}
+use Rattle.satl_flight.specs.Queueing.{IsSlotted}
 use Rattle.satl_direct.specs.Device.{Device, is_called}
-use Rattle.satl_direct.specs.Valid.{IsValid}
+use Rattle.satl_direct.specs.Tasks.{task_of}
 use Rattle.satl_core.specs.Layer.{Layer, view}
 
 -- a task that was given to the drive, and the tag that it was given (ACS-3, tags)
@@ -48,21 +50,16 @@ pub record IsQueue (s : Device) (given : List Given) (outstanding : List Outstan
   pub apart : AreApart given
   pub used : MatchBool (not s.down && s.started) (IsFilledQueue s given) (given ≡ [])
 
--- the slots of the tags that were given hold the pages of their commands, and no other slot is filled (profile)
-pub record IsSlotted (outstanding : List Outstanding) (slots : Slots) : Type 0 where
-  pub filled : AllByRecursion (HasPages slots) outstanding
-  pub others : (tag : ℕ) → list_any (is_tagged tag) outstanding ≡ false → pages_at slots tag ≡ None
+-- the task that was given under a tag, as the device sees it (profile)
+abbrev pub given_of : List Held → Flying → Given
+given_of tasks f = record { tag = f.tag; task = unwrap_or (option_map (λ (h : Held). task_of h.entry) (find (is_in_slot f.slot) tasks)) no_entry }
 
--- the whole tie: the device is valid, the drive fits its data, and no command has failed; the queue; while the link is up the cache is on
--- where WCE is, and look-ahead where DRA is not; the data are those of the identity with the drive's settings; the slots; and the mark
--- of a lost link is set where the link is lost (profile)
-pub record TiedInQueue (l : Layer) (given : List Given) (slots : Slots) (d : DriveState) : Type 0 where
-  pub valid : IsValid (view l d)
-  pub fit : IsFit d
-  pub no_error : d.error ≡ None
-  pub queue : IsQueue (view l d) given d.outstanding
-  pub cache : l.down ≡ false → d.cache ≡ l.modes.wce
-  pub look : l.down ≡ false → d.look ≡ not l.modes.dra
-  pub told : d.identify ≡ identity_data l.identity.bytes d.cache d.look
-  pub slotted : IsSlotted d.outstanding slots
-  pub mark : l.down ≡ d.down
+-- the tasks that the layer has given to its drive, in order of issue (profile)
+abbrev pub given_by : Layer → List Given
+given_by l = map (given_of l.tasks) l.flying
+
+-- what the tie says of the queue: what was given is outstanding under its tags, as much as can be is given, and the slots hold its pages
+-- (ACS-3, native command queuing; profile)
+pub record TiesQueue (l : Layer) (d : DriveState) : Type 0 where
+  pub queue : IsQueue (view l d) (given_by l) d.outstanding
+  pub slotted : IsSlotted d.outstanding l.slots

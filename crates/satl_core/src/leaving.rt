@@ -1,12 +1,13 @@
 // Tasks that go without an answer.
-ghost use Rattle.std.specs.Prelude.{◌≡◌, ◌≤◌, ◌+◌};
+ghost use Rattle.std.specs.Prelude.{◌≡◌, ◌≢◌, ◌≤◌, ◌+◌, [], true, false};
 ghost use Rattle.std.specs.List.{list_any};
 ghost use Rattle.satl_line.specs.Tasks.{entries_of};
 ghost use Rattle.satl_core.specs.Layer.{held_pages};
-ghost use Rattle.satl_core.specs.Leaving.{is_within, left_by};
+ghost use Rattle.satl_core.specs.Leaving.{AreWaiting, is_within, left_by};
 
 use satl_base::{Nexus, Tag};
-use satl_line::{Entry, TaskSet};
+use satl_flight::Queue;
+use satl_line::Entry;
 use satl_pages::Pool;
 
 /// Some of the tasks: one by its name, those of a nexus, all, or none (SAM-5 7).
@@ -31,31 +32,48 @@ fn is_within(scope: &Scope, task: &Entry) -> bool
 }
 
 /// Whether one of these tasks is there.
-pub fn has_any(tasks: &TaskSet, scope: &Scope) -> bool
-    ensures { result ≡ list_any (is_within scope.now) (entries_of tasks.now) }
+pub fn has_any(queue: &Queue, scope: &Scope) -> bool
+    ensures { result ≡ list_any (is_within scope.now) (entries_of queue.now.tasks) }
 {
-    for place in 0..tasks.len() {
-        if is_within(scope, tasks.entry(place)) {
+    for place in 0..queue.len() {
+        if is_within(scope, queue.entry(place)) {
             return true;
         }
     }
     false
 }
 
-/// Takes these tasks out, and gives their pages back. They have no answer (SAM-5 5.1, overlapped commands, and 7).
-pub fn drop_tasks(tasks: &mut TaskSet, pool: &mut Pool, scope: &Scope)
-    requires { held_pages tasks.old ≤ pool.old.out }
-    ensures others { tasks.new ≡ left_by (is_within scope.now) tasks.old }
-    ensures free { pool.new.free + held_pages tasks.new ≡ pool.old.free + held_pages tasks.old }
-    ensures out { pool.new.out + held_pages tasks.old ≡ pool.old.out + held_pages tasks.new }
+/// Whether one of these tasks is outstanding.
+pub fn has_outstanding(queue: &Queue, scope: &Scope) -> bool
+    ensures none { result ≡ false → AreWaiting (is_within scope.now) queue.now.flying queue.now.tasks }
+    ensures some { result ≡ true → queue.now.flying ≢ [] }
+{
+    for place in 0..queue.len() {
+        if is_within(scope, queue.entry(place)) && queue.is_outstanding(place) {
+            return true;
+        }
+    }
+    false
+}
+
+/// Takes these tasks out, of which none is outstanding, and gives their pages back. They have no answer (SAM-5 5.1, overlapped
+/// commands, and 7).
+pub fn drop_tasks(queue: &mut Queue, pool: &mut Pool, scope: &Scope)
+    requires waiting { AreWaiting (is_within scope.now) queue.old.flying queue.old.tasks }
+    requires held { held_pages queue.old.tasks ≤ pool.old.out }
+    ensures others { queue.new.tasks ≡ left_by (is_within scope.now) queue.old.tasks }
+    ensures flying { queue.new.flying ≡ queue.old.flying }
+    ensures slots { queue.new.slots ≡ queue.old.slots }
+    ensures free { pool.new.free + held_pages queue.new.tasks ≡ pool.old.free + held_pages queue.old.tasks }
+    ensures out { pool.new.out + held_pages queue.old.tasks ≡ pool.old.out + held_pages queue.new.tasks }
 {
     let mut place = 0;
-    while place < tasks.len() {
-        if !is_within(scope, tasks.entry(place)) {
+    while place < queue.len() {
+        if !is_within(scope, queue.entry(place)) {
             place += 1;
             continue;
         }
-        let Entry { body, .. } = tasks.remove(place);
+        let Entry { body, .. } = queue.remove(place);
         pool.give(body);
     }
 }

@@ -5,11 +5,11 @@ mod arrival;
 mod benching;
 mod leaving;
 mod managing;
+mod queueing;
 mod satl;
 mod selecting;
 mod submitting;
 mod telling;
-mod transferring;
 mod turning;
 
 pub use satl::{OpenFault, Satl};

@@ -7,7 +7,7 @@ ghost use Rattle.satl_core.specs.Managing.{condition_of, effect, effect_of, is_t
 use crate::arrival::is_unit_0;
 use crate::leaving::{Scope, has_any};
 use satl_base::{Manage, Nexus, Response};
-use satl_line::TaskSet;
+use satl_flight::Queue;
 use satl_unit::{Attention, Attentions, Function};
 
 /// Which nexuses are told of a function, or of mode values (SAM-5 7).
@@ -33,21 +33,21 @@ pub struct Effect {
 
 /// What a task management function does: another logical unit is judged first, then the function (SAM-5 7; the order and the
 /// response to a code without a function: profile).
-pub fn decide(manage: &Manage, tasks: &TaskSet) -> Effect
-    ensures { result ≡ effect manage.now tasks.now }
+pub fn decide(manage: &Manage, queue: &Queue) -> Effect
+    ensures { result ≡ effect manage.now queue.now.tasks }
 {
     let function = Function::of(manage.function);
     if has_unit(function) && !is_unit_0(&manage.lun) {
         return only(Response::IncorrectLun);
     }
     match function {
-        Some(function) => effect_of(function, manage, tasks),
+        Some(function) => effect_of(function, manage, queue),
         None => only(Response::Rejected),
     }
 }
 
-fn effect_of(function: Function, manage: &Manage, tasks: &TaskSet) -> Effect
-    ensures { result ≡ effect_of function manage.now tasks.now }
+fn effect_of(function: Function, manage: &Manage, queue: &Queue) -> Effect
+    ensures { result ≡ effect_of function manage.now queue.now.tasks }
 {
     let (nexus, tag) = (manage.nexus, manage.tag);
     match function {
@@ -56,8 +56,8 @@ fn effect_of(function: Function, manage: &Manage, tasks: &TaskSet) -> Effect
         Function::ClearTaskSet => complete(Scope::All, Some(Posting::ClearedBy(nexus))),
         Function::UnitReset => complete(Scope::All, Some(Posting::UnitReset)),
         Function::NexusReset => complete(Scope::OfNexus(nexus), Some(Posting::NexusLoss(nexus))),
-        Function::QueryTask => only(found(has_any(tasks, &Scope::OneTask(nexus, tag)))),
-        Function::QueryTaskSet => only(found(has_any(tasks, &Scope::OfNexus(nexus)))),
+        Function::QueryTask => only(found(has_any(queue, &Scope::OneTask(nexus, tag)))),
+        Function::QueryTaskSet => only(found(has_any(queue, &Scope::OfNexus(nexus)))),
     }
 }
 
@@ -101,30 +101,30 @@ fn has_unit(function: Option<Function>) -> bool
 }
 
 /// Posts what a function posts, by the tasks that were there before it (SAM-5 5.14).
-pub fn post(attentions: &mut [Attentions; 4], tasks: &TaskSet, posts: &Option<Posting>)
-    ensures { attentions.new ≡ once_posted posts.now tasks.now attentions.old }
+pub fn post(attentions: &mut [Attentions; 4], queue: &Queue, posts: &Option<Posting>)
+    ensures { attentions.new ≡ once_posted posts.now queue.now.tasks attentions.old }
 {
     if let Some(posting) = posts {
-        post_all(attentions, tasks, posting);
+        post_all(attentions, queue, posting);
     }
 }
 
 /// Posts the condition for each nexus that is told.
-fn post_all(attentions: &mut [Attentions; 4], tasks: &TaskSet, posting: &Posting)
-    ensures { attentions.new ≡ once_posted (Some posting.now) tasks.now attentions.old }
+fn post_all(attentions: &mut [Attentions; 4], queue: &Queue, posting: &Posting)
+    ensures { attentions.new ≡ once_posted (Some posting.now) queue.now.tasks attentions.old }
 {
     for number in 0..4 {
         let Some(nexus) = Nexus::new(number) else {
             unreachable!();
         };
-        post_at(attentions, tasks, posting, nexus);
+        post_at(attentions, queue, posting, nexus);
     }
 }
 
-fn post_at(attentions: &mut [Attentions; 4], tasks: &TaskSet, posting: &Posting, nexus: Nexus)
-    ensures { attentions.new ≡ with_posted posting.now tasks.now nexus attentions.old }
+fn post_at(attentions: &mut [Attentions; 4], queue: &Queue, posting: &Posting, nexus: Nexus)
+    ensures { attentions.new ≡ with_posted posting.now queue.now.tasks nexus attentions.old }
 {
-    if is_told(posting, tasks, nexus) {
+    if is_told(posting, queue, nexus) {
         attentions[nexus.number() as usize].post(condition_of(posting));
     }
 }
@@ -141,11 +141,11 @@ fn condition_of(posting: &Posting) -> Attention
 }
 
 /// Whether a nexus is told.
-fn is_told(posting: &Posting, tasks: &TaskSet, nexus: Nexus) -> bool
-    ensures { result ≡ is_told posting.now tasks.now nexus }
+fn is_told(posting: &Posting, queue: &Queue, nexus: Nexus) -> bool
+    ensures { result ≡ is_told posting.now queue.now.tasks nexus }
 {
     match posting {
-        Posting::ClearedBy(asker) => nexus != *asker && has_any(tasks, &Scope::OfNexus(nexus)),
+        Posting::ClearedBy(asker) => nexus != *asker && has_any(queue, &Scope::OfNexus(nexus)),
         Posting::UnitReset => true,
         Posting::NexusLoss(lost) => nexus == *lost,
         Posting::ModesChanged(by) => nexus != *by,

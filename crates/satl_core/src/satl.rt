@@ -1,37 +1,38 @@
 // The layer: what it holds, how it is opened, and the pages that it lends.
-ghost use Rattle.std.specs.Prelude.{◌≡◌, ◌≤◌, ◌+◌, ◌-◌, ◌<◌, ◌↔◌, ◌*◌, [], Ok, None, true, IfOk, IfErr, IfSome, IfNone, IsNone, OnOk, OnErr, OnSome, map, length};
+ghost use Rattle.std.specs.Prelude.{◌≡◌, ◌≤◌, ◌+◌, ◌-◌, ◌<◌, ◌↔◌, ◌≢◌, ◌*◌, [], Ok, None, true, false, IfOk, IfErr, IfSome, IfNone, IsNone, OnOk, OnErr, OnSome, map, length};
 ghost use Rattle.std.specs.List.{AllByRecursion, AllZip};
 ghost use Rattle.satl_base.specs.declared.request.Request.{Request};
 ghost use Rattle.satl_io.specs.Causes.{Rose, RoseBy};
 ghost use Rattle.satl_regs.specs.Sectors.{IsLeftBehind};
-ghost use Rattle.satl_drive.specs.State.{IsFit};
+ghost use Rattle.satl_drive.specs.State.{DriveState, IsFit};
 ghost use Rattle.satl_frame.specs.Output.{IsWritable};
 ghost use Rattle.satl_direct.specs.Arrival.{Arrives};
 ghost use Rattle.satl_direct.specs.Tasks.{asks, held_blocks, needed};
 ghost use Rattle.satl_direct.specs.Quiet.{Around};
-ghost use Rattle.satl_direct.specs.Run.{Manages, MayLose, bench_losses, losses_of};
+ghost use Rattle.satl_direct.specs.Run.{Manages, MayLose, bench_losses, depth};
+ghost use Rattle.satl_core.specs.Tie.{TiesQueue};
 ghost use Rattle.satl_direct.specs.Bench.{Happens};
 ghost use Rattle.satl_core.specs.Benching.{Follows, StartsAnew, unplugs_after};
 ghost use Rattle.satl_direct.specs.Turn.{Turn};
 ghost use Rattle.satl_core.specs.Layer.{IsServed, IsTask, Tied, reply_pages, view};
 ghost use Rattle.satl_core.specs.Opening.{IsCause, IsOpened, IsUndisturbed};
-ghost use Rattle.satl_core.specs.Submitting.{Becomes, CanSubmit, HasLengths, HoldsList, IsCutOf, judged, once_judged};
+ghost use Rattle.satl_core.specs.Refilling.{AreKept, Comes};
+ghost use Rattle.satl_core.specs.Submitting.{Becomes, CanSubmit, HasLengths, HoldsList, IsCutOf, arrival_calls, is_overlapping, judged, once_judged};
 ghost use Rattle.satl_mode.specs.Changes.{AreModesOf, IsChangeOf};
 ghost use Rattle.satl_line.specs.Tasks.{total_blocks};
 ghost use Rattle.satl_base.specs.Limits.{most_held, most_tasks};
 ghost use Rattle.satl_core.specs.Flushed.{IsFlushed, IsSettled};
-ghost use Rattle.satl_core.specs.Turning.{task_calls};
+ghost use Rattle.satl_core.specs.Turning.{off_calls, turn_calls};
+ghost use Rattle.satl_flight.specs.Settled.{Deepens};
 
 use crate::arrival::{is_for_unit, plain};
 use crate::benching::{act_on, powered_on};
 use crate::leaving::{Scope, drop_tasks};
 use crate::managing::{decide, post};
-use crate::selecting::{change_posting, modes_after, wanted_by};
 use crate::submitting::{
     AtOnce, answer_at_once, judge_code, next_attention, other_answer, own_pages, read_lengths,
     reply_to, task_without_pages, tell_attention,
 };
-use crate::turning::{end_task, link_lost, lose_tasks, run_task, started_after};
 use satl_barrier::tell_identity;
 use satl_base::{
     BenchEvent, Lender, Manage, Modes, NoMemory, Pages, Replies, Request, Response, Scsi,
@@ -39,8 +40,8 @@ use satl_base::{
 };
 use satl_cdb::Command;
 use satl_drive::{Bench, Drive, LinkDown};
+use satl_flight::Queue;
 use satl_identify::{Identity, IdentityFault, read_identity};
-use satl_line::TaskSet;
 use satl_mode::defaults;
 use satl_pages::Pool;
 use satl_unit::Attentions;
@@ -83,7 +84,7 @@ pub struct Satl {
     pub(crate) started: bool,
     pub(crate) down: bool,
     pub(crate) attentions: [Attentions; 4],
-    pub(crate) tasks: TaskSet,
+    pub(crate) queue: Queue,
     pub(crate) pool: Pool,
 }
 
@@ -93,9 +94,9 @@ impl Model for Satl {
 
     ghost Value = { Layer };
 
-    ghost view = { λ s. record { identity = s.identity; modes = s.modes; started = s.started; down = s.down; attentions = s.attentions; tasks = s.tasks; free = s.pool.free; out = s.pool.out - held_pages s.tasks } };
+    ghost view = { λ s. record { identity = s.identity; modes = s.modes; started = s.started; down = s.down; attentions = s.attentions; tasks = s.queue.tasks; flying = s.queue.flying; slots = s.queue.slots; free = s.pool.free; out = s.pool.out - held_pages s.queue.tasks } };
 
-    ghost invariant = { λ s. IsSoundLayer s.identity s.tasks s.pool };
+    ghost invariant = { λ s. IsSoundLayer s.identity s.queue.tasks s.pool };
 }
 
 impl Satl {
@@ -117,7 +118,7 @@ impl Satl {
         ensures unplugs { (D.state drive.new).unplugs ≡ (D.state drive.old).unplugs }
         ensures steps { steps.new ≤ steps.old + 1 }
     {
-        let tasks = TaskSet::new(alloc)?;
+        let queue = Queue::new(alloc)?;
         let mut pool = Pool::new(alloc, POOL_PAGES)?;
         let Some(mut pages) = pool.take(1) else {
             unreachable!();
@@ -137,14 +138,15 @@ impl Satl {
             started: true,
             down: false,
             attentions: no_attentions(),
-            tasks,
+            queue,
             pool,
         })
     }
 
-    /// A command arrives: it is answered at once, or waits as a task. Its pages become the task's or are given back (SAM-5 5;
-    /// the order of the tests: profile). Where it has the nexus and tag of a task, all tasks of its nexus go without an answer.
-    /// Where no page was free for all of its data-out, it does what the whole request does.
+    /// A command arrives: it is answered at once, or waits as a task, which is issued where it may be. Its pages become the task's or
+    /// are given back (SAM-5 5; the order of the tests: profile). Where it has the nexus and tag of a task, all tasks of its nexus go
+    /// without an answer. Where no page was free for all of its data-out, it does what the whole request does. Where the link is lost
+    /// in it, all tasks are answered.
     pub fn submit<D: Drive, L: Ledger>(
         &mut self,
         request: Request,
@@ -155,21 +157,28 @@ impl Satl {
         requires can { CanSubmit request self.old.free self.old.out }
         requires empty { replies.old ≡ [] }
         requires tied { Tied self.old (D.state drive.old) }
-        ensures arrives { Arrives request (view self.old (D.state drive.old)) replies.new (view self.new (D.state drive.new)) }
         ensures around { (whole : Request) → IsCutOf whole request → Around (MayLose (Arrives whole)) (view self.old (D.state drive.old)) replies.new (view self.new (D.state drive.new)) }
         ensures modes { self.new.modes ≡ self.old.modes }
         ensures more { length self.new.tasks ≤ length self.old.tasks + 1 }
-        ensures drive { drive.new ≡ drive.old }
         ensures tied { Tied self.new (D.state drive.new) }
         ensures pages { self.new.out ≡ reply_pages replies.new }
         ensures writable { AllByRecursion IsWritable replies.new }
-        ensures counted { RoseBy (losses_of (view self.old (D.state drive.old)) (view self.new (D.state drive.new))) (D.state drive.old).faults (D.state drive.new).faults }
-        ensures unplugs { (D.state drive.new).unplugs ≡ (D.state drive.old).unplugs }
-        ensures calls { steps.new + task_calls * length self.new.tasks ≤ steps.old + task_calls * (length self.old.tasks + 1) }
-        ensures steps { steps.new ≡ steps.old }
+        ensures kept { AreKept self.old (D.state drive.old) self.new (D.state drive.new) }
+        ensures unasked { self.old.down ≡ true → drive.new ≡ drive.old }
+        ensures calls { steps.new + turn_calls * length self.new.tasks ≤ steps.old + turn_calls * (length self.old.tasks + 1) + off_calls }
+        ensures steps { steps.new ≤ steps.old + arrival_calls self.old.tasks request }
     {
+        if self.overlaps(&request) {
+            self.overlap(request, drive, replies, steps);
+            return;
+        }
         match self.judge(&request) {
-            Ok(command) => self.add_task(request, command, replies),
+            Ok(command) => {
+                self.add_task(request, command, replies);
+                if replies.len() == 0 {
+                    self.send_last(drive, replies, steps);
+                }
+            }
             Err(answer) => answer_at_once(
                 &mut self.pool,
                 &self.identity,
@@ -181,15 +190,57 @@ impl Satl {
         }
     }
 
-    /// Judges a request: its command, which may become a task, or why it is answered at once. Where it overlaps a task, all
-    /// tasks of its nexus go without an answer (SAM-5 5.1). A unit attention that it is answered with is told by that (SAM-5
-    /// 5.14).
+    /// Whether a request has the nexus and tag of a task, at logical unit 0 (SAM-5 5.1, overlapped commands).
+    fn overlaps(&self, request: &Request) -> bool
+        ensures { result ≡ is_overlapping self.now.tasks request.now }
+    {
+        is_for_unit(request) && self.queue.find(request.nexus, request.tag).is_some()
+    }
+
+    /// A request that has the nexus and tag of a task is refused, and all tasks of its nexus go without an answer (SAM-5 5.1).
+    fn overlap<D: Drive, L: Ledger>(
+        &mut self,
+        request: Request,
+        drive: &mut D,
+        replies: &mut Replies,
+        steps: &mut Steps<L>,
+    )
+        requires can { CanSubmit request self.old.free self.old.out }
+        requires overlaps { is_overlapping self.old.tasks request ≡ true }
+        requires empty { replies.old ≡ [] }
+        requires tied { Tied self.old (D.state drive.old) }
+        ensures around { (whole : Request) → IsCutOf whole request → Around (MayLose (Arrives whole)) (view self.old (D.state drive.old)) replies.new (view self.new (D.state drive.new)) }
+        ensures tied { Tied self.new (D.state drive.new) }
+        ensures kept { AreKept self.old (D.state drive.old) self.new (D.state drive.new) }
+        ensures modes { self.new.modes ≡ self.old.modes }
+        ensures fewer { length self.new.tasks ≤ length self.old.tasks }
+        ensures pages { self.new.out ≡ reply_pages replies.new }
+        ensures writable { AllByRecursion IsWritable replies.new }
+        ensures unasked { self.old.down ≡ true → drive.new ≡ drive.old }
+        ensures steps { steps.new ≤ steps.old + off_calls }
+    {
+        let scope = Scope::OfNexus(request.nexus);
+        let overlapped = AtOnce::Check(plain(0xB, 0x4E, 0x00));
+        answer_at_once(
+            &mut self.pool,
+            &self.identity,
+            &self.modes,
+            request,
+            overlapped,
+            replies,
+        );
+        self.take_off(&scope, drive, replies, steps);
+    }
+
+    /// Judges a request that overlaps no task: its command, which may become a task, or why it is answered at once. A unit attention
+    /// that it is answered with is told by that (SAM-5 5.14).
     fn judge(&mut self, request: &Request) -> Result<Command, AtOnce>
         requires can { CanSubmit request.now self.old.free self.old.out }
         requires few { total_blocks self.old.tasks ≤ most_held }
+        requires alone { is_overlapping self.old.tasks request.now ≡ false }
         ensures judged { result ≡ judged self.old request.now }
-        ensures left { self.new ≡ record (once_judged self.old request.now) { free = self.new.free } }
-        ensures kept { self.new ≡ record self.old { tasks = self.new.tasks; attentions = self.new.attentions; free = self.new.free } }
+        ensures left { self.new ≡ once_judged self.old request.now }
+        ensures kept { self.new ≡ record self.old { attentions = self.new.attentions } }
         ensures same { OnOk result (self.new ≡ self.old) }
         ensures holds { HoldsList request.now }
         ensures lengths { HasLengths request.now.cdb }
@@ -198,17 +249,8 @@ impl Satl {
         ensures change { AreModesOf self.old.identity self.old.modes → IfOk result (λ command. IfSome ((asks command).change request.now.body) (IsChangeOf self.old.identity)) }
     {
         read_lengths(request);
-        let overlaps = self.tasks.find(request.nexus, request.tag).is_some();
         if !is_for_unit(request) {
             return Err(other_answer(request));
-        }
-        if overlaps {
-            drop_tasks(
-                &mut self.tasks,
-                &mut self.pool,
-                &Scope::OfNexus(request.nexus),
-            );
-            return Err(AtOnce::Check(plain(0xB, 0x4E, 0x00)));
         }
         if let Some(what) = next_attention(&mut self.attentions, request) {
             return Err(tell_attention(what, request));
@@ -226,22 +268,22 @@ impl Satl {
         requires task { IsTask self.old.identity.capacity command (held_blocks command) }
         requires empty { replies.old ≡ [] }
         ensures becomes { Becomes request command self.old replies.new self.new }
+        ensures comes { replies.new ≡ [] → Comes self.old.identity.capacity self.old.tasks self.new.tasks }
         ensures long { replies.new ≡ [] → needed command ≤ 512 * length request.body }
     {
         let task = task_without_pages(&request, command, self.identity.queued_trim);
-        if self.tasks.add(task).is_err() {
+        if self.queue.add(task).is_err() {
             replies.push(reply_to(&request, Scsi::TaskSetFull, SenseBytes::new()));
             self.pool.give(request.body);
             return;
         }
-        let place = self.tasks.len() - 1;
         let body = own_pages(&mut self.pool, &command, request.body);
-        self.tasks.put_data(place, body);
+        self.queue.fill_last(body);
     }
 
-    /// One turn: the first task ends, if there is one. At a lost link all tasks are answered, in order of arrival (SAM-5 5;
-    /// lost links: profile). A WRITE with FUA goes past a cache that is on, which is off meanwhile: WRITE DMA EXT has no FUA. A
-    /// MODE SELECT sets the drive first, then the mode values, and the other nexuses are told (SPC-4, MODE SELECT commands).
+    /// One turn: a task ends that is outstanding, or else the first one; then what may be issued is. At a lost link all tasks are
+    /// answered, in order of arrival (SAM-5 5; lost links: profile). A MODE SELECT sets the drive first, then the mode values, and the
+    /// other nexuses are told (SPC-4, MODE SELECT commands).
     pub fn turn<D: Drive, L: Ledger>(
         &mut self,
         drive: &mut D,
@@ -256,49 +298,28 @@ impl Satl {
         ensures pages { self.new.out ≡ reply_pages replies.new }
         ensures writable { AllByRecursion IsWritable replies.new }
         ensures fewer { length self.new.tasks ≤ length self.old.tasks - 1 }
-        ensures counted { RoseBy (losses_of (view self.old (D.state drive.old)) (view self.new (D.state drive.new))) (D.state drive.old).faults (D.state drive.new).faults }
-        ensures unplugs { (D.state drive.new).unplugs ≡ (D.state drive.old).unplugs }
+        ensures kept { AreKept self.old (D.state drive.old) self.new (D.state drive.new) }
         ensures unasked { self.old.down ≡ true → drive.new ≡ drive.old }
         ensures uncalled { self.old.down ≡ true → steps.new ≡ steps.old }
         ensures flushed { IsFlushed self.old.tasks replies.new → (Rose (D.state drive.old).faults (D.state drive.new).faults → ⊥) → AllByRecursion IsSettled (D.state drive.new).cells }
-        ensures steps { steps.new ≤ steps.old + task_calls }
-        ensures calls { steps.new + task_calls * length self.new.tasks ≤ steps.old + task_calls * length self.old.tasks }
+        ensures queued { self.old.flying ≢ [] → steps.new ≤ steps.old + 34 }
+        ensures none { self.old.tasks ≡ [] → steps.new ≡ steps.old }
+        ensures steps { steps.new ≤ steps.old + turn_calls }
+        ensures calls { steps.new + turn_calls * length self.new.tasks ≤ steps.old + turn_calls * length self.old.tasks }
     {
         if self.pending() == 0 {
             return;
         }
-        let mut task = self.tasks.remove(0);
-        let command = task.command;
-        let descriptor = self.modes.d_sense;
-        let wanted = wanted_by(&self.modes, &task.modes);
-        match run_task(
-            self.down,
-            self.started,
-            &self.modes,
-            &wanted,
-            drive,
-            &command,
-            &mut task.body,
-            steps,
-        ) {
-            Ok(ending) => {
-                let modes = modes_after(&command, ending, &self.modes, &wanted);
-                let posting = change_posting(&self.modes, &modes, task.nexus);
-                post(&mut self.attentions, &self.tasks, &posting);
-                self.modes = modes;
-                self.started = started_after(&command, ending, self.started);
-                replies.push(end_task(&mut self.pool, task, ending, descriptor));
-            }
-            Err(LinkDown) => {
-                self.down = true;
-                replies.push(end_task(&mut self.pool, task, link_lost(), descriptor));
-                lose_tasks(&mut self.tasks, &mut self.pool, descriptor, replies);
-            }
+        if self.queue.is_idle() {
+            self.end_first(drive, replies, steps);
+        } else {
+            self.end_queued(drive, replies, steps);
         }
+        self.refill(drive, replies, steps);
     }
 
     /// A task management function is carried out: tasks go without an answer, and unit attentions are posted (SAM-5 7; the
-    /// codes: profile).
+    /// codes: profile). Where the link is lost in it, all other tasks are answered.
     pub fn manage<D: Drive, L: Ledger>(
         &mut self,
         manage: &Manage,
@@ -315,15 +336,14 @@ impl Satl {
         ensures writable { AllByRecursion IsWritable replies.new }
         ensures fewer { length self.new.tasks ≤ length self.old.tasks }
         ensures modes { self.new.modes ≡ self.old.modes }
-        ensures counted { RoseBy (losses_of (view self.old (D.state drive.old)) (view self.new (D.state drive.new))) (D.state drive.old).faults (D.state drive.new).faults }
-        ensures unplugs { (D.state drive.new).unplugs ≡ (D.state drive.old).unplugs }
-        ensures calls { steps.new + task_calls * length self.new.tasks ≤ steps.old + task_calls * length self.old.tasks }
-        ensures drive { drive.new ≡ drive.old }
-        ensures steps { steps.new ≡ steps.old }
+        ensures kept { AreKept self.old (D.state drive.old) self.new (D.state drive.new) }
+        ensures unasked { self.old.down ≡ true → drive.new ≡ drive.old }
+        ensures calls { steps.new + turn_calls * length self.new.tasks ≤ steps.old + turn_calls * length self.old.tasks + off_calls }
+        ensures steps { steps.new ≤ steps.old + off_calls }
     {
-        let effect = decide(manage, &self.tasks);
-        post(&mut self.attentions, &self.tasks, &effect.posts);
-        drop_tasks(&mut self.tasks, &mut self.pool, &effect.goes);
+        let effect = decide(manage, &self.queue);
+        post(&mut self.attentions, &self.queue, &effect.posts);
+        self.take_off(&effect.goes, drive, replies, steps);
         effect.response
     }
 
@@ -347,6 +367,7 @@ impl Satl {
         ensures counted { RoseBy (bench_losses event.now) (D.state drive.old).faults (D.state drive.new).faults }
         ensures unplugs { (D.state drive.new).unplugs ≡ unplugs_after event.now (D.state drive.old).unplugs }
         ensures powered { event.now ≡ BenchEvent.Power → AllZip IsLeftBehind (D.state drive.old).cells (D.state drive.new).cells }
+        ensures deep { Deepens (D.state drive.old) (D.state drive.new) }
         ensures steps { steps.new ≡ steps.old }
     {
         act_on(drive, event);
@@ -365,9 +386,8 @@ impl Satl {
         match event {
             BenchEvent::Power => self.start_anew(),
             BenchEvent::Unplug => {
-                self.down = true;
-                let descriptor = self.modes.d_sense;
-                lose_tasks(&mut self.tasks, &mut self.pool, descriptor, replies);
+                self.queue.forget();
+                self.lose(replies);
             }
             BenchEvent::Strike { .. }
             | BenchEvent::Mend { .. }
@@ -382,19 +402,23 @@ impl Satl {
         ensures anew { StartsAnew self.old [] self.new }
         ensures out { self.new.out ≡ 0 }
     {
-        drop_tasks(&mut self.tasks, &mut self.pool, &Scope::All);
+        self.queue.forget();
+        drop_tasks(&mut self.queue, &mut self.pool, &Scope::All);
         self.modes = defaults(&self.identity);
         self.started = true;
         self.down = false;
         self.attentions = powered_on();
     }
 
-    /// The number of tasks that wait, at most 64 (profile).
+    /// The number of tasks that wait, at most 64. Those that the layer has given to its drive are outstanding there under their tags,
+    /// and the slots hold their pages (ACS-3, native command queuing; profile).
     pub fn pending(&self) -> usize
         ensures count { result ≡ length self.now.tasks }
         ensures few { length self.now.tasks ≤ most_tasks }
+        ensures ties { (d : DriveState) → Tied self.now d → TiesQueue self.now d }
+        ensures deep { (d : DriveState) → Tied self.now d → depth (view self.now d) ≤ length d.outstanding }
     {
-        self.tasks.len()
+        self.queue.len()
     }
 
     /// Hands out pages of 512 bytes, with whatever they hold. None exactly where fewer are free (profile).

@@ -9,21 +9,20 @@ ghost use Rattle.satl_core.specs.Turning;
 ghost use Rattle.satl_barrier.specs.Leaving.{IsFree, IsLostIn, Stays};
 ghost use Rattle.satl_barrier.specs.Settings.{CanSet, IsSetBy};
 ghost use Rattle.satl_base.specs.Limits.{most_moved};
-ghost use Rattle.satl_core.specs.Turning.{CarriedOut, IsLostInTask, TaskEnds, ended_reply, lost_replies, modes_after, pairs_written, started_after, task_calls};
+ghost use Rattle.satl_core.specs.Turning.{CarriedOut, IsLostInTask, RunsAlone, TaskEnds, barrier_calls, ended_reply, lost_replies, modes_after, started_after};
 ghost use Rattle.satl_direct.specs.Tasks.{asks};
-ghost use Rattle.satl_pass.specs.Transfers.{is_writing};
 
 use crate::arrival::plain;
-use crate::transferring::transfer;
 use arrayvec::ArrayVec;
 use satl_barrier::{flush, switch, tune};
 use satl_base::{Modes, Pages, Replies, Reply, Scsi, Steps};
 use satl_cdb::Command;
 use satl_drive::{Drive, LinkDown};
-use satl_line::{Entry, TaskSet};
+use satl_errlog::NcqError;
+use satl_flight::Queue;
+use satl_line::Entry;
 use satl_pages::Pool;
 use satl_pass::error_sense_at;
-use satl_regs::Taskfile;
 use satl_sense::{Sense, sense_bytes};
 use std::sync::ledger::Ledger;
 
@@ -34,9 +33,9 @@ pub enum Ending {
     Check(Sense),
 }
 
-/// How the task ends whose turn it is: the first that holds decides, a lost link, a unit that is stopped where the command needs
-/// it started, and the drive. `modes` are the mode values that there are, as the drive is set, and `wanted` those that the task
-/// wants. `LinkDown`: the link was lost while the task was carried out.
+/// How the task ends whose turn it is and whose command is not queued: the first that holds decides, a lost link, a unit that is
+/// stopped where the command needs it started, and the drive. `modes` are the mode values that there are, as the drive is set, and
+/// `wanted` those that the task wants. `LinkDown`: the link was lost while the task was carried out.
 pub fn run_task<D: Drive, L: Ledger>(
     down: bool,
     started: bool,
@@ -44,11 +43,11 @@ pub fn run_task<D: Drive, L: Ledger>(
     wanted: &Modes,
     drive: &mut D,
     command: &Command,
-    body: &mut Pages,
     steps: &mut Steps<L>,
 ) -> Result<Ending, LinkDown>
     requires free { IsFree (D.state drive.old) }
-    requires task { IsTask (D.state drive.old).capacity command.now (length body.old) }
+    requires task { (blocks : ℕ) × IsTask (D.state drive.old).capacity command.now blocks }
+    requires alone { down ≡ false → started ≡ true → RunsAlone command.now }
     requires sound { AreSound (D.state drive.old).cells }
     requires mark { down ≡ (D.state drive.old).down }
     requires set { down ≡ false → IsSetBy modes.now (D.state drive.old) }
@@ -58,12 +57,11 @@ pub fn run_task<D: Drive, L: Ledger>(
     ensures look { IfOk result (λ ending. down ≡ false → (D.state drive.new).look ≡ not (modes_after command.now ending modes.now wanted.now).dra) }
     ensures up { OnOk result ((D.state drive.new).down ≡ down) }
     ensures faults { OnOk result ((D.state drive.new).faults ≡ (D.state drive.old).faults) }
-    ensures ends { IfOk result (λ ending. TaskEnds down started wanted.now command.now (D.state drive.old) body.old ending body.new (D.state drive.new)) }
-    ensures lost { OnErr result (IsLostInTask down started command.now (D.state drive.old) body.old (D.state drive.new)) }
-    ensures size { length body.new ≡ length body.old }
+    ensures ends { IfOk result (λ ending. TaskEnds down started wanted.now command.now (D.state drive.old) ending (D.state drive.new)) }
+    ensures lost { OnErr result (IsLostInTask down started command.now (D.state drive.old) (D.state drive.new)) }
     ensures unasked { down ≡ true → drive.new ≡ drive.old }
     ensures uncalled { down ≡ true → steps.new ≡ steps.old }
-    ensures step { steps.new ≤ steps.old + task_calls }
+    ensures step { steps.new ≤ steps.old + barrier_calls }
 {
     if down {
         return Ok(link_lost());
@@ -71,7 +69,7 @@ pub fn run_task<D: Drive, L: Ledger>(
     if has_to_start(started, command) {
         return Ok(Ending::Check(plain(0x2, 0x04, 0x02)));
     }
-    carry_out(modes, wanted, drive, command, body, steps)
+    carry_out(modes, wanted, drive, command, steps)
 }
 
 /// Whether a unit is stopped that a command needs started (SPC-4 4.5.6, NOT READY).
@@ -85,17 +83,16 @@ fn has_to_start(started: bool, command: &Command) -> bool
         )
 }
 
-/// Carries out the command of a task on a drive whose link is up. `LinkDown`: the link was lost meanwhile.
+/// Carries out a command that runs alone, on a drive whose link is up. `LinkDown`: the link was lost meanwhile.
 fn carry_out<D: Drive, L: Ledger>(
     modes: &Modes,
     wanted: &Modes,
     drive: &mut D,
     command: &Command,
-    body: &mut Pages,
     steps: &mut Steps<L>,
 ) -> Result<Ending, LinkDown>
     requires free { IsFree (D.state drive.old) }
-    requires task { IsTask (D.state drive.old).capacity command.now (length body.old) }
+    requires alone { RunsAlone command.now }
     requires sound { AreSound (D.state drive.old).cells }
     requires set { IsSetBy modes.now (D.state drive.old) }
     requires may { CanSet modes.now wanted.now (D.state drive.old) }
@@ -104,26 +101,17 @@ fn carry_out<D: Drive, L: Ledger>(
     ensures look { IfOk result (λ ending. (D.state drive.new).look ≡ not (modes_after command.now ending modes.now wanted.now).dra) }
     ensures up { OnOk result ((D.state drive.new).down ≡ false) }
     ensures faults { OnOk result ((D.state drive.new).faults ≡ (D.state drive.old).faults) }
-    ensures ends { IfOk result (λ ending. CarriedOut wanted.now command.now (D.state drive.old) body.old ending body.new (D.state drive.new)) }
-    ensures lost { OnErr result (IsLostIn (pairs_written (D.state drive.old).cache command.now body.old) (D.state drive.old) (D.state drive.new)) }
-    ensures size { length body.new ≡ length body.old }
-    ensures step { steps.new ≤ steps.old + 3 }
+    ensures ends { IfOk result (λ ending. CarriedOut wanted.now command.now (D.state drive.old) ending (D.state drive.new)) }
+    ensures lost { OnErr result (IsLostIn [] (D.state drive.old) (D.state drive.new)) }
+    ensures step { steps.new ≤ steps.old + barrier_calls }
 {
     match *command {
-        Command::Flush { .. } => {
-            flush(drive, steps)?;
-            Ok(Ending::Good)
-        }
-        Command::ModeSelect { .. } => {
-            tune(modes, wanted, drive, steps)?;
-            Ok(Ending::Good)
-        }
-        Command::StartStop { start, no_flush } => {
-            switch(start, no_flush, drive, steps)?;
-            Ok(Ending::Good)
-        }
-        _ => transfer(modes.wce, drive, command, body, steps),
+        Command::Flush { .. } => flush(drive, steps)?,
+        Command::ModeSelect { .. } => tune(modes, wanted, drive, steps)?,
+        Command::StartStop { start, no_flush } => switch(start, no_flush, drive, steps)?,
+        _ => unreachable!(),
     }
+    Ok(Ending::Good)
 }
 
 /// Whether the unit is started once a task has ended: a START STOP UNIT that is done decides.
@@ -143,38 +131,40 @@ pub fn link_lost() -> Ending
     Ending::Check(plain(0x4, 0x08, 0x00))
 }
 
-/// Answers all tasks in order of arrival: the link is lost.
-pub fn lose_tasks(tasks: &mut TaskSet, pool: &mut Pool, descriptor: bool, replies: &mut Replies)
-    requires held { held_pages tasks.old ≤ pool.old.out }
-    requires few { AllByRecursion (λ h. length h.entry.body ≤ most_moved) tasks.old }
-    requires room { length replies.old + length tasks.old ≤ 65 }
-    ensures none { tasks.new ≡ [] }
-    ensures answers { replies.new ≡ replies.old ++ lost_replies descriptor tasks.old }
-    ensures free { pool.new.free ≡ pool.old.free + held_pages tasks.old }
-    ensures out { pool.new.out + held_pages tasks.old ≡ pool.old.out }
+/// Answers all tasks in order of arrival: the link is lost, and nothing is outstanding.
+pub fn lose_tasks(queue: &mut Queue, pool: &mut Pool, descriptor: bool, replies: &mut Replies)
+    requires idle { queue.old.flying ≡ [] }
+    requires held { held_pages queue.old.tasks ≤ pool.old.out }
+    requires few { AllByRecursion (λ h. length h.entry.body ≤ most_moved) queue.old.tasks }
+    requires room { length replies.old + length queue.old.tasks ≤ 65 }
+    ensures none { queue.new.tasks ≡ [] }
+    ensures flying { queue.new.flying ≡ [] }
+    ensures answers { replies.new ≡ replies.old ++ lost_replies descriptor queue.old.tasks }
+    ensures free { pool.new.free ≡ pool.old.free + held_pages queue.old.tasks }
+    ensures out { pool.new.out + held_pages queue.old.tasks ≡ pool.old.out }
 {
-    for _ in 0..tasks.len() {
-        let task = tasks.remove(0);
+    for _ in 0..queue.len() {
+        let task = queue.remove(0);
         replies.push(end_task(pool, task, link_lost(), descriptor));
     }
 }
 
-/// How a task ends by the end of its command: GOOD, or by the table of errors, a CRC error, a medium error at the address, an
-/// address out of range, or an abort (SAT-3 11; for the address and a WRITE: profile).
-pub fn ending_of(command: &Command, ended: &Taskfile) -> Ending
-    ensures { result ≡ Turning.ending_of command.now ended.now }
+/// How a task ends whose queued command has ended: GOOD, or by the entry of the error log and the table of errors, a CRC error or
+/// a medium error at the address (SAT-3 11; for the address and a WRITE: profile).
+pub fn ending_by(command: &Command, error: &Option<NcqError>) -> Ending
+    ensures { result ≡ Turning.ending_by command.now error.now }
 {
-    if ended.status & 1 == 1 {
-        return Ending::Check(error_sense_at(writes(command), ended.error, ended.lba));
+    match error {
+        None => Ending::Good,
+        Some(e) => Ending::Check(error_sense_at(is_writer(command), e.error, e.lba)),
     }
-    Ending::Good
 }
 
-/// Whether the ATA command of a READ or of a WRITE writes.
-fn writes(command: &Command) -> bool
-    ensures { result ≡ is_writing (Turning.ata_command command.now) }
+/// Whether a command writes, or trims.
+fn is_writer(command: &Command) -> bool
+    ensures { result ≡ Turning.is_writer command.now }
 {
-    matches!(*command, Command::Write { .. })
+    !matches!(*command, Command::Read { .. })
 }
 
 /// Answers a task. A READ that is done gives its pages as data-in; all other pages are given back.

@@ -1,30 +1,39 @@
 use Rattle.std.proofs.Common.{arith, refl, sym, ap, subst, ◌∙◌, length}
 use Rattle.satl_line.specs.Tasks.{entry_at}
 use Rattle.satl_core.specs.Layer.{held_pages}
-use Rattle.satl_core.specs.Leaving.{is_within, left_by}
-use Rattle.satl_core.proofs.LeavingLemmas.{AreOthers, all_looked_at, count_removed, goes_by, left_removed, others_removed, pages_removed}
+use Rattle.satl_core.specs.Leaving.{AreWaiting, is_within, left_by}
+use Rattle.satl_core.proofs.LeavingLemmas.{AreOthers, all_looked_at, bare_goes, count_removed, left_removed, others_removed, pages_removed, seen_passes, waits_at, waits_removed, within_bare}
 use Rattle.satl_core.proofs.leaving.drop_tasks.Goals as goal
+
+pub remove-body-requires-clause-waits : goal.remove-body-requires-clause-waits
+remove-body-requires-clause-waits c = λ h stands.
+    waits_at (is_within c.args.scope.now) c.loop-place.queue.flying c.loop-place.queue.tasks c.loop-place.place h c.loop-place.invariant.waiting stands
+    (seen_passes (is_within c.args.scope.now) (within_bare c.args.scope.now) c.loop-place.queue.tasks c.loop-place.place c.entry.result.now _ h c.entry.ensures stands (sym c.is_within.ensures ∙ c.if-not-is_within.false))
 
 pub give-requires : goal.give-requires
 give-requires c =
-    let pages = pages_removed c.loop-place.tasks c.loop-place.place c.remove-body.result c.remove-body.ensures.value in
-    omega (arith, pages, c.loop-place.invariant.out, c.requires)
+    let pages = pages_removed c.loop-place.queue.tasks c.loop-place.place c.remove-body.result c.remove-body.ensures.value in
+    omega (arith, pages, c.loop-place.invariant.out, c.requires.held)
 
 pub loop-place-preserved : goal.loop-place-preserved
 loop-place-preserved c =
-    let pages = pages_removed c.loop-place.tasks c.loop-place.place c.remove-body.result c.remove-body.ensures.value in
-    let count = count_removed c.loop-place.tasks c.loop-place.place c.remove-body.result c.remove-body.ensures.value in
-    let goes = goes_by (is_within c.args.scope.now) c.entry.result.now c.remove-body.result (entry_at c.loop-place.tasks c.loop-place.place) c.entry.ensures c.remove-body.ensures.value (sym c.is_within.ensures ∙ c.if-not-is_within.false) in
+    let pages = pages_removed c.loop-place.queue.tasks c.loop-place.place c.remove-body.result c.remove-body.ensures.value in
+    let count = count_removed c.loop-place.queue.tasks c.loop-place.place c.remove-body.result c.remove-body.ensures.value in
+    let goes = bare_goes (is_within c.args.scope.now) (within_bare c.args.scope.now) c.loop-place.queue.tasks c.loop-place.place c.entry.result.now c.remove-body.result c.entry.ensures c.remove-body.ensures.value (sym c.is_within.ensures ∙ c.if-not-is_within.false) in
     let left = ap held_pages c.remove-body.ensures.others in
     let still = ap length c.remove-body.ensures.others in
     record {
       within = omega (arith, count, still, c.loop-place-test.true, c.len.ensures.value);
-      same = ap (left_by (is_within c.args.scope.now)) c.remove-body.ensures.others ∙ (left_removed (is_within c.args.scope.now) c.loop-place.tasks c.loop-place.place c.remove-body.result c.remove-body.ensures.value goes ∙ c.loop-place.invariant.same);
-      front = subst (AreOthers (is_within c.args.scope.now) c.loop-place.place) (sym c.remove-body.ensures.others) (others_removed (is_within c.args.scope.now) c.loop-place.tasks c.loop-place.place c.loop-place.invariant.front);
+      same = ap (left_by (is_within c.args.scope.now)) c.remove-body.ensures.others ∙ (left_removed (is_within c.args.scope.now) c.loop-place.queue.tasks c.loop-place.place c.remove-body.result c.remove-body.ensures.value goes ∙ c.loop-place.invariant.same);
+      front = subst (AreOthers (is_within c.args.scope.now) c.loop-place.place) (sym c.remove-body.ensures.others) (others_removed (is_within c.args.scope.now) c.loop-place.queue.tasks c.loop-place.place c.loop-place.invariant.front);
+      waiting = subst (λ fs. AreWaiting (is_within c.args.scope.now) fs c.remove-body.new.self.tasks) (sym c.remove-body.ensures.flying)
+          (subst (AreWaiting (is_within c.args.scope.now) c.loop-place.queue.flying) (sym c.remove-body.ensures.others) (waits_removed (is_within c.args.scope.now) c.loop-place.queue.flying c.loop-place.queue.tasks c.loop-place.place c.loop-place.invariant.waiting));
+      flying = c.remove-body.ensures.flying ∙ c.loop-place.invariant.flying;
+      slots = c.remove-body.ensures.slots ∙ c.loop-place.invariant.slots;
       free = omega (arith, pages, left, c.give.ensures.free, c.loop-place.invariant.free);
       out = omega (arith, pages, left, c.give.ensures.out, c.loop-place.invariant.out);
       scope = refl;
     }
 
 pub returns-clause-others : goal.returns-clause-others
-returns-clause-others c = all_looked_at (is_within c.args.scope.now) c.args.tasks.now c.loop-place.tasks c.loop-place.place (omega (arith, c.loop-place-test.false, c.len.ensures.value)) c.loop-place.invariant.same c.loop-place.invariant.front
+returns-clause-others c = all_looked_at (is_within c.args.scope.now) c.args.queue.now.tasks c.loop-place.queue.tasks c.loop-place.place (omega (arith, c.loop-place-test.false, c.len.ensures.value)) c.loop-place.invariant.same c.loop-place.invariant.front

@@ -5,4 +5,4 @@ use Rattle.satl_core.specs.Leaving.{is_within}
 use Rattle.satl_core.proofs.leaving.has_any.Given as goal
 
 abbrev pub invariant-loop-place : goal.invariant-loop-place
-invariant-loop-place l = list_any (is_within l.scope) (entries_of l.tasks) ≡ list_any (is_within l.scope) (entries_of (drop l.place l.tasks))
+invariant-loop-place l = list_any (is_within l.scope) (entries_of l.queue.tasks) ≡ list_any (is_within l.scope) (entries_of (drop l.place l.queue.tasks))

@@ -6,6 +6,6 @@ use Rattle.satl_core.proofs.managing.post_all.Given as goal
 
 abbrev pub invariant-loop-number : goal.invariant-loop-number
 invariant-loop-number l = record {
-  rest : rest_posted (is_told l.posting l.tasks) (condition_of l.posting) l.number 0 l.attentions ≡ once_posted (Some l.posting) l.tasks l.initial.attentions;
+  rest : rest_posted (is_told l.posting l.queue.tasks) (condition_of l.posting) l.number 0 l.attentions ≡ once_posted (Some l.posting) l.queue.tasks l.initial.attentions;
   count : length l.attentions ≡ 4;
 }

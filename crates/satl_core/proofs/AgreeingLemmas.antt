@@ -1,0 +1,296 @@
+-- The layer and its drive agree, as tasks are issued, end and go, and as the link is lost.
+use Rattle.std.proofs.Common.{◌≡◌, ◌⊎◌, ⊎_elim, refl, sym, ap, subst, ◌∙◌, arith, ℕ, zero, suc, ◌+◌, ◌≤◌, Bool, true, false, List, [], ◌∷◌, ◌++◌, length, map, cond, None, Some}
+use Rattle.std.specs.Prelude.{not, ◌&&◌, ◌||◌, ◌^◌, filter, MatchBool, slice_get}
+use Rattle.std.specs.List.{AllByRecursion, AllZip, list_any, remove}
+use Rattle.satl_base.specs.declared.modes.Modes.{Modes}
+use Rattle.satl_base.specs.Cells.{AreSound, Cell}
+use Rattle.satl_base.specs.Losses.{Loses}
+use Rattle.satl_base.specs.Limits.{most_held, most_tasks}
+use Rattle.satl_base.proofs.CellsLemmas.{part-sound, whole-sound}
+use Rattle.satl_base.proofs.LossesLemmas.{loses-length, loses-sound}
+use Rattle.satl_base.proofs.MovesLemmas.{moves-length, moves-sound}
+use Rattle.satl_identify.specs.Data.{identity_data}
+use Rattle.satl_identify.specs.declared.identity.Identity.{Identity}
+use Rattle.satl_line.specs.declared.entry.Entry.{Entry}
+use Rattle.satl_line.specs.Ending.{EndsAs, Outcome}
+use Rattle.satl_line.specs.Ending.Outcome.{ends_done, ends_flawed, ends_glitched}
+use Rattle.satl_line.specs.Ranged.{RangedTask, ranged_by, ranged_of, written_pairs}
+use Rattle.satl_line.specs.Ranged.RangedTask.{ranged_read, ranged_write}
+use Rattle.satl_line.specs.Tasks.{Held, entries_of}
+use Rattle.satl_line.proofs.SlotsLemmas.{remove-map}
+use Rattle.satl_cdb.specs.declared.command.Command.{Command}
+use Rattle.satl_cdb.specs.declared.command.Command.TheVariants as cdbs
+use Rattle.satl_drive.specs.State.{DriveState, IsFit}
+use Rattle.satl_drive.specs.Rules.{MaySet}
+use Rattle.satl_flight.specs.declared.flight.Flying.{Flying}
+use Rattle.satl_flight.specs.Flown.{FitsDrive, IsFlown, IsInFlight, RangedFits}
+use Rattle.satl_flight.specs.Settled.{IsCut, IsFilled, IsLaunched, IsLostInFlight, IsLostQuietly, IsSettled}
+use Rattle.satl_barrier.specs.Leaving.{IsLostIn, Stays, TellsOf}
+use Rattle.satl_barrier.proofs.ToldLemmas.{all_bytes, retold}
+use Rattle.satl_direct.specs.Device.{Device}
+use Rattle.satl_direct.specs.Tasks.{held_by, task_of}
+use Rattle.satl_direct.specs.Valid.{AreOwn, HasCome, IsValid}
+use Rattle.satl_core.specs.Layer.{Agrees, IsKept, IsTask, IsUsed, Layer, Tied, view, works}
+use Rattle.satl_core.proofs.QueuedLemmas.{by_command}
+use Rattle.satl_core.proofs.TieLemmas.{bytes_long}
+use Rattle.satl_core.proofs.Transfers.{of_task}
+
+-- ---- devices with other sectors, and with fewer tasks
+
+-- other sectors, as many and sound, leave a valid device
+pub valid_with_cells : (s new : Device) (cells : List Cell) (started active down : Bool) (glitches : ℕ) → length cells ≡ length s.cells → AreSound cells → new ≡ record s { cells = cells; started = started; active = active; down = down; glitches = glitches } → IsValid s → IsValid new
+valid_with_cells s new cells started active down glitches size sound same v =
+    subst IsValid (sym same) (record {
+      identity = v.identity;
+      cells = size ∙ v.cells;
+      sound = sound;
+      few = v.few;
+      blocks = v.blocks;
+      own = v.own;
+      come = v.come;
+      modes = v.modes;
+      nexuses = v.nexuses;
+      attentions = v.attentions;
+    })
+
+none_removed : (q : Entry → Bool) (ts : List Entry) (place : ℕ) → list_any q ts ≡ false → list_any q (remove ts place) ≡ false
+none_removed q [] zero none = none
+none_removed q [] (suc place) none = none
+none_removed q (t ∷ ts) zero none = right (q t) (list_any q ts) none
+  where
+    right : (a b : Bool) → (a || b) ≡ false → b ≡ false
+    right true b e = absurd cc
+    right false b e = e
+none_removed q (t ∷ ts) (suc place) none = both (q t) (list_any q ts) none (none_removed q ts place)
+  where
+    both : (a b : Bool) → (a || b) ≡ false → (b ≡ false → list_any q (remove ts place) ≡ false) → (a || list_any q (remove ts place)) ≡ false
+    both true b e rest = absurd cc
+    both false b e rest = rest e
+
+own_removed : (ts : List Entry) (place : ℕ) → AreOwn ts → AreOwn (remove ts place)
+own_removed [] zero own = own
+own_removed [] (suc place) own = own
+own_removed (t ∷ ts) zero own = own.1
+own_removed (t ∷ ts) (suc place) own = (none_removed _ ts place own.0, own_removed ts place own.1)
+
+come_removed : (identity : Identity) (ts : List Entry) (place : ℕ) → AllByRecursion (HasCome identity) ts → AllByRecursion (HasCome identity) (remove ts place)
+come_removed identity [] zero all = all
+come_removed identity [] (suc place) all = all
+come_removed identity (t ∷ ts) zero all = all.1
+come_removed identity (t ∷ ts) (suc place) all = (all.0, come_removed identity ts place all.1)
+
+fewer_removed : (ts : List Entry) (place : ℕ) → (length (remove ts place) ≤ length ts) × (held_by (remove ts place) ≤ held_by ts)
+fewer_removed [] zero = (omega arith, omega arith)
+fewer_removed [] (suc place) = (omega arith, omega arith)
+fewer_removed (t ∷ ts) zero = (omega arith, omega arith)
+fewer_removed (t ∷ ts) (suc place) = let rest = fewer_removed ts place in (omega (arith, rest.0), omega (arith, rest.1))
+
+-- the task at a place is gone
+pub valid_removed : (place : ℕ) (s : Device) → IsValid s → IsValid (record s { tasks = remove s.tasks place })
+valid_removed place s v =
+    let less = fewer_removed s.tasks place in
+    record {
+      identity = v.identity;
+      cells = v.cells;
+      sound = v.sound;
+      few = omega (arith, less.0, v.few);
+      blocks = omega (arith, less.1, v.blocks);
+      own = own_removed s.tasks place v.own;
+      come = come_removed s.identity s.tasks place v.come;
+      modes = v.modes;
+      nexuses = v.nexuses;
+      attentions = v.attentions;
+    }
+
+-- ---- settings that stay
+
+-- the link, the settings and the data of a drive are as before
+pub record KeepsSettings (d d' : DriveState) : Type 0 where
+  pub down : d'.down ≡ d.down
+  pub cache : d'.cache ≡ d.cache
+  pub look : d'.look ≡ d.look
+  pub identify : d'.identify ≡ d.identify
+
+-- so the data tell the same
+pub still_told : (bytes : List ℕ) (d d' : DriveState) → d'.identify ≡ d.identify → d'.cache ≡ d.cache → d'.look ≡ d.look → TellsOf bytes d → TellsOf bytes d'
+still_told bytes d d' same cache look told = same ∙ (told ∙ (ap (λ b. identity_data bytes b d.look) (sym cache) ∙ ap (λ b. identity_data bytes d'.cache b) (sym look)))
+
+-- another layer agrees where its mark, its modes and its identity are the same
+pub agrees_by : (l new : Layer) (d d' : DriveState) → new.down ≡ l.down → new.modes ≡ l.modes → new.identity ≡ l.identity → KeepsSettings d d' → IsInFlight new.flying new.tasks d' → IsFit d' → IsValid (view new d') → Agrees l d → Agrees new d'
+agrees_by l new d d' mark modes same keeps queue fit valid agrees = record {
+  mark = mark ∙ (agrees.mark ∙ sym keeps.down);
+  queue = queue;
+  fit = fit;
+  cache = λ up. keeps.cache ∙ (agrees.cache (sym mark ∙ up) ∙ sym (ap (λ (m : Modes). m.wce) modes));
+  look = λ up. keeps.look ∙ (agrees.look (sym mark ∙ up) ∙ sym (ap (λ (m : Modes). not m.dra) modes));
+  told = subst (λ (i : Identity). TellsOf i.bytes d') (sym same) (still_told l.identity.bytes d d' keeps.identify keeps.cache keeps.look agrees.told);
+  valid = valid;
+}
+
+-- the capacity of the drive is that of the identity
+pub capacity_is : (l : Layer) (d : DriveState) → Agrees l d → d.capacity ≡ l.identity.capacity
+capacity_is l d agrees = sym agrees.fit.sectors ∙ agrees.valid.cells
+
+-- ---- what is issued
+
+pub agrees_launched : (l new : Layer) (d d' : DriveState) → IsLaunched l.flying d l.tasks new.flying d' → new ≡ record l { flying = new.flying; slots = new.slots } → IsFit d' → Agrees l d → Agrees new d'
+agrees_launched l new d d' step same fit agrees =
+    agrees_by l new d d' (ap (λ (x : Layer). x.down) same) (ap (λ (x : Layer). x.modes) same) (ap (λ (x : Layer). x.identity) same)
+    (record { down = ap (λ (x : DriveState). x.down) step.stays; cache = ap (λ (x : DriveState). x.cache) step.stays; look = ap (λ (x : DriveState). x.look) step.stays; identify = ap (λ (x : DriveState). x.identify) step.stays })
+    (subst (λ ts. IsInFlight new.flying ts d') (sym (ap (λ (x : Layer). x.tasks) same)) step.tie) fit
+    (valid_with_cells (view l d) (view new d') d'.cells l.started d'.active d'.down d'.glitches size sound (ap (λ x. view x d') same) agrees.valid) agrees
+  where
+    size : length d'.cells ≡ length d.cells
+    size = ⊎_elim (λ still. ap length still) (λ lost. loses-length d.cells d'.cells lost) step.lost
+
+    sound : AreSound d'.cells
+    sound = ⊎_elim (λ still. subst AreSound (sym still) agrees.valid.sound) (λ lost. loses-sound d.cells d'.cells lost) step.lost
+
+-- ---- a drive that was reset
+
+pub agrees_cut : (l new : Layer) (d d' : DriveState) → IsCut l.tasks d d' → new ≡ record l { flying = []; slots = new.slots } → IsFit d' → Agrees l d → Agrees new d'
+agrees_cut l new d d' cut same fit agrees =
+    agrees_by l new d d' (ap (λ (x : Layer). x.down) same) (ap (λ (x : Layer). x.modes) same) (ap (λ (x : Layer). x.identity) same)
+    (record { down = ap (λ (x : DriveState). x.down) cut.stays; cache = ap (λ (x : DriveState). x.cache) cut.stays; look = ap (λ (x : DriveState). x.look) cut.stays; identify = ap (λ (x : DriveState). x.identify) cut.stays })
+    (subst (λ fs. IsInFlight fs new.tasks d') (sym (ap (λ (x : Layer). x.flying) same)) (subst (λ ts. IsInFlight [] ts d') (sym (ap (λ (x : Layer). x.tasks) same)) cut.tie)) fit
+    (valid_with_cells (view l d) (view new d') d'.cells l.started d'.active d'.down d'.glitches (moves-length cut.moves) (moves-sound cut.moves agrees.valid.sound) (ap (λ x. view x d') same) agrees.valid) agrees
+
+-- ---- a lost link
+
+-- the link was lost, and nothing is outstanding
+pub record IsLeftDown (d d' : DriveState) : Type 0 where
+  pub down : d'.down ≡ true
+  pub idle : d'.outstanding ≡ []
+  pub no_error : d'.error ≡ None
+  pub capacity : d'.capacity ≡ d.capacity
+  pub size : length d'.cells ≡ length d.cells
+  pub sound : AreSound d.cells → AreSound d'.cells
+  pub fit : IsFit d'
+  pub told : (bytes : List ℕ) → length bytes ≡ 512 → TellsOf bytes d → TellsOf bytes d'
+
+pub quietly_down : (tasks : List Held) (d d' : DriveState) → IsLostQuietly tasks d d' → IsFit d' → IsLeftDown d d'
+quietly_down tasks d d' lost fit = record {
+  down = ap (λ (x : DriveState). x.down) lost.stays;
+  idle = ap (λ (x : DriveState). x.outstanding) lost.stays;
+  no_error = ap (λ (x : DriveState). x.error) lost.stays;
+  capacity = ap (λ (x : DriveState). x.capacity) lost.stays;
+  size = moves-length lost.moves;
+  sound = moves-sound lost.moves;
+  fit = fit;
+  told = λ bytes long told. still_told bytes d d' (ap (λ (x : DriveState). x.identify) lost.stays) (ap (λ (x : DriveState). x.cache) lost.stays) (ap (λ (x : DriveState). x.look) lost.stays) told;
+}
+
+pub in_flight_down : (tasks : List Held) (d d' : DriveState) → IsLostInFlight tasks d d' → IsFit d' → IsLeftDown d d'
+in_flight_down tasks d d' lost fit = record {
+  down = ap (λ (x : DriveState). x.down) lost.stays;
+  idle = ap (λ (x : DriveState). x.outstanding) lost.stays;
+  no_error = ap (λ (x : DriveState). x.error) lost.stays;
+  capacity = ap (λ (x : DriveState). x.capacity) lost.stays;
+  size = moves-length lost.moves;
+  sound = moves-sound lost.moves;
+  fit = fit;
+  told = λ bytes long told.
+      ⊎_elim
+      (λ (set : MaySet d d'). retold bytes d.identify d'.identify d.cache d.look d'.cache d'.look long (all_bytes d'.identify fit.bytes) told set.tells)
+      (λ same. still_told bytes d d' same.2 same.0 same.1 told)
+      lost.settings;
+}
+
+pub alone_down : (d d' : DriveState) → Stays d d' → d'.down ≡ true → IsFit d → IsLeftDown d d'
+alone_down d d' stays down fit = record {
+  down = down;
+  idle = stays.free.idle;
+  no_error = stays.free.no_error;
+  capacity = stays.capacity;
+  size = stays.free.fit.sectors ∙ (stays.capacity ∙ sym fit.sectors);
+  sound = λ was. stays.sound;
+  fit = stays.free.fit;
+  told = stays.tells;
+}
+
+-- nothing is outstanding
+pub idle_in_flight : (tasks : List Held) (d : DriveState) → d.outstanding ≡ [] → d.error ≡ None → AllByRecursion (FitsDrive d.capacity) tasks → d.capacity ≤ 2 ^ 48 → IsInFlight [] tasks d
+idle_in_flight tasks d idle no_error fits small = record {
+  each = subst (λ qs. AllZip (IsFlown tasks) [] qs) (sym idle) tt;
+  apart = tt;
+  few = omega arith;
+  fits = fits;
+  small = small;
+  no_error = no_error;
+}
+
+-- so the layer that has answered all is tied to it
+pub tied_lost : (l new : Layer) (d d' : DriveState) → IsLeftDown d d' → new ≡ record l { down = true; tasks = []; flying = []; slots = new.slots; free = new.free; out = new.out } → Agrees l d → Tied new d'
+tied_lost l new d d' left same agrees =
+    subst (λ x. Tied x d') (sym same) (record {
+      agrees = record {
+        mark = sym left.down;
+        queue = idle_in_flight [] d' left.idle left.no_error tt (omega (arith, left.capacity, agrees.queue.small));
+        fit = left.fit;
+        cache = λ up. absurd cc;
+        look = λ up. absurd cc;
+        told = left.told l.identity.bytes (bytes_long l d agrees) agrees.told;
+        valid = record {
+          identity = agrees.valid.identity;
+          cells = left.size ∙ agrees.valid.cells;
+          sound = left.sound agrees.valid.sound;
+          few = omega arith;
+          blocks = omega arith;
+          own = tt;
+          come = tt;
+          modes = agrees.valid.modes;
+          nexuses = agrees.valid.nexuses;
+          attentions = agrees.valid.attentions;
+        };
+      };
+      used = refl;
+    })
+
+-- ---- a task that has ended
+
+ends-sound : (cache : Bool) (ranged : RangedTask) (outcome : Outcome) (old new : List Cell) (glitches left : ℕ) → EndsAs cache ranged outcome old glitches new left → AreSound old → AreSound new
+ends-sound cache ranged (ends_done blocks) old new glitches left e sound = subst AreSound (sym e.written) (whole-sound old (written_pairs cache ranged) sound)
+ends-sound cache ranged (ends_flawed lba) old new glitches left e sound = part-sound old new (written_pairs cache ranged) sound e.written
+ends-sound cache ranged ends_glitched old new glitches left e sound = part-sound old new (written_pairs cache ranged) sound e.written
+
+pub agrees_settled : (l new : Layer) (d d' : DriveState) (place : ℕ) (outcome : Outcome) → IsSettled l.tasks d place outcome new.flying d' → new ≡ record l { tasks = remove l.tasks place; flying = new.flying; slots = new.slots; free = new.free; out = new.out } → IsFit d' → Agrees l d → Agrees new d'
+agrees_settled l new d d' place outcome s same fit agrees =
+    agrees_by l new d d' (ap (λ (x : Layer). x.down) same) (ap (λ (x : Layer). x.modes) same) (ap (λ (x : Layer). x.identity) same)
+    (record { down = ap (λ (x : DriveState). x.down) s.stays; cache = ap (λ (x : DriveState). x.cache) s.stays; look = ap (λ (x : DriveState). x.look) s.stays; identify = ap (λ (x : DriveState). x.identify) s.stays })
+    (subst (λ ts. IsInFlight new.flying ts d') (sym (ap (λ (x : Layer). x.tasks) same)) s.tie) fit
+    (valid_with_cells (record (view l d) { tasks = remove (view l d).tasks place }) (view new d') d'.cells l.started d'.active d'.down d'.glitches size sound (ap (λ x. view x d') same ∙ ap (λ ts. record (view l d) { cells = d'.cells; tasks = ts; active = d'.active; down = d'.down; glitches = d'.glitches }) fewer)
+    (valid_removed place (view l d) agrees.valid)) agrees
+  where
+    fewer : map task_of (entries_of (remove l.tasks place)) ≡ remove (map task_of (entries_of l.tasks)) place
+    fewer = ap (map task_of) (remove-map (λ (h : Held). h.entry) l.tasks place) ∙ remove-map task_of (entries_of l.tasks) place
+
+    size : length d'.cells ≡ length d.cells
+    size = fit.sectors ∙ (ap (λ (x : DriveState). x.capacity) s.stays ∙ sym agrees.fit.sectors)
+
+    sound : AreSound d'.cells
+    sound = moves-sound s.moves_after (ends-sound d.cache s.ranged outcome s.before s.after d.glitches d'.glitches s.ends (moves-sound s.moves_before agrees.valid.sound))
+
+-- ---- the queue is used
+
+-- where the unit does not work nothing is outstanding
+pub used_idle : (l : Layer) → works l ≡ false → l.flying ≡ [] → IsUsed l
+used_idle l off idle = subst (λ b. MatchBool b (IsFilled l.flying l.tasks) (l.flying ≡ [])) (sym off) idle
+
+pub used_filled : (l : Layer) → works l ≡ true → IsFilled l.flying l.tasks → IsUsed l
+used_filled l on filled = subst (λ b. MatchBool b (IsFilled l.flying l.tasks) (l.flying ≡ [])) (sym on) filled
+
+pub idle_unless_works : (l : Layer) → IsUsed l → MatchBool (works l) (Unit {0}) (l.flying ≡ [])
+idle_unless_works l used = (elim (works l) as (λ b. MatchBool b (IsFilled l.flying l.tasks) (l.flying ≡ []) → MatchBool b (Unit {0}) (l.flying ≡ [])) [ true ↦ λ u. tt | false ↦ λ u. u ]) used
+
+-- what is outstanding is so at a unit that works
+pub works_flying : (l : Layer) → IsUsed l → (l.flying ≡ [] → ⊥) → works l ≡ true
+works_flying l used some = (elim (works l) as (λ b. works l ≡ b → MatchBool b (IsFilled l.flying l.tasks) (l.flying ≡ []) → b ≡ true) [ true ↦ λ e u. refl | false ↦ λ e u. absurd (some u) ]) refl used
+
+-- ---- a task that is kept may be issued
+
+pub fits_kept : (identity : Identity) (h : Held) → IsKept identity h → FitsDrive identity.capacity h
+fits_kept identity h kept ranged is =
+    of_task (λ c. ranged_by c h.entry.ranges.items h.entry.body ≡ Some ranged → RangedFits identity.capacity h.entry.body ranged) identity.capacity h.entry.blocks h.entry.command
+    (λ form lba count fua t e. let one : ranged_read fua (record { lba = lba; count = count }) ≡ ranged = cc in subst (RangedFits identity.capacity h.entry.body) one (kept.pages ∙ t.0, record { lba = t.1; some = t.2; few = t.3; within = t.4 }))
+    (λ form lba count fua t e. let one : ranged_write fua (record { lba = lba; count = count }) h.entry.body ≡ ranged = cc in subst (RangedFits identity.capacity h.entry.body) one (kept.pages ∙ t.0, record { lba = t.1; some = t.2; few = t.3; within = t.4 }))
+    (λ form lba count none e. absurd cc) (λ start no_flush none e. absurd cc) (λ ten size none e. absurd cc) kept.task (by_command h.entry ranged is)

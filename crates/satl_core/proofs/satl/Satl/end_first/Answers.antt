@@ -1,0 +1,201 @@
+use Rattle.std.proofs.Common.{◌≡◌, ◌-◌, inl, inr, arith, refl, sym, ap, subst, ◌∙◌, [], ◌∷◌, ◌++◌, length, map}
+use Rattle.std.proofs.lemmas.List.{length-append, length-map}
+use Rattle.std.specs.List.{AllByRecursion}
+use Rattle.satl_base.specs.declared.reply.Reply.{Reply}
+use Rattle.satl_line.specs.Tasks.{Held, entries_of}
+use Rattle.satl_direct.specs.Senses.{link_lost}
+use Rattle.satl_direct.specs.Tasks.{task_of}
+use Rattle.satl_direct.specs.Valid.{AreOwn}
+use Rattle.satl_core.specs.declared.turning.Ending.TheVariants as endings
+use Rattle.satl_core.specs.Flushed.{IsFlushed}
+use Rattle.satl_core.specs.Layer.{IsKept, IsTask, Layer, Tied, held_pages, reply_pages, view}
+use Rattle.satl_core.specs.Refilling.{EndsOne}
+use Rattle.satl_core.specs.Turning.{data_in, ended_reply, lost_replies}
+use Rattle.satl_core.proofs.AgreeingLemmas.{alone_down, capacity_is, tied_lost}
+use Rattle.satl_core.proofs.CountedLemmas.{kept_rose, kept_same}
+use Rattle.satl_core.proofs.DeviceLemmas.{first_tasks, seen}
+use Rattle.satl_core.proofs.EndingLemmas.{alone_deepens, alone_loses, first_alone, nothing_out}
+use Rattle.satl_core.proofs.FlushedLemmas.{first_flush, flush_done}
+use Rattle.satl_core.proofs.HeldLemmas.{first_count, first_kept, first_of, first_pages, pushed}
+use Rattle.satl_core.proofs.RefillLemmas.{lost_layer}
+use Rattle.satl_core.proofs.ServedLemmas.{first_ends, first_loses}
+use Rattle.satl_core.proofs.TieLemmas.{has_as_noted, layer_of}
+use Rattle.satl_core.proofs.TurningLemmas.{all_pages, entry_few, lost_all_writable, lost_pages, one_pages, one_writable}
+use Rattle.satl_core.proofs.ValidLemmas.{agrees_rest, wanted_cache, wanted_look}
+use Rattle.satl_core.proofs.satl.Satl.end_first.Goals as goal
+
+pub run_task-requires-clause-free : goal.run_task-requires-clause-free
+run_task-requires-clause-free g c =
+    let agrees = c.requires.tied.agrees in
+    record { idle = nothing_out c.args.self.now (g.D.Drive.state c.args.drive.now) agrees c.requires.idle; no_error = agrees.queue.no_error; fit = agrees.fit }
+
+pub run_task-requires-clause-task : goal.run_task-requires-clause-task
+run_task-requires-clause-task g c =
+    let tied = subst (λ l. Tied l (g.D.Drive.state c.args.drive.now)) (sym c.self.view_is) c.requires.tied in
+    let first = first_of c.self.inside.queue.tasks c.remove-task.new.self.tasks c.remove-task.result c.remove-task.ensures.value c.remove-task.ensures.others in
+    let kept = first_kept c.self.inside.identity c.self.inside.queue.tasks c.remove-task.new.self.tasks c.remove-task.result c.self.invariant.kept first in
+    (c.remove-task.result.blocks, subst (λ n. IsTask n c.remove-task.result.command c.remove-task.result.blocks) (sym (capacity_is _ _ tied.agrees)) kept.0.task)
+
+pub run_task-requires-clause-alone : goal.run_task-requires-clause-alone
+run_task-requires-clause-alone g c =
+    let i = c.self.inside in
+    let was = layer_of i.identity i.modes i.started i.down i.attentions i.queue i.pool in
+    let tied = subst (λ l. Tied l (g.D.Drive.state c.args.drive.now)) (sym c.self.view_is) c.requires.tied in
+    let first = first_of c.self.inside.queue.tasks c.remove-task.new.self.tasks c.remove-task.result c.remove-task.ensures.value c.remove-task.ensures.others in
+    let kept = first_kept c.self.inside.identity c.self.inside.queue.tasks c.remove-task.new.self.tasks c.remove-task.result c.self.invariant.kept first in
+    first_alone was c.remove-task.new.self.tasks c.remove-task.result tied.used (subst (λ (l : Layer). l.flying ≡ []) (sym c.self.view_is) c.requires.idle) first kept.0
+
+pub run_task-requires-clause-may : goal.run_task-requires-clause-may
+run_task-requires-clause-may g c =
+    let tied = subst (λ l. Tied l (g.D.Drive.state c.args.drive.now)) (sym c.self.view_is) c.requires.tied in
+    let first = first_of c.self.inside.queue.tasks c.remove-task.new.self.tasks c.remove-task.result c.remove-task.ensures.value c.remove-task.ensures.others in
+    let kept = first_kept c.self.inside.identity c.self.inside.queue.tasks c.remove-task.new.self.tasks c.remove-task.result c.self.invariant.kept first in
+    let noted = has_as_noted _ (g.D.Drive.state c.args.drive.now) tied.agrees in
+    record {
+      cache = wanted_cache c.self.inside.identity c.self.inside.modes c.wanted_by-wanted.result c.remove-task.result.modes _ noted.cache c.wanted_by-wanted.ensures tied.agrees.valid.modes kept.0.change;
+      look = wanted_look c.self.inside.identity c.self.inside.modes c.wanted_by-wanted.result c.remove-task.result.modes _ noted.look c.wanted_by-wanted.ensures tied.agrees.valid.modes kept.0.change;
+    }
+
+pub end_task-requires-clause-few : goal.end_task-requires-clause-few
+end_task-requires-clause-few g c =
+    let first = first_of c.self.inside.queue.tasks c.remove-task.new.self.tasks c.remove-task.result c.remove-task.ensures.value c.remove-task.ensures.others in
+    let kept = first_kept c.self.inside.identity c.self.inside.queue.tasks c.remove-task.new.self.tasks c.remove-task.result c.self.invariant.kept first in
+    entry_few c.self.inside.identity c.remove-task.result kept.0
+
+pub invariant_of-self : goal.invariant_of-self
+invariant_of-self g c =
+    let first = first_of c.self.inside.queue.tasks c.remove-task.new.self.tasks c.remove-task.result c.remove-task.ensures.value c.remove-task.ensures.others in
+    let held = first_pages c.self.inside.queue.tasks c.remove-task.new.self.tasks c.remove-task.result first in
+    record {
+      held = omega (arith, held, c.self.invariant.held, c.end_task.ensures.out);
+      all = omega (arith, c.self.invariant.all, c.end_task.ensures.out, c.end_task.ensures.free);
+      kept = (first_kept c.self.inside.identity c.self.inside.queue.tasks c.remove-task.new.self.tasks c.remove-task.result c.self.invariant.kept first).1;
+      identity_is = c.self.invariant.identity_is;
+    }
+
+pub end_task-requires-in-Err-clause-few : goal.end_task-requires-in-Err-clause-few
+end_task-requires-in-Err-clause-few g c =
+    let first = first_of c.self.inside.queue.tasks c.remove-task.new.self.tasks c.remove-task.result c.remove-task.ensures.value c.remove-task.ensures.others in
+    let kept = first_kept c.self.inside.identity c.self.inside.queue.tasks c.remove-task.new.self.tasks c.remove-task.result c.self.invariant.kept first in
+    entry_few c.self.inside.identity c.remove-task.result kept.0
+
+pub invariant_of-self-in-Err : goal.invariant_of-self-in-Err
+invariant_of-self-in-Err g c =
+    let first = first_of c.self.inside.queue.tasks c.remove-task.new.self.tasks c.remove-task.result c.remove-task.ensures.value c.remove-task.ensures.others in
+    let held = first_pages c.self.inside.queue.tasks c.remove-task.new.self.tasks c.remove-task.result first in
+    record {
+      held = omega (arith, held, c.self.invariant.held, c.end_task-in-Err.ensures.out);
+      all = omega (arith, c.self.invariant.all, c.end_task-in-Err.ensures.out, c.end_task-in-Err.ensures.free);
+      kept = (first_kept c.self.inside.identity c.self.inside.queue.tasks c.remove-task.new.self.tasks c.remove-task.result c.self.invariant.kept first).1;
+      identity_is = c.self.invariant.identity_is;
+    }
+
+pub returns-in-Ok-clause-ends : goal.returns-in-Ok-clause-ends
+returns-in-Ok-clause-ends g c =
+    let i = c.self.inside in
+    let was = layer_of i.identity i.modes i.started i.down i.attentions i.queue i.pool in
+    let d = g.D.Drive.state c.args.drive.now in
+    let d' = g.D.Drive.state c.run_task.new.drive in
+    let tied = subst (λ l. Tied l d) (sym c.self.view_is) c.requires.tied in
+    let first = first_of i.queue.tasks c.remove-task.new.self.tasks c.remove-task.result c.remove-task.ensures.value c.remove-task.ensures.others in
+    let new = seen i.identity c.modes_after-modes.result c.started_after-self-inside.result c.post.new.attentions (map task_of (entries_of c.remove-task.new.self.tasks)) d' in
+    inl (
+      c.end_task.result,
+      c.push.ensures ∙ ap (λ l. l ++ c.end_task.result ∷ []) c.requires.empty,
+      subst (λ r. EndsOne (view c.args.self.now d) r new) (sym c.end_task.ensures.reply)
+          (subst (λ l. EndsOne (view l d) (ended_reply c.remove-task.result c.in-Ok.ending i.modes.d_sense) new) c.self.view_is
+          (first_ends was c.remove-task.new.self.tasks c.remove-task.result d d' c.self.invariant.kept first tied.agrees c.in-Ok.ending c.started_after-self-inside.result c.wanted_by-wanted.result c.modes_after-modes.result c.change_posting-posting.result c.post.new.attentions
+          c.wanted_by-wanted.ensures c.in-Ok.ensures.ends c.started_after-self-inside.ensures c.modes_after-modes.ensures c.change_posting-posting.ensures c.post.ensures)),
+    )
+
+pub returns-in-Ok-clause-agrees : goal.returns-in-Ok-clause-agrees
+returns-in-Ok-clause-agrees g c =
+    let i = c.self.inside in
+    let was = layer_of i.identity i.modes i.started i.down i.attentions i.queue i.pool in
+    let d = g.D.Drive.state c.args.drive.now in
+    let tied = subst (λ l. Tied l d) (sym c.self.view_is) c.requires.tied in
+    let first = first_of i.queue.tasks c.remove-task.new.self.tasks c.remove-task.result c.remove-task.ensures.value c.remove-task.ensures.others in
+    let kept = first_kept i.identity i.queue.tasks c.remove-task.new.self.tasks c.remove-task.result c.self.invariant.kept first in
+    let new = layer_of i.identity c.modes_after-modes.result c.started_after-self-inside.result i.down c.post.new.attentions c.remove-task.new.self c.end_task.new.pool in
+    agrees_rest was new c.wanted_by-wanted.result c.change_posting-posting.result c.remove-task.new.self.tasks c.remove-task.result c.in-Ok.ending d (g.D.Drive.state c.run_task.new.drive) first kept.0 c.wanted_by-wanted.ensures c.modes_after-modes.ensures c.post.ensures
+    c.in-Ok.ensures.up c.in-Ok.ensures.cache c.in-Ok.ensures.look c.run_task.ensures.stays
+    (ap (λ fs. record new { flying = fs }) (c.remove-task.ensures.flying ∙ subst (λ (l : Layer). l.flying ≡ []) (sym c.self.view_is) c.requires.idle)) tied.agrees
+
+pub returns-in-Ok-clause-kept : goal.returns-in-Ok-clause-kept
+returns-in-Ok-clause-kept g c =
+    kept_same c.args.self.now _ _ _ (c.in-Ok.ensures.up ∙ (ap (λ (l : Layer). l.down) c.self.view_is ∙ c.requires.tied.agrees.mark)) c.in-Ok.ensures.faults c.run_task.ensures.stays.unplugs
+    (alone_deepens c.args.self.now _ _ c.requires.tied.agrees c.requires.idle c.run_task.ensures.stays)
+
+pub returns-in-Ok-clause-pages : goal.returns-in-Ok-clause-pages
+returns-in-Ok-clause-pages g c =
+    let first = first_of c.self.inside.queue.tasks c.remove-task.new.self.tasks c.remove-task.result c.remove-task.ensures.value c.remove-task.ensures.others in
+    let held = first_pages c.self.inside.queue.tasks c.remove-task.new.self.tasks c.remove-task.result first in
+    let pages = one_pages c.args.replies.now c.push.new.self c.end_task.result c.requires.empty c.push.ensures in
+    let view = ap (λ (l : Layer). l.out) c.self.view_is in
+    omega (arith, held, pages, view, c.requires.all_in, c.self.invariant.held, c.end_task.ensures.out)
+
+pub returns-in-Ok-clause-writable : goal.returns-in-Ok-clause-writable
+returns-in-Ok-clause-writable g c =
+    let first = first_of c.self.inside.queue.tasks c.remove-task.new.self.tasks c.remove-task.result c.remove-task.ensures.value c.remove-task.ensures.others in
+    let kept = first_kept c.self.inside.identity c.self.inside.queue.tasks c.remove-task.new.self.tasks c.remove-task.result c.self.invariant.kept first in
+    one_writable c.args.replies.now c.push.new.self c.end_task.result c.remove-task.result c.in-Ok.ending c.self.inside.modes.d_sense c.requires.empty c.push.ensures c.end_task.ensures.reply (entry_few c.self.inside.identity c.remove-task.result kept.0) kept.0.expected
+
+pub returns-in-Ok-clause-flushed : goal.returns-in-Ok-clause-flushed
+returns-in-Ok-clause-flushed g c = λ flushed quiet.
+    let i = c.self.inside in
+    let first = first_of i.queue.tasks c.remove-task.new.self.tasks c.remove-task.result c.remove-task.ensures.value c.remove-task.ensures.others in
+    let tied = subst (λ (l : Layer). Tied l (g.D.Drive.state c.args.drive.now)) (sym c.self.view_is) c.requires.tied in
+    let own = (subst (λ ts. AreOwn ts) (first_tasks i.queue.tasks c.remove-task.new.self.tasks c.remove-task.result first) tied.agrees.valid.own).0 in
+    let done = first_flush i.queue.tasks c.remove-task.new.self.tasks c.remove-task.result c.remove-task.result c.in-Ok.ending i.modes.d_sense c.args.replies.now c.push.new.self c.end_task.result first refl refl own c.requires.empty c.push.ensures c.end_task.ensures.reply
+    (subst (λ (l : Layer). IsFlushed l.tasks c.push.new.self) (sym c.self.view_is) flushed) in
+    flush_done i.down i.started c.wanted_by-wanted.result c.remove-task.result.command (g.D.Drive.state c.args.drive.now) (g.D.Drive.state c.run_task.new.drive) c.in-Ok.ending done.flush done.good c.in-Ok.ensures.ends
+
+pub returns-in-Err-clause-ends : goal.returns-in-Err-clause-ends
+returns-in-Err-clause-ends g c =
+    let i = c.self.inside in
+    let was = layer_of i.identity i.modes i.started i.down i.attentions i.queue i.pool in
+    let d = g.D.Drive.state c.args.drive.now in
+    let d' = g.D.Drive.state c.run_task.new.drive in
+    let tied = subst (λ l. Tied l d) (sym c.self.view_is) c.requires.tied in
+    let first = first_of i.queue.tasks c.remove-task.new.self.tasks c.remove-task.result c.remove-task.ensures.value c.remove-task.ensures.others in
+    inr (alone_loses was c.args.self.now c.lose.new.self c.remove-task.new.self.tasks c.remove-task.result d d' c.self.invariant.kept first tied.agrees c.self.view_is c.link_lost.result c.args.replies.now c.push-in-Err.new.self c.lose.new.replies c.end_task-in-Err.result
+    (lost_layer was (layer_of i.identity i.modes i.started i.down i.attentions c.remove-task.new.self c.end_task-in-Err.new.pool) c.lose.new.self refl (c.remove-task.ensures.flying ∙ subst (λ (l : Layer). l.flying ≡ []) (sym c.self.view_is) c.requires.idle) c.lose.ensures.stays)
+    c.in-Err.ensures.lost c.requires.empty c.push-in-Err.ensures c.lose.ensures.answers c.end_task-in-Err.ensures.reply c.link_lost.ensures, c.in-Err.ensures.lost.lost.down)
+
+pub returns-in-Err-clause-agrees : goal.returns-in-Err-clause-agrees
+returns-in-Err-clause-agrees g c =
+    let i = c.self.inside in
+    let was = layer_of i.identity i.modes i.started i.down i.attentions i.queue i.pool in
+    let d = g.D.Drive.state c.args.drive.now in
+    let tied = subst (λ l. Tied l d) (sym c.self.view_is) c.requires.tied in
+    (tied_lost was c.lose.new.self d (g.D.Drive.state c.run_task.new.drive) (alone_down d (g.D.Drive.state c.run_task.new.drive) c.run_task.ensures.stays c.in-Err.ensures.lost.lost.down tied.agrees.fit)
+    (lost_layer was (layer_of i.identity i.modes i.started i.down i.attentions c.remove-task.new.self c.end_task-in-Err.new.pool) c.lose.new.self refl (c.remove-task.ensures.flying ∙ subst (λ (l : Layer). l.flying ≡ []) (sym c.self.view_is) c.requires.idle) c.lose.ensures.stays) tied.agrees).agrees
+
+pub returns-in-Err-clause-kept : goal.returns-in-Err-clause-kept
+returns-in-Err-clause-kept g c =
+    kept_rose c.args.self.now _ _ _ c.in-Err.ensures.lost.lost.rose c.run_task.ensures.stays.unplugs (alone_deepens c.args.self.now _ _ c.requires.tied.agrees c.requires.idle c.run_task.ensures.stays)
+
+pub returns-in-Err-clause-pages : goal.returns-in-Err-clause-pages
+returns-in-Err-clause-pages g c =
+    let first = first_of c.self.inside.queue.tasks c.remove-task.new.self.tasks c.remove-task.result c.remove-task.ensures.value c.remove-task.ensures.others in
+    let held = first_pages c.self.inside.queue.tasks c.remove-task.new.self.tasks c.remove-task.result first in
+    let pages = all_pages c.args.replies.now c.push-in-Err.new.self c.lose.new.replies (lost_replies c.self.inside.modes.d_sense c.remove-task.new.self.tasks) c.end_task-in-Err.result c.requires.empty c.push-in-Err.ensures c.lose.ensures.answers in
+    let lost = lost_pages c.self.inside.modes.d_sense c.remove-task.new.self.tasks in
+    let none = ap (λ (r : Reply). length r.body) c.end_task-in-Err.ensures.reply ∙ ap (λ e. length (data_in e c.remove-task.result.command c.remove-task.result.body)) c.link_lost.ensures in
+    let view = ap (λ (l : Layer). l.out) c.self.view_is in
+    omega (arith, held, pages, lost, none, view, ap (λ (l : Layer). l.out) c.lose.ensures.stays, c.requires.all_in, c.self.invariant.held, c.end_task-in-Err.ensures.out)
+
+pub returns-in-Err-clause-writable : goal.returns-in-Err-clause-writable
+returns-in-Err-clause-writable g c =
+    let first = first_of c.self.inside.queue.tasks c.remove-task.new.self.tasks c.remove-task.result c.remove-task.ensures.value c.remove-task.ensures.others in
+    let kept = first_kept c.self.inside.identity c.self.inside.queue.tasks c.remove-task.new.self.tasks c.remove-task.result c.self.invariant.kept first in
+    lost_all_writable c.args.replies.now c.push-in-Err.new.self c.lose.new.replies c.end_task-in-Err.result c.remove-task.result c.link_lost.result c.self.inside.modes.d_sense c.self.inside.identity c.remove-task.new.self.tasks c.requires.empty c.push-in-Err.ensures c.lose.ensures.answers
+    c.end_task-in-Err.ensures.reply c.link_lost.ensures kept.0.expected kept.1
+
+pub returns-in-Err-clause-room : goal.returns-in-Err-clause-room
+returns-in-Err-clause-room g c =
+    let first = first_of c.self.inside.queue.tasks c.remove-task.new.self.tasks c.remove-task.result c.remove-task.ensures.value c.remove-task.ensures.others in
+    let count = first_count c.self.inside.queue.tasks c.remove-task.new.self.tasks c.remove-task.result first in
+    let one = pushed c.args.replies.now c.push-in-Err.new.self c.end_task-in-Err.result c.push-in-Err.ensures in
+    let all = ap length c.lose.ensures.answers ∙ length-append c.push-in-Err.new.self (lost_replies c.self.inside.modes.d_sense c.remove-task.new.self.tasks) in
+    omega (arith, all, one, count, length-map c.remove-task.new.self.tasks (λ (h : Held). ended_reply h.entry (endings.Check link_lost) c.self.inside.modes.d_sense), ap length c.requires.empty, ap (λ (l : Layer). length l.tasks) c.lose.ensures.stays, ap (λ (l : Layer). length l.tasks) c.self.view_is, c.requires.few)

@@ -1,0 +1,50 @@
+use Rattle.std.proofs.Common.{refl, sym, ap, subst, ◌∙◌, ◌-◌, ◌++◌}
+use Rattle.satl_drive.specs.State.{DriveState}
+use Rattle.satl_core.specs.Layer.{Layer, held_pages}
+use Rattle.satl_core.specs.Turning.{lost_replies}
+use Rattle.satl_core.proofs.RefillLemmas.{launched_answers, launched_settled, launched_tied, lost_answers, lost_layer, lost_rest, lost_tied, no_answers, works_by}
+use Rattle.satl_core.proofs.TieLemmas.{layer_of, queue_changed}
+use Rattle.satl_core.proofs.satl.Satl.refill.Goals as goal
+
+pub returns-then-self-clause-refills : goal.returns-then-self-clause-refills
+returns-then-self-clause-refills g c = no_answers _ _
+
+pub returns-in-Ok-clause-refills : goal.returns-in-Ok-clause-refills
+returns-in-Ok-clause-refills g c =
+    let i = c.self.inside in
+    launched_answers (layer_of i.identity i.modes i.started i.down i.attentions i.queue i.pool) _ (layer_of i.identity i.modes i.started i.down i.attentions c.launch.new.self i.pool) _ _ c.self.view_is (works_by i.down i.started c.if-self.false c.if-not-self.false) c.requires.agrees
+    (queue_changed i.identity i.modes i.started i.down i.attentions i.queue c.launch.new.self i.pool c.in-Ok.ensures.same) c.in-Ok.ensures.ok c.args.replies.now
+
+pub returns-in-Ok-clause-tied : goal.returns-in-Ok-clause-tied
+returns-in-Ok-clause-tied g c =
+    let i = c.self.inside in
+    launched_tied (layer_of i.identity i.modes i.started i.down i.attentions i.queue i.pool) _ (layer_of i.identity i.modes i.started i.down i.attentions c.launch.new.self i.pool) _ _ c.self.view_is (works_by i.down i.started c.if-self.false c.if-not-self.false) c.requires.agrees
+    (queue_changed i.identity i.modes i.started i.down i.attentions i.queue c.launch.new.self i.pool c.in-Ok.ensures.same) c.in-Ok.ensures.ok c.in-Ok.ensures.filled c.in-Ok.ensures.fit
+
+pub returns-in-Ok-clause-settled : goal.returns-in-Ok-clause-settled
+returns-in-Ok-clause-settled g c = λ all quiet.
+    let i = c.self.inside in
+    launched_settled (layer_of i.identity i.modes i.started i.down i.attentions i.queue i.pool) _ (layer_of i.identity i.modes i.started i.down i.attentions c.launch.new.self i.pool) _ _ c.self.view_is (works_by i.down i.started c.if-self.false c.if-not-self.false) c.requires.agrees
+    (queue_changed i.identity i.modes i.started i.down i.attentions i.queue c.launch.new.self i.pool c.in-Ok.ensures.same) c.in-Ok.ensures.ok all
+
+pub returns-in-Err-clause-refills : goal.returns-in-Err-clause-refills
+returns-in-Err-clause-refills g c =
+    let i = c.self.inside in
+    lost_answers (layer_of i.identity i.modes i.started i.down i.attentions i.queue i.pool) _ _ _ _ c.self.view_is (works_by i.down i.started c.if-self.false c.if-not-self.false) c.requires.agrees
+    (lost_layer (layer_of i.identity i.modes i.started i.down i.attentions i.queue i.pool) (layer_of i.identity i.modes i.started i.down i.attentions c.launch.new.self i.pool) _ refl c.in-Err.ensures.emptied c.lose.ensures.stays)
+    c.in-Err.ensures.err _ _ (c.lose.ensures.answers ∙ ap (λ ts. c.args.replies.now ++ lost_replies i.modes.d_sense ts) c.in-Err.ensures.same)
+
+pub returns-in-Err-clause-tied : goal.returns-in-Err-clause-tied
+returns-in-Err-clause-tied g c =
+    let i = c.self.inside in
+    lost_tied (layer_of i.identity i.modes i.started i.down i.attentions i.queue i.pool) _ _ _ _ c.self.view_is (works_by i.down i.started c.if-self.false c.if-not-self.false) c.requires.agrees
+    (lost_layer (layer_of i.identity i.modes i.started i.down i.attentions i.queue i.pool) (layer_of i.identity i.modes i.started i.down i.attentions c.launch.new.self i.pool) _ refl c.in-Err.ensures.emptied c.lose.ensures.stays)
+    c.in-Err.ensures.err _ _ (c.lose.ensures.answers ∙ ap (λ ts. c.args.replies.now ++ lost_replies i.modes.d_sense ts) c.in-Err.ensures.same) c.in-Err.ensures.fit
+
+pub returns-in-Err-clause-rest : goal.returns-in-Err-clause-rest
+returns-in-Err-clause-rest g c =
+    let i = c.self.inside in
+    lost_rest (layer_of i.identity i.modes i.started i.down i.attentions i.queue i.pool) _ _ _ _ i.queue.tasks c.self.view_is
+    (lost_layer (layer_of i.identity i.modes i.started i.down i.attentions i.queue i.pool) (layer_of i.identity i.modes i.started i.down i.attentions c.launch.new.self i.pool) _ refl c.in-Err.ensures.emptied c.lose.ensures.stays)
+    (ap (λ (x : Layer). x.out) c.lose.ensures.stays ∙ ap (λ ts. i.pool.out - held_pages ts) c.in-Err.ensures.same)
+    (c.lose.ensures.answers ∙ ap (λ ts. c.args.replies.now ++ lost_replies i.modes.d_sense ts) c.in-Err.ensures.same) c.lose.ensures.writable

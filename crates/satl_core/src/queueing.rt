@@ -1,0 +1,233 @@
+// Tasks on the drive's queue: what is issued, what ends, and what is taken off.
+ghost use Rattle.std.specs.Prelude.{◌≡◌, ◌≢◌, ◌≤◌, ◌<◌, ◌+◌, ◌++◌, [], true, length, List, MatchBool};
+ghost use Rattle.std.specs.List.{AllByRecursion};
+ghost use Rattle.satl_base.specs.Limits.{most_tasks};
+ghost use Rattle.satl_io.specs.Causes.{Rose};
+ghost use Rattle.satl_line.specs.Tasks.{Held};
+ghost use Rattle.satl_frame.specs.Output.{IsWritable};
+ghost use Rattle.satl_direct.specs.Quiet.{Around};
+ghost use Rattle.satl_direct.specs.Run.{MayLose};
+ghost use Rattle.satl_flight.specs.Settled.{IsFilled};
+ghost use Rattle.satl_core.specs.Flushed.{IsFlushed, IsSettled};
+ghost use Rattle.satl_core.specs.Layer.{Agrees, Tied, reply_pages, view, works};
+ghost use Rattle.satl_core.specs.Leaving.{is_within};
+ghost use Rattle.satl_core.specs.Refilling.{Answers, AreKept, Comes, EndsOrLoses, KeepsRest, Refills, Removes};
+ghost use Rattle.satl_core.specs.Turning.{barrier_calls, lost_replies, off_calls};
+
+use crate::leaving::{Scope, drop_tasks, has_outstanding};
+use crate::managing::post;
+use crate::satl::Satl;
+use crate::selecting::{change_posting, modes_after, wanted_by};
+use crate::turning::{end_task, ending_by, link_lost, lose_tasks, run_task, started_after};
+use satl_base::{Replies, Steps};
+use satl_drive::{Drive, LinkDown};
+use std::sync::ledger::Ledger;
+
+impl Satl {
+    /// The link is lost, and nothing is outstanding: all tasks are answered, in order of arrival.
+    pub(crate) fn lose(&mut self, replies: &mut Replies)
+        requires idle { self.old.flying ≡ [] }
+        requires room { length replies.old + length self.old.tasks ≤ 65 }
+        ensures answers { replies.new ≡ replies.old ++ lost_replies self.old.modes.d_sense self.old.tasks }
+        ensures stays { self.new ≡ record self.old { down = true; tasks = []; slots = self.new.slots; free = self.new.free } }
+        ensures writable { AllByRecursion IsWritable replies.old → AllByRecursion IsWritable replies.new }
+    {
+        self.down = true;
+        let descriptor = self.modes.d_sense;
+        lose_tasks(&mut self.queue, &mut self.pool, descriptor, replies);
+    }
+
+    /// Issues what may be issued, where the unit is up and started. Where the link is lost in it, all tasks are answered.
+    pub(crate) fn refill<D: Drive, L: Ledger>(
+        &mut self,
+        drive: &mut D,
+        replies: &mut Replies,
+        steps: &mut Steps<L>,
+    )
+        requires agrees { Agrees self.old (D.state drive.old) }
+        requires still { MatchBool (works self.old) (Unit {0}) (self.old.flying ≡ []) }
+        requires room { length replies.old + length self.old.tasks ≤ 65 }
+        ensures refills { Answers (λ more. Refills (view self.old (D.state drive.old)) more (view self.new (D.state drive.new))) replies.old replies.new }
+        ensures tied { Tied self.new (D.state drive.new) }
+        ensures kept { AreKept self.old (D.state drive.old) self.new (D.state drive.new) }
+        ensures rest { KeepsRest self.old replies.old self.new replies.new }
+        ensures settled { AllByRecursion IsSettled (D.state drive.old).cells → (Rose (D.state drive.old).faults (D.state drive.new).faults → ⊥) → AllByRecursion IsSettled (D.state drive.new).cells }
+        ensures unasked { self.old.down ≡ true → drive.new ≡ drive.old }
+        ensures uncalled { self.old.down ≡ true → steps.new ≡ steps.old }
+        ensures unanswered { self.old.down ≡ true → (replies.new ≡ replies.old) × (self.new ≡ self.old) }
+        ensures steps { steps.new ≤ steps.old + 32 }
+    {
+        if self.down || !self.started {
+            return;
+        }
+        match self.queue.launch(drive, steps) {
+            Ok(()) => {}
+            Err(LinkDown) => self.lose(replies),
+        }
+    }
+
+    /// Issues the task that came last, if it may be issued, where the unit is up and started.
+    pub(crate) fn send_last<D: Drive, L: Ledger>(
+        &mut self,
+        drive: &mut D,
+        replies: &mut Replies,
+        steps: &mut Steps<L>,
+    )
+        requires agrees { Agrees self.old (D.state drive.old) }
+        requires came { (before : List Held) × Comes (D.state drive.old).capacity before self.old.tasks × MatchBool (works self.old) (IsFilled self.old.flying before) (self.old.flying ≡ []) }
+        requires room { length replies.old + length self.old.tasks ≤ 65 }
+        ensures refills { Answers (λ more. Refills (view self.old (D.state drive.old)) more (view self.new (D.state drive.new))) replies.old replies.new }
+        ensures tied { Tied self.new (D.state drive.new) }
+        ensures kept { AreKept self.old (D.state drive.old) self.new (D.state drive.new) }
+        ensures rest { KeepsRest self.old replies.old self.new replies.new }
+        ensures steps { steps.new ≤ steps.old + 1 }
+    {
+        if self.down || !self.started {
+            return;
+        }
+        match self.queue.launch_last(drive, steps) {
+            Ok(()) => {}
+            Err(LinkDown) => self.lose(replies),
+        }
+    }
+
+    /// Takes these tasks off, without an answer: where one of them is outstanding the drive is reset, and the others are issued again
+    /// (SAM-5 5.1, overlapped commands, and 7; ACS-3, software reset).
+    pub(crate) fn take_off<D: Drive, L: Ledger>(
+        &mut self,
+        scope: &Scope,
+        drive: &mut D,
+        replies: &mut Replies,
+        steps: &mut Steps<L>,
+    )
+        requires tied { Tied self.old (D.state drive.old) }
+        requires room { length replies.old + length self.old.tasks ≤ 65 }
+        ensures removes { Answers (λ more. Around (MayLose (Removes (is_within scope.now))) (view self.old (D.state drive.old)) more (view self.new (D.state drive.new))) replies.old replies.new }
+        ensures tied { Tied self.new (D.state drive.new) }
+        ensures kept { AreKept self.old (D.state drive.old) self.new (D.state drive.new) }
+        ensures rest { KeepsRest self.old replies.old self.new replies.new }
+        ensures unasked { self.old.down ≡ true → drive.new ≡ drive.old }
+        ensures uncalled { self.old.down ≡ true → steps.new ≡ steps.old }
+        ensures steps { steps.new ≤ steps.old + off_calls }
+    {
+        if has_outstanding(&self.queue, scope) {
+            self.cut_off(scope, drive, replies, steps);
+            return;
+        }
+        drop_tasks(&mut self.queue, &mut self.pool, scope);
+        self.refill(drive, replies, steps);
+    }
+
+    /// The drive is reset, these tasks go, and the others are issued again. Where the link is lost in it, all others are answered.
+    fn cut_off<D: Drive, L: Ledger>(
+        &mut self,
+        scope: &Scope,
+        drive: &mut D,
+        replies: &mut Replies,
+        steps: &mut Steps<L>,
+    )
+        requires tied { Tied self.old (D.state drive.old) }
+        requires some { self.old.flying ≢ [] }
+        requires room { length replies.old + length self.old.tasks ≤ 65 }
+        ensures removes { Answers (λ more. Around (MayLose (Removes (is_within scope.now))) (view self.old (D.state drive.old)) more (view self.new (D.state drive.new))) replies.old replies.new }
+        ensures tied { Tied self.new (D.state drive.new) }
+        ensures kept { AreKept self.old (D.state drive.old) self.new (D.state drive.new) }
+        ensures rest { KeepsRest self.old replies.old self.new replies.new }
+        ensures steps { steps.new ≤ steps.old + off_calls }
+    {
+        let cut = self.queue.cut(drive, steps);
+        drop_tasks(&mut self.queue, &mut self.pool, scope);
+        match cut {
+            Ok(()) => self.refill(drive, replies, steps),
+            Err(LinkDown) => self.lose(replies),
+        }
+    }
+
+    /// The first task ends, with nothing outstanding. At a lost link all tasks are answered.
+    pub(crate) fn end_first<D: Drive, L: Ledger>(
+        &mut self,
+        drive: &mut D,
+        replies: &mut Replies,
+        steps: &mut Steps<L>,
+    )
+        requires tied { Tied self.old (D.state drive.old) }
+        requires idle { self.old.flying ≡ [] }
+        requires some { 0 < length self.old.tasks }
+        requires few { length self.old.tasks ≤ most_tasks }
+        requires empty { replies.old ≡ [] }
+        requires all_in { self.old.out ≡ 0 }
+        ensures ends { EndsOrLoses (view self.old (D.state drive.old)) replies.new (view self.new (D.state drive.new)) }
+        ensures agrees { Agrees self.new (D.state drive.new) }
+        ensures idle { self.new.flying ≡ [] }
+        ensures kept { AreKept self.old (D.state drive.old) self.new (D.state drive.new) }
+        ensures pages { self.new.out ≡ reply_pages replies.new }
+        ensures writable { AllByRecursion IsWritable replies.new }
+        ensures fewer { length self.new.tasks + 1 ≤ length self.old.tasks }
+        ensures room { length replies.new + length self.new.tasks ≤ 65 }
+        ensures flushed { IsFlushed self.old.tasks replies.new → (Rose (D.state drive.old).faults (D.state drive.new).faults → ⊥) → AllByRecursion IsSettled (D.state drive.new).cells }
+        ensures still_down { self.old.down ≡ true → self.new.down ≡ true }
+        ensures unasked { self.old.down ≡ true → drive.new ≡ drive.old }
+        ensures uncalled { self.old.down ≡ true → steps.new ≡ steps.old }
+        ensures steps { steps.new ≤ steps.old + barrier_calls }
+    {
+        let task = self.queue.remove(0);
+        let command = task.command;
+        let descriptor = self.modes.d_sense;
+        let wanted = wanted_by(&self.modes, &task.modes);
+        match run_task(
+            self.down,
+            self.started,
+            &self.modes,
+            &wanted,
+            drive,
+            &command,
+            steps,
+        ) {
+            Ok(ending) => {
+                let modes = modes_after(&command, ending, &self.modes, &wanted);
+                let posting = change_posting(&self.modes, &modes, task.nexus);
+                post(&mut self.attentions, &self.queue, &posting);
+                self.modes = modes;
+                self.started = started_after(&command, ending, self.started);
+                replies.push(end_task(&mut self.pool, task, ending, descriptor));
+            }
+            Err(LinkDown) => {
+                replies.push(end_task(&mut self.pool, task, link_lost(), descriptor));
+                self.lose(replies);
+            }
+        }
+    }
+
+    /// A task that is outstanding ends, whichever the drive says. At a lost link all tasks are answered.
+    pub(crate) fn end_queued<D: Drive, L: Ledger>(
+        &mut self,
+        drive: &mut D,
+        replies: &mut Replies,
+        steps: &mut Steps<L>,
+    )
+        requires tied { Tied self.old (D.state drive.old) }
+        requires one { self.old.flying ≢ [] }
+        requires few { length self.old.tasks ≤ most_tasks }
+        requires empty { replies.old ≡ [] }
+        requires all_in { self.old.out ≡ 0 }
+        ensures ends { EndsOrLoses (view self.old (D.state drive.old)) replies.new (view self.new (D.state drive.new)) }
+        ensures agrees { Agrees self.new (D.state drive.new) }
+        ensures still { MatchBool (works self.new) (Unit {0}) (self.new.flying ≡ []) }
+        ensures kept { AreKept self.old (D.state drive.old) self.new (D.state drive.new) }
+        ensures pages { self.new.out ≡ reply_pages replies.new }
+        ensures writable { AllByRecursion IsWritable replies.new }
+        ensures fewer { length self.new.tasks + 1 ≤ length self.old.tasks }
+        ensures room { length replies.new + length self.new.tasks ≤ 65 }
+        ensures unflushed { IsFlushed self.old.tasks replies.new → Rose (D.state drive.old).faults (D.state drive.new).faults }
+        ensures steps { steps.new ≤ steps.old + 2 }
+    {
+        let descriptor = self.modes.d_sense;
+        match self.queue.settle_one(drive, steps) {
+            Ok((task, error)) => {
+                let ending = ending_by(&task.command, &error);
+                replies.push(end_task(&mut self.pool, task, ending, descriptor));
+            }
+            Err(LinkDown) => self.lose(replies),
+        }
+    }
+}
