@@ -1,6 +1,7 @@
 -- A request becomes the last task.
 use Rattle.std.proofs.Common.{◌≡◌, refl, sym, ap, subst, ◌∙◌, arith, ℕ, zero, suc, ◌+◌, ◌*◌, ◌≤◌, Bool, true, false, List, [], ◌∷◌, ◌++◌, length, map, take, Some}
-use Rattle.std.specs.Prelude.{IfSome, MatchBool, Option}
+use Rattle.std.proofs.lemmas.Bool.{ltb-false}
+use Rattle.std.specs.Prelude.{IfSome, MatchBool, Option, ◌==◌, ◌||◌, nat_lt, slice_get}
 use Rattle.std.specs.Option.{option_map}
 use Rattle.std.specs.List.{AllByRecursion}
 use Rattle.satl_base.specs.declared.block.Block.{Block}
@@ -17,7 +18,9 @@ use Rattle.satl_line.specs.Tasks.{Adds, Held, change_at, entries_of, entry_at, i
 use Rattle.satl_line.proofs.SlotsLemmas.{All-append, total-append}
 use Rattle.satl_direct.specs.Tasks.{asks, data_out, held_blocks, needed, task_for, task_of}
 use Rattle.satl_core.specs.Layer.{IsExpectable, IsKept, IsTask, Layer, held_pages}
+use Rattle.satl_core.specs.Refilling.{Comes}
 use Rattle.satl_core.specs.Submitting.{Becomes, IsAdded, IsRefused, task_without_pages}
+use Rattle.satl_core.proofs.AgreeingLemmas.{fits_kept}
 use Rattle.std.proofs.lemmas.List.{length-take}
 use Rattle.satl_core.proofs.SelectLemmas.{change_same, taken_agrees}
 use Rattle.satl_core.proofs.Transfers.{of_task}
@@ -33,9 +36,20 @@ total_with old new entry a =
 pub count_with : (old new : List Held) (entry : Entry) → Adds old entry new → length new ≡ suc (length old)
 count_with old new entry a = ap length a.last ∙ length-push old (record { slot = a.slot; entry = entry })
 
-pub last_body : (old new : List Held) (entry : Entry) (place : ℕ) → Adds old entry new → place ≡ length old → option_map (λ (e : Entry). e.body) (entry_at new place) ≡ Some entry.body
-last_body old new entry place a is =
-    ap (λ t. option_map (λ (e : Entry). e.body) (entry_at t place)) a.last ∙ ap (λ o. option_map (λ (e : Entry). e.body) (option_map (λ (h : Held). h.entry) o)) (last_at old (record { slot = a.slot; entry = entry }) place is)
+-- the blocks of all tasks with one that is not too much
+pub fits_in : (tasks : List Held) (e : Entry) → is_too_much tasks e ≡ false → total_blocks tasks + e.blocks ≤ 32768
+fits_in tasks e fits = ltb-false 32768 (total_blocks tasks + e.blocks) (right (length tasks == 64) (nat_lt 32768 (total_blocks tasks + e.blocks)) fits)
+  where
+    right : (a b : Bool) → (a || b) ≡ false → b ≡ false
+    right true b e = absurd cc
+    right false b e = e
+
+-- the last task, as it came
+pub last_is : (old new : List Held) (entry : Entry) (place : ℕ) → Adds old entry new → place ≡ length old → (h : Held) → slice_get new place ≡ Some h → h.entry ≡ entry
+last_is old new entry place a is h at =
+    let same : Some (record { slot = a.slot; entry = entry }) ≡ Some h = sym (ap (λ t. slice_get t place) a.last ∙ last_at old (record { slot = a.slot; entry = entry }) place is) ∙ at in
+    let one : record { slot = a.slot; entry = entry } ≡ h = cc in
+    ap (λ (x : Held). x.entry) (sym one)
 
 -- the tasks once the last one has its pages
 pub record HasPages (old : List Held) (entry : Entry) (body : List Block) (new : List Held) : Type 0 where
@@ -47,6 +61,18 @@ given_pages old mid new entry body place a at is = record {
   slot = a.slot;
   are = is ∙ (ap (λ t. change_at (with_body body) t place) a.last ∙ last_changed (with_body body) old (record { slot = a.slot; entry = entry }) place at);
 }
+
+-- the task that came, with its pages, may be issued
+pub comes_with : (identity : Identity) (old new : List Held) (entry : Entry) (body : List Block) → AllByRecursion (IsKept identity) new → HasPages old entry body new → Comes identity.capacity old new
+comes_with identity old new entry body kept h = record {
+  held = record { slot = h.slot; entry = record entry { body = body } };
+  last = h.are;
+  fits = fits_kept identity (record { slot = h.slot; entry = record entry { body = body } }) (last_kept old (record { slot = h.slot; entry = record entry { body = body } }) (subst (AllByRecursion (IsKept identity)) h.are kept));
+}
+  where
+    last_kept : (ts : List Held) (k : Held) → AllByRecursion (IsKept identity) (ts ++ k ∷ []) → IsKept identity k
+    last_kept [] k all = all.0
+    last_kept (t ∷ ts) k all = last_kept ts k all.1
 
 pub held_with : (old new : List Held) (entry : Entry) (body : List Block) → HasPages old entry body new → held_pages new ≡ held_pages old + length body
 held_with old new entry body h =

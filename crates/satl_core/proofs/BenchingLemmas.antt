@@ -1,6 +1,6 @@
 -- What an event of a test bench does to the drive and to the layer is what it does to the device.
 use Rattle.std.proofs.Common.{◌≡◌, inl, inr, refl, sym, ap, subst, ◌∙◌, arith, ℕ, zero, suc, ◌≤◌, Bool, true, false, List, [], ◌∷◌, length, map}
-use Rattle.std.specs.Prelude.{not, replicate}
+use Rattle.std.specs.Prelude.{MatchBool, not, replicate}
 use Rattle.std.specs.List.{AllZip}
 use Rattle.satl_base.specs.declared.bench.BenchEvent.{BenchEvent}
 use Rattle.satl_base.specs.declared.bench.BenchEvent.TheVariants.{Strike, Mend, Glitch, Order, Power, Unplug}
@@ -12,11 +12,10 @@ use Rattle.satl_base.specs.Cells.{AreSound, Cell, IsSound, Part, change_at}
 use Rattle.satl_base.specs.Identify.{has_cache}
 use Rattle.satl_base.specs.Losses.{Loses}
 use Rattle.satl_base.proofs.CellsLemmas.{change_at-length}
-use Rattle.satl_base.proofs.LossesLemmas.{loses-length, loses-sound}
+use Rattle.satl_base.proofs.LossesLemmas.{loses-sound}
 use Rattle.satl_base.proofs.MovesLemmas.{lose_once}
 use Rattle.satl_io.specs.Causes.{RoseBy}
 use Rattle.satl_io.proofs.Counting.{RoseBy-none}
-use Rattle.satl_identify.specs.Data.{identity_data}
 use Rattle.satl_regs.specs.Effects.{IsTelling}
 use Rattle.satl_regs.specs.Sectors.{IsLeftBehind, with_flaw, without_flaws}
 use Rattle.satl_identify.specs.declared.identity.Identity.{Identity}
@@ -35,10 +34,21 @@ use Rattle.satl_direct.specs.Quiet.{Around}
 use Rattle.satl_direct.specs.Run.{bench_losses}
 use Rattle.satl_direct.specs.Valid.{IsValid}
 use Rattle.satl_core.specs.Benching.{Follows, IsActedOn, LosesLink, StartsAnew, StaysSame}
-use Rattle.satl_core.specs.Layer.{Layer, Tied, view}
-use Rattle.satl_barrier.specs.Leaving.{TellsOf}
+use Rattle.satl_base.specs.Moves.{Moves}
+use Rattle.satl_direct.specs.Quiet.{MayShow}
+use Rattle.satl_core.specs.Layer.{Layer, Tied, view, works}
+use Rattle.satl_core.proofs.AgreeingLemmas.{IsLeftDown, agrees_by, idle_in_flight, still_told, tied_lost, valid_with_cells}
+use Rattle.satl_core.proofs.EndingLemmas.{nothing_out}
+use Rattle.satl_core.proofs.QueuedLemmas.{moves_shown}
+use Rattle.satl_drive.specs.Queue.{Slots}
+use Rattle.satl_flight.specs.Flown.{IsInFlight}
+use Rattle.satl_flight.specs.Settled.{Deepens, IsFilled}
+use Rattle.satl_flight.proofs.LaunchedLemmas.{lost_reset}
 use Rattle.satl_barrier.proofs.ToldLemmas.{all_bytes, retold}
-use Rattle.satl_core.proofs.TieLemmas.{bytes_long, has_as_noted}
+use Rattle.satl_pages.specs.Counts.{Counts}
+use Rattle.satl_flight.specs.declared.flight.Flying.{Flying}
+use Rattle.satl_flight.specs.Queueing.{Waiting}
+use Rattle.satl_core.proofs.TieLemmas.{bytes_long, has_as_noted, layer_of}
 use Rattle.satl_core.proofs.DeviceLemmas.{around_alone, quiet_none, rest_lost}
 
 -- ---- what the drive does
@@ -119,11 +129,19 @@ powered l new d d' replies four p r = record {
       ∙ ap (λ lists. record (view l d) { cells = d'.cells; tasks = []; modes = defaults l.identity; started = true; active = true; down = false; attentions = lists }) (all_told (PowerOn ∷ []) l.attentions 4 four));
 }
 
-unplugged : (l new : Layer) (d d' : DriveState) (replies : List Reply) → d.outstanding ≡ [] → IsUnplugged d d' → LosesLink l replies new → Around (Happens Unplug) (view l d) replies (view new d')
-unplugged l new d d' replies idle u r = record {
+-- what the drive does as it is unplugged may show
+unplugged_shows : (l : Layer) (d d' : DriveState) → Tied l d → IsUnplugged d d' → Moves (MayShow (view l d)) d.cells d'.cells
+unplugged_shows l d d' tied u =
+    (elim (works l) as (λ b. works l ≡ b → MatchBool b (IsFilled l.flying l.tasks) (l.flying ≡ []) → Moves (MayShow (view l d)) d.cells d'.cells) [
+      | true ↦ λ on used. moves_shown l d tied.agrees on d'.cells (lost_reset l.flying l.tasks d tied.agrees.queue (record d' { unplugs = d.unplugs }) u.cut).moves
+      | false ↦ λ off idle. lose_once (unplugged_lost d d' (nothing_out l d tied.agrees idle) u)
+    ]) refl tied.used
+
+unplugged : (l new : Layer) (d d' : DriveState) (replies : List Reply) → Tied l d → IsUnplugged d d' → LosesLink l replies new → Around (Happens Unplug) (view l d) replies (view new d')
+unplugged l new d d' replies tied u r = record {
   before = before;
   after = view new d';
-  quiet_before = record { cells = lose_once (unplugged_lost d d' idle u); active = inl refl; stays = refl };
+  quiet_before = record { cells = unplugged_shows l d d' tied u; active = inl refl; stays = refl };
   step = record {
     answer = r.answer ∙ rest_lost before l.tasks;
     stays = ap (λ x. view x d') r.stays ∙ left (ap (λ (x : DriveState). x.down) u.cut.0.stays) u.cut.1 (ap (λ (x : DriveState). x.glitches) u.cut.0.stays);
@@ -146,47 +164,32 @@ happens (Strike which lba) l new d d' replies tied acted r = around_alone (Happe
 happens (Mend lba) l new d d' replies tied acted r = around_alone (Happens (Mend lba)) (view l d) (view new d') replies (unanswered l new d d' replies (record d { cells = change_at d.cells lba without_flaws }) acted r)
 happens (Glitch count) l new d d' replies tied acted r = around_alone (Happens (Glitch count)) (view l d) (view new d') replies (unanswered l new d d' replies (record d { glitches = count }) acted r)
 happens (Order order) l new d d' replies tied acted r = around_alone (Happens (Order order)) (view l d) (view new d') replies (unanswered l new d d' replies d acted r)
-happens Power l new d d' replies tied acted r = around_alone (Happens Power) (view l d) (view new d') replies (powered l new d d' replies tied.valid.nexuses acted r)
-happens Unplug l new d d' replies tied acted r = unplugged l new d d' replies tied.idle acted r
+happens Power l new d d' replies tied acted r = around_alone (Happens Power) (view l d) (view new d') replies (powered l new d d' replies tied.agrees.valid.nexuses acted r)
+happens Unplug l new d d' replies tied acted r = unplugged l new d d' replies tied acted r
 
 -- ---- the tie
-
--- data and settings that stay tell the same
-still_told : (bytes : List ℕ) (d d' : DriveState) → d'.identify ≡ d.identify → d'.cache ≡ d.cache → d'.look ≡ d.look → TellsOf bytes d → TellsOf bytes d'
-still_told bytes d d' same cache look told = same ∙ (told ∙ (ap (λ b. identity_data bytes b d.look) (sym cache) ∙ ap (λ b. identity_data bytes d'.cache b) (sym look)))
 
 -- the medium alone has changed
 tied_changed : (l new : Layer) (d d' : DriveState) → ChangesMedium d d' → new ≡ l → IsFit d' → Tied l d → Tied new d'
 tied_changed l new d d' change same fit tied =
     subst (λ x. Tied x d') (sym same) (record {
-      mark = tied.mark ∙ sym (ap (λ (x : DriveState). x.down) change.stays);
-      idle = ap (λ (x : DriveState). x.outstanding) change.stays ∙ tied.idle;
-      no_error = ap (λ (x : DriveState). x.error) change.stays ∙ tied.no_error;
-      fit = fit;
-      cache = λ up. ap (λ (x : DriveState). x.cache) change.stays ∙ tied.cache up;
-      look = λ up. ap (λ (x : DriveState). x.look) change.stays ∙ tied.look up;
-      told = still_told l.identity.bytes d d' (ap (λ (x : DriveState). x.identify) change.stays) (ap (λ (x : DriveState). x.cache) change.stays) (ap (λ (x : DriveState). x.look) change.stays) tied.told;
-      valid = record {
-        identity = tied.valid.identity;
-        cells = change.size ∙ tied.valid.cells;
-        sound = change.sound tied.valid.sound;
-        few = tied.valid.few;
-        blocks = tied.valid.blocks;
-        own = tied.valid.own;
-        come = tied.valid.come;
-        modes = tied.valid.modes;
-        nexuses = tied.valid.nexuses;
-        attentions = tied.valid.attentions;
-      };
+      agrees = agrees_by l l d d' refl refl refl
+          (record { down = ap (λ (x : DriveState). x.down) change.stays; cache = ap (λ (x : DriveState). x.cache) change.stays; look = ap (λ (x : DriveState). x.look) change.stays; identify = ap (λ (x : DriveState). x.identify) change.stays })
+          (subst (λ x. IsInFlight l.flying l.tasks x) (sym change.stays) (record { each = queue.each; apart = queue.apart; few = queue.few; fits = queue.fits; small = queue.small; no_error = queue.no_error })) fit
+          (valid_with_cells (view l d) (view l d') d'.cells l.started d'.active d'.down d'.glitches change.size (change.sound tied.agrees.valid.sound) refl tied.agrees.valid) tied.agrees;
+      used = tied.used;
     })
+  where
+    queue : IsInFlight l.flying l.tasks d
+    queue = tied.agrees.queue
 
 twice : (b : Bool) → b ≡ not (not b)
 twice true = refl
 twice false = refl
 
 -- the device after a power cycle is valid
-valid_powered : (l : Layer) (d d' : DriveState) (free out : ℕ) → IsPowered d d' → IsValid (view l d) → IsValid (view (record l { modes = defaults l.identity; started = true; down = false; attentions = replicate 4 (PowerOn ∷ []); tasks = []; free = free; out = out }) d')
-valid_powered l d d' free out p v = record {
+valid_powered : (l : Layer) (d d' : DriveState) (slots : Slots) (free out : ℕ) → IsPowered d d' → IsValid (view l d) → IsValid (view (record l { modes = defaults l.identity; started = true; down = false; attentions = replicate 4 (PowerOn ∷ []); tasks = []; flying = []; slots = slots; free = free; out = out }) d')
+valid_powered l d d' slots free out p v = record {
   identity = v.identity;
   cells = left_behind-length d.cells d'.cells p.cells ∙ v.cells;
   sound = left_behind-sound d.cells d'.cells p.cells;
@@ -204,43 +207,35 @@ valid_powered l d d' free out p v = record {
 
 tied_powered : (l new : Layer) (d d' : DriveState) (replies : List Reply) → IsPowered d d' → StartsAnew l replies new → IsFit d' → Tied l d → Tied new d'
 tied_powered l new d d' replies p r fit tied =
-    let noted = has_as_noted l d tied in
+    let noted = has_as_noted l d tied.agrees in
     subst (λ x. Tied x d') (sym r.stays) (record {
-      mark = sym (ap (λ (x : DriveState). x.down) p.stays);
-      idle = ap (λ (x : DriveState). x.outstanding) p.stays;
-      no_error = ap (λ (x : DriveState). x.error) p.stays;
-      fit = fit;
-      cache = λ up. ap (λ (x : DriveState). x.cache) p.stays ∙ noted.cache;
-      look = λ up. ap (λ (x : DriveState). x.look) p.stays ∙ (noted.look ∙ twice l.identity.look);
-      told = retold l.identity.bytes d.identify d'.identify d.cache d.look d'.cache d'.look (bytes_long l d tied) (all_bytes d'.identify fit.bytes) tied.told (subst (λ b. IsTelling b d'.look d.identify d'.identify) (sym (ap (λ (x : DriveState). x.cache) p.stays)) (subst (λ b. IsTelling (has_cache d.identify) b d.identify d'.identify) (sym (ap (λ (x : DriveState). x.look) p.stays)) p.tells));
-      valid = valid_powered l d d' new.free new.out p tied.valid;
+      agrees = record {
+        mark = sym (ap (λ (x : DriveState). x.down) p.stays);
+        queue = idle_in_flight [] d' (ap (λ (x : DriveState). x.outstanding) p.stays) (ap (λ (x : DriveState). x.error) p.stays) tt (omega (arith, ap (λ (x : DriveState). x.capacity) p.stays, tied.agrees.queue.small));
+        fit = fit;
+        cache = λ up. ap (λ (x : DriveState). x.cache) p.stays ∙ noted.cache;
+        look = λ up. ap (λ (x : DriveState). x.look) p.stays ∙ (noted.look ∙ twice l.identity.look);
+        told = retold l.identity.bytes d.identify d'.identify d.cache d.look d'.cache d'.look (bytes_long l d tied.agrees) (all_bytes d'.identify fit.bytes) tied.agrees.told (subst (λ b. IsTelling b d'.look d.identify d'.identify) (sym (ap (λ (x : DriveState). x.cache) p.stays)) (subst (λ b. IsTelling (has_cache d.identify) b d.identify d'.identify) (sym (ap (λ (x : DriveState). x.look) p.stays)) p.tells));
+        valid = valid_powered l d d' new.slots new.free new.out p tied.agrees.valid;
+      };
+      used = inr (λ h task eligible ranged. absurd eligible);
     })
 
+-- the link is lost, and nothing is outstanding
+unplugged_down : (d d' : DriveState) → IsUnplugged d d' → IsFit d → IsFit d' → IsLeftDown d d'
+unplugged_down d d' u fit fit' = record {
+  down = ap (λ (x : DriveState). x.down) u.cut.0.stays;
+  idle = ap (λ (x : DriveState). x.outstanding) u.cut.0.stays;
+  no_error = ap (λ (x : DriveState). x.error) u.cut.0.stays;
+  capacity = ap (λ (x : DriveState). x.capacity) u.cut.0.stays;
+  size = fit'.sectors ∙ (ap (λ (x : DriveState). x.capacity) u.cut.0.stays ∙ sym fit.sectors);
+  sound = λ sound. loses-sound u.cut.0.mid d'.cells u.cut.0.lost;
+  fit = fit';
+  told = λ bytes long told. still_told bytes d d' (ap (λ (x : DriveState). x.identify) u.cut.0.stays) (ap (λ (x : DriveState). x.cache) u.cut.0.stays) (ap (λ (x : DriveState). x.look) u.cut.0.stays) told;
+}
+
 tied_unplugged : (l new : Layer) (d d' : DriveState) (replies : List Reply) → IsUnplugged d d' → LosesLink l replies new → IsFit d' → Tied l d → Tied new d'
-tied_unplugged l new d d' replies u r fit tied =
-    let lost = unplugged_lost d d' tied.idle u in
-    let down : d'.down ≡ true = ap (λ (x : DriveState). x.down) u.cut.0.stays in
-    subst (λ x. Tied x d') (sym r.stays) (record {
-      mark = sym down;
-      idle = ap (λ (x : DriveState). x.outstanding) u.cut.0.stays;
-      no_error = ap (λ (x : DriveState). x.error) u.cut.0.stays;
-      fit = fit;
-      cache = λ up. absurd cc;
-      look = λ up. absurd cc;
-      told = still_told l.identity.bytes d d' (ap (λ (x : DriveState). x.identify) u.cut.0.stays) (ap (λ (x : DriveState). x.cache) u.cut.0.stays) (ap (λ (x : DriveState). x.look) u.cut.0.stays) tied.told;
-      valid = record {
-        identity = tied.valid.identity;
-        cells = loses-length d.cells d'.cells lost ∙ tied.valid.cells;
-        sound = loses-sound d.cells d'.cells lost;
-        few = omega arith;
-        blocks = omega arith;
-        own = tt;
-        come = tt;
-        modes = tied.valid.modes;
-        nexuses = tied.valid.nexuses;
-        attentions = tied.valid.attentions;
-      };
-    })
+tied_unplugged l new d d' replies u r fit tied = tied_lost l new d d' (unplugged_down d d' u tied.agrees.fit fit) r.stays tied.agrees
 
 -- an event leaves the layer tied to its drive
 pub still_tied : (event : BenchEvent) (l new : Layer) (d d' : DriveState) (replies : List Reply) → IsActedOn event d d' → Follows event l replies new → IsFit d' → Tied l d → Tied new d'
@@ -265,6 +260,18 @@ losses_counted (Order order) d d' acted = none_rose d d' (ap (λ (x : DriveState
 losses_counted Power d d' acted = none_rose d d' (ap (λ (x : DriveState). x.faults) acted.stays)
 losses_counted Unplug d d' acted = acted.cut.0.rose
 
+deeper_by : (d d' : DriveState) → d'.deepest ≡ d.deepest → length d'.outstanding ≤ length d.outstanding → Deepens d d'
+deeper_by d d' same fewer = record { rises = omega (arith, same); covers = λ was. omega (arith, was, same, fewer) }
+
+-- the deepest queue does not fall
+pub none_deeper : (event : BenchEvent) (d d' : DriveState) → IsActedOn event d d' → Deepens d d'
+none_deeper (Strike which lba) d d' acted = deeper_by d d' (ap (λ (x : DriveState). x.deepest) acted) (omega (arith, ap (λ (x : DriveState). length x.outstanding) acted))
+none_deeper (Mend lba) d d' acted = deeper_by d d' (ap (λ (x : DriveState). x.deepest) acted) (omega (arith, ap (λ (x : DriveState). length x.outstanding) acted))
+none_deeper (Glitch count) d d' acted = deeper_by d d' (ap (λ (x : DriveState). x.deepest) acted) (omega (arith, ap (λ (x : DriveState). length x.outstanding) acted))
+none_deeper (Order order) d d' acted = deeper_by d d' (ap (λ (x : DriveState). x.deepest) acted) (omega (arith, ap (λ (x : DriveState). length x.outstanding) acted))
+none_deeper Power d d' acted = deeper_by d d' (ap (λ (x : DriveState). x.deepest) acted.stays) (omega (arith, ap (λ (x : DriveState). length x.outstanding) acted.stays))
+none_deeper Unplug d d' acted = deeper_by d d' (ap (λ (x : DriveState). x.deepest) acted.cut.0.stays) (omega (arith, ap (λ (x : DriveState). length x.outstanding) acted.cut.0.stays))
+
 same_tasks : (l new : Layer) → new ≡ l → length new.tasks ≤ length l.tasks
 same_tasks l new same = let count = ap (λ (x : Layer). length x.tasks) same in omega (arith, count)
 
@@ -288,13 +295,14 @@ unfolding posted
 power_on_alone conditions given none is = is ∙ ap (posted PowerOn) none
 
 -- the layer by its parts starts anew
-pub anew_by : (identity : Identity) (modes modes' : Modes) (started down : Bool) (lists lists' : List (List Attention)) (tasks tasks' : List Held) (free out free' out' : ℕ) (l : Layer)
-    → record { identity = identity; modes = modes; started = started; down = down; attentions = lists; tasks = tasks; free = free; out = out } ≡ l → modes' ≡ defaults identity → lists' ≡ replicate 4 (PowerOn ∷ []) → tasks' ≡ []
-    → StartsAnew l [] (record { identity = identity; modes = modes'; started = true; down = false; attentions = lists'; tasks = tasks'; free = free'; out = out' })
-anew_by identity modes modes' started down lists lists' tasks tasks' free out free' out' l view_is settings told none =
-    subst (λ x. StartsAnew x [] (record { identity = identity; modes = modes'; started = true; down = false; attentions = lists'; tasks = tasks'; free = free'; out = out' })) view_is (record {
+pub anew_by : (identity : Identity) (modes modes' : Modes) (started down : Bool) (lists lists' : List (List Attention)) (q q' : Waiting) (pool pool' : Counts) (l : Layer)
+    → layer_of identity modes started down lists q pool ≡ l → modes' ≡ defaults identity → lists' ≡ replicate 4 (PowerOn ∷ []) → q'.tasks ≡ [] → q'.flying ≡ [] → StartsAnew l [] (layer_of identity modes' true false lists' q' pool')
+anew_by identity modes modes' started down lists lists' q q' pool pool' l view_is settings told none idle =
+    let new = layer_of identity modes' true false lists' q' pool' in
+    subst (λ x. StartsAnew x [] new) view_is (record {
       none = refl;
-      stays = ap (λ m. record { identity = identity; modes = m; started = true; down = false; attentions = lists'; tasks = tasks'; free = free'; out = out' }) settings
-          ∙ (ap (λ a. record { identity = identity; modes = defaults identity; started = true; down = false; attentions = a; tasks = tasks'; free = free'; out = out' }) told
-          ∙ ap (λ t. record { identity = identity; modes = defaults identity; started = true; down = false; attentions = replicate 4 (PowerOn ∷ []); tasks = t; free = free'; out = out' }) none);
+      stays = ap (λ m. record new { modes = m }) settings
+          ∙ (ap (λ a. record new { modes = defaults identity; attentions = a }) told
+          ∙ (ap (λ (t : List Held). record new { modes = defaults identity; attentions = replicate 4 (PowerOn ∷ []); tasks = t }) none
+          ∙ ap (λ (f : List Flying). record new { modes = defaults identity; attentions = replicate 4 (PowerOn ∷ []); tasks = []; flying = f }) idle));
     })

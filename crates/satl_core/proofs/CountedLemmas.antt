@@ -58,6 +58,17 @@ pub counted_more : (a b c : Device) (before mid now : ℕ) → RoseBy (losses_of
 counted_more a b c before mid now first rest =
     RoseBy-fewer (losses_of a c) (losses_of a b + losses_of b c) before now (adds_up a.down b.down c.down) (RoseBy-more (losses_of a b) (losses_of b c) before mid now first rest)
 
+-- a count that rose before, or after, rose in all
+pub rose_first : (n a b c : ℕ) → Rose a b → RoseBy n b c → Rose a c
+rose_first n a b c rose rest = RoseBy-fewer 1 (1 + n) a c (omega arith) (RoseBy-more 1 n a b c rose rest)
+
+pub rose_later : (n a b c : ℕ) → RoseBy n a b → Rose b c → Rose a c
+rose_later n a b c first rose = RoseBy-fewer 1 (n + 1) a c (omega arith) (RoseBy-more n 1 a b c first rose)
+
+-- a loss is one
+pub one_loss : (a b : Device) → a.down ≡ false → b.down ≡ true → losses_of a b ≡ 1
+one_loss a b up down = ap (λ x. lost x b.down) up ∙ ap (lost false) down
+
 -- ---- counts of the drive
 
 -- nothing was counted

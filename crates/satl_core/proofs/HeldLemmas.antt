@@ -96,6 +96,11 @@ pub length-push : (tasks : List Held) (h : Held) → length (tasks ++ h ∷ []) 
 length-push [] h = refl
 length-push (t ∷ tasks) h = ap suc (length-push tasks h)
 
+-- no replies
+pub no_replies : (rs : List Reply) → length rs ≡ 0 → rs ≡ []
+no_replies [] e = refl
+no_replies (r ∷ rs) e = absurd cc
+
 -- what an Ok says
 pub on_ok : {A E : Type 0} (r : Result A E) (P : Type 0) → is_err r ≡ false → OnOk r P → P
 on_ok (Ok a) P e p = p

@@ -22,6 +22,7 @@ pub mod FlushedLemmas
 pub mod RefillLemmas
 pub mod ValidLemmas
 pub mod EndingLemmas
+pub mod OverlapLemmas
 pub mod ManagingLemmas
 pub mod TakingLemmas
 pub mod BenchingLemmas

@@ -1,10 +1,12 @@
 -- What is issued, and what is answered where the link is lost in it.
-use Rattle.std.proofs.Common.{◌≡◌, ◌⊎◌, inl, inr, ⊎_elim, refl, sym, ap, subst, ◌∙◌, arith, ◌+◌, ◌≤◌, true, false, Bool, List, [], ◌∷◌, ◌++◌, length}
+use Rattle.std.proofs.Common.{◌≡◌, ◌⊎◌, ℕ, inl, inr, ⊎_elim, refl, sym, ap, subst, ◌∙◌, arith, ◌+◌, ◌≤◌, true, false, Bool, List, [], ◌∷◌, ◌++◌, length}
 use Rattle.std.specs.Prelude.{not, ◌&&◌, ◌-◌, MatchBool}
 use Rattle.std.specs.List.{AllByRecursion}
 use Rattle.std.proofs.lemmas.List.{append-nil}
 use Rattle.satl_base.specs.declared.reply.Reply.{Reply}
-use Rattle.satl_io.specs.Causes.{Rose}
+use Rattle.satl_io.specs.Causes.{Rose, RoseBy}
+use Rattle.satl_direct.specs.Run.{losses_of}
+use Rattle.satl_core.proofs.CountedLemmas.{one_loss, rose_later}
 use Rattle.satl_line.specs.Tasks.{Held}
 use Rattle.satl_drive.specs.State.{DriveState, IsFit}
 use Rattle.satl_frame.specs.Output.{IsWritable}
@@ -104,3 +106,16 @@ lost_rest l now new given replies tasks is same out answers writable =
       pages = let both = reply_pages-append given (lost_replies l.modes.d_sense tasks) in let none = lost_pages l.modes.d_sense tasks in let all = ap reply_pages answers in omega (arith, both, none, all);
       writable = writable;
     })
+
+-- ---- what was answered before it
+
+-- where the link was not lost, all answers stood before it
+pub answered_before : (P : List Reply → Type 0) (first all : List Reply) (mid new : Device) (n before then now : ℕ) → Answers (λ more. Refills mid more new) first all → RoseBy n before then → RoseBy (losses_of mid new) then now → (Rose before now → ⊥) → P all → P first
+answered_before P first all mid new n before then now a earlier rest quiet p =
+    ⊎_elim
+    (λ (none : (a.more ≡ []) × Quiet mid new). subst P (a.behind ∙ (ap (λ m. first ++ m) none.0 ∙ append-nil first)) p)
+    (λ (lost : (m : Device) × Quiet mid m × Loss m a.more new).
+        let up : mid.down ≡ false = sym (ap (λ (d : Device). d.down) lost.1.stays) ∙ lost.2.was_up in
+        let down : new.down ≡ true = ap (λ (d : Device). d.down) lost.2.stays in
+        absurd (quiet (rose_later n before then now earlier (subst (λ k. RoseBy k then now) (one_loss mid new up down) rest))))
+    a.step

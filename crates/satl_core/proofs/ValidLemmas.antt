@@ -270,6 +270,9 @@ module _ (l new : Layer) (d : DriveState) (r : Request) (c : Command) (replies :
     | false ↦ λ a. a.stays ∙ ap (λ (x : Layer). record l { tasks = new.tasks; free = new.free; out = x.out }) (sym a.stays)
   ]) b
 
+  pub becomes_down : new.down ≡ l.down
+  becomes_down = ap (λ (x : Layer). x.down) becomes_same
+
   -- a full set stays as it is
   full_same : (replies ≡ [] → ⊥) → new ≡ record l { free = new.free; out = new.out }
   full_same some = (elim (is_too_much l.tasks (task_without_pages r c l.identity.queued_trim)) as (λ f. MatchBool f (IsRefused r l replies new) (IsAdded r c l replies new) → new ≡ record l { free = new.free; out = new.out }) [

@@ -80,6 +80,7 @@ impl Satl {
         ensures tied { Tied self.new (D.state drive.new) }
         ensures kept { AreKept self.old (D.state drive.old) self.new (D.state drive.new) }
         ensures rest { KeepsRest self.old replies.old self.new replies.new }
+        ensures unasked { self.old.down ≡ true → drive.new ≡ drive.old }
         ensures steps { steps.new ≤ steps.old + 1 }
     {
         if self.down || !self.started {
@@ -143,8 +144,42 @@ impl Satl {
         }
     }
 
+    /// A task ends that is outstanding, or else the first one. At a lost link all tasks are answered.
+    pub(crate) fn end_one<D: Drive, L: Ledger>(
+        &mut self,
+        drive: &mut D,
+        replies: &mut Replies,
+        steps: &mut Steps<L>,
+    )
+        requires tied { Tied self.old (D.state drive.old) }
+        requires some { 0 < length self.old.tasks }
+        requires few { length self.old.tasks ≤ most_tasks }
+        requires empty { replies.old ≡ [] }
+        requires all_in { self.old.out ≡ 0 }
+        ensures ends { EndsOrLoses (view self.old (D.state drive.old)) replies.new (view self.new (D.state drive.new)) }
+        ensures agrees { Agrees self.new (D.state drive.new) }
+        ensures still { MatchBool (works self.new) (Unit {0}) (self.new.flying ≡ []) }
+        ensures kept { AreKept self.old (D.state drive.old) self.new (D.state drive.new) }
+        ensures pages { self.new.out ≡ reply_pages replies.new }
+        ensures writable { AllByRecursion IsWritable replies.new }
+        ensures fewer { length self.new.tasks + 1 ≤ length self.old.tasks }
+        ensures room { length replies.new + length self.new.tasks ≤ 65 }
+        ensures flushed { IsFlushed self.old.tasks replies.new → (Rose (D.state drive.old).faults (D.state drive.new).faults → ⊥) → AllByRecursion IsSettled (D.state drive.new).cells }
+        ensures still_down { self.old.down ≡ true → self.new.down ≡ true }
+        ensures unasked { self.old.down ≡ true → drive.new ≡ drive.old }
+        ensures uncalled { self.old.down ≡ true → steps.new ≡ steps.old }
+        ensures queued { self.old.flying ≢ [] → steps.new ≤ steps.old + 2 }
+        ensures steps { steps.new ≤ steps.old + barrier_calls }
+    {
+        if self.queue.is_idle() {
+            self.end_first(drive, replies, steps);
+        } else {
+            self.end_queued(drive, replies, steps);
+        }
+    }
+
     /// The first task ends, with nothing outstanding. At a lost link all tasks are answered.
-    pub(crate) fn end_first<D: Drive, L: Ledger>(
+    fn end_first<D: Drive, L: Ledger>(
         &mut self,
         drive: &mut D,
         replies: &mut Replies,
@@ -199,7 +234,7 @@ impl Satl {
     }
 
     /// A task that is outstanding ends, whichever the drive says. At a lost link all tasks are answered.
-    pub(crate) fn end_queued<D: Drive, L: Ledger>(
+    fn end_queued<D: Drive, L: Ledger>(
         &mut self,
         drive: &mut D,
         replies: &mut Replies,

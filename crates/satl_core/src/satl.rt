@@ -190,9 +190,11 @@ impl Satl {
         }
     }
 
-    /// Whether a request has the nexus and tag of a task, at logical unit 0 (SAM-5 5.1, overlapped commands).
+    /// Whether a request has the nexus and tag of a task, at logical unit 0 (SAM-5 5.1, overlapped commands). Its pages hold what a
+    /// parameter list needs of them.
     fn overlaps(&self, request: &Request) -> bool
-        ensures { result ≡ is_overlapping self.now.tasks request.now }
+        ensures value { result ≡ is_overlapping self.now.tasks request.now }
+        ensures holds { CanSubmit request.now self.now.free self.now.out → total_blocks self.now.tasks ≤ most_held → HoldsList request.now }
     {
         is_for_unit(request) && self.queue.find(request.nexus, request.tag).is_some()
     }
@@ -235,14 +237,12 @@ impl Satl {
     /// Judges a request that overlaps no task: its command, which may become a task, or why it is answered at once. A unit attention
     /// that it is answered with is told by that (SAM-5 5.14).
     fn judge(&mut self, request: &Request) -> Result<Command, AtOnce>
-        requires can { CanSubmit request.now self.old.free self.old.out }
-        requires few { total_blocks self.old.tasks ≤ most_held }
+        requires holds { HoldsList request.now }
         requires alone { is_overlapping self.old.tasks request.now ≡ false }
         ensures judged { result ≡ judged self.old request.now }
         ensures left { self.new ≡ once_judged self.old request.now }
         ensures kept { self.new ≡ record self.old { attentions = self.new.attentions } }
         ensures same { OnOk result (self.new ≡ self.old) }
-        ensures holds { HoldsList request.now }
         ensures lengths { HasLengths request.now.cdb }
         ensures served { IfOk result (λ command. IsServed command) }
         ensures task { IfOk result (λ command. IsTask self.old.identity.capacity command (held_blocks command)) }
@@ -310,11 +310,7 @@ impl Satl {
         if self.pending() == 0 {
             return;
         }
-        if self.queue.is_idle() {
-            self.end_first(drive, replies, steps);
-        } else {
-            self.end_queued(drive, replies, steps);
-        }
+        self.end_one(drive, replies, steps);
         self.refill(drive, replies, steps);
     }
 

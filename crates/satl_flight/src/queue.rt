@@ -202,10 +202,11 @@ impl Queue {
         self.flight.is_empty()
     }
 
-    /// Adds a task at the end. The error is the task itself, exactly where the set is full (SAM-5, TASK SET FULL).
+    /// Adds a task at the end, which is not outstanding. The error is the task itself, exactly where the set is full (SAM-5, TASK SET FULL).
     pub fn add(&mut self, entry: Entry) -> Result<(), Entry>
         ensures full { is_err result ≡ is_too_much self.old.tasks entry }
         ensures ok { OnOk result (Adds self.old.tasks entry self.new.tasks) }
+        ensures waits { OnOk result ((h : Held) → slice_get self.new.tasks (length self.old.tasks) ≡ Some h → holds self.new.flying h.slot ≡ false) }
         ensures back { IfErr result (λ refused. refused ≡ entry) }
         ensures kept { OnErr result (self.new ≡ self.old) }
         ensures flying { self.new.flying ≡ self.old.flying }

@@ -1,40 +1,33 @@
-use Rattle.std.proofs.Common.{arith, sym, ap, subst, length}
-use Rattle.std.specs.List.{AllByRecursion}
-use Rattle.satl_core.specs.Layer.{IsKept, Layer, Tied}
+use Rattle.std.proofs.Common.{arith, sym, ap, subst, ◌∙◌, [], ◌++◌, length}
+use Rattle.satl_direct.specs.Quiet.{Around}
+use Rattle.satl_direct.specs.Run.{Manages, MayLose}
+use Rattle.satl_core.specs.Layer.{Layer, Tied, view}
 use Rattle.satl_core.specs.Leaving.{is_within}
-use Rattle.satl_core.proofs.LeavingLemmas.{left_fewer, left_kept}
-use Rattle.satl_core.proofs.ManagingLemmas.{managed_around, managed_tied}
+use Rattle.satl_core.specs.Refilling.{Removes}
+use Rattle.satl_core.proofs.CountedLemmas.{tasks_seen}
+use Rattle.satl_core.proofs.ManagingLemmas.{managed_around, posted_tied}
+use Rattle.satl_core.proofs.TieLemmas.{layer_of}
 use Rattle.satl_core.proofs.satl.Satl.manage.Goals as goal
 
-pub invariant_of-self : goal.invariant_of-self
-invariant_of-self g c =
-    record {
-      held = omega (arith, c.drop_tasks.ensures.out, c.self.invariant.held);
-      all = omega (arith, c.drop_tasks.ensures.out, c.drop_tasks.ensures.free, c.self.invariant.all);
-      kept = subst (AllByRecursion (IsKept c.self.inside.identity)) (sym c.drop_tasks.ensures.others) (left_kept (IsKept c.self.inside.identity) (is_within c.decide-effect.result.goes) c.self.inside.tasks c.self.invariant.kept);
-      identity_is = c.self.invariant.identity_is;
-    }
+pub take_off-requires-clause-tied : goal.take_off-requires-clause-tied
+take_off-requires-clause-tied g c =
+    let i = c.self.inside in
+    let was = layer_of i.identity i.modes i.started i.down i.attentions i.queue i.pool in
+    posted_tied c.decide-effect.result.posts was (layer_of i.identity i.modes i.started i.down c.post.new.attentions i.queue i.pool) (g.D.Drive.state c.args.drive.now) (ap (λ lists. record was { attentions = lists }) c.post.ensures)
+    (subst (λ l. Tied l (g.D.Drive.state c.args.drive.now)) (sym c.self.view_is) c.requires.tied)
+
+pub take_off-requires-clause-room : goal.take_off-requires-clause-room
+take_off-requires-clause-room g c =
+    let count = tasks_seen c.args.self.now.tasks in
+    omega (arith, count, c.requires.tied.agrees.valid.few, ap length c.requires.empty, ap (λ (l : Layer). length l.tasks) c.self.view_is)
 
 pub returns-clause-manages : goal.returns-clause-manages
 returns-clause-manages g c =
-    managed_around c.args.manage.now c.decide-effect.result c.self.inside.identity c.self.inside.modes c.self.inside.started c.self.inside.down c.self.inside.attentions c.post.new.attentions c.self.inside.tasks c.drop_tasks.new.tasks _ _ (g.D.Drive.state c.args.drive.now) c.args.self.now c.args.replies.now
-    c.self.view_is c.requires.empty c.decide-effect.ensures c.drop_tasks.ensures.others c.post.ensures
-
-pub returns-clause-tied : goal.returns-clause-tied
-returns-clause-tied g c =
-    managed_tied c.decide-effect.result c.self.inside.identity c.self.inside.modes c.self.inside.started c.self.inside.down c.self.inside.attentions c.post.new.attentions c.self.inside.tasks c.drop_tasks.new.tasks _ _ _ _ (g.D.Drive.state c.args.drive.now)
-    c.drop_tasks.ensures.others c.post.ensures (subst (λ (l : Layer). Tied l (g.D.Drive.state c.args.drive.now)) (sym c.self.view_is) c.requires.tied)
-
-pub returns-clause-fewer : goal.returns-clause-fewer
-returns-clause-fewer g c =
-    let few = left_fewer (is_within c.decide-effect.result.goes) c.self.inside.tasks in
-    let left = ap length c.drop_tasks.ensures.others in
-    let view = ap (λ (l : Layer). length l.tasks) c.self.view_is in
-    omega (arith, few, left, view)
-
-pub returns-clause-calls : goal.returns-clause-calls
-returns-clause-calls g c =
-    let few = left_fewer (is_within c.decide-effect.result.goes) c.self.inside.tasks in
-    let left = ap length c.drop_tasks.ensures.others in
-    let view = ap (λ (l : Layer). length l.tasks) c.self.view_is in
-    omega (arith, few, left, view)
+    let i = c.self.inside in
+    let was = layer_of i.identity i.modes i.started i.down i.attentions i.queue i.pool in
+    let d = g.D.Drive.state c.args.drive.now in
+    let new = view c.take_off.new.self (g.D.Drive.state c.take_off.new.drive) in
+    subst (λ l. Around (MayLose (Manages c.args.manage.now c.decide-effect.result.response)) (view l d) c.take_off.new.replies new) c.self.view_is
+    (subst (λ r. Around (MayLose (Manages c.args.manage.now c.decide-effect.result.response)) (view was d) r new) (sym (c.take_off.ensures.removes.behind ∙ ap (λ r. r ++ c.take_off.ensures.removes.more) c.requires.empty))
+    (managed_around c.args.manage.now c.decide-effect.result was d c.take_off.ensures.removes.more new c.decide-effect.ensures
+    (subst (λ lists. Around (MayLose (Removes (is_within c.decide-effect.result.goes))) (record (view was d) { attentions = lists }) c.take_off.ensures.removes.more new) c.post.ensures c.take_off.ensures.removes.step)))

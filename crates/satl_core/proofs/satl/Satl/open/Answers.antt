@@ -1,5 +1,6 @@
 use Rattle.std.proofs.Common.{refl, sym, ap, ◌∙◌, arith}
 use Rattle.satl_core.specs.Opening.IsUndisturbed.{cut_off, untouched, written_back}
+use Rattle.satl_flight.specs.Queueing.{Waiting}
 use Rattle.satl_core.specs.Layer.{held_pages}
 use Rattle.satl_barrier.proofs.CommandsLemmas.{cut_nows}
 use Rattle.satl_core.proofs.OpeningLemmas.{at_error, judged_as_told, opened, told_nows}
@@ -13,14 +14,15 @@ returns-in-Err-read_identity-clause-nows g c = told_nows _ _ _ _ c.in-Ok.ensures
 
 pub returns-clause-opened : goal.returns-clause-opened
 returns-clause-opened g c =
-    opened _ _ _ _ _ _ _ _ _ _ c.requires.idle c.requires.no_error c.in-Ok.ensures.told c.requires.fit c.tell_identity.ensures.stays.free.fit
-    (sym (judged_as_told _ _ _ _ _ _ c.in-Ok.ensures.told c.block.ensures c.read_identity.ensures.judged) ∙ c.in-Ok-read_identity.is) c.first_modes.ensures.wce c.first_modes.ensures.dra c.first_modes.ensures.d_sense c.in_ok-tasks.ensures c.no_attentions.ensures (omega (arith, c.in_ok-pool.ensures.out, c.in-Some.ensures.out, c.in-Some.ensures.pages, c.tell_identity.ensures.size, c.give.ensures.out, ap held_pages c.in_ok-tasks.ensures))
+    opened _ _ _ _ _ _ _ _ _ c.requires.idle c.requires.no_error c.in-Ok.ensures.told c.requires.fit c.tell_identity.ensures.stays.free.fit
+    (sym (judged_as_told _ _ _ _ _ _ c.in-Ok.ensures.told c.block.ensures c.read_identity.ensures.judged) ∙ c.in-Ok-read_identity.is) c.first_modes.ensures.wce c.first_modes.ensures.dra c.first_modes.ensures.d_sense c.in_ok-queue.ensures c.no_attentions.ensures
+    (omega (arith, c.in_ok-pool.ensures.out, c.in-Some.ensures.out, c.in-Some.ensures.pages, c.tell_identity.ensures.size, c.give.ensures.out, ap (λ (w : Waiting). held_pages w.tasks) c.in_ok-queue.ensures))
 
 pub returns-clause-nows : goal.returns-clause-nows
 returns-clause-nows g c = told_nows _ _ _ _ c.in-Ok.ensures.told
 
-pub returns-in_err-tasks-clause-alone : goal.returns-in_err-tasks-clause-alone
-returns-in_err-tasks-clause-alone g c = at_error c.from_residual.result (untouched refl)
+pub returns-in_err-queue-clause-alone : goal.returns-in_err-queue-clause-alone
+returns-in_err-queue-clause-alone g c = at_error c.from_residual.result (untouched refl)
 
 pub returns-in_err-pool-clause-alone : goal.returns-in_err-pool-clause-alone
 returns-in_err-pool-clause-alone g c = at_error c.from_residual-in_err-pool.result (untouched refl)

@@ -1,0 +1,37 @@
+use Rattle.std.proofs.Common.{◌≡◌, ◌≤◌, ◌-◌, arith, refl, sym, ap, subst, ◌∙◌, ◌∷◌, [], length, true}
+use Rattle.satl_base.specs.declared.reply.Reply.{Reply}
+use Rattle.satl_base.specs.declared.request.Request.{Request}
+use Rattle.satl_identify.proofs.Judging.{capacity_bounds}
+use Rattle.satl_line.specs.Tasks.{total_blocks}
+use Rattle.satl_direct.specs.Arrival.{Arrives}
+use Rattle.satl_direct.specs.Quiet.{Around}
+use Rattle.satl_direct.specs.Run.{MayLose}
+use Rattle.satl_direct.specs.Senses.{overlapped}
+use Rattle.satl_core.specs.declared.submitting.AtOnce.TheVariants as at_once
+use Rattle.satl_core.specs.Layer.{Layer, Tied, held_pages, reply_pages, view}
+use Rattle.satl_core.specs.Submitting.{is_overlapping, reply_at_once}
+use Rattle.satl_core.proofs.ArrivalLemmas.{held_by_is}
+use Rattle.satl_core.proofs.CountedLemmas.{tasks_seen}
+use Rattle.satl_core.proofs.HeldLemmas.{held_is}
+use Rattle.satl_core.proofs.OverlapLemmas.{overlap_around}
+use Rattle.satl_core.proofs.TieLemmas.{layer_of}
+use Rattle.satl_core.proofs.ValidLemmas.{tied_told}
+use Rattle.satl_core.proofs.satl.Satl.overlap.Goals as goal
+
+pub answer_at_once-requires-clause-capacity : goal.answer_at_once-requires-clause-capacity
+answer_at_once-requires-clause-capacity g c = (capacity_bounds c.self.inside.identity c.self.invariant.identity_is).0
+
+pub answer_at_once-requires-clause-room : goal.answer_at_once-requires-clause-room
+answer_at_once-requires-clause-room g c =
+    let blocks : total_blocks c.self.inside.queue.tasks ≤ 32768 = subst (λ (l : Layer). total_blocks l.tasks ≤ 32768) (sym c.self.view_is) (subst (λ n. n ≤ 32768) (held_by_is c.args.self.now.tasks) c.requires.tied.agrees.valid.blocks) in
+    let held = held_is c.self.inside.identity c.self.inside.queue.tasks c.self.invariant.kept in
+    let out = ap (λ (l : Layer). l.out) c.self.view_is in
+    omega (arith, blocks, held, out, c.requires.can.pages, c.self.invariant.all, c.self.invariant.held)
+
+pub returns-clause-around : goal.returns-clause-around
+returns-clause-around g c = λ whole cut.
+    let i = c.self.inside in
+    let was = layer_of i.identity i.modes i.started i.down i.attentions i.queue i.pool in
+    subst (λ (l : Layer). Around (MayLose (Arrives whole)) (view l (g.D.Drive.state c.args.drive.now)) c.take_off.new.replies (view c.take_off.new.self (g.D.Drive.state c.take_off.new.drive))) c.self.view_is
+    (overlap_around was (g.D.Drive.state c.args.drive.now) whole c.args.request (view c.take_off.new.self (g.D.Drive.state c.take_off.new.drive)) c.answer_at_once.new.replies c.take_off.new.replies (ap (λ (l : Layer). l.down) c.self.view_is ∙ c.requires.tied.agrees.mark) cut
+    (subst (λ (l : Layer). is_overlapping l.tasks c.args.request ≡ true) (sym c.self.view_is) c.requires.overlaps) (c.answer_at_once.ensures.reply ∙ ap (λ sense. reply_at_once i.identity i.modes c.args.request (at_once.Check sense) ∷ []) c.plain.ensures) c.take_off.ensures.removes)
