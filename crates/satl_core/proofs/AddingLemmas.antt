@@ -2,7 +2,6 @@
 use Rattle.std.proofs.Common.{◌≡◌, refl, sym, ap, subst, ◌∙◌, arith, ℕ, zero, suc, ◌+◌, ◌*◌, ◌≤◌, Bool, true, false, List, [], ◌∷◌, ◌++◌, length, map, take, Some}
 use Rattle.std.proofs.lemmas.Bool.{ltb-false}
 use Rattle.std.specs.Prelude.{IfSome, MatchBool, Option, ◌==◌, ◌||◌, nat_lt, slice_get}
-use Rattle.std.specs.Option.{option_map}
 use Rattle.std.specs.List.{AllByRecursion}
 use Rattle.satl_base.specs.declared.block.Block.{Block}
 use Rattle.satl_base.specs.declared.block.Range.{Range}
@@ -14,7 +13,7 @@ use Rattle.satl_identify.specs.declared.identity.Identity.{Identity}
 use Rattle.satl_line.specs.declared.entry.Entry.{Entry}
 use Rattle.satl_line.specs.Kinds.{kind_of}
 use Rattle.satl_mode.specs.Changes.{IsChangeOf}
-use Rattle.satl_line.specs.Tasks.{Adds, Held, change_at, entries_of, entry_at, is_too_much, total_blocks, with_body}
+use Rattle.satl_line.specs.Tasks.{Adds, Held, change_at, entries_of, is_too_much, total_blocks, with_body}
 use Rattle.satl_line.proofs.SlotsLemmas.{All-append, total-append}
 use Rattle.satl_direct.specs.Tasks.{asks, data_out, held_blocks, needed, task_for, task_of}
 use Rattle.satl_core.specs.Layer.{IsExpectable, IsKept, IsTask, Layer, held_pages}

@@ -1,11 +1,9 @@
 -- The layer and its drive agree, as tasks are issued, end and go, and as the link is lost.
-use Rattle.std.proofs.Common.{◌≡◌, ◌⊎◌, ⊎_elim, refl, sym, ap, subst, ◌∙◌, arith, ℕ, zero, suc, ◌+◌, ◌≤◌, Bool, true, false, List, [], ◌∷◌, ◌++◌, length, map, cond, None, Some}
-use Rattle.std.specs.Prelude.{not, ◌&&◌, ◌||◌, ◌^◌, filter, MatchBool, slice_get}
+use Rattle.std.proofs.Common.{◌≡◌, ⊎_elim, refl, sym, ap, subst, ◌∙◌, arith, ℕ, zero, suc, ◌≤◌, Bool, true, false, List, [], ◌∷◌, length, map, None, Some}
+use Rattle.std.specs.Prelude.{not, ◌||◌, ◌^◌, MatchBool}
 use Rattle.std.specs.List.{AllByRecursion, AllZip, list_any, remove}
 use Rattle.satl_base.specs.declared.modes.Modes.{Modes}
 use Rattle.satl_base.specs.Cells.{AreSound, Cell}
-use Rattle.satl_base.specs.Losses.{Loses}
-use Rattle.satl_base.specs.Limits.{most_held, most_tasks}
 use Rattle.satl_base.proofs.CellsLemmas.{part-sound, whole-sound}
 use Rattle.satl_base.proofs.LossesLemmas.{loses-length, loses-sound}
 use Rattle.satl_base.proofs.MovesLemmas.{moves-length, moves-sound}
@@ -14,23 +12,20 @@ use Rattle.satl_identify.specs.declared.identity.Identity.{Identity}
 use Rattle.satl_line.specs.declared.entry.Entry.{Entry}
 use Rattle.satl_line.specs.Ending.{EndsAs, Outcome}
 use Rattle.satl_line.specs.Ending.Outcome.{ends_done, ends_flawed, ends_glitched}
-use Rattle.satl_line.specs.Ranged.{RangedTask, ranged_by, ranged_of, written_pairs}
+use Rattle.satl_line.specs.Ranged.{RangedTask, ranged_by, written_pairs}
 use Rattle.satl_line.specs.Ranged.RangedTask.{ranged_read, ranged_write}
 use Rattle.satl_line.specs.Tasks.{Held, entries_of}
 use Rattle.satl_line.proofs.SlotsLemmas.{remove-map}
-use Rattle.satl_cdb.specs.declared.command.Command.{Command}
-use Rattle.satl_cdb.specs.declared.command.Command.TheVariants as cdbs
 use Rattle.satl_drive.specs.State.{DriveState, IsFit}
 use Rattle.satl_drive.specs.Rules.{MaySet}
-use Rattle.satl_flight.specs.declared.flight.Flying.{Flying}
 use Rattle.satl_flight.specs.Flown.{FitsDrive, IsFlown, IsInFlight, RangedFits}
 use Rattle.satl_flight.specs.Settled.{IsCut, IsFilled, IsLaunched, IsLostInFlight, IsLostQuietly, IsSettled}
-use Rattle.satl_barrier.specs.Leaving.{IsLostIn, Stays, TellsOf}
+use Rattle.satl_barrier.specs.Leaving.{Stays, TellsOf}
 use Rattle.satl_barrier.proofs.ToldLemmas.{all_bytes, retold}
 use Rattle.satl_direct.specs.Device.{Device}
 use Rattle.satl_direct.specs.Tasks.{held_by, task_of}
 use Rattle.satl_direct.specs.Valid.{AreOwn, HasCome, IsValid}
-use Rattle.satl_core.specs.Layer.{Agrees, IsKept, IsTask, IsUsed, Layer, Tied, view, works}
+use Rattle.satl_core.specs.Layer.{Agrees, IsKept, IsUsed, Layer, Tied, view, works}
 use Rattle.satl_core.proofs.QueuedLemmas.{by_command}
 use Rattle.satl_core.proofs.TieLemmas.{bytes_long}
 use Rattle.satl_core.proofs.Transfers.{of_task}

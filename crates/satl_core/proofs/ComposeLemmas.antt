@@ -1,18 +1,17 @@
 -- A turn, and a step that may lose the link, from their parts.
-use Rattle.std.proofs.Common.{◌≡◌, ◌⊎◌, append_assoc, refl, sym, ◌∙◌, ap, subst, inl, ⊎_elim, true, Bool, List, [], ◌∷◌, ◌++◌, map}
+use Rattle.std.proofs.Common.{◌≡◌, append_assoc, refl, sym, ◌∙◌, ap, subst, inl, ⊎_elim, true, Bool, List, [], ◌∷◌, ◌++◌}
 use Rattle.std.specs.Prelude.{not, filter}
 use Rattle.std.proofs.lemmas.List.{append-nil}
 use Rattle.satl_base.specs.declared.reply.Reply.{Reply}
-use Rattle.satl_unit.specs.declared.attention.Attention.{Attention}
 use Rattle.satl_line.specs.declared.entry.Entry.{Entry}
 use Rattle.satl_direct.specs.Device.{Device}
 use Rattle.satl_direct.specs.Quiet.{Around, Quiet}
 use Rattle.satl_direct.specs.Run.{MayLose}
 use Rattle.satl_direct.specs.Run.MayLose.{keeps, loses as loses_after}
-use Rattle.satl_direct.specs.Turn.{Loss, OneEnds, Turn, TurnLoss}
+use Rattle.satl_direct.specs.Turn.{Loss, Turn, TurnLoss}
 use Rattle.satl_direct.specs.Turn.Turn.{ends as turn_ends, ends_and_loses as turn_ends_and_loses}
 use Rattle.satl_core.specs.Refilling.{Answers, EndsOne, EndsOrLoses, Refills, Removes}
-use Rattle.satl_core.proofs.DeviceLemmas.{around_alone, quiet_none}
+use Rattle.satl_core.proofs.DeviceLemmas.{quiet_none}
 use Rattle.satl_core.proofs.QuietLemmas.{quiet_on}
 
 turn_loss : (a b : Device) (answers : List Reply) → Loss a answers b → TurnLoss a answers b
@@ -28,13 +27,13 @@ turn_on : (old mid new : Device) (reply : Reply) (answers : List Reply) → Ends
 turn_on old mid new reply answers e refills =
     ⊎_elim
     (λ (quiet : (answers ≡ []) × Quiet mid new). subst (λ l. Around Turn old (reply ∷ l) new) (sym quiet.0)
-        (record { before = e.before; after = e.after; quiet_before = e.quiet_before; step = turn_ends reply e.ends; quiet_after = quiet_on e.after mid new e.quiet_after quiet.1 }))
+    (record { before = e.before; after = e.after; quiet_before = e.quiet_before; step = turn_ends reply e.ends; quiet_after = quiet_on e.after mid new e.quiet_after quiet.1 }))
     (λ (lost : (m : Device) × Quiet mid m × Loss m answers new). record {
-        before = e.before;
-        after = new;
-        quiet_before = e.quiet_before;
-        step = turn_ends_and_loses reply e.ends (quiet_on e.after mid lost.0 e.quiet_after lost.1) (turn_loss lost.0 new answers lost.2);
-        quiet_after = quiet_none new;
+      before = e.before;
+      after = new;
+      quiet_before = e.quiet_before;
+      step = turn_ends_and_loses reply e.ends (quiet_on e.after mid lost.0 e.quiet_after lost.1) (turn_loss lost.0 new answers lost.2);
+      quiet_after = quiet_none new;
     })
     refills
 
@@ -43,9 +42,9 @@ pub turn_of : (old mid new : Device) (first all : List Reply) → EndsOrLoses ol
 turn_of old mid new first all ends refills idle =
     ⊎_elim
     (λ (one : (reply : Reply) × (first ≡ reply ∷ []) × EndsOne old reply mid).
-        subst (λ l. Around Turn old l new) (sym (refills.behind ∙ ap (λ l. l ++ refills.more) one.1)) (turn_on old mid new one.0 refills.more one.2 refills.step))
+    subst (λ l. Around Turn old l new) (sym (refills.behind ∙ ap (λ l. l ++ refills.more) one.1)) (turn_on old mid new one.0 refills.more one.2 refills.step))
     (λ (lost : Around Turn old first mid × (mid.down ≡ true)).
-        subst (λ l. Around Turn old l new) (sym (idle lost.1).0) (subst (Around Turn old first) (sym (idle lost.1).1) lost.0))
+    subst (λ l. Around Turn old l new) (sym (idle lost.1).0) (subst (Around Turn old first) (sym (idle lost.1).1) lost.0))
     ends
 
 -- a step, and then what may be issued was, or the link was lost
@@ -53,13 +52,13 @@ pub step_on : (Step : Device → List Reply → Device → Type 0) (old mid new 
 step_on Step old mid new answers more a refills =
     ⊎_elim
     (λ (quiet : (more ≡ []) × Quiet mid new). subst (λ l. Around (MayLose Step) old l new) (sym (ap (λ l. answers ++ l) quiet.0 ∙ append-nil answers))
-        (record { before = a.before; after = a.after; quiet_before = a.quiet_before; step = keeps a.step; quiet_after = quiet_on a.after mid new a.quiet_after quiet.1 }))
+    (record { before = a.before; after = a.after; quiet_before = a.quiet_before; step = keeps a.step; quiet_after = quiet_on a.after mid new a.quiet_after quiet.1 }))
     (λ (lost : (m : Device) × Quiet mid m × Loss m more new). record {
-        before = a.before;
-        after = new;
-        quiet_before = a.quiet_before;
-        step = loses_after a.step (quiet_on a.after mid lost.0 a.quiet_after lost.1) lost.2;
-        quiet_after = quiet_none new;
+      before = a.before;
+      after = new;
+      quiet_before = a.quiet_before;
+      step = loses_after a.step (quiet_on a.after mid lost.0 a.quiet_after lost.1) lost.2;
+      quiet_after = quiet_none new;
     })
     refills
 

@@ -10,7 +10,7 @@ use Rattle.satl_line.specs.declared.entry.Entry.{Entry}
 use Rattle.satl_line.specs.Conflict.{conflicts}
 use Rattle.satl_line.specs.Kinds.{is_ranged, kind_of}
 use Rattle.satl_line.specs.Tasks.{AreOwnSlots, Held, entries_of}
-use Rattle.satl_drive.specs.State.{DriveState, Outstanding}
+use Rattle.satl_drive.specs.State.{DriveState}
 use Rattle.satl_direct.specs.Run.{depth, eligibles}
 use Rattle.satl_direct.specs.Tasks.{task_of}
 use Rattle.satl_flight.specs.Settled.{IsFilled}
@@ -100,9 +100,10 @@ own_filter p (h ∷ hs) own =
 
 own_eligibles : (hs : List Held) → AreOwnSlots hs → AreOwnSlots (eligibles_held hs)
 own_eligibles [] own = tt
-own_eligibles (h ∷ hs) own =
-    (All-filter (λ (k : Held). (h.slot == k.slot) ≡ false) (λ u. not (clash h u)) (eligibles_held hs) (All-eligibles (λ (k : Held). (h.slot == k.slot) ≡ false) hs own.0),
-    own_filter (λ u. not (clash h u)) (eligibles_held hs) (own_eligibles hs own.1))
+own_eligibles (h ∷ hs) own = (
+  All-filter (λ (k : Held). (h.slot == k.slot) ≡ false) (λ u. not (clash h u)) (eligibles_held hs) (All-eligibles (λ (k : Held). (h.slot == k.slot) ≡ false) hs own.0),
+  own_filter (λ u. not (clash h u)) (eligibles_held hs) (own_eligibles hs own.1),
+)
 
 -- the depth of the device is no more than what is outstanding, where the queue is used
 pub deep_enough : (tasks : List Held) (flying : List Flying) (queued_trim : Bool) → AreOwnSlots tasks → AllByRecursion (λ (h : Held). h.entry.kind ≡ kind_of h.entry.command queued_trim) tasks → IsFilled flying tasks
@@ -111,13 +112,13 @@ deep_enough tasks flying queued_trim own kinds filled =
     ⊎_elim
     (λ full. omega (arith, full, Rattle.std.proofs.Math.Nat.min-le_left 32 (length (filter is_ranged (eligibles (map task_of (entries_of tasks)))))))
     (λ each.
-        let count = ap (λ ts. length (filter is_ranged ts)) (eligibles_seen tasks) ∙ ap length (filter-map as_seen is_ranged (eligibles_held tasks)) ∙ length-map (filter (λ h. is_ranged (as_seen h)) (eligibles_held tasks)) as_seen in
-        let few = pigeon (filter (λ h. is_ranged (as_seen h)) (eligibles_held tasks)) flying (own_filter (λ h. is_ranged (as_seen h)) (eligibles_held tasks) (own_eligibles tasks own))
-            (All-passing (λ (h : Held). holds flying h.slot ≡ true) (λ h. is_ranged (as_seen h)) (eligibles_held tasks)
-            (All-weaken (λ (h : Held). (h.entry.kind ≡ kind_of h.entry.command queued_trim) × IsEligibleBy clash tasks h) (λ (h : Held). is_ranged (as_seen h) ≡ true → holds flying h.slot ≡ true)
-            (λ h both ranged. let r = ranged_held h.entry queued_trim both.0 ranged in each h r.0 both.1 r.1) (eligibles_held tasks)
-            (All-both (λ (h : Held). h.entry.kind ≡ kind_of h.entry.command queued_trim) (IsEligibleBy clash tasks) (eligibles_held tasks) (All-eligibles (λ (h : Held). h.entry.kind ≡ kind_of h.entry.command queued_trim) tasks kinds) (each_eligible tasks)))) in
-        omega (arith, count, few, Rattle.std.proofs.Math.Nat.min-le_right 32 (length (filter is_ranged (eligibles (map task_of (entries_of tasks)))))))
+    let count = ap (λ ts. length (filter is_ranged ts)) (eligibles_seen tasks) ∙ ap length (filter-map as_seen is_ranged (eligibles_held tasks)) ∙ length-map (filter (λ h. is_ranged (as_seen h)) (eligibles_held tasks)) as_seen in
+    let few = pigeon (filter (λ h. is_ranged (as_seen h)) (eligibles_held tasks)) flying (own_filter (λ h. is_ranged (as_seen h)) (eligibles_held tasks) (own_eligibles tasks own))
+    (All-passing (λ (h : Held). holds flying h.slot ≡ true) (λ h. is_ranged (as_seen h)) (eligibles_held tasks)
+    (All-weaken (λ (h : Held). (h.entry.kind ≡ kind_of h.entry.command queued_trim) × IsEligibleBy clash tasks h) (λ (h : Held). is_ranged (as_seen h) ≡ true → holds flying h.slot ≡ true)
+    (λ h both ranged. let r = ranged_held h.entry queued_trim both.0 ranged in each h r.0 both.1 r.1) (eligibles_held tasks)
+    (All-both (λ (h : Held). h.entry.kind ≡ kind_of h.entry.command queued_trim) (IsEligibleBy clash tasks) (eligibles_held tasks) (All-eligibles (λ (h : Held). h.entry.kind ≡ kind_of h.entry.command queued_trim) tasks kinds) (each_eligible tasks)))) in
+    omega (arith, count, few, Rattle.std.proofs.Math.Nat.min-le_right 32 (length (filter is_ranged (eligibles (map task_of (entries_of tasks)))))))
     filled
 
 zip-length : {X Y : Type 0} (R : X → Y → Type 0) (xs : List X) (ys : List Y) → AllZip R xs ys → length xs ≡ length ys

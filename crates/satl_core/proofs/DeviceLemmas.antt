@@ -2,7 +2,6 @@
 use Rattle.std.proofs.Common.{◌≡◌, inl, refl, sym, ap, subst, ◌∙◌, true, false, Bool, List, [], ◌∷◌, ◌++◌, map}
 use Rattle.std.specs.Prelude.{MatchBool, not, ◌||◌, ◌&&◌}
 use Rattle.std.proofs.lemmas.Bool.{eq-eqb}
-use Rattle.satl_base.specs.declared.block.Block.{Block}
 use Rattle.satl_base.specs.declared.modes.Modes.{Modes}
 use Rattle.satl_base.specs.declared.request.Request.{Request}
 use Rattle.satl_base.specs.declared.reply.Reply.{Reply}

@@ -1,16 +1,15 @@
 -- Tasks end: the first one, or one that was outstanding.
-use Rattle.std.proofs.Common.{◌≡◌, ◌⊎◌, inl, inr, refl, sym, ap, subst, ◌∙◌, arith, ℕ, zero, suc, ◌+◌, ◌≤◌, true, false, Bool, List, [], ◌∷◌, ◌++◌, length, map, Some, None}
-use Rattle.std.specs.Prelude.{not, ◌&&◌, MatchBool, Option, IfSome, slice_get}
+use Rattle.std.proofs.Common.{◌≡◌, inl, inr, refl, sym, ap, subst, ◌∙◌, arith, ℕ, zero, suc, ◌+◌, ◌≤◌, true, false, Bool, List, [], ◌∷◌, ◌++◌, length, map, Some, None}
+use Rattle.std.specs.Prelude.{MatchBool, Option, slice_get}
 use Rattle.std.specs.Option.{option_map}
 use Rattle.std.specs.List.{AllByRecursion, AllZip, remove}
 use Rattle.satl_base.specs.declared.reply.Reply.{Reply}
-use Rattle.satl_cdb.specs.declared.command.Command.{Command}
 use Rattle.satl_cdb.specs.declared.command.Command.TheVariants as cdbs
 use Rattle.satl_errlog.specs.declared.entry.NcqError.{NcqError}
 use Rattle.satl_identify.specs.declared.identity.Identity.{Identity}
 use Rattle.satl_line.specs.declared.entry.Entry.{Entry}
 use Rattle.satl_line.specs.Kinds.{kind_of}
-use Rattle.satl_line.specs.Ranged.{RangedTask, ranged_of}
+use Rattle.satl_line.specs.Ranged.{ranged_of}
 use Rattle.satl_line.specs.Tasks.{Held, entries_of, entry_at}
 use Rattle.satl_drive.specs.State.{DriveState, IsFit, Outstanding}
 use Rattle.satl_direct.specs.Quiet.{Around}
@@ -129,8 +128,12 @@ module _ (l now new : Layer) (d d' : DriveState) (error : Option NcqError) (task
 
   pub queued_ends : (given replies : List Reply) (r : Reply) (ending : Ending) → given ≡ [] → replies ≡ given ++ r ∷ [] → r ≡ ended_reply task ending l.modes.d_sense → ending ≡ ending_by task.command error → EndsOrLoses (view now d) replies (view new d')
   queued_ends given replies r ending none push answer by =
-      inl (r, push ∙ ap (λ g. g ++ r ∷ []) none, subst (λ x. EndsOne (view x d) r (view new d')) is (subst (λ reply. EndsOne (view l d) reply (view new d')) (sym told)
-      (settles_one l d was w new d' e.place (outcome_of error e.ranged task.body) was.valid.own e.settled whole)))
+      inl (
+        r,
+        push ∙ ap (λ g. g ++ r ∷ []) none,
+        subst (λ x. EndsOne (view x d) r (view new d')) is (subst (λ reply. EndsOne (view l d) reply (view new d')) (sym told)
+            (settles_one l d was w new d' e.place (outcome_of error e.ranged task.body) was.valid.own e.settled whole)),
+      )
     where
       told : r ≡ Rattle.satl_direct.specs.Ending.outcome_reply (view l d) (task_of e.settled.held.entry) e.settled.ranged (outcome_of error e.ranged task.body)
       told =

@@ -1,13 +1,10 @@
 -- What is outstanding is what the tie says.
-use Rattle.std.proofs.Common.{◌≡◌, ◌⊎◌, refl, sym, ◌∙◌, ap, subst, inl, inr, ⊎_elim, ℕ, zero, suc, ◌<◌, Bool, true, false, cond, List, [], ◌∷◌, Option, Some, None, arith, length, eqb-true, eq-eqb}
-use Rattle.std.specs.Prelude.{◌==◌, ◌&&◌, ◌||◌, not, map, MatchBool, slice_get, unwrap_or}
+use Rattle.std.proofs.Common.{◌≡◌, refl, sym, ◌∙◌, ap, subst, inl, inr, ⊎_elim, ℕ, Bool, true, false, cond, List, [], ◌∷◌, Some, eqb-true, eq-eqb}
+use Rattle.std.specs.Prelude.{◌==◌, ◌&&◌, ◌||◌, not, map, MatchBool, unwrap_or}
 use Rattle.std.specs.Option.{option_map}
 use Rattle.std.specs.List.{AllByRecursion, AllZip, find, list_any}
 use Rattle.std.proofs.lemmas.List.{length-map}
-use Rattle.satl_base.specs.declared.block.Block.{Block}
-use Rattle.satl_base.specs.declared.block.Range.{Range}
 use Rattle.satl_base.specs.declared.modes.Modes.{Modes}
-use Rattle.satl_base.proofs.ListsLemmas.{find_passes}
 use Rattle.satl_cdb.specs.declared.command.Command.{Command}
 use Rattle.satl_cdb.specs.declared.command.Command.TheVariants as commands
 use Rattle.satl_identify.specs.declared.identity.Identity.{Identity}
@@ -22,9 +19,8 @@ use Rattle.satl_line.specs.Layout.{no_entry}
 use Rattle.satl_line.specs.Ranged.{RangedTask, ranged_by, ranged_of}
 use Rattle.satl_line.specs.Ranged.RangedTask.{ranged_read, ranged_write, ranged_trim}
 use Rattle.satl_line.specs.Tasks.{Held, entries_of}
-use Rattle.satl_line.proofs.EligibleLemmas.{eligible_stands, eligible_passes, eligible_by-formed}
 use Rattle.satl_drive.specs.State.{DriveState, Outstanding}
-use Rattle.satl_direct.specs.Device.{Device, is_called}
+use Rattle.satl_direct.specs.Device.{is_called}
 use Rattle.satl_direct.specs.Tasks.{data_out, task_of}
 use Rattle.satl_direct.specs.Valid.{AreOwn}
 use Rattle.satl_flight.specs.declared.flight.Flying.{Flying}
@@ -33,8 +29,8 @@ use Rattle.satl_flight.specs.Flown.{IsFlown, IsInFlight, clash, is_in_slot, queu
 use Rattle.satl_flight.specs.Settled.{IsFilled}
 use Rattle.satl_flight.specs.Queueing.{IsSlotted}
 use Rattle.satl_line.specs.Tasks.{AreOwnSlots}
-use Rattle.satl_core.specs.Layer.{IsKept, Layer, Tied, view}
-use Rattle.satl_core.specs.Tie.{AreApart, Given, IsFilledQueue, IsGiven, IsQueue, TiesQueue, given_by, given_of, holds}
+use Rattle.satl_core.specs.Layer.{IsKept, Layer, Tied}
+use Rattle.satl_core.specs.Tie.{AreApart, Given, IsFilledQueue, IsGiven, IsQueue, TiesQueue, given_of, holds}
 use Rattle.satl_core.proofs.DeviceLemmas.{seen}
 use Rattle.satl_core.proofs.QueuedLemmas.{eligible_seen}
 
@@ -166,10 +162,10 @@ module _ (tasks : List Held) (modes : Modes) (started : Bool) (attentions : List
       ⊎_elim
       (λ full. inl (length-map flying (given_of tasks) ∙ full))
       (λ each. inr (λ t e ranged.
-          let b = eligible_back tasks t e in
-          let k = All-eligible (λ (h : Held). (h.entry.kind ≡ kind_of h.entry.command identity.queued_trim) × (find (is_in_slot h.slot) tasks ≡ Some h)) clash tasks b.0 kept b.1.1 in
-          let r = ranged_held b.0.entry identity.queued_trim k.0 (ap is_ranged b.1.0 ∙ ranged) in
-          holds_given tasks flying b.0 t b.1.0 k.1 (each b.0 r.0 b.1.1 r.1)))
+      let b = eligible_back tasks t e in
+      let k = All-eligible (λ (h : Held). (h.entry.kind ≡ kind_of h.entry.command identity.queued_trim) × (find (is_in_slot h.slot) tasks ≡ Some h)) clash tasks b.0 kept b.1.1 in
+      let r = ranged_held b.0.entry identity.queued_trim k.0 (ap is_ranged b.1.0 ∙ ranged) in
+      holds_given tasks flying b.0 t b.1.0 k.1 (each b.0 r.0 b.1.1 r.1)))
       filled
 
 -- ---- what is given is apart

@@ -1,5 +1,5 @@
 -- Tasks go without an answer, and the others stay.
-use Rattle.std.proofs.Common.{◌≡◌, refl, sym, ap, subst, ◌∙◌, arith, cond, ℕ, zero, suc, ◌+◌, ◌≤◌, ◌<◌, ◌≢◌, Bool, true, false, List, [], ◌∷◌, length, map, take, drop, Option, Some}
+use Rattle.std.proofs.Common.{◌≡◌, refl, sym, ap, subst, ◌∙◌, arith, cond, ℕ, zero, suc, ◌+◌, ◌≤◌, ◌<◌, ◌≢◌, Bool, true, false, List, [], ◌∷◌, length, map, take, drop, Some}
 use Rattle.std.specs.Option.{option_map}
 use Rattle.std.specs.Prelude.{not, ◌||◌, filter, remove, is_some, slice_get}
 use Rattle.std.specs.List.{AllByRecursion, list_any, position_from}

@@ -1,16 +1,15 @@
 -- A request that overlaps a task, and one that becomes a task and is issued.
-use Rattle.std.proofs.Common.{◌≡◌, refl, sym, ap, subst, ◌∙◌, true, false, Bool, List, [], ◌∷◌, ◌++◌, length, map, Ok, Err}
-use Rattle.std.specs.Prelude.{not, ◌&&◌, filter, take, if◌then◌else◌}
+use Rattle.std.proofs.Common.{◌≡◌, refl, sym, ap, subst, ◌∙◌, true, false, Bool, List, [], ◌∷◌, ◌++◌, Err}
+use Rattle.std.specs.Prelude.{not, ◌&&◌, filter}
 use Rattle.satl_base.specs.declared.reply.Reply.{Reply}
 use Rattle.satl_base.specs.declared.request.Request.{Request}
-use Rattle.satl_line.specs.Tasks.{Held, entries_of}
+use Rattle.satl_line.specs.Tasks.{Held}
 use Rattle.satl_drive.specs.State.{DriveState}
 use Rattle.satl_direct.specs.Arrival.{Arrives}
 use Rattle.satl_direct.specs.Device.{Device, is_of}
 use Rattle.satl_direct.specs.Quiet.{Around, Quiet}
 use Rattle.satl_direct.specs.Run.{MayLose}
 use Rattle.satl_direct.specs.Senses.{overlapped}
-use Rattle.satl_direct.specs.Tasks.{task_of}
 use Rattle.satl_core.specs.declared.leaving.Scope.TheVariants as scopes
 use Rattle.satl_core.specs.declared.submitting.AtOnce.TheVariants as at_once
 use Rattle.satl_core.specs.Layer.{Layer, view}

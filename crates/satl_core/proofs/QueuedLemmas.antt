@@ -1,10 +1,9 @@
 -- What the queue does is what the device does.
-use Rattle.std.proofs.Common.{◌≡◌, ◌⊎◌, refl, sym, ◌∙◌, ap, subst, inl, inr, ⊎_elim, ℕ, zero, suc, ◌<◌, Bool, true, false, cond, List, [], ◌∷◌, Option, Some, None, arith, eqb-true, eq-eqb}
+use Rattle.std.proofs.Common.{◌≡◌, refl, sym, ◌∙◌, ap, subst, inl, ⊎_elim, ℕ, zero, suc, Bool, true, false, List, [], ◌∷◌, Option, Some, None, arith, eqb-true, eq-eqb}
 use Rattle.std.specs.Prelude.{◌==◌, ◌&&◌, ◌||◌, not, map, MatchBool, slice_get, if◌then◌else◌}
-use Rattle.std.specs.List.{AllByRecursion, find, list_any, remove}
+use Rattle.std.specs.List.{list_any, remove}
 use Rattle.satl_base.specs.declared.block.Block.{Block}
 use Rattle.satl_base.specs.declared.block.Range.{Range}
-use Rattle.satl_base.specs.declared.modes.Modes.{Modes}
 use Rattle.satl_base.specs.declared.reply.Reply.{Reply}
 use Rattle.satl_base.specs.declared.reply.Scsi.TheVariants.{Good}
 use Rattle.satl_base.specs.Lists.{IsIn, remove_first}
@@ -22,7 +21,7 @@ use Rattle.satl_line.specs.declared.entry.Kind.TheVariants.{Ranged, Barrier}
 use Rattle.satl_line.specs.Conflict.{conflicts}
 use Rattle.satl_line.specs.Eligible.{IsEligible, IsEligibleBy}
 use Rattle.satl_line.specs.Ending.{EndsAs, Outcome, active_after}
-use Rattle.satl_line.specs.Ending.Outcome.{ends_done, ends_flawed, ends_glitched}
+use Rattle.satl_line.specs.Ending.Outcome.{ends_flawed, ends_glitched}
 use Rattle.satl_line.specs.Ranged.{MayPut, RangedTask, ranged_by, ranged_of, written_pairs}
 use Rattle.satl_line.specs.Ranged.RangedTask.{ranged_read, ranged_write, ranged_trim}
 use Rattle.satl_line.specs.Tasks.{Held, entries_of}
@@ -39,14 +38,13 @@ use Rattle.satl_direct.specs.Turn.{Loss, TurnLoss}
 use Rattle.satl_direct.specs.Turn.Turn.{loses}
 use Rattle.satl_direct.specs.Quiet.{Around}
 use Rattle.satl_direct.specs.Valid.{AreOwn}
-use Rattle.satl_flight.specs.declared.flight.Flying.{Flying}
 use Rattle.satl_flight.specs.Flown.{clash}
 use Rattle.satl_flight.specs.Settled.{IsFilled, IsFlawOrCrc, IsLostInFlight, IsLostQuietly, IsSettled, outcome_of, read_into}
 use Rattle.satl_core.specs.Layer.{Agrees, Layer, view, works}
 use Rattle.satl_core.specs.Refilling.{EndsOne}
 use Rattle.satl_core.specs.Turning as core
 use Rattle.satl_core.specs.Turning.{ended_reply, ending_by, is_writer, read_pages}
-use Rattle.satl_core.proofs.DeviceLemmas.{ends_by, quiet_none, rest_lost, seen}
+use Rattle.satl_core.proofs.DeviceLemmas.{ends_by, quiet_none, rest_lost}
 
 -- ---- a task as the device sees it
 
@@ -147,13 +145,13 @@ settled_reply s e ranged body None is kind = ap (task_reply (task_of e) Good [])
 settled_reply s e ranged body (Some x) is kind =
     ⊎_elim
     (λ flawed.
-        ap (λ n. task_check s (task_of e) (error_sense_at (is_writer e.command) n x.lba)) flawed
-        ∙ (ap (task_check s (task_of e)) ((tells e.command e.ranges.items e.body ranged (by_command e ranged is)).flaw x.lba)
-        ∙ ap (λ b. outcome_reply s (task_of e) ranged (if b then ends_flawed x.lba else ends_glitched)) (sym (ap (λ n. n == unc) flawed))))
+    ap (λ n. task_check s (task_of e) (error_sense_at (is_writer e.command) n x.lba)) flawed
+    ∙ (ap (task_check s (task_of e)) ((tells e.command e.ranges.items e.body ranged (by_command e ranged is)).flaw x.lba)
+    ∙ ap (λ b. outcome_reply s (task_of e) ranged (if b then ends_flawed x.lba else ends_glitched)) (sym (ap (λ n. n == unc) flawed))))
     (λ garbled.
-        ap (λ n. task_check s (task_of e) (error_sense_at (is_writer e.command) n x.lba)) garbled
-        ∙ (ap (task_check s (task_of e)) (crc_sense (is_writer e.command) x.lba)
-        ∙ ap (λ b. outcome_reply s (task_of e) ranged (if b then ends_flawed x.lba else ends_glitched)) (sym (ap (λ n. n == unc) garbled))))
+    ap (λ n. task_check s (task_of e) (error_sense_at (is_writer e.command) n x.lba)) garbled
+    ∙ (ap (task_check s (task_of e)) (crc_sense (is_writer e.command) x.lba)
+    ∙ ap (λ b. outcome_reply s (task_of e) ranged (if b then ends_flawed x.lba else ends_glitched)) (sym (ap (λ n. n == unc) garbled))))
     kind
 
 -- ---- moves of the queue are quiet moves
@@ -247,7 +245,8 @@ module _ (l : Layer) (d : DriveState) (agrees : Agrees l d) (w : works l ≡ tru
       answer = rest_lost (record (view l d) { cells = d'.cells }) l.tasks;
       stays = ap (λ x. view x d') is
           ∙ (ap (λ (x : DriveState). record (view l d) { cells = d'.cells; tasks = []; down = x.down; active = x.active; glitches = x.glitches }) lost.stays);
-    })
+    },
+  )
 
   -- the link is lost as a task is settled: the turn is a loss
   pub loses_in_flight : (new : Layer) (d' : DriveState) → (l.tasks ≡ [] → ⊥) → new ≡ record l { down = true; tasks = []; flying = []; slots = new.slots; free = new.free; out = new.out } → IsLostInFlight l.tasks d d'

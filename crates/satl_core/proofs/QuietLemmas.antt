@@ -1,5 +1,5 @@
 -- Quiet moves one after the other.
-use Rattle.std.proofs.Common.{◌≡◌, ◌⊎◌, refl, sym, ◌∙◌, ap, subst, inl, inr, ⊎_elim, ℕ, ◌+◌, Bool, true, false, List, [], ◌∷◌, length}
+use Rattle.std.proofs.Common.{◌≡◌, refl, sym, ◌∙◌, ap, subst, inl, inr, ⊎_elim, ◌+◌, Bool, true, false, List, [], length}
 use Rattle.std.specs.Prelude.{◌||◌, not, nat_lt, if◌then◌else◌, take}
 use Rattle.std.specs.List.{list_any}
 use Rattle.satl_base.specs.declared.block.Block.{Block}
@@ -7,7 +7,6 @@ use Rattle.satl_base.specs.declared.block.Range.{Range}
 use Rattle.satl_base.specs.Cells.{Cell, Pair, pairs_from}
 use Rattle.satl_base.specs.Identify.{has_trim, trim_blocks}
 use Rattle.satl_base.specs.Lists.{IsIn}
-use Rattle.satl_base.specs.Moves.{Moves, stay}
 use Rattle.satl_base.proofs.MovesLemmas.{moves_on, moves_weaker, moves-length}
 use Rattle.satl_cdb.specs.declared.command.Command.{Command}
 use Rattle.satl_cdb.specs.declared.command.Command.TheVariants as cdbs

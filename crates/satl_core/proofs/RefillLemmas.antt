@@ -13,13 +13,12 @@ use Rattle.satl_frame.specs.Output.{IsWritable}
 use Rattle.satl_direct.specs.Device.{Device}
 use Rattle.satl_direct.specs.Quiet.{Quiet}
 use Rattle.satl_direct.specs.Turn.{Loss}
-use Rattle.satl_flight.specs.declared.flight.Flying.{Flying}
 use Rattle.satl_flight.specs.Settled.{IsCovered, IsFilled, IsLaunched, IsLostQuietly}
 use Rattle.satl_flight.proofs.LaunchedLemmas.{launched_moves}
 use Rattle.satl_flight.proofs.LaunchingLemmas.{filled_come}
 use Rattle.satl_core.specs.Flushed.{IsSettled}
-use Rattle.satl_core.specs.Layer.{Agrees, IsUsed, Layer, Tied, reply_pages, view, works}
-use Rattle.satl_core.specs.Refilling.{Answers, AreKept, Comes, KeepsRest, Refills}
+use Rattle.satl_core.specs.Layer.{Agrees, Layer, Tied, reply_pages, view, works}
+use Rattle.satl_core.specs.Refilling.{Answers, Comes, KeepsRest, Refills}
 use Rattle.satl_core.specs.Turning.{lost_replies}
 use Rattle.satl_core.proofs.AgreeingLemmas.{agrees_launched, quietly_down, tied_lost, used_filled}
 use Rattle.satl_core.proofs.DeviceLemmas.{quiet_none}
@@ -115,7 +114,7 @@ answered_before P first all mid new n before then now a earlier rest quiet p =
     ⊎_elim
     (λ (none : (a.more ≡ []) × Quiet mid new). subst P (a.behind ∙ (ap (λ m. first ++ m) none.0 ∙ append-nil first)) p)
     (λ (lost : (m : Device) × Quiet mid m × Loss m a.more new).
-        let up : mid.down ≡ false = sym (ap (λ (d : Device). d.down) lost.1.stays) ∙ lost.2.was_up in
-        let down : new.down ≡ true = ap (λ (d : Device). d.down) lost.2.stays in
-        absurd (quiet (rose_later n before then now earlier (subst (λ k. RoseBy k then now) (one_loss mid new up down) rest))))
+    let up : mid.down ≡ false = sym (ap (λ (d : Device). d.down) lost.1.stays) ∙ lost.2.was_up in
+    let down : new.down ≡ true = ap (λ (d : Device). d.down) lost.2.stays in
+    absurd (quiet (rose_later n before then now earlier (subst (λ k. RoseBy k then now) (one_loss mid new up down) rest))))
     a.step

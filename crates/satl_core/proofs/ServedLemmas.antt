@@ -7,7 +7,6 @@ use Rattle.satl_base.specs.declared.reply.Reply.{Reply}
 use Rattle.satl_base.specs.declared.reply.Scsi.TheVariants.{Good}
 use Rattle.satl_base.specs.Cells.{Cell, settle}
 use Rattle.satl_base.specs.Losses.{Loses}
-use Rattle.satl_base.specs.Moves.{Moves}
 use Rattle.satl_base.proofs.MovesLemmas.{lose_once, moves_weaker}
 use Rattle.satl_cdb.specs.declared.command.Command.{Command}
 use Rattle.satl_cdb.specs.declared.command.Command.TheVariants as cdbs
@@ -25,7 +24,7 @@ use Rattle.satl_direct.specs.Device.{Device}
 use Rattle.satl_direct.specs.Tasks.{asks, task_of}
 use Rattle.satl_direct.specs.Ending as direct
 use Rattle.satl_direct.specs.Ending.{Ends, EndsBy, IsChecked, IsDone, task_reply}
-use Rattle.satl_direct.specs.Quiet.{Around, MayShow}
+use Rattle.satl_direct.specs.Quiet.{Around}
 use Rattle.satl_direct.specs.Senses.{link_lost, not_ready}
 use Rattle.satl_direct.specs.Attentions.{are_same, are_same_modes, post, with_modes_changed}
 use Rattle.satl_direct.specs.Turn as turns

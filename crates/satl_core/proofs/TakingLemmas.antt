@@ -1,11 +1,10 @@
 -- Tasks are taken off, and what may be issued then is.
 use Rattle.std.proofs.Common.{◌≡◌, inl, ⊎_elim, refl, sym, ap, subst, ◌∙◌, ◌-◌, arith, ◌+◌, ◌≤◌, true, false, Bool, List, [], ◌∷◌, ◌++◌, length, map, cond, Some, eqb-true, eq-eqb}
-use Rattle.std.specs.Prelude.{not, ◌&&◌, ◌||◌, ◌==◌, filter, MatchBool}
+use Rattle.std.specs.Prelude.{not, ◌||◌, ◌==◌, filter, MatchBool}
 use Rattle.std.specs.List.{AllByRecursion, find}
 use Rattle.satl_base.specs.declared.modes.Modes.{Modes}
 use Rattle.satl_base.specs.declared.reply.Reply.{Reply}
 use Rattle.satl_base.specs.Lists.{IsIn}
-use Rattle.satl_base.proofs.ListsLemmas.{find_passes}
 use Rattle.satl_identify.specs.declared.identity.Identity.{Identity}
 use Rattle.satl_line.specs.declared.entry.Entry.{Entry}
 use Rattle.satl_line.specs.Tasks.{Held, entries_of}
@@ -13,10 +12,9 @@ use Rattle.satl_unit.specs.declared.attention.Attention.{Attention}
 use Rattle.satl_pages.specs.Counts.{Counts}
 use Rattle.satl_drive.specs.State.{DriveState, IsFit}
 use Rattle.satl_direct.specs.Device.{Device}
-use Rattle.satl_direct.specs.Quiet.{Around, Quiet}
+use Rattle.satl_direct.specs.Quiet.{Around}
 use Rattle.satl_direct.specs.Run.{MayLose}
 use Rattle.satl_direct.specs.Tasks.{task_of}
-use Rattle.satl_direct.specs.Turn.{Loss}
 use Rattle.satl_direct.specs.Valid.{IsValid}
 use Rattle.satl_flight.specs.declared.flight.Flying.{Flying}
 use Rattle.satl_flight.specs.Flown.{IsInFlight, holds, is_in_slot}
@@ -24,14 +22,14 @@ use Rattle.satl_flight.specs.Queueing.{Waiting}
 use Rattle.satl_flight.specs.Settled.{IsCut, IsFilled, IsLostQuietly}
 use Rattle.satl_flight.proofs.ComingLemmas.{tie_kept}
 use Rattle.satl_core.specs.declared.leaving.Scope.{Scope}
-use Rattle.satl_core.specs.Layer.{Agrees, IsUsed, Layer, Tied, held_pages, reply_pages, view, works}
+use Rattle.satl_core.specs.Layer.{Agrees, IsUsed, Layer, held_pages, view, works}
 use Rattle.satl_core.specs.Leaving.{AreWaiting, is_within, left_by}
 use Rattle.satl_core.specs.Refilling.{Answers, KeepsRest, Refills, Removes}
 use Rattle.satl_core.specs.Turning.{lost_replies}
-use Rattle.satl_core.proofs.AgreeingLemmas.{agrees_by, agrees_cut, quietly_down, tied_lost}
+use Rattle.satl_core.proofs.AgreeingLemmas.{agrees_by, agrees_cut}
 use Rattle.satl_core.proofs.ComposeLemmas.{removes_and_loses, removes_quietly, step_on}
 use Rattle.satl_core.proofs.DeviceLemmas.{quiet_none, rest_lost}
-use Rattle.satl_core.proofs.LeavingLemmas.{idle_waits, left_fewer, left_tasks}
+use Rattle.satl_core.proofs.LeavingLemmas.{idle_waits, left_tasks}
 use Rattle.satl_core.proofs.ManagingLemmas.{within_seen}
 use Rattle.satl_core.proofs.QueuedLemmas.{is_up, moves_shown}
 use Rattle.satl_core.proofs.TieLemmas.{layer_of}

@@ -1,5 +1,4 @@
 use Rattle.std.proofs.Common.{arith, refl, sym, ap, subst, ◌∙◌, length}
-use Rattle.satl_line.specs.Tasks.{entry_at}
 use Rattle.satl_core.specs.Layer.{held_pages}
 use Rattle.satl_core.specs.Leaving.{AreWaiting, is_within, left_by}
 use Rattle.satl_core.proofs.LeavingLemmas.{AreOthers, all_looked_at, bare_goes, count_removed, left_removed, others_removed, pages_removed, seen_passes, waits_at, waits_removed, within_bare}

@@ -1,4 +1,4 @@
-use Rattle.std.proofs.Common.{◌-◌, ◌≢◌, arith, refl, sym, ap, subst, ◌∙◌, [], length}
+use Rattle.std.proofs.Common.{◌≢◌, arith, refl, sym, ap, subst, ◌∙◌, [], length}
 use Rattle.std.specs.List.{AllByRecursion}
 use Rattle.satl_core.specs.Layer.{IsKept, Layer, Tied, held_pages}
 use Rattle.satl_core.specs.Leaving.{is_within}

@@ -1,6 +1,5 @@
-use Rattle.std.proofs.Common.{◌≡◌, ◌-◌, inl, inr, arith, refl, sym, ap, subst, ◌∙◌, [], ◌∷◌, ◌++◌, length, map}
+use Rattle.std.proofs.Common.{◌≡◌, inl, inr, arith, refl, sym, ap, subst, ◌∙◌, [], ◌∷◌, ◌++◌, length, map}
 use Rattle.std.proofs.lemmas.List.{length-append, length-map}
-use Rattle.std.specs.List.{AllByRecursion}
 use Rattle.satl_base.specs.declared.reply.Reply.{Reply}
 use Rattle.satl_line.specs.Tasks.{Held, entries_of}
 use Rattle.satl_direct.specs.Senses.{link_lost}
@@ -8,7 +7,7 @@ use Rattle.satl_direct.specs.Tasks.{task_of}
 use Rattle.satl_direct.specs.Valid.{AreOwn}
 use Rattle.satl_core.specs.declared.turning.Ending.TheVariants as endings
 use Rattle.satl_core.specs.Flushed.{IsFlushed}
-use Rattle.satl_core.specs.Layer.{IsKept, IsTask, Layer, Tied, held_pages, reply_pages, view}
+use Rattle.satl_core.specs.Layer.{IsTask, Layer, Tied, view}
 use Rattle.satl_core.specs.Refilling.{EndsOne}
 use Rattle.satl_core.specs.Turning.{data_in, ended_reply, lost_replies}
 use Rattle.satl_core.proofs.AgreeingLemmas.{alone_down, capacity_is, tied_lost}
@@ -18,7 +17,7 @@ use Rattle.satl_core.proofs.EndingLemmas.{alone_deepens, alone_loses, first_alon
 use Rattle.satl_core.proofs.FlushedLemmas.{first_flush, flush_done}
 use Rattle.satl_core.proofs.HeldLemmas.{first_count, first_kept, first_of, first_pages, pushed}
 use Rattle.satl_core.proofs.RefillLemmas.{lost_layer}
-use Rattle.satl_core.proofs.ServedLemmas.{first_ends, first_loses}
+use Rattle.satl_core.proofs.ServedLemmas.{first_ends}
 use Rattle.satl_core.proofs.TieLemmas.{has_as_noted, layer_of}
 use Rattle.satl_core.proofs.TurningLemmas.{all_pages, entry_few, lost_all_writable, lost_pages, one_pages, one_writable}
 use Rattle.satl_core.proofs.ValidLemmas.{agrees_rest, wanted_cache, wanted_look}
@@ -158,9 +157,12 @@ returns-in-Err-clause-ends g c =
     let d' = g.D.Drive.state c.run_task.new.drive in
     let tied = subst (λ l. Tied l d) (sym c.self.view_is) c.requires.tied in
     let first = first_of i.queue.tasks c.remove-task.new.self.tasks c.remove-task.result c.remove-task.ensures.value c.remove-task.ensures.others in
-    inr (alone_loses was c.args.self.now c.lose.new.self c.remove-task.new.self.tasks c.remove-task.result d d' c.self.invariant.kept first tied.agrees c.self.view_is c.link_lost.result c.args.replies.now c.push-in-Err.new.self c.lose.new.replies c.end_task-in-Err.result
-    (lost_layer was (layer_of i.identity i.modes i.started i.down i.attentions c.remove-task.new.self c.end_task-in-Err.new.pool) c.lose.new.self refl (c.remove-task.ensures.flying ∙ subst (λ (l : Layer). l.flying ≡ []) (sym c.self.view_is) c.requires.idle) c.lose.ensures.stays)
-    c.in-Err.ensures.lost c.requires.empty c.push-in-Err.ensures c.lose.ensures.answers c.end_task-in-Err.ensures.reply c.link_lost.ensures, c.in-Err.ensures.lost.lost.down)
+    inr (
+      alone_loses was c.args.self.now c.lose.new.self c.remove-task.new.self.tasks c.remove-task.result d d' c.self.invariant.kept first tied.agrees c.self.view_is c.link_lost.result c.args.replies.now c.push-in-Err.new.self c.lose.new.replies c.end_task-in-Err.result
+          (lost_layer was (layer_of i.identity i.modes i.started i.down i.attentions c.remove-task.new.self c.end_task-in-Err.new.pool) c.lose.new.self refl (c.remove-task.ensures.flying ∙ subst (λ (l : Layer). l.flying ≡ []) (sym c.self.view_is) c.requires.idle) c.lose.ensures.stays)
+          c.in-Err.ensures.lost c.requires.empty c.push-in-Err.ensures c.lose.ensures.answers c.end_task-in-Err.ensures.reply c.link_lost.ensures,
+      c.in-Err.ensures.lost.lost.down,
+    )
 
 pub returns-in-Err-clause-agrees : goal.returns-in-Err-clause-agrees
 returns-in-Err-clause-agrees g c =

@@ -1,8 +1,6 @@
-use Rattle.std.proofs.Common.{◌≡◌, ◌≢◌, ◌-◌, arith, refl, sym, ap, subst, ◌∙◌, [], ◌∷◌, ◌++◌, length}
-use Rattle.std.specs.List.{AllByRecursion}
-use Rattle.satl_base.specs.declared.reply.Reply.{Reply}
+use Rattle.std.proofs.Common.{◌≢◌, arith, refl, sym, ap, subst, ◌∙◌, [], ◌++◌, length}
 use Rattle.satl_line.specs.Tasks.{Held}
-use Rattle.satl_core.specs.Layer.{IsKept, Layer, Tied, held_pages, reply_pages}
+use Rattle.satl_core.specs.Layer.{Layer, Tied, reply_pages}
 use Rattle.std.proofs.lemmas.List.{length-map}
 use Rattle.satl_direct.specs.Senses.{link_lost}
 use Rattle.satl_core.specs.declared.turning.Ending.TheVariants as endings
@@ -13,7 +11,7 @@ use Rattle.satl_core.proofs.EndingLemmas.{some_count, some_tasks, ended_count, e
 use Rattle.satl_core.proofs.HeldLemmas.{alike_count, alike_held, alike_kept, pushed}
 use Rattle.satl_core.proofs.RefillLemmas.{lost_layer}
 use Rattle.satl_core.proofs.TieLemmas.{layer_of}
-use Rattle.satl_core.proofs.TurningLemmas.{entry_few, lost_pages, lost_writable, one_pages, one_writable}
+use Rattle.satl_core.proofs.TurningLemmas.{entry_few, lost_pages, one_pages, one_writable}
 use Rattle.satl_core.proofs.satl.Satl.end_queued.Goals as goal
 
 pub end_task-requires-clause-held : goal.end_task-requires-clause-held

@@ -1,13 +1,9 @@
-use Rattle.std.proofs.Common.{◌-◌, ◌≤◌, arith, sym, ap, subst}
-use Rattle.std.specs.List.{AllByRecursion}
+use Rattle.std.proofs.Common.{subst}
 use Rattle.std.specs.Prelude.{IfOk, IfSome}
 use Rattle.satl_mode.specs.Changes.{AreModesOf, IsChangeOf}
-use Rattle.satl_direct.specs.Device.{is_of}
 use Rattle.satl_direct.specs.Tasks.{asks, held_blocks}
-use Rattle.satl_core.specs.Layer.{IsKept, IsTask, Layer, held_pages}
-use Rattle.satl_core.proofs.ArrivalLemmas.{code_change, code_served, code_task, holds_by}
-use Rattle.satl_core.proofs.HeldLemmas.{held_is}
-use Rattle.satl_line.specs.Tasks.{total_blocks}
+use Rattle.satl_core.specs.Layer.{IsTask, Layer}
+use Rattle.satl_core.proofs.ArrivalLemmas.{code_change, code_served, code_task}
 use Rattle.satl_core.proofs.TieLemmas.{layer_of}
 use Rattle.satl_core.proofs.satl.Satl.judge.Goals as goal
 

@@ -1,4 +1,4 @@
-use Rattle.std.proofs.Common.{arith, sym, ap, subst, ◌∙◌, [], ◌++◌, length}
+use Rattle.std.proofs.Common.{arith, sym, ap, subst, ◌∙◌, ◌++◌, length}
 use Rattle.satl_direct.specs.Quiet.{Around}
 use Rattle.satl_direct.specs.Run.{Manages, MayLose}
 use Rattle.satl_core.specs.Layer.{Layer, Tied, view}

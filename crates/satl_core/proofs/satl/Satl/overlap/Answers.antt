@@ -1,21 +1,16 @@
-use Rattle.std.proofs.Common.{◌≡◌, ◌≤◌, ◌-◌, arith, refl, sym, ap, subst, ◌∙◌, ◌∷◌, [], length, true}
-use Rattle.satl_base.specs.declared.reply.Reply.{Reply}
-use Rattle.satl_base.specs.declared.request.Request.{Request}
+use Rattle.std.proofs.Common.{◌≡◌, ◌≤◌, arith, sym, ap, subst, ◌∙◌, ◌∷◌, [], true}
 use Rattle.satl_identify.proofs.Judging.{capacity_bounds}
 use Rattle.satl_line.specs.Tasks.{total_blocks}
 use Rattle.satl_direct.specs.Arrival.{Arrives}
 use Rattle.satl_direct.specs.Quiet.{Around}
 use Rattle.satl_direct.specs.Run.{MayLose}
-use Rattle.satl_direct.specs.Senses.{overlapped}
 use Rattle.satl_core.specs.declared.submitting.AtOnce.TheVariants as at_once
-use Rattle.satl_core.specs.Layer.{Layer, Tied, held_pages, reply_pages, view}
+use Rattle.satl_core.specs.Layer.{Layer, view}
 use Rattle.satl_core.specs.Submitting.{is_overlapping, reply_at_once}
 use Rattle.satl_core.proofs.ArrivalLemmas.{held_by_is}
-use Rattle.satl_core.proofs.CountedLemmas.{tasks_seen}
 use Rattle.satl_core.proofs.HeldLemmas.{held_is}
 use Rattle.satl_core.proofs.OverlapLemmas.{overlap_around}
 use Rattle.satl_core.proofs.TieLemmas.{layer_of}
-use Rattle.satl_core.proofs.ValidLemmas.{tied_told}
 use Rattle.satl_core.proofs.satl.Satl.overlap.Goals as goal
 
 pub answer_at_once-requires-clause-capacity : goal.answer_at_once-requires-clause-capacity

@@ -1,4 +1,4 @@
-use Rattle.std.proofs.Common.{◌≤◌, sym, subst, length}
+use Rattle.std.proofs.Common.{◌≤◌, subst, length}
 use Rattle.satl_drive.specs.State.{DriveState}
 use Rattle.satl_direct.specs.Run.{depth}
 use Rattle.satl_core.specs.Layer.{Layer, Tied, view}

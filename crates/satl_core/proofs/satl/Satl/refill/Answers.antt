@@ -1,5 +1,4 @@
-use Rattle.std.proofs.Common.{refl, sym, ap, subst, ◌∙◌, ◌-◌, ◌++◌}
-use Rattle.satl_drive.specs.State.{DriveState}
+use Rattle.std.proofs.Common.{refl, ap, ◌∙◌, ◌-◌, ◌++◌}
 use Rattle.satl_core.specs.Layer.{Layer, held_pages}
 use Rattle.satl_core.specs.Turning.{lost_replies}
 use Rattle.satl_core.proofs.RefillLemmas.{launched_answers, launched_settled, launched_tied, lost_answers, lost_layer, lost_rest, lost_tied, no_answers, works_by}

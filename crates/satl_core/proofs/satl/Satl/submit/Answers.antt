@@ -1,6 +1,5 @@
-use Rattle.std.proofs.Common.{◌≡◌, ◌≤◌, arith, refl, sym, ap, subst, ◌∙◌, ◌∷◌, [], length, Err, Ok}
+use Rattle.std.proofs.Common.{◌≡◌, ◌≤◌, arith, sym, ap, subst, ◌∙◌, ◌∷◌, [], length, Err, Ok}
 use Rattle.std.specs.Prelude.{IfSome}
-use Rattle.satl_base.specs.declared.reply.Reply.{Reply}
 use Rattle.satl_base.specs.declared.request.Request.{Request}
 use Rattle.satl_identify.proofs.Judging.{capacity_bounds}
 use Rattle.satl_mode.specs.Changes.{IsChangeOf}

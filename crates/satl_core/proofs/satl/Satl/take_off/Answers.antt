@@ -1,6 +1,6 @@
-use Rattle.std.proofs.Common.{◌≡◌, ◌≢◌, ◌-◌, arith, refl, sym, ap, subst, ◌∙◌, [], length, true, false}
+use Rattle.std.proofs.Common.{◌≡◌, ◌≢◌, arith, refl, sym, ap, subst, ◌∙◌, [], length, true, false}
 use Rattle.std.specs.List.{AllByRecursion}
-use Rattle.satl_core.specs.Layer.{IsKept, Layer, Tied, held_pages}
+use Rattle.satl_core.specs.Layer.{IsKept, Layer, Tied}
 use Rattle.satl_core.specs.Leaving.{is_within}
 use Rattle.satl_core.proofs.AgreeingLemmas.{works_flying}
 use Rattle.satl_core.proofs.LeavingLemmas.{left_fewer, left_kept}
