@@ -3,3 +3,4 @@ pub mod PageSteps
 pub mod SelectSteps
 pub mod ShownLemmas
 pub mod Unchanged
+pub mod RuleLemmas

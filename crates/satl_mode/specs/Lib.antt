@@ -4,3 +4,4 @@ pub mod ModeData
 pub mod Changes
 pub mod SelectList
 pub mod Shown
+pub mod SelectRules
