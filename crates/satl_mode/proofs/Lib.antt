@@ -4,3 +4,4 @@ pub mod SelectSteps
 pub mod ShownLemmas
 pub mod Unchanged
 pub mod RuleLemmas
+pub mod Nested

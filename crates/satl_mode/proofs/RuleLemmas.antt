@@ -1,12 +1,11 @@
 -- The first rule that is broken says what the definitions of a list say.
-use Rattle.std.proofs.Common.{◌≡◌, refl, ap, sym, ◌∙◌, cond, ℕ, zero, suc, ◌+◌, Bool, true, false, List, [], ◌∷◌, ◌++◌, Some, None}
+use Rattle.std.proofs.Common.{◌≡◌, refl, ap, ◌∙◌, cond, ℕ, zero, suc, ◌+◌, Bool, true, false, List, [], ◌∷◌, ◌++◌, Some, None}
 use Rattle.std.specs.Prelude.{Option, Ok, Err, map, not, nat_lt, nat_le, ◌==◌, ◌&&◌}
 use Rattle.std.specs.Option.{option_map}
 use Rattle.satl_base.specs.declared.block.Block.{Block}
 use Rattle.satl_base.specs.declared.modes.Modes.{Modes}
 use Rattle.satl_base.specs.Blocks.{byte_at}
 use Rattle.satl_base.specs.Fields.{bits_of}
-use Rattle.satl_cdb.specs.declared.command.Illegal.{Illegal}
 use Rattle.satl_cdb.specs.Refusals.{list_length_error, invalid_list_field}
 use Rattle.satl_cdb.specs.Unmap.{number_at}
 use Rattle.satl_identify.specs.declared.identity.Identity.{Identity}
@@ -15,11 +14,11 @@ use Rattle.satl_mode.specs.declared.page.ModePage.{ModePage}
 use Rattle.satl_mode.specs.ModePages.{page_coded, row_of, size_of}
 use Rattle.satl_mode.specs.Descriptors.{BlockField, block_fields, descriptor_size}
 use Rattle.satl_mode.specs.Changes.{descriptor_length, first_page, header_size, on_page, page_at, whole_page}
-use Rattle.satl_mode.specs.SelectList.{agrees, bits_fault, descriptor_fault, descriptor_sized, difference, fields_fault, first_fault, front_fault, has_long_lba, pages_fault, select_fault}
-use Rattle.satl_mode.specs.SelectRules.{ListRule, bit_rules, descriptor_rules, field_rule, first_broken, front_rules, page_rules, pages_rules, select_rules}
+use Rattle.satl_mode.specs.SelectList.{ListRule, agrees, bit_rules, descriptor_rules, descriptor_sized, field_rule, first_broken, front_rules, has_long_lba, page_rules, pages_rules, select_fault, difference}
+use Rattle.satl_mode.proofs.Nested.{bits_fault, descriptor_fault, fields_fault, first_fault, front_fault, pages_fault, nested_fault}
 
 -- of two lists of rules the first decides
-joined_rules : (a b : List ListRule) → first_broken (a ++ b) ≡ first_fault (first_broken a) (first_broken b)
+pub joined_rules : (a b : List ListRule) → first_broken (a ++ b) ≡ first_fault (first_broken a) (first_broken b)
 joined_rules [] b = refl
 joined_rules (rule ∷ rules) b =
     elim rule.breaks as (λ t. cond t (Some rule.refusal) (first_broken (rules ++ b)) ≡ first_fault (cond t (Some rule.refusal) (first_broken rules)) (first_broken b)) [
@@ -51,7 +50,7 @@ module _ (i : Identity) (m : Modes) (list : List Block) where
         | false ↦ refl
       ]
 
-  abbrev Follows : ℕ → ℕ → Type 0
+  abbrev pub Follows : ℕ → ℕ → Type 0
   Follows n length = (place : ℕ) → first_broken (pages_rules i m list n length place) ≡ pages_fault i m list n length place
 
   page_is : (o : Option ModePage) (n length place : ℕ) → Follows n length
@@ -60,42 +59,42 @@ module _ (i : Identity) (m : Modes) (list : List Block) where
   page_is None n length place later = refl
   page_is (Some page) n length place later =
       elim (not (byte_at list (place + 1) == (row_of page).length)) as (λ t.
-        cond t (Some (invalid_list_field (place + 1))) (cond (nat_lt length (place + size_of page)) (Some list_length_error) (first_broken (bit_rules i m list page place 2 (row_of page).length ++ pages_rules i m list n length (place + size_of page))))
-        ≡ on_page (cond t (Err (invalid_list_field (place + 1))) (cond (nat_lt length (place + size_of page)) (Err list_length_error) (Ok page))) (λ p. first_fault (bits_fault i m list p place) (pages_fault i m list n length (place + size_of p))) (λ refusal. Some refusal)) [
+      cond t (Some (invalid_list_field (place + 1))) (cond (nat_lt length (place + size_of page)) (Some list_length_error) (first_broken (bit_rules i m list page place 2 (row_of page).length ++ pages_rules i m list n length (place + size_of page))))
+      ≡ on_page (cond t (Err (invalid_list_field (place + 1))) (cond (nat_lt length (place + size_of page)) (Err list_length_error) (Ok page))) (λ p. first_fault (bits_fault i m list p place) (pages_fault i m list n length (place + size_of p))) (λ refusal. Some refusal)) [
         | true ↦ refl
         | false ↦ elim (nat_lt length (place + size_of page)) as (λ t.
             cond t (Some list_length_error) (first_broken (bit_rules i m list page place 2 (row_of page).length ++ pages_rules i m list n length (place + size_of page)))
             ≡ on_page (cond t (Err list_length_error) (Ok page)) (λ p. first_fault (bits_fault i m list p place) (pages_fault i m list n length (place + size_of p))) (λ refusal. Some refusal)) [
-          | true ↦ refl
-          | false ↦
-              joined_rules (bit_rules i m list page place 2 (row_of page).length) (pages_rules i m list n length (place + size_of page))
-              ∙ ap (λ x. first_fault x (first_broken (pages_rules i m list n length (place + size_of page)))) (bits_are page place 2 (row_of page).length)
-              ∙ ap (first_fault (bits_fault i m list page place)) (later (place + size_of page))
-        ]
+              | true ↦ refl
+              | false ↦
+                  joined_rules (bit_rules i m list page place 2 (row_of page).length) (pages_rules i m list n length (place + size_of page))
+                  ∙ ap (λ x. first_fault x (first_broken (pages_rules i m list n length (place + size_of page)))) (bits_are page place 2 (row_of page).length)
+                  ∙ ap (first_fault (bits_fault i m list page place)) (later (place + size_of page))
+            ]
       ]
 
-  pages_are : (n length : ℕ) → Follows n length
+  pub pages_are : (n length : ℕ) → Follows n length
   unfolding pages_fault pages_rules
   pages_are zero length place = refl
   pages_are (suc n) length place =
       elim (nat_le length place) as (λ past.
-        first_broken (cond past [] (record { breaks = nat_lt length (place + 2); refusal = list_length_error } ∷ page_rules i m list (page_coded (bits_of 6 0 (byte_at list place))) length place (λ next. pages_rules i m list n length next)))
-        ≡ cond past None (on_page (page_at list length place) (λ page. first_fault (bits_fault i m list page place) (pages_fault i m list n length (place + size_of page))) (λ refusal. Some refusal))) [
+      first_broken (cond past [] (record { breaks = nat_lt length (place + 2); refusal = list_length_error } ∷ page_rules i m list (page_coded (bits_of 6 0 (byte_at list place))) length place (λ next. pages_rules i m list n length next)))
+      ≡ cond past None (on_page (page_at list length place) (λ page. first_fault (bits_fault i m list page place) (pages_fault i m list n length (place + size_of page))) (λ refusal. Some refusal))) [
         | true ↦ refl
         | false ↦ elim (nat_lt length (place + 2)) as (λ t.
             cond t (Some list_length_error) (first_broken (page_rules i m list (page_coded (bits_of 6 0 (byte_at list place))) length place (λ next. pages_rules i m list n length next)))
             ≡ on_page (cond t (Err list_length_error) (whole_page (page_coded (bits_of 6 0 (byte_at list place))) list length place)) (λ page. first_fault (bits_fault i m list page place) (pages_fault i m list n length (place + size_of page))) (λ refusal. Some refusal)) [
-          | true ↦ refl
-          | false ↦ page_is (page_coded (bits_of 6 0 (byte_at list place))) n length place (pages_are n length)
-        ]
+              | true ↦ refl
+              | false ↦ page_is (page_coded (bits_of 6 0 (byte_at list place))) n length place (pages_are n length)
+            ]
       ]
 
   -- the first rule that is broken is the first fault of a list
-  pub rules_say : (length : ℕ) (ten : Bool) → first_broken (select_rules i m list length ten) ≡ select_fault i m list length ten
+  pub rules_say : (length : ℕ) (ten : Bool) → select_fault i m list length ten ≡ nested_fault i m list length ten
   rules_say length ten =
       elim (length == 0) as (λ t.
-        first_broken (cond t [] (front_rules i.capacity list length ten ++ pages_rules i m list length length (first_page ten list)))
-        ≡ cond t None (first_fault (front_fault i.capacity list length ten) (pages_fault i m list length length (first_page ten list)))) [
+      first_broken (cond t [] (front_rules i.capacity list length ten ++ pages_rules i m list length length (first_page ten list)))
+      ≡ cond t None (first_fault (front_fault i.capacity list length ten) (pages_fault i m list length length (first_page ten list)))) [
         | true ↦ refl
         | false ↦
             joined_rules (front_rules i.capacity list length ten) (pages_rules i m list length length (first_page ten list))

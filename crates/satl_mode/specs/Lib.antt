@@ -4,4 +4,3 @@ pub mod ModeData
 pub mod Changes
 pub mod SelectList
 pub mod Shown
-pub mod SelectRules
