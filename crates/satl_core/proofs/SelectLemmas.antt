@@ -1,5 +1,5 @@
 -- What a MODE SELECT list says depends on its own bytes alone, so not on the pages behind them.
-use Rattle.std.proofs.Common.{◌≡◌, refl, ap, subst, ◌∙◌, arith, cond, ℕ, zero, suc, ◌+◌, ◌*◌, ◌/◌, ◌%◌, ◌^◌, ◌<◌, ◌≤◌, Bool, true, false, List, [], ◌∷◌, length, take, Some, None}
+use Rattle.std.proofs.Common.{◌≡◌, refl, ap, sym, subst, ◌∙◌, arith, cond, ℕ, zero, suc, ◌+◌, ◌*◌, ◌/◌, ◌%◌, ◌^◌, ◌<◌, ◌≤◌, Bool, true, false, List, [], ◌∷◌, length, take, Some, None}
 use Rattle.std.specs.Prelude.{Option, Result, Ok, Err, not, nat_lt, nat_le, ◌==◌, slice_index}
 use Rattle.std.specs.Option.{option_map}
 use Rattle.std.specs.List.{AllByRecursion}
@@ -22,7 +22,9 @@ use Rattle.satl_mode.specs.declared.page.ModePage.TheVariants.{ErrorRecovery, Ca
 use Rattle.satl_mode.specs.ModePages.{page_coded, row_of, size_of}
 use Rattle.satl_mode.specs.Descriptors.{BlockField, block_fields, descriptor_size}
 use Rattle.satl_mode.specs.Changes.{change_from, change_in, descriptor_length, first_page, header_size, no_change, on_page, page_at, whole_page, with_page, applied}
-use Rattle.satl_mode.specs.SelectList.{bits_fault, descriptor_fault, descriptor_sized, difference, fields_fault, first_fault, has_long_lba, pages_fault, select_fault, select_says, unless_fault}
+use Rattle.satl_mode.specs.SelectList.{descriptor_sized, has_long_lba, select_fault, select_says, unless_fault, difference}
+use Rattle.satl_mode.proofs.Nested.{bits_fault, descriptor_fault, fields_fault, first_fault, pages_fault, nested_fault}
+use Rattle.satl_mode.proofs.RuleLemmas.{rules_say}
 
 -- two lists have the same first bytes
 abbrev pub Agree : ℕ → List Block → List Block → Type 0
@@ -130,8 +132,8 @@ pages_same i m a b (suc n) length place agree =
 
 -- ---- the list
 
-pub select_same : (i : Identity) (m : Modes) (a b : List Block) (length : ℕ) (ten : Bool) → Agree length a b → select_fault i m a length ten ≡ select_fault i m b length ten
-select_same i m a b length ten agree =
+nested_same : (i : Identity) (m : Modes) (a b : List Block) (length : ℕ) (ten : Bool) → Agree length a b → nested_fault i m a length ten ≡ nested_fault i m b length ten
+nested_same i m a b length ten agree =
     ap (λ x. cond (length == 0) None x)
     ((elim (nat_lt length (header_size ten)) as (λ t. nat_lt length (header_size ten) ≡ t
     → first_fault (cond t (Some list_length_error) (descriptor_fault (descriptor_sized (has_long_lba ten a) (descriptor_length ten a)) i.capacity a length ten)) (pages_fault i m a length length (first_page ten a))
@@ -144,6 +146,9 @@ select_same i m a b length ten agree =
           ∙ (ap (λ x. first_fault x (pages_fault i m a length length (first_page ten b))) (descriptor_same (descriptor_sized (has_long_lba ten b) (descriptor_length ten b)) i.capacity length ten a b agree)
           ∙ ap (first_fault (descriptor_fault (descriptor_sized (has_long_lba ten b) (descriptor_length ten b)) i.capacity b length ten)) (pages_same i m a b length length (first_page ten b) agree)))
     ]) refl)
+
+pub select_same : (i : Identity) (m : Modes) (a b : List Block) (length : ℕ) (ten : Bool) → Agree length a b → select_fault i m a length ten ≡ select_fault i m b length ten
+select_same i m a b length ten agree = rules_say i m a length ten ∙ nested_same i m a b length ten agree ∙ sym (rules_say i m b length ten)
 
 with_same : (page : ModePage) (a b : List Block) (place limit : ℕ) (change : ModeChange) → Agree limit a b → place + size_of page ≤ limit → with_page page a place change ≡ with_page page b place change
 with_same ErrorRecovery a b place limit change agree room = refl

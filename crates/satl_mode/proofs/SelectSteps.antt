@@ -10,7 +10,8 @@ use Rattle.satl_identify.specs.declared.identity.Identity.{Identity}
 use Rattle.satl_mode.specs.declared.page.ModePage.{ModePage}
 use Rattle.satl_mode.specs.ModePages.{row_of, size_of}
 use Rattle.satl_mode.specs.Changes.{page_at}
-use Rattle.satl_mode.specs.SelectList.{agrees, difference, pages_fault}
+use Rattle.satl_mode.specs.SelectList.{agrees, difference}
+use Rattle.satl_mode.proofs.Nested.{pages_fault}
 
 module _ (i : Identity) (m : Modes) (list : List Block) where
   module _ (page : ModePage) (place end at : ℕ) (total : Option ℕ) where

@@ -10,7 +10,7 @@ use Rattle.satl_identify.specs.declared.identity.Identity.{Identity}
 use Rattle.satl_mode.specs.Changes.{AreModesOf, change_from}
 use Rattle.satl_mode.specs.Descriptors.{short_capacity}
 use Rattle.satl_mode.specs.ModeData.{mode_data}
-use Rattle.satl_mode.specs.SelectList.{difference, pages_fault, select_says}
+use Rattle.satl_mode.specs.SelectList.{bit_rules, pages_rules, select_says}
 use Rattle.satl_mode.specs.Shown.{GivesWhatWasShown, beginning, shown}
 
 -- a bit that a drive can have or not agrees with the current page
@@ -75,24 +75,24 @@ module _ (i : Identity) (m now : Modes) (more : List ℕ) (rest : List Block) (w
       select_says i now (beginning (shown i m ten long_lba no_descriptor) more rest) (length (shown i m ten long_lba no_descriptor)) ten ≡ Ok m
 
   absent : (ten long_lba : Bool) → Gives ten long_lba true
-  unfolding select_says pages_fault difference change_from mode_data
+  unfolding select_says pages_rules bit_rules change_from mode_data
   absent true long_lba =
       rw (wce_agrees i.cache m.wce now.wce was.cache is.cache, dra_agrees i.look m.dra now.dra was.look is.look, d_sense_agrees m.d_sense now.d_sense, bit_2 m.wce, bit_5 m.dra, bit_2 m.d_sense) refl
   absent false long_lba =
       rw (wce_agrees i.cache m.wce now.wce was.cache is.cache, dra_agrees i.look m.dra now.dra was.look is.look, d_sense_agrees m.d_sense now.d_sense, bit_2 m.wce, bit_5 m.dra, bit_2 m.d_sense) refl
 
   short_of_6 : (long_lba : Bool) → Gives false long_lba false
-  unfolding select_says pages_fault difference change_from mode_data
+  unfolding select_says pages_rules bit_rules change_from mode_data
   short_of_6 long_lba =
       rw (short_field i.capacity, wce_agrees i.cache m.wce now.wce was.cache is.cache, dra_agrees i.look m.dra now.dra was.look is.look, d_sense_agrees m.d_sense now.d_sense, bit_2 m.wce, bit_5 m.dra, bit_2 m.d_sense) refl
 
   short_of_10 : Gives true false false
-  unfolding select_says pages_fault difference change_from mode_data
+  unfolding select_says pages_rules bit_rules change_from mode_data
   short_of_10 =
       rw (short_field i.capacity, wce_agrees i.cache m.wce now.wce was.cache is.cache, dra_agrees i.look m.dra now.dra was.look is.look, d_sense_agrees m.d_sense now.d_sense, bit_2 m.wce, bit_5 m.dra, bit_2 m.d_sense) refl
 
   long : i.capacity < 2 ^ 64 → Gives true true false
-  unfolding select_says pages_fault difference change_from mode_data
+  unfolding select_says pages_rules bit_rules change_from mode_data
   long fits =
       rw (long_field i.capacity fits, wce_agrees i.cache m.wce now.wce was.cache is.cache, dra_agrees i.look m.dra now.dra was.look is.look, d_sense_agrees m.d_sense now.d_sense, bit_2 m.wce, bit_5 m.dra, bit_2 m.d_sense) refl
 

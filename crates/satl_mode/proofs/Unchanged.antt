@@ -13,7 +13,9 @@ use Rattle.satl_mode.specs.declared.page.ModePage.{ModePage}
 use Rattle.satl_mode.specs.declared.page.ModePage.TheVariants.{ErrorRecovery, Caching, Control, Exceptions}
 use Rattle.satl_mode.specs.ModePages.{row_of, size_of}
 use Rattle.satl_mode.specs.Changes.{AreModesOf, IsChangeOf, KeepsFixed, applied, change_from, change_in, first_page, header_size, no_change, page_at, with_page}
-use Rattle.satl_mode.specs.SelectList.{agrees, difference, first_fault, front_fault, pages_fault, select_fault, select_says, unless_fault}
+use Rattle.satl_mode.specs.SelectList.{agrees, select_fault, select_says, unless_fault, difference}
+use Rattle.satl_mode.proofs.Nested.{first_fault, front_fault, pages_fault, nested_fault}
+use Rattle.satl_mode.proofs.RuleLemmas.{rules_say}
 
 -- a byte that agrees in every bit has the bit of the current page
 wce_bit : (cache wce : Bool) (b : ℕ) → cache ≡ false → (bit_and b (255 - (if cache then 0x04 else 0)) == bit_and (if wce then 0x04 else 0) (255 - (if cache then 0x04 else 0))) ≡ true → (b / 2 ^ 2 % 2 ^ 1 == 1) ≡ wce
@@ -111,11 +113,11 @@ module _ (i : Identity) (m : Modes) (list : List Block) where
   no_later None later none = none
   no_later (Some fault) later none = absurd cc
 
-  keeps_in : (length : ℕ) (ten : Bool) → select_fault i m list length ten ≡ None → Keeps i m (change_in list length ten)
+  keeps_in : (length : ℕ) (ten : Bool) → nested_fault i m list length ten ≡ None → Keeps i m (change_in list length ten)
   keeps_in zero ten none = elim ten as (λ t. Keeps i m (change_in list zero t)) [ true ↦ keeps_none | false ↦ keeps_none ]
   keeps_in (suc n) ten none =
       let some : eqb (suc n) 0 ≡ false = ne_eqb (suc n) 0 (λ e. absurd (omega (arith, e))) in
-      let both : select_fault i m list (suc n) ten ≡ first_fault (front_fault i.capacity list (suc n) ten) (pages_fault i m list (suc n) (suc n) (first_page ten list)) = rw some refl in
+      let both : nested_fault i m list (suc n) ten ≡ first_fault (front_fault i.capacity list (suc n) ten) (pages_fault i m list (suc n) (suc n) (first_page ten list)) = rw some refl in
       let pages = no_later (front_fault i.capacity list (suc n) ten) (pages_fault i m list (suc n) (suc n) (first_page ten list)) (sym both ∙ none) in
       elim (nat_lt (suc n) (header_size ten)) as (λ b. Keeps i m (if b then no_change else change_from (suc n) list (suc n) (first_page ten list) no_change)) [
         | true ↦ keeps_none
@@ -128,7 +130,7 @@ module _ (i : Identity) (m : Modes) (list : List Block) where
     pub keeps : Keeps i m (change_in list length ten)
 
   accepts_by : (length : ℕ) (ten : Bool) (new : Modes) (fault : Option Illegal) → select_fault i m list length ten ≡ fault → unless_fault fault (applied m (change_in list length ten)) ≡ Ok new → Accepts length ten new
-  accepts_by length ten new None is says = record { applied = let e : applied m (change_in list length ten) ≡ new = cc in sym e; keeps = keeps_in length ten is }
+  accepts_by length ten new None is says = record { applied = let e : applied m (change_in list length ten) ≡ new = cc in sym e; keeps = keeps_in length ten (sym (rules_say i m list length ten) ∙ is) }
   accepts_by length ten new (Some fault) is says = absurd cc
 
   accepts : (length : ℕ) (ten : Bool) (r : Result Modes Illegal) → r ≡ select_says i m list length ten → IfOk r (λ new. Accepts length ten new)

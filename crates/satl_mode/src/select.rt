@@ -1,11 +1,11 @@
 // Judging a MODE SELECT parameter list.
 
-ghost use Rattle.std.specs.Prelude.{◌≡◌, ◌≤◌, ◌<◌, ◌+◌, ◌*◌, ◌^◌, ◌==◌, ◌&&◌, not, IfOk, length};
+ghost use Rattle.std.specs.Prelude.{◌≡◌, ◌≤◌, ◌<◌, ◌+◌, ◌*◌, ◌^◌, ◌==◌, ◌&&◌, not, IfOk, length, map};
 ghost use Rattle.satl_cdb.specs.Unmap.{number_at};
 ghost use Rattle.satl_mode.specs.ModePages.{row_of, size_of};
 ghost use Rattle.satl_mode.specs.Descriptors.{block_fields, descriptor_size};
 ghost use Rattle.satl_mode.specs.Changes.{AreModesOf, IsChangeOf, KeepsFixed, applied, change_in, descriptor_length, first_page, header_size};
-ghost use Rattle.satl_mode.specs.SelectList.{agrees, descriptor_fault, descriptor_length_place, descriptor_sized, difference, fields_fault, front_fault, has_long_lba, pages_fault, select_says, unless_fault};
+ghost use Rattle.satl_mode.specs.SelectList.{agrees, descriptor_length_place, descriptor_rules, descriptor_sized, difference, field_rule, first_broken, front_rules, has_long_lba, pages_rules, select_says, unless_fault};
 
 use crate::bytes::{byte_of, u24_at, u32_at, u64_at};
 use crate::change::{apply, descriptor_length, first_page, header_size, page_at, select_change};
@@ -55,7 +55,7 @@ fn check_fields(
 ) -> Result<(), Illegal>
     requires place { place ≤ 8 }
     requires room { place + descriptor_size descriptor ≤ 512 * length list.now }
-    ensures { result ≡ unless_fault (fields_fault (block_fields descriptor capacity) list.now place) tt }
+    ensures { result ≡ unless_fault (first_broken (map (field_rule list.now place) (block_fields descriptor capacity))) tt }
 {
     let first = usize::from(place);
     match descriptor {
@@ -90,7 +90,7 @@ fn check_descriptor(
     ten: bool,
 ) -> Result<(), Illegal>
     requires { list_length ≤ 512 * length list.now }
-    ensures { result ≡ unless_fault (descriptor_fault descriptor capacity list.now list_length ten) tt }
+    ensures { result ≡ unless_fault (first_broken (descriptor_rules descriptor capacity list.now list_length ten)) tt }
 {
     let Some(descriptor) = descriptor else {
         return Err(Illegal::invalid_list_field(descriptor_length_place(ten)));
@@ -104,7 +104,7 @@ fn check_descriptor(
 
 fn check_front(capacity: u64, list: &Pages, list_length: u16, ten: bool) -> Result<(), Illegal>
     requires { list_length ≤ 512 * length list.now }
-    ensures says { result ≡ unless_fault (front_fault capacity list.now list_length ten) tt }
+    ensures says { result ≡ unless_fault (first_broken (front_rules capacity list.now list_length ten)) tt }
     ensures header { IfOk result (λ _. header_size ten ≤ list_length) }
 {
     if list_length < header_size(ten) {
@@ -168,7 +168,7 @@ fn check_pages(
 ) -> Result<(), Illegal>
     requires first { first < 2 ^ 17 }
     requires whole { list_length ≤ 512 * length list.now }
-    ensures { result ≡ unless_fault (pages_fault identity.now modes.now list.now list_length list_length first) tt }
+    ensures { result ≡ unless_fault (first_broken (pages_rules identity.now modes.now list.now list_length list_length first)) tt }
 {
     let mut place = first;
     while place < usize::from(list_length) {
@@ -181,7 +181,7 @@ fn check_pages(
     Ok(())
 }
 
-#[tactic(auto, unfolding(crate::specs::SelectList::select_says))]
+#[tactic(auto, unfolding(crate::specs::SelectList::select_says), using(crate::proofs::RuleLemmas::joined_rules))]
 fn judge(
     identity: &Identity,
     modes: &Modes,

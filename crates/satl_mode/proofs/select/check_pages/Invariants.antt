@@ -1,5 +1,5 @@
 use Rattle.std.proofs.Common.{◌<◌, ◌-◌, ◌^◌}
-use Rattle.satl_mode.specs.SelectList.{pages_fault}
+use Rattle.satl_mode.proofs.Nested.{pages_fault}
 use Rattle.satl_mode.proofs.SelectSteps.{Judged}
 use Rattle.satl_mode.proofs.select.check_pages.Given as goal
 

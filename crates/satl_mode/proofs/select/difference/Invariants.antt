@@ -1,6 +1,6 @@
+use Rattle.satl_mode.specs.SelectList.{difference}
 use Rattle.std.proofs.Common.{◌≡◌, ◌-◌}
 use Rattle.satl_mode.specs.ModePages.{row_of, size_of}
-use Rattle.satl_mode.specs.SelectList.{difference}
 use Rattle.satl_mode.proofs.select.difference.Given as goal
 
 abbrev pub invariant-loop-at : goal.invariant-loop-at
