@@ -12,10 +12,9 @@ use Rattle.satl_frame.specs.Pulls.{cut_to}
 use Rattle.satl_direct.specs.Device.{Device}
 use Rattle.satl_direct.specs.Run.{CutTurns, Does, joined, losses_in}
 use Rattle.satl_direct.specs.Run.RunDeep.{start, step}
-use Rattle.satl_core.specs.Turning.{task_calls}
 use Rattle.satl_core.proofs.DeviceLemmas.{quiet_none}
 use Rattle.satl_step.specs.Events.{Carried, IsTallied, IsWholeOf, unplugs_behind}
-use Rattle.satl_step.specs.Runs.{AreCounted, DoesInPart, DoesShort, RunCutSoFar, RunInPart, RunSoFar, Stand, is_request, is_unplug, requests_in, unplugs_in}
+use Rattle.satl_step.specs.Runs.{AreCounted, DoesInPart, DoesShort, RunCutSoFar, RunInPart, RunSoFar, Stand, is_manage, is_request, is_unplug, unplugs_in}
 use Rattle.satl_step.specs.Runs.DoesInPart.{does_all, does_some}
 use Rattle.satl_step.specs.Runs.RunInPart.{last}
 
@@ -69,7 +68,7 @@ counted_more events losses before a b event whole counted is tallied =
       faults = RoseBy-more losses (losses_in whole a.device b.device) before.tally.faults a.tally.faults b.tally.faults counted.faults x.faults;
       unplugged = subst (λ n. RoseBy n before.tally.unplugs b.tally.unplugs) (sym pushed) (RoseBy-more (unplugs_in events) (unplugs_in (whole ∷ [])) before.tally.unplugs a.tally.unplugs b.tally.unplugs counted.unplugged u.rose);
       few_unplugs = omega (arith, counted.few_unplugs, u.few, pushed);
-      few_calls = omega (arith, counted.few_calls, x.calls, how_many-push is_request events whole);
+      few_calls = omega (arith, counted.few_calls, x.calls, how_many-push is_request events whole, how_many-push is_manage events whole);
     }
 
 -- ---- the run so far

@@ -4,15 +4,16 @@ use Rattle.std.specs.Prelude.{not}
 use Rattle.satl_io.specs.Causes.{RoseBy}
 use Rattle.satl_frame.specs.declared.frames.Frame.{Frame}
 use Rattle.satl_frame.specs.declared.frames.Frame.TheVariants as frames
-use Rattle.satl_identify.specs.Data.{identity_data}
 use Rattle.satl_drive.specs.State.{DriveState}
 use Rattle.satl_direct.specs.Run.{losses_in}
 use Rattle.satl_direct.specs.Valid.{IsValid}
-use Rattle.satl_core.specs.Layer.{Layer, Tied, view}
-use Rattle.satl_core.specs.Turning.{task_calls}
+use Rattle.satl_flight.specs.Flown.{IsInFlight}
+use Rattle.satl_core.specs.Layer.{IsUsed, Layer, Tied, view}
+use Rattle.satl_core.specs.Turning.{turn_calls}
+use Rattle.satl_core.proofs.AgreeingLemmas.{agrees_by}
 use Rattle.satl_core.proofs.CountedLemmas.{counted_more, counted_same, tasks_seen}
 use Rattle.satl_step.specs.Events.{IsTallied, unplugs_behind}
-use Rattle.satl_step.specs.Runs.{Stand, requests_in, stand_of}
+use Rattle.satl_step.specs.Runs.{Stand, calls_allowed, stand_of}
 
 -- ---- the layer and free pages
 
@@ -23,14 +24,9 @@ view_same l l' d same = ap (λ x. view x d) same
 -- the tie does not see pages
 pub tied_lent : (l l' : Layer) (d : DriveState) → record l' { free = 0; out = 0 } ≡ record l { free = 0; out = 0 } → Tied l d → Tied l' d
 tied_lent l l' d same t = record {
-  mark = ap (λ (x : Layer). x.down) same ∙ t.mark;
-  idle = t.idle;
-  no_error = t.no_error;
-  fit = t.fit;
-  cache = λ up. t.cache (sym (ap (λ (x : Layer). x.down) same) ∙ up) ∙ ap (λ (x : Layer). x.modes.wce) (sym same);
-  look = λ up. t.look (sym (ap (λ (x : Layer). x.down) same) ∙ up) ∙ ap (λ (x : Layer). not x.modes.dra) (sym same);
-  told = t.told ∙ ap (λ (x : Layer). identity_data x.identity.bytes d.cache d.look) (sym same);
-  valid = subst IsValid (sym (ap (λ (x : Layer). view x d) same)) t.valid;
+  agrees = agrees_by l l' d d (ap (λ (x : Layer). x.down) same) (ap (λ (x : Layer). x.modes) same) (ap (λ (x : Layer). x.identity) same) (record { down = refl; cache = refl; look = refl; identify = refl })
+      (subst (λ (x : Layer). IsInFlight x.flying x.tasks d) (sym same) t.agrees.queue) t.agrees.fit (subst IsValid (sym (ap (λ (x : Layer). view x d) same)) t.agrees.valid) t.agrees;
+  used = subst IsUsed (sym same) t.used;
 }
 
 -- nor recycled ones
@@ -47,7 +43,7 @@ stays_on a b c n m p q =
 
 -- what an event counts, once its replies were told
 pub tallied : (event : Frame) (l mid l' : Layer) (d d' : DriveState) (calls calls' : ℕ) → l' ≡ record mid { free = l'.free; out = l'.out } → RoseBy (losses_in event (view l d) (view mid d')) d.faults d'.faults → d'.unplugs ≡ unplugs_behind event d.unplugs →
-    calls' + task_calls * length mid.tasks ≤ calls + task_calls * length l.tasks + task_calls * requests_in (event ∷ []) → IsTallied event (stand_of l d calls) (stand_of l' d' calls')
+    calls' + turn_calls * length mid.tasks ≤ calls + turn_calls * length l.tasks + calls_allowed (event ∷ []) → IsTallied event (stand_of l d calls) (stand_of l' d' calls')
 tallied event l mid l' d d' calls calls' stays faults unplugs few =
     let tasks = ap (λ (x : Layer). length x.tasks) stays in
     record {

@@ -15,8 +15,8 @@ use Rattle.satl_direct.specs.Run.{Does, TurnsOf, losses_in}
 use Rattle.satl_core.specs.Benching.{unplugs_after}
 use Rattle.satl_core.specs.Layer.{Layer}
 use Rattle.satl_core.specs.Submitting.{CanSubmit}
-use Rattle.satl_core.specs.Turning.{task_calls}
-use Rattle.satl_step.specs.Runs.{DoesShort, Stand, requests_in, stand_of}
+use Rattle.satl_core.specs.Turning.{turn_calls}
+use Rattle.satl_step.specs.Runs.{DoesShort, Stand, calls_allowed, stand_of}
 use Rattle.satl_step.specs.Telling.{IsTold, IsToldInPart, Telling}
 
 -- where a run stands, and who tells its answers (profile)
@@ -67,12 +67,12 @@ unplugs_behind (frames.Turn count) before = before
 unplugs_behind (frames.Bench event) before = unplugs_after event before
 unplugs_behind frames.End before = before
 
--- an event raised the count of faults by its losses; the drive was unplugged by it alone; and it was called as often at most as a
--- task takes for each that is gone (profile)
+-- an event raised the count of faults by its losses; the drive was unplugged by it alone; and it was called as often at most as it
+-- allows, and a turn for each task that is gone (profile)
 pub record IsTallied (event : Frame) (before after : Stand) : Type 0 where
   pub faults : RoseBy (losses_in event before.device after.device) before.tally.faults after.tally.faults
   pub unplugs : after.tally.unplugs ≡ unplugs_behind event before.tally.unplugs
-  pub calls : after.tally.calls + task_calls * length after.device.tasks ≤ before.tally.calls + task_calls * length before.device.tasks + task_calls * requests_in (event ∷ [])
+  pub calls : after.tally.calls + turn_calls * length after.device.tasks ≤ before.tally.calls + turn_calls * length before.device.tasks + calls_allowed (event ∷ [])
 
 -- ---- turns
 

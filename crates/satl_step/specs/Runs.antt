@@ -13,7 +13,7 @@ use Rattle.satl_drive.specs.State.{DriveState}
 use Rattle.satl_direct.specs.Device.{Device}
 use Rattle.satl_direct.specs.Run.{CutTurns, Does, RunDeep, TurnsOf, losses_in}
 use Rattle.satl_core.specs.Layer.{Layer, view}
-use Rattle.satl_core.specs.Turning.{task_calls}
+use Rattle.satl_core.specs.Turning.{off_calls, turn_calls}
 
 -- what was counted so far: a drive's faults, how often it was unplugged, and how often it was called (profile)
 pub record Tally : Type 0 where
@@ -46,6 +46,19 @@ is_request frames.End = false
 abbrev pub requests_in : List Frame → ℕ
 requests_in events = how_many is_request events
 
+-- whether an event is a task management function (profile)
+abbrev pub is_manage : Frame → Bool
+is_manage (frames.Request r) = false
+is_manage (frames.Manage m) = true
+is_manage (frames.Turn count) = false
+is_manage (frames.Bench event) = false
+is_manage frames.End = false
+
+-- the most calls of a drive that events take: a request those of its turn, and those of taking tasks off where it overlaps one; a task
+-- management function those of taking tasks off (profile)
+abbrev pub calls_allowed : List Frame → ℕ
+calls_allowed events = (turn_calls + off_calls) * requests_in events + off_calls * how_many is_manage events
+
 -- whether a bench event unplugs the drive (profile)
 abbrev pub unplugs : BenchEvent → Bool
 unplugs (events.Strike which lba) = false
@@ -68,13 +81,13 @@ abbrev pub unplugs_in : List Frame → ℕ
 unplugs_in events = how_many is_unplug events
 
 -- events with so many losses were counted: the drive's count of faults rose by the losses at least, or stands at its last value; its
--- number of unplugs rose by the events that unplug it, or stands at its last value; and it was called as often at most as the requests
--- allow that are no longer tasks (profile)
+-- number of unplugs rose by the events that unplug it, or stands at its last value; and it was called as often at most as the events
+-- allow, but for the turns of the tasks that are left (profile)
 pub record AreCounted (events : List Frame) (losses : ℕ) (before after : Stand) : Type 0 where
   pub faults : RoseBy losses before.tally.faults after.tally.faults
   pub unplugged : RoseBy (unplugs_in events) before.tally.unplugs after.tally.unplugs
   pub few_unplugs : after.tally.unplugs ≤ before.tally.unplugs + unplugs_in events
-  pub few_calls : after.tally.calls + task_calls * length after.device.tasks ≤ before.tally.calls + task_calls * requests_in events
+  pub few_calls : after.tally.calls + turn_calls * length after.device.tasks ≤ before.tally.calls + calls_allowed events
 
 -- events were carried out one after the other, from a device without tasks on, and were counted: a group of answers for each (profile)
 pub record RunSoFar (before after : Stand) (events : List Frame) (groups : List (List Answer)) : Type 0 where

@@ -37,8 +37,8 @@ returns-in_err-tell_replies-clause-part g c =
 
 pub returns-clause-tallied : goal.returns-clause-tallied
 returns-clause-tallied g c =
-    tallied (frames.Manage c.args.manage) c.args.satl.now c.manage-response.new.self c.tell_replies.new.satl (g.D.Drive.state c.args.drive.now) (g.D.Drive.state c.manage-response.new.drive) c.args.steps.now c.manage-response.new.steps c.tell_replies.ensures.stays c.manage-response.ensures.counted c.manage-response.ensures.unplugs (omega (arith, c.manage-response.ensures.calls))
+    tallied (frames.Manage c.args.manage) c.args.satl.now c.manage-response.new.self c.tell_replies.new.satl (g.D.Drive.state c.args.drive.now) (g.D.Drive.state c.manage-response.new.drive) c.args.steps.now c.manage-response.new.steps c.tell_replies.ensures.stays c.manage-response.ensures.kept.losses c.manage-response.ensures.kept.unplugs (omega (arith, c.manage-response.ensures.calls))
 
 pub returns-in_err-tell_replies-clause-tallied : goal.returns-in_err-tell_replies-clause-tallied
 returns-in_err-tell_replies-clause-tallied g c =
-    tallied (frames.Manage c.args.manage) c.args.satl.now c.manage-response.new.self c.tell_replies.new.satl (g.D.Drive.state c.args.drive.now) (g.D.Drive.state c.manage-response.new.drive) c.args.steps.now c.manage-response.new.steps c.tell_replies.ensures.stays c.manage-response.ensures.counted c.manage-response.ensures.unplugs (omega (arith, c.manage-response.ensures.calls))
+    tallied (frames.Manage c.args.manage) c.args.satl.now c.manage-response.new.self c.tell_replies.new.satl (g.D.Drive.state c.args.drive.now) (g.D.Drive.state c.manage-response.new.drive) c.args.steps.now c.manage-response.new.steps c.tell_replies.ensures.stays c.manage-response.ensures.kept.losses c.manage-response.ensures.kept.unplugs (omega (arith, c.manage-response.ensures.calls))

@@ -30,4 +30,4 @@ returns-clause-part g c =
 
 pub returns-clause-tallied : goal.returns-clause-tallied
 returns-clause-tallied g c =
-    tallied (frames.Request c.args.request) c.args.satl.now c.submit.new.self c.tell_replies.new.satl (g.D.Drive.state c.args.drive.now) (g.D.Drive.state c.submit.new.drive) c.args.steps.now c.submit.new.steps c.tell_replies.ensures.stays c.submit.ensures.counted c.submit.ensures.unplugs (omega (arith, c.submit.ensures.calls))
+    tallied (frames.Request c.args.request) c.args.satl.now c.submit.new.self c.tell_replies.new.satl (g.D.Drive.state c.args.drive.now) (g.D.Drive.state c.submit.new.drive) c.args.steps.now c.submit.new.steps c.tell_replies.ensures.stays c.submit.ensures.kept.losses c.submit.ensures.kept.unplugs (omega (arith, c.submit.ensures.calls))

@@ -57,3 +57,6 @@ frames-preserved g c =
       read_later = omega (arith, c.frames.invariant.read_later, (c.in-Ok.ensures.causes c.frames.invariant.fresh).later);
       write_later = omega (arith, c.frames.invariant.write_later, c.serve_event.ensures.cause.later);
     }
+
+pub returns-in-Err-clause-tied : goal.returns-in-Err-clause-tied
+returns-in-Err-clause-tied g c = tied_lent c.frames.satl c.next.new.lender (g.D.Drive.state c.frames.drive) c.in-Err.ensures.rest c.frames.invariant.tied

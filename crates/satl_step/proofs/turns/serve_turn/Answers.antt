@@ -31,4 +31,4 @@ returns-clause-part g c =
 
 pub returns-clause-tallied : goal.returns-clause-tallied
 returns-clause-tallied g c =
-    tallied (frames.Turn 1) c.args.satl.now c.turn.new.self c.tell_replies.new.satl (g.D.Drive.state c.args.drive.now) (g.D.Drive.state c.turn.new.drive) c.args.steps.now c.turn.new.steps c.tell_replies.ensures.stays c.turn.ensures.counted c.turn.ensures.unplugs (omega (arith, c.turn.ensures.calls))
+    tallied (frames.Turn 1) c.args.satl.now c.turn.new.self c.tell_replies.new.satl (g.D.Drive.state c.args.drive.now) (g.D.Drive.state c.turn.new.drive) c.args.steps.now c.turn.new.steps c.tell_replies.ensures.stays c.turn.ensures.kept.losses c.turn.ensures.kept.unplugs (omega (arith, c.turn.ensures.calls))
