@@ -33,11 +33,11 @@ first_of old new l o = record {
   dra = o.dra;
   d_sense = o.d_sense;
   started = o.started;
-  up = sym o.tied.mark ∙ o.up;
+  up = sym o.tied.agrees.mark ∙ o.up;
   active = ap (λ (d : DriveState). d.active) o.stays;
   attentions = o.attentions;
   glitches = ap (λ (d : DriveState). d.glitches) o.stays;
-  valid = o.tied.valid;
+  valid = o.tied.agrees.valid;
 }
 
 -- a drive is left as the device that it and its layer are
@@ -47,8 +47,8 @@ left_as l d t = record {
   active = refl;
   glitches = refl;
   down = refl;
-  cache = λ up. t.cache (t.mark ∙ up);
-  look = λ up. t.look (t.mark ∙ up);
+  cache = λ up. t.agrees.cache (t.agrees.mark ∙ up);
+  look = λ up. t.agrees.look (t.agrees.mark ∙ up);
 }
 
 -- ---- a run is counted from an earlier stand
