@@ -1,6 +1,6 @@
 -- How a load ends.
 use Rattle.std.proofs.Common.{◌≡◌, ◌≤◌, ◌⊎◌, inl, inr, ℕ, List, [], refl, sym, subst, ap, ◌∙◌, arith}
-use Rattle.std.specs.Prelude.{Option, Some, Ok, Err, Result, IfErr, MatchResult}
+use Rattle.std.specs.Prelude.{Option, Some, Ok, Err, Result, IfErr, IfOk, MatchResult}
 use Rattle.satl_io.specs.Causes.{Rose}
 use Rattle.satl_frame.specs.declared.frames.Frame.{Frame}
 use Rattle.satl_frame.specs.declared.frames.Version.TheVariants.{Two}
@@ -11,7 +11,7 @@ use Rattle.satl_core.specs.declared.satl.OpenFault.TheVariants as opening
 use Rattle.satl_gen.specs.Generated.{generated, generated_frames}
 use Rattle.satl_gen.proofs.WholeInput.{reads_whole}
 use Rattle.satl_serve.specs.Completeness.{GoesWell, IsGoodInput, MayStop}
-use Rattle.satl_serve.specs.Headline.{IsServedBefore, IsStopped}
+use Rattle.satl_serve.specs.Headline.{IsServedWhole, IsStopped}
 use Rattle.satl_serve.specs.Moments.{Moment, Reads, Writes, moment, reads}
 use Rattle.satl_serve.specs.Runs.{input_limit}
 use Rattle.satl_serve.specs.Stopping.{HasServeCause, TellsRefusal}
@@ -19,8 +19,9 @@ use Rattle.satl_serve.specs.declared.serving.ServeFault.{ServeFault}
 use Rattle.satl_serve.specs.declared.serving.ServeFault.TheVariants as faults
 use Rattle.satl_serve.specs.declared.telling.Form.TheVariants as forms
 use Rattle.satl_top.specs.Faults.{status_of}
-use Rattle.satl_top.specs.Load.{Load, LoadEnds, LoadStops, nowhere}
+use Rattle.satl_top.specs.Load.{IsLoaded, Load, LoadEnds, LoadStops, input_of, nowhere}
 use Rattle.satl_top.specs.Top.{HasCause}
+use Rattle.satl_top.proofs.RequestLemmas.{frames_read, total_is}
 use Rattle.satl_top.specs.declared.status.Status.{Status}
 use Rattle.satl_top.specs.declared.status.Status.TheVariants as statuses
 
@@ -52,6 +53,24 @@ module _ (load : Load) (made : List ℕ) (left : Option (List ℕ)) (calls calls
   load_stops is few (Ok summary) stopped cause complete = tt
   load_stops is few (Err fault) stopped cause complete =
       stops_so fault stopped cause (complete (generated_frames load.seed load.requests) [] (good_input load made is few))
+
+  -- what was served whole was the generated frames, with their number
+  all_served : load.requests ≤ 100000 → (summary : Summary) → IsServedWhole forms.Count input_limit summary (moment (reads (input_of load) 0) nowhere calls old) ends → (source : Reads) (sink sink' : Writes)
+      → IsLoaded input_limit load summary (moment source sink calls old) (moment source sink' calls' new)
+  all_served few summary served source sink sink' =
+      let frames_are : served.run.events ≡ generated_frames load.seed load.requests = frames_read load.seed load.requests few served.run.place left served.run.events served.run.read in
+      record {
+        left = left;
+        served = served;
+        frames_are = frames_are;
+        requests_are = ap (λ (u : Summary). u.requests) served.run.totals ∙ total_is load.seed load.requests served.run.events few frames_are;
+        unread = refl;
+      }
+
+  pub is_loaded : made ≡ generated load.seed load.requests → load.requests ≤ 100000 → (r : Result Summary ServeFault) → IfOk r (λ summary. IsServedWhole forms.Count input_limit summary begins ends)
+      → IfOk r (λ summary. (source : Reads) (sink sink' : Writes) → IsLoaded input_limit load summary (moment source sink calls old) (moment source sink' calls' new))
+  is_loaded is few (Err fault) served = tt
+  is_loaded is few (Ok summary) served = all_served few summary (subst (λ m. IsServedWhole forms.Count input_limit summary (moment (reads (Some m) 0) nowhere calls old) ends) is served)
 
 -- the status of such a fault says so
 pub stop_ends : (limit : ℕ) (load : Load) (before after : Moment) (fault : ServeFault) (status : Status) → status ≡ status_of fault → LoadStops before after fault → LoadEnds limit load before after status

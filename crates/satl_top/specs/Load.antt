@@ -4,7 +4,7 @@ use Rattle.satl_io.specs.Known.{Wrote, WrotePart}
 use Rattle.satl_core.specs.Opening.{IsCause}
 use Rattle.satl_text.specs.Lines.{summary_lines}
 use Rattle.satl_text.specs.declared.summary.Summary.{Summary}
-use Rattle.satl_gen.specs.Generated.{generated}
+use Rattle.satl_gen.specs.Generated.{generated, generated_frames}
 use Rattle.satl_serve.specs.Headline.{IsNotServed, IsServedWhole}
 use Rattle.satl_serve.specs.Moments.{Moment, Writes, moment, reads, writes}
 use Rattle.satl_serve.specs.declared.serving.ServeFault.{ServeFault}
@@ -33,10 +33,13 @@ nowhere = writes None 0
 abbrev pub at_load : Option (List ℕ) → Moment → Moment
 at_load left m = moment (reads left 0) nowhere m.calls m.drive
 
--- a generated input was served whole within this limit, with these totals, and the source that was handed in was not read (profile)
+-- a generated input was served whole within this limit: the run was one over the generated frames and END, with these totals, which say as
+-- many requests as were asked for; and the source that was handed in was not read (profile)
 pub record IsLoaded (limit : ℕ) (load : Load) (summary : Summary) (before after : Moment) : Type 0 where
   pub left : Option (List ℕ)
   pub served : IsServedWhole forms.Count limit summary (at_load (input_of load) before) (at_load left after)
+  pub frames_are : served.run.events ≡ generated_frames load.seed load.requests
+  pub requests_are : summary.requests ≡ load.requests
   pub unread : after.source ≡ before.source
 
 -- why a load stops before it is served whole: the layer was not opened, and nothing was served. A generated input is never refused, no

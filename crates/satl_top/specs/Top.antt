@@ -1,6 +1,6 @@
 -- The words of the program, how it ends, and why (profile).
 use Rattle.std.specs.Prelude.{◌≡◌, ◌⊎◌, ℕ, Bool, true, false, List, Some, Err}
-use Rattle.clap.specs.Words.{Text, subcommand_of}
+use Rattle.clap.specs.Words.{Text}
 use Rattle.satl_io.specs.Causes.{Rose}
 use Rattle.satl_identify.specs.declared.identity.IdentityFault.{IdentityFault}
 use Rattle.satl_identify.specs.Refusals.{identity_of}
@@ -16,8 +16,7 @@ use Rattle.satl_serve.specs.Moments.{Moment}
 use Rattle.satl_serve.specs.Stopping.{IsRefused}
 use Rattle.satl_words.specs.declared.modes.Mode.{Mode}
 use Rattle.satl_words.specs.declared.modes.Mode.TheVariants as modes
-use Rattle.satl_words.specs.CommandLine.{IsModeOf, command_line}
-use Rattle.satl_words.specs.Plain.{ArePlain}
+use Rattle.satl_words.specs.Asked.{AreRefused, AskFor}
 use Rattle.satl_top.specs.Load.{LoadEnds, load_of}
 use Rattle.satl_top.specs.declared.status.Status.{Status}
 use Rattle.satl_top.specs.declared.status.Status.TheVariants as statuses
@@ -85,15 +84,11 @@ pub record IsCarriedOut (mode : Mode) (limit : ℕ) (before after : Moment) (sta
   pub refused : (fault : IdentityFault) → IsRefused fault before.drive after.drive → (status ≡ statuses.DriveRefused) ⊎ (status ≡ statuses.NoMemory)
   pub complete : serves_input mode ≡ true → (fs : List Frame) (rest : List ℕ) → IsGoodInput limit before.source.left fs rest → GoesWell before after → Completes rest before after status
 
--- these words ask for a mode: plainly, or as clap reads them (profile)
-abbrev pub AskFor : List Text → Mode → Type 0
-AskFor words mode = ArePlain words mode ⊎ IsModeOf (subcommand_of command_line words) mode
-
--- nothing was done: the words are not understood, or there was not the memory to read them (profile)
-pub record IsUnused (before after : Moment) (status : Status) : Type 0 where
-  pub why : (status ≡ statuses.Usage) ⊎ (status ≡ statuses.NoMemory)
+-- nothing was done: the words ask for nothing, or there was not the memory to read them (profile)
+pub record IsUnused (words : List Text) (before after : Moment) (status : Status) : Type 0 where
+  pub why : ((status ≡ statuses.Usage) × AreRefused words) ⊎ (status ≡ statuses.NoMemory)
   pub stays : after ≡ before
 
--- the outcome by the words (profile)
+-- the outcome by the words (profile): nothing was done, or the words ask for a mode, which was carried out
 abbrev pub Outcome : List Text → ℕ → Moment → Moment → Status → Type 0
-Outcome words limit before after status = IsUnused before after status ⊎ ((mode : Mode) × AskFor words mode × IsCarriedOut mode limit before after status)
+Outcome words limit before after status = IsUnused words before after status ⊎ ((mode : Mode) × AskFor words mode × IsCarriedOut mode limit before after status)

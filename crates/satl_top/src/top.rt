@@ -10,6 +10,7 @@ ghost use Rattle.satl_serve.specs.Moments.{moment, reads, writes};
 ghost use Rattle.satl_serve.specs.Runs.{input_limit};
 ghost use Rattle.satl_serve.specs.Stopping.{IsRefused};
 ghost use Rattle.satl_top.specs.Top.{Completes, HasCause, IsCarriedOut, Outcome, ServeEnds};
+ghost use Rattle.satl_words.specs.Asked.{AreRefused};
 ghost use Rattle.satl_words.specs.CommandLine.{command_line};
 ghost use Rattle.satl_words.specs.Plain.{ArePlain, IsInRange};
 
@@ -41,7 +42,9 @@ pub fn satl<S: Source, K: Sink, D: Bench, L: Ledger>(
     requires no_error { (D.state drive.old).error ≡ None }
     requires fit { IsFit (D.state drive.old) }
     ensures plain { (mode : Mode) → IsInRange mode → ArePlain (map rc_str_bytes words.now) mode → IsCarriedOut mode input_limit (moment (reads (S.left source.old) (S.faults source.old)) (writes (K.written sink.old) (K.faults sink.old)) steps.old (D.state drive.old)) (moment (reads (S.left source.new) (S.faults source.new)) (writes (K.written sink.new) (K.faults sink.new)) steps.new (D.state drive.new)) result }
-    ensures usage { (result ≡ Status.Usage) → (takes command_line (map rc_str_bytes words.now) ≡ true) → ⊥ }
+    ensures usage { (result ≡ Status.Usage) → AreRefused (map rc_str_bytes words.now) }
+    ensures refused { AreRefused (map rc_str_bytes words.now) → (result ≡ Status.Usage) ⊎ (result ≡ Status.NoMemory) }
+    ensures takes { (result ≡ Status.Usage) → (takes command_line (map rc_str_bytes words.now) ≡ true) → ⊥ }
     ensures outcome { Outcome (map rc_str_bytes words.now) input_limit (moment (reads (S.left source.old) (S.faults source.old)) (writes (K.written sink.old) (K.faults sink.old)) steps.old (D.state drive.old)) (moment (reads (S.left source.new) (S.faults source.new)) (writes (K.written sink.new) (K.faults sink.new)) steps.new (D.state drive.new)) result }
 {
     match mode_asked(alloc, words) {

@@ -1,8 +1,7 @@
 -- The command line, as clap reads it (profile).
-use Rattle.std.specs.Prelude.{◌≡◌, ℕ, ◌-◌, ◌^◌, ◌≤◌, true, List, codes, MatchBool, Option, Some, None}
+use Rattle.std.specs.Prelude.{◌≡◌, ◌⊎◌, ℕ, ◌-◌, ◌^◌, ◌≤◌, true, List, [], codes, Option, Some, None}
 use Rattle.std.specs.Str.Parse.{IsNumeral, digits_value, without_leading_plus}
-use Rattle.std.specs.Str.{bytes_eq}
-use Rattle.clap.specs.Words.{App, Row, Rule, Text, new_app, new_rule, one_of, with_rule, with_subcommand}
+use Rattle.clap.specs.Words.{App, Row, Rule, Text, fault_of, new_app, new_rule, one_of, with_rule, with_subcommand}
 use Rattle.clap.specs.Simple.{on_top}
 use Rattle.clap.specs.declared.builder.ArgAction.TheVariants.{Set}
 use Rattle.clap.specs.declared.builder.ValueParser.TheVariants as parsers
@@ -44,9 +43,17 @@ abbrev pub IsLoadOf : List Row → Mode → Type 0
 IsLoadOf rows mode =
     (s : ℕ) × (r : ℕ) × (mode ≡ modes.Generate s r) × GivesNumber (codes "seed") (2 ^ 64 - 1) rows s × GivesNumber (codes "requests") 100000 rows r
 
--- the mode that a subcommand with these matches is: the third is `gen` (profile)
+-- the name of one of the subcommands (profile)
+abbrev pub IsSubcommand : Text → Type 0
+IsSubcommand name = (name ≡ codes "replay") ⊎ ((name ≡ codes "show") ⊎ (name ≡ codes "gen"))
+
+-- the mode that the subcommand of this name with these matches is (profile)
 abbrev pub IsModeOf : Option (Text × List Row) → Mode → Type 0
 IsModeOf None mode = ⊥
 IsModeOf (Some p) mode =
-    MatchBool (bytes_eq p.0 (codes "replay")) (mode ≡ modes.Replay)
-    (MatchBool (bytes_eq p.0 (codes "show")) (mode ≡ modes.Show) (IsLoadOf p.1 mode))
+    ((p.0 ≡ codes "replay") × (mode ≡ modes.Replay))
+    ⊎ (((p.0 ≡ codes "show") × (mode ≡ modes.Show)) ⊎ ((p.0 ≡ codes "gen") × IsLoadOf p.1 mode))
+
+-- clap takes words: there is no kind of error that it gives at them (profile)
+abbrev pub AreTaken : List Text → Type 0
+AreTaken words = fault_of command_line words ≡ []

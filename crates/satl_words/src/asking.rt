@@ -1,8 +1,9 @@
 // What the words ask for.
-ghost use Rattle.std.specs.Prelude.{◌≡◌, ◌⊎◌, IfOk, Err, Ok, OnOk, [], ◌∷◌, true, map};
+ghost use Rattle.std.specs.Prelude.{◌≡◌, IfOk, IfSome, Err, Ok, OnOk, true, map};
 ghost use Rattle.std.specs.Rc.{rc_str_bytes};
-ghost use Rattle.clap.specs.Words.{Text, fault_of, has_subcommand, kind_of, subcommand_of, subcommand_rows_of, takes};
-ghost use Rattle.satl_words.specs.CommandLine.{IsModeOf, command_line};
+ghost use Rattle.clap.specs.Words.{has_subcommand, kind_of, subcommand_of, subcommand_rows_of, takes};
+ghost use Rattle.satl_words.specs.Asked.{AreRefused, AskFor};
+ghost use Rattle.satl_words.specs.CommandLine.{AreTaken, IsModeOf, IsSubcommand, command_line};
 ghost use Rattle.satl_words.specs.Plain.{IsInRange, ArePlain};
 
 use crate::line::command;
@@ -24,11 +25,12 @@ pub enum WordsFault {
 }
 
 /// What the words ask for: plain words what they spell, all others what clap makes of them (profile). `Refused` comes exactly where
-/// words are not plain and clap refuses them, for another cause than memory.
+/// words are not plain and clap refuses them, for another cause than memory: `NoMemory` comes at any other words alone.
 pub fn mode_asked(alloc: Global, words: &[RcStr]) -> Result<Mode, WordsFault>
     ensures plain { (mode : Mode) → IsInRange mode → ArePlain (map rc_str_bytes words.now) mode → result ≡ Ok mode }
-    ensures asked { IfOk result (λ mode. IsInRange mode × (ArePlain (map rc_str_bytes words.now) mode ⊎ IsModeOf (subcommand_of command_line (map rc_str_bytes words.now)) mode)) }
-    ensures refused { (result ≡ Err WordsFault.Refused) → (takes command_line (map rc_str_bytes words.now) ≡ true) → ⊥ }
+    ensures asked { IfOk result (λ mode. IsInRange mode × AskFor (map rc_str_bytes words.now) mode) }
+    ensures refused { (result ≡ Err WordsFault.Refused) → AreRefused (map rc_str_bytes words.now) }
+    ensures takes { (result ≡ Err WordsFault.Refused) → (takes command_line (map rc_str_bytes words.now) ≡ true) → ⊥ }
 {
     match plain_mode(words) {
         Some(mode) => Ok(mode),
@@ -39,8 +41,9 @@ pub fn mode_asked(alloc: Global, words: &[RcStr]) -> Result<Mode, WordsFault>
 /// What words ask for by clap.
 fn parsed_mode(alloc: Global, words: &[RcStr]) -> Result<Mode, WordsFault>
     ensures mode { IfOk result (λ mode. IsInRange mode × IsModeOf (subcommand_of command_line (map rc_str_bytes words.now)) mode) }
-    ensures taken { OnOk result (fault_of command_line (map rc_str_bytes words.now) ≡ []) }
-    ensures refused { (result ≡ Err WordsFault.Refused) → (takes command_line (map rc_str_bytes words.now) ≡ true) → ⊥ }
+    ensures taken { OnOk result (AreTaken (map rc_str_bytes words.now)) }
+    ensures refused { (result ≡ Err WordsFault.Refused) → AreTaken (map rc_str_bytes words.now) → ⊥ }
+    ensures takes { (result ≡ Err WordsFault.Refused) → (takes command_line (map rc_str_bytes words.now) ≡ true) → ⊥ }
 {
     let command = match command(alloc) {
         Ok(command) => command,
@@ -54,7 +57,8 @@ fn parsed_mode(alloc: Global, words: &[RcStr]) -> Result<Mode, WordsFault>
 
 /// What the matches of a subcommand ask for.
 fn mode_of(matches: &ArgMatches<'_>) -> Mode
-    requires { has_subcommand matches.now ≡ true }
+    requires some { has_subcommand matches.now ≡ true }
+    requires known { IfSome (subcommand_rows_of matches.now) (λ p. IsSubcommand p.0) }
     ensures mode { IsModeOf (subcommand_rows_of matches.now) result }
     ensures range { IsInRange result }
 {

@@ -1,4 +1,4 @@
-use Rattle.satl_serve.specs.Moments.{moment, writes}
+use Rattle.satl_serve.specs.Moments.{writes}
 use Rattle.satl_serve.specs.Runs.{input_limit}
 use Rattle.satl_top.specs.Load.{load_of}
 use Rattle.satl_top.proofs.LoadLemmas.{refusal_ends, stop_causes, stop_ends}
