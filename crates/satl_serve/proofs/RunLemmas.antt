@@ -19,13 +19,13 @@ use Rattle.satl_frame.specs.Reading.{Reading}
 use Rattle.satl_text.specs.Totals.{summary_of, total}
 use Rattle.satl_text.specs.declared.summary.Summary.{Summary}
 use Rattle.satl_line.specs.Tasks.{entries_of}
-use Rattle.satl_direct.specs.Run.{joined}
+use Rattle.satl_direct.specs.Run.{RunDeep, joined}
 use Rattle.satl_direct.specs.Tasks.{task_of}
 use Rattle.satl_core.specs.Layer.{Layer}
 use Rattle.satl_step.specs.Loop.{Ended, HasStopCause, Refused, Stage, StoppedInAnswers, StoppedSo}
 use Rattle.satl_step.specs.declared.frames_loop.Stop.{Stop}
 use Rattle.satl_step.specs.declared.frames_loop.Stop.TheVariants as stops
-use Rattle.satl_step.specs.Runs.{RunSoFar, Stand, is_request, requests_in}
+use Rattle.satl_step.specs.Runs.{AreCounted, IsDeep, RunSoFar, Stand, is_request, requests_in}
 use Rattle.satl_step.specs.Telling.{IsTold, Telling, all_behind}
 use Rattle.satl_step.proofs.RunLemmas.{run_start}
 use Rattle.satl_serve.specs.Forms.{all_told, begun, fault_told, output, told, told_of}
@@ -85,8 +85,19 @@ totals form n p events earlier answers is ends count =
     let all : requests_in events ≡ requests_in earlier = let last = how_many-push is_request earlier frames.End in let more = ap requests_in ends in omega (arith, last, more) in
     same ∙ ap (λ (k : ℕ). record (summary_of 0 answers) { requests = k }) (count ∙ ap total all)
 
-pub whole : (form : Form) (written : Option (List ℕ)) (a b : Stage Printer) (n : ℕ) → Begins form written a → Ended by behind a b n → RanWhole form input_limit (record b.scene.telling.teller.totals { requests = n }) (spot_of written a) (seen b)
-whole form written a b n begins e =
+-- a run over frames that are these
+run_to : (a b : Stand) (events all : List Frame) (groups : List (List Answer)) → events ≡ all → RunSoFar a b events groups → RunSoFar a b all groups
+run_to a b events all groups is r = record {
+  losses = r.losses;
+  deep = r.deep;
+  run = subst (λ fs. RunDeep a.device fs groups r.losses b.device r.deep) is r.run;
+  covered = r.covered;
+  counted = subst (λ fs. AreCounted fs r.losses a b) is r.counted;
+}
+
+pub whole : (form : Form) (written : Option (List ℕ)) (a b : Stage Printer) (n : ℕ) → IsDeep a.scene.stand.tally → Begins form written a → Ended by behind a b n → RanWhole form input_limit (record b.scene.telling.teller.totals { requests = n }) (spot_of written a) (seen b)
+unfolding run_to
+whole form written a b n deep begins e =
     let s = e.so_far in
     let read = read_to input_limit b.reader a.left b.left s.events e.earlier (s.given.limit ∙ begins.limit) (s.given.newest ∙ begins.newest) s.given.read e.ends in
     record {
@@ -95,7 +106,8 @@ whole form written a b n begins e =
       place = read.0;
       read = read.1;
       wrote = printed form written a b.scene.telling (joined s.groups) begins s.told_so;
-      run = subst (λ fs. RunSoFar a.scene.stand b.scene.stand fs s.groups) e.ends s.run;
+      run = run_to a.scene.stand b.scene.stand s.events (e.earlier ++ frames.End ∷ []) s.groups e.ends s.run;
+      deep = s.run.covered deep;
       totals = totals form n b.scene.telling.teller s.events e.earlier (joined s.groups) (printer_so form written a b.scene.telling (joined s.groups) begins s.told_so) e.ends s.requests_are;
     }
 

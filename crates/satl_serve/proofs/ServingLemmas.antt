@@ -14,7 +14,8 @@ use Rattle.satl_direct.specs.Device.{Device}
 use Rattle.satl_direct.specs.Tasks.{task_of}
 use Rattle.satl_core.specs.Layer.{Layer, Tied, view}
 use Rattle.satl_core.specs.Opening.{IsOpened}
-use Rattle.satl_step.specs.Runs.{AreCounted, RunCutSoFar, RunSoFar, Stand, Tally, tally_of, unplugs_in}
+use Rattle.satl_core.specs.Tie.{TiesQueue, given_by}
+use Rattle.satl_step.specs.Runs.{AreCounted, Covers, IsDeep, RunCutSoFar, RunSoFar, Stand, Tally, tally_of, unplugs_in}
 use Rattle.satl_serve.specs.Headline.{IsStopped}
 use Rattle.satl_serve.specs.Moments.{Moment, Spot, spot_at}
 use Rattle.satl_serve.specs.Runs.{BrokeInAnswers, BrokeInFault, BrokeInMagic, IsFirst, IsLeftAs, RanBefore, RanInPart, RanWhole, Serves}
@@ -53,24 +54,29 @@ left_as l d t = record {
 
 -- ---- a run is counted from an earlier stand
 
-module _ (s : Device) (old new : Tally) (faults_same : new.faults ≡ old.faults) (unplugs_same : new.unplugs ≡ old.unplugs) (few : new.calls ≤ old.calls) where
+module _ (s : Device) (old new : Tally) (same : new ≡ record old { calls = new.calls }) (few : new.calls ≤ old.calls) where
   sooner_counted : (events : List Frame) (losses : ℕ) (b : Stand) → AreCounted events losses (record { device = s; tally = new }) b → AreCounted events losses (record { device = s; tally = old }) b
   sooner_counted events losses b c = record {
-    faults = subst (λ n. RoseBy losses n b.tally.faults) faults_same c.faults;
-    unplugged = subst (λ n. RoseBy (unplugs_in events) n b.tally.unplugs) unplugs_same c.unplugged;
-    few_unplugs = omega (arith, unplugs_same, c.few_unplugs);
+    faults = subst (λ n. RoseBy losses n b.tally.faults) (ap (λ (t : Tally). t.faults) same) c.faults;
+    unplugged = subst (λ n. RoseBy (unplugs_in events) n b.tally.unplugs) (ap (λ (t : Tally). t.unplugs) same) c.unplugged;
+    few_unplugs = let is = ap (λ (t : Tally). t.unplugs) same in omega (arith, is, c.few_unplugs);
     few_calls = omega (arith, few, c.few_calls);
+    queue = subst (λ t. Covers (record t { calls = old.calls }) b.tally) same (record { rises = c.queue.rises; covers = c.queue.covers });
   }
 
+  sooner_covered : (deep : ℕ) (b : Stand) → (IsDeep new → deep ≤ b.tally.deepest) → IsDeep old → deep ≤ b.tally.deepest
+  sooner_covered deep b covered = subst (λ t. IsDeep (record t { calls = old.calls }) → deep ≤ b.tally.deepest) same covered
+
   sooner : (b : Stand) (events : List Frame) (groups : List (List Answer)) → RunSoFar (record { device = s; tally = new }) b events groups → RunSoFar (record { device = s; tally = old }) b events groups
-  sooner b events groups r = record { losses = r.losses; deep = r.deep; run = r.run; counted = sooner_counted events r.losses b r.counted }
+  sooner b events groups r = record { losses = r.losses; deep = r.deep; run = r.run; covered = sooner_covered r.deep b r.covered; counted = sooner_counted events r.losses b r.counted }
 
   sooner_cut : (b : Stand) (events : List Frame) (groups : List (List Answer)) → RunCutSoFar (record { device = s; tally = new }) b events groups → RunCutSoFar (record { device = s; tally = old }) b events groups
   sooner_cut b events groups r = record { losses = r.losses; run = r.run; counted = sooner_counted events r.losses b r.counted }
 
   module _ (form : Form) (limit : ℕ) (left written : Option (List ℕ)) (b : Spot) where
     sooner_whole : (summary : Summary) → RanWhole form limit summary (record { left = left; written = written; stand = record { device = s; tally = new } }) b → RanWhole form limit summary (record { left = left; written = written; stand = record { device = s; tally = old } }) b
-    sooner_whole summary r = record { events = r.events; groups = r.groups; place = r.place; read = r.read; wrote = r.wrote; run = sooner b.stand _ _ r.run; totals = r.totals }
+    unfolding sooner
+    sooner_whole summary r = record { events = r.events; groups = r.groups; place = r.place; read = r.read; wrote = r.wrote; run = sooner b.stand _ _ r.run; deep = r.deep; totals = r.totals }
 
     sooner_before : (why : FrameFault) → RanBefore form limit why (record { left = left; written = written; stand = record { device = s; tally = new } }) b → RanBefore form limit why (record { left = left; written = written; stand = record { device = s; tally = old } }) b
     sooner_before why r = record { events = r.events; groups = r.groups; read = r.read; wrote = r.wrote; run = sooner b.stand _ _ r.run }
@@ -83,23 +89,24 @@ module _ (s : Device) (old new : Tally) (faults_same : new.faults ≡ old.faults
 -- ---- serving
 
 -- how the layer was opened and served, on a drive that was first so, then opened, and last so
-module _ (form : Form) (limit : ℕ) (before after : Moment) (mid : DriveState) (opened : ℕ) (l l' : Layer) (is : IsOpened before.drive l mid) (unplugs_same : mid.unplugs ≡ before.drive.unplugs) (one : opened ≤ before.calls + 1) (tied : Tied l' after.drive) where
+module _ (form : Form) (limit : ℕ) (before after : Moment) (mid : DriveState) (opened : ℕ) (l l' : Layer) (is : IsOpened before.drive l mid) (one : opened ≤ before.calls + 1) (tied : Tied l' after.drive) (ties : TiesQueue l' after.drive) where
   abbrev a : Spot
   a = record { left = before.source.left; written = before.sink.written; stand = record { device = view l mid; tally = tally_of mid opened } }
 
   abbrev b : Spot
   b = spot_at (view l' after.drive) after.calls after
 
-  faults_same : mid.faults ≡ before.drive.faults
-  faults_same = ap (λ (d : DriveState). d.faults) is.stays
+  tally_same : tally_of mid opened ≡ record (tally_of before.drive (before.calls + 1)) { calls = opened }
+  tally_same = ap (λ (d : DriveState). tally_of d opened) is.stays
 
   pub serves_whole : (summary : Summary) → RanWhole form limit summary a b → Serves (RanWhole form limit summary) before after
   serves_whole summary r = record {
     first = view l mid;
     last = view l' after.drive;
     begins = first_of before.drive mid l is;
-    run = sooner_whole (view l mid) (tally_of before.drive (before.calls + 1)) (tally_of mid opened) faults_same unplugs_same one form limit before.source.left before.sink.written b summary r;
+    run = sooner_whole (view l mid) (tally_of before.drive (before.calls + 1)) (tally_of mid opened) tally_same one form limit before.source.left before.sink.written b summary r;
     ends = left_as l' after.drive tied;
+    queue = record { given = given_by l'; queue = ties.queue };
   }
 
   serves_before : (why : FrameFault) → RanBefore form limit why a b → Serves (RanBefore form limit why) before after
@@ -107,8 +114,9 @@ module _ (form : Form) (limit : ℕ) (before after : Moment) (mid : DriveState) 
     first = view l mid;
     last = view l' after.drive;
     begins = first_of before.drive mid l is;
-    run = sooner_before (view l mid) (tally_of before.drive (before.calls + 1)) (tally_of mid opened) faults_same unplugs_same one form limit before.source.left before.sink.written b why r;
+    run = sooner_before (view l mid) (tally_of before.drive (before.calls + 1)) (tally_of mid opened) tally_same one form limit before.source.left before.sink.written b why r;
     ends = left_as l' after.drive tied;
+    queue = record { given = given_by l'; queue = ties.queue };
   }
 
   serves_part : RanInPart form limit a b → Serves (RanInPart form limit) before after
@@ -116,8 +124,9 @@ module _ (form : Form) (limit : ℕ) (before after : Moment) (mid : DriveState) 
     first = view l mid;
     last = view l' after.drive;
     begins = first_of before.drive mid l is;
-    run = sooner_part (view l mid) (tally_of before.drive (before.calls + 1)) (tally_of mid opened) faults_same unplugs_same one form limit before.source.left before.sink.written b r;
+    run = sooner_part (view l mid) (tally_of before.drive (before.calls + 1)) (tally_of mid opened) tally_same one form limit before.source.left before.sink.written b r;
     ends = left_as l' after.drive tied;
+    queue = record { given = given_by l'; queue = ties.queue };
   }
 
   pub stops : (fault : ServeFault) → RanTo form limit a b fault → IsStopped form limit before after fault

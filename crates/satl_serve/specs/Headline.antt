@@ -1,12 +1,9 @@
 -- What holds of the input, the output and the drive, by how serving ended (profile).
-use Rattle.std.specs.Prelude.{◌≡◌, ℕ, ◌+◌, ◌≤◌, List, map}
+use Rattle.std.specs.Prelude.{◌≡◌, ℕ, ◌+◌, ◌≤◌, map}
 use Rattle.satl_frame.specs.declared.frames.FrameFault.{FrameFault}
 use Rattle.satl_frame.specs.declared.frames.FrameFault.TheVariants.{Bad, ReadFault}
 use Rattle.satl_text.specs.declared.summary.Summary.{Summary}
-use Rattle.satl_drive.specs.State.{DriveState}
-use Rattle.satl_direct.specs.Device.{Device}
 use Rattle.satl_core.specs.Opening.{IsUndisturbed}
-use Rattle.satl_core.specs.Tie.{Given, IsQueue}
 use Rattle.satl_serve.specs.declared.telling.Form.{Form}
 use Rattle.satl_serve.specs.declared.serving.ServeFault.{ServeFault}
 use Rattle.satl_serve.specs.declared.serving.ServeFault.TheVariants as faults
@@ -41,8 +38,3 @@ IsStopped form limit before after (faults.Open fault) = IsNotServed before after
 IsStopped form limit before after (faults.BadInput reason offset) = IsServedBefore form limit (Bad reason offset) before after
 IsStopped form limit before after faults.Read = IsServedBefore form limit ReadFault before after
 IsStopped form limit before after faults.Write = IsServedInPart form limit before after
-
--- the drive has of the last device's tasks as many as it can have (profile). No code stands on it yet.
-pub record KeepsQueue (last : Device) (new : DriveState) : Type 0 where
-  pub given : List Given
-  pub queue : IsQueue last given new.outstanding

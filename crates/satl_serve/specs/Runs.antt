@@ -1,5 +1,5 @@
 -- What serving an input does: a run of the device over its frames, whose answers are written (profile).
-use Rattle.std.specs.Prelude.{◌≡◌, ◌⊎◌, ℕ, ◌+◌, ◌^◌, true, false, List, [], ◌∷◌, ◌++◌, not, replicate, Option, Ok}
+use Rattle.std.specs.Prelude.{◌≡◌, ◌⊎◌, ℕ, ◌+◌, ◌≤◌, ◌^◌, true, false, List, [], ◌∷◌, ◌++◌, not, replicate, Option, Ok}
 use Rattle.satl_base.specs.Losses.{Loses}
 use Rattle.satl_io.specs.Known.{Wrote, WrotePart}
 use Rattle.satl_identify.specs.Refusals.{identity_of}
@@ -20,6 +20,7 @@ use Rattle.satl_drive.specs.State.{DriveState}
 use Rattle.satl_direct.specs.Device.{Device}
 use Rattle.satl_direct.specs.Valid.{IsValid}
 use Rattle.satl_direct.specs.Run.{joined}
+use Rattle.satl_core.specs.Tie.{Given, IsQueue}
 use Rattle.satl_step.specs.Runs.{RunCutSoFar, RunSoFar, requests_in}
 use Rattle.satl_serve.specs.Forms.{all_told, begun, fault_told, output, told_of}
 use Rattle.satl_serve.specs.Moments.{Moment, Spot, spot_at}
@@ -55,14 +56,20 @@ pub record IsLeftAs (s : Device) (d : DriveState) : Type 0 where
   pub cache : d.down ≡ false → d.cache ≡ s.modes.wce
   pub look : d.down ≡ false → d.look ≡ not s.modes.dra
 
+-- a drive has of a device's tasks as many as it can have, each under its tag, and nothing else (ACS-3, native command queuing; profile)
+pub record KeepsQueue (s : Device) (d : DriveState) : Type 0 where
+  pub given : List Given
+  pub queue : IsQueue s given d.outstanding
+
 -- a run served from this moment to that: it began with the first device of the drive, of which the layer has asked the identity by one
--- call, and the drive is left as its last device is (profile)
+-- call, and the drive is left as its last device is, with its tasks in the queue (profile)
 pub record Serves (Run : Spot → Spot → Type 0) (before after : Moment) : Type 0 where
   pub first : Device
   pub last : Device
   pub begins : IsFirst before.drive first
   pub run : Run (spot_at first (before.calls + 1) before) (spot_at last after.calls after)
   pub ends : IsLeftAs last after.drive
+  pub queue : KeepsQueue last after.drive
 
 -- frames, none of which is END, were read, and what follows them was refused or not read (profile)
 pub record ReadBefore (limit : ℕ) (left left' : Option (List ℕ)) (events : List Frame) (why : FrameFault) : Type 0 where
@@ -74,8 +81,8 @@ pub record ReadBefore (limit : ℕ) (left left' : Option (List ℕ)) (events : L
   pub read : HasRead reader left mid events
   pub blames : Blames reader mid left' why
 
--- frames up to END were read and no byte behind them; the output of a run over exactly these was written; and the totals are those of
--- the requests and these answers (profile)
+-- frames up to END were read and no byte behind them; the output of a run over exactly these was written; the drive had at once as many
+-- commands as the device let it have; and the totals are those of the requests and these answers (profile)
 pub record RanWhole (form : Form) (limit : ℕ) (summary : Summary) (before after : Spot) : Type 0 where
   pub events : List Frame
   pub groups : List (List Answer)
@@ -83,6 +90,7 @@ pub record RanWhole (form : Form) (limit : ℕ) (summary : Summary) (before afte
   pub read : ReadTo limit Two place before.left after.left (events ++ frames.End ∷ [])
   pub wrote : Wrote before.written after.written (output form (joined groups))
   pub run : RunSoFar before.stand after.stand (events ++ frames.End ∷ []) groups
+  pub deep : run.deep ≤ after.stand.tally.deepest
   pub totals : summary ≡ summary_of (requests_in events) (joined groups)
 
 -- frames were read and carried out, none of which is END; the output of a run over these was written; and what follows was refused or not

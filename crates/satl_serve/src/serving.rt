@@ -6,7 +6,7 @@ ghost use Rattle.satl_identify.specs.declared.identity.IdentityFault.{IdentityFa
 ghost use Rattle.satl_frame.specs.declared.frames.Frame.{Frame};
 ghost use Rattle.satl_drive.specs.State.{IsFit};
 ghost use Rattle.satl_core.specs.Layer.{Tied};
-ghost use Rattle.satl_step.specs.Runs.{stand_of};
+ghost use Rattle.satl_step.specs.Runs.{IsDeep, stand_of, tally_of};
 ghost use Rattle.satl_serve.specs.Completeness.{GoesWell, IsGoodInput, MayStop};
 ghost use Rattle.satl_serve.specs.Headline.{IsServedWhole, IsStopped};
 ghost use Rattle.satl_serve.specs.Moments.{moment, reads, writes};
@@ -20,7 +20,7 @@ use satl_core::{OpenFault, Satl};
 use satl_drive::Bench;
 use satl_frame::{FrameFault, FrameReader, Reason, WriteFault};
 use satl_io::{Sink, Source};
-use satl_step::{Stop, serve_frames};
+use satl_step::{Stop, see_queue, serve_frames};
 use satl_text::Summary;
 use std::alloc::Global;
 use std::sync::ledger::Ledger;
@@ -90,7 +90,9 @@ pub fn serve<S: Source, K: Sink, D: Bench, L: Ledger>(
     ensures complete { (fs : List Frame) (rest : List ℕ) → IsGoodInput input_limit (S.left source.old) fs rest → GoesWell (moment (reads (S.left source.old) (S.faults source.old)) (writes (K.written sink.old) (K.faults sink.old)) steps.old (D.state drive.old)) (moment (reads (S.left source.new) (S.faults source.new)) (writes (K.written sink.new) (K.faults sink.new)) steps.new (D.state drive.new)) → MatchResult result (λ _. S.left source.new ≡ Some rest) (MayStop (moment (reads (S.left source.old) (S.faults source.old)) (writes (K.written sink.old) (K.faults sink.old)) steps.old (D.state drive.old)) (moment (reads (S.left source.new) (S.faults source.new)) (writes (K.written sink.new) (K.faults sink.new)) steps.new (D.state drive.new))) }
 {
     let mut satl = Satl::open(alloc, drive, steps)?;
-    serve_opened(alloc, form, &mut satl, source, sink, drive, steps)
+    let served = serve_opened(alloc, form, &mut satl, source, sink, drive, steps);
+    see_queue(&satl);
+    served
 }
 
 /// The same, on a layer that was opened: what stands before all answers is written, and the frames are carried out up to END.
@@ -106,6 +108,7 @@ fn serve_opened<S: Source, K: Sink, D: Bench, L: Ledger>(
     requires tied { Tied satl.old (D.state drive.old) }
     requires all_in { satl.old.out ≡ 0 }
     requires idle { satl.old.tasks ≡ [] }
+    requires deep { IsDeep (tally_of (D.state drive.old) steps.old) }
     ensures tied { Tied satl.new (D.state drive.new) }
     ensures whole { IfOk result (λ summary. RanWhole form input_limit summary (record { left = S.left source.old; written = K.written sink.old; stand = stand_of satl.old (D.state drive.old) steps.old }) (record { left = S.left source.new; written = K.written sink.new; stand = stand_of satl.new (D.state drive.new) steps.new })) }
     ensures stopped { IfErr result (RanTo form input_limit (record { left = S.left source.old; written = K.written sink.old; stand = stand_of satl.old (D.state drive.old) steps.old }) (record { left = S.left source.new; written = K.written sink.new; stand = stand_of satl.new (D.state drive.new) steps.new })) }

@@ -15,15 +15,15 @@ use Rattle.satl_frame.specs.Pulls.{cut_to}
 use Rattle.satl_line.specs.Tasks.{Held, entries_of}
 use Rattle.satl_direct.specs.Arrival.{Arrives}
 use Rattle.satl_direct.specs.Bench.{Happens}
-use Rattle.satl_direct.specs.Device.{Device}
 use Rattle.satl_direct.specs.Quiet.{Around}
 use Rattle.satl_direct.specs.Tasks.{task_of}
 use Rattle.satl_direct.specs.Run.{Does, Manages, MayLose, TurnsOf, depth}
 use Rattle.satl_direct.specs.Run.TurnsOf.{none, more}
-use Rattle.satl_core.specs.Layer.{Layer, view}
+use Rattle.satl_core.specs.Layer.{Layer}
 use Rattle.satl_core.specs.Submitting.{IsCutOf}
 use Rattle.satl_step.specs.Telling.{IsTold, IsToldInPart, Telling}
-use Rattle.satl_step.specs.Events.{Carried, Done, DoneInPart, IsWholeOf, Scene, SomeTurnsTold, TurnTold, TurnToldInPart, TurnsTold}
+use Rattle.satl_step.specs.Events.{Carried, Done, DoneInPart, IsTallied, Scene, SomeTurnsTold, TurnTold, TurnToldInPart, TurnsTold}
+use Rattle.satl_step.specs.Runs.{IsDeep, Stand}
 use Rattle.satl_step.proofs.TellingLemmas.{part_before, part_one, told_more, told_none, told_one, told_part}
 
 pub map-append : (xs ys : List Reply) → map replied (xs ++ ys) ≡ map replied xs ++ map replied ys
@@ -75,37 +75,42 @@ whole_bench room event frames.End e = absurd cc
 
 -- ---- what they do
 
-pub carried_request : (r : Request) (s new : Device) (replies : List Reply) → ((whole : Request) → IsCutOf whole r → Around (MayLose (Arrives whole)) s replies new) → Carried (frames.Request r) s (map replied replies) new
-carried_request r s new replies step = record {
-  deep = depth new;
+pub carried_request : (r : Request) (a c : Stand) (replies : List Reply) → ((whole : Request) → IsCutOf whole r → Around (MayLose (Arrives whole)) a.device replies c.device) → (IsDeep a.tally → depth c.device ≤ c.tally.deepest) → Carried (frames.Request r) a (map replied replies) c
+carried_request r a c replies step covered = record {
+  deep = depth c.device;
   does = λ whole is.
       let found = whole_request is.room r whole is.cut in
-      subst (λ f. Does f s (map replied replies) new (depth new)) (sym found.is) (replies, refl, step found.w (record { count = is.room; cut_is = found.cut }), refl);
+      subst (λ f. Does f a.device (map replied replies) c.device (depth c.device)) (sym found.is) (replies, refl, step found.w (record { count = is.room; cut_is = found.cut }), refl);
+  covered = covered;
 }
 
-pub carried_manage : (m : Manage) (response : Response) (s new : Device) (replies : List Reply) → Around (MayLose (Manages m response)) s replies new → Carried (frames.Manage m) s (map replied replies ++ managed m.nexus m.function response m.tag ∷ []) new
-carried_manage m response s new replies step = record {
-  deep = depth new;
-  does = λ whole is. subst (λ f. Does f s (map replied replies ++ managed m.nexus m.function response m.tag ∷ []) new (depth new)) (sym (whole_manage is.room m whole is.cut))
+pub carried_manage : (m : Manage) (response : Response) (a c : Stand) (replies : List Reply) → Around (MayLose (Manages m response)) a.device replies c.device → (IsDeep a.tally → depth c.device ≤ c.tally.deepest) → Carried (frames.Manage m) a (map replied replies ++ managed m.nexus m.function response m.tag ∷ []) c
+carried_manage m response a c replies step covered = record {
+  deep = depth c.device;
+  does = λ whole is. subst (λ f. Does f a.device (map replied replies ++ managed m.nexus m.function response m.tag ∷ []) c.device (depth c.device)) (sym (whole_manage is.room m whole is.cut))
       (record { response = response; replies = replies; step = step; answer = refl }, refl);
+  covered = covered;
 }
 
-pub carried_bench : (event : BenchEvent) (s new : Device) (replies : List Reply) → Around (Happens event) s replies new → Carried (frames.Bench event) s (map replied replies) new
-carried_bench event s new replies step = record {
-  deep = depth new;
-  does = λ whole is. subst (λ f. Does f s (map replied replies) new (depth new)) (sym (whole_bench is.room event whole is.cut)) (replies, refl, step, refl);
+pub carried_bench : (event : BenchEvent) (a c : Stand) (replies : List Reply) → Around (Happens event) a.device replies c.device → (IsDeep a.tally → depth c.device ≤ c.tally.deepest) → Carried (frames.Bench event) a (map replied replies) c
+carried_bench event a c replies step covered = record {
+  deep = depth c.device;
+  does = λ whole is. subst (λ f. Does f a.device (map replied replies) c.device (depth c.device)) (sym (whole_bench is.room event whole is.cut)) (replies, refl, step, refl);
+  covered = covered;
 }
 
-pub carried_turns : (n : ℕ) (s new : Device) (replies : List Reply) (deep : ℕ) → TurnsOf n s replies new deep → Carried (frames.Turn n) s (map replied replies) new
-carried_turns n s new replies deep turns = record {
-  deep = max deep (depth new);
-  does = λ whole is. subst (λ f. Does f s (map replied replies) new (max deep (depth new))) (sym (whole_turn is.room n whole is.cut)) (replies, deep, refl, turns, refl);
+pub carried_turns : (n : ℕ) (a c : Stand) (replies : List Reply) (deep : ℕ) → TurnsOf n a.device replies c.device deep → (IsDeep a.tally → deep ≤ c.tally.deepest) → (IsDeep a.tally → depth c.device ≤ c.tally.deepest) → Carried (frames.Turn n) a (map replied replies) c
+carried_turns n a c replies deep turns covered last = record {
+  deep = max deep (depth c.device);
+  does = λ whole is. subst (λ f. Does f a.device (map replied replies) c.device (max deep (depth c.device))) (sym (whole_turn is.room n whole is.cut)) (replies, deep, refl, turns, refl);
+  covered = λ deep_before. omega (arith, covered deep_before, last deep_before);
 }
 
-pub carried_end : (n : ℕ) (s new : Device) (replies : List Reply) (deep : ℕ) → TurnsOf n s replies new deep → new.tasks ≡ [] → Carried frames.End s (map replied replies ++ ended ∷ []) new
-carried_end n s new replies deep turns empty = record {
+pub carried_end : (n : ℕ) (a c : Stand) (replies : List Reply) (deep : ℕ) → TurnsOf n a.device replies c.device deep → (IsDeep a.tally → deep ≤ c.tally.deepest) → c.device.tasks ≡ [] → Carried frames.End a (map replied replies ++ ended ∷ []) c
+carried_end n a c replies deep turns covered empty = record {
   deep = deep;
-  does = λ whole is. subst (λ f. Does f s (map replied replies ++ ended ∷ []) new deep) (sym (whole_end is.room whole is.cut)) (replies, refl, record { count = n; turns = turns; empty = empty });
+  does = λ whole is. subst (λ f. Does f a.device (map replied replies ++ ended ∷ []) c.device deep) (sym (whole_end is.room whole is.cut)) (replies, refl, record { count = n; turns = turns; empty = empty });
+  covered = covered;
 }
 
 none_left : (tasks : List Held) → length tasks ≤ 0 → map task_of (entries_of tasks) ≡ []
@@ -122,15 +127,16 @@ module _ {T : Type 0} (told : T → Answer → List ℕ) (behind : T → Answer 
   -- ---- turns
 
   pub turns_none : (a : Scene T) → TurnsTold told behind 0 a a
-  turns_none a = record { replies = []; deep = 0; turns = none; told_so = told_none told behind a.telling }
+  turns_none a = record { replies = []; deep = 0; turns = none; covered = λ deep. omega arith; told_so = told_none told behind a.telling }
 
-  pub turns_more : (n : ℕ) (a b c : Scene T) → TurnsTold told behind n a b → TurnTold told behind b c → TurnsTold told behind (n + 1) a c
-  turns_more n a b c first rest =
+  pub turns_more : (n : ℕ) (a b c : Scene T) → TurnsTold told behind n a b → TurnTold told behind b c → IsTallied (frames.Turn n) a.stand b.stand → IsTallied (frames.Turn 1) b.stand c.stand → TurnsTold told behind (n + 1) a c
+  turns_more n a b c first rest counted more_counted =
       let new = c.stand.device in
       record {
         replies = first.replies ++ rest.replies;
         deep = max first.deep (depth new);
         turns = subst (λ m. TurnsOf m a.stand.device (first.replies ++ rest.replies) new (max first.deep (depth new))) (omega arith) (more first.turns rest.step);
+        covered = λ deep. omega (arith, first.covered deep, rest.covered (counted.queue.covers deep), more_counted.queue.rises);
         told_so = subst (λ l. IsTold told behind a.telling c.telling l) (sym (map-append first.replies rest.replies)) (told_more told behind a.telling b.telling c.telling (map replied first.replies) (map replied rest.replies) first.told_so rest.told_so);
       }
 
@@ -155,8 +161,8 @@ module _ {T : Type 0} (told : T → Answer → List ℕ) (behind : T → Answer 
   pub part_is : (event known : Frame) (a c : Scene T) → event ≡ known → DoneInPart told behind known a c → DoneInPart told behind event a c
   part_is event known a c is done = subst (λ e. DoneInPart told behind e a c) (sym is) done
 
-  pub turns_done : (n : ℕ) (a c : Scene T) → TurnsTold told behind n a c → Done told behind (frames.Turn n) a c
-  turns_done n a c turns = record { answers = map replied turns.replies; carried = carried_turns n a.stand.device c.stand.device turns.replies turns.deep turns.turns; told_so = turns.told_so }
+  pub turns_done : (n : ℕ) (a c : Scene T) → TurnsTold told behind n a c → (IsDeep a.stand.tally → depth c.stand.device ≤ c.stand.tally.deepest) → Done told behind (frames.Turn n) a c
+  turns_done n a c turns last = record { answers = map replied turns.replies; carried = carried_turns n a.stand c.stand turns.replies turns.deep turns.turns turns.covered last; told_so = turns.told_so }
 
   pub turns_in_part : (n : ℕ) (a c : Scene T) → SomeTurnsTold told behind n a c → DoneInPart told behind (frames.Turn n) a c
   turns_in_part n a c turns = record {
@@ -169,7 +175,7 @@ module _ {T : Type 0} (told : T → Answer → List ℕ) (behind : T → Answer 
   pub end_done : (n : ℕ) (a b c : Scene T) → b.stand ≡ c.stand → c.stand.device.tasks ≡ [] → TurnsTold told behind n a b → Wrote b.telling.written c.telling.written (told b.telling.teller ended) → c.telling.teller ≡ behind b.telling.teller ended → Done told behind frames.End a c
   end_done n a b c same empty turns wrote next = record {
     answers = map replied turns.replies ++ ended ∷ [];
-    carried = carried_end n a.stand.device c.stand.device turns.replies turns.deep (subst (λ s. TurnsOf n a.stand.device turns.replies s.device turns.deep) same turns.turns) empty;
+    carried = carried_end n a.stand c.stand turns.replies turns.deep (subst (λ s. TurnsOf n a.stand.device turns.replies s.device turns.deep) same turns.turns) (subst (λ s. IsDeep a.stand.tally → turns.deep ≤ s.tally.deepest) same turns.covered) empty;
     told_so = told_more told behind a.telling b.telling c.telling (map replied turns.replies) (ended ∷ []) turns.told_so (told_one told behind b.telling c.telling ended wrote next);
   }
 
@@ -177,7 +183,7 @@ module _ {T : Type 0} (told : T → Answer → List ℕ) (behind : T → Answer 
   end_in_part n a b c same empty turns part = record {
     answers = map replied turns.replies ++ ended ∷ [];
     some = omega (arith, length-append (map replied turns.replies) (ended ∷ []));
-    carried = inl (carried_end n a.stand.device c.stand.device turns.replies turns.deep (subst (λ s. TurnsOf n a.stand.device turns.replies s.device turns.deep) same turns.turns) empty);
+    carried = inl (carried_end n a.stand c.stand turns.replies turns.deep (subst (λ s. TurnsOf n a.stand.device turns.replies s.device turns.deep) same turns.turns) (subst (λ s. IsDeep a.stand.tally → turns.deep ≤ s.tally.deepest) same turns.covered) empty);
     told_so = told_part told behind a.telling b.telling c.telling (map replied turns.replies) (ended ∷ []) turns.told_so (part_one told behind b.telling c.telling ended part);
   }
 
@@ -190,41 +196,41 @@ module _ {T : Type 0} (told : T → Answer → List ℕ) (behind : T → Answer 
   }
 
   -- an event whose answers are replies
-  pub replies_done : (event : Frame) (a c : Scene T) (replies : List Reply) → Carried event a.stand.device (map replied replies) c.stand.device → IsTold told behind a.telling c.telling (map replied replies) → Done told behind event a c
+  pub replies_done : (event : Frame) (a c : Scene T) (replies : List Reply) → Carried event a.stand (map replied replies) c.stand → IsTold told behind a.telling c.telling (map replied replies) → Done told behind event a c
   replies_done event a c replies carried told_so = record { answers = map replied replies; carried = carried; told_so = told_so }
 
-  pub replies_in_part : (event : Frame) (a c : Scene T) (replies : List Reply) → Carried event a.stand.device (map replied replies) c.stand.device → 1 ≤ length replies → IsToldInPart told behind a.telling c.telling (map replied replies) → DoneInPart told behind event a c
+  pub replies_in_part : (event : Frame) (a c : Scene T) (replies : List Reply) → Carried event a.stand (map replied replies) c.stand → 1 ≤ length replies → IsToldInPart told behind a.telling c.telling (map replied replies) → DoneInPart told behind event a c
   replies_in_part event a c replies carried some told_so = record { answers = map replied replies; some = omega (arith, length-map replies replied, some); carried = inl carried; told_so = told_so }
 
   -- a task management function, whose response is told behind replies
-  pub manage_done : (m : Manage) (response : Response) (a c : Scene T) (b : Telling T) (replies : List Reply) → Around (MayLose (Manages m response)) a.stand.device replies c.stand.device → IsTold told behind a.telling b (map replied replies) → Wrote b.written c.telling.written (told b.teller (managed m.nexus m.function response m.tag)) → c.telling.teller ≡ behind b.teller (managed m.nexus m.function response m.tag) →
+  pub manage_done : (m : Manage) (response : Response) (a c : Scene T) (b : Telling T) (replies : List Reply) → Around (MayLose (Manages m response)) a.stand.device replies c.stand.device → (IsDeep a.stand.tally → depth c.stand.device ≤ c.stand.tally.deepest) → IsTold told behind a.telling b (map replied replies) → Wrote b.written c.telling.written (told b.teller (managed m.nexus m.function response m.tag)) → c.telling.teller ≡ behind b.teller (managed m.nexus m.function response m.tag) →
       Done told behind (frames.Manage m) a c
-  manage_done m response a c b replies step told_so wrote next =
+  manage_done m response a c b replies step covered told_so wrote next =
       let last = managed m.nexus m.function response m.tag in
       record {
         answers = map replied replies ++ last ∷ [];
-        carried = carried_manage m response a.stand.device c.stand.device replies step;
+        carried = carried_manage m response a.stand c.stand replies step covered;
         told_so = told_more told behind a.telling b c.telling (map replied replies) (last ∷ []) told_so (told_one told behind b c.telling last wrote next);
       }
 
-  pub manage_in_part : (m : Manage) (response : Response) (a c : Scene T) (b : Telling T) (replies : List Reply) → Around (MayLose (Manages m response)) a.stand.device replies c.stand.device → IsTold told behind a.telling b (map replied replies) → WrotePart b.written c.telling.written (told b.teller (managed m.nexus m.function response m.tag)) →
+  pub manage_in_part : (m : Manage) (response : Response) (a c : Scene T) (b : Telling T) (replies : List Reply) → Around (MayLose (Manages m response)) a.stand.device replies c.stand.device → (IsDeep a.stand.tally → depth c.stand.device ≤ c.stand.tally.deepest) → IsTold told behind a.telling b (map replied replies) → WrotePart b.written c.telling.written (told b.teller (managed m.nexus m.function response m.tag)) →
       DoneInPart told behind (frames.Manage m) a c
-  manage_in_part m response a c b replies step told_so part =
+  manage_in_part m response a c b replies step covered told_so part =
       let last = managed m.nexus m.function response m.tag in
       record {
         answers = map replied replies ++ last ∷ [];
         some = omega (arith, length-append (map replied replies) (last ∷ []));
-        carried = inl (carried_manage m response a.stand.device c.stand.device replies step);
+        carried = inl (carried_manage m response a.stand c.stand replies step covered);
         told_so = told_part told behind a.telling b c.telling (map replied replies) (last ∷ []) told_so (part_one told behind b c.telling last part);
       }
 
   -- a write failed before the response
-  pub manage_before : (m : Manage) (response : Response) (a c : Scene T) (replies : List Reply) → Around (MayLose (Manages m response)) a.stand.device replies c.stand.device → IsToldInPart told behind a.telling c.telling (map replied replies) → DoneInPart told behind (frames.Manage m) a c
-  manage_before m response a c replies step part =
+  pub manage_before : (m : Manage) (response : Response) (a c : Scene T) (replies : List Reply) → Around (MayLose (Manages m response)) a.stand.device replies c.stand.device → (IsDeep a.stand.tally → depth c.stand.device ≤ c.stand.tally.deepest) → IsToldInPart told behind a.telling c.telling (map replied replies) → DoneInPart told behind (frames.Manage m) a c
+  manage_before m response a c replies step covered part =
       let last = managed m.nexus m.function response m.tag in
       record {
         answers = map replied replies ++ last ∷ [];
         some = omega (arith, length-append (map replied replies) (last ∷ []));
-        carried = inl (carried_manage m response a.stand.device c.stand.device replies step);
+        carried = inl (carried_manage m response a.stand c.stand replies step covered);
         told_so = part_before told behind a.telling c.telling (map replied replies) (last ∷ []) part;
       }

@@ -21,8 +21,8 @@ use Rattle.satl_direct.specs.Device.{Device}
 use Rattle.satl_direct.specs.Run.{joined}
 use Rattle.satl_core.specs.Layer.{IsExpectable}
 use Rattle.satl_core.specs.Submitting.{CanSubmit}
-use Rattle.satl_step.specs.Events.{CanTake, Done, DoneInPart, IsTallied, IsWholeOf, Scene}
-use Rattle.satl_step.specs.Loop.{Ended, Going, HasGiven, SoFar, Stage, StoppedInAnswers, counted_requests, is_end, place_offset}
+use Rattle.satl_step.specs.Events.{CanTake, Done, DoneInPart, IsTallied}
+use Rattle.satl_step.specs.Loop.{Ended, Going, HasGiven, SoFar, Stage, StoppedInAnswers, is_end, place_offset}
 use Rattle.satl_step.specs.Runs.{is_request, requests_in}
 use Rattle.satl_step.specs.Telling.{IsTold}
 use Rattle.satl_step.proofs.TellingLemmas.{told_more, told_none}

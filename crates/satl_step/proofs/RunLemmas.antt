@@ -1,5 +1,5 @@
 -- A run that grows by one event.
-use Rattle.std.proofs.Common.{◌≡◌, ◌⊎◌, append_assoc, refl, sym, ap, subst, ◌∙◌, arith, ℕ, ◌+◌, ◌*◌, ◌≤◌, max, inl, inr, List, [], ◌∷◌, ◌++◌, length}
+use Rattle.std.proofs.Common.{◌≡◌, ◌⊎◌, append_assoc, sym, ap, subst, ◌∙◌, arith, ℕ, ◌+◌, ◌≤◌, max, inl, inr, List, [], ◌∷◌, ◌++◌, length}
 use Rattle.std.proofs.lemmas.List.{append-nil}
 use Rattle.satl_base.specs.declared.bench.BenchEvent.TheVariants as events
 use Rattle.satl_base.proofs.ListsLemmas.{how_many-push}
@@ -10,11 +10,11 @@ use Rattle.satl_frame.specs.declared.frames.Frame.TheVariants as frames
 use Rattle.satl_frame.specs.Output.{Answer}
 use Rattle.satl_frame.specs.Pulls.{cut_to}
 use Rattle.satl_direct.specs.Device.{Device}
-use Rattle.satl_direct.specs.Run.{CutTurns, Does, joined, losses_in}
+use Rattle.satl_direct.specs.Run.{CutTurns, joined, losses_in}
 use Rattle.satl_direct.specs.Run.RunDeep.{start, step}
 use Rattle.satl_core.proofs.DeviceLemmas.{quiet_none}
 use Rattle.satl_step.specs.Events.{Carried, IsTallied, IsWholeOf, unplugs_behind}
-use Rattle.satl_step.specs.Runs.{AreCounted, DoesInPart, DoesShort, RunCutSoFar, RunInPart, RunSoFar, Stand, is_manage, is_request, is_unplug, unplugs_in}
+use Rattle.satl_step.specs.Runs.{AreCounted, Covers, DoesInPart, DoesShort, RunCutSoFar, RunSoFar, Stand, is_manage, is_request, is_unplug, unplugs_in}
 use Rattle.satl_step.specs.Runs.DoesInPart.{does_all, does_some}
 use Rattle.satl_step.specs.Runs.RunInPart.{last}
 
@@ -25,7 +25,7 @@ joined-push (g ∷ groups) now = ap (λ l. g ++ l) (joined-push groups now) ∙ 
 -- ---- what an event counts of a whole one
 
 tallied_whole : (room : ℕ) (a b : Stand) (event whole : Frame) → event ≡ cut_to room whole → IsTallied event a b → IsTallied whole a b
-tallied_whole room a b event (frames.Request w) is tallied = let x = subst (λ f. IsTallied f a b) is tallied in record { faults = x.faults; unplugs = x.unplugs; calls = x.calls }
+tallied_whole room a b event (frames.Request w) is tallied = let x = subst (λ f. IsTallied f a b) is tallied in record { faults = x.faults; unplugs = x.unplugs; calls = x.calls; queue = x.queue }
 tallied_whole room a b event (frames.Manage m) is tallied = subst (λ f. IsTallied f a b) is tallied
 tallied_whole room a b event (frames.Turn n) is tallied = subst (λ f. IsTallied f a b) is tallied
 tallied_whole room a b event (frames.Bench e) is tallied = subst (λ f. IsTallied f a b) is tallied
@@ -58,6 +58,13 @@ unplugs_one frames.End before = record { rose = RoseBy-none before; few = omega 
 unplugs_pushed : (events : List Frame) (event : Frame) → unplugs_in (events ++ event ∷ []) ≡ unplugs_in events + unplugs_in (event ∷ [])
 unplugs_pushed events event = omega (arith, how_many-push is_unplug events event)
 
+-- what covered the queue before covers it
+pub covers_same : (a : Stand) → Covers a.tally a.tally
+covers_same a = record { rises = omega arith; covers = λ deep. deep }
+
+pub covers_more : (a b c : Stand) → Covers a.tally b.tally → Covers b.tally c.tally → Covers a.tally c.tally
+covers_more a b c p q = record { rises = omega (arith, p.rises, q.rises); covers = λ deep. q.covers (p.covers deep) }
+
 -- events and one more are counted
 counted_more : (events : List Frame) (losses : ℕ) (before a b : Stand) (event whole : Frame) → AreCounted events losses before a → IsWholeOf event whole → IsTallied event a b → AreCounted (events ++ whole ∷ []) (losses + losses_in whole a.device b.device) before b
 counted_more events losses before a b event whole counted is tallied =
@@ -69,6 +76,7 @@ counted_more events losses before a b event whole counted is tallied =
       unplugged = subst (λ n. RoseBy n before.tally.unplugs b.tally.unplugs) (sym pushed) (RoseBy-more (unplugs_in events) (unplugs_in (whole ∷ [])) before.tally.unplugs a.tally.unplugs b.tally.unplugs counted.unplugged u.rose);
       few_unplugs = omega (arith, counted.few_unplugs, u.few, pushed);
       few_calls = omega (arith, counted.few_calls, x.calls, how_many-push is_request events whole, how_many-push is_manage events whole);
+      queue = covers_more before a b counted.queue x.queue;
     }
 
 -- ---- the run so far
@@ -84,29 +92,32 @@ run_start a idle = record {
     unplugged = RoseBy-none a.tally.unplugs;
     few_unplugs = omega arith;
     few_calls = let none = ap length idle in omega (arith, none);
+    queue = covers_same a;
   };
+  covered = λ deep. omega arith;
 }
 
 -- one event more, of which the one that was carried out has the pages that were free
-pub run_more : (before a b : Stand) (events : List Frame) (groups : List (List Answer)) (event whole : Frame) (given : List Answer) → RunSoFar before a events groups → IsWholeOf event whole → Carried event a.device given b.device → IsTallied event a b → RunSoFar before b (events ++ whole ∷ []) (groups ++ given ∷ [])
+pub run_more : (before a b : Stand) (events : List Frame) (groups : List (List Answer)) (event whole : Frame) (given : List Answer) → RunSoFar before a events groups → IsWholeOf event whole → Carried event a given b → IsTallied event a b → RunSoFar before b (events ++ whole ∷ []) (groups ++ given ∷ [])
 run_more before a b events groups event whole given r is carried tallied = record {
   losses = r.losses + losses_in whole a.device b.device;
   deep = max r.deep carried.deep;
   run = step whole given carried.deep r.run (carried.does whole is);
+  covered = λ deep. omega (arith, r.covered deep, tallied.queue.rises, carried.covered (r.counted.queue.covers deep));
   counted = counted_more events r.losses before a b event whole r.counted is tallied;
 }
 
 short_whole : (room : ℕ) (event whole : Frame) (s new : Device) (given : List Answer) → event ≡ cut_to room whole → DoesShort event s given new → DoesShort whole s given new
 short_whole room event whole s new given is short = record { count = short.count; some = short.some; asked = asked_whole room short.count event whole is short.asked; replies = short.replies; deep = short.deep; turns = short.turns; answer = short.answer }
 
-in_part : (event whole : Frame) (s new : Device) (given : List Answer) → IsWholeOf event whole → Carried event s given new ⊎ DoesShort event s given new → DoesInPart whole s given new
-in_part event whole s new given is (inl carried) = does_all carried.deep (carried.does whole is)
-in_part event whole s new given is (inr short) = does_some (short_whole is.room event whole s new given is.cut short)
+in_part : (event whole : Frame) (a b : Stand) (given : List Answer) → IsWholeOf event whole → Carried event a given b ⊎ DoesShort event a.device given b.device → DoesInPart whole a.device given b.device
+in_part event whole a b given is (inl carried) = does_all carried.deep (carried.does whole is)
+in_part event whole a b given is (inr short) = does_some (short_whole is.room event whole a.device b.device given is.cut short)
 
 -- one event more, the last, which may have been cut short
-pub run_cut : (before a b : Stand) (events : List Frame) (groups : List (List Answer)) (event whole : Frame) (given : List Answer) → RunSoFar before a events groups → IsWholeOf event whole → Carried event a.device given b.device ⊎ DoesShort event a.device given b.device → IsTallied event a b → RunCutSoFar before b (events ++ whole ∷ []) (groups ++ given ∷ [])
+pub run_cut : (before a b : Stand) (events : List Frame) (groups : List (List Answer)) (event whole : Frame) (given : List Answer) → RunSoFar before a events groups → IsWholeOf event whole → Carried event a given b ⊎ DoesShort event a.device given b.device → IsTallied event a b → RunCutSoFar before b (events ++ whole ∷ []) (groups ++ given ∷ [])
 run_cut before a b events groups event whole given r is done tallied = record {
   losses = r.losses + losses_in whole a.device b.device;
-  run = last whole given r.run (in_part event whole a.device b.device given is done);
+  run = last whole given r.run (in_part event whole a b given is done);
   counted = counted_more events r.losses before a b event whole r.counted is tallied;
 }

@@ -1,19 +1,20 @@
 -- What one event counts.
-use Rattle.std.proofs.Common.{◌≡◌, refl, sym, ap, subst, ◌∙◌, arith, ℕ, ◌+◌, ◌*◌, ◌≤◌, List, [], ◌∷◌, length}
-use Rattle.std.specs.Prelude.{not}
+use Rattle.std.proofs.Common.{◌≡◌, refl, sym, ap, subst, ◌∙◌, arith, ℕ, ◌+◌, ◌*◌, ◌≤◌, [], ◌∷◌, length}
 use Rattle.satl_io.specs.Causes.{RoseBy}
 use Rattle.satl_frame.specs.declared.frames.Frame.{Frame}
 use Rattle.satl_frame.specs.declared.frames.Frame.TheVariants as frames
 use Rattle.satl_drive.specs.State.{DriveState}
-use Rattle.satl_direct.specs.Run.{losses_in}
+use Rattle.satl_direct.specs.Run.{depth, losses_in}
 use Rattle.satl_direct.specs.Valid.{IsValid}
 use Rattle.satl_flight.specs.Flown.{IsInFlight}
+use Rattle.satl_flight.specs.Settled.{Deepens}
 use Rattle.satl_core.specs.Layer.{IsUsed, Layer, Tied, view}
 use Rattle.satl_core.specs.Turning.{turn_calls}
 use Rattle.satl_core.proofs.AgreeingLemmas.{agrees_by}
 use Rattle.satl_core.proofs.CountedLemmas.{counted_more, counted_same, tasks_seen}
 use Rattle.satl_step.specs.Events.{IsTallied, unplugs_behind}
 use Rattle.satl_step.specs.Runs.{Stand, calls_allowed, stand_of}
+use Rattle.satl_step.proofs.RunLemmas.{covers_more, covers_same}
 
 -- ---- the layer and free pages
 
@@ -43,18 +44,23 @@ stays_on a b c n m p q =
 
 -- what an event counts, once its replies were told
 pub tallied : (event : Frame) (l mid l' : Layer) (d d' : DriveState) (calls calls' : ℕ) → l' ≡ record mid { free = l'.free; out = l'.out } → RoseBy (losses_in event (view l d) (view mid d')) d.faults d'.faults → d'.unplugs ≡ unplugs_behind event d.unplugs →
-    calls' + turn_calls * length mid.tasks ≤ calls + turn_calls * length l.tasks + calls_allowed (event ∷ []) → IsTallied event (stand_of l d calls) (stand_of l' d' calls')
-tallied event l mid l' d d' calls calls' stays faults unplugs few =
+    calls' + turn_calls * length mid.tasks ≤ calls + turn_calls * length l.tasks + calls_allowed (event ∷ []) → Deepens d d' → IsTallied event (stand_of l d calls) (stand_of l' d' calls')
+tallied event l mid l' d d' calls calls' stays faults unplugs few deep =
     let tasks = ap (λ (x : Layer). length x.tasks) stays in
     record {
       faults = subst (λ s. RoseBy (losses_in event (view l d) s) d.faults d'.faults) (sym (view_same mid l' d' stays)) faults;
       unplugs = unplugs;
       calls = omega (arith, few, tasks, tasks_seen l.tasks, tasks_seen l'.tasks);
+      queue = record { rises = deep.rises; covers = deep.covers };
     }
+
+-- the deepest queue covers what the device lets the drive have, once replies were told
+pub depth_covered : (l mid l' : Layer) (d d' : DriveState) → l' ≡ record mid { free = l'.free; out = l'.out } → Deepens d d' → depth (view mid d') ≤ length d'.outstanding → length d.outstanding ≤ d.deepest → depth (view l' d') ≤ d'.deepest
+depth_covered l mid l' d d' stays deepens deep covered = let same = ap depth (view_same mid l' d' stays) in omega (arith, deep, same, deepens.covers covered)
 
 -- no turn
 pub turns_start : (a : Stand) → IsTallied (frames.Turn 0) a a
-turns_start a = record { faults = counted_same a.device a.device _ _ refl refl; unplugs = refl; calls = omega arith }
+turns_start a = record { faults = counted_same a.device a.device _ _ refl refl; unplugs = refl; calls = omega arith; queue = covers_same a }
 
 -- one turn more
 pub turns_on : (n m k : ℕ) (a b c : Stand) → IsTallied (frames.Turn n) a b → IsTallied (frames.Turn m) b c → IsTallied (frames.Turn k) a c
@@ -62,8 +68,9 @@ turns_on n m k a b c p q = record {
   faults = counted_more a.device b.device c.device _ _ _ p.faults q.faults;
   unplugs = q.unplugs ∙ p.unplugs;
   calls = omega (arith, p.calls, q.calls);
+  queue = covers_more a b c p.queue q.queue;
 }
 
 -- turns of END
 pub end_tallied : (n : ℕ) (a b : Stand) → IsTallied (frames.Turn n) a b → IsTallied frames.End a b
-end_tallied n a b p = record { faults = p.faults; unplugs = p.unplugs; calls = p.calls }
+end_tallied n a b p = record { faults = p.faults; unplugs = p.unplugs; calls = p.calls; queue = p.queue }

@@ -1,6 +1,5 @@
 -- Answers that are told one after the other.
 use Rattle.std.proofs.Common.{◌≡◌, append_assoc, refl, sym, ap, subst, ◌∙◌, ℕ, List, [], ◌∷◌, ◌++◌, map}
-use Rattle.std.specs.Prelude.{Option}
 use Rattle.std.proofs.lemmas.List.{append-nil}
 use Rattle.satl_base.specs.declared.reply.Reply.{Reply}
 use Rattle.satl_io.specs.Known.{Wrote, WrotePart}

@@ -8,15 +8,14 @@ use Rattle.satl_frame.specs.Output.{Answer}
 use Rattle.satl_frame.specs.Output.Answer.{replied}
 use Rattle.satl_frame.specs.Pulls.{cut_to}
 use Rattle.satl_drive.specs.State.{DriveState}
-use Rattle.satl_direct.specs.Device.{Device}
 use Rattle.satl_direct.specs.Quiet.{Around}
 use Rattle.satl_direct.specs.Turn.{Turn}
-use Rattle.satl_direct.specs.Run.{Does, TurnsOf, losses_in}
+use Rattle.satl_direct.specs.Run.{Does, TurnsOf, depth, losses_in}
 use Rattle.satl_core.specs.Benching.{unplugs_after}
 use Rattle.satl_core.specs.Layer.{Layer}
 use Rattle.satl_core.specs.Submitting.{CanSubmit}
 use Rattle.satl_core.specs.Turning.{turn_calls}
-use Rattle.satl_step.specs.Runs.{DoesShort, Stand, calls_allowed, stand_of}
+use Rattle.satl_step.specs.Runs.{Covers, DoesShort, IsDeep, Stand, calls_allowed, stand_of}
 use Rattle.satl_step.specs.Telling.{IsTold, IsToldInPart, Telling}
 
 -- where a run stands, and who tells its answers (profile)
@@ -41,22 +40,24 @@ pub record IsWholeOf (event whole : Frame) : Type 0 where
   pub room : ℕ
   pub cut : event ≡ cut_to room whole
 
--- an event was carried out, with these answers: it does what each whole event does of which it is the cut form (profile)
-pub record Carried (event : Frame) (s : Device) (answers : List Answer) (new : Device) : Type 0 where
+-- an event was carried out, with these answers: it does what each whole event does of which it is the cut form; and the drive had at once
+-- as many commands as the device let it have (profile)
+pub record Carried (event : Frame) (before : Stand) (answers : List Answer) (after : Stand) : Type 0 where
   pub deep : ℕ
-  pub does : (whole : Frame) → IsWholeOf event whole → Does whole s answers new deep
+  pub does : (whole : Frame) → IsWholeOf event whole → Does whole before.device answers after.device deep
+  pub covered : IsDeep before.tally → deep ≤ after.tally.deepest
 
 -- an event was carried out, and its answers were told (profile)
 pub record Done {T : Type 0} (told : T → Answer → List ℕ) (behind : T → Answer → T) (event : Frame) (before after : Scene T) : Type 0 where
   pub answers : List Answer
-  pub carried : Carried event before.stand.device answers after.stand.device
+  pub carried : Carried event before.stand answers after.stand
   pub told_so : IsTold told behind before.telling after.telling answers
 
 -- an event was carried out or cut short, and of its answers, one at least, a front was told (profile)
 pub record DoneInPart {T : Type 0} (told : T → Answer → List ℕ) (behind : T → Answer → T) (event : Frame) (before after : Scene T) : Type 0 where
   pub answers : List Answer
   pub some : 1 ≤ length answers
-  pub carried : Carried event before.stand.device answers after.stand.device ⊎ DoesShort event before.stand.device answers after.stand.device
+  pub carried : Carried event before.stand answers after.stand ⊎ DoesShort event before.stand.device answers after.stand.device
   pub told_so : IsToldInPart told behind before.telling after.telling answers
 
 -- how often the drive was unplugged behind an event (profile)
@@ -68,11 +69,12 @@ unplugs_behind (frames.Bench event) before = unplugs_after event before
 unplugs_behind frames.End before = before
 
 -- an event raised the count of faults by its losses; the drive was unplugged by it alone; and it was called as often at most as it
--- allows, and a turn for each task that is gone (profile)
+-- allows, and a turn for each task that is gone; its deepest queue did not fall (profile)
 pub record IsTallied (event : Frame) (before after : Stand) : Type 0 where
   pub faults : RoseBy (losses_in event before.device after.device) before.tally.faults after.tally.faults
   pub unplugs : after.tally.unplugs ≡ unplugs_behind event before.tally.unplugs
   pub calls : after.tally.calls + turn_calls * length after.device.tasks ≤ before.tally.calls + turn_calls * length before.device.tasks + calls_allowed (event ∷ [])
+  pub queue : Covers before.tally after.tally
 
 -- ---- turns
 
@@ -80,6 +82,7 @@ pub record IsTallied (event : Frame) (before after : Stand) : Type 0 where
 pub record TurnTold {T : Type 0} (told : T → Answer → List ℕ) (behind : T → Answer → T) (before after : Scene T) : Type 0 where
   pub replies : List Reply
   pub step : Around Turn before.stand.device replies after.stand.device
+  pub covered : IsDeep before.stand.tally → depth after.stand.device ≤ after.stand.tally.deepest
   pub told_so : IsTold told behind before.telling after.telling (map replied replies)
 
 -- a turn was taken, and told in part (profile)
@@ -94,6 +97,7 @@ pub record TurnsTold {T : Type 0} (told : T → Answer → List ℕ) (behind : T
   pub replies : List Reply
   pub deep : ℕ
   pub turns : TurnsOf count before.stand.device replies after.stand.device deep
+  pub covered : IsDeep before.stand.tally → deep ≤ after.stand.tally.deepest
   pub told_so : IsTold told behind before.telling after.telling (map replied replies)
 
 -- some of so many turns were taken, and told in part (profile)

@@ -15,15 +15,27 @@ use Rattle.satl_direct.specs.Run.{CutTurns, Does, RunDeep, TurnsOf, losses_in}
 use Rattle.satl_core.specs.Layer.{Layer, view}
 use Rattle.satl_core.specs.Turning.{off_calls, turn_calls}
 
--- what was counted so far: a drive's faults, how often it was unplugged, and how often it was called (profile)
+-- what was counted so far: a drive's faults, how often it was unplugged, the commands that it has, the most that it had at once, and how
+-- often it was called (profile)
 pub record Tally : Type 0 where
   pub faults : ℕ
   pub unplugs : ℕ
+  pub outstanding : ℕ
+  pub deepest : ℕ
   pub calls : ℕ
 
 -- the same of a drive that was called so often (profile)
 abbrev pub tally_of : DriveState → ℕ → Tally
-tally_of d calls = record { faults = d.faults; unplugs = d.unplugs; calls = calls }
+tally_of d calls = record { faults = d.faults; unplugs = d.unplugs; outstanding = length d.outstanding; deepest = d.deepest; calls = calls }
+
+-- a drive had at once as many commands as it has (profile)
+abbrev pub IsDeep : Tally → Type 0
+IsDeep t = t.outstanding ≤ t.deepest
+
+-- the deepest queue does not fall, and stays at least what the drive has, where it was (profile)
+pub record Covers (before after : Tally) : Type 0 where
+  pub rises : before.deepest ≤ after.deepest
+  pub covers : IsDeep before → IsDeep after
 
 -- where a run stands: the device, and what was counted so far (profile)
 pub record Stand : Type 0 where
@@ -82,18 +94,20 @@ unplugs_in events = how_many is_unplug events
 
 -- events with so many losses were counted: the drive's count of faults rose by the losses at least, or stands at its last value; its
 -- number of unplugs rose by the events that unplug it, or stands at its last value; and it was called as often at most as the events
--- allow, but for the turns of the tasks that are left (profile)
+-- allow, but for the turns of the tasks that are left; its deepest queue did not fall (profile)
 pub record AreCounted (events : List Frame) (losses : ℕ) (before after : Stand) : Type 0 where
   pub faults : RoseBy losses before.tally.faults after.tally.faults
   pub unplugged : RoseBy (unplugs_in events) before.tally.unplugs after.tally.unplugs
   pub few_unplugs : after.tally.unplugs ≤ before.tally.unplugs + unplugs_in events
   pub few_calls : after.tally.calls + turn_calls * length after.device.tasks ≤ before.tally.calls + calls_allowed events
+  pub queue : Covers before.tally after.tally
 
 -- events were carried out one after the other, from a device without tasks on, and were counted: a group of answers for each (profile)
 pub record RunSoFar (before after : Stand) (events : List Frame) (groups : List (List Answer)) : Type 0 where
   pub losses : ℕ
   pub deep : ℕ
   pub run : RunDeep before.device events groups losses after.device deep
+  pub covered : IsDeep before.tally → deep ≤ after.tally.deepest
   pub counted : AreCounted events losses before after
 
 -- an event that asks for turns was cut short between two of them, and one was taken at least (profile)

@@ -7,6 +7,7 @@ ghost use Rattle.satl_core.specs.Submitting.{CanSubmit};
 ghost use Rattle.satl_step.specs.Runs.{stand_of};
 ghost use Rattle.satl_step.specs.Events.{CanTake, Done, DoneInPart, IsTallied, scene_of};
 
+use crate::queue::see_queue;
 use crate::replies::tell_replies;
 use crate::teller::Teller;
 use crate::turns::{serve_end, serve_turns};
@@ -39,6 +40,7 @@ fn serve_request<T: Teller, K: Sink, D: Drive, L: Ledger>(
     ensures cause { HasCause (K.faults sink.old) (K.faults sink.new) result }
 {
     satl.submit(request, drive, replies, steps);
+    see_queue(satl);
     tell_replies(satl, teller, sink, replies)
 }
 
@@ -64,6 +66,7 @@ fn serve_manage<T: Teller, K: Sink, D: Drive, L: Ledger>(
     ensures cause { HasCause (K.faults sink.old) (K.faults sink.new) result }
 {
     let response = satl.manage(&manage, drive, replies, steps);
+    see_queue(satl);
     tell_replies(satl, teller, sink, replies)?;
     teller.tell_managed(&manage, response, sink)
 }
@@ -90,6 +93,7 @@ fn serve_bench<T: Teller, K: Sink, D: Bench, L: Ledger>(
     ensures cause { HasCause (K.faults sink.old) (K.faults sink.new) result }
 {
     satl.bench(&event, drive, replies, steps);
+    see_queue(satl);
     tell_replies(satl, teller, sink, replies)
 }
 

@@ -4,10 +4,12 @@
 
 mod events;
 mod frames_loop;
+mod queue;
 mod replies;
 mod teller;
 mod turns;
 
 pub use events::serve_event;
 pub use frames_loop::{Stop, serve_frames};
+pub use queue::see_queue;
 pub use teller::Teller;

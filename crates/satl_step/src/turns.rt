@@ -2,10 +2,12 @@
 ghost use Rattle.std.specs.Prelude.{◌≡◌, ◌≤◌, ◌-◌, [], OnErr, OnOk, length};
 ghost use Rattle.satl_io.specs.Causes.{HasCause};
 ghost use Rattle.satl_frame.specs.declared.frames.Frame.{Frame};
-ghost use Rattle.satl_core.specs.Layer.{Tied};
+ghost use Rattle.satl_direct.specs.Run.{depth};
+ghost use Rattle.satl_core.specs.Layer.{Tied, view};
 ghost use Rattle.satl_step.specs.Runs.{stand_of};
 ghost use Rattle.satl_step.specs.Events.{Done, DoneInPart, IsTallied, SomeTurnsTold, TurnTold, TurnToldInPart, TurnsTold, scene_of};
 
+use crate::queue::see_queue;
 use crate::replies::tell_replies;
 use crate::teller::Teller;
 use satl_base::{Replies, Steps};
@@ -37,6 +39,7 @@ fn serve_turn<T: Teller, K: Sink, D: Drive, L: Ledger>(
     ensures cause { HasCause (K.faults sink.old) (K.faults sink.new) result }
 {
     satl.turn(drive, replies, steps);
+    see_queue(satl);
     tell_replies(satl, teller, sink, replies)
 }
 
@@ -59,12 +62,14 @@ pub fn serve_turns<T: Teller, K: Sink, D: Drive, L: Ledger>(
     ensures told { OnOk result (TurnsTold T.told T.behind count (scene_of satl.old (D.state drive.old) steps.old teller.old (K.written sink.old)) (scene_of satl.new (D.state drive.new) steps.new teller.new (K.written sink.new))) }
     ensures part { OnErr result (SomeTurnsTold T.told T.behind count (scene_of satl.old (D.state drive.old) steps.old teller.old (K.written sink.old)) (scene_of satl.new (D.state drive.new) steps.new teller.new (K.written sink.new))) }
     ensures fewer { OnOk result (length satl.new.tasks ≤ length satl.old.tasks - count) }
+    ensures deep { OnOk result (depth (view satl.new (D.state drive.new)) ≤ length (D.state drive.new).outstanding) }
     ensures tallied { IsTallied (Frame.Turn count) (stand_of satl.old (D.state drive.old) steps.old) (stand_of satl.new (D.state drive.new) steps.new) }
     ensures cause { HasCause (K.faults sink.old) (K.faults sink.new) result }
 {
     for _ in 0..count {
         serve_turn(satl, teller, sink, drive, replies, steps)?;
     }
+    see_queue(satl);
     Ok(())
 }
 

@@ -7,10 +7,10 @@ use Rattle.satl_step.proofs.OutcomeLemmas.{if_err, if_ok}
 use Rattle.satl_serve.proofs.serving.serve.Goals as goal
 
 pub returns-clause-served : goal.returns-clause-served
-returns-clause-served g c = if_ok c.serve_opened.result _ _ (λ summary. serves_whole c.args.form input_limit (moment (reads (g.S.Source.left c.args.source.now) (g.S.Source.faults c.args.source.now)) (writes (g.K.Sink.written c.args.sink.now) (g.K.Sink.faults c.args.sink.now)) c.args.steps.now (g.D.Drive.state c.args.drive.now)) (moment (reads (g.S.Source.left c.serve_opened.new.source) (g.S.Source.faults c.serve_opened.new.source)) (writes (g.K.Sink.written c.serve_opened.new.sink) (g.K.Sink.faults c.serve_opened.new.sink)) c.serve_opened.new.steps (g.D.Drive.state c.serve_opened.new.drive)) (g.D.Drive.state c.open.new.drive) c.open.new.steps c.in_ok-satl.satl c.serve_opened.new.satl c.in_ok-satl.ensures.opened c.in_ok-satl.ensures.unplugs c.in_ok-satl.ensures.steps c.serve_opened.ensures.tied summary) c.serve_opened.ensures.whole
+returns-clause-served g c = if_ok c.serve_opened-served.result _ _ (λ summary. serves_whole c.args.form input_limit (moment (reads (g.S.Source.left c.args.source.now) (g.S.Source.faults c.args.source.now)) (writes (g.K.Sink.written c.args.sink.now) (g.K.Sink.faults c.args.sink.now)) c.args.steps.now (g.D.Drive.state c.args.drive.now)) (moment (reads (g.S.Source.left c.serve_opened-served.new.source) (g.S.Source.faults c.serve_opened-served.new.source)) (writes (g.K.Sink.written c.serve_opened-served.new.sink) (g.K.Sink.faults c.serve_opened-served.new.sink)) c.serve_opened-served.new.steps (g.D.Drive.state c.serve_opened-served.new.drive)) (g.D.Drive.state c.open.new.drive) c.open.new.steps c.in_ok-satl.satl c.serve_opened-served.new.satl c.in_ok-satl.ensures.opened c.in_ok-satl.ensures.steps c.serve_opened-served.ensures.tied (c.see_queue.ensures.ties (g.D.Drive.state c.serve_opened-served.new.drive) c.serve_opened-served.ensures.tied) summary) c.serve_opened-served.ensures.whole
 
 pub returns-clause-stopped : goal.returns-clause-stopped
-returns-clause-stopped g c = if_err c.serve_opened.result _ _ (λ fault. stops c.args.form input_limit (moment (reads (g.S.Source.left c.args.source.now) (g.S.Source.faults c.args.source.now)) (writes (g.K.Sink.written c.args.sink.now) (g.K.Sink.faults c.args.sink.now)) c.args.steps.now (g.D.Drive.state c.args.drive.now)) (moment (reads (g.S.Source.left c.serve_opened.new.source) (g.S.Source.faults c.serve_opened.new.source)) (writes (g.K.Sink.written c.serve_opened.new.sink) (g.K.Sink.faults c.serve_opened.new.sink)) c.serve_opened.new.steps (g.D.Drive.state c.serve_opened.new.drive)) (g.D.Drive.state c.open.new.drive) c.open.new.steps c.in_ok-satl.satl c.serve_opened.new.satl c.in_ok-satl.ensures.opened c.in_ok-satl.ensures.unplugs c.in_ok-satl.ensures.steps c.serve_opened.ensures.tied fault) c.serve_opened.ensures.stopped
+returns-clause-stopped g c = if_err c.serve_opened-served.result _ _ (λ fault. stops c.args.form input_limit (moment (reads (g.S.Source.left c.args.source.now) (g.S.Source.faults c.args.source.now)) (writes (g.K.Sink.written c.args.sink.now) (g.K.Sink.faults c.args.sink.now)) c.args.steps.now (g.D.Drive.state c.args.drive.now)) (moment (reads (g.S.Source.left c.serve_opened-served.new.source) (g.S.Source.faults c.serve_opened-served.new.source)) (writes (g.K.Sink.written c.serve_opened-served.new.sink) (g.K.Sink.faults c.serve_opened-served.new.sink)) c.serve_opened-served.new.steps (g.D.Drive.state c.serve_opened-served.new.drive)) (g.D.Drive.state c.open.new.drive) c.open.new.steps c.in_ok-satl.satl c.serve_opened-served.new.satl c.in_ok-satl.ensures.opened c.in_ok-satl.ensures.steps c.serve_opened-served.ensures.tied (c.see_queue.ensures.ties (g.D.Drive.state c.serve_opened-served.new.drive) c.serve_opened-served.ensures.tied) fault) c.serve_opened-served.ensures.stopped
 
 pub returns-clause-complete : goal.returns-clause-complete
-returns-clause-complete g c = λ fs rest good well. all_complete c.args.form input_limit _ _ (moment (reads (g.S.Source.left c.args.source.now) (g.S.Source.faults c.args.source.now)) (writes (g.K.Sink.written c.args.sink.now) (g.K.Sink.faults c.args.sink.now)) c.args.steps.now (g.D.Drive.state c.args.drive.now)) (moment (reads (g.S.Source.left c.serve_opened.new.source) (g.S.Source.faults c.serve_opened.new.source)) (writes (g.K.Sink.written c.serve_opened.new.sink) (g.K.Sink.faults c.serve_opened.new.sink)) c.serve_opened.new.steps (g.D.Drive.state c.serve_opened.new.drive)) fs rest c.serve_opened.result c.serve_opened.ensures.whole c.serve_opened.ensures.stopped c.serve_opened.ensures.causes good well
+returns-clause-complete g c = λ fs rest good well. all_complete c.args.form input_limit _ _ (moment (reads (g.S.Source.left c.args.source.now) (g.S.Source.faults c.args.source.now)) (writes (g.K.Sink.written c.args.sink.now) (g.K.Sink.faults c.args.sink.now)) c.args.steps.now (g.D.Drive.state c.args.drive.now)) (moment (reads (g.S.Source.left c.serve_opened-served.new.source) (g.S.Source.faults c.serve_opened-served.new.source)) (writes (g.K.Sink.written c.serve_opened-served.new.sink) (g.K.Sink.faults c.serve_opened-served.new.sink)) c.serve_opened-served.new.steps (g.D.Drive.state c.serve_opened-served.new.drive)) fs rest c.serve_opened-served.result c.serve_opened-served.ensures.whole c.serve_opened-served.ensures.stopped c.serve_opened-served.ensures.causes good well

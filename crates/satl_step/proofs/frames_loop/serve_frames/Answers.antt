@@ -1,4 +1,4 @@
-use Rattle.std.proofs.Common.{ap, arith, map, subst, sym, ◌∙◌}
+use Rattle.std.proofs.Common.{ap, arith, map, sym, ◌∙◌}
 use Rattle.satl_frame.specs.Reading.{Reading}
 use Rattle.satl_line.specs.Tasks.{entries_of}
 use Rattle.satl_direct.specs.Tasks.{task_of}

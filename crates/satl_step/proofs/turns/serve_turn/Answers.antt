@@ -3,7 +3,7 @@ use Rattle.satl_direct.specs.Quiet.{Around}
 use Rattle.satl_direct.specs.Turn.{Turn}
 use Rattle.satl_core.specs.Layer.{view}
 use Rattle.satl_step.proofs.OutcomeLemmas.{on_both_err, on_ok}
-use Rattle.satl_step.proofs.TallyLemmas.{tallied, tied_same, view_same}
+use Rattle.satl_step.proofs.TallyLemmas.{depth_covered, tallied, tied_same, view_same}
 use Rattle.satl_frame.specs.declared.frames.Frame.TheVariants as frames
 use Rattle.satl_step.proofs.turns.serve_turn.Goals as goal
 
@@ -16,6 +16,7 @@ returns-clause-told g c =
     on_ok c.tell_replies.result _ _ (λ told. record {
       replies = c.turn.new.replies;
       step = subst (λ s. Around Turn (view c.args.satl.now (g.D.Drive.state c.args.drive.now)) c.turn.new.replies s) (sym same) c.turn.ensures.turns;
+      covered = depth_covered c.args.satl.now c.turn.new.self c.tell_replies.new.satl (g.D.Drive.state c.args.drive.now) (g.D.Drive.state c.turn.new.drive) c.tell_replies.ensures.stays c.turn.ensures.kept.deep (c.see_queue.ensures.deep (g.D.Drive.state c.turn.new.drive) c.turn.ensures.tied);
       told_so = told;
     }) c.tell_replies.ensures.told
 
@@ -31,4 +32,4 @@ returns-clause-part g c =
 
 pub returns-clause-tallied : goal.returns-clause-tallied
 returns-clause-tallied g c =
-    tallied (frames.Turn 1) c.args.satl.now c.turn.new.self c.tell_replies.new.satl (g.D.Drive.state c.args.drive.now) (g.D.Drive.state c.turn.new.drive) c.args.steps.now c.turn.new.steps c.tell_replies.ensures.stays c.turn.ensures.kept.losses c.turn.ensures.kept.unplugs (omega (arith, c.turn.ensures.calls))
+    tallied (frames.Turn 1) c.args.satl.now c.turn.new.self c.tell_replies.new.satl (g.D.Drive.state c.args.drive.now) (g.D.Drive.state c.turn.new.drive) c.args.steps.now c.turn.new.steps c.tell_replies.ensures.stays c.turn.ensures.kept.losses c.turn.ensures.kept.unplugs (omega (arith, c.turn.ensures.calls)) c.turn.ensures.kept.deep
