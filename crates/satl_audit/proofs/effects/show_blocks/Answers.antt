@@ -11,9 +11,9 @@ returns-then-not-branch-clause-gives c =
       x,
       less,
       gives_begin c.args.input.now x c.args.range.lba c.args.given.now c.args.range.count c.args.sectors.now c.requires.size
-      ∙ c.loop-i.invariant.rest x less
-      ∙ gives_none c.args.input.now c.args.range.lba c.args.given.now (sliced c.args.given.now c.loop-i.i) c.loop-i.i c.args.range.count c.loop-i.sectors c.show.new.self c.requires.size c.loop-i-test.true (at_place (512 * c.loop-i.i) c.args.given.now)
-      (subst (λ (b : Bool). ShowsAt c.args.input.now x (sliced c.args.given.now c.loop-i.i) c.loop-i.sectors c.show.new.self b) c.if-not-branch.true c.in_ok-show.ensures.shows),
+          ∙ c.loop-i.invariant.rest x less
+          ∙ gives_none c.args.input.now c.args.range.lba c.args.given.now (sliced c.args.given.now c.loop-i.i) c.loop-i.i c.args.range.count c.loop-i.sectors c.show.new.self c.requires.size c.loop-i-test.true (at_place (512 * c.loop-i.i) c.args.given.now)
+          (subst (λ (b : Bool). ShowsAt c.args.input.now x (sliced c.args.given.now c.loop-i.i) c.loop-i.sectors c.show.new.self b) c.if-not-branch.true c.in_ok-show.ensures.shows),
     )
 
 pub loop-i-preserved : goal.loop-i-preserved

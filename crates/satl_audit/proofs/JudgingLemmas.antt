@@ -1,0 +1,36 @@
+-- A known command whose range and data-out are good, and the conditions of a nexus.
+use Rattle.std.proofs.Common.{◌≡◌, refl, sym, ap, ◌∙◌, ℕ, ◌+◌, Bool, true, false, List, [], ◌∷◌, ◌++◌, drop, append_assoc}
+use Rattle.std.specs.Prelude.{Option, Some, None, Ok, if◌then◌else◌, nat_lt, option_to_list, slice_get, slice_index_or}
+use Rattle.satl_base.specs.declared.request.Request.{Request}
+use Rattle.satl_cdb.specs.declared.command.Command.{Command}
+use Rattle.satl_cdb.specs.declared.command.Command.TheVariants as commands
+use Rattle.satl_cdb.specs.declared.command.Illegal.{Illegal}
+use Rattle.satl_direct.specs.Device.{Device}
+use Rattle.satl_direct.specs.Arrival.{Arrival, becomes, check, command_arrival, unless_refused}
+use Rattle.satl_direct.specs.Arrival.Arrival.{answered}
+use Rattle.satl_direct.specs.Senses.{out_of_range, short_data}
+use Rattle.satl_direct.specs.Tasks.{asks, needed, range_of}
+use Rattle.satl_cover.specs.Known.{is_known}
+
+module _ (s : Device) (r : Request) where
+  through : (c : Command) (o p : Option Illegal) → o ≡ None → p ≡ None → nat_lt s.identity.capacity ((range_of c).lba + (range_of c).count) ≡ false → nat_lt r.data_len (needed c) ≡ false →
+      (if nat_lt s.identity.capacity ((range_of c).lba + (range_of c).count) then answered (check s r out_of_range) else unless_refused o s r (if nat_lt r.data_len (needed c) then answered (check s r short_data) else unless_refused p s r (becomes s r c))) ≡ becomes s r c
+  through c o p e f g h = rw (e, f, g, h) refl
+
+  pub passes : (c : Command) (x : Arrival) → is_known (Ok c) ≡ true → nat_lt s.identity.capacity ((range_of c).lba + (range_of c).count) ≡ false → nat_lt r.data_len (needed c) ≡ false → becomes s r c ≡ x → command_arrival s r c ≡ x
+  passes commands.TestUnitReady x k g h e = through commands.TestUnitReady None None refl refl g h ∙ e
+  passes (commands.RequestSense descriptor alloc) x k g h e = absurd cc
+  passes (commands.Inquiry page alloc) x k g h e = absurd cc
+  passes (commands.ModeSense ten long_lba no_descriptor control page alloc) x k g h e = absurd cc
+  passes (commands.ModeSelect ten size) x k g h e = absurd cc
+  passes (commands.StartStop start no_flush) x k g h e = absurd cc
+  passes commands.ReadCapacity10 x k g h e = absurd cc
+  passes (commands.ReadCapacity16 alloc) x k g h e = absurd cc
+  passes (commands.ReportLuns select alloc) x k g h e = absurd cc
+  passes (commands.Read form lba count fua) x k g h e = through (commands.Read form lba count fua) None None refl refl g h ∙ e
+  passes (commands.Write form lba count fua) x k g h e = through (commands.Write form lba count fua) None None refl refl g h ∙ e
+  passes (commands.Verify form lba count compare) x k g h e = absurd cc
+  passes (commands.Flush form lba count) x k g h e = through (commands.Flush form lba count) None None refl refl g h ∙ e
+  passes (commands.WriteSame form lba count unmap) x k g h e = absurd cc
+  passes (commands.Unmap size) x k g h e = absurd cc
+  passes (commands.Pass cdb) x k g h e = absurd cc

@@ -1,0 +1,48 @@
+// The bytes of replies.
+ghost use Rattle.std.specs.Prelude.{◌≡◌, ◌≤◌, ◌<◌, ◌+◌, ◌^◌, ◌++◌, ◌∷◌, [], List, ℕ, true, false, None, length};
+ghost use Rattle.byteorder.specs.Endian.{big_bytes};
+ghost use Rattle.satl_base.specs.Codes.{scsi_code};
+ghost use Rattle.satl_base.specs.Limits.{longest_data};
+ghost use Rattle.satl_frame.specs.Output.{framed, reply_bytes};
+ghost use Rattle.satl_direct.specs.Arrival.{reply_to};
+
+use crate::cursor::Cursor;
+use satl_base::{Nexus, Request, Scsi, SenseBytes, Tag};
+
+/// A reply of version 1 up to its sense: with so many bytes of sense and so many of data behind it.
+pub fn head(nexus: Nexus, tag: Tag, status: Scsi, sense: u8, len: u32) -> [u8; 12]
+    requires { len ≤ longest_data }
+    ensures { result ≡ framed 0x81 (7 + sense + len) (nexus ∷ scsi_code status ∷ big_bytes 4 tag.0 ++ sense ∷ []) }
+{
+    let [a, b, c, d] = (7 + u32::from(sense) + len).to_be_bytes();
+    let [e, f, g, h] = tag.0.to_be_bytes();
+    [
+        0x81,
+        a,
+        b,
+        c,
+        d,
+        nexus.number(),
+        status.code(),
+        e,
+        f,
+        g,
+        h,
+        sense,
+    ]
+}
+
+/// Whether an answer to a request without data comes next in the output; then it is passed.
+pub fn pass_answer(
+    output: &mut Cursor<'_>,
+    request: &Request,
+    status: Scsi,
+    sense: &SenseBytes,
+) -> bool
+    requires { request.now.expected ≡ None }
+    ensures passed { result ≡ true → output.old ≡ reply_bytes (reply_to request.now status sense.now.items) ++ output.new }
+    ensures other { result ≡ false → (rest : List ℕ) → output.old ≡ reply_bytes (reply_to request.now status sense.now.items) ++ rest → ⊥ }
+{
+    let head = head(request.nexus, request.tag, status, sense.len() as u8, 0);
+    output.pass(&head) && output.pass(sense.as_slice())
+}
