@@ -1,5 +1,5 @@
 // What becomes of a request that the auditor knows.
-ghost use Rattle.std.specs.Prelude.{◌≡◌, ◌+◌, List, [], true, nat_lt, Ok};
+ghost use Rattle.std.specs.Prelude.{◌≡◌, ◌≤◌, ◌+◌, List, [], true, nat_lt, Ok, IfOk};
 ghost use Rattle.satl_base.specs.declared.block.Block.{Block};
 ghost use Rattle.satl_base.specs.Lists.{is_in};
 ghost use Rattle.satl_cdb.specs.Table.{says};
@@ -167,7 +167,8 @@ fn is_outside(range: Range, capacity: u64) -> bool
 /// A known command whose fields and data-out are good: it may become a task, unless it has nothing to do.
 fn begin(command: Command) -> Result<Command, AtOnce>
     requires { is_known (Ok command) ≡ true }
-    ensures { BecomesJudged command result }
+    ensures same { IfOk result (λ c. c ≡ command) }
+    ensures judged { BecomesJudged command result }
 {
     match command {
         Command::TestUnitReady | Command::Read { count: 0, .. } | Command::Write { count: 0, .. } =>
@@ -183,7 +184,9 @@ fn judge_command(
     command: Command,
 ) -> Result<Command, AtOnce>
     requires { is_known (Ok command) ≡ true }
-    ensures { (s : Device) → (body : List Block) → IsServing identity.now s → command_arrival s (record request.now { body = body }) command ≡ judged s (record request.now { body = body }) result }
+    ensures enough { IfOk result (λ c. needed c ≤ request.now.data_len) }
+    ensures known { IfOk result (λ c. is_known (Ok c) ≡ true) }
+    ensures judged { (s : Device) → (body : List Block) → IsServing identity.now s → command_arrival s (record request.now { body = body }) command ≡ judged s (record request.now { body = body }) result }
 {
     if is_outside(range_of(&command), identity.capacity) {
         return Err(AtOnce::Check(plain(0x5, 0x21, 0x00)));
@@ -198,7 +201,9 @@ fn judge_command(
 /// once.
 pub fn judge(identity: &Identity, request: &Request) -> Result<Command, AtOnce>
     requires { is_known (says request.now.cdb identity.now.trim) ≡ true }
-    ensures { (s : Device) → (body : List Block) → IsServing identity.now s → code_arrival s (record request.now { body = body }) ≡ judged s (record request.now { body = body }) result }
+    ensures enough { IfOk result (λ c. needed c ≤ request.now.data_len) }
+    ensures known { IfOk result (λ c. is_known (Ok c) ≡ true) }
+    ensures judged { (s : Device) → (body : List Block) → IsServing identity.now s → code_arrival s (record request.now { body = body }) ≡ judged s (record request.now { body = body }) result }
 {
     if !is_built(request.cdb[0]) {
         return Err(AtOnce::Check(plain(0x5, 0x20, 0x00)));

@@ -2,12 +2,15 @@
 ghost use Rattle.std.specs.Prelude.{◌≡◌, ◌≤◌, ◌<◌, ◌+◌, ◌^◌, ◌++◌, ◌∷◌, [], List, ℕ, true, false, None, length};
 ghost use Rattle.byteorder.specs.Endian.{big_bytes};
 ghost use Rattle.satl_base.specs.Codes.{scsi_code};
+ghost use Rattle.satl_base.specs.declared.reply.Scsi.TheVariants.{CheckCondition};
+ghost use Rattle.satl_sense.specs.Fixed.{fixed_form};
 ghost use Rattle.satl_base.specs.Limits.{longest_data};
 ghost use Rattle.satl_frame.specs.Output.{framed, reply_bytes};
 ghost use Rattle.satl_direct.specs.Arrival.{reply_to};
 
 use crate::cursor::Cursor;
 use satl_base::{Nexus, Request, Scsi, SenseBytes, Tag};
+use satl_sense::{Sense, sense_bytes};
 
 /// A reply of version 1 up to its sense: with so many bytes of sense and so many of data behind it.
 pub fn head(nexus: Nexus, tag: Tag, status: Scsi, sense: u8, len: u32) -> [u8; 12]
@@ -33,16 +36,31 @@ pub fn head(nexus: Nexus, tag: Tag, status: Scsi, sense: u8, len: u32) -> [u8; 1
 }
 
 /// Whether an answer to a request without data comes next in the output; then it is passed.
-pub fn pass_answer(
-    output: &mut Cursor<'_>,
-    request: &Request,
-    status: Scsi,
-    sense: &SenseBytes,
-) -> bool
+fn pass_answer(output: &mut Cursor<'_>, request: &Request, status: Scsi, sense: &SenseBytes) -> bool
     requires { request.now.expected ≡ None }
     ensures passed { result ≡ true → output.old ≡ reply_bytes (reply_to request.now status sense.now.items) ++ output.new }
     ensures other { result ≡ false → (rest : List ℕ) → output.old ≡ reply_bytes (reply_to request.now status sense.now.items) ++ rest → ⊥ }
 {
     let head = head(request.nexus, request.tag, status, sense.len() as u8, 0);
     output.pass(&head) && output.pass(sense.as_slice())
+}
+
+/// Whether CHECK CONDITION with this sense comes next in the output; then it is passed.
+pub fn pass_check(output: &mut Cursor<'_>, request: &Request, sense: &Sense) -> bool
+    requires { request.now.expected ≡ None }
+    ensures passed { result ≡ true → output.old ≡ reply_bytes (reply_to request.now CheckCondition (fixed_form sense.now)) ++ output.new }
+    ensures other { result ≡ false → (rest : List ℕ) → output.old ≡ reply_bytes (reply_to request.now CheckCondition (fixed_form sense.now)) ++ rest → ⊥ }
+{
+    let sense = sense_bytes(sense, false);
+    pass_answer(output, request, Scsi::CheckCondition, &sense)
+}
+
+/// Whether a status without sense comes next in the output; then it is passed.
+pub fn pass_status(output: &mut Cursor<'_>, request: &Request, status: Scsi) -> bool
+    requires { request.now.expected ≡ None }
+    ensures passed { result ≡ true → output.old ≡ reply_bytes (reply_to request.now status []) ++ output.new }
+    ensures other { result ≡ false → (rest : List ℕ) → output.old ≡ reply_bytes (reply_to request.now status []) ++ rest → ⊥ }
+{
+    let none = SenseBytes::new();
+    pass_answer(output, request, status, &none)
 }

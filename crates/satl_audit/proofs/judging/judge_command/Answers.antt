@@ -7,12 +7,12 @@ use Rattle.satl_direct.specs.Tasks.{range_of}
 use Rattle.satl_audit.proofs.JudgingLemmas.{passes}
 use Rattle.satl_audit.proofs.judging.judge_command.Goals as goal
 
-pub returns : goal.returns
-returns c = λ s body serving.
+pub returns-clause-judged : goal.returns-clause-judged
+returns-clause-judged c = λ s body serving.
     passes s (record c.args.request.now { body = body }) c.args.command _ c.requires
     (ap (λ (i : Identity). nat_lt i.capacity ((range_of c.args.command).lba + (range_of c.args.command).count)) serving.same
     ∙ ap (λ (g : Range). nat_lt c.args.identity.now.capacity (g.lba + g.count)) (sym c.range_of.ensures)
     ∙ sym c.is_outside.ensures
     ∙ c.if-is_outside.false)
     (le-ltb _ _ (omega (arith, c.if-from-needed.false, c.from.ensures, c.needed.ensures)))
-    (c.begin.ensures c.args.identity.now s (record c.args.request.now { body = body }) serving)
+    (c.begin.ensures.judged c.args.identity.now s (record c.args.request.now { body = body }) serving)
