@@ -1,9 +1,9 @@
 // A request of a record arrives.
-ghost use Rattle.std.specs.Prelude.{◌≡◌, ◌≤◌, true, false, None, Ok};
+ghost use Rattle.std.specs.Prelude.{◌≡◌, ◌+◌, ◌≤◌, ℕ, true, false, None};
 ghost use Rattle.satl_cdb.specs.Table.{says};
-ghost use Rattle.satl_direct.specs.Tasks.{needed};
 ghost use Rattle.satl_cover.specs.Known.{is_known};
 ghost use Rattle.satl_audit.specs.Arriving.{CannotPlace, Goes, Places, Sticks, attention_of, told_of};
+ghost use Rattle.satl_audit.specs.Waiting.{AllFit, MayWait};
 
 use crate::cursor::Cursor;
 use crate::judging::{AtOnce, attention_sense, is_untold, judge, task_of};
@@ -42,9 +42,10 @@ fn place(
     command: Command,
     at: usize,
 ) -> bool
-    requires known { is_known (Ok command) ≡ true }
+    requires waits { MayWait identity.now.capacity request.now.data_len command }
     requires expected { request.now.expected ≡ None }
-    requires enough { needed command ≤ request.now.data_len }
+    requires nexus { request.now.nexus ≤ 3 }
+    ensures fits { (size : ℕ) → at + request.now.data_len ≤ size → AllFit identity.now.capacity size steps.old.waiting → AllFit identity.now.capacity size steps.new.waiting }
     ensures goes { result ≡ true → Places identity.now request.now command at steps.old steps.new }
     ensures sticks { result ≡ false → CannotPlace identity.now request.now command steps.old }
 {
@@ -60,6 +61,8 @@ fn place(
 pub fn arrive(steps: &mut Steps<'_>, identity: &Identity, request: &Request, at: usize) -> bool
     requires known { is_known (says request.now.cdb identity.now.trim) ≡ true }
     requires expected { request.now.expected ≡ None }
+    requires nexus { request.now.nexus ≤ 3 }
+    ensures fits { (size : ℕ) → at + request.now.data_len ≤ size → AllFit identity.now.capacity size steps.old.waiting → AllFit identity.now.capacity size steps.new.waiting }
     ensures goes { result ≡ true → Goes identity.now request.now at steps.old steps.new }
     ensures sticks { result ≡ false → Sticks identity.now request.now at steps.old }
 {

@@ -1,5 +1,5 @@
 // What becomes of a request that the auditor knows.
-ghost use Rattle.std.specs.Prelude.{◌≡◌, ◌≤◌, ◌+◌, List, [], true, nat_lt, Ok, IfOk};
+ghost use Rattle.std.specs.Prelude.{◌≡◌, ◌+◌, List, [], true, nat_lt, Ok, IfOk};
 ghost use Rattle.satl_base.specs.declared.block.Block.{Block};
 ghost use Rattle.satl_base.specs.Lists.{is_in};
 ghost use Rattle.satl_cdb.specs.Table.{says};
@@ -9,6 +9,7 @@ ghost use Rattle.satl_direct.specs.Senses.{attention_sense, plain, refusal};
 ghost use Rattle.satl_direct.specs.Tasks.{asks, held_blocks, is_ordered, needed, range_of};
 ghost use Rattle.satl_cover.specs.Known.{is_known};
 ghost use Rattle.satl_audit.specs.Arriving.{BecomesJudged, IsServing, bare_task, judged};
+ghost use Rattle.satl_audit.specs.Waiting.{IsTransfer, MayWait};
 
 use arrayvec::ArrayVec;
 use satl_base::{Attr, Pages, Range, Request};
@@ -168,6 +169,7 @@ fn is_outside(range: Range, capacity: u64) -> bool
 fn begin(command: Command) -> Result<Command, AtOnce>
     requires { is_known (Ok command) ≡ true }
     ensures same { IfOk result (λ c. c ≡ command) }
+    ensures transfer { IfOk result IsTransfer }
     ensures judged { BecomesJudged command result }
 {
     match command {
@@ -184,8 +186,7 @@ fn judge_command(
     command: Command,
 ) -> Result<Command, AtOnce>
     requires { is_known (Ok command) ≡ true }
-    ensures enough { IfOk result (λ c. needed c ≤ request.now.data_len) }
-    ensures known { IfOk result (λ c. is_known (Ok c) ≡ true) }
+    ensures waits { IfOk result (MayWait identity.now.capacity request.now.data_len) }
     ensures judged { (s : Device) → (body : List Block) → IsServing identity.now s → command_arrival s (record request.now { body = body }) command ≡ judged s (record request.now { body = body }) result }
 {
     if is_outside(range_of(&command), identity.capacity) {
@@ -201,8 +202,7 @@ fn judge_command(
 /// once.
 pub fn judge(identity: &Identity, request: &Request) -> Result<Command, AtOnce>
     requires { is_known (says request.now.cdb identity.now.trim) ≡ true }
-    ensures enough { IfOk result (λ c. needed c ≤ request.now.data_len) }
-    ensures known { IfOk result (λ c. is_known (Ok c) ≡ true) }
+    ensures waits { IfOk result (MayWait identity.now.capacity request.now.data_len) }
     ensures judged { (s : Device) → (body : List Block) → IsServing identity.now s → code_arrival s (record request.now { body = body }) ≡ judged s (record request.now { body = body }) result }
 {
     if !is_built(request.cdb[0]) {

@@ -53,4 +53,3 @@ returns-in-Err-Check-clause-sticks c = λ failed input body sent.
     let s = device_of i input old.waiting old.attentions in
     let is = code_next i input old.waiting old.attentions r sent.unit sent.alone c.in_default.ensures.next ∙ c.in-Err-Check.ensures.judged s body (serving i input old.waiting old.attentions) ∙ ap (answers_at_once s r) c.in-Err-Check.field-0-is in
     answered_sticks r s (check s r c.in-Err-Check.sense) old.output is (c.pass_check-in-Err-Check.ensures.other failed)
-
