@@ -1,23 +1,21 @@
 // The bytes of replies.
-ghost use Rattle.std.specs.Prelude.{◌≡◌, ◌≤◌, ◌<◌, ◌+◌, ◌^◌, ◌++◌, ◌∷◌, [], List, ℕ, true, false, None, length};
-ghost use Rattle.byteorder.specs.Endian.{big_bytes};
-ghost use Rattle.satl_base.specs.Codes.{scsi_code};
+ghost use Rattle.std.specs.Prelude.{◌≡◌, ◌<◌, ◌^◌, ◌++◌, [], List, ℕ, true, false, None};
 ghost use Rattle.satl_base.specs.declared.reply.Scsi.TheVariants.{CheckCondition};
 ghost use Rattle.satl_sense.specs.Fixed.{fixed_form};
-ghost use Rattle.satl_base.specs.Limits.{longest_data};
-ghost use Rattle.satl_frame.specs.Output.{framed, reply_bytes};
+ghost use Rattle.satl_frame.specs.Output.{reply_bytes};
 ghost use Rattle.satl_direct.specs.Arrival.{reply_to};
+ghost use Rattle.satl_audit.specs.Finishing.{head_bytes};
 
 use crate::cursor::Cursor;
 use satl_base::{Nexus, Request, Scsi, SenseBytes, Tag};
 use satl_sense::{Sense, sense_bytes};
 
 /// A reply of version 1 up to its sense: with so many bytes of sense and so many of data behind it.
-pub fn head(nexus: Nexus, tag: Tag, status: Scsi, sense: u8, len: u32) -> [u8; 12]
-    requires { len ≤ longest_data }
-    ensures { result ≡ framed 0x81 (7 + sense + len) (nexus ∷ scsi_code status ∷ big_bytes 4 tag.0 ++ sense ∷ []) }
+pub fn head(nexus: Nexus, tag: Tag, status: Scsi, sense: u8, len: u64) -> [u8; 12]
+    requires { len < 2 ^ 63 }
+    ensures { result ≡ head_bytes nexus tag.0 status sense len }
 {
-    let [a, b, c, d] = (7 + u32::from(sense) + len).to_be_bytes();
+    let [_, _, _, _, a, b, c, d] = (7 + u64::from(sense) + len).to_be_bytes();
     let [e, f, g, h] = tag.0.to_be_bytes();
     [
         0x81,

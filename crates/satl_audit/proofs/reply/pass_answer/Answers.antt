@@ -1,5 +1,6 @@
 use Rattle.std.proofs.Common.{◌∙◌, ap, sym, ℕ, List, ◌++◌}
-use Rattle.satl_audit.proofs.ReplyLemmas.{answer_is, head_bytes}
+use Rattle.satl_audit.specs.Finishing.{head_bytes}
+use Rattle.satl_audit.proofs.ReplyLemmas.{answer_is}
 use Rattle.satl_audit.proofs.reply.pass_answer.Goals as goal
 
 pub returns-else-pass-clause-other : goal.returns-else-pass-clause-other

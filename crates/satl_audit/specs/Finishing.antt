@@ -1,0 +1,60 @@
+-- A task of a record ends.
+use Rattle.std.specs.Prelude.{◌≡◌, ℕ, suc, ◌+◌, ◌*◌, Bool, true, false, List, [], ◌∷◌, ◌++◌, length, slice_get, Option, Some}
+use Rattle.byteorder.specs.Endian.{big_bytes}
+use Rattle.satl_base.specs.declared.block.Range.{Range}
+use Rattle.satl_base.specs.declared.reply.Reply.{Reply}
+use Rattle.satl_base.specs.declared.reply.Scsi.{Scsi}
+use Rattle.satl_base.specs.declared.reply.Scsi.TheVariants.{Good}
+use Rattle.satl_base.specs.Codes.{scsi_code}
+use Rattle.satl_identify.specs.declared.identity.Identity.{Identity}
+use Rattle.satl_frame.specs.Output.{framed, reply_bytes}
+use Rattle.satl_direct.specs.Device.{Device}
+use Rattle.satl_audit.specs.Arriving.{device_at}
+use Rattle.satl_audit.specs.Deciding.{GivesWhole}
+use Rattle.satl_audit.specs.Deeds.{Deed}
+use Rattle.satl_audit.specs.Deeds.Deed.{shows}
+use Rattle.satl_audit.specs.Following.{Follows, GivesBlocks, SomeRefuses}
+use Rattle.satl_audit.specs.Kept.{Keeping}
+use Rattle.satl_audit.specs.Skeleton.{TaskDone, shown}
+use Rattle.satl_audit.specs.declared.arriving.Steps.{Steps}
+
+-- a reply of version 1 up to its sense, with so many bytes of sense and of data (profile)
+abbrev pub head_bytes : ℕ → ℕ → Scsi → ℕ → ℕ → List ℕ
+head_bytes nexus tag status sense len = framed 0x81 (7 + sense + len) (nexus ∷ scsi_code status ∷ big_bytes 4 tag ++ sense ∷ [])
+
+-- the answer of a READ with these bytes of data comes first in the output (SBC-3, READ commands)
+abbrev pub IsReadBy : ℕ → ℕ → Range → List ℕ → List ℕ → List ℕ → Type 0
+IsReadBy nexus tag range output given left = (length given ≡ 512 * range.count)
+    × (output ≡ head_bytes nexus tag Good 0 (512 * range.count) ++ (given ++ left))
+
+-- the answer of a READ comes first in the output, with what each sector may have; or with what some sector cannot have, or it does
+-- not come first (SBC-3, READ commands)
+abbrev pub Reads : List ℕ → ℕ → ℕ → Range → List ℕ → List ℕ → List Keeping → List Keeping → Bool → Type 0
+Reads input nexus tag range output left old new true = (given : List ℕ) × IsReadBy nexus tag range output given left
+    × GivesBlocks input range.lba given old new true
+Reads input nexus tag range output left old new false = (given rest : List ℕ) → IsReadBy nexus tag range output given rest →
+    GivesBlocks input range.lba given old new false
+
+-- what a task does that ends, where its pairs might show before (profile)
+abbrev pub end_deeds : Device → Deed → List Deed
+end_deeds s deed = shows (shown s) ∷ deed ∷ []
+
+-- a task ends with the answer that comes first in the output, and each sector goes along with it (SAM-5 8)
+pub record EndsOn (identity : Identity) (input : List ℕ) (old new : Steps) (sectors after : List Keeping) : Type 0 where
+  pub reply : Reply
+  pub deed : Deed
+  pub done : TaskDone (device_at identity input old) reply deed (device_at identity input new)
+  pub whole : GivesWhole deed
+  pub said : old.output ≡ reply_bytes reply ++ new.output
+  pub follows : Follows input (end_deeds (device_at identity input old) deed) sectors after
+
+-- no task can end so: of each whose answer comes first in the output some sector does not go along with it (SAM-5 8)
+abbrev pub CannotEnd : Identity → List ℕ → Steps → List Keeping → Type 0
+CannotEnd identity input old sectors = (reply : Reply) (deed : Deed) (new : Device) (left : List ℕ) →
+    TaskDone (device_at identity input old) reply deed new → GivesWhole deed → old.output ≡ reply_bytes reply ++ left →
+    SomeRefuses input (end_deeds (device_at identity input old) deed) sectors
+
+-- a task ends so, or none can (SAM-5 8)
+abbrev pub Ends : Identity → List ℕ → Steps → Steps → List Keeping → List Keeping → Bool → Type 0
+Ends identity input old new sectors after true = EndsOn identity input old new sectors after
+Ends identity input old new sectors after false = CannotEnd identity input old sectors
