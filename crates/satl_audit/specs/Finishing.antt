@@ -1,7 +1,9 @@
 -- A task of a record ends.
-use Rattle.std.specs.Prelude.{◌≡◌, ℕ, suc, ◌+◌, ◌*◌, Bool, true, false, List, [], ◌∷◌, ◌++◌, length, slice_get, Option, Some}
+use Rattle.std.specs.Prelude.{◌≡◌, ℕ, ◌+◌, ◌*◌, ◌<◌, ◌≤◌, ◌^◌, Bool, true, false, List, [], ◌∷◌, ◌++◌, length, slice_get, Option, Some, None}
+use Rattle.std.specs.List.{AllByRecursion}
 use Rattle.byteorder.specs.Endian.{big_bytes}
 use Rattle.satl_base.specs.declared.block.Range.{Range}
+use Rattle.satl_base.specs.declared.request.Tag.{Tag}
 use Rattle.satl_base.specs.declared.reply.Reply.{Reply}
 use Rattle.satl_base.specs.declared.reply.Scsi.{Scsi}
 use Rattle.satl_base.specs.declared.reply.Scsi.TheVariants.{Good}
@@ -9,7 +11,9 @@ use Rattle.satl_base.specs.Codes.{scsi_code}
 use Rattle.satl_identify.specs.declared.identity.Identity.{Identity}
 use Rattle.satl_frame.specs.Output.{framed, reply_bytes}
 use Rattle.satl_direct.specs.Device.{Device}
+use Rattle.satl_direct.specs.Valid.{AreOwn}
 use Rattle.satl_audit.specs.Arriving.{device_at}
+use Rattle.satl_audit.specs.Waiting.{AllFit, Placed, device_tasks}
 use Rattle.satl_audit.specs.Deciding.{GivesWhole}
 use Rattle.satl_audit.specs.Deeds.{Deed}
 use Rattle.satl_audit.specs.Deeds.Deed.{shows}
@@ -58,3 +62,22 @@ CannotEnd identity input old sectors = (reply : Reply) (deed : Deed) (new : Devi
 abbrev pub Ends : Identity → List ℕ → Steps → Steps → List Keeping → List Keeping → Bool → Type 0
 Ends identity input old new sectors after true = EndsOn identity input old new sectors after
 Ends identity input old new sectors after false = CannotEnd identity input old sectors
+
+-- nexus and tag of the answer that comes first in the output (profile)
+abbrev pub NamesNext : List ℕ → Option (ℕ × Tag) → Type 0
+NamesNext output name = (nexus tag len : ℕ) (rest : List ℕ) → nexus ≤ 3 → tag < 2 ^ 32 →
+    output ≡ head_bytes nexus tag Good 0 len ++ rest → name ≡ Some (record { 0 = nexus; 1 = record { 0 = tag } })
+
+-- what is known of tasks that wait: no two have one name, and each is of a request of version 1, and fits (SAM-5 4.7; profile)
+pub record AreTasks (identity : Identity) (input : List ℕ) (waiting : List Placed) : Type 0 where
+  pub own : AreOwn (device_tasks input waiting)
+  pub tags : AllByRecursion (λ t. (t.tag).0 < 2 ^ 32) (device_tasks input waiting)
+  pub expected : AllByRecursion (λ t. t.expected ≡ None) (device_tasks input waiting)
+  pub fit : AllFit identity.capacity (length input) waiting
+
+-- a task whose answer comes first in the output is the one at this place (SAM-5 4.7)
+abbrev pub OnlyEnds : Steps → Option ℕ → Type 0
+OnlyEnds steps found = (identity : Identity) (input : List ℕ) (reply : Reply) (deed : Deed) (new : Device) (left : List ℕ) →
+    AreTasks identity input steps.waiting → (done : TaskDone (device_at identity input steps) reply deed new) →
+    steps.output ≡ reply_bytes reply ++ left →
+    (place : ℕ) × (found ≡ Some place) × (slice_get (device_tasks input steps.waiting) place ≡ Some done.task)
