@@ -48,7 +48,7 @@ module _ (identity : Identity) (input : List ℕ) (steps : Steps) (reply : Reply
         tag = (t.tag).0;
         place = place;
         named = names t.nexus (t.tag).0 (512 * length done.blocks) (first_bytes (512 * length done.blocks) done.blocks ++ left) (subst (λ u. u.nexus ≤ 3) a.is f.nexus) tag
-        (said ∙ ap (λ (x : Reply). reply_bytes x ++ left) done.answer ∙ good_is t done.blocks left expected);
+            (said ∙ ap (λ (x : Reply). reply_bytes x ++ left) done.answer ∙ good_is t done.blocks left expected);
         found = subst (λ u. position_from (has_name u.nexus (u.tag).0) 0 steps.waiting ≡ Some place) a.is (named_at input steps.waiting place 0 a.placed tasks.own a.at ∙ ap (λ n. Some n) none);
         eligible = sym (eligible_same input steps.waiting place) ∙ e.2;
         at = e.1;

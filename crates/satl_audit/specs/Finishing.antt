@@ -1,5 +1,5 @@
 -- A task of a record ends.
-use Rattle.std.specs.Prelude.{◌≡◌, ℕ, ◌+◌, ◌*◌, ◌<◌, ◌≤◌, ◌^◌, Bool, true, false, List, [], ◌∷◌, ◌++◌, length, slice_get, Option, Some, None}
+use Rattle.std.specs.Prelude.{◌≡◌, ℕ, ◌+◌, ◌*◌, ◌<◌, ◌≤◌, ◌^◌, Bool, true, false, List, [], ◌∷◌, ◌++◌, length, map, slice_get, Option, Some, None}
 use Rattle.std.specs.List.{AllByRecursion}
 use Rattle.byteorder.specs.Endian.{big_bytes}
 use Rattle.satl_base.specs.declared.block.Range.{Range}
@@ -17,8 +17,8 @@ use Rattle.satl_audit.specs.Waiting.{AllFit, Placed, device_tasks}
 use Rattle.satl_audit.specs.Deciding.{GivesWhole}
 use Rattle.satl_audit.specs.Deeds.{Deed}
 use Rattle.satl_audit.specs.Deeds.Deed.{shows}
-use Rattle.satl_audit.specs.Following.{Follows, GivesBlocks, SomeRefuses}
-use Rattle.satl_audit.specs.Kept.{Keeping}
+use Rattle.satl_audit.specs.Following.{Follows, GivesBlocks, PutsBlocks, SomeRefuses}
+use Rattle.satl_audit.specs.Kept.{Keeping, kept_settle}
 use Rattle.satl_audit.specs.Skeleton.{TaskDone, shown}
 use Rattle.satl_audit.specs.declared.arriving.Steps.{Steps}
 
@@ -38,6 +38,20 @@ Reads input nexus tag range output left old new true = (given : List ℕ) × IsR
     × GivesBlocks input range.lba given old new true
 Reads input nexus tag range output left old new false = (given rest : List ℕ) → IsReadBy nexus tag range output given rest →
     GivesBlocks input range.lba given old new false
+
+-- GOOD without data comes first in the output; or it does not (SAM-5 5.3.1)
+abbrev pub Passes : ℕ → ℕ → List ℕ → List ℕ → Bool → Type 0
+Passes nexus tag output left true = output ≡ head_bytes nexus tag Good 0 0 ++ left
+Passes nexus tag output left false = (rest : List ℕ) → output ≡ head_bytes nexus tag Good 0 0 ++ rest → ⊥
+
+-- so a WRITE ends, and its blocks were put (SBC-3, WRITE commands)
+abbrev pub Writes : List ℕ → ℕ → ℕ → Range → ℕ → Bool → List ℕ → List ℕ → List Keeping → List Keeping → Bool → Type 0
+Writes input nexus tag range at cached output left old new done = Passes nexus tag output left done
+    × (done ≡ true → PutsBlocks input range at cached old new)
+
+-- so a SYNCHRONIZE CACHE ends, and all is written back (SBC-3, SYNCHRONIZE CACHE)
+abbrev pub Flushes : ℕ → ℕ → List ℕ → List ℕ → List Keeping → List Keeping → Bool → Type 0
+Flushes nexus tag output left old new done = Passes nexus tag output left done × (done ≡ true → new ≡ map kept_settle old)
 
 -- what a task does that ends, where its pairs might show before (profile)
 abbrev pub end_deeds : Device → Deed → List Deed

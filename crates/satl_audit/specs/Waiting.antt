@@ -1,5 +1,5 @@
 -- The tasks that wait, without their pages, each with the place of its data-out in the input.
-use Rattle.std.specs.Prelude.{ℕ, ◌+◌, ◌*◌, ◌≤◌, ◌==◌, Bool, ◌||◌, nat_lt, List, map, length, slice_index}
+use Rattle.std.specs.Prelude.{◌≡◌, ℕ, ◌+◌, ◌*◌, ◌≤◌, ◌==◌, Bool, ◌||◌, nat_lt, List, map, length, slice_index}
 use Rattle.std.specs.List.{AllByRecursion}
 use Rattle.satl_base.specs.Limits.{most_held, most_tasks}
 use Rattle.satl_cdb.specs.declared.command.Command.{Command}
@@ -7,7 +7,7 @@ use Rattle.satl_cdb.specs.declared.command.Command.TheVariants as commands
 use Rattle.satl_line.specs.declared.entry.Entry.{Entry}
 use Rattle.satl_line.specs.Tasks.{Held}
 use Rattle.satl_direct.specs.Device.{is_called}
-use Rattle.satl_direct.specs.Tasks.{data_out, held_by}
+use Rattle.satl_direct.specs.Tasks.{data_out, held_blocks, held_by}
 use Rattle.satl_audit.specs.Following.{blocks_from}
 
 -- a task without its pages, and where its data-out stands in the input (profile)
@@ -59,6 +59,7 @@ pub record Fits (capacity size : ℕ) (placed : Placed) : Type 0 where
   pub waits : MayWait capacity bytes placed.entry.command
   pub stands : placed.at + bytes ≤ size
   pub nexus : placed.entry.nexus ≤ 3
+  pub held : placed.entry.blocks ≡ held_blocks placed.entry.command
 
 abbrev pub AllFit : ℕ → ℕ → List Placed → Type 0
 AllFit capacity size tasks = AllByRecursion (Fits capacity size) tasks

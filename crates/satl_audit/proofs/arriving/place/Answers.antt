@@ -2,7 +2,9 @@ use Rattle.std.proofs.Common.{sym, ap, ◌∙◌, subst, refl, List, [], ◌∷�
 use Rattle.std.specs.Prelude.{not, ◌≤◌}
 use Rattle.satl_base.specs.declared.reply.Scsi.TheVariants.{TaskSetFull}
 use Rattle.satl_line.specs.declared.entry.Entry.{Entry}
+use Rattle.satl_cdb.specs.declared.command.Command.{Command}
 use Rattle.satl_direct.specs.Arrival.{reply_to}
+use Rattle.satl_direct.specs.Tasks.{held_blocks}
 use Rattle.satl_audit.specs.Arriving.{ArrivesOn, bare_task, device_of}
 use Rattle.satl_audit.specs.Waiting.{AllFit, Fits, MayWait, Placed, has_no_room}
 use Rattle.satl_base.proofs.ListsLemmas.{All-push_end}
@@ -47,7 +49,7 @@ task_of-task-requires c = (waits_known _ _ _ c.requires.waits).0
 pub returns-then-add-clause-fits : goal.returns-then-add-clause-fits
 returns-then-add-clause-fits c = λ size within all.
     subst (AllFit c.args.identity.now.capacity size) (sym (c.add.ensures.added c.if-add.true))
-    (All-push_end (Fits c.args.identity.now.capacity size) c.args.steps.now.waiting _ all (record { bytes = c.args.request.now.data_len; waits = subst (MayWait c.args.identity.now.capacity c.args.request.now.data_len) (sym (ap (λ (t : Entry). t.command) (c.task_of-task.ensures []))) c.requires.waits; stands = within; nexus = subst (λ n. n ≤ 3) (sym (ap (λ (t : Entry). t.nexus) (c.task_of-task.ensures []))) c.requires.nexus }))
+    (All-push_end (Fits c.args.identity.now.capacity size) c.args.steps.now.waiting _ all (record { bytes = c.args.request.now.data_len; waits = subst (MayWait c.args.identity.now.capacity c.args.request.now.data_len) (sym (ap (λ (t : Entry). t.command) (c.task_of-task.ensures []))) c.requires.waits; stands = within; nexus = subst (λ n. n ≤ 3) (sym (ap (λ (t : Entry). t.nexus) (c.task_of-task.ensures []))) c.requires.nexus; held = ap (λ (t : Entry). t.blocks) (c.task_of-task.ensures []) ∙ ap (λ (x : Command). held_blocks x) (sym (ap (λ (t : Entry). t.command) (c.task_of-task.ensures []))) }))
 
 pub returns-clause-fits : goal.returns-clause-fits
 returns-clause-fits c = λ size within all. subst (AllFit c.args.identity.now.capacity size) (sym (c.add.ensures.kept c.if-add.false)) all
