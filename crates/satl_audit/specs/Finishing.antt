@@ -9,17 +9,18 @@ use Rattle.satl_base.specs.declared.reply.Scsi.{Scsi}
 use Rattle.satl_base.specs.declared.reply.Scsi.TheVariants.{Good}
 use Rattle.satl_base.specs.Codes.{scsi_code}
 use Rattle.satl_identify.specs.declared.identity.Identity.{Identity}
-use Rattle.satl_frame.specs.Output.{framed, reply_bytes}
+use Rattle.satl_frame.specs.Output.{all_answered, framed, reply_bytes}
+use Rattle.satl_frame.specs.Output.Answer.{replied}
 use Rattle.satl_direct.specs.Device.{Device}
 use Rattle.satl_direct.specs.Valid.{AreOwn}
 use Rattle.satl_audit.specs.Arriving.{device_at}
 use Rattle.satl_audit.specs.Waiting.{AllFit, Placed, device_tasks}
-use Rattle.satl_audit.specs.Deciding.{GivesWhole}
+use Rattle.satl_audit.specs.Deciding.{AllWhole, GivesWhole}
 use Rattle.satl_audit.specs.Deeds.{Deed}
 use Rattle.satl_audit.specs.Deeds.Deed.{shows}
 use Rattle.satl_audit.specs.Following.{Follows, GivesBlocks, PutsBlocks, SomeRefuses}
 use Rattle.satl_audit.specs.Kept.{Keeping, kept_settle}
-use Rattle.satl_audit.specs.Skeleton.{TaskDone, shown}
+use Rattle.satl_audit.specs.Skeleton.{TaskDone, TurnsDone, shown}
 use Rattle.satl_audit.specs.declared.arriving.Steps.{Steps}
 
 -- a reply of version 1 up to its sense, with so many bytes of sense and of data (profile)
@@ -95,3 +96,23 @@ OnlyEnds steps found = (identity : Identity) (input : List ℕ) (reply : Reply) 
     AreTasks identity input steps.waiting → (done : TaskDone (device_at identity input steps) reply deed new) →
     steps.output ≡ reply_bytes reply ++ left →
     (place : ℕ) × (found ≡ Some place) × (slice_get (device_tasks input steps.waiting) place ≡ Some done.task)
+
+-- so many turns are done, with the answers that come first in the output, and each sector goes along with them (SAM-5 8; profile)
+pub record TurnsOn (identity : Identity) (input : List ℕ) (count : ℕ) (old new : Steps) (sectors after : List Keeping) : Type 0 where
+  pub replies : List Reply
+  pub deeds : List Deed
+  pub done : TurnsDone (device_at identity input old) count replies deeds (device_at identity input new)
+  pub whole : AllWhole deeds
+  pub said : old.output ≡ all_answered (map replied replies) ++ new.output
+  pub follows : Follows input deeds sectors after
+
+-- no turns can be done so: of all whose answers come first in the output some sector does not go along with them (SAM-5 8; profile)
+abbrev pub CannotTurn : Identity → List ℕ → ℕ → Steps → List Keeping → Type 0
+CannotTurn identity input count old sectors = (replies : List Reply) (deeds : List Deed) (new : Device) (left : List ℕ) →
+    TurnsDone (device_at identity input old) count replies deeds new → AllWhole deeds →
+    old.output ≡ all_answered (map replied replies) ++ left → SomeRefuses input deeds sectors
+
+-- turns are done so, or none can (SAM-5 8)
+abbrev pub Turns : Identity → List ℕ → ℕ → Steps → Steps → List Keeping → List Keeping → Bool → Type 0
+Turns identity input count old new sectors after true = TurnsOn identity input count old new sectors after
+Turns identity input count old new sectors after false = CannotTurn identity input count old sectors

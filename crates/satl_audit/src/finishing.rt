@@ -1,7 +1,7 @@
 // Tasks of a record end.
 ghost use Rattle.std.specs.Prelude.{◌≡◌, ◌≤◌, ◌<◌, ◌+◌, ◌*◌, ◌^◌, IfOk, IfSome, OnOk, List, ℕ, true, not, ◌&&◌, length};
 ghost use Rattle.satl_line.specs.Eligible.{eligible_at};
-ghost use Rattle.satl_audit.specs.Finishing.{AreTasks, Ends, Flushes, NamesNext, OnlyEnds, Reads, Writes};
+ghost use Rattle.satl_audit.specs.Finishing.{AreTasks, Ends, Flushes, NamesNext, OnlyEnds, Reads, Turns, Writes};
 ghost use Rattle.satl_audit.specs.Waiting.{entries_in};
 
 use crate::arriving::Steps;
@@ -123,6 +123,7 @@ pub fn end_task(
     requires sectors { length sectors.old ≡ identity.now.capacity }
     requires small { length input.now < 2 ^ 63 }
     requires capacity { identity.now.capacity < 2 ^ 64 }
+    ensures tasks { AreTasks identity.now input.now steps.new.waiting }
     ensures length { OnOk result (length sectors.new ≡ length sectors.old) }
     ensures ends { IfOk result (Ends identity.now input.now steps.old steps.new sectors.old sectors.new) }
 {
@@ -158,4 +159,32 @@ pub fn end_task(
         Command::Flush { .. } => flush_ends(output, sectors, nexus, tag),
         _ => unreachable!(),
     }
+}
+
+/// So many turns, each of which ends a task where there is one: whether they can be done with the answers that come next in the
+/// output, and with which each sector goes along (SAM-5 8; profile).
+pub fn turn(
+    steps: &mut Steps<'_>,
+    sectors: &mut Sectors,
+    identity: &Identity,
+    input: &[u8],
+    count: u16,
+) -> Result<bool, NoMemory>
+    requires tasks { AreTasks identity.now input.now steps.old.waiting }
+    requires sectors { length sectors.old ≡ identity.now.capacity }
+    requires small { length input.now < 2 ^ 63 }
+    requires capacity { identity.now.capacity < 2 ^ 64 }
+    ensures tasks { AreTasks identity.now input.now steps.new.waiting }
+    ensures length { OnOk result (length sectors.new ≡ length sectors.old) }
+    ensures turns { IfOk result (Turns identity.now input.now count steps.old steps.new sectors.old sectors.new) }
+{
+    for _done in 0..count {
+        if steps.waiting.is_empty() {
+            return Ok(true);
+        }
+        if !end_task(steps, sectors, identity, input)? {
+            return Ok(false);
+        }
+    }
+    Ok(true)
 }

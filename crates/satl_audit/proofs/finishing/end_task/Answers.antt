@@ -1,9 +1,11 @@
 use Rattle.std.proofs.Common.{arith, ◌≡◌, sym, ap, ◌∙◌, subst, ℕ, ◌+◌, ◌*◌, length}
 use Rattle.std.specs.Prelude.{◌≤◌, Option, Some, None, slice_get}
+use Rattle.satl_audit.specs.Finishing.{AreTasks}
 use Rattle.satl_audit.specs.Waiting.{Placed}
 use Rattle.satl_audit.proofs.EndLemmas.{both_at, fits_at, flush_arm, no_other, read_arm, read_within, write_arm, write_within}
 use Rattle.satl_audit.proofs.FinishingLemmas.{if_ok_map}
 use Rattle.satl_audit.proofs.SweepLemmas.{if_both}
+use Rattle.satl_audit.proofs.TurnLemmas.{tasks_left}
 use Rattle.satl_audit.proofs.finishing.end_task.Goals as goal
 
 pub returns-in_default-clause-ends : goal.returns-in_default-clause-ends
@@ -83,3 +85,24 @@ returns-in-Flush-clause-ends c =
     let at = both_at (slice_get old.waiting c.in-Some.place) c.entry-entry.result.now c.data_at-at.result c.entry-entry.ensures c.data_at-at.ensures in
     if_both c.flush_ends.result _ _ _ c.flush_ends.ensures.flushes c.flush_ends.ensures.length
     (λ b flushes same. flush_arm c.args.identity.now c.args.input.now old c.in-Some.place p c.requires.tasks at c.in-Some.ensures.eligible c.in-Some.ensures.only c.remove.new.self c.flush_ends.new.output c.remove.ensures c.args.sectors.now c.flush_ends.new.sectors same c.in-Flush.form c.in-Flush.lba c.in-Flush.count c.in-Flush.is b flushes)
+
+pub returns-in-Read-clause-tasks : goal.returns-in-Read-clause-tasks
+returns-in-Read-clause-tasks c =
+    let old = c.args.steps.now in
+    let p : Placed = record { entry = c.entry-entry.result.now; at = c.data_at-at.result } in
+    let at = both_at (slice_get old.waiting c.in-Some.place) c.entry-entry.result.now c.data_at-at.result c.entry-entry.ensures c.data_at-at.ensures in
+    subst (AreTasks c.args.identity.now c.args.input.now) (sym c.remove.ensures) (tasks_left c.args.identity.now c.args.input.now old.waiting c.in-Some.place p c.requires.tasks at)
+
+pub returns-in-Write-clause-tasks : goal.returns-in-Write-clause-tasks
+returns-in-Write-clause-tasks c =
+    let old = c.args.steps.now in
+    let p : Placed = record { entry = c.entry-entry.result.now; at = c.data_at-at.result } in
+    let at = both_at (slice_get old.waiting c.in-Some.place) c.entry-entry.result.now c.data_at-at.result c.entry-entry.ensures c.data_at-at.ensures in
+    subst (AreTasks c.args.identity.now c.args.input.now) (sym c.remove.ensures) (tasks_left c.args.identity.now c.args.input.now old.waiting c.in-Some.place p c.requires.tasks at)
+
+pub returns-in-Flush-clause-tasks : goal.returns-in-Flush-clause-tasks
+returns-in-Flush-clause-tasks c =
+    let old = c.args.steps.now in
+    let p : Placed = record { entry = c.entry-entry.result.now; at = c.data_at-at.result } in
+    let at = both_at (slice_get old.waiting c.in-Some.place) c.entry-entry.result.now c.data_at-at.result c.entry-entry.ensures c.data_at-at.ensures in
+    subst (AreTasks c.args.identity.now c.args.input.now) (sym c.remove.ensures) (tasks_left c.args.identity.now c.args.input.now old.waiting c.in-Some.place p c.requires.tasks at)
