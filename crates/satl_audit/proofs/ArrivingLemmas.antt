@@ -1,5 +1,5 @@
 -- What the device does with a request that arrives, by what the auditor found.
-use Rattle.std.proofs.Common.{arith, ◌≡◌, refl, sym, ap, ◌∙◌, subst, ℕ, ◌+◌, ◌*◌, Bool, true, false, List, [], ◌∷◌, ◌++◌, length, map, take, append_assoc}
+use Rattle.std.proofs.Common.{◌≡◌, refl, sym, ap, ◌∙◌, subst, ℕ, ◌+◌, Bool, true, false, List, [], ◌∷◌, ◌++◌, length, map}
 use Rattle.std.specs.Prelude.{not, ◌≤◌, ◌==◌, ◌||◌, if◌then◌else◌, nat_lt, Option, Some, None, Ok}
 use Rattle.std.specs.List.{list_any}
 use Rattle.std.proofs.lemmas.List.{append-nil, length-map, map-append}
@@ -21,7 +21,7 @@ use Rattle.satl_direct.specs.Device.{Device, is_called}
 use Rattle.satl_direct.specs.Arrival.{Arrival, ArrivesAs, arrival, asks_for, attention_arrival, attention_for, check, code_arrival, is_unit_0, other_arrival, placed, reply_to}
 use Rattle.satl_direct.specs.Arrival.Arrival.{answered, attended, overlaps, waits}
 use Rattle.satl_direct.specs.Senses.{attention_sense, overlapped}
-use Rattle.satl_direct.specs.Tasks.{asks, held_blocks, held_by, is_full, needed, task_for}
+use Rattle.satl_direct.specs.Tasks.{held_blocks, held_by, is_full, needed, task_for}
 use Rattle.satl_cover.specs.Known.{is_known}
 use Rattle.satl_audit.specs.Arriving.{ArrivesOn, CannotArrive, IsServing, StandsAt, attention_of, bare_task, device_of, told_of}
 use Rattle.satl_audit.specs.Waiting.{Placed, device_tasks, entries_in, has_no_room, task_in}

@@ -1,11 +1,11 @@
 -- One block more of what a task does to sectors.
-use Rattle.std.proofs.Common.{arith, ◌≡◌, refl, sym, ap, ◌∙◌, subst, ℕ, zero, suc, ◌+◌, ◌-◌, ◌*◌, ◌<◌, Bool, true, false, List, [], ◌∷◌, ◌++◌, length, map, take, drop, append_assoc}
+use Rattle.std.proofs.Common.{arith, ◌≡◌, refl, sym, ap, ◌∙◌, subst, ℕ, suc, ◌+◌, ◌-◌, ◌*◌, ◌<◌, Bool, true, false, List, [], ◌∷◌, ◌++◌, length, map, take, drop, append_assoc}
 use Rattle.std.specs.Prelude.{◌==◌, ◌≤◌, if◌then◌else◌, Option, Some, None, slice_set}
-use Rattle.std.proofs.Math.ListN.{get_or, set}
+use Rattle.std.proofs.Math.ListN.{set}
 use Rattle.std.proofs.lemmas.Bool.{eqb-true, eqb-false}
-use Rattle.std.proofs.lemmas.List.{append-nil, drop-drop, get_or-set_other, get_or-set_same, length-drop, length-set, map-append}
+use Rattle.std.proofs.lemmas.List.{append-nil, drop-drop, get_or-set_other, get_or-set_same, length-drop, map-append}
 use Rattle.satl_base.specs.declared.block.Block.{Block}
-use Rattle.satl_base.specs.Cells.{Pair, pairs_from}
+use Rattle.satl_base.specs.Cells.{pairs_from}
 use Rattle.satl_frame.specs.DataPages.{padded_block, page_count, pages_from, pages_of}
 use Rattle.satl_frame.proofs.Paging.{whole_block}
 use Rattle.satl_audit.specs.declared.content.Content.{Content}

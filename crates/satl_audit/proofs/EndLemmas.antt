@@ -2,9 +2,8 @@
 use Rattle.std.proofs.Common.{arith, ◌≡◌, refl, sym, ap, ◌∙◌, subst, ℕ, ◌+◌, ◌*◌, ◌-◌, Bool, true, false, List, [], ◌∷◌, ◌++◌, length, map, take, replicate}
 use Rattle.std.specs.Prelude.{◌<◌, ◌≤◌, ◌&&◌, not, Option, Some, None, remove, slice_get}
 use Rattle.std.specs.Option.{option_map}
-use Rattle.std.proofs.lemmas.List.{append-nil, get_or-map, length-map}
+use Rattle.std.proofs.lemmas.List.{append-nil, get_or-map}
 use Rattle.satl_base.specs.declared.block.Block.{Block}
-use Rattle.satl_base.specs.declared.block.Range.{Range}
 use Rattle.satl_base.specs.declared.reply.Reply.{Reply}
 use Rattle.satl_base.specs.declared.reply.Scsi.TheVariants.{Good}
 use Rattle.satl_base.specs.Blocks.{bytes_of, first_bytes}
@@ -24,13 +23,12 @@ use Rattle.satl_direct.specs.Device.{Device, without}
 use Rattle.satl_direct.specs.Ending.{task_reply}
 use Rattle.satl_direct.specs.Quiet.{written_by}
 use Rattle.satl_direct.specs.Tasks.{data_out, held_blocks, over}
-use Rattle.satl_unit.specs.declared.attention.Attention.{Attention}
 use Rattle.satl_audit.specs.Arriving.{device_at, device_of}
 use Rattle.satl_audit.specs.Deciding.{AreWhole, GivesWhole}
 use Rattle.satl_audit.specs.Deeds.{Deed}
 use Rattle.satl_audit.specs.Deeds.Deed.{gives, puts, settles}
 use Rattle.satl_audit.specs.Following.{along, blocks_from, pairs_in}
-use Rattle.satl_audit.specs.Finishing.{AreTasks, CannotEnd, Ends, EndsOn, end_deeds, Flushes, OnlyEnds, Passes, Reads, Writes, head_bytes}
+use Rattle.satl_audit.specs.Finishing.{AreTasks, CannotEnd, Ends, end_deeds, Flushes, OnlyEnds, Passes, Reads, Writes, head_bytes}
 use Rattle.satl_audit.specs.Kept.{Keeping, blank_keeping, kept_settle, sector_at, sector_of}
 use Rattle.satl_audit.specs.Sectors.{sector_gives, sector_puts, settled_in}
 use Rattle.satl_audit.specs.Skeleton.{DoneAs, TaskDone}

@@ -1,5 +1,5 @@
 -- The answer that comes next names the task that ends.
-use Rattle.std.proofs.Common.{arith, ◌≡◌, refl, sym, ap, ◌∙◌, subst, ℕ, ◌+◌, ◌*◌, Bool, true, List, ◌++◌, length}
+use Rattle.std.proofs.Common.{arith, ◌≡◌, sym, ap, ◌∙◌, subst, ℕ, ◌+◌, ◌*◌, true, List, ◌++◌, length}
 use Rattle.std.specs.Prelude.{◌<◌, ◌≤◌, ◌^◌, Option, Some, None, slice_get}
 use Rattle.std.specs.List.{position_from}
 use Rattle.satl_base.specs.declared.request.Tag.{Tag}

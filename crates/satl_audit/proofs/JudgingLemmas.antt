@@ -1,6 +1,6 @@
 -- A known command whose range and data-out are good, and the conditions of a nexus.
-use Rattle.std.proofs.Common.{arith, ◌≡◌, refl, sym, ap, ◌∙◌, ℕ, ◌+◌, Bool, true, false, List, [], ◌∷◌, ◌++◌, drop, append_assoc}
-use Rattle.std.specs.Prelude.{Option, Some, None, Result, Ok, Err, IfOk, ◌≤◌, if◌then◌else◌, nat_lt, option_to_list, slice_get, slice_index_or}
+use Rattle.std.proofs.Common.{arith, ◌≡◌, refl, ◌∙◌, ℕ, ◌+◌, true, false}
+use Rattle.std.specs.Prelude.{Option, None, Result, Ok, Err, IfOk, ◌≤◌, if◌then◌else◌, nat_lt}
 use Rattle.satl_base.specs.declared.request.Request.{Request}
 use Rattle.satl_cdb.specs.declared.command.Command.{Command}
 use Rattle.satl_cdb.specs.declared.command.Command.TheVariants as commands
@@ -9,7 +9,7 @@ use Rattle.satl_direct.specs.Device.{Device}
 use Rattle.satl_direct.specs.Arrival.{Arrival, becomes, check, command_arrival, unless_refused}
 use Rattle.satl_direct.specs.Arrival.Arrival.{answered}
 use Rattle.satl_direct.specs.Senses.{out_of_range, short_data}
-use Rattle.satl_direct.specs.Tasks.{asks, needed, range_of}
+use Rattle.satl_direct.specs.Tasks.{needed, range_of}
 use Rattle.satl_cover.specs.Known.{is_known}
 use Rattle.satl_audit.specs.Waiting.{IsTransfer, MayWait}
 

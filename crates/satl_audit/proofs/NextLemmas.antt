@@ -1,11 +1,11 @@
 -- The task that the next answer names.
-use Rattle.std.proofs.Common.{arith, ◌≡◌, refl, sym, ap, ◌∙◌, subst, ℕ, zero, suc, ◌+◌, ◌*◌, Bool, true, false, List, [], ◌∷◌, ◌++◌, length, map, cond}
-use Rattle.std.specs.Prelude.{◌<◌, ◌≤◌, ◌^◌, ◌==◌, ◌||◌, ◌&&◌, if◌then◌else◌, Option, Some, None, remove, slice_get}
+use Rattle.std.proofs.Common.{arith, ◌≡◌, refl, sym, ap, ◌∙◌, subst, ℕ, zero, suc, ◌+◌, Bool, true, false, List, [], ◌∷◌, length, cond}
+use Rattle.std.specs.Prelude.{◌<◌, if◌then◌else◌, Some, remove, slice_get}
 use Rattle.std.specs.List.{AllByRecursion, list_any, position_from}
 use Rattle.satl_base.specs.Lists.{remove_first}
 use Rattle.satl_line.specs.declared.entry.Entry.{Entry}
 use Rattle.satl_line.specs.Conflict.{conflicts}
-use Rattle.satl_line.specs.Eligible.{eligible_at, eligible_by}
+use Rattle.satl_line.specs.Eligible.{eligible_at}
 use Rattle.satl_line.proofs.EligibleLemmas.{eligible_by-formed}
 use Rattle.satl_direct.specs.Device.{is_called, without}
 use Rattle.satl_direct.specs.Valid.{AreOwn}

@@ -1,6 +1,6 @@
 -- Turns of a record.
 use Rattle.std.proofs.Common.{arith, true, false, ◌≡◌, refl, sym, ap, ◌∙◌, subst, ℕ, zero, suc, ◌+◌, ◌-◌, List, [], ◌∷◌, ◌++◌, length, append_assoc}
-use Rattle.std.specs.Prelude.{◌<◌, ◌≤◌, ◌^◌, ◌==◌, remove, Option, Some, None, slice_get}
+use Rattle.std.specs.Prelude.{◌<◌, ◌≤◌, ◌^◌, ◌==◌, remove, Some, None, slice_get}
 use Rattle.std.proofs.lemmas.Bool.{eqb-false, eqb-true}
 use Rattle.std.proofs.lemmas.List.{append-nil}
 use Rattle.std.specs.List.{AllByRecursion}
@@ -19,7 +19,7 @@ use Rattle.satl_audit.specs.Finishing.{AreTasks, CannotEnd, CannotTurn, EndsOn, 
 use Rattle.satl_audit.specs.Following.{SomeRefuses}
 use Rattle.satl_audit.specs.Kept.{Keeping}
 use Rattle.satl_audit.specs.Skeleton.{TaskDone, TurnsDone, shown}
-use Rattle.satl_audit.specs.Waiting.{AllFit, Fits, Placed, device_tasks, task_in}
+use Rattle.satl_audit.specs.Waiting.{Fits, Placed, device_tasks}
 use Rattle.satl_audit.specs.declared.arriving.Steps.{Steps}
 use Rattle.satl_audit.proofs.AlongLemmas.{follows_push, refuses_more, refuses_push}
 use Rattle.satl_audit.proofs.FixingTurns.{Kept, all_back, all_fore, idles, said, said-push, turns_same}

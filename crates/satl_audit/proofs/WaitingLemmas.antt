@@ -1,13 +1,13 @@
 -- Tasks that wait, and the places of their data-out.
-use Rattle.std.proofs.Common.{arith, ◌≡◌, refl, sym, ap, ◌∙◌, subst, ℕ, zero, suc, ◌+◌, Bool, true, false, List, [], ◌∷◌, ◌++◌, length, map}
-use Rattle.std.specs.Prelude.{◌==◌, ◌||◌, ◌≤◌, ◌<◌, if◌then◌else◌, nat_lt, Option, Some, None, slice_get, slice_index, slice_index_or, slice_set}
-use Rattle.std.proofs.Math.ListN.{get_or, set}
+use Rattle.std.proofs.Common.{arith, ◌≡◌, refl, sym, ap, ◌∙◌, subst, ℕ, zero, suc, ◌+◌, Bool, true, false, List, [], ◌∷◌, ◌++◌, length}
+use Rattle.std.specs.Prelude.{◌==◌, ◌||◌, ◌<◌, if◌then◌else◌, nat_lt, Option, Some, None, slice_get, slice_index, slice_set}
+use Rattle.std.proofs.Math.ListN.{set}
 use Rattle.std.specs.Option.{option_map}
-use Rattle.std.proofs.lemmas.Bool.{eqb-false, eqb-true}
+use Rattle.std.proofs.lemmas.Bool.{eqb-false}
 use Rattle.std.proofs.lemmas.List.{get_or-set_other, get_or-set_same, length-map, map-append}
 use Rattle.satl_base.specs.Limits.{most_held, most_tasks}
 use Rattle.satl_line.specs.declared.entry.Entry.{Entry}
-use Rattle.satl_line.specs.Tasks.{Adds, Held, count_of, entries_of, entry_at, is_too_much, slots_of, total_blocks}
+use Rattle.satl_line.specs.Tasks.{Adds, Held, count_of, entries_of, is_too_much, slots_of, total_blocks}
 use Rattle.satl_direct.specs.Tasks.{held_by}
 use Rattle.satl_audit.specs.Waiting.{Placed, entries_in, has_no_room, placed_in}
 

@@ -1,11 +1,11 @@
-use Rattle.std.proofs.Common.{sym, ap, ◌∙◌, subst, refl, List, [], ◌∷◌, ◌++◌, ℕ, Bool}
+use Rattle.std.proofs.Common.{sym, ap, ◌∙◌, subst, List, [], ◌∷◌, ◌++◌}
 use Rattle.std.specs.Prelude.{not, ◌≤◌}
 use Rattle.satl_base.specs.declared.reply.Scsi.TheVariants.{TaskSetFull}
 use Rattle.satl_line.specs.declared.entry.Entry.{Entry}
 use Rattle.satl_cdb.specs.declared.command.Command.{Command}
 use Rattle.satl_direct.specs.Arrival.{reply_to}
 use Rattle.satl_direct.specs.Tasks.{held_blocks}
-use Rattle.satl_audit.specs.Arriving.{ArrivesOn, bare_task, device_of}
+use Rattle.satl_audit.specs.Arriving.{ArrivesOn, device_of}
 use Rattle.satl_audit.specs.Waiting.{AllFit, Fits, MayWait, Placed, has_no_room}
 use Rattle.satl_base.proofs.ListsLemmas.{All-push_end}
 use Rattle.satl_audit.proofs.ArrivingLemmas.{answered_goes, answered_sticks, full_is, is_false, is_true, placed_goes}

@@ -1,4 +1,4 @@
-use Rattle.std.proofs.Common.{◌≡◌, ◌<◌, ℕ, List, length}
+use Rattle.std.proofs.Common.{◌≡◌, ◌<◌, ℕ, length}
 use Rattle.satl_audit.proofs.EffectLemmas.{left_gives}
 use Rattle.satl_audit.proofs.effects.show_blocks.Given as goal
 

@@ -1,5 +1,5 @@
-use Rattle.std.proofs.Common.{arith, ◌≡◌, sym, ap, ◌∙◌, subst, ℕ, ◌+◌, ◌*◌, length}
-use Rattle.std.specs.Prelude.{◌≤◌, Option, Some, None, slice_get}
+use Rattle.std.proofs.Common.{arith, sym, subst}
+use Rattle.std.specs.Prelude.{slice_get}
 use Rattle.satl_audit.specs.Finishing.{AreTasks}
 use Rattle.satl_audit.specs.Waiting.{Placed}
 use Rattle.satl_audit.proofs.EndLemmas.{both_at, fits_at, flush_arm, no_other, read_arm, read_within, write_arm, write_within}

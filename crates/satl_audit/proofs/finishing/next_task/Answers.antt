@@ -1,9 +1,8 @@
-use Rattle.std.proofs.Common.{arith, ◌≡◌, sym, ap, ◌∙◌, subst, ℕ, ◌+◌, ◌<◌, Bool, true, false, length}
+use Rattle.std.proofs.Common.{arith, ◌≡◌, sym, ap, ◌∙◌, ℕ, ◌+◌, ◌<◌, Bool, true, false, length}
 use Rattle.std.specs.Prelude.{Option, Some, None}
-use Rattle.std.specs.List.{position_from}
 use Rattle.satl_line.specs.Eligible.{eligible_at}
 use Rattle.satl_base.specs.declared.request.Tag.{Tag}
-use Rattle.satl_audit.specs.Waiting.{Placed, entries_in, has_name}
+use Rattle.satl_audit.specs.Waiting.{entries_in, has_name}
 use Rattle.satl_audit.proofs.FoundLemmas.{found_by, search_ends}
 use Rattle.satl_audit.proofs.NextLemmas.{found_within}
 use Rattle.satl_audit.proofs.finishing.next_task.Goals as goal

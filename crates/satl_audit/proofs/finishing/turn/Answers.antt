@@ -1,4 +1,4 @@
-use Rattle.std.proofs.Common.{arith, ◌≡◌, refl, sym, ap, ◌∙◌, subst, Bool, true, false}
+use Rattle.std.proofs.Common.{arith, ◌≡◌, refl, sym, ◌∙◌, subst, Bool}
 use Rattle.satl_audit.specs.Finishing.{Ends, TurnsOn}
 use Rattle.satl_audit.proofs.TurnLemmas.{idle_turns, no_turns, none_waits, one_more, some_waits, stuck_turns}
 use Rattle.satl_audit.proofs.finishing.turn.Goals as goal

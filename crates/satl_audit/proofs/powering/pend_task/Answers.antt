@@ -1,10 +1,9 @@
-use Rattle.std.proofs.Common.{arith, ◌≡◌, refl, sym, ap, ◌∙◌, subst, ℕ, Bool, ◌+◌, ◌*◌, ◌++◌, length}
-use Rattle.std.specs.Prelude.{◌&&◌, not, slice_get, Some}
+use Rattle.std.proofs.Common.{arith, refl, sym, ap, ◌∙◌, ◌++◌, length}
+use Rattle.std.specs.Prelude.{◌&&◌, not, slice_get}
 use Rattle.satl_line.specs.declared.entry.Entry.{Entry}
-use Rattle.satl_cdb.specs.declared.command.Command.{Command}
 use Rattle.satl_audit.specs.Guesses.{blocks_at}
 use Rattle.satl_audit.specs.Kept.{sector_at}
-use Rattle.satl_audit.specs.Waiting.{Fits, MayWait, Placed}
+use Rattle.satl_audit.specs.Waiting.{Fits, Placed}
 use Rattle.satl_audit.proofs.EndLemmas.{both_at, write_within}
 use Rattle.satl_audit.proofs.NextLemmas.{all_at}
 use Rattle.satl_audit.proofs.PendingLemmas.{moved, on_ok_map, placed_of, some_at, still, write_pairs, writes_none}

@@ -1,4 +1,4 @@
-use Rattle.std.proofs.Common.{ap, ◌∙◌, ℕ, List, drop, length}
+use Rattle.std.proofs.Common.{ap, ◌∙◌, List, drop, length}
 use Rattle.std.specs.Prelude.{slice_set}
 use Rattle.satl_audit.specs.Kept.{Keeping, kept_pending}
 use Rattle.satl_audit.specs.Sweeps.{caught_up}

@@ -1,4 +1,4 @@
-use Rattle.std.proofs.Common.{arith, sym, ap, ◌∙◌, subst, List, Bool, ◌≡◌}
+use Rattle.std.proofs.Common.{arith, ap, ◌∙◌, subst, List, Bool, ◌≡◌}
 use Rattle.std.specs.Prelude.{not, slice_get, Some}
 use Rattle.satl_line.specs.Tasks.{slots_of}
 use Rattle.satl_audit.specs.Waiting.{Placed, has_no_room}
