@@ -19,7 +19,7 @@ use Rattle.satl_audit.proofs.Telling.{IsFine, ends_same}
 abbrev pub said : List Reply → List ℕ
 said replies = all_answered (map replied replies)
 
-said-push : (replies : List Reply) (r : Reply) (rest : List ℕ) → said (replies ++ r ∷ []) ++ rest ≡ said replies ++ (reply_bytes r ++ rest)
+pub said-push : (replies : List Reply) (r : Reply) (rest : List ℕ) → said (replies ++ r ∷ []) ++ rest ≡ said replies ++ (reply_bytes r ++ rest)
 said-push [] r rest = append_assoc (reply_bytes r) [] rest
 said-push (q ∷ replies) r rest = append_assoc (reply_bytes q) (said (replies ++ r ∷ [])) rest ∙ ap (λ l. reply_bytes q ++ l) (said-push replies r rest) ∙ sym (append_assoc (reply_bytes q) (said replies) (reply_bytes r ++ rest))
 
@@ -53,7 +53,7 @@ pub record SameTurns (ds es : List Deed) (u v : Device) (rest rest' : List ℕ) 
   pub rest_same : rest ≡ rest'
 
 -- no task ends where there is none
-none_ends : (s u : Device) (r : Reply) (d : Deed) → s.tasks ≡ [] → TaskDone s r d u → ⊥
+pub none_ends : (s u : Device) (r : Reply) (d : Deed) → s.tasks ≡ [] → TaskDone s r d u → ⊥
 none_ends s u r d e t = subst (λ l. IsEligible l (t.task)) e t.eligible
 
 -- one turn more on both sides
@@ -83,7 +83,7 @@ turns_same s k {u = u} (TurnsDone.more {replies = replies} {deeds = ds} {mid = m
     more_same s mid mid' u v replies others r q ds es d e rest rest' (turns_keep s k t) ((all_back GivesWhole ds (shows (shown mid) ∷ d ∷ []) w).1).0 ((all_back GivesWhole es (shows (shown mid') ∷ e ∷ []) z).1).0 a b x
 
 -- where no task is left more turns do nothing
-idles : (s : Device) (j : ℕ) {n : ℕ} {replies : List Reply} {ds : List Deed} {u : Device} → TurnsDone s n replies ds u → u.tasks ≡ [] → TurnsDone s (j + n) replies ds u
+pub idles : (s : Device) (j : ℕ) {n : ℕ} {replies : List Reply} {ds : List Deed} {u : Device} → TurnsDone s n replies ds u → u.tasks ≡ [] → TurnsDone s (j + n) replies ds u
 idles s zero {n = n} {replies = replies} {ds = ds} {u = u} t e = subst (λ m. TurnsDone s m replies ds u) (omega arith) t
 idles s (suc j) {n = n} {replies = replies} {ds = ds} {u = u} t e = subst (λ m. TurnsDone s m replies ds u) (omega arith) (TurnsDone.idle (idles s j t e) e)
 

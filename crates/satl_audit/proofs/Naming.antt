@@ -9,11 +9,11 @@ use Rattle.satl_line.specs.declared.entry.Entry.{Entry}
 use Rattle.satl_direct.specs.Device.{is_called}
 use Rattle.satl_direct.specs.Valid.{AreOwn}
 
-or_left : (a b : Bool) → (a || b) ≡ false → a ≡ false
+pub or_left : (a b : Bool) → (a || b) ≡ false → a ≡ false
 or_left true b h = h
 or_left false b h = refl
 
-or_right : (a b : Bool) → (a || b) ≡ false → b ≡ false
+pub or_right : (a b : Bool) → (a || b) ≡ false → b ≡ false
 or_right true b h = absurd cc
 or_right false b h = h
 
@@ -56,7 +56,7 @@ called_same t u h =
     let b = both_true (u.nexus == t.nexus) ((u.tag).0 == (t.tag).0) h in
     both_are (t.nexus == u.nexus) ((t.tag).0 == (u.tag).0) (subst (λ n. (n == u.nexus) ≡ true) (eqb-true u.nexus t.nexus b.0) (is_same u.nexus)) (subst (λ n. (n == (u.tag).0) ≡ true) (eqb-true (u.tag).0 (t.tag).0 b.1) (is_same (u.tag).0))
 
-called_apart : (t u : Entry) → is_called t.nexus (t.tag).0 u ≡ false → is_called u.nexus (u.tag).0 t ≡ false
+pub called_apart : (t u : Entry) → is_called t.nexus (t.tag).0 u ≡ false → is_called u.nexus (u.tag).0 t ≡ false
 called_apart t u h =
     (elim (is_called u.nexus (u.tag).0 t) as (λ b. is_called u.nexus (u.tag).0 t ≡ b → b ≡ false)
     [ true ↦ λ e. absurd (clash (called_same u t e) h) | false ↦ λ e. refl ]) refl

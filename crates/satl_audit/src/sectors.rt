@@ -1,8 +1,7 @@
 // All sectors.
-ghost use Rattle.std.specs.Prelude.{◌≡◌, ◌≤◌, OnOk, IfOk, length, map, replicate, [], ◌∷◌, Some, drop, if◌then◌else◌, nat_lt};
-ghost use Rattle.satl_audit.specs.declared.content.Content.TheVariants.{Zero};
-ghost use Rattle.satl_audit.specs.Kept.{kept_power, kept_settle};
-ghost use Rattle.satl_audit.specs.Sweeps.{after_first, caught_up, has_power};
+ghost use Rattle.std.specs.Prelude.{◌≡◌, ◌≤◌, ◌<◌, ◌==◌, OnOk, IfOk, length, map, replicate, drop, if◌then◌else◌, nat_lt, slice_set};
+ghost use Rattle.satl_audit.specs.Kept.{ShowsAt, blank_keeping, kept_at, kept_pending, kept_power, kept_put, kept_settle};
+ghost use Rattle.satl_audit.specs.Sweeps.{Shows, after_first, caught_up, has_power};
 
 use crate::content::Content;
 use crate::kept::Kept;
@@ -60,6 +59,55 @@ impl Stamped {
         self.seen = sweeps.len();
         Ok(())
     }
+
+    /// Catches up, and a block is put.
+    fn put(
+        &mut self,
+        sweeps: &[Sweep],
+        powers: usize,
+        v: Content,
+        cached: bool,
+    ) -> Result<(), NoMemory>
+        requires seen { self.old.seen ≤ length sweeps.now }
+        requires powers { has_power (drop self.old.seen sweeps.now) ≡ nat_lt self.old.seen powers }
+        ensures kept { OnOk result (self.new.kept ≡ kept_put v cached (caught_up (drop self.old.seen sweeps.now) self.old.kept)) }
+        ensures seen { OnOk result (self.new.seen ≡ length sweeps.now) }
+        ensures within { self.new.seen ≤ length sweeps.now }
+    {
+        self.catch_up(sweeps, powers)?;
+        self.kept.put(v, cached)
+    }
+
+    /// Catches up, and the power is lost where a block may have been put before.
+    fn pending(&mut self, sweeps: &[Sweep], powers: usize, v: Content) -> Result<(), NoMemory>
+        requires seen { self.old.seen ≤ length sweeps.now }
+        requires powers { has_power (drop self.old.seen sweeps.now) ≡ nat_lt self.old.seen powers }
+        ensures kept { OnOk result (self.new.kept ≡ kept_pending v (caught_up (drop self.old.seen sweeps.now) self.old.kept)) }
+        ensures seen { OnOk result (self.new.seen ≡ length sweeps.now) }
+        ensures within { self.new.seen ≤ length sweeps.now }
+    {
+        self.catch_up(sweeps, powers)?;
+        self.kept.pending(v)
+    }
+
+    /// Catches up, and a READ gave 512 bytes: whether the sector may have them.
+    fn show(
+        &mut self,
+        sweeps: &[Sweep],
+        powers: usize,
+        input: &[u8],
+        given: &[u8],
+    ) -> Result<bool, NoMemory>
+        requires size { length given.now ≡ 512 }
+        requires seen { self.old.seen ≤ length sweeps.now }
+        requires powers { has_power (drop self.old.seen sweeps.now) ≡ nat_lt self.old.seen powers }
+        ensures shows { IfOk result (Shows input.now given.now (caught_up (drop self.old.seen sweeps.now) self.old.kept) self.new.kept) }
+        ensures seen { OnOk result (self.new.seen ≡ length sweeps.now) }
+        ensures within { self.new.seen ≤ length sweeps.now }
+    {
+        self.catch_up(sweeps, powers)?;
+        Ok(self.kept.show(input, given))
+    }
 }
 
 /// All sectors (profile). A clause sees what is kept of each. A sweep costs the same whatever their number: a sector catches
@@ -88,7 +136,7 @@ impl Model for Sectors {
 impl Sectors {
     /// As many sectors of zeros that are written back (profile). `NoMemory` where there is none for them.
     pub fn new(alloc: Global, count: usize) -> Result<Sectors, NoMemory>
-        ensures { IfOk result (λ sectors. sectors ≡ replicate count (record { now = Some Zero; may = Zero ∷ [] })) }
+        ensures { IfOk result (λ sectors. sectors ≡ replicate count blank_keeping) }
     {
         let mut stamped = Vec::new(alloc);
         for _ in 0..count {
@@ -120,5 +168,49 @@ impl Sectors {
         self.sweeps.push(Sweep::Powered)?;
         self.powers = self.sweeps.len();
         Ok(())
+    }
+
+    /// How many there are (profile).
+    pub fn len(&self) -> usize
+        ensures { result ≡ length self.now }
+    {
+        self.stamped.len()
+    }
+
+    /// Whether there is none (profile).
+    pub fn is_empty(&self) -> bool
+        ensures { result ≡ (length self.now == 0) }
+    {
+        self.stamped.is_empty()
+    }
+
+    /// A block is put at an address, through the cache or past it (SBC-3 4.15). `NoMemory` leaves sectors of which nothing is said.
+    pub fn put(&mut self, lba: usize, v: Content, cached: bool) -> Result<(), NoMemory>
+        requires { lba < length self.old }
+        ensures length { length self.new ≡ length self.old }
+        ensures put { OnOk result (self.new ≡ slice_set self.old lba (kept_put v cached (kept_at self.old lba))) }
+    {
+        self.stamped[lba].put(&self.sweeps, self.powers, v, cached)
+    }
+
+    /// The power is lost at an address where this block may have been put before (SBC-3 4.15). `NoMemory` leaves sectors of which
+    /// nothing is said.
+    pub fn pending(&mut self, lba: usize, v: Content) -> Result<(), NoMemory>
+        requires { lba < length self.old }
+        ensures length { length self.new ≡ length self.old }
+        ensures pending { OnOk result (self.new ≡ slice_set self.old lba (kept_pending v (kept_at self.old lba))) }
+    {
+        self.stamped[lba].pending(&self.sweeps, self.powers, v)
+    }
+
+    /// A READ gave 512 bytes at an address: whether its sector may have them; then they are its block (SBC-3, READ commands).
+    /// `NoMemory` leaves sectors of which nothing is said.
+    pub fn show(&mut self, lba: usize, input: &[u8], given: &[u8]) -> Result<bool, NoMemory>
+        requires within { lba < length self.old }
+        requires size { length given.now ≡ 512 }
+        ensures length { length self.new ≡ length self.old }
+        ensures shows { IfOk result (ShowsAt input.now lba given.now self.old self.new) }
+    {
+        self.stamped[lba].show(&self.sweeps, self.powers, input, given)
     }
 }

@@ -1,0 +1,16 @@
+use Rattle.std.proofs.Common.{arith, ◌∙◌, sym}
+use Rattle.satl_audit.proofs.EffectLemmas.{puts_begin, puts_end, puts_turn}
+use Rattle.satl_audit.proofs.effects.put_blocks.Goals as goal
+
+pub loop-i-preserved : goal.loop-i-preserved
+loop-i-preserved c = record {
+  size = c.in_ok-put.ensures.length ∙ c.loop-i.invariant.size;
+  rest = λ input x less.
+      c.loop-i.invariant.rest input x less
+      ∙ puts_turn input c.args.cached x c.args.range.lba c.args.at c.loop-i.i c.args.range.count c.loop-i.sectors c.put.new.self c.loop-i-test.true
+      (omega (arith, c.loop-i-test.true, c.requires.within, c.loop-i.invariant.size)) c.in_ok-put.ensures.put;
+}
+
+pub returns-clause-puts : goal.returns-clause-puts
+returns-clause-puts c = λ input x less.
+    sym (puts_begin input c.args.cached x c.args.range.lba c.args.at c.args.range.count c.args.sectors.now ∙ c.loop-i.invariant.rest input x less ∙ puts_end input c.args.cached x c.args.range.lba c.args.at c.loop-i.i c.args.range.count c.loop-i.sectors c.loop-i-test.false)

@@ -1,0 +1,108 @@
+use Rattle.std.proofs.Common.{arith, sym, subst}
+use Rattle.std.specs.Prelude.{slice_get}
+use Rattle.satl_audit.specs.Finishing.{AreTasks}
+use Rattle.satl_audit.specs.Waiting.{Placed}
+use Rattle.satl_audit.proofs.EndLemmas.{both_at, fits_at, flush_arm, no_other, read_arm, read_within, write_arm, write_within}
+use Rattle.satl_audit.proofs.FinishingLemmas.{if_ok_map}
+use Rattle.satl_audit.proofs.SweepLemmas.{if_both}
+use Rattle.satl_audit.proofs.TurnLemmas.{tasks_left}
+use Rattle.satl_audit.proofs.finishing.end_task.Goals as goal
+
+pub returns-in_default-clause-ends : goal.returns-in_default-clause-ends
+returns-in_default-clause-ends c = λ reply deed new left done whole said.
+    let o = c.in_default.ensures.only c.args.identity.now c.args.input.now reply deed new left c.requires.tasks done said in
+    let found = o.1 in
+    absurd cc
+
+pub read_ends-requires-clause-within : goal.read_ends-requires-clause-within
+read_ends-requires-clause-within c =
+    let old = c.args.steps.now in
+    let p : Placed = record { entry = c.entry-entry.result.now; at = c.data_at-at.result } in
+    let at = both_at (slice_get old.waiting c.in-Some.place) c.entry-entry.result.now c.data_at-at.result c.entry-entry.ensures c.data_at-at.ensures in
+    let w = read_within _ _ p (fits_at c.args.identity.now c.args.input.now old.waiting c.in-Some.place p c.requires.tasks at) c.in-Read.form c.in-Read.lba c.in-Read.count c.in-Read.fua c.in-Read.is in
+    (omega (arith, w, c.requires.sectors))
+
+pub read_ends-requires-clause-small : goal.read_ends-requires-clause-small
+read_ends-requires-clause-small c =
+    let old = c.args.steps.now in
+    let p : Placed = record { entry = c.entry-entry.result.now; at = c.data_at-at.result } in
+    let at = both_at (slice_get old.waiting c.in-Some.place) c.entry-entry.result.now c.data_at-at.result c.entry-entry.ensures c.data_at-at.ensures in
+    let w = read_within _ _ p (fits_at c.args.identity.now c.args.input.now old.waiting c.in-Some.place p c.requires.tasks at) c.in-Read.form c.in-Read.lba c.in-Read.count c.in-Read.fua c.in-Read.is in
+    (omega (arith, w, c.requires.capacity))
+
+pub write_ends-requires-clause-within : goal.write_ends-requires-clause-within
+write_ends-requires-clause-within c =
+    let old = c.args.steps.now in
+    let p : Placed = record { entry = c.entry-entry.result.now; at = c.data_at-at.result } in
+    let at = both_at (slice_get old.waiting c.in-Some.place) c.entry-entry.result.now c.data_at-at.result c.entry-entry.ensures c.data_at-at.ensures in
+    let w = write_within _ _ p (fits_at c.args.identity.now c.args.input.now old.waiting c.in-Some.place p c.requires.tasks at) c.in-Write.form c.in-Write.lba c.in-Write.count c.in-Write.fua c.in-Write.is in
+    (omega (arith, w.0, c.requires.sectors))
+
+pub write_ends-requires-clause-small : goal.write_ends-requires-clause-small
+write_ends-requires-clause-small c =
+    let old = c.args.steps.now in
+    let p : Placed = record { entry = c.entry-entry.result.now; at = c.data_at-at.result } in
+    let at = both_at (slice_get old.waiting c.in-Some.place) c.entry-entry.result.now c.data_at-at.result c.entry-entry.ensures c.data_at-at.ensures in
+    let w = write_within _ _ p (fits_at c.args.identity.now c.args.input.now old.waiting c.in-Some.place p c.requires.tasks at) c.in-Write.form c.in-Write.lba c.in-Write.count c.in-Write.fua c.in-Write.is in
+    (omega (arith, w.0, c.requires.capacity))
+
+pub write_ends-requires-clause-room : goal.write_ends-requires-clause-room
+write_ends-requires-clause-room c =
+    let old = c.args.steps.now in
+    let p : Placed = record { entry = c.entry-entry.result.now; at = c.data_at-at.result } in
+    let at = both_at (slice_get old.waiting c.in-Some.place) c.entry-entry.result.now c.data_at-at.result c.entry-entry.ensures c.data_at-at.ensures in
+    let w = write_within _ _ p (fits_at c.args.identity.now c.args.input.now old.waiting c.in-Some.place p c.requires.tasks at) c.in-Write.form c.in-Write.lba c.in-Write.count c.in-Write.fua c.in-Write.is in
+    (omega (arith, w.1, c.requires.small))
+
+pub unreachable-requires : goal.unreachable-requires
+unreachable-requires c =
+    let old = c.args.steps.now in
+    let p : Placed = record { entry = c.entry-entry.result.now; at = c.data_at-at.result } in
+    let at = both_at (slice_get old.waiting c.in-Some.place) c.entry-entry.result.now c.data_at-at.result c.entry-entry.ensures c.data_at-at.ensures in
+    let f = (fits_at c.args.identity.now c.args.input.now old.waiting c.in-Some.place p c.requires.tasks at) in
+    no_other _ f.bytes c.entry-entry.result.now.command f.waits c.in_default-command.not-Read c.in_default-command.not-Write c.in_default-command.not-Flush
+
+pub returns-in-Read-clause-ends : goal.returns-in-Read-clause-ends
+returns-in-Read-clause-ends c =
+    let old = c.args.steps.now in
+    let p : Placed = record { entry = c.entry-entry.result.now; at = c.data_at-at.result } in
+    let at = both_at (slice_get old.waiting c.in-Some.place) c.entry-entry.result.now c.data_at-at.result c.entry-entry.ensures c.data_at-at.ensures in
+    if_ok_map c.read_ends.result _ _ c.read_ends.ensures.reads
+    (read_arm c.args.identity.now c.args.input.now old c.in-Some.place p c.requires.tasks at c.in-Some.ensures.eligible c.in-Some.ensures.only c.remove.new.self c.read_ends.new.output c.remove.ensures c.args.sectors.now c.read_ends.new.sectors c.read_ends.ensures.length c.in-Read.form c.in-Read.lba c.in-Read.count c.in-Read.fua c.in-Read.is)
+
+pub returns-in-Write-clause-ends : goal.returns-in-Write-clause-ends
+returns-in-Write-clause-ends c =
+    let old = c.args.steps.now in
+    let p : Placed = record { entry = c.entry-entry.result.now; at = c.data_at-at.result } in
+    let at = both_at (slice_get old.waiting c.in-Some.place) c.entry-entry.result.now c.data_at-at.result c.entry-entry.ensures c.data_at-at.ensures in
+    if_ok_map c.write_ends.result _ _ (c.write_ends.ensures.writes c.args.input.now)
+    (write_arm c.args.identity.now c.args.input.now old c.in-Some.place p c.requires.tasks at c.in-Some.ensures.eligible c.in-Some.ensures.only c.remove.new.self c.write_ends.new.output c.remove.ensures c.args.sectors.now c.write_ends.new.sectors c.write_ends.ensures.length c.in-Write.form c.in-Write.lba c.in-Write.count c.in-Write.fua c.in-Write.is c.is_cached-cached.result c.is_cached-cached.ensures)
+
+pub returns-in-Flush-clause-ends : goal.returns-in-Flush-clause-ends
+returns-in-Flush-clause-ends c =
+    let old = c.args.steps.now in
+    let p : Placed = record { entry = c.entry-entry.result.now; at = c.data_at-at.result } in
+    let at = both_at (slice_get old.waiting c.in-Some.place) c.entry-entry.result.now c.data_at-at.result c.entry-entry.ensures c.data_at-at.ensures in
+    if_both c.flush_ends.result _ _ _ c.flush_ends.ensures.flushes c.flush_ends.ensures.length
+    (λ b flushes same. flush_arm c.args.identity.now c.args.input.now old c.in-Some.place p c.requires.tasks at c.in-Some.ensures.eligible c.in-Some.ensures.only c.remove.new.self c.flush_ends.new.output c.remove.ensures c.args.sectors.now c.flush_ends.new.sectors same c.in-Flush.form c.in-Flush.lba c.in-Flush.count c.in-Flush.is b flushes)
+
+pub returns-in-Read-clause-tasks : goal.returns-in-Read-clause-tasks
+returns-in-Read-clause-tasks c =
+    let old = c.args.steps.now in
+    let p : Placed = record { entry = c.entry-entry.result.now; at = c.data_at-at.result } in
+    let at = both_at (slice_get old.waiting c.in-Some.place) c.entry-entry.result.now c.data_at-at.result c.entry-entry.ensures c.data_at-at.ensures in
+    subst (AreTasks c.args.identity.now c.args.input.now) (sym c.remove.ensures) (tasks_left c.args.identity.now c.args.input.now old.waiting c.in-Some.place p c.requires.tasks at)
+
+pub returns-in-Write-clause-tasks : goal.returns-in-Write-clause-tasks
+returns-in-Write-clause-tasks c =
+    let old = c.args.steps.now in
+    let p : Placed = record { entry = c.entry-entry.result.now; at = c.data_at-at.result } in
+    let at = both_at (slice_get old.waiting c.in-Some.place) c.entry-entry.result.now c.data_at-at.result c.entry-entry.ensures c.data_at-at.ensures in
+    subst (AreTasks c.args.identity.now c.args.input.now) (sym c.remove.ensures) (tasks_left c.args.identity.now c.args.input.now old.waiting c.in-Some.place p c.requires.tasks at)
+
+pub returns-in-Flush-clause-tasks : goal.returns-in-Flush-clause-tasks
+returns-in-Flush-clause-tasks c =
+    let old = c.args.steps.now in
+    let p : Placed = record { entry = c.entry-entry.result.now; at = c.data_at-at.result } in
+    let at = both_at (slice_get old.waiting c.in-Some.place) c.entry-entry.result.now c.data_at-at.result c.entry-entry.ensures c.data_at-at.ensures in
+    subst (AreTasks c.args.identity.now c.args.input.now) (sym c.remove.ensures) (tasks_left c.args.identity.now c.args.input.now old.waiting c.in-Some.place p c.requires.tasks at)

@@ -1,0 +1,77 @@
+// A request of a record arrives.
+ghost use Rattle.std.specs.Prelude.{◌≡◌, ◌+◌, ◌≤◌, ℕ, true, false, None};
+ghost use Rattle.satl_cdb.specs.Table.{says};
+ghost use Rattle.satl_cover.specs.Known.{is_known};
+ghost use Rattle.satl_audit.specs.Arriving.{CannotPlace, Goes, Places, Sticks, attention_of, told_of};
+ghost use Rattle.satl_audit.specs.Waiting.{AllFit, MayWait};
+
+use crate::cursor::Cursor;
+use crate::judging::{AtOnce, attention_sense, is_untold, judge, task_of};
+use crate::reply::{pass_check, pass_status};
+use crate::waiting::Waiting;
+use satl_base::{Request, Scsi};
+use satl_cdb::Command;
+use satl_identify::Identity;
+use satl_unit::{Attention, Attentions};
+
+/// The device of a record but for its sectors, and how far the output is compared.
+#[derive(Drop)]
+pub struct Steps<'a> {
+    pub waiting: Waiting,
+    pub attentions: [Attentions; 4],
+    pub output: Cursor<'a>,
+}
+
+/// The unit attention that a request is answered with, which is told by that (SAM-5 5.14).
+fn next_attention(attentions: &mut [Attentions; 4], request: &Request) -> Option<Attention>
+    ensures next { result ≡ attention_of attentions.old request.now }
+    ensures left { attentions.new ≡ told_of result request.now.nexus attentions.old }
+{
+    if is_untold(request.cdb[0]) {
+        return None;
+    }
+    attentions[request.nexus.number() as usize].next()
+}
+
+/// A request with this command arrives, and makes a task where there is room. Its data-out stands in the input from a place on.
+/// Whether its answer, where it has one, comes next in the output.
+fn place(
+    steps: &mut Steps<'_>,
+    identity: &Identity,
+    request: &Request,
+    command: Command,
+    at: usize,
+) -> bool
+    requires waits { MayWait identity.now.capacity request.now.data_len command }
+    requires expected { request.now.expected ≡ None }
+    requires nexus { request.now.nexus ≤ 3 }
+    ensures fits { (size : ℕ) → at + request.now.data_len ≤ size → AllFit identity.now.capacity size steps.old.waiting → AllFit identity.now.capacity size steps.new.waiting }
+    ensures goes { result ≡ true → Places identity.now request.now command at steps.old steps.new }
+    ensures sticks { result ≡ false → CannotPlace identity.now request.now command steps.old }
+{
+    let task = task_of(request, command, identity.queued_trim);
+    if steps.waiting.add(task, at) {
+        return true;
+    }
+    pass_status(&mut steps.output, request, Scsi::TaskSetFull)
+}
+
+/// A request arrives. Its data-out stands in the input from a place on. Whether its answer, where it has one, comes next in the
+/// output.
+pub fn arrive(steps: &mut Steps<'_>, identity: &Identity, request: &Request, at: usize) -> bool
+    requires known { is_known (says request.now.cdb identity.now.trim) ≡ true }
+    requires expected { request.now.expected ≡ None }
+    requires nexus { request.now.nexus ≤ 3 }
+    ensures fits { (size : ℕ) → at + request.now.data_len ≤ size → AllFit identity.now.capacity size steps.old.waiting → AllFit identity.now.capacity size steps.new.waiting }
+    ensures goes { result ≡ true → Goes identity.now request.now at steps.old steps.new }
+    ensures sticks { result ≡ false → Sticks identity.now request.now at steps.old }
+{
+    if let Some(what) = next_attention(&mut steps.attentions, request) {
+        return pass_check(&mut steps.output, request, &attention_sense(what));
+    }
+    match judge(identity, request) {
+        Ok(command) => place(steps, identity, request, command, at),
+        Err(AtOnce::Good) => pass_status(&mut steps.output, request, Scsi::Good),
+        Err(AtOnce::Check(sense)) => pass_check(&mut steps.output, request, &sense),
+    }
+}

@@ -1,0 +1,43 @@
+// The power is lost.
+ghost use Rattle.std.specs.Prelude.{◌≡◌, ◌≤◌, ◌<◌, ◌+◌, ◌^◌, OnOk, List, ℕ, length};
+ghost use Rattle.satl_identify.specs.declared.identity.Identity.{Identity};
+ghost use Rattle.satl_audit.specs.Powering.{PendsAll, PendsBetween};
+ghost use Rattle.satl_audit.specs.Waiting.{AllFit};
+
+use crate::effects::pend_blocks;
+use crate::sectors::Sectors;
+use crate::waiting::Waiting;
+use satl_base::{NoMemory, Range};
+use satl_cdb::Command;
+
+/// The blocks of the task at a place may be left by a loss of power, where it is an eligible WRITE (SBC-3 4.15).
+fn pend_task(waiting: &Waiting, sectors: &mut Sectors, place: usize) -> Result<(), NoMemory>
+    requires within { place < length waiting.now }
+    requires fit { (size : ℕ) × (size < 2 ^ 63) × AllFit (length sectors.old) size waiting.now }
+    requires capacity { length sectors.old < 2 ^ 64 }
+    ensures length { length sectors.new ≡ length sectors.old }
+    ensures pends { (identity : Identity) → (input : List ℕ) → OnOk result (PendsBetween identity input waiting.now place (place + 1) sectors.old sectors.new) }
+{
+    if !waiting.eligible(place) {
+        return Ok(());
+    }
+    match waiting.entry(place).command {
+        Command::Write { lba, count, .. } => {
+            pend_blocks(sectors, Range { lba, count }, waiting.data_at(place))
+        }
+        _ => Ok(()),
+    }
+}
+
+/// The blocks of all eligible WRITEs may be left by a loss of power (SBC-3 4.15).
+fn pend_tasks(waiting: &Waiting, sectors: &mut Sectors) -> Result<(), NoMemory>
+    requires fit { (size : ℕ) × (size < 2 ^ 63) × AllFit (length sectors.old) size waiting.now }
+    requires capacity { length sectors.old < 2 ^ 64 }
+    ensures length { length sectors.new ≡ length sectors.old }
+    ensures pends { (identity : Identity) → (input : List ℕ) → OnOk result (PendsAll identity input waiting.now sectors.old sectors.new) }
+{
+    for place in 0..waiting.len() {
+        pend_task(waiting, sectors, place)?;
+    }
+    Ok(())
+}

@@ -1,0 +1,64 @@
+// The bytes of replies.
+ghost use Rattle.std.specs.Prelude.{◌≡◌, ◌<◌, ◌^◌, ◌++◌, [], List, ℕ, true, false, None};
+ghost use Rattle.satl_base.specs.declared.reply.Scsi.TheVariants.{CheckCondition};
+ghost use Rattle.satl_sense.specs.Fixed.{fixed_form};
+ghost use Rattle.satl_frame.specs.Output.{reply_bytes};
+ghost use Rattle.satl_direct.specs.Arrival.{reply_to};
+ghost use Rattle.satl_audit.specs.Finishing.{head_bytes};
+
+use crate::cursor::Cursor;
+use satl_base::{Nexus, Request, Scsi, SenseBytes, Tag};
+use satl_sense::{Sense, sense_bytes};
+
+/// A reply of version 1 up to its sense: with so many bytes of sense and so many of data behind it.
+pub fn head(nexus: Nexus, tag: Tag, status: Scsi, sense: u8, len: u64) -> [u8; 12]
+    requires { len < 2 ^ 63 }
+    ensures { result ≡ head_bytes nexus tag.0 status sense len }
+{
+    let [_, _, _, _, a, b, c, d] = (7 + u64::from(sense) + len).to_be_bytes();
+    let [e, f, g, h] = tag.0.to_be_bytes();
+    [
+        0x81,
+        a,
+        b,
+        c,
+        d,
+        nexus.number(),
+        status.code(),
+        e,
+        f,
+        g,
+        h,
+        sense,
+    ]
+}
+
+/// Whether an answer to a request without data comes next in the output; then it is passed.
+fn pass_answer(output: &mut Cursor<'_>, request: &Request, status: Scsi, sense: &SenseBytes) -> bool
+    requires { request.now.expected ≡ None }
+    ensures passed { result ≡ true → output.old ≡ reply_bytes (reply_to request.now status sense.now.items) ++ output.new }
+    ensures other { result ≡ false → (rest : List ℕ) → output.old ≡ reply_bytes (reply_to request.now status sense.now.items) ++ rest → ⊥ }
+{
+    let head = head(request.nexus, request.tag, status, sense.len() as u8, 0);
+    output.pass(&head) && output.pass(sense.as_slice())
+}
+
+/// Whether CHECK CONDITION with this sense comes next in the output; then it is passed.
+pub fn pass_check(output: &mut Cursor<'_>, request: &Request, sense: &Sense) -> bool
+    requires { request.now.expected ≡ None }
+    ensures passed { result ≡ true → output.old ≡ reply_bytes (reply_to request.now CheckCondition (fixed_form sense.now)) ++ output.new }
+    ensures other { result ≡ false → (rest : List ℕ) → output.old ≡ reply_bytes (reply_to request.now CheckCondition (fixed_form sense.now)) ++ rest → ⊥ }
+{
+    let sense = sense_bytes(sense, false);
+    pass_answer(output, request, Scsi::CheckCondition, &sense)
+}
+
+/// Whether a status without sense comes next in the output; then it is passed.
+pub fn pass_status(output: &mut Cursor<'_>, request: &Request, status: Scsi) -> bool
+    requires { request.now.expected ≡ None }
+    ensures passed { result ≡ true → output.old ≡ reply_bytes (reply_to request.now status []) ++ output.new }
+    ensures other { result ≡ false → (rest : List ℕ) → output.old ≡ reply_bytes (reply_to request.now status []) ++ rest → ⊥ }
+{
+    let none = SenseBytes::new();
+    pass_answer(output, request, status, &none)
+}
