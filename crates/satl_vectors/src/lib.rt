@@ -6,9 +6,13 @@ mod at_once;
 #[cfg(test)]
 mod frames;
 #[cfg(test)]
+mod queue;
+#[cfg(test)]
 mod replaying;
 #[cfg(test)]
 mod rows;
+#[cfg(test)]
+mod spelled;
 #[cfg(test)]
 mod streams;
 #[cfg(test)]
