@@ -1,9 +1,9 @@
 -- What pending WRITEs may have left, place by place.
-use Rattle.std.proofs.Common.{arith, ◌≡◌, refl, sym, ap, ◌∙◌, ℕ, zero, suc, ◌+◌, Bool, true, false, List, [], ◌∷◌, ◌++◌, length, take, drop, append_assoc}
+use Rattle.std.proofs.Common.{arith, ◌≡◌, refl, sym, ap, ◌∙◌, ℕ, zero, suc, ◌+◌, Bool, true, false, List, [], ◌∷◌, ◌++◌, length, take, drop, append_assoc, map, subst}
 use Rattle.std.specs.Prelude.{◌<◌, ◌≤◌, ◌==◌, ◌||◌, ◌&&◌, Result, Ok, Err, OnOk, filter, if◌then◌else◌, not, Option, Some, None, slice_get, unwrap_or}
 use Rattle.std.specs.List.{list_any}
 use Rattle.std.specs.Option.{option_map}
-use Rattle.std.proofs.lemmas.List.{length-map}
+use Rattle.std.proofs.lemmas.List.{get_or-map, length-map}
 use Rattle.satl_base.specs.declared.block.Block.{Block}
 use Rattle.satl_base.specs.Cells.{Pair, pairs_from}
 use Rattle.satl_cdb.specs.declared.command.Command.{Command}
@@ -18,10 +18,10 @@ use Rattle.satl_direct.specs.Quiet.{writes, written_by}
 use Rattle.satl_direct.specs.Tasks.{data_out, held_blocks, over}
 use Rattle.satl_direct.specs.Run.{eligibles}
 use Rattle.satl_audit.specs.Arriving.{device_of}
-use Rattle.satl_audit.specs.Following.{blocks_from, pairs_in}
+use Rattle.satl_audit.specs.Following.{Follows, blocks_from, pairs_in}
 use Rattle.satl_audit.specs.Guesses.{blocks_at}
-use Rattle.satl_audit.specs.Kept.{Keeping, sector_at}
-use Rattle.satl_audit.specs.Powering.{PendsBetween, picks, shown_from}
+use Rattle.satl_audit.specs.Kept.{Keeping, blank_keeping, kept_power, sector_at, sector_of}
+use Rattle.satl_audit.specs.Powering.{PendsAll, PendsBetween, picks, power_deeds, shown_from}
 use Rattle.satl_audit.specs.Skeleton.{pairs_by, shown}
 use Rattle.satl_audit.specs.Waiting.{MayWait, Placed, device_tasks, entries_in, task_in}
 use Rattle.satl_audit.proofs.NextLemmas.{eligible_same}
@@ -177,3 +177,15 @@ pub some_at : (ps : List Placed) (n : ℕ) → n < length ps → (p : Placed) ×
 some_at [] n less = absurd (omega (arith, less))
 some_at (p ∷ ps) zero less = (p, refl)
 some_at (p ∷ ps) (suc n) less = some_at ps n (omega (arith, less))
+
+-- ---- the power is lost
+
+pub power_follows : (identity : Identity) (input : List ℕ) (waiting : List Placed) (old mid new : List Keeping) → length mid ≡ length old → PendsAll identity input waiting old mid → new ≡ map kept_power mid →
+    Follows input (power_deeds (device_of identity input waiting [])) old new
+power_follows identity input waiting old mid new size pends is = (
+  ap (λ (l : List Keeping). length l) is ∙ length-map mid kept_power ∙ size,
+  λ x less.
+      ap (λ (l : List Block). Some (record { now = None; may = l })) (sym (pends x less))
+      ∙ ap (λ (k : Keeping). Some (sector_of input k)) (sym (get_or-map kept_power mid x blank_keeping blank_keeping (subst (λ n. x < n) (sym size) less)))
+      ∙ ap (λ (l : List Keeping). Some (sector_at input l x)) (sym is),
+)

@@ -4,7 +4,10 @@ use Rattle.satl_base.specs.Cells.{Pair}
 use Rattle.satl_identify.specs.declared.identity.Identity.{Identity}
 use Rattle.satl_line.specs.declared.entry.Entry.{Entry}
 use Rattle.satl_line.specs.Eligible.{eligible_at}
+use Rattle.satl_direct.specs.Device.{Device}
 use Rattle.satl_audit.specs.Arriving.{device_of}
+use Rattle.satl_audit.specs.Deeds.{Deed}
+use Rattle.satl_audit.specs.Deeds.Deed.{shows, powers}
 use Rattle.satl_audit.specs.Guesses.{blocks_at}
 use Rattle.satl_audit.specs.Kept.{Keeping, sector_at}
 use Rattle.satl_audit.specs.Skeleton.{pairs_by, shown}
@@ -30,3 +33,7 @@ PendsBetween identity input waiting place next old new = (x : ℕ) → x < lengt
 abbrev pub PendsAll : Identity → List ℕ → List Placed → List Keeping → List Keeping → Type 0
 PendsAll identity input waiting old new = (x : ℕ) → x < length old →
     (sector_at input new x).may ≡ (sector_at input old x).may ++ blocks_at x (shown (device_of identity input waiting []))
+
+-- what a loss of power does: the pairs of the eligible tasks might show before it (SBC-3 4.15)
+abbrev pub power_deeds : Device → List Deed
+power_deeds s = shows (shown s) ∷ powers ∷ []

@@ -1,7 +1,9 @@
 // The power is lost.
-ghost use Rattle.std.specs.Prelude.{◌≡◌, ◌≤◌, ◌<◌, ◌+◌, ◌^◌, OnOk, List, ℕ, length};
+ghost use Rattle.std.specs.Prelude.{◌≡◌, ◌≤◌, ◌<◌, ◌+◌, ◌^◌, OnOk, List, ℕ, [], length};
 ghost use Rattle.satl_identify.specs.declared.identity.Identity.{Identity};
-ghost use Rattle.satl_audit.specs.Powering.{PendsAll, PendsBetween};
+ghost use Rattle.satl_audit.specs.Arriving.{device_of};
+ghost use Rattle.satl_audit.specs.Following.{Follows};
+ghost use Rattle.satl_audit.specs.Powering.{PendsAll, PendsBetween, power_deeds};
 ghost use Rattle.satl_audit.specs.Waiting.{AllFit};
 
 use crate::effects::pend_blocks;
@@ -40,4 +42,15 @@ fn pend_tasks(waiting: &Waiting, sectors: &mut Sectors) -> Result<(), NoMemory>
         pend_task(waiting, sectors, place)?;
     }
     Ok(())
+}
+
+/// The power is lost at all sectors, where the blocks of all eligible WRITEs may have been put before (SBC-3 4.15).
+fn power_sectors(waiting: &Waiting, sectors: &mut Sectors) -> Result<(), NoMemory>
+    requires fit { (size : ℕ) × (size < 2 ^ 63) × AllFit (length sectors.old) size waiting.now }
+    requires capacity { length sectors.old < 2 ^ 64 }
+    ensures length { OnOk result (length sectors.new ≡ length sectors.old) }
+    ensures follows { (identity : Identity) → (input : List ℕ) → OnOk result (Follows input (power_deeds (device_of identity input waiting.now [])) sectors.old sectors.new) }
+{
+    pend_tasks(waiting, sectors)?;
+    sectors.power()
 }
