@@ -6,6 +6,8 @@ mod at_once;
 #[cfg(test)]
 mod frames;
 #[cfg(test)]
+mod outstanding;
+#[cfg(test)]
 mod queue;
 #[cfg(test)]
 mod replaying;

@@ -1,6 +1,7 @@
 // Replays of queued commands: 32 at once, ends out of order, errors that cut the queue, and tasks that are taken off. The inputs and the
 // outputs were computed by another program.
-use crate::spelled::{Part, Row, expect_rows};
+use crate::spelled::{Part, Row, expect_rows, spelled};
+use std::alloc::Global;
 use std::test::Fail;
 
 const QUEUE_ERRORS: [Row; 3] = [
@@ -202,6 +203,12 @@ const ENDS_OUT_OF_ORDER: [Row; 3] = [
         ],
     ),
 ];
+
+/// The input of four writes, of which one meets a flaw.
+pub fn write_errors(alloc: Global) -> Result<Vec<u8>, Fail> {
+    let (_, input, _) = QUEUE_ERRORS[0];
+    spelled(alloc, input)
+}
 
 /// A flaw or a CRC error among queued writes answers its own command alone, and the others end well.
 #[test]

@@ -69,6 +69,16 @@ pub fn replay(
     run(alloc, &["replay"], input, streams)
 }
 
+/// The words behind the program's name.
+fn words(alloc: Global, given: &[&str]) -> Result<Vec<RcStr>, NoMemory> {
+    let mut words = Vec::new(alloc);
+    words.push(RcStr::from_str(alloc, "satl")?)?;
+    for word in given {
+        words.push(RcStr::from_str(alloc, word)?)?;
+    }
+    Ok(words)
+}
+
 /// How the program ends with these words behind its name, and what it writes.
 pub fn run(
     alloc: Global,
@@ -76,16 +86,34 @@ pub fn run(
     input: Vec<u8>,
     streams: Streams,
 ) -> Result<(Status, Vec<u8>), NoMemory> {
-    let mut words = Vec::new(alloc);
-    words.push(RcStr::from_str(alloc, "satl")?)?;
-    for word in given {
-        words.push(RcStr::from_str(alloc, word)?)?;
-    }
+    let words = words(alloc, given)?;
     let piece = streams.piece.max(1);
     let mut source = MemorySource::new(input, piece, calls(alloc, streams.failing_read)?);
     let failing = calls(alloc, streams.failing_write)?;
     let mut sink = MemorySink::new(alloc, 65536, piece, failing)?;
     let mut drive = ModelDrive::new(alloc, 8192)?;
+    let status = counted::<_, _, _, Brand>(
+        alloc,
+        &words,
+        &mut source,
+        &mut sink,
+        &mut drive,
+        Blank::new(1),
+    );
+    Ok((status, sink.written().to_vec(alloc)?))
+}
+
+/// How an input that is shown ends, and the lines of it, where the drive's link is lost at the call behind so many.
+pub fn show_until_lost(
+    alloc: Global,
+    input: Vec<u8>,
+    after: u32,
+) -> Result<(Status, Vec<u8>), NoMemory> {
+    let words = words(alloc, &["show"])?;
+    let mut source = MemorySource::new(input, 65536, calls(alloc, None)?);
+    let mut sink = MemorySink::new(alloc, 65536, 65536, calls(alloc, None)?)?;
+    let mut drive = ModelDrive::new(alloc, 8192)?;
+    drive.lose_link_after(after);
     let status = counted::<_, _, _, Brand>(
         alloc,
         &words,

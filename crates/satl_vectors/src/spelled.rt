@@ -27,7 +27,7 @@ fn add_part(bytes: &mut Vec<u8>, alloc: Global, part: Part) -> Result<(), Fail> 
     Ok(())
 }
 
-fn spelled(alloc: Global, parts: &[Part]) -> Result<Vec<u8>, Fail> {
+pub fn spelled(alloc: Global, parts: &[Part]) -> Result<Vec<u8>, Fail> {
     let mut bytes = Vec::new(alloc);
     for part in parts {
         add_part(&mut bytes, alloc, *part)?;
