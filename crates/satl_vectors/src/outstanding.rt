@@ -1,11 +1,15 @@
-// Replays with 32 commands outstanding: their ends in every order that a byte of ORDER chooses, a reset, and links lost at each call.
-use crate::frames::{END, ENDED, good, input, output, read, request, write};
+// Replays with 32 commands outstanding: their ends in every order that a byte of ORDER chooses, and a reset; and links lost at each call,
+// power at each place.
+use crate::frames::{END, ENDED, TURN, command, good, input, output, read, request, write};
 use crate::queue::write_errors;
 use crate::replaying::{expect_replies, pieces, replay, show_until_lost};
 use satl_top::Status;
 use std::alloc::{AllocError, Global};
 use std::process::Abort;
 use std::test::Fail;
+
+// SYNCHRONIZE CACHE(10) of all blocks.
+const FLUSH: [u8; 16] = [0x35, 0, 0, 0, 0, 0, 0, 0, 0, 0, 0, 0, 0, 0, 0, 0];
 
 /// The end of the command at a place among those outstanding, and what is issued then: behind a write of a block the read of it.
 fn end_one(
@@ -84,15 +88,77 @@ fn a_reset_with_all_tags(rt: HostRuntime) -> Result<(), Fail> {
     expect_replies(&rt, alloc, &frames, &replies)
 }
 
-/// Where the link is lost at one of the first calls of the drive, each of four requests is still answered once.
+/// Where the link is lost at the first call of the drive the layer is not opened; at each of the next 19, each of four requests is
+/// still answered once.
 #[test]
 fn the_link_is_lost_at_each_call(rt: HostRuntime) -> Result<(), Fail> {
     let alloc = rt.alloc();
-    for calls in 1..20u32 {
-        let (ended, lines) = show_until_lost(alloc, write_errors(alloc)?, calls)?;
+    for earlier in 0..20u32 {
+        let (ended, lines) = show_until_lost(alloc, write_errors(alloc)?, earlier)?;
         let count = lines.iter().filter(|byte| **byte == b'\n').count();
-        assert_eq!(rt; ended, Status::Done, "at call {calls}");
-        assert_eq!(rt; count, 5, "at call {calls}");
+        let (status, wanted) = if earlier == 0 {
+            (Status::DriveRefused, 0)
+        } else {
+            (Status::Done, 5)
+        };
+        assert_eq!(rt; ended, status, "after {earlier} calls");
+        assert_eq!(rt; count, wanted, "after {earlier} calls");
+    }
+    Ok(())
+}
+
+/// A write past the cache (FUA) of a block.
+fn forced_write(
+    frames: &mut Vec<u8>,
+    tag: u8,
+    lba: u8,
+    data: &[u8; 512],
+) -> Result<(), AllocError> {
+    frames.extend_from_slice(&[0x01, 0, 0, 2, 30])?;
+    frames.extend_from_slice(&[0; 13])?;
+    frames.extend_from_slice(&[tag, 0x2A, 8, 0, 0, 0, lba, 0, 0, 1])?;
+    frames.extend_from_slice(&[0; 7])?;
+    frames.extend_from_slice(data)
+}
+
+/// A write and a flush, a write past the cache and another write, each with its turn, where the power is lost before one of these eight
+/// frames or behind them; then the unit attention is taken, and two blocks are read.
+fn powered_input(alloc: Global, place: usize) -> Result<Vec<u8>, AllocError> {
+    let mut frames = input(alloc)?;
+    for step in 0..9usize {
+        if step == place {
+            frames.extend_from_slice(&[0x04, 0, 0, 0, 1, 5])?;
+        }
+        match step {
+            0 => request(&mut frames, write(1, 0, 1), &[0xA1; 512])?,
+            2 => command(&mut frames, 2, FLUSH)?,
+            4 => forced_write(&mut frames, 3, 1, &[0xB2; 512])?,
+            6 => request(&mut frames, write(4, 2, 1), &[0xC3; 512])?,
+            8 => command(&mut frames, 8, [0; 16])?,
+            _ => frames.extend_from_slice(&TURN)?,
+        }
+    }
+    request(&mut frames, read(9, 1, 1), &[])?;
+    request(&mut frames, read(10, 0, 1), &[])?;
+    frames.extend_from_slice(&END)?;
+    Ok(frames)
+}
+
+/// What was flushed, or written past the cache, is read behind a loss of power at each later place.
+#[test]
+fn secured_blocks_endure_the_loss_of_power(rt: HostRuntime) -> Result<(), Fail> {
+    let alloc = rt.alloc();
+    let mut flushed = vec![in alloc; 0; 0]?;
+    good(&mut flushed, 10, &[0xA1; 512])?;
+    flushed.extend_from_slice(&ENDED)?;
+    let mut both = vec![in alloc; 0; 0]?;
+    good(&mut both, 9, &[0xB2; 512])?;
+    both.extend_from_slice(&flushed)?;
+    for place in 4..9usize {
+        let (ended, written) = replay(alloc, powered_input(alloc, place)?, pieces(65536))?;
+        let end = if place < 6 { &flushed } else { &both };
+        assert_eq!(rt; ended, Status::Done, "before frame {place}");
+        assert!(rt; written.ends_with(end), "before frame {place}");
     }
     Ok(())
 }
