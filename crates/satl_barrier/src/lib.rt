@@ -3,9 +3,19 @@
 #![tactic(auto)]
 
 mod commands;
+mod comparing;
+mod finishing;
 mod flushing;
+mod passing;
 mod settings;
+mod trimming;
+mod writing_same;
 
 pub use commands::{run, tell_identity};
+pub use comparing::{Comparison, compare, verify};
+pub use finishing::Finish;
 pub use flushing::{flush, switch};
+pub use passing::pass_through;
 pub use settings::{Feature, tune, turn_feature};
+pub use trimming::trim;
+pub use writing_same::write_same;

@@ -1,0 +1,87 @@
+-- How a command ends that goes over a range of the medium, in one ATA command or in pieces of 64 blocks upwards.
+use Rattle.std.specs.Prelude.{◌≡◌, ◌⊎◌, ℕ, ◌+◌, ◌^◌, ◌≤◌, true, false, List, [], ◌∷◌, Option, Some, None, MatchOption, length, replicate}
+use Rattle.satl_base.specs.declared.block.Block.{Block}
+use Rattle.satl_base.specs.declared.block.Range.{Range}
+use Rattle.satl_base.specs.declared.bench.Which.TheVariants as flaws
+use Rattle.satl_base.specs.Cells.{Cell, Part, first_flaw, nows, pairs_from, whole}
+use Rattle.satl_base.specs.Losses.{Loses}
+use Rattle.satl_regs.specs.Effects.{Transfer, zeros_at}
+use Rattle.satl_regs.specs.Trim.{addresses}
+use Rattle.satl_drive.specs.State.{DriveState}
+use Rattle.satl_barrier.specs.declared.finishing.Finish.{Finish}
+use Rattle.satl_barrier.specs.declared.finishing.Finish.TheVariants as finishes
+use Rattle.satl_barrier.specs.declared.comparing.Comparison.{Comparison}
+use Rattle.satl_barrier.specs.declared.comparing.Comparison.TheVariants as comparisons
+
+-- the blocks of a piece (profile)
+abbrev pub piece : ℕ
+piece = 64
+
+-- the most pieces of a command (profile)
+abbrev pub most_pieces : ℕ
+most_pieces = 1024
+
+-- a read of a range, for its flaws or to compare its blocks: it writes nothing (SBC-3 5.33)
+abbrev pub verifying : Range → Transfer
+verifying range = record { ext = true; dma = true; stopped_by = flaws.Read; lba = range.lba; sectors = range.count; writes = []; reads = [] }
+
+-- the same block at each address of a range, through the cache where it is on (SBC-3 5.42)
+abbrev pub writing_same : Range → Block → DriveState → Transfer
+writing_same range block d = record { ext = true; dma = true; stopped_by = flaws.Write; lba = range.lba; sectors = range.count; writes = pairs_from range.lba (replicate range.count block) d.cache; reads = [] }
+
+-- zeros at each address of some ranges, through the cache where it is on; no flaw stops it (SBC-3 5.28; of flaws: profile)
+abbrev pub trimming : List Range → DriveState → Transfer
+trimming ranges d = record { ext = true; dma = true; stopped_by = flaws.Write; lba = 0; sectors = 0; writes = zeros_at d.cache (addresses ranges); reads = [] }
+
+-- all of it was carried out, sectors may have been written back since, and the drive is active (ACS-3, normal outputs)
+pub record IsDone (t : Transfer) (old new : DriveState) : Type 0 where
+  pub was_up : old.down ≡ false
+  pub no_flaw : first_flaw t.stopped_by old.cells t.lba t.sectors ≡ None
+  pub lost : Loses (whole old.cells t.writes) new.cells
+  pub stays : new ≡ record old { cells = new.cells; active = true }
+
+-- part of what it writes was written, sectors may have been written back since, and a piece may have made the drive active (ACS-3, error
+-- outputs)
+pub record IsTorn (t : Transfer) (old new : DriveState) : Type 0 where
+  pub was_up : old.down ≡ false
+  pub torn : List Cell
+  pub part : Part old.cells t.writes torn
+  pub lost : Loses torn new.cells
+  pub active : (new.active ≡ old.active) ⊎ (new.active ≡ true)
+
+-- the lowest flawed address of the range stopped it (ACS-3, UNC)
+pub record IsFlawed (t : Transfer) (at : ℕ) (old new : DriveState) : Type 0 where
+  pub flaw : first_flaw t.stopped_by old.cells t.lba t.sectors ≡ Some at
+  pub torn : IsTorn t old new
+  pub stays : new ≡ record old { cells = new.cells; active = new.active }
+
+-- a CRC error stopped it, where its first piece, of so many blocks, has no flaw (ACS-3, ICRC; profile)
+pub record IsGarbled (t : Transfer) (first : ℕ) (old new : DriveState) : Type 0 where
+  pub no_flaw : first_flaw t.stopped_by old.cells t.lba first ≡ None
+  pub torn : IsTorn t old new
+  pub one : new.glitches + 1 ≡ old.glitches
+  pub stays : new ≡ record old { cells = new.cells; active = new.active; glitches = new.glitches }
+
+-- how it ended, whose first piece has so many blocks (ACS-3; the pieces: profile)
+abbrev pub FinishesAs : Transfer → ℕ → Finish → DriveState → DriveState → Type 0
+FinishesAs t first finishes.Done old new = IsDone t old new
+FinishesAs t first (finishes.Flawed at) old new = IsFlawed t at old new
+FinishesAs t first finishes.Garbled old new = IsGarbled t first old new
+
+-- a range was verified: the lowest address that reads stop at, or all of it was read (SBC-3 5.33)
+abbrev pub IsVerified : Range → Option ℕ → DriveState → DriveState → Type 0
+IsVerified range flaw old new = MatchOption flaw (IsDone (verifying range) old new) (λ at. IsFlawed (verifying range) at old new)
+
+-- a range was compared with these blocks: reads give them, or others; or it ended before (SBC-3 5.33, BYTCHK)
+abbrev pub ComparesAs : Range → List Block → Comparison → DriveState → DriveState → Type 0
+ComparesAs range blocks comparisons.Same old new = (nows old.cells range.lba range.count ≡ blocks) × IsDone (verifying range) old new
+ComparesAs range blocks comparisons.Differs old new = (nows old.cells range.lba range.count ≡ blocks → ⊥) × IsDone (verifying range) old new
+ComparesAs range blocks (comparisons.Flawed at) old new = IsFlawed (verifying range) at old new
+ComparesAs range blocks comparisons.Garbled old new = IsGarbled (verifying range) range.count old new
+
+-- a range that one command may go over: some blocks, at most 65,536, within the capacity and the 48 bits of an address (ACS-3)
+pub record IsReached (range : Range) (d : DriveState) : Type 0 where
+  pub some : 1 ≤ range.count
+  pub most : range.count ≤ 65536
+  pub address : range.lba + range.count ≤ 2 ^ 48
+  pub within : range.lba + range.count ≤ length d.cells
