@@ -9,6 +9,7 @@ use Rattle.satl_base.specs.declared.modes.ModeChange.{ModeChange}
 use Rattle.satl_base.specs.declared.reply.Reply.{Reply}
 use Rattle.satl_base.specs.declared.request.Request.{Request}
 use Rattle.satl_cdb.specs.declared.command.Command.{Command}
+use Rattle.satl_cdb.specs.declared.command.Command.TheVariants as cdbs
 use Rattle.satl_identify.specs.declared.identity.Identity.{Identity}
 use Rattle.satl_line.specs.declared.entry.Entry.{Entry}
 use Rattle.satl_line.specs.Kinds.{kind_of}
@@ -16,13 +17,15 @@ use Rattle.satl_mode.specs.Changes.{IsChangeOf}
 use Rattle.satl_line.specs.Tasks.{Adds, Held, change_at, entries_of, is_too_much, total_blocks, with_body}
 use Rattle.satl_line.proofs.SlotsLemmas.{All-append, total-append}
 use Rattle.satl_direct.specs.Tasks.{asks, data_out, held_blocks, needed, task_for, task_of}
-use Rattle.satl_core.specs.Layer.{IsExpectable, IsKept, IsTask, Layer, held_pages}
+use Rattle.satl_core.specs.Layer.{CanTrim, IsCovered, IsExpectable, IsKept, IsTask, Layer, entry_pages, held_pages}
 use Rattle.satl_core.specs.Refilling.{Comes}
-use Rattle.satl_core.specs.Submitting.{Becomes, IsAdded, IsRefused, task_without_pages}
-use Rattle.satl_core.proofs.AgreeingLemmas.{fits_kept}
+use Rattle.satl_core.specs.Submitting.{Becomes, HasEntries, HasList, IsAdded, IsRefused, task_without_pages, trims}
+use Rattle.satl_identify.specs.Refusals.{IsIdentity}
+use Rattle.satl_core.proofs.AgreeingLemmas.{HasOwnEntries, fits_kept}
 use Rattle.std.proofs.lemmas.List.{length-take}
 use Rattle.satl_core.proofs.SelectLemmas.{change_same, taken_agrees}
 use Rattle.satl_core.proofs.Transfers.{of_task}
+use Rattle.satl_core.proofs.UnmapLemmas.{list_trims, range_trims, ranges_same}
 use Rattle.satl_core.proofs.HeldLemmas.{held-append, last_at, last_changed, length-push}
 
 -- the blocks of all tasks with one more
@@ -62,11 +65,11 @@ given_pages old mid new entry body place a at is = record {
 }
 
 -- the task that came, with its pages, may be issued
-pub comes_with : (identity : Identity) (old new : List Held) (entry : Entry) (body : List Block) → AllByRecursion (IsKept identity) new → HasPages old entry body new → Comes identity.capacity old new
-comes_with identity old new entry body kept h = record {
+pub comes_with : (identity : Identity) (old new : List Held) (entry : Entry) (body : List Block) → AllByRecursion (IsKept identity) new → HasOwnEntries entry.command identity.queued_trim entry.ranges.items body → HasPages old entry body new → Comes identity.capacity old new
+comes_with identity old new entry body kept entries h = record {
   held = record { slot = h.slot; entry = record entry { body = body } };
   last = h.are;
-  fits = fits_kept identity (record { slot = h.slot; entry = record entry { body = body } }) (last_kept old (record { slot = h.slot; entry = record entry { body = body } }) (subst (AllByRecursion (IsKept identity)) h.are kept));
+  fits = fits_kept identity (record { slot = h.slot; entry = record entry { body = body } }) entries (last_kept old (record { slot = h.slot; entry = record entry { body = body } }) (subst (AllByRecursion (IsKept identity)) h.are kept));
 }
   where
     last_kept : (ts : List Held) (k : Held) → AllByRecursion (IsKept identity) (ts ++ k ∷ []) → IsKept identity k
@@ -79,10 +82,41 @@ held_with old new entry body h =
     let same = ap held_pages h.are in
     omega (arith, both, same)
 
-pub kept_with : (identity : Identity) (old new : List Held) (entry : Entry) (body : List Block) → AllByRecursion (IsKept identity) old → length body ≡ entry.blocks → IsTask identity.capacity entry.command entry.blocks → entry.kind ≡ kind_of entry.command identity.queued_trim → IfSome entry.modes (IsChangeOf identity) → IsExpectable entry.expected → HasPages old entry body new
+pub kept_with : (identity : Identity) (old new : List Held) (entry : Entry) (body : List Block) → AllByRecursion (IsKept identity) old → length body ≡ entry.blocks + entry_pages entry.command identity.queued_trim → CanTrim identity entry.command entry.ranges.items → IsTask identity.capacity entry.command entry.blocks → entry.kind ≡ kind_of entry.command identity.queued_trim → IfSome entry.modes (IsChangeOf identity) → IsExpectable entry.expected → HasPages old entry body new
     → AllByRecursion (IsKept identity) new
-kept_with identity old new entry body all size task kind change expected h =
-    subst (λ t. AllByRecursion (IsKept identity) t) (sym h.are) (All-append (IsKept identity) old (record { slot = h.slot; entry = record entry { body = body } } ∷ []) all (record { pages = size; task = task; kind = kind; change = change; expected = expected }, tt))
+kept_with identity old new entry body all size trims task kind change expected h =
+    subst (λ t. AllByRecursion (IsKept identity) t) (sym h.are) (All-append (IsKept identity) old (record { slot = h.slot; entry = record entry { body = body } } ∷ []) all (record { pages = size; trims = trims; task = task; kind = kind; change = change; expected = expected }, tt))
+
+-- what the task of a request trims can be trimmed
+pub can_trim : (identity : Identity) (r : Request) (c : Command) (n : ℕ) → IsIdentity identity → IsTask identity.capacity c n → HasList c r.body identity.capacity → (trims c ≡ true → identity.trim ≡ true) → CanTrim identity c ((asks c).ranges r.body)
+can_trim identity r c n is t list has =
+    of_task (λ c. HasList c r.body identity.capacity → (trims c ≡ true → identity.trim ≡ true) → CanTrim identity c ((asks c).ranges r.body)) identity.capacity n c
+    (λ form lba count fua t list has. tt) (λ form lba count fua t list has. tt) (λ form lba count none list has. tt) (λ start no_flush none list has. tt) (λ ten size none list has. tt) (λ form lba count t list has. tt) (λ form lba count t list has. tt)
+    (λ form lba count unmap. elim unmap as (λ b. (n ≡ 1) × IsCovered identity.capacity lba count → Unit {0} → (b ≡ true → identity.trim ≡ true) → CanTrim identity (cdbs.WriteSame form lba count b) ((asks (cdbs.WriteSame form lba count b)).ranges r.body)) [
+      | true ↦ λ t list has. range_trims identity (record { lba = lba; count = count }) is (has refl) t.1.most t.1.some t.1.within
+      | false ↦ λ t list has. tt
+    ])
+    (λ size t list has. list_trims identity r.body size is (has refl) list) t list has
+
+-- its page has its entries
+pub own_entries : (r : Request) (c : Command) (queued_trim : Bool) (pages : List Block) → HasEntries c queued_trim r.body pages → HasOwnEntries c queued_trim ((asks c).ranges r.body) pages
+own_entries r (cdbs.Unmap size) true pages has = λ queued. has
+own_entries r (cdbs.Unmap size) false pages has = λ queued. absurd cc
+own_entries r cdbs.TestUnitReady queued_trim pages has = tt
+own_entries r (cdbs.Inquiry a b) queued_trim pages has = tt
+own_entries r (cdbs.ModeSense x y z t u v) queued_trim pages has = tt
+own_entries r cdbs.ReadCapacity10 queued_trim pages has = tt
+own_entries r (cdbs.ReadCapacity16 a) queued_trim pages has = tt
+own_entries r (cdbs.ReportLuns a b) queued_trim pages has = tt
+own_entries r (cdbs.Read x y z t) queued_trim pages has = tt
+own_entries r (cdbs.Write x y z t) queued_trim pages has = tt
+own_entries r (cdbs.RequestSense a b) queued_trim pages has = tt
+own_entries r (cdbs.ModeSelect a b) queued_trim pages has = tt
+own_entries r (cdbs.StartStop a b) queued_trim pages has = tt
+own_entries r (cdbs.Verify x y z t) queued_trim pages has = tt
+own_entries r (cdbs.Flush x y z) queued_trim pages has = tt
+own_entries r (cdbs.WriteSame x y z t) queued_trim pages has = tt
+own_entries r (cdbs.Pass a) queued_trim pages has = tt
 
 push_tasks : (old : List Held) (h : Held) → map task_of (entries_of (old ++ h ∷ [])) ≡ map task_of (entries_of old) ++ task_of h.entry ∷ []
 push_tasks [] h = refl
@@ -112,23 +146,29 @@ take_take (suc m) (suc n) (x ∷ xs) h = ap (λ l. x ∷ l) (take_take m n xs (o
 whole_data : (capacity n count : ℕ) (c : Command) (body : List Block) → IsTask capacity c n → needed c ≤ 512 * length (take count body) → data_out c (take (held_blocks c) (take count body)) ≡ data_out c (take (held_blocks c) body)
 whole_data capacity n count c body t long =
     of_task (λ c. needed c ≤ 512 * length (take count body) → data_out c (take (held_blocks c) (take count body)) ≡ data_out c (take (held_blocks c) body)) capacity n c (λ form lba blocks fua t long. refl)
-    (λ form lba blocks fua t long. take_take blocks count body (omega (arith, long))) (λ form lba blocks none long. refl) (λ start no_flush none long. refl) (λ ten size none long. refl) t long
+    (λ form lba blocks fua t long. take_take blocks count body (omega (arith, long))) (λ form lba blocks none long. refl) (λ start no_flush none long. refl) (λ ten size none long. refl)
+    (λ form lba blocks t long. refl) (λ form lba blocks t long. take_take blocks count body (omega (arith, long)))
+    (λ form lba blocks unmap. elim unmap as (λ b. (n ≡ 1) × IsCovered capacity lba blocks → needed (cdbs.WriteSame form lba blocks b) ≤ 512 * length (take count body) → data_out (cdbs.WriteSame form lba blocks b) (take (held_blocks (cdbs.WriteSame form lba blocks b)) (take count body)) ≡ data_out (cdbs.WriteSame form lba blocks b) (take (held_blocks (cdbs.WriteSame form lba blocks b)) body)) [ true ↦ λ t long. take_take 1 count body (omega (arith, long)) | false ↦ λ t long. take_take 1 count body (omega (arith, long)) ])
+    (λ size t long. refl) t long
 
 -- a task with other data-out
 abbrev made : Entry → List Block → List Range → Option ModeChange → Entry
 made t body ranges change = record t { body = body; ranges = record { items = ranges }; modes = change }
 
 -- what a task keeps of the data-out beside its pages
-same_kept : (capacity n : ℕ) (c : Command) (count : ℕ) (body : List Block) → needed c ≤ 512 * length (take count body) → IsTask capacity c n → ((asks c).ranges (take count body) ≡ (asks c).ranges body) × ((asks c).change (take count body) ≡ (asks c).change body)
-same_kept capacity n c count body long t =
-    of_task (λ c. needed c ≤ 512 * length (take count body) → ((asks c).ranges (take count body) ≡ (asks c).ranges body) × ((asks c).change (take count body) ≡ (asks c).change body)) capacity n c
-    (λ form lba blocks fua t long. (refl, refl)) (λ form lba blocks fua t long. (refl, refl)) (λ form lba blocks none long. (refl, refl)) (λ start no_flush none long. (refl, refl))
-    (λ ten size none long. (refl, ap Some (change_same (take count body) body size ten (taken_agrees size count body (omega (arith, long, length-take count body)))))) t long
+same_kept : (capacity n : ℕ) (c : Command) (count : ℕ) (body : List Block) → needed c ≤ 512 * length (take count body) → HasList c (take count body) capacity → IsTask capacity c n → ((asks c).ranges (take count body) ≡ (asks c).ranges body) × ((asks c).change (take count body) ≡ (asks c).change body)
+same_kept capacity n c count body long list t =
+    of_task (λ c. needed c ≤ 512 * length (take count body) → HasList c (take count body) capacity → ((asks c).ranges (take count body) ≡ (asks c).ranges body) × ((asks c).change (take count body) ≡ (asks c).change body)) capacity n c
+    (λ form lba blocks fua t long list. (refl, refl)) (λ form lba blocks fua t long list. (refl, refl)) (λ form lba blocks none long list. (refl, refl)) (λ start no_flush none long list. (refl, refl))
+    (λ ten size none long list. (refl, ap Some (change_same (take count body) body size ten (taken_agrees size count body (omega (arith, long, length-take count body))))))
+    (λ form lba blocks t long list. (refl, refl)) (λ form lba blocks t long list. (refl, refl))
+    (λ form lba blocks unmap. elim unmap as (λ b. (n ≡ 1) × IsCovered capacity lba blocks → needed (cdbs.WriteSame form lba blocks b) ≤ 512 * length (take count body) → Unit {0} → ((asks (cdbs.WriteSame form lba blocks b)).ranges (take count body) ≡ (asks (cdbs.WriteSame form lba blocks b)).ranges body) × ((asks (cdbs.WriteSame form lba blocks b)).change (take count body) ≡ (asks (cdbs.WriteSame form lba blocks b)).change body)) [ true ↦ λ t long list. (refl, refl) | false ↦ λ t long list. (refl, refl) ])
+    (λ size t long list. (ranges_same (take count body) body size capacity (taken_agrees size count body (omega (arith, long, length-take count body))) list.header list.sound, refl)) t long list
 
 -- what becomes of a request is what becomes of the whole one
-pub becomes_whole : (w r : Request) (count capacity : ℕ) (c : Command) (old : Layer) (replies : List Reply) (new : Layer) → r ≡ record w { body = take count w.body } → IsTask capacity c (held_blocks c) → (replies ≡ [] → needed c ≤ 512 * length r.body)
+pub becomes_whole : (w r : Request) (count capacity : ℕ) (c : Command) (old : Layer) (replies : List Reply) (new : Layer) → r ≡ record w { body = take count w.body } → IsTask capacity c (held_blocks c) → HasList c r.body capacity → (replies ≡ [] → needed c ≤ 512 * length r.body)
     → Becomes r c old replies new → Becomes w c old replies new
-becomes_whole w r count capacity c old replies new is t long b =
+becomes_whole w r count capacity c old replies new is t list long b =
     (elim (is_too_much old.tasks (task_without_pages w c old.identity.queued_trim)) as (λ f. MatchBool f (IsRefused cut old replies new) (IsAdded cut c old replies new) → MatchBool f (IsRefused w old replies new) (IsAdded w c old replies new)) [
       | true ↦ λ a. record { reply = a.reply; stays = a.stays }
       | false ↦ λ a. record {
@@ -144,6 +184,6 @@ becomes_whole w r count capacity c old replies new is t long b =
     same_task : needed c ≤ 512 * length cut.body → task_for old.identity.queued_trim cut c ≡ task_for old.identity.queued_trim w c
     same_task room =
         let same = whole_data capacity (held_blocks c) count c w.body t room in
-        let kept = same_kept capacity (held_blocks c) c count w.body room t in
+        let kept = same_kept capacity (held_blocks c) c count w.body room (subst (λ (x : Request). HasList c x.body capacity) is list) t in
         ap (λ b. made (task_for old.identity.queued_trim w c) b ((asks c).ranges cut.body) ((asks c).change cut.body)) same
         ∙ (ap (λ r. made (task_for old.identity.queued_trim w c) (data_out c (take (held_blocks c) w.body)) r ((asks c).change cut.body)) kept.0 ∙ ap (made (task_for old.identity.queued_trim w c) (data_out c (take (held_blocks c) w.body)) ((asks c).ranges w.body)) kept.1)

@@ -1,8 +1,13 @@
 -- The layer and its drive agree, as tasks are issued, end and go, and as the link is lost.
-use Rattle.std.proofs.Common.{◌≡◌, ⊎_elim, refl, sym, ap, subst, ◌∙◌, arith, ℕ, zero, suc, ◌≤◌, Bool, true, false, List, [], ◌∷◌, length, map, None, Some}
+use Rattle.std.proofs.Common.{◌≡◌, ⊎_elim, refl, sym, ap, subst, ◌∙◌, arith, ℕ, zero, suc, ◌+◌, ◌≤◌, Bool, true, false, List, [], ◌∷◌, length, map, None, Some}
 use Rattle.std.specs.Prelude.{not, ◌||◌, ◌^◌, MatchBool}
 use Rattle.std.specs.List.{AllByRecursion, AllZip, list_any, remove}
+use Rattle.satl_base.specs.declared.block.Block.{Block}
+use Rattle.satl_base.specs.declared.block.Range.{Range}
 use Rattle.satl_base.specs.declared.modes.Modes.{Modes}
+use Rattle.satl_cdb.specs.declared.command.Command.{Command}
+use Rattle.satl_cdb.specs.declared.command.Command.TheVariants as cdbs
+use Rattle.satl_regs.specs.Trim.{trim_block}
 use Rattle.satl_base.specs.Cells.{AreSound, Cell}
 use Rattle.satl_base.proofs.CellsLemmas.{part-sound, whole-sound}
 use Rattle.satl_base.proofs.LossesLemmas.{loses-length, loses-sound}
@@ -12,8 +17,9 @@ use Rattle.satl_identify.specs.declared.identity.Identity.{Identity}
 use Rattle.satl_line.specs.declared.entry.Entry.{Entry}
 use Rattle.satl_line.specs.Ending.{EndsAs, Outcome}
 use Rattle.satl_line.specs.Ending.Outcome.{ends_done, ends_flawed, ends_glitched}
-use Rattle.satl_line.specs.Ranged.{RangedTask, ranged_by, written_pairs}
-use Rattle.satl_line.specs.Ranged.RangedTask.{ranged_read, ranged_write}
+use Rattle.satl_line.specs.Kinds.{kind_of}
+use Rattle.satl_line.specs.Ranged.{RangedTask, ranged_by, ranged_of, written_pairs}
+use Rattle.satl_line.specs.Ranged.RangedTask.{ranged_read, ranged_trim, ranged_write}
 use Rattle.satl_line.specs.Tasks.{Held, entries_of}
 use Rattle.satl_line.proofs.SlotsLemmas.{remove-map}
 use Rattle.satl_drive.specs.State.{DriveState, IsFit}
@@ -25,10 +31,11 @@ use Rattle.satl_barrier.proofs.ToldLemmas.{all_bytes, retold}
 use Rattle.satl_direct.specs.Device.{Device}
 use Rattle.satl_direct.specs.Tasks.{held_by, task_of}
 use Rattle.satl_direct.specs.Valid.{AreOwn, HasCome, IsValid}
-use Rattle.satl_core.specs.Layer.{Agrees, IsKept, IsUsed, Layer, Tied, view, works}
+use Rattle.satl_core.specs.Layer.{Agrees, CanTrim, IsKept, IsUsed, Layer, Tied, entry_pages, view, works}
 use Rattle.satl_core.proofs.QueuedLemmas.{by_command}
 use Rattle.satl_core.proofs.TieLemmas.{bytes_long}
 use Rattle.satl_core.proofs.Transfers.{of_task}
+use Rattle.satl_core.proofs.UnmapLemmas.{entries_suit}
 
 -- ---- devices with other sectors, and with fewer tasks
 
@@ -283,9 +290,24 @@ works_flying l used some = (elim (works l) as (λ b. works l ≡ b → MatchBool
 
 -- ---- a task that is kept may be issued
 
-pub fits_kept : (identity : Identity) (h : Held) → IsKept identity h → FitsDrive identity.capacity h
-fits_kept identity h kept ranged is =
-    of_task (λ c. ranged_by c h.entry.ranges.items h.entry.body ≡ Some ranged → RangedFits identity.capacity h.entry.body ranged) identity.capacity h.entry.blocks h.entry.command
-    (λ form lba count fua t e. let one : ranged_read fua (record { lba = lba; count = count }) ≡ ranged = cc in subst (RangedFits identity.capacity h.entry.body) one (kept.pages ∙ t.0, record { lba = t.1; some = t.2; few = t.3; within = t.4 }))
-    (λ form lba count fua t e. let one : ranged_write fua (record { lba = lba; count = count }) h.entry.body ≡ ranged = cc in subst (RangedFits identity.capacity h.entry.body) one (kept.pages ∙ t.0, record { lba = t.1; some = t.2; few = t.3; within = t.4 }))
-    (λ form lba count none e. absurd cc) (λ start no_flush none e. absurd cc) (λ ten size none e. absurd cc) kept.task (by_command h.entry ranged is)
+-- an UNMAP whose trim is queued has its entries in its page
+abbrev pub HasOwnEntries : Command → Bool → List Range → List Block → Type 0
+HasOwnEntries (cdbs.Unmap size) queued_trim ranges body = queued_trim ≡ true → body ≡ record { bytes = trim_block ranges } ∷ []
+HasOwnEntries _ queued_trim ranges body = Unit {0}
+
+pub fits_kept : (identity : Identity) (h : Held) → HasOwnEntries h.entry.command identity.queued_trim h.entry.ranges.items h.entry.body → IsKept identity h → FitsDrive identity.capacity h
+fits_kept identity h entries kept ranged is =
+    of_task (λ c. h.entry.kind ≡ kind_of c identity.queued_trim → CanTrim identity c h.entry.ranges.items → HasOwnEntries c identity.queued_trim h.entry.ranges.items h.entry.body → length h.entry.body ≡ h.entry.blocks + entry_pages c identity.queued_trim → ranged_by c h.entry.ranges.items h.entry.body ≡ Some ranged → RangedFits identity.capacity h.entry.body ranged) identity.capacity h.entry.blocks h.entry.command
+    (λ form lba count fua t kind trims entries pages e. let one : ranged_read fua (record { lba = lba; count = count }) ≡ ranged = cc in subst (RangedFits identity.capacity h.entry.body) one (omega (arith, pages, t.0), record { lba = t.1; some = t.2; few = t.3; within = t.4 }))
+    (λ form lba count fua t kind trims entries pages e. let one : ranged_write fua (record { lba = lba; count = count }) h.entry.body ≡ ranged = cc in subst (RangedFits identity.capacity h.entry.body) one (omega (arith, pages, t.0), record { lba = t.1; some = t.2; few = t.3; within = t.4 }))
+    (λ form lba count none kind trims entries pages e. absurd cc) (λ start no_flush none kind trims entries pages e. absurd cc) (λ ten size none kind trims entries pages e. absurd cc) (λ form lba count t kind trims entries pages e. absurd cc) (λ form lba count t kind trims entries pages e. absurd cc)
+    (λ form lba count unmap t kind trims entries pages e. absurd cc)
+    (λ size t kind trims entries pages e.
+    let one : ranged_trim h.entry.ranges.items ≡ ranged = cc in
+    subst (RangedFits identity.capacity h.entry.body) one (entries_suit identity h.entry.ranges.items h.entry.body trims (entries (queued size identity.queued_trim kind))))
+    kept.task kept.kind kept.trims entries kept.pages (by_command h.entry ranged is)
+  where
+    -- its kind says that trims are queued
+    queued : (size : ℕ) (q : Bool) → h.entry.kind ≡ kind_of (cdbs.Unmap size) q → q ≡ true
+    queued size true kind = refl
+    queued size false kind = let none = subst (λ k. ranged_of (record h.entry { kind = k }) ≡ Some ranged) kind is in absurd cc

@@ -97,6 +97,9 @@ kept_on a b c d e f first rest = record {
 pub tasks_seen : (tasks : List Held) → length (map task_of (entries_of tasks)) ≡ length tasks
 tasks_seen tasks = length-map (entries_of tasks) task_of ∙ length-map tasks (λ h. h.entry)
 
+pub few_tasks : (tasks : List Held) → length (map task_of (entries_of tasks)) ≤ 64 → length tasks ≤ 64
+few_tasks tasks few = omega (arith, few, tasks_seen tasks)
+
 added_more : (r : Request) (c : Command) (old : Layer) (replies : List Reply) (new : Layer) → IsAdded r c old replies new → length new.tasks ≤ length old.tasks + 1
 added_more r c old replies new a =
     let last = ap length a.last in

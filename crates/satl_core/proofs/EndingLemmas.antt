@@ -101,7 +101,7 @@ module _ (q q' : Waiting) (d d' : DriveState) (error : Option NcqError) (task : 
     held_kept = at_place (IsKept identity) q.tasks e.place e.settled.held kept e.settled.stands
 
     pub ended_kept : IsKeptEntry identity task
-    ended_kept = subst (IsKeptEntry identity) (sym e.task_is) (record { pages = e.size ∙ held_kept.pages; task = held_kept.task; kind = held_kept.kind; change = held_kept.change; expected = held_kept.expected })
+    ended_kept = subst (IsKeptEntry identity) (sym e.task_is) (record { pages = e.size ∙ held_kept.pages; trims = held_kept.trims; task = held_kept.task; kind = held_kept.kind; change = held_kept.change; expected = held_kept.expected })
 
     pub others_kept : AllByRecursion (IsKept identity) q'.tasks
     others_kept = subst (AllByRecursion (IsKept identity)) (sym e.left) (All-remove (IsKept identity) q.tasks e.place kept)

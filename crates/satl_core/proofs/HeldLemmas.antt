@@ -1,5 +1,5 @@
 -- The tasks of the layer and their pages.
-use Rattle.std.proofs.Common.{◌≡◌, append_assoc, refl, sym, ap, subst, ◌∙◌, arith, ℕ, suc, ◌+◌, Bool, false, List, [], ◌∷◌, ◌++◌, length, Some}
+use Rattle.std.proofs.Common.{◌≡◌, append_assoc, refl, sym, ap, subst, ◌∙◌, arith, ℕ, suc, ◌+◌, ◌≤◌, Bool, false, List, [], ◌∷◌, ◌++◌, length, Some}
 use Rattle.std.specs.Prelude.{IfSome, Result, Ok, Err, OnOk, is_err, remove, slice_get}
 use Rattle.std.specs.List.{AllByRecursion}
 use Rattle.satl_base.specs.declared.reply.Reply.{Reply}
@@ -11,14 +11,16 @@ use Rattle.satl_line.specs.Tasks.{Held, change_at, entry_at, total_blocks}
 use Rattle.satl_core.specs.declared.turning.Ending.TheVariants as endings
 use Rattle.satl_direct.specs.Senses.{link_lost}
 use Rattle.satl_flight.specs.Lending.{AreAlike}
-use Rattle.satl_core.specs.Layer.{IsExpectable, IsKept, IsTask, held_pages, reply_pages}
+use Rattle.satl_core.specs.Layer.{CanTrim, IsExpectable, IsKept, IsTask, entry_pages, held_pages, reply_pages}
 use Rattle.satl_core.specs.Turning.{ended_reply, lost_replies}
+use Rattle.satl_core.proofs.Transfers.{entries_few}
 
 -- ---- the first task
 
 -- a task is kept, whatever its slot
 pub record IsKeptEntry (identity : Identity) (e : Entry) : Type 0 where
-  pub pages : length e.body ≡ e.blocks
+  pub pages : length e.body ≡ e.blocks + entry_pages e.command identity.queued_trim
+  pub trims : CanTrim identity e.command e.ranges.items
   pub task : IsTask identity.capacity e.command e.blocks
   pub kind : e.kind ≡ kind_of e.command identity.queued_trim
   pub change : IfSome e.modes (IsChangeOf identity)
@@ -48,7 +50,7 @@ first_all P tasks rest entry all first =
 pub first_kept : (identity : Identity) (tasks rest : List Held) (entry : Entry) → AllByRecursion (IsKept identity) tasks → IsFirst tasks entry rest → IsKeptEntry identity entry × AllByRecursion (IsKept identity) rest
 first_kept identity tasks rest entry all first =
     let both : IsKept identity first.held × AllByRecursion (IsKept identity) rest = subst (λ x. AllByRecursion (IsKept identity) x) first.are all in
-    (subst (IsKeptEntry identity) first.entry_is (record { pages = both.0.pages; task = both.0.task; kind = both.0.kind; change = both.0.change; expected = both.0.expected }), both.1)
+    (subst (IsKeptEntry identity) first.entry_is (record { pages = both.0.pages; trims = both.0.trims; task = both.0.task; kind = both.0.kind; change = both.0.change; expected = both.0.expected }), both.1)
 
 -- answering the first task leaves the answers of all as they are
 pub first_lost : (descriptor : Bool) (tasks rest : List Held) (entry : Entry) (replies replies' all : List Reply) → IsFirst tasks entry rest → replies ++ lost_replies descriptor tasks ≡ all
@@ -70,13 +72,14 @@ pub held-append : (xs ys : List Held) → held_pages (xs ++ ys) ≡ held_pages x
 held-append [] ys = omega arith
 held-append (x ∷ xs) ys = let rest = held-append xs ys in omega (arith, rest)
 
--- tasks hold as many pages as blocks
-pub held_is : (identity : Identity) (tasks : List Held) → AllByRecursion (IsKept identity) tasks → held_pages tasks ≡ total_blocks tasks
-held_is identity [] all = refl
+-- tasks hold as many pages as blocks, and at most one more each
+pub held_is : (identity : Identity) (tasks : List Held) → AllByRecursion (IsKept identity) tasks → held_pages tasks ≤ total_blocks tasks + length tasks
+held_is identity [] all = omega arith
 held_is identity (h ∷ tasks) all =
     let here = all.0.pages in
+    let one = entries_few h.entry.command identity.queued_trim in
     let rest = held_is identity tasks all.1 in
-    omega (arith, here, rest)
+    omega (arith, here, one, rest)
 
 pub reply_pages-append : (xs ys : List Reply) → reply_pages (xs ++ ys) ≡ reply_pages xs + reply_pages ys
 reply_pages-append [] ys = omega arith
@@ -121,7 +124,7 @@ alike_kept identity [] [] alike kept = tt
 alike_kept identity [] (h ∷ new) alike kept = absurd alike
 alike_kept identity (k ∷ old) [] alike kept = absurd alike
 alike_kept identity (k ∷ old) (h ∷ new) alike kept =
-    (subst (IsKept identity) (sym alike.0.stays) (record { pages = alike.0.size ∙ kept.0.pages; task = kept.0.task; kind = kept.0.kind; change = kept.0.change; expected = kept.0.expected }), alike_kept identity old new alike.1 kept.1)
+    (subst (IsKept identity) (sym alike.0.stays) (record { pages = alike.0.size ∙ kept.0.pages; trims = kept.0.trims; task = kept.0.task; kind = kept.0.kind; change = kept.0.change; expected = kept.0.expected }), alike_kept identity old new alike.1 kept.1)
 
 pub alike_held : (old new : List Held) → AreAlike old new → held_pages new ≡ held_pages old
 alike_held [] [] alike = refl

@@ -20,6 +20,7 @@ pub mod OpeningLemmas
 pub mod TurningLemmas
 pub mod FlushedLemmas
 pub mod RefillLemmas
+pub mod UnmapLemmas
 pub mod ValidLemmas
 pub mod EndingLemmas
 pub mod OverlapLemmas

@@ -37,7 +37,7 @@ places_same : (i n : ℕ) (f g : ℕ → ℕ) → ((p : ℕ) → p < i + n → f
 places_same i zero f g same = refl
 places_same i (suc n) f g same = ap (λ x. x ∷ places (i + 1) n f) (same i (omega arith)) ∙ ap (λ l. g i ∷ l) (places_same (i + 1) n f g (λ p below. same p (omega (arith, below))))
 
-number_same : (place n limit : ℕ) (a b : List Block) → Agree limit a b → place + n ≤ limit → number_at place n a ≡ number_at place n b
+pub number_same : (place n limit : ℕ) (a b : List Block) → Agree limit a b → place + n ≤ limit → number_at place n a ≡ number_at place n b
 number_same place n limit a b agree room = rw (places_same place n (byte_at a) (byte_at b) (λ p below. agree p (omega (arith, below, room)))) refl
 
 -- ---- before the pages

@@ -47,7 +47,7 @@ ended_writable entry ending descriptor few expected =
 pub kept_few : (identity : Identity) (tasks : List Held) → AllByRecursion (IsKept identity) tasks → AllByRecursion (λ h. length h.entry.body ≤ 4096) tasks
 kept_few identity [] all = tt
 kept_few identity (h ∷ tasks) all =
-    let few = task_few identity.capacity h.entry.blocks h.entry.command all.0.task in
+    let few = task_few identity.capacity h.entry.blocks identity.queued_trim h.entry.command all.0.task in
     (omega (arith, all.0.pages, few), kept_few identity tasks all.1)
 
 -- a reply that was pushed and those behind it can be written
@@ -72,4 +72,4 @@ pub one_pages : (given all : List Reply) (r : Reply) → given ≡ [] → all �
 one_pages given all r none push = let whole = all_pages given all all [] r none push (sym (append-nil all)) in omega (arith, whole)
 
 pub entry_few : (identity : Identity) (entry : Entry) → IsKeptEntry identity entry → length entry.body ≤ 4096
-entry_few identity entry kept = let few = task_few identity.capacity entry.blocks entry.command kept.task in omega (arith, few, kept.pages)
+entry_few identity entry kept = let few = task_few identity.capacity entry.blocks identity.queued_trim entry.command kept.task in omega (arith, few, kept.pages)

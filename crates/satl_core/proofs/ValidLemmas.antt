@@ -318,7 +318,7 @@ wanted_look identity modes wanted change has is wants valid may none = ap (λ (m
 
 after_valid : (identity : Identity) (n : ℕ) (command : Command) (ending : Ending) (modes wanted : Modes) → IsTask identity.capacity command n → AreModesOf identity modes → AreModesOf identity wanted → AreModesOf identity (modes_after command ending modes wanted)
 after_valid identity n command ending modes wanted t old new =
-    of_task (λ c. AreModesOf identity (modes_after c ending modes wanted)) identity.capacity n command (λ form lba count fua t. old) (λ form lba count fua t. old) (λ form lba count none. old) (λ start no_flush none. old) (λ ten size none. by ending) t
+    of_task (λ c. AreModesOf identity (modes_after c ending modes wanted)) identity.capacity n command (λ form lba count fua t. old) (λ form lba count fua t. old) (λ form lba count none. old) (λ start no_flush none. old) (λ ten size none. by ending) (λ form lba count t. old) (λ form lba count t. old) (λ form lba count unmap t. old) (λ size t. old) t
   where
     by : (e : Ending) → AreModesOf identity (where_done e wanted modes)
     by endings.Good = new

@@ -1,14 +1,16 @@
 -- What the layer holds, and the direct device that it and its drive are.
-use Rattle.std.specs.Prelude.{◌≡◌, ℕ, ◌+◌, ◌≤◌, ◌<◌, ◌^◌, ◌&&◌, Bool, false, not, List, [], ◌∷◌, map, length, Option, IfSome, MatchBool}
+use Rattle.std.specs.Prelude.{◌≡◌, ℕ, ◌+◌, ◌≤◌, ◌<◌, ◌^◌, ◌&&◌, Bool, true, false, not, if◌then◌else◌, List, [], ◌∷◌, map, length, Option, IfSome, MatchBool}
 use Rattle.std.specs.List.{AllByRecursion}
+use Rattle.satl_base.specs.declared.block.Range.{Range}
 use Rattle.satl_base.specs.declared.modes.Modes.{Modes}
 use Rattle.satl_base.specs.declared.reply.Reply.{Reply}
-use Rattle.satl_base.specs.Limits.{longest_data, most_moved}
+use Rattle.satl_base.specs.Limits.{longest_data, most_covered, most_moved}
 use Rattle.satl_cdb.specs.declared.command.Command.{Command}
 use Rattle.satl_cdb.specs.declared.command.Command.TheVariants.{Flush, Inquiry, ModeSelect, ModeSense, Pass, Read, ReadCapacity10, ReadCapacity16, ReportLuns, RequestSense, StartStop, TestUnitReady, Unmap, Verify, Write, WriteSame}
 use Rattle.satl_identify.specs.declared.identity.Identity.{Identity}
 use Rattle.satl_identify.specs.Refusals.{IsIdentity}
 use Rattle.satl_mode.specs.Changes.{IsChangeOf}
+use Rattle.satl_regs.specs.Trim.{IsTrimList}
 use Rattle.satl_line.specs.Kinds.{kind_of}
 use Rattle.satl_line.specs.Tasks.{Held, entries_of}
 use Rattle.satl_pages.specs.Counts.{Counts, number_of}
@@ -20,7 +22,7 @@ use Rattle.satl_flight.specs.Settled.{IsFilled}
 use Rattle.satl_unit.specs.declared.attention.Attention.{Attention}
 use Rattle.satl_barrier.specs.Leaving.{TellsOf}
 use Rattle.satl_direct.specs.Device.{Device}
-use Rattle.satl_direct.specs.Tasks.{task_of}
+use Rattle.satl_direct.specs.Tasks.{over, task_of}
 use Rattle.satl_direct.specs.Valid.{IsValid}
 
 -- the layer: what its drive says of itself, the mode values, whether the unit is started, its mark of a lost link, the unit attention
@@ -43,8 +45,7 @@ abbrev pub held_pages : List Held → ℕ
 held_pages [] = 0
 held_pages (h ∷ hs) = length h.entry.body + held_pages hs
 
--- the commands that are served so far: those that the device answers from what it says of itself, READ, WRITE, SYNCHRONIZE CACHE, START
--- STOP UNIT and MODE SELECT (profile)
+-- the commands that are served so far: all but ATA PASS-THROUGH (profile)
 abbrev pub IsServed : Command → Type 0
 IsServed TestUnitReady = Unit {0}
 IsServed (RequestSense descriptor alloc) = Unit {0}
@@ -57,18 +58,25 @@ IsServed (ReadCapacity16 alloc) = Unit {0}
 IsServed (ReportLuns select alloc) = Unit {0}
 IsServed (Read form lba count fua) = Unit {0}
 IsServed (Write form lba count fua) = Unit {0}
-IsServed (Verify form lba count compare) = ⊥
+IsServed (Verify form lba count compare) = Unit {0}
 IsServed (Flush form lba count) = Unit {0}
-IsServed (WriteSame form lba count unmap) = ⊥
-IsServed (Unmap size) = ⊥
+IsServed (WriteSame form lba count unmap) = Unit {0}
+IsServed (Unmap size) = Unit {0}
 IsServed (Pass cdb) = ⊥
 
 -- 1 to 4,096 blocks within the capacity and the 48 bits of an address, and pages for each (profile)
 abbrev pub IsWithin : ℕ → ℕ → ℕ → ℕ → Type 0
 IsWithin capacity lba count blocks = (blocks ≡ count) × (lba < 2 ^ 48) × (1 ≤ count) × (count ≤ most_moved) × (lba + count ≤ capacity)
 
--- a command that makes a task, which holds so many blocks: a READ or a WRITE of its blocks, and MODE SELECT, SYNCHRONIZE CACHE and START
--- STOP UNIT of none (profile)
+-- 1 to 65,536 blocks within the capacity and the 48 bits of an address (profile)
+pub record IsCovered (capacity lba count : ℕ) : Type 0 where
+  pub some : 1 ≤ count
+  pub most : count ≤ most_covered
+  pub address : lba + count ≤ 2 ^ 48
+  pub within : lba + count ≤ capacity
+
+-- a command that makes a task, which holds so many blocks: READ, WRITE and VERIFY with comparison their blocks, WRITE SAME its one, and all
+-- others none (profile)
 abbrev pub IsTask : ℕ → Command → ℕ → Type 0
 IsTask capacity TestUnitReady blocks = ⊥
 IsTask capacity (RequestSense descriptor alloc) blocks = ⊥
@@ -81,20 +89,39 @@ IsTask capacity (ReadCapacity16 alloc) blocks = ⊥
 IsTask capacity (ReportLuns select alloc) blocks = ⊥
 IsTask capacity (Read form lba count fua) blocks = IsWithin capacity lba count blocks
 IsTask capacity (Write form lba count fua) blocks = IsWithin capacity lba count blocks
-IsTask capacity (Verify form lba count compare) blocks = ⊥
+IsTask capacity (Verify form lba count false) blocks = (blocks ≡ 0) × IsCovered capacity lba count
+IsTask capacity (Verify form lba count true) blocks = IsWithin capacity lba count blocks
 IsTask capacity (Flush form lba count) blocks = blocks ≡ 0
-IsTask capacity (WriteSame form lba count unmap) blocks = ⊥
-IsTask capacity (Unmap size) blocks = ⊥
+IsTask capacity (WriteSame form lba count unmap) blocks = (blocks ≡ 1) × IsCovered capacity lba count
+IsTask capacity (Unmap size) blocks = (blocks ≡ 0) × (size < 65536)
 IsTask capacity (Pass cdb) blocks = ⊥
 
 -- a number of bytes that a host may take: at most 2,097,152 (profile)
 abbrev pub IsExpectable : Option ℕ → Type 0
 IsExpectable expected = IfSome expected (λ count. count ≤ longest_data)
 
--- a task holds as many pages as blocks, is one that its command makes, is of the kind of its command, and changes mode values alone that
--- the drive can change (profile)
+-- the pages that a task holds beside those of its blocks: one for the entries of an UNMAP whose trim is queued (profile)
+abbrev pub entry_pages : Command → Bool → ℕ
+entry_pages (Unmap size) queued_trim = if queued_trim then 1 else 0
+entry_pages _ queued_trim = 0
+
+-- ranges that a drive with trim takes in one block of entries (ACS-3, DATA SET MANAGEMENT)
+pub record AreTrimmed (identity : Identity) (ranges : List Range) : Type 0 where
+  pub has : identity.trim ≡ true
+  pub list : IsTrimList ranges
+  pub within : AllByRecursion (λ range. range.lba + range.count ≤ identity.capacity) ranges
+
+-- what a task trims can be trimmed (SBC-3 5.28, 5.42)
+abbrev pub CanTrim : Identity → Command → List Range → Type 0
+CanTrim identity (WriteSame form lba count true) ranges = AreTrimmed identity (over lba count ∷ [])
+CanTrim identity (Unmap size) ranges = AreTrimmed identity ranges
+CanTrim identity _ ranges = Unit {0}
+
+-- a task holds as many pages as blocks, and one for entries where it needs it, is one that its command makes, is of the kind of its command,
+-- trims what can be trimmed, and changes mode values alone that the drive can change (profile)
 pub record IsKept (identity : Identity) (h : Held) : Type 0 where
-  pub pages : length h.entry.body ≡ h.entry.blocks
+  pub pages : length h.entry.body ≡ h.entry.blocks + entry_pages h.entry.command identity.queued_trim
+  pub trims : CanTrim identity h.entry.command h.entry.ranges.items
   pub task : IsTask identity.capacity h.entry.command h.entry.blocks
   pub kind : h.entry.kind ≡ kind_of h.entry.command identity.queued_trim
   pub change : IfSome h.entry.modes (IsChangeOf identity)

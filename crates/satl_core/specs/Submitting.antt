@@ -1,6 +1,7 @@
 -- What the layer is asked with, and what becomes of it.
-use Rattle.std.specs.Prelude.{◌≡◌, ◌⊎◌, ℕ, ◌*◌, ◌+◌, ◌≤◌, ◌<◌, ◌==◌, ◌||◌, ◌&&◌, not, nat_lt, Bool, if◌then◌else◌, Option, Some, None, Result, Ok, Err, List, [], ◌∷◌, ◌++◌, length, map, take, drop, is_some, slice_get, slice_index, slice_index_or, slice_set, MatchBool}
-use Rattle.std.specs.List.{position_from}
+use Rattle.std.specs.Prelude.{◌≡◌, ◌⊎◌, ℕ, ◌*◌, ◌+◌, ◌≤◌, ◌<◌, ◌==◌, ◌||◌, ◌&&◌, not, nat_lt, Bool, true, false, if◌then◌else◌, Option, Some, None, Result, Ok, Err, List, [], ◌∷◌, ◌++◌, length, map, take, drop, is_some, slice_get, slice_index, slice_index_or, slice_set, MatchBool}
+use Rattle.std.specs.List.{list_all, position_from}
+use Rattle.satl_base.specs.declared.block.Block.{Block}
 use Rattle.satl_base.specs.declared.request.Request.{Request}
 use Rattle.satl_base.specs.declared.reply.Reply.{Reply}
 use Rattle.satl_base.specs.declared.reply.Scsi.TheVariants as statuses
@@ -10,9 +11,12 @@ use Rattle.satl_base.specs.declared.modes.Modes.{Modes}
 use Rattle.satl_cdb.specs.declared.command.Command.{Command}
 use Rattle.satl_cdb.specs.declared.command.Command.TheVariants as commands
 use Rattle.satl_cdb.specs.declared.command.Illegal.{Illegal}
+use Rattle.satl_cdb.specs.Refusals.{invalid_field}
 use Rattle.satl_cdb.specs.Table.{says}
+use Rattle.satl_cdb.specs.Unmap as unmap
 use Rattle.satl_identify.specs.declared.identity.Identity.{Identity}
 use Rattle.satl_sense.specs.declared.sense.Sense.{Sense}
+use Rattle.satl_regs.specs.Trim.{trim_block}
 use Rattle.satl_line.specs.declared.entry.Entry.{Entry}
 use Rattle.satl_unit.specs.declared.attention.Attention.{Attention}
 use Rattle.satl_direct.specs.Arrival.{asks_for, built, code_of, is_unit_0, reply_to, told, untold_codes}
@@ -56,25 +60,31 @@ readiness l =
     else if not l.started then at_once.Check not_ready
     else at_once.Good
 
--- a command whose fields, range and data-out are good: answered from what the device says of itself, or it may become a task; a READ
--- and a WRITE of no block answer as TEST UNIT READY does (profile); REQUEST SENSE has nothing to tell (SPC-4 6.39)
-abbrev pub answer_to : Layer → Command → Result Command AtOnce
-answer_to l commands.TestUnitReady = Err (readiness l)
-answer_to l (commands.RequestSense descriptor alloc) = Err (at_once.Tell (datas.Sense descriptor no_sense) alloc)
-answer_to l (commands.Inquiry page alloc) = Err (at_once.Tell (datas.Inquiry page) alloc)
-answer_to l (commands.ModeSense ten long_lba no_descriptor control page alloc) = Err (at_once.Tell (datas.Modes ten long_lba no_descriptor control page) alloc)
-answer_to l commands.ReadCapacity10 = Err (at_once.Tell datas.Capacity10 8)
-answer_to l (commands.ReadCapacity16 alloc) = Err (at_once.Tell datas.Capacity16 alloc)
-answer_to l (commands.ReportLuns select alloc) = Err (at_once.Tell (datas.Luns select) alloc)
-answer_to l (commands.Read form lba count fua) = if count == 0 then Err (readiness l) else Ok (commands.Read form lba count fua)
-answer_to l (commands.Write form lba count fua) = if count == 0 then Err (readiness l) else Ok (commands.Write form lba count fua)
-answer_to l (commands.ModeSelect ten size) = if size == 0 then Err (readiness l) else Ok (commands.ModeSelect ten size)
-answer_to l (commands.StartStop start no_flush) = Ok (commands.StartStop start no_flush)
-answer_to l (commands.Verify form lba count compare) = Err (at_once.Check unknown_operation)
-answer_to l (commands.Flush form lba count) = Ok (commands.Flush form lba count)
-answer_to l (commands.WriteSame form lba count unmap) = Err (at_once.Check unknown_operation)
-answer_to l (commands.Unmap size) = Err (at_once.Check unknown_operation)
-answer_to l (commands.Pass cdb) = Err (at_once.Check unknown_operation)
+-- whether a command has nothing to do: it goes over no block, or its list is empty or names none (profile)
+abbrev pub is_idle : Command → List Block → Bool
+is_idle (commands.Read form lba count fua) body = count == 0
+is_idle (commands.Write form lba count fua) body = count == 0
+is_idle (commands.Verify form lba count compare) body = count == 0
+is_idle (commands.ModeSelect ten size) body = size == 0
+is_idle (commands.Unmap size) body = (size == 0) || (length (unmap.ranges_of body) == 0)
+is_idle _ body = false
+
+-- one that has nothing to do answers as TEST UNIT READY does, and any other may become a task (profile)
+abbrev pub unless_idle : Layer → List Block → Command → Result Command AtOnce
+unless_idle l body command = if is_idle command body then Err (readiness l) else Ok command
+
+-- a command whose fields, range and data-out are good: answered from what the device says of itself, or it may become a task (profile);
+-- REQUEST SENSE has nothing to tell (SPC-4 6.39)
+abbrev pub answer_to : Layer → List Block → Command → Result Command AtOnce
+answer_to l body commands.TestUnitReady = Err (readiness l)
+answer_to l body (commands.RequestSense descriptor alloc) = Err (at_once.Tell (datas.Sense descriptor no_sense) alloc)
+answer_to l body (commands.Inquiry page alloc) = Err (at_once.Tell (datas.Inquiry page) alloc)
+answer_to l body (commands.ModeSense ten long_lba no_descriptor control page alloc) = Err (at_once.Tell (datas.Modes ten long_lba no_descriptor control page) alloc)
+answer_to l body commands.ReadCapacity10 = Err (at_once.Tell datas.Capacity10 8)
+answer_to l body (commands.ReadCapacity16 alloc) = Err (at_once.Tell datas.Capacity16 alloc)
+answer_to l body (commands.ReportLuns select alloc) = Err (at_once.Tell (datas.Luns select) alloc)
+answer_to l body (commands.Pass cdb) = Err (at_once.Check unknown_operation)
+answer_to l body command = unless_idle l body command
 
 -- refused with this, if there is something, and else what follows (SPC-4 4.5.6)
 abbrev pub unless_refused : Option Illegal → Result Command AtOnce → Result Command AtOnce
@@ -85,8 +95,9 @@ unless_refused (Some why) next = Err (at_once.Check (refusal why))
 abbrev pub command_answer : Layer → Request → Command → Result Command AtOnce
 command_answer l r command =
     if nat_lt l.identity.capacity ((range_of command).lba + (range_of command).count) then Err (at_once.Check out_of_range)
-    else if nat_lt r.data_len (needed command) then Err (at_once.Check short_data)
-    else unless_refused ((asks command).data_fault l.identity l.modes r.body) (answer_to l command)
+    else unless_refused (asks command).length_fault
+        (if nat_lt r.data_len (needed command) then Err (at_once.Check short_data)
+        else unless_refused ((asks command).data_fault l.identity l.modes r.body) (answer_to l r.body command))
 
 -- the fields, and then the command (profile)
 abbrev pub cdb_answer : Layer → Request → Result Command Illegal → Result Command AtOnce
@@ -106,6 +117,41 @@ HoldsList r = (r.data_len ≤ 512 * length r.body) ⊎ (65536 ≤ 512 * length r
 -- the bytes of a CDB that tell the length of a parameter list are bytes (SPC-4, MODE SELECT commands)
 abbrev pub HasLengths : List ℕ → Type 0
 HasLengths cdb = (slice_index cdb 4 < 256) × (slice_index cdb 7 < 256) × (slice_index cdb 8 < 256)
+
+-- a list of an UNMAP that has no fault: its header, its bytes in the pages, and its descriptors (SBC-3 5.28)
+pub record IsList (body : List Block) (size capacity : ℕ) : Type 0 where
+  pub header : 8 ≤ size
+  pub whole : size ≤ 512 * length body
+  pub sound : unmap.list_fault body size capacity ≡ None
+
+-- the list of an UNMAP has no fault (SBC-3 5.28)
+abbrev pub HasList : Command → List Block → ℕ → Type 0
+HasList (commands.Unmap size) body capacity = IsList body size capacity
+HasList _ body capacity = Unit {0}
+
+-- the same, or it is empty (SBC-3 5.28)
+abbrev pub HasListUnlessEmpty : Command → List Block → ℕ → Type 0
+HasListUnlessEmpty (commands.Unmap size) body capacity = (size ≡ 0) ⊎ IsList body size capacity
+HasListUnlessEmpty _ body capacity = Unit {0}
+
+-- the refusal of a list of an UNMAP, if it is not empty (SBC-3 5.28)
+abbrev pub unmap_list_fault : List Block → ℕ → ℕ → Option Illegal
+unmap_list_fault body size capacity = if size == 0 then None else unmap.list_fault body size capacity
+
+-- the refusal of the block of a WRITE SAME that unmaps: it has to be zeros (SBC-3 5.42; profile)
+abbrev pub fault_of_block : Block → Option Illegal
+fault_of_block block = if list_all (λ byte. byte == 0) block.bytes then None else Some (invalid_field 1)
+
+-- whether a command trims: an UNMAP, and a WRITE SAME that unmaps (SBC-3 5.28, 5.42)
+abbrev pub trims : Command → Bool
+trims (commands.Unmap size) = true
+trims (commands.WriteSame form lba count unmap) = unmap
+trims _ = false
+
+-- an UNMAP whose trim is queued has the entries of its list in its page (ACS-3, SEND FPDMA QUEUED)
+abbrev pub HasEntries : Command → Bool → List Block → List Block → Type 0
+HasEntries (commands.Unmap size) true list pages = pages ≡ record { bytes = trim_block (unmap.ranges_of list) } ∷ []
+HasEntries _ queued_trim list pages = Unit {0}
 
 -- whether a task has the nexus and tag of a request (SAM-5 5.1, overlapped commands)
 abbrev pub overlaps : List Held → Request → Bool

@@ -1,22 +1,22 @@
 // What becomes of a request, judged in the order of the steps.
-ghost use Rattle.std.specs.Prelude.{◌≡◌, ◌⊎◌, ◌≤◌, ◌+◌, ◌*◌, List, length, nat_lt};
+ghost use Rattle.std.specs.Prelude.{◌≡◌, ◌⊎◌, ◌≤◌, ◌+◌, ◌*◌, ◌∷◌, [], List, length, nat_lt};
 ghost use Rattle.satl_base.specs.Lists.{is_in};
 ghost use Rattle.satl_direct.specs.Arrival.{built, is_unit_0, untold_codes};
 ghost use Rattle.satl_direct.specs.Senses.{attention_sense, plain, refusal};
 ghost use Rattle.satl_base.specs.declared.block.Block.{Block};
 ghost use Rattle.satl_direct.specs.Tasks.{asks, held_blocks, is_ordered, needed, range_of};
+ghost use Rattle.satl_cdb.specs.Unmap as unmap;
 ghost use Rattle.satl_core.specs.Layer.{IsServed};
-ghost use Rattle.satl_core.specs.Submitting.{is_for_unit};
+ghost use Rattle.satl_core.specs.Submitting.{HasList, IsList, is_for_unit};
 
 use arrayvec::ArrayVec;
 use satl_base::{Attr, ModeChange, Pages, Range, Request};
-use satl_cdb::{Command, Illegal};
+use satl_cdb::{Command, Illegal, read_unmap_list};
 use satl_mode::select_change;
 use satl_sense::{Extra, Sense};
 use satl_unit::Attention;
 
-/// The operation codes that are served so far: TEST UNIT READY, REQUEST SENSE, INQUIRY, MODE SENSE, READ CAPACITY and REPORT
-/// LUNS, READ and WRITE in each form, START STOP UNIT, and MODE SELECT and SYNCHRONIZE CACHE in each form.
+/// The operation codes that are served so far: all of the table but ATA PASS-THROUGH.
 pub fn is_built(code: u8) -> bool
     ensures { result ≡ is_in code built }
 {
@@ -32,16 +32,22 @@ pub fn is_built(code: u8) -> bool
             | 0x25
             | 0x28
             | 0x2A
+            | 0x2F
             | 0x35
+            | 0x41
+            | 0x42
             | 0x55
             | 0x5A
             | 0x88
             | 0x8A
+            | 0x8F
             | 0x91
+            | 0x93
             | 0x9E
             | 0xA0
             | 0xA8
             | 0xAA
+            | 0xAF
     )
 }
 
@@ -82,11 +88,11 @@ pub fn range_of(command: &Command) -> Range
     ensures { result ≡ range_of command.now }
 {
     match *command {
-        Command::Read { lba, count, .. } | Command::Write { lba, count, .. } => Range {
-            lba,
-            count,
-        },
-        Command::Flush { lba, count, .. } => Range { lba, count },
+        Command::Read { lba, count, .. }
+        | Command::Write { lba, count, .. }
+        | Command::Verify { lba, count, .. }
+        | Command::Flush { lba, count, .. }
+        | Command::WriteSame { lba, count, .. } => Range { lba, count },
         _ => Range { lba: 0, count: 0 },
     }
 }
@@ -97,21 +103,62 @@ pub fn held_blocks(command: &Command) -> u32
     ensures { result ≡ held_blocks command.now }
 {
     match *command {
-        Command::Read { count, .. } | Command::Write { count, .. } => count,
+        Command::Read { count, .. }
+        | Command::Write { count, .. }
+        | Command::Verify {
+            compare: true,
+            count,
+            ..
+        } => count,
+        Command::WriteSame { .. } => 1,
         _ => 0,
     }
 }
 
-/// The ranges that the task of a command reads or writes.
-pub fn ranges_of(command: &Command) -> ArrayVec<Range, 64>
-    requires { IsServed command.now }
-    ensures { (body : List Block) → result.items ≡ (asks command.now).ranges body }
+/// The ranges that the task of a command reads, writes or trims: that of a READ or a WRITE, and those of the list of an UNMAP, which has
+/// no fault on a medium of this capacity (SBC-3 5.28).
+pub fn ranges_of(command: &Command, body: &Pages, capacity: u64) -> ArrayVec<Range, 64>
+    requires served { IsServed command.now }
+    requires list { HasList command.now body.now capacity }
+    ensures { result.items ≡ (asks command.now).ranges body.now }
+{
+    match *command {
+        Command::Read { lba, count, .. } | Command::Write { lba, count, .. } => {
+            one_range(Range { lba, count })
+        }
+        Command::Unmap { length } => listed_ranges(body, length, capacity),
+        _ => ArrayVec::new(),
+    }
+}
+
+fn one_range(range: Range) -> ArrayVec<Range, 64>
+    ensures { result.items ≡ range ∷ [] }
 {
     let mut ranges = ArrayVec::new();
-    if let Command::Read { lba, count, .. } | Command::Write { lba, count, .. } = *command {
-        ranges.push(Range { lba, count });
-    }
+    ranges.push(range);
     ranges
+}
+
+/// The ranges of the list of an UNMAP that has no fault on a medium of this capacity (SBC-3 5.28).
+pub fn listed_ranges(list: &Pages, length: u16, capacity: u64) -> ArrayVec<Range, 64>
+    requires { IsList list.now length capacity }
+    ensures { result.items ≡ unmap.ranges_of list.now }
+{
+    let Ok(ranges) = read_unmap_list(list, length, capacity) else {
+        unreachable!();
+    };
+    ranges
+}
+
+/// The refusal of the length of a parameter list: that of an UNMAP is 0, or has its header of 8 bytes (SBC-3 5.28).
+pub fn length_fault(command: &Command) -> Option<Illegal>
+    requires { IsServed command.now }
+    ensures { result ≡ (asks command.now).length_fault }
+{
+    match *command {
+        Command::Unmap { length: 1..=7 } => Some(Illegal::list_length_error()),
+        _ => None,
+    }
 }
 
 /// The bytes of data-out that a command needs.
@@ -120,8 +167,14 @@ pub fn needed(command: &Command) -> u64
     ensures { result ≡ needed command.now }
 {
     match *command {
-        Command::Write { count, .. } => 512 * u64::from(count),
-        Command::ModeSelect { length, .. } => u64::from(length),
+        Command::Write { count, .. }
+        | Command::Verify {
+            compare: true,
+            count,
+            ..
+        } => 512 * u64::from(count),
+        Command::WriteSame { .. } => 512,
+        Command::ModeSelect { length, .. } | Command::Unmap { length } => u64::from(length),
         _ => 0,
     }
 }

@@ -17,7 +17,7 @@ ghost use Rattle.satl_direct.specs.Turn.{Turn};
 ghost use Rattle.satl_core.specs.Layer.{IsServed, IsTask, Tied, reply_pages, view};
 ghost use Rattle.satl_core.specs.Opening.{IsCause, IsOpened, IsUndisturbed};
 ghost use Rattle.satl_core.specs.Refilling.{AreKept, Comes};
-ghost use Rattle.satl_core.specs.Submitting.{Becomes, CanSubmit, HasLengths, HoldsList, IsCutOf, arrival_calls, is_overlapping, judged, once_judged};
+ghost use Rattle.satl_core.specs.Submitting.{Becomes, CanSubmit, HasLengths, HasList, HoldsList, IsCutOf, arrival_calls, is_overlapping, judged, once_judged, trims};
 ghost use Rattle.satl_mode.specs.Changes.{AreModesOf, IsChangeOf};
 ghost use Rattle.satl_line.specs.Tasks.{total_blocks};
 ghost use Rattle.satl_base.specs.Limits.{most_held, most_tasks};
@@ -194,7 +194,7 @@ impl Satl {
     /// parameter list needs of them.
     fn overlaps(&self, request: &Request) -> bool
         ensures value { result ≡ is_overlapping self.now.tasks request.now }
-        ensures holds { CanSubmit request.now self.now.free self.now.out → total_blocks self.now.tasks ≤ most_held → HoldsList request.now }
+        ensures holds { CanSubmit request.now self.now.free self.now.out → total_blocks self.now.tasks ≤ most_held → length self.now.tasks ≤ most_tasks → HoldsList request.now }
     {
         is_for_unit(request) && self.queue.find(request.nexus, request.tag).is_some()
     }
@@ -246,6 +246,8 @@ impl Satl {
         ensures lengths { HasLengths request.now.cdb }
         ensures served { IfOk result (λ command. IsServed command) }
         ensures task { IfOk result (λ command. IsTask self.old.identity.capacity command (held_blocks command)) }
+        ensures list { IfOk result (λ command. HasList command request.now.body self.old.identity.capacity) }
+        ensures trims { IfOk result (λ command. trims command ≡ true → self.old.identity.trim ≡ true) }
         ensures change { AreModesOf self.old.identity self.old.modes → IfOk result (λ command. IfSome ((asks command).change request.now.body) (IsChangeOf self.old.identity)) }
     {
         read_lengths(request);
@@ -261,9 +263,12 @@ impl Satl {
     /// A command becomes a task, or the task set is full.
     fn add_task(&mut self, request: Request, command: Command, replies: &mut Replies)
         requires can { CanSubmit request self.old.free self.old.out }
+        requires few { length self.old.tasks ≤ most_tasks }
         requires judged { judged self.old request ≡ Ok command }
         requires served { IsServed command }
         requires holds { HoldsList request }
+        requires list { HasList command request.body self.old.identity.capacity }
+        requires trims { trims command ≡ true → self.old.identity.trim ≡ true }
         requires change { IfSome ((asks command).change request.body) (IsChangeOf self.old.identity) }
         requires task { IsTask self.old.identity.capacity command (held_blocks command) }
         requires empty { replies.old ≡ [] }
@@ -271,13 +276,13 @@ impl Satl {
         ensures comes { replies.new ≡ [] → Comes self.old.identity.capacity self.old.tasks self.new.tasks }
         ensures long { replies.new ≡ [] → needed command ≤ 512 * length request.body }
     {
-        let task = task_without_pages(&request, command, self.identity.queued_trim);
+        let task = task_without_pages(&request, command, &self.identity);
         if self.queue.add(task).is_err() {
             replies.push(reply_to(&request, Scsi::TaskSetFull, SenseBytes::new()));
             self.pool.give(request.body);
             return;
         }
-        let body = own_pages(&mut self.pool, &command, request.body);
+        let body = own_pages(&mut self.pool, &command, &self.identity, request.body);
         self.queue.fill_last(body);
     }
 

@@ -1,26 +1,28 @@
 // A command arrives.
-ghost use Rattle.std.specs.Prelude.{◌≡◌, ◌≤◌, ◌+◌, ◌*◌, ◌∷◌, [], length, take, ◌⊎◌};
-ghost use Rattle.std.specs.List.{AllByRecursion};
+ghost use Rattle.std.specs.Prelude.{◌≡◌, ◌≤◌, ◌+◌, ◌*◌, ◌==◌, ◌∷◌, [], None, true, length, take, ◌⊎◌};
+ghost use Rattle.std.specs.List.{AllByRecursion, list_all};
 ghost use Rattle.satl_frame.specs.Output.{IsWritable};
 ghost use Rattle.satl_direct.specs.Arrival.{reply_to};
+ghost use Rattle.satl_identify.specs.Refusals.{IsIdentity};
 ghost use Rattle.satl_mode.specs.SelectList.{select_fault};
 ghost use Rattle.satl_direct.specs.Tasks.{asks, data_out, held_blocks, needed};
-ghost use Rattle.satl_core.specs.Layer.{IsExpectable, IsServed, reply_pages};
-ghost use Rattle.satl_core.specs.Submitting.{HasLengths, HoldsList, answer_to, attention_of, code_answer, command_answer, other_answer, readiness, reply_at_once, sense_data, task_without_pages, tell_attention, untold};
+ghost use Rattle.satl_core.specs.Layer.{IsExpectable, IsServed, entry_pages, reply_pages};
+ghost use Rattle.satl_core.specs.Submitting.{HasEntries, HasLengths, HasList, HasListUnlessEmpty, HoldsList, answer_to, attention_of, code_answer, command_answer, fault_of_block, is_idle, other_answer, readiness, reply_at_once, sense_data, task_without_pages, tell_attention, trims, unless_idle, unmap_list_fault, untold};
 
 use crate::arrival::{
-    attention_sense, change_of, held_blocks, is_built, is_ordered, is_outside, is_untold, needed,
-    plain, range_of, ranges_of, refusal,
+    attention_sense, change_of, held_blocks, is_built, is_ordered, is_outside, is_untold,
+    length_fault, listed_ranges, needed, plain, range_of, ranges_of, refusal,
 };
 use crate::satl::Satl;
 use crate::telling::{Data, data_text, told};
 use arrayvec::ArrayVec;
-use satl_base::{Modes, Pages, Replies, Reply, Request, Scsi, SenseBytes};
-use satl_cdb::{Command, Illegal, read_cdb};
+use satl_base::{Block, Modes, Pages, Replies, Reply, Request, Scsi, SenseBytes};
+use satl_cdb::{Command, Illegal, read_cdb, read_unmap_list};
 use satl_identify::Identity;
 use satl_line::{Entry, Kind};
 use satl_mode::read_select;
 use satl_pages::Pool;
+use satl_regs::trim_bytes;
 use satl_sense::{Sense, sense_bytes};
 use satl_unit::{Attention, Attentions};
 use std::mem;
@@ -120,25 +122,64 @@ fn judge_command(satl: &Satl, request: &Request, command: Command) -> Result<Com
     if is_outside(range, satl.identity.capacity) {
         return Err(AtOnce::Check(plain(0x5, 0x21, 0x00)));
     }
+    if let Some(why) = length_fault(&command) {
+        return Err(AtOnce::Check(refusal(why)));
+    }
     if u64::from(request.data_len) < needed(&command) {
         return Err(AtOnce::Check(plain(0xB, 0x4B, 0x00)));
     }
     match data_fault(satl, request, &command) {
         Some(why) => Err(AtOnce::Check(refusal(why))),
-        None => answer_to(satl, command),
+        None => answer_to(satl, request, command),
     }
 }
 
-/// The refusal of the data-out: that of a MODE SELECT list (SPC-4, MODE SELECT commands).
+/// The refusal of the data-out: that of a MODE SELECT list, of a block that is not zeros where a WRITE SAME unmaps, and of the list of an
+/// UNMAP (SPC-4, MODE SELECT commands; SBC-3 5.28, 5.42).
 fn data_fault(satl: &Satl, request: &Request, command: &Command) -> Option<Illegal>
     requires served { IsServed command.now }
     requires holds { HoldsList request.now }
+    requires header { (asks command.now).length_fault ≡ None }
     requires long { needed command.now ≤ request.now.data_len }
     ensures { result ≡ (asks command.now).data_fault satl.now.identity satl.now.modes request.now.body }
 {
     match *command {
         Command::ModeSelect { ten, length } => list_fault(satl, request, length, ten),
+        Command::WriteSame { unmap: true, .. } => block_fault(request.body.block(0)),
+        Command::Unmap { length } => unmap_fault(&request.body, length, satl.identity.capacity),
         _ => None,
+    }
+}
+
+/// The refusal of the block of a WRITE SAME that unmaps: it has to be zeros (SBC-3 5.42; profile).
+fn block_fault(block: &Block) -> Option<Illegal>
+    ensures { result ≡ fault_of_block block.now }
+{
+    if is_zero(block) {
+        None
+    } else {
+        Some(Illegal::invalid_field(1))
+    }
+}
+
+fn is_zero(block: &Block) -> bool
+    ensures { result ≡ list_all (λ byte. byte == 0) block.now.bytes }
+{
+    block.bytes.iter().all(|byte| *byte == 0)
+}
+
+/// The refusal of the list of an UNMAP, if it is not empty (SBC-3 5.28).
+fn unmap_fault(list: &Pages, size: u16, capacity: u64) -> Option<Illegal>
+    requires header { size ≡ 0 ⊎ 8 ≤ size }
+    requires whole { size ≤ 512 * length list.now }
+    ensures { result ≡ unmap_list_fault list.now size capacity }
+{
+    if size == 0 {
+        return None;
+    }
+    match read_unmap_list(list, size, capacity) {
+        Ok(_) => None,
+        Err(why) => Some(why),
     }
 }
 
@@ -153,21 +194,15 @@ fn list_fault(satl: &Satl, request: &Request, length: u16, ten: bool) -> Option<
     }
 }
 
-/// Answers a command from what the device says of itself, or lets it become a task. READ and WRITE of no block and an
-/// empty MODE SELECT list answer as TEST UNIT READY does (profile).
-fn answer_to(satl: &Satl, command: Command) -> Result<Command, AtOnce>
-    ensures { result ≡ answer_to satl.now command }
+/// Answers a command from what the device says of itself, or lets it become a task, unless it has nothing to do: then it answers as TEST
+/// UNIT READY does (profile).
+fn answer_to(satl: &Satl, request: &Request, command: Command) -> Result<Command, AtOnce>
+    requires served { IsServed command }
+    requires list { HasListUnlessEmpty command request.now.body satl.now.identity.capacity }
+    ensures { result ≡ answer_to satl.now request.now.body command }
 {
     let (what, alloc) = match command {
-        Command::TestUnitReady
-        | Command::Read { count: 0, .. }
-        | Command::Write { count: 0, .. }
-        | Command::ModeSelect { length: 0, .. } => return Err(readiness(satl)),
-        Command::Read { .. }
-        | Command::Write { .. }
-        | Command::Flush { .. }
-        | Command::StartStop { .. }
-        | Command::ModeSelect { .. } => return Ok(command),
+        Command::TestUnitReady => return Err(readiness(satl)),
         Command::Inquiry { page, alloc } => (Data::Inquiry(page), u32::from(alloc)),
         Command::ModeSense {
             ten,
@@ -193,9 +228,38 @@ fn answer_to(satl: &Satl, command: Command) -> Result<Command, AtOnce>
         Command::ReadCapacity10 => (Data::Capacity10, 8),
         Command::ReadCapacity16 { alloc } => (Data::Capacity16, alloc),
         Command::ReportLuns { select, alloc } => (Data::Luns(select), alloc),
-        _ => return Err(AtOnce::Check(plain(0x5, 0x20, 0x00))),
+        _ => return unless_idle(satl, request, command),
     };
     Err(AtOnce::Tell { what, alloc })
+}
+
+/// A command that may become a task does, unless it has nothing to do.
+fn unless_idle(satl: &Satl, request: &Request, command: Command) -> Result<Command, AtOnce>
+    requires served { IsServed command }
+    requires list { HasListUnlessEmpty command request.now.body satl.now.identity.capacity }
+    ensures { result ≡ unless_idle satl.now request.now.body command }
+{
+    if is_idle(&command, &request.body, satl.identity.capacity) {
+        Err(readiness(satl))
+    } else {
+        Ok(command)
+    }
+}
+
+/// Whether a command has nothing to do: it goes over no block, or its list is empty or names none (profile).
+fn is_idle(command: &Command, body: &Pages, capacity: u64) -> bool
+    requires served { IsServed command.now }
+    requires list { HasListUnlessEmpty command.now body.now capacity }
+    ensures { result ≡ is_idle command.now body.now }
+{
+    match *command {
+        Command::Read { count, .. }
+        | Command::Write { count, .. }
+        | Command::Verify { count, .. } => count == 0,
+        Command::ModeSelect { length, .. } => length == 0,
+        Command::Unmap { length } => length == 0 || listed_ranges(body, length, capacity).is_empty(),
+        _ => false,
+    }
 }
 
 fn readiness(satl: &Satl) -> AtOnce
@@ -211,18 +275,19 @@ fn readiness(satl: &Satl) -> AtOnce
 }
 
 /// The task that a request becomes, still without its pages.
-pub fn task_without_pages(request: &Request, command: Command, queued_trim: bool) -> Entry
+pub fn task_without_pages(request: &Request, command: Command, identity: &Identity) -> Entry
     requires served { IsServed command }
+    requires list { HasList command request.now.body identity.now.capacity }
     requires holds { needed command ≤ 512 * length request.now.body ⊎ needed command ≤ 512 * held_blocks command }
-    ensures { result ≡ task_without_pages request.now command queued_trim }
+    ensures { result ≡ task_without_pages request.now command identity.now.queued_trim }
 {
     Entry {
         nexus: request.nexus,
         tag: request.tag,
-        kind: Kind::of(&command, queued_trim),
+        kind: Kind::of(&command, identity.queued_trim),
         ordered: is_ordered(request.attr),
         blocks: held_blocks(&command),
-        ranges: ranges_of(&command),
+        ranges: ranges_of(&command, &request.body, identity.capacity),
         command,
         body: Pages::default(),
         modes: change_of(&command, &request.body),
@@ -230,29 +295,60 @@ pub fn task_without_pages(request: &Request, command: Command, queued_trim: bool
     }
 }
 
-/// The pages of a task: a WRITE keeps the first ones of its data-out, and a READ takes pages for its data-in. The others are
-/// given back.
-pub fn own_pages(pool: &mut Pool, command: &Command, body: Pages) -> Pages
+/// The pages of a task: a READ takes pages for its data-in, an UNMAP whose trim is queued keeps its entries in one, and all others keep the
+/// first ones of their data-out, as many as they hold. The rest is given back.
+pub fn own_pages(pool: &mut Pool, command: &Command, identity: &Identity, body: Pages) -> Pages
     requires served { IsServed command.now }
     requires out { length body ≤ pool.old.out }
     requires room { held_blocks command.now ≤ pool.old.free + length body }
     requires written { needed command.now ≤ 512 * length body }
-    ensures size { length result ≡ held_blocks command.now }
+    requires list { HasList command.now body identity.now.capacity }
+    requires identity { IsIdentity identity.now }
+    requires trim { trims command.now ≡ true → identity.now.trim ≡ true }
+    ensures size { length result ≡ held_blocks command.now + entry_pages command.now identity.now.queued_trim }
     ensures data { data_out command.now result ≡ data_out command.now (take (held_blocks command.now) body) }
-    ensures free { pool.new.free + held_blocks command.now ≡ pool.old.free + length body }
-    ensures out { pool.new.out + length body ≡ pool.old.out + held_blocks command.now }
+    ensures entries { HasEntries command.now identity.now.queued_trim body result }
+    ensures free { pool.new.free + length result ≡ pool.old.free + length body }
+    ensures out { pool.new.out + length body ≡ pool.old.out + length result }
 {
-    let count = held_blocks(command);
-    if let Command::Write { .. } = *command {
-        let mut body = body;
-        pool.give(body.split(count));
-        return body;
+    match *command {
+        Command::Read { count, .. } => other_pages(pool, count, body),
+        Command::Unmap { length } if identity.queued_trim => {
+            let entries = trim_bytes(&listed_ranges(&body, length, identity.capacity));
+            let mut page = first_pages(pool, 1, body);
+            page.set_block(0, &entries);
+            page
+        }
+        _ => first_pages(pool, held_blocks(command), body),
     }
+}
+
+/// So many other pages, with whatever they hold.
+fn other_pages(pool: &mut Pool, count: u32, body: Pages) -> Pages
+    requires out { length body ≤ pool.old.out }
+    requires room { count ≤ pool.old.free + length body }
+    ensures size { length result ≡ count }
+    ensures free { pool.new.free + length result ≡ pool.old.free + length body }
+    ensures out { pool.new.out + length body ≡ pool.old.out + length result }
+{
     pool.give(body);
     let Some(pages) = pool.take(count) else {
         unreachable!();
     };
     pages
+}
+
+/// The first pages of data-out.
+fn first_pages(pool: &mut Pool, count: u32, body: Pages) -> Pages
+    requires out { length body ≤ pool.old.out }
+    requires enough { count ≤ length body }
+    ensures first { result ≡ take count body }
+    ensures free { pool.new.free + length result ≡ pool.old.free + length body }
+    ensures out { pool.new.out + length body ≡ pool.old.out + length result }
+{
+    let mut body = body;
+    pool.give(body.split(count));
+    body
 }
 
 /// Gives the pages of a request back, and answers it at once.

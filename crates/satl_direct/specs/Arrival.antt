@@ -25,10 +25,9 @@ use Rattle.satl_direct.specs.Device.{Device, attentions_of, is_called, of_others
 use Rattle.satl_direct.specs.Tasks.{asks, is_full, needed, range_of, task_for}
 use Rattle.satl_direct.specs.Senses.{attention_sense, link_lost, no_sense, not_ready, out_of_range, overlapped, refusal, sense_in, sense_text, short_data, unknown_operation, unknown_unit}
 
--- the operation codes that are served so far: TEST UNIT READY, REQUEST SENSE, INQUIRY, MODE SENSE, READ CAPACITY and REPORT
--- LUNS, READ and WRITE in each form, START STOP UNIT, and MODE SELECT and SYNCHRONIZE CACHE in each form (SPC-4 6; SBC-3 5)
+-- the operation codes that are served so far: all of the table but ATA PASS-THROUGH (SPC-4 6; SBC-3 5)
 abbrev pub built : List ℕ
-built = 0x00 ∷ 0x03 ∷ 0x08 ∷ 0x0A ∷ 0x12 ∷ 0x15 ∷ 0x1A ∷ 0x1B ∷ 0x25 ∷ 0x28 ∷ 0x2A ∷ 0x35 ∷ 0x55 ∷ 0x5A ∷ 0x88 ∷ 0x8A ∷ 0x91 ∷ 0x9E ∷ 0xA0 ∷ 0xA8 ∷ 0xAA ∷ []
+built = 0x00 ∷ 0x03 ∷ 0x08 ∷ 0x0A ∷ 0x12 ∷ 0x15 ∷ 0x1A ∷ 0x1B ∷ 0x25 ∷ 0x28 ∷ 0x2A ∷ 0x2F ∷ 0x35 ∷ 0x41 ∷ 0x42 ∷ 0x55 ∷ 0x5A ∷ 0x88 ∷ 0x8A ∷ 0x8F ∷ 0x91 ∷ 0x93 ∷ 0x9E ∷ 0xA0 ∷ 0xA8 ∷ 0xAA ∷ 0xAF ∷ []
 
 -- the operation code (SPC-4 4.3)
 abbrev pub code_of : Request → ℕ

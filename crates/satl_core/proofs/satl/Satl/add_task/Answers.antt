@@ -1,25 +1,35 @@
-use Rattle.std.proofs.Common.{◌≡◌, ⊎_elim, inl, inr, refl, sym, ap, subst, arith, ◌∙◌, ◌-◌, Some, false, length}
+use Rattle.std.proofs.Common.{◌≡◌, ⊎_elim, inl, inr, refl, sym, ap, subst, arith, ◌∙◌, ◌+◌, ◌-◌, Some, true, false, length}
 use Rattle.std.specs.Prelude.{slice_get}
 use Rattle.satl_line.specs.declared.entry.Entry.{Entry}
 use Rattle.satl_line.specs.Kinds.{kind_of}
 use Rattle.satl_line.specs.Tasks.{is_too_much}
 use Rattle.satl_direct.specs.Tasks.{asks, held_blocks, needed}
-use Rattle.satl_core.specs.Layer.{IsExpectable, IsTask, Layer, held_pages}
+use Rattle.satl_core.specs.Layer.{CanTrim, IsExpectable, IsTask, Layer, entry_pages, held_pages}
 use Rattle.satl_core.proofs.ArrivalLemmas.{list_held, long_enough}
 use Rattle.std.specs.Prelude.{IfSome}
 use Rattle.satl_mode.specs.Changes.{IsChangeOf}
-use Rattle.satl_core.specs.Submitting.{Becomes}
+use Rattle.satl_core.specs.Submitting.{Becomes, HasList, trims}
 use Rattle.satl_core.proofs.HeldLemmas.{held_is, on_ok}
 use Rattle.satl_core.proofs.Transfers.{task_needs}
 use Rattle.satl_core.specs.Refilling.{Comes}
 use Rattle.satl_core.proofs.TieLemmas.{layer_of}
-use Rattle.satl_core.proofs.AddingLemmas.{HasPages, becomes_added, comes_with, count_with, fits_in, given_pages, held_with, kept_with, last_is, tasks_with}
+use Rattle.satl_core.proofs.AddingLemmas.{HasPages, becomes_added, can_trim, comes_with, count_with, fits_in, given_pages, held_with, kept_with, last_is, own_entries, tasks_with}
+use Rattle.satl_core.proofs.AgreeingLemmas.{HasOwnEntries}
 use Rattle.satl_core.proofs.satl.Satl.add_task.Goals as goal
 
 pub task_without_pages-task-requires-clause-holds : goal.task_without_pages-task-requires-clause-holds
 task_without_pages-task-requires-clause-holds c =
     let long = long_enough c.args.self.now c.args.request c.args.command c.requires.judged in
     ⊎_elim inr (λ short. inl (list_held c.args.request (needed c.args.command) c.requires.holds long short)) (task_needs c.args.self.now.identity.capacity (held_blocks c.args.command) c.args.command c.requires.task)
+
+pub task_without_pages-task-requires-clause-list : goal.task_without_pages-task-requires-clause-list
+task_without_pages-task-requires-clause-list c = subst (λ (l : Layer). HasList c.args.command c.args.request.body l.identity.capacity) (sym c.self.view_is) c.requires.list
+
+pub own_pages-body-requires-clause-list : goal.own_pages-body-requires-clause-list
+own_pages-body-requires-clause-list c = subst (λ (l : Layer). HasList c.args.command c.args.request.body l.identity.capacity) (sym c.self.view_is) c.requires.list
+
+pub own_pages-body-requires-clause-trim : goal.own_pages-body-requires-clause-trim
+own_pages-body-requires-clause-trim c = subst (λ (l : Layer). trims c.args.command ≡ true → l.identity.trim ≡ true) (sym c.self.view_is) c.requires.trims
 
 pub own_pages-body-requires-clause-served : goal.own_pages-body-requires-clause-served
 own_pages-body-requires-clause-served c = c.requires.served
@@ -31,7 +41,7 @@ own_pages-body-requires-clause-room c =
     let blocks = ap (λ (e : Entry). e.blocks) c.task_without_pages-task.ensures in
     let held = held_is c.self.inside.identity c.self.inside.queue.tasks c.self.invariant.kept in
     let view = ap (λ (l : Layer). l.out) c.self.view_is in
-    omega (arith, total, blocks, held, view, c.self.invariant.all, c.self.invariant.held, c.requires.can.pages)
+    omega (arith, total, blocks, held, view, ap (λ (l : Layer). length l.tasks) c.self.view_is, c.requires.few, c.self.invariant.all, c.self.invariant.held, c.requires.can.pages)
 
 pub own_pages-body-requires-clause-written : goal.own_pages-body-requires-clause-written
 own_pages-body-requires-clause-written c =
@@ -69,7 +79,8 @@ invariant_of-self-2 c =
       held = omega (arith, held, view, c.self.invariant.held, c.requires.can.pages, c.own_pages-body.ensures.size, c.own_pages-body.ensures.out);
       all = omega (arith, view, c.self.invariant.held, c.self.invariant.all, c.requires.can.pages, c.own_pages-body.ensures.free, c.own_pages-body.ensures.out);
       kept = kept_with c.self.inside.identity c.self.inside.queue.tasks c.fill_last.new.self.tasks c.task_without_pages-task.result c.own_pages-body.result c.self.invariant.kept
-          (c.own_pages-body.ensures.size ∙ sym (ap (λ (e : Entry). e.blocks) task))
+          (subst (λ (e : Entry). length c.own_pages-body.result ≡ e.blocks + entry_pages e.command c.self.inside.identity.queued_trim) (sym task) c.own_pages-body.ensures.size)
+          (subst (λ (e : Entry). CanTrim c.self.inside.identity e.command e.ranges.items) (sym task) (can_trim c.self.inside.identity c.args.request c.args.command (held_blocks c.args.command) c.self.invariant.identity_is transfer (subst (λ (l : Layer). HasList c.args.command c.args.request.body l.identity.capacity) (sym c.self.view_is) c.requires.list) (subst (λ (l : Layer). trims c.args.command ≡ true → l.identity.trim ≡ true) (sym c.self.view_is) c.requires.trims)))
           (subst (λ (e : Entry). IsTask c.self.inside.identity.capacity e.command e.blocks) (sym task) transfer)
           (subst (λ (e : Entry). e.kind ≡ kind_of e.command c.self.inside.identity.queued_trim) (sym task) refl)
           (subst (λ (e : Entry). IfSome e.modes (IsChangeOf c.self.inside.identity)) (sym task) (subst (λ (l : Layer). IfSome ((asks c.args.command).change c.args.request.body) (IsChangeOf l.identity)) (sym c.self.view_is) c.requires.change))
@@ -106,4 +117,5 @@ returns-clause-comes c = λ none.
     let count = count_with c.self.inside.queue.tasks c.add.new.self.tasks c.task_without_pages-task.result adds in
     let has = given_pages c.self.inside.queue.tasks c.add.new.self.tasks c.fill_last.new.self.tasks c.task_without_pages-task.result c.own_pages-body.result (length c.add.new.self.tasks - 1) adds (omega (arith, count)) c.fill_last.ensures.filled in
     subst (λ (l : Layer). Comes l.identity.capacity l.tasks c.fill_last.new.self.tasks) c.self.view_is
-    (comes_with c.self.inside.identity c.self.inside.queue.tasks c.fill_last.new.self.tasks c.task_without_pages-task.result c.own_pages-body.result (invariant_of-self-2 c).kept has)
+    (comes_with c.self.inside.identity c.self.inside.queue.tasks c.fill_last.new.self.tasks c.task_without_pages-task.result c.own_pages-body.result (invariant_of-self-2 c).kept
+    (subst (λ (e : Entry). HasOwnEntries e.command c.self.inside.identity.queued_trim e.ranges.items c.own_pages-body.result) (sym c.task_without_pages-task.ensures) (own_entries c.args.request c.args.command c.self.inside.identity.queued_trim c.own_pages-body.result c.own_pages-body.ensures.entries)) has)

@@ -1,4 +1,4 @@
-use Rattle.std.proofs.Common.{◌≡◌, ◌≤◌, arith, sym, ap, subst, ◌∙◌, ◌∷◌, [], true}
+use Rattle.std.proofs.Common.{length, ◌≡◌, ◌≤◌, arith, sym, ap, subst, ◌∙◌, ◌∷◌, [], true}
 use Rattle.satl_identify.proofs.Judging.{capacity_bounds}
 use Rattle.satl_line.specs.Tasks.{total_blocks}
 use Rattle.satl_direct.specs.Arrival.{Arrives}
@@ -8,6 +8,7 @@ use Rattle.satl_core.specs.declared.submitting.AtOnce.TheVariants as at_once
 use Rattle.satl_core.specs.Layer.{Layer, view}
 use Rattle.satl_core.specs.Submitting.{is_overlapping, reply_at_once}
 use Rattle.satl_core.proofs.ArrivalLemmas.{held_by_is}
+use Rattle.satl_core.proofs.CountedLemmas.{few_tasks}
 use Rattle.satl_core.proofs.HeldLemmas.{held_is}
 use Rattle.satl_core.proofs.OverlapLemmas.{overlap_around}
 use Rattle.satl_core.proofs.TieLemmas.{layer_of}
@@ -20,8 +21,9 @@ pub answer_at_once-requires-clause-room : goal.answer_at_once-requires-clause-ro
 answer_at_once-requires-clause-room g c =
     let blocks : total_blocks c.self.inside.queue.tasks ≤ 32768 = subst (λ (l : Layer). total_blocks l.tasks ≤ 32768) (sym c.self.view_is) (subst (λ n. n ≤ 32768) (held_by_is c.args.self.now.tasks) c.requires.tied.agrees.valid.blocks) in
     let held = held_is c.self.inside.identity c.self.inside.queue.tasks c.self.invariant.kept in
+    let few : length c.self.inside.queue.tasks ≤ 64 = subst (λ (l : Layer). length l.tasks ≤ 64) (sym c.self.view_is) (few_tasks c.args.self.now.tasks c.requires.tied.agrees.valid.few) in
     let out = ap (λ (l : Layer). l.out) c.self.view_is in
-    omega (arith, blocks, held, out, c.requires.can.pages, c.self.invariant.all, c.self.invariant.held)
+    omega (arith, blocks, few, held, out, c.requires.can.pages, c.self.invariant.all, c.self.invariant.held)
 
 pub returns-clause-around : goal.returns-clause-around
 returns-clause-around g c = λ whole cut.

@@ -1,4 +1,4 @@
-use Rattle.std.proofs.Common.{◌≡◌, ◌≤◌, arith, sym, ap, subst, ◌∙◌, ◌∷◌, [], length, Err, Ok}
+use Rattle.std.proofs.Common.{◌≡◌, ◌≤◌, arith, sym, ap, subst, ◌∙◌, ◌∷◌, [], true, length, Err, Ok}
 use Rattle.std.specs.Prelude.{IfSome}
 use Rattle.satl_base.specs.declared.request.Request.{Request}
 use Rattle.satl_identify.proofs.Judging.{capacity_bounds}
@@ -8,10 +8,10 @@ use Rattle.satl_direct.specs.Tasks.{asks, held_blocks}
 use Rattle.satl_direct.specs.Valid.{IsValid}
 use Rattle.satl_core.specs.Layer.{IsTask, Layer, view}
 use Rattle.satl_core.specs.Refilling.{Comes}
-use Rattle.satl_core.specs.Submitting.{Becomes, judged, once_judged, reply_at_once}
+use Rattle.satl_core.specs.Submitting.{Becomes, HasList, judged, once_judged, reply_at_once, trims}
 use Rattle.satl_core.proofs.AddingLemmas.{becomes_whole}
 use Rattle.satl_core.proofs.ArrivalLemmas.{answers_at_once, becomes_arrives, held_by_is, judged_whole}
-use Rattle.satl_core.proofs.CountedLemmas.{becomes_more, tasks_seen}
+use Rattle.satl_core.proofs.CountedLemmas.{becomes_more, few_tasks, tasks_seen}
 use Rattle.satl_core.proofs.DeviceLemmas.{arrives_around}
 use Rattle.satl_core.proofs.HeldLemmas.{held_is, no_replies}
 use Rattle.satl_core.proofs.OverlapLemmas.{sent_around}
@@ -20,10 +20,10 @@ use Rattle.satl_core.proofs.ValidLemmas.{becomes_down, came_agrees, came_last, f
 use Rattle.satl_core.proofs.satl.Satl.submit.Goals as goal
 
 pub judge-requires-clause-holds : goal.judge-requires-clause-holds
-judge-requires-clause-holds g c = c.overlaps.ensures.holds c.requires.can (subst (λ n. n ≤ 32768) (held_by_is c.args.self.now.tasks) c.requires.tied.agrees.valid.blocks)
+judge-requires-clause-holds g c = c.overlaps.ensures.holds c.requires.can (subst (λ n. n ≤ 32768) (held_by_is c.args.self.now.tasks) c.requires.tied.agrees.valid.blocks) (few_tasks c.args.self.now.tasks c.requires.tied.agrees.valid.few)
 
 pub add_task-requires-clause-holds : goal.add_task-requires-clause-holds
-add_task-requires-clause-holds g c = c.overlaps.ensures.holds c.requires.can (subst (λ n. n ≤ 32768) (held_by_is c.args.self.now.tasks) c.requires.tied.agrees.valid.blocks)
+add_task-requires-clause-holds g c = c.overlaps.ensures.holds c.requires.can (subst (λ n. n ≤ 32768) (held_by_is c.args.self.now.tasks) c.requires.tied.agrees.valid.blocks) (few_tasks c.args.self.now.tasks c.requires.tied.agrees.valid.few)
 
 pub add_task-requires-clause-task : goal.add_task-requires-clause-task
 add_task-requires-clause-task g c = subst (λ (l : Layer). IsTask l.identity.capacity c.in-Ok.command (held_blocks c.in-Ok.command)) (sym c.in-Ok.ensures.same) c.in-Ok.ensures.task
@@ -31,13 +31,22 @@ add_task-requires-clause-task g c = subst (λ (l : Layer). IsTask l.identity.cap
 pub add_task-requires-clause-change : goal.add_task-requires-clause-change
 add_task-requires-clause-change g c = subst (λ (l : Layer). IfSome ((asks c.in-Ok.command).change c.args.request.body) (IsChangeOf l.identity)) (sym c.in-Ok.ensures.same) (c.in-Ok.ensures.change c.requires.tied.agrees.valid.modes)
 
+pub add_task-requires-clause-few : goal.add_task-requires-clause-few
+add_task-requires-clause-few g c = subst (λ (l : Layer). length l.tasks ≤ 64) (sym c.in-Ok.ensures.same) (few_tasks c.args.self.now.tasks c.requires.tied.agrees.valid.few)
+
+pub add_task-requires-clause-list : goal.add_task-requires-clause-list
+add_task-requires-clause-list g c = subst (λ (l : Layer). HasList c.in-Ok.command c.args.request.body l.identity.capacity) (sym c.in-Ok.ensures.same) c.in-Ok.ensures.list
+
+pub add_task-requires-clause-trims : goal.add_task-requires-clause-trims
+add_task-requires-clause-trims g c = subst (λ (l : Layer). trims c.in-Ok.command ≡ true → l.identity.trim ≡ true) (sym c.in-Ok.ensures.same) c.in-Ok.ensures.trims
+
 pub send_last-requires-clause-agrees : goal.send_last-requires-clause-agrees
 send_last-requires-clause-agrees g c =
     let r = c.args.request in
-    let holds = c.overlaps.ensures.holds c.requires.can (subst (λ n. n ≤ 32768) (held_by_is c.args.self.now.tasks) c.requires.tied.agrees.valid.blocks) in
+    let holds = c.overlaps.ensures.holds c.requires.can (subst (λ n. n ≤ 32768) (held_by_is c.args.self.now.tasks) c.requires.tied.agrees.valid.blocks) (few_tasks c.args.self.now.tasks c.requires.tied.agrees.valid.few) in
     let becomes = subst (λ (l : Layer). Becomes r c.in-Ok.command l c.add_task.new.replies c.add_task.new.self) c.in-Ok.ensures.same c.add_task.ensures.becomes in
     came_agrees c.args.self.now c.add_task.new.self (g.D.Drive.state c.args.drive.now) (filled_up r) c.in-Ok.command c.add_task.new.replies
-    (becomes_whole (filled_up r) r (length r.body) c.args.self.now.identity.capacity c.in-Ok.command c.args.self.now c.add_task.new.replies c.add_task.new.self (filled_up_cut r) c.in-Ok.ensures.task c.add_task.ensures.long becomes)
+    (becomes_whole (filled_up r) r (length r.body) c.args.self.now.identity.capacity c.in-Ok.command c.args.self.now c.add_task.new.replies c.add_task.new.self (filled_up_cut r) c.in-Ok.ensures.task c.in-Ok.ensures.list c.add_task.ensures.long becomes)
     (no_replies c.add_task.new.replies (sym c.len.ensures.count ∙ c.if-len-eq0.true)) (subst (λ (l : Layer). c.add_task.new.replies ≡ [] → Comes l.identity.capacity l.tasks c.add_task.new.self.tasks) c.in-Ok.ensures.same c.add_task.ensures.comes) c.requires.tied
     (judged_whole c.args.self.now (filled_up r) r (length r.body) _ (filled_up_cut r) c.in-Ok.ensures.lengths holds (sym c.in-Ok.ensures.judged)) (filled_up_holds r) c.requires.can.expected
 
@@ -61,17 +70,18 @@ pub answer_at_once-requires-clause-room : goal.answer_at_once-requires-clause-ro
 answer_at_once-requires-clause-room g c =
     let same = ap (λ (l : Layer). l.tasks) (c.self.view_is ∙ c.in-Err.ensures.kept) in
     let blocks : total_blocks c.self.inside.queue.tasks ≤ 32768 = subst (λ ts. total_blocks ts ≤ 32768) (sym same) (subst (λ n. n ≤ 32768) (held_by_is c.args.self.now.tasks) c.requires.tied.agrees.valid.blocks) in
+    let few : length c.self.inside.queue.tasks ≤ 64 = subst (λ ts. length ts ≤ 64) (sym same) (few_tasks c.args.self.now.tasks c.requires.tied.agrees.valid.few) in
     let held = held_is c.self.inside.identity c.self.inside.queue.tasks c.self.invariant.kept in
     let out = ap (λ (l : Layer). l.out) (c.self.view_is ∙ c.in-Err.ensures.kept) in
-    omega (arith, blocks, held, out, c.requires.can.pages, c.self.invariant.all, c.self.invariant.held)
+    omega (arith, blocks, few, held, out, c.requires.can.pages, c.self.invariant.all, c.self.invariant.held)
 
 pub returns-then-len-eq0-clause-around : goal.returns-then-len-eq0-clause-around
 returns-then-len-eq0-clause-around g c = λ w cut.
-    let holds = c.overlaps.ensures.holds c.requires.can (subst (λ n. n ≤ 32768) (held_by_is c.args.self.now.tasks) c.requires.tied.agrees.valid.blocks) in
+    let holds = c.overlaps.ensures.holds c.requires.can (subst (λ n. n ≤ 32768) (held_by_is c.args.self.now.tasks) c.requires.tied.agrees.valid.blocks) (few_tasks c.args.self.now.tasks c.requires.tied.agrees.valid.few) in
     let becomes = subst (λ (l : Layer). Becomes c.args.request c.in-Ok.command l c.add_task.new.replies c.add_task.new.self) c.in-Ok.ensures.same c.add_task.ensures.becomes in
     let judged_is : judged c.args.self.now w ≡ Ok c.in-Ok.command = judged_whole c.args.self.now w c.args.request cut.count _ cut.cut_is c.in-Ok.ensures.lengths holds (sym c.in-Ok.ensures.judged) in
     sent_around w _ (view c.add_task.new.self (g.D.Drive.state c.args.drive.now)) _ c.add_task.new.replies _ (becomes_arrives c.args.self.now c.add_task.new.self (g.D.Drive.state c.args.drive.now) w c.in-Ok.command c.add_task.new.replies judged_is
-    (becomes_whole w c.args.request cut.count c.args.self.now.identity.capacity c.in-Ok.command c.args.self.now c.add_task.new.replies c.add_task.new.self cut.cut_is c.in-Ok.ensures.task c.add_task.ensures.long becomes)) c.send_last.ensures.refills
+    (becomes_whole w c.args.request cut.count c.args.self.now.identity.capacity c.in-Ok.command c.args.self.now c.add_task.new.replies c.add_task.new.self cut.cut_is c.in-Ok.ensures.task c.in-Ok.ensures.list c.add_task.ensures.long becomes)) c.send_last.ensures.refills
 
 pub returns-then-len-eq0-clause-more : goal.returns-then-len-eq0-clause-more
 returns-then-len-eq0-clause-more g c =
@@ -97,11 +107,11 @@ returns-then-len-eq0-clause-calls g c =
 
 pub returns-else-len-eq0-clause-around : goal.returns-else-len-eq0-clause-around
 returns-else-len-eq0-clause-around g c = λ w cut.
-    let holds = c.overlaps.ensures.holds c.requires.can (subst (λ n. n ≤ 32768) (held_by_is c.args.self.now.tasks) c.requires.tied.agrees.valid.blocks) in
+    let holds = c.overlaps.ensures.holds c.requires.can (subst (λ n. n ≤ 32768) (held_by_is c.args.self.now.tasks) c.requires.tied.agrees.valid.blocks) (few_tasks c.args.self.now.tasks c.requires.tied.agrees.valid.few) in
     let becomes = subst (λ (l : Layer). Becomes c.args.request c.in-Ok.command l c.add_task.new.replies c.add_task.new.self) c.in-Ok.ensures.same c.add_task.ensures.becomes in
     let judged_is : judged c.args.self.now w ≡ Ok c.in-Ok.command = judged_whole c.args.self.now w c.args.request cut.count _ cut.cut_is c.in-Ok.ensures.lengths holds (sym c.in-Ok.ensures.judged) in
     arrives_around w _ _ _ (becomes_arrives c.args.self.now c.add_task.new.self (g.D.Drive.state c.args.drive.now) w c.in-Ok.command c.add_task.new.replies judged_is
-    (becomes_whole w c.args.request cut.count c.args.self.now.identity.capacity c.in-Ok.command c.args.self.now c.add_task.new.replies c.add_task.new.self cut.cut_is c.in-Ok.ensures.task c.add_task.ensures.long becomes))
+    (becomes_whole w c.args.request cut.count c.args.self.now.identity.capacity c.in-Ok.command c.args.self.now c.add_task.new.replies c.add_task.new.self cut.cut_is c.in-Ok.ensures.task c.in-Ok.ensures.list c.add_task.ensures.long becomes))
 
 pub returns-else-len-eq0-clause-tied : goal.returns-else-len-eq0-clause-tied
 returns-else-len-eq0-clause-tied g c =
@@ -111,7 +121,7 @@ returns-else-len-eq0-clause-tied g c =
 
 pub returns-in-Err-clause-around : goal.returns-in-Err-clause-around
 returns-in-Err-clause-around g c = λ w cut.
-    let holds = c.overlaps.ensures.holds c.requires.can (subst (λ n. n ≤ 32768) (held_by_is c.args.self.now.tasks) c.requires.tied.agrees.valid.blocks) in
+    let holds = c.overlaps.ensures.holds c.requires.can (subst (λ n. n ≤ 32768) (held_by_is c.args.self.now.tasks) c.requires.tied.agrees.valid.blocks) (few_tasks c.args.self.now.tasks c.requires.tied.agrees.valid.few) in
     let judged_is : judged c.args.self.now w ≡ Err c.in-Err.answer = judged_whole c.args.self.now w c.args.request cut.count _ cut.cut_is c.in-Err.ensures.lengths holds (sym c.in-Err.ensures.judged) in
     arrives_around w _ _ _ (answers_at_once c.args.self.now _ (g.D.Drive.state c.args.drive.now) w c.in-Err.answer c.answer_at_once.new.replies c.requires.tied.agrees.mark judged_is
     (c.answer_at_once.ensures.reply ∙ (ap (λ (x : Request). reply_at_once c.self.inside.identity c.self.inside.modes x c.in-Err.answer ∷ []) cut.cut_is ∙ ap (λ (l : Layer). reply_at_once l.identity l.modes w c.in-Err.answer ∷ []) (c.self.view_is ∙ c.in-Err.ensures.kept)))
