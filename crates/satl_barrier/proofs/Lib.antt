@@ -1,4 +1,5 @@
 pub mod CommandsLemmas
+pub mod FinishingLemmas
 pub mod FlushingLemmas
 pub mod SettingsLemmas
 pub mod ToldLemmas
