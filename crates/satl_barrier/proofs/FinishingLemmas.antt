@@ -1,6 +1,6 @@
 -- How commands end that go over a range.
 use Rattle.std.proofs.Common.{◌≡◌, ⊎_elim, inl, inr, refl, sym, ap, subst, arith, ◌∙◌, ℕ, ◌+◌, ◌≤◌, Bool, true, false, List, [], length, Some, None}
-use Rattle.std.specs.Prelude.{MatchBool, MatchOption, Option, nat_lt, ◌⊎◌, ◌<◌, ◌-◌}
+use Rattle.std.specs.Prelude.{Result, Ok, Err, IfOk, OnErr, MatchBool, MatchOption, Option, nat_lt, ◌⊎◌, ◌<◌, ◌-◌}
 use Rattle.std.proofs.lemmas.Bool.{le-ltb}
 use Rattle.satl_base.specs.declared.block.Block.{Block}
 use Rattle.satl_base.specs.declared.bench.Which.{Which}
@@ -18,6 +18,11 @@ use Rattle.satl_drive.specs.State.{DriveState, medium_of, with_medium}
 use Rattle.satl_barrier.specs.declared.finishing.Finish.{Finish}
 use Rattle.satl_barrier.specs.declared.finishing.Finish.TheVariants as finishes
 use Rattle.satl_barrier.specs.Finishing.{FinishesAs, IsDone, IsFlawed, IsGarbled, IsReached, finish_of, verifying}
+
+-- what follows from a good end and from a lost link
+pub either_way : {T E : Type 0} {Q : T → Type 0} {P R : Type 0} (r : Result T E) → ((x : T) → Q x → P) → (R → P) → IfOk r Q → OnErr r R → P
+either_way (Ok x) f h ok err = f x ok
+either_way (Err e) f h ok err = h err
 
 -- ---- one command
 
