@@ -3,3 +3,4 @@ pub mod FinishingLemmas
 pub mod FlushingLemmas
 pub mod SettingsLemmas
 pub mod ToldLemmas
+pub mod TrimmingLemmas
