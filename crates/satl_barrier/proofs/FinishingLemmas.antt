@@ -1,6 +1,6 @@
 -- How commands end that go over a range.
-use Rattle.std.proofs.Common.{◌≡◌, ⊎_elim, inl, inr, refl, sym, ap, subst, arith, ◌∙◌, ℕ, ◌+◌, ◌≤◌, Bool, true, false, List, [], length, Some, None}
-use Rattle.std.specs.Prelude.{Result, Ok, Err, IfOk, OnErr, MatchBool, MatchOption, Option, nat_lt, ◌⊎◌, ◌<◌, ◌-◌}
+use Rattle.std.proofs.Common.{◌≡◌, ⊎_elim, inl, inr, refl, sym, ap, subst, arith, ◌∙◌, ℕ, ◌+◌, ◌≤◌, Bool, true, false, List, [], length, take, Some, None}
+use Rattle.std.specs.Prelude.{if◌then◌else◌, Result, Ok, Err, IfOk, OnErr, MatchBool, MatchOption, Option, nat_lt, ◌⊎◌, ◌<◌, ◌-◌}
 use Rattle.std.proofs.lemmas.Bool.{le-ltb}
 use Rattle.satl_base.specs.declared.block.Block.{Block}
 use Rattle.satl_base.specs.declared.bench.Which.{Which}
@@ -10,14 +10,15 @@ use Rattle.satl_base.specs.Losses.{Loses}
 use Rattle.satl_regs.specs.declared.values.Registers.{Registers}
 use Rattle.satl_regs.specs.declared.values.Taskfile.{Taskfile}
 use Rattle.satl_base.specs.declared.block.Range.{Range}
+use Rattle.satl_regs.specs.declared.values.How.TheVariants.{DmaExt}
 use Rattle.satl_regs.specs.declared.values.AtaCommand.TheVariants as commands
 use Rattle.satl_regs.specs.Spelling.{command_registers}
 use Rattle.satl_barrier.specs.Commands.{HasRun}
-use Rattle.satl_regs.specs.Effects.{Carries, IsCarriedOut, IsFlawed as IsStopped, IsGarbled as IsSpoilt, Medium, Transfer, idnf, IsRefused}
+use Rattle.satl_regs.specs.Effects.{Carries, pairs_of, IsCarriedOut, IsFlawed as IsStopped, IsGarbled as IsSpoilt, Medium, Transfer, idnf, IsRefused}
 use Rattle.satl_drive.specs.State.{DriveState, medium_of, with_medium}
 use Rattle.satl_barrier.specs.declared.finishing.Finish.{Finish}
 use Rattle.satl_barrier.specs.declared.finishing.Finish.TheVariants as finishes
-use Rattle.satl_barrier.specs.Finishing.{FinishesAs, IsDone, IsFlawed, IsGarbled, IsReached, finish_of, verifying}
+use Rattle.satl_barrier.specs.Finishing.{FinishesAs, IsDone, IsFlawed, IsGarbled, IsReached, finish_of, verifying, writing}
 
 -- what follows from a good end and from a lost link
 pub either_way : {T E : Type 0} {Q : T → Type 0} {P R : Type 0} (r : Result T E) → ((x : T) → Q x → P) → (R → P) → IfOk r Q → OnErr r R → P
@@ -127,3 +128,25 @@ pub all_verified : (t : Transfer) (old new : DriveState) (it : Finish) → ((at 
 all_verified t old new finishes.Done clear x = x
 all_verified t old new (finishes.Flawed at) clear x = absurd (clear at refl)
 all_verified t old new finishes.Garbled clear x = absurd x
+
+-- the pages stay where nothing is read
+pub pages_kept : (dma : Bool) (which : Which) (lba count : ℕ) (writes : List Pair) (r : Registers) (old : DriveState) (given : List Block) (ended : Taskfile) (taken : List Block) (new : DriveState) → HasGone (over dma which lba count writes []) r old given ended taken new → taken ≡ given
+pages_kept dma which lba count writes r old given ended taken new gone =
+    ⊎_elim (λ n. ⊎_elim (λ x. x.data_in) (λ x. x.data_in) n.1) (λ s. s.2.data_in)
+    (ways (over dma which lba count writes []) r old given ended taken gone.after gone.within gone.carries).way
+
+-- the pairs of a write
+abbrev pub pairs_in : Range → List Block → DriveState → List Pair
+pairs_in range given old = (writing range (take range.count given) old).writes
+
+write_gone : (range : Range) (old : DriveState) (given : List Block) (ended : Taskfile) (taken : List Block) (new : DriveState) → IsReached range old → HasRun (commands.Write DmaExt range.lba range.count) old given ended taken new → HasGone (over true flaws.Write range.lba range.count (pairs_in range given old) []) (command_registers (commands.Write DmaExt range.lba range.count)) old given ended taken new
+write_gone range old given ended taken new reached run = record { was_up = run.was_up; within = reached.within; after = run.after; carries = run.does; lost = run.lost; stays = run.stays }
+
+pub written : (range : Range) (old : DriveState) (given : List Block) (ended : Taskfile) (taken : List Block) (new : DriveState) → IsReached range old → HasRun (commands.Write DmaExt range.lba range.count) old given ended taken new → FinishesAs (writing range (take range.count given) old) range.count (finish_of ended) old new
+written range old given ended taken new reached run = finishes_as true flaws.Write range.lba range.count (pairs_in range given old) [] (command_registers (commands.Write DmaExt range.lba range.count)) old given ended taken new (write_gone range old given ended taken new reached run)
+
+pub write_keeps : (range : Range) (old : DriveState) (given : List Block) (ended : Taskfile) (taken : List Block) (new : DriveState) → IsReached range old → HasRun (commands.Write DmaExt range.lba range.count) old given ended taken new → taken ≡ given
+write_keeps range old given ended taken new reached run = pages_kept true flaws.Write range.lba range.count (pairs_in range given old) (command_registers (commands.Write DmaExt range.lba range.count)) old given ended taken new (write_gone range old given ended taken new reached run)
+
+pub write_pairs : (range : Range) (old : DriveState) (given : List Block) → IsReached range old → pairs_of (commands.Write DmaExt range.lba range.count) (medium_of old) given ≡ pairs_in range given old
+write_pairs range old given reached = ap (λ b. if b then [] else pairs_in range given old) (le-ltb (length old.cells) (range.lba + range.count) reached.within)

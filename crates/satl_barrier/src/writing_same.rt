@@ -16,7 +16,10 @@ fn fill(pages: &mut Pages, block: &Block)
     ensures { pages.new ≡ replicate (length pages.old) block.now }
 {
     let mut filled = Pages::default();
-    while let Some(mut page) = pages.pop_first() {
+    for _ in 0..pages.blocks() {
+        let Some(mut page) = pages.pop_first() else {
+            unreachable!();
+        };
         page.set(block);
         filled.push_first(page);
     }
