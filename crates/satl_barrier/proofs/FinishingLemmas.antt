@@ -115,6 +115,9 @@ module _ (dma : Bool) (which : Which) (lba count : ℕ) (writes : List Pair) (re
       (λ s. subst (λ e. VerifiesAs (over true which lba count writes []) (finish_of e) old new) (sym s.2.ends) (flawed_so s.0 s.1 s.2))
       (ways (over dma which lba count writes reads) r old given ended taken gone.after gone.within gone.carries).way)
 
+pub done_by : (t : Transfer) (count : ℕ) (it : Finish) (old new : DriveState) → it ≡ finishes.Done → FinishesAs t count it old new → IsDone t old new
+done_by t count it old new is x = subst (λ f. FinishesAs t count f old new) is x
+
 -- ---- each command
 
 verify_gone : (range : Range) (old : DriveState) (given : List Block) (ended : Taskfile) (taken : List Block) (new : DriveState) → IsReached range old → HasRun (commands.Verify true range.lba range.count) old given ended taken new → HasGone (over false flaws.Read range.lba range.count [] []) (command_registers (commands.Verify true range.lba range.count)) old given ended taken new

@@ -4,3 +4,5 @@ pub mod FlushingLemmas
 pub mod SettingsLemmas
 pub mod ToldLemmas
 pub mod TrimmingLemmas
+pub mod PiecesLemmas
+pub mod WritingSameLemmas
