@@ -1,11 +1,11 @@
 -- How commands end that go over a range.
-use Rattle.std.proofs.Common.{◌≡◌, ⊎_elim, inl, inr, refl, sym, ap, subst, arith, ◌∙◌, ℕ, ◌+◌, ◌≤◌, Bool, true, false, List, [], length, take, Some, None}
+use Rattle.std.proofs.Common.{◌≡◌, ⊎_elim, inl, inr, refl, sym, ap, subst, arith, ◌∙◌, ℕ, ◌+◌, ◌≤◌, Bool, true, false, List, [], ◌++◌, length, take, drop, Some, None}
 use Rattle.std.specs.Prelude.{if◌then◌else◌, Result, Ok, Err, IfOk, OnErr, MatchBool, MatchOption, Option, nat_lt, ◌⊎◌, ◌<◌, ◌-◌}
 use Rattle.std.proofs.lemmas.Bool.{le-ltb}
 use Rattle.satl_base.specs.declared.block.Block.{Block}
 use Rattle.satl_base.specs.declared.bench.Which.{Which}
 use Rattle.satl_base.specs.declared.bench.Which.TheVariants as flaws
-use Rattle.satl_base.specs.Cells.{Pair, first_flaw}
+use Rattle.satl_base.specs.Cells.{Pair, first_flaw, nows}
 use Rattle.satl_base.specs.Losses.{Loses}
 use Rattle.satl_regs.specs.declared.values.Registers.{Registers}
 use Rattle.satl_regs.specs.declared.values.Taskfile.{Taskfile}
@@ -153,3 +153,18 @@ write_keeps range old given ended taken new reached run = pages_kept true flaws.
 
 pub write_pairs : (range : Range) (old : DriveState) (given : List Block) → IsReached range old → pairs_of (commands.Write DmaExt range.lba range.count) (medium_of old) given ≡ pairs_in range given old
 write_pairs range old given reached = ap (λ b. if b then [] else pairs_in range given old) (le-ltb (length old.cells) (range.lba + range.count) reached.within)
+
+read_gone : (range : Range) (old : DriveState) (given : List Block) (ended : Taskfile) (taken : List Block) (new : DriveState) → IsReached range old → HasRun (commands.Read DmaExt range.lba range.count) old given ended taken new → HasGone (over true flaws.Read range.lba range.count [] (nows old.cells range.lba range.count)) (command_registers (commands.Read DmaExt range.lba range.count)) old given ended taken new
+read_gone range old given ended taken new reached run = record { was_up = run.was_up; within = reached.within; after = run.after; carries = run.does; lost = run.lost; stays = run.stays }
+
+pub read_in : (range : Range) (old : DriveState) (given : List Block) (ended : Taskfile) (taken : List Block) (new : DriveState) → IsReached range old → HasRun (commands.Read DmaExt range.lba range.count) old given ended taken new → FinishesAs (verifying range) range.count (finish_of ended) old new
+read_in range old given ended taken new reached run = finishes_as true flaws.Read range.lba range.count [] (nows old.cells range.lba range.count) (command_registers (commands.Read DmaExt range.lba range.count)) old given ended taken new (read_gone range old given ended taken new reached run)
+
+-- where all was carried out, the blocks stand in front
+pub blocks_read : (range : Range) (old : DriveState) (given : List Block) (ended : Taskfile) (taken : List Block) (new : DriveState) → IsReached range old → HasRun (commands.Read DmaExt range.lba range.count) old given ended taken new → finish_of ended ≡ finishes.Done → taken ≡ nows old.cells range.lba range.count ++ drop (length (nows old.cells range.lba range.count)) given
+blocks_read range old given ended taken new reached run is =
+    let gone = read_gone range old given ended taken new reached run in
+    ⊎_elim
+    (λ n. ⊎_elim (λ x. x.data_in) (λ x. absurd (let bad : finishes.Garbled ≡ finishes.Done = sym (ap finish_of x.ends) ∙ is in cc)) n.1)
+    (λ s. absurd (let bad : finishes.Flawed s.0 ≡ finishes.Done = sym (ap finish_of s.2.ends) ∙ is in cc))
+    (ways (over true flaws.Read range.lba range.count [] (nows old.cells range.lba range.count)) (command_registers (commands.Read DmaExt range.lba range.count)) old given ended taken gone.after gone.within gone.carries).way

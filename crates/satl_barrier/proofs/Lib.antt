@@ -6,3 +6,4 @@ pub mod ToldLemmas
 pub mod TrimmingLemmas
 pub mod PiecesLemmas
 pub mod WritingSameLemmas
+pub mod ComparingLemmas

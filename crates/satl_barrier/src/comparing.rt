@@ -86,8 +86,9 @@ fn takes_same(wanted: &mut Blocks<'_>, pages: &Pages, count: u32) -> bool
     ensures same { IsTrue result ↔ (take count pages.now ≡ take count wanted.old) }
     ensures rest { IsTrue result → wanted.new ≡ drop count wanted.old }
 {
-    for block in pages.iter().take(count as usize) {
-        if wanted.next() != Some(block) {
+    let mut read = pages.iter();
+    for _ in 0..count {
+        if wanted.next() != read.next() {
             return false;
         }
     }

@@ -12,6 +12,10 @@ returns-in_err-stopped-clause-lost g c =
     rw p.1 (piece_lost c.args.range c.args.block.now c.next_piece-next.result c.loop-done.scratch (length c.args.scratch.now) c.loop-done.done _ _ _
         c.next_piece-next.ensures c.loop-done-test.true c.loop-done.invariant.filled c.requires.room c.loop-done.invariant.so_far c.in_err-stopped.ensures.lost)
 
+pub returns-in_err-stopped-clause-stays : goal.returns-in_err-stopped-clause-stays
+returns-in_err-stopped-clause-stays g c = piece_stays c.args.range c.args.block.now c.next_piece-next.result c.loop-done.scratch (length c.args.scratch.now) c.loop-done.done _ _ _
+    c.next_piece-next.ensures c.loop-done-test.true c.loop-done.invariant.filled c.requires.room c.loop-done.invariant.so_far c.in_err-stopped.ensures.stays
+
 pub loop-done-preserved : goal.loop-done-preserved
 loop-done-preserved g c =
     let count : c.next_piece-next.result.count ≡ min 64 (c.args.range.count - c.loop-done.done) = ap (λ (r : Range). r.count) c.next_piece-next.ensures in
