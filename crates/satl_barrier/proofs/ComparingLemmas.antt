@@ -1,11 +1,11 @@
 -- Blocks that are read, compared with those that are wanted.
-use Rattle.std.proofs.Common.{◌≡◌, ⊎_elim, refl, sym, ap, subst, arith, ◌∙◌, ℕ, suc, ◌+◌, ◌≤◌, Bool, true, false, List, [], ◌∷◌, ◌++◌, length, map, take, drop, Some, None, Bor}
+use Rattle.std.proofs.Common.{◌≡◌, ⊎_elim, refl, sym, ap, subst, arith, ◌∙◌, ℕ, suc, ◌+◌, ◌≤◌, Bool, true, false, List, [], ◌∷◌, ◌++◌, length, map, take, drop, Some, None, Bor, take_all}
 use Rattle.std.specs.Prelude.{Option, nat_eq, not, slice_range, ◌-◌, ◌<◌}
 use Rattle.std.specs.Option.{option_eq}
 use Rattle.std.specs.Iterator.{YieldsFirstRef}
 use Rattle.std.specs.Cmp.Lexicographic.{pointwise, other_text, same_text}
-use Rattle.std.proofs.Math.Seq.{take-append_seam}
-use Rattle.std.proofs.lemmas.List.{length-drop, length-map, length-take}
+use Rattle.std.proofs.Math.Seq.{take-add, take-append_seam}
+use Rattle.std.proofs.lemmas.List.{drop-drop, drop-map, drop-take, length-drop, length-map, length-take, take-map, take-take}
 use Rattle.satl_base.specs.declared.block.Block.{Block}
 use Rattle.satl_base.specs.Cells.{Cell, nows}
 
@@ -97,3 +97,34 @@ pub first_read : (cells : List Cell) (lba count : ℕ) (given taken : List Block
 first_read cells lba count given taken within is =
     let size = nows-length cells lba count within in
     ap (take count) is ∙ (ap (λ n. take n (nows cells lba count ++ drop (length (nows cells lba count)) given)) (sym size) ∙ take-append_seam (nows cells lba count) (drop (length (nows cells lba count)) given))
+
+nows-map : (cells : List Cell) (lba count : ℕ) → nows cells lba count ≡ take count (drop lba (map (λ c. c.now) cells))
+nows-map cells lba count =
+    let size : lba + count - lba ≡ count = omega arith in
+    ap (λ n. map (λ (c : Cell). c.now) (take n (drop lba cells))) size
+    ∙ (sym (take-map (λ (c : Cell). c.now) count (drop lba cells)) ∙ ap (take count) (sym (drop-map (λ (c : Cell). c.now) lba cells)))
+
+-- reads of a part of a range give that part
+pub nows_part : (old mid : List Cell) (lba at done k count : ℕ) → map (λ c. c.now) mid ≡ map (λ c. c.now) old → at ≡ lba + done → done + k ≤ count → nows mid at k ≡ take k (drop done (nows old lba count))
+nows_part old mid lba at done k count same at_is within =
+    let left : count ≡ done + (count - done) = omega arith in
+    nows-map mid at k
+    ∙ (ap (λ vs. take k (drop at vs)) same
+        ∙ (ap (λ n. take k (drop n (map (λ (c : Cell). c.now) old))) at_is
+            ∙ (ap (take k) (sym (drop-drop done lba (map (λ (c : Cell). c.now) old)))
+                ∙ (sym (take-take k (count - done) (drop done (drop lba (map (λ (c : Cell). c.now) old))) (omega arith))
+                    ∙ (ap (take k) (sym (drop-take done (count - done) (drop lba (map (λ (c : Cell). c.now) old))))
+                        ∙ ap (λ n. take k (drop done (take n (drop lba (map (λ (c : Cell). c.now) old))))) (sym left)
+                        ∙ ap (λ vs. take k (drop done vs)) (sym (nows-map old lba count)))))))
+
+-- the first blocks are the same, and the next too
+pub same_on : (done k : ℕ) (xs ys : List Block) → take done xs ≡ take done ys → take k (drop done xs) ≡ take k (drop done ys) → take (done + k) xs ≡ take (done + k) ys
+same_on done k xs ys first next = take-add done k xs ∙ (ap (λ bs. bs ++ take k (drop done xs)) first ∙ ap (λ bs. take done ys ++ bs) next ∙ sym (take-add done k ys))
+
+-- all are the same
+pub same_all : (n done : ℕ) (xs ys : List Block) → done ≡ n → length xs ≡ n → length ys ≡ n → take done xs ≡ take done ys → xs ≡ ys
+same_all n done xs ys is xs_are ys_are same = sym (take_all done xs (omega arith)) ∙ (same ∙ take_all done ys (omega arith))
+
+-- so many more are taken off
+pub dropped_on : (done k : ℕ) (xs wanted rest : List Block) → wanted ≡ drop done xs → rest ≡ drop k wanted → rest ≡ drop (done + k) xs
+dropped_on done k xs wanted rest wanted_is is = is ∙ (ap (drop k) wanted_is ∙ drop-drop k done xs)

@@ -118,6 +118,12 @@ module _ (dma : Bool) (which : Which) (lba count : ℕ) (writes : List Pair) (re
 pub done_by : (t : Transfer) (count : ℕ) (it : Finish) (old new : DriveState) → it ≡ finishes.Done → FinishesAs t count it old new → IsDone t old new
 done_by t count it old new is x = subst (λ f. FinishesAs t count f old new) is x
 
+pub flawed_by : (t : Transfer) (count : ℕ) (it : Finish) (at : ℕ) (old new : DriveState) → it ≡ finishes.Flawed at → FinishesAs t count it old new → IsFlawed t at old new
+flawed_by t count it at old new is x = subst (λ f. FinishesAs t count f old new) is x
+
+pub garbled_by : (t : Transfer) (count : ℕ) (it : Finish) (old new : DriveState) → it ≡ finishes.Garbled → FinishesAs t count it old new → IsGarbled t count old new
+garbled_by t count it old new is x = subst (λ f. FinishesAs t count f old new) is x
+
 -- ---- each command
 
 verify_gone : (range : Range) (old : DriveState) (given : List Block) (ended : Taskfile) (taken : List Block) (new : DriveState) → IsReached range old → HasRun (commands.Verify true range.lba range.count) old given ended taken new → HasGone (over false flaws.Read range.lba range.count [] []) (command_registers (commands.Verify true range.lba range.count)) old given ended taken new

@@ -7,3 +7,4 @@ pub mod TrimmingLemmas
 pub mod PiecesLemmas
 pub mod WritingSameLemmas
 pub mod ComparingLemmas
+pub mod VerifyingLemmas

@@ -3,6 +3,7 @@ use Rattle.std.proofs.Common.{◌≡◌, ⊎_elim, inl, inr, refl, sym, ap, subs
 use Rattle.std.specs.Prelude.{Option, slice_index_or, if◌then◌else◌, ◌⊎◌, ◌-◌, ◌<◌, min}
 use Rattle.std.specs.List.{AllByRecursion}
 use Rattle.satl_base.specs.declared.block.Block.{Block}
+use Rattle.satl_base.specs.declared.block.Range.{Range}
 use Rattle.satl_base.specs.declared.bench.Which.{Which}
 use Rattle.satl_base.specs.declared.bench.Which.TheVariants as flaws
 use Rattle.satl_base.specs.Lists.{IsIn}
@@ -12,7 +13,7 @@ use Rattle.satl_base.specs.Moves.{Moves}
 use Rattle.satl_base.specs.Moves.{stay}
 use Rattle.satl_base.proofs.CellsLemmas.{part-length, part-write_flaws, part_append, part_none, part_whole, whole-append, whole-length}
 use Rattle.satl_base.proofs.ListsLemmas.{All-in, in_left, in_right}
-use Rattle.satl_base.proofs.LossesLemmas.{PartLossy, loses-flaws, loses-length, loses_on, part_after, whole_loses}
+use Rattle.satl_base.proofs.LossesLemmas.{PartLossy, loses-flaws, loses-length, loses-nows, loses_on, part_after, whole_loses}
 use Rattle.satl_base.proofs.MovesLemmas.{lose_once, moves_of_whole, moves_on}
 use Rattle.satl_regs.specs.Effects.{Transfer}
 use Rattle.satl_drive.specs.State.{DriveState}
@@ -56,6 +57,10 @@ first_flaw-less which cells lba a count within none =
     first_set-less (map (has_flaw which) cells) a (count - a) lba (sym (ap (first_set (map (has_flaw which) cells) lba) split) ∙ none)
 
 -- ---- what is done so far
+
+-- the first blocks of a range
+abbrev pub head : Range → ℕ → Range
+head range done = record { lba = range.lba; count = done }
 
 -- these cells, or fewer of their entries
 abbrev pub Follows : List Cell → List Cell → Type 0
@@ -114,9 +119,14 @@ pub all_done : (t : Transfer) (old new : DriveState) → 1 ≤ t.sectors → IsS
 all_done t old new some (inl x) = absurd (omega (arith, x.none))
 all_done t old new some (inr x) = x.is_done
 
-pub all_stays : (t : Transfer) (old new : DriveState) → 1 ≤ t.sectors → IsSoFar t old new → Stays old new
-all_stays t old new some (inl x) = absurd (omega (arith, x.none))
-all_stays t old new some (inr x) = x.stays
+pub begun-follows : (t : Transfer) (old mid : DriveState) → t.writes ≡ [] → IsBegun t old mid → Follows old.cells mid.cells
+begun-follows t old mid none b = subst (λ ps. Follows (whole old.cells ps) mid.cells) none b.cells
+
+pub begun-read_flaws : (t : Transfer) (old mid : DriveState) → t.writes ≡ [] → IsBegun t old mid → map (has_flaw flaws.Read) mid.cells ≡ map (has_flaw flaws.Read) old.cells
+begun-read_flaws t old mid none b = ⊎_elim (λ e. ap (map (has_flaw flaws.Read)) e) (λ l. loses-flaws flaws.Read old.cells mid.cells l) (begun-follows t old mid none b)
+
+pub begun-nows : (t : Transfer) (old mid : DriveState) → t.writes ≡ [] → IsBegun t old mid → map (λ c. c.now) mid.cells ≡ map (λ c. c.now) old.cells
+begun-nows t old mid none b = ⊎_elim (λ e. ap (map (λ c. c.now)) e) (λ l. loses-nows old.cells mid.cells l) (begun-follows t old mid none b)
 
 -- ---- the next piece
 
@@ -174,9 +184,9 @@ module _ (which : Which) (lba a b : ℕ) (us vs : List Pair) (old mid new : Driv
     stays = x.stays ∙ ap (λ (d : DriveState). record d { cells = new.cells; active = new.active }) first.stays;
   }
 
-  pub next_garbled : (c : ℕ) (ws : List Pair) (head : ℕ) → head ≤ a + b → IsGarbled (over true which (lba + a) b vs []) b mid new → IsGarbled (over true which lba (a + (b + c)) (us ++ (vs ++ ws)) []) head old new
-  next_garbled c ws head within x = record {
-    no_flaw = first_flaw-less which old.cells lba head (a + b) within (rest_flaw ∙ x.no_flaw);
+  pub next_garbled : (c : ℕ) (ws : List Pair) (most : ℕ) → most ≤ a + b → IsGarbled (over true which (lba + a) b vs []) b mid new → IsGarbled (over true which lba (a + (b + c)) (us ++ (vs ++ ws)) []) most old new
+  next_garbled c ws most within x = record {
+    no_flaw = first_flaw-less which old.cells lba most (a + b) within (rest_flaw ∙ x.no_flaw);
     torn = next_torn c ws x.torn;
     one = x.one ∙ ap (λ (d : DriveState). d.glitches) first.stays;
     stays = x.stays ∙ ap (λ (d : DriveState). record d { cells = new.cells; active = new.active; glitches = new.glitches }) first.stays;

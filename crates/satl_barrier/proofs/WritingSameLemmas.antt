@@ -14,7 +14,7 @@ use Rattle.satl_barrier.specs.Commands.{IsCutShort}
 use Rattle.satl_barrier.specs.Finishing.{FinishesAs, IsDone, IsReached, piece, piece_behind, writing, writing_same}
 use Rattle.satl_barrier.specs.Leaving.{IsLostIn, Stays}
 use Rattle.satl_barrier.proofs.FinishingLemmas.{over}
-use Rattle.satl_barrier.proofs.PiecesLemmas.{IsBegun, IsSoFar, begun, begun-length, begun-write_flaws, next_done, next_flawed, next_garbled, next_lost, stays_so_far}
+use Rattle.satl_barrier.proofs.PiecesLemmas.{IsBegun, IsSoFar, begun, begun-length, begun-write_flaws, head, next_done, next_flawed, next_garbled, next_lost, stays_so_far}
 
 pub same_pairs : (a b lba : ℕ) (block : Block) (cached : Bool) → pairs_from lba (replicate (a + b) block) cached ≡ pairs_from lba (replicate a block) cached ++ pairs_from (lba + a) (replicate b block) cached
 same_pairs zero b lba block cached =
@@ -27,25 +27,9 @@ same_pairs (suc a) b lba block cached =
     rw count (ap (λ ps. record { lba = lba; block = block; cached = cached } ∷ ps)
         (same_pairs a b (lba + 1) block cached ∙ ap (λ k. pairs_from (lba + 1) (replicate a block) cached ++ pairs_from k (replicate b block) cached) place))
 
--- the first blocks of a range
-abbrev pub head : Range → ℕ → Range
-head range done = record { lba = range.lba; count = done }
-
 -- the same block from a place of a range on
 abbrev pub same_from : Range → Block → DriveState → ℕ → ℕ → List Pair
 same_from range block d done count = pairs_from (range.lba + done) (replicate count block) d.cache
-
-pub piece_reached : (range : Range) (block : Block) (next : Range) (done : ℕ) (old mid : DriveState) → next ≡ piece_behind range done → done < range.count → IsReached range old → IsSoFar (writing_same (head range done) block old) old mid → IsReached next mid
-piece_reached range block next done old mid is more reached so_far =
-    let lba : next.lba ≡ range.lba + done = ap (λ (r : Range). r.lba) is in
-    let count : next.count ≡ min 64 (range.count - done) = ap (λ (r : Range). r.count) is in
-    let size = begun-length (writing_same (head range done) block old) old mid (begun (writing_same (head range done) block old) old mid so_far) in
-    record {
-      some = omega (arith, count, more);
-      most = omega (arith, count);
-      address = omega (arith, lba, count, more, reached.address);
-      within = omega (arith, lba, count, more, reached.within, size);
-    }
 
 module _ (range : Range) (block : Block) (next : Range) (pages : List Block) (n done : ℕ) (old mid new : DriveState)
     (is : next ≡ piece_behind range done) (more : done < range.count) (filled : pages ≡ replicate n block) (room : 64 ≤ n)
