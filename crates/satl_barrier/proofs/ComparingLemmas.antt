@@ -8,6 +8,8 @@ use Rattle.std.proofs.Math.Seq.{take-add, take-append_seam}
 use Rattle.std.proofs.lemmas.List.{drop-drop, drop-map, drop-take, length-drop, length-map, length-take, take-map, take-take}
 use Rattle.satl_base.specs.declared.block.Block.{Block}
 use Rattle.satl_base.specs.Cells.{Cell, nows}
+use Rattle.satl_base.specs.Losses.{Loses}
+use Rattle.satl_base.proofs.LossesLemmas.{loses-nows}
 
 -- ---- the next of two lists
 
@@ -103,6 +105,10 @@ nows-map cells lba count =
     let size : lba + count - lba ≡ count = omega arith in
     ap (λ n. map (λ (c : Cell). c.now) (take n (drop lba cells))) size
     ∙ (sym (take-map (λ (c : Cell). c.now) count (drop lba cells)) ∙ ap (take count) (sym (drop-map (λ (c : Cell). c.now) lba cells)))
+
+-- a loss leaves what reads of a range give
+pub loses-nows_at : (old new : List Cell) (lba count : ℕ) → Loses old new → nows new lba count ≡ nows old lba count
+loses-nows_at old new lba count lost = nows-map new lba count ∙ (ap (λ vs. take count (drop lba vs)) (loses-nows old new lost) ∙ sym (nows-map old lba count))
 
 -- reads of a part of a range give that part
 pub nows_part : (old mid : List Cell) (lba at done k count : ℕ) → map (λ c. c.now) mid ≡ map (λ c. c.now) old → at ≡ lba + done → done + k ≤ count → nows mid at k ≡ take k (drop done (nows old lba count))

@@ -1,20 +1,23 @@
 -- What a loop over the pieces of a VERIFY with comparison keeps.
 use Rattle.std.proofs.Common.{◌≡◌, ◌⊎◌, inl, inr, sym, refl, ap, subst, arith, ◌∙◌, ℕ, ◌+◌, ◌≤◌, true, List, [], length, map, take, drop, Some, None}
-use Rattle.std.specs.Prelude.{◌-◌, ◌<◌, min}
+use Rattle.std.specs.Prelude.{◌-◌, ◌<◌, Option, min}
 use Rattle.satl_base.specs.declared.block.Block.{Block}
 use Rattle.satl_base.specs.declared.block.Range.{Range}
 use Rattle.satl_base.specs.declared.bench.Which.TheVariants as flaws
-use Rattle.satl_base.specs.Cells.{first_flaw, nows}
+use Rattle.satl_base.specs.Cells.{first_flaw, first_set, nows}
+use Rattle.satl_base.proofs.LossesLemmas.{loses-flaws}
+use Rattle.satl_base.proofs.MovesLemmas.{lose_once, moves_on}
+use Rattle.satl_io.specs.Causes.{Rose}
 use Rattle.satl_drive.specs.State.{DriveState}
 use Rattle.satl_barrier.specs.declared.finishing.Finish.{Finish}
 use Rattle.satl_barrier.specs.declared.finishing.Finish.TheVariants as finishes
 use Rattle.satl_barrier.specs.declared.comparing.Comparison.{Comparison}
 use Rattle.satl_barrier.specs.declared.comparing.Comparison.TheVariants as comparisons
 use Rattle.satl_barrier.specs.Commands.{IsCutShort}
-use Rattle.satl_barrier.specs.Finishing.{ComparesAs, FinishesAs, IsDone, IsFlawed, IsGarbled, piece_behind, verifying}
+use Rattle.satl_barrier.specs.Finishing.{ComparesAs, FinishesAs, IsDone, IsFlawed, IsGarbled, IsVerified, piece_behind, verifying}
 use Rattle.satl_barrier.specs.Leaving.{IsLostIn, Stays}
 use Rattle.satl_barrier.proofs.FinishingLemmas.{over}
-use Rattle.satl_barrier.proofs.ComparingLemmas.{nows-length, nows_part, same_all}
+use Rattle.satl_barrier.proofs.ComparingLemmas.{loses-nows_at, nows-length, nows_part, same_all}
 use Rattle.satl_barrier.proofs.PiecesLemmas.{IsBegun, IsPartDone, IsSoFar, all_done, begun, begun-nows, begun-read_flaws, head, next_done, next_flawed, next_garbled, next_lost, stays_so_far}
 
 -- without flaws, a garbled piece garbles all
@@ -81,3 +84,32 @@ all_same range blocks done old new some within all is so_far same = (
 pub all_differ : (blocks : List Block) (done k : ℕ) (read wanted seen pages : List Block) → take k pages ≡ seen → seen ≡ take k (drop done read) → wanted ≡ drop done blocks → (take k pages ≡ take k wanted → ⊥) → read ≡ blocks → ⊥
 all_differ blocks done k read wanted seen pages taken seen_is wanted_is differ same =
     differ (taken ∙ (seen_is ∙ (ap (λ bs. take k (drop done bs)) same ∙ ap (take k) (sym wanted_is))))
+
+-- ---- after a range was verified
+
+pub all_of : (range : Range) → IsBehind range 0 range
+all_of range = record { lba = omega arith; within = omega arith }
+
+module _ (range : Range) (old mid new : DriveState) (verified : IsDone (verifying range) old mid) (stays : Stays old mid) where
+  resumed : IsSoFar (verifying (head range 0)) old mid
+  resumed = inr (record { is_done = record { was_up = verified.was_up; no_flaw = refl; lost = verified.lost; stays = verified.stays }; stays = stays })
+
+  pub compares_on : (blocks : List Block) (it : Comparison) → ComparesAs range blocks it mid new → ComparesAs range blocks it old new
+  compares_on blocks comparisons.Same x = (sym (loses-nows_at old.cells mid.cells range.lba range.count verified.lost) ∙ x.0, read_all range range 0 old mid new (all_of range) resumed verified.no_flaw x.1)
+  compares_on blocks comparisons.Differs x = (λ same. x.0 (loses-nows_at old.cells mid.cells range.lba range.count verified.lost ∙ same), read_all range range 0 old mid new (all_of range) resumed verified.no_flaw x.1)
+  compares_on blocks (comparisons.Flawed at) x = read_flawed range range 0 old mid new (all_of range) resumed at x
+  compares_on blocks comparisons.Garbled x = read_garbled range range 0 old mid new (all_of range) resumed verified.no_flaw x
+
+  pub lost_on : IsLostIn [] mid new → IsLostIn [] old new
+  lost_on x = record {
+    cells = moves_on (lose_once verified.lost) x.cells;
+    glitches = subst (λ n. (new.glitches ≡ n) ⊎ (new.glitches + 1 ≡ n)) (ap (λ (d : DriveState). d.glitches) verified.stays) x.glitches;
+    rose = subst (λ n. Rose n new.faults) (ap (λ (d : DriveState). d.faults) verified.stays) x.rose;
+    down = x.down;
+  }
+
+pub still_clean : (range : Range) (old mid : DriveState) → IsDone (verifying range) old mid → first_flaw flaws.Read mid.cells range.lba range.count ≡ None
+still_clean range old mid verified = ap (λ fs. first_set fs range.lba range.count) (loses-flaws flaws.Read old.cells mid.cells verified.lost) ∙ verified.no_flaw
+
+pub verified_done : (range : Range) (flaw : Option ℕ) (old mid : DriveState) → flaw ≡ None → IsVerified range flaw old mid → IsDone (verifying range) old mid
+verified_done range flaw old mid none x = subst (λ o. IsVerified range o old mid) none x
