@@ -1,6 +1,6 @@
 -- Blocks that are read, compared with those that are wanted.
-use Rattle.std.proofs.Common.{◌≡◌, ⊎_elim, refl, sym, ap, subst, arith, ◌∙◌, ℕ, suc, ◌+◌, ◌≤◌, Bool, true, false, List, [], ◌∷◌, ◌++◌, length, map, take, drop, Some, None, Bor, take_all}
-use Rattle.std.specs.Prelude.{Option, nat_eq, not, slice_range, ◌-◌, ◌<◌}
+use Rattle.std.proofs.Common.{◌≡◌, refl, sym, ap, arith, ◌∙◌, ℕ, suc, ◌+◌, ◌≤◌, Bool, true, false, List, ◌∷◌, ◌++◌, length, map, take, drop, Some, None, Bor, take_all}
+use Rattle.std.specs.Prelude.{Option, nat_eq, not, slice_range, ◌-◌}
 use Rattle.std.specs.Option.{option_eq}
 use Rattle.std.specs.Iterator.{YieldsFirstRef}
 use Rattle.std.specs.Cmp.Lexicographic.{pointwise, other_text, same_text}
@@ -116,12 +116,12 @@ nows_part old mid lba at done k count same at_is within =
     let left : count ≡ done + (count - done) = omega arith in
     nows-map mid at k
     ∙ (ap (λ vs. take k (drop at vs)) same
-        ∙ (ap (λ n. take k (drop n (map (λ (c : Cell). c.now) old))) at_is
-            ∙ (ap (take k) (sym (drop-drop done lba (map (λ (c : Cell). c.now) old)))
-                ∙ (sym (take-take k (count - done) (drop done (drop lba (map (λ (c : Cell). c.now) old))) (omega arith))
-                    ∙ (ap (take k) (sym (drop-take done (count - done) (drop lba (map (λ (c : Cell). c.now) old))))
-                        ∙ ap (λ n. take k (drop done (take n (drop lba (map (λ (c : Cell). c.now) old))))) (sym left)
-                        ∙ ap (λ vs. take k (drop done vs)) (sym (nows-map old lba count)))))))
+    ∙ (ap (λ n. take k (drop n (map (λ (c : Cell). c.now) old))) at_is
+    ∙ (ap (take k) (sym (drop-drop done lba (map (λ (c : Cell). c.now) old)))
+    ∙ (sym (take-take k (count - done) (drop done (drop lba (map (λ (c : Cell). c.now) old))) (omega arith))
+    ∙ (ap (take k) (sym (drop-take done (count - done) (drop lba (map (λ (c : Cell). c.now) old))))
+    ∙ ap (λ n. take k (drop done (take n (drop lba (map (λ (c : Cell). c.now) old))))) (sym left)
+    ∙ ap (λ vs. take k (drop done vs)) (sym (nows-map old lba count)))))))
 
 -- the first blocks are the same, and the next too
 pub same_on : (done k : ℕ) (xs ys : List Block) → take done xs ≡ take done ys → take k (drop done xs) ≡ take k (drop done ys) → take (done + k) xs ≡ take (done + k) ys

@@ -1,17 +1,14 @@
 -- One piece of a range after the other.
-use Rattle.std.proofs.Common.{◌≡◌, ⊎_elim, inl, inr, refl, sym, ap, subst, arith, ◌∙◌, ℕ, zero, suc, ◌+◌, ◌≤◌, Bool, true, false, List, [], ◌∷◌, ◌++◌, length, map, replicate, take, Some, None}
-use Rattle.std.specs.Prelude.{Option, slice_index_or, if◌then◌else◌, ◌⊎◌, ◌-◌, ◌<◌, min}
-use Rattle.std.specs.List.{AllByRecursion}
-use Rattle.satl_base.specs.declared.block.Block.{Block}
+use Rattle.std.proofs.Common.{◌≡◌, ⊎_elim, inl, inr, refl, sym, ap, subst, arith, ◌∙◌, ℕ, zero, suc, ◌+◌, ◌≤◌, Bool, true, false, List, [], ◌++◌, length, map, Some, None}
+use Rattle.std.specs.Prelude.{Option, slice_index_or, if◌then◌else◌, ◌⊎◌, ◌-◌}
 use Rattle.satl_base.specs.declared.block.Range.{Range}
 use Rattle.satl_base.specs.declared.bench.Which.{Which}
 use Rattle.satl_base.specs.declared.bench.Which.TheVariants as flaws
 use Rattle.satl_base.specs.Lists.{IsIn}
-use Rattle.satl_base.specs.Cells.{Cell, Pair, Part, first_flaw, first_set, has_flaw, pairs_from, whole}
+use Rattle.satl_base.specs.Cells.{Cell, Pair, Part, first_flaw, first_set, has_flaw, whole}
 use Rattle.satl_base.specs.Losses.{Loses}
 use Rattle.satl_base.specs.Moves.{Moves}
-use Rattle.satl_base.specs.Moves.{stay}
-use Rattle.satl_base.proofs.CellsLemmas.{part-length, part-write_flaws, part_append, part_none, part_whole, whole-append, whole-length}
+use Rattle.satl_base.proofs.CellsLemmas.{part-write_flaws, part_append, part_none, part_whole, whole-append, whole-length}
 use Rattle.satl_base.proofs.ListsLemmas.{All-in, in_left, in_right}
 use Rattle.satl_base.proofs.LossesLemmas.{PartLossy, loses-flaws, loses-length, loses-nows, loses_on, part_after, whole_loses}
 use Rattle.satl_base.proofs.MovesLemmas.{lose_once, moves_of_whole, moves_on}
@@ -34,8 +31,8 @@ first_set-rest flags (suc a) b lba none =
     let count : suc a + b ≡ suc (a + b) = omega arith in
     let place : lba + 1 + a ≡ lba + suc a = omega arith in
     rw count (subst (λ k. (if slice_index_or flags lba false then Some lba else first_set flags (lba + 1) (a + b)) ≡ first_set flags k b) place
-        ((elim (slice_index_or flags lba false) as (λ f. (if f then Some lba else first_set flags (lba + 1) a) ≡ None → (if f then Some lba else first_set flags (lba + 1) (a + b)) ≡ first_set flags (lba + 1 + a) b)
-        [ true ↦ λ e. absurd cc | false ↦ λ e. first_set-rest flags a b (lba + 1) e ]) none))
+    ((elim (slice_index_or flags lba false) as (λ f. (if f then Some lba else first_set flags (lba + 1) a) ≡ None → (if f then Some lba else first_set flags (lba + 1) (a + b)) ≡ first_set flags (lba + 1 + a) b)
+    [ true ↦ λ e. absurd cc | false ↦ λ e. first_set-rest flags a b (lba + 1) e ]) none))
 
 first_set-some : (flags : List Bool) (a b lba at : ℕ) → first_set flags lba a ≡ Some at → first_set flags lba (a + b) ≡ Some at
 first_set-some flags zero b lba at some = absurd cc

@@ -1,5 +1,5 @@
 -- What a loop over the pieces of a VERIFY with comparison keeps.
-use Rattle.std.proofs.Common.{◌≡◌, ◌⊎◌, inl, inr, sym, refl, ap, subst, arith, ◌∙◌, ℕ, ◌+◌, ◌≤◌, true, List, [], length, map, take, drop, Some, None}
+use Rattle.std.proofs.Common.{◌≡◌, ◌⊎◌, inr, sym, refl, ap, subst, arith, ◌∙◌, ℕ, ◌+◌, ◌≤◌, true, List, [], length, take, drop, None}
 use Rattle.std.specs.Prelude.{◌-◌, ◌<◌, Option, min}
 use Rattle.satl_base.specs.declared.block.Block.{Block}
 use Rattle.satl_base.specs.declared.block.Range.{Range}
@@ -9,16 +9,14 @@ use Rattle.satl_base.proofs.LossesLemmas.{loses-flaws}
 use Rattle.satl_base.proofs.MovesLemmas.{lose_once, moves_on}
 use Rattle.satl_io.specs.Causes.{Rose}
 use Rattle.satl_drive.specs.State.{DriveState}
-use Rattle.satl_barrier.specs.declared.finishing.Finish.{Finish}
-use Rattle.satl_barrier.specs.declared.finishing.Finish.TheVariants as finishes
 use Rattle.satl_barrier.specs.declared.comparing.Comparison.{Comparison}
 use Rattle.satl_barrier.specs.declared.comparing.Comparison.TheVariants as comparisons
 use Rattle.satl_barrier.specs.Commands.{IsCutShort}
-use Rattle.satl_barrier.specs.Finishing.{ComparesAs, FinishesAs, IsDone, IsFlawed, IsGarbled, IsVerified, piece_behind, verifying}
+use Rattle.satl_barrier.specs.Finishing.{ComparesAs, IsDone, IsFlawed, IsGarbled, IsVerified, piece_behind, verifying}
 use Rattle.satl_barrier.specs.Leaving.{IsLostIn, Stays}
 use Rattle.satl_barrier.proofs.FinishingLemmas.{over}
 use Rattle.satl_barrier.proofs.ComparingLemmas.{loses-nows_at, nows-length, nows_part, same_all}
-use Rattle.satl_barrier.proofs.PiecesLemmas.{IsBegun, IsPartDone, IsSoFar, all_done, begun, begun-nows, begun-read_flaws, head, next_done, next_flawed, next_garbled, next_lost, stays_so_far}
+use Rattle.satl_barrier.proofs.PiecesLemmas.{IsBegun, IsSoFar, all_done, begun, begun-nows, begun-read_flaws, head, next_done, next_flawed, next_garbled, next_lost, stays_so_far}
 
 -- without flaws, a garbled piece garbles all
 pub all_garbled : (range : Range) (most : ℕ) (old new : DriveState) → first_flaw flaws.Read old.cells range.lba range.count ≡ None → IsGarbled (verifying range) most old new → IsGarbled (verifying range) range.count old new

@@ -20,9 +20,7 @@ pub enum Comparison {
     Same,
     Differs,
     /// A read flaw stopped it: the lowest flawed address of the range.
-    Flawed {
-        lba: u64,
-    },
+    Flawed { lba: u64 },
     /// A CRC error stopped it.
     Garbled,
 }

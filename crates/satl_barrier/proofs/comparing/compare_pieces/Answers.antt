@@ -28,15 +28,14 @@ pub returns-in-Garbled-clause-stays : goal.returns-in-Garbled-clause-stays
 returns-in-Garbled-clause-stays g c = read_stays _ _ _ _ _ _ (behind _ _ _ c.loop-done-test.true c.next_piece-next.ensures) c.loop-done.invariant.so_far c.in_ok-read_piece.ensures.stays
 
 pub returns-then-not-takes_same-clause-compares : goal.returns-then-not-takes_same-clause-compares
-returns-then-not-takes_same-clause-compares g c =
-    (
-      all_differ c.args.blocks.now c.loop-done.done c.next_piece-next.result.count (nows (g.D.Drive.state c.args.drive.now).cells c.args.range.lba c.args.range.count) c.loop-done.wanted _ c.read_piece.new.pages
-          (c.in_ok-read_piece.ensures.blocks c.in-Done.is)
-          (read_part _ _ _ _ _ (g.D.Drive.state c.read_piece.new.drive) (behind _ _ _ c.loop-done-test.true c.next_piece-next.ensures) c.loop-done.invariant.so_far)
-          c.loop-done.invariant.wanted
-          (λ same. let set = c.if-not-takes_same.ensures.same.1 same in cc),
-      read_all _ _ _ _ _ _ (behind _ _ _ c.loop-done-test.true c.next_piece-next.ensures) c.loop-done.invariant.so_far c.requires.clean (done_by _ _ _ _ _ c.in-Done.is c.in_ok-read_piece.ensures.finishes),
-    )
+returns-then-not-takes_same-clause-compares g c = (
+  all_differ c.args.blocks.now c.loop-done.done c.next_piece-next.result.count (nows (g.D.Drive.state c.args.drive.now).cells c.args.range.lba c.args.range.count) c.loop-done.wanted _ c.read_piece.new.pages
+      (c.in_ok-read_piece.ensures.blocks c.in-Done.is)
+      (read_part _ _ _ _ _ (g.D.Drive.state c.read_piece.new.drive) (behind _ _ _ c.loop-done-test.true c.next_piece-next.ensures) c.loop-done.invariant.so_far)
+      c.loop-done.invariant.wanted
+      (λ same. let set = c.if-not-takes_same.ensures.same.1 same in cc),
+  read_all _ _ _ _ _ _ (behind _ _ _ c.loop-done-test.true c.next_piece-next.ensures) c.loop-done.invariant.so_far c.requires.clean (done_by _ _ _ _ _ c.in-Done.is c.in_ok-read_piece.ensures.finishes),
+)
 
 pub returns-then-not-takes_same-clause-stays : goal.returns-then-not-takes_same-clause-stays
 returns-then-not-takes_same-clause-stays g c = read_stays _ _ _ _ _ _ (behind _ _ _ c.loop-done-test.true c.next_piece-next.ensures) c.loop-done.invariant.so_far c.in_ok-read_piece.ensures.stays
@@ -53,7 +52,7 @@ loop-done-preserved g c =
           (done_by _ _ _ _ _ c.in-Done.is c.in_ok-read_piece.ensures.finishes) c.in_ok-read_piece.ensures.stays;
       same = same_on c.loop-done.done c.next_piece-next.result.count _ _ c.loop-done.invariant.same
           (sym (read_part _ _ _ _ _ (g.D.Drive.state c.read_piece.new.drive) (behind _ _ _ c.loop-done-test.true c.next_piece-next.ensures) c.loop-done.invariant.so_far) ∙ (sym (c.in_ok-read_piece.ensures.blocks c.in-Done.is)
-              ∙ (c.if-not-takes_same.ensures.same.0 refl ∙ ap (take c.next_piece-next.result.count) c.loop-done.invariant.wanted)));
+          ∙ (c.if-not-takes_same.ensures.same.0 refl ∙ ap (take c.next_piece-next.result.count) c.loop-done.invariant.wanted)));
       wanted = dropped_on c.loop-done.done c.next_piece-next.result.count c.args.blocks.now c.loop-done.wanted _ c.loop-done.invariant.wanted (c.if-not-takes_same.ensures.rest refl);
       room = c.in_ok-read_piece.ensures.size ∙ c.loop-done.invariant.room;
       aligned = λ more. omega (arith, count, before, step, more);

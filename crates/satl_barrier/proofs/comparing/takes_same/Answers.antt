@@ -1,4 +1,4 @@
-use Rattle.std.proofs.Common.{◌≡◌, ◌+◌, ◌-◌, ◌≤◌, ℕ, suc, arith}
+use Rattle.std.proofs.Common.{◌≡◌, ◌+◌, ◌-◌, suc, arith}
 use Rattle.satl_barrier.proofs.ComparingLemmas.{all_more, each_more, is_not, next_differs, next_same, none_same, not_is, read_length, rest_more, wanted_length}
 use Rattle.satl_barrier.proofs.comparing.takes_same.Goals as goal
 

@@ -1,4 +1,4 @@
-use Rattle.std.proofs.Common.{◌≡◌, ◌≤◌, ◌<◌, ◌+◌, ◌-◌, min, sym, ap, ◌∙◌, arith, length}
+use Rattle.std.proofs.Common.{◌≡◌, ◌+◌, ◌-◌, min, ap, ◌∙◌, arith, length}
 use Rattle.std.proofs.lemmas.Result.{err_from_is_err_and}
 use Rattle.std.proofs.lemmas.List.{length-replicate}
 use Rattle.satl_base.specs.declared.block.Range.{Range}
@@ -10,7 +10,7 @@ pub returns-in_err-stopped-clause-lost : goal.returns-in_err-stopped-clause-lost
 returns-in_err-stopped-clause-lost g c =
     let p = err_from_is_err_and c.from_residual.result c.from_residual.ensures.1 in
     rw p.1 (piece_lost c.args.range c.args.block.now c.next_piece-next.result c.loop-done.scratch (length c.args.scratch.now) c.loop-done.done _ _ _
-        c.next_piece-next.ensures c.loop-done-test.true c.loop-done.invariant.filled c.requires.room c.loop-done.invariant.so_far c.in_err-stopped.ensures.lost)
+    c.next_piece-next.ensures c.loop-done-test.true c.loop-done.invariant.filled c.requires.room c.loop-done.invariant.so_far c.in_err-stopped.ensures.lost)
 
 pub returns-in_err-stopped-clause-stays : goal.returns-in_err-stopped-clause-stays
 returns-in_err-stopped-clause-stays g c = piece_stays c.args.range c.args.block.now c.next_piece-next.result c.loop-done.scratch (length c.args.scratch.now) c.loop-done.done _ _ _
