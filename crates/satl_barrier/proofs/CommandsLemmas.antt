@@ -23,7 +23,7 @@ use Rattle.satl_regs.specs.Spelling.{command_registers}
 use Rattle.satl_regs.specs.QueuedCommands.{queued_codes}
 use Rattle.satl_regs.specs.Effects.{Carries, Does, IsCarriedOut, IsFlawed, IsGarbled, IsLogged, IsRefused, IsSet, IsTelling, Medium, Setting, Transfer, abrt, has_setting, idnf, is_error_log, is_no_trim, no_error_log, own_blocks, pairs_of, reading, setting_of, settable, trimming, verifying, with_setting, writing}
 use Rattle.satl_identify.specs.Data.{identity_data}
-use Rattle.satl_drive.specs.State.{DriveState, IsFit, medium_of}
+use Rattle.satl_drive.specs.State.{DriveState, IsFit, medium_of, with_medium}
 use Rattle.satl_drive.specs.Rules.{CanRun, IsCarriedOut as IsRunOut, IsCutOff, IsRun, IsRunBy, IsRunCutOff, MayRun}
 use Rattle.satl_barrier.specs.Commands.{IsTold}
 use Rattle.satl_barrier.specs.Commands.{HasRun, IsCutShort, IsNamed}
@@ -83,6 +83,9 @@ cut_short old command r given new again run = record {
   settings = run.settings;
   cut = subst (λ c. IsCutOff old (pairs_of c (medium_of old) given) (record new { cache = old.cache; look = old.look; identify = old.identify })) again run.cut;
 }
+
+pub passed_cut : (old : DriveState) (r : Registers) (given : List Block) (new : DriveState) → IsRunCutOff old r given new → IsCutShort (pairs_of (command_in r) (medium_of old) given) old new
+passed_cut old r given new run = record { settings = run.settings; cut = run.cut }
 
 -- ---- what it leaves
 
@@ -158,23 +161,31 @@ does_retell (commands.Trim blocks) r old given ended taken new x = inl (trim_set
 does_retell commands.SmartStatus r old given ended taken new x = inl (as_set old new _ _ _ x.medium)
 does_retell (commands.Other code) r old given ended taken new x = inl (as_set old new _ _ _ x.medium)
 
-pub run_stays : (old new : DriveState) (c : AtaCommand) (given taken : List Block) (ended : Taskfile) → IsFree old → IsFit new → HasRun c old given ended taken new → Stays old new
-run_stays old new c given taken ended free fit run = record {
-  free = record { idle = ap (λ (d : DriveState). d.outstanding) run.stays ∙ free.idle; no_error = ap (λ (d : DriveState). d.error) run.stays ∙ free.no_error; fit = fit };
-  capacity = ap (λ (d : DriveState). d.capacity) run.stays;
-  sound = loses-sound run.after.cells new.cells run.lost;
+stays_after : (old new : DriveState) (after : Medium) → IsFree old → IsFit new → Loses after.cells new.cells → new ≡ record (with_medium old after) { cells = new.cells } → IsRetold (medium_of old) after → Stays old new
+stays_after old new after free fit lost stays retells = record {
+  free = record { idle = ap (λ (d : DriveState). d.outstanding) stays ∙ free.idle; no_error = ap (λ (d : DriveState). d.error) stays ∙ free.no_error; fit = fit };
+  capacity = ap (λ (d : DriveState). d.capacity) stays;
+  sound = loses-sound after.cells new.cells lost;
   says = says_retold (medium_of old) (medium_of new) told;
   tells = λ bytes long. tells_retold bytes old new long fit told;
-  unplugs = ap (λ (d : DriveState). d.unplugs) run.stays;
-  deepest = ap (λ (d : DriveState). d.deepest) run.stays;
+  unplugs = ap (λ (d : DriveState). d.unplugs) stays;
+  deepest = ap (λ (d : DriveState). d.deepest) stays;
 }
   where
     told : IsRetold (medium_of old) (medium_of new)
-    told = subst (IsRetold (medium_of old)) (sym (ap medium_of run.stays)) (by (does_retell c (command_registers c) (medium_of old) given ended taken run.after run.does))
+    told = subst (IsRetold (medium_of old)) (sym (ap medium_of stays)) (by retells)
       where
-        by : IsRetold (medium_of old) run.after → IsRetold (medium_of old) (record run.after { cells = new.cells })
+        by : IsRetold (medium_of old) after → IsRetold (medium_of old) (record after { cells = new.cells })
         by (inl x) = inl (record { cache = x.cache; look = x.look; identify = x.identify })
         by (inr x) = inr x
+
+pub run_stays : (old new : DriveState) (c : AtaCommand) (given taken : List Block) (ended : Taskfile) → IsFree old → IsFit new → HasRun c old given ended taken new → Stays old new
+run_stays old new c given taken ended free fit run = stays_after old new run.after free fit run.lost run.stays (does_retell c (command_registers c) (medium_of old) given ended taken run.after run.does)
+
+pub passed_stays : (old new : DriveState) (r : Registers) (given taken : List Block) (ended : Taskfile) → IsFree old → IsFit new → IsRun old r given ended taken new → Stays old new
+passed_stays old new r given taken ended free fit run =
+    let out : IsRunOut old r given ended taken new = subst (λ e. IsRunBy e old r given ended taken new) free.no_error run in
+    stays_after old new out.after free fit out.lost out.stays (does_retell (command_in r) r (medium_of old) given ended taken out.after out.does)
 
 pub cut_stays : (old new : DriveState) (pairs : List Pair) → IsFit new → IsCutShort pairs old new → Stays old new
 cut_stays old new pairs fit run = record {

@@ -1,10 +1,12 @@
 -- How a command ends that goes over a range of the medium, in one ATA command or in pieces of 64 blocks upwards.
-use Rattle.std.specs.Prelude.{◌≡◌, ◌⊎◌, ℕ, ◌+◌, ◌^◌, ◌≤◌, true, false, List, [], ◌∷◌, Option, Some, None, MatchOption, length, replicate}
+use Rattle.std.specs.Prelude.{◌≡◌, ◌⊎◌, ℕ, ◌+◌, ◌-◌, ◌^◌, ◌≤◌, ◌==◌, if◌then◌else◌, true, false, List, [], Option, Some, None, MatchOption, length, min, replicate}
 use Rattle.satl_base.specs.declared.block.Block.{Block}
 use Rattle.satl_base.specs.declared.block.Range.{Range}
 use Rattle.satl_base.specs.declared.bench.Which.TheVariants as flaws
 use Rattle.satl_base.specs.Cells.{Cell, Part, first_flaw, nows, pairs_from, whole}
 use Rattle.satl_base.specs.Losses.{Loses}
+use Rattle.satl_base.specs.Fields.{bits_of}
+use Rattle.satl_regs.specs.declared.values.Taskfile.{Taskfile}
 use Rattle.satl_regs.specs.Effects.{Transfer, zeros_at}
 use Rattle.satl_regs.specs.Trim.{addresses}
 use Rattle.satl_drive.specs.State.{DriveState}
@@ -17,6 +19,10 @@ use Rattle.satl_barrier.specs.declared.comparing.Comparison.TheVariants as compa
 abbrev pub piece : ℕ
 piece = 64
 
+-- the next piece of a range, behind the blocks that are done (profile)
+abbrev pub piece_behind : Range → ℕ → Range
+piece_behind range done = record { lba = range.lba + done; count = min piece (range.count - done) }
+
 -- the most pieces of a command (profile)
 abbrev pub most_pieces : ℕ
 most_pieces = 1024
@@ -25,6 +31,10 @@ most_pieces = 1024
 abbrev pub verifying : Range → Transfer
 verifying range = record { ext = true; dma = true; stopped_by = flaws.Read; lba = range.lba; sectors = range.count; writes = []; reads = [] }
 
+-- blocks at the addresses of a range, through the cache where it is on (SBC-3, WRITE commands)
+abbrev pub writing : Range → List Block → DriveState → Transfer
+writing range blocks d = record { ext = true; dma = true; stopped_by = flaws.Write; lba = range.lba; sectors = range.count; writes = pairs_from range.lba blocks d.cache; reads = [] }
+
 -- the same block at each address of a range, through the cache where it is on (SBC-3 5.42)
 abbrev pub writing_same : Range → Block → DriveState → Transfer
 writing_same range block d = record { ext = true; dma = true; stopped_by = flaws.Write; lba = range.lba; sectors = range.count; writes = pairs_from range.lba (replicate range.count block) d.cache; reads = [] }
@@ -32,6 +42,14 @@ writing_same range block d = record { ext = true; dma = true; stopped_by = flaws
 -- zeros at each address of some ranges, through the cache where it is on; no flaw stops it (SBC-3 5.28; of flaws: profile)
 abbrev pub trimming : List Range → DriveState → Transfer
 trimming ranges d = record { ext = true; dma = true; stopped_by = flaws.Write; lba = 0; sectors = 0; writes = zeros_at d.cache (addresses ranges); reads = [] }
+
+-- what a taskfile tells of the end: STATUS(0) is 1 at a bad end, and then ERROR(7) at a CRC error; else LBA is the flawed address (ACS-3, error
+-- outputs)
+abbrev pub finish_of : Taskfile → Finish
+finish_of ended =
+    if bits_of 0 0 ended.status == 0 then finishes.Done
+    else if bits_of 7 7 ended.error == 1 then finishes.Garbled
+    else finishes.Flawed ended.lba
 
 -- all of it was carried out, sectors may have been written back since, and the drive is active (ACS-3, normal outputs)
 pub record IsDone (t : Transfer) (old new : DriveState) : Type 0 where

@@ -1,11 +1,15 @@
 // VERIFY: a range is read for its flaws, or compared.
-ghost use Rattle.std.specs.Prelude.{◌≡◌, ◌≤◌, ◌+◌, [], IfOk, OnErr, length};
-ghost use Rattle.satl_barrier.specs.Finishing.{ComparesAs, IsReached, IsVerified, piece};
+ghost use Rattle.std.specs.Prelude.{◌≡◌, ◌≤◌, ◌+◌, ◌↔◌, [], None, IfOk, OnErr, IsTrue, length, take, drop};
+ghost use Rattle.satl_barrier.specs.Finishing.{ComparesAs, FinishesAs, IsReached, IsVerified, piece, verifying};
+ghost use Rattle.satl_base.specs.declared.bench.Which.TheVariants as flaws;
+ghost use Rattle.satl_base.specs.Cells.{first_flaw, nows};
+ghost use Rattle.satl_barrier.specs.declared.finishing.Finish.TheVariants as finishes;
+ghost use Rattle.satl_barrier.specs.Commands.{IsCutShort};
 ghost use Rattle.satl_barrier.specs.Leaving.{IsFree, IsLostIn, Stays};
 
 use crate::commands::run;
-use crate::finishing::Finish;
-use satl_base::{Pages, Range, Steps};
+use crate::finishing::{Finish, next_piece};
+use satl_base::{Blocks, Pages, Range, Steps};
 use satl_drive::{Drive, LinkDown};
 use satl_regs::{AtaCommand, How};
 use std::sync::ledger::Ledger;
@@ -16,9 +20,7 @@ pub enum Comparison {
     Same,
     Differs,
     /// A read flaw stopped it: the lowest flawed address of the range.
-    Flawed {
-        lba: u64,
-    },
+    Flawed { lba: u64 },
     /// A CRC error stopped it.
     Garbled,
 }
@@ -47,6 +49,85 @@ pub fn verify<D: Drive, L: Ledger>(
         Finish::Flawed { lba } => Ok(Some(lba)),
         _ => Ok(None),
     }
+}
+
+/// Reads a range into the first of the pages, as many as it has blocks (SAT-3, VERIFY with BYTCHK: READ DMA EXT).
+fn read_piece<D: Drive, L: Ledger>(
+    range: Range,
+    pages: &mut Pages,
+    drive: &mut D,
+    steps: &mut Steps<L>,
+) -> Result<Finish, LinkDown>
+    requires free { IsFree (D.state drive.old) }
+    requires reached { IsReached range (D.state drive.old) }
+    requires room { range.count ≤ length pages.old }
+    ensures finishes { IfOk result (λ it. FinishesAs (verifying range) range.count it (D.state drive.old) (D.state drive.new)) }
+    ensures blocks { IfOk result (λ it. it ≡ finishes.Done → take range.count pages.new ≡ nows (D.state drive.old).cells range.lba range.count) }
+    ensures lost { OnErr result (IsCutShort [] (D.state drive.old) (D.state drive.new)) }
+    ensures stays { Stays (D.state drive.old) (D.state drive.new) }
+    ensures size { length pages.new ≡ length pages.old }
+    ensures step { steps.new ≡ steps.old + 1 }
+{
+    let command = AtaCommand::Read {
+        how: How::DmaExt,
+        lba: range.lba,
+        sectors: range.count,
+    };
+    let ended = run(drive, &command, pages, steps)?;
+    Ok(Finish::from(&ended))
+}
+
+/// Takes as many of the wanted blocks, up to the first that is not the same as that of the pages: whether all are the same.
+fn takes_same(wanted: &mut Blocks<'_>, pages: &Pages, count: u32) -> bool
+    requires more { count ≤ length wanted.old }
+    requires room { count ≤ length pages.now }
+    ensures same { IsTrue result ↔ (take count pages.now ≡ take count wanted.old) }
+    ensures rest { IsTrue result → wanted.new ≡ drop count wanted.old }
+{
+    let mut read = pages.iter();
+    for _ in 0..count {
+        if wanted.next() != read.next() {
+            return false;
+        }
+    }
+    true
+}
+
+/// Compares a range without flaws, in pieces of 64 blocks, up to the first piece that differs.
+fn compare_pieces<D: Drive, L: Ledger>(
+    range: Range,
+    blocks: &Pages,
+    scratch: &mut Pages,
+    drive: &mut D,
+    steps: &mut Steps<L>,
+) -> Result<Comparison, LinkDown>
+    requires free { IsFree (D.state drive.old) }
+    requires reached { IsReached range (D.state drive.old) }
+    requires clean { first_flaw flaws.Read (D.state drive.old).cells range.lba range.count ≡ None }
+    requires all { length blocks.now ≡ range.count }
+    requires few { range.count ≤ 4096 }
+    requires room { piece ≤ length scratch.old }
+    ensures compares { IfOk result (λ it. ComparesAs range blocks.now it (D.state drive.old) (D.state drive.new)) }
+    ensures lost { OnErr result (IsLostIn [] (D.state drive.old) (D.state drive.new)) }
+    ensures stays { Stays (D.state drive.old) (D.state drive.new) }
+    ensures size { length scratch.new ≡ length scratch.old }
+    ensures steps { steps.new ≤ steps.old + 64 }
+{
+    let mut wanted = blocks.iter();
+    let mut done = 0;
+    while done < range.count {
+        let next = next_piece(range, done);
+        match read_piece(next, scratch, drive, steps)? {
+            Finish::Done => {}
+            Finish::Flawed { lba } => return Ok(Comparison::Flawed { lba }),
+            Finish::Garbled => return Ok(Comparison::Garbled),
+        }
+        if !takes_same(&mut wanted, scratch, next.count) {
+            return Ok(Comparison::Differs);
+        }
+        done += next.count;
+    }
+    Ok(Comparison::Same)
 }
 
 /// Compares a range of 1 to 4,096 blocks with as many pages, first read for its flaws and then in pieces of 64 blocks, in 65 calls at

@@ -1,7 +1,12 @@
 // How commands end that go over the medium.
-ghost use Rattle.std.specs.Prelude.{◌≡◌};
+ghost use Rattle.std.specs.Prelude.{◌≡◌, ◌<◌, ◌≤◌, ◌+◌, ◌^◌};
+ghost use Rattle.satl_barrier.specs.Finishing.{piece_behind};
 
+use satl_base::Range;
 use satl_regs::Taskfile;
+
+/// The most blocks of a piece.
+const PIECE: u32 = 64;
 
 /// How a command that goes over the medium ended (ACS-3, error outputs).
 #[derive(Clone, Copy, Debug, PartialEq, Eq)]
@@ -15,6 +20,11 @@ pub enum Finish {
 }
 
 impl From<&Taskfile> for Finish {
+    ghost use Rattle.std.specs.Prelude.{◌≡◌};
+    ghost use Rattle.satl_barrier.specs.Finishing.{finish_of};
+
+    ghost from_gives = { λ ended finish. finish ≡ finish_of ended.now };
+
     /// Status bit 0 tells a bad end, and error bit 7 a CRC error; else the address at the end is the flawed one.
     fn from(ended: &Taskfile) -> Finish {
         if ended.status & 0x01 == 0 {
@@ -24,5 +34,17 @@ impl From<&Taskfile> for Finish {
             return Finish::Garbled;
         }
         Finish::Flawed { lba: ended.lba }
+    }
+}
+
+/// The next piece of a range, behind the blocks that are done: 64 blocks, or fewer where fewer are left.
+pub fn next_piece(range: Range, done: u32) -> Range
+    requires done { done ≤ range.count }
+    requires fits { range.lba + range.count < 2 ^ 64 }
+    ensures { result ≡ piece_behind range done }
+{
+    Range {
+        lba: range.lba + u64::from(done),
+        count: PIECE.min(range.count - done),
     }
 }
