@@ -355,7 +355,7 @@ served_task capacity cdb trim body c bytes said some small within untold =
         record { some = some; most = most; address = omega (arith, in_it, small); within = omega (arith, in_it) }
 
     checked : (form : Form) (lba count : ℕ) (compare : Bool) → IsSaid cdb trim (cdbs.Verify form lba count compare) → (count == 0) ≡ false → nat_lt capacity ((range_of (cdbs.Verify form lba count compare)).lba + (range_of (cdbs.Verify form lba count compare)).count) ≡ false → (⊥ → ⊥) → IsTask capacity (cdbs.Verify form lba count compare) (held_blocks (cdbs.Verify form lba count compare))
-    checked form lba count true said some within untold = here lba count said within some
+    checked form lba count true said some within untold = let one = eqb-false count 0 some in (refl, said, covered lba count (omega (arith, one)) (omega (arith, said)) within)
     checked form lba count false said some within untold = let one = eqb-false count 0 some in (refl, covered lba count (omega (arith, one)) said within)
 
     same : (form : Form) (lba count : ℕ) (unmap : Bool) → IsSaid cdb trim (cdbs.WriteSame form lba count unmap) → nat_lt capacity ((range_of (cdbs.WriteSame form lba count unmap)).lba + (range_of (cdbs.WriteSame form lba count unmap)).count) ≡ false → IsTask capacity (cdbs.WriteSame form lba count unmap) (held_blocks (cdbs.WriteSame form lba count unmap))

@@ -45,7 +45,7 @@ alone_by capacity queued_trim e task kind none =
     of_task (λ c. e.kind ≡ kind_of c queued_trim → ranged_of (record e { command = c }) ≡ None → RunsAlone c) capacity e.blocks e.command
     (λ form lba count fua t k n. let some = subst (λ x. ranged_of (record e { command = cdbs.Read form lba count fua; kind = x }) ≡ None) k n in absurd cc)
     (λ form lba count fua t k n. let some = subst (λ x. ranged_of (record e { command = cdbs.Write form lba count fua; kind = x }) ≡ None) k n in absurd cc)
-    (λ form lba count t k n. tt) (λ start no_flush t k n. tt) (λ ten size t k n. tt) task kind none
+    (λ form lba count t k n. tt) (λ start no_flush t k n. tt) (λ ten size t k n. tt) (λ form lba count t k n. tt) (λ form lba count t k n. tt) (λ form lba count unmap t k n. tt) (λ size t k n. tt) task kind none
 
 -- where nothing is outstanding at a unit that works, the first task's command is not queued
 pub first_alone : (l : Layer) (rest : List Held) (entry : Entry) → IsUsed l → l.flying ≡ [] → IsFirst l.tasks entry rest → IsKeptEntry l.identity entry → l.down ≡ false → l.started ≡ true → RunsAlone entry.command
@@ -70,7 +70,7 @@ alone_deepens l d d' agrees idle stays =
 
 -- the link is lost while the first task is carried out
 pub alone_loses : (l now new : Layer) (rest : List Held) (entry : Entry) (d d' : DriveState) → AllByRecursion (IsKept l.identity) l.tasks → IsFirst l.tasks entry rest → Agrees l d → l ≡ now → (ending : Ending) (given pushed answers : List Reply) (reply : Reply)
-    → new ≡ record l { down = true; tasks = []; flying = []; slots = new.slots; free = new.free; out = new.out } → IsLostInTask l.down l.started entry.command d d' → given ≡ [] → pushed ≡ given ++ reply ∷ [] → answers ≡ pushed ++ lost_replies l.modes.d_sense rest → reply ≡ ended_reply entry ending l.modes.d_sense
+    → new ≡ record l { down = true; tasks = []; flying = []; slots = new.slots; free = new.free; out = new.out } → IsLostInTask l.down l.started entry d d' → given ≡ [] → pushed ≡ given ++ reply ∷ [] → answers ≡ pushed ++ lost_replies l.modes.d_sense rest → reply ≡ ended_reply entry ending l.modes.d_sense
     → ending ≡ endings.Check link_lost → Around Turn (view now d) answers (view new d')
 alone_loses l now new rest entry d d' kept first agrees is ending given pushed answers reply same lost none push more told by =
     subst (λ x. Around Turn (view x d) answers (view new d')) is

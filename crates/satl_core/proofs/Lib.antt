@@ -14,6 +14,7 @@ pub mod ArrivalLemmas
 pub mod AddingLemmas
 pub mod PostingLemmas
 pub mod SelectLemmas
+pub mod MediumLemmas
 pub mod ServedLemmas
 pub mod TellingLemmas
 pub mod OpeningLemmas

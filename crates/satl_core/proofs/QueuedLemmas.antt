@@ -104,15 +104,15 @@ ends_ranged (commands.Pass a) s e ranges ranged reply new same h m = absurd cc
 -- ---- the answer to a task that has ended
 
 -- the rows of the table of errors
-read_flaw : (at : ℕ) → error_sense_at false unc at ≡ read_error at
+pub read_flaw : (at : ℕ) → error_sense_at false unc at ≡ read_error at
 unfolding error_sense_at
 read_flaw at = refl
 
-write_flaw : (at : ℕ) → error_sense_at true unc at ≡ write_error at
+pub write_flaw : (at : ℕ) → error_sense_at true unc at ≡ write_error at
 unfolding error_sense_at
 write_flaw at = refl
 
-crc_sense : (writes : Bool) (at : ℕ) → error_sense_at writes icrc at ≡ crc_error
+pub crc_sense : (writes : Bool) (at : ℕ) → error_sense_at writes icrc at ≡ crc_error
 unfolding error_sense_at
 crc_sense writes at = refl
 

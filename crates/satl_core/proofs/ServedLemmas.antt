@@ -1,6 +1,6 @@
 -- The first task ends as the device says, where nothing is outstanding.
 use Rattle.std.proofs.Common.{◌≡◌, inl, refl, sym, ap, subst, ◌∙◌, ℕ, true, false, Bool, List, [], ◌∷◌, ◌++◌, map, Some, None}
-use Rattle.std.specs.Prelude.{MatchBool, Option, if◌then◌else◌, not, ◌==◌, ◌&&◌}
+use Rattle.std.specs.Prelude.{◌≤◌, length, MatchBool, Option, if◌then◌else◌, not, ◌==◌, ◌&&◌}
 use Rattle.std.specs.List.{AllByRecursion}
 use Rattle.satl_base.specs.declared.modes.Modes.{Modes}
 use Rattle.satl_base.specs.declared.reply.Reply.{Reply}
@@ -35,15 +35,17 @@ use Rattle.satl_core.specs.declared.managing.Posting.TheVariants.{ModesChanged}
 use Rattle.satl_core.specs.declared.turning.Ending.{Ending}
 use Rattle.satl_core.specs.declared.turning.Ending.TheVariants as endings
 use Rattle.satl_core.specs.Managing.{once_posted}
-use Rattle.satl_core.specs.Layer.{Agrees, IsKept, IsTask, Layer}
+use Rattle.satl_core.specs.Layer.{Agrees, IsCovered, IsKept, IsTask, Layer}
 use Rattle.satl_core.specs.Refilling.{EndsOne}
 use Rattle.satl_core.specs.Turning as core
 use Rattle.satl_core.specs.Turning.{CarriedOut, IsLostInTask, IsUnasked, TaskEnds, change_posting, ended_reply, modes_after, read_pages, started_after, wanted_by, where_done}
 use Rattle.satl_core.proofs.DeviceLemmas.{all_lost, ends_around, ends_by, ends_down, ends_stopped, first_checked, first_gone, first_tasks, quiet_none, quiet_same, seen}
 use Rattle.satl_core.proofs.HeldLemmas.{IsFirst, IsKeptEntry, first_kept}
+use Rattle.satl_core.specs.Medium.{HasData, written_alone}
+use Rattle.satl_core.proofs.MediumLemmas.{check_turn, compare_turn, has_data, same_turn, shows, unmap_turn, zero_turn}
 use Rattle.satl_core.proofs.Transfers.{of_task}
 
--- a task that moves no data is done, and leaves these sectors
+-- a task that moves no has is done, and leaves these sectors
 left_turn : (identity : Identity) (modes modes' : Modes) (started started' : Bool) (attentions attentions' : List (List Attention)) (entry : Entry) (others : List Entry) (d d' : DriveState) (cells : List Cell) (active : Bool) (ending : Ending) → (not started && (asks entry.command).starts) ≡ false
     → ((reply : Reply) (new : Device) → IsDone (record (seen identity modes started attentions (task_of entry ∷ others) d) { cells = cells; active = active; started = started'; modes = modes'; attentions = attentions' }) (task_of entry) reply new → EndsBy entry.command (seen identity modes started attentions (task_of entry ∷ others) d) (task_of entry) reply new)
     → d.down ≡ false → Loses cells d'.cells → d'.active ≡ active → d'.down ≡ d.down → d'.glitches ≡ d.glitches → ending ≡ endings.Good → read_pages entry.command entry.body ≡ []
@@ -122,36 +124,45 @@ ended_seen identity modes wanted started attentions entry ending others d =
 
 -- what the drive did for a task ends it
 task_turn : (identity : Identity) (modes : Modes) (started : Bool) (attentions : List (List Attention)) (entry : Entry) (others : List Entry) (d d' : DriveState) (ending : Ending) → IsKeptEntry identity entry → d.cache ≡ modes.wce
-    → (not started && (asks entry.command).starts) ≡ false → CarriedOut (wanted_by modes entry.modes) entry.command d ending d'
+    → (not started && (asks entry.command).starts) ≡ false → HasData entry.command entry → CarriedOut (wanted_by modes entry.modes) entry.command entry d ending d'
     → EndsOne (seen identity modes started attentions (task_of entry ∷ others) d) (ended_reply entry ending modes.d_sense) (ended_seen identity modes (wanted_by modes entry.modes) started attentions entry ending others d')
-task_turn identity modes started attentions entry others d d' ending kept cache ready x =
-    of_task (λ c. (not started && (asks c).starts) ≡ false → CarriedOut (wanted_by modes entry.modes) c d ending d'
+task_turn identity modes started attentions entry others d d' ending kept cache ready has x =
+    of_task (λ c. (not started && (asks c).starts) ≡ false → HasData c entry → CarriedOut (wanted_by modes entry.modes) c entry d ending d'
     → EndsOne (seen identity modes started attentions (task_of (record entry { command = c }) ∷ others) d) (ended_reply (record entry { command = c }) ending modes.d_sense) (ended_seen identity modes (wanted_by modes entry.modes) started attentions (record entry { command = c }) ending others d')) identity.capacity entry.blocks entry.command
-    (λ form lba count fua t ready x. absurd x)
-    (λ form lba count fua t ready x. absurd x)
-    (λ form lba count none ready x. untold (cdbs.Flush form lba count) started (bare_turn identity modes started started attentions (record entry { command = cdbs.Flush form lba count }) others d d' (map settle d.cells) d.active ending ready (λ reply new e. e) x.1 x.0 refl))
-    (λ start no_flush none ready x. untold (cdbs.StartStop start no_flush) (where_done ending start started)
+    (λ form lba count fua t ready has x. absurd x)
+    (λ form lba count fua t ready has x. absurd x)
+    (λ form lba count none ready has x. untold (cdbs.Flush form lba count) started (bare_turn identity modes started started attentions (record entry { command = cdbs.Flush form lba count }) others d d' (map settle d.cells) d.active ending ready (λ reply new e. e) x.1 x.0 refl))
+    (λ start no_flush none ready has x. untold (cdbs.StartStop start no_flush) (where_done ending start started)
     (subst (λ e. EndsOne (seen identity modes started attentions (task_of (record entry { command = cdbs.StartStop start no_flush }) ∷ others) d) (ended_reply (record entry { command = cdbs.StartStop start no_flush }) ending modes.d_sense) (seen identity modes (where_done e start started) attentions others d')) (sym x.0)
     (switched_turn identity modes started start no_flush attentions entry others d d' ending x.1 x.0)))
-    (λ ten size none ready x.
+    (λ ten size none ready has x.
     subst (λ e. EndsOne (seen identity modes started attentions (task_of (record entry { command = cdbs.ModeSelect ten size }) ∷ others) d) (ended_reply (record entry { command = cdbs.ModeSelect ten size }) ending modes.d_sense)
     (seen identity (where_done e (wanted_by modes entry.modes) modes) started (with_modes_changed modes (where_done e (wanted_by modes entry.modes) modes) entry.nexus attentions) others d')) (sym x.0)
     (selected_turn identity modes started ten size attentions entry others d d' ending cache x.1 x.0))
-    kept.task ready x
+    (λ form lba count t ready has x. untold (cdbs.Verify form lba count false) started (check_turn identity modes started attentions entry others d d' form lba count ending ready x))
+    (λ form lba count t ready has x. untold (cdbs.Verify form lba count true) started (compare_turn identity modes started attentions entry others d d' form lba count ending ready x))
+    (λ form lba count unmap. elim unmap as (λ b. (entry.blocks ≡ 1) × IsCovered identity.capacity lba count → (not started && (asks (cdbs.WriteSame form lba count b)).starts) ≡ false → 1 ≤ length entry.body → CarriedOut (wanted_by modes entry.modes) (cdbs.WriteSame form lba count b) entry d ending d'
+    → EndsOne (seen identity modes started attentions (task_of (record entry { command = cdbs.WriteSame form lba count b }) ∷ others) d) (ended_reply (record entry { command = cdbs.WriteSame form lba count b }) ending modes.d_sense) (ended_seen identity modes (wanted_by modes entry.modes) started attentions (record entry { command = cdbs.WriteSame form lba count b }) ending others d')) [
+      | true ↦ λ t ready has x. untold (cdbs.WriteSame form lba count true) started (zero_turn identity modes started attentions entry others d d' cache form lba count ending ready x)
+      | false ↦ λ t ready has x. untold (cdbs.WriteSame form lba count false) started (same_turn identity modes started attentions entry others d d' cache form lba count ending ready has x)
+    ])
+    (λ size t ready has x. untold (cdbs.Unmap size) started (unmap_turn identity modes started attentions entry others d d' cache size ending ready x))
+    kept.task ready has x
   where
     untold : (c : Command) (now : Bool) → EndsOne (seen identity modes started attentions (task_of (record entry { command = c }) ∷ others) d) (ended_reply (record entry { command = c }) ending modes.d_sense) (seen identity modes now attentions others d')
         → EndsOne (seen identity modes started attentions (task_of (record entry { command = c }) ∷ others) d) (ended_reply (record entry { command = c }) ending modes.d_sense) (seen identity modes now (with_modes_changed modes modes entry.nexus attentions) others d')
     untold c now turn = subst (λ a. EndsOne (seen identity modes started attentions (task_of (record entry { command = c }) ∷ others) d) (ended_reply (record entry { command = c }) ending modes.d_sense) (seen identity modes now a others d')) (sym (unchanged modes entry.nexus attentions)) turn
 
-lost_turn : (identity : Identity) (modes : Modes) (started : Bool) (attentions : List (List Attention)) (entry : Entry) (others : List Entry) (d d' : DriveState) (answers : List Reply) → d.down ≡ false
-    → IsLostIn [] d d' → answers ≡ turns.lost_replies (seen identity modes started attentions (task_of entry ∷ others) d) → Around Turn (seen identity modes started attentions (task_of entry ∷ others) d) answers (seen identity modes started attentions [] d')
-lost_turn identity modes started attentions entry others d d' answers up x is =
+-- the pairs of the first task may show
+lost_turn : (identity : Identity) (modes : Modes) (started : Bool) (attentions : List (List Attention)) (entry : Entry) (others : List Entry) (d d' : DriveState) (answers : List Reply) → d.down ≡ false → d.cache ≡ modes.wce → (not started && (asks entry.command).starts) ≡ false → IsKeptEntry identity entry
+    → IsLostIn (written_alone entry.command entry d) d d' → answers ≡ turns.lost_replies (seen identity modes started attentions (task_of entry ∷ others) d) → Around Turn (seen identity modes started attentions (task_of entry ∷ others) d) answers (seen identity modes started attentions [] d')
+lost_turn identity modes started attentions entry others d d' answers up cache ready kept x is =
     let s : Device = seen identity modes started attentions (task_of entry ∷ others) d in
     let new : Device = seen identity modes started attentions [] d' in
     record {
       before = record s { cells = d'.cells };
       after = new;
-      quiet_before = record { cells = moves_weaker (λ pair among. absurd among) x.cells; active = inl refl; stays = refl };
+      quiet_before = record { cells = moves_weaker (λ pair among. shows identity modes started attentions entry others d up cache ready kept pair among) x.cells; active = inl refl; stays = refl };
       step = loses some (record {
         was_up = up;
         answer = is;
@@ -164,10 +175,10 @@ lost_turn identity modes started attentions entry others d d' answers up x is =
     some : (task_of entry ∷ others) ≡ [] → ⊥
     some empty = absurd cc
 
--- a task that ends with sense data sets nothing
+-- a task that ends with sense has sets nothing
 still : (capacity n : ℕ) (modes wanted : Modes) (started : Bool) (sense : Sense) (command : Command) → IsTask capacity command n → (modes_after command (endings.Check sense) modes wanted ≡ modes) × (started_after command (endings.Check sense) started ≡ started)
 still capacity n modes wanted started sense command t =
-    of_task (λ c. (modes_after c (endings.Check sense) modes wanted ≡ modes) × (started_after c (endings.Check sense) started ≡ started)) capacity n command (λ form lba count fua t. (refl, refl)) (λ form lba count fua t. (refl, refl)) (λ form lba count none. (refl, refl)) (λ start no_flush none. (refl, refl)) (λ ten size none. (refl, refl)) t
+    of_task (λ c. (modes_after c (endings.Check sense) modes wanted ≡ modes) × (started_after c (endings.Check sense) started ≡ started)) capacity n command (λ form lba count fua t. (refl, refl)) (λ form lba count fua t. (refl, refl)) (λ form lba count none. (refl, refl)) (λ start no_flush none. (refl, refl)) (λ ten size none. (refl, refl)) (λ form lba count t. (refl, refl)) (λ form lba count t. (refl, refl)) (λ form lba count unmap t. (refl, refl)) (λ size t. (refl, refl)) t
 
 checked_seen : (identity : Identity) (modes wanted : Modes) (started : Bool) (attentions : List (List Attention)) (entry : Entry) (others : List Entry) (d' : DriveState) (sense : Sense) (ending : Ending) → IsKeptEntry identity entry → ending ≡ endings.Check sense
     → ended_seen identity modes wanted started attentions entry ending others d' ≡ seen identity modes started attentions others d'
@@ -195,22 +206,22 @@ unasked_turn identity modes wanted started attentions entry others d d' sense en
 
 -- a unit that is stopped, or the drive
 up_turn : (stopped : Bool) (identity : Identity) (modes : Modes) (started : Bool) (attentions : List (List Attention)) (entry : Entry) (others : List Entry) (d d' : DriveState) (ending : Ending) → d.down ≡ false
-    → IsKeptEntry identity entry → d.cache ≡ modes.wce → (not started && (asks entry.command).starts) ≡ stopped
-    → MatchBool stopped (IsUnasked not_ready d ending d') (CarriedOut (wanted_by modes entry.modes) entry.command d ending d')
+    → IsKeptEntry identity entry → d.cache ≡ modes.wce → HasData entry.command entry → (not started && (asks entry.command).starts) ≡ stopped
+    → MatchBool stopped (IsUnasked not_ready d ending d') (CarriedOut (wanted_by modes entry.modes) entry.command entry d ending d')
     → EndsOne (seen identity modes started attentions (task_of entry ∷ others) d) (ended_reply entry ending modes.d_sense) (ended_seen identity modes (wanted_by modes entry.modes) started attentions entry ending others d')
-up_turn true identity modes started attentions entry others d d' ending up kept cache stopped x =
+up_turn true identity modes started attentions entry others d d' ending up kept cache has stopped x =
     unasked_turn identity modes (wanted_by modes entry.modes) started attentions entry others d d' not_ready ending (λ reply mid e. ends_stopped _ _ _ _ up stopped e) x kept
-up_turn false identity modes started attentions entry others d d' ending up kept cache ready x = task_turn identity modes started attentions entry others d d' ending kept cache ready x
+up_turn false identity modes started attentions entry others d d' ending up kept cache has ready x = task_turn identity modes started attentions entry others d d' ending kept cache ready has x
 
 -- whichever decides, a lost link, a unit that is stopped, or the drive
 ended_turn : (identity : Identity) (modes : Modes) (down started : Bool) (attentions : List (List Attention)) (entry : Entry) (others : List Entry) (d d' : DriveState) (ending : Ending) → down ≡ d.down
     → IsKeptEntry identity entry → (down ≡ false → d.cache ≡ modes.wce)
-    → TaskEnds down started (wanted_by modes entry.modes) entry.command d ending d'
+    → HasData entry.command entry → TaskEnds down started (wanted_by modes entry.modes) entry d ending d'
     → EndsOne (seen identity modes started attentions (task_of entry ∷ others) d) (ended_reply entry ending modes.d_sense) (ended_seen identity modes (wanted_by modes entry.modes) started attentions entry ending others d')
-ended_turn identity modes true started attentions entry others d d' ending mark kept cache x =
+ended_turn identity modes true started attentions entry others d d' ending mark kept cache has x =
     unasked_turn identity modes (wanted_by modes entry.modes) started attentions entry others d d' link_lost ending (λ reply mid e. ends_down _ _ _ _ (sym mark) e) x kept
-ended_turn identity modes false started attentions entry others d d' ending mark kept cache x =
-    up_turn (not started && (asks entry.command).starts) identity modes started attentions entry others d d' ending (sym mark) kept (cache refl) refl x
+ended_turn identity modes false started attentions entry others d d' ending mark kept cache has x =
+    up_turn (not started && (asks entry.command).starts) identity modes started attentions entry others d d' ending (sym mark) kept (cache refl) has refl x
 
 -- what is posted is what the device posts
 pub posted_changes : (old new : Modes) (nexus : ℕ) (tasks : List Held) (attentions : List (List Attention)) → once_posted (change_posting old new nexus) tasks attentions ≡ with_modes_changed old new nexus attentions
@@ -225,13 +236,13 @@ module _ (l : Layer) (rest : List Held) (entry : Entry) (d d' : DriveState) (kep
   here : IsKeptEntry l.identity entry
   here = (first_kept l.identity l.tasks rest entry kept first).0
 
-  pub first_ends : (ending : Ending) (started' : Bool) (wanted modes' : Modes) (posting : Option Posting) (attentions' : List (List Attention)) → wanted ≡ wanted_by l.modes entry.modes → TaskEnds l.down l.started wanted entry.command d ending d'
+  pub first_ends : (ending : Ending) (started' : Bool) (wanted modes' : Modes) (posting : Option Posting) (attentions' : List (List Attention)) → wanted ≡ wanted_by l.modes entry.modes → TaskEnds l.down l.started wanted entry d ending d'
       → started' ≡ started_after entry.command ending l.started → modes' ≡ modes_after entry.command ending l.modes wanted → posting ≡ change_posting l.modes modes' entry.nexus → attentions' ≡ once_posted posting rest l.attentions
       → EndsOne (seen l.identity l.modes l.started l.attentions (map task_of (entries_of l.tasks)) d) (ended_reply entry ending l.modes.d_sense) (seen l.identity modes' started' attentions' (map task_of (entries_of rest)) d')
   first_ends ending started' wanted modes' posting attentions' wants ends after changed posts told =
       subst (EndsOne (seen l.identity l.modes l.started l.attentions (map task_of (entries_of l.tasks)) d) (ended_reply entry ending l.modes.d_sense)) (sym same)
       (subst (λ ts. EndsOne (seen l.identity l.modes l.started l.attentions ts d) (ended_reply entry ending l.modes.d_sense) (ended_seen l.identity l.modes (wanted_by l.modes entry.modes) l.started l.attentions entry ending (map task_of (entries_of rest)) d')) (sym all)
-      (ended_turn l.identity l.modes l.down l.started l.attentions entry (map task_of (entries_of rest)) d d' ending agrees.mark here agrees.cache (subst (λ w. TaskEnds l.down l.started w entry.command d ending d') wants ends)))
+      (ended_turn l.identity l.modes l.down l.started l.attentions entry (map task_of (entries_of rest)) d d' ending agrees.mark here agrees.cache (has_data l.identity entry here) (subst (λ w. TaskEnds l.down l.started w entry d ending d') wants ends)))
     where
       set : modes' ≡ modes_after entry.command ending l.modes (wanted_by l.modes entry.modes)
       set = changed ∙ ap (modes_after entry.command ending l.modes) wants
@@ -242,11 +253,11 @@ module _ (l : Layer) (rest : List Held) (entry : Entry) (d d' : DriveState) (kep
       same : seen l.identity modes' started' attentions' (map task_of (entries_of rest)) d' ≡ ended_seen l.identity l.modes (wanted_by l.modes entry.modes) l.started l.attentions entry ending (map task_of (entries_of rest)) d'
       same = ap (λ m. seen l.identity m started' attentions' (map task_of (entries_of rest)) d') set ∙ (ap (λ b. seen l.identity (modes_after entry.command ending l.modes (wanted_by l.modes entry.modes)) b attentions' (map task_of (entries_of rest)) d') after ∙ ap (λ a. seen l.identity (modes_after entry.command ending l.modes (wanted_by l.modes entry.modes)) (started_after entry.command ending l.started) a (map task_of (entries_of rest)) d') listed)
 
-  pub first_loses : (ending : Ending) (given pushed answers : List Reply) (reply : Reply) (left : List Held) → left ≡ [] → IsLostInTask l.down l.started entry.command d d' → given ≡ [] → pushed ≡ given ++ reply ∷ []
+  pub first_loses : (ending : Ending) (given pushed answers : List Reply) (reply : Reply) (left : List Held) → left ≡ [] → IsLostInTask l.down l.started entry d d' → given ≡ [] → pushed ≡ given ++ reply ∷ []
       → answers ≡ pushed ++ core.lost_replies l.modes.d_sense rest → reply ≡ ended_reply entry ending l.modes.d_sense → ending ≡ endings.Check link_lost
       → Around Turn (seen l.identity l.modes l.started l.attentions (map task_of (entries_of l.tasks)) d) answers (seen l.identity l.modes l.started l.attentions (map task_of (entries_of left)) d')
   first_loses ending given pushed answers reply left nothing lost none push more is by =
       subst (λ (ts : List Held). Around Turn (seen l.identity l.modes l.started l.attentions (map task_of (entries_of l.tasks)) d) answers (seen l.identity l.modes l.started l.attentions (map task_of (entries_of ts)) d')) (sym nothing)
       (subst (λ ts. Around Turn (seen l.identity l.modes l.started l.attentions ts d) answers (seen l.identity l.modes l.started l.attentions [] d')) (sym all)
-      (lost_turn l.identity l.modes l.started l.attentions entry (map task_of (entries_of rest)) d d' answers (sym agrees.mark ∙ lost.was_up) lost.lost
+      (lost_turn l.identity l.modes l.started l.attentions entry (map task_of (entries_of rest)) d d' answers (sym agrees.mark ∙ lost.was_up) (agrees.cache lost.was_up) lost.ready here lost.lost
       (all_lost (seen l.identity l.modes l.started l.attentions (task_of entry ∷ map task_of (entries_of rest)) d) entry rest given pushed answers reply ending refl none push more is by)))

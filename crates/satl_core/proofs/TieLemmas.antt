@@ -1,11 +1,11 @@
 -- The layer by its parts, and what the tie says of the drive's data.
 use Rattle.std.proofs.Common.{◌≡◌, sym, ap, ◌∙◌, ◌-◌, Bool, List, length}
 use Rattle.satl_base.specs.declared.modes.Modes.{Modes}
-use Rattle.satl_base.specs.Identify.{has_cache, has_look}
+use Rattle.satl_base.specs.Identify.{has_cache, has_look, has_trim}
 use Rattle.satl_identify.specs.declared.identity.Identity.{Identity}
 use Rattle.satl_identify.proofs.Judging.{unbroken}
 use Rattle.satl_drive.specs.State.{DriveState}
-use Rattle.satl_barrier.proofs.ToldLemmas.{data_says, length-data}
+use Rattle.satl_barrier.proofs.ToldLemmas.{data_says, data_trims, length-data}
 use Rattle.satl_unit.specs.declared.attention.Attention.{Attention}
 use Rattle.satl_pages.specs.Counts.{Counts}
 use Rattle.satl_flight.specs.Queueing.{Waiting}
@@ -15,10 +15,11 @@ use Rattle.satl_core.specs.Layer.{Agrees, Layer, held_pages}
 pub bytes_long : (l : Layer) (d : DriveState) → Agrees l d → length l.identity.bytes ≡ 512
 bytes_long l d tied = sym (length-data l.identity.bytes d.cache d.look) ∙ (sym (ap length tied.told) ∙ tied.fit.size)
 
--- the drive has a write cache and look-ahead where the layer has noted so
+-- the drive has a write cache, look-ahead and trim where the layer has noted so
 pub record HasAsNoted (l : Layer) (d : DriveState) : Type 0 where
   pub cache : has_cache d.identify ≡ l.identity.cache
   pub look : has_look d.identify ≡ l.identity.look
+  pub trim : has_trim d.identify ≡ l.identity.trim
 
 pub has_as_noted : (l : Layer) (d : DriveState) → Agrees l d → HasAsNoted l d
 has_as_noted l d tied =
@@ -27,6 +28,7 @@ has_as_noted l d tied =
     record {
       cache = ap has_cache tied.told ∙ (says.cache ∙ ap (λ (i : Identity). i.cache) noted);
       look = ap has_look tied.told ∙ (says.look ∙ ap (λ (i : Identity). i.look) noted);
+      trim = ap has_trim tied.told ∙ (data_trims l.identity.bytes d.cache d.look (bytes_long l d tied) ∙ ap (λ (i : Identity). i.trim) noted);
     }
 
 -- ---- the layer by its parts

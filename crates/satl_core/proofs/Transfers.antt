@@ -16,7 +16,7 @@ pub of_task : (P : Command → Type 0) (capacity n : ℕ) (command : Command)
     → ((start no_flush : Bool) → n ≡ 0 → P (cdbs.StartStop start no_flush))
     → ((ten : Bool) (size : ℕ) → (n ≡ 0) × (size < 65536) → P (cdbs.ModeSelect ten size))
     → ((form : Form) (lba count : ℕ) → (n ≡ 0) × IsCovered capacity lba count → P (cdbs.Verify form lba count false))
-    → ((form : Form) (lba count : ℕ) → IsWithin capacity lba count n → P (cdbs.Verify form lba count true))
+    → ((form : Form) (lba count : ℕ) → (n ≡ count) × (count ≤ 4096) × IsCovered capacity lba count → P (cdbs.Verify form lba count true))
     → ((form : Form) (lba count : ℕ) (unmap : Bool) → (n ≡ 1) × IsCovered capacity lba count → P (cdbs.WriteSame form lba count unmap))
     → ((size : ℕ) → (n ≡ 0) × (size < 65536) → P (cdbs.Unmap size)) → IsTask capacity command n → P command
 of_task P capacity n (cdbs.Read form lba count fua) read write flush switch select check compare same trim t = read form lba count fua t
@@ -41,7 +41,7 @@ of_task P capacity n (cdbs.Pass a) read write flush switch select check compare 
 pub task_few : (capacity n : ℕ) (queued_trim : Bool) (command : Command) → IsTask capacity command n → n + entry_pages command queued_trim ≤ 4096
 task_few capacity n queued_trim command t =
     of_task (λ c. n + entry_pages c queued_trim ≤ 4096) capacity n command (λ form lba count fua t. omega (arith, t)) (λ form lba count fua t. omega (arith, t)) (λ form lba count none. omega (arith, none)) (λ start no_flush none. omega (arith, none)) (λ ten size none. omega (arith, none.0))
-    (λ form lba count t. omega (arith, t.0)) (λ form lba count t. omega (arith, t)) (λ form lba count unmap t. omega (arith, t.0)) (λ size t. let one = one_page queued_trim in omega (arith, t.0, one)) t
+    (λ form lba count t. omega (arith, t.0)) (λ form lba count t. omega (arith, t.0, t.1)) (λ form lba count unmap t. omega (arith, t.0)) (λ size t. let one = one_page queued_trim in omega (arith, t.0, one)) t
   where
     one_page : (b : Bool) → (if b then 1 else 0) ≤ 1
     one_page true = omega arith

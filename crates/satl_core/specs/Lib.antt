@@ -3,6 +3,7 @@ pub mod Flushed
 pub mod Layer
 pub mod Leaving
 pub mod Managing
+pub mod Medium
 pub mod Opening
 pub mod Refilling
 pub mod Submitting

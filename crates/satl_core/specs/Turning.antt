@@ -1,5 +1,5 @@
 -- How the layer ends a task.
-use Rattle.std.specs.Prelude.{◌≡◌, ℕ, ◌*◌, ◌+◌, ◌&&◌, not, Bool, true, false, if◌then◌else◌, List, [], length, map, MatchBool, Option, Some, None, unwrap_or}
+use Rattle.std.specs.Prelude.{◌≡◌, ℕ, ◌*◌, ◌+◌, ◌&&◌, not, Bool, true, false, if◌then◌else◌, List, [], ◌∷◌, length, map, min, get_or, MatchBool, Option, Some, None, unwrap_or}
 use Rattle.satl_base.specs.declared.block.Block.{Block}
 use Rattle.satl_base.specs.declared.modes.ModeChange.{ModeChange}
 use Rattle.satl_base.specs.declared.modes.Modes.{Modes}
@@ -7,8 +7,9 @@ use Rattle.satl_base.specs.declared.reply.Reply.{Reply}
 use Rattle.satl_base.specs.declared.reply.Scsi.{Scsi}
 use Rattle.satl_base.specs.declared.reply.Scsi.TheVariants as statuses
 use Rattle.satl_cdb.specs.declared.command.Command.{Command}
+use Rattle.satl_base.specs.Blocks.{no_block}
 use Rattle.satl_base.specs.Cells.{settle}
-use Rattle.satl_cdb.specs.declared.command.Command.TheVariants.{Flush, ModeSelect, Read, StartStop}
+use Rattle.satl_cdb.specs.declared.command.Command.TheVariants.{Flush, ModeSelect, Read, StartStop, Unmap, Verify, WriteSame}
 use Rattle.satl_sense.specs.declared.sense.Sense.{Sense}
 use Rattle.satl_sense.specs.Descriptor.{descriptor_form}
 use Rattle.satl_sense.specs.Fixed.{fixed_form}
@@ -17,13 +18,15 @@ use Rattle.satl_line.specs.declared.entry.Entry.{Entry}
 use Rattle.satl_line.specs.Tasks.{Held}
 use Rattle.satl_mode.specs.Changes.{applied, no_change}
 use Rattle.satl_direct.specs.Attentions.{are_same_modes}
-use Rattle.satl_direct.specs.Tasks.{asks}
+use Rattle.satl_direct.specs.Tasks.{asks, over}
 use Rattle.satl_pass.specs.Status.{error_sense_at}
 use Rattle.satl_direct.specs.Senses.{link_lost, not_ready}
 use Rattle.satl_drive.specs.State.{DriveState}
+use Rattle.satl_barrier.specs.Finishing.{most_pieces, piece, trimming, writing_same}
 use Rattle.satl_barrier.specs.Leaving.{IsLostIn}
 use Rattle.satl_barrier.specs.Settings.{IsTuned}
 use Rattle.satl_barrier.specs.Flushing.{IsLeftWith, IsSwitched}
+use Rattle.satl_core.specs.Medium.{HasCompared, HasFinished, HasVerified, written_alone}
 use Rattle.satl_core.specs.declared.managing.Posting.{Posting}
 use Rattle.satl_core.specs.declared.managing.Posting.TheVariants.{ModesChanged}
 use Rattle.satl_core.specs.declared.turning.Ending.{Ending}
@@ -65,9 +68,9 @@ ended_reply t ending descriptor = record {
 abbrev pub lost_replies : Bool → List Held → List Reply
 lost_replies descriptor tasks = map (λ h. ended_reply h.entry (endings.Check link_lost) descriptor) tasks
 
--- the most calls of a drive that a command takes which runs alone (profile)
+-- the most calls of a drive that a command takes which runs alone: 1,024 pieces of a WRITE SAME (profile)
 abbrev pub barrier_calls : ℕ
-barrier_calls = 3
+barrier_calls = most_pieces
 
 -- the most calls of a drive that one turn takes: those of a command, and what is issued behind it (profile)
 abbrev pub turn_calls : ℕ
@@ -97,28 +100,43 @@ abbrev pub RunsAlone : Command → Type 0
 RunsAlone (ModeSelect ten size) = Unit {0}
 RunsAlone (StartStop start no_flush) = Unit {0}
 RunsAlone (Flush form lba count) = Unit {0}
+RunsAlone (Verify form lba count compare) = Unit {0}
+RunsAlone (WriteSame form lba count unmap) = Unit {0}
+RunsAlone (Unmap size) = Unit {0}
 RunsAlone _ = ⊥
 
--- what the drive did for the command of a task that wants these mode values and runs alone: it ends well (SAT-3 8)
-abbrev pub CarriedOut : Modes → Command → DriveState → Ending → DriveState → Type 0
-CarriedOut wanted (ModeSelect ten size) old ending new = (ending ≡ endings.Good) × IsTuned wanted.wce (not wanted.dra) old new
-CarriedOut wanted (StartStop start no_flush) old ending new = (ending ≡ endings.Good) × IsSwitched start no_flush old new
-CarriedOut wanted (Flush form lba count) old ending new = (ending ≡ endings.Good) × IsLeftWith (map settle old.cells) old.active old new
-CarriedOut wanted _ old ending new = ⊥
+-- the commands that go over the medium alone (SBC-3 5)
+abbrev pub GoesOver : Command → Type 0
+GoesOver (Verify form lba count compare) = Unit {0}
+GoesOver (WriteSame form lba count unmap) = Unit {0}
+GoesOver (Unmap size) = Unit {0}
+GoesOver _ = ⊥
+
+-- what the drive did for the command of a task that wants these mode values and runs alone (SAT-3 8)
+abbrev pub CarriedOut : Modes → Command → Entry → DriveState → Ending → DriveState → Type 0
+CarriedOut wanted (ModeSelect ten size) t old ending new = (ending ≡ endings.Good) × IsTuned wanted.wce (not wanted.dra) old new
+CarriedOut wanted (StartStop start no_flush) t old ending new = (ending ≡ endings.Good) × IsSwitched start no_flush old new
+CarriedOut wanted (Flush form lba count) t old ending new = (ending ≡ endings.Good) × IsLeftWith (map settle old.cells) old.active old new
+CarriedOut wanted (Verify form lba count false) t old ending new = HasVerified (over lba count) old ending new
+CarriedOut wanted (Verify form lba count true) t old ending new = HasCompared (over lba count) t.body old ending new
+CarriedOut wanted (WriteSame form lba count false) t old ending new = HasFinished (writing_same (over lba count) (get_or t.body 0 no_block) old) (min piece count) old ending new
+CarriedOut wanted (WriteSame form lba count true) t old ending new = HasFinished (trimming (over lba count ∷ []) old) 0 old ending new
+CarriedOut wanted (Unmap size) t old ending new = HasFinished (trimming t.ranges.items old) 0 old ending new
+CarriedOut wanted _ t old ending new = ⊥
 
 -- how the task ends whose turn it is: the first that holds decides, a lost link, a unit that is stopped where the command needs it started,
 -- and the drive (SAT-3 11; profile)
-abbrev pub TaskEnds : Bool → Bool → Modes → Command → DriveState → Ending → DriveState → Type 0
-TaskEnds down started wanted command old ending new =
+abbrev pub TaskEnds : Bool → Bool → Modes → Entry → DriveState → Ending → DriveState → Type 0
+TaskEnds down started wanted t old ending new =
     MatchBool down (IsUnasked link_lost old ending new)
-    (MatchBool (not started && (asks command).starts) (IsUnasked not_ready old ending new)
-    (CarriedOut wanted command old ending new))
+    (MatchBool (not started && (asks t.command).starts) (IsUnasked not_ready old ending new)
+    (CarriedOut wanted t.command t old ending new))
 
 -- the link was lost while a task was carried out, at a unit that is started where the command needs it (profile)
-pub record IsLostInTask (down started : Bool) (command : Command) (old new : DriveState) : Type 0 where
+pub record IsLostInTask (down started : Bool) (t : Entry) (old new : DriveState) : Type 0 where
   pub was_up : down ≡ false
-  pub ready : (not started && (asks command).starts) ≡ false
-  pub lost : IsLostIn [] old new
+  pub ready : (not started && (asks t.command).starts) ≡ false
+  pub lost : IsLostIn (written_alone t.command t old) old new
 
 -- one of two by how a task ended: the first where it is done (profile)
 abbrev pub where_done : {A : Type 0} → Ending → A → A → A

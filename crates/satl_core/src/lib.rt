@@ -5,6 +5,7 @@ mod arrival;
 mod benching;
 mod leaving;
 mod managing;
+mod medium;
 mod queueing;
 mod satl;
 mod selecting;

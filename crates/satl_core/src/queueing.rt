@@ -214,8 +214,9 @@ impl Satl {
             self.started,
             &self.modes,
             &wanted,
+            &task,
+            &mut self.pool,
             drive,
-            &command,
             steps,
         ) {
             Ok(ending) => {

@@ -4,18 +4,22 @@ ghost use Rattle.std.specs.List.{AllByRecursion};
 ghost use Rattle.satl_frame.specs.Output.{IsWritable};
 ghost use Rattle.satl_base.specs.Cells.{AreSound};
 ghost use Rattle.satl_direct.specs.Senses;
+ghost use Rattle.satl_barrier.specs.Finishing.{piece};
 ghost use Rattle.satl_core.specs.Layer.{IsTask, held_pages};
+ghost use Rattle.satl_core.specs.Medium.{HasData, IsSameButCells, MayTrim, written_alone};
+ghost use Rattle.satl_base.specs.declared.modes.Modes.{Modes};
 ghost use Rattle.satl_core.specs.Turning;
 ghost use Rattle.satl_barrier.specs.Leaving.{IsFree, IsLostIn, Stays};
 ghost use Rattle.satl_barrier.specs.Settings.{CanSet, IsSetBy};
 ghost use Rattle.satl_base.specs.Limits.{most_moved};
-ghost use Rattle.satl_core.specs.Turning.{CarriedOut, IsLostInTask, RunsAlone, TaskEnds, barrier_calls, ended_reply, lost_replies, modes_after, started_after};
+ghost use Rattle.satl_core.specs.Turning.{CarriedOut, GoesOver, IsLostInTask, RunsAlone, TaskEnds, barrier_calls, ended_reply, lost_replies, modes_after, started_after};
 ghost use Rattle.satl_direct.specs.Tasks.{asks};
 
 use crate::arrival::plain;
+use crate::medium::{compare_range, trim_ranges, verify_range, write_range};
 use arrayvec::ArrayVec;
 use satl_barrier::{flush, switch, tune};
-use satl_base::{Modes, Pages, Replies, Reply, Scsi, Steps};
+use satl_base::{Modes, Pages, Range, Replies, Reply, Scsi, Steps};
 use satl_cdb::Command;
 use satl_drive::{Drive, LinkDown};
 use satl_errlog::NcqError;
@@ -41,24 +45,29 @@ pub fn run_task<D: Drive, L: Ledger>(
     started: bool,
     modes: &Modes,
     wanted: &Modes,
+    task: &Entry,
+    pool: &mut Pool,
     drive: &mut D,
-    command: &Command,
     steps: &mut Steps<L>,
 ) -> Result<Ending, LinkDown>
     requires free { IsFree (D.state drive.old) }
-    requires task { (blocks : ℕ) × IsTask (D.state drive.old).capacity command.now blocks }
-    requires alone { down ≡ false → started ≡ true → RunsAlone command.now }
+    requires task { IsTask (D.state drive.old).capacity task.now.command task.now.blocks }
+    requires alone { down ≡ false → started ≡ true → RunsAlone task.now.command }
     requires sound { AreSound (D.state drive.old).cells }
     requires mark { down ≡ (D.state drive.old).down }
     requires set { down ≡ false → IsSetBy modes.now (D.state drive.old) }
     requires may { CanSet modes.now wanted.now (D.state drive.old) }
+    requires trims { MayTrim task.now.command task.now (D.state drive.old) }
+    requires data { HasData task.now.command task.now }
+    requires room { piece ≤ pool.old.free }
     ensures stays { Stays (D.state drive.old) (D.state drive.new) }
-    ensures cache { IfOk result (λ ending. down ≡ false → (D.state drive.new).cache ≡ (modes_after command.now ending modes.now wanted.now).wce) }
-    ensures look { IfOk result (λ ending. down ≡ false → (D.state drive.new).look ≡ not (modes_after command.now ending modes.now wanted.now).dra) }
+    ensures cache { IfOk result (λ ending. down ≡ false → (D.state drive.new).cache ≡ (modes_after task.now.command ending modes.now wanted.now).wce) }
+    ensures look { IfOk result (λ ending. down ≡ false → (D.state drive.new).look ≡ not (modes_after task.now.command ending modes.now wanted.now).dra) }
     ensures up { OnOk result ((D.state drive.new).down ≡ down) }
     ensures faults { OnOk result ((D.state drive.new).faults ≡ (D.state drive.old).faults) }
-    ensures ends { IfOk result (λ ending. TaskEnds down started wanted.now command.now (D.state drive.old) ending (D.state drive.new)) }
-    ensures lost { OnErr result (IsLostInTask down started command.now (D.state drive.old) (D.state drive.new)) }
+    ensures ends { IfOk result (λ ending. TaskEnds down started wanted.now task.now (D.state drive.old) ending (D.state drive.new)) }
+    ensures lost { OnErr result (IsLostInTask down started task.now (D.state drive.old) (D.state drive.new)) }
+    ensures pool { pool.new ≡ pool.old }
     ensures unasked { down ≡ true → drive.new ≡ drive.old }
     ensures uncalled { down ≡ true → steps.new ≡ steps.old }
     ensures step { steps.new ≤ steps.old + barrier_calls }
@@ -66,10 +75,10 @@ pub fn run_task<D: Drive, L: Ledger>(
     if down {
         return Ok(link_lost());
     }
-    if has_to_start(started, command) {
+    if has_to_start(started, &task.command) {
         return Ok(Ending::Check(plain(0x2, 0x04, 0x02)));
     }
-    carry_out(modes, wanted, drive, command, steps)
+    carry_out(modes, wanted, task, pool, drive, steps)
 }
 
 /// Whether a unit is stopped that a command needs started (SPC-4 4.5.6, NOT READY).
@@ -87,31 +96,81 @@ fn has_to_start(started: bool, command: &Command) -> bool
 fn carry_out<D: Drive, L: Ledger>(
     modes: &Modes,
     wanted: &Modes,
+    task: &Entry,
+    pool: &mut Pool,
     drive: &mut D,
-    command: &Command,
     steps: &mut Steps<L>,
 ) -> Result<Ending, LinkDown>
     requires free { IsFree (D.state drive.old) }
-    requires alone { RunsAlone command.now }
+    requires alone { RunsAlone task.now.command }
     requires sound { AreSound (D.state drive.old).cells }
     requires set { IsSetBy modes.now (D.state drive.old) }
     requires may { CanSet modes.now wanted.now (D.state drive.old) }
+    requires task { IsTask (D.state drive.old).capacity task.now.command task.now.blocks }
+    requires trims { MayTrim task.now.command task.now (D.state drive.old) }
+    requires data { HasData task.now.command task.now }
+    requires room { piece ≤ pool.old.free }
     ensures stays { Stays (D.state drive.old) (D.state drive.new) }
-    ensures cache { IfOk result (λ ending. (D.state drive.new).cache ≡ (modes_after command.now ending modes.now wanted.now).wce) }
-    ensures look { IfOk result (λ ending. (D.state drive.new).look ≡ not (modes_after command.now ending modes.now wanted.now).dra) }
+    ensures cache { IfOk result (λ ending. (D.state drive.new).cache ≡ (modes_after task.now.command ending modes.now wanted.now).wce) }
+    ensures look { IfOk result (λ ending. (D.state drive.new).look ≡ not (modes_after task.now.command ending modes.now wanted.now).dra) }
     ensures up { OnOk result ((D.state drive.new).down ≡ false) }
     ensures faults { OnOk result ((D.state drive.new).faults ≡ (D.state drive.old).faults) }
-    ensures ends { IfOk result (λ ending. CarriedOut wanted.now command.now (D.state drive.old) ending (D.state drive.new)) }
-    ensures lost { OnErr result (IsLostIn [] (D.state drive.old) (D.state drive.new)) }
+    ensures ends { IfOk result (λ ending. CarriedOut wanted.now task.now.command task.now (D.state drive.old) ending (D.state drive.new)) }
+    ensures lost { OnErr result (IsLostIn (written_alone task.now.command task.now (D.state drive.old)) (D.state drive.old) (D.state drive.new)) }
+    ensures pool { pool.new ≡ pool.old }
     ensures step { steps.new ≤ steps.old + barrier_calls }
 {
-    match *command {
+    match task.command {
         Command::Flush { .. } => flush(drive, steps)?,
         Command::ModeSelect { .. } => tune(modes, wanted, drive, steps)?,
         Command::StartStop { start, no_flush } => switch(start, no_flush, drive, steps)?,
-        _ => unreachable!(),
+        _ => return go_over(task, pool, drive, steps),
     }
     Ok(Ending::Good)
+}
+
+/// Carries out a command that goes over the medium alone. `LinkDown`: the link was lost meanwhile.
+fn go_over<D: Drive, L: Ledger>(
+    task: &Entry,
+    pool: &mut Pool,
+    drive: &mut D,
+    steps: &mut Steps<L>,
+) -> Result<Ending, LinkDown>
+    requires free { IsFree (D.state drive.old) }
+    requires over { GoesOver task.now.command }
+    requires task { IsTask (D.state drive.old).capacity task.now.command task.now.blocks }
+    requires trims { MayTrim task.now.command task.now (D.state drive.old) }
+    requires data { HasData task.now.command task.now }
+    requires room { piece ≤ pool.old.free }
+    ensures stays { Stays (D.state drive.old) (D.state drive.new) }
+    ensures ends { (wanted : Modes) → IfOk result (λ ending. CarriedOut wanted task.now.command task.now (D.state drive.old) ending (D.state drive.new)) }
+    ensures same { IfOk result (λ ending. IsSameButCells (D.state drive.old) (D.state drive.new)) }
+    ensures lost { OnErr result (IsLostIn (written_alone task.now.command task.now (D.state drive.old)) (D.state drive.old) (D.state drive.new)) }
+    ensures pool { pool.new ≡ pool.old }
+    ensures step { steps.new ≤ steps.old + barrier_calls }
+{
+    match task.command {
+        Command::Verify {
+            compare: false,
+            lba,
+            count,
+            ..
+        } => verify_range(Range { lba, count }, drive, steps),
+        Command::Verify { lba, count, .. } => {
+            compare_range(Range { lba, count }, &task.body, pool, drive, steps)
+        }
+        Command::WriteSame {
+            unmap: false,
+            lba,
+            count,
+            ..
+        } => write_range(Range { lba, count }, &task.body, pool, drive, steps),
+        Command::WriteSame { lba, count, .. } => {
+            trim_ranges(&[Range { lba, count }], pool, drive, steps)
+        }
+        Command::Unmap { .. } => trim_ranges(&task.ranges, pool, drive, steps),
+        _ => unreachable!(),
+    }
 }
 
 /// Whether the unit is started once a task has ended: a START STOP UNIT that is done decides.

@@ -1,4 +1,4 @@
-use Rattle.std.proofs.Common.{◌≡◌, inl, inr, arith, refl, sym, ap, subst, ◌∙◌, [], ◌∷◌, ◌++◌, length, map}
+use Rattle.std.proofs.Common.{◌≡◌, ◌≤◌, inl, inr, arith, refl, sym, ap, subst, ◌∙◌, [], ◌∷◌, ◌++◌, length, map}
 use Rattle.std.proofs.lemmas.List.{length-append, length-map}
 use Rattle.satl_base.specs.declared.reply.Reply.{Reply}
 use Rattle.satl_line.specs.Tasks.{Held, entries_of}
@@ -11,16 +11,19 @@ use Rattle.satl_core.specs.Layer.{IsTask, Layer, Tied, view}
 use Rattle.satl_core.specs.Refilling.{EndsOne}
 use Rattle.satl_core.specs.Turning.{data_in, ended_reply, lost_replies}
 use Rattle.satl_core.proofs.AgreeingLemmas.{alone_down, capacity_is, tied_lost}
-use Rattle.satl_core.proofs.CountedLemmas.{kept_rose, kept_same}
+use Rattle.satl_core.proofs.ArrivalLemmas.{held_by_is}
+use Rattle.satl_core.proofs.MediumLemmas.{has_data, may_trim}
+use Rattle.satl_core.proofs.CountedLemmas.{few_tasks, kept_rose, kept_same}
 use Rattle.satl_core.proofs.DeviceLemmas.{first_tasks, seen}
 use Rattle.satl_core.proofs.EndingLemmas.{alone_deepens, alone_loses, first_alone, nothing_out}
 use Rattle.satl_core.proofs.FlushedLemmas.{first_flush, flush_done}
-use Rattle.satl_core.proofs.HeldLemmas.{first_count, first_kept, first_of, first_pages, pushed}
+use Rattle.satl_core.proofs.HeldLemmas.{held_is, first_count, first_kept, first_of, first_pages, pushed}
 use Rattle.satl_core.proofs.RefillLemmas.{lost_layer}
 use Rattle.satl_core.proofs.ServedLemmas.{first_ends}
 use Rattle.satl_core.proofs.TieLemmas.{has_as_noted, layer_of}
 use Rattle.satl_core.proofs.TurningLemmas.{all_pages, entry_few, lost_all_writable, lost_pages, one_pages, one_writable}
 use Rattle.satl_core.proofs.ValidLemmas.{agrees_rest, wanted_cache, wanted_look}
+use Rattle.satl_pages.specs.Counts.{Counts}
 use Rattle.satl_core.proofs.satl.Satl.end_first.Goals as goal
 
 pub run_task-requires-clause-free : goal.run_task-requires-clause-free
@@ -33,7 +36,7 @@ run_task-requires-clause-task g c =
     let tied = subst (λ l. Tied l (g.D.Drive.state c.args.drive.now)) (sym c.self.view_is) c.requires.tied in
     let first = first_of c.self.inside.queue.tasks c.remove-task.new.self.tasks c.remove-task.result c.remove-task.ensures.value c.remove-task.ensures.others in
     let kept = first_kept c.self.inside.identity c.self.inside.queue.tasks c.remove-task.new.self.tasks c.remove-task.result c.self.invariant.kept first in
-    (c.remove-task.result.blocks, subst (λ n. IsTask n c.remove-task.result.command c.remove-task.result.blocks) (sym (capacity_is _ _ tied.agrees)) kept.0.task)
+    subst (λ n. IsTask n c.remove-task.result.command c.remove-task.result.blocks) (sym (capacity_is _ _ tied.agrees)) kept.0.task
 
 pub run_task-requires-clause-alone : goal.run_task-requires-clause-alone
 run_task-requires-clause-alone g c =
@@ -55,6 +58,27 @@ run_task-requires-clause-may g c =
       look = wanted_look c.self.inside.identity c.self.inside.modes c.wanted_by-wanted.result c.remove-task.result.modes _ noted.look c.wanted_by-wanted.ensures tied.agrees.valid.modes kept.0.change;
     }
 
+pub run_task-requires-clause-trims : goal.run_task-requires-clause-trims
+run_task-requires-clause-trims g c =
+    let d = g.D.Drive.state c.args.drive.now in
+    let tied = subst (λ l. Tied l d) (sym c.self.view_is) c.requires.tied in
+    let first = first_of c.self.inside.queue.tasks c.remove-task.new.self.tasks c.remove-task.result c.remove-task.ensures.value c.remove-task.ensures.others in
+    let kept = first_kept c.self.inside.identity c.self.inside.queue.tasks c.remove-task.new.self.tasks c.remove-task.result c.self.invariant.kept first in
+    may_trim c.self.inside.identity c.remove-task.result d kept.0 (sym (capacity_is _ d tied.agrees) ∙ sym tied.agrees.fit.sectors) (has_as_noted _ d tied.agrees).trim
+
+pub run_task-requires-clause-data : goal.run_task-requires-clause-data
+run_task-requires-clause-data g c =
+    let first = first_of c.self.inside.queue.tasks c.remove-task.new.self.tasks c.remove-task.result c.remove-task.ensures.value c.remove-task.ensures.others in
+    let kept = first_kept c.self.inside.identity c.self.inside.queue.tasks c.remove-task.new.self.tasks c.remove-task.result c.self.invariant.kept first in
+    has_data c.self.inside.identity c.remove-task.result kept.0
+
+pub run_task-requires-clause-room : goal.run_task-requires-clause-room
+run_task-requires-clause-room g c =
+    let valid = (subst (λ l. Tied l (g.D.Drive.state c.args.drive.now)) (sym c.self.view_is) c.requires.tied).agrees.valid in
+    let held = held_is c.self.inside.identity c.self.inside.queue.tasks c.self.invariant.kept in
+    let out = ap (λ (l : Layer). l.out) c.self.view_is in
+    omega (arith, held, out, c.requires.all_in, subst (λ n. n ≤ 32768) (held_by_is c.self.inside.queue.tasks) valid.blocks, few_tasks c.self.inside.queue.tasks valid.few, c.self.invariant.all, c.self.invariant.held)
+
 pub end_task-requires-clause-few : goal.end_task-requires-clause-few
 end_task-requires-clause-few g c =
     let first = first_of c.self.inside.queue.tasks c.remove-task.new.self.tasks c.remove-task.result c.remove-task.ensures.value c.remove-task.ensures.others in
@@ -66,8 +90,8 @@ invariant_of-self g c =
     let first = first_of c.self.inside.queue.tasks c.remove-task.new.self.tasks c.remove-task.result c.remove-task.ensures.value c.remove-task.ensures.others in
     let held = first_pages c.self.inside.queue.tasks c.remove-task.new.self.tasks c.remove-task.result first in
     record {
-      held = omega (arith, held, c.self.invariant.held, c.end_task.ensures.out);
-      all = omega (arith, c.self.invariant.all, c.end_task.ensures.out, c.end_task.ensures.free);
+      held = omega (arith, held, c.self.invariant.held, ap (λ (p : Counts). p.out) c.run_task.ensures.pool, c.end_task.ensures.out);
+      all = omega (arith, c.self.invariant.all, ap (λ (p : Counts). p.out) c.run_task.ensures.pool, c.end_task.ensures.out, ap (λ (p : Counts). p.free) c.run_task.ensures.pool, c.end_task.ensures.free);
       kept = (first_kept c.self.inside.identity c.self.inside.queue.tasks c.remove-task.new.self.tasks c.remove-task.result c.self.invariant.kept first).1;
       identity_is = c.self.invariant.identity_is;
     }
@@ -83,8 +107,8 @@ invariant_of-self-in-Err g c =
     let first = first_of c.self.inside.queue.tasks c.remove-task.new.self.tasks c.remove-task.result c.remove-task.ensures.value c.remove-task.ensures.others in
     let held = first_pages c.self.inside.queue.tasks c.remove-task.new.self.tasks c.remove-task.result first in
     record {
-      held = omega (arith, held, c.self.invariant.held, c.end_task-in-Err.ensures.out);
-      all = omega (arith, c.self.invariant.all, c.end_task-in-Err.ensures.out, c.end_task-in-Err.ensures.free);
+      held = omega (arith, held, c.self.invariant.held, ap (λ (p : Counts). p.out) c.run_task.ensures.pool, c.end_task-in-Err.ensures.out);
+      all = omega (arith, c.self.invariant.all, ap (λ (p : Counts). p.out) c.run_task.ensures.pool, c.end_task-in-Err.ensures.out, ap (λ (p : Counts). p.free) c.run_task.ensures.pool, c.end_task-in-Err.ensures.free);
       kept = (first_kept c.self.inside.identity c.self.inside.queue.tasks c.remove-task.new.self.tasks c.remove-task.result c.self.invariant.kept first).1;
       identity_is = c.self.invariant.identity_is;
     }
@@ -131,7 +155,7 @@ returns-in-Ok-clause-pages g c =
     let held = first_pages c.self.inside.queue.tasks c.remove-task.new.self.tasks c.remove-task.result first in
     let pages = one_pages c.args.replies.now c.push.new.self c.end_task.result c.requires.empty c.push.ensures in
     let view = ap (λ (l : Layer). l.out) c.self.view_is in
-    omega (arith, held, pages, view, c.requires.all_in, c.self.invariant.held, c.end_task.ensures.out)
+    omega (arith, held, pages, view, c.requires.all_in, c.self.invariant.held, ap (λ (p : Counts). p.out) c.run_task.ensures.pool, c.end_task.ensures.out)
 
 pub returns-in-Ok-clause-writable : goal.returns-in-Ok-clause-writable
 returns-in-Ok-clause-writable g c =
@@ -147,7 +171,7 @@ returns-in-Ok-clause-flushed g c = λ flushed quiet.
     let own = (subst (λ ts. AreOwn ts) (first_tasks i.queue.tasks c.remove-task.new.self.tasks c.remove-task.result first) tied.agrees.valid.own).0 in
     let done = first_flush i.queue.tasks c.remove-task.new.self.tasks c.remove-task.result c.remove-task.result c.in-Ok.ending i.modes.d_sense c.args.replies.now c.push.new.self c.end_task.result first refl refl own c.requires.empty c.push.ensures c.end_task.ensures.reply
     (subst (λ (l : Layer). IsFlushed l.tasks c.push.new.self) (sym c.self.view_is) flushed) in
-    flush_done i.down i.started c.wanted_by-wanted.result c.remove-task.result.command (g.D.Drive.state c.args.drive.now) (g.D.Drive.state c.run_task.new.drive) c.in-Ok.ending done.flush done.good c.in-Ok.ensures.ends
+    flush_done i.down i.started c.wanted_by-wanted.result c.remove-task.result (g.D.Drive.state c.args.drive.now) (g.D.Drive.state c.run_task.new.drive) c.in-Ok.ending done.flush done.good c.in-Ok.ensures.ends
 
 pub returns-in-Err-clause-ends : goal.returns-in-Err-clause-ends
 returns-in-Err-clause-ends g c =
@@ -185,7 +209,7 @@ returns-in-Err-clause-pages g c =
     let lost = lost_pages c.self.inside.modes.d_sense c.remove-task.new.self.tasks in
     let none = ap (λ (r : Reply). length r.body) c.end_task-in-Err.ensures.reply ∙ ap (λ e. length (data_in e c.remove-task.result.command c.remove-task.result.body)) c.link_lost.ensures in
     let view = ap (λ (l : Layer). l.out) c.self.view_is in
-    omega (arith, held, pages, lost, none, view, ap (λ (l : Layer). l.out) c.lose.ensures.stays, c.requires.all_in, c.self.invariant.held, c.end_task-in-Err.ensures.out)
+    omega (arith, held, pages, lost, none, view, ap (λ (l : Layer). l.out) c.lose.ensures.stays, c.requires.all_in, c.self.invariant.held, ap (λ (p : Counts). p.out) c.run_task.ensures.pool, c.end_task-in-Err.ensures.out)
 
 pub returns-in-Err-clause-writable : goal.returns-in-Err-clause-writable
 returns-in-Err-clause-writable g c =

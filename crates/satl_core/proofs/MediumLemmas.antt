@@ -1,0 +1,334 @@
+-- A command that goes over the medium alone ends as the device says.
+use Rattle.std.proofs.Common.{◌≡◌, ⊎_elim, inl, inr, refl, sym, ap, subst, ◌∙◌, arith, ℕ, zero, suc, ◌+◌, ◌≤◌, Bool, true, false, List, [], ◌∷◌, ◌++◌, length, map, Some, None}
+use Rattle.std.specs.List.{AllByRecursion}
+use Rattle.satl_base.specs.Identify.{has_trim}
+use Rattle.satl_base.specs.Lists.{IsIn}
+use Rattle.std.specs.Prelude.{◌⊎◌, MatchBool, MatchOption, Option, if◌then◌else◌, not, ◌&&◌, ◌||◌, get_or, min, replicate, take}
+use Rattle.satl_base.specs.declared.block.Block.{Block}
+use Rattle.satl_base.specs.declared.block.Range.{Range}
+use Rattle.satl_base.specs.declared.bench.Which.TheVariants as flaws
+use Rattle.satl_base.specs.declared.modes.Modes.{Modes}
+use Rattle.satl_base.specs.declared.reply.Reply.{Reply}
+use Rattle.satl_base.specs.declared.reply.Scsi.TheVariants.{Good}
+use Rattle.satl_base.specs.Blocks.{no_block, zero_block}
+use Rattle.satl_base.specs.Cells.{Cell, Pair, Part, first_flaw, nows, pairs_from, whole}
+use Rattle.satl_base.specs.Losses.{Loses}
+use Rattle.satl_base.specs.Moves.{stay}
+use Rattle.satl_base.proofs.MovesLemmas.{lose_once}
+use Rattle.satl_cdb.specs.declared.command.Command.{Command}
+use Rattle.satl_cdb.specs.declared.command.Command.TheVariants as cdbs
+use Rattle.satl_cdb.specs.declared.command.Form.{Form}
+use Rattle.satl_identify.specs.declared.identity.Identity.{Identity}
+use Rattle.satl_sense.specs.declared.sense.Sense.{Sense}
+use Rattle.satl_pass.specs.Status.{error_sense_at}
+use Rattle.satl_regs.specs.Effects.{Transfer, unc, zeros_at}
+use Rattle.satl_regs.specs.Trim.{addresses, addresses_from}
+use Rattle.satl_line.specs.declared.entry.Entry.{Entry}
+use Rattle.satl_line.specs.Ending.{EndsAs, Outcome, active_after}
+use Rattle.satl_line.specs.Ending.Outcome.{ends_done, ends_glitched}
+use Rattle.satl_line.specs.Ranged.{written_pairs, zeros_over}
+use Rattle.satl_line.specs.Ranged.RangedTask.{ranged_trim}
+use Rattle.satl_unit.specs.declared.attention.Attention.{Attention}
+use Rattle.satl_drive.specs.State.{DriveState}
+use Rattle.satl_barrier.specs.declared.finishing.Finish.{Finish}
+use Rattle.satl_barrier.specs.declared.finishing.Finish.TheVariants as finishes
+use Rattle.satl_barrier.specs.declared.comparing.Comparison.{Comparison}
+use Rattle.satl_barrier.specs.declared.comparing.Comparison.TheVariants as comparisons
+use Rattle.satl_barrier.specs.Finishing as barrier
+use Rattle.satl_barrier.specs.Finishing.{ComparesAs, FinishesAs, IsVerified, IsTorn, trimming, verifying, writing_same}
+use Rattle.satl_direct.specs.Device.{Device, without}
+use Rattle.satl_direct.specs.Tasks.{asks, over, task_of}
+use Rattle.satl_direct.specs.Ending.{EndsBy, EndsCompared, EndsGarbled, EndsInPieces, EndsOnMedium, EndsTorn, EndsVerified, IsChecked, IsCompared, IsDone, same_pairs, task_check, task_reply}
+use Rattle.satl_direct.specs.Quiet.{MayShow, MayWake, Quiet, StaysOrWakes, is_pass, wakes, writes}
+use Rattle.satl_direct.specs.Senses.{crc_error, miscompare, read_error, write_error}
+use Rattle.satl_core.specs.declared.turning.Ending.{Ending}
+use Rattle.satl_core.specs.declared.turning.Ending.TheVariants as endings
+use Rattle.satl_core.specs.Medium as medium
+use Rattle.satl_core.specs.Layer.{AreTrimmed, CanTrim, IsCovered, IsTask, entry_pages}
+use Rattle.satl_core.specs.Medium.{HasCompared, HasData, HasFinished, HasVerified, MayTrim, TakesTrim, written_alone}
+use Rattle.satl_core.specs.Refilling.{EndsOne}
+use Rattle.satl_core.specs.Turning.{ended_reply, read_pages}
+use Rattle.satl_core.proofs.DeviceLemmas.{ends_around, ends_by, first_gone, quiet_none, seen}
+use Rattle.satl_core.proofs.HeldLemmas.{IsKeptEntry}
+use Rattle.satl_core.proofs.QueuedLemmas.{read_flaw, write_flaw}
+use Rattle.satl_core.proofs.Transfers.{of_task}
+
+-- the sense data of a flaw
+pub flaw_sense : (writes : Bool) (at : ℕ) → error_sense_at writes unc at ≡ (if writes then write_error at else read_error at)
+flaw_sense true at = write_flaw at
+flaw_sense false at = read_flaw at
+
+-- ---- zeros at the addresses of ranges
+
+zeros_from : (lba count : ℕ) (cached : Bool) → zeros_at cached (addresses_from lba count) ≡ pairs_from lba (replicate count zero_block) cached
+unfolding addresses_from
+zeros_from lba zero cached = refl
+zeros_from lba (suc count) cached = ap (λ ps. record { lba = lba; block = zero_block; cached = cached } ∷ ps) (zeros_from (lba + 1) count cached)
+
+zeros_append : (cached : Bool) (xs ys : List ℕ) → zeros_at cached (xs ++ ys) ≡ zeros_at cached xs ++ zeros_at cached ys
+zeros_append cached [] ys = refl
+zeros_append cached (x ∷ xs) ys = ap (λ ps. record { lba = x; block = zero_block; cached = cached } ∷ ps) (zeros_append cached xs ys)
+
+pub zeros_same : (ranges : List Range) (cached : Bool) → zeros_at cached (addresses ranges) ≡ zeros_over ranges cached
+zeros_same [] cached = refl
+zeros_same (r ∷ ranges) cached =
+    zeros_append cached (addresses_from r.lba r.count) (addresses ranges)
+    ∙ (ap (λ ps. ps ++ zeros_at cached (addresses ranges)) (zeros_from r.lba r.count cached) ∙ ap (λ ps. pairs_from r.lba (replicate r.count zero_block) cached ++ ps) (zeros_same ranges cached))
+
+-- the block of a WRITE SAME at each address
+pub same_is : (lba count : ℕ) (body : List Block) (cached : Bool) → 1 ≤ length body → pairs_from lba (replicate count (get_or body 0 no_block)) cached ≡ same_pairs lba count body cached
+same_is lba count [] cached some = absurd (omega (arith, some))
+same_is lba count (b ∷ body) cached some = refl
+
+-- ---- the first task ends, and the drive has done this
+
+module _ (identity : Identity) (modes : Modes) (started : Bool) (attentions : List (List Attention)) (entry : Entry) (others : List Entry) (d d' : DriveState)
+    (ready : (not started && (asks entry.command).starts) ≡ false) (wakes_it : wakes entry.command ≡ true) where
+  abbrev before : Device
+  before = seen identity modes started attentions (task_of entry ∷ others) d
+
+  -- the same, where a piece may have made the drive active
+  abbrev awake : Device
+  awake = record before { active = d'.active }
+
+  abbrev after : Device
+  after = seen identity modes started attentions others d'
+
+  may_wake : d.down ≡ false → MayWake before
+  may_wake up = record { task = task_of entry; under_way = record { up = up; eligible = inl refl }; wakes_it = wakes_it }
+
+  quiet_awake : d.down ≡ false → (d'.active ≡ d.active) ⊎ (d'.active ≡ true) → Quiet before awake
+  quiet_awake up active = record { cells = stay; active = ⊎_elim (λ same. inl same) (λ on. inr (on, may_wake up)) active; stays = refl }
+
+  -- it is done
+  pub done_turn : (t : Transfer) → barrier.IsDone t d d' → read_pages entry.command entry.body ≡ []
+      → ((reply : Reply) (new : Device) → IsDone (record before { cells = whole d.cells t.writes; active = true }) (task_of entry) reply new → EndsBy entry.command before (task_of entry) reply new)
+      → EndsOne before (ended_reply entry endings.Good modes.d_sense) after
+  done_turn t x none how =
+      let mid : Device = seen identity modes started attentions others (record d { cells = whole d.cells t.writes; active = true }) in
+      let reply : Reply = ended_reply entry endings.Good modes.d_sense in
+      ends_around before before mid after (task_of entry) others reply (quiet_none before) refl
+      (ends_by before (task_of entry) reply mid x.was_up ready (how reply mid (record {
+        answer = ap (task_reply (task_of entry) Good []) none;
+        stays = first_gone identity modes started attentions (task_of entry) others (record d { cells = whole d.cells t.writes; active = true });
+      })))
+      (record { cells = lose_once x.lost; active = inl (ap (λ (y : DriveState). y.active) x.stays); stays = by x.stays })
+    where
+      by : d' ≡ record d { cells = d'.cells; active = true } → after ≡ record (seen identity modes started attentions others (record d { cells = whole d.cells t.writes; active = true })) { cells = d'.cells; active = d'.active }
+      by same = ap (λ (y : DriveState). record after { down = y.down; glitches = y.glitches }) same
+
+  -- it ends with sense data, with part of what it writes
+  pub torn_turn : (t : Transfer) (sense : Sense) (x : IsTorn t d d') → d'.down ≡ d.down
+      → ((reply : Reply) (new : Device) → reply ≡ task_check awake (task_of entry) sense → new ≡ record awake { cells = x.torn; tasks = without (task_of entry) awake.tasks; glitches = d'.glitches } → EndsBy entry.command awake (task_of entry) reply new)
+      → EndsOne before (ended_reply entry (endings.Check sense) modes.d_sense) after
+  torn_turn t sense x link how =
+      let mid : Device = seen identity modes started attentions others (record d' { cells = x.torn; down = d.down }) in
+      let reply : Reply = ended_reply entry (endings.Check sense) modes.d_sense in
+      ends_around before awake mid after (task_of entry) others reply (quiet_awake x.was_up x.active) refl
+      (ends_by awake (task_of entry) reply mid x.was_up ready (how reply mid refl (first_gone identity modes started attentions (task_of entry) others (record d' { cells = x.torn; down = d.down }))))
+      (record { cells = lose_once x.lost; active = inl refl; stays = ap (λ b. record after { down = b }) link })
+
+-- ---- the cases of the device
+
+verified_by : (s : Device) (t : Entry) (reply : Reply) (new : Device) (lba count : ℕ) (o : Option ℕ) → first_flaw flaws.Read s.cells lba count ≡ o
+    → MatchOption o (IsDone (record s { active = true }) t reply new) (λ at. IsChecked (read_error at) s t reply new) → EndsVerified lba count s t reply new
+verified_by s t reply new lba count o is x = subst (λ o. MatchOption o (IsDone (record s { active = true }) t reply new) (λ at. IsChecked (read_error at) s t reply new)) (sym is) x
+
+compared_by : (s : Device) (t : Entry) (reply : Reply) (new : Device) (lba count : ℕ) (o : Option ℕ) → first_flaw flaws.Read s.cells lba count ≡ o
+    → MatchOption o (EndsGarbled [] s t reply new ⊎ IsCompared lba count s t reply new) (λ at. IsChecked (read_error at) s t reply new) → EndsCompared lba count s t reply new
+compared_by s t reply new lba count o is x = subst (λ o. MatchOption o (EndsGarbled [] s t reply new ⊎ IsCompared lba count s t reply new) (λ at. IsChecked (read_error at) s t reply new)) (sym is) x
+
+pieces_by : (s : Device) (t : Entry) (reply : Reply) (new : Device) (lba count : ℕ) (writes : List Pair) (o : Option ℕ) → first_flaw flaws.Write s.cells lba count ≡ o
+    → MatchOption o (IsDone (record s { cells = whole s.cells writes; active = true }) t reply new) (λ at. EndsTorn writes at s t reply new) → EndsInPieces lba count writes s t reply new
+pieces_by s t reply new lba count writes o is x = inr (subst (λ o. MatchOption o (IsDone (record s { cells = whole s.cells writes; active = true }) t reply new) (λ at. EndsTorn writes at s t reply new)) (sym is) x)
+
+-- the device with the sectors that it had
+stays_so : (s new : Device) (cells : List Cell) (tasks : List Entry) (glitches : ℕ) → new ≡ record s { cells = cells; tasks = tasks; glitches = glitches } → cells ≡ s.cells → glitches ≡ s.glitches → new ≡ record s { tasks = tasks }
+stays_so s new cells tasks glitches same is left = same ∙ (ap (λ c. record s { cells = c; tasks = tasks; glitches = glitches }) is ∙ ap (λ n. record s { tasks = tasks; glitches = n }) left)
+
+-- a CRC error, with part of what is written
+garbled : (s : Device) (t : Entry) (reply : Reply) (new : Device) (torn : List Cell) (writes : List Pair) (left : ℕ) → reply ≡ task_check s t crc_error → new ≡ record s { cells = torn; tasks = without t s.tasks; glitches = left } → Part s.cells writes torn → left + 1 ≡ s.glitches → EndsGarbled writes s t reply new
+garbled s t reply new torn writes left answer same part one = record {
+  answer = answer;
+  part = subst (Part s.cells writes) (sym (ap (λ (x : Device). x.cells) same)) part;
+  one_glitch = ap (λ (x : Device). x.glitches + 1) same ∙ one;
+  stays = same ∙ sym (ap (λ (x : Device). record s { cells = x.cells; tasks = without t s.tasks; glitches = x.glitches }) same);
+}
+
+-- a flaw, with part of what is written
+torn_by : (s : Device) (t : Entry) (reply : Reply) (new : Device) (torn : List Cell) (writes : List Pair) (at left : ℕ) → reply ≡ task_check s t (write_error at) → new ≡ record s { cells = torn; tasks = without t s.tasks; glitches = left } → Part s.cells writes torn → left ≡ s.glitches → EndsTorn writes at s t reply new
+torn_by s t reply new torn writes at left answer same part unspent = record {
+  answer = answer;
+  part = subst (Part s.cells writes) (sym (ap (λ (x : Device). x.cells) same)) part;
+  stays = same ∙ (ap (λ n. record s { cells = torn; tasks = without t s.tasks; glitches = n }) unspent ∙ sym (ap (λ (x : Device). record s { cells = x.cells; tasks = without t s.tasks }) same));
+}
+
+trim_done : (s : Device) (t : Entry) (reply : Reply) (new : Device) (ranges : List Range) (writes : List Pair) → writes ≡ zeros_over ranges s.modes.wce → IsDone (record s { cells = whole s.cells writes; active = true }) t reply new → EndsOnMedium (ranged_trim ranges) s t reply new
+trim_done s t reply new ranges writes pairs e = record {
+  outcome = ends_done [];
+  ends = record { no_flaw = refl; read = refl; written = ap (λ (x : Device). x.cells) e.stays ∙ ap (whole s.cells) pairs; glitches_stay = ap (λ (x : Device). x.glitches) e.stays };
+  answer = e.answer;
+  stays = e.stays ∙ sym (ap (λ (x : Device). record s { cells = x.cells; tasks = without t s.tasks; glitches = x.glitches; active = true }) e.stays);
+}
+
+trim_garbled : (s : Device) (t : Entry) (reply : Reply) (new : Device) (torn : List Cell) (ranges : List Range) (left : ℕ) → reply ≡ task_check s t crc_error → new ≡ record s { cells = torn; tasks = without t s.tasks; glitches = left } → Part s.cells (zeros_over ranges s.modes.wce) torn → left + 1 ≡ s.glitches → EndsOnMedium (ranged_trim ranges) s t reply new
+trim_garbled s t reply new torn ranges left answer same part one = record {
+  outcome = ends_glitched;
+  ends = record { no_flaw = refl; written = subst (Part s.cells (zeros_over ranges s.modes.wce)) (sym (ap (λ (x : Device). x.cells) same)) part; one_glitch = ap (λ (x : Device). x.glitches + 1) same ∙ one };
+  answer = answer;
+  stays = same ∙ sym (ap (λ (x : Device). record s { cells = x.cells; tasks = without t s.tasks; glitches = x.glitches; active = s.active }) same);
+}
+
+-- ---- by command
+
+module _ (identity : Identity) (modes : Modes) (started : Bool) (attentions : List (List Attention)) (entry : Entry) (others : List Entry) (d d' : DriveState) where
+  -- a task with another command, and the device with it as its first task
+  abbrev asking : Command → Entry
+  asking c = record entry { command = c }
+
+  abbrev with_it : Command → Device
+  with_it c = seen identity modes started attentions (task_of (asking c) ∷ others) d
+
+  abbrev roused : Command → Device
+  roused c = record (with_it c) { active = d'.active }
+
+  abbrev EndsSo : Command → Ending → Type 0
+  EndsSo c ending = EndsOne (with_it c) (ended_reply (asking c) ending modes.d_sense) (seen identity modes started attentions others d')
+
+  -- a flaw is met, where nothing is written
+  flawed_turn : (c : Command) (t : Transfer) (at : ℕ) → (not started && (asks c).starts) ≡ false → wakes c ≡ true → t.writes ≡ [] → barrier.IsFlawed t at d d'
+      → ((reply : Reply) (new : Device) → IsChecked (read_error at) (roused c) (task_of (asking c)) reply new → EndsBy c (roused c) (task_of (asking c)) reply new) → EndsSo c (medium.flawed false at)
+  flawed_turn c t at ready wake none x how =
+      torn_turn identity modes started attentions (asking c) others d d' ready wake t (read_error at) x.torn (ap (λ (y : DriveState). y.down) x.stays)
+      (λ reply new answer same. how reply new (record { answer = answer; stays = stays_so (roused c) new x.torn.torn (without (task_of (asking c)) (task_of (asking c) ∷ others)) d'.glitches same (subst (λ ps. Part d.cells ps x.torn.torn) none x.torn.part) (ap (λ (y : DriveState). y.glitches) x.stays) }))
+
+  pub check_turn : (form : Form) (lba count : ℕ) (ending : Ending) → (not started && true) ≡ false → HasVerified (over lba count) d ending d' → EndsSo (cdbs.Verify form lba count false) ending
+  check_turn form lba count ending ready h = subst (EndsSo (cdbs.Verify form lba count false)) (sym h.told) (by h.flaw h.is)
+    where
+      by : (flaw : Option ℕ) → IsVerified (over lba count) flaw d d' → EndsSo (cdbs.Verify form lba count false) (medium.verified flaw)
+      by None x =
+          done_turn identity modes started attentions (asking (cdbs.Verify form lba count false)) others d d' ready refl (verifying (over lba count)) x refl
+          (λ reply new e. verified_by (with_it (cdbs.Verify form lba count false)) (task_of (asking (cdbs.Verify form lba count false))) reply new lba count None x.no_flaw e)
+      by (Some at) x =
+          flawed_turn (cdbs.Verify form lba count false) (verifying (over lba count)) at ready refl refl x
+          (λ reply new e. verified_by (roused (cdbs.Verify form lba count false)) (task_of (asking (cdbs.Verify form lba count false))) reply new lba count (Some at) x.flaw e)
+
+  pub compare_turn : (form : Form) (lba count : ℕ) (ending : Ending) → (not started && true) ≡ false → HasCompared (over lba count) entry.body d ending d' → EndsSo (cdbs.Verify form lba count true) ending
+  compare_turn form lba count ending ready h = subst (EndsSo (cdbs.Verify form lba count true)) (sym h.told) (by h.comparison h.is)
+    where
+      by : (it : Comparison) → ComparesAs (over lba count) entry.body it d d' → EndsSo (cdbs.Verify form lba count true) (medium.compared it)
+      by comparisons.Same x =
+          done_turn identity modes started attentions (asking (cdbs.Verify form lba count true)) others d d' ready refl (verifying (over lba count)) x.1 refl
+          (λ reply new e. compared_by (with_it (cdbs.Verify form lba count true)) (task_of (asking (cdbs.Verify form lba count true))) reply new lba count None x.1.no_flaw (inr (inl (sym x.0, e))))
+      by comparisons.Differs x =
+          torn_turn identity modes started attentions (asking (cdbs.Verify form lba count true)) others d d' ready refl (verifying (over lba count)) miscompare
+          (record { was_up = x.1.was_up; torn = d.cells; part = refl; lost = x.1.lost; active = inr (ap (λ (y : DriveState). y.active) x.1.stays) }) (ap (λ (y : DriveState). y.down) x.1.stays)
+          (λ reply new answer same. compared_by (roused (cdbs.Verify form lba count true)) (task_of (asking (cdbs.Verify form lba count true))) reply new lba count None x.1.no_flaw (inr (inr ((λ is. x.0 (sym is)), record {
+            answer = answer;
+            stays = stays_so (roused (cdbs.Verify form lba count true)) new d.cells (without (task_of (asking (cdbs.Verify form lba count true))) (task_of (asking (cdbs.Verify form lba count true)) ∷ others)) d'.glitches same refl (ap (λ (y : DriveState). y.glitches) x.1.stays);
+          }))))
+      by (comparisons.Flawed at) x =
+          flawed_turn (cdbs.Verify form lba count true) (verifying (over lba count)) at ready refl refl x
+          (λ reply new e. compared_by (roused (cdbs.Verify form lba count true)) (task_of (asking (cdbs.Verify form lba count true))) reply new lba count (Some at) x.flaw e)
+      by comparisons.Garbled x =
+          torn_turn identity modes started attentions (asking (cdbs.Verify form lba count true)) others d d' ready refl (verifying (over lba count)) crc_error x.torn (ap (λ (y : DriveState). y.down) x.stays)
+          (λ reply new answer same. compared_by (roused (cdbs.Verify form lba count true)) (task_of (asking (cdbs.Verify form lba count true))) reply new lba count None x.no_flaw (inl (garbled (roused (cdbs.Verify form lba count true)) (task_of (asking (cdbs.Verify form lba count true))) reply new x.torn.torn [] d'.glitches answer same x.torn.part x.one)))
+
+  module _ (cache : d.cache ≡ modes.wce) where
+    pub same_turn : (form : Form) (lba count : ℕ) (ending : Ending) → (not started && true) ≡ false → 1 ≤ length entry.body → HasFinished (writing_same (over lba count) (get_or entry.body 0 no_block) d) (min 64 count) d ending d' → EndsSo (cdbs.WriteSame form lba count false) ending
+    same_turn form lba count ending ready some h = subst (EndsSo (cdbs.WriteSame form lba count false)) (sym h.told) (by h.finish h.is)
+      where
+        pairs : (writing_same (over lba count) (get_or entry.body 0 no_block) d).writes ≡ same_pairs lba count entry.body modes.wce
+        pairs = same_is lba count entry.body d.cache some ∙ ap (same_pairs lba count entry.body) cache
+
+        by : (it : Finish) → FinishesAs (writing_same (over lba count) (get_or entry.body 0 no_block) d) (min 64 count) it d d' → EndsSo (cdbs.WriteSame form lba count false) (medium.finished it)
+        by finishes.Done x =
+            done_turn identity modes started attentions (asking (cdbs.WriteSame form lba count false)) others d d' ready refl (writing_same (over lba count) (get_or entry.body 0 no_block) d) x refl
+            (λ reply new e. pieces_by (with_it (cdbs.WriteSame form lba count false)) (task_of (asking (cdbs.WriteSame form lba count false))) reply new lba count (same_pairs lba count entry.body modes.wce) None x.no_flaw
+                (subst (λ ps. IsDone (record (with_it (cdbs.WriteSame form lba count false)) { cells = whole d.cells ps; active = true }) (task_of (asking (cdbs.WriteSame form lba count false))) reply new) pairs e))
+        by (finishes.Flawed at) x =
+            torn_turn identity modes started attentions (asking (cdbs.WriteSame form lba count false)) others d d' ready refl (writing_same (over lba count) (get_or entry.body 0 no_block) d) (write_error at) x.torn (ap (λ (y : DriveState). y.down) x.stays)
+            (λ reply new answer same. pieces_by (roused (cdbs.WriteSame form lba count false)) (task_of (asking (cdbs.WriteSame form lba count false))) reply new lba count (same_pairs lba count entry.body modes.wce) (Some at) x.flaw
+                (torn_by (roused (cdbs.WriteSame form lba count false)) (task_of (asking (cdbs.WriteSame form lba count false))) reply new x.torn.torn (same_pairs lba count entry.body modes.wce) at d'.glitches answer same (subst (λ ps. Part d.cells ps x.torn.torn) pairs x.torn.part) (ap (λ (y : DriveState). y.glitches) x.stays)))
+        by finishes.Garbled x =
+            torn_turn identity modes started attentions (asking (cdbs.WriteSame form lba count false)) others d d' ready refl (writing_same (over lba count) (get_or entry.body 0 no_block) d) crc_error x.torn (ap (λ (y : DriveState). y.down) x.stays)
+            (λ reply new answer same. inl (x.no_flaw, garbled (roused (cdbs.WriteSame form lba count false)) (task_of (asking (cdbs.WriteSame form lba count false))) reply new x.torn.torn (same_pairs lba count entry.body modes.wce) d'.glitches answer same (subst (λ ps. Part d.cells ps x.torn.torn) pairs x.torn.part) x.one))
+
+    -- a trim of these ranges, by whichever command
+    trimmed_turn : (c : Command) (ranges : List Range) (ending : Ending) → (not started && (asks c).starts) ≡ false → wakes c ≡ true → read_pages c entry.body ≡ []
+        → ((s : Device) (reply : Reply) (new : Device) → EndsOnMedium (ranged_trim ranges) s (task_of (asking c)) reply new → EndsBy c s (task_of (asking c)) reply new) → HasFinished (trimming ranges d) 0 d ending d' → EndsSo c ending
+    trimmed_turn c ranges ending ready wake none how h = subst (EndsSo c) (sym h.told) (by h.finish h.is)
+      where
+        pairs : (trimming ranges d).writes ≡ zeros_over ranges modes.wce
+        pairs = zeros_same ranges d.cache ∙ ap (zeros_over ranges) cache
+
+        by : (it : Finish) → FinishesAs (trimming ranges d) 0 it d d' → EndsSo c (medium.finished it)
+        by finishes.Done x =
+            done_turn identity modes started attentions (asking c) others d d' ready wake (trimming ranges d) x none
+            (λ reply new e. how (with_it c) reply new (trim_done (with_it c) (task_of (asking c)) reply new ranges (trimming ranges d).writes pairs e))
+        by (finishes.Flawed at) x = absurd (no_flaw x.flaw)
+          where
+            no_flaw : first_flaw flaws.Write d.cells 0 0 ≡ Some at → ⊥
+            no_flaw e = absurd cc
+        by finishes.Garbled x =
+            torn_turn identity modes started attentions (asking c) others d d' ready wake (trimming ranges d) crc_error x.torn (ap (λ (y : DriveState). y.down) x.stays)
+            (λ reply new answer same. how (roused c) reply new (trim_garbled (roused c) (task_of (asking c)) reply new x.torn.torn ranges d'.glitches answer same (subst (λ ps. Part d.cells ps x.torn.torn) pairs x.torn.part) x.one))
+
+    pub zero_turn : (form : Form) (lba count : ℕ) (ending : Ending) → (not started && true) ≡ false → HasFinished (trimming (over lba count ∷ []) d) 0 d ending d' → EndsSo (cdbs.WriteSame form lba count true) ending
+    zero_turn form lba count ending ready h = trimmed_turn (cdbs.WriteSame form lba count true) (over lba count ∷ []) ending ready refl refl (λ s reply new e. e) h
+
+    pub unmap_turn : (size : ℕ) (ending : Ending) → (not started && true) ≡ false → HasFinished (trimming entry.ranges.items d) 0 d ending d' → EndsSo (cdbs.Unmap size) ending
+    unmap_turn size ending ready h = trimmed_turn (cdbs.Unmap size) entry.ranges.items ending ready refl refl (λ s reply new e. e) h
+
+-- ---- a task that is kept
+
+-- it has the data-out of its command
+pub has_data : (identity : Identity) (entry : Entry) → IsKeptEntry identity entry → HasData entry.command entry
+has_data identity entry kept =
+    of_task (λ c. length entry.body ≡ entry.blocks + entry_pages c identity.queued_trim → HasData c entry) identity.capacity entry.blocks entry.command
+    (λ form lba count fua t size. tt) (λ form lba count fua t size. tt) (λ form lba count none size. tt) (λ start no_flush none size. tt) (λ ten size none pages. tt) (λ form lba count t size. tt)
+    (λ form lba count t size. omega (arith, t.0, size)) (λ form lba count unmap t size. omega (arith, t.0, size)) (λ size t pages. tt) kept.task kept.pages
+
+-- a drive takes what it trims
+pub may_trim : (identity : Identity) (entry : Entry) (d : DriveState) → IsKeptEntry identity entry → identity.capacity ≡ length d.cells → has_trim d.identify ≡ identity.trim → MayTrim entry.command entry d
+may_trim identity entry d kept size has =
+    of_task (λ c. CanTrim identity c entry.ranges.items → MayTrim c entry d) identity.capacity entry.blocks entry.command
+    (λ form lba count fua t can. tt) (λ form lba count fua t can. tt) (λ form lba count none can. tt) (λ start no_flush none can. tt) (λ ten size none can. tt) (λ form lba count t can. tt) (λ form lba count t can. tt)
+    (λ form lba count unmap. elim unmap as (λ b. (entry.blocks ≡ 1) × IsCovered identity.capacity lba count → CanTrim identity (cdbs.WriteSame form lba count b) entry.ranges.items → MayTrim (cdbs.WriteSame form lba count b) entry d) [ true ↦ λ t can. takes (over lba count ∷ []) can | false ↦ λ t can. tt ])
+    (λ size t can. takes entry.ranges.items can) kept.task kept.trims
+  where
+    takes : (ranges : List Range) → AreTrimmed identity ranges → TakesTrim ranges d
+    takes ranges can = record { has = has ∙ can.has; list = can.list; within = subst (λ n. AllByRecursion (λ (r : Range). r.lba + r.count ≤ n) ranges) size can.within }
+
+-- what it writes is what the device says that it writes
+written_is : (identity : Identity) (modes : Modes) (started : Bool) (attentions : List (List Attention)) (entry : Entry) (others : List Entry) (d : DriveState) (pair : Pair) → d.cache ≡ modes.wce → IsKeptEntry identity entry
+    → IsIn pair (written_alone entry.command entry d) → IsIn pair (writes (seen identity modes started attentions (task_of entry ∷ others) d) (task_of entry))
+written_is identity modes started attentions entry others d pair cache kept =
+    of_task (λ c. length entry.body ≡ entry.blocks + entry_pages c identity.queued_trim → IsIn pair (written_alone c entry d) → IsIn pair (writes (seen identity modes started attentions (task_of (record entry { command = c }) ∷ others) d) (task_of (record entry { command = c })))) identity.capacity entry.blocks entry.command
+    (λ form lba count fua t size i. absurd i) (λ form lba count fua t size i. absurd i) (λ form lba count none size i. absurd i) (λ start no_flush none size i. absurd i) (λ ten size none pages i. absurd i) (λ form lba count t size i. absurd i) (λ form lba count t size i. absurd i)
+    (λ form lba count unmap. elim unmap as (λ b. (entry.blocks ≡ 1) × IsCovered identity.capacity lba count → length entry.body ≡ entry.blocks + 0 → IsIn pair (written_alone (cdbs.WriteSame form lba count b) entry d) → IsIn pair (writes (seen identity modes started attentions (task_of (record entry { command = cdbs.WriteSame form lba count b }) ∷ others) d) (task_of (record entry { command = cdbs.WriteSame form lba count b })))) [
+      | true ↦ λ t size i. subst (IsIn pair) (zeros_same (over lba count ∷ []) d.cache ∙ ap (zeros_over (over lba count ∷ [])) cache) i
+      | false ↦ λ t size i. subst (IsIn pair) (same_is lba count entry.body d.cache (omega (arith, t.0, size)) ∙ ap (same_pairs lba count entry.body) cache) i
+    ])
+    (λ size t pages i. subst (IsIn pair) (zeros_same entry.ranges.items d.cache ∙ ap (zeros_over entry.ranges.items) cache) i) kept.task kept.pages
+
+-- so it may show, as the first task, where the unit is started if the command needs it
+pub shows : (identity : Identity) (modes : Modes) (started : Bool) (attentions : List (List Attention)) (entry : Entry) (others : List Entry) (d : DriveState) → d.down ≡ false → d.cache ≡ modes.wce → (not started && (asks entry.command).starts) ≡ false → IsKeptEntry identity entry
+    → (pair : Pair) → IsIn pair (written_alone entry.command entry d) → MayShow (seen identity modes started attentions (task_of entry ∷ others) d) pair
+shows identity modes started attentions entry others d up cache ready kept pair i = record {
+  task = task_of entry;
+  under_way = record { up = up; eligible = inl refl };
+  started = on started (is_pass entry.command) (subst (λ b. (not started && b) ≡ false) (starts_it i) ready);
+  among = written_is identity modes started attentions entry others d pair cache kept i;
+}
+  where
+    on : (b p : Bool) → (not b && true) ≡ false → b || p ≡ true
+    on true p e = refl
+    on false p e = absurd cc
+
+    starts_it : IsIn pair (written_alone entry.command entry d) → (asks entry.command).starts ≡ true
+    starts_it i =
+        of_task (λ c. IsIn pair (written_alone c entry d) → (asks c).starts ≡ true) identity.capacity entry.blocks entry.command
+        (λ form lba count fua t i. absurd i) (λ form lba count fua t i. absurd i) (λ form lba count none i. absurd i) (λ start no_flush none i. absurd i) (λ ten size none i. absurd i) (λ form lba count t i. absurd i) (λ form lba count t i. absurd i)
+        (λ form lba count unmap. elim unmap as (λ b. (entry.blocks ≡ 1) × IsCovered identity.capacity lba count → IsIn pair (written_alone (cdbs.WriteSame form lba count b) entry d) → (asks (cdbs.WriteSame form lba count b)).starts ≡ true) [ true ↦ λ t i. refl | false ↦ λ t i. refl ])
+        (λ size t i. refl) kept.task i
