@@ -64,9 +64,10 @@ pub too_far : (limit offset : ℕ) (left left' : Option (List ℕ)) (command : C
 too_far limit offset None left' command near t far = (tt, tt)
 too_far limit offset (Some bytes) None command near t far = absurd t.took.known
 too_far limit offset (Some bytes) (Some behind) command near t far =
-    let is : bytes ≡ t.head ++ behind = t.took.known in
-    ((not_empty limit offset bytes t.head behind t.size is, λ s. let size = same_length limit offset bytes t.head behind t.size is command t.says s in absurd (omega (arith, size, s.within, far, near))),
-    (31, subst (Took (Some bytes) (Some behind)) (sym (ap (take 31) is ∙ (ap (λ n. take n (t.head ++ behind)) (sym t.size) ∙ take-append_seam t.head behind))) t.took))
+    let is : bytes ≡ t.head ++ behind = t.took.known in (
+      (not_empty limit offset bytes t.head behind t.size is, λ s. let size = same_length limit offset bytes t.head behind t.size is command t.says s in absurd (omega (arith, size, s.within, far, near))),
+      (31, subst (Took (Some bytes) (Some behind)) (sym (ap (take 31) is ∙ (ap (λ n. take n (t.head ++ behind)) (sym t.size) ∙ take-append_seam t.head behind))) t.took),
+    )
 
 -- fewer bytes stood behind a wrapper than it tells
 pub too_short : (limit offset : ℕ) (left mid left' : Option (List ℕ)) (command : Cbw) → TookHead left mid command → Lacks mid left' (sent_length command) → IsRefused limit offset left × TookFront left left'
@@ -76,9 +77,10 @@ too_short limit offset (Some bytes) (Some behind) left' command t lacks =
     let is : bytes ≡ t.head ++ behind = t.took.known in
     let few = lacks.known.0 in
     let all : length bytes ≡ 31 + length behind = let both = ap length is ∙ length-append t.head behind in let size = t.size in omega (arith, both, size) in
-    let whole : take (length behind) behind ≡ behind = take_whole behind in
-    ((not_empty limit offset bytes t.head behind t.size is, λ s. let size = same_length limit offset bytes t.head behind t.size is command t.says s in let fits = ap length s.split ∙ length-append (spelled s.item) s.rest in absurd (omega (arith, size, fits, all, few))),
-    (length t.head + length behind, front_more (Some bytes) (Some behind) left' bytes t.head behind (length behind) refl is t.took (subst (Took (Some behind) left') (sym whole) lacks.known.1)))
+    let whole : take (length behind) behind ≡ behind = take_whole behind in (
+      (not_empty limit offset bytes t.head behind t.size is, λ s. let size = same_length limit offset bytes t.head behind t.size is command t.says s in let fits = ap length s.split ∙ length-append (spelled s.item) s.rest in absurd (omega (arith, size, fits, all, few))),
+      (length t.head + length behind, front_more (Some bytes) (Some behind) left' bytes t.head behind (length behind) refl is t.took (subst (Took (Some behind) left') (sym whole) lacks.known.1)),
+    )
   where
     take_whole : (xs : List ℕ) → take (length xs) xs ≡ xs
     take_whole [] = refl

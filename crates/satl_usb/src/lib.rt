@@ -2,5 +2,7 @@
 #![tactic(auto)]
 
 mod items;
+mod wire;
 
 pub use items::{ItemFault, Taken, next_item, sent_length};
+pub use wire::{tell_kept, tell_reply};

@@ -1,4 +1,4 @@
-use Rattle.std.proofs.Common.{arith, subst, sym}
+use Rattle.std.proofs.Common.{Err, ap, arith, subst, sym}
 use Rattle.satl_frame.specs.Pulls.{FewerThan, Lacks, TookPages}
 use Rattle.satl_usb.specs.Items.{item_limit, sent_length}
 use Rattle.satl_usb.specs.Reading.{HeadRead}
@@ -22,10 +22,10 @@ pub returns-in-Err-Short-clause-missed : goal.returns-in-Err-Short-clause-missed
 returns-in-Err-Short-clause-missed g c =
     too_short item_limit c.args.offset (g.S.Source.left c.args.source.now) (g.S.Source.left c.read_head.new.source) (g.S.Source.left c.pull_data.new.source) c.in-Some.command
     (subst (HeadRead (g.S.Source.left c.args.source.now) (g.S.Source.left c.read_head.new.source)) c.in-Some.is c.in_ok-command.ensures.read)
-    (subst (Lacks (g.S.Source.left c.read_head.new.source) (g.S.Source.left c.pull_data.new.source)) c.sent_length-length.ensures (c.in-Err-Short.ensures.causes.short c.in-Err-Short.field-0-is))
+    (subst (Lacks (g.S.Source.left c.read_head.new.source) (g.S.Source.left c.pull_data.new.source)) c.sent_length-length.ensures (c.in-Err-Short.ensures.causes.short (ap Err c.in-Err-Short.field-0-is)))
 
 pub returns-in-Err-Failed-clause-missed : goal.returns-in-Err-Failed-clause-missed
 returns-in-Err-Failed-clause-missed g c =
     cut_body item_limit c.args.offset (g.S.Source.left c.args.source.now) (g.S.Source.left c.read_head.new.source) (g.S.Source.left c.pull_data.new.source) c.in-Some.command
     (subst (HeadRead (g.S.Source.left c.args.source.now) (g.S.Source.left c.read_head.new.source)) c.in-Some.is c.in_ok-command.ensures.read)
-    (subst (λ n. FewerThan (g.S.Source.left c.read_head.new.source) (g.S.Source.left c.pull_data.new.source) (λ _. n)) c.sent_length-length.ensures (c.in-Err-Failed.ensures.stopped c.in-Err-Failed.field-0-is))
+    (subst (λ n. FewerThan (g.S.Source.left c.read_head.new.source) (g.S.Source.left c.pull_data.new.source) (λ _. n)) c.sent_length-length.ensures (c.in-Err-Failed.ensures.stopped (ap Err c.in-Err-Failed.field-0-is)))
