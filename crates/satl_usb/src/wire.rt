@@ -1,12 +1,11 @@
 // What is written for an answer.
 ghost use Rattle.std.specs.Prelude.{◌≡◌, ◌≤◌, ◌-◌, ◌++◌, OnErr, OnOk, length, replicate};
 ghost use Rattle.arrayvec.specs.ArrayVec.{array_vec_len};
-ghost use Rattle.satl_bot.specs.Wrappers.{csw_of};
 ghost use Rattle.satl_frame.specs.Gathering.{Gathers};
 ghost use Rattle.satl_frame.specs.Output.{IsWritable};
 ghost use Rattle.satl_io.specs.Causes.{HasCause};
 ghost use Rattle.satl_io.specs.Known.{Wrote, WrotePart};
-ghost use Rattle.satl_usb.specs.Wire.{csw_status, ended_code, kept_on_wire, reply_on_wire, residue, taken_length};
+ghost use Rattle.satl_usb.specs.Wire.{csw_status, kept_on_wire, reply_on_wire, status_on_wire, taken_length};
 
 use satl_base::{Reply, Scsi, SenseBytes};
 use satl_bot::{Cbw, csw_bytes};
@@ -57,8 +56,8 @@ fn tell_status<K: Sink>(
     gathered: &mut Gathered,
     sink: &mut K,
 ) -> Result<(), Failed>
-    ensures all { OnOk result (Wrote (K.written sink.old) (K.written sink.new) (gathered.old.items ++ (replicate (residue command.now size) 0 ++ csw_of command.now.tag (residue command.now size) (csw_status command.now status size)))) }
-    ensures part { OnErr result (WrotePart (K.written sink.old) (K.written sink.new) (gathered.old.items ++ (replicate (residue command.now size) 0 ++ csw_of command.now.tag (residue command.now size) (csw_status command.now status size)))) }
+    ensures all { OnOk result (Wrote (K.written sink.old) (K.written sink.new) (gathered.old.items ++ status_on_wire command.now status size)) }
+    ensures part { OnErr result (WrotePart (K.written sink.old) (K.written sink.new) (gathered.old.items ++ status_on_wire command.now status size)) }
     ensures cause { HasCause (K.faults sink.old) (K.faults sink.new) result }
 {
     let missing = taken_length(command).saturating_sub(size);
