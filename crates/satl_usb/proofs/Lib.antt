@@ -1,2 +1,4 @@
+mod BridgeLemmas
 mod ItemsLemmas
+mod ServingLemmas
 mod WireLemmas
