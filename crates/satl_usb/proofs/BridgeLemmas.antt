@@ -80,11 +80,11 @@ bridged_asked limit a b c left mid left' items wire kept i sense so taken was as
 
 bridged_sent : (limit : ℕ) (a b c : Stand) (left mid left' : Option (List ℕ)) (items : List Item) (wire : List ℕ) (kept : Option (ArrayVec ℕ)) (i : Item) (r : Request) → Bridged limit a b left mid items wire kept → HasTaken limit left left' (items ++ i ∷ []) → is_told_kept kept i.command ≡ false → IsWholeOf (frames.Request r) (frames.Request (request_of i)) → (both : BothCarried r b c)
     → Bridged limit a c left left' (items ++ i ∷ []) (wire ++ reply_on_wire i.command both.reply) (kept_of both.reply)
-bridged_sent limit a b c left mid left' items wire kept i r so taken no whole both = record {
+bridged_sent limit a b c left mid left' items wire kept i r so taken other whole both = record {
   events = so.events ++ frames.Request (request_of i) ∷ frames.Turn 1 ∷ [];
   groups = so.groups ++ both.first ∷ both.second ∷ [];
   taken = taken;
-  exchange = sent i both.reply both.first both.second so.exchange no both.one;
+  exchange = sent i both.reply both.first both.second so.exchange other both.one;
   run = run_both a b c so.events so.groups r (request_of i) so.run whole both;
   idle = both.none;
   unplugs = both.turn_tallied.unplugs ∙ (both.arrival_tallied.unplugs ∙ so.unplugs);
@@ -131,9 +131,9 @@ module _ (limit offset room : ℕ) (a b c : Spot) (kept : Option (ArrayVec ℕ))
       (bridged_asked limit a.stand b.stand s a.left b.left c.left g.items g.wire kept t.item sense g.bridged all_taken was (ap (is_told_kept kept) (sym t.command) ∙ asks) same)
 
   sent_bridged : (s : Stand) → is_told_kept kept taken.command ≡ false → (both : BothCarried (request_taken taken) b.stand s) → Bridged limit a.stand s a.left c.left (g.items ++ t.item ∷ []) (g.wire ++ reply_on_wire taken.command both.reply) (kept_of both.reply)
-  sent_bridged s no both =
+  sent_bridged s other both =
       subst (λ l. Bridged limit a.stand s a.left c.left (g.items ++ t.item ∷ []) (g.wire ++ l) (kept_of both.reply)) (ap (λ x. reply_on_wire x both.reply) (sym t.command))
-      (bridged_sent limit a.stand b.stand s a.left b.left c.left g.items g.wire kept t.item (request_taken taken) g.bridged all_taken (ap (is_told_kept kept) (sym t.command) ∙ no) (is_whole limit offset room b.left c.left taken t) both)
+      (bridged_sent limit a.stand b.stand s a.left b.left c.left g.items g.wire kept t.item (request_taken taken) g.bridged all_taken (ap (is_told_kept kept) (sym t.command) ∙ other) (is_whole limit offset room b.left c.left taken t) both)
 
   -- an item was answered
   pub going_more : (kept' : Option (ArrayVec ℕ)) (end : ℕ) → Answered taken (desk b.stand b.written kept) (desk c.stand c.written kept') → end ≡ offset + 31 + sent_length taken.command → Going limit a c kept' end
@@ -144,10 +144,10 @@ module _ (limit offset room : ℕ) (a b c : Spot) (kept : Option (ArrayVec ℕ))
     at = further end is;
     wrote = Wrote-more g.wrote r.wrote;
   }
-  going_more kept' end (inr (no, r)) is = record {
+  going_more kept' end (inr (other, r)) is = record {
     items = g.items ++ t.item ∷ [];
     wire = g.wire ++ reply_on_wire taken.command r.both.reply;
-    bridged = subst (Bridged limit a.stand c.stand a.left c.left (g.items ++ t.item ∷ []) (g.wire ++ reply_on_wire taken.command r.both.reply)) (sym r.kept_is) (sent_bridged c.stand no r.both);
+    bridged = subst (Bridged limit a.stand c.stand a.left c.left (g.items ++ t.item ∷ []) (g.wire ++ reply_on_wire taken.command r.both.reply)) (sym r.kept_is) (sent_bridged c.stand other r.both);
     at = further end is;
     wrote = Wrote-more g.wrote r.wrote;
   }
@@ -161,13 +161,22 @@ module _ (limit offset room : ℕ) (a b c : Spot) (kept : Option (ArrayVec ℕ))
     bridged = asked_bridged c.stand r.sense r.was_kept r.asks r.stays;
     part = WrotePart-more g.wrote r.part;
   }
-  stopped_in_part (inr (no, r)) = record {
+  stopped_in_part (inr (other, r)) = record {
     items = g.items ++ t.item ∷ [];
     wire = g.wire ++ reply_on_wire taken.command r.both.reply;
     kept = kept_of r.both.reply;
-    bridged = sent_bridged c.stand no r.both;
+    bridged = sent_bridged c.stand other r.both;
     part = WrotePart-more g.wrote r.part;
   }
+
+-- an item ends within the limit
+pub within_limit : (limit offset room end : ℕ) (left left' : Option (List ℕ)) (taken : Taken) → TookItem limit offset room left left' taken → end ≡ offset + 31 + sent_length taken.command → end ≤ limit
+within_limit limit offset room end left left' taken t is =
+    let one = length-append t.item.head t.item.body in
+    let size = t.is_item.size in
+    let sent = t.is_item.sent ∙ ap sent_length (sym t.command) in
+    let within = t.within in
+    omega (arith, is, one, size, sent, within)
 
 -- ---- how it ends
 

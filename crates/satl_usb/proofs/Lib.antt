@@ -1,3 +1,4 @@
+mod AnsweringLemmas
 mod BridgeLemmas
 mod ItemsLemmas
 mod ServingLemmas
