@@ -39,7 +39,7 @@ pub answer_item-requires-clause-held : goal.answer_item-requires-clause-held
 answer_item-requires-clause-held g c = held item_limit c.items.offset c.items.satl.free (g.S.Source.left c.items.source) (g.S.Source.left c.next_item.new.source) c.in-Ok-Some.item c.next_item.new.lender.free c.next_item.new.lender.out
     (subst (ItemRead item_limit c.items.offset c.items.satl.free (g.S.Source.left c.items.source) (g.S.Source.left c.next_item.new.source)) c.in-Ok-Some.field-0-is c.in-Ok-Some.ensures.read)
     (subst (λ o. c.next_item.new.lender.free + pages_read o ≡ c.items.satl.free) c.in-Ok-Some.field-0-is c.in-Ok-Some.ensures.free)
-    (subst (λ o. c.next_item.new.lender.out ≡ c.items.satl.out + pages_read o) c.in-Ok-Some.field-0-is c.in-Ok-Some.ensures.out ∙ ap (λ n. n + pages_read (Some c.in-Ok-Some.item)) c.items.invariant.all_in)
+    (let out = subst (λ o. c.next_item.new.lender.out ≡ c.items.satl.out + pages_read o) c.in-Ok-Some.field-0-is c.in-Ok-Some.ensures.out in omega (arith, out, c.items.invariant.all_in))
 
 pub returns-in-Err-answer_item-clause-stopped : goal.returns-in-Err-answer_item-clause-stopped
 returns-in-Err-answer_item-clause-stopped g c = stopped_in_part item_limit c.items.offset c.items.satl.free (record { left = g.S.Source.left c.args.source.now; written = g.K.Sink.written c.args.sink.now; stand = stand_of c.args.satl.now (g.D.Drive.state c.args.drive.now) c.args.steps.now }) (record { left = g.S.Source.left c.items.source; written = g.K.Sink.written c.items.sink; stand = stand_of c.next_item.new.lender (g.D.Drive.state c.items.drive) c.items.steps }) (record { left = g.S.Source.left c.next_item.new.source; written = g.K.Sink.written c.answer_item.new.sink; stand = stand_of c.answer_item.new.satl (g.D.Drive.state c.answer_item.new.drive) c.answer_item.new.steps }) c.items.kept c.in-Ok-Some.item (going_same item_limit (record { left = g.S.Source.left c.args.source.now; written = g.K.Sink.written c.args.sink.now; stand = stand_of c.args.satl.now (g.D.Drive.state c.args.drive.now) c.args.steps.now }) (record { left = g.S.Source.left c.items.source; written = g.K.Sink.written c.items.sink; stand = stand_of c.items.satl (g.D.Drive.state c.items.drive) c.items.steps }) (stand_of c.next_item.new.lender (g.D.Drive.state c.items.drive) c.items.steps) c.items.kept c.items.offset (ap (λ (l : Layer). stand_of l (g.D.Drive.state c.items.drive) c.items.steps) c.in-Ok-Some.ensures.rest) c.items.invariant.going) (subst (ItemRead item_limit c.items.offset c.items.satl.free (g.S.Source.left c.items.source) (g.S.Source.left c.next_item.new.source)) c.in-Ok-Some.field-0-is c.in-Ok-Some.ensures.read) c.in-Err-answer_item.ensures.part
