@@ -4,7 +4,7 @@ use Rattle.std.specs.Prelude.{Option, None, Some}
 use Rattle.std.proofs.lemmas.List.{append-nil, length-append}
 use Rattle.arrayvec.specs.ArrayVec.{ArrayVec}
 use Rattle.satl_base.specs.declared.request.Request.{Request}
-use Rattle.satl_io.specs.Known.{Took, Wrote, WrotePart}
+use Rattle.satl_io.specs.Known.{Took, Wrote}
 use Rattle.satl_io.proofs.Joined.{Took-more, Took-none, Wrote-more, Wrote-none, WrotePart-more}
 use Rattle.satl_bot.specs.declared.command.Cbw.{Cbw}
 use Rattle.satl_frame.specs.DataPages.{pages_of}
@@ -15,8 +15,8 @@ use Rattle.satl_serve.specs.Moments.{Spot}
 use Rattle.satl_step.specs.Events.{IsWholeOf}
 use Rattle.satl_step.specs.Runs.{IsDeep, RunSoFar, Stand}
 use Rattle.satl_step.proofs.RunLemmas.{run_more, run_start}
-use Rattle.satl_usb.specs.Answering.{Answered, AnsweredInPart, Repeated, RepeatedInPart, Sent, SentInPart, desk, request_taken}
-use Rattle.satl_usb.specs.Bridge.{Bridged, BridgedBefore, BridgedInPart, BridgedUpTo, BridgedWhole, HasTaken}
+use Rattle.satl_usb.specs.Answering.{Answered, AnsweredInPart, desk, request_taken}
+use Rattle.satl_usb.specs.Bridge.{Bridged, BridgedInPart, BridgedWhole, HasTaken}
 use Rattle.satl_usb.specs.Exchanges.{Exchange, is_told_kept, request_of}
 use Rattle.satl_usb.specs.Exchanges.Exchange.{start, asked, sent}
 use Rattle.satl_usb.specs.Headline.{RanTo, stop_at}

@@ -2,7 +2,7 @@
 use Rattle.std.proofs.Common.{◌≡◌, refl, sym, ap, subst, arith, ◌∙◌, append_assoc, ℕ, ◌+◌, ◌-◌, ◌<◌, ◌≤◌, List, [], ◌∷◌, ◌++◌, length, take, drop}
 use Rattle.std.specs.Prelude.{Option, None, Some}
 use Rattle.std.proofs.Math.Seq.{take-append-add, take-append_seam, drop-append_seam}
-use Rattle.std.proofs.lemmas.List.{length-append, length-take-le}
+use Rattle.std.proofs.lemmas.List.{length-append}
 use Rattle.satl_bot.specs.declared.command.Cbw.{Cbw}
 use Rattle.satl_bot.specs.Wrappers.{cbw_of}
 use Rattle.satl_base.specs.declared.block.Block.{Block}
@@ -11,7 +11,6 @@ use Rattle.satl_io.specs.Known.{Took}
 use Rattle.satl_io.proofs.Joined.{Took-more}
 use Rattle.satl_usb.specs.Items.{IsCutOff, IsRefused, Stands, TookFront, sent_length, spelled}
 use Rattle.satl_usb.specs.Reading.{TookHead, TookItem}
-use Rattle.satl_usb.specs.declared.items.Taken.{Taken}
 
 -- fronts that are equally long are the same, and so are the rests
 pub fronts : (a b c d : List ℕ) → length a ≡ length b → a ++ c ≡ b ++ d → a ≡ b

@@ -1,5 +1,5 @@
 -- The bridge from before the layer was opened.
-use Rattle.std.proofs.Common.{◌≡◌, refl, sym, ap, subst, arith, ◌∙◌, ℕ, ◌+◌, ◌≤◌, List, []}
+use Rattle.std.proofs.Common.{◌≡◌, ap, ◌∙◌, ℕ, ◌+◌, ◌≤◌, List}
 use Rattle.std.specs.Prelude.{Option}
 use Rattle.arrayvec.specs.ArrayVec.{ArrayVec}
 use Rattle.satl_drive.specs.State.{DriveState}

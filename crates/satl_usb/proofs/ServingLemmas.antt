@@ -1,13 +1,11 @@
 -- A request and one turn, from what each of them did.
-use Rattle.std.proofs.Common.{rules, ◌≡◌, ◌⊎◌, inl, inr, refl, sym, ap, subst, ◌∙◌, arith, ℕ, suc, ◌≤◌, max, List, [], ◌∷◌, ◌++◌, length, map, take}
+use Rattle.std.proofs.Common.{rules, ◌≡◌, ◌⊎◌, inl, inr, refl, sym, ap, subst, ◌∙◌, arith, ℕ, ◌≤◌, max, List, [], ◌∷◌, ◌++◌, length, map}
 use Rattle.std.proofs.lemmas.List.{append-nil, take_all}
-use Rattle.std.specs.Prelude.{Bool, true, false, not, if◌then◌else◌, ◌||◌}
 use Rattle.satl_base.specs.declared.reply.Reply.{Reply}
 use Rattle.satl_base.specs.declared.request.Request.{Request}
 use Rattle.satl_frame.specs.declared.frames.Frame.TheVariants as frames
 use Rattle.satl_frame.specs.Output.{Answer}
 use Rattle.satl_frame.specs.Output.Answer.{replied}
-use Rattle.satl_line.specs.declared.entry.Entry.{Entry}
 use Rattle.satl_line.specs.Tasks.{Held, entries_of}
 use Rattle.satl_direct.specs.Device.{Device}
 use Rattle.satl_direct.specs.Arrival.{Arrives}
@@ -22,7 +20,7 @@ use Rattle.satl_laws.proofs.OneReply.Half.{given, held}
 use Rattle.satl_core.proofs.CountedLemmas.{counted_same}
 use Rattle.satl_core.proofs.DeviceLemmas.{quiet_none}
 use Rattle.satl_step.specs.Events.{Carried, Done, DoneInPart, IsTallied, Scene}
-use Rattle.satl_step.specs.Runs.{DoesShort, IsDeep, Stand}
+use Rattle.satl_step.specs.Runs.{DoesShort, Stand}
 use Rattle.satl_step.specs.Telling.{IsTold, IsToldInPart}
 use Rattle.satl_step.proofs.EventLemmas.{carried_turns, map-append}
 use Rattle.satl_step.proofs.RunLemmas.{covers_same}

@@ -1,6 +1,6 @@
 -- What is gathered and written for an answer.
-use Rattle.std.proofs.Common.{◌≡◌, refl, sym, ap, subst, arith, ◌∙◌, append_assoc, ℕ, ◌+◌, ◌-◌, ◌≤◌, min, List, [], ◌++◌, length, take, replicate, inl, inr}
-use Rattle.std.specs.Prelude.{Option, Result, Ok, Err, OnErr, OnOk}
+use Rattle.std.proofs.Common.{◌≡◌, sym, ap, subst, arith, ◌∙◌, append_assoc, ℕ, ◌-◌, ◌≤◌, min, List, [], ◌++◌, take, replicate, inl, inr}
+use Rattle.std.specs.Prelude.{Option}
 use Rattle.std.proofs.lemmas.Bool.{cases_lt}
 use Rattle.std.proofs.lemmas.List.{replicate-append-replicate, take_all, take-take, length-take}
 use Rattle.satl_base.specs.declared.reply.Scsi.{Scsi}
@@ -68,15 +68,3 @@ module _ (c : Cbw) (status : Scsi) (size : ℕ) (data_in sent : List ℕ) (sent_
 
   pub answer_written : (x y z : Option (List ℕ)) (g g' : List ℕ) → g ≡ [] → Gathers x y g g' sent → Wrote y z (g' ++ status_on_wire c status size) → Wrote x z (told_on_wire c status size data_in)
   answer_written x y z g g' none p wrote = subst (Wrote x z) (sym (append_assoc p.gone g' (status_on_wire c status size)) ∙ (ap (λ l. l ++ status_on_wire c status size) (p.split ∙ (ap (λ l. l ++ sent) none ∙ sent_is)))) (Wrote-more p.wrote wrote)
-
-pub any_err : {A E : Type 0} (r : Result A E) (P : Type 0) → P → OnErr r P
-any_err (Ok x) P p = tt
-any_err (Err e) P p = p
-
-pub on_ok : {A E : Type 0} (r : Result A E) (P Q : Type 0) → (P → Q) → OnOk r P → OnOk r Q
-on_ok (Ok x) P Q f p = f p
-on_ok (Err e) P Q f p = tt
-
-pub on_err : {A E : Type 0} (r : Result A E) (P Q : Type 0) → (P → Q) → OnErr r P → OnErr r Q
-on_err (Ok x) P Q f p = tt
-on_err (Err e) P Q f p = f p

@@ -15,9 +15,21 @@ use Rattle.satl_usb.specs.declared.items.ItemFault.{ItemFault}
 use Rattle.satl_usb.specs.declared.items.ItemFault.TheVariants as missed
 use Rattle.satl_usb.specs.declared.fault.UsbFault.TheVariants as faults
 
--- an input was bridged whole, from this before to this after (profile)
+-- an input was bridged whole, within this limit, from this before to this after (profile)
 abbrev pub IsBridgedWhole : ℕ → Moment → Moment → Type 0
 IsBridgedWhole limit before after = Serves (BridgedWhole limit) before after
+
+-- it was bridged up to what stands at an offset, which is refused (profile)
+abbrev pub IsBridgedBefore : ℕ → ℕ → Moment → Moment → Type 0
+IsBridgedBefore limit offset before after = Serves (BridgedBefore limit offset) before after
+
+-- it was bridged up to a read that failed (profile)
+abbrev pub IsBridgedUpTo : ℕ → Moment → Moment → Type 0
+IsBridgedUpTo limit before after = Serves (BridgedUpTo limit) before after
+
+-- it was bridged up to a write that failed (profile)
+abbrev pub IsBridgedInPart : ℕ → Moment → Moment → Type 0
+IsBridgedInPart limit before after = Serves (BridgedInPart limit) before after
 
 -- how far a run came where it stopped behind the opening of the layer (profile)
 abbrev pub RanTo : ℕ → Spot → Spot → UsbFault → Type 0
@@ -26,12 +38,12 @@ RanTo limit before after (faults.BadInput offset) = BridgedBefore limit offset b
 RanTo limit before after faults.Read = BridgedUpTo limit before after
 RanTo limit before after faults.Write = BridgedInPart limit before after
 
--- the same from before the layer was opened, or nothing was served (profile)
+-- the same by the fault, from before the layer was opened; or nothing was served (profile)
 abbrev pub IsStopped : ℕ → Moment → Moment → UsbFault → Type 0
 IsStopped limit before after (faults.Open fault) = IsNotServed before after
-IsStopped limit before after (faults.BadInput offset) = Serves (BridgedBefore limit offset) before after
-IsStopped limit before after faults.Read = Serves (BridgedUpTo limit) before after
-IsStopped limit before after faults.Write = Serves (BridgedInPart limit) before after
+IsStopped limit before after (faults.BadInput offset) = IsBridgedBefore limit offset before after
+IsStopped limit before after faults.Read = IsBridgedUpTo limit before after
+IsStopped limit before after faults.Write = IsBridgedInPart limit before after
 
 -- a read fault comes only where the source's count rose, and a write fault only where the sink's did (profile)
 abbrev pub HasStreamCause : Reads → Reads → Writes → Writes → UsbFault → Type 0

@@ -1,7 +1,6 @@
 -- What reading one item gives.
-use Rattle.std.specs.Prelude.{◌≡◌, ◌≤◌, ◌+◌, ℕ, List, [], length, take, Option, None, Some, Result, Ok, Err, IsErrOf}
+use Rattle.std.specs.Prelude.{◌≡◌, ◌≤◌, ◌+◌, ℕ, List, [], length, take, Option, None, Some, Result, IsErrOf}
 use Rattle.std.specs.Io.KnownBytes.{IsAtEnd}
-use Rattle.satl_base.specs.declared.block.Block.{Block}
 use Rattle.satl_bot.specs.declared.command.Cbw.{Cbw}
 use Rattle.satl_bot.specs.Wrappers.{cbw_of}
 use Rattle.satl_frame.specs.DataPages.{pages_of}

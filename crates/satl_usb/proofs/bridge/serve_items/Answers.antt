@@ -1,4 +1,4 @@
-use Rattle.std.proofs.Common.{◌≡◌, ◌∙◌, ◌+◌, Some, ap, arith, map, refl, subst}
+use Rattle.std.proofs.Common.{◌≡◌, ◌+◌, ap, arith, map, subst}
 use Rattle.satl_line.specs.Tasks.{entries_of}
 use Rattle.satl_direct.specs.Tasks.{task_of}
 use Rattle.satl_core.specs.Layer.{Layer}
@@ -7,7 +7,7 @@ use Rattle.satl_step.proofs.TallyLemmas.{tied_lent}
 use Rattle.satl_usb.specs.Items.{item_limit}
 use Rattle.satl_usb.specs.Reading.{ItemRead, pages_read}
 use Rattle.satl_usb.proofs.AnsweringLemmas.{held}
-use Rattle.satl_usb.proofs.BridgeLemmas.{bridged_whole, going_more, going_same, going_start, no_item, stopped_in_part, within_limit}
+use Rattle.satl_usb.proofs.BridgeLemmas.{bridged_whole, going_more, going_same, going_start, stopped_in_part, within_limit}
 use Rattle.satl_usb.proofs.bridge.serve_items.Goals as goal
 
 pub items-init : goal.items-init

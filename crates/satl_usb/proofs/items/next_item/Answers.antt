@@ -1,6 +1,6 @@
-use Rattle.std.proofs.Common.{Err, ap, arith, subst, sym}
+use Rattle.std.proofs.Common.{Err, ap, arith, subst}
 use Rattle.satl_frame.specs.Pulls.{FewerThan, Lacks, TookPages}
-use Rattle.satl_usb.specs.Items.{item_limit, sent_length}
+use Rattle.satl_usb.specs.Items.{item_limit}
 use Rattle.satl_usb.specs.Reading.{HeadRead}
 use Rattle.satl_usb.proofs.ItemsLemmas.{cut_body, took_item, too_far, too_short}
 use Rattle.satl_usb.proofs.items.next_item.Goals as goal

@@ -2,7 +2,7 @@ use Rattle.std.proofs.Common.{ap, arith, map}
 use Rattle.satl_line.specs.Tasks.{entries_of}
 use Rattle.satl_direct.specs.Tasks.{task_of}
 use Rattle.satl_step.specs.Events.{scene_of}
-use Rattle.satl_step.proofs.OutcomeLemmas.{any_err, on_both, on_err, on_ok}
+use Rattle.satl_step.proofs.OutcomeLemmas.{any_err, on_err, on_ok}
 use Rattle.satl_usb.proofs.ServingLemmas.{exchanged, first_fails, no_tasks, second_fails}
 use Rattle.satl_usb.proofs.serving.serve_item.Goals as goal
 

@@ -1,4 +1,4 @@
-use Rattle.std.proofs.Common.{◌≡◌, ◌≤◌, ◌-◌, replicate}
+use Rattle.std.proofs.Common.{◌≤◌, ◌-◌, replicate}
 use Rattle.satl_frame.specs.Gathering.{Gathers}
 use Rattle.satl_usb.proofs.wire.gather_zeros.Given as goal
 

@@ -1,7 +1,8 @@
-use Rattle.std.proofs.Common.{◌++◌, ◌∙◌, arith, ap, length, min, subst, sym}
+use Rattle.std.proofs.Common.{◌++◌, ◌∙◌, ap, min, subst}
 use Rattle.satl_base.specs.Blocks.{bytes_of, first_bytes}
 use Rattle.satl_io.specs.Known.{WrotePart}
-use Rattle.satl_usb.proofs.WireLemmas.{answer_in_part, answer_written, any_err, data_in_part, on_err, on_ok, take_twice}
+use Rattle.satl_step.proofs.OutcomeLemmas.{any_err, on_err, on_ok}
+use Rattle.satl_usb.proofs.WireLemmas.{answer_in_part, answer_written, data_in_part, take_twice}
 use Rattle.satl_usb.specs.Wire.{taken_length}
 use Rattle.satl_usb.proofs.wire.tell_reply.Goals as goal
 

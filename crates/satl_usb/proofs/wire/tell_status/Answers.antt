@@ -1,7 +1,7 @@
-use Rattle.std.proofs.Common.{◌++◌, ◌∙◌, arith, ap, refl, subst}
-use Rattle.satl_bot.specs.Wrappers.{csw_of}
+use Rattle.std.proofs.Common.{arith, subst}
 use Rattle.satl_io.specs.Known.{Wrote, WrotePart}
-use Rattle.satl_usb.proofs.WireLemmas.{all_in_part, all_written, any_err, on_err, on_ok, wrapper_in_part, zeros_in_part}
+use Rattle.satl_step.proofs.OutcomeLemmas.{any_err, on_err, on_ok}
+use Rattle.satl_usb.proofs.WireLemmas.{all_in_part, all_written, wrapper_in_part, zeros_in_part}
 use Rattle.satl_usb.proofs.wire.tell_status.Goals as goal
 
 pub returns-in_err-gather_zeros-clause-part : goal.returns-in_err-gather_zeros-clause-part
