@@ -19,16 +19,23 @@ fn taken_length(command: &Cbw) -> u32
     if command.is_in { command.length } else { 0 }
 }
 
+// How a command ended, as a wrapper tells it (USB Mass Storage Class, Bulk-Only Transport 1.0, 5.2).
+const PASSED: u8 = 0;
+
+const FAILED: u8 = 1;
+
+const PHASE_ERROR: u8 = 2;
+
 /// The status of an answer: phase error where there is more data than the host takes, else passed or failed.
 fn csw_status(command: &Cbw, status: Scsi, size: u32) -> u8
     ensures { result ≡ csw_status command.now status size }
 {
     if taken_length(command) < size {
-        return 2;
+        return PHASE_ERROR;
     }
     match status {
-        Scsi::Good => 0,
-        Scsi::CheckCondition | Scsi::TaskSetFull => 1,
+        Scsi::Good => PASSED,
+        Scsi::CheckCondition | Scsi::TaskSetFull => FAILED,
     }
 }
 
