@@ -30,6 +30,7 @@ pub mod InOrderWaits
 pub mod Items
 pub mod Kept
 pub mod Names
+pub mod OneReply
 pub mod Outcomes
 pub mod PlainTasks
 pub mod Reaching

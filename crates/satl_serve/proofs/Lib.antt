@@ -1,4 +1,4 @@
 mod CompletenessLemmas
 mod PrintingLemmas
 mod RunLemmas
-mod ServingLemmas
+pub mod ServingLemmas

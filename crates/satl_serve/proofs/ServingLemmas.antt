@@ -25,7 +25,7 @@ use Rattle.satl_serve.specs.declared.serving.ServeFault.TheVariants as faults
 use Rattle.satl_serve.specs.declared.telling.Form.{Form}
 
 -- an opened layer and its drive are a first device
-first_of : (old new : DriveState) (l : Layer) → IsOpened old l new → IsFirst old (view l new)
+pub first_of : (old new : DriveState) (l : Layer) → IsOpened old l new → IsFirst old (view l new)
 first_of old new l o = record {
   cells = o.lost;
   tasks = ap (λ t. map task_of (entries_of t)) o.tasks;
@@ -42,7 +42,7 @@ first_of old new l o = record {
 }
 
 -- a drive is left as the device that it and its layer are
-left_as : (l : Layer) (d : DriveState) → Tied l d → IsLeftAs (view l d) d
+pub left_as : (l : Layer) (d : DriveState) → Tied l d → IsLeftAs (view l d) d
 left_as l d t = record {
   cells = refl;
   active = refl;
@@ -67,7 +67,7 @@ module _ (s : Device) (old new : Tally) (same : new ≡ record old { calls = new
   sooner_covered : (deep : ℕ) (b : Stand) → (IsDeep new → deep ≤ b.tally.deepest) → IsDeep old → deep ≤ b.tally.deepest
   sooner_covered deep b covered = subst (λ t. IsDeep (record t { calls = old.calls }) → deep ≤ b.tally.deepest) same covered
 
-  sooner : (b : Stand) (events : List Frame) (groups : List (List Answer)) → RunSoFar (record { device = s; tally = new }) b events groups → RunSoFar (record { device = s; tally = old }) b events groups
+  pub sooner : (b : Stand) (events : List Frame) (groups : List (List Answer)) → RunSoFar (record { device = s; tally = new }) b events groups → RunSoFar (record { device = s; tally = old }) b events groups
   sooner b events groups r = record { losses = r.losses; deep = r.deep; run = r.run; covered = sooner_covered r.deep b r.covered; counted = sooner_counted events r.losses b r.counted }
 
   sooner_cut : (b : Stand) (events : List Frame) (groups : List (List Answer)) → RunCutSoFar (record { device = s; tally = new }) b events groups → RunCutSoFar (record { device = s; tally = old }) b events groups
@@ -96,7 +96,7 @@ module _ (form : Form) (limit : ℕ) (before after : Moment) (mid : DriveState) 
   abbrev b : Spot
   b = spot_at (view l' after.drive) after.calls after
 
-  tally_same : tally_of mid opened ≡ record (tally_of before.drive (before.calls + 1)) { calls = opened }
+  pub tally_same : tally_of mid opened ≡ record (tally_of before.drive (before.calls + 1)) { calls = opened }
   tally_same = ap (λ (d : DriveState). tally_of d opened) is.stays
 
   pub serves_whole : (summary : Summary) → RanWhole form limit summary a b → Serves (RanWhole form limit summary) before after

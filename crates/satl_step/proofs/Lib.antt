@@ -1,6 +1,6 @@
-mod EventLemmas
+pub mod EventLemmas
 mod LoopLemmas
 pub mod OutcomeLemmas
 pub mod RunLemmas
-mod TallyLemmas
-mod TellingLemmas
+pub mod TallyLemmas
+pub mod TellingLemmas

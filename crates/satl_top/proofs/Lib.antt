@@ -1,3 +1,4 @@
+mod BridgingLemmas
 pub mod LoadLemmas
 pub mod RequestLemmas
 pub mod StatusLemmas

@@ -14,13 +14,14 @@ use Rattle.satl_serve.specs.Completeness.{GoesWell, IsGoodInput, MayStop}
 use Rattle.satl_serve.specs.Headline.{IsServedWhole, IsStopped}
 use Rattle.satl_serve.specs.Moments.{Moment, Reads, Writes, moment, reads}
 use Rattle.satl_serve.specs.Runs.{input_limit}
-use Rattle.satl_serve.specs.Stopping.{HasServeCause, TellsRefusal}
+use Rattle.satl_serve.specs.Stopping.{HasServeCause, IsRefused, TellsRefusal}
 use Rattle.satl_serve.specs.declared.serving.ServeFault.{ServeFault}
 use Rattle.satl_serve.specs.declared.serving.ServeFault.TheVariants as faults
 use Rattle.satl_serve.specs.declared.telling.Form.TheVariants as forms
 use Rattle.satl_top.specs.Faults.{status_of}
-use Rattle.satl_top.specs.Load.{IsLoaded, Load, LoadEnds, LoadStops, input_of, nowhere}
-use Rattle.satl_top.specs.Top.{HasCause}
+use Rattle.satl_top.specs.Load.{IsLoaded, Load, LoadEnds, LoadStops, input_of, load_of, nowhere}
+use Rattle.satl_words.specs.declared.modes.Mode.TheVariants as modes
+use Rattle.satl_top.specs.Top.{HasCause, IsCarriedOut}
 use Rattle.satl_top.proofs.RequestLemmas.{frames_read, total_is}
 use Rattle.satl_top.specs.declared.status.Status.{Status}
 use Rattle.satl_top.specs.declared.status.Status.TheVariants as statuses
@@ -100,3 +101,7 @@ stop_causes before after fault status is stops = subst (HasCause before after) (
 pub refusal_ends : (refusal : IdentityFault) (fault : ServeFault) (status : Status) → status ≡ status_of fault → TellsRefusal refusal fault → (status ≡ statuses.DriveRefused) ⊎ (status ≡ statuses.NoMemory)
 refusal_ends refusal fault status is (inl told) = inl (is ∙ ap status_of told)
 refusal_ends refusal fault status is (inr told) = inr (is ∙ ap status_of told)
+
+-- a load that ended so was carried out: it serves no input, and bridges none
+pub load_carried : (seed requests limit : ℕ) (before after : Moment) (status : Status) → LoadEnds limit (load_of seed requests) before after status → ((fault : IdentityFault) → IsRefused fault before.drive after.drive → (status ≡ statuses.DriveRefused) ⊎ (status ≡ statuses.NoMemory)) → HasCause before after status → IsCarriedOut (modes.Generate seed requests) limit before after status
+load_carried seed requests limit before after status ends refused causes = record { ends = ends; causes = causes; refused = refused; complete_items = λ bridges. absurd cc; complete = λ serves. absurd cc }

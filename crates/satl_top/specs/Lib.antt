@@ -1,3 +1,4 @@
+pub mod Bridging
 pub mod Faults
 pub mod Laws
 pub mod Load

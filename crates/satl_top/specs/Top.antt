@@ -1,5 +1,5 @@
 -- The words of the program, how it ends, and why (profile).
-use Rattle.std.specs.Prelude.{◌≡◌, ◌⊎◌, ℕ, Bool, true, false, List, Some, Err}
+use Rattle.std.specs.Prelude.{◌≡◌, ◌⊎◌, ℕ, Bool, true, false, List, [], Some, Err}
 use Rattle.clap.specs.Words.{Text}
 use Rattle.satl_io.specs.Causes.{Rose}
 use Rattle.satl_identify.specs.declared.identity.IdentityFault.{IdentityFault}
@@ -17,6 +17,9 @@ use Rattle.satl_serve.specs.Stopping.{IsRefused}
 use Rattle.satl_words.specs.declared.modes.Mode.{Mode}
 use Rattle.satl_words.specs.declared.modes.Mode.TheVariants as modes
 use Rattle.satl_words.specs.Asked.{AreRefused, AskFor}
+use Rattle.satl_usb.specs.Headline.{IsItemInput}
+use Rattle.satl_usb.specs.Items.{Item}
+use Rattle.satl_top.specs.Bridging.{BridgeEnds}
 use Rattle.satl_top.specs.Load.{LoadEnds, load_of}
 use Rattle.satl_top.specs.declared.status.Status.{Status}
 use Rattle.satl_top.specs.declared.status.Status.TheVariants as statuses
@@ -57,12 +60,14 @@ ServeEnds form limit before after statuses.DriveRefused = IsNotServed before aft
 abbrev pub EndsSo : Mode → ℕ → Moment → Moment → Status → Type 0
 EndsSo modes.Replay limit before after status = ServeEnds forms.Frames limit before after status
 EndsSo modes.Show limit before after status = ServeEnds forms.Text limit before after status
+EndsSo modes.Usb limit before after status = BridgeEnds limit before after status
 EndsSo (modes.Generate seed requests) limit before after status = LoadEnds limit (load_of seed requests) before after status
 
--- whether a mode serves the input that was handed in (profile)
+-- whether a mode serves the frames that were handed in (profile)
 abbrev pub serves_input : Mode → Bool
 serves_input modes.Replay = true
 serves_input modes.Show = true
+serves_input modes.Usb = false
 serves_input (modes.Generate seed requests) = false
 
 -- a good input is served whole where all goes well, up to END and no byte further (profile): but there may be no memory to begin, or
@@ -77,11 +82,12 @@ Completes rest before after statuses.NoMemory = Unit {0}
 Completes rest before after statuses.DriveRefused = Rose before.drive.faults after.drive.faults
 
 -- a mode was carried out (profile): what holds by the status, and why it is that one; a drive whose data are refused is told so, unless there was no
--- memory; and a good input is served whole where all goes well
+-- memory; and a good input, or one that is items to its end, is served whole where all goes well
 pub record IsCarriedOut (mode : Mode) (limit : ℕ) (before after : Moment) (status : Status) : Type 0 where
   pub ends : EndsSo mode limit before after status
   pub causes : HasCause before after status
   pub refused : (fault : IdentityFault) → IsRefused fault before.drive after.drive → (status ≡ statuses.DriveRefused) ⊎ (status ≡ statuses.NoMemory)
+  pub complete_items : mode ≡ modes.Usb → (items : List Item) → IsItemInput limit before.source.left items → GoesWell before after → Completes [] before after status
   pub complete : serves_input mode ≡ true → (fs : List Frame) (rest : List ℕ) → IsGoodInput limit before.source.left fs rest → GoesWell before after → Completes rest before after status
 
 -- nothing was done: the words ask for nothing, or there was not the memory to read them (profile)

@@ -1,11 +1,13 @@
 //! The top call: all that the program does, from its words to its exit status.
 #![tactic(auto)]
 
+mod bridging;
 pub mod laws;
 mod loading;
 mod status;
 mod top;
 
+pub use bridging::bridge;
 pub use loading::load;
 pub use status::Status;
 pub use top::satl;

@@ -4,6 +4,7 @@ ghost use Rattle.satl_top.specs.Top.{exit_number};
 
 use satl_core::OpenFault;
 use satl_serve::ServeFault;
+use satl_usb::UsbFault;
 
 /// How the program ends (profile).
 #[derive(Clone, Copy, Debug, PartialEq, Eq)]
@@ -12,7 +13,7 @@ pub enum Status {
     Done,
     /// The words are not understood.
     Usage,
-    /// The input is refused. A FAULT frame, or a line of text, says why and where.
+    /// The input is refused. A FAULT frame, or a line of text, says why and where, but for a bridge.
     BadInput,
     /// A read failed.
     ReadFault,
@@ -54,6 +55,23 @@ impl From<ServeFault> for Status {
             ServeFault::BadInput { .. } => Status::BadInput,
             ServeFault::Read => Status::ReadFault,
             ServeFault::Write => Status::WriteFault,
+        }
+    }
+}
+
+impl From<UsbFault> for Status {
+    ghost use Rattle.std.specs.Prelude.{◌≡◌};
+    ghost use Rattle.satl_top.specs.Faults.{status_of_usb};
+
+    ghost from_gives = { λ fault status. status ≡ status_of_usb fault };
+
+    fn from(fault: UsbFault) -> Status {
+        match fault {
+            UsbFault::Open(OpenFault::NoMemory) => Status::NoMemory,
+            UsbFault::Open(_) => Status::DriveRefused,
+            UsbFault::BadInput { .. } => Status::BadInput,
+            UsbFault::Read => Status::ReadFault,
+            UsbFault::Write => Status::WriteFault,
         }
     }
 }

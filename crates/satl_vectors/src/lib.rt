@@ -22,4 +22,6 @@ mod tests;
 #[cfg(test)]
 mod totals;
 #[cfg(test)]
+mod usb;
+#[cfg(test)]
 mod words;

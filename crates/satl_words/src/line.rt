@@ -39,6 +39,7 @@ pub fn command<'a>(alloc: Global) -> Result<Command<'a>, Error>
         .subcommand_required(true);
     let replay = top.subcommand(Command::new(alloc, "replay"))?;
     let show = replay.subcommand(Command::new(alloc, "show"))?;
-    let generate = show.subcommand(generating(alloc)?)?;
+    let usb = show.subcommand(Command::new(alloc, "usb"))?;
+    let generate = usb.subcommand(generating(alloc)?)?;
     Ok(generate)
 }

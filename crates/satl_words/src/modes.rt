@@ -7,6 +7,8 @@ pub enum Mode {
     Replay,
     /// `show`: answers are written as lines of text.
     Show,
+    /// `usb`: commands on the wire of USB Bulk-Only Transport are carried out, and answered there.
+    Usb,
     /// `gen --seed N --requests N`: a generated input is served, and its totals are written.
     Generate { seed: u64, requests: u32 },
 }

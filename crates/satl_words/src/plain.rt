@@ -7,7 +7,7 @@ use crate::modes::{MOST_REQUESTS, Mode};
 use crate::numbers::plain_number;
 use std::rc::RcStr;
 
-/// What plain words ask for: two words, of which the second is `replay` or `show`, or six of the form `satl gen --seed N --requests
+/// What plain words ask for: two words, of which the second is `replay`, `show` or `usb`, or six of the form `satl gen --seed N --requests
 /// N` with numbers in decimal digits without a sign or a leading zero, of which the second is at most 100,000 (profile). None
 /// exactly where the words are not plain. Takes no memory.
 pub fn plain_mode(words: &[RcStr]) -> Option<Mode>
@@ -29,7 +29,7 @@ fn is_word(word: &RcStr, text: &str) -> bool
     word == text
 }
 
-/// The form of output that one word names.
+/// The mode that one word names.
 fn form_named(word: &RcStr) -> Option<Mode>
     ensures spelled { IfSome result (λ mode. IsInRange mode × (plain_words mode ≡ rc_str_bytes word.now ∷ [])) }
     ensures plain { (mode : Mode) → plain_words mode ≡ rc_str_bytes word.now ∷ [] → result ≡ Some mode }
@@ -39,6 +39,9 @@ fn form_named(word: &RcStr) -> Option<Mode>
     }
     if is_word(word, "show") {
         return Some(Mode::Show);
+    }
+    if is_word(word, "usb") {
+        return Some(Mode::Usb);
     }
     None
 }

@@ -1,0 +1,10 @@
+//! The wrappers of USB Mass Storage Class Bulk-Only Transport: a command on the wire, and its status.
+#![tactic(auto)]
+
+mod command;
+mod status;
+#[cfg(test)]
+mod tests;
+
+pub use command::{Cbw, read_cbw};
+pub use status::csw_bytes;

@@ -1,0 +1,198 @@
+-- What the bridge has done so far.
+use Rattle.std.proofs.Common.{◌≡◌, refl, sym, ap, subst, ◌∙◌, append_assoc, arith, inl, inr, ℕ, ◌+◌, ◌≤◌, true, false, List, [], ◌∷◌, ◌++◌, length, take}
+use Rattle.std.specs.Prelude.{Option, None, Some}
+use Rattle.std.proofs.lemmas.List.{append-nil, length-append}
+use Rattle.arrayvec.specs.ArrayVec.{ArrayVec}
+use Rattle.satl_base.specs.declared.request.Request.{Request}
+use Rattle.satl_io.specs.Known.{Took, Wrote}
+use Rattle.satl_io.proofs.Joined.{Took-more, Took-none, Wrote-more, Wrote-none, WrotePart-more}
+use Rattle.satl_bot.specs.declared.command.Cbw.{Cbw}
+use Rattle.satl_frame.specs.DataPages.{pages_of}
+use Rattle.satl_frame.specs.declared.frames.Frame.{Frame}
+use Rattle.satl_frame.specs.declared.frames.Frame.TheVariants as frames
+use Rattle.satl_frame.specs.Output.{Answer}
+use Rattle.satl_serve.specs.Moments.{Spot}
+use Rattle.satl_step.specs.Events.{IsWholeOf}
+use Rattle.satl_step.specs.Runs.{IsDeep, RunSoFar, Stand}
+use Rattle.satl_step.proofs.RunLemmas.{run_more, run_start}
+use Rattle.satl_usb.specs.Answering.{Answered, AnsweredInPart, desk, request_taken}
+use Rattle.satl_usb.specs.Bridge.{Bridged, BridgedInPart, BridgedWhole, HasTaken}
+use Rattle.satl_usb.specs.Exchanges.{Exchange, is_told_kept, request_of}
+use Rattle.satl_usb.specs.Exchanges.Exchange.{start, asked, sent}
+use Rattle.satl_usb.specs.Headline.{RanTo, stop_at}
+use Rattle.satl_usb.specs.Items.{AreItems, IsCutOff, IsItem, Item, all_spelled, sent_length, spelled}
+use Rattle.satl_usb.specs.Reading.{ItemMissed, TookItem, WasAtEnd}
+use Rattle.satl_usb.specs.Serving.{BothCarried}
+use Rattle.satl_usb.specs.Wire.{kept_of, kept_on_wire, reply_on_wire}
+use Rattle.satl_usb.specs.declared.items.ItemFault.{ItemFault}
+use Rattle.satl_usb.specs.declared.items.ItemFault.TheVariants as missed
+use Rattle.satl_usb.specs.declared.items.Taken.{Taken}
+
+-- ---- items that were taken
+
+pub all_spelled-push : (items : List Item) (i : Item) → all_spelled (items ++ i ∷ []) ≡ all_spelled items ++ spelled i
+all_spelled-push [] i = append-nil (spelled i)
+all_spelled-push (x ∷ items) i = ap (λ l. spelled x ++ l) (all_spelled-push items i) ∙ sym (append_assoc (spelled x) (all_spelled items) (spelled i))
+
+are_items-push : (limit offset : ℕ) (items : List Item) (i : Item) → AreItems limit offset items → IsItem i → offset + length (all_spelled items) + length (spelled i) ≤ limit → AreItems limit offset (items ++ i ∷ [])
+are_items-push limit offset [] i each is fits = (is, omega (arith, fits), tt)
+are_items-push limit offset (x ∷ items) i (a, b, c) is fits = (a, b, are_items-push limit (offset + length (spelled x)) items i c is (let long = length-append (spelled x) (all_spelled items) in omega (arith, long, fits)))
+
+taken_more : (limit offset room : ℕ) (left mid left' : Option (List ℕ)) (items : List Item) (taken : Taken) → offset ≡ length (all_spelled items) → HasTaken limit left mid items → (t : TookItem limit offset room mid left' taken) → HasTaken limit left left' (items ++ t.item ∷ [])
+taken_more limit offset room left mid left' items taken at h t = record {
+  took = subst (Took left left') (sym (all_spelled-push items t.item)) (Took-more h.took t.took);
+  each = are_items-push limit 0 items t.item h.each t.is_item (let within = t.within in omega (arith, within, at));
+}
+
+taken_none : (limit : ℕ) (left mid left' : Option (List ℕ)) (items : List Item) → HasTaken limit left mid items → Took mid left' [] → HasTaken limit left left' items
+taken_none limit left mid left' items h none = record { took = subst (Took left left') (append-nil (all_spelled items)) (Took-more h.took none); each = h.each }
+
+-- ---- a request of an item
+
+whole_request : (taken : Taken) (room : ℕ) (i : Item) → taken.command ≡ i.command → taken.body ≡ take room (pages_of i.body) → length i.body ≡ sent_length i.command → request_taken taken ≡ record (request_of i) { body = take room (pages_of i.body) }
+whole_request taken room i command body size =
+    let is : taken ≡ record { command = i.command; body = take room (pages_of i.body) } = ap (λ (c : Cbw). record taken { command = c }) command ∙ ap (λ b. record { command = i.command; body = b }) body in
+    ap request_taken is ∙ ap (λ (n : ℕ). record (request_of i) { body = take room (pages_of i.body); data_len = n }) (sym size)
+
+is_whole : (limit offset room : ℕ) (left left' : Option (List ℕ)) (taken : Taken) (t : TookItem limit offset room left left' taken) → IsWholeOf (frames.Request (request_taken taken)) (frames.Request (request_of t.item))
+is_whole limit offset room left left' taken t = record { room = room; cut = ap frames.Request (whole_request taken room t.item t.command t.body t.is_item.sent) }
+
+run_both : (a b c : Stand) (events : List Frame) (groups : List (List Answer)) (r w : Request) → RunSoFar a b events groups → IsWholeOf (frames.Request r) (frames.Request w) → (both : BothCarried r b c) → RunSoFar a c (events ++ frames.Request w ∷ frames.Turn 1 ∷ []) (groups ++ both.first ∷ both.second ∷ [])
+run_both a b c events groups r w run whole both =
+    let one = run_more a b both.mid events groups (frames.Request r) (frames.Request w) both.first run whole both.arrives both.arrival_tallied in
+    let two = run_more a both.mid c (events ++ frames.Request w ∷ []) (groups ++ both.first ∷ []) (frames.Turn 1) (frames.Turn 1) both.second one (record { room = 0; cut = refl }) both.turns both.turn_tallied in
+    subst (λ gs. RunSoFar a c (events ++ frames.Request w ∷ frames.Turn 1 ∷ []) gs) (append_assoc groups (both.first ∷ []) (both.second ∷ []))
+    (subst (λ fs. RunSoFar a c fs ((groups ++ both.first ∷ []) ++ both.second ∷ [])) (append_assoc events (frames.Request w ∷ []) (frames.Turn 1 ∷ [])) two)
+
+-- ---- one item more
+
+bridged_asked : (limit : ℕ) (a b c : Stand) (left mid left' : Option (List ℕ)) (items : List Item) (wire : List ℕ) (kept : Option (ArrayVec ℕ)) (i : Item) (sense : ArrayVec ℕ) → Bridged limit a b left mid items wire kept → HasTaken limit left left' (items ++ i ∷ []) → kept ≡ Some sense → is_told_kept kept i.command ≡ true → c ≡ b
+    → Bridged limit a c left left' (items ++ i ∷ []) (wire ++ kept_on_wire i.command sense) None
+bridged_asked limit a b c left mid left' items wire kept i sense so taken was asks same = record {
+  events = so.events;
+  groups = so.groups;
+  taken = taken;
+  exchange = asked i sense (subst (Exchange items so.events so.groups wire) was so.exchange) (ap (λ k. is_told_kept k i.command) (sym was) ∙ asks);
+  run = subst (λ s. RunSoFar a s so.events so.groups) (sym same) so.run;
+  idle = ap (λ (s : Stand). s.device.tasks) same ∙ so.idle;
+  unplugs = ap (λ (s : Stand). s.tally.unplugs) same ∙ so.unplugs;
+}
+
+bridged_sent : (limit : ℕ) (a b c : Stand) (left mid left' : Option (List ℕ)) (items : List Item) (wire : List ℕ) (kept : Option (ArrayVec ℕ)) (i : Item) (r : Request) → Bridged limit a b left mid items wire kept → HasTaken limit left left' (items ++ i ∷ []) → is_told_kept kept i.command ≡ false → IsWholeOf (frames.Request r) (frames.Request (request_of i)) → (both : BothCarried r b c)
+    → Bridged limit a c left left' (items ++ i ∷ []) (wire ++ reply_on_wire i.command both.reply) (kept_of both.reply)
+bridged_sent limit a b c left mid left' items wire kept i r so taken other whole both = record {
+  events = so.events ++ frames.Request (request_of i) ∷ frames.Turn 1 ∷ [];
+  groups = so.groups ++ both.first ∷ both.second ∷ [];
+  taken = taken;
+  exchange = sent i both.reply both.first both.second so.exchange other both.one;
+  run = run_both a b c so.events so.groups r (request_of i) so.run whole both;
+  idle = both.none;
+  unplugs = both.turn_tallied.unplugs ∙ (both.arrival_tallied.unplugs ∙ so.unplugs);
+}
+
+-- ---- the items so far
+
+pub record Going (limit : ℕ) (before now : Spot) (kept : Option (ArrayVec ℕ)) (offset : ℕ) : Type 0 where
+  pub items : List Item
+  pub wire : List ℕ
+  pub bridged : Bridged limit before.stand now.stand before.left now.left items wire kept
+  pub at : offset ≡ length (all_spelled items)
+  pub wrote : Wrote before.written now.written wire
+
+pub going_start : (limit : ℕ) (a : Spot) → a.stand.device.tasks ≡ [] → Going limit a a None 0
+going_start limit a idle = record {
+  items = [];
+  wire = [];
+  bridged = record { events = []; groups = []; taken = record { took = Took-none a.left; each = tt }; exchange = start; run = run_start a.stand idle; idle = idle; unplugs = refl };
+  at = refl;
+  wrote = Wrote-none a.written;
+}
+
+-- nothing that the layer lends is seen
+pub going_same : (limit : ℕ) (a b : Spot) (s : Stand) (kept : Option (ArrayVec ℕ)) (offset : ℕ) → s ≡ b.stand → Going limit a b kept offset → Going limit a (record b { stand = s }) kept offset
+going_same limit a b s kept offset same g = subst (λ (x : Stand). Going limit a (record b { stand = x }) kept offset) (sym same) g
+
+module _ (limit offset room : ℕ) (a b c : Spot) (kept : Option (ArrayVec ℕ)) (taken : Taken) (g : Going limit a b kept offset) (t : TookItem limit offset room b.left c.left taken) where
+  all_taken : HasTaken limit a.left c.left (g.items ++ t.item ∷ [])
+  all_taken = taken_more limit offset room a.left b.left c.left g.items taken g.at g.bridged.taken t
+
+  further : (end : ℕ) → end ≡ offset + 31 + sent_length taken.command → end ≡ length (all_spelled (g.items ++ t.item ∷ []))
+  further end is =
+      let all = ap length (all_spelled-push g.items t.item) ∙ length-append (all_spelled g.items) (spelled t.item) in
+      let one = length-append t.item.head t.item.body in
+      let size = t.is_item.size in
+      let sent = t.is_item.sent ∙ ap sent_length (sym t.command) in
+      let at = g.at in
+      omega (arith, is, all, one, size, sent, at)
+
+  asked_bridged : (s : Stand) (sense : ArrayVec ℕ) → kept ≡ Some sense → is_told_kept kept taken.command ≡ true → s ≡ b.stand → Bridged limit a.stand s a.left c.left (g.items ++ t.item ∷ []) (g.wire ++ kept_on_wire taken.command sense) None
+  asked_bridged s sense was asks same =
+      subst (λ l. Bridged limit a.stand s a.left c.left (g.items ++ t.item ∷ []) (g.wire ++ l) None) (ap (λ x. kept_on_wire x sense) (sym t.command))
+      (bridged_asked limit a.stand b.stand s a.left b.left c.left g.items g.wire kept t.item sense g.bridged all_taken was (ap (is_told_kept kept) (sym t.command) ∙ asks) same)
+
+  sent_bridged : (s : Stand) → is_told_kept kept taken.command ≡ false → (both : BothCarried (request_taken taken) b.stand s) → Bridged limit a.stand s a.left c.left (g.items ++ t.item ∷ []) (g.wire ++ reply_on_wire taken.command both.reply) (kept_of both.reply)
+  sent_bridged s other both =
+      subst (λ l. Bridged limit a.stand s a.left c.left (g.items ++ t.item ∷ []) (g.wire ++ l) (kept_of both.reply)) (ap (λ x. reply_on_wire x both.reply) (sym t.command))
+      (bridged_sent limit a.stand b.stand s a.left b.left c.left g.items g.wire kept t.item (request_taken taken) g.bridged all_taken (ap (is_told_kept kept) (sym t.command) ∙ other) (is_whole limit offset room b.left c.left taken t) both)
+
+  -- an item was answered
+  pub going_more : (kept' : Option (ArrayVec ℕ)) (end : ℕ) → Answered taken (desk b.stand b.written kept) (desk c.stand c.written kept') → end ≡ offset + 31 + sent_length taken.command → Going limit a c kept' end
+  going_more kept' end (inl r) is = record {
+    items = g.items ++ t.item ∷ [];
+    wire = g.wire ++ kept_on_wire taken.command r.sense;
+    bridged = subst (Bridged limit a.stand c.stand a.left c.left (g.items ++ t.item ∷ []) (g.wire ++ kept_on_wire taken.command r.sense)) (sym r.kept_is) (asked_bridged c.stand r.sense r.was_kept r.asks r.stays);
+    at = further end is;
+    wrote = Wrote-more g.wrote r.wrote;
+  }
+  going_more kept' end (inr (other, r)) is = record {
+    items = g.items ++ t.item ∷ [];
+    wire = g.wire ++ reply_on_wire taken.command r.both.reply;
+    bridged = subst (Bridged limit a.stand c.stand a.left c.left (g.items ++ t.item ∷ []) (g.wire ++ reply_on_wire taken.command r.both.reply)) (sym r.kept_is) (sent_bridged c.stand other r.both);
+    at = further end is;
+    wrote = Wrote-more g.wrote r.wrote;
+  }
+
+  -- or in part
+  pub stopped_in_part : AnsweredInPart taken (desk b.stand b.written kept) (desk c.stand c.written None) → BridgedInPart limit a c
+  stopped_in_part (inl r) = record {
+    items = g.items ++ t.item ∷ [];
+    wire = g.wire ++ kept_on_wire taken.command r.sense;
+    kept = None;
+    bridged = asked_bridged c.stand r.sense r.was_kept r.asks r.stays;
+    part = WrotePart-more g.wrote r.part;
+  }
+  stopped_in_part (inr (other, r)) = record {
+    items = g.items ++ t.item ∷ [];
+    wire = g.wire ++ reply_on_wire taken.command r.both.reply;
+    kept = kept_of r.both.reply;
+    bridged = sent_bridged c.stand other r.both;
+    part = WrotePart-more g.wrote r.part;
+  }
+
+-- an item ends within the limit
+pub within_limit : (limit offset room end : ℕ) (left left' : Option (List ℕ)) (taken : Taken) → TookItem limit offset room left left' taken → end ≡ offset + 31 + sent_length taken.command → end ≤ limit
+within_limit limit offset room end left left' taken t is =
+    let one = length-append t.item.head t.item.body in
+    let size = t.is_item.size in
+    let sent = t.is_item.sent ∙ ap sent_length (sym t.command) in
+    let within = t.within in
+    omega (arith, is, one, size, sent, within)
+
+-- ---- how it ends
+
+-- at the end of the source
+pub bridged_whole : (limit offset : ℕ) (a b : Spot) (left : Option (List ℕ)) (kept : Option (ArrayVec ℕ)) → IsDeep a.stand.tally → Going limit a b kept offset → WasAtEnd b.left left → BridgedWhole limit a (record b { left = left })
+bridged_whole limit offset a b left kept deep g e = record {
+  items = g.items;
+  wire = g.wire;
+  kept = kept;
+  bridged = record { events = g.bridged.events; groups = g.bridged.groups; taken = taken_none limit a.left b.left left g.items g.bridged.taken e.took; exchange = g.bridged.exchange; run = g.bridged.run; idle = g.bridged.idle; unplugs = g.bridged.unplugs };
+  at_end = e.end;
+  wrote = g.wrote;
+  deep = g.bridged.run.covered deep;
+}
+
+-- where no item was read
+pub no_item : (limit offset : ℕ) (a b : Spot) (left : Option (List ℕ)) (kept : Option (ArrayVec ℕ)) (fault : ItemFault) → Going limit a b kept offset → ItemMissed limit offset b.left left fault → RanTo limit a (record b { left = left }) (stop_at offset fault)
+no_item limit offset a b left kept missed.Bad g (refused, front) = record { items = g.items; wire = g.wire; kept = kept; mid = b.left; bridged = g.bridged; offset_is = g.at; refused = refused; front = front; wrote = g.wrote }
+no_item limit offset a b left kept missed.Failed g cut = record { items = g.items; wire = g.wire; kept = kept; mid = b.left; bridged = g.bridged; cut_off = subst (λ n. IsCutOff limit n b.left left) g.at cut; wrote = g.wrote }

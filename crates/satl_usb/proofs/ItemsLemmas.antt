@@ -1,0 +1,111 @@
+-- What stands where a wrapper was taken.
+use Rattle.std.proofs.Common.{◌≡◌, refl, sym, ap, subst, arith, ◌∙◌, append_assoc, ℕ, ◌+◌, ◌-◌, ◌<◌, ◌≤◌, List, [], ◌∷◌, ◌++◌, length, take, drop}
+use Rattle.std.specs.Prelude.{Option, None, Some}
+use Rattle.std.proofs.Math.Seq.{take-append-add, take-append_seam, drop-append_seam}
+use Rattle.std.proofs.lemmas.List.{length-append}
+use Rattle.satl_bot.specs.declared.command.Cbw.{Cbw}
+use Rattle.satl_bot.specs.Wrappers.{cbw_of}
+use Rattle.satl_base.specs.declared.block.Block.{Block}
+use Rattle.satl_frame.specs.Pulls.{FewerThan, Lacks, TookPages}
+use Rattle.satl_io.specs.Known.{Took}
+use Rattle.satl_io.proofs.Joined.{Took-more}
+use Rattle.satl_usb.specs.Items.{IsCutOff, IsRefused, Stands, TookFront, sent_length, spelled}
+use Rattle.satl_usb.specs.Reading.{TookHead, TookItem}
+
+-- fronts that are equally long are the same, and so are the rests
+pub fronts : (a b c d : List ℕ) → length a ≡ length b → a ++ c ≡ b ++ d → a ≡ b
+fronts a b c d long is = sym (take-append_seam a c) ∙ (ap (λ l. take (length a) l) is ∙ (ap (λ n. take n (b ++ d)) long ∙ take-append_seam b d))
+
+pub rests : (a b c d : List ℕ) → length a ≡ length b → a ++ c ≡ b ++ d → c ≡ d
+rests a b c d long is = sym (drop-append_seam a c) ∙ (ap (λ l. drop (length a) l) is ∙ (ap (λ n. drop n (b ++ d)) long ∙ drop-append_seam b d))
+
+-- an item is as long as its wrapper and what this tells
+pub spelled_length : (limit offset : ℕ) (bytes : List ℕ) (s : Stands limit offset bytes) → length (spelled s.item) ≡ 31 + sent_length s.item.command
+spelled_length limit offset bytes s = let all = length-append s.item.head s.item.body in let size = s.is_item.size in let sent = s.is_item.sent in omega (arith, all, size, sent)
+
+-- bytes begin with a wrapper
+module _ (limit offset : ℕ) (bytes head behind : List ℕ) (long : length head ≡ 31) (is : bytes ≡ head ++ behind) where
+  -- and so does the item that stands there
+  same_head : (s : Stands limit offset bytes) → head ≡ s.item.head
+  same_head s = fronts head s.item.head behind (s.item.body ++ s.rest) (long ∙ sym s.is_item.size) (sym is ∙ (s.split ∙ append_assoc s.item.head s.item.body s.rest))
+
+  same_rest : (s : Stands limit offset bytes) → behind ≡ s.item.body ++ s.rest
+  same_rest s = rests head s.item.head behind (s.item.body ++ s.rest) (long ∙ sym s.is_item.size) (sym is ∙ (s.split ∙ append_assoc s.item.head s.item.body s.rest))
+
+  not_empty : bytes ≡ [] → ⊥
+  not_empty none = let all = ap length is ∙ length-append head behind in let no = ap length none in absurd (omega (arith, all, no, long))
+
+  -- no item stands behind a wrapper that is none
+  none_stands : cbw_of head ≡ None → Stands limit offset bytes → ⊥
+  none_stands bad s = let both : None ≡ Some s.item.command = sym bad ∙ (ap cbw_of (same_head s) ∙ s.is_item.says) in absurd cc
+
+  same_length : (command : Cbw) → cbw_of head ≡ Some command → (s : Stands limit offset bytes) → length (spelled s.item) ≡ 31 + sent_length command
+  same_length command says s =
+      let both : Some s.item.command ≡ Some command = sym s.is_item.says ∙ (ap cbw_of (sym (same_head s)) ∙ says) in
+      let same : s.item.command ≡ command = cc in
+      spelled_length limit offset bytes s ∙ ap (λ c. 31 + sent_length c) same
+
+-- a wrapper that is none was taken
+pub bad_head : (left left' : Option (List ℕ)) (head : List ℕ) → length head ≡ 31 → Took left left' head → cbw_of head ≡ None → ((limit offset : ℕ) → IsRefused limit offset left) × TookFront left left'
+bad_head None left' head long took bad = (λ limit offset. tt, tt)
+bad_head (Some bytes) None head long took bad = absurd took.known
+bad_head (Some bytes) (Some behind) head long took bad =
+    let is : bytes ≡ head ++ behind = took.known in
+    (λ limit offset. (not_empty limit offset bytes head behind long is, none_stands limit offset bytes head behind long is bad), (31, subst (Took (Some bytes) (Some behind)) (sym (ap (take 31) is ∙ (ap (λ n. take n (head ++ behind)) (sym long) ∙ take-append_seam head behind))) took))
+
+-- a front that was taken, and then one behind it
+front_more : (left mid left' : Option (List ℕ)) (bytes head behind : List ℕ) (count : ℕ) → left ≡ Some bytes → bytes ≡ head ++ behind → Took left mid head → Took mid left' (take count behind) → Took left left' (take (length head + count) bytes)
+front_more left mid left' bytes head behind count known is took more =
+    subst (Took left left') (sym (ap (take (length head + count)) is ∙ take-append-add head behind count)) (Took-more took more)
+
+-- the item that its wrapper tells ends past the limit
+pub too_far : (limit offset : ℕ) (left left' : Option (List ℕ)) (command : Cbw) → offset ≤ limit → TookHead left left' command → limit - offset < 31 + sent_length command → IsRefused limit offset left × TookFront left left'
+too_far limit offset None left' command near t far = (tt, tt)
+too_far limit offset (Some bytes) None command near t far = absurd t.took.known
+too_far limit offset (Some bytes) (Some behind) command near t far =
+    let is : bytes ≡ t.head ++ behind = t.took.known in (
+      (not_empty limit offset bytes t.head behind t.size is, λ s. let size = same_length limit offset bytes t.head behind t.size is command t.says s in absurd (omega (arith, size, s.within, far, near))),
+      (31, subst (Took (Some bytes) (Some behind)) (sym (ap (take 31) is ∙ (ap (λ n. take n (t.head ++ behind)) (sym t.size) ∙ take-append_seam t.head behind))) t.took),
+    )
+
+-- fewer bytes stood behind a wrapper than it tells
+pub too_short : (limit offset : ℕ) (left mid left' : Option (List ℕ)) (command : Cbw) → TookHead left mid command → Lacks mid left' (sent_length command) → IsRefused limit offset left × TookFront left left'
+too_short limit offset None mid left' command t lacks = (tt, tt)
+too_short limit offset (Some bytes) None left' command t lacks = absurd t.took.known
+too_short limit offset (Some bytes) (Some behind) left' command t lacks =
+    let is : bytes ≡ t.head ++ behind = t.took.known in
+    let few = lacks.known.0 in
+    let all : length bytes ≡ 31 + length behind = let both = ap length is ∙ length-append t.head behind in let size = t.size in omega (arith, both, size) in
+    let whole : take (length behind) behind ≡ behind = take_whole behind in (
+      (not_empty limit offset bytes t.head behind t.size is, λ s. let size = same_length limit offset bytes t.head behind t.size is command t.says s in let fits = ap length s.split ∙ length-append (spelled s.item) s.rest in absurd (omega (arith, size, fits, all, few))),
+      (length t.head + length behind, front_more (Some bytes) (Some behind) left' bytes t.head behind (length behind) refl is t.took (subst (Took (Some behind) left') (sym whole) lacks.known.1)),
+    )
+  where
+    take_whole : (xs : List ℕ) → take (length xs) xs ≡ xs
+    take_whole [] = refl
+    take_whole (x ∷ xs) = ap (λ l. x ∷ l) (take_whole xs)
+
+-- a read failed within what a wrapper tells
+pub cut_body : (limit offset : ℕ) (left mid left' : Option (List ℕ)) (command : Cbw) → TookHead left mid command → FewerThan mid left' (λ _. sent_length command) → IsCutOff limit offset left left'
+cut_body limit offset None mid left' command t fewer = tt
+cut_body limit offset (Some bytes) None left' command t fewer = absurd t.took.known
+cut_body limit offset (Some bytes) (Some behind) left' command t fewer =
+    let is : bytes ≡ t.head ++ behind = t.took.known in
+    let few = fewer.known.1 in
+    (length t.head + fewer.known.0, front_more (Some bytes) (Some behind) left' bytes t.head behind fewer.known.0 refl is t.took fewer.known.2, λ s. let size = same_length limit offset bytes t.head behind t.size is command t.says s in let long = t.size in omega (arith, size, few, long))
+
+-- a read failed within a wrapper
+pub cut_head : (limit offset : ℕ) (left left' : Option (List ℕ)) → FewerThan left left' (λ _. 31) → IsCutOff limit offset left left'
+cut_head limit offset None left' fewer = tt
+cut_head limit offset (Some bytes) left' fewer = (fewer.known.0, fewer.known.2, λ s. let size = spelled_length limit offset bytes s in let few = fewer.known.1 in omega (arith, size, few))
+
+-- a wrapper was taken, and the data that it tells
+pub took_item : (limit offset room : ℕ) (left mid left' : Option (List ℕ)) (command : Cbw) (body : List Block) → TookHead left mid command → TookPages mid left' (sent_length command) room body → offset ≤ limit → 31 + sent_length command ≤ limit - offset → TookItem limit offset room left left' (record { command = command; body = body })
+took_item limit offset room left mid left' command body t pages near fits = record {
+  item = record { head = t.head; command = command; body = pages.taken };
+  is_item = record { size = t.size; says = t.says; sent = pages.size };
+  within = let all = length-append t.head pages.taken in let size = t.size in let sent = pages.size in omega (arith, all, size, sent, fits, near);
+  took = Took-more t.took pages.took;
+  command = refl;
+  body = pages.pages_are;
+}

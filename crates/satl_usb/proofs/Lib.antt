@@ -1,0 +1,7 @@
+mod AnsweringLemmas
+mod BridgeLemmas
+mod CompletenessLemmas
+mod ItemsLemmas
+mod OpeningLemmas
+mod ServingLemmas
+mod WireLemmas

@@ -1,0 +1,167 @@
+-- A request and one turn, from what each of them did.
+use Rattle.std.proofs.Common.{rules, ◌≡◌, ◌⊎◌, inl, inr, refl, sym, ap, subst, ◌∙◌, arith, ℕ, ◌≤◌, max, List, [], ◌∷◌, ◌++◌, length, map}
+use Rattle.std.proofs.lemmas.List.{append-nil, take_all}
+use Rattle.satl_base.specs.declared.reply.Reply.{Reply}
+use Rattle.satl_base.specs.declared.request.Request.{Request}
+use Rattle.satl_frame.specs.declared.frames.Frame.TheVariants as frames
+use Rattle.satl_frame.specs.Output.{Answer}
+use Rattle.satl_frame.specs.Output.Answer.{replied}
+use Rattle.satl_line.specs.Tasks.{Held, entries_of}
+use Rattle.satl_direct.specs.Device.{Device}
+use Rattle.satl_direct.specs.Arrival.{Arrives}
+use Rattle.satl_direct.specs.Quiet.{Around}
+use Rattle.satl_direct.specs.Tasks.{task_of}
+use Rattle.satl_direct.specs.Turn.{Turn}
+use Rattle.satl_direct.specs.Turn.Turn.{idle}
+use Rattle.satl_direct.specs.Run.{MayLose, TurnsOf, depth}
+use Rattle.satl_direct.specs.Run.TurnsOf.{none, more}
+use Rattle.satl_laws.proofs.OneReply.{Half, around_half, one_reply}
+use Rattle.satl_laws.proofs.OneReply.Half.{given, held}
+use Rattle.satl_core.proofs.CountedLemmas.{counted_same}
+use Rattle.satl_core.proofs.DeviceLemmas.{quiet_none}
+use Rattle.satl_step.specs.Events.{Carried, Done, DoneInPart, IsTallied, Scene}
+use Rattle.satl_step.specs.Runs.{DoesShort, Stand}
+use Rattle.satl_step.specs.Telling.{IsTold, IsToldInPart}
+use Rattle.satl_step.proofs.EventLemmas.{carried_turns, map-append}
+use Rattle.satl_step.proofs.RunLemmas.{covers_same}
+use Rattle.satl_step.proofs.TellingLemmas.{told_more, told_part}
+use Rattle.satl_usb.specs.Serving.{BothCarried, Exchanged, ExchangedInPart}
+
+-- ---- what each of the two did
+
+-- what a request did, as replies
+pub record Arrived (r : Request) (s : Device) (first : List Answer) (mid : Device) : Type 0 where
+  pub replies : List Reply
+  pub answers : first ≡ map replied replies
+  pub step : Around (MayLose (Arrives r)) s replies mid
+
+-- what a turn did
+pub record Turned (s : Device) (second : List Answer) (new : Device) : Type 0 where
+  pub replies : List Reply
+  pub answers : second ≡ map replied replies
+  pub step : Around Turn s replies new
+
+arrived : (r : Request) (a b : Stand) (first : List Answer) → Carried (frames.Request r) a first b → Arrived r a.device first b.device
+arrived r a b first c =
+    let does = c.does (frames.Request r) (record { room = length r.body; cut = ap (λ l. frames.Request (record r { body = l })) (sym (take_all (length r.body) r.body (omega arith))) }) in
+    record { replies = does.0; answers = does.1; step = does.2 }
+
+zero_turns : (n : ℕ) (s new : Device) (replies : List Reply) (deep : ℕ) → n ≡ 0 → TurnsOf n s replies new deep → (new ≡ s) × (replies ≡ []) × (deep ≡ 0)
+zero_turns n s new replies deep is none = (refl, refl, refl)
+zero_turns n s new replies deep is (more a step) = absurd (omega (arith, is))
+
+-- one turn, and the depth after it
+pub record OneTurn (s : Device) (replies : List Reply) (new : Device) (deep : ℕ) : Type 0 where
+  pub step : Around Turn s replies new
+  pub deep_is : deep ≡ max 0 (depth new)
+
+one_turn : (n : ℕ) (s new : Device) (replies : List Reply) (deep : ℕ) → n ≡ 1 → TurnsOf n s replies new deep → OneTurn s replies new deep
+one_turn n s new replies deep is none = absurd (omega (arith, is))
+one_turn n s new replies deep is (more {n = m} {mid = mid} {first = first} {rest = rest} a step) =
+    let z = zero_turns m s mid first _ (omega (arith, is)) a in
+    record {
+      step = subst (λ l. Around Turn s (l ++ rest) new) (sym z.1) (subst (λ x. Around Turn x rest new) z.0 step);
+      deep_is = ap (λ n. max n (depth new)) z.2;
+    }
+
+turned : (a b : Stand) (second : List Answer) → Carried (frames.Turn 1) a second b → Turned a.device second b.device
+turned a b second c =
+    let does = c.does (frames.Turn 1) (record { room = 0; cut = refl }) in
+    record { replies = does.0; answers = does.2; step = (one_turn 1 a.device b.device does.0 does.1 refl does.3).step }
+
+-- without tasks nothing is outstanding
+no_depth : (s : Device) → s.tasks ≡ [] → depth s ≡ 0
+no_depth s empty = search rules
+
+-- ---- both
+
+both : (r : Request) (a b c : Stand) (first second : List Answer) → a.device.tasks ≡ [] → Carried (frames.Request r) a first b → IsTallied (frames.Request r) a b → Carried (frames.Turn 1) b second c → IsTallied (frames.Turn 1) b c → BothCarried r a c
+both r a b c first second empty arrives arrival_tallied turns turn_tallied =
+    let x = arrived r a b first arrives in
+    let y = turned b c second turns in
+    let z = one_reply r a.device b.device c.device x.replies y.replies empty x.step y.step in
+    record {
+      mid = b;
+      first = first;
+      second = second;
+      arrives = arrives;
+      arrival_tallied = arrival_tallied;
+      turns = turns;
+      turn_tallied = turn_tallied;
+      reply = z.reply;
+      one = ap (λ l. l ++ second) x.answers ∙ (ap (λ l. map replied x.replies ++ l) y.answers ∙ (sym (map-append x.replies y.replies) ∙ ap (map replied) z.one));
+      none = z.none;
+    }
+
+-- a turn without tasks does nothing
+idle_turn : (a : Stand) → a.device.tasks ≡ [] → Carried (frames.Turn 1) a [] a
+idle_turn a empty =
+    let flat = no_depth a.device empty in
+    carried_turns 1 a a [] (max 0 (depth a.device)) (more none (record { before = a.device; after = a.device; quiet_before = quiet_none a.device; step = idle empty; quiet_after = quiet_none a.device })) (λ deep. omega (arith, flat)) (λ deep. omega (arith, flat))
+
+idle_tallied : (a : Stand) → IsTallied (frames.Turn 1) a a
+idle_tallied a = record { faults = counted_same a.device a.device _ _ refl refl; unplugs = refl; calls = omega arith; queue = covers_same a }
+
+-- a turn that was cut short was taken
+short_turn : (r : Request) (a b c : Stand) (first second : List Answer) → a.device.tasks ≡ [] → Carried (frames.Request r) a first b → DoesShort (frames.Turn 1) b.device second c.device → Carried (frames.Turn 1) b second c
+short_turn r a b c first second empty arrives short =
+    let one : short.count ≡ 1 = omega (arith, short.some, short.asked) in
+    let turn = one_turn short.count b.device c.device short.replies short.deep one short.turns in
+    let x = arrived r a b first arrives in
+    let left = (one_reply r a.device b.device c.device x.replies short.replies empty x.step turn.step).none in
+    let flat = no_depth c.device left in
+    subst (λ l. Carried (frames.Turn 1) b l c) (sym short.answer) (carried_turns 1 b c short.replies short.deep (subst (λ n. TurnsOf n b.device short.replies c.device short.deep) one short.turns) (λ deep. omega (arith, flat, turn.deep_is)) (λ deep. omega (arith, flat)))
+
+-- where the reply was given at once, no task is left
+given_at_once : (r : Request) (a b : Stand) (first : List Answer) → a.device.tasks ≡ [] → Carried (frames.Request r) a first b → 1 ≤ length first → b.device.tasks ≡ []
+given_at_once r a b first empty arrives some =
+    let x = arrived r a b first arrives in
+    by_half x.replies x.answers (around_half r a.device b.device x.replies empty x.step)
+  where
+    by_half : (replies : List Reply) → first ≡ map replied replies → Half replies b.device.tasks → b.device.tasks ≡ []
+    by_half replies are (given reply is left) = left
+    by_half replies are (held task is left) = let no : length first ≡ 0 = ap length are ∙ ap (λ l. length (map replied l)) is in absurd (omega (arith, no, some))
+
+-- a layer that shows no task has none
+pub no_tasks : (tasks : List Held) → map task_of (entries_of tasks) ≡ [] → tasks ≡ []
+no_tasks [] is = refl
+no_tasks (h ∷ tasks) is = absurd cc
+
+-- ---- and how they are told
+
+module _ {T : Type 0} (told : T → Answer → List ℕ) (behind : T → Answer → T) where
+  pub exchanged : (r : Request) (a b c : Scene T) → a.stand.device.tasks ≡ [] → Done told behind (frames.Request r) a b → IsTallied (frames.Request r) a.stand b.stand → Done told behind (frames.Turn 1) b c → IsTallied (frames.Turn 1) b.stand c.stand → Exchanged told behind r a c
+  unfolding both
+  exchanged r a b c empty first first_tallied second second_tallied =
+      let x = both r a.stand b.stand c.stand first.answers second.answers empty first.carried first_tallied second.carried second_tallied in
+      record {
+        both = x;
+        told_so = subst (λ l. IsTold told behind a.telling c.telling l) x.one (told_more told behind a.telling b.telling c.telling first.answers second.answers first.told_so second.told_so);
+      }
+
+  -- the write failed in the turn
+  pub second_fails : (r : Request) (a b c : Scene T) → a.stand.device.tasks ≡ [] → Done told behind (frames.Request r) a b → IsTallied (frames.Request r) a.stand b.stand → DoneInPart told behind (frames.Turn 1) b c → IsTallied (frames.Turn 1) b.stand c.stand → ExchangedInPart told behind r a c
+  unfolding both
+  second_fails r a b c empty first first_tallied second second_tallied =
+      let x = both r a.stand b.stand c.stand first.answers second.answers empty first.carried first_tallied (whole second.carried) second_tallied in
+      record {
+        both = x;
+        told_so = subst (λ l. IsToldInPart told behind a.telling c.telling l) x.one (told_part told behind a.telling b.telling c.telling first.answers second.answers first.told_so second.told_so);
+      }
+    where
+      whole : Carried (frames.Turn 1) b.stand second.answers c.stand ⊎ DoesShort (frames.Turn 1) b.stand.device second.answers c.stand.device → Carried (frames.Turn 1) b.stand second.answers c.stand
+      whole (inl all) = all
+      whole (inr short) = short_turn r a.stand b.stand c.stand first.answers second.answers empty first.carried short
+
+  -- the write failed as the request arrived
+  pub first_fails : (r : Request) (a b : Scene T) → a.stand.device.tasks ≡ [] → DoneInPart told behind (frames.Request r) a b → IsTallied (frames.Request r) a.stand b.stand → ExchangedInPart told behind r a b
+  unfolding both
+  first_fails r a b empty first first_tallied =
+      let arrives = whole first.carried in
+      let left = given_at_once r a.stand b.stand first.answers empty arrives first.some in
+      let x = both r a.stand b.stand b.stand first.answers [] empty arrives first_tallied (idle_turn b.stand left) (idle_tallied b.stand) in
+      record { both = x; told_so = subst (λ l. IsToldInPart told behind a.telling b.telling l) (sym (append-nil first.answers) ∙ x.one) first.told_so }
+    where
+      whole : Carried (frames.Request r) a.stand first.answers b.stand ⊎ DoesShort (frames.Request r) a.stand.device first.answers b.stand.device → Carried (frames.Request r) a.stand first.answers b.stand
+      whole (inl all) = all
+      whole (inr short) = absurd short.asked

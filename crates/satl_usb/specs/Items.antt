@@ -1,0 +1,58 @@
+-- The input of the bridge: commands as they stand on the wire, each with the data that is sent with it (USB Mass Storage Class,
+-- Bulk-Only Transport 1.0, 5.3).
+use Rattle.std.specs.Prelude.{◌≡◌, ℕ, ◌+◌, ◌<◌, ◌≤◌, ◌^◌, List, [], ◌∷◌, ◌++◌, length, take, Option, Some, IfSome, if◌then◌else◌}
+use Rattle.satl_io.specs.Known.{Took}
+use Rattle.satl_bot.specs.declared.command.Cbw.{Cbw}
+use Rattle.satl_bot.specs.Wrappers.{cbw_of}
+
+-- each item of an input ends within 2^40 bytes (profile)
+abbrev pub item_limit : ℕ
+item_limit = 2 ^ 40
+
+-- an item: the 31 bytes of a wrapper, what they say, and the data behind them
+pub record Item : Type 0 where
+  pub head : List ℕ
+  pub command : Cbw
+  pub body : List ℕ
+
+-- how many bytes the host sends behind a wrapper (5.3)
+abbrev pub sent_length : Cbw → ℕ
+sent_length c = if c.is_in then 0 else c.length
+
+-- an item is what its bytes say (6.2)
+pub record IsItem (i : Item) : Type 0 where
+  pub size : length i.head ≡ 31
+  pub says : cbw_of i.head ≡ Some i.command
+  pub sent : length i.body ≡ sent_length i.command
+
+abbrev pub spelled : Item → List ℕ
+spelled i = i.head ++ i.body
+
+abbrev pub all_spelled : List Item → List ℕ
+all_spelled [] = []
+all_spelled (i ∷ items) = spelled i ++ all_spelled items
+
+-- each is an item that ends within the limit, and the first one begins at the offset (profile)
+abbrev pub AreItems : ℕ → ℕ → List Item → Type 0
+AreItems limit offset [] = Unit {0}
+AreItems limit offset (i ∷ items) = IsItem i × (offset + length (spelled i) ≤ limit) × AreItems limit (offset + length (spelled i)) items
+
+-- an item that ends within the limit stands at the offset, before these bytes (profile)
+pub record Stands (limit offset : ℕ) (bytes : List ℕ) : Type 0 where
+  pub item : Item
+  pub rest : List ℕ
+  pub is_item : IsItem item
+  pub split : bytes ≡ spelled item ++ rest
+  pub within : offset + length (spelled item) ≤ limit
+
+-- some front of what was left was taken
+abbrev pub TookFront : Option (List ℕ) → Option (List ℕ) → Type 0
+TookFront left left' = IfSome left (λ bytes. (count : ℕ) × Took left left' (take count bytes))
+
+-- what stands at the offset is refused: there is a byte, and no item (profile)
+abbrev pub IsRefused : ℕ → ℕ → Option (List ℕ) → Type 0
+IsRefused limit offset left = IfSome left (λ bytes. (bytes ≡ [] → ⊥) × (Stands limit offset bytes → ⊥))
+
+-- a front was taken that has no whole item
+abbrev pub IsCutOff : ℕ → ℕ → Option (List ℕ) → Option (List ℕ) → Type 0
+IsCutOff limit offset left left' = IfSome left (λ bytes. (count : ℕ) × Took left left' (take count bytes) × ((s : Stands limit offset bytes) → count < length (spelled s.item)))

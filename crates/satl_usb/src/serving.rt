@@ -1,0 +1,50 @@
+// A request and one turn on the unit.
+ghost use Rattle.std.specs.Prelude.{◌≡◌, [], OnErr, OnOk};
+ghost use Rattle.satl_io.specs.Causes.{HasCause};
+ghost use Rattle.satl_core.specs.Layer.{Tied};
+ghost use Rattle.satl_core.specs.Submitting.{CanSubmit};
+ghost use Rattle.satl_step.specs.Events.{scene_of};
+ghost use Rattle.satl_usb.specs.Serving.{Exchanged, ExchangedInPart};
+
+use satl_base::{Replies, Request, Steps};
+use satl_core::Satl;
+use satl_drive::Bench;
+use satl_frame::{Frame, WriteFault};
+use satl_io::Sink;
+use satl_step::{Teller, serve_event};
+use std::sync::ledger::Ledger;
+
+/// A request arrives at a unit without tasks, and one turn is taken. Exactly one reply is told, and no task is left. `WriteFault` comes
+/// only where the sink's count of faults rose; then a front of that one reply was told (profile).
+pub fn serve_item<T: Teller, K: Sink, D: Bench, L: Ledger>(
+    satl: &mut Satl,
+    request: Request,
+    teller: &mut T,
+    sink: &mut K,
+    drive: &mut D,
+    replies: &mut Replies,
+    steps: &mut Steps<L>,
+) -> Result<(), WriteFault>
+    requires tied { Tied satl.old (D.state drive.old) }
+    requires can { CanSubmit request satl.old.free satl.old.out }
+    requires none { replies.old ≡ [] }
+    requires idle { satl.old.tasks ≡ [] }
+    ensures tied { Tied satl.new (D.state drive.new) }
+    ensures all_in { OnOk result (satl.new.out ≡ 0) }
+    ensures none { OnOk result (replies.new ≡ []) }
+    ensures idle { OnOk result (satl.new.tasks ≡ []) }
+    ensures exchanged { OnOk result (Exchanged T.told T.behind request (scene_of satl.old (D.state drive.old) steps.old teller.old (K.written sink.old)) (scene_of satl.new (D.state drive.new) steps.new teller.new (K.written sink.new))) }
+    ensures part { OnErr result (ExchangedInPart T.told T.behind request (scene_of satl.old (D.state drive.old) steps.old teller.old (K.written sink.old)) (scene_of satl.new (D.state drive.new) steps.new teller.new (K.written sink.new))) }
+    ensures cause { HasCause (K.faults sink.old) (K.faults sink.new) result }
+{
+    serve_event(
+        satl,
+        Frame::Request(request),
+        teller,
+        sink,
+        drive,
+        replies,
+        steps,
+    )?;
+    serve_event(satl, Frame::Turn(1), teller, sink, drive, replies, steps)
+}
