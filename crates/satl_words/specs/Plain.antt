@@ -13,6 +13,7 @@ load_words seed requests = codes "gen" ∷ codes "--seed" ∷ seed ∷ codes "--
 abbrev pub plain_words : Mode → List Text
 plain_words modes.Replay = codes "replay" ∷ []
 plain_words modes.Show = codes "show" ∷ []
+plain_words modes.Audit = codes "audit" ∷ []
 plain_words (modes.Generate seed requests) = load_words (decimal seed) (decimal requests)
 
 -- words are plain and ask for this mode: whatever name the program goes by stands before them (profile)
@@ -23,4 +24,5 @@ ArePlain words mode = (name : Text) × (words ≡ name ∷ plain_words mode)
 abbrev pub IsInRange : Mode → Type 0
 IsInRange modes.Replay = Unit {0}
 IsInRange modes.Show = Unit {0}
+IsInRange modes.Audit = Unit {0}
 IsInRange (modes.Generate seed requests) = (seed < 2 ^ 64) × (requests ≤ 100000)

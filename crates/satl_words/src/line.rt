@@ -39,6 +39,7 @@ pub fn command<'a>(alloc: Global) -> Result<Command<'a>, Error>
         .subcommand_required(true);
     let replay = top.subcommand(Command::new(alloc, "replay"))?;
     let show = replay.subcommand(Command::new(alloc, "show"))?;
-    let generate = show.subcommand(generating(alloc)?)?;
+    let audit = show.subcommand(Command::new(alloc, "audit"))?;
+    let generate = audit.subcommand(generating(alloc)?)?;
     Ok(generate)
 }

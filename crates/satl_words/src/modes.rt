@@ -7,6 +7,8 @@ pub enum Mode {
     Replay,
     /// `show`: answers are written as lines of text.
     Show,
+    /// `audit`: a recorded run is judged.
+    Audit,
     /// `gen --seed N --requests N`: a generated input is served, and its totals are written.
     Generate { seed: u64, requests: u32 },
 }
