@@ -1,4 +1,5 @@
 pub mod Faults
 pub mod Laws
+pub mod Auditing
 pub mod Load
 pub mod Top
