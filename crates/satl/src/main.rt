@@ -1,5 +1,6 @@
 //! `satl replay` and `satl show`: framed commands on standard input, framed answers or lines of text on standard output, over a
-//! modelled drive. `satl gen --seed N --requests N`: a generated input over the same drive, and its totals on standard output.
+//! modelled drive. `satl audit`: a record on standard input, and on standard output whether its output is that of a run of the device
+//! over its input. `satl gen --seed N --requests N`: a generated input over the same drive, and its totals on standard output.
 #![tactic(auto)]
 
 ghost use Rattle.std.specs.Prelude.{◌≡◌, ◌<◌, [], None, OnOk};
@@ -92,8 +93,8 @@ fn main(rt: HostRuntime) -> ExitCode {
 /// What a person is told on standard error (profile). None where all was done.
 fn told(status: Status) -> Option<&'static str> {
     match status {
-        Status::Done => None,
-        Status::Usage => Some("usage: satl replay | show | gen --seed N --requests N"),
+        Status::Done | Status::No | Status::NotCovered => None,
+        Status::Usage => Some("usage: satl replay | show | audit | gen --seed N --requests N"),
         Status::BadInput => Some("satl: the input is refused"),
         Status::ReadFault => Some("satl: a read failed"),
         Status::WriteFault => Some("satl: a write failed"),

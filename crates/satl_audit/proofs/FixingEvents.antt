@@ -82,7 +82,7 @@ benched_same (events.Order order) s u v ds es e f = (e.0 ∙ sym f.0, e.1 ∙ sy
 benched_same events.Power s u v ds es e f = (e.0 ∙ sym f.0, e.1 ∙ sym f.1)
 benched_same events.Unplug s u v ds es e f = absurd e
 
-ended_push : (replies : List Reply) (rest : List ℕ) → all_answered (map replied replies ++ ended ∷ []) ++ rest ≡ said replies ++ (end_bytes ++ rest)
+pub ended_push : (replies : List Reply) (rest : List ℕ) → all_answered (map replied replies ++ ended ∷ []) ++ rest ≡ said replies ++ (end_bytes ++ rest)
 ended_push [] rest = append_assoc end_bytes [] rest
 ended_push (q ∷ replies) rest = append_assoc (reply_bytes q) (all_answered (map replied replies ++ ended ∷ [])) rest ∙ ap (λ l. reply_bytes q ++ l) (ended_push replies rest) ∙ sym (append_assoc (reply_bytes q) (said replies) (end_bytes ++ rest))
 

@@ -10,6 +10,9 @@ use Rattle.satl_cdb.specs.declared.command.Command.{Command}
 use Rattle.satl_cdb.specs.declared.command.Command.TheVariants as commands
 use Rattle.satl_cdb.specs.declared.command.Form.{Form}
 use Rattle.satl_identify.specs.declared.identity.Identity.{Identity}
+use Rattle.satl_unit.specs.declared.attention.Attention.{Attention}
+use Rattle.satl_unit.specs.declared.attention.Attention.TheVariants.{PowerOn}
+use Rattle.satl_unit.specs.Conditions.{posted}
 use Rattle.satl_line.specs.declared.entry.Entry.{Entry}
 use Rattle.satl_line.specs.Conflict.{conflicts}
 use Rattle.satl_line.specs.Eligible.{eligible_at, is_clear_by}
@@ -189,3 +192,16 @@ power_follows identity input waiting old mid new size pends is = (
       ∙ ap (λ (k : Keeping). Some (sector_of input k)) (sym (get_or-map kept_power mid x blank_keeping blank_keeping (subst (λ n. x < n) (sym size) less)))
       ∙ ap (λ (l : List Keeping). Some (sector_at input l x)) (sym is),
 )
+
+-- the first condition that is posted is the only one
+pub power_on_alone : (conditions given : List Attention) → given ≡ [] → conditions ≡ posted PowerOn given → conditions ≡ PowerOn ∷ []
+unfolding posted
+power_on_alone conditions given none is = is ∙ ap (posted PowerOn) none
+
+pub told_all : (before : List (List Attention)) → length before ≡ 4 → (PowerOn ∷ []) ∷ (PowerOn ∷ []) ∷ (PowerOn ∷ []) ∷ (PowerOn ∷ []) ∷ [] ≡ map (λ (conditions : List Attention). PowerOn ∷ []) before
+told_all (a ∷ b ∷ c ∷ d ∷ []) four = refl
+told_all [] four = absurd (omega (arith, four))
+told_all (a ∷ []) four = absurd (omega (arith, four))
+told_all (a ∷ b ∷ []) four = absurd (omega (arith, four))
+told_all (a ∷ b ∷ c ∷ []) four = absurd (omega (arith, four))
+told_all (a ∷ b ∷ c ∷ d ∷ e ∷ rest) four = absurd (omega (arith, four))

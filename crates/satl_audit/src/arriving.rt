@@ -1,5 +1,5 @@
 // A request of a record arrives.
-ghost use Rattle.std.specs.Prelude.{◌≡◌, ◌+◌, ◌≤◌, ℕ, true, false, None};
+ghost use Rattle.std.specs.Prelude.{◌≡◌, ◌+◌, ◌≤◌, ℕ, [], true, false, None, IfOk, replicate};
 ghost use Rattle.satl_cdb.specs.Table.{says};
 ghost use Rattle.satl_cover.specs.Known.{is_known};
 ghost use Rattle.satl_audit.specs.Arriving.{CannotPlace, Goes, Places, Sticks, attention_of, told_of};
@@ -9,10 +9,11 @@ use crate::cursor::Cursor;
 use crate::judging::{AtOnce, attention_sense, is_untold, judge, task_of};
 use crate::reply::{pass_check, pass_status};
 use crate::waiting::Waiting;
-use satl_base::{Request, Scsi};
+use satl_base::{NoMemory, Request, Scsi};
 use satl_cdb::Command;
 use satl_identify::Identity;
 use satl_unit::{Attention, Attentions};
+use std::alloc::Global;
 
 /// The device of a record but for its sectors, and how far the output is compared.
 #[derive(Drop)]
@@ -20,6 +21,27 @@ pub struct Steps<'a> {
     pub waiting: Waiting,
     pub attentions: [Attentions; 4],
     pub output: Cursor<'a>,
+}
+
+impl<'a> Steps<'a> {
+    /// Nothing has happened: no task waits, no nexus is to be told anything, and nothing of the output was compared.
+    pub fn new(alloc: Global, output: &'a [u8]) -> Result<Steps<'a>, NoMemory>
+        ensures waiting { IfOk result (λ steps. steps.waiting ≡ []) }
+        ensures attentions { IfOk result (λ steps. steps.attentions ≡ replicate 4 []) }
+        ensures output { IfOk result (λ steps. steps.output ≡ output.now) }
+    {
+        let waiting = Waiting::new(alloc)?;
+        Ok(Steps {
+            waiting,
+            attentions: [
+                Attentions::none(),
+                Attentions::none(),
+                Attentions::none(),
+                Attentions::none(),
+            ],
+            output: Cursor::new(output),
+        })
+    }
 }
 
 /// The unit attention that a request is answered with, which is told by that (SAM-5 5.14).

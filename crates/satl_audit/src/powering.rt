@@ -1,16 +1,22 @@
 // The power is lost.
-ghost use Rattle.std.specs.Prelude.{◌≡◌, ◌≤◌, ◌<◌, ◌+◌, ◌^◌, OnOk, List, ℕ, [], length};
+ghost use Rattle.std.specs.Prelude.{◌≡◌, ◌≤◌, ◌<◌, ◌+◌, ◌^◌, OnOk, List, ℕ, [], ◌∷◌, length, map, replicate};
+ghost use Rattle.satl_base.specs.declared.bench.BenchEvent.TheVariants as events;
+ghost use Rattle.satl_frame.specs.declared.frames.Frame.TheVariants as frames;
 ghost use Rattle.satl_identify.specs.declared.identity.Identity.{Identity};
+ghost use Rattle.satl_unit.specs.declared.attention.Attention.TheVariants as attentions;
+ghost use Rattle.satl_audit.specs.Advancing.{GoesOn};
 ghost use Rattle.satl_audit.specs.Arriving.{device_of};
 ghost use Rattle.satl_audit.specs.Following.{Follows};
 ghost use Rattle.satl_audit.specs.Powering.{PendsAll, PendsBetween, power_deeds};
 ghost use Rattle.satl_audit.specs.Waiting.{AllFit};
 
+use crate::arriving::Steps;
 use crate::effects::pend_blocks;
 use crate::sectors::Sectors;
 use crate::waiting::Waiting;
 use satl_base::{NoMemory, Range};
 use satl_cdb::Command;
+use satl_unit::{Attention, Attentions};
 
 /// The blocks of the task at a place may be left by a loss of power, where it is an eligible WRITE (SBC-3 4.15).
 fn pend_task(waiting: &Waiting, sectors: &mut Sectors, place: usize) -> Result<(), NoMemory>
@@ -53,4 +59,41 @@ fn power_sectors(waiting: &Waiting, sectors: &mut Sectors) -> Result<(), NoMemor
 {
     pend_tasks(waiting, sectors)?;
     sectors.power()
+}
+
+/// The condition of a nexus that is to be told that the power was on (SAM-5 6.3).
+fn power_on() -> Attentions
+    ensures { result ≡ attentions.PowerOn ∷ [] }
+{
+    let mut conditions = Attentions::none();
+    conditions.post(Attention::PowerOn);
+    conditions
+}
+
+/// That for each of four nexuses (SAM-5 6.3).
+fn powered_on() -> [Attentions; 4]
+    ensures { result ≡ replicate 4 (attentions.PowerOn ∷ []) }
+{
+    [power_on(), power_on(), power_on(), power_on()]
+}
+
+/// Each nexus is to be told that the power was on, and nothing else (SAM-5 6.3).
+fn tell_all(conditions: &mut [Attentions; 4])
+    ensures { conditions.new ≡ map (λ _. attentions.PowerOn ∷ []) conditions.old }
+{
+    *conditions = powered_on();
+}
+
+/// The power is lost: no task waits any more, each nexus is to be told, and each sector goes along with it (SAM-5 6.3; SBC-3 4.15).
+pub fn power(steps: &mut Steps<'_>, sectors: &mut Sectors) -> Result<(), NoMemory>
+    requires fit { (size : ℕ) × (size < 2 ^ 63) × AllFit (length sectors.old) size steps.old.waiting }
+    requires capacity { length sectors.old < 2 ^ 64 }
+    ensures none { OnOk result (steps.new.waiting ≡ []) }
+    ensures length { OnOk result (length sectors.new ≡ length sectors.old) }
+    ensures goes { (identity : Identity) → (input : List ℕ) → OnOk result (GoesOn identity input (frames.Bench events.Power) steps.old steps.new sectors.old sectors.new) }
+{
+    power_sectors(&steps.waiting, sectors)?;
+    steps.waiting.clear();
+    tell_all(&mut steps.attentions);
+    Ok(())
 }

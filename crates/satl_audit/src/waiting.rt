@@ -107,4 +107,13 @@ impl Waiting {
     {
         drop(self.tasks.remove(place));
     }
+
+    /// Takes all tasks out.
+    pub fn clear(&mut self)
+        ensures { self.new ≡ [] }
+    {
+        while !self.is_empty() {
+            self.remove(0);
+        }
+    }
 }

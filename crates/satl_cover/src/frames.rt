@@ -9,8 +9,8 @@ use crate::slice::Slice;
 use satl_frame::{Frame, FrameFault, FrameReader};
 use std::alloc::Global;
 
-// The number of bytes within which each frame of an input ends: 2^40 (profile).
-const LIMIT: u64 = 1 << 40;
+/// The number of bytes within which each frame of an input ends: 2^40 (profile).
+pub const LIMIT: u64 = 1 << 40;
 
 /// Reads frames up to END, and takes note of each.
 pub fn read_to_end(alloc: Global, trim: bool, source: &mut Slice<'_>) -> Result<Noted, AuditFault>

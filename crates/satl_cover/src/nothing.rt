@@ -2,7 +2,7 @@
 
 use satl_base::{Lender, Pages};
 
-/// Lends no page (profile).
+/// Lends no page, so that requests are read without their data-out (profile).
 #[derive(Drop)]
 pub struct NoPages;
 

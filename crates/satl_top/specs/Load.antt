@@ -60,3 +60,5 @@ LoadEnds limit load before after statuses.ReadFault = ⊥
 LoadEnds limit load before after statuses.WriteFault = (summary : Summary) × IsLoaded limit load summary before after × WrotePart before.sink.written after.sink.written (summary_lines load.seed summary)
 LoadEnds limit load before after statuses.NoMemory = IsNotServed before after
 LoadEnds limit load before after statuses.DriveRefused = IsNotServed before after
+LoadEnds limit load before after statuses.No = ⊥
+LoadEnds limit load before after statuses.NotCovered = ⊥

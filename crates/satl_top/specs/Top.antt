@@ -20,6 +20,7 @@ use Rattle.satl_words.specs.Asked.{AreRefused, AskFor}
 use Rattle.satl_usb.specs.Headline.{IsItemInput}
 use Rattle.satl_usb.specs.Items.{Item}
 use Rattle.satl_top.specs.Bridging.{BridgeEnds}
+use Rattle.satl_top.specs.Auditing.{AuditEnds}
 use Rattle.satl_top.specs.Load.{LoadEnds, load_of}
 use Rattle.satl_top.specs.declared.status.Status.{Status}
 use Rattle.satl_top.specs.declared.status.Status.TheVariants as statuses
@@ -33,6 +34,8 @@ exit_number statuses.ReadFault = 4
 exit_number statuses.WriteFault = 5
 exit_number statuses.NoMemory = 6
 exit_number statuses.DriveRefused = 7
+exit_number statuses.No = 9
+exit_number statuses.NotCovered = 10
 
 -- a read or a write fault comes only where the source's or the sink's count of faults rose, and a drive is refused only for its
 -- IDENTIFY DEVICE data or where its own count rose (profile)
@@ -44,6 +47,8 @@ HasCause before after statuses.ReadFault = Rose before.source.faults after.sourc
 HasCause before after statuses.WriteFault = Rose before.sink.faults after.sink.faults
 HasCause before after statuses.NoMemory = Unit {0}
 HasCause before after statuses.DriveRefused = ((fault : IdentityFault) × (identity_of before.drive.identify ≡ Err fault)) ⊎ Rose before.drive.faults after.drive.faults
+HasCause before after statuses.No = Unit {0}
+HasCause before after statuses.NotCovered = Unit {0}
 
 -- what holds of the input, the output in a form and the drive, by the status (profile): a whole input was served; or it was served up to a
 -- frame that was refused or not read, or up to a write that failed; or it was not served
@@ -55,12 +60,15 @@ ServeEnds form limit before after statuses.ReadFault = IsServedBefore form limit
 ServeEnds form limit before after statuses.WriteFault = IsServedInPart form limit before after
 ServeEnds form limit before after statuses.NoMemory = IsNotServed before after
 ServeEnds form limit before after statuses.DriveRefused = IsNotServed before after
+ServeEnds form limit before after statuses.No = ⊥
+ServeEnds form limit before after statuses.NotCovered = ⊥
 
 -- the same by the mode (profile)
 abbrev pub EndsSo : Mode → ℕ → Moment → Moment → Status → Type 0
 EndsSo modes.Replay limit before after status = ServeEnds forms.Frames limit before after status
 EndsSo modes.Show limit before after status = ServeEnds forms.Text limit before after status
 EndsSo modes.Usb limit before after status = BridgeEnds limit before after status
+EndsSo modes.Audit limit before after status = AuditEnds before after status
 EndsSo (modes.Generate seed requests) limit before after status = LoadEnds limit (load_of seed requests) before after status
 
 -- whether a mode serves the frames that were handed in (profile)
@@ -68,6 +76,7 @@ abbrev pub serves_input : Mode → Bool
 serves_input modes.Replay = true
 serves_input modes.Show = true
 serves_input modes.Usb = false
+serves_input modes.Audit = false
 serves_input (modes.Generate seed requests) = false
 
 -- a good input is served whole where all goes well, up to END and no byte further (profile): but there may be no memory to begin, or
@@ -80,6 +89,8 @@ Completes rest before after statuses.ReadFault = ⊥
 Completes rest before after statuses.WriteFault = ⊥
 Completes rest before after statuses.NoMemory = Unit {0}
 Completes rest before after statuses.DriveRefused = Rose before.drive.faults after.drive.faults
+Completes rest before after statuses.No = ⊥
+Completes rest before after statuses.NotCovered = ⊥
 
 -- a mode was carried out (profile): what holds by the status, and why it is that one; a drive whose data are refused is told so, unless there was no
 -- memory; and a good input, or one that is items to its end, is served whole where all goes well

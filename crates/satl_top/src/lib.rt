@@ -1,6 +1,7 @@
 //! The top call: all that the program does, from its words to its exit status.
 #![tactic(auto)]
 
+mod auditing;
 mod bridging;
 pub mod laws;
 mod loading;

@@ -23,10 +23,14 @@ pub enum Status {
     NoMemory,
     /// The layer does not serve the drive, or its link was lost before the layer was open.
     DriveRefused,
+    /// The output of the record is that of no run.
+    No,
+    /// The input of the record has a frame that is not covered.
+    NotCovered,
 }
 
 impl Status {
-    /// The exit number (profile): 0, and 2 to 7 in the order of the variants.
+    /// The exit number (profile): 0, 2 to 7, 9 and 10 in the order of the variants.
     pub fn code(&self) -> u8
         ensures { result ≡ exit_number self.now }
     {
@@ -38,6 +42,8 @@ impl Status {
             Status::WriteFault => 5,
             Status::NoMemory => 6,
             Status::DriveRefused => 7,
+            Status::No => 9,
+            Status::NotCovered => 10,
         }
     }
 }

@@ -14,6 +14,7 @@ ghost use Rattle.satl_words.specs.Asked.{AreRefused};
 ghost use Rattle.satl_words.specs.CommandLine.{command_line};
 ghost use Rattle.satl_words.specs.Plain.{ArePlain, IsInRange};
 
+use crate::auditing::judge_record;
 use crate::bridging::bridge;
 use crate::loading::load;
 use crate::status::Status;
@@ -28,7 +29,8 @@ use std::sync::ledger::Ledger;
 
 /// Does all that the program does (profile): `replay` and `show` serve the frames of the source on the drive and write the answers to
 /// the sink, as frames or as lines of text; `usb` carries out the items of the source, and answers them on the wire of USB Bulk-Only
-/// Transport; `gen` serves a generated input and writes its totals, and reads nothing. Plain words mean what they spell, and all others what clap makes of them. The drive has nothing outstanding and is in no error state, and its
+/// Transport; `audit` judges a record and says so in a line; `gen` serves a generated input and writes its totals, and reads nothing.
+/// Plain words mean what they spell, and all others what clap makes of them. The drive has nothing outstanding and is in no error state, and its
 /// IDENTIFY DEVICE data fit it. The status says how that ended. The drive is called once for its identity, and then at most three
 /// times for each request.
 pub fn satl<S: Source, K: Sink, D: Bench, L: Ledger>(
@@ -74,6 +76,7 @@ fn carry_out<S: Source, K: Sink, D: Bench, L: Ledger>(
         Mode::Replay => serve_input(alloc, Form::Frames, source, sink, drive, steps),
         Mode::Show => serve_input(alloc, Form::Text, source, sink, drive, steps),
         Mode::Usb => bridge(alloc, source, sink, drive, steps),
+        Mode::Audit => judge_record(alloc, source, sink, drive, steps),
         Mode::Generate { seed, requests } => load(alloc, seed, requests, sink, drive, steps),
     }
 }

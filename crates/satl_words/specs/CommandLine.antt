@@ -25,9 +25,9 @@ generate = with_rule (with_rule (new_app (codes "gen")) seed) requests
 -- one subcommand, which has to be given; there is no `help` (profile)
 abbrev pub command_line : App
 command_line =
-    with_subcommand (with_subcommand (with_subcommand (with_subcommand
+    with_subcommand (with_subcommand (with_subcommand (with_subcommand (with_subcommand
     (on_top (λ s. record s { disable_help_subcommand = true; subcommand_required = true }) (new_app (codes "satl")))
-    (new_app (codes "replay")).top) (new_app (codes "show")).top) (new_app (codes "usb")).top) generate.top
+    (new_app (codes "replay")).top) (new_app (codes "show")).top) (new_app (codes "usb")).top) (new_app (codes "audit")).top) generate.top
 
 -- a text spells a number in decimal digits, perhaps behind a plus sign (profile)
 pub record Spells (text : Text) (n : ℕ) : Type 0 where
@@ -45,7 +45,7 @@ IsLoadOf rows mode =
 
 -- the name of one of the subcommands (profile)
 abbrev pub IsSubcommand : Text → Type 0
-IsSubcommand name = (name ≡ codes "replay") ⊎ ((name ≡ codes "show") ⊎ ((name ≡ codes "usb") ⊎ (name ≡ codes "gen")))
+IsSubcommand name = (name ≡ codes "replay") ⊎ ((name ≡ codes "show") ⊎ ((name ≡ codes "usb") ⊎ ((name ≡ codes "audit") ⊎ (name ≡ codes "gen"))))
 
 -- the mode that the subcommand of this name with these matches is (profile)
 abbrev pub IsModeOf : Option (Text × List Row) → Mode → Type 0
@@ -53,7 +53,8 @@ IsModeOf None mode = ⊥
 IsModeOf (Some p) mode =
     ((p.0 ≡ codes "replay") × (mode ≡ modes.Replay))
     ⊎ (((p.0 ≡ codes "show") × (mode ≡ modes.Show))
-    ⊎ (((p.0 ≡ codes "usb") × (mode ≡ modes.Usb)) ⊎ ((p.0 ≡ codes "gen") × IsLoadOf p.1 mode)))
+    ⊎ (((p.0 ≡ codes "usb") × (mode ≡ modes.Usb))
+    ⊎ (((p.0 ≡ codes "audit") × (mode ≡ modes.Audit)) ⊎ ((p.0 ≡ codes "gen") × IsLoadOf p.1 mode))))
 
 -- clap takes words: there is no kind of error that it gives at them (profile)
 abbrev pub AreTaken : List Text → Type 0

@@ -14,6 +14,7 @@ abbrev pub plain_words : Mode → List Text
 plain_words modes.Replay = codes "replay" ∷ []
 plain_words modes.Show = codes "show" ∷ []
 plain_words modes.Usb = codes "usb" ∷ []
+plain_words modes.Audit = codes "audit" ∷ []
 plain_words (modes.Generate seed requests) = load_words (decimal seed) (decimal requests)
 
 -- words are plain and ask for this mode: whatever name the program goes by stands before them (profile)
@@ -25,4 +26,5 @@ abbrev pub IsInRange : Mode → Type 0
 IsInRange modes.Replay = Unit {0}
 IsInRange modes.Show = Unit {0}
 IsInRange modes.Usb = Unit {0}
+IsInRange modes.Audit = Unit {0}
 IsInRange (modes.Generate seed requests) = (seed < 2 ^ 64) × (requests ≤ 100000)

@@ -74,6 +74,9 @@ fn mode_of(matches: &ArgMatches<'_>) -> Mode
     if name == "usb" {
         return Mode::Usb;
     }
+    if name == "audit" {
+        return Mode::Audit;
+    }
     Mode::Generate {
         seed: number_given(found, "seed", u64::MAX),
         requests: number_given(found, "requests", MOST_REQUESTS as u64) as u32,

@@ -40,6 +40,7 @@ pub fn command<'a>(alloc: Global) -> Result<Command<'a>, Error>
     let replay = top.subcommand(Command::new(alloc, "replay"))?;
     let show = replay.subcommand(Command::new(alloc, "show"))?;
     let usb = show.subcommand(Command::new(alloc, "usb"))?;
-    let generate = usb.subcommand(generating(alloc)?)?;
+    let audit = usb.subcommand(Command::new(alloc, "audit"))?;
+    let generate = audit.subcommand(generating(alloc)?)?;
     Ok(generate)
 }

@@ -9,6 +9,8 @@ pub enum Mode {
     Show,
     /// `usb`: commands on the wire of USB Bulk-Only Transport are carried out, and answered there.
     Usb,
+    /// `audit`: a recorded run is judged.
+    Audit,
     /// `gen --seed N --requests N`: a generated input is served, and its totals are written.
     Generate { seed: u64, requests: u32 },
 }

@@ -7,7 +7,7 @@ use crate::modes::{MOST_REQUESTS, Mode};
 use crate::numbers::plain_number;
 use std::rc::RcStr;
 
-/// What plain words ask for: two words, of which the second is `replay`, `show` or `usb`, or six of the form `satl gen --seed N --requests
+/// What plain words ask for: two words, of which the second is `replay`, `show`, `usb` or `audit`, or six of the form `satl gen --seed N --requests
 /// N` with numbers in decimal digits without a sign or a leading zero, of which the second is at most 100,000 (profile). None
 /// exactly where the words are not plain. Takes no memory.
 pub fn plain_mode(words: &[RcStr]) -> Option<Mode>
@@ -15,7 +15,7 @@ pub fn plain_mode(words: &[RcStr]) -> Option<Mode>
     ensures plain { (mode : Mode) → IsInRange mode → ArePlain (map rc_str_bytes words.now) mode → result ≡ Some mode }
 {
     match words.len() {
-        2 => form_named(&words[1]),
+        2 => mode_named(&words[1]),
         6 => load_asked(&words[1], &words[2], &words[3], &words[4], &words[5]),
         _ => None,
     }
@@ -30,7 +30,7 @@ fn is_word(word: &RcStr, text: &str) -> bool
 }
 
 /// The mode that one word names.
-fn form_named(word: &RcStr) -> Option<Mode>
+fn mode_named(word: &RcStr) -> Option<Mode>
     ensures spelled { IfSome result (λ mode. IsInRange mode × (plain_words mode ≡ rc_str_bytes word.now ∷ [])) }
     ensures plain { (mode : Mode) → plain_words mode ≡ rc_str_bytes word.now ∷ [] → result ≡ Some mode }
 {
@@ -42,6 +42,9 @@ fn form_named(word: &RcStr) -> Option<Mode>
     }
     if is_word(word, "usb") {
         return Some(Mode::Usb);
+    }
+    if is_word(word, "audit") {
+        return Some(Mode::Audit);
     }
     None
 }

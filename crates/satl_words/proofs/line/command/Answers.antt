@@ -15,4 +15,6 @@ returns-clause-app c =
     c.in_ok-show.ensures.shape (search rules) ∙ ap₂ with_subcommand replay_is (ap (λ (a : App). a.top) c.new-3.ensures.app) in
     let usb_is : app_of c.in_ok-usb.usb ≡ with_subcommand (with_subcommand (with_subcommand top (new_app (codes "replay")).top) (new_app (codes "show")).top) (new_app (codes "usb")).top =
     c.in_ok-usb.ensures.shape (search rules) ∙ ap₂ with_subcommand show_is (ap (λ (a : App). a.top) c.new-4.ensures.app) in
-    c.in_ok-generate.ensures.shape (search rules) ∙ ap₂ with_subcommand usb_is (ap (λ (a : App). a.top) c.in_ok-generating.ensures.app)
+    let audit_is : app_of c.in_ok-audit.audit ≡ with_subcommand (with_subcommand (with_subcommand (with_subcommand top (new_app (codes "replay")).top) (new_app (codes "show")).top) (new_app (codes "usb")).top) (new_app (codes "audit")).top =
+    c.in_ok-audit.ensures.shape (search rules) ∙ ap₂ with_subcommand usb_is (ap (λ (a : App). a.top) c.new-5.ensures.app) in
+    c.in_ok-generate.ensures.shape (search rules) ∙ ap₂ with_subcommand audit_is (ap (λ (a : App). a.top) c.in_ok-generating.ensures.app)

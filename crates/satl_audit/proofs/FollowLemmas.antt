@@ -1,0 +1,151 @@
+-- The frames of a record, as a reader gives them.
+use Rattle.std.proofs.Common.{◌≡◌, refl, sym, ap, ◌∙◌, subst, ℕ, ◌+◌, ◌-◌, Bool, true, false, List, [], ◌∷◌, ◌++◌, length, append_assoc, Option, Some, None}
+use Rattle.std.specs.Prelude.{max, Ok}
+use Rattle.satl_identify.specs.declared.identity.Identity.{Identity}
+use Rattle.satl_identify.specs.Refusals.{IsIdentity}
+use Rattle.satl_frame.specs.declared.frames.Frame.{Frame}
+use Rattle.satl_frame.specs.declared.frames.Frame.TheVariants as frames
+use Rattle.satl_frame.specs.declared.frames.FrameFault.TheVariants.{Bad}
+use Rattle.satl_frame.specs.declared.frames.Reason.{Reason}
+use Rattle.satl_frame.specs.declared.frames.Version.{Version}
+use Rattle.satl_frame.specs.declared.frames.Version.TheVariants.{One, Two}
+use Rattle.satl_frame.specs.Frames.{spelled}
+use Rattle.satl_frame.specs.Inputs.{AreFrames, NoneEnds, Reads, all_spelled}
+use Rattle.satl_frame.specs.Magic.{magic}
+use Rattle.satl_frame.specs.Output.{out_magic}
+use Rattle.satl_frame.specs.Progress.{HasRead, ReadsToEnd}
+use Rattle.satl_frame.specs.Pulls.{cut_to}
+use Rattle.satl_frame.specs.Reading.{Blames, Gave, Reading}
+use Rattle.satl_frame.proofs.ProgressLemmas.{has_read_more}
+use Rattle.satl_frame.proofs.WholeInputs.{next_given, none_refused}
+use Rattle.satl_cover.specs.Covered.{limit, place_behind}
+use Rattle.satl_cover.proofs.ReadingLemmas.{next_place, none_ends}
+use Rattle.satl_audit.specs.Advancing.{Advances, CannotGoOn, GoesOn, IsGoodFrame, MayHappen}
+use Rattle.satl_audit.specs.Finishing.{AreTasks}
+use Rattle.satl_audit.specs.Judged.{IsTaken, Judged}
+use Rattle.satl_audit.specs.Kept.{Keeping}
+use Rattle.satl_audit.specs.Waiting.{AllFit}
+use Rattle.satl_audit.specs.declared.arriving.Steps.{Steps}
+use Rattle.satl_audit.specs.declared.verdict.Verdict.TheVariants as says
+use Rattle.satl_cover.specs.Known.{is_known_frame}
+use Rattle.satl_audit.proofs.AdvanceLemmas.{cut_end}
+use Rattle.satl_audit.proofs.ReachLemmas.{Reached, good_here, known_here, may_here, reached_more, tasks_here}
+use Rattle.satl_audit.proofs.VerdictLemmas.{explained_here, more_here, stuck_here}
+
+-- END is the last of frames
+ends_last : (version : Version) (offset : ℕ) (before later : List Frame) → AreFrames version limit offset (before ++ frames.End ∷ later) → later ≡ []
+ends_last version offset [] later each = each.2 refl
+ends_last version offset (f ∷ before) later each = ends_last version (offset + length (spelled f)) before later each.3
+
+-- frames of an input were given and have happened, and none was END
+pub record Goes (identity : Identity) (input output : List ℕ) (reader : Reading) (left : List ℕ) (steps : Steps) (sectors : List Keeping) : Type 0 where
+  pub fresh : reader.refused ≡ None
+  pub newest : reader.newest ≡ Two
+  pub limit_is : reader.limit ≡ limit
+  pub so_far : List Frame
+  pub read : HasRead reader (Some input) (Some left) so_far
+  pub none : NoneEnds so_far
+  pub reached : Reached identity input output so_far steps sectors
+
+pub goes_none : (identity : Identity) (input left : List ℕ) (reader : Reading) (steps : Steps) (sectors : List Keeping) → reader ≡ record { limit = limit; newest = Two; place = None; refused = None } →
+    Reached identity input (out_magic ++ left) [] steps sectors → Goes identity input (out_magic ++ left) reader input steps sectors
+goes_none identity input left reader steps sectors is reached = record {
+  fresh = ap (λ (r : Reading). r.refused) is;
+  newest = ap (λ (r : Reading). r.newest) is;
+  limit_is = ap (λ (r : Reading). r.limit) is;
+  so_far = [];
+  read = subst (λ (r : Reading). HasRead r (Some input) (Some input) []) (sym is) (refl, refl);
+  none = tt;
+  reached = reached;
+}
+
+module _ (identity : Identity) (is : IsIdentity identity) (input output : List ℕ) (all : List Frame) (taken : IsTaken identity input all) (reader : Reading) (left : List ℕ) (steps : Steps) (sectors : List Keeping)
+    (going : Goes identity input output reader left steps sectors) where
+  to_end : ReadsToEnd reader.limit reader.newest input taken.whole.before []
+  to_end =
+      subst (λ (n : ℕ). ReadsToEnd n reader.newest input taken.whole.before []) (sym going.limit_is)
+      (subst (λ (v : Version). ReadsToEnd limit v input taken.whole.before []) (sym going.newest)
+      (record {
+        place = record { version = One; offset = place_behind (taken.whole.before ++ frames.End ∷ []) };
+        read = record {
+          named = refl;
+          took = record { known = reads.split ∙ sym (append_assoc (magic One) (all_spelled (taken.whole.before ++ frames.End ∷ [])) []) };
+          offset_is = refl;
+          each = reads.each;
+        };
+      }))
+    where
+      reads : Reads limit input One (taken.whole.before ++ frames.End ∷ []) []
+      reads = subst (λ (l : List Frame). Reads limit input One l []) taken.whole.ends taken.whole.reads
+
+  -- no frame is refused
+  pub not_bad : (left' : Option (List ℕ)) (reason : Reason) (offset : ℕ) → Blames reader (Some left) left' (Bad reason offset) → ⊥
+  not_bad left' reason offset blames = none_refused reader input taken.whole.before going.so_far [] (Some left) left' reason offset to_end going.read going.none blames
+
+  -- a frame more is given
+  module _ (new : Reading) (left' : List ℕ) (frame : Frame) (gave : Gave reader 0 frame new (Some left) (Some left')) where
+    ahead : (later : List Frame) × (all ≡ going.so_far ++ gave.whole ∷ later)
+    ahead = let n = next_given reader new input taken.whole.before going.so_far [] (Some left) (Some left') 0 frame to_end going.read going.none gave in (n.0, taken.whole.ends ∙ sym n.1)
+
+    pub tasks_next : AreTasks identity input steps.waiting
+    tasks_next = tasks_here identity is input output all taken going.so_far ahead.0 gave.whole ahead.1 steps sectors going.reached
+
+    pub known_next : is_known_frame identity.trim frame ≡ true
+    known_next = ap (λ (f : Frame). is_known_frame identity.trim f) gave.cut ∙ known_here identity is input output all taken going.so_far ahead.0 gave.whole ahead.1 steps sectors going.reached
+
+    place : (at : ℕ) → at ≡ max (length input - length left) 8 → at ≡ place_behind going.so_far
+    place at same = same ∙ next_place reader input left going.so_far going.read
+
+    pub good_next : (at : ℕ) → at ≡ max (length input - length left) 8 → IsGoodFrame (length input) (at + 35) frame
+    good_next at same = subst (IsGoodFrame (length input) (at + 35)) (sym gave.cut) (good_here identity is input output all taken going.so_far ahead.0 gave.whole ahead.1 steps sectors going.reached at (place at same))
+
+    pub may_next : (at : ℕ) → at ≡ max (length input - length left) 8 → MayHappen input (at + 35) steps.waiting gave.whole
+    may_next at same = may_here identity is input output all taken going.so_far ahead.0 gave.whole ahead.1 steps sectors going.reached at (place at same)
+
+    -- it cannot happen
+    pub says_no : CannotGoOn identity input gave.whole steps sectors → Judged identity input output (Ok says.No)
+    says_no cannot = (all, taken, stuck_here identity is input output all taken going.so_far ahead.0 gave.whole ahead.1 steps sectors going.reached cannot)
+
+    module _ (next : Steps) (after : List Keeping) (goes : GoesOn identity input gave.whole steps next sectors after) (fit : AllFit identity.capacity (length input) next.waiting) where
+      more : Reached identity input output (going.so_far ++ gave.whole ∷ []) next after
+      more = reached_more identity is input output all taken going.so_far ahead.0 gave.whole ahead.1 steps sectors going.reached next after goes fit
+
+      pub goes_on : (frame ≡ frames.End → ⊥) → Goes identity input output new left' next after
+      goes_on not_end = record {
+        fresh = ap (λ (r : Reading). r.refused) gave.new_is ∙ going.fresh;
+        newest = ap (λ (r : Reading). r.newest) gave.new_is ∙ going.newest;
+        limit_is = ap (λ (r : Reading). r.limit) gave.new_is ∙ going.limit_is;
+        so_far = going.so_far ++ gave.whole ∷ [];
+        read = has_read_more reader new (Some input) (Some left) (Some left') going.so_far 0 frame going.read going.none gave;
+        none = none_ends going.so_far frame gave.whole going.none gave.cut not_end;
+        reached = more;
+      }
+
+      whole_is : frame ≡ frames.End → gave.whole ≡ frames.End
+      whole_is is_end = cut_end gave.whole (sym is_end ∙ gave.cut)
+
+      all_is : frame ≡ frames.End → going.so_far ++ gave.whole ∷ [] ≡ all
+      all_is is_end =
+          let each : AreFrames One limit 8 (going.so_far ++ frames.End ∷ ahead.0) = subst (AreFrames One limit 8) (ahead.1 ∙ ap (λ (f : Frame). going.so_far ++ f ∷ ahead.0) (whole_is is_end)) (taken.whole.reads).each in
+          ap (λ (l : List Frame). going.so_far ++ gave.whole ∷ l) (sym (ends_last One 8 going.so_far ahead.0 each)) ∙ sym ahead.1
+
+      reached_all : frame ≡ frames.End → Reached identity input output all next after
+      reached_all is_end = subst (λ (l : List Frame). Reached identity input output l next after) (all_is is_end) more
+
+      pub says_yes : frame ≡ frames.End → next.output ≡ [] → Judged identity input output (Ok says.Yes)
+      says_yes is_end none = (all, taken, explained_here identity is input output all taken next after (reached_all is_end) none)
+
+      pub says_no_more : frame ≡ frames.End → (next.output ≡ [] → ⊥) → Judged identity input output (Ok says.No)
+      says_no_more is_end some = (all, taken, more_here identity is input output all taken next after (reached_all is_end) some)
+
+    -- what is found of it
+    module _ (at : ℕ) (place_is : at ≡ max (length input - length left) 8) (next : Steps) (after : List Keeping) (b : Bool)
+        (advances : (whole : Frame) → frame ≡ cut_to 0 whole → MayHappen input (at + 35) steps.waiting whole → Advances identity input whole steps next sectors after b) where
+      here : Advances identity input gave.whole steps next sectors after b
+      here = advances gave.whole gave.cut (may_next at place_is)
+
+      pub stops : b ≡ false → Judged identity input output (Ok says.No)
+      stops e = says_no (subst (Advances identity input gave.whole steps next sectors after) e here)
+
+      pub goes : b ≡ true → GoesOn identity input gave.whole steps next sectors after
+      goes e = subst (Advances identity input gave.whole steps next sectors after) e here

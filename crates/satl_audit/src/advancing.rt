@@ -1,0 +1,92 @@
+// Events of a record.
+ghost use Rattle.std.specs.Prelude.{◌≡◌, ◌<◌, ◌^◌, ℕ, Bool, List, IfOk, OnOk, true, length};
+ghost use Rattle.satl_identify.specs.declared.identity.Identity.{Identity};
+ghost use Rattle.satl_frame.specs.declared.frames.Frame.{Frame};
+ghost use Rattle.satl_frame.specs.declared.frames.Frame.TheVariants as frames;
+ghost use Rattle.satl_frame.specs.Pulls.{cut_to};
+ghost use Rattle.satl_cover.specs.Known.{is_known_frame};
+ghost use Rattle.satl_audit.specs.Advancing.{Advances, GoesOn, IsGoodFrame, MayHappen};
+ghost use Rattle.satl_audit.specs.Finishing.{AreTasks};
+ghost use Rattle.satl_audit.specs.Waiting.{AllFit};
+
+use crate::arriving::{Steps, arrive};
+use crate::finishing::turn;
+use crate::powering::power;
+use crate::sectors::Sectors;
+use satl_base::{BenchEvent, NoMemory};
+use satl_frame::Frame;
+use satl_identify::Identity;
+
+/// The frame that ends an output.
+const END: [u8; 5] = [0x85, 0, 0, 0, 0];
+
+/// END comes: whether each task that waits can end with the answers that come next in the output, each sector goes along with it, and
+/// then the output ends (SAM-5 8; profile).
+fn end(
+    steps: &mut Steps<'_>,
+    sectors: &mut Sectors,
+    identity: &Identity,
+    input: &[u8],
+) -> Result<bool, NoMemory>
+    requires tasks { AreTasks identity.now input.now steps.old.waiting }
+    requires sectors { length sectors.old ≡ identity.now.capacity }
+    requires small { length input.now < 2 ^ 63 }
+    requires capacity { identity.now.capacity < 2 ^ 64 }
+    ensures tasks { AreTasks identity.now input.now steps.new.waiting }
+    ensures length { OnOk result (length sectors.new ≡ length sectors.old) }
+    ensures advances { IfOk result (Advances identity.now input.now frames.End steps.old steps.new sectors.old sectors.new) }
+{
+    let count = steps.waiting.len() as u16;
+    if !turn(steps, sectors, identity, input, count)? {
+        return Ok(false);
+    }
+    Ok(steps.output.pass(&END))
+}
+
+/// An event of the bench happens: the power is lost, or the drive is told an order, which changes nothing (profile).
+fn bench(steps: &mut Steps<'_>, sectors: &mut Sectors, event: &BenchEvent) -> Result<(), NoMemory>
+    requires fit { (size : ℕ) × (size < 2 ^ 63) × AllFit (length sectors.old) size steps.old.waiting }
+    requires capacity { length sectors.old < 2 ^ 64 }
+    requires known { (trim : Bool) × (is_known_frame trim (frames.Bench event.now) ≡ true) }
+    ensures fit { (capacity size : ℕ) → AllFit capacity size steps.old.waiting → OnOk result (AllFit capacity size steps.new.waiting) }
+    ensures length { OnOk result (length sectors.new ≡ length sectors.old) }
+    ensures goes { (identity : Identity) → (input : List ℕ) → OnOk result (GoesOn identity input (frames.Bench event.now) steps.old steps.new sectors.old sectors.new) }
+{
+    match event {
+        BenchEvent::Power => power(steps, sectors),
+        BenchEvent::Order { .. } => Ok(()),
+        _ => unreachable!(),
+    }
+}
+
+/// An event happens: whether it can with the answers that come next in the output, and each sector goes along with it (SAM-5 5, 8;
+/// profile). The data-out of a request stands in the input from a place on.
+pub fn advance(
+    steps: &mut Steps<'_>,
+    sectors: &mut Sectors,
+    identity: &Identity,
+    input: &[u8],
+    frame: &Frame,
+    at: usize,
+) -> Result<bool, NoMemory>
+    requires tasks { AreTasks identity.now input.now steps.old.waiting }
+    requires sectors { length sectors.old ≡ identity.now.capacity }
+    requires small { length input.now < 2 ^ 63 }
+    requires capacity { identity.now.capacity < 2 ^ 64 }
+    requires known { is_known_frame identity.now.trim frame.now ≡ true }
+    requires good { IsGoodFrame (length input.now) at frame.now }
+    ensures fit { OnOk result (AllFit identity.now.capacity (length input.now) steps.new.waiting) }
+    ensures length { OnOk result (length sectors.new ≡ length sectors.old) }
+    ensures advances { (whole : Frame) → frame.now ≡ cut_to 0 whole → MayHappen input.now at steps.old.waiting whole → IfOk result (Advances identity.now input.now whole steps.old steps.new sectors.old sectors.new) }
+{
+    match frame {
+        Frame::Request(request) => Ok(arrive(steps, identity, request, at)),
+        Frame::Turn(count) => turn(steps, sectors, identity, input, *count),
+        Frame::Bench(event) => {
+            bench(steps, sectors, event)?;
+            Ok(true)
+        }
+        Frame::Manage(_) => unreachable!(),
+        Frame::End => end(steps, sectors, identity, input),
+    }
+}

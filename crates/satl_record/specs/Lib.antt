@@ -1,0 +1,3 @@
+pub mod Containers
+pub mod Ends
+pub mod Faults

@@ -1,0 +1,119 @@
+// The container of a record.
+ghost use Rattle.std.specs.Prelude.{◌≡◌, ◌≤◌, ◌<◌, ◌++◌, ℕ, None, IfOk, IfErr, IfSome, IsErrOf, length};
+ghost use Rattle.byteorder.specs.Endian.{big_bytes};
+ghost use Rattle.std.specs.Io.KnownBytes.{IsAtEnd};
+ghost use Rattle.satl_io.specs.Causes.{Rose};
+ghost use Rattle.satl_io.specs.Known.{Took};
+ghost use Rattle.satl_record.specs.Containers.{IsNoRecord, TookRecord, longest_part, record_magic};
+ghost use Rattle.satl_record.specs.Faults.{IsReadFault};
+ghost use Rattle.satl_record.specs.declared.fault.RecordFault.TheVariants as faults;
+
+use crate::fault::RecordFault;
+use byteorder::{BigEndian, ByteOrder};
+use satl_base::NoMemory;
+use satl_frame::fill;
+use satl_io::{Failed, Source};
+use std::alloc::Global;
+
+/// What a record begins with.
+const MAGIC: [u8; 8] = *b"SATLAUD1";
+
+/// The most bytes that the input of a record has, and its output (profile).
+const LONGEST: usize = 0x0400_0000;
+
+/// A recorded run: the input, and the output that was seen.
+#[derive(Drop)]
+pub struct Record {
+    pub input: Vec<u8>,
+    pub output: Vec<u8>,
+}
+
+/// So many zeros.
+fn zeros(alloc: Global, count: usize) -> Result<Vec<u8>, NoMemory>
+    ensures { IfOk result (λ bytes. length bytes.items ≡ count) }
+{
+    Ok(vec![in alloc; 0; count]?)
+}
+
+/// The next bytes of a source, at most so many: fewer only where no more are left.
+fn read_bytes<S: Source>(
+    alloc: Global,
+    source: &mut S,
+    count: usize,
+) -> Result<Vec<u8>, RecordFault>
+    ensures took { IfOk result (λ bytes. Took (S.left source.old) (S.left source.new) bytes.items) }
+    ensures few { IfOk result (λ bytes. length bytes.items ≤ count) }
+    ensures ends { IfOk result (λ bytes. length bytes.items < count → IsAtEnd (S.left source.new)) }
+    ensures other { IsErrOf result faults.NoRecord → ⊥ }
+    ensures kinds { IfErr result IsReadFault }
+    ensures later { S.faults source.old ≤ S.faults source.new }
+    ensures failed { IsErrOf result faults.Read → Rose (S.faults source.old) (S.faults source.new) }
+{
+    let mut bytes = zeros(alloc, count)?;
+    match fill(source, &mut bytes) {
+        Ok(read) => {
+            bytes.truncate(read);
+            Ok(bytes)
+        }
+        Err(Failed) => Err(RecordFault::Read),
+    }
+}
+
+/// The length of the input that the head of a record tells. None where the bytes are no head: another magic, not 16 bytes, or a
+/// longer input.
+fn told_length(head: &[u8]) -> Option<usize>
+    ensures told { IfSome result (λ n. head.now ≡ record_magic ++ big_bytes 8 n) }
+    ensures short { IfSome result (λ n. n ≤ longest_part) }
+    ensures none { result ≡ None → (n : ℕ) → n ≤ longest_part → head.now ≡ record_magic ++ big_bytes 8 n → ⊥ }
+{
+    let number = head.strip_prefix(&MAGIC)?;
+    if number.len() != 8 {
+        return None;
+    }
+    let length = BigEndian::read_u64(number);
+    if length > LONGEST as u64 {
+        return None;
+    }
+    Some(length as usize)
+}
+
+/// The magic of a record, and the length of its input.
+fn read_head<S: Source>(source: &mut S) -> Result<usize, RecordFault>
+    ensures took { IfOk result (λ n. Took (S.left source.old) (S.left source.new) (record_magic ++ big_bytes 8 n)) }
+    ensures short { IfOk result (λ n. n ≤ longest_part) }
+    ensures none { IsErrOf result faults.NoRecord → IsNoRecord (S.left source.old) }
+    ensures kinds { IfErr result IsReadFault }
+    ensures later { S.faults source.old ≤ S.faults source.new }
+    ensures failed { IsErrOf result faults.Read → Rose (S.faults source.old) (S.faults source.new) }
+{
+    let mut head = [0; 16];
+    let count = match fill(source, &mut head) {
+        Ok(count) => count,
+        Err(Failed) => return Err(RecordFault::Read),
+    };
+    match told_length(&head[..count]) {
+        Some(length) => Ok(length),
+        None => Err(RecordFault::NoRecord),
+    }
+}
+
+/// Reads a record, and its source to the end (profile). `NoRecord` where the bytes are none; `Read` only where the source's count of
+/// faults rose; `NoMemory` where there is none for the two parts.
+pub fn read_record<S: Source>(alloc: Global, source: &mut S) -> Result<Record, RecordFault>
+    ensures took { IfOk result (λ found. TookRecord (S.left source.old) (S.left source.new) found.input.items found.output.items) }
+    ensures none { IsErrOf result faults.NoRecord → IsNoRecord (S.left source.old) }
+    ensures kinds { IfErr result IsReadFault }
+    ensures later { S.faults source.old ≤ S.faults source.new }
+    ensures failed { IsErrOf result faults.Read → Rose (S.faults source.old) (S.faults source.new) }
+{
+    let length = read_head(source)?;
+    let input = read_bytes(alloc, source, length)?;
+    if input.len() < length {
+        return Err(RecordFault::NoRecord);
+    }
+    let output = read_bytes(alloc, source, LONGEST + 1)?;
+    if output.len() > LONGEST {
+        return Err(RecordFault::NoRecord);
+    }
+    Ok(Record { input, output })
+}

@@ -1,0 +1,51 @@
+// A record that is handed in.
+ghost use Rattle.std.specs.Prelude.{◌≡◌, ◌⊎◌, [], None};
+ghost use Rattle.satl_identify.specs.declared.identity.IdentityFault.{IdentityFault};
+ghost use Rattle.satl_drive.specs.State.{IsFit};
+ghost use Rattle.satl_serve.specs.Moments.{moment, reads, writes};
+ghost use Rattle.satl_serve.specs.Stopping.{IsRefused};
+ghost use Rattle.satl_top.specs.Auditing.{AuditEnds, status_of_record};
+ghost use Rattle.satl_top.specs.Top.{HasCause};
+
+use crate::status::Status;
+use satl_audit::Verdict;
+use satl_base::Steps;
+use satl_drive::Drive;
+use satl_io::{Sink, Source};
+use satl_record::{RecordFault, audit_record};
+use std::alloc::Global;
+use std::sync::ledger::Ledger;
+
+/// The status of a record that was judged, or was not.
+fn status_of_record(ended: Result<Verdict, RecordFault>) -> Status
+    ensures { result ≡ status_of_record ended }
+{
+    match ended {
+        Ok(Verdict::Yes) => Status::Done,
+        Ok(Verdict::No) => Status::No,
+        Ok(Verdict::NotCovered { .. }) => Status::NotCovered,
+        Err(RecordFault::Drive) => Status::DriveRefused,
+        Err(RecordFault::NoRecord | RecordFault::BadInput) => Status::BadInput,
+        Err(RecordFault::Read) => Status::ReadFault,
+        Err(RecordFault::Write) => Status::WriteFault,
+        Err(RecordFault::NoMemory) => Status::NoMemory,
+    }
+}
+
+/// Judges the record that was handed in for a device of the drive's identity, and says in a line what was found.
+pub fn judge_record<S: Source, K: Sink, D: Drive, L: Ledger>(
+    alloc: Global,
+    source: &mut S,
+    sink: &mut K,
+    drive: &mut D,
+    steps: &mut Steps<L>,
+) -> Status
+    requires idle { (D.state drive.old).outstanding ≡ [] }
+    requires no_error { (D.state drive.old).error ≡ None }
+    requires fit { IsFit (D.state drive.old) }
+    ensures ends { AuditEnds (moment (reads (S.left source.old) (S.faults source.old)) (writes (K.written sink.old) (K.faults sink.old)) steps.old (D.state drive.old)) (moment (reads (S.left source.new) (S.faults source.new)) (writes (K.written sink.new) (K.faults sink.new)) steps.new (D.state drive.new)) result }
+    ensures refused { (fault : IdentityFault) → IsRefused fault (D.state drive.old) (D.state drive.new) → (result ≡ Status.DriveRefused) ⊎ (result ≡ Status.NoMemory) }
+    ensures causes { HasCause (moment (reads (S.left source.old) (S.faults source.old)) (writes (K.written sink.old) (K.faults sink.old)) steps.old (D.state drive.old)) (moment (reads (S.left source.new) (S.faults source.new)) (writes (K.written sink.new) (K.faults sink.new)) steps.new (D.state drive.new)) result }
+{
+    status_of_record(audit_record(alloc, source, sink, drive, steps))
+}
