@@ -42,16 +42,22 @@ fn is_built(code: u8) -> bool
             | 0x25
             | 0x28
             | 0x2A
+            | 0x2F
             | 0x35
+            | 0x41
+            | 0x42
             | 0x55
             | 0x5A
             | 0x88
             | 0x8A
+            | 0x8F
             | 0x91
+            | 0x93
             | 0x9E
             | 0xA0
             | 0xA8
             | 0xAA
+            | 0xAF
     )
 }
 
