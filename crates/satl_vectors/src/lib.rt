@@ -6,6 +6,8 @@ mod at_once;
 #[cfg(test)]
 mod frames;
 #[cfg(test)]
+mod medium_rows;
+#[cfg(test)]
 mod outstanding;
 #[cfg(test)]
 mod queue;

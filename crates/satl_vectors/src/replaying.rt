@@ -103,6 +103,24 @@ pub fn run(
     Ok((status, sink.written().to_vec(alloc)?))
 }
 
+/// What a replay of an input writes on a drive whose trims are not queued.
+pub fn replay_unqueued(alloc: Global, input: Vec<u8>) -> Result<(Status, Vec<u8>), NoMemory> {
+    let words = words(alloc, &["replay"])?;
+    let mut source = MemorySource::new(input, 65536, Vec::new(alloc));
+    let mut sink = MemorySink::new(alloc, 65536, 65536, Vec::new(alloc))?;
+    let mut drive = ModelDrive::new(alloc, 8192)?;
+    drive.set_identify_word(77, 0);
+    let status = counted::<_, _, _, Brand>(
+        alloc,
+        &words,
+        &mut source,
+        &mut sink,
+        &mut drive,
+        Blank::new(1),
+    );
+    Ok((status, sink.written().to_vec(alloc)?))
+}
+
 /// How an input that is shown ends, and the lines of it, where the drive's link is lost at the call behind so many.
 pub fn show_until_lost(
     alloc: Global,
