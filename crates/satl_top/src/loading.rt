@@ -57,8 +57,8 @@ fn serve_generated<D: Bench, L: Ledger>(
 /// Serves the generated input of a seed, of at most 100,000 requests, on the drive, counts its answers, and writes the seed and the
 /// totals to the sink as seven lines of text. The drive has nothing outstanding and is in no error state, and its IDENTIFY DEVICE
 /// data fit it. `Done`: all that was done. `WriteFault`: the input was served whole, but of the lines only a front was written.
-/// `NoMemory` and `DriveRefused`: nothing was served or written. No other status comes. The drive is called once for its
-/// identity, and then at most three times for each request (profile).
+/// `NoMemory` and `DriveRefused`: nothing was served or written. No other status comes. The drive is called at most once for its
+/// identity, and 1,089 times for each request (profile).
 pub fn load<K: Sink, D: Bench, L: Ledger>(
     alloc: Global,
     seed: u64,

@@ -31,8 +31,8 @@ use std::sync::ledger::Ledger;
 /// the sink, as frames or as lines of text; `usb` carries out the items of the source, and answers them on the wire of USB Bulk-Only
 /// Transport; `audit` judges a record and says so in a line; `gen` serves a generated input and writes its totals, and reads nothing.
 /// Plain words mean what they spell, and all others what clap makes of them. The drive has nothing outstanding and is in no error state, and its
-/// IDENTIFY DEVICE data fit it. The status says how that ended. The drive is called once for its identity, and then at most three
-/// times for each request.
+/// IDENTIFY DEVICE data fit it. The status says how that ended. The drive is called at most once for its identity, 1,089 times for
+/// each request and 33 times for each task management function.
 pub fn satl<S: Source, K: Sink, D: Bench, L: Ledger>(
     alloc: Global,
     words: &[RcStr],
