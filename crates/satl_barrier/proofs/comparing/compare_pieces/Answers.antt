@@ -50,10 +50,10 @@ loop-done-preserved g c =
       free = c.in_ok-read_piece.ensures.stays.free;
       so_far = read_done _ _ _ _ _ _ (behind _ _ _ c.loop-done-test.true c.next_piece-next.ensures) c.loop-done.invariant.so_far
           (done_by _ _ _ _ _ c.in-Done.is c.in_ok-read_piece.ensures.finishes) c.in_ok-read_piece.ensures.stays;
-      same = same_on c.loop-done.done c.next_piece-next.result.count _ _ c.loop-done.invariant.same
+      same = same_on c.loop-done.done c.next_piece-next.result.count (nows (g.D.Drive.state c.args.drive.now).cells c.args.range.lba c.args.range.count) c.args.blocks.now c.loop-done.invariant.same
           (sym (read_part _ _ _ _ _ (g.D.Drive.state c.read_piece.new.drive) (behind _ _ _ c.loop-done-test.true c.next_piece-next.ensures) c.loop-done.invariant.so_far) ∙ (sym (c.in_ok-read_piece.ensures.blocks c.in-Done.is)
           ∙ (c.if-not-takes_same.ensures.same.0 refl ∙ ap (take c.next_piece-next.result.count) c.loop-done.invariant.wanted)));
-      wanted = dropped_on c.loop-done.done c.next_piece-next.result.count c.args.blocks.now c.loop-done.wanted _ c.loop-done.invariant.wanted (c.if-not-takes_same.ensures.rest refl);
+      wanted = dropped_on c.loop-done.done c.next_piece-next.result.count c.args.blocks.now c.loop-done.wanted c.takes_same.new.wanted c.loop-done.invariant.wanted (c.if-not-takes_same.ensures.rest refl);
       room = c.in_ok-read_piece.ensures.size ∙ c.loop-done.invariant.room;
       aligned = λ more. omega (arith, count, before, step, more);
       few = omega (arith, before, step, c.loop-done-test.true, c.requires.few);
