@@ -1,8 +1,8 @@
 // The container of a record.
-ghost use Rattle.std.specs.Prelude.{◌≡◌, ◌≤◌, ◌<◌, ◌++◌, ℕ, None, IfOk, IfErr, IfSome, IsErrOf, length};
+ghost use Rattle.std.specs.Prelude.{◌≡◌, ◌≤◌, ◌<◌, ◌++◌, ℕ, None, IfOk, IfErr, IfSome, IsErrOf, OnOk, length, take};
 ghost use Rattle.byteorder.specs.Endian.{big_bytes};
 ghost use Rattle.std.specs.Io.KnownBytes.{IsAtEnd};
-ghost use Rattle.satl_io.specs.Causes.{Rose};
+ghost use Rattle.satl_io.specs.Causes.{HasCause, Rose};
 ghost use Rattle.satl_io.specs.Known.{Took};
 ghost use Rattle.satl_record.specs.Containers.{IsNoRecord, TookRecord, longest_part, record_magic};
 ghost use Rattle.satl_record.specs.Faults.{IsReadFault};
@@ -21,6 +21,9 @@ const MAGIC: [u8; 8] = *b"SATLAUD1";
 /// The most bytes that the input of a record has, and its output (profile).
 const LONGEST: usize = 0x0400_0000;
 
+/// How many bytes are read at once, at most.
+const PIECE: usize = 4096;
+
 /// A recorded run: the input, and the output that was seen.
 #[derive(Drop)]
 pub struct Record {
@@ -28,11 +31,26 @@ pub struct Record {
     pub output: Vec<u8>,
 }
 
-/// So many zeros.
-fn zeros(alloc: Global, count: usize) -> Result<Vec<u8>, NoMemory>
-    ensures { IfOk result (λ bytes. length bytes.items ≡ count) }
+/// Adds bytes to others.
+fn add(bytes: &mut Vec<u8>, more: &[u8]) -> Result<(), NoMemory>
+    ensures { OnOk result (bytes.new.items ≡ bytes.old.items ++ more.now) }
 {
-    Ok(vec![in alloc; 0; count]?)
+    Ok(bytes.extend_from_slice(more)?)
+}
+
+/// The next bytes of a source, as many as the buffer takes: fewer only where no more are left.
+fn read_piece<S: Source>(source: &mut S, piece: &mut [u8]) -> Result<usize, RecordFault>
+    ensures took { IfOk result (λ n. Took (S.left source.old) (S.left source.new) (take n piece.new)) }
+    ensures size { length piece.new ≡ length piece.old }
+    ensures few { IfOk result (λ n. n ≤ length piece.old) }
+    ensures ends { IfOk result (λ n. n < length piece.old → IsAtEnd (S.left source.new)) }
+    ensures kinds { IfErr result (λ fault. fault ≡ faults.Read) }
+    ensures cause { HasCause (S.faults source.old) (S.faults source.new) result }
+{
+    match fill(source, piece) {
+        Ok(read) => Ok(read),
+        Err(Failed) => Err(RecordFault::Read),
+    }
 }
 
 /// The next bytes of a source, at most so many: fewer only where no more are left.
@@ -49,14 +67,17 @@ fn read_bytes<S: Source>(
     ensures later { S.faults source.old ≤ S.faults source.new }
     ensures failed { IsErrOf result faults.Read → Rose (S.faults source.old) (S.faults source.new) }
 {
-    let mut bytes = zeros(alloc, count)?;
-    match fill(source, &mut bytes) {
-        Ok(read) => {
-            bytes.truncate(read);
-            Ok(bytes)
+    let mut bytes = Vec::new(alloc);
+    let mut piece = [0; PIECE];
+    while bytes.len() < count {
+        let room = (count - bytes.len()).min(PIECE);
+        let read = read_piece(source, &mut piece[..room])?;
+        add(&mut bytes, &piece[..read])?;
+        if read < room {
+            return Ok(bytes);
         }
-        Err(Failed) => Err(RecordFault::Read),
     }
+    Ok(bytes)
 }
 
 /// The length of the input that the head of a record tells. None where the bytes are no head: another magic, not 16 bytes, or a

@@ -12,6 +12,8 @@ mod outstanding;
 #[cfg(test)]
 mod queue;
 #[cfg(test)]
+mod records;
+#[cfg(test)]
 mod replaying;
 #[cfg(test)]
 mod rows;
