@@ -122,7 +122,7 @@ frame_calls units frames.End = 0
 -- the most calls of drives that frames take (profile)
 abbrev pub calls_for : ℕ → List Frame → ℕ
 calls_for units [] = 0
-calls_for units (frame ∷ rest) = frame_calls units frame + calls_for units rest
+calls_for units (frame ∷ others) = frame_calls units frame + calls_for units others
 
 -- an event that has no pages, and may go to each unit (profile)
 abbrev pub IsShared : Frame → Type 0
