@@ -12,7 +12,7 @@ use Rattle.satl_frame.specs.Output.Answer.{replied}
 use Rattle.satl_frame.specs.declared.frames.Frame.{Frame}
 use Rattle.satl_frame.specs.declared.frames.Frame.TheVariants as frames
 use Rattle.satl_fleet.specs.Output.{end_told, named, round_told, target_told, told_from, told_under}
-use Rattle.satl_fleet.specs.Rounds.{AllDid, AllDidInPart, DidAt, DidAtInPart, RoundDone, RoundInPart, Serves, Stage, Stops, round_of}
+use Rattle.satl_fleet.specs.Rounds.{AllDid, AllDidInPart, DidAt, DidAtInPart, IsTurnOrBench, RoundDone, RoundInPart, Serves, Stage, Stops, round_of}
 use Rattle.satl_fleet.specs.Routing.{is_for_all, is_report, lun_0, route_to, seen}
 use Rattle.satl_fleet.specs.Target.{target_reply}
 use Rattle.satl_fleet.specs.Units.{Spot}
@@ -125,3 +125,25 @@ module _ (units : ℕ) (a b : Stage) (written : Option (List ℕ)) where
 
 pub end_round_cut : (units : ℕ) (a b : Stage) → AllDidInPart frames.End a b → RoundInPart units frames.End a b
 end_round_cut units a b all = record { groups = all.groups; each = inr (stops_all units frames.End frames.End (λ k. refl) 0 all.did); part = WrotePart-front end_bytes all.part }
+
+-- turns, and events of the bench
+pub turn_seen : (units : ℕ) (frame : Frame) → IsTurnOrBench frame → (k : ℕ) → seen units k frame ≡ frame ∷ []
+turn_seen units (frames.Request r) is k = absurd is
+turn_seen units (frames.Manage m) is k = absurd is
+turn_seen units (frames.Turn n) is k = refl
+turn_seen units (frames.Bench e) is k = refl
+turn_seen units frames.End is k = absurd is
+
+pub turn_quiet : (units : ℕ) (frame : Frame) → IsTurnOrBench frame → target_told units frame ≡ []
+turn_quiet units (frames.Request r) is = absurd is
+turn_quiet units (frames.Manage m) is = absurd is
+turn_quiet units (frames.Turn n) is = refl
+turn_quiet units (frames.Bench e) is = refl
+turn_quiet units frames.End is = absurd is
+
+pub turn_goes_on : (frame : Frame) → IsTurnOrBench frame → end_told frame ≡ []
+turn_goes_on (frames.Request r) is = absurd is
+turn_goes_on (frames.Manage m) is = absurd is
+turn_goes_on (frames.Turn n) is = refl
+turn_goes_on (frames.Bench e) is = refl
+turn_goes_on frames.End is = absurd is

@@ -9,9 +9,9 @@ use Rattle.satl_frame.specs.declared.frames.Frame.{Frame}
 use Rattle.satl_fleet.specs.Output.{told_from, told_under}
 use Rattle.satl_fleet.specs.Rounds.{AllDid, AllDidInPart, DidAt, DidAtInPart, DidTo, DidToInPart, Serves, Stage, Stops}
 use Rattle.satl_fleet.specs.Rounds.DidTo.{rest, more}
-use Rattle.satl_fleet.specs.Rounds.DidToInPart as part
-use Rattle.satl_fleet.specs.Rounds.Serves as serving
-use Rattle.satl_fleet.specs.Rounds.Stops as stopping
+use Rattle.satl_fleet.specs.Rounds.DidToInPart.{here as part_here, later as part_later}
+use Rattle.satl_fleet.specs.Rounds.Serves.{none as no_unit, passes as unit_passes, serves as unit_serves}
+use Rattle.satl_fleet.specs.Rounds.Stops.{here as stop_here, passes as stop_passes, serves as stop_serves}
 use Rattle.satl_fleet.specs.Routing.{seen}
 use Rattle.satl_fleet.specs.Units.{Did, DidInPart, Spot}
 
@@ -71,11 +71,11 @@ did_push (more d to) is did = more d (did_push to is did)
 
 first_part : {event : Frame} {answers : List Answer} {old new : Spot} (ss : List Spot) → slice_get ss 0 ≡ Some old → DidInPart event old answers new → DidToInPart event (answers ∷ []) ss (slice_set ss 0 new)
 first_part [] is did = absurd cc
-first_part {event} {answers} {old} {new} (s ∷ ss) is did = let same : old ≡ s = cc in subst (λ x. DidToInPart event (answers ∷ []) (x ∷ ss) (new ∷ ss)) same (part.here did)
+first_part {event} {answers} {old} {new} (s ∷ ss) is did = let same : old ≡ s = cc in subst (λ x. DidToInPart event (answers ∷ []) (x ∷ ss) (new ∷ ss)) same (part_here did)
 
 part_push : {event : Frame} {n : ℕ} {groups : List (List Answer)} {answers : List Answer} {olds news : List Spot} {old new : Spot} → DidTo event n groups olds news → slice_get news n ≡ Some old → DidInPart event old answers new → DidToInPart event (groups ++ answers ∷ []) olds (slice_set news n new)
 part_push {olds = ss} rest is did = first_part ss is did
-part_push (more d to) is did = part.later d (part_push to is did)
+part_push (more d to) is did = part_later d (part_push to is did)
 
 -- so many units did an event, and told it
 pub record DoneTo (event : Frame) (n : ℕ) (before after : Stage) : Type 0 where
@@ -96,6 +96,9 @@ done_more event n a b c done at = record {
   wrote = subst (Wrote a.written c.written) (place at.answers done.did) (Wrote-more done.wrote at.wrote);
 }
 
+pub done_next : (event : Frame) (n : ℕ) (a b c : Stage) → DoneTo event n a b → DidAt n event b c → DoneTo event (n + 1) a c
+done_next event n a b c done at = subst (λ m. DoneTo event m a c) (omega arith) (done_more event n a b c done at)
+
 pub done_all : (event : Frame) (n : ℕ) (a b : Stage) → n ≡ length a.spots → DoneTo event n a b → AllDid event a b
 done_all event n a b all done = record { groups = done.groups; did = subst (λ m. DidTo event m done.groups a.spots b.spots) all done.did; wrote = done.wrote }
 
@@ -110,18 +113,18 @@ done_part event n a b c done at = record {
 
 module _ (units : ℕ) (frame event : Frame) where
   pub serves_all : ((k : ℕ) → seen units k frame ≡ event ∷ []) → (k : ℕ) {n : ℕ} {groups : List (List Answer)} {olds news : List Spot} → DidTo event n groups olds news → n ≡ length olds → Serves units frame k groups olds news
-  serves_all each k {olds = []} rest all = serving.none
+  serves_all each k {olds = []} rest all = no_unit
   serves_all each k {olds = s ∷ ss} rest all = absurd (omega (arith, all))
-  serves_all each k (more did to) all = serving.serves event (each k) did (serves_all each (suc k) to (omega (arith, all)))
+  serves_all each k (more did to) all = unit_serves event (each k) did (serves_all each (suc k) to (omega (arith, all)))
 
   pub stops_all : ((k : ℕ) → seen units k frame ≡ event ∷ []) → (k : ℕ) {groups : List (List Answer)} {olds news : List Spot} → DidToInPart event groups olds news → Stops units frame k groups olds news
-  stops_all each k (part.here did) = stopping.here event (each k) did
-  stops_all each k (part.later did to) = stopping.serves event (each k) did (stops_all each (suc k) to)
+  stops_all each k (part_here did) = stop_here event (each k) did
+  stops_all each k (part_later did to) = stop_serves event (each k) did (stops_all each (suc k) to)
 
   pub all_pass : (k : ℕ) (ss : List Spot) → ((i : ℕ) → k ≤ i → seen units i frame ≡ []) → Serves units frame k (silence ss) ss ss
   unfolding silence
-  all_pass k [] none = serving.none
-  all_pass k (s ∷ ss) none = serving.passes (none k (omega arith)) (all_pass (suc k) ss (λ i le. none i (omega (arith, le))))
+  all_pass k [] none = no_unit
+  all_pass k (s ∷ ss) none = unit_passes (none k (omega arith)) (all_pass (suc k) ss (λ i le. none i (omega (arith, le))))
 
   module _ (at : ℕ) (here : seen units at frame ≡ event ∷ []) (others : (i : ℕ) → (i ≡ at → ⊥) → seen units i frame ≡ []) (answers : List Answer) (old new : Spot) where
     pub one_serves : (k j : ℕ) (ss : List Spot) → at ≡ k + j → slice_get ss j ≡ Some old → Did event old answers new → Serves units frame k (alone j answers ss) ss (slice_set ss j new)
@@ -131,8 +134,8 @@ module _ (units : ℕ) (frame event : Frame) where
         let same : old ≡ s = cc in
         let now : at ≡ k = omega (arith, is) in
         subst (λ x. Serves units frame k (answers ∷ silence ss) (x ∷ ss) (new ∷ ss)) same
-        (serving.serves event (subst (λ n. seen units n frame ≡ event ∷ []) now here) did (all_pass (suc k) ss (λ i le. others i (λ e. omega (arith, le, e, is)))))
-    one_serves k (suc j) (s ∷ ss) is there did = serving.passes (others k (λ e. omega (arith, e, is))) (one_serves (suc k) j ss (omega (arith, is)) there did)
+        (unit_serves event (subst (λ n. seen units n frame ≡ event ∷ []) now here) did (all_pass (suc k) ss (λ i le. others i (λ e. omega (arith, le, e, is)))))
+    one_serves k (suc j) (s ∷ ss) is there did = unit_passes (others k (λ e. omega (arith, e, is))) (one_serves (suc k) j ss (omega (arith, is)) there did)
 
     pub one_stops : (k j : ℕ) (ss : List Spot) → at ≡ k + j → slice_get ss j ≡ Some old → DidInPart event old answers new → Stops units frame k (up_to j answers) ss (slice_set ss j new)
     unfolding up_to
@@ -141,5 +144,5 @@ module _ (units : ℕ) (frame event : Frame) where
         let same : old ≡ s = cc in
         let now : at ≡ k = omega (arith, is) in
         subst (λ x. Stops units frame k (answers ∷ []) (x ∷ ss) (new ∷ ss)) same
-        (stopping.here event (subst (λ n. seen units n frame ≡ event ∷ []) now here) did)
-    one_stops k (suc j) (s ∷ ss) is there did = stopping.passes (others k (λ e. omega (arith, e, is))) (one_stops (suc k) j ss (omega (arith, is)) there did)
+        (stop_here event (subst (λ n. seen units n frame ≡ event ∷ []) now here) did)
+    one_stops k (suc j) (s ∷ ss) is there did = stop_passes (others k (λ e. omega (arith, e, is))) (one_stops (suc k) j ss (omega (arith, is)) there did)

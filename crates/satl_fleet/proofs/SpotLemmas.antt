@@ -1,6 +1,7 @@
 -- Units in their list.
 use Rattle.std.proofs.Common.{◌≡◌, refl, sym, ap, subst, ◌∙◌, arith, ℕ, zero, suc, ◌+◌, ◌<◌, List, [], ◌∷◌, length, map}
 use Rattle.std.specs.Prelude.{Option, Some, None, slice_get, slice_set, slice_index_or}
+use Rattle.std.proofs.lemmas.List.{length-map}
 use Rattle.std.specs.List.{AllByRecursion}
 use Rattle.satl_drive.specs.State.{DriveState}
 use Rattle.satl_core.specs.Layer.{Layer}
@@ -60,3 +61,6 @@ pending_set (s ∷ ss) zero old new is =
     let tasks = ap (λ (x : Spot). length x.layer.tasks) same in
     omega (arith, tasks)
 pending_set (s ∷ ss) (suc k) old new is = let more = pending_set ss k old new is in omega (arith, more)
+
+pub length_states : {D : Type 0} (f : D → DriveState) (ls : List Layer) (ds : List D) → length ds ≡ length ls → length (spots_of ls (map f ds)) ≡ length ls
+length_states f ls ds same = length_spots ls (map f ds) (length-map ds f ∙ same)

@@ -1,5 +1,6 @@
 // Which unit of a target a frame goes to.
-ghost use Rattle.std.specs.Prelude.{◌≡◌};
+ghost use Rattle.std.specs.Prelude.{◌≡◌, ◌==◌};
+ghost use Rattle.std.specs.List.{list_all};
 ghost use Rattle.satl_fleet.specs.Routing.{is_for_all, is_report, names_unit, route_to};
 
 use satl_base::{Manage, Request};
@@ -14,11 +15,23 @@ pub struct Route {
     pub lun: [u8; 8],
 }
 
+fn are_zero(bytes: &[u8]) -> bool
+    ensures { result ≡ list_all (λ byte. byte == 0) bytes.now }
+{
+    bytes.iter().all(|byte| *byte == 0)
+}
+
 /// Whether a LUN of one level names one of so many units (SAM-5 4.7.2).
 fn names_unit(units: u8, lun: &[u8; 8]) -> bool
     ensures { result ≡ names_unit units lun.now }
 {
-    lun[0] == 0 && lun[1] < units && lun[2..].iter().all(|byte| *byte == 0)
+    if lun[0] != 0 {
+        return false;
+    }
+    if lun[1] >= units {
+        return false;
+    }
+    are_zero(&lun[2..])
 }
 
 /// Where a frame to a LUN goes, of so many units: to unit 0 at the same LUN where no unit has it (profile).
