@@ -1,4 +1,5 @@
 pub mod Faults
+pub mod Fleet
 pub mod Laws
 pub mod Load
 pub mod Top

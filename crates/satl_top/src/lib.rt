@@ -3,9 +3,11 @@
 
 pub mod laws;
 mod loading;
+mod several;
 mod status;
 mod top;
 
 pub use loading::load;
+pub use several::{fleet, is_fleet, program};
 pub use status::Status;
 pub use top::satl;
