@@ -14,6 +14,7 @@ use Rattle.satl_frame.specs.declared.frames.Frame.TheVariants as frames
 use Rattle.satl_fleet.specs.Output.{end_told, named, round_told, target_told, told_from, told_under}
 use Rattle.satl_fleet.specs.Rounds.{AllDid, AllDidInPart, DidAt, DidAtInPart, IsTurnOrBench, RoundDone, RoundInPart, Serves, Stage, Stops, round_of}
 use Rattle.satl_fleet.specs.Routing.{is_for_all, is_report, lun_0, route_to, seen}
+use Rattle.satl_fleet.specs.declared.routing.Route.{Route}
 use Rattle.satl_fleet.specs.Target.{target_reply}
 use Rattle.satl_fleet.specs.Units.{Spot}
 use Rattle.satl_fleet.proofs.RoundLemmas.{all_pass, alone, one_serves, one_stops, serves_all, silence, stops_all, told_alone, told_silence, told_up_to, up_to}
@@ -35,7 +36,7 @@ module _ (units : ℕ) (r : Request) where
       ∙ ap (λ b. if b then there ∷ [] else []) (ne_eqb (route_to units r.lun).unit i (λ e. apart (sym e)))
 
   request_none : is_report r ≡ true → (i : ℕ) → seen units i (frames.Request r) ≡ []
-  request_none yes i = ap (λ b. if b then [] else if (route_to units r.lun).unit == i then there ∷ [] else []) yes
+  request_none said i = ap (λ b. if b then [] else if (route_to units r.lun).unit == i then there ∷ [] else []) said
 
 module _ (units : ℕ) (m : Manage) where
   abbrev managed_there : Frame
@@ -45,7 +46,7 @@ module _ (units : ℕ) (m : Manage) where
   for_all = frames.Manage (record m { lun = lun_0 })
 
   pub manage_all : is_for_all m ≡ true → (i : ℕ) → seen units i (frames.Manage m) ≡ for_all ∷ []
-  manage_all yes i = ap (λ b. if b then for_all ∷ [] else if (route_to units m.lun).unit == i then managed_there ∷ [] else []) yes
+  manage_all said i = ap (λ b. if b then for_all ∷ [] else if (route_to units m.lun).unit == i then managed_there ∷ [] else []) said
 
   pub manage_here : is_for_all m ≡ false → seen units (route_to units m.lun).unit (frames.Manage m) ≡ managed_there ∷ []
   manage_here one =
@@ -95,23 +96,23 @@ module _ (units : ℕ) (frame : Frame) (quiet : target_told units frame ≡ []) 
       }
 
 -- the target's own answer
-module _ (units : ℕ) (r : Request) (yes : is_report r ≡ true) (ss : List Spot) (written written' : Option (List ℕ)) where
+module _ (units : ℕ) (r : Request) (said : is_report r ≡ true) (ss : List Spot) (written written' : Option (List ℕ)) where
   reported : named 0 (replied (target_reply units r) ∷ []) ≡ round_told units (round_of (frames.Request r) (silence ss))
   reported =
-      sym (ap (λ b. (if b then named 0 (replied (target_reply units r) ∷ []) else []) ++ (told_from 0 (silence ss) ++ [])) yes
+      sym (ap (λ b. (if b then named 0 (replied (target_reply units r) ∷ []) else []) ++ (told_from 0 (silence ss) ++ [])) said
       ∙ (ap (λ l. named 0 (replied (target_reply units r) ∷ []) ++ (l ++ [])) (told_silence 0 ss) ∙ append-nil (named 0 (replied (target_reply units r) ∷ []))))
 
   pub report_round : Wrote written written' (named 0 (replied (target_reply units r) ∷ [])) → RoundDone units (frames.Request r) (record { spots = ss; written = written }) (record { spots = ss; written = written' })
   report_round wrote = record {
     groups = silence ss;
-    each = all_pass units (frames.Request r) (frames.Request r) 0 ss (λ i le. request_none units r yes i);
+    each = all_pass units (frames.Request r) (frames.Request r) 0 ss (λ i le. request_none units r said i);
     wrote = subst (Wrote written written') reported wrote;
   }
 
   pub report_round_part : WrotePart written written' (named 0 (replied (target_reply units r) ∷ [])) → RoundInPart units (frames.Request r) (record { spots = ss; written = written }) (record { spots = ss; written = written' })
   report_round_part part = record {
     groups = silence ss;
-    each = inl (all_pass units (frames.Request r) (frames.Request r) 0 ss (λ i le. request_none units r yes i));
+    each = inl (all_pass units (frames.Request r) (frames.Request r) 0 ss (λ i le. request_none units r said i));
     part = subst (WrotePart written written') reported part;
   }
 
@@ -147,3 +148,22 @@ turn_goes_on (frames.Manage m) is = absurd is
 turn_goes_on (frames.Turn n) is = refl
 turn_goes_on (frames.Bench e) is = refl
 turn_goes_on frames.End is = absurd is
+
+-- ---- to one unit
+
+module _ (units : ℕ) (m : Manage) (to : Route) (is : to ≡ route_to units m.lun) (one : is_for_all m ≡ false) (a b : Stage) where
+  pub manage_one : DidAt to.unit (frames.Manage (record m { lun = to.lun })) a b → RoundDone units (frames.Manage m) a b
+  manage_one d = one_round units (frames.Manage m) refl refl (managed_there units m) a b (route_to units m.lun).unit (manage_here units m one) (manage_other units m one) (subst (λ (x : Route). DidAt x.unit (frames.Manage (record m { lun = x.lun })) a b) is d)
+
+  pub manage_one_part : DidAtInPart to.unit (frames.Manage (record m { lun = to.lun })) a b → RoundInPart units (frames.Manage m) a b
+  manage_one_part d = one_round_part units (frames.Manage m) refl refl (managed_there units m) a b (route_to units m.lun).unit (manage_here units m one) (manage_other units m one) (subst (λ (x : Route). DidAtInPart x.unit (frames.Manage (record m { lun = x.lun })) a b) is d)
+
+module _ (units : ℕ) (r : Request) (to : Route) (is : to ≡ route_to units r.lun) (other : is_report r ≡ false) (a b : Stage) where
+  quiet : target_told units (frames.Request r) ≡ []
+  quiet = ap (λ c. if c then named 0 (replied (target_reply units r) ∷ []) else []) other
+
+  pub request_one : DidAt to.unit (frames.Request (record r { lun = to.lun })) a b → RoundDone units (frames.Request r) a b
+  request_one d = one_round units (frames.Request r) quiet refl (there units r) a b (route_to units r.lun).unit (request_here units r other) (request_other units r other) (subst (λ (x : Route). DidAt x.unit (frames.Request (record r { lun = x.lun })) a b) is d)
+
+  pub request_one_part : DidAtInPart to.unit (frames.Request (record r { lun = to.lun })) a b → RoundInPart units (frames.Request r) a b
+  request_one_part d = one_round_part units (frames.Request r) quiet refl (there units r) a b (route_to units r.lun).unit (request_here units r other) (request_other units r other) (subst (λ (x : Route). DidAtInPart x.unit (frames.Request (record r { lun = x.lun })) a b) is d)

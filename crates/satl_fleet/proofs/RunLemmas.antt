@@ -159,6 +159,8 @@ module _ (units : ℕ) (rounds : List Round) (frame : Frame) (groups : List (Lis
   run_round_part k before [] is long run (stop_serves event sees did others) = absurd run
   run_round_part k before {behind = g ∷ gs} (a ∷ starts) {olds = s ∷ ss} {news = w ∷ ws} is long run (stop_serves event sees did others) =
       run_later (ran_on units k rounds whole (device_of a) a.drive s run.0 event g w sees (here_is before g gs k is long) did) (run_round_part (suc k) (before ++ g ∷ []) starts (next_split before g gs is) (next_length before g k long) run.1 others)
+  run_round_part k before {behind = []} (a ∷ starts) {olds = olds} {news = news} is long run each = elim each [ ]
+  run_round_part k before {behind = g ∷ gs} (a ∷ starts) {olds = []} {news = news} is long run each = absurd run
 
 -- no round
 pub run_none : (units k : ℕ) (ss : List Spot) → AllByRecursion IsIdle ss → HaveRun units k [] ss ss
