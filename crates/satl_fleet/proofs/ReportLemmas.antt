@@ -23,9 +23,11 @@ length_luns k (suc n) = let others = length_luns (suc k) n in omega (arith, othe
 -- the list behind its header, one LUN further
 pub luns_more : (header : List ℕ) (k : ℕ) (luns new : List ℕ) → luns ≡ header ++ luns_from 0 k → new ≡ luns ++ lun_of k → new ≡ header ++ luns_from 0 (k + 1)
 luns_more header k luns new was is =
+    let next : suc k ≡ k + 1 = omega arith in
+    let here : k ≡ 0 + k = omega arith in
     is ∙ (ap (λ l. l ++ lun_of k) was
     ∙ (append_assoc header (luns_from 0 k) (lun_of k)
-    ∙ ap (λ l. header ++ l) (ap (λ m. luns_from 0 k ++ lun_of m) (omega arith) ∙ (sym (luns_push 0 k) ∙ ap (luns_from 0) (omega arith)))))
+    ∙ ap (λ l. header ++ l) (ap (λ m. luns_from 0 k ++ lun_of m) here ∙ (sym (luns_push 0 k) ∙ ap (luns_from 0) next))))
 
 -- a reply of the target under unit 0
 pub told_reply : (units : ℕ) (r : Request) (reply : Reply) (written written' : Option (List ℕ)) → reply ≡ target_reply units r → Wrote written written' (told_one 0 false (replied reply)) → Wrote written written' (named 0 (replied (target_reply units r) ∷ []))

@@ -22,9 +22,9 @@ returns-then-is_for_all-clause-part g c =
 pub returns-clause-done : goal.returns-clause-done
 returns-clause-done g c =
     let one = sym c.is_for_all.ensures ∙ c.if-is_for_all.false in
-    on_ok c.serve_at.result _ _ (λ d. manage_one (vec_len c.args.units.now) c.args.manage c.route_to-unit.result c.route_to-unit.ensures one (stage (spots_of c.args.units.now.items (map g.D.Drive.state c.args.drives.now.items)) (g.K.Sink.written c.args.sink.now)) (stage (spots_of c.serve_at.new.units.items (map g.D.Drive.state c.serve_at.new.drives.items)) (g.K.Sink.written c.serve_at.new.sink)) d) c.serve_at.ensures.done
+    on_ok c.serve_at.result _ _ (λ d. manage_one (vec_len c.args.units.now) c.args.manage c.route_to-unit.result (c.route_to-unit.ensures ∙ ap (λ n. route_to n c.args.manage.lun) c.len.ensures) one (stage (spots_of c.args.units.now.items (map g.D.Drive.state c.args.drives.now.items)) (g.K.Sink.written c.args.sink.now)) (stage (spots_of c.serve_at.new.units.items (map g.D.Drive.state c.serve_at.new.drives.items)) (g.K.Sink.written c.serve_at.new.sink)) d) c.serve_at.ensures.done
 
 pub returns-clause-part : goal.returns-clause-part
 returns-clause-part g c =
     let one = sym c.is_for_all.ensures ∙ c.if-is_for_all.false in
-    on_err c.serve_at.result _ _ (λ d. manage_one_part (vec_len c.args.units.now) c.args.manage c.route_to-unit.result c.route_to-unit.ensures one (stage (spots_of c.args.units.now.items (map g.D.Drive.state c.args.drives.now.items)) (g.K.Sink.written c.args.sink.now)) (stage (spots_of c.serve_at.new.units.items (map g.D.Drive.state c.serve_at.new.drives.items)) (g.K.Sink.written c.serve_at.new.sink)) d) c.serve_at.ensures.part
+    on_err c.serve_at.result _ _ (λ d. manage_one_part (vec_len c.args.units.now) c.args.manage c.route_to-unit.result (c.route_to-unit.ensures ∙ ap (λ n. route_to n c.args.manage.lun) c.len.ensures) one (stage (spots_of c.args.units.now.items (map g.D.Drive.state c.args.drives.now.items)) (g.K.Sink.written c.args.sink.now)) (stage (spots_of c.serve_at.new.units.items (map g.D.Drive.state c.serve_at.new.drives.items)) (g.K.Sink.written c.serve_at.new.sink)) d) c.serve_at.ensures.part

@@ -58,3 +58,6 @@ frames-preserved g c =
       read_later = omega (arith, c.frames.invariant.read_later, (c.in-Ok.ensures.causes c.frames.invariant.fresh).later);
       write_later = omega (arith, c.frames.invariant.write_later, c.serve_frame.ensures.cause.later);
     }
+
+pub returns-in-Err-clause-tied : goal.returns-in-Err-clause-tied
+returns-in-Err-clause-tied g c = all_map IsReady IsTiedSpot (spots_of c.frames.units.items (map g.D.Drive.state c.frames.drives.items)) (λ s r. r.tied) c.frames.invariant.ready

@@ -28,3 +28,6 @@ serve_opened-requires-clause-ready g c = all_ready c.in_ok-units.ensures.opened
 
 pub serve_opened-requires-clause-idle : goal.serve_opened-requires-clause-idle
 serve_opened-requires-clause-idle g c = all_idle c.requires.servable c.in_ok-units.ensures.opened
+
+pub returns-in_err-pool-clause-stopped : goal.returns-in_err-pool-clause-stopped
+returns-in_err-pool-clause-stopped g c = on_error c.from_residual.result _ _ c.from_residual.ensures.1 (λ e is. no_memory input_limit (fleet_moment (reads (g.S.Source.left c.args.source.now) (g.S.Source.faults c.args.source.now)) (writes (g.K.Sink.written c.args.sink.now) (g.K.Sink.faults c.args.sink.now)) c.args.steps.now (map g.D.Drive.state c.args.drives.now.items)) e is)
