@@ -1,3 +1,4 @@
+mod FleetLemmas
 pub mod LoadLemmas
 pub mod RequestLemmas
 pub mod StatusLemmas

@@ -36,6 +36,13 @@ impl From<FleetFault> for Status {
     }
 }
 
+fn is_word(word: &RcStr, text: &str) -> bool
+    ensures { (result ≡ true) ↔ (rc_str_bytes word.now ≡ text.now) }
+{
+    let word: &str = word;
+    word == text
+}
+
 /// Whether there are two words, of which the second is `fleet` (profile).
 pub fn is_fleet(words: &[RcStr]) -> bool
     ensures { (result ≡ true) ↔ AskForFleet (map rc_str_bytes words.now) }
@@ -43,8 +50,7 @@ pub fn is_fleet(words: &[RcStr]) -> bool
     if words.len() != 2 {
         return false;
     }
-    let word: &str = &words[1];
-    word == "fleet"
+    is_word(&words[1], "fleet")
 }
 
 /// Serves the frames of the source on one to four drives as the logical units of one target, and writes the answers to the sink (profile).
