@@ -165,11 +165,13 @@ module _ (units : ℕ) (rounds : List Round) (frame : Frame) (groups : List (Lis
 -- no round
 pub run_none : (units k : ℕ) (ss : List Spot) → AllByRecursion IsIdle ss → HaveRun units k [] ss ss
 run_none units k [] idle = tt
-run_none units k (s ∷ ss) idle =
-    (record {
-      losses = 0;
-      deep = 0;
-      run = start (quiet_none (device_of s));
-      deepest = omega arith;
-      counted = record { faults = RoseBy-none s.drive.faults; unplugged = RoseBy-none s.drive.unplugs; few_unplugs = omega arith; rises = omega arith; covers = idle.0.covers };
-    }, run_none units (suc k) ss idle.1)
+run_none units k (s ∷ ss) idle = (
+  record {
+    losses = 0;
+    deep = 0;
+    run = start (quiet_none (device_of s));
+    deepest = omega arith;
+    counted = record { faults = RoseBy-none s.drive.faults; unplugged = RoseBy-none s.drive.unplugs; few_unplugs = omega arith; rises = omega arith; covers = idle.0.covers };
+  },
+  run_none units (suc k) ss idle.1,
+)

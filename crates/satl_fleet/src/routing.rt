@@ -44,10 +44,7 @@ pub fn route_to(units: u8, lun: &[u8; 8]) -> Route
             lun: LUN_0,
         };
     }
-    Route {
-        unit: 0,
-        lun: *lun,
-    }
+    Route { unit: 0, lun: *lun }
 }
 
 /// Whether it is REPORT LUNS, which the target itself answers (SPC-4 6.33; profile).

@@ -88,16 +88,7 @@ fn serve_opened<S: Source, K: Sink, D: Bench, L: Ledger>(
 {
     write_frame(OutFrame::Magic, sink)?;
     let mut reader = FrameReader::first_only(alloc, LIMIT);
-    match serve_frames(
-        alloc,
-        &mut reader,
-        units,
-        drives,
-        pool,
-        source,
-        sink,
-        steps,
-    ) {
+    match serve_frames(alloc, &mut reader, units, drives, pool, source, sink, steps) {
         Ok(()) => Ok(()),
         Err(stop) => Err(tell_stop(stop, sink)),
     }
