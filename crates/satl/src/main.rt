@@ -1,16 +1,18 @@
 //! `satl replay` and `satl show`: framed commands on standard input, framed answers or lines of text on standard output, over a
-//! modelled drive. `satl audit`: a record on standard input, and on standard output whether its output is that of a run of the device
-//! over its input. `satl gen --seed N --requests N`: a generated input over the same drive, and its totals on standard output.
+//! modelled drive. `satl fleet`: the same over four of them, behind one target. `satl usb`: commands and answers on the wire of USB
+//! Bulk-Only Transport. `satl audit`: a record on standard input, and on standard output whether its output is that of a run of the
+//! device over its input. `satl gen --seed N --requests N`: a generated input over one drive, and its totals on standard output.
 #![tactic(auto)]
 
-ghost use Rattle.std.specs.Prelude.{◌≡◌, ◌<◌, [], None, OnOk};
-ghost use Rattle.satl_drive.specs.State.{IsFit};
+ghost use Rattle.std.specs.Prelude.{◌≡◌, ◌<◌, ◌≤◌, IfOk, map, vec_len};
+ghost use Rattle.std.specs.List.{AllByRecursion};
+ghost use Rattle.satl_fleet.specs.Opening.{IsServable};
 
 use satl_base::{NoMemory, Steps};
 use satl_disk::ModelDrive;
 use satl_drive::Bench;
 use satl_io::{Sink, Source, StdSink, StdSource};
-use satl_top::{Status, satl};
+use satl_top::{Status, program};
 use std::alloc::Global;
 use std::env;
 use std::io::BufReader;
@@ -19,7 +21,10 @@ use std::process::ExitCode;
 use std::rc::RcStr;
 use std::sync::ledger::{Blank, Ledger};
 
-/// The sectors of the modelled drive.
+/// The modelled drives: one for each LUN of `fleet`; the other modes have the first.
+const DRIVES: u32 = 4;
+
+/// The sectors of a modelled drive.
 const SECTORS: u32 = 8192;
 
 /// How many bytes of standard input are read at once, at most.
@@ -31,18 +36,18 @@ fn counted<S: Source, K: Sink, D: Bench, L: Ledger>(
     words: &[RcStr],
     source: &mut S,
     sink: &mut K,
-    drive: &mut D,
+    drives: &mut Vec<D>,
     blank: Blank,
 ) -> Status
-    requires idle { (D.state drive.old).outstanding ≡ [] }
-    requires no_error { (D.state drive.old).error ≡ None }
-    requires fit { IsFit (D.state drive.old) }
+    requires some { 1 ≤ vec_len drives.old }
+    requires few { vec_len drives.old ≤ 4 }
+    requires servable { AllByRecursion IsServable (map D.state drives.old.items) }
     requires name { blank.name ≡ L.name }
     requires parts { blank.parts ≡ L.parts }
     requires some { 0 < blank.parts }
 {
     let mut steps = Steps::<L>::new(blank);
-    satl(alloc, words, source, sink, drive, &mut steps)
+    program(alloc, words, source, sink, drives, &mut steps)
 }
 
 /// The words of the program. None where one is not UTF-8.
@@ -57,6 +62,18 @@ fn words_of(rt: &HostRuntime) -> Result<Option<Vec<RcStr>>, NoMemory> {
     Ok(Some(words))
 }
 
+/// The modelled drives.
+fn modelled(alloc: Global) -> Result<Vec<ModelDrive>, NoMemory>
+    ensures count { IfOk result (λ drives. vec_len drives ≡ 4) }
+    ensures servable { IfOk result (λ drives. AllByRecursion IsServable (map ModelDrive.state drives.items)) }
+{
+    let mut drives = Vec::new(alloc);
+    for _ in 0..DRIVES {
+        drives.push(ModelDrive::new(alloc, SECTORS)?)?;
+    }
+    Ok(drives)
+}
+
 /// Does what the words ask for.
 fn run(rt: &HostRuntime) -> Result<Status, NoMemory> {
     let alloc = rt.alloc();
@@ -68,13 +85,13 @@ fn run(rt: &HostRuntime) -> Result<Status, NoMemory> {
     };
     let mut source = StdSource::new(input);
     let mut sink = StdSink::new(rt.stdout());
-    let mut drive = ModelDrive::new(alloc, SECTORS)?;
+    let mut drives = modelled(alloc)?;
     Ok(counted::<_, _, _, Brand>(
         alloc,
         &words,
         &mut source,
         &mut sink,
-        &mut drive,
+        &mut drives,
         Blank::new(1),
     ))
 }
@@ -94,7 +111,9 @@ fn main(rt: HostRuntime) -> ExitCode {
 fn told(status: Status) -> Option<&'static str> {
     match status {
         Status::Done | Status::No | Status::NotCovered => None,
-        Status::Usage => Some("usage: satl replay | show | audit | gen --seed N --requests N"),
+        Status::Usage => Some(
+            "usage: satl replay | show | usb | fleet | audit | gen --seed N --requests N",
+        ),
         Status::BadInput => Some("satl: the input is refused"),
         Status::ReadFault => Some("satl: a read failed"),
         Status::WriteFault => Some("satl: a write failed"),

@@ -1,5 +1,6 @@
 pub mod Bridging
 pub mod Faults
+pub mod Fleet
 pub mod Laws
 pub mod Auditing
 pub mod Load

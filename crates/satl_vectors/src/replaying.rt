@@ -70,7 +70,7 @@ pub fn replay(
 }
 
 /// The words behind the program's name.
-fn words(alloc: Global, given: &[&str]) -> Result<Vec<RcStr>, NoMemory> {
+pub fn words(alloc: Global, given: &[&str]) -> Result<Vec<RcStr>, NoMemory> {
     let mut words = Vec::new(alloc);
     words.push(RcStr::from_str(alloc, "satl")?)?;
     for word in given {

@@ -1,0 +1,178 @@
+-- Frames that a reader gives, one after the other.
+use Rattle.std.proofs.Common.{◌≡◌, ◌⊎◌, append_assoc, inl, inr, refl, sym, ap, subst, ◌∙◌, arith, ℕ, ◌+◌, ◌-◌, ◌*◌, ◌<◌, ◌≤◌, true, false, List, [], ◌∷◌, ◌++◌, length, take}
+use Rattle.std.proofs.lemmas.List.{append-nil, take_all}
+use Rattle.std.specs.Prelude.{Option, Some, None}
+use Rattle.std.specs.List.{AllByRecursion}
+use Rattle.satl_base.specs.declared.request.Request.{Request}
+use Rattle.satl_io.specs.Known.{Wrote, WrotePart}
+use Rattle.satl_io.proofs.Joined.{Wrote-more, Wrote-none}
+use Rattle.satl_frame.specs.Frames.{HasExpected, IsFrame, IsRequest, data_out, spelled}
+use Rattle.satl_frame.specs.Inputs.{NoneEnds}
+use Rattle.satl_frame.specs.Progress.{HasRead}
+use Rattle.satl_frame.specs.Pulls.{cut_to}
+use Rattle.satl_frame.specs.Reading.{Gave, IsNext, Reading}
+use Rattle.satl_frame.specs.declared.frames.Place.{Place}
+use Rattle.satl_frame.specs.declared.frames.Version.{Version}
+use Rattle.satl_frame.specs.declared.frames.Version.TheVariants.{One, Two}
+use Rattle.satl_frame.specs.declared.frames.Frame.{Frame}
+use Rattle.satl_frame.specs.declared.frames.Frame.TheVariants as frames
+use Rattle.satl_frame.proofs.Paging.{length-pages_of}
+use Rattle.satl_frame.proofs.ProgressLemmas.{has_read_more}
+use Rattle.satl_line.proofs.SlotsLemmas.{All-append}
+use Rattle.satl_core.specs.Layer.{IsExpectable}
+use Rattle.satl_core.specs.Turning.{turn_calls}
+use Rattle.satl_step.specs.Loop.{is_end, place_offset}
+use Rattle.satl_fleet.specs.Loop.{Ended, Going, HasGiven, Scene, SoFar, StoppedInRound}
+use Rattle.satl_fleet.specs.Output.{Round, all_told, frames_of, round_told}
+use Rattle.satl_fleet.specs.Rounds.{CanRoute, RoundDone, RoundInPart, Serves, Stops, calls_for, frame_calls, round_of}
+use Rattle.satl_fleet.specs.Runs.{HaveRun, HaveRunInPart, IsIdle}
+use Rattle.satl_fleet.specs.Units.{Spot, pending}
+use Rattle.satl_fleet.proofs.RunLemmas.{run_none, run_round, run_round_part}
+
+-- ---- whole frames
+
+expectable : (version : Version) (expected : Option ℕ) → HasExpected version expected → IsExpectable expected
+expectable One expected h = rw h tt
+expectable Two None h = absurd h
+expectable Two (Some count) h = h
+
+-- the pages of a whole request hold its data-out
+holds : (version : Version) (w : Request) → IsRequest version w → w.data_len ≤ 512 * length w.body
+holds version w is =
+    let pages = ap length is.sent.pages ∙ length-pages_of (data_out w) in
+    let size = is.sent.size in
+    omega (arith, pages, size)
+
+-- and are 4,096 at most
+few_pages : (version : Version) (w : Request) → IsRequest version w → length w.body ≤ 4096
+few_pages version w is =
+    let pages = ap length is.sent.pages ∙ length-pages_of (data_out w) in
+    let size = is.sent.size in
+    let short = is.sent.short in
+    omega (arith, pages, size, short)
+
+uncut : (version : Version) (whole : Frame) → IsFrame version whole → cut_to 4096 whole ≡ whole
+uncut version (frames.Request w) is = ap (λ pages. frames.Request (record w { body = pages })) (take_all 4096 w.body (few_pages version w is))
+uncut version (frames.Manage m) is = refl
+uncut version (frames.Turn n) is = refl
+uncut version (frames.Bench event) is = refl
+uncut version frames.End is = refl
+
+routable : (version : Version) (whole : Frame) → IsFrame version whole → CanRoute whole
+routable version (frames.Request w) is = (holds version w is, expectable version w.expected is.fields.expected)
+routable version (frames.Manage m) is = tt
+routable version (frames.Turn n) is = tt
+routable version (frames.Bench event) is = tt
+routable version frames.End is = tt
+
+module _ {old new : Reading} {room : ℕ} {frame : Frame} {left left' : Option (List ℕ)} (gave : Gave old room frame new left left') (pages : room ≡ 4096) where
+  pub is_whole : gave.whole ≡ frame
+  is_whole = sym (gave.cut ∙ (ap (λ n. cut_to n gave.whole) pages ∙ uncut gave.place.version gave.whole gave.is_frame))
+
+  pub can_route : CanRoute frame
+  can_route = subst CanRoute is_whole (routable gave.place.version gave.whole gave.is_frame)
+
+-- what is left to the limit gets less
+pub nearer : {old new : Reading} {room : ℕ} {frame : Frame} {left left' : Option (List ℕ)} → Gave old room frame new left left' → new.limit - place_offset new.place < old.limit - place_offset old.place
+nearer {old} {new} gave =
+    subst (λ (r : Reading). r.limit - place_offset r.place < old.limit - place_offset old.place) (sym gave.new_is)
+    (by_place old.limit old.newest old.place gave.place (length (spelled gave.whole)) gave.next gave.within some_bytes)
+  where
+    some_bytes : 0 < length (spelled gave.whole)
+    some_bytes = omega arith
+
+    by_place : (limit : ℕ) (newest : Version) (at : Option Place) (place : Place) (size : ℕ) → IsNext newest at place → place.offset + size ≤ limit → 0 < size → limit - (place.offset + size) < limit - place_offset at
+    by_place limit newest None place size next within some = omega arith
+    by_place limit newest (Some p) place size next within some = let same : place.offset ≡ p.offset = ap (λ (x : Place). x.offset) next in omega arith
+
+-- ---- lists of rounds
+
+frames_push : (rounds : List Round) (round : Round) → frames_of (rounds ++ round ∷ []) ≡ frames_of rounds ++ round.frame ∷ []
+frames_push [] round = refl
+frames_push (r ∷ rounds) round = ap (λ fs. r.frame ∷ fs) (frames_push rounds round)
+
+told_push : (units : ℕ) (rounds : List Round) (round : Round) → all_told units (rounds ++ round ∷ []) ≡ all_told units rounds ++ round_told units round
+told_push units [] round = append-nil (round_told units round)
+told_push units (r ∷ rounds) round = ap (λ l. round_told units r ++ l) (told_push units rounds round) ∙ sym (append_assoc (round_told units r) (all_told units rounds) (round_told units round))
+
+calls_push : (units : ℕ) (fs : List Frame) (frame : Frame) → calls_for units (fs ++ frame ∷ []) ≡ calls_for units fs + frame_calls units frame
+calls_push units [] frame = omega arith
+calls_push units (f ∷ fs) frame = let more = calls_push units fs frame in omega (arith, more)
+
+none_pending : (ss : List Spot) → AllByRecursion IsIdle ss → pending ss ≡ 0
+none_pending [] idle = refl
+none_pending (s ∷ ss) idle = let none = ap length idle.0.tasks in let others = none_pending ss idle.1 in omega (arith, none, others)
+
+-- ---- frames so far
+
+the_end : (frame : Frame) → is_end frame ≡ true → frame ≡ frames.End
+the_end (frames.Request w) last = absurd cc
+the_end (frames.Manage m) last = absurd cc
+the_end (frames.Turn n) last = absurd cc
+the_end (frames.Bench b) last = absurd cc
+the_end frames.End last = refl
+
+not_end : (frame : Frame) → is_end frame ≡ false → frame ≡ frames.End → ⊥
+not_end frame other is = let bad : true ≡ false = sym (ap is_end is) ∙ other in absurd cc
+
+module _ (units : ℕ) where
+  pub going_start : (a : Scene) → a.reader.place ≡ None → AllByRecursion IsIdle a.stage.spots → Going units a a
+  going_start a unread idle = record {
+    rounds = [];
+    so_far = record {
+      given = record { limit = refl; newest = refl; read = rw unread (refl, refl); calls = let none = ap (λ n. turn_calls * n) (none_pending a.stage.spots idle) in omega (arith, none) };
+      wrote = Wrote-none a.stage.written;
+      run = run_none units 0 a.stage.spots idle;
+    };
+    none_ends = tt;
+  }
+
+  module _ (a b c : Scene) (room : ℕ) (frame : Frame) (going : Going units a b) (gave : Gave b.reader room frame c.reader b.left c.left) (whole : gave.whole ≡ frame) (calls : c.calls + turn_calls * pending c.stage.spots ≤ b.calls + turn_calls * pending b.stage.spots + frame_calls units frame) where
+    given_more : HasGiven units a c (frames_of going.rounds ++ frame ∷ [])
+    given_more = record {
+      limit = ap (λ (r : Reading). r.limit) gave.new_is ∙ going.so_far.given.limit;
+      newest = ap (λ (r : Reading). r.newest) gave.new_is ∙ going.so_far.given.newest;
+      read = subst (λ f. HasRead c.reader a.left c.left (frames_of going.rounds ++ f ∷ [])) whole (has_read_more b.reader c.reader a.left b.left c.left (frames_of going.rounds) room frame going.so_far.given.read going.none_ends gave);
+      calls = omega (arith, calls, going.so_far.given.calls, calls_push units (frames_of going.rounds) frame);
+    }
+
+    module _ (done : RoundDone units frame b.stage c.stage) where
+      abbrev round : Round
+      round = round_of frame done.groups
+
+      so_far_more : SoFar units a c (going.rounds ++ round ∷ [])
+      so_far_more = record {
+        given = subst (HasGiven units a c) (sym (frames_push going.rounds round)) given_more;
+        wrote = subst (Wrote a.stage.written c.stage.written) (sym (told_push units going.rounds round)) (Wrote-more going.so_far.wrote done.wrote);
+        run = run_round units going.rounds frame done.groups 0 [] a.stage.spots refl refl going.so_far.run done.each;
+      }
+
+      pub going_more : is_end frame ≡ false → Going units a c
+      going_more other = record {
+        rounds = going.rounds ++ round ∷ [];
+        so_far = so_far_more;
+        none_ends = subst NoneEnds (sym (frames_push going.rounds round)) (All-append (λ f. f ≡ frames.End → ⊥) (frames_of going.rounds) (frame ∷ []) going.none_ends (not_end frame other, tt));
+      }
+
+      pub ended : is_end frame ≡ true → Ended units a c
+      ended last = record {
+        rounds = going.rounds ++ round ∷ [];
+        so_far = so_far_more;
+        earlier = frames_of going.rounds;
+        ends = frames_push going.rounds round ∙ ap (λ f. frames_of going.rounds ++ f ∷ []) (the_end frame last);
+      }
+
+    pub part_more : RoundInPart units frame b.stage c.stage → StoppedInRound units a c
+    part_more done = record {
+      mid = b;
+      going = going;
+      round = round_of frame done.groups;
+      given = given_more;
+      part = done.part;
+      run = by_each done.each;
+    }
+      where
+        by_each : Serves units frame 0 done.groups b.stage.spots c.stage.spots ⊎ Stops units frame 0 done.groups b.stage.spots c.stage.spots
+            → HaveRun units 0 (going.rounds ++ round_of frame done.groups ∷ []) a.stage.spots c.stage.spots ⊎ HaveRunInPart units going.rounds (round_of frame done.groups) 0 a.stage.spots c.stage.spots
+        by_each (inl each) = inl (run_round units going.rounds frame done.groups 0 [] a.stage.spots refl refl going.so_far.run each)
+        by_each (inr each) = inr (run_round_part units going.rounds frame done.groups 0 [] a.stage.spots refl refl going.so_far.run each)

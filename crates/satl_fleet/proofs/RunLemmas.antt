@@ -1,0 +1,177 @@
+-- The runs of units, which grow by a round.
+use Rattle.std.proofs.Common.{◌≡◌, ◌⊎◌, append_assoc, inl, inr, refl, sym, ap, subst, arith, ◌∙◌, ℕ, suc, ◌+◌, ◌≤◌, max, List, [], ◌∷◌, ◌++◌, length, map}
+use Rattle.std.proofs.lemmas.List.{append-nil, length-append}
+use Rattle.std.specs.Prelude.{slice_index_or}
+use Rattle.std.specs.List.{AllByRecursion}
+use Rattle.satl_base.specs.declared.bench.BenchEvent.TheVariants as events
+use Rattle.satl_base.proofs.ListsLemmas.{how_many-push}
+use Rattle.satl_io.specs.Causes.{RoseBy}
+use Rattle.satl_io.proofs.Counting.{RoseBy-more, RoseBy-none}
+use Rattle.satl_frame.specs.Output.{Answer}
+use Rattle.satl_frame.specs.declared.frames.Frame.{Frame}
+use Rattle.satl_frame.specs.declared.frames.Frame.TheVariants as frames
+use Rattle.satl_drive.specs.State.{DriveState}
+use Rattle.satl_direct.specs.Device.{Device}
+use Rattle.satl_direct.specs.Run.{losses_in}
+use Rattle.satl_direct.specs.Run.RunDeep.{start, step}
+use Rattle.satl_core.proofs.DeviceLemmas.{quiet_none}
+use Rattle.satl_step.specs.Events.{unplugs_behind}
+use Rattle.satl_step.specs.Runs.{Covers, is_unplug, tally_of, unplugs_in}
+use Rattle.satl_step.specs.Runs.RunInPart.{last}
+use Rattle.satl_fleet.specs.Output.{Round, frames_of, group_of, groups_for}
+use Rattle.satl_fleet.specs.Rounds.{Serves, Stops, round_of}
+use Rattle.satl_fleet.specs.Rounds.Serves.{none as no_unit, passes as unit_passes, serves as unit_serves}
+use Rattle.satl_fleet.specs.Rounds.Stops.{here as stop_here, passes as stop_passes, serves as stop_serves}
+use Rattle.satl_fleet.specs.Routing.{project, seen}
+use Rattle.satl_fleet.specs.Runs.{HaveRun, HaveRunInPart, IsIdle, Ran, RanInPart, RanRounds, RanRoundsInPart, UnitCounted}
+use Rattle.satl_fleet.specs.Runs.HaveRunInPart.{here as run_here, later as run_later}
+use Rattle.satl_fleet.specs.Units.{Did, DidInPart, Spot, device_of}
+
+-- ---- one unit
+
+-- an event unplugs the drive as often as it is counted to
+record Unplugs (event : Frame) (before now : ℕ) : Type 0 where
+  pub rose : RoseBy (unplugs_in (event ∷ [])) before now
+  pub few : now ≤ before + unplugs_in (event ∷ [])
+
+unplugs_one : (event : Frame) (before : ℕ) → Unplugs event before (unplugs_behind event before)
+unplugs_one (frames.Request w) before = record { rose = RoseBy-none before; few = omega arith }
+unplugs_one (frames.Manage m) before = record { rose = RoseBy-none before; few = omega arith }
+unplugs_one (frames.Turn n) before = record { rose = RoseBy-none before; few = omega arith }
+unplugs_one (frames.Bench (events.Strike which lba)) before = record { rose = RoseBy-none before; few = omega arith }
+unplugs_one (frames.Bench (events.Mend lba)) before = record { rose = RoseBy-none before; few = omega arith }
+unplugs_one (frames.Bench (events.Glitch count)) before = record { rose = RoseBy-none before; few = omega arith }
+unplugs_one (frames.Bench (events.Order order)) before = record { rose = RoseBy-none before; few = omega arith }
+unplugs_one (frames.Bench events.Power) before = record { rose = RoseBy-none before; few = omega arith }
+unplugs_one (frames.Bench events.Unplug) before = record { rose = omega arith; few = omega arith }
+unplugs_one frames.End before = record { rose = RoseBy-none before; few = omega arith }
+
+counted_more : (events : List Frame) (losses lost : ℕ) (old mid new : DriveState) (event : Frame) → UnitCounted events losses old mid → RoseBy lost mid.faults new.faults → new.unplugs ≡ unplugs_behind event mid.unplugs → Covers (tally_of mid 0) (tally_of new 0) → UnitCounted (events ++ event ∷ []) (losses + lost) old new
+counted_more events losses lost old mid new event counted faults unplugged queue =
+    let u = subst (Unplugs event mid.unplugs) (sym unplugged) (unplugs_one event mid.unplugs) in
+    let pushed : unplugs_in (events ++ event ∷ []) ≡ unplugs_in events + unplugs_in (event ∷ []) = omega (arith, how_many-push is_unplug events event) in
+    record {
+      faults = RoseBy-more losses lost old.faults mid.faults new.faults counted.faults faults;
+      unplugged = subst (λ n. RoseBy n old.unplugs new.unplugs) (sym pushed) (RoseBy-more (unplugs_in events) (unplugs_in (event ∷ [])) old.unplugs mid.unplugs new.unplugs counted.unplugged u.rose);
+      few_unplugs = omega (arith, counted.few_unplugs, u.few, pushed);
+      rises = omega (arith, counted.rises, queue.rises);
+      covers = queue.covers counted.covers;
+    }
+
+module _ (first : Device) (old : DriveState) (events : List Frame) (groups : List (List Answer)) (s new : Spot) (event : Frame) (answers : List Answer) (r : Ran first old events groups (device_of s) s.drive) where
+  ran_more : Did event s answers new → Ran first old (events ++ event ∷ []) (groups ++ answers ∷ []) (device_of new) new.drive
+  ran_more did = record {
+    losses = r.losses + losses_in event (device_of s) (device_of new);
+    deep = max r.deep did.deep;
+    run = step event answers did.deep r.run did.does;
+    deepest = omega (arith, r.deepest, did.queue.rises, did.covered r.counted.covers);
+    counted = counted_more events r.losses (losses_in event (device_of s) (device_of new)) old s.drive new.drive event r.counted did.faults did.unplugs did.queue;
+  }
+
+  ran_in_part : DidInPart event s answers new → RanInPart first old (events ++ event ∷ []) (groups ++ answers ∷ []) (device_of new) new.drive
+  ran_in_part did = record {
+    losses = r.losses + losses_in event (device_of s) (device_of new);
+    run = last event answers r.run did.does;
+    counted = counted_more events r.losses (losses_in event (device_of s) (device_of new)) old s.drive new.drive event r.counted did.faults did.unplugs did.queue;
+  }
+
+-- ---- a round more
+
+events_push : (units k : ℕ) (rounds : List Round) (round : Round) → project units k (frames_of (rounds ++ round ∷ [])) ≡ project units k (frames_of rounds) ++ seen units k round.frame
+events_push units k [] round = append-nil (seen units k round.frame)
+events_push units k (r ∷ rounds) round =
+    ap (λ l. seen units k r.frame ++ l) (events_push units k rounds round)
+    ∙ sym (append_assoc (seen units k r.frame) (project units k (frames_of rounds)) (seen units k round.frame))
+
+groups_push : (units k : ℕ) (rounds : List Round) (round : Round) → groups_for units k (rounds ++ round ∷ []) ≡ groups_for units k rounds ++ group_of k round (seen units k round.frame)
+groups_push units k [] round = append-nil (group_of k round (seen units k round.frame))
+groups_push units k (r ∷ rounds) round =
+    ap (λ l. group_of k r (seen units k r.frame) ++ l) (groups_push units k rounds round)
+    ∙ sym (append_assoc (group_of k r (seen units k r.frame)) (groups_for units k rounds) (group_of k round (seen units k round.frame)))
+
+module _ (units k : ℕ) (rounds : List Round) (round : Round) where
+  abbrev old_events : List Frame
+  old_events = project units k (frames_of rounds)
+
+  abbrev old_groups : List (List Answer)
+  old_groups = groups_for units k rounds
+
+  -- a unit that does not see its frame
+  events_same : seen units k round.frame ≡ [] → old_events ≡ project units k (frames_of (rounds ++ round ∷ []))
+  events_same unseen = sym (events_push units k rounds round ∙ (ap (λ l. old_events ++ l) unseen ∙ append-nil old_events))
+
+  groups_same : seen units k round.frame ≡ [] → old_groups ≡ groups_for units k (rounds ++ round ∷ [])
+  groups_same unseen = sym (groups_push units k rounds round ∙ (ap (λ l. old_groups ++ group_of k round l) unseen ∙ append-nil old_groups))
+
+  -- one that does
+  events_one : (event : Frame) → seen units k round.frame ≡ event ∷ [] → old_events ++ event ∷ [] ≡ project units k (frames_of (rounds ++ round ∷ []))
+  events_one event sees = sym (events_push units k rounds round ∙ ap (λ l. old_events ++ l) sees)
+
+  groups_one : (event : Frame) (answers : List Answer) → seen units k round.frame ≡ event ∷ [] → slice_index_or round.groups k [] ≡ answers → old_groups ++ answers ∷ [] ≡ groups_for units k (rounds ++ round ∷ [])
+  groups_one event answers sees here = sym (groups_push units k rounds round ∙ (ap (λ l. old_groups ++ group_of k round l) sees ∙ ap (λ g. old_groups ++ g ∷ []) here))
+
+  module _ (first : Device) (old : DriveState) (s : Spot) (r : RanRounds units k rounds first old (device_of s) s.drive) where
+    ran_past : seen units k round.frame ≡ [] → RanRounds units k (rounds ++ round ∷ []) first old (device_of s) s.drive
+    ran_past unseen = subst (λ gs. Ran first old (project units k (frames_of (rounds ++ round ∷ []))) gs (device_of s) s.drive) (groups_same unseen) (subst (λ es. Ran first old es old_groups (device_of s) s.drive) (events_same unseen) r)
+
+    module _ (event : Frame) (answers : List Answer) (new : Spot) (sees : seen units k round.frame ≡ event ∷ []) (here : slice_index_or round.groups k [] ≡ answers) where
+      ran_on : Did event s answers new → RanRounds units k (rounds ++ round ∷ []) first old (device_of new) new.drive
+      ran_on did = subst (λ gs. Ran first old (project units k (frames_of (rounds ++ round ∷ []))) gs (device_of new) new.drive) (groups_one event answers sees here) (subst (λ es. Ran first old es (old_groups ++ answers ∷ []) (device_of new) new.drive) (events_one event sees) (ran_more first old old_events old_groups s new event answers r did))
+
+      ran_cut : DidInPart event s answers new → RanRoundsInPart units k (rounds ++ round ∷ []) first old (device_of new) new.drive
+      ran_cut did = subst (λ gs. RanInPart first old (project units k (frames_of (rounds ++ round ∷ []))) gs (device_of new) new.drive) (groups_one event answers sees here) (subst (λ es. RanInPart first old es (old_groups ++ answers ∷ []) (device_of new) new.drive) (events_one event sees) (ran_in_part first old old_events old_groups s new event answers r did))
+
+-- the group of a unit
+group_at : (before : List (List Answer)) (answers : List Answer) (behind : List (List Answer)) (k : ℕ) → length before ≡ k → slice_index_or (before ++ answers ∷ behind) k [] ≡ answers
+group_at [] answers behind k is = ap (λ n. slice_index_or (answers ∷ behind) n []) (sym is)
+group_at (g ∷ gs) answers behind k is = ap (λ n. slice_index_or (g ∷ (gs ++ answers ∷ behind)) n []) (sym is) ∙ group_at gs answers behind (length gs) refl
+
+module _ (units : ℕ) (rounds : List Round) (frame : Frame) (groups : List (List Answer)) where
+  abbrev whole : Round
+  whole = round_of frame groups
+
+  next_split : (before : List (List Answer)) (answers : List Answer) (behind : List (List Answer)) → groups ≡ before ++ answers ∷ behind → groups ≡ (before ++ answers ∷ []) ++ behind
+  next_split before answers behind is = is ∙ sym (append_assoc before (answers ∷ []) behind)
+
+  next_length : (before : List (List Answer)) (answers : List Answer) (k : ℕ) → length before ≡ k → length (before ++ answers ∷ []) ≡ suc k
+  next_length before answers k is = let long = length-append before (answers ∷ []) in omega (arith, long, is)
+
+  here_is : (before : List (List Answer)) (answers : List Answer) (behind : List (List Answer)) (k : ℕ) → groups ≡ before ++ answers ∷ behind → length before ≡ k → slice_index_or groups k [] ≡ answers
+  here_is before answers behind k is long = ap (λ gs. slice_index_or gs k []) is ∙ group_at before answers behind k long
+
+  pub run_round : (k : ℕ) (before : List (List Answer)) {behind : List (List Answer)} (starts : List Spot) {olds news : List Spot} → groups ≡ before ++ behind → length before ≡ k → HaveRun units k rounds starts olds → Serves units frame k behind olds news → HaveRun units k (rounds ++ whole ∷ []) starts news
+  run_round k before [] is long run no_unit = tt
+  run_round k before (a ∷ starts) is long run no_unit = absurd run
+  run_round k before [] is long run (unit_passes unseen others) = absurd run
+  run_round k before {behind = g ∷ gs} (a ∷ starts) {olds = s ∷ ss} is long run (unit_passes unseen others) =
+      (ran_past units k rounds whole (device_of a) a.drive s run.0 unseen, run_round (suc k) (before ++ g ∷ []) starts (next_split before g gs is) (next_length before g k long) run.1 others)
+  run_round k before [] is long run (unit_serves event sees did others) = absurd run
+  run_round k before {behind = g ∷ gs} (a ∷ starts) {olds = s ∷ ss} {news = w ∷ ws} is long run (unit_serves event sees did others) =
+      (ran_on units k rounds whole (device_of a) a.drive s run.0 event g w sees (here_is before g gs k is long) did, run_round (suc k) (before ++ g ∷ []) starts (next_split before g gs is) (next_length before g k long) run.1 others)
+
+  pub run_round_part : (k : ℕ) (before : List (List Answer)) {behind : List (List Answer)} (starts : List Spot) {olds news : List Spot} → groups ≡ before ++ behind → length before ≡ k → HaveRun units k rounds starts olds → Stops units frame k behind olds news → HaveRunInPart units rounds whole k starts news
+  run_round_part k before [] is long run (stop_here event sees did) = absurd run
+  run_round_part k before {behind = g ∷ gs} (a ∷ starts) {olds = s ∷ ss} {news = w ∷ ws} is long run (stop_here event sees did) =
+      run_here (ran_cut units k rounds whole (device_of a) a.drive s run.0 event g w sees (here_is before g gs k is long) did) run.1
+  run_round_part k before [] is long run (stop_passes unseen others) = absurd run
+  run_round_part k before {behind = g ∷ gs} (a ∷ starts) {olds = s ∷ ss} is long run (stop_passes unseen others) =
+      run_later (ran_past units k rounds whole (device_of a) a.drive s run.0 unseen) (run_round_part (suc k) (before ++ g ∷ []) starts (next_split before g gs is) (next_length before g k long) run.1 others)
+  run_round_part k before [] is long run (stop_serves event sees did others) = absurd run
+  run_round_part k before {behind = g ∷ gs} (a ∷ starts) {olds = s ∷ ss} {news = w ∷ ws} is long run (stop_serves event sees did others) =
+      run_later (ran_on units k rounds whole (device_of a) a.drive s run.0 event g w sees (here_is before g gs k is long) did) (run_round_part (suc k) (before ++ g ∷ []) starts (next_split before g gs is) (next_length before g k long) run.1 others)
+  run_round_part k before {behind = []} (a ∷ starts) {olds = olds} {news = news} is long run each = elim each [ ]
+  run_round_part k before {behind = g ∷ gs} (a ∷ starts) {olds = []} {news = news} is long run each = absurd run
+
+-- no round
+pub run_none : (units k : ℕ) (ss : List Spot) → AllByRecursion IsIdle ss → HaveRun units k [] ss ss
+run_none units k [] idle = tt
+run_none units k (s ∷ ss) idle = (
+  record {
+    losses = 0;
+    deep = 0;
+    run = start (quiet_none (device_of s));
+    deepest = omega arith;
+    counted = record { faults = RoseBy-none s.drive.faults; unplugged = RoseBy-none s.drive.unplugs; few_unplugs = omega arith; rises = omega arith; covers = idle.0.covers };
+  },
+  run_none units (suc k) ss idle.1,
+)

@@ -1,0 +1,122 @@
+-- Serving from before the units were opened.
+use Rattle.std.proofs.Common.{◌≡◌, ◌⊎◌, inl, inr, refl, sym, ap, subst, arith, ◌∙◌, ℕ, suc, ◌+◌, ◌≤◌, List, [], ◌∷◌, ◌++◌, length, map}
+use Rattle.std.specs.List.{AllByRecursion}
+use Rattle.satl_io.specs.Causes.{RoseBy}
+use Rattle.satl_frame.specs.Output.{Answer}
+use Rattle.satl_frame.specs.declared.frames.Frame.{Frame}
+use Rattle.satl_line.specs.Tasks.{entries_of}
+use Rattle.satl_drive.specs.State.{DriveState}
+use Rattle.satl_direct.specs.Device.{Device}
+use Rattle.satl_direct.specs.Tasks.{task_of}
+use Rattle.satl_core.specs.Layer.{Layer, Tied, view}
+use Rattle.satl_core.specs.Opening.{IsOpened}
+use Rattle.satl_core.specs.Tie.{given_by}
+use Rattle.satl_serve.specs.Runs.{IsFirst, IsLeftAs}
+use Rattle.satl_step.specs.Runs.{unplugs_in}
+use Rattle.satl_fleet.specs.Opening.{Opens, OpensTo}
+use Rattle.satl_fleet.specs.Opening.OpensTo.{rest, more}
+use Rattle.satl_fleet.specs.Output.{Round, frames_of, groups_for}
+use Rattle.satl_fleet.specs.Routing.{project}
+use Rattle.satl_fleet.specs.Runs.{AreServed, AreServedInPart, HaveRun, HaveRunInPart, Ran, RanInPart, RanRounds, RanRoundsInPart, UnitCounted, UnitServed}
+use Rattle.satl_fleet.specs.Runs.AreServedInPart.{here as served_here, later as served_later}
+use Rattle.satl_fleet.specs.Runs.HaveRunInPart.{here as run_here, later as run_later}
+use Rattle.satl_fleet.specs.Units.{IsTiedSpot, Spot, spot, spots_of}
+
+-- an opened layer and its drive are a first device
+first_of : (old new : DriveState) (l : Layer) → IsOpened old l new → IsFirst old (view l new)
+first_of old new l o = record {
+  cells = o.lost;
+  tasks = ap (λ t. map task_of (entries_of t)) o.tasks;
+  identity = o.identity;
+  wce = o.wce;
+  dra = o.dra;
+  d_sense = o.d_sense;
+  started = o.started;
+  up = sym o.tied.agrees.mark ∙ o.up;
+  active = ap (λ (d : DriveState). d.active) o.stays;
+  attentions = o.attentions;
+  glitches = ap (λ (d : DriveState). d.glitches) o.stays;
+  valid = o.tied.agrees.valid;
+}
+
+-- a drive is left as the device that it and its layer are
+left_as : (l : Layer) (d : DriveState) → Tied l d → IsLeftAs (view l d) d
+left_as l d t = record {
+  cells = refl;
+  active = refl;
+  glitches = refl;
+  down = refl;
+  cache = λ up. t.agrees.cache (t.agrees.mark ∙ up);
+  look = λ up. t.agrees.look (t.agrees.mark ∙ up);
+}
+
+-- ---- a run is counted from before the layer was opened
+
+module _ (old mid new : DriveState) (stays : mid ≡ record old { cells = mid.cells }) where
+  sooner_counted : (events : List Frame) (losses : ℕ) → UnitCounted events losses mid new → UnitCounted events losses old new
+  sooner_counted events losses c =
+      let unplugs = ap (λ (d : DriveState). d.unplugs) stays in
+      let deepest = ap (λ (d : DriveState). d.deepest) stays in
+      record {
+        faults = subst (λ n. RoseBy losses n new.faults) (ap (λ (d : DriveState). d.faults) stays) c.faults;
+        unplugged = subst (λ n. RoseBy (unplugs_in events) n new.unplugs) unplugs c.unplugged;
+        few_unplugs = omega (arith, c.few_unplugs, unplugs);
+        rises = omega (arith, c.rises, deepest);
+        covers = c.covers;
+      }
+
+  sooner : (first last : Device) (events : List Frame) (groups : List (List Answer)) → Ran first mid events groups last new → Ran first old events groups last new
+  sooner first last events groups r = record { losses = r.losses; deep = r.deep; run = r.run; deepest = r.deepest; counted = sooner_counted events r.losses r.counted }
+
+  sooner_part : (first last : Device) (events : List Frame) (groups : List (List Answer)) → RanInPart first mid events groups last new → RanInPart first old events groups last new
+  sooner_part first last events groups r = record { losses = r.losses; run = r.run; counted = sooner_counted events r.losses r.counted }
+
+-- ---- one unit
+
+module _ (units k : ℕ) (rounds : List Round) (old mid new : DriveState) (l l' : Layer) (o : Opens old l mid) (tied : IsTiedSpot (spot l' new)) where
+  unit_served : RanRounds units k rounds (view l mid) mid (view l' new) new → UnitServed (λ first last. RanRounds units k rounds first old last new) old new
+  unit_served r = record {
+    first = view l mid;
+    last = view l' new;
+    begins = first_of old mid l o.opened;
+    run = sooner old mid new o.opened.stays (view l mid) (view l' new) (project units k (frames_of rounds)) (groups_for units k rounds) r;
+    ends = left_as l' new tied.tied;
+    queue = record { given = given_by l'; queue = tied.queue.queue };
+  }
+
+  unit_served_part : RanRoundsInPart units k rounds (view l mid) mid (view l' new) new → UnitServed (λ first last. RanRoundsInPart units k rounds first old last new) old new
+  unit_served_part r = record {
+    first = view l mid;
+    last = view l' new;
+    begins = first_of old mid l o.opened;
+    run = sooner_part old mid new o.opened.stays (view l mid) (view l' new) (project units k (frames_of rounds)) (groups_for units k rounds) r;
+    ends = left_as l' new tied.tied;
+    queue = record { given = given_by l'; queue = tied.queue.queue };
+  }
+
+-- ---- all units
+
+module _ (units : ℕ) where
+  no_more : (k : ℕ) (rounds : List Round) (ls : List Layer) (news : List DriveState) → length ls ≡ length news → HaveRun units k rounds [] (spots_of ls news) → AreServed units k rounds [] news
+  no_more k rounds [] [] long run = tt
+  no_more k rounds [] (w ∷ ws) long run = absurd (omega (arith, long))
+  no_more k rounds (x ∷ xs) [] long run = absurd (omega (arith, long))
+  no_more k rounds (x ∷ xs) (w ∷ ws) long run = absurd run
+
+  pub are_served : (k : ℕ) (rounds : List Round) {olds mids : List DriveState} {ls : List Layer} (ls' : List Layer) (news : List DriveState) → OpensTo olds ls mids → length ls ≡ length olds → length ls' ≡ length news → HaveRun units k rounds (spots_of ls mids) (spots_of ls' news) → AllByRecursion IsTiedSpot (spots_of ls' news) → AreServed units k rounds olds news
+  are_served k rounds {olds = []} ls' news rest each long run tied = no_more k rounds ls' news long run
+  are_served k rounds {olds = d ∷ ds} ls' news rest each long run tied = absurd (omega (arith, each))
+  are_served k rounds [] [] (more o os) each long run tied = absurd run
+  are_served k rounds [] (w ∷ ws) (more o os) each long run tied = absurd (omega (arith, long))
+  are_served k rounds (x ∷ xs) [] (more o os) each long run tied = absurd (omega (arith, long))
+  are_served k rounds {olds = d ∷ ds} {mids = m ∷ ms} {ls = l ∷ ls} (x ∷ xs) (w ∷ ws) (more o os) each long run tied =
+      (unit_served units k rounds d m w l x o tied.0 run.0, are_served (suc k) rounds xs ws os (omega (arith, each)) (omega (arith, long)) run.1 tied.1)
+
+  pub are_served_part : (k : ℕ) (rounds : List Round) (round : Round) {olds mids : List DriveState} {ls : List Layer} (ls' : List Layer) (news : List DriveState) → OpensTo olds ls mids → length ls ≡ length olds → length ls' ≡ length news → HaveRunInPart units rounds round k (spots_of ls mids) (spots_of ls' news) → AllByRecursion IsTiedSpot (spots_of ls' news) → AreServedInPart units rounds round k olds news
+  are_served_part k rounds round {olds = d ∷ ds} {mids = m ∷ ms} {ls = l ∷ ls} (x ∷ xs) (w ∷ ws) (more o os) each long (run_here r others) tied =
+      served_here (unit_served_part units k (rounds ++ round ∷ []) d m w l x o tied.0 r) (are_served (suc k) rounds xs ws os (omega (arith, each)) (omega (arith, long)) others tied.1)
+  are_served_part k rounds round {olds = d ∷ ds} {mids = m ∷ ms} {ls = l ∷ ls} (x ∷ xs) (w ∷ ws) (more o os) each long (run_later r others) tied =
+      served_later (unit_served units k (rounds ++ round ∷ []) d m w l x o tied.0 r) (are_served_part (suc k) rounds round xs ws os (omega (arith, each)) (omega (arith, long)) others tied.1)
+  are_served_part k rounds round ls' news rest each long run tied = elim run [ ]
+  are_served_part k rounds round [] news (more o os) each long run tied = elim run [ ]
+  are_served_part k rounds round (x ∷ xs) [] (more o os) each long run tied = elim run [ ]

@@ -1,0 +1,63 @@
+use Rattle.std.proofs.Common.{◌≡◌, ap, arith, map, refl, subst, sym, vec_len, ◌∙◌}
+use Rattle.satl_frame.specs.Reading.{Reading}
+use Rattle.satl_fleet.specs.Loop.{scene}
+use Rattle.satl_fleet.specs.Rounds.{RoundDone, RoundInPart, frame_calls, stage}
+use Rattle.satl_fleet.specs.Units.{IsReady, IsTiedSpot, spots_of}
+use Rattle.satl_fleet.proofs.LoopLemmas.{can_route, ended, going_more, going_start, is_whole, nearer, part_more}
+use Rattle.satl_fleet.proofs.SpotLemmas.{all_map}
+use Rattle.satl_fleet.proofs.frames_loop.serve_frames.Goals as goal
+
+pub frames-init : goal.frames-init
+frames-init g c = record {
+  units = refl;
+  drives = refl;
+  ready = c.requires.ready;
+  none = c.new-replies.ensures;
+  number = c.requires.pool;
+  all_in = c.requires.all_in;
+  fresh = c.requires.fresh;
+  going = going_start (vec_len c.args.units.now) (scene c.args.reader.now (g.S.Source.left c.args.source.now) (stage (spots_of c.args.units.now.items (map g.D.Drive.state c.args.drives.now.items)) (g.K.Sink.written c.args.sink.now)) c.args.steps.now) c.requires.unread c.requires.idle;
+  read_later = omega arith;
+  write_later = omega arith;
+}
+
+pub serve_frame-requires-clause-can : goal.serve_frame-requires-clause-can
+serve_frame-requires-clause-can g c =
+    let pages : c.frames.pool.free ≡ 4096 = omega (arith, c.frames.invariant.number, c.frames.invariant.all_in) in
+    can_route c.in-Ok.ensures.gave pages
+
+pub frames-smaller : goal.frames-smaller
+frames-smaller g c = nearer c.in-Ok.ensures.gave
+
+pub returns-in-Err-serve_frame-clause-stopped : goal.returns-in-Err-serve_frame-clause-stopped
+returns-in-Err-serve_frame-clause-stopped g c =
+    let pages : c.frames.pool.free ≡ 4096 = omega (arith, c.frames.invariant.number, c.frames.invariant.all_in) in
+    let allowed = ap (λ n. frame_calls n c.in-Ok.frame) c.frames.invariant.units in
+    part_more (vec_len c.args.units.now) (scene c.args.reader.now (g.S.Source.left c.args.source.now) (stage (spots_of c.args.units.now.items (map g.D.Drive.state c.args.drives.now.items)) (g.K.Sink.written c.args.sink.now)) c.args.steps.now) (scene c.frames.reader (g.S.Source.left c.frames.source) (stage (spots_of c.frames.units.items (map g.D.Drive.state c.frames.drives.items)) (g.K.Sink.written c.frames.sink)) c.frames.steps) (scene c.next.new.self (g.S.Source.left c.next.new.source) (stage (spots_of c.serve_frame.new.units.items (map g.D.Drive.state c.serve_frame.new.drives.items)) (g.K.Sink.written c.serve_frame.new.sink)) c.serve_frame.new.steps) c.frames.pool.free c.in-Ok.frame c.frames.invariant.going c.in-Ok.ensures.gave (is_whole c.in-Ok.ensures.gave pages) (omega (arith, c.serve_frame.ensures.calls, allowed)) (subst (λ n. RoundInPart n c.in-Ok.frame (stage (spots_of c.frames.units.items (map g.D.Drive.state c.frames.drives.items)) (g.K.Sink.written c.frames.sink)) (stage (spots_of c.serve_frame.new.units.items (map g.D.Drive.state c.serve_frame.new.drives.items)) (g.K.Sink.written c.serve_frame.new.sink))) c.frames.invariant.units c.in-Err-serve_frame.ensures.part)
+
+pub returns-then-last-clause-ended : goal.returns-then-last-clause-ended
+returns-then-last-clause-ended g c =
+    let pages : c.frames.pool.free ≡ 4096 = omega (arith, c.frames.invariant.number, c.frames.invariant.all_in) in
+    let allowed = ap (λ n. frame_calls n c.in-Ok.frame) c.frames.invariant.units in
+    ended (vec_len c.args.units.now) (scene c.args.reader.now (g.S.Source.left c.args.source.now) (stage (spots_of c.args.units.now.items (map g.D.Drive.state c.args.drives.now.items)) (g.K.Sink.written c.args.sink.now)) c.args.steps.now) (scene c.frames.reader (g.S.Source.left c.frames.source) (stage (spots_of c.frames.units.items (map g.D.Drive.state c.frames.drives.items)) (g.K.Sink.written c.frames.sink)) c.frames.steps) (scene c.next.new.self (g.S.Source.left c.next.new.source) (stage (spots_of c.serve_frame.new.units.items (map g.D.Drive.state c.serve_frame.new.drives.items)) (g.K.Sink.written c.serve_frame.new.sink)) c.serve_frame.new.steps) c.frames.pool.free c.in-Ok.frame c.frames.invariant.going c.in-Ok.ensures.gave (is_whole c.in-Ok.ensures.gave pages) (omega (arith, c.serve_frame.ensures.calls, allowed)) (subst (λ n. RoundDone n c.in-Ok.frame (stage (spots_of c.frames.units.items (map g.D.Drive.state c.frames.drives.items)) (g.K.Sink.written c.frames.sink)) (stage (spots_of c.serve_frame.new.units.items (map g.D.Drive.state c.serve_frame.new.drives.items)) (g.K.Sink.written c.serve_frame.new.sink))) c.frames.invariant.units c.in-Ok-serve_frame.ensures.done) (sym c.is_end-last.ensures ∙ c.if-last.true)
+
+pub frames-preserved : goal.frames-preserved
+frames-preserved g c =
+    let pages : c.frames.pool.free ≡ 4096 = omega (arith, c.frames.invariant.number, c.frames.invariant.all_in) in
+    let allowed = ap (λ n. frame_calls n c.in-Ok.frame) c.frames.invariant.units in
+    let new = c.in-Ok.ensures.gave.new_is in
+    record {
+      units = omega (arith, c.frames.invariant.units, c.serve_frame.ensures.units);
+      drives = omega (arith, c.frames.invariant.drives, c.serve_frame.ensures.drives);
+      ready = c.in-Ok-serve_frame.ensures.ready;
+      none = c.in-Ok-serve_frame.ensures.none;
+      number = omega (arith, c.serve_frame.ensures.number, c.in-Ok.ensures.free, c.in-Ok.ensures.out, c.frames.invariant.number);
+      all_in = c.in-Ok-serve_frame.ensures.all_in;
+      fresh = ap (λ (r : Reading). r.refused) new ∙ c.frames.invariant.fresh;
+      going = going_more (vec_len c.args.units.now) (scene c.args.reader.now (g.S.Source.left c.args.source.now) (stage (spots_of c.args.units.now.items (map g.D.Drive.state c.args.drives.now.items)) (g.K.Sink.written c.args.sink.now)) c.args.steps.now) (scene c.frames.reader (g.S.Source.left c.frames.source) (stage (spots_of c.frames.units.items (map g.D.Drive.state c.frames.drives.items)) (g.K.Sink.written c.frames.sink)) c.frames.steps) (scene c.next.new.self (g.S.Source.left c.next.new.source) (stage (spots_of c.serve_frame.new.units.items (map g.D.Drive.state c.serve_frame.new.drives.items)) (g.K.Sink.written c.serve_frame.new.sink)) c.serve_frame.new.steps) c.frames.pool.free c.in-Ok.frame c.frames.invariant.going c.in-Ok.ensures.gave (is_whole c.in-Ok.ensures.gave pages) (omega (arith, c.serve_frame.ensures.calls, allowed)) (subst (λ n. RoundDone n c.in-Ok.frame (stage (spots_of c.frames.units.items (map g.D.Drive.state c.frames.drives.items)) (g.K.Sink.written c.frames.sink)) (stage (spots_of c.serve_frame.new.units.items (map g.D.Drive.state c.serve_frame.new.drives.items)) (g.K.Sink.written c.serve_frame.new.sink))) c.frames.invariant.units c.in-Ok-serve_frame.ensures.done) (sym c.is_end-last.ensures ∙ c.if-last.false);
+      read_later = omega (arith, c.frames.invariant.read_later, (c.in-Ok.ensures.causes c.frames.invariant.fresh).later);
+      write_later = omega (arith, c.frames.invariant.write_later, c.serve_frame.ensures.cause.later);
+    }
+
+pub returns-in-Err-clause-tied : goal.returns-in-Err-clause-tied
+returns-in-Err-clause-tied g c = all_map IsReady IsTiedSpot (spots_of c.frames.units.items (map g.D.Drive.state c.frames.drives.items)) (λ s r. r.tied) c.frames.invariant.ready

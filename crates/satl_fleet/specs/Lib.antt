@@ -1,0 +1,11 @@
+pub mod Headline
+pub mod Loop
+pub mod Moments
+pub mod Opening
+pub mod Output
+pub mod Rounds
+pub mod Routing
+pub mod Runs
+pub mod Stopping
+pub mod Target
+pub mod Units

@@ -1,0 +1,48 @@
+-- The units of a target are opened, each on its drive (SAT-3 8.1, IDENTIFY DEVICE; profile).
+use Rattle.std.specs.Prelude.{◌≡◌, ◌⊎◌, ℕ, List, [], ◌∷◌, None, map}
+use Rattle.std.specs.List.{AllZip}
+use Rattle.satl_drive.specs.State.{DriveState, IsFit}
+use Rattle.satl_core.specs.Layer.{Layer}
+use Rattle.satl_core.specs.Opening.{IsCause, IsOpened, IsUndisturbed}
+use Rattle.satl_core.specs.Tie.{TiesQueue}
+use Rattle.satl_core.specs.declared.satl.OpenFault.{OpenFault}
+use Rattle.satl_fleet.specs.declared.fault.FleetFault.{FleetFault}
+use Rattle.satl_fleet.specs.declared.fault.FleetFault.TheVariants as fleet
+
+-- a drive has nothing outstanding and is in no error state, and its IDENTIFY DEVICE data fit it (profile)
+pub record IsServable (d : DriveState) : Type 0 where
+  pub idle : d.outstanding ≡ []
+  pub no_error : d.error ≡ None
+  pub fit : IsFit d
+
+-- a drive was at most asked for its IDENTIFY DEVICE data: it stays as it was, but for entries that its sectors may be left with, and,
+-- where its link was lost meanwhile, for what that does; each sector reads as before; it was not unplugged (profile)
+pub record IsLeftAlone (old new : DriveState) : Type 0 where
+  pub undisturbed : IsUndisturbed old new
+  pub nows : map (λ c. c.now) new.cells ≡ map (λ c. c.now) old.cells
+  pub unplugs : new.unplugs ≡ old.unplugs
+
+-- a layer was opened on a drive (profile)
+pub record Opens (old : DriveState) (l : Layer) (new : DriveState) : Type 0 where
+  pub opened : IsOpened old l new
+  pub queue : TiesQueue l new
+  pub nows : map (λ c. c.now) new.cells ≡ map (λ c. c.now) old.cells
+
+-- layers were opened on the first drives, and those behind them stay (profile)
+pub data OpensTo : List DriveState → List Layer → List DriveState → Type 0 where
+  rest : {ds : List DriveState} → OpensTo ds [] ds
+  more : {old new : DriveState} {l : Layer} {olds news : List DriveState} {ls : List Layer} → Opens old l new → OpensTo olds ls news → OpensTo (old ∷ olds) (l ∷ ls) (new ∷ news)
+
+-- some drive is refused for this cause (profile)
+abbrev pub IsCauseOfOne : OpenFault → List DriveState → List DriveState → Type 0
+IsCauseOfOne fault [] news = ⊥
+IsCauseOfOne fault (old ∷ olds) [] = ⊥
+IsCauseOfOne fault (old ∷ olds) (new ∷ news) = IsCause old new fault ⊎ IsCauseOfOne fault olds news
+
+-- why the units are not all opened: one drive is refused for its own cause, or memory ran out (profile)
+abbrev pub StopsOpening : List DriveState → List DriveState → FleetFault → Type 0
+StopsOpening olds news (fleet.Open fault) = IsCauseOfOne fault olds news
+StopsOpening olds news (fleet.BadInput reason offset) = ⊥
+StopsOpening olds news fleet.Read = ⊥
+StopsOpening olds news fleet.Write = ⊥
+StopsOpening olds news fleet.NoMemory = Unit {0}

@@ -1,0 +1,140 @@
+-- One frame over the units of a target (profile).
+use Rattle.std.specs.Prelude.{◌≡◌, ◌⊎◌, ℕ, zero, suc, ◌+◌, ◌*◌, ◌≤◌, List, [], ◌∷◌, length, Option, Some, slice_get, slice_set, if◌then◌else◌}
+use Rattle.satl_io.specs.Known.{Wrote, WrotePart}
+use Rattle.satl_frame.specs.declared.frames.Frame.{Frame}
+use Rattle.satl_frame.specs.declared.frames.Frame.TheVariants as frames
+use Rattle.satl_frame.specs.Output.{Answer}
+use Rattle.satl_core.specs.Layer.{IsExpectable}
+use Rattle.satl_core.specs.Turning.{off_calls, turn_calls}
+use Rattle.satl_fleet.specs.Output.{Round, round_told, told_from, told_under}
+use Rattle.satl_fleet.specs.Routing.{is_for_all, is_report, seen}
+use Rattle.satl_fleet.specs.Units.{Did, DidInPart, Spot}
+
+-- the units, and what was written (profile)
+pub record Stage : Type 0 where
+  pub spots : List Spot
+  pub written : Option (List ℕ)
+
+abbrev pub stage : List Spot → Option (List ℕ) → Stage
+stage spots written = record { spots = spots; written = written }
+
+-- ---- one unit
+
+-- the unit of this number did an event, all others stay, and its answers were told (profile)
+pub record DidAt (k : ℕ) (event : Frame) (before after : Stage) : Type 0 where
+  pub old : Spot
+  pub new : Spot
+  pub answers : List Answer
+  pub here : slice_get before.spots k ≡ Some old
+  pub set : after.spots ≡ slice_set before.spots k new
+  pub did : Did event old answers new
+  pub wrote : Wrote before.written after.written (told_under k answers)
+
+-- it did the event or a part of it, all others stay, and a front of its answers was told (profile)
+pub record DidAtInPart (k : ℕ) (event : Frame) (before after : Stage) : Type 0 where
+  pub old : Spot
+  pub new : Spot
+  pub answers : List Answer
+  pub here : slice_get before.spots k ≡ Some old
+  pub set : after.spots ≡ slice_set before.spots k new
+  pub did : DidInPart event old answers new
+  pub part : WrotePart before.written after.written (told_under k answers)
+
+-- ---- all units
+
+-- so many units from the first on did an event, with these answers, and those behind them stay (profile)
+pub data DidTo (event : Frame) : ℕ → List (List Answer) → List Spot → List Spot → Type 0 where
+  rest : {ss : List Spot} → DidTo event zero [] ss ss
+  more : {count : ℕ} {groups : List (List Answer)} {olds news : List Spot} {old new : Spot} {answers : List Answer}
+      → Did event old answers new → DidTo event count groups olds news → DidTo event (suc count) (answers ∷ groups) (old ∷ olds) (new ∷ news)
+
+-- units from the first on did it, the next one in whole or in part, and those behind it stay (profile)
+pub data DidToInPart (event : Frame) : List (List Answer) → List Spot → List Spot → Type 0 where
+  here : {ss : List Spot} {old new : Spot} {answers : List Answer} → DidInPart event old answers new → DidToInPart event (answers ∷ []) (old ∷ ss) (new ∷ ss)
+  later : {groups : List (List Answer)} {olds news : List Spot} {old new : Spot} {answers : List Answer}
+      → Did event old answers new → DidToInPart event groups olds news → DidToInPart event (answers ∷ groups) (old ∷ olds) (new ∷ news)
+
+-- all units did an event, and told it (profile)
+pub record AllDid (event : Frame) (before after : Stage) : Type 0 where
+  pub groups : List (List Answer)
+  pub did : DidTo event (length before.spots) groups before.spots after.spots
+  pub wrote : Wrote before.written after.written (told_from 0 groups)
+
+-- units did it up to one that did it in whole or in part, and it was told in part (profile)
+pub record AllDidInPart (event : Frame) (before after : Stage) : Type 0 where
+  pub groups : List (List Answer)
+  pub did : DidToInPart event groups before.spots after.spots
+  pub part : WrotePart before.written after.written (told_from 0 groups)
+
+-- ---- a frame
+
+-- each unit from this one on did what the frame is to it, and stays where it is nothing to it (profile)
+pub data Serves (units : ℕ) (frame : Frame) : ℕ → List (List Answer) → List Spot → List Spot → Type 0 where
+  none : {k : ℕ} → Serves units frame k [] [] []
+  passes : {k : ℕ} {groups : List (List Answer)} {olds news : List Spot} {old : Spot}
+      → seen units k frame ≡ [] → Serves units frame (suc k) groups olds news → Serves units frame k ([] ∷ groups) (old ∷ olds) (old ∷ news)
+  serves : {k : ℕ} {groups : List (List Answer)} {olds news : List Spot} {old new : Spot} {answers : List Answer} (event : Frame)
+      → seen units k frame ≡ event ∷ [] → Did event old answers new → Serves units frame (suc k) groups olds news
+      → Serves units frame k (answers ∷ groups) (old ∷ olds) (new ∷ news)
+
+-- the same up to a unit that did it in whole or in part; those behind it stay (profile)
+pub data Stops (units : ℕ) (frame : Frame) : ℕ → List (List Answer) → List Spot → List Spot → Type 0 where
+  here : {k : ℕ} {ss : List Spot} {old new : Spot} {answers : List Answer} (event : Frame)
+      → seen units k frame ≡ event ∷ [] → DidInPart event old answers new → Stops units frame k (answers ∷ []) (old ∷ ss) (new ∷ ss)
+  passes : {k : ℕ} {groups : List (List Answer)} {olds news : List Spot} {old : Spot}
+      → seen units k frame ≡ [] → Stops units frame (suc k) groups olds news → Stops units frame k ([] ∷ groups) (old ∷ olds) (old ∷ news)
+  serves : {k : ℕ} {groups : List (List Answer)} {olds news : List Spot} {old new : Spot} {answers : List Answer} (event : Frame)
+      → seen units k frame ≡ event ∷ [] → Did event old answers new → Stops units frame (suc k) groups olds news
+      → Stops units frame k (answers ∷ groups) (old ∷ olds) (new ∷ news)
+
+abbrev pub round_of : Frame → List (List Answer) → Round
+round_of frame groups = record { frame = frame; groups = groups }
+
+-- a frame was served by all units, and told (profile)
+pub record RoundDone (units : ℕ) (frame : Frame) (before after : Stage) : Type 0 where
+  pub groups : List (List Answer)
+  pub each : Serves units frame 0 groups before.spots after.spots
+  pub wrote : Wrote before.written after.written (round_told units (round_of frame groups))
+
+-- a frame was served by all units, or up to one that did it in whole or in part, and a front of what is due was told (profile)
+pub record RoundInPart (units : ℕ) (frame : Frame) (before after : Stage) : Type 0 where
+  pub groups : List (List Answer)
+  pub each : Serves units frame 0 groups before.spots after.spots ⊎ Stops units frame 0 groups before.spots after.spots
+  pub part : WrotePart before.written after.written (round_told units (round_of frame groups))
+
+-- the pages of a frame that can be routed hold all of its data-out (profile)
+abbrev pub CanRoute : Frame → Type 0
+CanRoute (frames.Request r) = (r.data_len ≤ 512 * length r.body) × IsExpectable r.expected
+CanRoute (frames.Manage m) = Unit {0}
+CanRoute (frames.Turn count) = Unit {0}
+CanRoute (frames.Bench event) = Unit {0}
+CanRoute frames.End = Unit {0}
+
+-- the most calls of drives that a frame takes, and a turn for each task that it leaves (profile)
+abbrev pub frame_calls : ℕ → Frame → ℕ
+frame_calls units (frames.Request r) = if is_report r then 0 else turn_calls + off_calls
+frame_calls units (frames.Manage m) = if is_for_all m then units * off_calls else off_calls
+frame_calls units (frames.Turn count) = 0
+frame_calls units (frames.Bench event) = 0
+frame_calls units frames.End = 0
+
+-- the most calls of drives that frames take (profile)
+abbrev pub calls_for : ℕ → List Frame → ℕ
+calls_for units [] = 0
+calls_for units (frame ∷ others) = frame_calls units frame + calls_for units others
+
+-- an event that has no pages, and may go to each unit (profile)
+abbrev pub IsShared : Frame → Type 0
+IsShared (frames.Request r) = ⊥
+IsShared (frames.Manage m) = Unit {0}
+IsShared (frames.Turn count) = Unit {0}
+IsShared (frames.Bench event) = Unit {0}
+IsShared frames.End = Unit {0}
+
+-- turns, or an event of the bench (profile)
+abbrev pub IsTurnOrBench : Frame → Type 0
+IsTurnOrBench (frames.Request r) = ⊥
+IsTurnOrBench (frames.Manage m) = ⊥
+IsTurnOrBench (frames.Turn count) = Unit {0}
+IsTurnOrBench (frames.Bench event) = Unit {0}
+IsTurnOrBench frames.End = ⊥

@@ -1,0 +1,270 @@
+// One frame over the units of a target.
+ghost use Rattle.std.specs.Prelude.{◌≡◌, ◌≤◌, ◌<◌, ◌+◌, ◌*◌, ◌∷◌, ℕ, [], OnErr, OnOk, length, map, vec_len};
+ghost use Rattle.std.specs.List.{AllByRecursion};
+ghost use Rattle.satl_io.specs.Causes.{HasCause};
+ghost use Rattle.satl_frame.specs.declared.frames.Frame.{Frame};
+ghost use Rattle.satl_frame.specs.Pulls.{frame_pages};
+ghost use Rattle.satl_core.specs.Layer.{IsExpectable};
+ghost use Rattle.satl_core.specs.Turning.{turn_calls};
+ghost use Rattle.satl_pages.specs.Counts.{number_of};
+ghost use Rattle.satl_step.specs.Runs.{calls_allowed};
+ghost use Rattle.satl_fleet.specs.Rounds.{AllDid, AllDidInPart, CanRoute, IsShared, IsTurnOrBench, RoundDone, RoundInPart, frame_calls, stage};
+ghost use Rattle.satl_fleet.specs.Units.{IsReady, IsTiedSpot, pending, spots_of};
+
+use crate::event::{serve_at, serve_request_at};
+use crate::reporting::report;
+use crate::routing::{LUN_0, Route, is_for_all, is_report, route_to};
+use satl_base::{BenchEvent, Manage, OrderBytes, Replies, Request, Steps};
+use satl_core::Satl;
+use satl_drive::Bench;
+use satl_frame::{Frame, OutFrame, WriteFault, write_frame};
+use satl_io::Sink;
+use satl_pages::Pool;
+use std::sync::ledger::Ledger;
+
+fn order_again(bytes: &OrderBytes) -> OrderBytes
+    ensures { result ≡ bytes.now }
+{
+    let mut again = OrderBytes::new();
+    let Ok(()) = again.try_extend_from_slice(bytes.as_slice()) else {
+        unreachable!();
+    };
+    again
+}
+
+fn bench_again(event: &BenchEvent) -> BenchEvent
+    ensures { result ≡ event.now }
+{
+    match event {
+        BenchEvent::Strike { which, lba } => BenchEvent::Strike {
+            which: *which,
+            lba: *lba,
+        },
+        BenchEvent::Mend { lba } => BenchEvent::Mend { lba: *lba },
+        BenchEvent::Glitch { count } => BenchEvent::Glitch { count: *count },
+        BenchEvent::Order { bytes } => BenchEvent::Order {
+            bytes: order_again(bytes),
+        },
+        BenchEvent::Power => BenchEvent::Power,
+        BenchEvent::Unplug => BenchEvent::Unplug,
+    }
+}
+
+/// The same event for one unit more.
+fn again(event: &Frame) -> Frame
+    requires { IsShared event.now }
+    ensures { result ≡ event.now }
+{
+    match event {
+        Frame::Request(_) => unreachable!(),
+        Frame::Manage(manage) => Frame::Manage(*manage),
+        Frame::Turn(count) => Frame::Turn(*count),
+        Frame::Bench(event) => Frame::Bench(bench_again(event)),
+        Frame::End => Frame::End,
+    }
+}
+
+/// Carries out an event on each unit in order.
+fn serve_all<K: Sink, D: Bench, L: Ledger>(
+    units: &mut Vec<Satl>,
+    drives: &mut Vec<D>,
+    event: &Frame,
+    sink: &mut K,
+    replies: &mut Replies,
+    steps: &mut Steps<L>,
+) -> Result<(), WriteFault>
+    requires same { vec_len drives.old ≡ vec_len units.old }
+    requires ready { AllByRecursion IsReady (spots_of units.old.items (map D.state drives.old.items)) }
+    requires none { replies.old ≡ [] }
+    requires few { vec_len units.old ≤ 4 }
+    requires shared { IsShared event.now }
+    ensures done { OnOk result (AllDid event.now (stage (spots_of units.old.items (map D.state drives.old.items)) (K.written sink.old)) (stage (spots_of units.new.items (map D.state drives.new.items)) (K.written sink.new))) }
+    ensures part { OnErr result (AllDidInPart event.now (stage (spots_of units.old.items (map D.state drives.old.items)) (K.written sink.old)) (stage (spots_of units.new.items (map D.state drives.new.items)) (K.written sink.new))) }
+    ensures ready { OnOk result (AllByRecursion IsReady (spots_of units.new.items (map D.state drives.new.items))) }
+    ensures tied { AllByRecursion IsTiedSpot (spots_of units.new.items (map D.state drives.new.items)) }
+    ensures none { OnOk result (replies.new ≡ []) }
+    ensures calls { steps.new + turn_calls * pending (spots_of units.new.items (map D.state drives.new.items)) ≤ steps.old + turn_calls * pending (spots_of units.old.items (map D.state drives.old.items)) + vec_len units.old * calls_allowed (event.now ∷ []) }
+    ensures units { vec_len units.new ≡ vec_len units.old }
+    ensures drives { vec_len drives.new ≡ vec_len drives.old }
+    ensures cause { HasCause (K.faults sink.old) (K.faults sink.new) result }
+{
+    for k in 0..units.len() as u8 {
+        serve_at(units, drives, k, again(event), sink, replies, steps)?;
+    }
+    Ok(())
+}
+
+/// Carries out a request: the target answers REPORT LUNS, and one unit each other command.
+fn serve_request<K: Sink, D: Bench, L: Ledger>(
+    units: &mut Vec<Satl>,
+    drives: &mut Vec<D>,
+    pool: &mut Pool,
+    request: Request,
+    sink: &mut K,
+    replies: &mut Replies,
+    steps: &mut Steps<L>,
+) -> Result<(), WriteFault>
+    requires same { vec_len drives.old ≡ vec_len units.old }
+    requires ready { AllByRecursion IsReady (spots_of units.old.items (map D.state drives.old.items)) }
+    requires none { replies.old ≡ [] }
+    requires some { 1 ≤ vec_len units.old }
+    requires few { vec_len units.old ≤ 4 }
+    requires pages { pool.old.out ≡ length request.body }
+    requires pool { 1 ≤ number_of pool.old }
+    requires can { CanRoute (Frame.Request request) }
+    ensures done { OnOk result (RoundDone (vec_len units.old) (Frame.Request request) (stage (spots_of units.old.items (map D.state drives.old.items)) (K.written sink.old)) (stage (spots_of units.new.items (map D.state drives.new.items)) (K.written sink.new))) }
+    ensures part { OnErr result (RoundInPart (vec_len units.old) (Frame.Request request) (stage (spots_of units.old.items (map D.state drives.old.items)) (K.written sink.old)) (stage (spots_of units.new.items (map D.state drives.new.items)) (K.written sink.new))) }
+    ensures ready { OnOk result (AllByRecursion IsReady (spots_of units.new.items (map D.state drives.new.items))) }
+    ensures tied { AllByRecursion IsTiedSpot (spots_of units.new.items (map D.state drives.new.items)) }
+    ensures none { OnOk result (replies.new ≡ []) }
+    ensures calls { steps.new + turn_calls * pending (spots_of units.new.items (map D.state drives.new.items)) ≤ steps.old + turn_calls * pending (spots_of units.old.items (map D.state drives.old.items)) + frame_calls (vec_len units.old) (Frame.Request request) }
+    ensures units { vec_len units.new ≡ vec_len units.old }
+    ensures drives { vec_len drives.new ≡ vec_len drives.old }
+    ensures all_in { OnOk result (pool.new.out ≡ 0) }
+    ensures number { number_of pool.new ≡ number_of pool.old }
+    ensures cause { HasCause (K.faults sink.old) (K.faults sink.new) result }
+{
+    let count = units.len() as u8;
+    if is_report(&request) {
+        return report(count, request, pool, sink);
+    }
+    let Route { unit, lun } = route_to(count, &request.lun);
+    let request = Request { lun, ..request };
+    serve_request_at(units, drives, pool, unit, request, sink, replies, steps)
+}
+
+/// Carries out a task management function: I_T NEXUS RESET on each unit, and the others on one.
+fn serve_manage<K: Sink, D: Bench, L: Ledger>(
+    units: &mut Vec<Satl>,
+    drives: &mut Vec<D>,
+    manage: Manage,
+    sink: &mut K,
+    replies: &mut Replies,
+    steps: &mut Steps<L>,
+) -> Result<(), WriteFault>
+    requires same { vec_len drives.old ≡ vec_len units.old }
+    requires ready { AllByRecursion IsReady (spots_of units.old.items (map D.state drives.old.items)) }
+    requires none { replies.old ≡ [] }
+    requires some { 1 ≤ vec_len units.old }
+    requires few { vec_len units.old ≤ 4 }
+    ensures done { OnOk result (RoundDone (vec_len units.old) (Frame.Manage manage) (stage (spots_of units.old.items (map D.state drives.old.items)) (K.written sink.old)) (stage (spots_of units.new.items (map D.state drives.new.items)) (K.written sink.new))) }
+    ensures part { OnErr result (RoundInPart (vec_len units.old) (Frame.Manage manage) (stage (spots_of units.old.items (map D.state drives.old.items)) (K.written sink.old)) (stage (spots_of units.new.items (map D.state drives.new.items)) (K.written sink.new))) }
+    ensures ready { OnOk result (AllByRecursion IsReady (spots_of units.new.items (map D.state drives.new.items))) }
+    ensures tied { AllByRecursion IsTiedSpot (spots_of units.new.items (map D.state drives.new.items)) }
+    ensures none { OnOk result (replies.new ≡ []) }
+    ensures calls { steps.new + turn_calls * pending (spots_of units.new.items (map D.state drives.new.items)) ≤ steps.old + turn_calls * pending (spots_of units.old.items (map D.state drives.old.items)) + frame_calls (vec_len units.old) (Frame.Manage manage) }
+    ensures units { vec_len units.new ≡ vec_len units.old }
+    ensures drives { vec_len drives.new ≡ vec_len drives.old }
+    ensures cause { HasCause (K.faults sink.old) (K.faults sink.new) result }
+{
+    if is_for_all(&manage) {
+        let event = Frame::Manage(Manage {
+            lun: LUN_0,
+            ..manage
+        });
+        return serve_all(units, drives, &event, sink, replies, steps);
+    }
+    let Route { unit, lun } = route_to(units.len() as u8, &manage.lun);
+    let event = Frame::Manage(Manage { lun, ..manage });
+    serve_at(units, drives, unit, event, sink, replies, steps)
+}
+
+/// The end of an input: of each unit, and then of the output.
+fn serve_end<K: Sink, D: Bench, L: Ledger>(
+    units: &mut Vec<Satl>,
+    drives: &mut Vec<D>,
+    sink: &mut K,
+    replies: &mut Replies,
+    steps: &mut Steps<L>,
+) -> Result<(), WriteFault>
+    requires same { vec_len drives.old ≡ vec_len units.old }
+    requires ready { AllByRecursion IsReady (spots_of units.old.items (map D.state drives.old.items)) }
+    requires none { replies.old ≡ [] }
+    requires few { vec_len units.old ≤ 4 }
+    ensures done { OnOk result (RoundDone (vec_len units.old) Frame.End (stage (spots_of units.old.items (map D.state drives.old.items)) (K.written sink.old)) (stage (spots_of units.new.items (map D.state drives.new.items)) (K.written sink.new))) }
+    ensures part { OnErr result (RoundInPart (vec_len units.old) Frame.End (stage (spots_of units.old.items (map D.state drives.old.items)) (K.written sink.old)) (stage (spots_of units.new.items (map D.state drives.new.items)) (K.written sink.new))) }
+    ensures ready { OnOk result (AllByRecursion IsReady (spots_of units.new.items (map D.state drives.new.items))) }
+    ensures tied { AllByRecursion IsTiedSpot (spots_of units.new.items (map D.state drives.new.items)) }
+    ensures none { OnOk result (replies.new ≡ []) }
+    ensures calls { steps.new + turn_calls * pending (spots_of units.new.items (map D.state drives.new.items)) ≤ steps.old + turn_calls * pending (spots_of units.old.items (map D.state drives.old.items)) + frame_calls (vec_len units.old) Frame.End }
+    ensures units { vec_len units.new ≡ vec_len units.old }
+    ensures drives { vec_len drives.new ≡ vec_len drives.old }
+    ensures cause { HasCause (K.faults sink.old) (K.faults sink.new) result }
+{
+    serve_all(units, drives, &Frame::End, sink, replies, steps)?;
+    write_frame(OutFrame::End, sink)
+}
+
+/// Carries out a frame on the units that it goes to, and tells their answers. The pages that are out of the fleet's pool are those of
+/// the frame; they come back to it. `WriteFault` comes only where the sink's count of faults rose; then units from the first on did what
+/// the frame is to them, one perhaps in part, and those behind that one did nothing (profile).
+pub fn serve_frame<K: Sink, D: Bench, L: Ledger>(
+    units: &mut Vec<Satl>,
+    drives: &mut Vec<D>,
+    pool: &mut Pool,
+    frame: Frame,
+    sink: &mut K,
+    replies: &mut Replies,
+    steps: &mut Steps<L>,
+) -> Result<(), WriteFault>
+    requires same { vec_len drives.old ≡ vec_len units.old }
+    requires ready { AllByRecursion IsReady (spots_of units.old.items (map D.state drives.old.items)) }
+    requires none { replies.old ≡ [] }
+    requires some { 1 ≤ vec_len units.old }
+    requires few { vec_len units.old ≤ 4 }
+    requires pages { pool.old.out ≡ frame_pages frame }
+    requires pool { 1 ≤ number_of pool.old }
+    requires can { CanRoute frame }
+    ensures done { OnOk result (RoundDone (vec_len units.old) frame (stage (spots_of units.old.items (map D.state drives.old.items)) (K.written sink.old)) (stage (spots_of units.new.items (map D.state drives.new.items)) (K.written sink.new))) }
+    ensures part { OnErr result (RoundInPart (vec_len units.old) frame (stage (spots_of units.old.items (map D.state drives.old.items)) (K.written sink.old)) (stage (spots_of units.new.items (map D.state drives.new.items)) (K.written sink.new))) }
+    ensures ready { OnOk result (AllByRecursion IsReady (spots_of units.new.items (map D.state drives.new.items))) }
+    ensures tied { AllByRecursion IsTiedSpot (spots_of units.new.items (map D.state drives.new.items)) }
+    ensures none { OnOk result (replies.new ≡ []) }
+    ensures calls { steps.new + turn_calls * pending (spots_of units.new.items (map D.state drives.new.items)) ≤ steps.old + turn_calls * pending (spots_of units.old.items (map D.state drives.old.items)) + frame_calls (vec_len units.old) frame }
+    ensures units { vec_len units.new ≡ vec_len units.old }
+    ensures drives { vec_len drives.new ≡ vec_len drives.old }
+    ensures all_in { OnOk result (pool.new.out ≡ 0) }
+    ensures number { number_of pool.new ≡ number_of pool.old }
+    ensures cause { HasCause (K.faults sink.old) (K.faults sink.new) result }
+{
+    match frame {
+        Frame::Request(request) => {
+            serve_request(units, drives, pool, request, sink, replies, steps)
+        }
+        Frame::Manage(manage) => serve_manage(units, drives, manage, sink, replies, steps),
+        Frame::Turn(count) => {
+            serve_shared(units, drives, Frame::Turn(count), sink, replies, steps)
+        }
+        Frame::Bench(event) => {
+            serve_shared(units, drives, Frame::Bench(event), sink, replies, steps)
+        }
+        Frame::End => serve_end(units, drives, sink, replies, steps),
+    }
+}
+
+/// Turns, or an event of the bench, on each unit.
+fn serve_shared<K: Sink, D: Bench, L: Ledger>(
+    units: &mut Vec<Satl>,
+    drives: &mut Vec<D>,
+    frame: Frame,
+    sink: &mut K,
+    replies: &mut Replies,
+    steps: &mut Steps<L>,
+) -> Result<(), WriteFault>
+    requires same { vec_len drives.old ≡ vec_len units.old }
+    requires ready { AllByRecursion IsReady (spots_of units.old.items (map D.state drives.old.items)) }
+    requires none { replies.old ≡ [] }
+    requires few { vec_len units.old ≤ 4 }
+    requires plain { IsTurnOrBench frame }
+    ensures done { OnOk result (RoundDone (vec_len units.old) frame (stage (spots_of units.old.items (map D.state drives.old.items)) (K.written sink.old)) (stage (spots_of units.new.items (map D.state drives.new.items)) (K.written sink.new))) }
+    ensures part { OnErr result (RoundInPart (vec_len units.old) frame (stage (spots_of units.old.items (map D.state drives.old.items)) (K.written sink.old)) (stage (spots_of units.new.items (map D.state drives.new.items)) (K.written sink.new))) }
+    ensures ready { OnOk result (AllByRecursion IsReady (spots_of units.new.items (map D.state drives.new.items))) }
+    ensures tied { AllByRecursion IsTiedSpot (spots_of units.new.items (map D.state drives.new.items)) }
+    ensures none { OnOk result (replies.new ≡ []) }
+    ensures calls { steps.new + turn_calls * pending (spots_of units.new.items (map D.state drives.new.items)) ≤ steps.old + turn_calls * pending (spots_of units.old.items (map D.state drives.old.items)) + frame_calls (vec_len units.old) frame }
+    ensures units { vec_len units.new ≡ vec_len units.old }
+    ensures drives { vec_len drives.new ≡ vec_len drives.old }
+    ensures cause { HasCause (K.faults sink.old) (K.faults sink.new) result }
+{
+    serve_all(units, drives, &frame, sink, replies, steps)
+}

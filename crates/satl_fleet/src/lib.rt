@@ -1,0 +1,16 @@
+//! Up to four drives as the logical units of one target: each frame goes to its units, and their answers are told in one output.
+#![tactic(auto)]
+
+mod event;
+mod fault;
+mod frame;
+mod frames_loop;
+mod opening;
+mod reporting;
+mod routing;
+mod serving;
+mod telling;
+mod unit;
+
+pub use fault::FleetFault;
+pub use serving::serve_fleet;

@@ -1,0 +1,62 @@
+// Which unit of a target a frame goes to.
+ghost use Rattle.std.specs.Prelude.{◌≡◌, ◌==◌};
+ghost use Rattle.std.specs.List.{list_all};
+ghost use Rattle.satl_fleet.specs.Routing.{is_for_all, is_report, names_unit, route_to};
+
+use satl_base::{Manage, Request};
+
+/// LUN 0: eight bytes of zero (SAM-5 4.7.2).
+pub const LUN_0: [u8; 8] = [0; 8];
+
+/// Where a frame goes: to this unit, at this LUN there (profile).
+#[derive(Clone, Copy, Debug, PartialEq, Eq)]
+pub struct Route {
+    pub unit: u8,
+    pub lun: [u8; 8],
+}
+
+fn are_zero(bytes: &[u8]) -> bool
+    ensures { result ≡ list_all (λ byte. byte == 0) bytes.now }
+{
+    bytes.iter().all(|byte| *byte == 0)
+}
+
+/// Whether a LUN of one level names one of so many units (SAM-5 4.7.2).
+fn names_unit(units: u8, lun: &[u8; 8]) -> bool
+    ensures { result ≡ names_unit units lun.now }
+{
+    if lun[0] != 0 {
+        return false;
+    }
+    if lun[1] >= units {
+        return false;
+    }
+    are_zero(&lun[2..])
+}
+
+/// Where a frame to a LUN goes, of so many units: to unit 0 at the same LUN where no unit has it (profile).
+pub fn route_to(units: u8, lun: &[u8; 8]) -> Route
+    ensures { result ≡ route_to units lun.now }
+{
+    if names_unit(units, lun) {
+        return Route {
+            unit: lun[1],
+            lun: LUN_0,
+        };
+    }
+    Route { unit: 0, lun: *lun }
+}
+
+/// Whether it is REPORT LUNS, which the target itself answers (SPC-4 6.33; profile).
+pub fn is_report(request: &Request) -> bool
+    ensures { result ≡ is_report request.now }
+{
+    request.cdb[0] == 0xA0
+}
+
+/// Whether it is I_T NEXUS RESET, which goes to every unit (SAM-5 7.7).
+pub fn is_for_all(manage: &Manage) -> bool
+    ensures { result ≡ is_for_all manage.now }
+{
+    manage.function == 0x10
+}

@@ -1,0 +1,63 @@
+-- The words of the fleet, and what the program does with several drives (profile).
+use Rattle.std.specs.Prelude.{◌≡◌, ◌⊎◌, ℕ, Bool, true, false, List, [], ◌∷◌, codes}
+use Rattle.clap.specs.Words.{Text}
+use Rattle.satl_io.specs.Causes.{Rose}
+use Rattle.satl_identify.specs.declared.identity.IdentityFault.{IdentityFault}
+use Rattle.satl_identify.specs.Refusals.{identity_of}
+use Rattle.satl_frame.specs.declared.frames.FrameFault.TheVariants.{Bad, ReadFault}
+use Rattle.satl_frame.specs.declared.frames.Reason.{Reason}
+use Rattle.satl_drive.specs.State.{DriveState}
+use Rattle.satl_core.specs.declared.satl.OpenFault.{OpenFault}
+use Rattle.satl_serve.specs.Moments.{moment}
+use Rattle.satl_fleet.specs.Headline.{IsFleetBefore, IsFleetInPart, IsFleetNotServed, IsFleetWhole}
+use Rattle.satl_fleet.specs.Moments.{FleetMoment}
+use Rattle.satl_fleet.specs.Opening.{IsCauseOfOne}
+use Rattle.satl_fleet.specs.declared.fault.FleetFault.{FleetFault}
+use Rattle.satl_fleet.specs.declared.fault.FleetFault.TheVariants as faults
+use Rattle.satl_top.specs.Faults.{status_of_open}
+use Rattle.satl_top.specs.Top.{Outcome}
+use Rattle.satl_top.specs.declared.status.Status.{Status}
+use Rattle.satl_top.specs.declared.status.Status.TheVariants as statuses
+
+-- two words, of which the second is `fleet` (profile)
+abbrev pub AskForFleet : List Text → Type 0
+AskForFleet words = (name : Text) × (words ≡ name ∷ codes "fleet" ∷ [])
+
+-- the status of a fault of serving a fleet (profile)
+abbrev pub status_of_fleet : FleetFault → Status
+status_of_fleet (faults.Open fault) = status_of_open fault
+status_of_fleet (faults.BadInput reason offset) = statuses.BadInput
+status_of_fleet faults.Read = statuses.ReadFault
+status_of_fleet faults.Write = statuses.WriteFault
+status_of_fleet faults.NoMemory = statuses.NoMemory
+
+-- what holds of the input, the output and the drives, by the status (profile): a whole input was served; or it was served up to a frame that
+-- was refused or not read, or up to a write that failed; or it was not served; or nothing at all was done
+abbrev pub FleetEnds : ℕ → FleetMoment → FleetMoment → Status → Type 0
+FleetEnds limit before after statuses.Done = IsFleetWhole limit before after
+FleetEnds limit before after statuses.Usage = after ≡ before
+FleetEnds limit before after statuses.BadInput = (reason : Reason) × (offset : ℕ) × IsFleetBefore limit (Bad reason offset) before after
+FleetEnds limit before after statuses.ReadFault = IsFleetBefore limit ReadFault before after
+FleetEnds limit before after statuses.WriteFault = IsFleetInPart limit before after
+FleetEnds limit before after statuses.NoMemory = IsFleetNotServed before after
+FleetEnds limit before after statuses.DriveRefused = IsFleetNotServed before after
+
+-- a read or a write fault comes only where the source's or the sink's count of faults rose, and a drive is refused only for a cause of one of
+-- them (profile)
+abbrev pub HasFleetStatusCause : FleetMoment → FleetMoment → Status → Type 0
+HasFleetStatusCause before after statuses.Done = Unit {0}
+HasFleetStatusCause before after statuses.Usage = Unit {0}
+HasFleetStatusCause before after statuses.BadInput = Unit {0}
+HasFleetStatusCause before after statuses.ReadFault = Rose before.source.faults after.source.faults
+HasFleetStatusCause before after statuses.WriteFault = Rose before.sink.faults after.sink.faults
+HasFleetStatusCause before after statuses.NoMemory = Unit {0}
+HasFleetStatusCause before after statuses.DriveRefused = (fault : OpenFault) × (status_of_open fault ≡ statuses.DriveRefused) × IsCauseOfOne fault before.drives after.drives
+
+-- what `satl` does with the first drive; the others stay as they are (profile)
+pub record OnFirst (words : List Text) (limit : ℕ) (before after : FleetMoment) (status : Status) : Type 0 where
+  pub first : DriveState
+  pub last : DriveState
+  pub others : List DriveState
+  pub olds : before.drives ≡ first ∷ others
+  pub news : after.drives ≡ last ∷ others
+  pub outcome : Outcome words limit (moment before.source before.sink before.calls first) (moment after.source after.sink after.calls last) status

@@ -1,0 +1,107 @@
+// Several drives behind one target, and the program.
+ghost use Rattle.std.specs.Prelude.{◌≡◌, ◌≤◌, ◌↔◌, map, true, vec_len};
+ghost use Rattle.std.specs.List.{AllByRecursion};
+ghost use Rattle.std.specs.Rc.{rc_str_bytes};
+ghost use Rattle.satl_fleet.specs.Moments.{fleet_moment};
+ghost use Rattle.satl_fleet.specs.Opening.{IsServable};
+ghost use Rattle.satl_serve.specs.Moments.{reads, writes};
+ghost use Rattle.satl_serve.specs.Runs.{input_limit};
+ghost use Rattle.satl_top.specs.Fleet.{AskForFleet, FleetEnds, HasFleetStatusCause, OnFirst};
+
+use crate::status::Status;
+use crate::top::satl;
+use satl_base::Steps;
+use satl_core::OpenFault;
+use satl_drive::Bench;
+use satl_fleet::{FleetFault, serve_fleet};
+use satl_io::{Sink, Source};
+use std::alloc::Global;
+use std::rc::RcStr;
+use std::sync::ledger::Ledger;
+
+impl From<FleetFault> for Status {
+    ghost use Rattle.std.specs.Prelude.{◌≡◌};
+    ghost use Rattle.satl_top.specs.Fleet.{status_of_fleet};
+
+    ghost from_gives = { λ fault status. status ≡ status_of_fleet fault };
+
+    fn from(fault: FleetFault) -> Status {
+        match fault {
+            FleetFault::Open(OpenFault::NoMemory) | FleetFault::NoMemory => Status::NoMemory,
+            FleetFault::Open(_) => Status::DriveRefused,
+            FleetFault::BadInput { .. } => Status::BadInput,
+            FleetFault::Read => Status::ReadFault,
+            FleetFault::Write => Status::WriteFault,
+        }
+    }
+}
+
+fn is_word(word: &RcStr, text: &str) -> bool
+    ensures { (result ≡ true) ↔ (rc_str_bytes word.now ≡ text.now) }
+{
+    let word: &str = word;
+    word == text
+}
+
+/// Whether there are two words, of which the second is `fleet` (profile).
+pub fn is_fleet(words: &[RcStr]) -> bool
+    ensures { (result ≡ true) ↔ AskForFleet (map rc_str_bytes words.now) }
+{
+    if words.len() != 2 {
+        return false;
+    }
+    is_word(&words[1], "fleet")
+}
+
+/// Serves the frames of the source on one to four drives as the logical units of one target, and writes the answers to the sink (profile).
+/// `Usage` comes exactly where the words are not those of the fleet, and then nothing was done. The status says how it ended. Each drive
+/// has nothing outstanding and is in no error state, and its IDENTIFY DEVICE data fit it.
+pub fn fleet<S: Source, K: Sink, D: Bench, L: Ledger>(
+    alloc: Global,
+    words: &[RcStr],
+    source: &mut S,
+    sink: &mut K,
+    drives: &mut Vec<D>,
+    steps: &mut Steps<L>,
+) -> Status
+    requires some { 1 ≤ vec_len drives.old }
+    requires few { vec_len drives.old ≤ 4 }
+    requires servable { AllByRecursion IsServable (map D.state drives.old.items) }
+    ensures usage { (result ≡ Status.Usage) ↔ (AskForFleet (map rc_str_bytes words.now) → ⊥) }
+    ensures ends { FleetEnds input_limit (fleet_moment (reads (S.left source.old) (S.faults source.old)) (writes (K.written sink.old) (K.faults sink.old)) steps.old (map D.state drives.old.items)) (fleet_moment (reads (S.left source.new) (S.faults source.new)) (writes (K.written sink.new) (K.faults sink.new)) steps.new (map D.state drives.new.items)) result }
+    ensures causes { HasFleetStatusCause (fleet_moment (reads (S.left source.old) (S.faults source.old)) (writes (K.written sink.old) (K.faults sink.old)) steps.old (map D.state drives.old.items)) (fleet_moment (reads (S.left source.new) (S.faults source.new)) (writes (K.written sink.new) (K.faults sink.new)) steps.new (map D.state drives.new.items)) result }
+{
+    if !is_fleet(words) {
+        return Status::Usage;
+    }
+    match serve_fleet(alloc, source, sink, drives, steps) {
+        Ok(()) => Status::Done,
+        Err(fault) => Status::from(fault),
+    }
+}
+
+/// Does all that the program does (profile): the words of the fleet serve all drives, and all others what `satl` does with the first drive,
+/// where the other drives stay as they are. The status says how it ended. Each drive has nothing outstanding and is in no error state, and
+/// its IDENTIFY DEVICE data fit it.
+pub fn program<S: Source, K: Sink, D: Bench, L: Ledger>(
+    alloc: Global,
+    words: &[RcStr],
+    source: &mut S,
+    sink: &mut K,
+    drives: &mut Vec<D>,
+    steps: &mut Steps<L>,
+) -> Status
+    requires some { 1 ≤ vec_len drives.old }
+    requires few { vec_len drives.old ≤ 4 }
+    requires servable { AllByRecursion IsServable (map D.state drives.old.items) }
+    ensures fleet { AskForFleet (map rc_str_bytes words.now) → FleetEnds input_limit (fleet_moment (reads (S.left source.old) (S.faults source.old)) (writes (K.written sink.old) (K.faults sink.old)) steps.old (map D.state drives.old.items)) (fleet_moment (reads (S.left source.new) (S.faults source.new)) (writes (K.written sink.new) (K.faults sink.new)) steps.new (map D.state drives.new.items)) result }
+    ensures understood { AskForFleet (map rc_str_bytes words.now) → (result ≡ Status.Usage) → ⊥ }
+    ensures causes { AskForFleet (map rc_str_bytes words.now) → HasFleetStatusCause (fleet_moment (reads (S.left source.old) (S.faults source.old)) (writes (K.written sink.old) (K.faults sink.old)) steps.old (map D.state drives.old.items)) (fleet_moment (reads (S.left source.new) (S.faults source.new)) (writes (K.written sink.new) (K.faults sink.new)) steps.new (map D.state drives.new.items)) result }
+    ensures first { (AskForFleet (map rc_str_bytes words.now) → ⊥) → OnFirst (map rc_str_bytes words.now) input_limit (fleet_moment (reads (S.left source.old) (S.faults source.old)) (writes (K.written sink.old) (K.faults sink.old)) steps.old (map D.state drives.old.items)) (fleet_moment (reads (S.left source.new) (S.faults source.new)) (writes (K.written sink.new) (K.faults sink.new)) steps.new (map D.state drives.new.items)) result }
+{
+    if is_fleet(words) {
+        return fleet(alloc, words, source, sink, drives, steps);
+    }
+    let first = &mut drives[0];
+    satl(alloc, words, source, sink, first, steps)
+}

@@ -1,0 +1,113 @@
+// Two drives behind one target.
+ghost use Rattle.std.specs.Prelude.{◌≡◌, ◌<◌, ◌≤◌, map, vec_len};
+ghost use Rattle.std.specs.List.{AllByRecursion};
+ghost use Rattle.satl_fleet.specs.Opening.{IsServable};
+
+use crate::replaying::words;
+use satl_base::{NoMemory, Steps, Which};
+use satl_disk::ModelDrive;
+use satl_drive::Bench;
+use satl_io::{MemorySink, MemorySource, Sink, Source};
+use satl_top::{Status, program};
+use std::alloc::Global;
+use std::marker::Brand;
+use std::process::Abort;
+use std::rc::RcStr;
+use std::sync::ledger::{Blank, Ledger};
+use std::test::Fail;
+
+/// REPORT LUNS of nexus 0, tag 1, and END.
+const LUNS: &[u8] = b"SATLRPL1\
+    \x01\0\0\0\x1e\0\0\0\0\0\0\0\0\0\0\0\0\0\x01\xa0\0\0\0\0\0\0\0\0\xff\0\0\0\0\0\0\
+    \x05\0\0\0\0";
+
+/// The LUNs of two units, under unit 0.
+const LUNS_TOLD: &[u8] = b"SATLRSP1\x84\0\0\0\x01\0\
+    \x81\0\0\0\x1f\0\0\0\0\0\x01\0\
+    \0\0\0\x10\0\0\0\0\0\0\0\0\0\0\0\0\0\x01\0\0\0\0\0\0\
+    \x85\0\0\0\0";
+
+/// READ(10) of one block at address 0 by nexus 0, tag 1, of LUN 0 and of LUN 1, and END.
+const TWO_READS: &[u8] = b"SATLRPL1\
+    \x01\0\0\0\x1e\0\0\0\0\0\0\0\0\0\0\0\0\0\x01\x28\0\0\0\0\0\0\0\x01\0\0\0\0\0\0\0\
+    \x01\0\0\0\x1e\0\0\0\x01\0\0\0\0\0\0\0\0\0\x01\x28\0\0\0\0\0\0\0\x01\0\0\0\0\0\0\0\
+    \x05\0\0\0\0";
+
+/// The block of unit 0, in zeros.
+const BLOCK_TOLD: &[u8] = b"SATLRSP1\x84\0\0\0\x01\0\x81\0\0\x02\x07\0\0\0\0\0\x01\0";
+
+/// A medium error of unit 1.
+const FLAW_TOLD: &[u8] = b"\x84\0\0\0\x01\x01\
+    \x81\0\0\0\x19\0\x02\0\0\0\x01\x12\
+    \xf0\0\x03\0\0\0\0\x0a\0\0\0\0\x11\0\0\0\0\0\
+    \x85\0\0\0\0";
+
+fn counted<S: Source, K: Sink, D: Bench, L: Ledger>(
+    alloc: Global,
+    words: &[RcStr],
+    source: &mut S,
+    sink: &mut K,
+    drives: &mut Vec<D>,
+    blank: Blank,
+) -> Status
+    requires some { 1 ≤ vec_len drives.old }
+    requires few { vec_len drives.old ≤ 4 }
+    requires servable { AllByRecursion IsServable (map D.state drives.old.items) }
+    requires name { blank.name ≡ L.name }
+    requires parts { blank.parts ≡ L.parts }
+    requires enough { 0 < blank.parts }
+{
+    let mut steps = Steps::<L>::new(blank);
+    program(alloc, words, source, sink, drives, &mut steps)
+}
+
+/// How an input of a fleet of two drives ends, of which the second has a read flaw at address 0, and what it writes.
+fn serve(alloc: Global, input: &[u8], piece: usize) -> Result<(Status, Vec<u8>), NoMemory> {
+    let words = words(alloc, &["fleet"])?;
+    let mut source = MemorySource::new(input.to_vec(alloc)?, piece, Vec::new(alloc));
+    let mut sink = MemorySink::new(alloc, 65536, piece, Vec::new(alloc))?;
+    let first = ModelDrive::new(alloc, 8192)?;
+    let mut second = ModelDrive::new(alloc, 8192)?;
+    second.strike(Which::Read, 0);
+    let mut drives = Vec::from_array(alloc, [first, second])?;
+    let status = counted::<_, _, _, Brand>(
+        alloc,
+        &words,
+        &mut source,
+        &mut sink,
+        &mut drives,
+        Blank::new(1),
+    );
+    Ok((status, sink.written().to_vec(alloc)?))
+}
+
+/// The input ends with 0 and writes this, however its bytes are cut.
+fn expect(
+    rt: &impl Abort,
+    alloc: Global,
+    input: &[u8],
+    output: &[u8],
+) -> Result<(), Fail> {
+    for piece in [1, 65536] {
+        let (ended, written) = serve(alloc, input, piece)?;
+        assert_eq!(rt; ended, Status::Done, "in pieces of {piece}");
+        assert_eq!(rt; written.as_slice(), output, "in pieces of {piece}");
+    }
+    Ok(())
+}
+
+/// The target tells its LUNs.
+#[test]
+fn luns_of_two_drives(rt: HostRuntime) -> Result<(), Fail> {
+    expect(&rt, rt.alloc(), LUNS, LUNS_TOLD)
+}
+
+/// The same tag at two LUNs: each unit has a task set of its own.
+#[test]
+fn same_tag_on_two_drives(rt: HostRuntime) -> Result<(), Fail> {
+    let alloc = rt.alloc();
+    let mut output = BLOCK_TOLD.to_vec(alloc)?;
+    output.extend_from_slice(&[0; 512])?;
+    output.extend_from_slice(FLAW_TOLD)?;
+    expect(&rt, alloc, TWO_READS, &output)
+}
