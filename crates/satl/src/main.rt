@@ -43,7 +43,7 @@ fn counted<S: Source, K: Sink, D: Bench, L: Ledger>(
     requires servable { AllByRecursion IsServable (map D.state drives.old.items) }
     requires name { blank.name ≡ L.name }
     requires parts { blank.parts ≡ L.parts }
-    requires some { 0 < blank.parts }
+    requires enough { 0 < blank.parts }
 {
     let mut steps = Steps::<L>::new(blank);
     program(alloc, words, source, sink, drives, &mut steps)
