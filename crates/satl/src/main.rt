@@ -6,6 +6,7 @@
 
 ghost use Rattle.std.specs.Prelude.{◌≡◌, ◌<◌, ◌≤◌, IfOk, map, vec_len};
 ghost use Rattle.std.specs.List.{AllByRecursion};
+ghost use Rattle.satl_disk.specs.Disk.{state_of};
 ghost use Rattle.satl_fleet.specs.Opening.{IsServable};
 
 use satl_base::{NoMemory, Steps};
@@ -44,7 +45,7 @@ fn counted<S: Source, K: Sink, D: Bench, L: Ledger>(
     requires servable { AllByRecursion IsServable (map D.state drives.old.items) }
     requires name { blank.name ≡ L.name }
     requires parts { blank.parts ≡ L.parts }
-    requires some { 0 < blank.parts }
+    requires enough { 0 < blank.parts }
 {
     let mut steps = Steps::<L>::new(blank);
     program(alloc, words, source, sink, drives, &mut steps)
@@ -65,7 +66,7 @@ fn words_of(rt: &HostRuntime) -> Result<Option<Vec<RcStr>>, NoMemory> {
 /// The modelled drives.
 fn modelled(alloc: Global) -> Result<Vec<ModelDrive>, NoMemory>
     ensures count { IfOk result (λ drives. vec_len drives ≡ 4) }
-    ensures servable { IfOk result (λ drives. AllByRecursion IsServable (map ModelDrive.state drives.items)) }
+    ensures servable { IfOk result (λ drives. AllByRecursion IsServable (map state_of drives.items)) }
 {
     let mut drives = Vec::new(alloc);
     for _ in 0..DRIVES {
