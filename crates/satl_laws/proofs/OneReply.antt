@@ -3,15 +3,14 @@ use Rattle.std.proofs.Common.{◌≡◌, rules, refl, sym, ap, subst, ◌∙◌,
 use Rattle.satl_base.specs.Lists.{IsIn}
 use Rattle.satl_laws.proofs.Ends.{ends_leaves, may_end_in}
 use Rattle.std.specs.Prelude.{MatchBool, ◌||◌, not}
-use Rattle.std.proofs.lemmas.List.{append-nil}
 use Rattle.satl_base.specs.declared.reply.Reply.{Reply}
 use Rattle.satl_base.specs.declared.request.Request.{Request}
 use Rattle.satl_line.specs.declared.entry.Entry.{Entry}
 use Rattle.satl_line.specs.Eligible.{IsEligible}
-use Rattle.satl_direct.specs.Device.{Device, is_called, of_others, once_told, without}
+use Rattle.satl_direct.specs.Device.{Device, is_called, of_others, without}
 use Rattle.satl_direct.specs.Arrival.{Arrival, Arrives, ArrivesAs, arrival}
 use Rattle.satl_direct.specs.Arrival.Arrival.{answered, attended, overlaps, waits}
-use Rattle.satl_direct.specs.Ending.{Ends, task_check}
+use Rattle.satl_direct.specs.Ending.{task_check}
 use Rattle.satl_direct.specs.Quiet.{Around, Quiet}
 use Rattle.satl_direct.specs.Senses.{link_lost}
 use Rattle.satl_direct.specs.Turn.{IsFirst, MayEnd, OneEnds, Turn, lost_replies}
