@@ -1,10 +1,12 @@
 pub mod Addresses
 pub mod Arrivals
 pub mod Arriving
+pub mod Asked
 pub mod Becoming
 pub mod Bringing
 pub mod Calm
 pub mod Cases
+pub mod Clashing
 pub mod Coming
 pub mod Counts
 pub mod Durable
@@ -29,9 +31,11 @@ pub mod InOrderTurns
 pub mod InOrderWaits
 pub mod Items
 pub mod Kept
+pub mod Meeting
 pub mod Names
 pub mod OneReply
 pub mod Outcomes
+pub mod Passing
 pub mod PlainTasks
 pub mod Reaching
 pub mod Requests
