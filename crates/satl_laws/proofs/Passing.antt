@@ -20,7 +20,7 @@ use Rattle.satl_direct.specs.Senses.{link_lost, not_ready}
 use Rattle.satl_direct.specs.Tasks.{asks, over}
 use Rattle.satl_direct.specs.Turn.{IsFirst, MayEnd}
 use Rattle.satl_direct.specs.Valid.{AreOwn, HasCome}
-use Rattle.satl_laws.specs.Passing.{CanEnd, ComesAfter, DoNotClash, NonePasses, NonePassesAlone, OthersPass, goes_alone, goes_with_others}
+use Rattle.satl_laws.specs.Passing.{CanEnd, ComesAfter, DoNotClash, NonePasses, NonePassesAlone, NoneShows, OthersPass, goes_alone, goes_with_others}
 use Rattle.satl_laws.proofs.Asked.{IsAsked, come_asked}
 use Rattle.satl_laws.proofs.Clashing.{conflict_clear, conflict_none, neither_alone, with_others}
 use Rattle.satl_laws.proofs.Eligibles.{before_free}
@@ -86,15 +86,15 @@ module _ (s : Device) (earlier : List Entry) (t : Entry) (after : ComesAfter s e
   earlier_come : AllByRecursion (HasCome s.identity) earlier
   earlier_come = all_front (HasCome s.identity) earlier after.later t all_come
 
-  -- where it may end no earlier one conflicts with it
-  none_conflicts : MayEnd s t → AllByRecursion (λ u. conflicts u t ≡ false) earlier
-  none_conflicts may = before_free earlier t after.later (subst AreOwn after.place (after.valid).own) (subst (λ ts. IsEligible ts t) after.place (may_eligible s t may))
+  -- where it is eligible no earlier one conflicts with it
+  none_conflicts : IsEligible s.tasks t → AllByRecursion (λ u. conflicts u t ≡ false) earlier
+  none_conflicts eligible = before_free earlier t after.later (subst AreOwn after.place (after.valid).own) (subst (λ ts. IsEligible ts t) after.place eligible)
 
-  none_clashes : MayEnd s t → AllByRecursion (λ u. DoNotClash u t) earlier
-  none_clashes may = all_on _ _ _ earlier (λ u come free. conflict_clear s u t (come_asked s.identity u come) it_asked free) earlier_come (none_conflicts may)
+  none_clashes : IsEligible s.tasks t → AllByRecursion (λ u. DoNotClash u t) earlier
+  none_clashes eligible = all_on _ _ _ earlier (λ u come free. conflict_clear s u t (come_asked s.identity u come) it_asked free) earlier_come (none_conflicts eligible)
 
-  none_alone : MayEnd s t → AllByRecursion (λ u. (goes_alone s u || goes_alone s t) ≡ false) earlier
-  none_alone may = all_on _ _ _ earlier (λ u come free. neither_alone s u t (come_asked s.identity u come) it_asked free) earlier_come (none_conflicts may)
+  none_alone : IsEligible s.tasks t → AllByRecursion (λ u. (goes_alone s u || goes_alone s t) ≡ false) earlier
+  none_alone eligible = all_on _ _ _ earlier (λ u come free. neither_alone s u t (come_asked s.identity u come) it_asked free) earlier_come (none_conflicts eligible)
 
   -- where none is in its way it is eligible
   eligible_after : (before rest : List Entry) → AllByRecursion (λ u. conflicts u t ≡ false) before → IsEligible (before ++ t ∷ rest) t
@@ -126,10 +126,13 @@ module _ (s : Device) (earlier : List Entry) (t : Entry) (after : ComesAfter s e
 -- ---- the law
 
 pub none_passes : NonePasses
-none_passes s new reply end earlier after = none_clashes s earlier end.task after end.may
+none_passes s new reply end earlier after = none_clashes s earlier end.task after (may_eligible s end.task end.may)
 
 pub none_passes_alone : NonePassesAlone
-none_passes_alone s new reply end earlier after = none_alone s earlier end.task after end.may
+none_passes_alone s new reply end earlier after = none_alone s earlier end.task after (may_eligible s end.task end.may)
+
+pub none_shows : NoneShows
+none_shows s pair shows earlier after = none_clashes s earlier shows.task after (shows.under_way).eligible
 
 pub others_pass : OthersPass
 others_pass s earlier t after up started with_it with_all clear = passes s earlier t after up started with_it with_all clear

@@ -3,10 +3,12 @@ use Rattle.std.specs.Prelude.{◌≡◌, ℕ, ◌+◌, ◌&&◌, ◌||◌, not, 
 use Rattle.std.specs.List.{AllByRecursion, list_any}
 use Rattle.satl_base.specs.declared.block.Range.{Range}
 use Rattle.satl_base.specs.declared.reply.Reply.{Reply}
+use Rattle.satl_base.specs.Cells.{Pair}
 use Rattle.satl_cdb.specs.declared.command.Command.{Command}
 use Rattle.satl_cdb.specs.declared.command.Command.TheVariants as commands
 use Rattle.satl_line.specs.declared.entry.Entry.{Entry}
 use Rattle.satl_direct.specs.Device.{Device}
+use Rattle.satl_direct.specs.Quiet.{MayShow}
 use Rattle.satl_direct.specs.Turn.{OneEnds}
 use Rattle.satl_direct.specs.Valid.{IsValid}
 
@@ -67,6 +69,11 @@ NonePasses = (s new : Device) (reply : Reply) (end : OneEnds s reply new) (earli
 abbrev pub NonePassesAlone : Type 0
 NonePassesAlone = (s new : Device) (reply : Reply) (end : OneEnds s reply new) (earlier : List Entry) →
     ComesAfter s earlier end.task → AllByRecursion (λ t. goes_alone s t || goes_alone s end.task ≡ false) earlier
+
+-- nor does a block that a task writes show before its end, before such an earlier one has ended (SAM-5 8, command order; profile)
+abbrev pub NoneShows : Type 0
+NoneShows = (s : Device) (pair : Pair) (shows : MayShow s pair) (earlier : List Entry) →
+    ComesAfter s earlier shows.task → AllByRecursion (λ t. DoNotClash t shows.task) earlier
 
 -- a turn can end the task (SAM-5 8)
 pub record CanEnd (s : Device) (t : Entry) : Type 0 where
