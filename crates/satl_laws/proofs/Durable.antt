@@ -17,7 +17,7 @@ use Rattle.satl_frame.specs.declared.frames.Frame.{Frame}
 use Rattle.satl_frame.specs.Output.{Answer}
 use Rattle.satl_laws.proofs.Addresses.{Alike}
 use Rattle.satl_laws.proofs.Arrivals.{IsFor, code_for}
-use Rattle.satl_laws.proofs.Counts.{quiet_tasks}
+use Rattle.satl_laws.proofs.Weighing.{quiet_tasks}
 use Rattle.satl_laws.proofs.Ends.{ends_leaves}
 use Rattle.satl_laws.proofs.Kept.{at_now}
 use Rattle.satl_laws.proofs.Reaching.{WritesItsOwn}

@@ -13,6 +13,7 @@ pub mod Counts
 pub mod Durable
 pub mod Eligibles
 pub mod Ends
+pub mod EventCounts
 pub mod Flawless
 pub mod GoodTurns
 pub mod InOrder
@@ -57,3 +58,4 @@ pub mod Steps
 pub mod TaskEnds
 pub mod Tasks
 pub mod Transferring
+pub mod Weighing

@@ -31,7 +31,7 @@ use Rattle.satl_direct.specs.Run.MayLose.{keeps, loses as steps_and_loses}
 use Rattle.satl_direct.specs.Run.TurnsOf.{none, more}
 use Rattle.satl_laws.specs.Untouched.{Spares, is_power}
 use Rattle.satl_laws.proofs.Addresses.{Alike, alike_none, alike_on, writes_alike}
-use Rattle.satl_laws.proofs.Counts.{quiet_tasks}
+use Rattle.satl_laws.proofs.Weighing.{quiet_tasks}
 use Rattle.satl_laws.proofs.Ends.{eligible_in, ends_leaves, may_end_in}
 use Rattle.satl_laws.proofs.Kept.{KeptAt, at_none, at_on, at_same, mend_keeps, moves_keep, spared_in, strike_keeps}
 use Rattle.satl_laws.proofs.Reaching.{WritesItsOwn, ends_reach}
