@@ -23,7 +23,7 @@ use Rattle.satl_laws.specs.OnceEach.{answers_to, asks_by}
 use Rattle.satl_laws.proofs.Arrivals.{IsTo}
 use Rattle.satl_laws.proofs.Bringing.{Answers}
 use Rattle.satl_laws.proofs.Cases.{how_many-append}
-use Rattle.satl_laws.proofs.Counts.{weigh}
+use Rattle.satl_laws.proofs.Weighing.{weigh}
 use Rattle.satl_laws.proofs.InOrder.{InOrder, IsOnly, IsSure, holds, sectors, trim}
 use Rattle.satl_laws.proofs.Items.{IsWell, Item, held-append, left, waiting, waiting-append}
 use Rattle.satl_laws.proofs.Names.{none_done, none_in}

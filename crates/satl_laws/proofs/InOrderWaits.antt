@@ -17,7 +17,7 @@ use Rattle.satl_laws.specs.OnceEach.{asks_by}
 use Rattle.satl_laws.proofs.Arrivals.{IsOf}
 use Rattle.satl_laws.proofs.Bringing.{Waits}
 use Rattle.satl_laws.proofs.Cases.{how_many-append}
-use Rattle.satl_laws.proofs.Counts.{weigh}
+use Rattle.satl_laws.proofs.Weighing.{weigh}
 use Rattle.satl_laws.proofs.InOrder.{InOrder, IsOnly, IsSure, sectors, trim}
 use Rattle.satl_laws.proofs.Items.{IsWell, Item, held-append, waiting-append}
 use Rattle.satl_laws.proofs.Names.{none_in}

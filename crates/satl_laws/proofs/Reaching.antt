@@ -1,23 +1,16 @@
--- What the end of a task does to the medium: pairs of the task are put or left out, or every sector is written back.
-use Rattle.std.proofs.Common.{◌≡◌, ⊎_elim, refl, sym, ap, ◌∙◌, subst, ℕ, ◌+◌, Bool, true, false, List, [], map, length}
-use Rattle.std.proofs.lemmas.List.{length-map}
-use Rattle.std.specs.Prelude.{MatchBool, not, ◌==◌, ◌&&◌, nat_lt, if◌then◌else◌}
+-- What the end of a task does to the medium: it puts pairs of its own alone.
+use Rattle.std.proofs.Common.{◌≡◌, ⊎_elim, refl, sym, ap, ◌∙◌, subst, ℕ, Bool, true, false, List, []}
+use Rattle.std.specs.Prelude.{not, ◌==◌, ◌&&◌}
 use Rattle.std.specs.List.{list_any}
 use Rattle.satl_base.specs.declared.block.Block.{Block}
 use Rattle.satl_base.specs.declared.bench.Which.TheVariants as flaws
 use Rattle.satl_base.specs.declared.reply.Reply.{Reply}
-use Rattle.satl_base.specs.Cells.{Cell, Pair, Part, first_flaw, settle, whole}
-use Rattle.satl_base.proofs.CellsLemmas.{part_whole, part-length}
+use Rattle.satl_base.specs.Cells.{Pair, first_flaw}
 use Rattle.satl_cdb.specs.declared.command.Command.{Command}
 use Rattle.satl_cdb.specs.declared.command.Command.TheVariants as commands
 use Rattle.satl_sense.specs.declared.sense.Sense.{Sense}
-use Rattle.satl_regs.specs.declared.values.AtaCommand.{AtaCommand}
-use Rattle.satl_regs.specs.declared.values.AtaCommand.TheVariants as ata
-use Rattle.satl_regs.specs.declared.values.Registers.{Registers}
-use Rattle.satl_regs.specs.declared.values.Taskfile.{Taskfile}
 use Rattle.satl_regs.specs.Commands.{command_in}
-use Rattle.satl_regs.specs.Effects.{Carries, Does, IsSet, Medium, Setting, Transfer, is_error_log, is_no_trim, pairs_of, reading, setting_of, settable, trimming, verifying, writing}
-use Rattle.satl_regs.specs.Effects.Setting.{sets_cache, sets_look}
+use Rattle.satl_regs.specs.Effects.{Medium, pairs_of}
 use Rattle.satl_line.specs.declared.entry.Entry.{Entry}
 use Rattle.satl_line.specs.Ranged.{RangedTask, written_pairs}
 use Rattle.satl_line.specs.Ending.{EndsAs, Outcome}
@@ -28,91 +21,9 @@ use Rattle.satl_direct.specs.Ending.{Ends, EndsBy, EndsCompared, EndsInPieces, E
 use Rattle.satl_direct.specs.Quiet.{written_by}
 use Rattle.satl_laws.specs.Untouched.{Spares}
 use Rattle.satl_laws.proofs.Cases.{by_bool, by_option}
-use Rattle.satl_laws.proofs.Kept.{KeptAt, part_keeps, settle_keeps}
-
--- pairs are put in order or left out, or every sector is written back
-pub data Steps (pairs : List Pair) (old : List Cell) : List Cell → Type 0 where
-  parts : {new : List Cell} → Part old pairs new → Steps pairs old new
-  settles : {new : List Cell} → new ≡ map settle old → Steps pairs old new
-
--- nothing is put
-stays : (old new : List Cell) → new ≡ old → Steps [] old new
-stays old new same = parts same
-
--- every pair is put
-all_of : (pairs : List Pair) (old new : List Cell) → new ≡ whole old pairs → Steps pairs old new
-all_of pairs old new same = parts (subst (Part old pairs) (sym same) (part_whole old pairs))
-
--- there are as many sectors as before
-pub steps-length : (pairs : List Pair) (old new : List Cell) → Steps pairs old new → length new ≡ length old
-steps-length pairs old new (parts p) = part-length old new pairs p
-steps-length pairs old new (settles s) = ap length s ∙ length-map old settle
-
--- a sector that the pairs spare is kept
-pub steps_keep : (x : ℕ) (pairs : List Pair) (old new : List Cell) → Spares x pairs → Steps pairs old new → KeptAt x old new
-steps_keep x pairs old new spares (parts p) = part_keeps x pairs old new spares p
-steps_keep x pairs old new spares (settles s) = subst (KeptAt x old) (sym s) (settle_keeps x old)
-
--- ---- ATA commands
-
--- from each of the two cases of a test, the second with the test itself
-by_bool_is : {A B C : Type 0} (b : Bool) → (A → C) → (b ≡ false → B → C) → MatchBool b A B → C
-by_bool_is true f g h = f h
-by_bool_is false f g h = g refl h
-
--- a command puts pairs that spare a sector where all that it may write does
-record Carried (a : AtaCommand) (given : List Block) (old new : Medium) : Type 0 where
-  pairs : List Pair
-  spared : (x : ℕ) → Spares x (pairs_of a old given) → Spares x pairs
-  cells : Steps pairs old.cells new.cells
-
-module _ (r : Registers) (old new : Medium) (given taken : List Block) (ended : Taskfile) where
-  -- a command that leaves the sectors
-  as_before : (a : AtaCommand) → new.cells ≡ old.cells → Carried a given old new
-  as_before a same = record { pairs = []; spared = λ x h. refl; cells = stays old.cells new.cells same }
-
-  -- a command that goes over a range
-  transfer : (a : AtaCommand) (t : Transfer) → (nat_lt (length old.cells) (t.lba + t.sectors) ≡ false → pairs_of a old given ≡ t.writes) → Carries r t old given ended taken new → Carried a given old new
-  transfer a t is =
-      by_bool_is (nat_lt (length old.cells) (t.lba + t.sectors)) (λ h. as_before a (ap (λ m. m.cells) h.medium))
-      (λ fits. by_option (first_flaw t.stopped_by old.cells t.lba t.sectors)
-      (⊎_elim
-      (λ h. carried (is fits) (all_of t.writes old.cells new.cells (ap (λ m. m.cells) h.medium)))
-      (λ h. carried (is fits) (parts h.part)))
-      (λ at h. carried (is fits) (parts h.part)))
-    where
-      carried : pairs_of a old given ≡ t.writes → Steps t.writes old.cells new.cells → Carried a given old new
-      carried same steps = record { pairs = t.writes; spared = λ x h. subst (Spares x) same h; cells = steps }
-
-  -- a setting
-  set_carried : (a : AtaCommand) (setting : Setting) → IsSet setting r old given ended taken new → Carried a given old new
-  set_carried a (sets_cache true) h = as_before a (ap (λ m. m.cells) h.medium)
-  set_carried a (sets_cache false) h = record { pairs = []; spared = λ x k. refl; cells = settles (ap (λ m. m.cells) h.medium) }
-  set_carried a (sets_look on) h = as_before a (ap (λ m. m.cells) h.medium)
-
-  -- each command
-  carried_out : (a : AtaCommand) → Does a r old given ended taken new → Carried a given old new
-  carried_out (ata.Read how lba sectors) h = transfer (ata.Read how lba sectors) (reading how lba sectors old) (λ fits. refl) h
-  carried_out (ata.Write how lba sectors) h =
-      transfer (ata.Write how lba sectors) (writing how lba sectors given old)
-      (λ fits. ap (λ b. if b then [] else (writing how lba sectors given old).writes) fits) h
-  carried_out (ata.Verify ext lba sectors) h = transfer (ata.Verify ext lba sectors) (verifying ext lba sectors) (λ fits. refl) h
-  carried_out (ata.Flush ext) h = record { pairs = []; spared = λ x k. refl; cells = settles (ap (λ m. m.cells) h.medium) }
-  carried_out ata.Identify h = as_before ata.Identify (ap (λ m. m.cells) h.medium)
-  carried_out (ata.SetFeatures what) h =
-      by_option (settable old.identify (setting_of what)) (λ k. as_before (ata.SetFeatures what) (ap (λ m. m.cells) k.medium)) (λ setting k. set_carried (ata.SetFeatures what) setting k) h
-  carried_out ata.Standby h = as_before ata.Standby (ap (λ m. m.cells) h.medium)
-  carried_out ata.Idle h = as_before ata.Idle (ap (λ m. m.cells) h.medium)
-  carried_out ata.CheckPower h = as_before ata.CheckPower (ap (λ m. m.cells) h.medium)
-  carried_out (ata.ReadLog log page blocks) h =
-      by_bool (is_error_log log page blocks) (λ k. as_before (ata.ReadLog log page blocks) (ap (λ m. m.cells) k.medium)) (λ k. as_before (ata.ReadLog log page blocks) (ap (λ m. m.cells) k.medium)) h
-  carried_out (ata.Trim blocks) h =
-      by_bool_is (is_no_trim blocks given old) (λ k. as_before (ata.Trim blocks) (ap (λ m. m.cells) k.medium))
-      (λ trims k. transfer (ata.Trim blocks) (trimming blocks given old) (λ fits. ap (λ b. if b then [] else (trimming blocks given old).writes) trims) k) h
-  carried_out ata.SmartStatus h = as_before ata.SmartStatus (ap (λ m. m.cells) h.medium)
-  carried_out (ata.Other code) h = as_before (ata.Other code) (ap (λ m. m.cells) h.medium)
-
--- ---- tasks
+use Rattle.satl_laws.proofs.Steps.{Steps, all_of, stays}
+use Rattle.satl_laws.proofs.Steps.Steps.{parts, settles}
+use Rattle.satl_laws.proofs.Carrying.{Carried, carried_out}
 
 -- an ATA PASS-THROUGH without data-out writes nothing, whatever is handed in
 abbrev pub WritesItsOwn : Command → Type 0

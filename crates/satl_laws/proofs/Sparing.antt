@@ -31,10 +31,11 @@ use Rattle.satl_direct.specs.Run.MayLose.{keeps, loses as steps_and_loses}
 use Rattle.satl_direct.specs.Run.TurnsOf.{none, more}
 use Rattle.satl_laws.specs.Untouched.{Spares, is_power}
 use Rattle.satl_laws.proofs.Addresses.{Alike, alike_none, alike_on, writes_alike}
-use Rattle.satl_laws.proofs.Counts.{quiet_tasks}
+use Rattle.satl_laws.proofs.Weighing.{quiet_tasks}
 use Rattle.satl_laws.proofs.Ends.{eligible_in, ends_leaves, may_end_in}
 use Rattle.satl_laws.proofs.Kept.{KeptAt, at_none, at_on, at_same, mend_keeps, moves_keep, spared_in, strike_keeps}
-use Rattle.satl_laws.proofs.Reaching.{WritesItsOwn, ends_reach, steps-length, steps_keep}
+use Rattle.satl_laws.proofs.Reaching.{WritesItsOwn, ends_reach}
+use Rattle.satl_laws.proofs.Steps.{steps-length, steps_keep}
 
 -- what holds of each holds of one of them
 pub in_all : {X : Type 0} (P : X → Type 0) (xs : List X) (x : X) → AllByRecursion P xs → IsIn x xs → P x

@@ -23,7 +23,8 @@ use Rattle.satl_direct.specs.Tasks.{asks, over, range_of}
 use Rattle.satl_laws.proofs.Cases.{by_bool}
 use Rattle.satl_laws.proofs.Kept.{at_now}
 use Rattle.satl_laws.proofs.PlainTasks.{none_written, own_alone, same_block}
-use Rattle.satl_laws.proofs.Reaching.{ends_reach, steps-length, steps_keep}
+use Rattle.satl_laws.proofs.Reaching.{ends_reach}
+use Rattle.satl_laws.proofs.Steps.{steps-length, steps_keep}
 use Rattle.satl_laws.proofs.Seen.{by_test, put_elsewhere, put_seen}
 use Rattle.satl_laws.proofs.Transferring.{IsItsOwn, Transfers, after, and_left, brings, gives, pair_of, spans, still, written_seen}
 

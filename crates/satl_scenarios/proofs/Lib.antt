@@ -7,6 +7,7 @@ pub mod FunctionRuns
 pub mod LinkRuns
 pub mod OrderRuns
 pub mod PassRuns
+pub mod PassingRuns
 pub mod PieceRuns
 pub mod PowerRuns
 pub mod RefusedRuns

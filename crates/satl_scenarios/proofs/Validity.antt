@@ -12,7 +12,7 @@ use Rattle.satl_cdb.specs.Table.{says}
 use Rattle.satl_scenarios.specs.Transfers.{two_waiting}
 use Rattle.satl_scenarios.specs.Words.{aa, blank, cdb_10, request, filled, identify_data, identity, holds, zeros}
 
-all_sound : (count : ℕ) → AreSound (replicate count (holds zeros))
+pub all_sound : (count : ℕ) → AreSound (replicate count (holds zeros))
 all_sound zero = tt
 all_sound (suc count) = (inl refl, all_sound count)
 

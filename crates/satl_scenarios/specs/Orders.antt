@@ -1,16 +1,21 @@
--- Transfers that end out of order, as if each had ended on arrival: runs that the laws of order speak of.
-use Rattle.std.specs.Prelude.{◌≡◌, true, List, [], ◌∷◌, ◌++◌}
+-- Transfers that end out of order, as if each had ended on arrival: runs that the laws of order and of passing speak of.
+use Rattle.std.specs.Prelude.{◌≡◌, true, false, List, [], ◌∷◌, ◌++◌}
 use Rattle.std.specs.List.{AllByRecursion}
 use Rattle.satl_base.specs.declared.bench.BenchEvent.TheVariants as bench
+use Rattle.satl_cdb.specs.declared.command.Command.TheVariants.{Read, Write}
+use Rattle.satl_cdb.specs.declared.command.Form.TheVariants.{Ten}
 use Rattle.satl_unit.specs.declared.attention.Attention.TheVariants.{PowerOn}
 use Rattle.satl_frame.specs.declared.frames.Frame.{Frame}
 use Rattle.satl_frame.specs.declared.frames.Frame.TheVariants.{Bench, End, Request, Turn}
 use Rattle.satl_frame.specs.Output.Answer.{ended}
+use Rattle.satl_line.specs.declared.entry.Entry.{Entry}
 use Rattle.satl_laws.specs.ArrivalOrder.{AskOnce, IsFresh, is_plain}
 use Rattle.satl_laws.specs.OrderUnderErrors.{is_mild}
+use Rattle.satl_laws.specs.Passing.{ComesAfter, DoNotClash, goes_alone}
+use Rattle.satl_direct.specs.Device.{Device}
 use Rattle.satl_direct.specs.Valid.{IsValid}
 use Rattle.satl_scenarios.specs.Scenario.{Scenario, events_of}
-use Rattle.satl_scenarios.specs.Words.{aa, answered, bb, blank, cached_over, cdb_10, check, device, good, holds, powered, read, request, sense, silent, write, zeros}
+use Rattle.satl_scenarios.specs.Words.{aa, answered, bb, blank, cached_over, cdb_10, check, device, good, holds, powered, read, request, sense, silent, task, write, zeros}
 
 -- just after the power came back: TEST UNIT READY is told so; then two WRITEs, a READ over both and SYNCHRONIZE CACHE, sent without
 -- waiting. The second WRITE ends first, and the READ gives both blocks (SAM-5 5.14, 8; SBC-3 5)
@@ -65,3 +70,39 @@ pub record IsOfOrderUnderErrors (scenario : Scenario) : Type 0 where
   pub no_tasks : scenario.first.tasks ≡ []
   pub mild : AllByRecursion (λ f. is_mild scenario.first.identity.trim f ≡ true) (events_of scenario)
   pub once : AskOnce (events_of scenario)
+
+-- a READ of two sectors, a READ of the second of them, a WRITE of that one, and a WRITE of a third (SBC-3 5.10, 5.31)
+abbrev pub reads_two : Entry
+reads_two = task 1 (Read Ten 0 2 false) []
+
+abbrev pub reads_second : Entry
+reads_second = task 2 (Read Ten 1 1 false) []
+
+abbrev pub writes_second : Entry
+writes_second = task 3 (Write Ten 1 1 false) (bb ∷ [])
+
+abbrev pub writes_third : Entry
+writes_third = task 4 (Write Ten 2 1 false) (aa ∷ [])
+
+-- they wait
+abbrev pub four_waiting : Device
+four_waiting = record (blank 3) { tasks = reads_two ∷ reads_second ∷ writes_second ∷ writes_third ∷ [] }
+
+-- the last WRITE passes all of them, the second READ the first; the WRITE of what both read waits for them (SAM-5 8; SBC-3 5)
+abbrev pub passed_where_apart : Scenario
+passed_where_apart = record {
+  first = four_waiting;
+  steps = answered (Turn 4) (good 4 [] ∷ good 2 (zeros ∷ []) ∷ good 1 (zeros ∷ zeros ∷ []) ∷ good 3 [] ∷ []) ∷ [];
+  losses = 0;
+  depth = 2;
+  last = device (holds zeros ∷ cached_over zeros bb ∷ cached_over zeros aa ∷ []);
+}
+
+-- by the law of passing a task can end before these (profile)
+pub record IsOfPassing (s : Device) (earlier : List Entry) (t : Entry) : Type 0 where
+  pub after : ComesAfter s earlier t
+  pub up : s.down ≡ false
+  pub started : s.started ≡ true
+  pub with_others : goes_alone s t ≡ false
+  pub all_with_others : AllByRecursion (λ u. goes_alone s u ≡ false) earlier
+  pub clear : AllByRecursion (λ u. DoNotClash u t) earlier

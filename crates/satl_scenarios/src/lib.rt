@@ -6,14 +6,15 @@ pub mod arrivals;
 pub mod pieces;
 pub mod standby;
 
-ghost use Rattle.std.specs.Prelude.{◌≡◌, ◌<◌, ℕ};
+ghost use Rattle.std.specs.Prelude.{◌≡◌, ◌<◌, ℕ, true, [], ◌∷◌};
 ghost use Rattle.satl_direct.specs.Valid.{IsValid};
 ghost use Rattle.satl_identify.specs.Refusals.{IsIdentity};
+ghost use Rattle.satl_laws.specs.Passing.{clash_at};
 ghost use Rattle.satl_scenarios.specs.Commands.{compared, miscompared, same_written, started, stopped, stopped_unflushed, unmapped, verify_failed};
 ghost use Rattle.satl_scenarios.specs.Flaws.{described, flaw_among_writes, garbled_read, spared_read, torn_write};
 ghost use Rattle.satl_scenarios.specs.Functions.{cleared, nexus_reset, queried, reset, set_aborted};
 ghost use Rattle.satl_scenarios.specs.Links.{done_and_lost, glitch_lost, lost_at_an_abort, lost_at_the_end, lost_in_turn, lost_on_arrival, unplugged_again};
-ghost use Rattle.satl_scenarios.specs.Orders.{IsOfArrivalOrder, IsOfOrderUnderErrors, torn_out_of_order, written_out_of_order};
+ghost use Rattle.satl_scenarios.specs.Orders.{IsOfArrivalOrder, IsOfOrderUnderErrors, IsOfPassing, four_waiting, passed_where_apart, reads_second, reads_two, torn_out_of_order, writes_second, writes_third, written_out_of_order};
 ghost use Rattle.satl_scenarios.specs.Passes.{cache_disabled, identified, power_checked, unreadable_through, written_through};
 ghost use Rattle.satl_scenarios.specs.Power.{flushed, flushed_then_written, power_with_a_task, told_once, turned_off, turned_off_then_power};
 ghost use Rattle.satl_scenarios.specs.Refused.{not_started, refused};
@@ -143,6 +144,16 @@ pub fn transfers_out_of_order()
 pub fn a_torn_write_out_of_order()
     ensures run { CanHappen torn_out_of_order }
     ensures law { IsOfOrderUnderErrors torn_out_of_order }
+{}
+
+/// A WRITE ends before three tasks that do not go over its sector, and a READ before one that overlaps it; the WRITE of what both
+/// read waits for them. The law of passing speaks of these (SAM-5 8; SBC-3 5).
+pub fn transfers_that_pass_where_they_may()
+    ensures run { CanHappen passed_where_apart }
+    ensures write { IsOfPassing four_waiting (reads_two ∷ reads_second ∷ writes_second ∷ []) writes_third }
+    ensures read { IsOfPassing four_waiting (reads_two ∷ []) reads_second }
+    ensures first_held { clash_at 1 reads_two writes_second ≡ true }
+    ensures second_held { clash_at 1 reads_second writes_second ≡ true }
 {}
 
 /// Tasks are asked for, and functions are refused (SAM-5 7.1, 7.9).

@@ -1,4 +1,4 @@
-use Rattle.satl_laws.proofs.Outcomes.{first_once, second_once}
+use Rattle.satl_laws.proofs.OutcomesTwice.{first_once, second_once}
 use Rattle.satl_laws.proofs.never.no_neighbour_is_answered_twice.Goals as goal
 
 pub returns-clause-first : goal.returns-clause-first

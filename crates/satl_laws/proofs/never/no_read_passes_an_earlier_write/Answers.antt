@@ -1,4 +1,4 @@
-use Rattle.satl_laws.proofs.Outcomes.{no_read_passes}
+use Rattle.satl_laws.proofs.OutcomesBehind.{no_read_passes}
 use Rattle.satl_laws.proofs.never.no_read_passes_an_earlier_write.Goals as goal
 
 pub returns : goal.returns

@@ -1,4 +1,4 @@
-use Rattle.satl_laws.proofs.Outcomes.{no_write_passes}
+use Rattle.satl_laws.proofs.OutcomesBehind.{no_write_passes}
 use Rattle.satl_laws.proofs.never.no_write_passes_an_earlier_write.Goals as goal
 
 pub returns : goal.returns
