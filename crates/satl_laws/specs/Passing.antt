@@ -65,12 +65,12 @@ abbrev pub NonePasses : Type 0
 NonePasses = (s new : Device) (reply : Reply) (end : OneEnds s reply new) (earlier : List Entry) →
     ComesAfter s earlier end.task → AllByRecursion (λ t. DoNotClash t end.task) earlier
 
--- nor where one of the two goes alone (SAM-5 8.6)
+-- nor where one of them goes alone (SAM-5 8.6)
 abbrev pub NonePassesAlone : Type 0
 NonePassesAlone = (s new : Device) (reply : Reply) (end : OneEnds s reply new) (earlier : List Entry) →
     ComesAfter s earlier end.task → AllByRecursion (λ t. goes_alone s t || goes_alone s end.task ≡ false) earlier
 
--- nor does a block that a task writes show on the medium while such an earlier one waits (SAM-5 8, command order; profile)
+-- nor does a block that a task writes show before its end, before such an earlier one has ended (SAM-5 8, command order; profile)
 abbrev pub NoneShows : Type 0
 NoneShows = (s : Device) (pair : Pair) (shows : MayShow s pair) (earlier : List Entry) →
     ComesAfter s earlier shows.task → AllByRecursion (λ t. DoNotClash t shows.task) earlier
