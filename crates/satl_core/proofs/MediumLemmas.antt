@@ -223,10 +223,13 @@ module _ (identity : Identity) (modes : Modes) (started : Bool) (attentions : Li
       by comparisons.Differs x =
           torn_turn identity modes started attentions (asking (cdbs.Verify form lba count true)) others d d' ready refl (verifying (over lba count)) miscompare
           (record { was_up = x.1.was_up; torn = d.cells; part = refl; lost = x.1.lost; active = inr (ap (λ (y : DriveState). y.active) x.1.stays) }) (ap (λ (y : DriveState). y.down) x.1.stays)
-          (λ reply new answer same. compared_by (roused (cdbs.Verify form lba count true)) (task_of (asking (cdbs.Verify form lba count true))) reply new lba count None x.1.no_flaw (inr (inr ((λ is. x.0 (sym is)), record {
-            answer = answer;
-            stays = stays_so (roused (cdbs.Verify form lba count true)) new d.cells (without (task_of (asking (cdbs.Verify form lba count true))) (task_of (asking (cdbs.Verify form lba count true)) ∷ others)) d'.glitches same refl (ap (λ (y : DriveState). y.glitches) x.1.stays);
-          }))))
+          (λ reply new answer same. compared_by (roused (cdbs.Verify form lba count true)) (task_of (asking (cdbs.Verify form lba count true))) reply new lba count None x.1.no_flaw (inr (inr (
+            (λ is. x.0 (sym is)),
+            record {
+              answer = answer;
+              stays = stays_so (roused (cdbs.Verify form lba count true)) new d.cells (without (task_of (asking (cdbs.Verify form lba count true))) (task_of (asking (cdbs.Verify form lba count true)) ∷ others)) d'.glitches same refl (ap (λ (y : DriveState). y.glitches) x.1.stays);
+            },
+          ))))
       by (comparisons.Flawed at) x =
           flawed_turn (cdbs.Verify form lba count true) (verifying (over lba count)) at ready refl refl x
           (λ reply new e. compared_by (roused (cdbs.Verify form lba count true)) (task_of (asking (cdbs.Verify form lba count true))) reply new lba count (Some at) x.flaw e)
@@ -245,11 +248,11 @@ module _ (identity : Identity) (modes : Modes) (started : Bool) (attentions : Li
         by finishes.Done x =
             done_turn identity modes started attentions (asking (cdbs.WriteSame form lba count false)) others d d' ready refl (writing_same (over lba count) (get_or entry.body 0 no_block) d) x refl
             (λ reply new e. pieces_by (with_it (cdbs.WriteSame form lba count false)) (task_of (asking (cdbs.WriteSame form lba count false))) reply new lba count (same_pairs lba count entry.body modes.wce) None x.no_flaw
-                (subst (λ ps. IsDone (record (with_it (cdbs.WriteSame form lba count false)) { cells = whole d.cells ps; active = true }) (task_of (asking (cdbs.WriteSame form lba count false))) reply new) pairs e))
+            (subst (λ ps. IsDone (record (with_it (cdbs.WriteSame form lba count false)) { cells = whole d.cells ps; active = true }) (task_of (asking (cdbs.WriteSame form lba count false))) reply new) pairs e))
         by (finishes.Flawed at) x =
             torn_turn identity modes started attentions (asking (cdbs.WriteSame form lba count false)) others d d' ready refl (writing_same (over lba count) (get_or entry.body 0 no_block) d) (write_error at) x.torn (ap (λ (y : DriveState). y.down) x.stays)
             (λ reply new answer same. pieces_by (roused (cdbs.WriteSame form lba count false)) (task_of (asking (cdbs.WriteSame form lba count false))) reply new lba count (same_pairs lba count entry.body modes.wce) (Some at) x.flaw
-                (torn_by (roused (cdbs.WriteSame form lba count false)) (task_of (asking (cdbs.WriteSame form lba count false))) reply new x.torn.torn (same_pairs lba count entry.body modes.wce) at d'.glitches answer same (subst (λ ps. Part d.cells ps x.torn.torn) pairs x.torn.part) (ap (λ (y : DriveState). y.glitches) x.stays)))
+            (torn_by (roused (cdbs.WriteSame form lba count false)) (task_of (asking (cdbs.WriteSame form lba count false))) reply new x.torn.torn (same_pairs lba count entry.body modes.wce) at d'.glitches answer same (subst (λ ps. Part d.cells ps x.torn.torn) pairs x.torn.part) (ap (λ (y : DriveState). y.glitches) x.stays)))
         by finishes.Garbled x =
             torn_turn identity modes started attentions (asking (cdbs.WriteSame form lba count false)) others d d' ready refl (writing_same (over lba count) (get_or entry.body 0 no_block) d) crc_error x.torn (ap (λ (y : DriveState). y.down) x.stays)
             (λ reply new answer same. inl (x.no_flaw, garbled (roused (cdbs.WriteSame form lba count false)) (task_of (asking (cdbs.WriteSame form lba count false))) reply new x.torn.torn (same_pairs lba count entry.body modes.wce) d'.glitches answer same (subst (λ ps. Part d.cells ps x.torn.torn) pairs x.torn.part) x.one))

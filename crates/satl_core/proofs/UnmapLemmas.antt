@@ -208,8 +208,7 @@ payload_is ranges list = append-nil (trimmed (trim_block ranges)) ∙ block_back
 -- it fits a drive with these sectors
 pub entries_suit : (identity : Identity) (ranges : List Range) (body : List Block) → AreTrimmed identity ranges → body ≡ record { bytes = trim_block ranges } ∷ [] → RangedFits identity.capacity body (ranged_trim ranges)
 entries_suit identity ranges body trims is =
-    let named = payload_is ranges trims.list in
-    (
+    let named = payload_is ranges trims.list in (
       is,
       ap (λ b. addresses (payload_ranges 1 b)) is ∙ (ap addresses named ∙ addresses-entries ranges),
       subst (λ b. AllByRecursion (λ (x : Range). x.lba + x.count ≤ identity.capacity) (payload_ranges 1 b)) (sym is) (subst (λ rs. AllByRecursion (λ (x : Range). x.lba + x.count ≤ identity.capacity) rs) (sym named) (named_within identity.capacity (entries ranges) (entries_within identity.capacity ranges trims.within))),

@@ -96,8 +96,8 @@ abbrev pub command_answer : Layer → Request → Command → Result Command AtO
 command_answer l r command =
     if nat_lt l.identity.capacity ((range_of command).lba + (range_of command).count) then Err (at_once.Check out_of_range)
     else unless_refused (asks command).length_fault
-        (if nat_lt r.data_len (needed command) then Err (at_once.Check short_data)
-        else unless_refused ((asks command).data_fault l.identity l.modes r.body) (answer_to l r.body command))
+    (if nat_lt r.data_len (needed command) then Err (at_once.Check short_data)
+    else unless_refused ((asks command).data_fault l.identity l.modes r.body) (answer_to l r.body command))
 
 -- the fields, and then the command (profile)
 abbrev pub cdb_answer : Layer → Request → Result Command Illegal → Result Command AtOnce

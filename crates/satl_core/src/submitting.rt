@@ -257,7 +257,8 @@ fn is_idle(command: &Command, body: &Pages, capacity: u64) -> bool
         | Command::Write { count, .. }
         | Command::Verify { count, .. } => count == 0,
         Command::ModeSelect { length, .. } => length == 0,
-        Command::Unmap { length } => length == 0 || listed_ranges(body, length, capacity).is_empty(),
+        Command::Unmap { length } => length == 0
+            || listed_ranges(body, length, capacity).is_empty(),
         _ => false,
     }
 }

@@ -82,12 +82,7 @@ fn serve(alloc: Global, input: &[u8], piece: usize) -> Result<(Status, Vec<u8>),
 }
 
 /// The input ends with 0 and writes this, however its bytes are cut.
-fn expect(
-    rt: &impl Abort,
-    alloc: Global,
-    input: &[u8],
-    output: &[u8],
-) -> Result<(), Fail> {
+fn expect(rt: &impl Abort, alloc: Global, input: &[u8], output: &[u8]) -> Result<(), Fail> {
     for piece in [1, 65536] {
         let (ended, written) = serve(alloc, input, piece)?;
         assert_eq!(rt; ended, Status::Done, "in pieces of {piece}");

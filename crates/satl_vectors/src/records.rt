@@ -1,6 +1,8 @@
 // Records that are audited.
-use crate::frames::{END, ENDED, TURN, command, good, input, output, read, request, write};
-use crate::frames::{write_and_read, written_and_read};
+use crate::frames::{
+    END, ENDED, TURN, command, good, input, output, read, request, write, write_and_read,
+    written_and_read,
+};
 use crate::replaying::{pieces, run};
 use satl_top::Status;
 use std::alloc::{AllocError, Global};
@@ -8,12 +10,7 @@ use std::process::Abort;
 use std::test::Fail;
 
 /// The record of an input and of an output, with this for the length of the input.
-fn spelled(
-    alloc: Global,
-    length: u64,
-    input: &[u8],
-    output: &[u8],
-) -> Result<Vec<u8>, AllocError> {
+fn spelled(alloc: Global, length: u64, input: &[u8], output: &[u8]) -> Result<Vec<u8>, AllocError> {
     let mut record = b"SATLAUD1".to_vec(alloc)?;
     record.extend_from_slice(&length.to_be_bytes())?;
     record.extend_from_slice(input)?;
@@ -59,7 +56,11 @@ fn inputs_that_are_not_judged(rt: HostRuntime) -> Result<(), Fail> {
     let alloc = rt.alloc();
     let mut asked = input(alloc)?;
     asked.extend_from_slice(&TURN)?;
-    command(&mut asked, 1, [0x12, 0, 0, 0, 36, 0, 0, 0, 0, 0, 0, 0, 0, 0, 0, 0])?;
+    command(
+        &mut asked,
+        1,
+        [0x12, 0, 0, 0, 36, 0, 0, 0, 0, 0, 0, 0, 0, 0, 0, 0],
+    )?;
     let record = spelled(alloc, asked.len() as u64, &asked, b"")?;
     let line = b"input fault 5 at byte 50\n";
     expect(&rt, alloc, &record, Status::BadInput, line)?;
@@ -74,7 +75,13 @@ fn inputs_that_are_not_judged(rt: HostRuntime) -> Result<(), Fail> {
 fn bytes_that_are_no_record(rt: HostRuntime) -> Result<(), Fail> {
     let alloc = rt.alloc();
     expect(&rt, alloc, b"", Status::BadInput, b"")?;
-    expect(&rt, alloc, b"SATLAUD2\0\0\0\0\0\0\0\0", Status::BadInput, b"")?;
+    expect(
+        &rt,
+        alloc,
+        b"SATLAUD2\0\0\0\0\0\0\0\0",
+        Status::BadInput,
+        b"",
+    )?;
     let record = spelled(alloc, 9, b"SATLRPL1", b"")?;
     expect(&rt, alloc, &record, Status::BadInput, b"")?;
     let record = spelled(alloc, 0x0400_0001, b"SATLRPL1", b"")?;
