@@ -2,7 +2,7 @@
 // power at each place.
 use crate::frames::{END, ENDED, TURN, command, good, input, output, read, request, write};
 use crate::queue::write_errors;
-use crate::replaying::{expect_replies, pieces, replay, show_until_lost};
+use crate::replaying::{expect_replies, pieces, replay, run_until_lost};
 use satl_top::Status;
 use std::alloc::{AllocError, Global};
 use std::process::Abort;
@@ -94,7 +94,7 @@ fn a_reset_with_all_tags(rt: HostRuntime) -> Result<(), Fail> {
 fn the_link_is_lost_at_each_call(rt: HostRuntime) -> Result<(), Fail> {
     let alloc = rt.alloc();
     for earlier in 0..20u32 {
-        let (ended, lines) = show_until_lost(alloc, write_errors(alloc)?, earlier)?;
+        let (ended, lines) = run_until_lost(alloc, &["show"], write_errors(alloc)?, earlier)?;
         let count = lines.iter().filter(|byte| **byte == b'\n').count();
         let (status, wanted) = if earlier == 0 {
             (Status::DriveRefused, 0)

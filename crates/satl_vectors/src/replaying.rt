@@ -121,13 +121,14 @@ pub fn replay_unqueued(alloc: Global, input: Vec<u8>) -> Result<(Status, Vec<u8>
     Ok((status, sink.written().to_vec(alloc)?))
 }
 
-/// How an input that is shown ends, and the lines of it, where the drive's link is lost at the call behind so many.
-pub fn show_until_lost(
+/// How the program ends with these words behind its name, and what it writes, where the drive's link is lost at the call behind so many.
+pub fn run_until_lost(
     alloc: Global,
+    given: &[&str],
     input: Vec<u8>,
     after: u32,
 ) -> Result<(Status, Vec<u8>), NoMemory> {
-    let words = words(alloc, &["show"])?;
+    let words = words(alloc, given)?;
     let mut source = MemorySource::new(input, 65536, calls(alloc, None)?);
     let mut sink = MemorySink::new(alloc, 65536, 65536, calls(alloc, None)?)?;
     let mut drive = ModelDrive::new(alloc, 8192)?;
