@@ -121,7 +121,8 @@ pub fn replay_unqueued(alloc: Global, input: Vec<u8>) -> Result<(Status, Vec<u8>
     Ok((status, sink.written().to_vec(alloc)?))
 }
 
-/// How the program ends with these words behind its name, and what it writes, where the drive's link is lost at the call behind so many.
+/// How the program ends with these words behind its name, over a drive of 64 sectors, and what it writes, where the drive's link is lost at
+/// the call behind so many.
 pub fn run_until_lost(
     alloc: Global,
     given: &[&str],
@@ -131,7 +132,7 @@ pub fn run_until_lost(
     let words = words(alloc, given)?;
     let mut source = MemorySource::new(input, 65536, calls(alloc, None)?);
     let mut sink = MemorySink::new(alloc, 65536, 65536, calls(alloc, None)?)?;
-    let mut drive = ModelDrive::new(alloc, 8192)?;
+    let mut drive = ModelDrive::new(alloc, 64)?;
     drive.lose_link_after(after);
     let status = counted::<_, _, _, Brand>(
         alloc,
