@@ -15,3 +15,5 @@ BridgeEnds limit before after statuses.ReadFault = IsBridgedUpTo limit before af
 BridgeEnds limit before after statuses.WriteFault = IsBridgedInPart limit before after
 BridgeEnds limit before after statuses.NoMemory = IsNotServed before after
 BridgeEnds limit before after statuses.DriveRefused = IsNotServed before after
+BridgeEnds limit before after statuses.No = ⊥
+BridgeEnds limit before after statuses.NotCovered = ⊥

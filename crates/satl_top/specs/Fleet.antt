@@ -41,6 +41,8 @@ FleetEnds limit before after statuses.ReadFault = IsFleetBefore limit ReadFault 
 FleetEnds limit before after statuses.WriteFault = IsFleetInPart limit before after
 FleetEnds limit before after statuses.NoMemory = IsFleetNotServed before after
 FleetEnds limit before after statuses.DriveRefused = IsFleetNotServed before after
+FleetEnds limit before after statuses.No = ⊥
+FleetEnds limit before after statuses.NotCovered = ⊥
 
 -- a read or a write fault comes only where the source's or the sink's count of faults rose, and a drive is refused only for a cause of one of
 -- them (profile)
@@ -52,6 +54,8 @@ HasFleetStatusCause before after statuses.ReadFault = Rose before.source.faults 
 HasFleetStatusCause before after statuses.WriteFault = Rose before.sink.faults after.sink.faults
 HasFleetStatusCause before after statuses.NoMemory = Unit {0}
 HasFleetStatusCause before after statuses.DriveRefused = (fault : OpenFault) × (status_of_open fault ≡ statuses.DriveRefused) × IsCauseOfOne fault before.drives after.drives
+HasFleetStatusCause before after statuses.No = Unit {0}
+HasFleetStatusCause before after statuses.NotCovered = Unit {0}
 
 -- what `satl` does with the first drive; the others stay as they are (profile)
 pub record OnFirst (words : List Text) (limit : ℕ) (before after : FleetMoment) (status : Status) : Type 0 where
