@@ -1,10 +1,12 @@
 // Two drives behind one target.
-ghost use Rattle.std.specs.Prelude.{◌≡◌, ◌<◌, ◌≤◌, map, vec_len};
+ghost use Rattle.std.specs.Prelude.{◌≡◌, ◌<◌, ◌≤◌, IfOk, map, vec_len};
 ghost use Rattle.std.specs.List.{AllByRecursion};
+ghost use Rattle.satl_disk.specs.Disk.{state_of};
 ghost use Rattle.satl_fleet.specs.Opening.{IsServable};
 
+use crate::frames::ENDED;
 use crate::replaying::words;
-use satl_base::{NoMemory, Steps, Which};
+use satl_base::{NoMemory, Steps};
 use satl_disk::ModelDrive;
 use satl_drive::Bench;
 use satl_io::{MemorySink, MemorySource, Sink, Source};
@@ -15,6 +17,9 @@ use std::process::Abort;
 use std::rc::RcStr;
 use std::sync::ledger::{Blank, Ledger};
 use std::test::Fail;
+
+/// The drives of the fleet.
+const DRIVES: u32 = 2;
 
 /// REPORT LUNS of nexus 0, tag 1, and END.
 const LUNS: &[u8] = b"SATLRPL1\
@@ -36,11 +41,8 @@ const TWO_READS: &[u8] = b"SATLRPL1\
 /// The block of unit 0, in zeros.
 const BLOCK_TOLD: &[u8] = b"SATLRSP1\x84\0\0\0\x01\0\x81\0\0\x02\x07\0\0\0\0\0\x01\0";
 
-/// A medium error of unit 1.
-const FLAW_TOLD: &[u8] = b"\x84\0\0\0\x01\x01\
-    \x81\0\0\0\x19\0\x02\0\0\0\x01\x12\
-    \xf0\0\x03\0\0\0\0\x0a\0\0\0\0\x11\0\0\0\0\0\
-    \x85\0\0\0\0";
+/// The block of unit 1, in zeros.
+const SECOND_BLOCK_TOLD: &[u8] = b"\x84\0\0\0\x01\x01\x81\0\0\x02\x07\0\0\0\0\0\x01\0";
 
 fn counted<S: Source, K: Sink, D: Bench, L: Ledger>(
     alloc: Global,
@@ -61,15 +63,25 @@ fn counted<S: Source, K: Sink, D: Bench, L: Ledger>(
     program(alloc, words, source, sink, drives, &mut steps)
 }
 
-/// How an input of a fleet of two drives ends, of which the second has a read flaw at address 0, and what it writes.
+/// Two modelled drives.
+fn modelled(alloc: Global) -> Result<Vec<ModelDrive>, NoMemory>
+    ensures count { IfOk result (λ drives. vec_len drives ≡ 2) }
+    ensures servable { IfOk result (λ drives. AllByRecursion IsServable (map state_of drives.items)) }
+{
+    let mut drives = Vec::new(alloc);
+    for _ in 0..DRIVES {
+        drives.push(ModelDrive::new(alloc, 8192)?)?;
+    }
+    Ok(drives)
+}
+
+/// How an input of a fleet of two drives ends, and what it writes.
 fn serve(alloc: Global, input: &[u8], piece: usize) -> Result<(Status, Vec<u8>), NoMemory> {
     let words = words(alloc, &["fleet"])?;
+    let piece = piece.max(1);
     let mut source = MemorySource::new(input.to_vec(alloc)?, piece, Vec::new(alloc));
     let mut sink = MemorySink::new(alloc, 65536, piece, Vec::new(alloc))?;
-    let first = ModelDrive::new(alloc, 8192)?;
-    let mut second = ModelDrive::new(alloc, 8192)?;
-    second.strike(Which::Read, 0);
-    let mut drives = Vec::from_array(alloc, [first, second])?;
+    let mut drives = modelled(alloc)?;
     let status = counted::<_, _, _, Brand>(
         alloc,
         &words,
@@ -103,6 +115,8 @@ fn same_tag_on_two_drives(rt: HostRuntime) -> Result<(), Fail> {
     let alloc = rt.alloc();
     let mut output = BLOCK_TOLD.to_vec(alloc)?;
     output.extend_from_slice(&[0; 512])?;
-    output.extend_from_slice(FLAW_TOLD)?;
+    output.extend_from_slice(SECOND_BLOCK_TOLD)?;
+    output.extend_from_slice(&[0; 512])?;
+    output.extend_from_slice(&ENDED)?;
     expect(&rt, alloc, TWO_READS, &output)
 }
