@@ -1,5 +1,6 @@
 -- How a command ends that goes over a range of the medium, in one ATA command or in pieces of 64 blocks upwards.
 use Rattle.std.specs.Prelude.{◌≡◌, ◌⊎◌, ℕ, ◌+◌, ◌-◌, ◌^◌, ◌≤◌, ◌==◌, if◌then◌else◌, true, false, List, [], Option, Some, None, MatchOption, length, min, replicate}
+use Rattle.satl_base.specs.Limits.{piece}
 use Rattle.satl_base.specs.declared.block.Block.{Block}
 use Rattle.satl_base.specs.declared.block.Range.{Range}
 use Rattle.satl_base.specs.declared.bench.Which.TheVariants as flaws
@@ -14,10 +15,6 @@ use Rattle.satl_barrier.specs.declared.finishing.Finish.{Finish}
 use Rattle.satl_barrier.specs.declared.finishing.Finish.TheVariants as finishes
 use Rattle.satl_barrier.specs.declared.comparing.Comparison.{Comparison}
 use Rattle.satl_barrier.specs.declared.comparing.Comparison.TheVariants as comparisons
-
--- the blocks of a piece (profile)
-abbrev pub piece : ℕ
-piece = 64
 
 -- the next piece of a range, behind the blocks that are done (profile)
 abbrev pub piece_behind : Range → ℕ → Range

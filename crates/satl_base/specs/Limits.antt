@@ -18,6 +18,10 @@ most_moved = 4096
 abbrev pub most_covered : ℕ
 most_covered = 65536
 
+-- the blocks of a piece, in which a WRITE SAME and a VERIFY with comparison go over their range (profile)
+abbrev pub piece : ℕ
+piece = 64
+
 -- the most ranges of one UNMAP (SBC-3, MAXIMUM UNMAP BLOCK DESCRIPTOR COUNT; the figure: profile)
 abbrev pub most_ranges : ℕ
 most_ranges = 64

@@ -23,19 +23,15 @@ use Rattle.satl_frame.specs.DataPages.{pages_of}
 use Rattle.satl_line.specs.declared.entry.Entry.{Entry}
 use Rattle.satl_direct.specs.Device.{Device, attentions_of, is_called, of_others, once_told}
 use Rattle.satl_direct.specs.Tasks.{asks, is_full, needed, range_of, task_for}
-use Rattle.satl_direct.specs.Senses.{attention_sense, link_lost, no_sense, not_ready, out_of_range, overlapped, refusal, sense_in, sense_text, short_data, unknown_operation, unknown_unit}
-
--- the operation codes that are served so far: all of the table but ATA PASS-THROUGH (SPC-4 6; SBC-3 5)
-abbrev pub built : List ℕ
-built = 0x00 ∷ 0x03 ∷ 0x08 ∷ 0x0A ∷ 0x12 ∷ 0x15 ∷ 0x1A ∷ 0x1B ∷ 0x25 ∷ 0x28 ∷ 0x2A ∷ 0x2F ∷ 0x35 ∷ 0x41 ∷ 0x42 ∷ 0x55 ∷ 0x5A ∷ 0x88 ∷ 0x8A ∷ 0x8F ∷ 0x91 ∷ 0x93 ∷ 0x9E ∷ 0xA0 ∷ 0xA8 ∷ 0xAA ∷ 0xAF ∷ []
+use Rattle.satl_direct.specs.Senses.{attention_sense, link_lost, no_sense, not_ready, out_of_range, overlapped, refusal, sense_in, sense_text, short_data, unknown_unit}
 
 -- the operation code (SPC-4 4.3)
 abbrev pub code_of : Request → ℕ
 code_of r = slice_index r.cdb 0
 
--- whether a request has this operation code, and it is served (SPC-4 4.3; profile)
+-- whether a request has this operation code (SPC-4 4.3)
 abbrev pub asks_for : ℕ → Request → Bool
-asks_for code r = (code_of r == code) && is_in code built
+asks_for code r = code_of r == code
 
 -- an answer without data (SAM-5 5.1)
 abbrev pub reply_to : Request → Scsi → List ℕ → Reply
@@ -137,9 +133,9 @@ untold_codes = 0x12 ∷ 0xA0 ∷ 0x03 ∷ []
 abbrev pub attention_for : Device → Request → Option Attention
 attention_for s r = if is_in (code_of r) untold_codes then None else slice_get (attentions_of r.nexus s) 0
 
--- the operation code, and then the fields (SPC-4 4.3)
+-- what the CDB says, or that its operation code is unknown (SPC-4 4.3)
 abbrev pub code_arrival : Device → Request → Arrival
-code_arrival s r = if not (is_in (code_of r) built) then answered (check s r unknown_operation) else cdb_arrival s r (says r.cdb s.identity.trim)
+code_arrival s r = cdb_arrival s r (says r.cdb s.identity.trim)
 
 -- a unit attention, and then the operation code (SAM-5 5.14)
 abbrev pub attention_arrival : Option Attention → Device → Request → Arrival

@@ -1,5 +1,6 @@
 -- How a task ends at its turn (SAT-3 11, error mapping; SBC-3 5; SPC-4 6).
 use Rattle.std.specs.Prelude.{◌≡◌, ◌⊎◌, ℕ, ◌+◌, ◌*◌, ◌&&◌, ◌||◌, not, min, Bool, true, false, if◌then◌else◌, List, [], ◌∷◌, Option, Some, None, MatchBool, MatchOption, length, map, replicate, unwrap_or}
+use Rattle.satl_base.specs.Limits.{piece}
 use Rattle.satl_base.specs.declared.block.Block.{Block}
 use Rattle.satl_base.specs.declared.bench.Which.TheVariants as flaws
 use Rattle.satl_base.specs.declared.modes.Modes.{Modes}
@@ -88,7 +89,7 @@ same_pairs lba count (block ∷ blocks) cached = pairs_from lba (replicate count
 -- flaw of all decides (SBC-3 5.42; the pieces: profile)
 abbrev pub EndsInPieces : ℕ → ℕ → List Pair → Device → Entry → Reply → Device → Type 0
 EndsInPieces lba count writes s t reply new =
-    ((first_flaw flaws.Write s.cells lba (min 64 count) ≡ None) × EndsGarbled writes s t reply new)
+    ((first_flaw flaws.Write s.cells lba (min piece count) ≡ None) × EndsGarbled writes s t reply new)
     ⊎ MatchOption (first_flaw flaws.Write s.cells lba count)
     (IsDone (record s { cells = whole s.cells writes; active = true }) t reply new)
     (λ at. EndsTorn writes at s t reply new)

@@ -50,10 +50,6 @@ attention_sense what = plain 0x6 (additional_sense_of what).asc (additional_sens
 abbrev pub link_lost : Sense
 link_lost = plain 0x4 0x08 0x00
 
--- INVALID COMMAND OPERATION CODE (SPC-4 4.5.6)
-abbrev pub unknown_operation : Sense
-unknown_operation = plain 0x5 0x20 0x00
-
 -- LOGICAL BLOCK ADDRESS OUT OF RANGE (SPC-4 4.5.6)
 abbrev pub out_of_range : Sense
 out_of_range = plain 0x5 0x21 0x00
