@@ -59,8 +59,8 @@ pub fn an_overlap_takes_all_tasks_of_its_nexus()
         (answers ≡ check s r overlapped ∷ []) × (new.tasks ≡ of_others r.nexus s.tasks) }
 {}
 
-/// Law of unit attentions: INQUIRY, REPORT LUNS and REQUEST SENSE are carried out before a condition is told; TEST UNIT READY is
-/// answered with the first one (SAM-5 5.14).
+/// Law of unit attentions: INQUIRY, REPORT LUNS and REQUEST SENSE are carried out before a condition is told; TEST UNIT READY
+/// is answered with the first one (SAM-5 5.14).
 pub fn three_commands_come_before_a_unit_attention()
     ensures inquiry { (s : Device) (r : Request) → code_of r ≡ 0x12 → attention_for s r ≡ None }
     ensures report_luns { (s : Device) (r : Request) → code_of r ≡ 0xA0 → attention_for s r ≡ None }
@@ -69,7 +69,8 @@ pub fn three_commands_come_before_a_unit_attention()
         attentions_of r.nexus s ≡ what ∷ rest → attention_for s r ≡ Some what }
 {}
 
-/// Law of empty transfers: a READ and a WRITE of no block make no task, and are answered as TEST UNIT READY is (SBC-3 5; profile).
+/// Law of empty transfers: a READ and a WRITE of no block make no task, and are answered as TEST UNIT READY is (SBC-3 5;
+/// profile).
 pub fn a_transfer_of_no_block_makes_no_task()
     ensures read { (s : Device) (r : Request) (form : Form) (lba : ℕ) (fua : Bool) →
         becomes s r (commands.Read form lba 0 fua) ≡ answered (readiness s r) }
@@ -77,15 +78,15 @@ pub fn a_transfer_of_no_block_makes_no_task()
         becomes s r (commands.Write form lba 0 fua) ≡ answered (readiness s r) }
 {}
 
-/// Law of lost links: at an unplug each task is answered with LOGICAL UNIT COMMUNICATION FAILURE, in order of arrival, and none is
-/// left (SPC-4 4.5.6; profile).
+/// Law of lost links: at an unplug each task is answered with LOGICAL UNIT COMMUNICATION FAILURE, in order of arrival, and none
+/// is left (SPC-4 4.5.6; profile).
 pub fn a_lost_link_answers_each_task()
     ensures { (s new : Device) (answers : List Reply) → Happens events.Unplug s answers new →
         (answers ≡ map (λ t. task_check s t (plain 0x4 0x08 0x00)) s.tasks) × (new.tasks ≡ []) × (new.down ≡ true) }
 {}
 
-/// Law of READs: one that meets a flaw names the lowest flawed address of its range, and one that is good gives the blocks of its
-/// range (SBC-3 5; SPC-4 4.5.6).
+/// Law of READs: one that meets a flaw names the lowest flawed address of its range, and one that is good gives the blocks of
+/// its range (SBC-3 5; SPC-4 4.5.6).
 pub fn a_read_names_the_lowest_flaw_or_gives_its_blocks()
     ensures flawed { (s new : Device) (t : Entry) (reply : Reply) (form : Form) (lba count at : ℕ) (fua : Bool) →
         EndsBy (commands.Read form lba count fua) s t reply new → first_flaw flaws.Read s.cells lba count ≡ Some at →
