@@ -48,10 +48,12 @@ pub fn after_an_error_the_log_alone_is_read()
         d.error ≡ Some e → CanRun d r pages → command_in r ≡ ReadLog 0x10 0 1 }
 {}
 
-/// Law of issue: a write is outstanding from then on, behind all others, with the blocks of its slot (ACS-3, WRITE FPDMA QUEUED).
+/// Law of issue: a write is outstanding from then on, behind all others, with the blocks of its slot (ACS-3, WRITE FPDMA
+/// QUEUED).
 pub fn what_is_issued_is_outstanding_last()
     ensures { (old new : DriveState) (command : Queued) (pages : List Block) → command.kind ≡ kinds.Write →
-        IsIssued old command pages new → new.outstanding ≡ old.outstanding ++ record { command = command; blocks = pages } ∷ [] }
+        IsIssued old command pages new →
+        new.outstanding ≡ old.outstanding ++ record { command = command; blocks = pages } ∷ [] }
 {}
 
 /// Law of FUA: a write with FUA goes past the cache, also where that is on (ACS-3, WRITE FPDMA QUEUED).
