@@ -17,7 +17,25 @@ use Rattle.satl_pass.specs.declared.pass.Pass.{Pass}
 use Rattle.satl_pass.specs.Fields.{form_of, pass_in}
 use Rattle.satl_pass.specs.Reading.{has_other_direction, has_other_length, pass_says, rules}
 use Rattle.satl_direct.specs.Tasks.{Asks, asks, fault_in, pass_of}
-use Rattle.satl_laws.proofs.Reaching.{WritesItsOwn}
+
+-- an ATA PASS-THROUGH without data-out writes nothing, whatever is handed in
+abbrev pub WritesItsOwn : Command → Type 0
+WritesItsOwn commands.TestUnitReady = Unit {0}
+WritesItsOwn (commands.RequestSense descriptor alloc) = Unit {0}
+WritesItsOwn (commands.Inquiry page alloc) = Unit {0}
+WritesItsOwn (commands.ModeSense ten long_lba no_descriptor control page alloc) = Unit {0}
+WritesItsOwn (commands.ModeSelect ten size) = Unit {0}
+WritesItsOwn (commands.StartStop start no_flush) = Unit {0}
+WritesItsOwn commands.ReadCapacity10 = Unit {0}
+WritesItsOwn (commands.ReadCapacity16 alloc) = Unit {0}
+WritesItsOwn (commands.ReportLuns select alloc) = Unit {0}
+WritesItsOwn (commands.Read form lba count fua) = Unit {0}
+WritesItsOwn (commands.Write form lba count fua) = Unit {0}
+WritesItsOwn (commands.Verify form lba count compare) = Unit {0}
+WritesItsOwn (commands.Flush form lba count) = Unit {0}
+WritesItsOwn (commands.WriteSame form lba count unmap) = Unit {0}
+WritesItsOwn (commands.Unmap size) = Unit {0}
+WritesItsOwn (commands.Pass cdb) = (pass_of cdb).out ≡ false → (m : Medium) (given : List Block) → pairs_of (command_in (pass_of cdb).regs) m given ≡ []
 
 -- no rule is broken where nothing is refused
 unbroken : {A : Type 0} (all : List Rule) (cdb : List ℕ) (value : A) (of : Result A Illegal → Option Illegal) → ((why : Illegal) → of (Err why) ≡ Some why) → of (unless_broken all cdb value) ≡ None → AllByRecursion (λ rule. rule.breaks cdb ≡ false) all
