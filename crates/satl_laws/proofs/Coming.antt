@@ -93,11 +93,6 @@ pass_own cdb h =
     let good = unbroken (rules (form_of cdb)) cdb (pass_in (form_of cdb) cdb) fault_in (λ why. refl) h in
     writes_none (command_in (pass_of cdb).regs) (pass_of cdb) good.1.1.1.1.1.0 good.1.1.1.1.1.1.0
 
--- of two that ask for the same, one that a test chooses
-fault_either : (b : Bool) (x y : Asks) (o : Option Illegal) → x.fields_fault ≡ o → y.fields_fault ≡ o → (if b then x else y).fields_fault ≡ o
-fault_either true x y o p q = p
-fault_either false x y o p q = q
-
 -- a command whose fields are good
 pub fields_own : (c : Command) → (asks c).fields_fault ≡ None → WritesItsOwn c
 fields_own commands.TestUnitReady h = tt
@@ -115,4 +110,4 @@ fields_own (commands.Verify form lba count compare) h = tt
 fields_own (commands.Flush form lba count) h = tt
 fields_own (commands.WriteSame form lba count unmap) h = tt
 fields_own (commands.Unmap size) h = tt
-fields_own (commands.Pass cdb) h = pass_own cdb (sym (fault_either (pass_of cdb).out _ _ (fault_in (pass_says cdb)) refl refl) ∙ h)
+fields_own (commands.Pass cdb) h = pass_own cdb h
