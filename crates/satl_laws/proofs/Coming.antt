@@ -16,7 +16,7 @@ use Rattle.satl_regs.specs.Trim.{addresses}
 use Rattle.satl_pass.specs.declared.pass.Pass.{Pass}
 use Rattle.satl_pass.specs.Fields.{form_of, pass_in}
 use Rattle.satl_pass.specs.Reading.{has_other_direction, has_other_length, pass_says, rules}
-use Rattle.satl_direct.specs.Tasks.{Asks, asks, fault_in, pass_of}
+use Rattle.satl_direct.specs.Tasks.{asks, fault_in, pass_of}
 
 -- an ATA PASS-THROUGH without data-out writes nothing, whatever is handed in
 abbrev pub WritesItsOwn : Command → Type 0
