@@ -95,9 +95,9 @@ short_count : (cdb : List ℕ) → slice_index cdb 4 < 256 → six.count cdb ≤
 short_count cdb byte = short_few (bytes 4 4 cdb) (omega (arith, byte))
 
 -- what is said where no rule is broken
-unbroken : (rules : List Rule) (cdb : List ℕ) (c d : Command) → unless_broken rules cdb c ≡ Ok d → c ≡ d
+pub unbroken : {A : Type 0} (rules : List Rule) (cdb : List ℕ) (c d : A) → unless_broken rules cdb c ≡ Ok d → c ≡ d
 unbroken [] cdb c d e = cc
-unbroken (rule ∷ rules) cdb c d e =
+unbroken {A = A} (rule ∷ rules) cdb c d e =
     (elim (rule.breaks cdb) as (λ b. cond b (Err rule.refusal) (unless_broken rules cdb c) ≡ Ok d → c ≡ d) [
       | true ↦ λ f. absurd cc
       | false ↦ λ f. unbroken rules cdb c d f

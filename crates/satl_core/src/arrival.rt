@@ -127,7 +127,10 @@ pub fn fields_fault(command: &Command) -> Option<Illegal>
     ensures can { IfNone result (CanPass command.now) }
 {
     match *command {
-        Command::Pass { cdb } => read_pass(&cdb).err(),
+        Command::Pass { cdb } => match read_pass(&cdb) {
+            Ok(_) => None,
+            Err(why) => Some(why),
+        },
         _ => None,
     }
 }
