@@ -34,7 +34,8 @@ use Rattle.satl_core.specs.Leaving.{left_by}
 use Rattle.satl_core.specs.Submitting.{is_for_unit, Becomes, IsAdded, IsRefused, attention_of, code_answer, judged, once_judged, overlaps, task_without_pages, untold}
 use Rattle.satl_barrier.specs.Leaving.{Stays}
 use Rattle.satl_core.proofs.TieLemmas.{bytes_long, has_as_noted, queue_alike}
-use Rattle.satl_core.proofs.ArrivalLemmas.{by_ok, code_waits, full_is, full_or_waits}
+use Rattle.satl_core.proofs.ArrivalLemmas.{code_waits, full_is, full_or_waits}
+use Rattle.satl_core.proofs.JudgingLemmas.{by_ok}
 use Rattle.satl_core.specs.declared.managing.Posting.{Posting}
 use Rattle.satl_core.specs.declared.turning.Ending.{Ending}
 use Rattle.satl_core.specs.declared.turning.Ending.TheVariants as endings

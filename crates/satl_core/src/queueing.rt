@@ -206,7 +206,7 @@ impl Satl {
         ensures uncalled { self.old.down ≡ true → steps.new ≡ steps.old }
         ensures steps { steps.new ≤ steps.old + barrier_calls }
     {
-        let task = self.queue.remove(0);
+        let mut task = self.queue.remove(0);
         let command = task.command;
         let descriptor = self.modes.d_sense;
         let wanted = wanted_by(&self.modes, &task.modes);
@@ -215,14 +215,14 @@ impl Satl {
             self.started,
             &self.modes,
             &wanted,
-            &task,
+            &mut task,
             &mut self.pool,
             drive,
             steps,
         ) {
             Ok(ending) => {
                 let modes = modes_after(&command, ending, &self.modes, &wanted);
-                let posting = change_posting(&self.modes, &modes, task.nexus);
+                let posting = change_posting(&command, &self.modes, &modes, task.nexus);
                 post(&mut self.attentions, &self.queue, &posting);
                 self.modes = modes;
                 self.started = started_after(&command, ending, self.started);

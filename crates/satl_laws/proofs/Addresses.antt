@@ -1,17 +1,15 @@
 -- Which sectors a task writes turns on nothing but the task, the number of sectors and what the drive says of itself.
-use Rattle.std.proofs.Common.{arith, ◌≡◌, refl, sym, ap, ◌∙◌, ℕ, ◌+◌, ◌*◌, Bool, true, false, List, [], ◌∷◌, length, replicate, take}
-use Rattle.std.specs.Prelude.{◌/◌, ◌%◌, ◌^◌, not, ◌==◌, ◌&&◌, ◌||◌, ◌≢◌, nat_lt, if◌then◌else◌, slice_index, slice_set}
+use Rattle.std.proofs.Common.{◌≡◌, refl, sym, ap, ◌∙◌, ℕ, ◌+◌, Bool, true, false, List, [], ◌∷◌, length, replicate, take}
+use Rattle.std.specs.Prelude.{not, ◌==◌, ◌&&◌, ◌||◌, nat_lt, if◌then◌else◌}
 use Rattle.std.specs.List.{list_any}
-use Rattle.std.proofs.lemmas.List.{get_or-set_other}
 use Rattle.std.proofs.lemmas.List.Folds.{list_any-append}
 use Rattle.satl_base.specs.declared.block.Block.{Block}
 use Rattle.satl_base.specs.declared.block.Range.{Range}
 use Rattle.satl_base.specs.Blocks.{zero_block}
 use Rattle.satl_base.specs.Cells.{Pair, pairs_from}
-use Rattle.satl_base.specs.Identify.{has_trim, trim_blocks, word, word_bit, word_bits}
+use Rattle.satl_base.specs.Identify.{has_trim, trim_blocks}
 use Rattle.satl_cdb.specs.declared.command.Command.{Command}
 use Rattle.satl_cdb.specs.declared.command.Command.TheVariants as commands
-use Rattle.satl_identify.specs.Data.{identity_data, integrity_byte, with_settings, settings_byte}
 use Rattle.satl_regs.specs.declared.values.AtaCommand.{AtaCommand}
 use Rattle.satl_regs.specs.declared.values.AtaCommand.TheVariants as ata
 use Rattle.satl_regs.specs.Commands.{command_in}
@@ -23,6 +21,7 @@ use Rattle.satl_direct.specs.Device.{Device}
 use Rattle.satl_direct.specs.Ending.{medium_of, same_pairs}
 use Rattle.satl_direct.specs.Quiet.{writes, written_by}
 use Rattle.satl_direct.specs.Tasks.{over, pass_of}
+use Rattle.satl_laws.proofs.TrimWords.{blocks_kept, trim_kept}
 
 -- two devices of as many sectors, whose drives say the same of themselves
 pub record Alike (s u : Device) : Type 0 where
@@ -36,53 +35,6 @@ alike_none s = record { identity = refl; size = refl }
 -- and like what is like one that is like it
 pub alike_on : (a b c : Device) → Alike a b → Alike b c → Alike a c
 alike_on a b c p q = record { identity = q.identity ∙ p.identity; size = q.size ∙ p.size }
-
--- ---- what the drive says of trims, whatever its settings
-
--- a byte other than the one that was set
-set_other : (d : List ℕ) (i j v : ℕ) → j ≢ i → slice_index (slice_set d i v) j ≡ slice_index d j
-set_other d i j v apart = get_or-set_other d i j v 0 apart
-
--- settings change bytes 170 and 511 alone
-index_kept : (d : List ℕ) (cache look : Bool) (j : ℕ) → j ≢ 170 → j ≢ 511 → slice_index (identity_data d cache look) j ≡ slice_index d j
-index_kept d cache look j p q = sealed (word_bits 255 7 0 (with_settings d cache look) == 0xA5) ∙ set_other d 170 j (settings_byte (slice_index d 170) cache look) p
-  where
-    sealed : (b : Bool) → slice_index (if b then slice_set (with_settings d cache look) 511 (integrity_byte (slice_set (with_settings d cache look) 511 0)) else with_settings d cache look) j ≡ slice_index (with_settings d cache look) j
-    sealed true = set_other (with_settings d cache look) 511 j (integrity_byte (slice_set (with_settings d cache look) 511 0)) q
-    sealed false = refl
-
--- a word of its two bytes (ACS-3 7.12.7)
-abbrev word_from : ℕ → ℕ → ℕ
-word_from low high = low + 256 * high
-
--- a word of other bytes is as before
-word_kept : (d : List ℕ) (cache look : Bool) (i j : ℕ) → i ≢ 170 → i ≢ 511 → j ≢ 170 → j ≢ 511
-    → word_from (slice_index (identity_data d cache look) i) (slice_index (identity_data d cache look) j) ≡ word_from (slice_index d i) (slice_index d j)
-word_kept d cache look i j p q r s = ap (λ n. word_from n (slice_index (identity_data d cache look) j)) (index_kept d cache look i p q) ∙ ap (word_from (slice_index d i)) (index_kept d cache look j r s)
-
--- a bit of a word (ACS-3 7.12.7)
-abbrev word_bit_of : ℕ → ℕ → Bool
-word_bit_of w place = w / 2 ^ place % 2 == 1
-
-module _ (d : List ℕ) (cache look : Bool) where
-  -- the words that tell of trims are as before
-  word_169 : word 169 (identity_data d cache look) ≡ word 169 d
-  word_169 = word_kept d cache look 338 339 (λ h. omega (arith, h)) (λ h. omega (arith, h)) (λ h. omega (arith, h)) (λ h. omega (arith, h))
-
-  word_69 : word 69 (identity_data d cache look) ≡ word 69 d
-  word_69 = word_kept d cache look 138 139 (λ h. omega (arith, h)) (λ h. omega (arith, h)) (λ h. omega (arith, h)) (λ h. omega (arith, h))
-
-  -- so is the longest trim
-  blocks_kept : trim_blocks (identity_data d cache look) ≡ trim_blocks d
-  blocks_kept = word_kept d cache look 210 211 (λ h. omega (arith, h)) (λ h. omega (arith, h)) (λ h. omega (arith, h)) (λ h. omega (arith, h))
-
-  -- and whether there are trims
-  trim_kept : has_trim (identity_data d cache look) ≡ has_trim d
-  trim_kept =
-      ap (λ (w : ℕ). word_bit_of w 0 && word_bit 69 14 (identity_data d cache look) && word_bit 69 5 (identity_data d cache look)) word_169
-      ∙ ap (λ (w : ℕ). word_bit 169 0 d && word_bit_of w 14 && word_bit_of w 5) word_69
-
--- ---- addresses
 
 module _ (x : ℕ) where
   -- whether some pair names the sector

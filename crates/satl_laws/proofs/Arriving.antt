@@ -1,18 +1,17 @@
 -- The steps of an arrival, for a request that changes no block but as a WRITE does.
 use Rattle.std.proofs.Common.{◌≡◌, refl, ℕ, ◌+◌, Bool, true, Option, Some, None, eqb-true}
-use Rattle.std.specs.Prelude.{not, ◌==◌, ◌||◌, ◌&&◌, nat_lt, Result, Ok, Err}
+use Rattle.std.specs.Prelude.{not, ◌||◌, ◌&&◌, nat_lt, Result, Ok, Err}
 use Rattle.std.specs.List.{list_any}
 use Rattle.std.proofs.lemmas.Bool.{ltb-false}
 use Rattle.satl_base.specs.declared.request.Request.{Request}
 use Rattle.satl_base.specs.Fields.{bit}
-use Rattle.satl_base.specs.Lists.{is_in}
 use Rattle.satl_cdb.specs.declared.command.Command.{Command}
 use Rattle.satl_cdb.specs.declared.command.Illegal.{Illegal}
 use Rattle.satl_cdb.specs.Table.{says}
 use Rattle.satl_unit.specs.declared.attention.Attention.{Attention}
 use Rattle.satl_direct.specs.Device.{Device, is_called}
 use Rattle.satl_direct.specs.Tasks.{asks, needed, range_of}
-use Rattle.satl_direct.specs.Arrival.{Arrival, arrival, asks_for, attention_arrival, attention_for, built, cdb_arrival, code_arrival, code_of, command_arrival, is_unit_0, other_arrival, unless_refused}
+use Rattle.satl_direct.specs.Arrival.{Arrival, arrival, asks_for, attention_arrival, attention_for, cdb_arrival, code_arrival, code_of, command_arrival, is_unit_0, other_arrival, unless_refused}
 use Rattle.satl_laws.specs.ArrivalOrder.{writes_plainly}
 use Rattle.satl_laws.proofs.Cases.{both_left}
 use Rattle.satl_laws.proofs.Bringing.{Gets, inquiry_unknown, refused, sense_unknown}
@@ -51,7 +50,7 @@ module _ (s : Device) (r : Request) where
     it = says r.cdb s.identity.trim
 
     code_gets : Gets n has it r.body (code_arrival s r)
-    code_gets = either_gets s r it (not (is_in (code_of r) built)) _ _ (λ none. refused it r.body _ refl) (λ some. cdb_gets it plain)
+    code_gets = cdb_gets it plain
 
     told_gets : (o : Option Attention) → Gets n has it r.body (attention_arrival o s r)
     told_gets (Some what) = refused it r.body _ refl
@@ -60,9 +59,9 @@ module _ (s : Device) (r : Request) where
     other_gets : Gets n has it r.body (other_arrival s r)
     other_gets =
         either_gets s r it (asks_for 0x12 r && not (bit 1 0 r.cdb)) _ _
-        (λ h. inquiry_unknown r.cdb s.identity.trim (eqb-true (code_of r) 0x12 (both_left (code_of r == 0x12) (is_in 0x12 built) (both_left (asks_for 0x12 r) (not (bit 1 0 r.cdb)) h))) r.body _)
+        (λ h. inquiry_unknown r.cdb s.identity.trim (eqb-true (code_of r) 0x12 (both_left (asks_for 0x12 r) (not (bit 1 0 r.cdb)) h)) r.body _)
         (λ h. either_gets s r it (asks_for 0x03 r) _ _
-        (λ k. sense_unknown r.cdb s.identity.trim (eqb-true (code_of r) 0x03 (both_left (code_of r == 0x03) (is_in 0x03 built) k)) r.body _)
+        (λ k. sense_unknown r.cdb s.identity.trim (eqb-true (code_of r) 0x03 k) r.body _)
         (λ k. refused it r.body _ refl))
 
     -- what the request becomes

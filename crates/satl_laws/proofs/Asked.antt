@@ -4,7 +4,6 @@ use Rattle.std.specs.Prelude.{if◌then◌else◌, not, ◌==◌, ◌||◌, nat_
 use Rattle.std.specs.List.{list_any}
 use Rattle.std.proofs.Math.Bool.{or-false, or-true}
 use Rattle.satl_base.specs.declared.request.Request.{Request}
-use Rattle.satl_base.specs.Lists.{is_in}
 use Rattle.satl_cdb.specs.declared.command.Command.{Command}
 use Rattle.satl_cdb.specs.declared.command.Command.TheVariants as commands
 use Rattle.satl_cdb.specs.declared.command.Illegal.{Illegal}
@@ -14,7 +13,7 @@ use Rattle.satl_identify.specs.declared.identity.Identity.{Identity}
 use Rattle.satl_unit.specs.declared.attention.Attention.{Attention}
 use Rattle.satl_line.specs.declared.entry.Entry.{Entry}
 use Rattle.satl_line.specs.Conflict.{is_alone, is_write}
-use Rattle.satl_direct.specs.Arrival.{Arrival, becomes, built, cdb_arrival, code_arrival, code_of, command_arrival, placed, placed_unless, sense_told, unless_refused}
+use Rattle.satl_direct.specs.Arrival.{Arrival, becomes, cdb_arrival, code_arrival, command_arrival, placed, placed_unless, sense_told, unless_refused}
 use Rattle.satl_direct.specs.Arrival.Arrival.{answered, attended, overlaps, waits}
 use Rattle.satl_direct.specs.Device.{Device, attentions_of}
 use Rattle.satl_direct.specs.Tasks.{asks, is_full, is_ordered, needed, range_of, task_for}
@@ -119,7 +118,7 @@ module _ (s : Device) (r : Request) where
       (unless ((asks c).data_fault s.identity s.modes r.body) _ (becomes_asked c)))))
 
   code_asked : IsAskedIn queued_trim (code_arrival s r)
-  code_asked = either (not (is_in (code_of r) built)) _ _ tt (said_asked (says r.cdb s.identity.trim))
+  code_asked = said_asked (says r.cdb s.identity.trim)
 
 -- a task that has come is that of its command
 pub come_asked : (identity : Identity) (t : Entry) → HasCome identity t → IsAsked identity.queued_trim t

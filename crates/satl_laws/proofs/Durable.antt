@@ -20,7 +20,7 @@ use Rattle.satl_laws.proofs.Arrivals.{IsFor, code_for}
 use Rattle.satl_laws.proofs.Weighing.{quiet_tasks}
 use Rattle.satl_laws.proofs.Ends.{ends_leaves}
 use Rattle.satl_laws.proofs.Kept.{at_now}
-use Rattle.satl_laws.proofs.Reaching.{WritesItsOwn}
+use Rattle.satl_laws.proofs.Coming.{WritesItsOwn}
 use Rattle.satl_laws.proofs.Runs.{none_writes, run_keeps}
 use Rattle.satl_laws.proofs.Sparing.{Keeps, NoneWrites, SparesAt, keeps_none, keeps_on, loss_keeps, none_still, quiet_alike, quiet_keeps, turns_keep}
 use Rattle.satl_laws.proofs.PowerLoss.{power_keeps}

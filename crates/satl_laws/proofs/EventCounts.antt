@@ -19,7 +19,8 @@ use Rattle.satl_direct.specs.Run.{Manages, MayLose}
 use Rattle.satl_direct.specs.Run.MayLose.{keeps, loses as steps_and_loses}
 use Rattle.satl_laws.specs.OnceEach.{cleared_by, cut_by, taken_off}
 use Rattle.satl_laws.proofs.Cases.{how_many-append, how_many-filter}
-use Rattle.satl_laws.proofs.Arrivals.{IsFor, IsTo, arrival_quiet, effect_quiet}
+use Rattle.satl_laws.proofs.Arrivals.{IsFor, IsTo}
+use Rattle.satl_laws.proofs.QuietArrivals.{arrival_quiet, effect_quiet}
 use Rattle.satl_laws.proofs.Weighing.{loss_counts, mine, quiet_counts, replies, replies-append, same_weight, weigh}
 
 module _ (nexus tag : ℕ) where

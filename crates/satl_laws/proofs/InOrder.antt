@@ -10,9 +10,9 @@ use Rattle.satl_line.specs.declared.entry.Entry.{Entry}
 use Rattle.satl_direct.specs.Device.{Device, is_called}
 use Rattle.satl_laws.specs.ArrivalOrder.{block_at, was_done}
 use Rattle.satl_laws.specs.OnceEach.{answers_to, asks_by}
+use Rattle.satl_laws.proofs.Given.{AllRight}
 use Rattle.satl_laws.proofs.Items.{AreSorted, IsWell, Item, held, waiting}
 use Rattle.satl_laws.proofs.Requests.{requests_of}
-use Rattle.satl_laws.proofs.Settling.{AllRight}
 use Rattle.satl_laws.proofs.Standing.{Stands}
 
 module _ (first : Device) where

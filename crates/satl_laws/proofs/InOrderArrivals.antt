@@ -1,15 +1,16 @@
--- Requests that arrive keep the order of arrival, and so do events that ask nothing.
+-- A request that is answered as it arrives keeps the order of arrival.
 use Rattle.std.proofs.Common.{◌≡◌, ⊎_elim, refl, sym, ap, ◌∙◌, subst, ℕ, Bool, true, false, List, [], ◌∷◌, ◌++◌, None, arith, map}
 use Rattle.std.specs.Prelude.{◌||◌, if◌then◌else◌}
 use Rattle.std.specs.List.{AllByRecursion}
 use Rattle.std.proofs.lemmas.List.{append-nil, map-append}
 use Rattle.std.proofs.lemmas.List.Folds.{list_any-append}
+use Rattle.std.proofs.Math.Bool.{or-false}
 use Rattle.satl_base.specs.declared.block.Block.{Block}
 use Rattle.satl_base.specs.declared.request.Request.{Request}
 use Rattle.satl_base.specs.declared.reply.Reply.{Reply}
 use Rattle.satl_base.specs.Cells.{Cell}
 use Rattle.satl_base.specs.Lists.{how_many}
-use Rattle.satl_base.proofs.ListsLemmas.{All-push_end, in_either}
+use Rattle.satl_base.proofs.ListsLemmas.{All-push_end, All-weaken, in_either}
 use Rattle.satl_cdb.specs.Table.{says}
 use Rattle.satl_regs.specs.Trim.{addresses_from}
 use Rattle.satl_frame.specs.declared.frames.Frame.{Frame}
@@ -24,40 +25,26 @@ use Rattle.satl_laws.proofs.Arrivals.{IsTo}
 use Rattle.satl_laws.proofs.Bringing.{Answers}
 use Rattle.satl_laws.proofs.Cases.{how_many-append}
 use Rattle.satl_laws.proofs.Weighing.{weigh}
+use Rattle.satl_laws.proofs.Given.{GivesRight, IsTold, right_on, right_push}
 use Rattle.satl_laws.proofs.InOrder.{InOrder, IsOnly, IsSure, holds, sectors, trim}
 use Rattle.satl_laws.proofs.Items.{IsWell, Item, held-append, left, waiting, waiting-append}
-use Rattle.satl_laws.proofs.Names.{none_done, none_in}
-use Rattle.satl_laws.proofs.Requests.{asked_as_often, asked_in, has_name, how_many-map, none_pass, requests-append, requests_of}
+use Rattle.satl_laws.proofs.Names.{none_done, none_in, one_reply}
+use Rattle.satl_laws.proofs.Requests.{asked_as_often, has_name, how_many-map, none_pass, requests-append, requests_of}
+use Rattle.satl_laws.proofs.Rows.{all_from}
 use Rattle.satl_laws.proofs.Seen.{by_test, range_none}
-use Rattle.satl_laws.proofs.Settling.{GivesRight, IsTold, pending, right_on, right_push, sorted_push}
+use Rattle.satl_laws.proofs.Settling.{pending, sorted_push}
 use Rattle.satl_laws.proofs.Standing.{Stands}
 use Rattle.satl_laws.proofs.Tasks.{done_good, good_done, reply_named, reply_other}
 
 module _ (first : Device) where
-  -- an event that asks nothing
-  pub unasking_in_order : (events : List Frame) (answers : List Answer) (cells : List Cell) (tasks : List Entry) (faithful : Bool) (event : Frame) → asked_in event ≡ [] → ((nexus tag : ℕ) → asks_by nexus tag event ≡ false)
-      → InOrder first events answers cells tasks faithful → InOrder first (events ++ event ∷ []) answers cells tasks faithful
-  unasking_in_order events answers cells tasks faithful event none never o = record {
-    items = o.items;
-    requests = o.requests ∙ sym (append-nil (requests_of events)) ∙ ap (λ l. requests_of events ++ l) (sym (append-nil (asked_in event) ∙ none)) ∙ sym (requests-append events (event ∷ []));
-    tasks_are = o.tasks_are;
-    size = o.size;
-    counts = λ nexus tag. let more : one_of (asks_by nexus tag event) ≡ 0 = ap one_of (never nexus tag) in omega (arith, o.counts nexus tag, how_many-append (asks_by nexus tag) events (event ∷ []), more);
-    well = o.well;
-    sorted = o.sorted;
-    stands = o.stands;
-    sure = o.sure;
-    only = o.only;
-    right = o.right;
-  }
-    where
-      one_of : Bool → ℕ
-      one_of b = if b then 1 else 0
-
   module _ (events : List Frame) (answers : List Answer) (cells : List Cell) (tasks : List Entry) (faithful : Bool) (r : Request) (o : InOrder first events answers cells tasks faithful)
       (unasked : how_many (asks_by r.nexus (r.tag).0) events ≡ 0) where
-    -- no request before has its nexus and tag
-    apart : AllByRecursion (λ k. has_name r.nexus (r.tag).0 k.request ≡ false) o.items
+    -- a request has another nexus or tag
+    abbrev IsOther : Item → Type 0
+    IsOther k = has_name r.nexus (r.tag).0 k.request ≡ false
+
+    -- each one before has
+    apart : AllByRecursion IsOther o.items
     apart = none_pass (λ k. has_name r.nexus (r.tag).0 k.request) o.items
         (sym (how_many-map (λ k. k.request) (has_name r.nexus (r.tag).0) o.items) ∙ ap (how_many (has_name r.nexus (r.tag).0)) o.requests ∙ asked_as_often r.nexus (r.tag).0 events ∙ unasked)
 
@@ -86,10 +73,10 @@ module _ (first : Device) where
       well = All-push_end (IsWell (trim first) (sectors first)) o.items mine o.well (record { waits = tt });
       sorted = λ x inside. sorted_push (trim first) x o.items mine (idle x) (o.sorted x inside);
       stands = λ x inside. subst (λ h. Stands x (block_at cells x) h tasks) (sym (held-append (trim first) x (block_at first.cells x) o.items (mine ∷ []) ∙ idle x (holds first o.items x))) (o.stands x inside);
-      sure = All-push_end (IsSure first now) o.items mine (each (IsSure first answers) (IsSure first now) sure_other o.items apart o.sure) (λ h x. done_good r reply (sym its_own ∙ h));
-      only = λ f. All-push_end (IsOnly first now) o.items mine (each (IsOnly first answers) (IsOnly first now) only_other o.items apart (o.only f)) (λ x good. its_own ∙ good_done r reply (reply_named r reply to.nexus to.tag) good);
+      sure = All-push_end (IsSure first now) o.items mine (all_from IsOther (IsSure first answers) (IsSure first now) sure_other o.items apart o.sure) (λ h x. done_good r reply (sym its_own ∙ h));
+      only = λ f. All-push_end (IsOnly first now) o.items mine (all_from IsOther (IsOnly first answers) (IsOnly first now) only_other o.items apart (o.only f)) (λ x good. its_own ∙ good_done r reply (reply_named r reply to.nexus to.tag) good);
       right = right_push (trim first) now o.items mine (block_at first.cells) (λ x. false) mine_right
-          (right_on (trim first) answers now o.items (block_at first.cells) (block_at first.cells) (λ x. false) (λ x. false) (λ x h. (refl, h)) (told o.items apart) o.right);
+          (right_on (trim first) answers now o.items (block_at first.cells) (block_at first.cells) (λ x. false) (λ x. false) (λ x h. (refl, h)) (All-weaken IsOther (IsTold (trim first) answers now) told_other o.items apart) o.right);
     }
       where
         now : List Answer
@@ -111,36 +98,22 @@ module _ (first : Device) where
         other : (q : Request) → has_name r.nexus (r.tag).0 q ≡ false → (is_done q (replied reply) || false) ≡ false
         other q h = reply_other r.nexus (r.tag).0 q reply to.nexus (ap (λ k. k.0) to.tag) h
 
-        or_false : (b : Bool) → (b || false) ≡ b
-        or_false true = refl
-        or_false false = refl
+        sure_other : (k : Item) → IsOther k → IsSure first answers k → IsSure first now k
+        sure_other k apart_k sure h x = sure (sym (now_done k.request ∙ ap (λ b. was_done answers k.request || b) (other k.request apart_k) ∙ or-false (was_done answers k.request)) ∙ h) x
 
-        sure_other : (k : Item) → has_name r.nexus (r.tag).0 k.request ≡ false → IsSure first answers k → IsSure first now k
-        sure_other k apart_k sure h x = sure (sym (now_done k.request ∙ ap (λ b. was_done answers k.request || b) (other k.request apart_k) ∙ or_false (was_done answers k.request)) ∙ h) x
-
-        only_other : (k : Item) → has_name r.nexus (r.tag).0 k.request ≡ false → IsOnly first answers k → IsOnly first now k
+        only_other : (k : Item) → IsOther k → IsOnly first answers k → IsOnly first now k
         only_other k apart_k only x h = now_done k.request ∙ ap (λ b. b || (is_done k.request (replied reply) || false)) (only x h)
 
-        each : (P Q : Item → Type 0) → ((k : Item) → has_name r.nexus (r.tag).0 k.request ≡ false → P k → Q k) → (items : List Item) → AllByRecursion (λ k. has_name r.nexus (r.tag).0 k.request ≡ false) items → AllByRecursion P items → AllByRecursion Q items
-        each P Q f [] n p = tt
-        each P Q f (k ∷ items) n p = (f k n.0 p.0, each P Q f items n.1 p.1)
-
-        told : (items : List Item) → AllByRecursion (λ k. has_name r.nexus (r.tag).0 k.request ≡ false) items → AllByRecursion (IsTold (trim first) answers now) items
-        told [] n = tt
-        told (k ∷ items) n = (
-          (λ q g. ⊎_elim (λ earlier. record { among = earlier; done = g.done })
-              (λ later. absurd (let no : true ≡ false = sym g.done ∙ none_in (is_done k.request) (replied reply ∷ []) (replied q) (other k.request n.0) later in cc))
-              (in_either (replied q) answers (replied reply ∷ []) g.among)),
-          told items n.1,
-        )
-
-        same_reply : (a b : Reply) → replied a ≡ replied b → a ≡ b
-        same_reply a b h = cc
+        told_other : (k : Item) → IsOther k → IsTold (trim first) answers now k
+        told_other k apart_k q g =
+            ⊎_elim (λ earlier. record { among = earlier; done = g.done })
+            (λ later. absurd (let no : true ≡ false = sym g.done ∙ none_in (is_done k.request) (replied reply ∷ []) (replied q) (other k.request apart_k) later in cc))
+            (in_either (replied q) answers (replied reply ∷ []) g.among)
 
         mine_right : (q : Reply) (lba count : ℕ) → IsReadOf (says r.cdb (trim first)) lba count → IsGoodReply r q now → GivesRight (trim first) (holds first o.items) (pending (λ x. false) o.items) q lba count
         mine_right q lba count reads g =
             ⊎_elim (λ earlier. absurd (let no : true ≡ false = sym g.done ∙ none_in (is_done r) answers (replied q) not_done earlier in cc))
-            (⊎_elim (λ same. it (same_reply q reply same)) (λ nothing. absurd nothing))
+            (⊎_elim (λ same. it (one_reply q reply same)) (λ nothing. absurd nothing))
             (in_either (replied q) answers (replied reply ∷ []) g.among)
           where
             it : q ≡ reply → GivesRight (trim first) (holds first o.items) (pending (λ x. false) o.items) q lba count

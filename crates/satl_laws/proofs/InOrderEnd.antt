@@ -3,6 +3,7 @@ use Rattle.std.proofs.Common.{◌≡◌, ⊎_elim, refl, sym, ap, ◌∙◌, sub
 use Rattle.std.specs.Prelude.{◌&&◌, ◌||◌}
 use Rattle.std.specs.List.{AllByRecursion, list_any}
 use Rattle.std.proofs.lemmas.List.Folds.{list_any-append}
+use Rattle.std.proofs.Math.Bool.{or-false}
 use Rattle.satl_base.specs.declared.request.Request.{Request}
 use Rattle.satl_base.specs.Lists.{IsIn, how_many}
 use Rattle.satl_cdb.specs.Table.{says}
@@ -19,12 +20,11 @@ use Rattle.std.proofs.lemmas.Option.{slice_get_within}
 use Rattle.satl_base.proofs.ListsLemmas.{All-in}
 use Rattle.satl_laws.specs.ArrivalOrder.{IsInOrder, IsReadOf, content}
 use Rattle.satl_laws.proofs.InOrder.{IsOnly, IsSure}
-use Rattle.satl_laws.proofs.Rows.{all_at, all_front}
+use Rattle.satl_laws.proofs.Rows.{all_at, all_front, in_all}
 use Rattle.satl_laws.proofs.Eligibles.{split_at}
 use Rattle.satl_laws.proofs.Requests.{AreApart, are_apart, asked_as_often, content_held, has_name, how_many-map, placed_at, requests-append, requests_of}
 use Rattle.satl_laws.proofs.Seen.{range_same, seen_get}
-use Rattle.satl_laws.proofs.Settling.{AllRight, right_at}
-use Rattle.satl_laws.proofs.Sparing.{in_all}
+use Rattle.satl_laws.proofs.Given.{AllRight, right_at}
 
 -- ---- the sectors and answers of a device without tasks
 
@@ -49,11 +49,7 @@ acts_itself front back i x apart =
     ∙ ap (λ b. b || ((has_name i.request.nexus (i.request.tag).0 i.request && i.acted x) || acted_by back x i.request)) (none_acts front x i.request apart.fronts)
     ∙ ap (λ b. (b && i.acted x) || acted_by back x i.request) (asks_self i.request)
     ∙ ap (λ b. i.acted x || b) (none_acts back x i.request apart.backs)
-    ∙ or_false (i.acted x)
-  where
-    or_false : (b : Bool) → (b || false) ≡ b
-    or_false true = refl
-    or_false false = refl
+    ∙ or-false (i.acted x)
 
 module _ (first last : Device) (events : List Frame) (answers : List Answer) (f : Bool) (o : InOrder first events answers last.cells [] f) where
   -- each item acts as this says

@@ -20,7 +20,7 @@ use Rattle.satl_laws.specs.OnceEach.{asks_by}
 use Rattle.satl_direct.specs.Management.{effect}
 use Rattle.satl_direct.specs.Run.{Does, Manages}
 use Rattle.satl_laws.proofs.Cases.{both_left, how_many-append}
-use Rattle.satl_laws.proofs.InOrderArrivals.{unasking_in_order}
+use Rattle.satl_laws.proofs.InOrderUnasked.{unasking_in_order}
 use Rattle.satl_laws.proofs.InOrderFlaws.{flaw_now, flaws_at}
 use Rattle.satl_laws.proofs.InOrderRequests.{MayStand, arrives_at, told_at}
 use Rattle.satl_laws.proofs.InOrderTurns.{fewer, may_lose_at, turns_at}

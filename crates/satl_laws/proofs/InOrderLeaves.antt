@@ -15,10 +15,11 @@ use Rattle.satl_laws.specs.ArrivalOrder.{IsGoodReply, IsReadOf, block_at, is_don
 use Rattle.satl_laws.specs.OnceEach.{answers_to, asks_by}
 use Rattle.satl_direct.specs.Valid.{AreOwn}
 use Rattle.satl_laws.proofs.Cases.{how_many-append}
+use Rattle.satl_laws.proofs.Given.{GivesRight}
 use Rattle.satl_laws.proofs.Items.{Awaits, AwaitsIf, IsWell, Item, PlaceOf, place_of}
 use Rattle.satl_laws.proofs.Names.{asks_self, none_done, one, own_counted}
 use Rattle.satl_laws.proofs.Requests.{AreApart, are_apart, asked_as_often, has_name, how_many-map}
-use Rattle.satl_laws.proofs.Settling.{GivesRight, pending}
+use Rattle.satl_laws.proofs.Settling.{pending}
 use Rattle.satl_laws.proofs.Standing.{Leaves}
 use Rattle.satl_laws.proofs.Transferring.{brings}
 use Rattle.satl_laws.proofs.Rows.{all_at}

@@ -1,33 +1,33 @@
 -- Where a task that waits leaves, what is left is in order.
-use Rattle.std.proofs.Common.{◌≡◌, ◌⊎◌, ⊎_elim, inl, inr, refl, sym, ap, ◌∙◌, subst, ℕ, ◌≤◌, ◌<◌, Bool, true, false, List, [], ◌∷◌, ◌++◌, None, arith, map}
-use Rattle.std.specs.Prelude.{◌||◌, if◌then◌else◌}
+use Rattle.std.proofs.Common.{◌≡◌, ⊎_elim, refl, sym, ap, ◌∙◌, subst, ℕ, ◌<◌, Bool, true, false, List, ◌∷◌, ◌++◌, arith, map}
+use Rattle.std.specs.Prelude.{◌||◌}
 use Rattle.std.specs.List.{AllByRecursion, list_any}
-use Rattle.std.proofs.lemmas.Bool.{cases_lt}
 use Rattle.std.proofs.lemmas.List.{map-append}
 use Rattle.std.proofs.lemmas.List.Folds.{list_any-append}
+use Rattle.std.proofs.Math.Bool.{or-false}
 use Rattle.satl_base.specs.declared.block.Block.{Block}
 use Rattle.satl_base.specs.declared.request.Request.{Request}
 use Rattle.satl_base.specs.declared.reply.Reply.{Reply}
 use Rattle.satl_base.specs.Cells.{Cell}
 use Rattle.satl_base.specs.Lists.{how_many}
-use Rattle.satl_base.proofs.ListsLemmas.{in_either}
+use Rattle.satl_base.proofs.ListsLemmas.{All-weaken, in_either}
 use Rattle.satl_cdb.specs.Table.{says}
 use Rattle.satl_frame.specs.declared.frames.Frame.{Frame}
 use Rattle.satl_frame.specs.Output.{Answer}
 use Rattle.satl_frame.specs.Output.Answer.{replied}
 use Rattle.satl_line.specs.declared.entry.Entry.{Entry}
 use Rattle.satl_direct.specs.Device.{Device, is_called}
-use Rattle.satl_laws.specs.ArrivalOrder.{IsGoodReply, IsReadOf, block_at, brought, is_done, was_done}
+use Rattle.satl_laws.specs.ArrivalOrder.{IsGoodReply, IsReadOf, block_at, is_done, was_done}
 use Rattle.satl_laws.specs.OnceEach.{answers_to, asks_by}
 use Rattle.satl_laws.proofs.Cases.{how_many-append}
+use Rattle.satl_laws.proofs.Given.{AllRight, GivesRight, IsTold, right_leave}
 use Rattle.satl_laws.proofs.Items.{AreSorted, Awaits, IsWell, Item, PlaceOf, held-append, is_to_write, left, waiting, waiting-append}
 use Rattle.satl_laws.proofs.Names.{none_in}
 use Rattle.satl_laws.proofs.Requests.{AreApart, has_name}
-use Rattle.satl_laws.proofs.Settling.{AllRight, GivesRight, IsTold, pending, right_leave, sorted_leave}
-use Rattle.satl_laws.proofs.Standing.{Leaves, NoneCovers, Stands, writes_at}
-use Rattle.satl_laws.proofs.Seen.{by_test}
-use Rattle.satl_laws.proofs.Transferring.{brings, still}
-use Rattle.satl_laws.proofs.Rows.{all_back, all_front, all_joined}
+use Rattle.satl_laws.proofs.Settling.{pending, sorted_leave}
+use Rattle.satl_laws.proofs.Standing.{Stands, writes_at}
+use Rattle.satl_laws.proofs.Rows.{all_replaced}
+use Rattle.satl_laws.proofs.Settled.{HasSettled, alike_or_clear, has_settled, leaves_alike, settled}
 use Rattle.satl_laws.proofs.InOrder.{InOrder, IsOnly, IsSure, holds, sectors, trim}
 use Rattle.satl_laws.proofs.InOrderLeaves.{Leaving, apart, awaits, not_done, place}
 
@@ -51,81 +51,39 @@ module _ (first : Device) where
       abbrev was_not_done : was_done answers its_item.request ≡ false
       was_not_done = not_done first events answers cells tasks faithful o once before later t split
 
-      -- on which (sectors first) it has acted, by whether they are there
-      by_place : (x : ℕ) → (x < (sectors first)) ⊎ ((sectors first) ≤ x) → Bool
-      by_place x (inl inside) = (l.leaves x inside).0
-      by_place x (inr past) = good
-
-      acts : ℕ → Bool
-      acts x = by_place x (cases_lt x (sectors first))
-
       -- it has settled
-      settled : Item
-      settled = record { request = its_item.request; task = None; acted = acts }
+      abbrev acting : HasSettled (trim first) (sectors first) (block_at cells) (block_at new) (block_at first.cells) its_place.front its_place.back its_item t good
+      acting = has_settled (trim first) (sectors first) (block_at cells) (block_at new) (block_at first.cells) its_place.front its_place.back its_item t good l.leaves
 
-      inside_acts : (x : ℕ) → x < (sectors first) → Leaves (trim first) (sectors first) x (block_at cells x) (block_at new x) (block_at first.cells x) its_place.front its_place.back its_item t good (acts x)
-      unfolding acts by_place
-      inside_acts x inside = of (cases_lt x (sectors first))
-        where
-          of : (s : (x < (sectors first)) ⊎ ((sectors first) ≤ x)) → Leaves (trim first) (sectors first) x (block_at cells x) (block_at new x) (block_at first.cells x) its_place.front its_place.back its_item t good (by_place x s)
-          of (inl k) = (l.leaves x k).1
-          of (inr past) = absurd (omega (arith, inside, past))
-
-      sure_acts : (x : ℕ) → good ≡ true → acts x ≡ true
-      unfolding acts by_place
-      sure_acts x h = of (cases_lt x (sectors first))
-        where
-          of : (s : (x < (sectors first)) ⊎ ((sectors first) ≤ x)) → by_place x s ≡ true
-          of (inl k) = ((l.leaves x k).1).sure h
-          of (inr past) = h
-
-      only_acts : (x : ℕ) → acts x ≡ true → (good ≡ true) ⊎ (brings t.command ≡ true)
-      unfolding acts by_place
-      only_acts x = of (cases_lt x (sectors first))
-        where
-          of : (s : (x < (sectors first)) ⊎ ((sectors first) ≤ x)) → by_place x s ≡ true → (good ≡ true) ⊎ (brings t.command ≡ true)
-          of (inl k) h = ((l.leaves x k).1).only h
-          of (inr past) h = inl h
+      abbrev its_end : Item
+      its_end = settled (trim first) (sectors first) (block_at cells) (block_at new) (block_at first.cells) its_place.front its_place.back its_item t good acting it_awaits
 
       -- where it writes no sector, it leaves what it did
-      leaves_alike : (x : ℕ) (w : Block) → writes_at t x ≡ false → left (trim first) settled x w ≡ left (trim first) its_item x w
-      unfolding settled
-      leaves_alike x w none =
-          by_test (λ b. (if b then brought (says its_item.request.cdb (trim first)) its_item.request.body x w else w) ≡ w) (acts x) (λ yes. sym (it_awaits.leaves x w) ∙ still t x w none) (λ no. refl)
-          ∙ sym (ap (λ b. if b then brought (says its_item.request.cdb (trim first)) its_item.request.body x w else w) (it_awaits.idle x))
+      alike : (x : ℕ) (w : Block) → writes_at t x ≡ false → left (trim first) its_end x w ≡ left (trim first) its_item x w
+      alike = leaves_alike (trim first) (sectors first) (block_at cells) (block_at new) (block_at first.cells) its_place.front its_place.back its_item t good acting it_awaits
+
+      -- a request has another nexus or tag
+      abbrev IsOther : Item → Type 0
+      IsOther k = has_name t.nexus (t.tag).0 k.request ≡ false
 
       -- who was done before, and who then
       done_more : (r : Request) → was_done (answers ++ more) r ≡ (was_done answers r || list_any (is_done r) more)
       done_more r = list_any-append (is_done r) answers more
 
-      sure_other : (k : Item) → has_name t.nexus (t.tag).0 k.request ≡ false → IsSure first answers k → IsSure first (answers ++ more) k
-      sure_other k other sure h x = sure (sym (done_more k.request ∙ ap (λ b. was_done answers k.request || b) (l.others k.request other) ∙ or_false (was_done answers k.request)) ∙ h) x
-        where
-          or_false : (b : Bool) → (b || false) ≡ b
-          or_false true = refl
-          or_false false = refl
+      sure_other : (k : Item) → IsOther k → IsSure first answers k → IsSure first (answers ++ more) k
+      sure_other k other sure h x = sure (sym (done_more k.request ∙ ap (λ b. was_done answers k.request || b) (l.others k.request other) ∙ or-false (was_done answers k.request)) ∙ h) x
 
-      only_still : (k : Item) → IsOnly first answers k → IsOnly first (answers ++ more) k
-      only_still k only x h = done_more k.request ∙ ap (λ b. b || list_any (is_done k.request) more) (only x h)
+      only_still : (k : Item) → IsOther k → IsOnly first answers k → IsOnly first (answers ++ more) k
+      only_still k other only x h = done_more k.request ∙ ap (λ b. b || list_any (is_done k.request) more) (only x h)
 
-      told_other : (k : Item) → has_name t.nexus (t.tag).0 k.request ≡ false → IsTold (trim first) answers (answers ++ more) k
+      told_other : (k : Item) → IsOther k → IsTold (trim first) answers (answers ++ more) k
       told_other k other reply g =
           ⊎_elim (λ earlier. record { among = earlier; done = g.done })
           (λ later_one. absurd (let no : true ≡ false = sym g.done ∙ none_in (is_done k.request) more (replied reply) (l.others k.request other) later_one in cc))
           (in_either (replied reply) answers more g.among)
 
-      -- both of all
-      each : (P Q : Item → Type 0) → ((k : Item) → has_name t.nexus (t.tag).0 k.request ≡ false → P k → Q k) → (items : List Item) → AllByRecursion (λ k. has_name t.nexus (t.tag).0 k.request ≡ false) items
-          → AllByRecursion P items → AllByRecursion Q items
-      each P Q f [] n p = tt
-      each P Q f (k ∷ items) n p = (f k n.0 p.0, each P Q f items n.1 p.1)
-
-      told_each : (items : List Item) → AllByRecursion (λ k. has_name t.nexus (t.tag).0 k.request ≡ false) items → AllByRecursion (IsTold (trim first) answers (answers ++ more)) items
-      told_each [] n = tt
-      told_each (k ∷ items) n = (told_other k n.0, told_each items n.1)
-
       abbrev after_items : List Item
-      after_items = its_place.front ++ settled ∷ its_place.back
+      after_items = its_place.front ++ its_end ∷ its_place.back
 
       -- what held of all, of those in front, of it, and of those behind
       abbrev all_in : (P : Item → Type 0) → AllByRecursion P o.items → AllByRecursion P (its_place.front ++ its_item ∷ its_place.back)
@@ -140,15 +98,14 @@ module _ (first : Device) where
           (in_either (replied reply) answers more g.among)
 
       pub left_in_order : InOrder first events (answers ++ more) new (before ++ later) still_faithful
-      unfolding settled
       left_in_order = record {
         items = after_items;
         requests =
-            map-append (λ i. i.request) its_place.front (settled ∷ its_place.back)
+            map-append (λ i. i.request) its_place.front (its_end ∷ its_place.back)
             ∙ sym (map-append (λ i. i.request) its_place.front (its_item ∷ its_place.back))
             ∙ ap (map (λ i. i.request)) (sym its_place.split)
             ∙ o.requests;
-        tasks_are = sym (waiting-append its_place.front (settled ∷ its_place.back) ∙ ap (λ l. l ++ waiting its_place.back) its_place.fronts ∙ ap (λ l. before ++ l) its_place.backs);
+        tasks_are = sym (waiting-append its_place.front (its_end ∷ its_place.back) ∙ ap (λ l. l ++ waiting its_place.back) its_place.fronts ∙ ap (λ l. before ++ l) its_place.backs);
         size = l.size ∙ o.size;
         counts = λ nexus tag. omega (
           arith,
@@ -159,31 +116,23 @@ module _ (first : Device) where
           how_many-append (is_called nexus tag) before (t ∷ later),
           how_many-append (is_called nexus tag) before later,
         );
-        well = all_joined (IsWell (trim first) (sectors first)) its_place.front its_place.back settled
-            (all_front (IsWell (trim first) (sectors first)) its_place.front its_place.back its_item (all_in (IsWell (trim first) (sectors first)) o.well))
-            (record { waits = tt })
-            (all_back (IsWell (trim first) (sectors first)) its_place.front its_place.back its_item (all_in (IsWell (trim first) (sectors first)) o.well));
-        sorted = λ x inside. sorted_leave (trim first) x its_place.front its_place.back its_item settled refl
-            (by_test (λ b. writes_at t x ≡ b → ((w : Block) → left (trim first) settled x w ≡ left (trim first) its_item x w) ⊎ NoneCovers x its_place.front) (writes_at t x)
-            (λ writes h. by_test (λ b. acts x ≡ b → ((w : Block) → left (trim first) settled x w ≡ left (trim first) its_item x w) ⊎ NoneCovers x its_place.front) (acts x)
-            (λ yes k. inr ((inside_acts x inside).free k h))
-            (λ no k. inl (λ w. ap (λ b. if b then brought (says its_item.request.cdb (trim first)) its_item.request.body x w else w) (k ∙ sym (it_awaits.idle x)))) refl)
-            (λ none h. inl (λ w. leaves_alike x w h)) refl)
+        well = all_replaced IsOther (IsWell (trim first) (sectors first)) (IsWell (trim first) (sectors first)) (λ k other well. well) its_place.front its_place.back its_item its_end others_apart.fronts others_apart.backs
+            (all_in (IsWell (trim first) (sectors first)) o.well) (record { waits = tt });
+        sorted = λ x inside. sorted_leave (trim first) x its_place.front its_place.back its_item its_end refl
+            (alike_or_clear (trim first) (sectors first) (block_at cells) (block_at new) (block_at first.cells) its_place.front its_place.back its_item t good acting it_awaits x inside)
             (subst (AreSorted (trim first) x) its_place.split (o.sorted x inside));
         stands = λ x inside.
             subst (λ ts. Stands x (block_at new x) (holds first after_items x) ts) (ap (λ l. l ++ waiting its_place.back) its_place.fronts ∙ ap (λ l. before ++ l) its_place.backs)
-            (subst (λ h. Stands x (block_at new x) h (waiting its_place.front ++ waiting its_place.back)) (sym (held-append (trim first) x (block_at first.cells x) its_place.front (settled ∷ its_place.back))) (inside_acts x inside).stands);
-        sure = all_joined (IsSure first (answers ++ more)) its_place.front its_place.back settled
-            (each (IsSure first answers) (IsSure first (answers ++ more)) sure_other its_place.front others_apart.fronts (all_front (IsSure first answers) its_place.front its_place.back its_item (all_in (IsSure first answers) o.sure)))
-            (λ h x. sure_acts x (l.good_only its_item.request (sym (done_more its_item.request ∙ ap (λ b. b || list_any (is_done its_item.request) more) was_not_done) ∙ h)))
-            (each (IsSure first answers) (IsSure first (answers ++ more)) sure_other its_place.back others_apart.backs (all_back (IsSure first answers) its_place.front its_place.back its_item (all_in (IsSure first answers) o.sure)));
-        only = λ f. let all = all_in (IsOnly first answers) (o.only (l.whole f).0) in
-            all_joined (IsOnly first (answers ++ more)) its_place.front its_place.back settled
-            (each (IsOnly first answers) (IsOnly first (answers ++ more)) (λ k other. only_still k) its_place.front others_apart.fronts (all_front (IsOnly first answers) its_place.front its_place.back its_item all))
-            (λ x h. done_more its_item.request ∙ ap (λ b. b || list_any (is_done its_item.request) more) was_not_done ∙ l.told_good f (⊎_elim (λ good_it. good_it) (l.whole f).1 (only_acts x h)))
-            (each (IsOnly first answers) (IsOnly first (answers ++ more)) (λ k other. only_still k) its_place.back others_apart.backs (all_back (IsOnly first answers) its_place.front its_place.back its_item all));
-        right = right_leave (trim first) answers (answers ++ more) its_place.front its_place.back its_item settled (block_at first.cells) (λ x. false) refl
-            (λ x w none. leaves_alike x w (sym (ap (λ k. is_to_write k x) its_place.is) ∙ none))
-            (told_each its_place.front others_apart.fronts) (told_each its_place.back others_apart.backs) read_settled
+            (subst (λ h. Stands x (block_at new x) h (waiting its_place.front ++ waiting its_place.back)) (sym (held-append (trim first) x (block_at first.cells x) its_place.front (its_end ∷ its_place.back))) (acting.inside x inside).stands);
+        sure = all_replaced IsOther (IsSure first answers) (IsSure first (answers ++ more)) sure_other its_place.front its_place.back its_item its_end others_apart.fronts others_apart.backs
+            (all_in (IsSure first answers) o.sure)
+            (λ h x. acting.sure x (l.good_only its_item.request (sym (done_more its_item.request ∙ ap (λ b. b || list_any (is_done its_item.request) more) was_not_done) ∙ h)));
+        only = λ f. all_replaced IsOther (IsOnly first answers) (IsOnly first (answers ++ more)) only_still its_place.front its_place.back its_item its_end others_apart.fronts others_apart.backs
+            (all_in (IsOnly first answers) (o.only (l.whole f).0))
+            (λ x h. done_more its_item.request ∙ ap (λ b. b || list_any (is_done its_item.request) more) was_not_done ∙ l.told_good f (⊎_elim (λ good_it. good_it) (l.whole f).1 (acting.only x h)));
+        right = right_leave (trim first) answers (answers ++ more) its_place.front its_place.back its_item its_end (block_at first.cells) (λ x. false) refl
+            (λ x w none. alike x w (sym (ap (λ k. is_to_write k x) its_place.is) ∙ none))
+            (All-weaken IsOther (IsTold (trim first) answers (answers ++ more)) told_other its_place.front others_apart.fronts)
+            (All-weaken IsOther (IsTold (trim first) answers (answers ++ more)) told_other its_place.back others_apart.backs) read_settled
             (subst (AllRight (trim first) answers (block_at first.cells) (λ x. false)) its_place.split o.right);
       }

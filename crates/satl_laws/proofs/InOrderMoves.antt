@@ -21,7 +21,7 @@ use Rattle.satl_laws.proofs.Ends.{eligible_in}
 use Rattle.satl_laws.proofs.InOrder.{InOrder, holds, sectors, trim}
 use Rattle.satl_laws.proofs.Seen.{put_elsewhere, put_seen}
 use Rattle.satl_laws.proofs.Flawless.{loses_seen}
-use Rattle.satl_laws.proofs.Sparing.{in_all}
+use Rattle.satl_laws.proofs.Rows.{in_all}
 use Rattle.satl_laws.proofs.Standing.{Stands}
 use Rattle.satl_laws.proofs.PlainTasks.{none_written}
 use Rattle.satl_laws.proofs.Tasks.{IsPlainTask, tasks_plain, writer_fits}

@@ -19,12 +19,11 @@ use Rattle.satl_laws.proofs.Cases.{both_left, both_right}
 use Rattle.satl_laws.proofs.InOrder.{InOrder, holds, sectors, trim}
 use Rattle.satl_laws.proofs.InOrderLeaves.{awaits, own, place}
 use Rattle.satl_laws.proofs.InOrderLeft.{left_in_order}
-use Rattle.satl_laws.proofs.Rows.{all_front}
+use Rattle.satl_laws.proofs.Rows.{all_front, in_all}
 use Rattle.satl_laws.proofs.Items.{AreSorted, IsWell, Item, PlaceOf, waiting}
 use Rattle.satl_laws.proofs.Eligibles.{before_free}
 use Rattle.satl_laws.proofs.Names.{none_in}
 use Rattle.satl_laws.proofs.Settling.{none_covers}
-use Rattle.satl_laws.proofs.Sparing.{in_all}
 use Rattle.satl_laws.proofs.Standing.{NoneCovers, Stands, leaves_still, writes_at}
 use Rattle.satl_laws.proofs.Tasks.{IsPlainTask, tasks_plain, writer_fits}
 use Rattle.satl_laws.proofs.Transferring.{brings, spans}

@@ -24,13 +24,13 @@ use Rattle.satl_laws.proofs.Bringing.{Answers, Gets}
 use Rattle.satl_laws.proofs.Arriving.{arrival_gets}
 use Rattle.satl_laws.proofs.Calm.{IsCalm}
 use Rattle.satl_laws.proofs.Cases.{how_many-append}
+use Rattle.satl_laws.proofs.Given.{IsTold, right_on}
 use Rattle.satl_laws.proofs.InOrder.{InOrder, IsOnly, IsSure, sectors, trim}
 use Rattle.satl_laws.proofs.InOrderArrivals.{answered_in_order}
 use Rattle.satl_laws.proofs.InOrderWaits.{waits_in_order}
 use Rattle.satl_laws.proofs.InOrderSteps.{InOrderAt}
 use Rattle.satl_laws.proofs.Names.{one}
 use Rattle.satl_laws.proofs.Flawless.{IsClean}
-use Rattle.satl_laws.proofs.Settling.{IsTold, right_on}
 use Rattle.satl_laws.proofs.Items.{Item}
 
 module _ (first : Device) (exact : Bool) where

@@ -26,7 +26,7 @@ use Rattle.satl_laws.proofs.InOrderEnds.{one_in_order}
 use Rattle.satl_laws.proofs.InOrderMoves.{moved_in_order}
 use Rattle.satl_laws.proofs.Reaching.{ends_reach}
 use Rattle.satl_laws.proofs.Seen.{by_test}
-use Rattle.satl_laws.proofs.Sparing.{in_all}
+use Rattle.satl_laws.proofs.Rows.{in_all}
 use Rattle.satl_laws.proofs.Tasks.{IsPlainTask, may_eligible, tasks_plain}
 
 -- the first of two cases

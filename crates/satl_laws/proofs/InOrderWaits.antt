@@ -18,10 +18,11 @@ use Rattle.satl_laws.proofs.Arrivals.{IsOf}
 use Rattle.satl_laws.proofs.Bringing.{Waits}
 use Rattle.satl_laws.proofs.Cases.{how_many-append}
 use Rattle.satl_laws.proofs.Weighing.{weigh}
+use Rattle.satl_laws.proofs.Given.{right_push}
 use Rattle.satl_laws.proofs.InOrder.{InOrder, IsOnly, IsSure, sectors, trim}
 use Rattle.satl_laws.proofs.Items.{IsWell, Item, held-append, waiting-append}
 use Rattle.satl_laws.proofs.Names.{none_in}
-use Rattle.satl_laws.proofs.Settling.{right_push, sorted_push}
+use Rattle.satl_laws.proofs.Settling.{sorted_push}
 use Rattle.satl_laws.proofs.Standing.{Stands}
 use Rattle.satl_laws.proofs.InOrderArrivals.{not_done, requests_push}
 

@@ -14,8 +14,7 @@ use Rattle.satl_direct.specs.Device.{is_called}
 use Rattle.satl_laws.specs.ArrivalOrder.{is_done, is_good}
 use Rattle.satl_laws.specs.OnceEach.{answers_to, asks_by}
 use Rattle.satl_direct.specs.Valid.{AreOwn}
-use Rattle.satl_laws.proofs.Cases.{both_left, both_right}
-use Rattle.satl_laws.proofs.Kept.{or_left, or_right}
+use Rattle.satl_laws.proofs.Cases.{both_left, both_right, or_left, or_right}
 use Rattle.satl_laws.proofs.Seen.{by_test}
 
 -- what holds of none holds of none of them
@@ -56,16 +55,9 @@ swapped a b c d h =
     sym both ∙ h)
     (λ no. refl)
 
--- a reply to another request does not tell that this one is done
-pub other_reply : (r other : Request) (reply : Reply) → reply.nexus ≡ r.nexus → reply.tag ≡ r.tag → asks_by r.nexus (r.tag).0 (frames.Request other) ≡ false → is_done other (replied reply) ≡ false
-other_reply r other reply n g h =
-    and_three (reply.nexus == other.nexus) ((reply.tag).0 == (other.tag).0) (is_good reply.status)
-    (ap (λ k. (k == other.nexus) && ((reply.tag).0 == (other.tag).0)) n ∙ ap (λ k. (r.nexus == other.nexus) && (k.0 == (other.tag).0)) g ∙ swapped other.nexus r.nexus (other.tag).0 (r.tag).0 h)
-
--- nor does a task of one
-pub other_task : (r other : Request) (t : Entry) → t.nexus ≡ r.nexus → t.tag ≡ r.tag → asks_by r.nexus (r.tag).0 (frames.Request other) ≡ false → is_called other.nexus (other.tag).0 t ≡ false
-other_task r other t n g h =
-    ap (λ k. (k == other.nexus) && ((t.tag).0 == (other.tag).0)) n ∙ ap (λ k. (r.nexus == other.nexus) && (k.0 == (other.tag).0)) g ∙ swapped other.nexus r.nexus (other.tag).0 (r.tag).0 h
+-- answers that are one are of one reply
+pub one_reply : (a b : Reply) → replied a ≡ replied b → a ≡ b
+one_reply a b h = cc
 
 -- where nothing was answered to a nexus and tag, nothing is done
 pub none_done : (r : Request) (answers : List Answer) → how_many (answers_to r.nexus (r.tag).0) answers ≡ 0 → list_any (is_done r) answers ≡ false

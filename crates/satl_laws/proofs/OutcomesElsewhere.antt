@@ -13,7 +13,8 @@ use Rattle.satl_direct.specs.Run.{Does, Run}
 use Rattle.satl_laws.specs.Scenes.{AreTurns, at_work, writes_sector_0}
 use Rattle.satl_laws.proofs.Kept.{at_now}
 use Rattle.satl_laws.proofs.Runs.{once}
-use Rattle.satl_laws.proofs.Sparing.{Keeps, NoneWrites, does_keep, keeps_on, quiet_keeps}
+use Rattle.satl_laws.proofs.Sparing.{Keeps, NoneWrites, keeps_on, quiet_keeps}
+use Rattle.satl_laws.proofs.SparingEvents.{does_keep}
 
 -- turns in which no task writes a sector keep it
 turns_spare : (x : ℕ) (turns : Frame) (s new : Device) (now : List Answer) (d : ℕ) → AreTurns turns → Does turns s now new d → NoneWrites x s → Keeps x s new

@@ -11,7 +11,7 @@ use Rattle.satl_direct.specs.Device.{Device}
 use Rattle.satl_laws.specs.ArrivalOrder.{block_at, writes_plainly}
 use Rattle.satl_laws.specs.Untouched.{now_at}
 use Rattle.satl_direct.specs.Quiet.{written_by}
-use Rattle.satl_laws.proofs.Reaching.{WritesItsOwn}
+use Rattle.satl_laws.proofs.Coming.{WritesItsOwn}
 use Rattle.satl_laws.proofs.Transferring.{brings}
 
 -- such a command writes what its WRITE has, and nothing else

@@ -2,7 +2,6 @@
 use Rattle.std.proofs.Common.{◌≡◌, ⊎_elim, refl, sym, ap, ◌∙◌, subst, ℕ, Bool, true, false, List, []}
 use Rattle.std.specs.Prelude.{not, ◌==◌, ◌&&◌}
 use Rattle.std.specs.List.{list_any}
-use Rattle.satl_base.specs.declared.block.Block.{Block}
 use Rattle.satl_base.specs.declared.bench.Which.TheVariants as flaws
 use Rattle.satl_base.specs.declared.reply.Reply.{Reply}
 use Rattle.satl_base.specs.Cells.{Pair, first_flaw}
@@ -10,7 +9,7 @@ use Rattle.satl_cdb.specs.declared.command.Command.{Command}
 use Rattle.satl_cdb.specs.declared.command.Command.TheVariants as commands
 use Rattle.satl_sense.specs.declared.sense.Sense.{Sense}
 use Rattle.satl_regs.specs.Commands.{command_in}
-use Rattle.satl_regs.specs.Effects.{Medium, pairs_of}
+use Rattle.satl_regs.specs.Effects.{pairs_of}
 use Rattle.satl_line.specs.declared.entry.Entry.{Entry}
 use Rattle.satl_line.specs.Ranged.{RangedTask, written_pairs}
 use Rattle.satl_line.specs.Ending.{EndsAs, Outcome}
@@ -24,25 +23,7 @@ use Rattle.satl_laws.proofs.Cases.{by_bool, by_option}
 use Rattle.satl_laws.proofs.Steps.{Steps, all_of, stays}
 use Rattle.satl_laws.proofs.Steps.Steps.{parts, settles}
 use Rattle.satl_laws.proofs.Carrying.{Carried, carried_out}
-
--- an ATA PASS-THROUGH without data-out writes nothing, whatever is handed in
-abbrev pub WritesItsOwn : Command → Type 0
-WritesItsOwn commands.TestUnitReady = Unit {0}
-WritesItsOwn (commands.RequestSense descriptor alloc) = Unit {0}
-WritesItsOwn (commands.Inquiry page alloc) = Unit {0}
-WritesItsOwn (commands.ModeSense ten long_lba no_descriptor control page alloc) = Unit {0}
-WritesItsOwn (commands.ModeSelect ten size) = Unit {0}
-WritesItsOwn (commands.StartStop start no_flush) = Unit {0}
-WritesItsOwn commands.ReadCapacity10 = Unit {0}
-WritesItsOwn (commands.ReadCapacity16 alloc) = Unit {0}
-WritesItsOwn (commands.ReportLuns select alloc) = Unit {0}
-WritesItsOwn (commands.Read form lba count fua) = Unit {0}
-WritesItsOwn (commands.Write form lba count fua) = Unit {0}
-WritesItsOwn (commands.Verify form lba count compare) = Unit {0}
-WritesItsOwn (commands.Flush form lba count) = Unit {0}
-WritesItsOwn (commands.WriteSame form lba count unmap) = Unit {0}
-WritesItsOwn (commands.Unmap size) = Unit {0}
-WritesItsOwn (commands.Pass cdb) = (pass_of cdb).out ≡ false → (m : Medium) (given : List Block) → pairs_of (command_in (pass_of cdb).regs) m given ≡ []
+use Rattle.satl_laws.proofs.Coming.{WritesItsOwn}
 
 -- the pairs put spare a sector where all that the task writes does, and what the drive says of itself stays
 pub record Reaches (c : Command) (s : Device) (t : Entry) (new : Device) : Type 0 where

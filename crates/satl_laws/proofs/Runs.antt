@@ -6,17 +6,19 @@ use Rattle.satl_base.specs.declared.request.Request.{Request}
 use Rattle.satl_frame.specs.declared.frames.Frame.{Frame}
 use Rattle.satl_frame.specs.declared.frames.Frame.TheVariants as frames
 use Rattle.satl_frame.specs.Output.{Answer}
-use Rattle.satl_line.specs.declared.entry.Entry.{Entry}
 use Rattle.satl_direct.specs.Device.{Device}
 use Rattle.satl_direct.specs.Arrival.{Arrival, arrival}
 use Rattle.satl_direct.specs.Arrival.Arrival.{answered, attended, overlaps, waits}
-use Rattle.satl_direct.specs.Quiet.{Quiet}
+use Rattle.satl_direct.specs.Quiet.{Quiet, writes}
 use Rattle.satl_direct.specs.Run.{Does, RunDeep, joined}
 use Rattle.satl_direct.specs.Run.RunDeep.{start, step}
-use Rattle.satl_laws.specs.Untouched.{SparedBy, SparedByNew, SparedIn, SparedThrough, WithoutPower, is_power}
-use Rattle.satl_laws.proofs.Arrivals.{IsFor, arrival_for, arrival_quiet}
-use Rattle.satl_laws.proofs.Reaching.{WritesItsOwn}
-use Rattle.satl_laws.proofs.Sparing.{Keeps, NoneComes, NoneComesBy, NoneWrites, SparesAt, does_keep, keeps_on, quiet_alike, quiet_keeps, spares_alike}
+use Rattle.satl_laws.specs.Untouched.{SparedBy, SparedByNew, SparedIn, SparedThrough, Spares, WithoutPower, is_power}
+use Rattle.satl_laws.proofs.Arrivals.{IsFor, arrival_for}
+use Rattle.satl_laws.proofs.Coming.{WritesItsOwn}
+use Rattle.satl_laws.proofs.QuietArrivals.{arrival_quiet}
+use Rattle.satl_laws.proofs.Rows.{all_at, all_front, all_from}
+use Rattle.satl_laws.proofs.Sparing.{Keeps, NoneWrites, SparesAt, keeps_on, quiet_alike, quiet_keeps, spares_alike}
+use Rattle.satl_laws.proofs.SparingEvents.{NoneComes, NoneComesBy, does_keep}
 
 -- ---- the last event
 
@@ -98,16 +100,6 @@ once event run =
 
 -- ---- no task writes a sector
 
--- no loss of power up to the last event
-calm_before : (events : List Frame) (event : Frame) → WithoutPower (events ++ event ∷ []) → WithoutPower events
-calm_before [] event h = tt
-calm_before (e ∷ events) event h = (h.0, calm_before events event h.1)
-
--- nor in it
-calm_last : (events : List Frame) (event : Frame) → WithoutPower (events ++ event ∷ []) → is_power event ≡ false
-calm_last [] event h = h.0
-calm_last (e ∷ events) event h = calm_last events event h.1
-
 module _ (x : ℕ) where
   -- a task that comes writes its own alone, and spares the sector
   none_comes : (a : Arrival) (r : Request) (s : Device) → IsFor r a → SparedByNew x s a → NoneComes x s a
@@ -135,16 +127,13 @@ module _ (x : ℕ) where
 
   -- tasks that spare a sector, each of which writes its own alone
   pub none_writes : (s : Device) → SparedBy x s s.tasks → AllByRecursion (λ t. WritesItsOwn t.command) s.tasks → NoneWrites x s
-  none_writes s spared own = record { each = both s.tasks spared own }
-    where
-      both : (tasks : List Entry) → SparedBy x s tasks → AllByRecursion (λ t. WritesItsOwn t.command) tasks → AllByRecursion (SparesAt x s) tasks
-      both [] p q = tt
-      both (t ∷ ts) p q = (record { spares = p.0; own = q.0 }, both ts p.1 q.1)
+  none_writes s spared own =
+      record { each = all_from (λ t. Spares x (writes s t)) (λ t. WritesItsOwn t.command) (SparesAt x s) (λ t spares own. record { spares = spares; own = own }) s.tasks spared own }
 
   -- a sector that no task of a run writes is kept
   pub run_keeps : {first last : Device} {all : List Frame} {groups : List (List Answer)} {losses deep : ℕ} (run : RunDeep first all groups losses last deep)
       → WithoutPower all → SparedThrough x run → AllByRecursion (λ t. WritesItsOwn t.command) first.tasks → Keeps x first last
   run_keeps {first = first} {last = last} (start quiet) calm spared own = quiet_keeps x first last quiet (none_writes first spared own)
   run_keeps {first = first} {last = last} (step {events = events} {s = s} event now d so_far does) calm spared own =
-      keeps_on x first s last (run_keeps so_far (calm_before events event calm) spared.0 own)
-      (does_keep x event s last now d (calm_last events event calm) (none_comes_by event s spared.1) does)
+      keeps_on x first s last (run_keeps so_far (all_front (λ f. is_power f ≡ false) events [] event calm) spared.0 own)
+      (does_keep x event s last now d (all_at (λ f. is_power f ≡ false) events [] event calm) (none_comes_by event s spared.1) does)

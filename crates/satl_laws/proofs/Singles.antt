@@ -5,7 +5,7 @@ use Rattle.std.specs.List.{AllByRecursion, list_any}
 use Rattle.satl_base.specs.declared.block.Block.{Block}
 use Rattle.satl_base.specs.Cells.{Cell, Pair, change_at, pairs_from, put, put_at, settle, whole}
 use Rattle.satl_base.specs.Lists.{IsIn}
-use Rattle.satl_laws.proofs.Kept.{apart, elsewhere}
+use Rattle.satl_laws.proofs.SparedCells.{apart, elsewhere}
 
 -- a loss of power leaves what a read gives
 pub record IsSingle (x : ℕ) (cells : List Cell) : Type 0 where

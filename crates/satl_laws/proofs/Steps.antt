@@ -4,7 +4,8 @@ use Rattle.std.proofs.lemmas.List.{length-map}
 use Rattle.satl_base.specs.Cells.{Cell, Pair, Part, settle, whole}
 use Rattle.satl_base.proofs.CellsLemmas.{part_whole, part-length}
 use Rattle.satl_laws.specs.Untouched.{Spares}
-use Rattle.satl_laws.proofs.Kept.{KeptAt, part_keeps, settle_keeps}
+use Rattle.satl_laws.proofs.Kept.{KeptAt, settle_keeps}
+use Rattle.satl_laws.proofs.SparedCells.{part_keeps}
 
 -- pairs are put in order or left out, or every sector is written back
 pub data Steps (pairs : List Pair) (old : List Cell) : List Cell → Type 0 where

@@ -1,7 +1,8 @@
 -- How the task of a command that changes no block but as a WRITE does ends: what is read, and what its sectors hold.
-use Rattle.std.proofs.Common.{◌≡◌, ◌⊎◌, ⊎_elim, inl, inr, refl, sym, ap, ◌∙◌, subst, ℕ, ◌<◌, Bool, true, false, List, [], ◌∷◌, length}
+use Rattle.std.proofs.Common.{◌≡◌, ◌⊎◌, ⊎_elim, inl, inr, refl, sym, ap, ◌∙◌, subst, ℕ, ◌<◌, true, false, List, [], ◌∷◌, length}
 use Rattle.std.specs.Prelude.{◌&&◌, ◌||◌, not, Ok}
 use Rattle.std.proofs.lemmas.Bool.{cases_eq}
+use Rattle.std.proofs.Math.Bool.{or-true}
 use Rattle.satl_base.specs.declared.block.Block.{Block}
 use Rattle.satl_base.specs.declared.reply.Reply.{Reply}
 use Rattle.satl_base.specs.Cells.{Cell, Pair, Part, nows, put_at, whole}
@@ -69,9 +70,6 @@ module _ (s new : Device) (t : Entry) (reply : Reply) where
     pub ends_size : length new.cells ≡ length s.cells
     ends_size = steps-length (ends_reach s new t reply e).pairs s.cells new.cells (ends_reach s new t reply e).cells
 
-    pub ends_identity : new.identity ≡ s.identity
-    ends_identity = (ends_reach s new t reply e).identity
-
     pub ends_read : gives t.command ≡ true → is_good reply.status ≡ true → reply.body ≡ nows s.cells (range_of t.command).lba (range_of t.command).count
     ends_read g good =
         by_bool s.down (λ k. bad (checked_writes t.command _ k).0)
@@ -108,11 +106,7 @@ module _ (s new : Device) (t : Entry) (reply : Reply) where
         (by_bool (not s.started && (asks t.command).starts) (λ k. checked k) (λ k. written (write_ends t.command b k))) e
       where
         transfers : Transfers n t
-        transfers = fits (ap (λ q. gives t.command || q) b ∙ or_true (gives t.command))
-          where
-            or_true : (q : Bool) → (q || true) ≡ true
-            or_true true = refl
-            or_true false = refl
+        transfers = fits (ap (λ q. gives t.command || q) b ∙ or-true (gives t.command))
 
         checked : {sense : Sense} → IsChecked sense s t reply new → Changed x
         checked k = let w = checked_writes t.command _ k in inl (w.0, ap (λ c. block_at c x) w.1)

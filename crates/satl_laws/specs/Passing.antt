@@ -16,8 +16,8 @@ use Rattle.satl_direct.specs.Valid.{IsValid}
 abbrev pub lies_in : ℕ → ℕ → ℕ → Bool
 lies_in lba count x = nat_le lba x && nat_lt x (lba + count)
 
--- whether a command goes over a sector: it reads, verifies, writes or trims it, an UNMAP by its list of ranges; an ATA PASS-THROUGH may go
--- over any sector (SBC-3 5; SAT-3 12.2)
+-- whether a command goes over a sector: it reads, verifies, writes or trims it. An UNMAP does so by its list of ranges, and an
+-- ATA PASS-THROUGH may do so anywhere (SBC-3 5; SAT-3 12.2)
 abbrev pub goes_over : Command → List Range → ℕ → Bool
 goes_over (commands.Read form lba count fua) listed x = lies_in lba count x
 goes_over (commands.Write form lba count fua) listed x = lies_in lba count x
@@ -27,7 +27,7 @@ goes_over (commands.Unmap size) listed x = list_any (λ range. lies_in range.lba
 goes_over (commands.Pass cdb) listed x = true
 goes_over command listed x = false
 
--- whether it writes or trims what it goes over (SBC-3 5; SAT-3 12.2)
+-- whether a command writes or trims the sectors that it goes over; an ATA PASS-THROUGH may (SBC-3 5; SAT-3 12.2)
 abbrev pub alters : Command → Bool
 alters (commands.Write form lba count fua) = true
 alters (commands.WriteSame form lba count unmap) = true
@@ -35,54 +35,55 @@ alters (commands.Unmap size) = true
 alters (commands.Pass cdb) = true
 alters command = false
 
--- whether two tasks go over a sector, and one of them writes or trims it (SBC-3 5)
+-- whether two tasks clash at a sector: both go over it, and one of them at least writes or trims it (SBC-3 5)
 abbrev pub clash_at : ℕ → Entry → Entry → Bool
 clash_at x a b = goes_over a.command a.ranges.items x && goes_over b.command b.ranges.items x && (alters a.command || alters b.command)
 
--- they do at no sector (SBC-3 5)
+-- two tasks clash at no sector (SBC-3 5)
 abbrev pub DoNotClash : Entry → Entry → Type 0
 DoNotClash a b = (x : ℕ) → clash_at x a b ≡ false
 
--- whether a command is one of those of which several are under way at once: READ, WRITE, and UNMAP where the drive queues trims (profile)
+-- whether tasks of a command are carried out beside others: READ, WRITE, and UNMAP where the drive queues trims (profile)
 abbrev pub goes_with_others : Bool → Command → Bool
 goes_with_others queued_trim (commands.Read form lba count fua) = true
 goes_with_others queued_trim (commands.Write form lba count fua) = true
 goes_with_others queued_trim (commands.Unmap size) = queued_trim
 goes_with_others queued_trim command = false
 
--- whether a task goes alone: it is ORDERED, or its command is none of these (SAM-5 8.6, task attributes; profile)
+-- whether a task goes alone: it is ORDERED, or its command does not go with others (SAM-5 8.6, task attributes; profile)
 abbrev pub goes_alone : Device → Entry → Bool
 goes_alone s t = t.ordered || not (goes_with_others s.identity.queued_trim t.command)
 
--- a task of a device that there can be, and those that came before it (SAM-5 4.8, task set)
+-- a task of a device that there can be, and all tasks that came before it and still wait (SAM-5 4.8, task set)
 pub record ComesAfter (s : Device) (earlier : List Entry) (t : Entry) : Type 0 where
   pub valid : IsValid s
   pub later : List Entry
   pub place : s.tasks ≡ earlier ++ t ∷ later
 
--- no task ends before an earlier one, where both go over a sector and one of them writes or trims it (SAM-5 8, command order; SBC-3 5)
+-- a task that ends before earlier ones clashes with none of them (SAM-5 8, command order; SBC-3 5)
 abbrev pub NonePasses : Type 0
 NonePasses = (s new : Device) (reply : Reply) (end : OneEnds s reply new) (earlier : List Entry) →
     ComesAfter s earlier end.task → AllByRecursion (λ t. DoNotClash t end.task) earlier
 
--- nor where one of them goes alone (SAM-5 8.6)
+-- nor does it go alone, or one of them (SAM-5 8.6)
 abbrev pub NonePassesAlone : Type 0
 NonePassesAlone = (s new : Device) (reply : Reply) (end : OneEnds s reply new) (earlier : List Entry) →
     ComesAfter s earlier end.task → AllByRecursion (λ t. goes_alone s t || goes_alone s end.task ≡ false) earlier
 
--- nor does a block that a task writes show before its end, before such an earlier one has ended (SAM-5 8, command order; profile)
+-- a task that shows a block on the medium before its end clashes with no earlier one (SAM-5 8, command order; profile)
 abbrev pub NoneShows : Type 0
 NoneShows = (s : Device) (pair : Pair) (shows : MayShow s pair) (earlier : List Entry) →
     ComesAfter s earlier shows.task → AllByRecursion (λ t. DoNotClash t shows.task) earlier
 
--- a turn can end the task (SAM-5 8)
+-- one turn can end the task (SAM-5 8)
 pub record CanEnd (s : Device) (t : Entry) : Type 0 where
   pub reply : Reply
   pub new : Device
   pub end : OneEnds s reply new
   pub its_own : end.task ≡ t
 
--- every other task can end before all earlier ones, where the device is up and started (SAM-5 8, command order)
+-- where the device is up and started, a task that clashes with no earlier one can end before them all, unless it goes alone
+-- or one of them does (SAM-5 8, command order)
 abbrev pub OthersPass : Type 0
 OthersPass = (s : Device) (earlier : List Entry) (t : Entry) →
     ComesAfter s earlier t → s.down ≡ false → s.started ≡ true → goes_alone s t ≡ false →

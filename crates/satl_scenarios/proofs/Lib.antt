@@ -6,6 +6,7 @@ pub mod FlawRuns
 pub mod FunctionRuns
 pub mod LinkRuns
 pub mod OrderRuns
+pub mod PassArrivals
 pub mod PassRuns
 pub mod PassingRuns
 pub mod PieceRuns

@@ -13,7 +13,7 @@ use Rattle.satl_frame.specs.DataPages.{padded_block, pages_from, pages_of}
 use Rattle.satl_direct.specs.Ending.{medium_of}
 use Rattle.satl_direct.specs.Tasks.{pass_of}
 use Rattle.satl_scenarios.specs.Commands.{written}
-use Rattle.satl_scenarios.specs.Passes.{cache_disabled, identified, power_checked, through, unreadable_through, written_through}
+use Rattle.satl_scenarios.specs.Passes.{cache_disabled, identified, identify, power_checked, through, unreadable_through, write_block, written_through}
 use Rattle.satl_scenarios.specs.Scenario.{CanHappen}
 use Rattle.satl_scenarios.specs.Words.{bb, device, filled, holds, identify_data, unreadable, zeros}
 use Rattle.satl_scenarios.proofs.CommandRuns.{turn_ends}
@@ -24,12 +24,12 @@ identify_data_2 = record { bytes = identify_data 2 }
 pub drive_identified : CanHappen identified
 unfolding command_in row_of pages_of pages_from padded_block identify_data
 drive_identified =
-    turn_ends (Pass (through 0x08 0x0E 0 1 0 0 0xEC)) [] written _ identified.last
+    turn_ends (Pass identify) [] written _ identified.last
     (record {
       given = zeros ∷ [];
       data_out = λ out. absurd cc;
       size = refl;
-      ended = good_end (pass_of (through 0x08 0x0E 0 1 0 0 0xEC)).regs 0 0;
+      ended = good_end (pass_of identify).regs 0 0;
       taken = identify_data_2 ∷ [];
       after = medium_of identified.first;
       does = record { ends = refl; data_in = refl; medium = refl };
@@ -56,12 +56,12 @@ power_mode_checked =
 pub block_written : CanHappen written_through
 unfolding command_in row_of pages_of pages_from padded_block filled
 block_written =
-    turn_ends (Pass (through 0x0D 0x06 0 1 1 0x40 0x35)) (bb ∷ []) written _ written_through.last
+    turn_ends (Pass write_block) (bb ∷ []) written _ written_through.last
     (record {
       given = bb ∷ [];
       data_out = λ out. refl;
       size = refl;
-      ended = good_end (pass_of (through 0x0D 0x06 0 1 1 0x40 0x35)).regs 0 0;
+      ended = good_end (pass_of write_block).regs 0 0;
       taken = bb ∷ [];
       after = medium_of (device written_through.last.cells);
       does = inl (record { ends = refl; data_in = refl; medium = refl });

@@ -1,19 +1,39 @@
 -- ATA commands that a host sends through the layer (SAT-3 12.2).
 use Rattle.std.specs.Prelude.{ℕ, false, List, [], ◌∷◌}
 use Rattle.satl_cdb.specs.declared.command.Command.TheVariants.{Pass}
+use Rattle.satl_frame.specs.declared.frames.Frame.TheVariants.{Request, Turn}
+use Rattle.satl_frame.specs.Output.{Answer}
 use Rattle.satl_scenarios.specs.Commands.{ends_with, written}
 use Rattle.satl_scenarios.specs.Scenario.{Scenario}
-use Rattle.satl_scenarios.specs.Words.{aa, bb, cached_over, check, device, good, holds, identify_data, unreadable, zeros}
+use Rattle.satl_scenarios.specs.Words.{aa, answered, bb, cached_over, check, device, good, holds, identify_data, read, request, silent, unreadable, zeros}
 
--- an ATA PASS-THROUGH (16): bytes 1 and 2 with PROTOCOL, EXTEND and the flags, and the low bytes of FEATURES, COUNT, LBA, DEVICE and
--- COMMAND (SAT-3 12.2.2.3)
+-- an ATA PASS-THROUGH (16): bytes 1 and 2 with PROTOCOL, EXTEND and the flags, and the low bytes of FEATURES, COUNT, LBA,
+-- DEVICE and COMMAND (SAT-3 12.2.2.3)
 abbrev pub through : ℕ → ℕ → ℕ → ℕ → ℕ → ℕ → ℕ → List ℕ
 through protocol flags features count lba unit command =
     0x85 ∷ protocol ∷ flags ∷ 0 ∷ features ∷ 0 ∷ count ∷ 0 ∷ lba ∷ 0 ∷ 0 ∷ 0 ∷ 0 ∷ unit ∷ command ∷ 0 ∷ []
 
--- IDENTIFY DEVICE, by PIO: its data (ACS-3, IDENTIFY DEVICE)
+-- IDENTIFY DEVICE, by PIO (ACS-3, IDENTIFY DEVICE)
+abbrev pub identify : List ℕ
+identify = through 0x08 0x0E 0 1 0 0 0xEC
+
+-- its answer, with its data (ACS-3, IDENTIFY DEVICE)
+abbrev pub identity_told : Answer
+identity_told = good 1 (record { bytes = identify_data 2 } ∷ [])
+
+-- it waits, and ends with its data (SAT-3 12.2)
 abbrev pub identified : Scenario
-identified = ends_with (Pass (through 0x08 0x0E 0 1 0 0 0xEC)) [] written (good 1 (record { bytes = identify_data 2 } ∷ [])) (device written)
+identified = ends_with (Pass identify) [] written identity_told (device written)
+
+-- it arrives, waits, and ends with its data (SAT-3 12.2)
+abbrev pub identified_on_request : Scenario
+identified_on_request = record {
+  first = device written;
+  steps = silent (Request (request 1 identify [])) ∷ answered (Turn 1) (identity_told ∷ []) ∷ [];
+  losses = 0;
+  depth = 0;
+  last = device written;
+}
 
 -- CHECK POWER MODE with CK_COND: ATA PASS THROUGH INFORMATION AVAILABLE, with STATUS 40h and COUNT FFh, active (SAT-3 12.2.2.6)
 abbrev pub power_checked : Scenario
@@ -29,10 +49,30 @@ cache_disabled =
     (record (device (holds aa ∷ holds zeros ∷ [])) { modes = record { wce = false; dra = false; d_sense = false } })
 
 -- WRITE DMA EXT of a block at address 1 (ACS-3, WRITE DMA EXT)
-abbrev pub written_through : Scenario
-written_through = ends_with (Pass (through 0x0D 0x06 0 1 1 0x40 0x35)) (bb ∷ []) written (good 1 []) (device (cached_over zeros aa ∷ cached_over zeros bb ∷ []))
+abbrev pub write_block : List ℕ
+write_block = through 0x0D 0x06 0 1 1 0x40 0x35
 
--- READ DMA EXT of a sector with a flaw: UNRECOVERED READ ERROR, with ERROR 40h, STATUS 41h, DEVICE 40h, EXTEND and LBA 1 (SAT-3 11, 12.2.2.6)
+-- it waits, and ends with GOOD (SAT-3 12.2)
+abbrev pub written_through : Scenario
+written_through =
+    ends_with (Pass write_block) (bb ∷ []) written (good 1 []) (device (cached_over zeros aa ∷ cached_over zeros bb ∷ []))
+
+-- it arrives with its data-out, and a READ behind it waits for it and gives the block (SAT-3 12.2; SBC-3 5.10)
+abbrev pub read_behind_it : Scenario
+read_behind_it = record {
+  first = device written;
+  steps =
+      silent (Request (request 1 write_block (bb ∷ [])))
+      ∷ silent (read 2 1 1)
+      ∷ answered (Turn 2) (good 1 [] ∷ good 2 (bb ∷ []) ∷ [])
+      ∷ [];
+  losses = 0;
+  depth = 1;
+  last = written_through.last;
+}
+
+-- READ DMA EXT of a sector with a flaw: UNRECOVERED READ ERROR, with ERROR 40h, STATUS 41h, DEVICE 40h, EXTEND and LBA 1
+-- (SAT-3 11, 12.2.2.6)
 abbrev pub unreadable_through : Scenario
 unreadable_through =
     ends_with (Pass (through 0x0D 0x0E 0 1 1 0x40 0x25)) [] (holds zeros ∷ unreadable zeros ∷ [])

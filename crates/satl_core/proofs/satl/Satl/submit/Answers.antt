@@ -10,7 +10,8 @@ use Rattle.satl_core.specs.Layer.{IsTask, Layer, view}
 use Rattle.satl_core.specs.Refilling.{Comes}
 use Rattle.satl_core.specs.Submitting.{Becomes, HasList, judged, once_judged, reply_at_once, trims}
 use Rattle.satl_core.proofs.AddingLemmas.{becomes_whole}
-use Rattle.satl_core.proofs.ArrivalLemmas.{answers_at_once, becomes_arrives, held_by_is, judged_whole}
+use Rattle.satl_core.proofs.ArrivalLemmas.{answers_at_once, becomes_arrives, held_by_is}
+use Rattle.satl_core.proofs.CutLemmas.{judged_whole}
 use Rattle.satl_core.proofs.CountedLemmas.{becomes_more, few_tasks, tasks_seen}
 use Rattle.satl_core.proofs.DeviceLemmas.{arrives_around}
 use Rattle.satl_core.proofs.HeldLemmas.{held_is, no_replies}
