@@ -271,7 +271,7 @@ impl Satl {
         requires task { IsTask self.old.identity.capacity command (held_blocks command) }
         requires empty { replies.old ≡ [] }
         ensures becomes { Becomes request command self.old replies.new self.new }
-        ensures comes { replies.new ≡ [] → Comes self.old.identity.capacity self.old.tasks self.new.tasks }
+        ensures comes { replies.new ≡ [] → Comes self.old.identity.capacity self.old.identity.queued_trim self.old.tasks self.new.tasks }
         ensures long { replies.new ≡ [] → needed command ≤ 512 * length request.body }
     {
         let task = task_without_pages(&request, command, &self.identity);
