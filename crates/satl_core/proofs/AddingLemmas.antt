@@ -1,7 +1,9 @@
 -- A request becomes the last task.
 use Rattle.std.proofs.Common.{◌≡◌, refl, sym, ap, subst, ◌∙◌, arith, ℕ, zero, suc, ◌+◌, ◌*◌, ◌≤◌, Bool, true, false, List, [], ◌∷◌, ◌++◌, length, map, take, Some}
 use Rattle.std.proofs.lemmas.Bool.{ltb-false}
-use Rattle.std.specs.Prelude.{IfSome, MatchBool, Option, ◌==◌, ◌||◌, nat_lt, slice_get}
+use Rattle.std.specs.Prelude.{IfSome, MatchBool, Option, ◌==◌, ◌||◌, if◌then◌else◌, nat_lt, slice_get}
+use Rattle.satl_base.specs.Blocks.{first_bytes}
+use Rattle.satl_frame.specs.DataPages.{page_count, pages_of}
 use Rattle.std.specs.List.{AllByRecursion}
 use Rattle.satl_base.specs.declared.block.Block.{Block}
 use Rattle.satl_base.specs.declared.block.Range.{Range}
@@ -16,7 +18,7 @@ use Rattle.satl_line.specs.Kinds.{kind_of}
 use Rattle.satl_mode.specs.Changes.{IsChangeOf}
 use Rattle.satl_line.specs.Tasks.{Adds, Held, change_at, entries_of, is_too_much, total_blocks, with_body}
 use Rattle.satl_line.proofs.SlotsLemmas.{All-append, total-append}
-use Rattle.satl_direct.specs.Tasks.{asks, data_out, held_blocks, needed, task_for, task_of}
+use Rattle.satl_direct.specs.Tasks.{asks, data_out, held_blocks, needed, pass_of, task_for, task_of}
 use Rattle.satl_core.specs.Layer.{CanTrim, IsCovered, IsExpectable, IsKept, IsTask, Layer, entry_pages, held_pages}
 use Rattle.satl_core.specs.Refilling.{Comes}
 use Rattle.satl_core.specs.Submitting.{Becomes, HasEntries, HasList, IsAdded, IsRefused, task_without_pages, trims}
@@ -96,7 +98,7 @@ can_trim identity r c n is t list has =
       | true ↦ λ t list has. range_trims identity (record { lba = lba; count = count }) is (has refl) t.1.most t.1.some t.1.within
       | false ↦ λ t list has. tt
     ])
-    (λ size t list has. list_trims identity r.body size is (has refl) list) t list has
+    (λ size t list has. list_trims identity r.body size is (has refl) list) (λ cdb t list has. tt) t list has
 
 -- its page has its entries
 pub own_entries : (r : Request) (c : Command) (queued_trim : Bool) (pages : List Block) → HasEntries c queued_trim r.body pages → HasOwnEntries c queued_trim ((asks c).ranges r.body) pages
@@ -149,7 +151,12 @@ whole_data capacity n count c body t long =
     (λ form lba blocks fua t long. take_take blocks count body (omega (arith, long))) (λ form lba blocks none long. refl) (λ start no_flush none long. refl) (λ ten size none long. refl)
     (λ form lba blocks t long. refl) (λ form lba blocks t long. take_take blocks count body (omega (arith, long)))
     (λ form lba blocks unmap. elim unmap as (λ b. (n ≡ 1) × IsCovered capacity lba blocks → needed (cdbs.WriteSame form lba blocks b) ≤ 512 * length (take count body) → data_out (cdbs.WriteSame form lba blocks b) (take (held_blocks (cdbs.WriteSame form lba blocks b)) (take count body)) ≡ data_out (cdbs.WriteSame form lba blocks b) (take (held_blocks (cdbs.WriteSame form lba blocks b)) body)) [ true ↦ λ t long. take_take 1 count body (omega (arith, long)) | false ↦ λ t long. take_take 1 count body (omega (arith, long)) ])
-    (λ size t long. refl) t long
+    (λ size t long. refl) (λ cdb t long. through (pass_of cdb).out (pass_of cdb).length long) t long
+  where
+    through : (out : Bool) (n : ℕ) → (if out then n else 0) ≤ 512 * length (take count body)
+        → (if out then pages_of (first_bytes n (take (page_count n) (take count body))) else []) ≡ (if out then pages_of (first_bytes n (take (page_count n) body)) else [])
+    through true n long = ap (λ bs. pages_of (first_bytes n bs)) (take_take (page_count n) count body (omega (arith, long)))
+    through false n long = refl
 
 -- a task with other data-out
 abbrev made : Entry → List Block → List Range → Option ModeChange → Entry
@@ -163,7 +170,7 @@ same_kept capacity n c count body long list t =
     (λ ten size none long list. (refl, ap Some (change_same (take count body) body size ten (taken_agrees size count body (omega (arith, long, length-take count body))))))
     (λ form lba blocks t long list. (refl, refl)) (λ form lba blocks t long list. (refl, refl))
     (λ form lba blocks unmap. elim unmap as (λ b. (n ≡ 1) × IsCovered capacity lba blocks → needed (cdbs.WriteSame form lba blocks b) ≤ 512 * length (take count body) → Unit {0} → ((asks (cdbs.WriteSame form lba blocks b)).ranges (take count body) ≡ (asks (cdbs.WriteSame form lba blocks b)).ranges body) × ((asks (cdbs.WriteSame form lba blocks b)).change (take count body) ≡ (asks (cdbs.WriteSame form lba blocks b)).change body)) [ true ↦ λ t long list. (refl, refl) | false ↦ λ t long list. (refl, refl) ])
-    (λ size t long list. (ranges_same (take count body) body size capacity (taken_agrees size count body (omega (arith, long, length-take count body))) list.header list.sound, refl)) t long list
+    (λ size t long list. (ranges_same (take count body) body size capacity (taken_agrees size count body (omega (arith, long, length-take count body))) list.header list.sound, refl)) (λ cdb t long list. (refl, refl)) t long list
 
 -- what becomes of a request is what becomes of the whole one
 pub becomes_whole : (w r : Request) (count capacity : ℕ) (c : Command) (old : Layer) (replies : List Reply) (new : Layer) → r ≡ record w { body = take count w.body } → IsTask capacity c (held_blocks c) → HasList c r.body capacity → (replies ≡ [] → needed c ≤ 512 * length r.body)

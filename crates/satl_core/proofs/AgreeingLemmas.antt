@@ -306,6 +306,7 @@ fits_kept identity h entries kept ranged is =
     (λ size t kind trims entries pages e.
     let one : ranged_trim h.entry.ranges.items ≡ ranged = cc in
     subst (RangedFits identity.capacity identity.queued_trim h.entry.body) one (entries_suit identity h.entry.ranges.items h.entry.body trims (queued size identity.queued_trim kind) (entries (queued size identity.queued_trim kind))))
+    (λ cdb t kind trims entries pages e. absurd cc)
     kept.task kept.kind kept.trims entries kept.pages (by_command h.entry ranged is)
   where
     -- its kind says that trims are queued

@@ -45,7 +45,7 @@ alone_by capacity queued_trim e task kind none =
     of_task (λ c. e.kind ≡ kind_of c queued_trim → ranged_of (record e { command = c }) ≡ None → RunsAlone c) capacity e.blocks e.command
     (λ form lba count fua t k n. let some = subst (λ x. ranged_of (record e { command = cdbs.Read form lba count fua; kind = x }) ≡ None) k n in absurd cc)
     (λ form lba count fua t k n. let some = subst (λ x. ranged_of (record e { command = cdbs.Write form lba count fua; kind = x }) ≡ None) k n in absurd cc)
-    (λ form lba count t k n. tt) (λ start no_flush t k n. tt) (λ ten size t k n. tt) (λ form lba count t k n. tt) (λ form lba count t k n. tt) (λ form lba count unmap t k n. tt) (λ size t k n. tt) task kind none
+    (λ form lba count t k n. tt) (λ start no_flush t k n. tt) (λ ten size t k n. tt) (λ form lba count t k n. tt) (λ form lba count t k n. tt) (λ form lba count unmap t k n. tt) (λ size t k n. tt) (λ cdb t k n. tt) task kind none
 
 -- where nothing is outstanding at a unit that works, the first task's command is not queued
 pub first_alone : (l : Layer) (rest : List Held) (entry : Entry) → IsUsed l → l.flying ≡ [] → IsFirst l.tasks entry rest → IsKeptEntry l.identity entry → l.down ≡ false → l.started ≡ true → RunsAlone entry.command

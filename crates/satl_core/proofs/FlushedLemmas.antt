@@ -54,15 +54,15 @@ still_settled (c ∷ cells) [] all loses = absurd loses
 
 -- ---- a task that is done was carried out
 
-pub flush_done : (down started : Bool) (wanted : Modes) (t : Entry) (old new : DriveState) (ending : Ending) → IsFlush t.command → ending ≡ endings.Good → TaskEnds down started wanted t old ending new → AllByRecursion IsSettled new.cells
-flush_done true started wanted t old new ending flush good = λ ends. let sensed = ends.sensed in absurd cc
-flush_done false started wanted t old new ending flush good =
-    elim (not started && (asks t.command).starts) as (λ b. MatchBool b (IsUnasked not_ready old ending new) (CarriedOut wanted t.command t old ending new) → AllByRecursion IsSettled new.cells) [
+pub flush_done : (down started : Bool) (wanted : Modes) (t : Entry) (taken : List Block) (old new : DriveState) (ending : Ending) → IsFlush t.command → ending ≡ endings.Good → TaskEnds down started wanted t taken old ending new → AllByRecursion IsSettled new.cells
+flush_done true started wanted t taken old new ending flush good = λ ends. let sensed = ends.sensed in absurd cc
+flush_done false started wanted t taken old new ending flush good =
+    elim (not started && (asks t.command).starts) as (λ b. MatchBool b (IsUnasked not_ready old ending new) (CarriedOut wanted t.command t taken old ending new) → AllByRecursion IsSettled new.cells) [
       | true ↦ λ x. let sensed = x.sensed in absurd cc
       | false ↦ λ x. carried t.command flush x
     ]
   where
-    carried : (c : Command) → IsFlush c → CarriedOut wanted c t old ending new → AllByRecursion IsSettled new.cells
+    carried : (c : Command) → IsFlush c → CarriedOut wanted c t taken old ending new → AllByRecursion IsSettled new.cells
     carried (commands.Flush form lba count) flush done = all_settled old.cells new.cells done.1.lost
     carried commands.TestUnitReady flush done = absurd flush
     carried (commands.RequestSense descriptor alloc) flush done = absurd flush
@@ -101,6 +101,7 @@ pub record IsFirstFlush (first : Entry) (ending : Ending) : Type 0 where
 
 done_by : (ending : Ending) → ending_status ending ≡ Good → ending ≡ endings.Good
 done_by endings.Good e = refl
+done_by (endings.Informed sense) e = absurd cc
 done_by (endings.Check sense) e = absurd cc
 
 pub first_flush : (tasks rest : List Held) (first entry : Entry) (ending : Ending) (descriptor : Bool) (given replies : List Reply) (r : Reply) → IsFirst tasks first rest → entry.nexus ≡ first.nexus → entry.tag ≡ first.tag

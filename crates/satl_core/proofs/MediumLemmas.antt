@@ -45,11 +45,14 @@ use Rattle.satl_core.specs.declared.turning.Ending.{Ending}
 use Rattle.satl_core.specs.declared.turning.Ending.TheVariants as endings
 use Rattle.satl_core.specs.Medium as medium
 use Rattle.satl_core.specs.Layer.{AreTrimmed, CanTrim, IsCovered, IsTask, entry_pages}
-use Rattle.satl_core.specs.Medium.{HasCompared, HasData, HasFinished, HasVerified, MayTrim, TakesTrim, written_alone}
+use Rattle.satl_barrier.specs.Leaving.{TellsOf}
+use Rattle.satl_barrier.specs.Settings.{IsSetBy}
+use Rattle.satl_core.specs.Medium.{HasCompared, HasData, HasFinished, HasVerified, HasWhole, MayTrim, TakesTrim, written_alone}
 use Rattle.satl_core.specs.Refilling.{EndsOne}
 use Rattle.satl_core.specs.Turning.{ended_reply, read_pages}
 use Rattle.satl_core.proofs.DeviceLemmas.{ends_around, ends_by, first_gone, quiet_none, seen}
 use Rattle.satl_core.proofs.HeldLemmas.{IsKeptEntry}
+use Rattle.satl_core.proofs.PassingLemmas.{pass_pairs}
 use Rattle.satl_core.proofs.QueuedLemmas.{read_flaw, write_flaw}
 use Rattle.satl_core.proofs.Transfers.{of_task}
 
@@ -290,7 +293,8 @@ pub has_data : (identity : Identity) (entry : Entry) → IsKeptEntry identity en
 has_data identity entry kept =
     of_task (λ c. length entry.body ≡ entry.blocks + entry_pages c identity.queued_trim → HasData c entry) identity.capacity entry.blocks entry.command
     (λ form lba count fua t size. tt) (λ form lba count fua t size. tt) (λ form lba count none size. tt) (λ start no_flush none size. tt) (λ ten size none pages. tt) (λ form lba count t size. tt)
-    (λ form lba count t size. omega (arith, t.0, size)) (λ form lba count unmap t size. omega (arith, t.0, size)) (λ size t pages. tt) kept.task kept.pages
+    (λ form lba count t size. omega (arith, t.0, size)) (λ form lba count unmap t size. omega (arith, t.0, size)) (λ size t pages. tt)
+    (λ cdb t size. omega (arith, t.0, size)) kept.task kept.pages
 
 -- a drive takes what it trims
 pub may_trim : (identity : Identity) (entry : Entry) (d : DriveState) → IsKeptEntry identity entry → identity.capacity ≡ length d.cells → has_trim d.identify ≡ identity.trim → MayTrim entry.command entry d
@@ -298,40 +302,45 @@ may_trim identity entry d kept size has =
     of_task (λ c. CanTrim identity c entry.ranges.items → MayTrim c entry d) identity.capacity entry.blocks entry.command
     (λ form lba count fua t can. tt) (λ form lba count fua t can. tt) (λ form lba count none can. tt) (λ start no_flush none can. tt) (λ ten size none can. tt) (λ form lba count t can. tt) (λ form lba count t can. tt)
     (λ form lba count unmap. elim unmap as (λ b. (entry.blocks ≡ 1) × IsCovered identity.capacity lba count → CanTrim identity (cdbs.WriteSame form lba count b) entry.ranges.items → MayTrim (cdbs.WriteSame form lba count b) entry d) [ true ↦ λ t can. takes (over lba count ∷ []) can | false ↦ λ t can. tt ])
-    (λ size t can. takes entry.ranges.items can) kept.task kept.trims
+    (λ size t can. takes entry.ranges.items can) (λ cdb t can. tt) kept.task kept.trims
   where
     takes : (ranges : List Range) → AreTrimmed identity ranges → TakesTrim ranges d
     takes ranges can = record { has = has ∙ can.has; list = can.list; within = subst (λ n. AllByRecursion (λ (r : Range). r.lba + r.count ≤ n) ranges) size can.within }
 
 -- what it writes is what the device says that it writes
-written_is : (identity : Identity) (modes : Modes) (started : Bool) (attentions : List (List Attention)) (entry : Entry) (others : List Entry) (d : DriveState) (pair : Pair) → d.cache ≡ modes.wce → IsKeptEntry identity entry
+written_is : (identity : Identity) (modes : Modes) (started : Bool) (attentions : List (List Attention)) (entry : Entry) (others : List Entry) (d : DriveState) (pair : Pair) → IsSetBy modes d → TellsOf identity.bytes d → HasWhole entry.command entry → IsKeptEntry identity entry
     → IsIn pair (written_alone entry.command entry d) → IsIn pair (writes (seen identity modes started attentions (task_of entry ∷ others) d) (task_of entry))
-written_is identity modes started attentions entry others d pair cache kept =
-    of_task (λ c. length entry.body ≡ entry.blocks + entry_pages c identity.queued_trim → IsIn pair (written_alone c entry d) → IsIn pair (writes (seen identity modes started attentions (task_of (record entry { command = c }) ∷ others) d) (task_of (record entry { command = c })))) identity.capacity entry.blocks entry.command
-    (λ form lba count fua t size i. absurd i) (λ form lba count fua t size i. absurd i) (λ form lba count none size i. absurd i) (λ start no_flush none size i. absurd i) (λ ten size none pages i. absurd i) (λ form lba count t size i. absurd i) (λ form lba count t size i. absurd i)
-    (λ form lba count unmap. elim unmap as (λ b. (entry.blocks ≡ 1) × IsCovered identity.capacity lba count → length entry.body ≡ entry.blocks + 0 → IsIn pair (written_alone (cdbs.WriteSame form lba count b) entry d) → IsIn pair (writes (seen identity modes started attentions (task_of (record entry { command = cdbs.WriteSame form lba count b }) ∷ others) d) (task_of (record entry { command = cdbs.WriteSame form lba count b })))) [
-      | true ↦ λ t size i. subst (IsIn pair) (zeros_same (over lba count ∷ []) d.cache ∙ ap (zeros_over (over lba count ∷ [])) cache) i
-      | false ↦ λ t size i. subst (IsIn pair) (same_is lba count entry.body d.cache (omega (arith, t.0, size)) ∙ ap (same_pairs lba count entry.body) cache) i
+written_is identity modes started attentions entry others d pair set told whole kept =
+    of_task (λ c. HasWhole c entry → length entry.body ≡ entry.blocks + entry_pages c identity.queued_trim → IsIn pair (written_alone c entry d) → IsIn pair (writes (seen identity modes started attentions (task_of (record entry { command = c }) ∷ others) d) (task_of (record entry { command = c })))) identity.capacity entry.blocks entry.command
+    (λ form lba count fua t whole size i. absurd i) (λ form lba count fua t whole size i. absurd i) (λ form lba count none whole size i. absurd i) (λ start no_flush none whole size i. absurd i) (λ ten size none whole pages i. absurd i) (λ form lba count t whole size i. absurd i) (λ form lba count t whole size i. absurd i)
+    (λ form lba count unmap. elim unmap as (λ b. (entry.blocks ≡ 1) × IsCovered identity.capacity lba count → Unit {0} → length entry.body ≡ entry.blocks + 0 → IsIn pair (written_alone (cdbs.WriteSame form lba count b) entry d) → IsIn pair (writes (seen identity modes started attentions (task_of (record entry { command = cdbs.WriteSame form lba count b }) ∷ others) d) (task_of (record entry { command = cdbs.WriteSame form lba count b })))) [
+      | true ↦ λ t whole size i. subst (IsIn pair) (zeros_same (over lba count ∷ []) d.cache ∙ ap (zeros_over (over lba count ∷ [])) cache) i
+      | false ↦ λ t whole size i. subst (IsIn pair) (same_is lba count entry.body d.cache (omega (arith, t.0, size)) ∙ ap (same_pairs lba count entry.body) cache) i
     ])
-    (λ size t pages i. subst (IsIn pair) (zeros_same entry.ranges.items d.cache ∙ ap (zeros_over entry.ranges.items) cache) i) kept.task kept.pages
+    (λ size t whole pages i. subst (IsIn pair) (zeros_same entry.ranges.items d.cache ∙ ap (zeros_over entry.ranges.items) cache) i)
+    (λ cdb t whole size i. pass_pairs identity modes started attentions entry others d cdb pair set told t.1 (omega (arith, t.0, size)) whole i) kept.task whole kept.pages
+  where
+    cache : d.cache ≡ modes.wce
+    cache = set.cache
 
 -- so it may show, as the first task, where the unit is started if the command needs it
-pub shows : (identity : Identity) (modes : Modes) (started : Bool) (attentions : List (List Attention)) (entry : Entry) (others : List Entry) (d : DriveState) → d.down ≡ false → d.cache ≡ modes.wce → (not started && (asks entry.command).starts) ≡ false → IsKeptEntry identity entry
+pub shows : (identity : Identity) (modes : Modes) (started : Bool) (attentions : List (List Attention)) (entry : Entry) (others : List Entry) (d : DriveState) → IsSetBy modes d → TellsOf identity.bytes d → HasWhole entry.command entry → (not started && (asks entry.command).starts) ≡ false → IsKeptEntry identity entry
     → (pair : Pair) → IsIn pair (written_alone entry.command entry d) → MayShow (seen identity modes started attentions (task_of entry ∷ others) d) pair
-shows identity modes started attentions entry others d up cache ready kept pair i = record {
+shows identity modes started attentions entry others d set told whole ready kept pair i = record {
   task = task_of entry;
-  under_way = record { up = up; eligible = inl refl };
-  started = on started (is_pass entry.command) (subst (λ b. (not started && b) ≡ false) (starts_it i) ready);
-  among = written_is identity modes started attentions entry others d pair cache kept i;
+  under_way = record { up = set.up; eligible = inl refl };
+  started = on started (asks entry.command).starts (is_pass entry.command) ready (starts_it i);
+  among = written_is identity modes started attentions entry others d pair set told whole kept i;
 }
   where
-    on : (b p : Bool) → (not b && true) ≡ false → b || p ≡ true
-    on true p e = refl
-    on false p e = absurd cc
+    on : (b s p : Bool) → (not b && s) ≡ false → s || p ≡ true → b || p ≡ true
+    on true s p e h = refl
+    on false true p e h = absurd cc
+    on false false p e h = h
 
-    starts_it : IsIn pair (written_alone entry.command entry d) → (asks entry.command).starts ≡ true
+    starts_it : IsIn pair (written_alone entry.command entry d) → (asks entry.command).starts || is_pass entry.command ≡ true
     starts_it i =
-        of_task (λ c. IsIn pair (written_alone c entry d) → (asks c).starts ≡ true) identity.capacity entry.blocks entry.command
+        of_task (λ c. IsIn pair (written_alone c entry d) → (asks c).starts || is_pass c ≡ true) identity.capacity entry.blocks entry.command
         (λ form lba count fua t i. absurd i) (λ form lba count fua t i. absurd i) (λ form lba count none i. absurd i) (λ start no_flush none i. absurd i) (λ ten size none i. absurd i) (λ form lba count t i. absurd i) (λ form lba count t i. absurd i)
-        (λ form lba count unmap. elim unmap as (λ b. (entry.blocks ≡ 1) × IsCovered identity.capacity lba count → IsIn pair (written_alone (cdbs.WriteSame form lba count b) entry d) → (asks (cdbs.WriteSame form lba count b)).starts ≡ true) [ true ↦ λ t i. refl | false ↦ λ t i. refl ])
-        (λ size t i. refl) kept.task i
+        (λ form lba count unmap. elim unmap as (λ b. (entry.blocks ≡ 1) × IsCovered identity.capacity lba count → IsIn pair (written_alone (cdbs.WriteSame form lba count b) entry d) → (asks (cdbs.WriteSame form lba count b)).starts || false ≡ true) [ true ↦ λ t i. refl | false ↦ λ t i. refl ])
+        (λ size t i. refl) (λ cdb t i. refl) kept.task i

@@ -44,7 +44,7 @@ use Rattle.satl_direct.proofs.Passing.{writes_none}
 use Rattle.satl_core.specs.declared.turning.Ending.{Ending}
 use Rattle.satl_core.specs.Medium.{PassesThrough, passed}
 use Rattle.satl_core.specs.Refilling.{EndsOne}
-use Rattle.satl_core.specs.Turning.{ended_reply, set_by, where_done, with_setting}
+use Rattle.satl_core.specs.Turning.{ended_reply, modes_after, set_by, where_done, with_setting}
 use Rattle.satl_core.proofs.DeviceLemmas.{ends_around, ends_by, first_gone, quiet_none, seen}
 use Rattle.satl_core.proofs.SayingLemmas.{unbroken}
 
@@ -224,15 +224,24 @@ reply_is : (s : Device) (entry : Entry) (cdb : List ℕ) (ended : Taskfile) (tak
     → ((is_bad ended || (pass_of cdb).out) ≡ false → (pages_of (first_bytes (pass_of cdb).length read) ≡ taken) × (length (first_bytes (pass_of cdb).length read) ≡ 512 * length taken))
     → ended_reply (record entry { command = cdbs.Pass cdb; body = taken }) (passed (pass_of cdb) ended) s.modes.d_sense ≡ pass_reply s (task_of (record entry { command = cdbs.Pass cdb })) (pass_of cdb) ended read
 unfolding pages_of pages_from
-reply_is s entry cdb ended taken read data = by (is_bad ended) refl (pass_of cdb).ck_cond refl (pass_of cdb).out refl
+reply_is s entry cdb ended taken read same = by (is_bad ended) refl (pass_of cdb).ck_cond refl (pass_of cdb).out refl
   where
     by : (bad : Bool) → is_bad ended ≡ bad → (told : Bool) → (pass_of cdb).ck_cond ≡ told → (out : Bool) → (pass_of cdb).out ≡ out
         → ended_reply (record entry { command = cdbs.Pass cdb; body = taken }) (passed (pass_of cdb) ended) s.modes.d_sense ≡ pass_reply s (task_of (record entry { command = cdbs.Pass cdb })) (pass_of cdb) ended read
     by true bad told ck out o = rw bad refl
     by false good true ck true o = rw (good, ck, o) refl
     by false good false ck true o = rw (good, ck, o) refl
-    by false good true ck false o = let both = data (rw (good, o) refl) in rw (good, ck, o, both.0, both.1) refl
-    by false good false ck false o = let both = data (rw (good, o) refl) in rw (good, ck, o, both.0, both.1) refl
+    by false good true ck false o = let both = same (rw (good, o) refl) in rw (good, ck, o, both.0, both.1) refl
+    by false good false ck false o = let both = same (rw (good, o) refl) in rw (good, ck, o, both.0, both.1) refl
+
+-- the drive is set as the mode values behind it say
+pub pass_sets : (cdb : List ℕ) (modes wanted : Modes) (given taken : List Block) (d d' : DriveState) (ending : Ending) → IsSetBy modes d → PassesThrough (pass_of cdb) given taken d ending d'
+    → (d'.cache ≡ (modes_after (cdbs.Pass cdb) ending modes wanted).wce) × (d'.look ≡ not (modes_after (cdbs.Pass cdb) ending modes wanted).dra)
+pass_sets cdb modes wanted given taken d d' ending set x =
+    let c = command_in (pass_of cdb).regs in
+    let are = set_after (pass_of cdb).regs modes (drive.medium_of d) given x.ended taken x.is.after (record { cache = set.cache; look = set.look }) c x.is.does in
+    let same = sym (ap (λ e. where_done e (set_by c modes) modes) x.told ∙ modes_behind (pass_of cdb) x.ended c modes) in
+    (ap (λ (y : DriveState). y.cache) x.is.stays ∙ (are.cache ∙ ap (λ (m : Modes). m.wce) same), ap (λ (y : DriveState). y.look) x.is.stays ∙ (are.look ∙ ap (λ (m : Modes). not m.dra) same))
 
 -- ---- the data that the device sees
 

@@ -2,6 +2,7 @@
 use Rattle.std.proofs.Common.{◌≡◌, inl, refl, sym, ap, subst, ◌∙◌, ℕ, true, false, Bool, List, [], ◌∷◌, ◌++◌, map, Some, None}
 use Rattle.std.specs.Prelude.{◌≤◌, length, MatchBool, Option, if◌then◌else◌, not, ◌==◌, ◌&&◌}
 use Rattle.std.specs.List.{AllByRecursion}
+use Rattle.satl_base.specs.declared.block.Block.{Block}
 use Rattle.satl_base.specs.declared.modes.Modes.{Modes}
 use Rattle.satl_base.specs.declared.reply.Reply.{Reply}
 use Rattle.satl_base.specs.declared.reply.Scsi.TheVariants.{Good}
@@ -17,8 +18,8 @@ use Rattle.satl_unit.specs.declared.attention.Attention.{Attention}
 use Rattle.satl_unit.specs.declared.attention.Attention.TheVariants.{ModeChanged}
 use Rattle.satl_line.specs.Tasks.{Held, entries_of}
 use Rattle.satl_drive.specs.State.{DriveState}
-use Rattle.satl_barrier.specs.Leaving.{IsLostIn}
-use Rattle.satl_barrier.specs.Settings.{IsTuned}
+use Rattle.satl_barrier.specs.Leaving.{IsLostIn, TellsOf}
+use Rattle.satl_barrier.specs.Settings.{IsSetBy, IsTuned}
 use Rattle.satl_barrier.specs.Flushing.{IsLeftWith, IsSwitched, settled_if}
 use Rattle.satl_direct.specs.Device.{Device}
 use Rattle.satl_direct.specs.Tasks.{asks, task_of}
@@ -41,7 +42,8 @@ use Rattle.satl_core.specs.Turning as core
 use Rattle.satl_core.specs.Turning.{CarriedOut, IsLostInTask, IsUnasked, TaskEnds, change_posting, ended_reply, modes_after, read_pages, started_after, wanted_by, where_done}
 use Rattle.satl_core.proofs.DeviceLemmas.{all_lost, ends_around, ends_by, ends_down, ends_stopped, first_checked, first_gone, first_tasks, quiet_none, quiet_same, seen}
 use Rattle.satl_core.proofs.HeldLemmas.{IsFirst, IsKeptEntry, first_kept}
-use Rattle.satl_core.specs.Medium.{HasData, written_alone}
+use Rattle.satl_core.specs.Medium.{HasData, HasWhole, written_alone}
+use Rattle.satl_core.proofs.PassingLemmas.{pass_turn}
 use Rattle.satl_core.proofs.MediumLemmas.{check_turn, compare_turn, has_data, same_turn, shows, unmap_turn, zero_turn}
 use Rattle.satl_core.proofs.Transfers.{of_task}
 
@@ -117,54 +119,83 @@ unchanged modes nexus attentions = by modes.wce modes.dra modes.d_sense
     by false false true = refl
     by false false false = refl
 
+-- what the other nexuses are told where a task has ended: after a MODE SELECT that a value has changed
+abbrev pub told_after : Command → Modes → Modes → ℕ → List (List Attention) → List (List Attention)
+told_after (cdbs.ModeSelect ten size) old new nexus attentions = with_modes_changed old new nexus attentions
+told_after _ old new nexus attentions = attentions
+
+-- nobody is told where nothing has changed
+untold : (command : Command) (modes : Modes) (nexus : ℕ) (attentions : List (List Attention)) → told_after command modes modes nexus attentions ≡ attentions
+untold (cdbs.ModeSelect ten size) modes nexus attentions = unchanged modes nexus attentions
+untold _ modes nexus attentions = refl
+
+-- the answer to a task that gives no data-in does not depend on its pages
+same_reply : (t : Entry) (taken : List Block) (ending : Ending) (descriptor : Bool) → read_pages t.command t.body ≡ [] → read_pages t.command taken ≡ [] → ended_reply t ending descriptor ≡ ended_reply (record t { body = taken }) ending descriptor
+same_reply t taken endings.Good descriptor none nothing = rw (none, nothing) refl
+same_reply t taken (endings.Informed sense) descriptor none nothing = rw (none, nothing) refl
+same_reply t taken (endings.Check sense) descriptor none nothing = refl
+
+-- nor does that of one that ends with sense data alone
+pub checked_reply : (t : Entry) (taken : List Block) (ending : Ending) (sense : Sense) (descriptor : Bool) → ending ≡ endings.Check sense → ended_reply (record t { body = taken }) ending descriptor ≡ ended_reply t ending descriptor
+checked_reply t taken ending sense descriptor is = ap (λ e. ended_reply (record t { body = taken }) e descriptor) is ∙ sym (ap (λ e. ended_reply t e descriptor) is)
+
 -- the device once a task has ended
 abbrev pub ended_seen : Identity → Modes → Modes → Bool → List (List Attention) → Entry → Ending → List Entry → DriveState → Device
 ended_seen identity modes wanted started attentions entry ending others d =
-    seen identity (modes_after entry.command ending modes wanted) (started_after entry.command ending started) (with_modes_changed modes (modes_after entry.command ending modes wanted) entry.nexus attentions) others d
+    seen identity (modes_after entry.command ending modes wanted) (started_after entry.command ending started) (told_after entry.command modes (modes_after entry.command ending modes wanted) entry.nexus attentions) others d
 
 -- what the drive did for a task ends it
-task_turn : (identity : Identity) (modes : Modes) (started : Bool) (attentions : List (List Attention)) (entry : Entry) (others : List Entry) (d d' : DriveState) (ending : Ending) → IsKeptEntry identity entry → d.cache ≡ modes.wce
-    → (not started && (asks entry.command).starts) ≡ false → HasData entry.command entry → CarriedOut (wanted_by modes entry.modes) entry.command entry d ending d'
-    → EndsOne (seen identity modes started attentions (task_of entry ∷ others) d) (ended_reply entry ending modes.d_sense) (ended_seen identity modes (wanted_by modes entry.modes) started attentions entry ending others d')
-task_turn identity modes started attentions entry others d d' ending kept cache ready has x =
-    of_task (λ c. (not started && (asks c).starts) ≡ false → HasData c entry → CarriedOut (wanted_by modes entry.modes) c entry d ending d'
-    → EndsOne (seen identity modes started attentions (task_of (record entry { command = c }) ∷ others) d) (ended_reply (record entry { command = c }) ending modes.d_sense) (ended_seen identity modes (wanted_by modes entry.modes) started attentions (record entry { command = c }) ending others d')) identity.capacity entry.blocks entry.command
+task_turn : (identity : Identity) (modes : Modes) (started : Bool) (attentions : List (List Attention)) (entry : Entry) (taken : List Block) (others : List Entry) (d d' : DriveState) (ending : Ending) → IsKeptEntry identity entry → IsSetBy modes d → TellsOf identity.bytes d
+    → (not started && (asks entry.command).starts) ≡ false → HasData entry.command entry → CarriedOut (wanted_by modes entry.modes) entry.command entry taken d ending d'
+    → EndsOne (seen identity modes started attentions (task_of entry ∷ others) d) (ended_reply (record entry { body = taken }) ending modes.d_sense) (ended_seen identity modes (wanted_by modes entry.modes) started attentions entry ending others d')
+task_turn identity modes started attentions entry taken others d d' ending kept set told ready has x =
+    of_task (λ c. (not started && (asks c).starts) ≡ false → HasData c entry → CarriedOut (wanted_by modes entry.modes) c entry taken d ending d' → Ends c) identity.capacity entry.blocks entry.command
     (λ form lba count fua t ready has x. absurd x)
     (λ form lba count fua t ready has x. absurd x)
-    (λ form lba count none ready has x. untold (cdbs.Flush form lba count) started (bare_turn identity modes started started attentions (record entry { command = cdbs.Flush form lba count }) others d d' (map settle d.cells) d.active ending ready (λ reply new e. e) x.1 x.0 refl))
-    (λ start no_flush none ready has x. untold (cdbs.StartStop start no_flush) (where_done ending start started)
-    (subst (λ e. EndsOne (seen identity modes started attentions (task_of (record entry { command = cdbs.StartStop start no_flush }) ∷ others) d) (ended_reply (record entry { command = cdbs.StartStop start no_flush }) ending modes.d_sense) (seen identity modes (where_done e start started) attentions others d')) (sym x.0)
+    (λ form lba count none ready has x. bare (cdbs.Flush form lba count) refl refl (bare_turn identity modes started started attentions (record entry { command = cdbs.Flush form lba count }) others d d' (map settle d.cells) d.active ending ready (λ reply new e. e) x.1 x.0 refl))
+    (λ start no_flush none ready has x. bare (cdbs.StartStop start no_flush) refl refl
+    (subst (λ e. EndsOne (first (cdbs.StartStop start no_flush)) (ended_reply (record entry { command = cdbs.StartStop start no_flush }) ending modes.d_sense) (seen identity modes (where_done e start started) attentions others d')) (sym x.0)
     (switched_turn identity modes started start no_flush attentions entry others d d' ending x.1 x.0)))
-    (λ ten size none ready has x.
-    subst (λ e. EndsOne (seen identity modes started attentions (task_of (record entry { command = cdbs.ModeSelect ten size }) ∷ others) d) (ended_reply (record entry { command = cdbs.ModeSelect ten size }) ending modes.d_sense)
+    (λ ten size none ready has x. bare (cdbs.ModeSelect ten size) refl refl
+    (subst (λ e. EndsOne (first (cdbs.ModeSelect ten size)) (ended_reply (record entry { command = cdbs.ModeSelect ten size }) ending modes.d_sense)
     (seen identity (where_done e (wanted_by modes entry.modes) modes) started (with_modes_changed modes (where_done e (wanted_by modes entry.modes) modes) entry.nexus attentions) others d')) (sym x.0)
-    (selected_turn identity modes started ten size attentions entry others d d' ending cache x.1 x.0))
-    (λ form lba count t ready has x. untold (cdbs.Verify form lba count false) started (check_turn identity modes started attentions entry others d d' form lba count ending ready x))
-    (λ form lba count t ready has x. untold (cdbs.Verify form lba count true) started (compare_turn identity modes started attentions entry others d d' form lba count ending ready x))
-    (λ form lba count unmap. elim unmap as (λ b. (entry.blocks ≡ 1) × IsCovered identity.capacity lba count → (not started && (asks (cdbs.WriteSame form lba count b)).starts) ≡ false → 1 ≤ length entry.body → CarriedOut (wanted_by modes entry.modes) (cdbs.WriteSame form lba count b) entry d ending d'
-    → EndsOne (seen identity modes started attentions (task_of (record entry { command = cdbs.WriteSame form lba count b }) ∷ others) d) (ended_reply (record entry { command = cdbs.WriteSame form lba count b }) ending modes.d_sense) (ended_seen identity modes (wanted_by modes entry.modes) started attentions (record entry { command = cdbs.WriteSame form lba count b }) ending others d')) [
-      | true ↦ λ t ready has x. untold (cdbs.WriteSame form lba count true) started (zero_turn identity modes started attentions entry others d d' cache form lba count ending ready x)
-      | false ↦ λ t ready has x. untold (cdbs.WriteSame form lba count false) started (same_turn identity modes started attentions entry others d d' cache form lba count ending ready has x)
+    (selected_turn identity modes started ten size attentions entry others d d' ending set.cache x.1 x.0)))
+    (λ form lba count t ready has x. bare (cdbs.Verify form lba count false) refl refl (check_turn identity modes started attentions entry others d d' form lba count ending ready x))
+    (λ form lba count t ready has x. bare (cdbs.Verify form lba count true) refl refl (compare_turn identity modes started attentions entry others d d' form lba count ending ready x))
+    (λ form lba count unmap. elim unmap as (λ b. (entry.blocks ≡ 1) × IsCovered identity.capacity lba count → (not started && (asks (cdbs.WriteSame form lba count b)).starts) ≡ false → 1 ≤ length entry.body → CarriedOut (wanted_by modes entry.modes) (cdbs.WriteSame form lba count b) entry taken d ending d' → Ends (cdbs.WriteSame form lba count b)) [
+      | true ↦ λ t ready has x. bare (cdbs.WriteSame form lba count true) refl refl (zero_turn identity modes started attentions entry others d d' set.cache form lba count ending ready x)
+      | false ↦ λ t ready has x. bare (cdbs.WriteSame form lba count false) refl refl (same_turn identity modes started attentions entry others d d' set.cache form lba count ending ready has x)
     ])
-    (λ size t ready has x. untold (cdbs.Unmap size) started (unmap_turn identity modes started attentions entry others d d' cache size ending ready x))
+    (λ size t ready has x. bare (cdbs.Unmap size) refl refl (unmap_turn identity modes started attentions entry others d d' set.cache size ending ready x))
+    (λ cdb t ready has x. pass_turn identity modes started attentions entry others d cdb d' ending taken set told t.1 has x)
     kept.task ready has x
   where
-    untold : (c : Command) (now : Bool) → EndsOne (seen identity modes started attentions (task_of (record entry { command = c }) ∷ others) d) (ended_reply (record entry { command = c }) ending modes.d_sense) (seen identity modes now attentions others d')
-        → EndsOne (seen identity modes started attentions (task_of (record entry { command = c }) ∷ others) d) (ended_reply (record entry { command = c }) ending modes.d_sense) (seen identity modes now (with_modes_changed modes modes entry.nexus attentions) others d')
-    untold c now turn = subst (λ a. EndsOne (seen identity modes started attentions (task_of (record entry { command = c }) ∷ others) d) (ended_reply (record entry { command = c }) ending modes.d_sense) (seen identity modes now a others d')) (sym (unchanged modes entry.nexus attentions)) turn
+    -- the device with the task as its first one, with another command
+    first : Command → Device
+    first c = seen identity modes started attentions (task_of (record entry { command = c }) ∷ others) d
+
+    after : Command → Device
+    after c = ended_seen identity modes (wanted_by modes entry.modes) started attentions (record entry { command = c }) ending others d'
+
+    Ends : Command → Type 0
+    Ends c = EndsOne (first c) (ended_reply (record entry { command = c; body = taken }) ending modes.d_sense) (after c)
+
+    -- a command that gives no data-in
+    bare : (c : Command) → read_pages c entry.body ≡ [] → read_pages c taken ≡ [] → EndsOne (first c) (ended_reply (record entry { command = c }) ending modes.d_sense) (after c) → Ends c
+    bare c none nothing turn = subst (λ r. EndsOne (first c) r (after c)) (same_reply (record entry { command = c }) taken ending modes.d_sense none nothing) turn
 
 -- the pairs of the first task may show
-lost_turn : (identity : Identity) (modes : Modes) (started : Bool) (attentions : List (List Attention)) (entry : Entry) (others : List Entry) (d d' : DriveState) (answers : List Reply) → d.down ≡ false → d.cache ≡ modes.wce → (not started && (asks entry.command).starts) ≡ false → IsKeptEntry identity entry
+lost_turn : (identity : Identity) (modes : Modes) (started : Bool) (attentions : List (List Attention)) (entry : Entry) (others : List Entry) (d d' : DriveState) (answers : List Reply) → IsSetBy modes d → TellsOf identity.bytes d → HasWhole entry.command entry → (not started && (asks entry.command).starts) ≡ false → IsKeptEntry identity entry
     → IsLostIn (written_alone entry.command entry d) d d' → answers ≡ turns.lost_replies (seen identity modes started attentions (task_of entry ∷ others) d) → Around Turn (seen identity modes started attentions (task_of entry ∷ others) d) answers (seen identity modes started attentions [] d')
-lost_turn identity modes started attentions entry others d d' answers up cache ready kept x is =
+lost_turn identity modes started attentions entry others d d' answers set told whole ready kept x is =
     let s : Device = seen identity modes started attentions (task_of entry ∷ others) d in
     let new : Device = seen identity modes started attentions [] d' in
     record {
       before = record s { cells = d'.cells };
       after = new;
-      quiet_before = record { cells = moves_weaker (λ pair among. shows identity modes started attentions entry others d up cache ready kept pair among) x.cells; active = inl refl; stays = refl };
+      quiet_before = record { cells = moves_weaker (λ pair among. shows identity modes started attentions entry others d set told whole ready kept pair among) x.cells; active = inl refl; stays = refl };
       step = loses some (record {
-        was_up = up;
+        was_up = set.up;
         answer = is;
         glitches = x.glitches;
         stays = ap (λ b. record new { down = b }) x.down;
@@ -176,56 +207,62 @@ lost_turn identity modes started attentions entry others d d' answers up cache r
     some empty = absurd cc
 
 -- a task that ends with sense has sets nothing
-still : (capacity n : ℕ) (modes wanted : Modes) (started : Bool) (sense : Sense) (command : Command) → IsTask capacity command n → (modes_after command (endings.Check sense) modes wanted ≡ modes) × (started_after command (endings.Check sense) started ≡ started)
+pub still : (capacity n : ℕ) (modes wanted : Modes) (started : Bool) (sense : Sense) (command : Command) → IsTask capacity command n → (modes_after command (endings.Check sense) modes wanted ≡ modes) × (started_after command (endings.Check sense) started ≡ started)
 still capacity n modes wanted started sense command t =
-    of_task (λ c. (modes_after c (endings.Check sense) modes wanted ≡ modes) × (started_after c (endings.Check sense) started ≡ started)) capacity n command (λ form lba count fua t. (refl, refl)) (λ form lba count fua t. (refl, refl)) (λ form lba count none. (refl, refl)) (λ start no_flush none. (refl, refl)) (λ ten size none. (refl, refl)) (λ form lba count t. (refl, refl)) (λ form lba count t. (refl, refl)) (λ form lba count unmap t. (refl, refl)) (λ size t. (refl, refl)) t
+    of_task (λ c. (modes_after c (endings.Check sense) modes wanted ≡ modes) × (started_after c (endings.Check sense) started ≡ started)) capacity n command (λ form lba count fua t. (refl, refl)) (λ form lba count fua t. (refl, refl)) (λ form lba count none. (refl, refl)) (λ start no_flush none. (refl, refl)) (λ ten size none. (refl, refl)) (λ form lba count t. (refl, refl)) (λ form lba count t. (refl, refl)) (λ form lba count unmap t. (refl, refl)) (λ size t. (refl, refl)) (λ cdb t. (refl, refl)) t
 
 checked_seen : (identity : Identity) (modes wanted : Modes) (started : Bool) (attentions : List (List Attention)) (entry : Entry) (others : List Entry) (d' : DriveState) (sense : Sense) (ending : Ending) → IsKeptEntry identity entry → ending ≡ endings.Check sense
     → ended_seen identity modes wanted started attentions entry ending others d' ≡ seen identity modes started attentions others d'
 checked_seen identity modes wanted started attentions entry others d' sense ending kept is =
     let same = still identity.capacity entry.blocks modes wanted started sense entry.command kept.task in
     ap (λ e. ended_seen identity modes wanted started attentions entry e others d') is
-    ∙ (ap (λ m. seen identity m (started_after entry.command (endings.Check sense) started) (with_modes_changed modes m entry.nexus attentions) others d') same.0
-    ∙ (ap (λ b. seen identity modes b (with_modes_changed modes modes entry.nexus attentions) others d') same.1
-    ∙ ap (λ a. seen identity modes started a others d') (unchanged modes entry.nexus attentions)))
+    ∙ (ap (λ m. seen identity m (started_after entry.command (endings.Check sense) started) (told_after entry.command modes m entry.nexus attentions) others d') same.0
+    ∙ (ap (λ b. seen identity modes b (told_after entry.command modes modes entry.nexus attentions) others d') same.1
+    ∙ ap (λ a. seen identity modes started a others d') (untold entry.command modes entry.nexus attentions)))
 
 -- a task is answered with this sense without the drive
-unasked_turn : (identity : Identity) (modes wanted : Modes) (started : Bool) (attentions : List (List Attention)) (entry : Entry) (others : List Entry) (d d' : DriveState) (sense : Sense) (ending : Ending)
+unasked_turn : (identity : Identity) (modes wanted : Modes) (started : Bool) (attentions : List (List Attention)) (entry : Entry) (taken : List Block) (others : List Entry) (d d' : DriveState) (sense : Sense) (ending : Ending)
     → ((reply : Reply) (mid : Device) → IsChecked sense (seen identity modes started attentions (task_of entry ∷ others) d) (task_of entry) reply mid → Ends (seen identity modes started attentions (task_of entry ∷ others) d) (task_of entry) reply mid)
     → IsUnasked sense d ending d' → IsKeptEntry identity entry
-    → EndsOne (seen identity modes started attentions (task_of entry ∷ others) d) (ended_reply entry ending modes.d_sense) (ended_seen identity modes wanted started attentions entry ending others d')
-unasked_turn identity modes wanted started attentions entry others d d' sense ending how x kept =
+    → EndsOne (seen identity modes started attentions (task_of entry ∷ others) d) (ended_reply (record entry { body = taken }) ending modes.d_sense) (ended_seen identity modes wanted started attentions entry ending others d')
+unasked_turn identity modes wanted started attentions entry taken others d d' sense ending how x kept =
     let s : Device = seen identity modes started attentions (task_of entry ∷ others) d in
     let mid : Device = seen identity modes started attentions others d in
-    let reply : Reply = ended_reply entry (endings.Check sense) modes.d_sense in
-    subst (EndsOne s (ended_reply entry ending modes.d_sense)) (sym (checked_seen identity modes wanted started attentions entry others d' sense ending kept x.sensed))
-    (subst (λ e. EndsOne s (ended_reply entry e modes.d_sense) (seen identity modes started attentions others d')) (sym x.sensed)
+    let reply : Reply = ended_reply (record entry { body = taken }) (endings.Check sense) modes.d_sense in
+    subst (EndsOne s (ended_reply (record entry { body = taken }) ending modes.d_sense)) (sym (checked_seen identity modes wanted started attentions entry others d' sense ending kept x.sensed))
+    (subst (λ e. EndsOne s (ended_reply (record entry { body = taken }) e modes.d_sense) (seen identity modes started attentions others d')) (sym x.sensed)
     (ends_around s s mid (seen identity modes started attentions others d') (task_of entry) others reply (quiet_none s) refl
     (how reply mid (first_checked identity modes started attentions entry others d sense))
     (quiet_same _ _ (ap (seen identity modes started attentions others) x.stays))))
 
 -- a unit that is stopped, or the drive
-up_turn : (stopped : Bool) (identity : Identity) (modes : Modes) (started : Bool) (attentions : List (List Attention)) (entry : Entry) (others : List Entry) (d d' : DriveState) (ending : Ending) → d.down ≡ false
-    → IsKeptEntry identity entry → d.cache ≡ modes.wce → HasData entry.command entry → (not started && (asks entry.command).starts) ≡ stopped
-    → MatchBool stopped (IsUnasked not_ready d ending d') (CarriedOut (wanted_by modes entry.modes) entry.command entry d ending d')
-    → EndsOne (seen identity modes started attentions (task_of entry ∷ others) d) (ended_reply entry ending modes.d_sense) (ended_seen identity modes (wanted_by modes entry.modes) started attentions entry ending others d')
-up_turn true identity modes started attentions entry others d d' ending up kept cache has stopped x =
-    unasked_turn identity modes (wanted_by modes entry.modes) started attentions entry others d d' not_ready ending (λ reply mid e. ends_stopped _ _ _ _ up stopped e) x kept
-up_turn false identity modes started attentions entry others d d' ending up kept cache has ready x = task_turn identity modes started attentions entry others d d' ending kept cache ready has x
+up_turn : (stopped : Bool) (identity : Identity) (modes : Modes) (started : Bool) (attentions : List (List Attention)) (entry : Entry) (taken : List Block) (others : List Entry) (d d' : DriveState) (ending : Ending)
+    → IsKeptEntry identity entry → IsSetBy modes d → TellsOf identity.bytes d → HasData entry.command entry → (not started && (asks entry.command).starts) ≡ stopped
+    → MatchBool stopped (IsUnasked not_ready d ending d') (CarriedOut (wanted_by modes entry.modes) entry.command entry taken d ending d')
+    → EndsOne (seen identity modes started attentions (task_of entry ∷ others) d) (ended_reply (record entry { body = taken }) ending modes.d_sense) (ended_seen identity modes (wanted_by modes entry.modes) started attentions entry ending others d')
+up_turn true identity modes started attentions entry taken others d d' ending kept set told has stopped x =
+    unasked_turn identity modes (wanted_by modes entry.modes) started attentions entry taken others d d' not_ready ending (λ reply mid e. ends_stopped _ _ _ _ set.up stopped e) x kept
+up_turn false identity modes started attentions entry taken others d d' ending kept set told has ready x = task_turn identity modes started attentions entry taken others d d' ending kept set told ready has x
 
 -- whichever decides, a lost link, a unit that is stopped, or the drive
-ended_turn : (identity : Identity) (modes : Modes) (down started : Bool) (attentions : List (List Attention)) (entry : Entry) (others : List Entry) (d d' : DriveState) (ending : Ending) → down ≡ d.down
-    → IsKeptEntry identity entry → (down ≡ false → d.cache ≡ modes.wce)
-    → HasData entry.command entry → TaskEnds down started (wanted_by modes entry.modes) entry d ending d'
-    → EndsOne (seen identity modes started attentions (task_of entry ∷ others) d) (ended_reply entry ending modes.d_sense) (ended_seen identity modes (wanted_by modes entry.modes) started attentions entry ending others d')
-ended_turn identity modes true started attentions entry others d d' ending mark kept cache has x =
-    unasked_turn identity modes (wanted_by modes entry.modes) started attentions entry others d d' link_lost ending (λ reply mid e. ends_down _ _ _ _ (sym mark) e) x kept
-ended_turn identity modes false started attentions entry others d d' ending mark kept cache has x =
-    up_turn (not started && (asks entry.command).starts) identity modes started attentions entry others d d' ending (sym mark) kept (cache refl) has refl x
+ended_turn : (identity : Identity) (modes : Modes) (down started : Bool) (attentions : List (List Attention)) (entry : Entry) (taken : List Block) (others : List Entry) (d d' : DriveState) (ending : Ending) → down ≡ d.down
+    → IsKeptEntry identity entry → (down ≡ false → IsSetBy modes d) → TellsOf identity.bytes d
+    → HasData entry.command entry → TaskEnds down started (wanted_by modes entry.modes) entry taken d ending d'
+    → EndsOne (seen identity modes started attentions (task_of entry ∷ others) d) (ended_reply (record entry { body = taken }) ending modes.d_sense) (ended_seen identity modes (wanted_by modes entry.modes) started attentions entry ending others d')
+ended_turn identity modes true started attentions entry taken others d d' ending mark kept set told has x =
+    unasked_turn identity modes (wanted_by modes entry.modes) started attentions entry taken others d d' link_lost ending (λ reply mid e. ends_down _ _ _ _ (sym mark) e) x kept
+ended_turn identity modes false started attentions entry taken others d d' ending mark kept set told has x =
+    up_turn (not started && (asks entry.command).starts) identity modes started attentions entry taken others d d' ending kept (set refl) told has refl x
+
+-- where the link is lost it ends with sense data, and the drive is not asked
+pub task_unasked : (down started : Bool) (wanted : Modes) (t : Entry) (taken : List Block) (d d' : DriveState) (ending : Ending) → TaskEnds down started wanted t taken d ending d' → down ≡ true → (sense : Sense) × (ending ≡ endings.Check sense)
+task_unasked true started wanted t taken d d' ending x lost = (link_lost, x.sensed)
+task_unasked false started wanted t taken d d' ending x lost = absurd cc
 
 -- what is posted is what the device posts
-pub posted_changes : (old new : Modes) (nexus : ℕ) (tasks : List Held) (attentions : List (List Attention)) → once_posted (change_posting old new nexus) tasks attentions ≡ with_modes_changed old new nexus attentions
-posted_changes old new nexus tasks attentions = elim (are_same_modes old new) as (λ b. once_posted (if b then None else Some (ModesChanged nexus)) tasks attentions ≡ (if b then attentions else post (λ other. not (other == nexus)) ModeChanged attentions)) [ true ↦ refl | false ↦ refl ]
+posted_changes : (command : Command) (old new : Modes) (nexus : ℕ) (tasks : List Held) (attentions : List (List Attention)) → once_posted (change_posting command old new nexus) tasks attentions ≡ told_after command old new nexus attentions
+posted_changes (cdbs.ModeSelect ten size) old new nexus tasks attentions = elim (are_same_modes old new) as (λ b. once_posted (if b then None else Some (ModesChanged nexus)) tasks attentions ≡ (if b then attentions else post (λ other. not (other == nexus)) ModeChanged attentions)) [ true ↦ refl | false ↦ refl ]
+posted_changes _ old new nexus tasks attentions = refl
 
 -- ---- turns of the layer
 
@@ -236,19 +273,23 @@ module _ (l : Layer) (rest : List Held) (entry : Entry) (d d' : DriveState) (kep
   here : IsKeptEntry l.identity entry
   here = (first_kept l.identity l.tasks rest entry kept first).0
 
-  pub first_ends : (ending : Ending) (started' : Bool) (wanted modes' : Modes) (posting : Option Posting) (attentions' : List (List Attention)) → wanted ≡ wanted_by l.modes entry.modes → TaskEnds l.down l.started wanted entry d ending d'
-      → started' ≡ started_after entry.command ending l.started → modes' ≡ modes_after entry.command ending l.modes wanted → posting ≡ change_posting l.modes modes' entry.nexus → attentions' ≡ once_posted posting rest l.attentions
-      → EndsOne (seen l.identity l.modes l.started l.attentions (map task_of (entries_of l.tasks)) d) (ended_reply entry ending l.modes.d_sense) (seen l.identity modes' started' attentions' (map task_of (entries_of rest)) d')
-  first_ends ending started' wanted modes' posting attentions' wants ends after changed posts told =
-      subst (EndsOne (seen l.identity l.modes l.started l.attentions (map task_of (entries_of l.tasks)) d) (ended_reply entry ending l.modes.d_sense)) (sym same)
-      (subst (λ ts. EndsOne (seen l.identity l.modes l.started l.attentions ts d) (ended_reply entry ending l.modes.d_sense) (ended_seen l.identity l.modes (wanted_by l.modes entry.modes) l.started l.attentions entry ending (map task_of (entries_of rest)) d')) (sym all)
-      (ended_turn l.identity l.modes l.down l.started l.attentions entry (map task_of (entries_of rest)) d d' ending agrees.mark here agrees.cache (has_data l.identity entry here) (subst (λ w. TaskEnds l.down l.started w entry d ending d') wants ends)))
+  -- the drive is set as the mode values say
+  set_by_modes : l.down ≡ false → IsSetBy l.modes d
+  set_by_modes up = record { up = sym agrees.mark ∙ up; cache = agrees.cache up; look = agrees.look up }
+
+  pub first_ends : (ending : Ending) (taken : List Block) (started' : Bool) (wanted modes' : Modes) (posting : Option Posting) (attentions' : List (List Attention)) → wanted ≡ wanted_by l.modes entry.modes → TaskEnds l.down l.started wanted entry taken d ending d'
+      → started' ≡ started_after entry.command ending l.started → modes' ≡ modes_after entry.command ending l.modes wanted → posting ≡ change_posting entry.command l.modes modes' entry.nexus → attentions' ≡ once_posted posting rest l.attentions
+      → EndsOne (seen l.identity l.modes l.started l.attentions (map task_of (entries_of l.tasks)) d) (ended_reply (record entry { body = taken }) ending l.modes.d_sense) (seen l.identity modes' started' attentions' (map task_of (entries_of rest)) d')
+  first_ends ending taken started' wanted modes' posting attentions' wants ends after changed posts told =
+      subst (EndsOne (seen l.identity l.modes l.started l.attentions (map task_of (entries_of l.tasks)) d) (ended_reply (record entry { body = taken }) ending l.modes.d_sense)) (sym same)
+      (subst (λ ts. EndsOne (seen l.identity l.modes l.started l.attentions ts d) (ended_reply (record entry { body = taken }) ending l.modes.d_sense) (ended_seen l.identity l.modes (wanted_by l.modes entry.modes) l.started l.attentions entry ending (map task_of (entries_of rest)) d')) (sym all)
+      (ended_turn l.identity l.modes l.down l.started l.attentions entry taken (map task_of (entries_of rest)) d d' ending agrees.mark here set_by_modes agrees.told (has_data l.identity entry here) (subst (λ w. TaskEnds l.down l.started w entry taken d ending d') wants ends)))
     where
       set : modes' ≡ modes_after entry.command ending l.modes (wanted_by l.modes entry.modes)
       set = changed ∙ ap (modes_after entry.command ending l.modes) wants
 
-      listed : attentions' ≡ with_modes_changed l.modes (modes_after entry.command ending l.modes (wanted_by l.modes entry.modes)) entry.nexus l.attentions
-      listed = told ∙ (ap (λ p. once_posted p rest l.attentions) posts ∙ (posted_changes l.modes modes' entry.nexus rest l.attentions ∙ ap (λ m. with_modes_changed l.modes m entry.nexus l.attentions) set))
+      listed : attentions' ≡ told_after entry.command l.modes (modes_after entry.command ending l.modes (wanted_by l.modes entry.modes)) entry.nexus l.attentions
+      listed = told ∙ (ap (λ p. once_posted p rest l.attentions) posts ∙ (posted_changes entry.command l.modes modes' entry.nexus rest l.attentions ∙ ap (λ m. told_after entry.command l.modes m entry.nexus l.attentions) set))
 
       same : seen l.identity modes' started' attentions' (map task_of (entries_of rest)) d' ≡ ended_seen l.identity l.modes (wanted_by l.modes entry.modes) l.started l.attentions entry ending (map task_of (entries_of rest)) d'
       same = ap (λ m. seen l.identity m started' attentions' (map task_of (entries_of rest)) d') set ∙ (ap (λ b. seen l.identity (modes_after entry.command ending l.modes (wanted_by l.modes entry.modes)) b attentions' (map task_of (entries_of rest)) d') after ∙ ap (λ a. seen l.identity (modes_after entry.command ending l.modes (wanted_by l.modes entry.modes)) (started_after entry.command ending l.started) a (map task_of (entries_of rest)) d') listed)
@@ -259,5 +300,5 @@ module _ (l : Layer) (rest : List Held) (entry : Entry) (d d' : DriveState) (kep
   first_loses ending given pushed answers reply left nothing lost none push more is by =
       subst (λ (ts : List Held). Around Turn (seen l.identity l.modes l.started l.attentions (map task_of (entries_of l.tasks)) d) answers (seen l.identity l.modes l.started l.attentions (map task_of (entries_of ts)) d')) (sym nothing)
       (subst (λ ts. Around Turn (seen l.identity l.modes l.started l.attentions ts d) answers (seen l.identity l.modes l.started l.attentions [] d')) (sym all)
-      (lost_turn l.identity l.modes l.started l.attentions entry (map task_of (entries_of rest)) d d' answers (sym agrees.mark ∙ lost.was_up) (agrees.cache lost.was_up) lost.ready here lost.lost
+      (lost_turn l.identity l.modes l.started l.attentions entry (map task_of (entries_of rest)) d d' answers (set_by_modes lost.was_up) agrees.told lost.whole lost.ready here lost.lost
       (all_lost (seen l.identity l.modes l.started l.attentions (task_of entry ∷ map task_of (entries_of rest)) d) entry rest given pushed answers reply ending refl none push more is by)))

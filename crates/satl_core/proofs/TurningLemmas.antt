@@ -1,7 +1,8 @@
 -- The answers to tasks.
-use Rattle.std.proofs.Common.{◌≡◌, refl, sym, ap, subst, ◌∙◌, arith, ◌+◌, ◌≤◌, Bool, List, [], ◌∷◌, ◌++◌, length}
+use Rattle.std.proofs.Common.{◌≡◌, refl, sym, ap, subst, ◌∙◌, arith, ◌+◌, ◌≤◌, Bool, true, false, List, [], ◌∷◌, ◌++◌, length}
 use Rattle.std.proofs.lemmas.List.{append-nil}
 use Rattle.std.specs.List.{AllByRecursion}
+use Rattle.std.specs.Prelude.{if◌then◌else◌}
 use Rattle.satl_base.specs.declared.block.Block.{Block}
 use Rattle.satl_base.specs.declared.reply.Reply.{Reply}
 use Rattle.satl_cdb.specs.declared.command.Command.{Command}
@@ -12,6 +13,7 @@ use Rattle.satl_identify.specs.declared.identity.Identity.{Identity}
 use Rattle.satl_line.specs.declared.entry.Entry.{Entry}
 use Rattle.satl_line.specs.Tasks.{Held}
 use Rattle.satl_direct.specs.Senses.{link_lost}
+use Rattle.satl_direct.specs.Tasks.{pass_of}
 use Rattle.satl_core.specs.declared.turning.Ending.{Ending}
 use Rattle.satl_core.specs.declared.turning.Ending.TheVariants as endings
 use Rattle.satl_core.specs.Layer.{IsExpectable, IsKept, reply_pages}
@@ -33,10 +35,12 @@ checked_writable entry sense descriptor expected = record { holds = omega arith;
 
 read_few : (command : Command) (body : List Block) → length (read_pages command body) ≤ length body
 read_few (cdbs.Read form lba count fua) body = omega arith
+read_few (cdbs.Pass cdb) body = elim (pass_of cdb).out as (λ b. length (if b then [] else body) ≤ length body) [ true ↦ omega arith | false ↦ omega arith ]
 read_few _ body = omega arith
 
 data_few : (ending : Ending) (command : Command) (body : List Block) → length (data_in ending command body) ≤ length body
 data_few endings.Good command body = read_few command body
+data_few (endings.Informed sense) command body = read_few command body
 data_few (endings.Check sense) command body = omega arith
 
 pub ended_writable : (entry : Entry) (ending : Ending) (descriptor : Bool) → length entry.body ≤ 4096 → IsExpectable entry.expected → IsWritable (ended_reply entry ending descriptor)

@@ -18,7 +18,9 @@ use Rattle.satl_unit.specs.Conditions.{IsInReportOrder, report_order}
 use Rattle.satl_frame.specs.DataPages.{page_count}
 use Rattle.satl_line.specs.declared.entry.Entry.{Entry}
 use Rattle.satl_line.specs.Tasks.{Held, entries_of, is_too_much}
-use Rattle.satl_drive.specs.State.{DriveState}
+use Rattle.satl_drive.specs.State.{DriveState, IsFit}
+use Rattle.satl_base.specs.Identify.{has_cache, has_look}
+use Rattle.satl_sense.specs.declared.sense.Sense.{Sense}
 use Rattle.satl_direct.specs.Arrival.{waits}
 use Rattle.satl_direct.specs.Device.{Device, is_called, is_of, once_told}
 use Rattle.satl_direct.specs.Tasks.{held_blocks, held_by, is_full, task_for, task_of}
@@ -47,7 +49,7 @@ use Rattle.satl_base.specs.declared.modes.ModeChange.{ModeChange}
 use Rattle.satl_core.proofs.DeviceLemmas.{first_tasks, seen}
 use Rattle.satl_core.proofs.HeldLemmas.{IsFirst, IsKeptEntry}
 use Rattle.satl_core.proofs.PostingLemmas.{once_kept, once_length}
-use Rattle.satl_core.proofs.Transfers.{of_task}
+use Rattle.satl_core.proofs.ServedLemmas.{still}
 use Rattle.satl_core.proofs.LeavingLemmas.{found_is, left_tasks}
 
 -- ---- tests
@@ -323,19 +325,26 @@ wanted_cache identity modes wanted change has is wants valid may none = ap (λ (
 pub wanted_look : (identity : Identity) (modes wanted : Modes) (change : Option ModeChange) (has : Bool) → has ≡ identity.look → wanted ≡ wanted_by modes change → AreModesOf identity modes → IfSome change (IsChangeOf identity) → has ≡ false → wanted.dra ≡ modes.dra
 wanted_look identity modes wanted change has is wants valid may none = ap (λ (m : Modes). m.dra) wants ∙ ((wanted_valid identity modes change valid may).look (sym is ∙ none) ∙ sym (valid.look (sym is ∙ none)))
 
-after_valid : (identity : Identity) (n : ℕ) (command : Command) (ending : Ending) (modes wanted : Modes) → IsTask identity.capacity command n → AreModesOf identity modes → AreModesOf identity wanted → AreModesOf identity (modes_after command ending modes wanted)
-after_valid identity n command ending modes wanted t old new =
-    of_task (λ c. AreModesOf identity (modes_after c ending modes wanted)) identity.capacity n command (λ form lba count fua t. old) (λ form lba count fua t. old) (λ form lba count none. old) (λ start no_flush none. old) (λ ten size none. by ending) (λ form lba count t. old) (λ form lba count t. old) (λ form lba count unmap t. old) (λ size t. old) t
+-- a drive that fits its data is set as it can be
+set_valid : (identity : Identity) (modes : Modes) (d : DriveState) → IsFit d → has_cache d.identify ≡ identity.cache → has_look d.identify ≡ identity.look → d.cache ≡ modes.wce → d.look ≡ not modes.dra → AreModesOf identity modes
+set_valid identity modes d fit has looks cache look = record {
+  cache = λ none. sym cache ∙ off d.cache (λ is. sym (fit.cache is) ∙ (has ∙ none));
+  look = λ none. on modes.dra (sym look ∙ off d.look (λ is. sym (fit.look is) ∙ (looks ∙ none)));
+}
   where
-    by : (e : Ending) → AreModesOf identity (where_done e wanted modes)
-    by endings.Good = new
-    by (endings.Check sense) = old
+    off : (b : Bool) → (b ≡ true → true ≡ false) → b ≡ false
+    off true has_none = let clash = has_none refl in absurd cc
+    off false has_none = refl
+
+    on : (b : Bool) → not b ≡ false → b ≡ true
+    on true e = refl
+    on false e = absurd cc
 
 -- the first task is gone, with nothing outstanding, and the link is as it was
-pub agrees_rest : (l new : Layer) (wanted : Modes) (posting : Option Posting) (rest : List Held) (entry : Entry) (ending : Ending) (d d' : DriveState) → IsFirst l.tasks entry rest → IsKeptEntry l.identity entry → wanted ≡ wanted_by l.modes entry.modes
+pub agrees_rest : (l new : Layer) (wanted : Modes) (posting : Option Posting) (rest : List Held) (entry : Entry) (ending : Ending) (d d' : DriveState) → IsFirst l.tasks entry rest → IsKeptEntry l.identity entry → (l.down ≡ true → (sense : Sense) × (ending ≡ endings.Check sense))
     → new.modes ≡ modes_after entry.command ending l.modes wanted → new.attentions ≡ once_posted posting rest l.attentions → d'.down ≡ l.down → (l.down ≡ false → d'.cache ≡ (modes_after entry.command ending l.modes wanted).wce) → (l.down ≡ false → d'.look ≡ not (modes_after entry.command ending l.modes wanted).dra) → Stays d d'
     → new ≡ record l { modes = new.modes; started = new.started; attentions = new.attentions; tasks = rest; flying = []; slots = new.slots; free = new.free; out = new.out } → Agrees l d → Agrees new d'
-agrees_rest l new wanted posting rest entry ending d d' first kept wants changed told mark cache look stays same agrees =
+agrees_rest l new wanted posting rest entry ending d d' first kept unasked changed told mark cache look stays same agrees =
     let v = subst (λ ts. IsValid (seen l.identity l.modes l.started l.attentions ts d)) (first_tasks l.tasks rest entry first) agrees.valid in
     let fits : FitsOn d first.held × AllByRecursion (FitsOn d) rest = subst (AllByRecursion (FitsOn d)) first.are agrees.queue.fits in
     let tells = stays.tells l.identity.bytes (bytes_long l d agrees) agrees.told in
@@ -355,8 +364,17 @@ agrees_rest l new wanted posting rest entry ending d d' first kept wants changed
         blocks = omega (arith, v.blocks);
         own = v.own.1;
         come = v.come.1;
-        modes = subst (AreModesOf l.identity) (sym changed) (after_valid l.identity entry.blocks entry.command ending l.modes wanted kept.task v.modes (subst (AreModesOf l.identity) (sym wants) (wanted_valid l.identity l.modes entry.modes v.modes kept.change)));
+        modes = subst (AreModesOf l.identity) (sym changed) (valid_after l.down refl);
         nexuses = ap length told ∙ (once_length posting rest l.attentions ∙ v.nexuses);
         attentions = subst (AllByRecursion IsInReportOrder) (sym told) (once_kept posting rest l.attentions v.attentions);
       };
     })
+  where
+    -- what the drive is set to is valid, and where the link is lost nothing was set
+    valid_after : (b : Bool) → l.down ≡ b → AreModesOf l.identity (modes_after entry.command ending l.modes wanted)
+    valid_after false up =
+        let noted = has_as_noted l d agrees in
+        set_valid l.identity (modes_after entry.command ending l.modes wanted) d' stays.free.fit (stays.says.cache ∙ noted.cache) (stays.says.look ∙ noted.look) (cache up) (look up)
+    valid_after true lost =
+        let checked = unasked lost in
+        subst (AreModesOf l.identity) (sym (ap (λ e. modes_after entry.command e l.modes wanted) checked.1 ∙ (still l.identity.capacity entry.blocks l.modes wanted l.started checked.0 entry.command kept.task).0)) agrees.valid.modes

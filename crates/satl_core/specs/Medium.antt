@@ -108,6 +108,11 @@ HasData (WriteSame form lba count unmap) t = 1 ≤ length t.body
 HasData (Pass cdb) t = length t.body ≡ page_count (pass_of cdb).length
 HasData _ t = Unit {0}
 
+-- the pages of an ATA PASS-THROUGH are whole (profile)
+abbrev pub HasWhole : Command → Entry → Type 0
+HasWhole (Pass cdb) t = AreWhole t.body
+HasWhole _ t = Unit {0}
+
 -- what a command that runs alone writes (SBC-3 5.28, 5.42; SAT-3 12.2)
 abbrev pub written_alone : Command → Entry → DriveState → List Pair
 written_alone (WriteSame form lba count false) t d = (writing_same (over lba count) (get_or t.body 0 no_block) d).writes

@@ -32,7 +32,7 @@ use Rattle.satl_barrier.specs.Finishing.{most_pieces, trimming, writing_same}
 use Rattle.satl_barrier.specs.Leaving.{IsLostIn}
 use Rattle.satl_barrier.specs.Settings.{IsTuned}
 use Rattle.satl_barrier.specs.Flushing.{IsLeftWith, IsSwitched}
-use Rattle.satl_core.specs.Medium.{HasCompared, HasFinished, HasVerified, PassesThrough, written_alone}
+use Rattle.satl_core.specs.Medium.{HasCompared, HasFinished, HasVerified, HasWhole, PassesThrough, written_alone}
 use Rattle.satl_core.specs.declared.managing.Posting.{Posting}
 use Rattle.satl_core.specs.declared.managing.Posting.TheVariants.{ModesChanged}
 use Rattle.satl_core.specs.declared.turning.Ending.{Ending}
@@ -153,6 +153,7 @@ TaskEnds down started wanted t taken old ending new =
 pub record IsLostInTask (down started : Bool) (t : Entry) (old new : DriveState) : Type 0 where
   pub was_up : down ≡ false
   pub ready : (not started && (asks t.command).starts) ≡ false
+  pub whole : HasWhole t.command t
   pub lost : IsLostIn (written_alone t.command t old) old new
 
 -- one of two by how a task ended: the first where it is done (profile)

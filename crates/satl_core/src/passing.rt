@@ -5,6 +5,7 @@ ghost use Rattle.satl_regs.specs.Commands.{command_in};
 ghost use Rattle.satl_regs.specs.Effects.{pairs_of};
 ghost use Rattle.satl_pass.specs.Reading.{CanRun};
 ghost use Rattle.satl_drive.specs.State.{medium_of};
+ghost use Rattle.satl_barrier.specs.Commands.{AreWhole};
 ghost use Rattle.satl_barrier.specs.Leaving.{IsFree, IsLostIn, Stays};
 ghost use Rattle.satl_direct.specs.Tasks as direct;
 ghost use Rattle.satl_core.specs.Medium as medium;
@@ -34,6 +35,7 @@ pub fn run_through<D: Drive, L: Ledger>(
     ensures ends { IfOk result (λ ending. PassesThrough (direct.pass_of cdb.now) body.old body.new (D.state drive.old) ending (D.state drive.new)) }
     ensures lost { OnErr result (IsLostIn (pairs_of (command_in (direct.pass_of cdb.now).regs) (medium_of (D.state drive.old)) body.old) (D.state drive.old) (D.state drive.new)) }
     ensures stays { Stays (D.state drive.old) (D.state drive.new) }
+    ensures whole { AreWhole body.old }
     ensures size { length body.new ≡ length body.old }
     ensures step { steps.new ≡ steps.old + 1 }
 {

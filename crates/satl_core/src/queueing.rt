@@ -208,6 +208,7 @@ impl Satl {
     {
         let mut task = self.queue.remove(0);
         let command = task.command;
+        let nexus = task.nexus;
         let descriptor = self.modes.d_sense;
         let wanted = wanted_by(&self.modes, &task.modes);
         match run_task(
@@ -222,7 +223,7 @@ impl Satl {
         ) {
             Ok(ending) => {
                 let modes = modes_after(&command, ending, &self.modes, &wanted);
-                let posting = change_posting(&command, &self.modes, &modes, task.nexus);
+                let posting = change_posting(&command, &self.modes, &modes, nexus);
                 post(&mut self.attentions, &self.queue, &posting);
                 self.modes = modes;
                 self.started = started_after(&command, ending, self.started);

@@ -6,7 +6,7 @@ ghost use Rattle.satl_base.specs.Cells.{AreSound};
 ghost use Rattle.satl_direct.specs.Senses;
 ghost use Rattle.satl_base.specs.Limits.{most_moved, piece};
 ghost use Rattle.satl_core.specs.Layer.{IsTask, held_pages};
-ghost use Rattle.satl_core.specs.Medium.{HasData, IsSameButCells, MayTrim, written_alone};
+ghost use Rattle.satl_core.specs.Medium.{HasData, HasWhole, IsSameButCells, MayTrim, written_alone};
 ghost use Rattle.satl_base.specs.declared.modes.Modes.{Modes};
 ghost use Rattle.satl_core.specs.Turning;
 ghost use Rattle.satl_barrier.specs.Leaving.{IsFree, IsLostIn, Stays};
@@ -121,6 +121,7 @@ fn carry_out<D: Drive, L: Ledger>(
     ensures faults { OnOk result ((D.state drive.new).faults ≡ (D.state drive.old).faults) }
     ensures ends { IfOk result (λ ending. CarriedOut wanted.now task.old.command task.old task.new.body (D.state drive.old) ending (D.state drive.new)) }
     ensures lost { OnErr result (IsLostIn (written_alone task.old.command task.old (D.state drive.old)) (D.state drive.old) (D.state drive.new)) }
+    ensures whole { OnErr result (HasWhole task.old.command task.old) }
     ensures task { task.new ≡ record task.old { body = task.new.body } }
     ensures size { length task.new.body ≡ length task.old.body }
     ensures pool { pool.new ≡ pool.old }
@@ -153,6 +154,7 @@ fn go_over<D: Drive, L: Ledger>(
     ensures ends { (wanted : Modes) → IfOk result (λ ending. CarriedOut wanted task.now.command task.now task.now.body (D.state drive.old) ending (D.state drive.new)) }
     ensures same { IfOk result (λ ending. IsSameButCells (D.state drive.old) (D.state drive.new)) }
     ensures lost { OnErr result (IsLostIn (written_alone task.now.command task.now (D.state drive.old)) (D.state drive.old) (D.state drive.new)) }
+    ensures whole { OnErr result (HasWhole task.now.command task.now) }
     ensures pool { pool.new ≡ pool.old }
     ensures step { steps.new ≤ steps.old + barrier_calls }
 {

@@ -31,9 +31,6 @@ own_pages-body-requires-clause-list c = subst (λ (l : Layer). HasList c.args.co
 pub own_pages-body-requires-clause-trim : goal.own_pages-body-requires-clause-trim
 own_pages-body-requires-clause-trim c = subst (λ (l : Layer). trims c.args.command ≡ true → l.identity.trim ≡ true) (sym c.self.view_is) c.requires.trims
 
-pub own_pages-body-requires-clause-served : goal.own_pages-body-requires-clause-served
-own_pages-body-requires-clause-served c = c.requires.served
-
 pub own_pages-body-requires-clause-room : goal.own_pages-body-requires-clause-room
 own_pages-body-requires-clause-room c =
     let adds = on_ok c.add.result _ (sym c.is_err.ensures.value ∙ c.if-is_err.false) c.add.ensures.ok in

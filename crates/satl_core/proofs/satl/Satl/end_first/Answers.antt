@@ -19,7 +19,7 @@ use Rattle.satl_core.proofs.EndingLemmas.{alone_deepens, alone_loses, first_alon
 use Rattle.satl_core.proofs.FlushedLemmas.{first_flush, flush_done}
 use Rattle.satl_core.proofs.HeldLemmas.{held_is, first_count, first_kept, first_of, first_pages, pushed}
 use Rattle.satl_core.proofs.RefillLemmas.{lost_layer}
-use Rattle.satl_core.proofs.ServedLemmas.{first_ends}
+use Rattle.satl_core.proofs.ServedLemmas.{checked_reply, first_ends, task_unasked}
 use Rattle.satl_core.proofs.TieLemmas.{has_as_noted, layer_of}
 use Rattle.satl_core.proofs.TurningLemmas.{all_pages, entry_few, lost_all_writable, lost_pages, one_pages, one_writable}
 use Rattle.satl_core.proofs.ValidLemmas.{agrees_rest, wanted_cache, wanted_look}
@@ -83,15 +83,15 @@ pub end_task-requires-clause-few : goal.end_task-requires-clause-few
 end_task-requires-clause-few g c =
     let first = first_of c.self.inside.queue.tasks c.remove-task.new.self.tasks c.remove-task.result c.remove-task.ensures.value c.remove-task.ensures.others in
     let kept = first_kept c.self.inside.identity c.self.inside.queue.tasks c.remove-task.new.self.tasks c.remove-task.result c.self.invariant.kept first in
-    entry_few c.self.inside.identity c.remove-task.result kept.0
+    subst (λ n. n ≤ 4096) (sym c.run_task.ensures.size) (entry_few c.self.inside.identity c.remove-task.result kept.0)
 
 pub invariant_of-self : goal.invariant_of-self
 invariant_of-self g c =
     let first = first_of c.self.inside.queue.tasks c.remove-task.new.self.tasks c.remove-task.result c.remove-task.ensures.value c.remove-task.ensures.others in
     let held = first_pages c.self.inside.queue.tasks c.remove-task.new.self.tasks c.remove-task.result first in
     record {
-      held = omega (arith, held, c.self.invariant.held, ap (λ (p : Counts). p.out) c.run_task.ensures.pool, c.end_task.ensures.out);
-      all = omega (arith, c.self.invariant.all, ap (λ (p : Counts). p.out) c.run_task.ensures.pool, c.end_task.ensures.out, ap (λ (p : Counts). p.free) c.run_task.ensures.pool, c.end_task.ensures.free);
+      held = omega (arith, held, c.run_task.ensures.size, c.self.invariant.held, ap (λ (p : Counts). p.out) c.run_task.ensures.pool, c.end_task.ensures.out);
+      all = omega (arith, c.run_task.ensures.size, c.self.invariant.all, ap (λ (p : Counts). p.out) c.run_task.ensures.pool, c.end_task.ensures.out, ap (λ (p : Counts). p.free) c.run_task.ensures.pool, c.end_task.ensures.free);
       kept = (first_kept c.self.inside.identity c.self.inside.queue.tasks c.remove-task.new.self.tasks c.remove-task.result c.self.invariant.kept first).1;
       identity_is = c.self.invariant.identity_is;
     }
@@ -100,15 +100,15 @@ pub end_task-requires-in-Err-clause-few : goal.end_task-requires-in-Err-clause-f
 end_task-requires-in-Err-clause-few g c =
     let first = first_of c.self.inside.queue.tasks c.remove-task.new.self.tasks c.remove-task.result c.remove-task.ensures.value c.remove-task.ensures.others in
     let kept = first_kept c.self.inside.identity c.self.inside.queue.tasks c.remove-task.new.self.tasks c.remove-task.result c.self.invariant.kept first in
-    entry_few c.self.inside.identity c.remove-task.result kept.0
+    subst (λ n. n ≤ 4096) (sym c.run_task.ensures.size) (entry_few c.self.inside.identity c.remove-task.result kept.0)
 
 pub invariant_of-self-in-Err : goal.invariant_of-self-in-Err
 invariant_of-self-in-Err g c =
     let first = first_of c.self.inside.queue.tasks c.remove-task.new.self.tasks c.remove-task.result c.remove-task.ensures.value c.remove-task.ensures.others in
     let held = first_pages c.self.inside.queue.tasks c.remove-task.new.self.tasks c.remove-task.result first in
     record {
-      held = omega (arith, held, c.self.invariant.held, ap (λ (p : Counts). p.out) c.run_task.ensures.pool, c.end_task-in-Err.ensures.out);
-      all = omega (arith, c.self.invariant.all, ap (λ (p : Counts). p.out) c.run_task.ensures.pool, c.end_task-in-Err.ensures.out, ap (λ (p : Counts). p.free) c.run_task.ensures.pool, c.end_task-in-Err.ensures.free);
+      held = omega (arith, held, c.run_task.ensures.size, c.self.invariant.held, ap (λ (p : Counts). p.out) c.run_task.ensures.pool, c.end_task-in-Err.ensures.out);
+      all = omega (arith, c.run_task.ensures.size, c.self.invariant.all, ap (λ (p : Counts). p.out) c.run_task.ensures.pool, c.end_task-in-Err.ensures.out, ap (λ (p : Counts). p.free) c.run_task.ensures.pool, c.end_task-in-Err.ensures.free);
       kept = (first_kept c.self.inside.identity c.self.inside.queue.tasks c.remove-task.new.self.tasks c.remove-task.result c.self.invariant.kept first).1;
       identity_is = c.self.invariant.identity_is;
     }
@@ -125,9 +125,9 @@ returns-in-Ok-clause-ends g c =
     inl (
       c.end_task.result,
       c.push.ensures ∙ ap (λ l. l ++ c.end_task.result ∷ []) c.requires.empty,
-      subst (λ r. EndsOne (view c.args.self.now d) r new) (sym c.end_task.ensures.reply)
-          (subst (λ l. EndsOne (view l d) (ended_reply c.remove-task.result c.in-Ok.ending i.modes.d_sense) new) c.self.view_is
-          (first_ends was c.remove-task.new.self.tasks c.remove-task.result d d' c.self.invariant.kept first tied.agrees c.in-Ok.ending c.started_after-self-inside.result c.wanted_by-wanted.result c.modes_after-modes.result c.change_posting-posting.result c.post.new.attentions
+      subst (λ r. EndsOne (view c.args.self.now d) r new) (sym (c.end_task.ensures.reply ∙ ap (λ t. ended_reply t c.in-Ok.ending i.modes.d_sense) c.run_task.ensures.task))
+          (subst (λ l. EndsOne (view l d) (ended_reply (record c.remove-task.result { body = c.run_task.new.task.body }) c.in-Ok.ending i.modes.d_sense) new) c.self.view_is
+          (first_ends was c.remove-task.new.self.tasks c.remove-task.result d d' c.self.invariant.kept first tied.agrees c.in-Ok.ending c.run_task.new.task.body c.started_after-self-inside.result c.wanted_by-wanted.result c.modes_after-modes.result c.change_posting-posting.result c.post.new.attentions
           c.wanted_by-wanted.ensures c.in-Ok.ensures.ends c.started_after-self-inside.ensures c.modes_after-modes.ensures c.change_posting-posting.ensures c.post.ensures)),
     )
 
@@ -140,7 +140,7 @@ returns-in-Ok-clause-agrees g c =
     let first = first_of i.queue.tasks c.remove-task.new.self.tasks c.remove-task.result c.remove-task.ensures.value c.remove-task.ensures.others in
     let kept = first_kept i.identity i.queue.tasks c.remove-task.new.self.tasks c.remove-task.result c.self.invariant.kept first in
     let new = layer_of i.identity c.modes_after-modes.result c.started_after-self-inside.result i.down c.post.new.attentions c.remove-task.new.self c.end_task.new.pool in
-    agrees_rest was new c.wanted_by-wanted.result c.change_posting-posting.result c.remove-task.new.self.tasks c.remove-task.result c.in-Ok.ending d (g.D.Drive.state c.run_task.new.drive) first kept.0 c.wanted_by-wanted.ensures c.modes_after-modes.ensures c.post.ensures
+    agrees_rest was new c.wanted_by-wanted.result c.change_posting-posting.result c.remove-task.new.self.tasks c.remove-task.result c.in-Ok.ending d (g.D.Drive.state c.run_task.new.drive) first kept.0 (task_unasked i.down i.started c.wanted_by-wanted.result c.remove-task.result c.run_task.new.task.body d (g.D.Drive.state c.run_task.new.drive) c.in-Ok.ending c.in-Ok.ensures.ends) c.modes_after-modes.ensures c.post.ensures
     c.in-Ok.ensures.up c.in-Ok.ensures.cache c.in-Ok.ensures.look c.run_task.ensures.stays
     (ap (λ fs. record new { flying = fs }) (c.remove-task.ensures.flying ∙ subst (λ (l : Layer). l.flying ≡ []) (sym c.self.view_is) c.requires.idle)) tied.agrees
 
@@ -155,13 +155,13 @@ returns-in-Ok-clause-pages g c =
     let held = first_pages c.self.inside.queue.tasks c.remove-task.new.self.tasks c.remove-task.result first in
     let pages = one_pages c.args.replies.now c.push.new.self c.end_task.result c.requires.empty c.push.ensures in
     let view = ap (λ (l : Layer). l.out) c.self.view_is in
-    omega (arith, held, pages, view, c.requires.all_in, c.self.invariant.held, ap (λ (p : Counts). p.out) c.run_task.ensures.pool, c.end_task.ensures.out)
+    omega (arith, held, pages, view, c.run_task.ensures.size, c.requires.all_in, c.self.invariant.held, ap (λ (p : Counts). p.out) c.run_task.ensures.pool, c.end_task.ensures.out)
 
 pub returns-in-Ok-clause-writable : goal.returns-in-Ok-clause-writable
 returns-in-Ok-clause-writable g c =
     let first = first_of c.self.inside.queue.tasks c.remove-task.new.self.tasks c.remove-task.result c.remove-task.ensures.value c.remove-task.ensures.others in
     let kept = first_kept c.self.inside.identity c.self.inside.queue.tasks c.remove-task.new.self.tasks c.remove-task.result c.self.invariant.kept first in
-    one_writable c.args.replies.now c.push.new.self c.end_task.result c.remove-task.result c.in-Ok.ending c.self.inside.modes.d_sense c.requires.empty c.push.ensures c.end_task.ensures.reply (entry_few c.self.inside.identity c.remove-task.result kept.0) kept.0.expected
+    one_writable c.args.replies.now c.push.new.self c.end_task.result (record c.remove-task.result { body = c.run_task.new.task.body }) c.in-Ok.ending c.self.inside.modes.d_sense c.requires.empty c.push.ensures (c.end_task.ensures.reply ∙ ap (λ t. ended_reply t c.in-Ok.ending c.self.inside.modes.d_sense) c.run_task.ensures.task) (subst (λ n. n ≤ 4096) (sym c.run_task.ensures.size) (entry_few c.self.inside.identity c.remove-task.result kept.0)) kept.0.expected
 
 pub returns-in-Ok-clause-flushed : goal.returns-in-Ok-clause-flushed
 returns-in-Ok-clause-flushed g c = λ flushed quiet.
@@ -169,9 +169,9 @@ returns-in-Ok-clause-flushed g c = λ flushed quiet.
     let first = first_of i.queue.tasks c.remove-task.new.self.tasks c.remove-task.result c.remove-task.ensures.value c.remove-task.ensures.others in
     let tied = subst (λ (l : Layer). Tied l (g.D.Drive.state c.args.drive.now)) (sym c.self.view_is) c.requires.tied in
     let own = (subst (λ ts. AreOwn ts) (first_tasks i.queue.tasks c.remove-task.new.self.tasks c.remove-task.result first) tied.agrees.valid.own).0 in
-    let done = first_flush i.queue.tasks c.remove-task.new.self.tasks c.remove-task.result c.remove-task.result c.in-Ok.ending i.modes.d_sense c.args.replies.now c.push.new.self c.end_task.result first refl refl own c.requires.empty c.push.ensures c.end_task.ensures.reply
+    let done = first_flush i.queue.tasks c.remove-task.new.self.tasks c.remove-task.result (record c.remove-task.result { body = c.run_task.new.task.body }) c.in-Ok.ending i.modes.d_sense c.args.replies.now c.push.new.self c.end_task.result first refl refl own c.requires.empty c.push.ensures (c.end_task.ensures.reply ∙ ap (λ t. ended_reply t c.in-Ok.ending c.self.inside.modes.d_sense) c.run_task.ensures.task)
     (subst (λ (l : Layer). IsFlushed l.tasks c.push.new.self) (sym c.self.view_is) flushed) in
-    flush_done i.down i.started c.wanted_by-wanted.result c.remove-task.result (g.D.Drive.state c.args.drive.now) (g.D.Drive.state c.run_task.new.drive) c.in-Ok.ending done.flush done.good c.in-Ok.ensures.ends
+    flush_done i.down i.started c.wanted_by-wanted.result c.remove-task.result c.run_task.new.task.body (g.D.Drive.state c.args.drive.now) (g.D.Drive.state c.run_task.new.drive) c.in-Ok.ending done.flush done.good c.in-Ok.ensures.ends
 
 pub returns-in-Err-clause-ends : goal.returns-in-Err-clause-ends
 returns-in-Err-clause-ends g c =
@@ -184,7 +184,7 @@ returns-in-Err-clause-ends g c =
     inr (
       alone_loses was c.args.self.now c.lose.new.self c.remove-task.new.self.tasks c.remove-task.result d d' c.self.invariant.kept first tied.agrees c.self.view_is c.link_lost.result c.args.replies.now c.push-in-Err.new.self c.lose.new.replies c.end_task-in-Err.result
           (lost_layer was (layer_of i.identity i.modes i.started i.down i.attentions c.remove-task.new.self c.end_task-in-Err.new.pool) c.lose.new.self refl (c.remove-task.ensures.flying ∙ subst (λ (l : Layer). l.flying ≡ []) (sym c.self.view_is) c.requires.idle) c.lose.ensures.stays)
-          c.in-Err.ensures.lost c.requires.empty c.push-in-Err.ensures c.lose.ensures.answers c.end_task-in-Err.ensures.reply c.link_lost.ensures,
+          c.in-Err.ensures.lost c.requires.empty c.push-in-Err.ensures c.lose.ensures.answers (c.end_task-in-Err.ensures.reply ∙ (ap (λ t. ended_reply t c.link_lost.result c.self.inside.modes.d_sense) c.run_task.ensures.task ∙ checked_reply c.remove-task.result c.run_task.new.task.body c.link_lost.result link_lost c.self.inside.modes.d_sense c.link_lost.ensures)) c.link_lost.ensures,
       c.in-Err.ensures.lost.lost.down,
     )
 
@@ -207,16 +207,16 @@ returns-in-Err-clause-pages g c =
     let held = first_pages c.self.inside.queue.tasks c.remove-task.new.self.tasks c.remove-task.result first in
     let pages = all_pages c.args.replies.now c.push-in-Err.new.self c.lose.new.replies (lost_replies c.self.inside.modes.d_sense c.remove-task.new.self.tasks) c.end_task-in-Err.result c.requires.empty c.push-in-Err.ensures c.lose.ensures.answers in
     let lost = lost_pages c.self.inside.modes.d_sense c.remove-task.new.self.tasks in
-    let none = ap (λ (r : Reply). length r.body) c.end_task-in-Err.ensures.reply ∙ ap (λ e. length (data_in e c.remove-task.result.command c.remove-task.result.body)) c.link_lost.ensures in
+    let none = ap (λ (r : Reply). length r.body) c.end_task-in-Err.ensures.reply ∙ ap (λ e. length (data_in e c.run_task.new.task.command c.run_task.new.task.body)) c.link_lost.ensures in
     let view = ap (λ (l : Layer). l.out) c.self.view_is in
-    omega (arith, held, pages, lost, none, view, ap (λ (l : Layer). l.out) c.lose.ensures.stays, c.requires.all_in, c.self.invariant.held, ap (λ (p : Counts). p.out) c.run_task.ensures.pool, c.end_task-in-Err.ensures.out)
+    omega (arith, held, pages, lost, none, view, c.run_task.ensures.size, ap (λ (l : Layer). l.out) c.lose.ensures.stays, c.requires.all_in, c.self.invariant.held, ap (λ (p : Counts). p.out) c.run_task.ensures.pool, c.end_task-in-Err.ensures.out)
 
 pub returns-in-Err-clause-writable : goal.returns-in-Err-clause-writable
 returns-in-Err-clause-writable g c =
     let first = first_of c.self.inside.queue.tasks c.remove-task.new.self.tasks c.remove-task.result c.remove-task.ensures.value c.remove-task.ensures.others in
     let kept = first_kept c.self.inside.identity c.self.inside.queue.tasks c.remove-task.new.self.tasks c.remove-task.result c.self.invariant.kept first in
     lost_all_writable c.args.replies.now c.push-in-Err.new.self c.lose.new.replies c.end_task-in-Err.result c.remove-task.result c.link_lost.result c.self.inside.modes.d_sense c.self.inside.identity c.remove-task.new.self.tasks c.requires.empty c.push-in-Err.ensures c.lose.ensures.answers
-    c.end_task-in-Err.ensures.reply c.link_lost.ensures kept.0.expected kept.1
+    (c.end_task-in-Err.ensures.reply ∙ (ap (λ t. ended_reply t c.link_lost.result c.self.inside.modes.d_sense) c.run_task.ensures.task ∙ checked_reply c.remove-task.result c.run_task.new.task.body c.link_lost.result link_lost c.self.inside.modes.d_sense c.link_lost.ensures)) c.link_lost.ensures kept.0.expected kept.1
 
 pub returns-in-Err-clause-room : goal.returns-in-Err-clause-room
 returns-in-Err-clause-room g c =

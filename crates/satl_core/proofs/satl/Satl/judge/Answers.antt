@@ -19,12 +19,7 @@ returns-clause-change c =
 pub returns-clause-task : goal.returns-clause-task
 returns-clause-task c =
     let l = layer_of c.self.inside.identity c.self.inside.modes c.self.inside.started c.self.inside.down c.next_attention.new.attentions c.self.inside.queue c.self.inside.pool in
-    subst (λ (l : Layer). IfOk c.judge_code.result (λ command. IsTask l.identity.capacity command (held_blocks command))) c.self.view_is (code_task l c.args.request.now c.judge_code.result c.read_lengths.ensures c.self.invariant.identity_is c.judge_code.ensures.answer)
-
-pub returns-clause-served : goal.returns-clause-served
-returns-clause-served c =
-    let l = layer_of c.self.inside.identity c.self.inside.modes c.self.inside.started c.self.inside.down c.next_attention.new.attentions c.self.inside.queue c.self.inside.pool in
-    code_served l c.args.request.now c.judge_code.result c.judge_code.ensures.answer
+    subst (λ (l : Layer). IfOk c.judge_code.result (λ command. IsTask l.identity.capacity command (held_blocks command))) c.self.view_is (code_task l c.args.request.now c.judge_code.result c.read_lengths.ensures c.self.invariant.identity_is c.judge_code.ensures.can c.judge_code.ensures.answer)
 
 pub returns-clause-list : goal.returns-clause-list
 returns-clause-list c =
