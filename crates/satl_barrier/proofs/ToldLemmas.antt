@@ -5,7 +5,7 @@ use Rattle.std.proofs.lemmas.List.{length-set, set-get_or}
 use Rattle.std.specs.List.{AllByRecursion}
 use Rattle.std.specs.Prelude.{◌==◌, ◌&&◌, not, MatchBool, slice_index, slice_set, if◌then◌else◌}
 use Rattle.std.proofs.lemmas.List.Sums.{sum_by-set}
-use Rattle.satl_base.specs.Identify.{cache_is_on, checksum, has_bad_sum, has_trim, look_is_on, word, word_bits}
+use Rattle.satl_base.specs.Identify.{cache_is_on, checksum, has_bad_sum, has_queued_trim, has_trim, look_is_on, word, word_bits}
 use Rattle.satl_base.specs.Fields.{IsBytes}
 use Rattle.satl_base.specs.Places.{places}
 use Rattle.satl_base.proofs.PlacesLemmas.{by_places, places_ext}
@@ -207,12 +207,16 @@ data_says b c l long = record { cache = ap (λ w. w / 2 ^ 5 % 2 == 1) word_82; l
     word_82 : word 82 (identity_data b c l) ≡ word 82 b
     word_82 = ap (λ n. n + 256 * slice_index (identity_data b c l) 165) low ∙ ap (λ n. slice_index b 164 + 256 * n) high
 
--- settings leave what the data say of trims: they change bytes 170 and 511 alone
-pub data_trims : (b : List ℕ) (c l : Bool) → length b ≡ 512 → has_trim (identity_data b c l) ≡ has_trim b
-data_trims b c l long = rw (byte 338 (omega arith) (omega arith), byte 339 (omega arith) (omega arith), byte 138 (omega arith) (omega arith), byte 139 (omega arith) (omega arith)) refl
-  where
-    byte : (i : ℕ) → (i ≡ 170 → ⊥) → (i ≡ 511 → ⊥) → slice_index (identity_data b c l) i ≡ slice_index b i
-    byte i not_170 not_511 = data-other b long c l i not_170 not_511
+-- settings leave what the data say of trims, and of trims in the queue: they change bytes 170 and 511 alone
+module _ (b : List ℕ) (c l : Bool) (long : length b ≡ 512) where
+  byte_same : (i : ℕ) → (i ≡ 170 → ⊥) → (i ≡ 511 → ⊥) → slice_index (identity_data b c l) i ≡ slice_index b i
+  byte_same i not_170 not_511 = data-other b long c l i not_170 not_511
+
+  pub data_trims : has_trim (identity_data b c l) ≡ has_trim b
+  data_trims = rw (byte_same 338 (omega arith) (omega arith), byte_same 339 (omega arith) (omega arith), byte_same 138 (omega arith) (omega arith), byte_same 139 (omega arith) (omega arith)) refl
+
+  pub data_queued_trims : has_queued_trim (identity_data b c l) ≡ has_queued_trim b
+  data_queued_trims = rw (data_trims, byte_same 154 (omega arith) (omega arith), byte_same 155 (omega arith) (omega arith)) refl
 
 -- a bad sum is one of data that have a sum
 pub right_sum : (b : List ℕ) → has_bad_sum b ≡ false → (word_bits 255 7 0 b == 0xA5) ≡ true → checksum b ≡ 0

@@ -2,6 +2,7 @@
 use Rattle.std.proofs.Common.{◌≡◌, inr, sym, refl, ap, subst, arith, ◌∙◌, ℕ, zero, suc, ◌+◌, ◌≤◌, true, Bool, List, [], ◌∷◌, ◌++◌, replicate, take}
 use Rattle.std.specs.Prelude.{◌<◌, ◌-◌, min}
 use Rattle.std.proofs.lemmas.List.{take-replicate}
+use Rattle.satl_base.specs.Limits.{piece}
 use Rattle.satl_base.specs.declared.block.Block.{Block}
 use Rattle.satl_base.specs.declared.block.Range.{Range}
 use Rattle.satl_base.specs.declared.bench.Which.TheVariants as flaws
@@ -11,7 +12,7 @@ use Rattle.satl_drive.specs.State.{DriveState}
 use Rattle.satl_barrier.specs.declared.finishing.Finish.{Finish}
 use Rattle.satl_barrier.specs.declared.finishing.Finish.TheVariants as finishes
 use Rattle.satl_barrier.specs.Commands.{IsCutShort}
-use Rattle.satl_barrier.specs.Finishing.{FinishesAs, IsDone, piece, piece_behind, writing, writing_same}
+use Rattle.satl_barrier.specs.Finishing.{FinishesAs, IsDone, piece_behind, writing, writing_same}
 use Rattle.satl_barrier.specs.Leaving.{IsLostIn, Stays}
 use Rattle.satl_barrier.proofs.FinishingLemmas.{over}
 use Rattle.satl_barrier.proofs.PiecesLemmas.{IsBegun, IsSoFar, begun, begun-write_flaws, head, next_done, next_flawed, next_garbled, next_lost, stays_so_far}

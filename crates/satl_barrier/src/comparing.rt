@@ -1,6 +1,7 @@
 // VERIFY: a range is read for its flaws, or compared.
 ghost use Rattle.std.specs.Prelude.{◌≡◌, ◌≤◌, ◌+◌, ◌↔◌, [], None, IfOk, OnErr, IsTrue, length, take, drop};
-ghost use Rattle.satl_barrier.specs.Finishing.{ComparesAs, FinishesAs, IsReached, IsVerified, piece, verifying};
+ghost use Rattle.satl_base.specs.Limits.{piece};
+ghost use Rattle.satl_barrier.specs.Finishing.{ComparesAs, FinishesAs, IsReached, IsVerified, verifying};
 ghost use Rattle.satl_base.specs.declared.bench.Which.TheVariants as flaws;
 ghost use Rattle.satl_base.specs.Cells.{first_flaw, nows};
 ghost use Rattle.satl_barrier.specs.declared.finishing.Finish.TheVariants as finishes;

@@ -5,7 +5,7 @@ ghost use Rattle.satl_regs.specs.Commands.{command_in};
 ghost use Rattle.satl_regs.specs.Effects.{own_blocks, pairs_of};
 ghost use Rattle.satl_regs.specs.QueuedCommands.{queued_codes};
 ghost use Rattle.satl_drive.specs.State.{medium_of};
-ghost use Rattle.satl_barrier.specs.Commands.{HasPassed};
+ghost use Rattle.satl_barrier.specs.Commands.{AreWhole, HasPassed};
 ghost use Rattle.satl_barrier.specs.Leaving.{IsFree, IsLostIn, Stays};
 
 use satl_base::{Pages, Steps};
@@ -28,7 +28,21 @@ pub fn pass_through<D: Drive, L: Ledger>(
     ensures lost { OnErr result (IsLostIn (pairs_of (command_in regs.now) (medium_of (D.state drive.old)) pages.old) (D.state drive.old) (D.state drive.new)) }
     ensures stays { Stays (D.state drive.old) (D.state drive.new) }
     ensures size { length pages.new ≡ length pages.old }
+    ensures given { AreWhole pages.old }
+    ensures taken { AreWhole pages.new }
     ensures step { steps.new ≡ steps.old + 1 }
 {
-    drive.run(regs, pages, steps)
+    look_at_sizes(pages);
+    let ended = drive.run(regs, pages, steps);
+    look_at_sizes(pages);
+    ended
+}
+
+/// Looks at each page, so that its size is known: 512 bytes.
+fn look_at_sizes(pages: &Pages)
+    ensures { AreWhole pages.now }
+{
+    for block in pages.iter() {
+        let _bytes = block.as_bytes();
+    }
 }

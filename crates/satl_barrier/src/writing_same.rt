@@ -1,6 +1,7 @@
 // WRITE SAME: one block at each address of a range.
 ghost use Rattle.std.specs.Prelude.{◌≡◌, ◌≤◌, ◌+◌, IfOk, OnErr, OnOk, length, min, replicate, take};
-ghost use Rattle.satl_barrier.specs.Finishing.{FinishesAs, IsReached, most_pieces, piece, writing, writing_same};
+ghost use Rattle.satl_base.specs.Limits.{piece};
+ghost use Rattle.satl_barrier.specs.Finishing.{FinishesAs, IsReached, most_pieces, writing, writing_same};
 ghost use Rattle.satl_barrier.specs.Commands.{IsCutShort};
 ghost use Rattle.satl_barrier.specs.Leaving.{IsFree, IsLostIn, Stays};
 

@@ -65,7 +65,7 @@ given_pages old mid new entry body place a at is = record {
 }
 
 -- the task that came, with its pages, may be issued
-pub comes_with : (identity : Identity) (old new : List Held) (entry : Entry) (body : List Block) → AllByRecursion (IsKept identity) new → HasOwnEntries entry.command identity.queued_trim entry.ranges.items body → HasPages old entry body new → Comes identity.capacity old new
+pub comes_with : (identity : Identity) (old new : List Held) (entry : Entry) (body : List Block) → AllByRecursion (IsKept identity) new → HasOwnEntries entry.command identity.queued_trim entry.ranges.items body → HasPages old entry body new → Comes identity.capacity identity.queued_trim old new
 comes_with identity old new entry body kept entries h = record {
   held = record { slot = h.slot; entry = record entry { body = body } };
   last = h.are;

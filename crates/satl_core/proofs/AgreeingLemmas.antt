@@ -26,6 +26,7 @@ use Rattle.satl_drive.specs.State.{DriveState, IsFit}
 use Rattle.satl_drive.specs.Rules.{MaySet}
 use Rattle.satl_flight.specs.Flown.{FitsDrive, IsFlown, IsInFlight, RangedFits}
 use Rattle.satl_flight.specs.Settled.{IsCut, IsFilled, IsLaunched, IsLostInFlight, IsLostQuietly, IsSettled}
+use Rattle.satl_flight.proofs.FlownLemmas.{FitsOn}
 use Rattle.satl_barrier.specs.Leaving.{Stays, TellsOf}
 use Rattle.satl_barrier.proofs.ToldLemmas.{all_bytes, retold}
 use Rattle.satl_direct.specs.Device.{Device}
@@ -211,7 +212,7 @@ alone_down d d' stays down fit = record {
 }
 
 -- nothing is outstanding
-pub idle_in_flight : (tasks : List Held) (d : DriveState) → d.outstanding ≡ [] → d.error ≡ None → AllByRecursion (FitsDrive d.capacity) tasks → d.capacity ≤ 2 ^ 48 → IsInFlight [] tasks d
+pub idle_in_flight : (tasks : List Held) (d : DriveState) → d.outstanding ≡ [] → d.error ≡ None → AllByRecursion (FitsOn d) tasks → d.capacity ≤ 2 ^ 48 → IsInFlight [] tasks d
 idle_in_flight tasks d idle no_error fits small = record {
   each = subst (λ qs. AllZip (IsFlown tasks) [] qs) (sym idle) tt;
   apart = tt;
@@ -295,16 +296,16 @@ abbrev pub HasOwnEntries : Command → Bool → List Range → List Block → Ty
 HasOwnEntries (cdbs.Unmap size) queued_trim ranges body = queued_trim ≡ true → body ≡ record { bytes = trim_block ranges } ∷ []
 HasOwnEntries _ queued_trim ranges body = Unit {0}
 
-pub fits_kept : (identity : Identity) (h : Held) → HasOwnEntries h.entry.command identity.queued_trim h.entry.ranges.items h.entry.body → IsKept identity h → FitsDrive identity.capacity h
+pub fits_kept : (identity : Identity) (h : Held) → HasOwnEntries h.entry.command identity.queued_trim h.entry.ranges.items h.entry.body → IsKept identity h → FitsDrive identity.capacity identity.queued_trim h
 fits_kept identity h entries kept ranged is =
-    of_task (λ c. h.entry.kind ≡ kind_of c identity.queued_trim → CanTrim identity c h.entry.ranges.items → HasOwnEntries c identity.queued_trim h.entry.ranges.items h.entry.body → length h.entry.body ≡ h.entry.blocks + entry_pages c identity.queued_trim → ranged_by c h.entry.ranges.items h.entry.body ≡ Some ranged → RangedFits identity.capacity h.entry.body ranged) identity.capacity h.entry.blocks h.entry.command
-    (λ form lba count fua t kind trims entries pages e. let one : ranged_read fua (record { lba = lba; count = count }) ≡ ranged = cc in subst (RangedFits identity.capacity h.entry.body) one (omega (arith, pages, t.0), record { lba = t.1; some = t.2; few = t.3; within = t.4 }))
-    (λ form lba count fua t kind trims entries pages e. let one : ranged_write fua (record { lba = lba; count = count }) h.entry.body ≡ ranged = cc in subst (RangedFits identity.capacity h.entry.body) one (omega (arith, pages, t.0), record { lba = t.1; some = t.2; few = t.3; within = t.4 }))
+    of_task (λ c. h.entry.kind ≡ kind_of c identity.queued_trim → CanTrim identity c h.entry.ranges.items → HasOwnEntries c identity.queued_trim h.entry.ranges.items h.entry.body → length h.entry.body ≡ h.entry.blocks + entry_pages c identity.queued_trim → ranged_by c h.entry.ranges.items h.entry.body ≡ Some ranged → RangedFits identity.capacity identity.queued_trim h.entry.body ranged) identity.capacity h.entry.blocks h.entry.command
+    (λ form lba count fua t kind trims entries pages e. let one : ranged_read fua (record { lba = lba; count = count }) ≡ ranged = cc in subst (RangedFits identity.capacity identity.queued_trim h.entry.body) one (omega (arith, pages, t.0), record { lba = t.1; some = t.2; few = t.3; within = t.4 }))
+    (λ form lba count fua t kind trims entries pages e. let one : ranged_write fua (record { lba = lba; count = count }) h.entry.body ≡ ranged = cc in subst (RangedFits identity.capacity identity.queued_trim h.entry.body) one (omega (arith, pages, t.0), record { lba = t.1; some = t.2; few = t.3; within = t.4 }))
     (λ form lba count none kind trims entries pages e. absurd cc) (λ start no_flush none kind trims entries pages e. absurd cc) (λ ten size none kind trims entries pages e. absurd cc) (λ form lba count t kind trims entries pages e. absurd cc) (λ form lba count t kind trims entries pages e. absurd cc)
     (λ form lba count unmap t kind trims entries pages e. absurd cc)
     (λ size t kind trims entries pages e.
     let one : ranged_trim h.entry.ranges.items ≡ ranged = cc in
-    subst (RangedFits identity.capacity h.entry.body) one (entries_suit identity h.entry.ranges.items h.entry.body trims (entries (queued size identity.queued_trim kind))))
+    subst (RangedFits identity.capacity identity.queued_trim h.entry.body) one (entries_suit identity h.entry.ranges.items h.entry.body trims (queued size identity.queued_trim kind) (entries (queued size identity.queued_trim kind))))
     kept.task kept.kind kept.trims entries kept.pages (by_command h.entry ranged is)
   where
     -- its kind says that trims are queued

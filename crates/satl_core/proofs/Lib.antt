@@ -10,11 +10,15 @@ pub mod AgreeingLemmas
 pub mod GivenLemmas
 pub mod DeepLemmas
 pub mod CountedLemmas
+pub mod SayingLemmas
+pub mod JudgingLemmas
 pub mod ArrivalLemmas
+pub mod CutLemmas
 pub mod AddingLemmas
 pub mod PostingLemmas
 pub mod SelectLemmas
 pub mod MediumLemmas
+pub mod PassingLemmas
 pub mod ServedLemmas
 pub mod TellingLemmas
 pub mod OpeningLemmas

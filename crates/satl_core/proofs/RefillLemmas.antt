@@ -58,9 +58,9 @@ module _ (l now new : Layer) (d d' : DriveState) (is : l ≡ now) (w : works l �
   launched_settled all = ⊎_elim (λ still. subst (AllByRecursion IsSettled) (sym still) all) (λ lost. still_settled d.cells d'.cells all lost) step.lost
 
 -- the task that came last is covered, so the queue is used
-pub filled_last : (l new : Layer) (capacity : Rattle.std.proofs.Common.ℕ) (d d' : DriveState) → works l ≡ true → new.tasks ≡ l.tasks → (before : List Held) → Comes capacity before l.tasks → MatchBool (works l) (IsFilled l.flying before) (l.flying ≡ [])
+pub filled_last : (l new : Layer) (capacity : Rattle.std.proofs.Common.ℕ) (trims : Bool) (d d' : DriveState) → works l ≡ true → new.tasks ≡ l.tasks → (before : List Held) → Comes capacity trims before l.tasks → MatchBool (works l) (IsFilled l.flying before) (l.flying ≡ [])
     → IsLaunched l.flying d l.tasks new.flying d' → IsCovered new.flying new.tasks (length l.tasks - 1) → IsFilled new.flying new.tasks
-filled_last l new capacity d d' w same before comes used step covered =
+filled_last l new capacity trims d d' w same before comes used step covered =
     let filled : IsFilled l.flying before = subst (λ b. MatchBool b (IsFilled l.flying before) (l.flying ≡ [])) w used in
     let count : length l.tasks - 1 ≡ length before = ap (λ ts. length ts - 1) comes.last ∙ one_less before comes.held in
     subst (IsFilled new.flying) (sym (same ∙ comes.last))

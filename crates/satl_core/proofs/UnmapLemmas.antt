@@ -205,10 +205,11 @@ named_within capacity (r ∷ rs) all = elim (r.count == 0) as (λ b. AllByRecurs
 payload_is : (ranges : List Range) → IsTrimList ranges → payload_ranges 1 (record { bytes = trim_block ranges } ∷ []) ≡ filter trims.is_used (entries ranges)
 payload_is ranges list = append-nil (trimmed (trim_block ranges)) ∙ block_back (entries ranges) (entries_fit ranges list.each) list.room
 
--- it fits a drive with these sectors
-pub entries_suit : (identity : Identity) (ranges : List Range) (body : List Block) → AreTrimmed identity ranges → body ≡ record { bytes = trim_block ranges } ∷ [] → RangedFits identity.capacity body (ranged_trim ranges)
-entries_suit identity ranges body trims is =
+-- it fits a drive with these sectors, which queues trims
+pub entries_suit : (identity : Identity) (ranges : List Range) (body : List Block) → AreTrimmed identity ranges → identity.queued_trim ≡ true → body ≡ record { bytes = trim_block ranges } ∷ [] → RangedFits identity.capacity identity.queued_trim body (ranged_trim ranges)
+entries_suit identity ranges body trims queued is =
     let named = payload_is ranges trims.list in (
+      queued,
       is,
       ap (λ b. addresses (payload_ranges 1 b)) is ∙ (ap addresses named ∙ addresses-entries ranges),
       subst (λ b. AllByRecursion (λ (x : Range). x.lba + x.count ≤ identity.capacity) (payload_ranges 1 b)) (sym is) (subst (λ rs. AllByRecursion (λ (x : Range). x.lba + x.count ≤ identity.capacity) rs) (sym named) (named_within identity.capacity (entries ranges) (entries_within identity.capacity ranges trims.within))),

@@ -9,6 +9,7 @@ use Rattle.satl_base.specs.declared.modes.Modes.{Modes}
 use Rattle.satl_base.specs.declared.reply.Reply.{Reply}
 use Rattle.satl_base.specs.declared.request.Request.{Request}
 use Rattle.satl_base.specs.Blocks.{zero_block}
+use Rattle.satl_base.specs.Identify.{has_queued_trim}
 use Rattle.satl_base.specs.Lists.{LeavesOut}
 use Rattle.satl_cdb.specs.declared.command.Command.{Command}
 use Rattle.satl_identify.specs.declared.identity.Identity.{Identity}
@@ -22,17 +23,19 @@ use Rattle.satl_direct.specs.Arrival.{waits}
 use Rattle.satl_direct.specs.Device.{Device, is_called, is_of, once_told}
 use Rattle.satl_direct.specs.Tasks.{held_blocks, held_by, is_full, task_for, task_of}
 use Rattle.satl_direct.specs.Valid.{AreOwn, HasCome, IsValid}
-use Rattle.satl_flight.specs.Flown.{FitsDrive, IsInFlight}
+use Rattle.satl_flight.specs.Flown.{IsInFlight}
 use Rattle.satl_flight.specs.Settled.{IsFilled}
 use Rattle.satl_flight.proofs.ComingLemmas.{tie_come}
+use Rattle.satl_flight.proofs.FlownLemmas.{FitsOn, fits_by, fits_on}
 use Rattle.satl_core.specs.Refilling.{Comes}
 use Rattle.satl_core.specs.Layer.{Agrees, IsExpectable, IsTask, IsUsed, Layer, Tied, view, works}
 use Rattle.satl_core.proofs.AgreeingLemmas.{agrees_by, capacity_is, idle_in_flight}
 use Rattle.satl_core.specs.Leaving.{left_by}
 use Rattle.satl_core.specs.Submitting.{is_for_unit, Becomes, IsAdded, IsRefused, attention_of, code_answer, judged, once_judged, overlaps, task_without_pages, untold}
 use Rattle.satl_barrier.specs.Leaving.{Stays}
-use Rattle.satl_core.proofs.TieLemmas.{bytes_long}
-use Rattle.satl_core.proofs.ArrivalLemmas.{by_ok, code_waits, full_is, full_or_waits}
+use Rattle.satl_core.proofs.TieLemmas.{bytes_long, has_as_noted, queue_alike}
+use Rattle.satl_core.proofs.ArrivalLemmas.{code_waits, full_is, full_or_waits}
+use Rattle.satl_core.proofs.JudgingLemmas.{by_ok}
 use Rattle.satl_core.specs.declared.managing.Posting.{Posting}
 use Rattle.satl_core.specs.declared.turning.Ending.{Ending}
 use Rattle.satl_core.specs.declared.turning.Ending.TheVariants as endings
@@ -285,22 +288,26 @@ module _ (l new : Layer) (d : DriveState) (r : Request) (c : Command) (replies :
       let same = full_same some in
       tied_told l new d (same ∙ ap (λ lists. record l { attentions = lists; free = new.free; out = new.out }) (sym (ap (λ (x : Layer). x.attentions) same))) (subst IsValid (sym (ap (λ x. view x d) same)) tied.agrees.valid) tied
 
-  module _ (added : replies ≡ []) (comes : replies ≡ [] → Comes l.identity.capacity l.tasks new.tasks) (tied : Tied l d) where
-    come : Comes l.identity.capacity l.tasks new.tasks
+  module _ (added : replies ≡ []) (comes : replies ≡ [] → Comes l.identity.capacity l.identity.queued_trim l.tasks new.tasks) (tied : Tied l d) where
+    come : Comes l.identity.capacity l.identity.queued_trim l.tasks new.tasks
     come = comes added
+
+    -- it may be issued to the drive
+    come_fits : FitsOn d come.held
+    come_fits = fits_by come.held l.identity.capacity d.capacity l.identity.queued_trim (has_queued_trim d.identify) (capacity_is l d tied.agrees) (has_as_noted l d tied.agrees).queued_trim come.fits
 
     pub came_agrees : judged l r ≡ Ok c → r.data_len ≤ 512 * length r.body → IsExpectable r.expected → Agrees new d
     came_agrees e pages expected =
         agrees_by l new d d (ap (λ (x : Layer). x.down) becomes_same) (ap (λ (x : Layer). x.modes) becomes_same) (ap (λ (x : Layer). x.identity) becomes_same) (record { down = refl; cache = refl; look = refl; identify = refl })
         (subst (λ fs. IsInFlight fs new.tasks d) (sym (ap (λ (x : Layer). x.flying) becomes_same)) (subst (λ ts. IsInFlight l.flying ts d) (sym come.last)
-        (tie_come l.flying l.tasks come.held d (subst (λ n. FitsDrive n come.held) (sym (capacity_is l d tied.agrees)) come.fits) tied.agrees.queue)))
+        (tie_come l.flying l.tasks come.held d come_fits tied.agrees.queue)))
         tied.agrees.fit (becomes_valid l new d r c replies e b pages expected tied.agrees.valid) tied.agrees
 
     -- the others are covered
-    pub came_last : (before : List Held) × Comes d.capacity before new.tasks × MatchBool (works new) (IsFilled new.flying before) (new.flying ≡ [])
+    pub came_last : (before : List Held) × Comes d.capacity (has_queued_trim d.identify) before new.tasks × MatchBool (works new) (IsFilled new.flying before) (new.flying ≡ [])
     came_last = (
       l.tasks,
-      record { held = come.held; last = come.last; fits = subst (λ n. FitsDrive n come.held) (sym (capacity_is l d tied.agrees)) come.fits },
+      record { held = come.held; last = come.last; fits = come_fits },
       subst (λ (x : Layer). MatchBool (works x) (IsFilled x.flying l.tasks) (x.flying ≡ [])) (sym becomes_same) tied.used,
     )
 
@@ -330,14 +337,16 @@ pub agrees_rest : (l new : Layer) (wanted : Modes) (posting : Option Posting) (r
     → new ≡ record l { modes = new.modes; started = new.started; attentions = new.attentions; tasks = rest; flying = []; slots = new.slots; free = new.free; out = new.out } → Agrees l d → Agrees new d'
 agrees_rest l new wanted posting rest entry ending d d' first kept wants changed told mark cache look stays same agrees =
     let v = subst (λ ts. IsValid (seen l.identity l.modes l.started l.attentions ts d)) (first_tasks l.tasks rest entry first) agrees.valid in
-    let fits : FitsDrive d.capacity first.held × AllByRecursion (FitsDrive d.capacity) rest = subst (λ ts. AllByRecursion (FitsDrive d.capacity) ts) first.are agrees.queue.fits in
+    let fits : FitsOn d first.held × AllByRecursion (FitsOn d) rest = subst (AllByRecursion (FitsOn d)) first.are agrees.queue.fits in
+    let tells = stays.tells l.identity.bytes (bytes_long l d agrees) agrees.told in
+    let alike = queue_alike l.identity.bytes d d' (bytes_long l d agrees) agrees.told tells in
     subst (λ x. Agrees x d') (sym same) (record {
       mark = sym mark;
-      queue = idle_in_flight rest d' stays.free.idle stays.free.no_error (subst (λ n. AllByRecursion (FitsDrive n) rest) (sym stays.capacity) fits.1) (omega (arith, stays.capacity, agrees.queue.small));
+      queue = idle_in_flight rest d' stays.free.idle stays.free.no_error (fits_on rest d d' stays.capacity alike fits.1) (omega (arith, stays.capacity, agrees.queue.small));
       fit = stays.free.fit;
       cache = λ up. cache up ∙ sym (ap (λ (m : Modes). m.wce) changed);
       look = λ up. look up ∙ sym (ap (λ (m : Modes). not m.dra) changed);
-      told = stays.tells l.identity.bytes (bytes_long l d agrees) agrees.told;
+      told = tells;
       valid = record {
         identity = v.identity;
         cells = stays.free.fit.sectors ∙ (stays.capacity ∙ (sym agrees.fit.sectors ∙ v.cells));

@@ -11,6 +11,8 @@ use Rattle.satl_identify.specs.declared.identity.Identity.{Identity}
 use Rattle.satl_identify.specs.Refusals.{IsIdentity}
 use Rattle.satl_mode.specs.Changes.{IsChangeOf}
 use Rattle.satl_regs.specs.Trim.{IsTrimList}
+use Rattle.satl_pass.specs.Reading.{CanRun}
+use Rattle.satl_frame.specs.DataPages.{page_count}
 use Rattle.satl_line.specs.Kinds.{kind_of}
 use Rattle.satl_line.specs.Tasks.{Held, entries_of}
 use Rattle.satl_pages.specs.Counts.{Counts, number_of}
@@ -22,7 +24,7 @@ use Rattle.satl_flight.specs.Settled.{IsFilled}
 use Rattle.satl_unit.specs.declared.attention.Attention.{Attention}
 use Rattle.satl_barrier.specs.Leaving.{TellsOf}
 use Rattle.satl_direct.specs.Device.{Device}
-use Rattle.satl_direct.specs.Tasks.{over, task_of}
+use Rattle.satl_direct.specs.Tasks.{over, pass_of, task_of}
 use Rattle.satl_direct.specs.Valid.{IsValid}
 
 -- the layer: what its drive says of itself, the mode values, whether the unit is started, its mark of a lost link, the unit attention
@@ -45,25 +47,6 @@ abbrev pub held_pages : List Held → ℕ
 held_pages [] = 0
 held_pages (h ∷ hs) = length h.entry.body + held_pages hs
 
--- the commands that are served so far: all but ATA PASS-THROUGH (profile)
-abbrev pub IsServed : Command → Type 0
-IsServed TestUnitReady = Unit {0}
-IsServed (RequestSense descriptor alloc) = Unit {0}
-IsServed (Inquiry page alloc) = Unit {0}
-IsServed (ModeSense ten long_lba no_descriptor control page alloc) = Unit {0}
-IsServed (ModeSelect ten size) = Unit {0}
-IsServed (StartStop start no_flush) = Unit {0}
-IsServed ReadCapacity10 = Unit {0}
-IsServed (ReadCapacity16 alloc) = Unit {0}
-IsServed (ReportLuns select alloc) = Unit {0}
-IsServed (Read form lba count fua) = Unit {0}
-IsServed (Write form lba count fua) = Unit {0}
-IsServed (Verify form lba count compare) = Unit {0}
-IsServed (Flush form lba count) = Unit {0}
-IsServed (WriteSame form lba count unmap) = Unit {0}
-IsServed (Unmap size) = Unit {0}
-IsServed (Pass cdb) = ⊥
-
 -- 1 to 4,096 blocks within the capacity and the 48 bits of an address, and pages for each (profile)
 abbrev pub IsWithin : ℕ → ℕ → ℕ → ℕ → Type 0
 IsWithin capacity lba count blocks = (blocks ≡ count) × (lba < 2 ^ 48) × (1 ≤ count) × (count ≤ most_moved) × (lba + count ≤ capacity)
@@ -75,8 +58,8 @@ pub record IsCovered (capacity lba count : ℕ) : Type 0 where
   pub address : lba + count ≤ 2 ^ 48
   pub within : lba + count ≤ capacity
 
--- a command that makes a task, which holds so many blocks: READ, WRITE and VERIFY with comparison their blocks, WRITE SAME its one, and all
--- others none (profile)
+-- a command that makes a task, which holds so many blocks: READ, WRITE and VERIFY with comparison their blocks, WRITE SAME its one, ATA
+-- PASS-THROUGH those of its data, and all others none (profile)
 abbrev pub IsTask : ℕ → Command → ℕ → Type 0
 IsTask capacity TestUnitReady blocks = ⊥
 IsTask capacity (RequestSense descriptor alloc) blocks = ⊥
@@ -94,7 +77,7 @@ IsTask capacity (Verify form lba count true) blocks = (blocks ≡ count) × (cou
 IsTask capacity (Flush form lba count) blocks = blocks ≡ 0
 IsTask capacity (WriteSame form lba count unmap) blocks = (blocks ≡ 1) × IsCovered capacity lba count
 IsTask capacity (Unmap size) blocks = (blocks ≡ 0) × (size < 65536)
-IsTask capacity (Pass cdb) blocks = ⊥
+IsTask capacity (Pass cdb) blocks = (blocks ≡ page_count (pass_of cdb).length) × CanRun (pass_of cdb)
 
 -- a number of bytes that a host may take: at most 2,097,152 (profile)
 abbrev pub IsExpectable : Option ℕ → Type 0

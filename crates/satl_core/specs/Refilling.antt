@@ -50,11 +50,11 @@ pub record AreKept (old : Layer) (d : DriveState) (new : Layer) (d' : DriveState
   pub unplugs : d'.unplugs ≡ d.unplugs
   pub deep : Deepens d d'
 
--- a task came behind these, and may be issued (profile)
-pub record Comes (capacity : ℕ) (old new : List Held) : Type 0 where
+-- a task came behind these, and may be issued to a drive of this capacity, which queues trims or not (profile)
+pub record Comes (capacity : ℕ) (trims : Bool) (old new : List Held) : Type 0 where
   pub held : Held
   pub last : new ≡ old ++ held ∷ []
-  pub fits : FitsDrive capacity held
+  pub fits : FitsDrive capacity trims held
 
 -- the mode values and the pages that are out stay, no task comes, and what is answered holds no page and can be written (profile)
 pub record KeepsRest (old : Layer) (given : List Reply) (new : Layer) (replies : List Reply) : Type 0 where

@@ -17,12 +17,13 @@ use Rattle.satl_cdb.specs.Unmap as unmap
 use Rattle.satl_identify.specs.declared.identity.Identity.{Identity}
 use Rattle.satl_sense.specs.declared.sense.Sense.{Sense}
 use Rattle.satl_regs.specs.Trim.{trim_block}
+use Rattle.satl_pass.specs.Reading.{CanRun}
 use Rattle.satl_line.specs.declared.entry.Entry.{Entry}
 use Rattle.satl_unit.specs.declared.attention.Attention.{Attention}
-use Rattle.satl_direct.specs.Arrival.{asks_for, built, code_of, is_unit_0, reply_to, told, untold_codes}
+use Rattle.satl_direct.specs.Arrival.{asks_for, code_of, is_unit_0, reply_to, told, untold_codes}
 use Rattle.satl_direct.specs.Device.{is_of}
-use Rattle.satl_direct.specs.Senses.{attention_sense, link_lost, no_sense, not_ready, out_of_range, overlapped, refusal, sense_text, short_data, unknown_operation, unknown_unit}
-use Rattle.satl_direct.specs.Tasks.{asks, needed, range_of, task_for, task_of}
+use Rattle.satl_direct.specs.Senses.{attention_sense, link_lost, no_sense, not_ready, out_of_range, overlapped, refusal, sense_text, short_data, unknown_unit}
+use Rattle.satl_direct.specs.Tasks.{asks, needed, pass_of, range_of, task_for, task_of}
 use Rattle.satl_core.specs.declared.submitting.AtOnce.{AtOnce}
 use Rattle.satl_core.specs.declared.submitting.AtOnce.TheVariants as at_once
 use Rattle.satl_line.specs.Tasks.{Held, entries_of, is_named, is_too_much}
@@ -83,7 +84,6 @@ answer_to l body (commands.ModeSense ten long_lba no_descriptor control page all
 answer_to l body commands.ReadCapacity10 = Err (at_once.Tell datas.Capacity10 8)
 answer_to l body (commands.ReadCapacity16 alloc) = Err (at_once.Tell datas.Capacity16 alloc)
 answer_to l body (commands.ReportLuns select alloc) = Err (at_once.Tell (datas.Luns select) alloc)
-answer_to l body (commands.Pass cdb) = Err (at_once.Check unknown_operation)
 answer_to l body command = unless_idle l body command
 
 -- refused with this, if there is something, and else what follows (SPC-4 4.5.6)
@@ -91,24 +91,28 @@ abbrev pub unless_refused : Option Illegal → Result Command AtOnce → Result 
 unless_refused None next = next
 unless_refused (Some why) next = Err (at_once.Check (refusal why))
 
--- why a command whose fields are good is answered at once, but for a full task set (profile)
-abbrev pub command_answer : Layer → Request → Command → Result Command AtOnce
-command_answer l r command =
-    if nat_lt l.identity.capacity ((range_of command).lba + (range_of command).count) then Err (at_once.Check out_of_range)
-    else unless_refused (asks command).length_fault
+-- why a command whose fields and range are good is answered at once, but for a full task set (profile)
+abbrev pub data_answer : Layer → Request → Command → Result Command AtOnce
+data_answer l r command =
+    unless_refused (asks command).length_fault
     (if nat_lt r.data_len (needed command) then Err (at_once.Check short_data)
     else unless_refused ((asks command).data_fault l.identity l.modes r.body) (answer_to l r.body command))
 
--- the fields, and then the command (profile)
+-- the fields, the range, and then the data-out (profile)
+abbrev pub command_answer : Layer → Request → Command → Result Command AtOnce
+command_answer l r command =
+    unless_refused (asks command).fields_fault
+    (if nat_lt l.identity.capacity ((range_of command).lba + (range_of command).count) then Err (at_once.Check out_of_range)
+    else data_answer l r command)
+
+-- what the CDB says, and then the command (profile)
 abbrev pub cdb_answer : Layer → Request → Result Command Illegal → Result Command AtOnce
 cdb_answer l r (Err why) = Err (at_once.Check (refusal why))
 cdb_answer l r (Ok command) = command_answer l r command
 
--- the operation code, and then the fields (profile)
+-- what the CDB says, or that its operation code is unknown, and then the command (profile)
 abbrev pub code_answer : Layer → Request → Result Command AtOnce
-code_answer l r =
-    if not (is_in (code_of r) built) then Err (at_once.Check unknown_operation)
-    else cdb_answer l r (says r.cdb l.identity.trim)
+code_answer l r = cdb_answer l r (says r.cdb l.identity.trim)
 
 -- the pages of a request hold all of its data-out, or 65,536 bytes of it, more than a parameter list has (profile)
 abbrev pub HoldsList : Request → Type 0
@@ -141,6 +145,11 @@ unmap_list_fault body size capacity = if size == 0 then None else unmap.list_fau
 -- the refusal of the block of a WRITE SAME that unmaps: it has to be zeros (SBC-3 5.42; profile)
 abbrev pub fault_of_block : Block → Option Illegal
 fault_of_block block = if list_all (λ byte. byte == 0) block.bytes then None else Some (invalid_field 1)
+
+-- an ATA PASS-THROUGH can be run as it stands (SAT-3 12.2)
+abbrev pub CanPass : Command → Type 0
+CanPass (commands.Pass cdb) = CanRun (pass_of cdb)
+CanPass _ = Unit {0}
 
 -- whether a command trims: an UNMAP, and a WRITE SAME that unmaps (SBC-3 5.28, 5.42)
 abbrev pub trims : Command → Bool

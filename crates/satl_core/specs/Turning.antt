@@ -8,25 +8,31 @@ use Rattle.satl_base.specs.declared.reply.Scsi.{Scsi}
 use Rattle.satl_base.specs.declared.reply.Scsi.TheVariants as statuses
 use Rattle.satl_cdb.specs.declared.command.Command.{Command}
 use Rattle.satl_base.specs.Blocks.{no_block}
+use Rattle.satl_base.specs.Limits.{piece}
 use Rattle.satl_base.specs.Cells.{settle}
-use Rattle.satl_cdb.specs.declared.command.Command.TheVariants.{Flush, ModeSelect, Read, StartStop, Unmap, Verify, WriteSame}
+use Rattle.satl_cdb.specs.declared.command.Command.TheVariants.{Flush, ModeSelect, Pass, Read, StartStop, Unmap, Verify, WriteSame}
 use Rattle.satl_sense.specs.declared.sense.Sense.{Sense}
 use Rattle.satl_sense.specs.Descriptor.{descriptor_form}
 use Rattle.satl_sense.specs.Fixed.{fixed_form}
+use Rattle.satl_regs.specs.declared.values.AtaCommand.{AtaCommand}
+use Rattle.satl_regs.specs.declared.values.AtaCommand.TheVariants as ata
+use Rattle.satl_regs.specs.Commands.{command_in}
+use Rattle.satl_regs.specs.Effects.{Setting, setting_of}
+use Rattle.satl_regs.specs.Effects.Setting.{sets_cache, sets_look}
 use Rattle.satl_errlog.specs.declared.entry.NcqError.{NcqError}
 use Rattle.satl_line.specs.declared.entry.Entry.{Entry}
 use Rattle.satl_line.specs.Tasks.{Held}
 use Rattle.satl_mode.specs.Changes.{applied, no_change}
 use Rattle.satl_direct.specs.Attentions.{are_same_modes}
-use Rattle.satl_direct.specs.Tasks.{asks, over}
+use Rattle.satl_direct.specs.Tasks.{asks, over, pass_of}
 use Rattle.satl_pass.specs.Status.{error_sense_at}
 use Rattle.satl_direct.specs.Senses.{link_lost, not_ready}
 use Rattle.satl_drive.specs.State.{DriveState}
-use Rattle.satl_barrier.specs.Finishing.{most_pieces, piece, trimming, writing_same}
+use Rattle.satl_barrier.specs.Finishing.{most_pieces, trimming, writing_same}
 use Rattle.satl_barrier.specs.Leaving.{IsLostIn}
 use Rattle.satl_barrier.specs.Settings.{IsTuned}
 use Rattle.satl_barrier.specs.Flushing.{IsLeftWith, IsSwitched}
-use Rattle.satl_core.specs.Medium.{HasCompared, HasFinished, HasVerified, written_alone}
+use Rattle.satl_core.specs.Medium.{HasCompared, HasFinished, HasVerified, PassesThrough, written_alone}
 use Rattle.satl_core.specs.declared.managing.Posting.{Posting}
 use Rattle.satl_core.specs.declared.managing.Posting.TheVariants.{ModesChanged}
 use Rattle.satl_core.specs.declared.turning.Ending.{Ending}
@@ -35,21 +41,29 @@ use Rattle.satl_core.specs.declared.turning.Ending.TheVariants as endings
 -- the status of an end (SAM-5 5.3.1)
 abbrev pub ending_status : Ending → Scsi
 ending_status endings.Good = statuses.Good
+ending_status (endings.Informed sense) = statuses.CheckCondition
 ending_status (endings.Check sense) = statuses.CheckCondition
+
+-- sense data in the form that D_SENSE chooses (SPC-4 4.5)
+abbrev pub sense_form : Sense → Bool → List ℕ
+sense_form sense descriptor = if descriptor then descriptor_form sense else fixed_form sense
 
 -- its sense data (SPC-4 4.5)
 abbrev pub ending_sense : Ending → Bool → List ℕ
 ending_sense endings.Good descriptor = []
-ending_sense (endings.Check sense) descriptor = if descriptor then descriptor_form sense else fixed_form sense
+ending_sense (endings.Informed sense) descriptor = sense_form sense descriptor
+ending_sense (endings.Check sense) descriptor = sense_form sense descriptor
 
--- the pages of a READ are its data-in (profile)
+-- the pages of a READ, and of an ATA PASS-THROUGH whose data come from the drive, are its data-in (SAT-3 12.2; profile)
 abbrev pub read_pages : Command → List Block → List Block
 read_pages (Read form lba count fua) body = body
+read_pages (Pass cdb) body = if (pass_of cdb).out then [] else body
 read_pages _ body = []
 
--- the data-in of a task that ends: that of a READ that is done (profile)
+-- the data-in of a task that ends: that of a command that is done (profile)
 abbrev pub data_in : Ending → Command → List Block → List Block
 data_in endings.Good command body = read_pages command body
+data_in (endings.Informed sense) command body = read_pages command body
 data_in (endings.Check sense) command body = []
 
 -- the answer to a task (profile)
@@ -103,6 +117,7 @@ RunsAlone (Flush form lba count) = Unit {0}
 RunsAlone (Verify form lba count compare) = Unit {0}
 RunsAlone (WriteSame form lba count unmap) = Unit {0}
 RunsAlone (Unmap size) = Unit {0}
+RunsAlone (Pass cdb) = Unit {0}
 RunsAlone _ = ⊥
 
 -- the commands that go over the medium alone (SBC-3 5)
@@ -112,25 +127,27 @@ GoesOver (WriteSame form lba count unmap) = Unit {0}
 GoesOver (Unmap size) = Unit {0}
 GoesOver _ = ⊥
 
--- what the drive did for the command of a task that wants these mode values and runs alone (SAT-3 8)
-abbrev pub CarriedOut : Modes → Command → Entry → DriveState → Ending → DriveState → Type 0
-CarriedOut wanted (ModeSelect ten size) t old ending new = (ending ≡ endings.Good) × IsTuned wanted.wce (not wanted.dra) old new
-CarriedOut wanted (StartStop start no_flush) t old ending new = (ending ≡ endings.Good) × IsSwitched start no_flush old new
-CarriedOut wanted (Flush form lba count) t old ending new = (ending ≡ endings.Good) × IsLeftWith (map settle old.cells) old.active old new
-CarriedOut wanted (Verify form lba count false) t old ending new = HasVerified (over lba count) old ending new
-CarriedOut wanted (Verify form lba count true) t old ending new = HasCompared (over lba count) t.body old ending new
-CarriedOut wanted (WriteSame form lba count false) t old ending new = HasFinished (writing_same (over lba count) (get_or t.body 0 no_block) old) (min piece count) old ending new
-CarriedOut wanted (WriteSame form lba count true) t old ending new = HasFinished (trimming (over lba count ∷ []) old) 0 old ending new
-CarriedOut wanted (Unmap size) t old ending new = HasFinished (trimming t.ranges.items old) 0 old ending new
-CarriedOut wanted _ t old ending new = ⊥
+-- what the drive did for the command of a task that wants these mode values and runs alone, which leaves these blocks in its pages
+-- (SAT-3 8)
+abbrev pub CarriedOut : Modes → Command → Entry → List Block → DriveState → Ending → DriveState → Type 0
+CarriedOut wanted (ModeSelect ten size) t taken old ending new = (ending ≡ endings.Good) × IsTuned wanted.wce (not wanted.dra) old new
+CarriedOut wanted (StartStop start no_flush) t taken old ending new = (ending ≡ endings.Good) × IsSwitched start no_flush old new
+CarriedOut wanted (Flush form lba count) t taken old ending new = (ending ≡ endings.Good) × IsLeftWith (map settle old.cells) old.active old new
+CarriedOut wanted (Verify form lba count false) t taken old ending new = HasVerified (over lba count) old ending new
+CarriedOut wanted (Verify form lba count true) t taken old ending new = HasCompared (over lba count) t.body old ending new
+CarriedOut wanted (WriteSame form lba count false) t taken old ending new = HasFinished (writing_same (over lba count) (get_or t.body 0 no_block) old) (min piece count) old ending new
+CarriedOut wanted (WriteSame form lba count true) t taken old ending new = HasFinished (trimming (over lba count ∷ []) old) 0 old ending new
+CarriedOut wanted (Unmap size) t taken old ending new = HasFinished (trimming t.ranges.items old) 0 old ending new
+CarriedOut wanted (Pass cdb) t taken old ending new = PassesThrough (pass_of cdb) t.body taken old ending new
+CarriedOut wanted _ t taken old ending new = ⊥
 
 -- how the task ends whose turn it is: the first that holds decides, a lost link, a unit that is stopped where the command needs it started,
 -- and the drive (SAT-3 11; profile)
-abbrev pub TaskEnds : Bool → Bool → Modes → Entry → DriveState → Ending → DriveState → Type 0
-TaskEnds down started wanted t old ending new =
+abbrev pub TaskEnds : Bool → Bool → Modes → Entry → List Block → DriveState → Ending → DriveState → Type 0
+TaskEnds down started wanted t taken old ending new =
     MatchBool down (IsUnasked link_lost old ending new)
     (MatchBool (not started && (asks t.command).starts) (IsUnasked not_ready old ending new)
-    (CarriedOut wanted t.command t old ending new))
+    (CarriedOut wanted t.command t taken old ending new))
 
 -- the link was lost while a task was carried out, at a unit that is started where the command needs it (profile)
 pub record IsLostInTask (down started : Bool) (t : Entry) (old new : DriveState) : Type 0 where
@@ -141,6 +158,7 @@ pub record IsLostInTask (down started : Bool) (t : Entry) (old new : DriveState)
 -- one of two by how a task ended: the first where it is done (profile)
 abbrev pub where_done : {A : Type 0} → Ending → A → A → A
 where_done endings.Good done kept = done
+where_done (endings.Informed sense) done kept = done
 where_done (endings.Check sense) done kept = kept
 
 -- whether a unit is started once a task has ended: a START STOP UNIT that is done decides (SBC-3, START STOP UNIT)
@@ -152,11 +170,26 @@ started_after _ ending started = started
 abbrev pub wanted_by : Modes → Option ModeChange → Modes
 wanted_by modes change = applied modes (unwrap_or change no_change)
 
--- the mode values once a task has ended: a MODE SELECT that is done sets those that it wants (SPC-4, MODE SELECT commands)
+-- the mode values with what a SET FEATURES sets (ACS-3, SET FEATURES; SAT-3)
+abbrev pub with_setting : Option Setting → Modes → Modes
+with_setting None modes = modes
+with_setting (Some (sets_cache on)) modes = record modes { wce = on }
+with_setting (Some (sets_look on)) modes = record modes { dra = not on }
+
+-- the mode values that an ATA command of a host sets: a SET FEATURES that is done sets the drive (SAT-3 12.2)
+abbrev pub set_by : AtaCommand → Modes → Modes
+set_by (ata.SetFeatures what) modes = with_setting (setting_of what) modes
+set_by _ modes = modes
+
+-- the mode values once a task has ended: those that a MODE SELECT that is done wants, and those that the command of an ATA PASS-THROUGH
+-- that is done sets (SPC-4, MODE SELECT commands; SAT-3 12.2)
 abbrev pub modes_after : Command → Ending → Modes → Modes → Modes
 modes_after (ModeSelect ten size) ending modes wanted = where_done ending wanted modes
+modes_after (Pass cdb) ending modes wanted = where_done ending (set_by (command_in (pass_of cdb).regs) modes) modes
 modes_after _ ending modes wanted = modes
 
--- what is posted where mode values were set by a nexus: the others are told where a value has changed (SPC-4, MODE SELECT commands)
-abbrev pub change_posting : Modes → Modes → ℕ → Option Posting
-change_posting old new nexus = if are_same_modes old new then None else Some (ModesChanged nexus)
+-- what is posted where a task of a nexus has ended: after a MODE SELECT the others are told where a value has changed (SPC-4, MODE SELECT
+-- commands)
+abbrev pub change_posting : Command → Modes → Modes → ℕ → Option Posting
+change_posting (ModeSelect ten size) old new nexus = if are_same_modes old new then None else Some (ModesChanged nexus)
+change_posting _ old new nexus = None

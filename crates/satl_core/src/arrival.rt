@@ -1,55 +1,21 @@
 // What becomes of a request, judged in the order of the steps.
-ghost use Rattle.std.specs.Prelude.{◌≡◌, ◌⊎◌, ◌≤◌, ◌+◌, ◌*◌, ◌∷◌, [], List, length, nat_lt};
+ghost use Rattle.std.specs.Prelude.{◌≡◌, ◌⊎◌, ◌≤◌, ◌+◌, ◌*◌, ◌∷◌, [], IfNone, List, length, nat_lt, if◌then◌else◌};
+ghost use Rattle.satl_frame.specs.DataPages.{page_count};
 ghost use Rattle.satl_base.specs.Lists.{is_in};
-ghost use Rattle.satl_direct.specs.Arrival.{built, is_unit_0, untold_codes};
+ghost use Rattle.satl_direct.specs.Arrival.{is_unit_0, untold_codes};
 ghost use Rattle.satl_direct.specs.Senses.{attention_sense, plain, refusal};
 ghost use Rattle.satl_base.specs.declared.block.Block.{Block};
 ghost use Rattle.satl_direct.specs.Tasks.{asks, held_blocks, is_ordered, needed, range_of};
 ghost use Rattle.satl_cdb.specs.Unmap as unmap;
-ghost use Rattle.satl_core.specs.Layer.{IsServed};
-ghost use Rattle.satl_core.specs.Submitting.{HasList, IsList, is_for_unit};
+ghost use Rattle.satl_core.specs.Submitting.{CanPass, HasList, IsList, is_for_unit};
 
 use arrayvec::ArrayVec;
 use satl_base::{Attr, ModeChange, Pages, Range, Request};
 use satl_cdb::{Command, Illegal, read_unmap_list};
 use satl_mode::select_change;
+use satl_pass::{Pass, pass_of, read_pass};
 use satl_sense::{Extra, Sense};
 use satl_unit::Attention;
-
-/// The operation codes that are served so far: all of the table but ATA PASS-THROUGH.
-pub fn is_built(code: u8) -> bool
-    ensures { result ≡ is_in code built }
-{
-    matches!(
-        code,
-        0x00 | 0x03
-            | 0x08
-            | 0x0A
-            | 0x12
-            | 0x15
-            | 0x1A
-            | 0x1B
-            | 0x25
-            | 0x28
-            | 0x2A
-            | 0x2F
-            | 0x35
-            | 0x41
-            | 0x42
-            | 0x55
-            | 0x5A
-            | 0x88
-            | 0x8A
-            | 0x8F
-            | 0x91
-            | 0x93
-            | 0x9E
-            | 0xA0
-            | 0xA8
-            | 0xAA
-            | 0xAF
-    )
-}
 
 /// Whether a command of this operation code is carried out before a unit attention is told: INQUIRY, REPORT LUNS and REQUEST
 /// SENSE (SAM-5 5.14).
@@ -84,7 +50,6 @@ pub fn is_ordered(attr: Attr) -> bool
 
 /// The blocks that a command goes over.
 pub fn range_of(command: &Command) -> Range
-    requires { IsServed command.now }
     ensures { result ≡ range_of command.now }
 {
     match *command {
@@ -99,7 +64,6 @@ pub fn range_of(command: &Command) -> Range
 
 /// The blocks that the task of a command holds (profile).
 pub fn held_blocks(command: &Command) -> u32
-    requires { IsServed command.now }
     ensures { result ≡ held_blocks command.now }
 {
     match *command {
@@ -111,14 +75,21 @@ pub fn held_blocks(command: &Command) -> u32
             ..
         } => count,
         Command::WriteSame { .. } => 1,
+        Command::Pass { cdb } => page_count(pass_of(&cdb).length),
         _ => 0,
     }
+}
+
+/// The pages that so many bytes fill.
+fn page_count(length: u32) -> u32
+    ensures { result ≡ page_count length }
+{
+    length.div_ceil(512)
 }
 
 /// The ranges that the task of a command reads, writes or trims: that of a READ or a WRITE, and those of the list of an UNMAP, which has
 /// no fault on a medium of this capacity (SBC-3 5.28).
 pub fn ranges_of(command: &Command, body: &Pages, capacity: u64) -> ArrayVec<Range, 64>
-    requires served { IsServed command.now }
     requires list { HasList command.now body.now capacity }
     ensures { result.items ≡ (asks command.now).ranges body.now }
 {
@@ -150,9 +121,22 @@ pub fn listed_ranges(list: &Pages, length: u16, capacity: u64) -> ArrayVec<Range
     ranges
 }
 
+/// The refusal of the fields of an ATA PASS-THROUGH, which the table of commands does not judge (SAT-3 12.2).
+pub fn fields_fault(command: &Command) -> Option<Illegal>
+    ensures fault { result ≡ (asks command.now).fields_fault }
+    ensures can { IfNone result (CanPass command.now) }
+{
+    match *command {
+        Command::Pass { cdb } => match read_pass(&cdb) {
+            Ok(_) => None,
+            Err(why) => Some(why),
+        },
+        _ => None,
+    }
+}
+
 /// The refusal of the length of a parameter list: that of an UNMAP is 0, or has its header of 8 bytes (SBC-3 5.28).
 pub fn length_fault(command: &Command) -> Option<Illegal>
-    requires { IsServed command.now }
     ensures { result ≡ (asks command.now).length_fault }
 {
     match *command {
@@ -163,7 +147,6 @@ pub fn length_fault(command: &Command) -> Option<Illegal>
 
 /// The bytes of data-out that a command needs.
 pub fn needed(command: &Command) -> u64
-    requires { IsServed command.now }
     ensures { result ≡ needed command.now }
 {
     match *command {
@@ -175,13 +158,20 @@ pub fn needed(command: &Command) -> u64
         } => 512 * u64::from(count),
         Command::WriteSame { .. } => 512,
         Command::ModeSelect { length, .. } | Command::Unmap { length } => u64::from(length),
+        Command::Pass { cdb } => through_needed(&pass_of(&cdb)),
         _ => 0,
     }
 }
 
+/// The bytes of data-out of an ATA PASS-THROUGH: its length where T_DIR is 0 (SAT-3 12.2).
+fn through_needed(pass: &Pass) -> u64
+    ensures { result ≡ (if pass.now.out then pass.now.length else 0) }
+{
+    if pass.out { u64::from(pass.length) } else { 0 }
+}
+
 /// What a command changes of the mode values: what its parameter list sets (SPC-4, MODE SELECT commands).
 pub fn change_of(command: &Command, body: &Pages) -> Option<ModeChange>
-    requires served { IsServed command.now }
     requires holds { needed command.now ≤ 512 * length body.now ⊎ needed command.now ≤ 512 * held_blocks command.now }
     ensures { result ≡ (asks command.now).change body.now }
 {

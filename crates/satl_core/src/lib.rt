@@ -6,6 +6,7 @@ mod benching;
 mod leaving;
 mod managing;
 mod medium;
+mod passing;
 mod queueing;
 mod satl;
 mod selecting;

@@ -1,7 +1,8 @@
 // Commands that go over the medium alone on the drive: VERIFY, WRITE SAME and trims that are not queued.
 ghost use Rattle.std.specs.Prelude.{◌≡◌, ◌≤◌, ◌+◌, ◌∷◌, [], IfOk, OnErr, false, if◌then◌else◌, length, min, get_or, slice_index_or};
 ghost use Rattle.satl_base.specs.Blocks.{no_block};
-ghost use Rattle.satl_barrier.specs.Finishing.{IsReached, piece, trimming, verifying, writing_same};
+ghost use Rattle.satl_base.specs.Limits.{piece};
+ghost use Rattle.satl_barrier.specs.Finishing.{IsReached, trimming, verifying, writing_same};
 ghost use Rattle.satl_barrier.specs.Leaving.{IsFree, IsLostIn, Stays};
 ghost use Rattle.satl_direct.specs.Senses;
 ghost use Rattle.satl_core.specs.Medium as medium;

@@ -1,6 +1,7 @@
 // Tasks on the drive's queue: what is issued, what ends, and what is taken off.
 ghost use Rattle.std.specs.Prelude.{◌≡◌, ◌≢◌, ◌≤◌, ◌<◌, ◌+◌, ◌++◌, [], true, length, List, MatchBool};
 ghost use Rattle.std.specs.List.{AllByRecursion};
+ghost use Rattle.satl_base.specs.Identify.{has_queued_trim};
 ghost use Rattle.satl_base.specs.Limits.{most_tasks};
 ghost use Rattle.satl_io.specs.Causes.{Rose};
 ghost use Rattle.satl_line.specs.Tasks.{Held};
@@ -74,7 +75,7 @@ impl Satl {
         steps: &mut Steps<L>,
     )
         requires agrees { Agrees self.old (D.state drive.old) }
-        requires came { (before : List Held) × Comes (D.state drive.old).capacity before self.old.tasks × MatchBool (works self.old) (IsFilled self.old.flying before) (self.old.flying ≡ []) }
+        requires came { (before : List Held) × Comes (D.state drive.old).capacity (has_queued_trim (D.state drive.old).identify) before self.old.tasks × MatchBool (works self.old) (IsFilled self.old.flying before) (self.old.flying ≡ []) }
         requires room { length replies.old + length self.old.tasks ≤ 65 }
         ensures refills { Answers (λ more. Refills (view self.old (D.state drive.old)) more (view self.new (D.state drive.new))) replies.old replies.new }
         ensures tied { Tied self.new (D.state drive.new) }
@@ -205,7 +206,7 @@ impl Satl {
         ensures uncalled { self.old.down ≡ true → steps.new ≡ steps.old }
         ensures steps { steps.new ≤ steps.old + barrier_calls }
     {
-        let task = self.queue.remove(0);
+        let mut task = self.queue.remove(0);
         let command = task.command;
         let descriptor = self.modes.d_sense;
         let wanted = wanted_by(&self.modes, &task.modes);
@@ -214,14 +215,14 @@ impl Satl {
             self.started,
             &self.modes,
             &wanted,
-            &task,
+            &mut task,
             &mut self.pool,
             drive,
             steps,
         ) {
             Ok(ending) => {
                 let modes = modes_after(&command, ending, &self.modes, &wanted);
-                let posting = change_posting(&self.modes, &modes, task.nexus);
+                let posting = change_posting(&command, &self.modes, &modes, task.nexus);
                 post(&mut self.attentions, &self.queue, &posting);
                 self.modes = modes;
                 self.started = started_after(&command, ending, self.started);

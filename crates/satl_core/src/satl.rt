@@ -14,7 +14,7 @@ ghost use Rattle.satl_core.specs.Tie.{TiesQueue};
 ghost use Rattle.satl_direct.specs.Bench.{Happens};
 ghost use Rattle.satl_core.specs.Benching.{Follows, StartsAnew, unplugs_after};
 ghost use Rattle.satl_direct.specs.Turn.{Turn};
-ghost use Rattle.satl_core.specs.Layer.{IsServed, IsTask, Tied, reply_pages, view};
+ghost use Rattle.satl_core.specs.Layer.{IsTask, Tied, reply_pages, view};
 ghost use Rattle.satl_core.specs.Opening.{IsCause, IsOpened, IsUndisturbed};
 ghost use Rattle.satl_core.specs.Refilling.{AreKept, Comes};
 ghost use Rattle.satl_core.specs.Submitting.{Becomes, CanSubmit, HasLengths, HasList, HoldsList, IsCutOf, arrival_calls, is_overlapping, judged, once_judged, trims};
@@ -244,7 +244,6 @@ impl Satl {
         ensures kept { self.new ≡ record self.old { attentions = self.new.attentions } }
         ensures same { OnOk result (self.new ≡ self.old) }
         ensures lengths { HasLengths request.now.cdb }
-        ensures served { IfOk result (λ command. IsServed command) }
         ensures task { IfOk result (λ command. IsTask self.old.identity.capacity command (held_blocks command)) }
         ensures list { IfOk result (λ command. HasList command request.now.body self.old.identity.capacity) }
         ensures trims { IfOk result (λ command. trims command ≡ true → self.old.identity.trim ≡ true) }
@@ -265,7 +264,6 @@ impl Satl {
         requires can { CanSubmit request self.old.free self.old.out }
         requires few { length self.old.tasks ≤ most_tasks }
         requires judged { judged self.old request ≡ Ok command }
-        requires served { IsServed command }
         requires holds { HoldsList request }
         requires list { HasList command request.body self.old.identity.capacity }
         requires trims { trims command ≡ true → self.old.identity.trim ≡ true }
@@ -273,7 +271,7 @@ impl Satl {
         requires task { IsTask self.old.identity.capacity command (held_blocks command) }
         requires empty { replies.old ≡ [] }
         ensures becomes { Becomes request command self.old replies.new self.new }
-        ensures comes { replies.new ≡ [] → Comes self.old.identity.capacity self.old.tasks self.new.tasks }
+        ensures comes { replies.new ≡ [] → Comes self.old.identity.capacity self.old.identity.queued_trim self.old.tasks self.new.tasks }
         ensures long { replies.new ≡ [] → needed command ≤ 512 * length request.body }
     {
         let task = task_without_pages(&request, command, &self.identity);

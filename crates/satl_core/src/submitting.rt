@@ -1,16 +1,16 @@
 // A command arrives.
-ghost use Rattle.std.specs.Prelude.{◌≡◌, ◌≤◌, ◌+◌, ◌*◌, ◌==◌, ◌∷◌, [], None, true, length, take, ◌⊎◌};
+ghost use Rattle.std.specs.Prelude.{◌≡◌, ◌≤◌, ◌+◌, ◌*◌, ◌==◌, ◌∷◌, [], IfOk, None, true, length, take, ◌⊎◌};
 ghost use Rattle.std.specs.List.{AllByRecursion, list_all};
 ghost use Rattle.satl_frame.specs.Output.{IsWritable};
 ghost use Rattle.satl_direct.specs.Arrival.{reply_to};
 ghost use Rattle.satl_identify.specs.Refusals.{IsIdentity};
 ghost use Rattle.satl_mode.specs.SelectList.{select_fault};
 ghost use Rattle.satl_direct.specs.Tasks.{asks, data_out, held_blocks, needed};
-ghost use Rattle.satl_core.specs.Layer.{IsExpectable, IsServed, entry_pages, reply_pages};
-ghost use Rattle.satl_core.specs.Submitting.{HasEntries, HasLengths, HasList, HasListUnlessEmpty, HoldsList, answer_to, attention_of, code_answer, command_answer, fault_of_block, is_idle, other_answer, readiness, reply_at_once, sense_data, task_without_pages, tell_attention, trims, unless_idle, unmap_list_fault, untold};
+ghost use Rattle.satl_core.specs.Layer.{IsExpectable, entry_pages, reply_pages};
+ghost use Rattle.satl_core.specs.Submitting.{CanPass, HasEntries, HasLengths, HasList, HasListUnlessEmpty, HoldsList, answer_to, attention_of, code_answer, command_answer, data_answer, fault_of_block, is_idle, other_answer, readiness, reply_at_once, sense_data, task_without_pages, tell_attention, trims, unless_idle, unmap_list_fault, untold};
 
 use crate::arrival::{
-    attention_sense, change_of, held_blocks, is_built, is_ordered, is_outside, is_untold,
+    attention_sense, change_of, fields_fault, held_blocks, is_ordered, is_outside, is_untold,
     length_fault, listed_ranges, needed, plain, range_of, ranges_of, refusal,
 };
 use crate::satl::Satl;
@@ -21,6 +21,7 @@ use satl_cdb::{Command, Illegal, read_cdb, read_unmap_list};
 use satl_identify::Identity;
 use satl_line::{Entry, Kind};
 use satl_mode::read_select;
+use satl_pass::pass_of;
 use satl_pages::Pool;
 use satl_regs::trim_bytes;
 use satl_sense::{Sense, sense_bytes};
@@ -103,25 +104,35 @@ pub fn read_lengths(request: &Request)
 pub fn judge_code(satl: &Satl, request: &Request) -> Result<Command, AtOnce>
     requires holds { HoldsList request.now }
     ensures answer { result ≡ code_answer satl.now request.now }
+    ensures can { IfOk result CanPass }
 {
-    if !is_built(request.cdb[0]) {
-        return Err(AtOnce::Check(plain(0x5, 0x20, 0x00)));
-    }
     match read_cdb(&request.cdb, satl.identity.trim) {
         Ok(command) => judge_command(satl, request, command),
         Err(why) => Err(AtOnce::Check(refusal(why))),
     }
 }
 
+/// Judges a command by its fields, its range and its data-out.
 fn judge_command(satl: &Satl, request: &Request, command: Command) -> Result<Command, AtOnce>
-    requires served { IsServed command }
     requires holds { HoldsList request.now }
-    ensures { result ≡ command_answer satl.now request.now command }
+    ensures answer { result ≡ command_answer satl.now request.now command }
+    ensures can { IfOk result CanPass }
 {
+    if let Some(why) = fields_fault(&command) {
+        return Err(AtOnce::Check(refusal(why)));
+    }
     let range = range_of(&command);
     if is_outside(range, satl.identity.capacity) {
         return Err(AtOnce::Check(plain(0x5, 0x21, 0x00)));
     }
+    judge_data(satl, request, command)
+}
+
+/// Judges the data-out of a command: the length of its list, fewer bytes than it needs, and what is in them.
+fn judge_data(satl: &Satl, request: &Request, command: Command) -> Result<Command, AtOnce>
+    requires holds { HoldsList request.now }
+    ensures { result ≡ data_answer satl.now request.now command }
+{
     if let Some(why) = length_fault(&command) {
         return Err(AtOnce::Check(refusal(why)));
     }
@@ -137,7 +148,6 @@ fn judge_command(satl: &Satl, request: &Request, command: Command) -> Result<Com
 /// The refusal of the data-out: that of a MODE SELECT list, of a block that is not zeros where a WRITE SAME unmaps, and of the list of an
 /// UNMAP (SPC-4, MODE SELECT commands; SBC-3 5.28, 5.42).
 fn data_fault(satl: &Satl, request: &Request, command: &Command) -> Option<Illegal>
-    requires served { IsServed command.now }
     requires holds { HoldsList request.now }
     requires header { (asks command.now).length_fault ≡ None }
     requires long { needed command.now ≤ request.now.data_len }
@@ -197,7 +207,6 @@ fn list_fault(satl: &Satl, request: &Request, length: u16, ten: bool) -> Option<
 /// Answers a command from what the device says of itself, or lets it become a task, unless it has nothing to do: then it answers as TEST
 /// UNIT READY does (profile).
 fn answer_to(satl: &Satl, request: &Request, command: Command) -> Result<Command, AtOnce>
-    requires served { IsServed command }
     requires list { HasListUnlessEmpty command request.now.body satl.now.identity.capacity }
     ensures { result ≡ answer_to satl.now request.now.body command }
 {
@@ -235,7 +244,6 @@ fn answer_to(satl: &Satl, request: &Request, command: Command) -> Result<Command
 
 /// A command that may become a task does, unless it has nothing to do.
 fn unless_idle(satl: &Satl, request: &Request, command: Command) -> Result<Command, AtOnce>
-    requires served { IsServed command }
     requires list { HasListUnlessEmpty command request.now.body satl.now.identity.capacity }
     ensures { result ≡ unless_idle satl.now request.now.body command }
 {
@@ -248,7 +256,6 @@ fn unless_idle(satl: &Satl, request: &Request, command: Command) -> Result<Comma
 
 /// Whether a command has nothing to do: it goes over no block, or its list is empty or names none (profile).
 fn is_idle(command: &Command, body: &Pages, capacity: u64) -> bool
-    requires served { IsServed command.now }
     requires list { HasListUnlessEmpty command.now body.now capacity }
     ensures { result ≡ is_idle command.now body.now }
 {
@@ -277,7 +284,6 @@ fn readiness(satl: &Satl) -> AtOnce
 
 /// The task that a request becomes, still without its pages.
 pub fn task_without_pages(request: &Request, command: Command, identity: &Identity) -> Entry
-    requires served { IsServed command }
     requires list { HasList command request.now.body identity.now.capacity }
     requires holds { needed command ≤ 512 * length request.now.body ⊎ needed command ≤ 512 * held_blocks command }
     ensures { result ≡ task_without_pages request.now command identity.now.queued_trim }
@@ -296,10 +302,9 @@ pub fn task_without_pages(request: &Request, command: Command, identity: &Identi
     }
 }
 
-/// The pages of a task: a READ takes pages for its data-in, an UNMAP whose trim is queued keeps its entries in one, and all others keep the
+/// The pages of a task: a READ and an ATA PASS-THROUGH take pages for their data-in, an UNMAP whose trim is queued keeps its entries in one, and all others keep the
 /// first ones of their data-out, as many as they hold. The rest is given back.
 pub fn own_pages(pool: &mut Pool, command: &Command, identity: &Identity, body: Pages) -> Pages
-    requires served { IsServed command.now }
     requires out { length body ≤ pool.old.out }
     requires room { held_blocks command.now ≤ pool.old.free + length body }
     requires written { needed command.now ≤ 512 * length body }
@@ -314,6 +319,9 @@ pub fn own_pages(pool: &mut Pool, command: &Command, identity: &Identity, body: 
 {
     match *command {
         Command::Read { count, .. } => other_pages(pool, count, body),
+        Command::Pass { cdb } if !pass_of(&cdb).out => {
+            other_pages(pool, held_blocks(command), body)
+        }
         Command::Unmap { length } if identity.queued_trim => {
             let entries = trim_bytes(&listed_ranges(&body, length, identity.capacity));
             let mut page = first_pages(pool, 1, body);

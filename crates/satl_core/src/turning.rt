@@ -4,19 +4,19 @@ ghost use Rattle.std.specs.List.{AllByRecursion};
 ghost use Rattle.satl_frame.specs.Output.{IsWritable};
 ghost use Rattle.satl_base.specs.Cells.{AreSound};
 ghost use Rattle.satl_direct.specs.Senses;
-ghost use Rattle.satl_barrier.specs.Finishing.{piece};
+ghost use Rattle.satl_base.specs.Limits.{most_moved, piece};
 ghost use Rattle.satl_core.specs.Layer.{IsTask, held_pages};
 ghost use Rattle.satl_core.specs.Medium.{HasData, IsSameButCells, MayTrim, written_alone};
 ghost use Rattle.satl_base.specs.declared.modes.Modes.{Modes};
 ghost use Rattle.satl_core.specs.Turning;
 ghost use Rattle.satl_barrier.specs.Leaving.{IsFree, IsLostIn, Stays};
 ghost use Rattle.satl_barrier.specs.Settings.{CanSet, IsSetBy};
-ghost use Rattle.satl_base.specs.Limits.{most_moved};
 ghost use Rattle.satl_core.specs.Turning.{CarriedOut, GoesOver, IsLostInTask, RunsAlone, TaskEnds, barrier_calls, ended_reply, lost_replies, modes_after, started_after};
 ghost use Rattle.satl_direct.specs.Tasks.{asks};
 
 use crate::arrival::plain;
 use crate::medium::{compare_range, trim_ranges, verify_range, write_range};
+use crate::passing::run_through;
 use arrayvec::ArrayVec;
 use satl_barrier::{flush, switch, tune};
 use satl_base::{Modes, Pages, Range, Replies, Reply, Scsi, Steps};
@@ -26,14 +26,16 @@ use satl_errlog::NcqError;
 use satl_flight::Queue;
 use satl_line::Entry;
 use satl_pages::Pool;
-use satl_pass::error_sense_at;
+use satl_pass::{error_sense_at, pass_of};
 use satl_sense::{Sense, sense_bytes};
 use std::sync::ledger::Ledger;
 
-/// How a task ends: with GOOD, or with CHECK CONDITION and its sense data.
+/// How a task ends: with GOOD; done, and told with sense data beside its data-in, which is CHECK CONDITION as well (SAT-3 12.2); or with
+/// CHECK CONDITION and its sense data.
 #[derive(Clone, Copy, Debug, PartialEq, Eq)]
 pub enum Ending {
     Good,
+    Informed(Sense),
     Check(Sense),
 }
 
@@ -45,28 +47,30 @@ pub fn run_task<D: Drive, L: Ledger>(
     started: bool,
     modes: &Modes,
     wanted: &Modes,
-    task: &Entry,
+    task: &mut Entry,
     pool: &mut Pool,
     drive: &mut D,
     steps: &mut Steps<L>,
 ) -> Result<Ending, LinkDown>
     requires free { IsFree (D.state drive.old) }
-    requires task { IsTask (D.state drive.old).capacity task.now.command task.now.blocks }
-    requires alone { down ≡ false → started ≡ true → RunsAlone task.now.command }
+    requires task { IsTask (D.state drive.old).capacity task.old.command task.old.blocks }
+    requires alone { down ≡ false → started ≡ true → RunsAlone task.old.command }
     requires sound { AreSound (D.state drive.old).cells }
     requires mark { down ≡ (D.state drive.old).down }
     requires set { down ≡ false → IsSetBy modes.now (D.state drive.old) }
     requires may { CanSet modes.now wanted.now (D.state drive.old) }
-    requires trims { MayTrim task.now.command task.now (D.state drive.old) }
-    requires data { HasData task.now.command task.now }
+    requires trims { MayTrim task.old.command task.old (D.state drive.old) }
+    requires data { HasData task.old.command task.old }
     requires room { piece ≤ pool.old.free }
     ensures stays { Stays (D.state drive.old) (D.state drive.new) }
-    ensures cache { IfOk result (λ ending. down ≡ false → (D.state drive.new).cache ≡ (modes_after task.now.command ending modes.now wanted.now).wce) }
-    ensures look { IfOk result (λ ending. down ≡ false → (D.state drive.new).look ≡ not (modes_after task.now.command ending modes.now wanted.now).dra) }
+    ensures cache { IfOk result (λ ending. down ≡ false → (D.state drive.new).cache ≡ (modes_after task.old.command ending modes.now wanted.now).wce) }
+    ensures look { IfOk result (λ ending. down ≡ false → (D.state drive.new).look ≡ not (modes_after task.old.command ending modes.now wanted.now).dra) }
     ensures up { OnOk result ((D.state drive.new).down ≡ down) }
     ensures faults { OnOk result ((D.state drive.new).faults ≡ (D.state drive.old).faults) }
-    ensures ends { IfOk result (λ ending. TaskEnds down started wanted.now task.now (D.state drive.old) ending (D.state drive.new)) }
-    ensures lost { OnErr result (IsLostInTask down started task.now (D.state drive.old) (D.state drive.new)) }
+    ensures ends { IfOk result (λ ending. TaskEnds down started wanted.now task.old task.new.body (D.state drive.old) ending (D.state drive.new)) }
+    ensures lost { OnErr result (IsLostInTask down started task.old (D.state drive.old) (D.state drive.new)) }
+    ensures task { task.new ≡ record task.old { body = task.new.body } }
+    ensures size { length task.new.body ≡ length task.old.body }
     ensures pool { pool.new ≡ pool.old }
     ensures unasked { down ≡ true → drive.new ≡ drive.old }
     ensures uncalled { down ≡ true → steps.new ≡ steps.old }
@@ -88,7 +92,7 @@ fn has_to_start(started: bool, command: &Command) -> bool
     !started
         && !matches!(
             *command,
-            Command::StartStop { .. } | Command::ModeSelect { .. }
+            Command::StartStop { .. } | Command::ModeSelect { .. } | Command::Pass { .. }
         )
 }
 
@@ -96,27 +100,29 @@ fn has_to_start(started: bool, command: &Command) -> bool
 fn carry_out<D: Drive, L: Ledger>(
     modes: &Modes,
     wanted: &Modes,
-    task: &Entry,
+    task: &mut Entry,
     pool: &mut Pool,
     drive: &mut D,
     steps: &mut Steps<L>,
 ) -> Result<Ending, LinkDown>
     requires free { IsFree (D.state drive.old) }
-    requires alone { RunsAlone task.now.command }
+    requires alone { RunsAlone task.old.command }
     requires sound { AreSound (D.state drive.old).cells }
     requires set { IsSetBy modes.now (D.state drive.old) }
     requires may { CanSet modes.now wanted.now (D.state drive.old) }
-    requires task { IsTask (D.state drive.old).capacity task.now.command task.now.blocks }
-    requires trims { MayTrim task.now.command task.now (D.state drive.old) }
-    requires data { HasData task.now.command task.now }
+    requires task { IsTask (D.state drive.old).capacity task.old.command task.old.blocks }
+    requires trims { MayTrim task.old.command task.old (D.state drive.old) }
+    requires data { HasData task.old.command task.old }
     requires room { piece ≤ pool.old.free }
     ensures stays { Stays (D.state drive.old) (D.state drive.new) }
-    ensures cache { IfOk result (λ ending. (D.state drive.new).cache ≡ (modes_after task.now.command ending modes.now wanted.now).wce) }
-    ensures look { IfOk result (λ ending. (D.state drive.new).look ≡ not (modes_after task.now.command ending modes.now wanted.now).dra) }
+    ensures cache { IfOk result (λ ending. (D.state drive.new).cache ≡ (modes_after task.old.command ending modes.now wanted.now).wce) }
+    ensures look { IfOk result (λ ending. (D.state drive.new).look ≡ not (modes_after task.old.command ending modes.now wanted.now).dra) }
     ensures up { OnOk result ((D.state drive.new).down ≡ false) }
     ensures faults { OnOk result ((D.state drive.new).faults ≡ (D.state drive.old).faults) }
-    ensures ends { IfOk result (λ ending. CarriedOut wanted.now task.now.command task.now (D.state drive.old) ending (D.state drive.new)) }
-    ensures lost { OnErr result (IsLostIn (written_alone task.now.command task.now (D.state drive.old)) (D.state drive.old) (D.state drive.new)) }
+    ensures ends { IfOk result (λ ending. CarriedOut wanted.now task.old.command task.old task.new.body (D.state drive.old) ending (D.state drive.new)) }
+    ensures lost { OnErr result (IsLostIn (written_alone task.old.command task.old (D.state drive.old)) (D.state drive.old) (D.state drive.new)) }
+    ensures task { task.new ≡ record task.old { body = task.new.body } }
+    ensures size { length task.new.body ≡ length task.old.body }
     ensures pool { pool.new ≡ pool.old }
     ensures step { steps.new ≤ steps.old + barrier_calls }
 {
@@ -124,6 +130,7 @@ fn carry_out<D: Drive, L: Ledger>(
         Command::Flush { .. } => flush(drive, steps)?,
         Command::ModeSelect { .. } => tune(modes, wanted, drive, steps)?,
         Command::StartStop { start, no_flush } => switch(start, no_flush, drive, steps)?,
+        Command::Pass { cdb } => return run_through(&cdb, &mut task.body, drive, steps),
         _ => return go_over(task, pool, drive, steps),
     }
     Ok(Ending::Good)
@@ -143,7 +150,7 @@ fn go_over<D: Drive, L: Ledger>(
     requires data { HasData task.now.command task.now }
     requires room { piece ≤ pool.old.free }
     ensures stays { Stays (D.state drive.old) (D.state drive.new) }
-    ensures ends { (wanted : Modes) → IfOk result (λ ending. CarriedOut wanted task.now.command task.now (D.state drive.old) ending (D.state drive.new)) }
+    ensures ends { (wanted : Modes) → IfOk result (λ ending. CarriedOut wanted task.now.command task.now task.now.body (D.state drive.old) ending (D.state drive.new)) }
     ensures same { IfOk result (λ ending. IsSameButCells (D.state drive.old) (D.state drive.new)) }
     ensures lost { OnErr result (IsLostIn (written_alone task.now.command task.now (D.state drive.old)) (D.state drive.old) (D.state drive.new)) }
     ensures pool { pool.new ≡ pool.old }
@@ -178,7 +185,8 @@ pub fn started_after(command: &Command, ending: Ending, started: bool) -> bool
     ensures { result ≡ started_after command.now ending started }
 {
     match (command, ending) {
-        (Command::StartStop { start, .. }, Ending::Good) => *start,
+        (_, Ending::Check(_)) => started,
+        (Command::StartStop { start, .. }, _) => *start,
         _ => started,
     }
 }
@@ -226,7 +234,8 @@ fn is_writer(command: &Command) -> bool
     !matches!(*command, Command::Read { .. })
 }
 
-/// Answers a task. A READ that is done gives its pages as data-in; all other pages are given back.
+/// Answers a task. A READ that is done gives its pages as data-in, and so does an ATA PASS-THROUGH whose data came from the drive; all other
+/// pages are given back.
 pub fn end_task(pool: &mut Pool, task: Entry, ending: Ending, descriptor: bool) -> Reply
     requires held { length task.body ≤ pool.old.out }
     requires few { length task.body ≤ most_moved }
@@ -244,7 +253,9 @@ pub fn end_task(pool: &mut Pool, task: Entry, ending: Ending, descriptor: bool) 
     } = task;
     let (status, sense) = match ending {
         Ending::Good => (Scsi::Good, ArrayVec::new()),
-        Ending::Check(sense) => (Scsi::CheckCondition, sense_bytes(&sense, descriptor)),
+        Ending::Informed(sense) | Ending::Check(sense) => {
+            (Scsi::CheckCondition, sense_bytes(&sense, descriptor))
+        }
     };
     let body = data_in(pool, &command, ending, body);
     Reply {
@@ -265,7 +276,8 @@ fn data_in(pool: &mut Pool, command: &Command, ending: Ending, body: Pages) -> P
     ensures out { pool.new.out + length body ≡ pool.old.out + length result }
 {
     match (command, ending) {
-        (Command::Read { .. }, Ending::Good) => body,
+        (Command::Read { .. }, Ending::Good | Ending::Informed(_)) => body,
+        (Command::Pass { cdb }, Ending::Good | Ending::Informed(_)) if !pass_of(cdb).out => body,
         _ => {
             pool.give(body);
             Pages::default()

@@ -1,5 +1,5 @@
 -- Runs of the device over the frames of an input (profile).
-use Rattle.std.specs.Prelude.{◌≡◌, ◌≤◌, ℕ, suc, ◌+◌, max, min, Bool, true, false, not, ◌||◌, if◌then◌else◌, List, [], ◌∷◌, ◌++◌, map, length}
+use Rattle.std.specs.Prelude.{◌≡◌, ◌≤◌, ℕ, suc, ◌+◌, max, min, not, ◌||◌, if◌then◌else◌, List, [], ◌∷◌, ◌++◌, map, length}
 use Rattle.std.specs.List.{filter}
 use Rattle.satl_base.specs.declared.bench.BenchEvent.{BenchEvent}
 use Rattle.satl_base.specs.declared.bench.BenchEvent.TheVariants as events

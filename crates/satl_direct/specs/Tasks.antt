@@ -97,9 +97,12 @@ fault_in (Err why) = Some why
 
 -- an ATA PASS-THROUGH: its data-out where T_DIR is 0, with zeros in what is left of the last page (SAT-3 12.2)
 abbrev pub asks_through : List ℕ → Pass → Asks
-asks_through cdb pass =
-    if pass.out then record nothing { fields_fault = fault_in (pass_says cdb); needed = pass.length; held = page_count pass.length; kept = λ body. pages_of (first_bytes pass.length body) }
-    else record nothing { fields_fault = fault_in (pass_says cdb); held = page_count pass.length }
+asks_through cdb pass = record nothing {
+  fields_fault = fault_in (pass_says cdb);
+  needed = if pass.out then pass.length else 0;
+  held = page_count pass.length;
+  kept = λ body. if pass.out then pages_of (first_bytes pass.length body) else [];
+}
 
 -- what each command asks (SBC-3 5, SPC-4 6, SAT-3 12.2; the blocks held: profile)
 abbrev pub asks : Command → Asks

@@ -1,5 +1,5 @@
 -- What issuing, resetting and a lost link do to the tie.
-use Rattle.std.proofs.Common.{◌≡◌, ◌⊎◌, ⊎_elim, refl, sym, ◌∙◌, ap, subst, inl, inr, ℕ, ◌+◌, ◌<◌, true, false, List, [], ◌∷◌, ◌++◌, Option, Some, None, arith, length, length-append, append_assoc}
+use Rattle.std.proofs.Common.{◌≡◌, ◌⊎◌, ⊎_elim, refl, sym, ◌∙◌, ap, subst, inl, inr, ℕ, ◌+◌, ◌<◌, Bool, true, false, List, [], ◌∷◌, ◌++◌, Option, Some, None, arith, length, length-append, append_assoc}
 use Rattle.std.specs.Prelude.{◌==◌, max, MatchOption}
 use Rattle.std.specs.List.{AllByRecursion, AllZip, find, list_any}
 use Rattle.std.proofs.Math.Nat.{le-max_left, le-max_right}
@@ -17,7 +17,7 @@ use Rattle.satl_regs.specs.QueuedCommands.{QueuedFits, queued_registers}
 use Rattle.satl_regs.specs.Commands.{command_in}
 use Rattle.satl_regs.specs.declared.values.AtaCommand.TheVariants.{ReadLog}
 use Rattle.satl_base.specs.declared.block.Range.{Range}
-use Rattle.satl_base.specs.Identify.{has_cache, has_look}
+use Rattle.satl_base.specs.Identify.{has_cache, has_look, has_queued_trim}
 use Rattle.satl_cdb.specs.declared.command.Command.{Command}
 use Rattle.satl_cdb.specs.declared.command.Command.TheVariants as commands
 use Rattle.satl_errlog.specs.declared.entry.NcqError.{NcqError}
@@ -30,15 +30,15 @@ use Rattle.satl_line.specs.Ranged.{MayPut, RangedTask, ranged_by, ranged_of}
 use Rattle.satl_line.specs.Ranged.RangedTask.{ranged_read, ranged_write, ranged_trim}
 use Rattle.satl_line.specs.Tasks.{Held, entries_of}
 use Rattle.satl_drive.specs.State.{DriveState, Outstanding, medium_of}
-use Rattle.satl_drive.specs.Queue.{CanIssue, FailsAtFlaw, FailsByCrc, IsFailed, IsIssueCutOff, IsIssued, IsPollCutOff, IsReset, IsResetCutOff, LiesWithin, Slots, all_pairs, is_tagged, issued, queued_flaw, queued_pairs}
+use Rattle.satl_drive.specs.Queue.{CanIssue, FailsAtFlaw, FailsByCrc, HasCommand, IsFailed, IsIssueCutOff, IsIssued, IsPollCutOff, IsReset, IsResetCutOff, LiesWithin, Slots, all_pairs, is_tagged, issued, queued_flaw, queued_pairs}
 use Rattle.satl_drive.specs.Rules.{IsCutOff, IsRunCutOff}
 use Rattle.satl_pages.specs.Slots.{pages_at}
 use Rattle.satl_flight.specs.declared.flight.Flying.{Flying}
-use Rattle.satl_flight.specs.Flown.{FitsDrive, IsFlown, IsInFlight, RangedFits, clash, holds, is_in_slot, outstanding_for, queued_for}
+use Rattle.satl_flight.specs.Flown.{IsFlown, IsInFlight, RangedFits, clash, holds, is_in_slot, outstanding_for, queued_for}
 use Rattle.satl_flight.specs.Settled.{Deepens, IsCut, IsLaunched, IsLostInFlight, IsLostQuietly}
 use Rattle.satl_line.proofs.SlotsLemmas.{All-append}
 use Rattle.satl_flight.proofs.ZipLemmas.{zip-any, zip-push}
-use Rattle.satl_flight.proofs.FlownLemmas.{all_may_put, apart_push, flown_puts, moves_of_each}
+use Rattle.satl_flight.proofs.FlownLemmas.{FitsOn, all_may_put, apart_push, fits_on, flown_puts, moves_of_each}
 use Rattle.satl_flight.proofs.SettledLemmas.{deepens_shorter, tags_agree}
 
 -- ---- the deepest queue
@@ -67,39 +67,45 @@ Follows body (ranged_write fua range blocks) = body ≡ blocks
 Follows body (ranged_trim ranges) = Unit {0}
 
 -- the kind's pages: as many as sectors, with the blocks that it is issued with
-issued_is : (tag capacity : ℕ) (body : List Block) (task : RangedTask) → RangedFits capacity body task → Follows body task → issued (queued_for tag task) body ≡ outstanding_for tag task
-issued_is tag capacity body (ranged_read fua range) fits of = refl
-issued_is tag capacity body (ranged_write fua range blocks) fits of = ap (λ b. record { command = queued_for tag (ranged_write fua range blocks); blocks = b }) of
-issued_is tag capacity body (ranged_trim ranges) fits of = ap (λ b. record { command = queued_for tag (ranged_trim ranges); blocks = b }) fits.0
+issued_is : (tag capacity : ℕ) (trims : Bool) (body : List Block) (task : RangedTask) → RangedFits capacity trims body task → Follows body task → issued (queued_for tag task) body ≡ outstanding_for tag task
+issued_is tag capacity trims body (ranged_read fua range) fits of = refl
+issued_is tag capacity trims body (ranged_write fua range blocks) fits of = ap (λ b. record { command = queued_for tag (ranged_write fua range blocks); blocks = b }) of
+issued_is tag capacity trims body (ranged_trim ranges) fits of = ap (λ b. record { command = queued_for tag (ranged_trim ranges); blocks = b }) fits.1
 
-pub size_is : (tag capacity : ℕ) (body : List Block) (task : RangedTask) → RangedFits capacity body task → length body ≡ (queued_for tag task).sectors
-size_is tag capacity body (ranged_read fua range) fits = fits.0
-size_is tag capacity body (ranged_write fua range blocks) fits = fits.0
-size_is tag capacity body (ranged_trim ranges) fits = ap length fits.0
+pub size_is : (tag capacity : ℕ) (trims : Bool) (body : List Block) (task : RangedTask) → RangedFits capacity trims body task → length body ≡ (queued_for tag task).sectors
+size_is tag capacity trims body (ranged_read fua range) fits = fits.0
+size_is tag capacity trims body (ranged_write fua range blocks) fits = fits.0
+size_is tag capacity trims body (ranged_trim ranges) fits = ap length fits.1
 
-lies_within : (tag capacity : ℕ) (body : List Block) (task : RangedTask) → RangedFits capacity body task → LiesWithin (queued_for tag task).kind capacity (queued_for tag task) body
-lies_within tag capacity body (ranged_read fua range) fits = fits.1.within
-lies_within tag capacity body (ranged_write fua range blocks) fits = fits.1.within
-lies_within tag capacity body (ranged_trim ranges) fits = fits.2
+lies_within : (tag capacity : ℕ) (trims : Bool) (body : List Block) (task : RangedTask) → RangedFits capacity trims body task → LiesWithin (queued_for tag task).kind capacity (queued_for tag task) body
+lies_within tag capacity trims body (ranged_read fua range) fits = fits.1.within
+lies_within tag capacity trims body (ranged_write fua range blocks) fits = fits.1.within
+lies_within tag capacity trims body (ranged_trim ranges) fits = fits.3
 
-pub queued_fits : (tag capacity : ℕ) (body : List Block) (task : RangedTask) → tag < 32 → RangedFits capacity body task → QueuedFits (queued_for tag task)
-queued_fits tag capacity body (ranged_read fua range) small fits = record { lba = fits.1.lba; some = fits.1.some; sectors = omega (arith, fits.1.few); tag = small; kind = tt }
-queued_fits tag capacity body (ranged_write fua range blocks) small fits = record { lba = fits.1.lba; some = fits.1.some; sectors = omega (arith, fits.1.few); tag = small; kind = tt }
-queued_fits tag capacity body (ranged_trim ranges) small fits = record { lba = omega arith; some = omega arith; sectors = omega arith; tag = small; kind = (refl, refl, refl) }
+has_command : (tag capacity : ℕ) (identify : List ℕ) (body : List Block) (task : RangedTask) → RangedFits capacity (has_queued_trim identify) body task → HasCommand (queued_for tag task).kind identify
+has_command tag capacity identify body (ranged_read fua range) fits = tt
+has_command tag capacity identify body (ranged_write fua range blocks) fits = tt
+has_command tag capacity identify body (ranged_trim ranges) fits = fits.0
+
+pub queued_fits : (tag capacity : ℕ) (trims : Bool) (body : List Block) (task : RangedTask) → tag < 32 → RangedFits capacity trims body task → QueuedFits (queued_for tag task)
+queued_fits tag capacity trims body (ranged_read fua range) small fits = record { lba = fits.1.lba; some = fits.1.some; sectors = omega (arith, fits.1.few); tag = small; kind = tt }
+queued_fits tag capacity trims body (ranged_write fua range blocks) small fits = record { lba = fits.1.lba; some = fits.1.some; sectors = omega (arith, fits.1.few); tag = small; kind = tt }
+queued_fits tag capacity trims body (ranged_trim ranges) small fits = record { lba = omega arith; some = omega arith; sectors = omega arith; tag = small; kind = (refl, refl, refl) }
 
 module _ (flying : List Flying) (tasks : List Held) (old : DriveState) (tie : IsInFlight flying tasks old) where
   pub tag_free : (tag : ℕ) → list_any (λ (f : Flying). f.tag == tag) flying ≡ false → list_any (is_tagged tag) old.outstanding ≡ false
   tag_free tag free = sym (zip-any (IsFlown tasks) (λ (f : Flying). f.tag == tag) (is_tagged tag) (tags_agree tasks tag) flying old.outstanding tie.each) ∙ free
 
-  pub can_issue : (tag : ℕ) (held : Held) (task : RangedTask) (slots : Slots) → tag < 32 → list_any (λ (f : Flying). f.tag == tag) flying ≡ false → ranged_of held.entry ≡ Some task → FitsDrive old.capacity held → pages_at slots tag ≡ Some held.entry.body
+  pub can_issue : (tag : ℕ) (held : Held) (task : RangedTask) (slots : Slots) → tag < 32 → list_any (λ (f : Flying). f.tag == tag) flying ≡ false → ranged_of held.entry ≡ Some task → FitsOn old held → pages_at slots tag ≡ Some held.entry.body
       → CanIssue old (queued_registers (queued_for tag task)) slots (queued_for tag task) held.entry.body
   can_issue tag held task slots small free is fits filled = record {
     spelled = refl;
-    fits = queued_fits tag old.capacity held.entry.body task small (fits task is);
+    fits = queued_fits tag old.capacity (has_queued_trim old.identify) held.entry.body task small (fits task is);
+    had = has_command tag old.capacity old.identify held.entry.body task (fits task is);
     free = subst (λ n. list_any (is_tagged n) old.outstanding ≡ false) (sym (tag_of tag task)) (tag_free tag free);
     filled = subst (λ n. pages_at slots n ≡ Some held.entry.body) (sym (tag_of tag task)) filled;
-    size = size_is tag old.capacity held.entry.body task (fits task is);
-    within = lies_within tag old.capacity held.entry.body task (fits task is);
+    size = size_is tag old.capacity (has_queued_trim old.identify) held.entry.body task (fits task is);
+    within = lies_within tag old.capacity (has_queued_trim old.identify) held.entry.body task (fits task is);
     no_error = tie.no_error;
   }
     where
@@ -146,7 +152,7 @@ module _ (flying : List Flying) (tasks : List Held) (old : DriveState) (tie : Is
           (record { held = held; found = found; eligible = eligible; ranged = task; ranged_is = is; small = small; command = refl }));
       apart = apart_push flying (record { tag = tag; slot = slot }) tie.apart fresh free;
       few = omega (arith, length-append flying (record { tag = tag; slot = slot } ∷ []));
-      fits = subst (λ n. AllByRecursion (FitsDrive n) tasks) (sym capacity) tie.fits;
+      fits = fits_on tasks old new capacity (ap has_queued_trim identify) tie.fits;
       small = omega (arith, tie.small, capacity);
       no_error = ap (λ (d : DriveState). d.error) done.stays ∙ tie.no_error;
     };
@@ -158,11 +164,14 @@ module _ (flying : List Flying) (tasks : List Held) (old : DriveState) (tie : Is
     deep = deepens_issued old new (omega (arith, ap length raw, length-append old.outstanding (issued (queued_for tag task) held.entry.body ∷ []))) deepest;
   }
     where
-      each : RangedFits old.capacity held.entry.body task
-      each = All-find (FitsDrive old.capacity) (is_in_slot slot) tasks held tie.fits found task is
+      each : RangedFits old.capacity (has_queued_trim old.identify) held.entry.body task
+      each = All-find (FitsOn old) (is_in_slot slot) tasks held tie.fits found task is
 
       capacity : new.capacity ≡ old.capacity
       capacity = ap (λ (d : DriveState). d.capacity) done.stays
+
+      identify : new.identify ≡ old.identify
+      identify = ap (λ (d : DriveState). d.identify) done.stays
 
       deepest : new.deepest ≡ max old.deepest (length old.outstanding + 1)
       deepest = ap (λ (d : DriveState). d.deepest) done.stays
@@ -171,7 +180,7 @@ module _ (flying : List Flying) (tasks : List Held) (old : DriveState) (tie : Is
       raw = ap (λ (d : DriveState). d.outstanding) done.stays
 
       outstanding : new.outstanding ≡ old.outstanding ++ outstanding_for tag task ∷ []
-      outstanding = raw ∙ ap (λ o. old.outstanding ++ o ∷ []) (issued_is tag old.capacity held.entry.body task each (follows_of held.entry task is))
+      outstanding = raw ∙ ap (λ o. old.outstanding ++ o ∷ []) (issued_is tag old.capacity (has_queued_trim old.identify) held.entry.body task each (follows_of held.entry task is))
 
   -- the link is lost while these were under way
   cut_moves : (pairs : List Pair) (new : DriveState) → AllByRecursion (MayPut old.cache (entries_of tasks)) pairs → IsCutOff old pairs new → Moves (MayPut old.cache (entries_of tasks)) old.cells new.cells
@@ -196,9 +205,9 @@ module _ (flying : List Flying) (tasks : List Held) (old : DriveState) (tie : Is
   pub lost_issue : (tag slot : ℕ) (held : Held) (task : RangedTask) (new : DriveState) → tag < 32 → find (is_in_slot slot) tasks ≡ Some held → IsEligibleBy clash tasks held → ranged_of held.entry ≡ Some task
       → IsIssueCutOff old (queued_for tag task) held.entry.body new → IsLostQuietly tasks old new
   lost_issue tag slot held task new small found eligible is cut =
-      let fits = All-find (FitsDrive old.capacity) (is_in_slot slot) tasks held tie.fits found task is in
-      let one = flown_puts old.cache old.capacity tasks (record { tag = tag; slot = slot }) (outstanding_for tag task) tie.fits (record { held = held; found = found; eligible = eligible; ranged = task; ranged_is = is; small = small; command = refl }) in
-      let this = subst (λ o. AllByRecursion (MayPut old.cache (entries_of tasks)) (queued_pairs old.cache o)) (sym (issued_is tag old.capacity held.entry.body task fits (follows_of held.entry task is))) one in
+      let fits = All-find (FitsOn old) (is_in_slot slot) tasks held tie.fits found task is in
+      let one = flown_puts old.cache old tasks (record { tag = tag; slot = slot }) (outstanding_for tag task) tie.fits (record { held = held; found = found; eligible = eligible; ranged = task; ranged_is = is; small = small; command = refl }) in
+      let this = subst (λ o. AllByRecursion (MayPut old.cache (entries_of tasks)) (queued_pairs old.cache o)) (sym (issued_is tag old.capacity (has_queued_trim old.identify) held.entry.body task fits (follows_of held.entry task is))) one in
       quiet_cut (all_pairs old.cache (old.outstanding ++ issued (queued_for tag task) held.entry.body ∷ [])) new
       (flat (old.outstanding ++ issued (queued_for tag task) held.entry.body ∷ []) (All-push_end (λ q. AllByRecursion (MayPut old.cache (entries_of tasks)) (queued_pairs old.cache q)) old.outstanding (issued (queued_for tag task) held.entry.body) (all_may_put old.cache flying tasks old tie) this))
       cut.0 cut.1
@@ -239,7 +248,7 @@ module _ (flying : List Flying) (tasks : List Held) (old : DriveState) (tie : Is
       each = subst (λ qs. AllZip (IsFlown tasks) [] qs) (sym outstanding) tt;
       apart = tt;
       few = omega arith;
-      fits = subst (λ n. AllByRecursion (FitsDrive n) tasks) (sym capacity) tie.fits;
+      fits = fits_on tasks old new capacity (ap has_queued_trim identify) tie.fits;
       small = omega (arith, tie.small, capacity);
       no_error = ap (λ (d : DriveState). d.error) reset.stays;
     };
@@ -253,6 +262,9 @@ module _ (flying : List Flying) (tasks : List Held) (old : DriveState) (tie : Is
 
       capacity : new.capacity ≡ old.capacity
       capacity = ap (λ (d : DriveState). d.capacity) reset.stays
+
+      identify : new.identify ≡ old.identify
+      identify = ap (λ (d : DriveState). d.identify) reset.stays
 
   -- the link is lost while the error log is read
   pub lost_log : (slots taken : Slots) (mid new : DriveState) (r : Registers) (given : List Block) → IsFailed old slots taken mid → command_in r ≡ ReadLog 0x10 0 1 → IsRunCutOff mid r given new → IsLostInFlight tasks old new

@@ -5,6 +5,7 @@ use Rattle.std.specs.Option.{option_and_then, option_map}
 use Rattle.std.specs.List.{find, list_any}
 use Rattle.std.proofs.lemmas.Bool.{cases_eq}
 use Rattle.satl_base.specs.declared.block.Block.{Block}
+use Rattle.satl_base.specs.Identify.{has_queued_trim}
 use Rattle.satl_base.proofs.ListsLemmas.{All-find}
 use Rattle.satl_regs.specs.declared.values.Registers.{Registers}
 use Rattle.satl_regs.specs.declared.values.Queued.{Queued}
@@ -20,9 +21,10 @@ use Rattle.satl_drive.specs.State.{DriveState}
 use Rattle.satl_drive.specs.Queue.{CanIssue, IsIssueCutOff, IsIssued, Slots}
 use Rattle.satl_pages.specs.Slots.{pages_at}
 use Rattle.satl_flight.specs.declared.flight.Flying.{Flying}
-use Rattle.satl_flight.specs.Flown.{FitsDrive, IsInFlight, clash, holds, is_in_slot, queued_for}
+use Rattle.satl_flight.specs.Flown.{IsInFlight, clash, holds, is_in_slot, queued_for}
 use Rattle.satl_flight.specs.Lending.{IsLending, has_tag, is_of_slot, whole_task, whole_tasks}
 use Rattle.satl_flight.specs.Settled.{IsCovered, IsFilled, IsLaunched, IsLostQuietly}
+use Rattle.satl_flight.proofs.FlownLemmas.{FitsOn}
 use Rattle.satl_flight.proofs.TagsLemmas.{weigh}
 use Rattle.satl_flight.proofs.LendingLemmas.{at_found, find-none, get-set, lend_lending, lend_same, whole_get, whole-slots}
 use Rattle.satl_flight.proofs.LaunchedLemmas.{can_issue, deepens_same, launched_one, lost_issue, queued_fits}
@@ -108,11 +110,11 @@ module _ (flying : List Flying) (slots : Slots) (tasks : List Held) (lending : I
     eligible : IsEligibleBy clash (whole_tasks flying slots tasks) (record { slot = slot; entry = entry })
     eligible = eligible_passes clash (whole_tasks flying slots tasks) place (record { slot = slot; entry = entry }) (whole_stands ∙ ap Some (bare fresh)) (same_test flying slots tasks place ∙ passes)
 
-    fits : FitsDrive old.capacity (record { slot = slot; entry = entry })
-    fits = All-find (FitsDrive old.capacity) (is_in_slot slot) (whole_tasks flying slots tasks) (record { slot = slot; entry = entry }) tie.fits found
+    fits : FitsOn old (record { slot = slot; entry = entry })
+    fits = All-find (FitsOn old) (is_in_slot slot) (whole_tasks flying slots tasks) (record { slot = slot; entry = entry }) tie.fits found
 
     pub queued_does : QueuedFits (queued_for tag task)
-    queued_does = queued_fits tag old.capacity entry.body task small (fits task ranged)
+    queued_does = queued_fits tag old.capacity (has_queued_trim old.identify) entry.body task small (fits task ranged)
 
     module _ (slots' : Slots) (tasks' : List Held) (pages : List Block) (taken : option_map (λ (e : Entry). e.body) (entry_at tasks place) ≡ Some pages) (slots_are : slots' ≡ slice_set slots tag (Some pages)) (tasks_are : tasks' ≡ change_at (with_body []) tasks place) where
       body_is : pages ≡ entry.body

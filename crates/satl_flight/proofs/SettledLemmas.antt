@@ -4,6 +4,7 @@ use Rattle.std.specs.Prelude.{◌==◌, ◌&&◌, map, if◌then◌else◌, slic
 use Rattle.std.specs.List.{AllByRecursion, AllZip, find, list_any, remove}
 use Rattle.satl_base.specs.declared.block.Block.{Block}
 use Rattle.satl_base.specs.declared.bench.Which.TheVariants as flaws
+use Rattle.satl_base.specs.Identify.{has_queued_trim}
 use Rattle.satl_base.specs.Lists.{remove_first}
 use Rattle.satl_base.specs.Cells.{Cell, Pair, Part, first_flaw, first_set, has_flaw, whole}
 use Rattle.satl_base.specs.Losses.{Loses}
@@ -29,11 +30,11 @@ use Rattle.satl_drive.specs.Queue.{FailsAtFlaw, FailsByCrc, IsDone, IsFailed, Sl
 use Rattle.satl_drive.specs.Rules.{IsLogRead}
 use Rattle.satl_pages.specs.Slots.{pages_at}
 use Rattle.satl_flight.specs.declared.flight.Flying.{Flying}
-use Rattle.satl_flight.specs.Flown.{FitsDrive, IsFlown, IsInFlight, RangedFits, clash, is_in_slot, queued_for}
+use Rattle.satl_flight.specs.Flown.{IsFlown, IsInFlight, RangedFits, clash, is_in_slot, queued_for}
 use Rattle.satl_flight.specs.Lending.{IsAt, has_tag}
 use Rattle.satl_flight.specs.Settled.{Deepens, IsFlawOrCrc, IsSettled, outcome_of, read_into}
 use Rattle.satl_flight.proofs.ZipLemmas.{All-remove, zip-find, zip-remove_first, zip-with}
-use Rattle.satl_flight.proofs.FlownLemmas.{all_may_put, flown_still, moves_of_each, others_differ, apart_removed, pairs_of_task}
+use Rattle.satl_flight.proofs.FlownLemmas.{FitsOn, all_may_put, fits_on, flown_still, moves_of_each, others_differ, apart_removed, pairs_of_task}
 
 -- ---- the deepest queue
 
@@ -83,13 +84,13 @@ module _ (flying : List Flying) (tasks : List Held) (old : DriveState) (tie : Is
       (zip-remove_first (IsFlown tasks) (has_tag tag) (is_tagged tag) (tags_agree tasks tag) flying old.outstanding tie.each)
 
   pub tie_removed : (tag place : ℕ) (f : Flying) (held : Held) (new : DriveState) → find (has_tag tag) flying ≡ Some f → IsAt tasks place f.slot held
-      → new.outstanding ≡ remove_first (is_tagged tag) old.outstanding → new.capacity ≡ old.capacity → new.error ≡ None
+      → new.outstanding ≡ remove_first (is_tagged tag) old.outstanding → new.capacity ≡ old.capacity → new.identify ≡ old.identify → new.error ≡ None
       → IsInFlight (remove_first (has_tag tag) flying) (remove tasks place) new
-  tie_removed tag place f held new found at outstanding capacity error = record {
+  tie_removed tag place f held new found at outstanding capacity identify error = record {
     each = subst (λ qs. AllZip (IsFlown (remove tasks place)) (remove_first (has_tag tag) flying) qs) (sym outstanding) (others_still tag place f held found at);
     apart = apart_removed (has_tag tag) flying tie.apart;
     few = omega (arith, tie.few, length-remove_first (has_tag tag) flying f found);
-    fits = subst (λ n. AllByRecursion (FitsDrive n) (remove tasks place)) (sym capacity) (All-remove (FitsDrive old.capacity) tasks place tie.fits);
+    fits = fits_on (remove tasks place) old new capacity (ap has_queued_trim identify) (All-remove (FitsOn old) tasks place tie.fits);
     small = omega (arith, tie.small, capacity);
     no_error = error;
   }
@@ -104,7 +105,7 @@ module _ (flying : List Flying) (tasks : List Held) (old : DriveState) (tie : Is
       let flown = flown_found flying tasks old tag f done.done tie found done.found in
       let same = held_is f done.done place held flown at in
       let of_held : ranged_of held.entry ≡ Some flown.ranged = subst (λ (h : Held). ranged_of h.entry ≡ Some flown.ranged) same flown.ranged_is in
-      let fits = All-find (FitsDrive old.capacity) (is_in_slot f.slot) tasks held tie.fits at.found in
+      let fits = All-find (FitsOn old) (is_in_slot f.slot) tasks held tie.fits at.found in
       let outstanding : new.outstanding ≡ remove_first (is_tagged tag) old.outstanding = ap (λ (d : DriveState). d.outstanding) done.stays in
       let glitches : new.glitches ≡ old.glitches = ap (λ (d : DriveState). d.glitches) done.stays in (
         flown.ranged,
@@ -125,8 +126,8 @@ module _ (flying : List Flying) (tasks : List Held) (old : DriveState) (tie : Is
               written = refl;
               glitches_stay = glitches;
             };
-            moves_after = lose_once (subst (λ ps. Loses (whole old.cells ps) new.cells) (ap (queued_pairs old.cache) flown.command ∙ pairs_of_task old.cache f.tag old.capacity held.entry.body flown.ranged (fits flown.ranged of_held)) done.lost);
-            tie = tie_removed tag place f held new found at outstanding (ap (λ (d : DriveState). d.capacity) done.stays) (ap (λ (d : DriveState). d.error) done.stays ∙ tie.no_error);
+            moves_after = lose_once (subst (λ ps. Loses (whole old.cells ps) new.cells) (ap (queued_pairs old.cache) flown.command ∙ pairs_of_task old.cache f.tag old.capacity (has_queued_trim old.identify) held.entry.body flown.ranged (fits flown.ranged of_held)) done.lost);
+            tie = tie_removed tag place f held new found at outstanding (ap (λ (d : DriveState). d.capacity) done.stays) (ap (λ (d : DriveState). d.identify) done.stays) (ap (λ (d : DriveState). d.error) done.stays ∙ tie.no_error);
             stays = done.stays ∙ ap (λ x. record old { cells = new.cells; outstanding = x; active = true }) (sym outstanding) ∙ ap (λ n. record old { cells = new.cells; outstanding = new.outstanding; active = true; glitches = n }) (sym glitches);
             deep = deepens_shorter old new (ap (λ (d : DriveState). d.deepest) done.stays) (omega (arith, ap length outstanding, length-remove_first (is_tagged tag) old.outstanding done.done done.found));
           },
@@ -210,10 +211,10 @@ first_set-within flags lba (suc count) at h =
       | false ↦ λ e. let r = first_set-within flags (lba + 1) count at e in omega (arith, r)
     ]) h
 
-flaw_within : (cells : List Cell) (capacity at : ℕ) (body : List Block) (ranged : RangedTask) → RangedFits capacity body ranged → flaw_met cells ranged ≡ Some at → at < capacity
-flaw_within cells capacity at body (ranged_read fua range) fits h = let r = first_set-within (map (has_flaw flaws.Read) cells) range.lba range.count at h in omega (arith, r, fits.1.within)
-flaw_within cells capacity at body (ranged_write fua range blocks) fits h = let r = first_set-within (map (has_flaw flaws.Write) cells) range.lba range.count at h in omega (arith, r, fits.1.within)
-flaw_within cells capacity at body (ranged_trim ranges) fits h = absurd cc
+flaw_within : (cells : List Cell) (capacity at : ℕ) (trims : Bool) (body : List Block) (ranged : RangedTask) → RangedFits capacity trims body ranged → flaw_met cells ranged ≡ Some at → at < capacity
+flaw_within cells capacity at trims body (ranged_read fua range) fits h = let r = first_set-within (map (has_flaw flaws.Read) cells) range.lba range.count at h in omega (arith, r, fits.1.within)
+flaw_within cells capacity at trims body (ranged_write fua range blocks) fits h = let r = first_set-within (map (has_flaw flaws.Write) cells) range.lba range.count at h in omega (arith, r, fits.1.within)
+flaw_within cells capacity at trims body (ranged_trim ranges) fits h = absurd cc
 
 -- the log's entry fits the log
 pub record EntryFits (e : NcqError) : Type 0 where
@@ -221,21 +222,21 @@ pub record EntryFits (e : NcqError) : Type 0 where
   pub lba : e.lba < 2 ^ 48
   pub count : e.count < 2 ^ 16
 
-low_lba : (tag capacity : ℕ) (body : List Block) (ranged : RangedTask) → RangedFits capacity body ranged → (queued_for tag ranged).lba < 2 ^ 48
-low_lba tag capacity body (ranged_read fua range) fits = fits.1.lba
-low_lba tag capacity body (ranged_write fua range blocks) fits = fits.1.lba
-low_lba tag capacity body (ranged_trim ranges) fits = omega arith
+low_lba : (tag capacity : ℕ) (trims : Bool) (body : List Block) (ranged : RangedTask) → RangedFits capacity trims body ranged → (queued_for tag ranged).lba < 2 ^ 48
+low_lba tag capacity trims body (ranged_read fua range) fits = fits.1.lba
+low_lba tag capacity trims body (ranged_write fua range blocks) fits = fits.1.lba
+low_lba tag capacity trims body (ranged_trim ranges) fits = omega arith
 
-entry_fits : (tag glitches left capacity : ℕ) (cells : List Cell) (body : List Block) (ranged : RangedTask) (e : NcqError) (o : Option ℕ) → tag < 32 → capacity ≤ 2 ^ 48 → RangedFits capacity body ranged → flaw_met cells ranged ≡ o
+entry_fits : (tag glitches left capacity : ℕ) (trims : Bool) (cells : List Cell) (body : List Block) (ranged : RangedTask) (e : NcqError) (o : Option ℕ) → tag < 32 → capacity ≤ 2 ^ 48 → RangedFits capacity trims body ranged → flaw_met cells ranged ≡ o
     → MatchOption o (FailsByCrc (queued_for tag ranged) glitches left e) (λ lba. FailsAtFlaw (queued_for tag ranged) lba glitches left e) → EntryFits e
-entry_fits tag glitches left capacity cells body ranged e None small low fits flaw c = record {
+entry_fits tag glitches left capacity trims cells body ranged e None small low fits flaw c = record {
   tag = omega (arith, c.entry.tag, tag_is tag ranged, small);
-  lba = omega (arith, c.entry.lba_is, low_lba tag capacity body ranged fits);
+  lba = omega (arith, c.entry.lba_is, low_lba tag capacity trims body ranged fits);
   count = omega (arith, c.entry.count);
 }
-entry_fits tag glitches left capacity cells body ranged e (Some lba) small low fits flaw c = record {
+entry_fits tag glitches left capacity trims cells body ranged e (Some lba) small low fits flaw c = record {
   tag = omega (arith, c.entry.tag, tag_is tag ranged, small);
-  lba = omega (arith, c.entry.lba_is, flaw_within cells capacity lba body ranged fits flaw, low);
+  lba = omega (arith, c.entry.lba_is, flaw_within cells capacity lba trims body ranged fits flaw, low);
   count = omega (arith, c.entry.count);
 }
 
@@ -264,9 +265,9 @@ module _ (flying : List Flying) (tasks : List Held) (old : DriveState) (tie : Is
   failed_task slots taken mid failed =
       let t = found_task flying tasks old failed.entry.tag failed.failed tie failed.found in
       let flown = t.1.1 in
-      let each = All-find (FitsDrive old.capacity) (is_in_slot t.0.slot) tasks flown.held tie.fits flown.found in
+      let each = All-find (FitsOn old) (is_in_slot t.0.slot) tasks flown.held tie.fits flown.found in
       let cause = subst (λ (o : Outstanding). MatchOption (queued_flaw old.cells o.command) (FailsByCrc o.command old.glitches mid.glitches failed.entry) (λ lba. FailsAtFlaw o.command lba old.glitches mid.glitches failed.entry)) flown.command failed.cause in
-      let fits = entry_fits t.0.tag old.glitches mid.glitches old.capacity old.cells flown.held.entry.body flown.ranged failed.entry (queued_flaw old.cells (queued_for t.0.tag flown.ranged)) flown.small tie.small (each flown.ranged flown.ranged_is) (sym (flaw_is old.cells t.0.tag flown.ranged)) cause in
+      let fits = entry_fits t.0.tag old.glitches mid.glitches old.capacity (has_queued_trim old.identify) old.cells flown.held.entry.body flown.ranged failed.entry (queued_flaw old.cells (queued_for t.0.tag flown.ranged)) flown.small tie.small (each flown.ranged flown.ranged_is) (sym (flaw_is old.cells t.0.tag flown.ranged)) cause in
       (t.0, (t.1.0, (flown.small, log_back failed.entry fits.tag fits.lba fits.count)))
 
   -- all that the error took away, but for the one that failed
@@ -286,11 +287,11 @@ module _ (flying : List Flying) (tasks : List Held) (old : DriveState) (tie : Is
       of_held : ranged_of held.entry ≡ Some flown.ranged
       of_held = subst (λ (h : Held). ranged_of h.entry ≡ Some flown.ranged) same flown.ranged_is
 
-      fits : RangedFits old.capacity held.entry.body flown.ranged
-      fits = All-find (FitsDrive old.capacity) (is_in_slot f.slot) tasks held tie.fits at.found flown.ranged of_held
+      fits : RangedFits old.capacity (has_queued_trim old.identify) held.entry.body flown.ranged
+      fits = All-find (FitsOn old) (is_in_slot f.slot) tasks held tie.fits at.found flown.ranged of_held
 
       pairs : queued_pairs old.cache failed.failed ≡ written_pairs old.cache flown.ranged
-      pairs = ap (queued_pairs old.cache) flown.command ∙ pairs_of_task old.cache f.tag old.capacity held.entry.body flown.ranged fits
+      pairs = ap (queued_pairs old.cache) flown.command ∙ pairs_of_task old.cache f.tag old.capacity (has_queued_trim old.identify) held.entry.body flown.ranged fits
 
       glitches : new.glitches ≡ mid.glitches
       glitches = ap (λ (d : DriveState). d.glitches) read.stays
@@ -309,13 +310,16 @@ module _ (flying : List Flying) (tasks : List Held) (old : DriveState) (tie : Is
       rest = record old { outstanding = remove_first (is_tagged e.tag) old.outstanding }
 
       still : AllPut old.cache (MayPut old.cache (entries_of (remove tasks place))) (remove_first (is_tagged e.tag) old.outstanding)
-      still = all_may_put old.cache (remove_first (has_tag e.tag) flying) (remove tasks place) rest (tie_removed flying tasks old tie e.tag place f held rest found at refl refl tie.no_error)
+      still = all_may_put old.cache (remove_first (has_tag e.tag) flying) (remove tasks place) rest (tie_removed flying tasks old tie e.tag place f held rest found at refl refl refl tie.no_error)
 
       outstanding : new.outstanding ≡ []
       outstanding = ap (λ (d : DriveState). d.outstanding) read.stays ∙ ap (λ (d : DriveState). d.outstanding) failed.stays
 
       capacity : new.capacity ≡ old.capacity
       capacity = ap (λ (d : DriveState). d.capacity) read.stays ∙ ap (λ (d : DriveState). d.capacity) failed.stays
+
+      identify : new.identify ≡ old.identify
+      identify = ap (λ (d : DriveState). d.identify) read.stays ∙ ap (λ (d : DriveState). d.identify) failed.stays
 
       lost : Moves (MayPut old.cache (entries_of (remove tasks place))) failed.mid new.cells
       lost = moves_on (lose_once failed.lost) (lose_once read.lost)
@@ -325,7 +329,7 @@ module _ (flying : List Flying) (tasks : List Held) (old : DriveState) (tie : Is
         each = subst (λ qs. AllZip (IsFlown (remove tasks place)) [] qs) (sym outstanding) tt;
         apart = tt;
         few = omega arith;
-        fits = subst (λ n. AllByRecursion (FitsDrive n) (remove tasks place)) (sym capacity) (All-remove (FitsDrive old.capacity) tasks place tie.fits);
+        fits = fits_on (remove tasks place) old new capacity (ap has_queued_trim identify) (All-remove (FitsOn old) tasks place tie.fits);
         small = omega (arith, tie.small, capacity);
         no_error = ap (λ (d : DriveState). d.error) read.stays;
       }

@@ -16,7 +16,8 @@ use Rattle.satl_regs.specs.Trim.{addresses}
 use Rattle.satl_pass.specs.declared.pass.Pass.{Pass}
 use Rattle.satl_pass.specs.Fields.{form_of, pass_in}
 use Rattle.satl_pass.specs.Reading.{has_other_direction, has_other_length, pass_says, rules}
-use Rattle.satl_direct.specs.Tasks.{Asks, asks, fault_in, pass_of}
+use Rattle.satl_direct.specs.Tasks.{asks, fault_in, pass_of}
+use Rattle.satl_direct.proofs.Passing.{writes_none}
 
 -- an ATA PASS-THROUGH without data-out writes nothing, whatever is handed in
 abbrev pub WritesItsOwn : Command → Type 0
@@ -44,59 +45,12 @@ unbroken (rule ∷ all) cdb value of errs h =
     (elim (rule.breaks cdb) as (λ b. rule.breaks cdb ≡ b → of (if b then Err rule.refusal else unless_broken all cdb value) ≡ None → (rule.breaks cdb ≡ false) × AllByRecursion (λ r. r.breaks cdb ≡ false) all)
     [ true ↦ λ is e. absurd (let clash : Some rule.refusal ≡ None = sym (errs rule.refusal) ∙ e in cc) | false ↦ λ is e. (is, unbroken all cdb value of errs e) ]) refl h
 
--- what is not false is true
-not_false : (b : Bool) → not b ≡ false → b ≡ true
-not_false true h = refl
-not_false false h = absurd cc
-
--- where a length is the command's and is not 0, the data go the command's way
-no_blocks : (pass : Pass) (sectors : ℕ) → not (pass.length == 512 * sectors) ≡ false → (not (pass.length == 0) && (if pass.out then false else true)) ≡ false → pass.out ≡ false → sectors ≡ 0
-no_blocks pass sectors own way back =
-    let size : pass.length ≡ 512 * sectors = eqb-true pass.length (512 * sectors) (not_false (pass.length == 512 * sectors) own) in
-    let empty : pass.length ≡ 0 = eqb-true pass.length 0 (not_false (pass.length == 0) (only (not (pass.length == 0)) (subst (λ b. (not (pass.length == 0) && (if b then false else true)) ≡ false) back way))) in
-    omega (arith, size, empty)
-  where
-    only : (b : Bool) → (b && true) ≡ false → b ≡ false
-    only true h = h
-    only false h = refl
-
--- a command whose length and direction are its own, and that has no data-out, writes nothing
-writes_none : (a : AtaCommand) (pass : Pass) → has_other_length a pass ≡ false → has_other_direction a pass ≡ false → pass.out ≡ false → (m : Medium) (given : List Block) → pairs_of a m given ≡ []
-writes_none (ata.Read how lba sectors) pass own way back m given = refl
-writes_none (ata.Write how lba sectors) pass own way back m given =
-    ap (λ n. if nat_lt (length m.cells) (lba + sectors) then [] else pairs_from lba (take n given) m.cache) (no_blocks pass sectors own way back) ∙ either (nat_lt (length m.cells) (lba + sectors))
-  where
-    either : (b : Bool) → (if b then [] else pairs_from lba (take 0 given) m.cache) ≡ []
-    either true = refl
-    either false = refl
-writes_none (ata.Verify ext lba sectors) pass own way back m given = refl
-writes_none (ata.Flush ext) pass own way back m given = refl
-writes_none ata.Identify pass own way back m given = refl
-writes_none (ata.SetFeatures what) pass own way back m given = refl
-writes_none ata.Standby pass own way back m given = refl
-writes_none ata.Idle pass own way back m given = refl
-writes_none ata.CheckPower pass own way back m given = refl
-writes_none (ata.ReadLog log page blocks) pass own way back m given = refl
-writes_none (ata.Trim blocks) pass own way back m given =
-    ap (λ n. if is_no_trim blocks given m then [] else zeros_at m.cache (addresses (payload_ranges n given))) (no_blocks pass blocks own way back) ∙ either (is_no_trim blocks given m)
-  where
-    either : (b : Bool) → (if b then [] else zeros_at m.cache (addresses (payload_ranges 0 given))) ≡ []
-    either true = refl
-    either false = refl
-writes_none ata.SmartStatus pass own way back m given = refl
-writes_none (ata.Other code) pass own way back m given = refl
-
 -- where no rule is broken, length and direction are the command's own
 pass_own : (cdb : List ℕ) → fault_in (pass_says cdb) ≡ None → WritesItsOwn (commands.Pass cdb)
 unfolding pass_says
 pass_own cdb h =
     let good = unbroken (rules (form_of cdb)) cdb (pass_in (form_of cdb) cdb) fault_in (λ why. refl) h in
     writes_none (command_in (pass_of cdb).regs) (pass_of cdb) good.1.1.1.1.1.0 good.1.1.1.1.1.1.0
-
--- of two that ask for the same, one that a test chooses
-fault_either : (b : Bool) (x y : Asks) (o : Option Illegal) → x.fields_fault ≡ o → y.fields_fault ≡ o → (if b then x else y).fields_fault ≡ o
-fault_either true x y o p q = p
-fault_either false x y o p q = q
 
 -- a command whose fields are good
 pub fields_own : (c : Command) → (asks c).fields_fault ≡ None → WritesItsOwn c
@@ -115,4 +69,4 @@ fields_own (commands.Verify form lba count compare) h = tt
 fields_own (commands.Flush form lba count) h = tt
 fields_own (commands.WriteSame form lba count unmap) h = tt
 fields_own (commands.Unmap size) h = tt
-fields_own (commands.Pass cdb) h = pass_own cdb (sym (fault_either (pass_of cdb).out _ _ (fault_in (pass_says cdb)) refl refl) ∙ h)
+fields_own (commands.Pass cdb) h = pass_own cdb h

@@ -5,12 +5,9 @@ use Rattle.satl_base.specs.Fields.{Field, Flag, bits, bit}
 use Rattle.satl_regs.specs.declared.values.Registers.{Registers}
 use Rattle.satl_pass.specs.declared.pass.Pass.{Pass}
 
--- the operation codes of the forms of 16 and of 12 bytes
+-- the operation code of the form of 16 bytes
 abbrev pub code_16 : ℕ
 code_16 = 0x85
-
-abbrev pub code_12 : ℕ
-code_12 = 0xA1
 
 -- byte 1: PROTOCOL; byte 2: CK_COND, T_DIR, which is 1 from the drive, BYT_BLOK and T_LENGTH
 abbrev pub protocol : Field

@@ -131,7 +131,7 @@ fn length_of(cdb: &[u8; 16], extend: bool, regs: &Registers) -> u32
     }
 }
 
-/// What the fields say, whatever their values are.
+/// What the fields of an ATA PASS-THROUGH say, whatever their values are (SAT-3 12.2).
 pub fn pass_of(cdb: &[u8; 16]) -> Pass
     ensures value { result ≡ pass_in (form_of cdb.now) cdb.now }
     ensures lba { result.regs.lba < 2 ^ 48 }

@@ -8,6 +8,7 @@ mod reading;
 mod status;
 mod transfers;
 
+pub use fields::pass_of;
 pub use pass::Pass;
 pub use reading::{plan, read_pass};
 pub use status::{error_sense, error_sense_at, status_return};

@@ -1,9 +1,7 @@
 // Reading ATA PASS-THROUGH.
 
-ghost use Rattle.std.specs.Prelude.{◌≡◌, ◌==◌, IsTrue, IfOk, [], ◌∷◌, slice_index};
-ghost use Rattle.satl_base.specs.Lists.{is_in};
+ghost use Rattle.std.specs.Prelude.{◌≡◌, IfOk};
 ghost use Rattle.satl_regs.specs.Commands.{command_in};
-ghost use Rattle.satl_pass.specs.Fields.{code_12, code_16};
 ghost use Rattle.satl_pass.specs.Reading.{CanRun, has_other_direction, has_other_length, is_queued, pass_says};
 
 use crate::fields::{command_place, pass_of};
@@ -31,8 +29,13 @@ fn has_other_direction(command: &AtaCommand, pass: &Pass) -> bool
     !is_other(command) && pass.length != 0 && pass.out != is_writing(command)
 }
 
+/// What an ATA PASS-THROUGH command of 16 bytes, or else of 12, asks for (SAT-3 12.2).
+///
+/// `Err` is INVALID FIELD IN CDB with a pointer, at the first of these (profile): byte 1, a protocol that is not listed; byte
+/// 2, T_LENGTH 3 or more than 2,097,152 bytes; the byte of COMMAND, a queued command; and for a command of the profile byte
+/// 1, a protocol that does not carry it, then byte 2, a length that is not the command's, or data that go the other way.
 #[tactic(auto, unfolding(crate::specs::Reading::pass_says))]
-fn judge(cdb: &[u8; 16]) -> Result<Pass, Illegal>
+pub fn read_pass(cdb: &[u8; 16]) -> Result<Pass, Illegal>
     ensures says { result ≡ pass_says cdb.now }
     ensures can_run { IfOk result (λ pass. CanRun pass) }
 {
@@ -54,19 +57,6 @@ fn judge(cdb: &[u8; 16]) -> Result<Pass, Illegal>
         return Err(Illegal::invalid_field(2));
     }
     Ok(pass)
-}
-
-/// What an ATA PASS-THROUGH command of 16 or of 12 bytes asks for (SAT-3 12.2).
-///
-/// `Err` is INVALID FIELD IN CDB with a pointer, at the first of these (profile): byte 1, a protocol that is not listed; byte
-/// 2, T_LENGTH 3 or more than 2,097,152 bytes; the byte of COMMAND, a queued command; and for a command of the profile byte
-/// 1, a protocol that does not carry it, then byte 2, a length that is not the command's, or data that go the other way.
-pub fn read_pass(cdb: &[u8; 16]) -> Result<Pass, Illegal>
-    requires { IsTrue (is_in (slice_index cdb.now 0) (code_16 ∷ code_12 ∷ [])) }
-    ensures says { result ≡ pass_says cdb.now }
-    ensures can_run { IfOk result (λ pass. CanRun pass) }
-{
-    judge(cdb)
 }
 
 /// The ATA command that is run (ACS-3 section 7).

@@ -5,7 +5,7 @@ use Rattle.satl_line.specs.Kinds.{kind_of}
 use Rattle.satl_line.specs.Tasks.{is_too_much}
 use Rattle.satl_direct.specs.Tasks.{asks, held_blocks, needed}
 use Rattle.satl_core.specs.Layer.{CanTrim, IsExpectable, IsTask, Layer, entry_pages, held_pages}
-use Rattle.satl_core.proofs.ArrivalLemmas.{list_held, long_enough}
+use Rattle.satl_core.proofs.JudgingLemmas.{list_held, long_enough}
 use Rattle.std.specs.Prelude.{IfSome}
 use Rattle.satl_mode.specs.Changes.{IsChangeOf}
 use Rattle.satl_core.specs.Submitting.{Becomes, HasList, trims}
@@ -116,6 +116,6 @@ returns-clause-comes c = λ none.
     let adds = on_ok c.add.result _ (sym c.is_err.ensures.value ∙ c.if-is_err.false) c.add.ensures.ok in
     let count = count_with c.self.inside.queue.tasks c.add.new.self.tasks c.task_without_pages-task.result adds in
     let has = given_pages c.self.inside.queue.tasks c.add.new.self.tasks c.fill_last.new.self.tasks c.task_without_pages-task.result c.own_pages-body.result (length c.add.new.self.tasks - 1) adds (omega (arith, count)) c.fill_last.ensures.filled in
-    subst (λ (l : Layer). Comes l.identity.capacity l.tasks c.fill_last.new.self.tasks) c.self.view_is
+    subst (λ (l : Layer). Comes l.identity.capacity l.identity.queued_trim l.tasks c.fill_last.new.self.tasks) c.self.view_is
     (comes_with c.self.inside.identity c.self.inside.queue.tasks c.fill_last.new.self.tasks c.task_without_pages-task.result c.own_pages-body.result (invariant_of-self-2 c).kept
     (subst (λ (e : Entry). HasOwnEntries e.command c.self.inside.identity.queued_trim e.ranges.items c.own_pages-body.result) (sym c.task_without_pages-task.ensures) (own_entries c.args.request c.args.command c.self.inside.identity.queued_trim c.own_pages-body.result c.own_pages-body.ensures.entries)) has)

@@ -4,7 +4,7 @@ use Rattle.satl_mode.specs.Changes.{AreModesOf, IsChangeOf}
 use Rattle.satl_direct.specs.Tasks.{asks, held_blocks}
 use Rattle.satl_core.specs.Layer.{IsTask, Layer}
 use Rattle.satl_core.specs.Submitting.{HasList, trims}
-use Rattle.satl_core.proofs.ArrivalLemmas.{code_change, code_list, code_served, code_task, code_trims}
+use Rattle.satl_core.proofs.JudgingLemmas.{code_change, code_list, code_task, code_trims}
 use Rattle.satl_core.proofs.TieLemmas.{layer_of}
 use Rattle.satl_core.proofs.satl.Satl.judge.Goals as goal
 

@@ -1,7 +1,7 @@
 use Rattle.std.proofs.Common.{◌≤◌, sym, ap, subst, length}
 use Rattle.satl_line.specs.Tasks.{total_blocks}
 use Rattle.satl_core.specs.Layer.{Layer}
-use Rattle.satl_core.proofs.ArrivalLemmas.{holds_by}
+use Rattle.satl_core.proofs.CutLemmas.{holds_by}
 use Rattle.satl_core.proofs.HeldLemmas.{held_is}
 use Rattle.satl_core.proofs.satl.Satl.overlaps.Goals as goal
 

@@ -1,5 +1,6 @@
 use Rattle.std.proofs.Common.{◌≡◌, refl, sym, ap, subst, ◌∙◌, ◌-◌, ◌++◌, List, []}
 use Rattle.std.specs.Prelude.{MatchBool}
+use Rattle.satl_base.specs.Identify.{has_queued_trim}
 use Rattle.satl_core.specs.Layer.{Layer, held_pages, works}
 use Rattle.satl_core.specs.Turning.{lost_replies}
 use Rattle.satl_line.specs.Tasks.{Held}
@@ -23,8 +24,8 @@ returns-in-Ok-clause-tied g c =
     let i = c.self.inside in
     launched_tied (layer_of i.identity i.modes i.started i.down i.attentions i.queue i.pool) _ (layer_of i.identity i.modes i.started i.down i.attentions c.launch_last.new.self i.pool) _ _ c.self.view_is (works_by i.down i.started c.if-self.false c.if-not-self.false) c.requires.agrees
     (queue_changed i.identity i.modes i.started i.down i.attentions i.queue c.launch_last.new.self i.pool c.in-Ok.ensures.same) c.in-Ok.ensures.ok
-    (let came = subst (λ (l : Layer). (before : List Held) × Comes (g.D.Drive.state c.args.drive.now).capacity before l.tasks × MatchBool (works l) (IsFilled l.flying before) (l.flying ≡ [])) (sym c.self.view_is) c.requires.came in
-    filled_last (layer_of i.identity i.modes i.started i.down i.attentions i.queue i.pool) (layer_of i.identity i.modes i.started i.down i.attentions c.launch_last.new.self i.pool) _ _ _ (works_by i.down i.started c.if-self.false c.if-not-self.false) c.in-Ok.ensures.same came.0 came.1 came.2 c.in-Ok.ensures.ok c.in-Ok.ensures.covered) c.in-Ok.ensures.fit
+    (let came = subst (λ (l : Layer). (before : List Held) × Comes (g.D.Drive.state c.args.drive.now).capacity (has_queued_trim (g.D.Drive.state c.args.drive.now).identify) before l.tasks × MatchBool (works l) (IsFilled l.flying before) (l.flying ≡ [])) (sym c.self.view_is) c.requires.came in
+    filled_last (layer_of i.identity i.modes i.started i.down i.attentions i.queue i.pool) (layer_of i.identity i.modes i.started i.down i.attentions c.launch_last.new.self i.pool) _ _ _ _ (works_by i.down i.started c.if-self.false c.if-not-self.false) c.in-Ok.ensures.same came.0 came.1 came.2 c.in-Ok.ensures.ok c.in-Ok.ensures.covered) c.in-Ok.ensures.fit
 
 pub returns-in-Err-clause-refills : goal.returns-in-Err-clause-refills
 returns-in-Err-clause-refills g c =

@@ -1,0 +1,356 @@
+-- ATA PASS-THROUGH: what its command does on the drive is what the device says.
+use Rattle.std.proofs.Common.{◌≡◌, ◌⊎◌, ⊎_elim, inl, inr, refl, sym, ap, subst, ◌∙◌, arith, cond, ℕ, ◌+◌, ◌*◌, ◌≤◌, Bool, true, false, List, [], ◌∷◌, ◌++◌, length, take}
+use Rattle.std.specs.Prelude.{MatchBool, MatchOption, Option, Some, None, Result, Ok, IfOk, if◌then◌else◌, not, ◌==◌, ◌&&◌, ◌||◌, nat_lt}
+use Rattle.std.proofs.lemmas.Bool.{eqb-true}
+use Rattle.std.proofs.lemmas.List.{length-append, length-take, take_all}
+use Rattle.satl_base.specs.declared.block.Block.{Block}
+use Rattle.satl_base.specs.declared.modes.Modes.{Modes}
+use Rattle.satl_base.specs.declared.reply.Reply.{Reply}
+use Rattle.satl_base.specs.Blocks.{bytes_of, first_bytes}
+use Rattle.satl_base.specs.Cells.{Pair, first_flaw}
+use Rattle.satl_base.specs.Lists.{IsIn}
+use Rattle.satl_base.proofs.MovesLemmas.{lose_once}
+use Rattle.satl_cdb.specs.declared.command.Command.TheVariants as cdbs
+use Rattle.satl_cdb.specs.declared.command.Illegal.{Illegal}
+use Rattle.satl_identify.specs.declared.identity.Identity.{Identity}
+use Rattle.satl_identify.specs.Data.{identity_data}
+use Rattle.satl_sense.specs.declared.sense.Sense.{Sense}
+use Rattle.satl_regs.specs.declared.values.AtaCommand.{AtaCommand}
+use Rattle.satl_regs.specs.declared.values.AtaCommand.TheVariants as ata
+use Rattle.satl_regs.specs.declared.values.Registers.{Registers}
+use Rattle.satl_regs.specs.declared.values.Taskfile.{Taskfile}
+use Rattle.satl_regs.specs.Commands.{command_in}
+use Rattle.satl_regs.specs.Effects as effects
+use Rattle.satl_regs.specs.Effects.{Carries, Does, IsRefused, Medium, Setting, Transfer, abrt, has_setting, own_blocks, pairs_of, reading, setting_of, settable, trimming, verifying, writing}
+use Rattle.satl_regs.specs.Effects.Setting.{sets_cache, sets_look}
+use Rattle.satl_pass.specs.declared.pass.Pass.{Pass}
+use Rattle.satl_pass.specs.Fields.{form_of, pass_in}
+use Rattle.satl_pass.specs.Reading.{CanRun, has_other_length, pass_says, rules}
+use Rattle.satl_pass.specs.Status.{is_bad, status_sense}
+use Rattle.satl_pass.specs.Transfers.{is_other}
+use Rattle.satl_frame.specs.DataPages.{page_count, pages_from, pages_of}
+use Rattle.satl_frame.proofs.Paging.{length-pages_of, pages_of-append, whole_block}
+use Rattle.satl_line.specs.declared.entry.Entry.{Entry}
+use Rattle.satl_unit.specs.declared.attention.Attention.{Attention}
+use Rattle.satl_drive.specs.State as drive
+use Rattle.satl_drive.specs.State.{DriveState, with_medium}
+use Rattle.satl_barrier.specs.Commands.{AreWhole}
+use Rattle.satl_barrier.specs.Leaving.{TellsOf}
+use Rattle.satl_barrier.specs.Settings.{IsSetBy}
+use Rattle.satl_direct.specs.Device.{Device}
+use Rattle.satl_direct.specs.Ending.{EndsPassed, medium_of, pass_data, pass_reply}
+use Rattle.satl_direct.specs.Tasks.{pass_of, task_of}
+use Rattle.satl_direct.proofs.Passing.{writes_none}
+use Rattle.satl_core.specs.declared.turning.Ending.{Ending}
+use Rattle.satl_core.specs.Medium.{PassesThrough, passed}
+use Rattle.satl_core.specs.Refilling.{EndsOne}
+use Rattle.satl_core.specs.Turning.{ended_reply, set_by, where_done, with_setting}
+use Rattle.satl_core.proofs.DeviceLemmas.{ends_around, ends_by, first_gone, quiet_none, seen}
+use Rattle.satl_core.proofs.SayingLemmas.{unbroken}
+
+-- ---- what is judged
+
+-- where nothing is refused, what is said is what the fields say
+says_fields : (cdb : List ℕ) (pass : Pass) → pass_says cdb ≡ Ok pass → pass_of cdb ≡ pass
+unfolding pass_says
+says_fields cdb pass e = unbroken (rules (form_of cdb)) cdb (pass_in (form_of cdb) cdb) pass e
+
+-- so it can be run
+pub can_run : (cdb : List ℕ) (pass : Pass) (found : Result Pass Illegal) → found ≡ Ok pass → found ≡ pass_says cdb → IfOk found CanRun → CanRun (pass_of cdb)
+can_run cdb pass found is says can = subst CanRun (sym (says_fields cdb pass (sym says ∙ is))) (subst (λ f. IfOk f CanRun) is can)
+
+not_false : (b : Bool) → not b ≡ false → b ≡ true
+not_false true h = refl
+not_false false h = absurd cc
+
+-- the length of a command of the profile is its own
+own_length : (pass : Pass) → is_other (command_in pass.regs) ≡ false → CanRun pass → pass.length ≡ 512 * own_blocks (command_in pass.regs)
+own_length pass named can =
+    eqb-true pass.length (512 * own_blocks (command_in pass.regs))
+    (not_false (pass.length == 512 * own_blocks (command_in pass.regs)) (subst (λ b. (not b && not (pass.length == 512 * own_blocks (command_in pass.regs))) ≡ false) named can.own_length))
+
+-- its data have room in its pages
+pub own_room : (pass : Pass) (n : ℕ) → CanRun pass → n ≡ page_count pass.length → own_blocks (command_in pass.regs) ≤ n
+own_room pass n can count = by (command_in pass.regs) refl
+  where
+    by : (c : AtaCommand) → command_in pass.regs ≡ c → own_blocks (command_in pass.regs) ≤ n
+    by (ata.Other code) is = let none = ap own_blocks is in omega (arith, none)
+    by c is = let size = own_length pass (ap is_other is) can in omega (arith, size, count)
+
+-- ---- whole pages
+
+one_page : (b : Block) → length b.bytes ≡ 512 → pages_of b.bytes ≡ b ∷ []
+unfolding pages_of pages_from
+one_page b size = rw size (ap (λ (p : Block). p ∷ []) (sym (whole_block b.bytes b.bytes (omega arith) (sym (take_all 512 b.bytes (omega arith))))))
+
+whole_length : (bs : List Block) → AreWhole bs → length (bytes_of bs) ≡ 512 * length bs
+whole_length [] whole = refl
+whole_length (b ∷ bs) whole = omega (arith, length-append b.bytes (bytes_of bs), whole.0, whole_length bs whole.1)
+
+pages_whole : (bs : List Block) → AreWhole bs → pages_of (bytes_of bs) ≡ bs
+unfolding pages_of pages_from
+pages_whole [] whole = refl
+pages_whole (b ∷ bs) whole = pages_of-append 1 b.bytes (bytes_of bs) whole.0 ∙ (ap (λ (ps : List Block). ps ++ pages_of (bytes_of bs)) (one_page b whole.0) ∙ ap (λ (ps : List Block). b ∷ ps) (pages_whole bs whole.1))
+
+first_all : (n : ℕ) (bs : List Block) → AreWhole bs → n ≡ 512 * length bs → first_bytes n bs ≡ bytes_of bs
+first_all n bs whole size = take_all n (bytes_of bs) (omega (arith, size, whole_length bs whole))
+
+-- whole pages are those of their bytes
+own_pages : (n : ℕ) (bs : List Block) → AreWhole bs → n ≡ 512 * length bs → pages_of (first_bytes n bs) ≡ bs
+own_pages n bs whole size = ap pages_of (first_all n bs whole size) ∙ pages_whole bs whole
+
+own_size : (n : ℕ) (bs : List Block) → AreWhole bs → n ≡ 512 * length bs → length (first_bytes n bs) ≡ 512 * length bs
+own_size n bs whole size = ap length (first_all n bs whole size) ∙ whole_length bs whole
+
+-- pages of so many bytes
+size_of_pages : (n : ℕ) (bs : List Block) → AreWhole bs → length bs ≡ page_count n → length (pages_of (first_bytes n bs)) ≡ page_count n
+size_of_pages n bs whole count =
+    length-pages_of (first_bytes n bs) ∙ ap page_count (length-take n (bytes_of bs) ∙ omega (arith, whole_length bs whole, count))
+
+-- ---- what it sets
+
+-- the mode values once an ATA command has ended
+abbrev modes_by : AtaCommand → Bool → Modes → Modes
+modes_by c bad modes = if bad then modes else set_by c modes
+
+-- the settings of a medium are those of the mode values
+pub record AreSet (modes : Modes) (m : Medium) : Type 0 where
+  pub cache : m.cache ≡ modes.wce
+  pub look : m.look ≡ not modes.dra
+
+keeps : (modes : Modes) (old new : Medium) (bad : Bool) → AreSet modes old → (new.cache ≡ old.cache) × (new.look ≡ old.look) → AreSet (if bad then modes else modes) new
+keeps modes old new true set same = record { cache = same.0 ∙ set.cache; look = same.1 ∙ set.look }
+keeps modes old new false set same = record { cache = same.0 ∙ set.cache; look = same.1 ∙ set.look }
+
+same_so : (old new after : Medium) → new ≡ after → after.cache ≡ old.cache → after.look ≡ old.look → (new.cache ≡ old.cache) × (new.look ≡ old.look)
+same_so old new after is cache look = (ap (λ (m : Medium). m.cache) is ∙ cache, ap (λ (m : Medium). m.look) is ∙ look)
+
+-- a command that goes over a range sets nothing
+carries_keep : (r : Registers) (t : Transfer) (old : Medium) (given : List Block) (ended : Taskfile) (taken : List Block) (new : Medium) → Carries r t old given ended taken new → (new.cache ≡ old.cache) × (new.look ≡ old.look)
+carries_keep r t old given ended taken new = by (nat_lt (length old.cells) (t.lba + t.sectors)) (first_flaw t.stopped_by old.cells t.lba t.sectors)
+  where
+    by : (outside : Bool) (flaw : Option ℕ)
+        → MatchBool outside (IsRefused r effects.idnf r.lba old given ended taken new)
+        (MatchOption flaw (effects.IsCarriedOut r t old given ended taken new ⊎ effects.IsGarbled r t old given ended taken new) (λ at. effects.IsFlawed r t at old given ended taken new))
+        → (new.cache ≡ old.cache) × (new.look ≡ old.look)
+    by true flaw x = same_so old new _ x.medium refl refl
+    by false None x = ⊎_elim (λ y. same_so old new _ y.medium refl refl) (λ y. same_so old new _ y.medium refl refl) x
+    by false (Some at) x = same_so old new _ x.medium refl refl
+
+module _ (r : Registers) (modes : Modes) (old : Medium) (given : List Block) (ended : Taskfile) (taken : List Block) (new : Medium) (set : AreSet modes old) where
+  refused_keeps : IsRefused r abrt 0 old given ended taken new → (bad_modes : Bool → Modes) → bad_modes true ≡ modes → AreSet (bad_modes (is_bad ended)) new
+  refused_keeps x bad_modes is =
+      subst (λ (e : Taskfile). AreSet (bad_modes (is_bad e)) new) (sym x.ends)
+      (subst (λ (m : Modes). AreSet m new) (sym is) (keeps modes old new true set (same_so old new _ x.medium refl refl)))
+
+  made : (s : Setting) → effects.IsSet s r old given ended taken new → AreSet (with_setting (Some s) modes) new
+  made (sets_cache true) x = record { cache = ap (λ (m : Medium). m.cache) x.medium; look = ap (λ (m : Medium). m.look) x.medium ∙ set.look }
+  made (sets_cache false) x = record { cache = ap (λ (m : Medium). m.cache) x.medium; look = ap (λ (m : Medium). m.look) x.medium ∙ set.look }
+  made (sets_look true) x = record { cache = ap (λ (m : Medium). m.cache) x.medium ∙ set.cache; look = ap (λ (m : Medium). m.look) x.medium }
+  made (sets_look false) x = record { cache = ap (λ (m : Medium). m.cache) x.medium ∙ set.cache; look = ap (λ (m : Medium). m.look) x.medium }
+
+  -- SET FEATURES: a setting that the drive has, or it is refused
+  features : (o : Option Setting) → MatchOption (settable old.identify o) (IsRefused r abrt 0 old given ended taken new) (λ s. effects.IsSet s r old given ended taken new)
+      → AreSet (if is_bad ended then modes else with_setting o modes) new
+  features None x = refused_keeps x (λ b. if b then modes else modes) refl
+  features (Some s) x = by (has_setting old.identify s) x
+    where
+      by : (has : Bool) → MatchOption (if has then Some s else None) (IsRefused r abrt 0 old given ended taken new) (λ s. effects.IsSet s r old given ended taken new) → AreSet (if is_bad ended then modes else with_setting (Some s) modes) new
+      by true x = subst (λ (e : Taskfile). AreSet (if is_bad e then modes else with_setting (Some s) modes) new) (sym x.ends) (made s x)
+      by false x = refused_keeps x (λ b. if b then modes else with_setting (Some s) modes) refl
+
+  -- what an ATA command leaves is set as the mode values behind it say
+  pub set_after : (c : AtaCommand) → Does c r old given ended taken new → AreSet (modes_by c (is_bad ended) modes) new
+  set_after (ata.Read how lba sectors) x = keeps modes old new (is_bad ended) set (carries_keep r (reading how lba sectors old) old given ended taken new x)
+  set_after (ata.Write how lba sectors) x = keeps modes old new (is_bad ended) set (carries_keep r (writing how lba sectors given old) old given ended taken new x)
+  set_after (ata.Verify ext lba sectors) x = keeps modes old new (is_bad ended) set (carries_keep r (verifying ext lba sectors) old given ended taken new x)
+  set_after (ata.Flush ext) x = keeps modes old new (is_bad ended) set (same_so old new _ x.medium refl refl)
+  set_after ata.Identify x = keeps modes old new (is_bad ended) set (same_so old new _ x.medium refl refl)
+  set_after (ata.SetFeatures what) x = features (setting_of what) x
+  set_after ata.Standby x = keeps modes old new (is_bad ended) set (same_so old new _ x.medium refl refl)
+  set_after ata.Idle x = keeps modes old new (is_bad ended) set (same_so old new _ x.medium refl refl)
+  set_after ata.CheckPower x = keeps modes old new (is_bad ended) set (same_so old new _ x.medium refl refl)
+  set_after (ata.ReadLog log page blocks) x = logged (effects.is_error_log log page blocks) x
+    where
+      logged : (b : Bool) → MatchBool b (effects.IsLogged r effects.no_error_log old given ended taken new) (IsRefused r abrt 0 old given ended taken new) → AreSet (if is_bad ended then modes else modes) new
+      logged true x = keeps modes old new (is_bad ended) set (same_so old new _ x.medium refl refl)
+      logged false x = keeps modes old new (is_bad ended) set (same_so old new _ x.medium refl refl)
+  set_after (ata.Trim blocks) x = trimmed (effects.is_no_trim blocks given old) x
+    where
+      trimmed : (b : Bool) → MatchBool b (IsRefused r abrt 0 old given ended taken new) (Carries r (trimming blocks given old) old given ended taken new) → AreSet (if is_bad ended then modes else modes) new
+      trimmed true x = keeps modes old new (is_bad ended) set (same_so old new _ x.medium refl refl)
+      trimmed false x = keeps modes old new (is_bad ended) set (carries_keep r (trimming blocks given old) old given ended taken new x)
+  set_after ata.SmartStatus x = keeps modes old new (is_bad ended) set (same_so old new _ x.medium refl refl)
+  set_after (ata.Other code) x = keeps modes old new (is_bad ended) set (same_so old new _ x.medium refl refl)
+
+-- the form of sense data stays
+same_form : (c : AtaCommand) (bad : Bool) (modes : Modes) → (modes_by c bad modes).d_sense ≡ modes.d_sense
+same_form c true modes = refl
+same_form (ata.SetFeatures what) false modes = by (setting_of what)
+  where
+    by : (o : Option Setting) → (with_setting o modes).d_sense ≡ modes.d_sense
+    by None = refl
+    by (Some (sets_cache on)) = refl
+    by (Some (sets_look on)) = refl
+same_form c false modes = refl
+
+twice : (b : Bool) → not (not b) ≡ b
+twice true = refl
+twice false = refl
+
+-- mode values by the settings of a medium
+modes_of : (modes set : Modes) (m : Medium) → AreSet set m → set.d_sense ≡ modes.d_sense → record modes { wce = m.cache; dra = not m.look } ≡ set
+modes_of modes set m are form =
+    ap (λ b. record modes { wce = b; dra = not m.look }) are.cache
+    ∙ (ap (λ b. record modes { wce = set.wce; dra = b }) (ap not are.look ∙ twice set.dra)
+    ∙ ap (λ b. record { wce = set.wce; dra = set.dra; d_sense = b }) (sym form))
+
+-- ---- how it ends
+
+done_by : {A : Type 0} (pass : Pass) (ended : Taskfile) (done kept : A) → where_done (passed pass ended) done kept ≡ (if is_bad ended then kept else done)
+done_by pass ended done kept = by (is_bad ended) pass.ck_cond _ _
+  where
+    by : (bad told : Bool) (error information : Sense) → where_done (Rattle.satl_core.specs.Medium.ending_with (if bad then Some error else if told then Some information else None) bad) done kept ≡ (if bad then kept else done)
+    by true told error information = refl
+    by false true error information = refl
+    by false false error information = refl
+
+-- the mode values behind it
+pub modes_behind : (pass : Pass) (ended : Taskfile) (c : AtaCommand) (modes : Modes) → where_done (passed pass ended) (set_by c modes) modes ≡ modes_by c (is_bad ended) modes
+modes_behind pass ended c modes = done_by pass ended (set_by c modes) modes
+
+-- the answer of the layer is that of the device
+reply_is : (s : Device) (entry : Entry) (cdb : List ℕ) (ended : Taskfile) (taken read : List Block)
+    → ((is_bad ended || (pass_of cdb).out) ≡ false → (pages_of (first_bytes (pass_of cdb).length read) ≡ taken) × (length (first_bytes (pass_of cdb).length read) ≡ 512 * length taken))
+    → ended_reply (record entry { command = cdbs.Pass cdb; body = taken }) (passed (pass_of cdb) ended) s.modes.d_sense ≡ pass_reply s (task_of (record entry { command = cdbs.Pass cdb })) (pass_of cdb) ended read
+unfolding pages_of pages_from
+reply_is s entry cdb ended taken read data = by (is_bad ended) refl (pass_of cdb).ck_cond refl (pass_of cdb).out refl
+  where
+    by : (bad : Bool) → is_bad ended ≡ bad → (told : Bool) → (pass_of cdb).ck_cond ≡ told → (out : Bool) → (pass_of cdb).out ≡ out
+        → ended_reply (record entry { command = cdbs.Pass cdb; body = taken }) (passed (pass_of cdb) ended) s.modes.d_sense ≡ pass_reply s (task_of (record entry { command = cdbs.Pass cdb })) (pass_of cdb) ended read
+    by true bad told ck out o = rw bad refl
+    by false good true ck true o = rw (good, ck, o) refl
+    by false good false ck true o = rw (good, ck, o) refl
+    by false good true ck false o = let both = data (rw (good, o) refl) in rw (good, ck, o, both.0, both.1) refl
+    by false good false ck false o = let both = data (rw (good, o) refl) in rw (good, ck, o, both.0, both.1) refl
+
+-- ---- the data that the device sees
+
+-- a command that the profile does not have is refused whatever is handed in
+refused_all : (c : AtaCommand) (r : Registers) (m : Medium) (given : List Block) (ended : Taskfile) (taken : List Block) (new : Medium) → Does c r m given ended taken new
+    → (is_other c ≡ false) ⊎ ((other : List Block) → Does c r m other ended other new × (is_bad ended ≡ true))
+refused_all (ata.Other code) r m given ended taken new x = inr (λ other. (record { ends = x.ends; data_in = refl; medium = x.medium }, ap is_bad x.ends))
+refused_all c r m given ended taken new x = inl refl
+
+-- the pages that the device is given: those of the data-out, and else any
+abbrev seen_pages : Pass → List Block → List Block
+seen_pages pass body = if pass.out then pages_of (first_bytes pass.length body) else body
+
+seen_size : (pass : Pass) (body : List Block) → AreWhole body → length body ≡ page_count pass.length → length (seen_pages pass body) ≡ page_count pass.length
+seen_size pass body whole count = elim pass.out as (λ b. length (if b then pages_of (first_bytes pass.length body) else body) ≡ page_count pass.length) [ true ↦ size_of_pages pass.length body whole count | false ↦ count ]
+
+module _ (identity : Identity) (modes : Modes) (started : Bool) (attentions : List (List Attention)) (entry : Entry) (others : List Entry) (d : DriveState) (cdb : List ℕ) where
+  abbrev pass : Pass
+  pass = pass_of cdb
+
+  abbrev command : AtaCommand
+  command = command_in pass.regs
+
+  abbrev task : Entry
+  task = record entry { command = cdbs.Pass cdb }
+
+  abbrev before : Device
+  before = seen identity modes started attentions (task_of task ∷ others) d
+
+  same_medium : IsSetBy modes d → TellsOf identity.bytes d → drive.medium_of d ≡ medium_of before
+  same_medium set told =
+      ap (λ i. record (drive.medium_of d) { identify = i }) told
+      ∙ (ap (λ b. record { cells = d.cells; cache = b; look = d.look; active = d.active; glitches = d.glitches; identify = identity_data identity.bytes b d.look }) set.cache
+      ∙ ap (λ b. record { cells = d.cells; cache = modes.wce; look = b; active = d.active; glitches = d.glitches; identify = identity_data identity.bytes modes.wce b }) set.look)
+
+  -- the data-out of a command of the profile are its pages
+  out_is : CanRun pass → is_other command ≡ false → length entry.body ≡ page_count pass.length → AreWhole entry.body → pass.out ≡ true → (task_of task).body ≡ entry.body
+  out_is can named count whole out =
+      let size = own_length pass named can in
+      ap (λ b. if b then pages_of (first_bytes pass.length entry.body) else []) out ∙ own_pages pass.length entry.body whole (omega (arith, size, count))
+
+  -- what it writes is what the device says that it writes
+  pub pass_pairs : (pair : Pair) → IsSetBy modes d → TellsOf identity.bytes d → CanRun pass → length entry.body ≡ page_count pass.length → AreWhole entry.body → IsIn pair (pairs_of command (drive.medium_of d) entry.body)
+      → IsIn pair (pairs_of command (medium_of before) (task_of task).body)
+  pass_pairs pair set told can count whole among = ⊎_elim (λ named. by named pass.out refl) (λ none. absurd (subst (IsIn pair) (none (drive.medium_of d) entry.body) among)) (named_or_none command)
+    where
+      named_or_none : (c : AtaCommand) → (is_other c ≡ false) ⊎ ((m : Medium) (given : List Block) → pairs_of c m given ≡ [])
+      named_or_none (ata.Other code) = inr (λ m given. refl)
+      named_or_none c = inl refl
+
+      by : is_other command ≡ false → (b : Bool) → pass.out ≡ b → IsIn pair (pairs_of command (medium_of before) (task_of task).body)
+      by named true out = subst (λ g. IsIn pair (pairs_of command (medium_of before) g)) (sym (out_is can named count whole out)) (subst (λ m. IsIn pair (pairs_of command m entry.body)) (same_medium set told) among)
+      by named false out = absurd (subst (IsIn pair) (writes_none command pass can.own_length can.own_direction out (drive.medium_of d) entry.body) among)
+
+  module _ (d' : DriveState) (ending : Ending) (taken : List Block) (set : IsSetBy modes d) (told : TellsOf identity.bytes d) (can : CanRun pass) (count : length entry.body ≡ page_count pass.length) (x : PassesThrough pass entry.body taken d ending d') where
+    abbrev left : Modes
+    left = record modes { wce = x.is.after.cache; dra = not x.is.after.look }
+
+    abbrev mid : Device
+    mid = seen identity left started attentions others (with_medium d x.is.after)
+
+    abbrev reply : Reply
+    reply = ended_reply (record task { body = taken }) (passed pass x.ended) modes.d_sense
+
+    does : Does command pass.regs (medium_of before) entry.body x.ended taken x.is.after
+    does = subst (λ m. Does command pass.regs m entry.body x.ended taken x.is.after) (same_medium set told) x.is.does
+
+    left_is : left ≡ where_done (passed pass x.ended) (set_by command modes) modes
+    left_is =
+        modes_of modes (modes_by command (is_bad x.ended) modes) x.is.after (set_after pass.regs modes (medium_of before) entry.body x.ended taken x.is.after (record { cache = refl; look = refl }) command does) (same_form command (is_bad x.ended) modes)
+        ∙ sym (modes_behind pass x.ended command modes)
+
+    goes : mid ≡ record before { cells = x.is.after.cells; tasks = Rattle.satl_direct.specs.Device.without (task_of task) before.tasks; modes = left; active = x.is.after.active; glitches = x.is.after.glitches }
+    goes = first_gone identity left started attentions (task_of task) others (with_medium d x.is.after)
+
+    passes : (is_other command ≡ false) ⊎ ((other : List Block) → Does command pass.regs (medium_of before) other x.ended other x.is.after × (is_bad x.ended ≡ true)) → EndsPassed pass before (task_of task) reply mid
+    passes (inl named) =
+        let size = own_length pass named can in
+        record {
+          given = entry.body;
+          data_out = λ out. sym (out_is can named count x.whole out);
+          size = count;
+          ended = x.ended;
+          taken = taken;
+          after = x.is.after;
+          does = does;
+          answer = reply_is before entry cdb x.ended taken taken (λ good. (own_pages pass.length taken x.left_whole (omega (arith, size, count, x.size)), own_size pass.length taken x.left_whole (omega (arith, size, count, x.size))));
+          stays = goes;
+        }
+    passes (inr any) = record {
+      given = seen_pages pass entry.body;
+      data_out = λ out. ap (λ b. if b then pages_of (first_bytes pass.length entry.body) else entry.body) out ∙ sym (ap (λ b. if b then pages_of (first_bytes pass.length entry.body) else []) out);
+      size = seen_size pass entry.body x.whole count;
+      ended = x.ended;
+      taken = seen_pages pass entry.body;
+      after = x.is.after;
+      does = (any (seen_pages pass entry.body)).0;
+      answer = reply_is before entry cdb x.ended taken (seen_pages pass entry.body) (λ good. absurd (no (is_bad x.ended) (any []).1 good));
+      stays = goes;
+    }
+      where
+        no : (b : Bool) → b ≡ true → (b || pass.out) ≡ false → ⊥
+        no true is good = absurd cc
+        no false is good = absurd cc
+
+    -- it ends as the device says
+    pub pass_turn : EndsOne before (ended_reply (record task { body = taken }) ending modes.d_sense) (seen identity (where_done ending (set_by command modes) modes) started attentions others d')
+    pass_turn =
+        subst (λ e. EndsOne before (ended_reply (record task { body = taken }) e modes.d_sense) (seen identity (where_done e (set_by command modes) modes) started attentions others d')) (sym x.told)
+        (subst (λ m. EndsOne before reply (seen identity m started attentions others d')) left_is
+        (ends_around before before mid (seen identity left started attentions others d') (task_of task) others reply (quiet_none before) refl
+        (ends_by before (task_of task) reply mid set.up (never started) (passes (refused_all command pass.regs (medium_of before) entry.body x.ended taken x.is.after does)))
+        (record {
+          cells = lose_once x.is.lost;
+          active = inl (ap (λ (y : DriveState). y.active) x.is.stays);
+          stays = ap (λ (y : DriveState). record mid { cells = d'.cells; active = d'.active; down = y.down; glitches = y.glitches }) x.is.stays;
+        })))
+      where
+        never : (b : Bool) → (not b && false) ≡ false
+        never true = refl
+        never false = refl
