@@ -20,7 +20,7 @@ use Rattle.satl_direct.specs.Turn.Turn.{idle, ends, loses, ends_and_loses}
 use Rattle.satl_audit.specs.Deeds.{Deed, DoneBy, Walks}
 use Rattle.satl_audit.specs.Deeds.Deed.{shows}
 use Rattle.satl_audit.specs.Skeleton.{TurnsDone, bare, shown}
-use Rattle.satl_laws.proofs.Arrivals.{arrival_quiet}
+use Rattle.satl_laws.proofs.QuietArrivals.{arrival_quiet}
 use Rattle.satl_audit.proofs.Coming.{Comes, IsKnown}
 use Rattle.satl_audit.proofs.Ending.{turn_split}
 use Rattle.satl_audit.proofs.Keeping.{IsSane, sane_on, sane_same}

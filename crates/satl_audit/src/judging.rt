@@ -3,7 +3,7 @@ ghost use Rattle.std.specs.Prelude.{◌≡◌, ◌+◌, List, [], true, nat_lt, 
 ghost use Rattle.satl_base.specs.declared.block.Block.{Block};
 ghost use Rattle.satl_base.specs.Lists.{is_in};
 ghost use Rattle.satl_cdb.specs.Table.{says};
-ghost use Rattle.satl_direct.specs.Arrival.{built, code_arrival, command_arrival, untold_codes};
+ghost use Rattle.satl_direct.specs.Arrival.{code_arrival, command_arrival, untold_codes};
 ghost use Rattle.satl_direct.specs.Device.{Device};
 ghost use Rattle.satl_direct.specs.Senses.{attention_sense, plain, refusal};
 ghost use Rattle.satl_direct.specs.Tasks.{asks, held_blocks, is_ordered, needed, range_of};
@@ -24,41 +24,6 @@ use satl_unit::Attention;
 pub enum AtOnce {
     Good,
     Check(Sense),
-}
-
-/// Whether an operation code is served.
-fn is_built(code: u8) -> bool
-    ensures { result ≡ is_in code built }
-{
-    matches!(
-        code,
-        0x00 | 0x03
-            | 0x08
-            | 0x0A
-            | 0x12
-            | 0x15
-            | 0x1A
-            | 0x1B
-            | 0x25
-            | 0x28
-            | 0x2A
-            | 0x2F
-            | 0x35
-            | 0x41
-            | 0x42
-            | 0x55
-            | 0x5A
-            | 0x88
-            | 0x8A
-            | 0x8F
-            | 0x91
-            | 0x93
-            | 0x9E
-            | 0xA0
-            | 0xA8
-            | 0xAA
-            | 0xAF
-    )
 }
 
 /// Whether a command of this operation code is carried out before a unit attention is told (SAM-5 5.14).
@@ -204,16 +169,12 @@ fn judge_command(
     begin(command)
 }
 
-/// Judges a request by its operation code, its fields and its data-out: its command, which may become a task, or the answer at
-/// once.
+/// Judges a request by its CDB and its data-out: its command, which may become a task, or the answer at once.
 pub fn judge(identity: &Identity, request: &Request) -> Result<Command, AtOnce>
     requires { is_known (says request.now.cdb identity.now.trim) ≡ true }
     ensures waits { IfOk result (MayWait identity.now.capacity request.now.data_len) }
     ensures judged { (s : Device) → (body : List Block) → IsServing identity.now s → code_arrival s (record request.now { body = body }) ≡ judged s (record request.now { body = body }) result }
 {
-    if !is_built(request.cdb[0]) {
-        return Err(AtOnce::Check(plain(0x5, 0x20, 0x00)));
-    }
     match read_cdb(&request.cdb, identity.trim) {
         Ok(command) => judge_command(identity, request, command),
         Err(why) => Err(AtOnce::Check(refusal(why))),
