@@ -1,9 +1,9 @@
 -- A command that goes over the medium alone ends as the device says.
-use Rattle.std.proofs.Common.{◌≡◌, ⊎_elim, inl, inr, refl, sym, ap, subst, ◌∙◌, arith, ℕ, zero, suc, ◌+◌, ◌≤◌, Bool, true, false, List, [], ◌∷◌, ◌++◌, length, map, Some, None}
+use Rattle.std.proofs.Common.{◌≡◌, ⊎_elim, inl, inr, refl, sym, ap, subst, ◌∙◌, arith, ℕ, zero, suc, ◌+◌, ◌≤◌, Bool, true, false, List, [], ◌∷◌, ◌++◌, length, Some, None}
 use Rattle.std.specs.List.{AllByRecursion}
 use Rattle.satl_base.specs.Identify.{has_trim}
 use Rattle.satl_base.specs.Lists.{IsIn}
-use Rattle.std.specs.Prelude.{◌⊎◌, MatchBool, MatchOption, Option, if◌then◌else◌, not, ◌&&◌, ◌||◌, get_or, min, replicate, take}
+use Rattle.std.specs.Prelude.{◌⊎◌, MatchOption, Option, if◌then◌else◌, not, ◌&&◌, ◌||◌, get_or, min, replicate}
 use Rattle.satl_base.specs.declared.block.Block.{Block}
 use Rattle.satl_base.specs.declared.block.Range.{Range}
 use Rattle.satl_base.specs.declared.bench.Which.TheVariants as flaws
@@ -11,8 +11,7 @@ use Rattle.satl_base.specs.declared.modes.Modes.{Modes}
 use Rattle.satl_base.specs.declared.reply.Reply.{Reply}
 use Rattle.satl_base.specs.declared.reply.Scsi.TheVariants.{Good}
 use Rattle.satl_base.specs.Blocks.{no_block, zero_block}
-use Rattle.satl_base.specs.Cells.{Cell, Pair, Part, first_flaw, nows, pairs_from, whole}
-use Rattle.satl_base.specs.Losses.{Loses}
+use Rattle.satl_base.specs.Cells.{Cell, Pair, Part, first_flaw, pairs_from, whole}
 use Rattle.satl_base.specs.Moves.{stay}
 use Rattle.satl_base.proofs.MovesLemmas.{lose_once}
 use Rattle.satl_cdb.specs.declared.command.Command.{Command}
@@ -24,9 +23,8 @@ use Rattle.satl_pass.specs.Status.{error_sense_at}
 use Rattle.satl_regs.specs.Effects.{Transfer, unc, zeros_at}
 use Rattle.satl_regs.specs.Trim.{addresses, addresses_from}
 use Rattle.satl_line.specs.declared.entry.Entry.{Entry}
-use Rattle.satl_line.specs.Ending.{EndsAs, Outcome, active_after}
 use Rattle.satl_line.specs.Ending.Outcome.{ends_done, ends_glitched}
-use Rattle.satl_line.specs.Ranged.{written_pairs, zeros_over}
+use Rattle.satl_line.specs.Ranged.{zeros_over}
 use Rattle.satl_line.specs.Ranged.RangedTask.{ranged_trim}
 use Rattle.satl_unit.specs.declared.attention.Attention.{Attention}
 use Rattle.satl_drive.specs.State.{DriveState}
@@ -39,12 +37,12 @@ use Rattle.satl_barrier.specs.Finishing.{ComparesAs, FinishesAs, IsVerified, IsT
 use Rattle.satl_direct.specs.Device.{Device, without}
 use Rattle.satl_direct.specs.Tasks.{asks, over, task_of}
 use Rattle.satl_direct.specs.Ending.{EndsBy, EndsCompared, EndsGarbled, EndsInPieces, EndsOnMedium, EndsTorn, EndsVerified, IsChecked, IsCompared, IsDone, same_pairs, task_check, task_reply}
-use Rattle.satl_direct.specs.Quiet.{MayShow, MayWake, Quiet, StaysOrWakes, is_pass, wakes, writes}
+use Rattle.satl_direct.specs.Quiet.{MayShow, MayWake, Quiet, is_pass, wakes, writes}
 use Rattle.satl_direct.specs.Senses.{crc_error, miscompare, read_error, write_error}
 use Rattle.satl_core.specs.declared.turning.Ending.{Ending}
 use Rattle.satl_core.specs.declared.turning.Ending.TheVariants as endings
 use Rattle.satl_core.specs.Medium as medium
-use Rattle.satl_core.specs.Layer.{AreTrimmed, CanTrim, IsCovered, IsTask, entry_pages}
+use Rattle.satl_core.specs.Layer.{AreTrimmed, CanTrim, IsCovered, entry_pages}
 use Rattle.satl_barrier.specs.Leaving.{TellsOf}
 use Rattle.satl_barrier.specs.Settings.{IsSetBy}
 use Rattle.satl_core.specs.Medium.{HasCompared, HasData, HasFinished, HasVerified, HasWhole, MayTrim, TakesTrim, written_alone}

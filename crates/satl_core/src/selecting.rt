@@ -39,10 +39,22 @@ fn set_by(command: &AtaCommand, modes: &Modes) -> Modes
     ensures { result ≡ set_by command.now modes.now }
 {
     match *command {
-        AtaCommand::SetFeatures { what: 0x02 } => Modes { wce: true, ..*modes },
-        AtaCommand::SetFeatures { what: 0x82 } => Modes { wce: false, ..*modes },
-        AtaCommand::SetFeatures { what: 0xAA } => Modes { dra: false, ..*modes },
-        AtaCommand::SetFeatures { what: 0x55 } => Modes { dra: true, ..*modes },
+        AtaCommand::SetFeatures { what: 0x02 } => Modes {
+            wce: true,
+            ..*modes
+        },
+        AtaCommand::SetFeatures { what: 0x82 } => Modes {
+            wce: false,
+            ..*modes
+        },
+        AtaCommand::SetFeatures { what: 0xAA } => Modes {
+            dra: false,
+            ..*modes
+        },
+        AtaCommand::SetFeatures { what: 0x55 } => Modes {
+            dra: true,
+            ..*modes
+        },
         _ => *modes,
     }
 }
