@@ -18,7 +18,7 @@ use Rattle.satl_regs.specs.Effects.{Carries, pairs_of, IsCarriedOut, IsFlawed as
 use Rattle.satl_drive.specs.State.{DriveState, medium_of, with_medium}
 use Rattle.satl_barrier.specs.declared.finishing.Finish.{Finish}
 use Rattle.satl_barrier.specs.declared.finishing.Finish.TheVariants as finishes
-use Rattle.satl_barrier.specs.Finishing.{FinishesAs, IsDone, IsFlawed, IsGarbled, IsReached, finish_of, verifying, writing}
+use Rattle.satl_barrier.specs.Finishing.{FinishesAs, IsDone, IsFlawed, IsGarbled, IsReached, IsVerified, finish_of, flaw_of, verifying, writing}
 
 -- what follows from a good end and from a lost link
 pub either_way : {T E : Type 0} {Q : T → Type 0} {P R : Type 0} (r : Result T E) → ((x : T) → Q x → P) → (R → P) → IfOk r Q → OnErr r R → P
@@ -132,11 +132,13 @@ verify_gone range old given ended taken new reached run = record { was_up = run.
 pub verified : (range : Range) (old : DriveState) (given : List Block) (ended : Taskfile) (taken : List Block) (new : DriveState) → IsReached range old → HasRun (commands.Verify true range.lba range.count) old given ended taken new → (it : Finish) → it ≡ finish_of ended → VerifiesAs (verifying range) it old new
 verified range old given ended taken new reached run it is = no_dma_verified false flaws.Read range.lba range.count [] [] (command_registers (commands.Verify true range.lba range.count)) old given ended taken new (verify_gone range old given ended taken new reached run) refl it (sym is)
 
--- it went over all, where no flaw stopped it
-pub all_verified : (t : Transfer) (old new : DriveState) (it : Finish) → ((at : ℕ) → it ≡ finishes.Flawed at → ⊥) → VerifiesAs t it old new → IsDone t old new
-all_verified t old new finishes.Done clear x = x
-all_verified t old new (finishes.Flawed at) clear x = absurd (clear at refl)
-all_verified t old new finishes.Garbled clear x = absurd x
+-- so the taskfile tells whether a flaw stopped it
+pub verified_by : (range : Range) (ended : Taskfile) (old new : DriveState) → VerifiesAs (verifying range) (finish_of ended) old new → IsVerified range (flaw_of ended) old new
+verified_by range ended old new x =
+    (elim (bits_of 0 0 ended.status == 0) as (λ b. VerifiesAs (verifying range) (if b then finishes.Done else if bits_of 7 7 ended.error == 1 then finishes.Garbled else finishes.Flawed ended.lba) old new → IsVerified range (if b then None else Some ended.lba) old new) [
+      | true ↦ λ done. done
+      | false ↦ elim (bits_of 7 7 ended.error == 1) as (λ b. VerifiesAs (verifying range) (if b then finishes.Garbled else finishes.Flawed ended.lba) old new → IsVerified range (Some ended.lba) old new) [ true ↦ λ garbled. absurd garbled | false ↦ λ flawed. flawed ]
+    ]) x
 
 -- the pages stay where nothing is read
 pub pages_kept : (dma : Bool) (which : Which) (lba count : ℕ) (writes : List Pair) (r : Registers) (old : DriveState) (given : List Block) (ended : Taskfile) (taken : List Block) (new : DriveState) → HasGone (over dma which lba count writes []) r old given ended taken new → taken ≡ given
