@@ -3,6 +3,7 @@ ghost use Rattle.std.specs.Prelude.{◌≡◌};
 ghost use Rattle.satl_direct.specs.Attentions.{are_same_modes};
 ghost use Rattle.satl_core.specs.Turning.{change_posting, modes_after, set_by, wanted_by};
 
+use crate::alone::Alone;
 use crate::managing::Posting;
 use crate::turning::Ending;
 use satl_base::{ModeChange, Modes, Nexus};
@@ -26,10 +27,10 @@ pub fn wanted_by(modes: &Modes, change: &Option<ModeChange>) -> Modes
 pub fn modes_after(command: &Command, ending: Ending, modes: &Modes, wanted: &Modes) -> Modes
     ensures { result ≡ modes_after command.now ending modes.now wanted.now }
 {
-    match (command, ending) {
+    match (Alone::of(command), ending) {
         (_, Ending::Check(_)) => *modes,
-        (Command::ModeSelect { .. }, _) => *wanted,
-        (Command::Pass { cdb }, _) => set_by(&plan(&pass_of(cdb)), modes),
+        (Some(Alone::Select), _) => *wanted,
+        (Some(Alone::Through { cdb }), _) => set_by(&plan(&pass_of(&cdb)), modes),
         _ => *modes,
     }
 }
