@@ -18,7 +18,7 @@ use Rattle.satl_regs.specs.Effects.{Carries, pairs_of, IsCarriedOut, IsFlawed as
 use Rattle.satl_drive.specs.State.{DriveState, medium_of, with_medium}
 use Rattle.satl_barrier.specs.declared.finishing.Finish.{Finish}
 use Rattle.satl_barrier.specs.declared.finishing.Finish.TheVariants as finishes
-use Rattle.satl_barrier.specs.Finishing.{FinishesAs, IsDone, IsFlawed, IsGarbled, IsReached, IsVerified, finish_of, flaw_of, verifying, writing}
+use Rattle.satl_barrier.specs.Finishing.{FinishesAs, IsDone, IsFlawed, IsGarbled, IsReached, finish_of, verifying, writing}
 
 -- what follows from a good end and from a lost link
 pub either_way : {T E : Type 0} {Q : T → Type 0} {P R : Type 0} (r : Result T E) → ((x : T) → Q x → P) → (R → P) → IfOk r Q → OnErr r R → P
@@ -56,12 +56,6 @@ ways t r old given ended taken after within carries =
     by : (o : Option ℕ) → first_flaw t.stopped_by old.cells t.lba t.sectors ≡ o → judged o → Ways t r old given ended taken after
     by None is x = record { way = inl (is, x) }
     by (Some at) is x = record { way = inr (at, is, x) }
-
--- how it ended where no CRC error may stop it
-abbrev pub VerifiesAs : Transfer → Finish → DriveState → DriveState → Type 0
-VerifiesAs t finishes.Done old new = IsDone t old new
-VerifiesAs t (finishes.Flawed at) old new = IsFlawed t at old new
-VerifiesAs t finishes.Garbled old new = ⊥
 
 -- how it ended, by its taskfile; the clauses leave out what moves
 module _ (dma : Bool) (which : Which) (lba count : ℕ) (writes : List Pair) (reads : List Block) (r : Registers) (old : DriveState) (given : List Block) (ended : Taskfile) (taken : List Block) (new : DriveState) (gone : HasGone (over dma which lba count writes reads) r old given ended taken new) where
@@ -105,16 +99,6 @@ module _ (dma : Bool) (which : Which) (lba count : ℕ) (writes : List Pair) (re
       (λ s. subst (λ e. FinishesAs (over true which lba count writes []) count (finish_of e) old new) (sym s.2.ends) (flawed_so s.0 s.1 s.2))
       (ways (over dma which lba count writes reads) r old given ended taken gone.after gone.within gone.carries).way
 
-  -- without DMA no CRC error stops it
-  pub no_dma_verified : dma ≡ false → (at : Finish) → finish_of ended ≡ at → VerifiesAs (over true which lba count writes []) at old new
-  no_dma_verified none at is = subst (λ it. VerifiesAs (over true which lba count writes []) it old new) is (⊎_elim
-      (λ n. ⊎_elim
-      (λ x. subst (λ e. VerifiesAs (over true which lba count writes []) (finish_of e) old new) (sym x.ends) (done_so n.0 x))
-      (λ x. absurd (let dma_is : dma ≡ true = x.by_dma in cc))
-      n.1)
-      (λ s. subst (λ e. VerifiesAs (over true which lba count writes []) (finish_of e) old new) (sym s.2.ends) (flawed_so s.0 s.1 s.2))
-      (ways (over dma which lba count writes reads) r old given ended taken gone.after gone.within gone.carries).way)
-
 pub done_by : (t : Transfer) (count : ℕ) (it : Finish) (old new : DriveState) → it ≡ finishes.Done → FinishesAs t count it old new → IsDone t old new
 done_by t count it old new is x = subst (λ f. FinishesAs t count f old new) is x
 
@@ -125,20 +109,6 @@ pub garbled_by : (t : Transfer) (count : ℕ) (it : Finish) (old new : DriveStat
 garbled_by t count it old new is x = subst (λ f. FinishesAs t count f old new) is x
 
 -- ---- each command
-
-verify_gone : (range : Range) (old : DriveState) (given : List Block) (ended : Taskfile) (taken : List Block) (new : DriveState) → IsReached range old → HasRun (commands.Verify true range.lba range.count) old given ended taken new → HasGone (over false flaws.Read range.lba range.count [] []) (command_registers (commands.Verify true range.lba range.count)) old given ended taken new
-verify_gone range old given ended taken new reached run = record { was_up = run.was_up; within = reached.within; after = run.after; carries = run.does; lost = run.lost; stays = run.stays }
-
-pub verified : (range : Range) (old : DriveState) (given : List Block) (ended : Taskfile) (taken : List Block) (new : DriveState) → IsReached range old → HasRun (commands.Verify true range.lba range.count) old given ended taken new → (it : Finish) → it ≡ finish_of ended → VerifiesAs (verifying range) it old new
-verified range old given ended taken new reached run it is = no_dma_verified false flaws.Read range.lba range.count [] [] (command_registers (commands.Verify true range.lba range.count)) old given ended taken new (verify_gone range old given ended taken new reached run) refl it (sym is)
-
--- so the taskfile tells whether a flaw stopped it
-pub verified_by : (range : Range) (ended : Taskfile) (old new : DriveState) → VerifiesAs (verifying range) (finish_of ended) old new → IsVerified range (flaw_of ended) old new
-verified_by range ended old new x =
-    (elim (bits_of 0 0 ended.status == 0) as (λ b. VerifiesAs (verifying range) (if b then finishes.Done else if bits_of 7 7 ended.error == 1 then finishes.Garbled else finishes.Flawed ended.lba) old new → IsVerified range (if b then None else Some ended.lba) old new) [
-      | true ↦ λ done. done
-      | false ↦ elim (bits_of 7 7 ended.error == 1) as (λ b. VerifiesAs (verifying range) (if b then finishes.Garbled else finishes.Flawed ended.lba) old new → IsVerified range (Some ended.lba) old new) [ true ↦ λ garbled. absurd garbled | false ↦ λ flawed. flawed ]
-    ]) x
 
 -- the pages stay where nothing is read
 pub pages_kept : (dma : Bool) (which : Which) (lba count : ℕ) (writes : List Pair) (r : Registers) (old : DriveState) (given : List Block) (ended : Taskfile) (taken : List Block) (new : DriveState) → HasGone (over dma which lba count writes []) r old given ended taken new → taken ≡ given
