@@ -1,6 +1,6 @@
 -- The first task ends as the device says, where nothing is outstanding.
 use Rattle.std.proofs.Common.{◌≡◌, inl, refl, sym, ap, subst, ◌∙◌, ℕ, true, false, Bool, List, [], ◌∷◌, ◌++◌, map, Some, None}
-use Rattle.std.specs.Prelude.{IfSome, IsSomeAnd, ◌≤◌, length, MatchBool, Option, if◌then◌else◌, not, ◌==◌, ◌&&◌}
+use Rattle.std.specs.Prelude.{IfSome, IsSomeAnd, MatchBool, Option, if◌then◌else◌, not, ◌==◌, ◌&&◌}
 use Rattle.std.specs.List.{AllByRecursion}
 use Rattle.satl_base.specs.declared.block.Block.{Block}
 use Rattle.satl_base.specs.declared.modes.Modes.{Modes}
@@ -211,7 +211,7 @@ lost_turn identity modes started attentions entry others d d' pairs answers set 
 -- a task that ends with sense has sets nothing
 pub still : (capacity n : ℕ) (modes wanted : Modes) (started : Bool) (sense : Sense) (command : Command) → IsTask capacity command n → (modes_after command (endings.Check sense) modes wanted ≡ modes) × (started_after command (endings.Check sense) started ≡ started)
 still capacity n modes wanted started sense command t =
-    of_task (λ c. (modes_after c (endings.Check sense) modes wanted ≡ modes) × (started_after c (endings.Check sense) started ≡ started)) capacity n command (λ form lba count fua t. (refl, refl)) (λ form lba count fua t. (refl, refl)) (λ form lba count none. (refl, refl)) (λ start no_flush none. (refl, refl)) (λ ten size none. (refl, refl)) (λ form lba count t. (refl, refl)) (λ form lba count t. (refl, refl)) (λ form lba count unmap t. (refl, refl)) (λ size t. (refl, refl)) (λ cdb t. (refl, refl)) t
+    of_task (λ c. (modes_after c (endings.Check sense) modes wanted ≡ modes) × (started_after c (endings.Check sense) started ≡ started)) capacity n command (λ form lba count fua t. (refl, refl)) (λ form lba count fua t. (refl, refl)) (λ form lba count none. (refl, refl)) (λ start no_flush none. (refl, refl)) (λ ten size none. (refl, refl)) (λ form lba count t. (refl, refl)) (λ form lba count t. (refl, refl)) (λ form lba count unmap t. elim unmap as (λ b. (modes_after (cdbs.WriteSame form lba count b) (endings.Check sense) modes wanted ≡ modes) × (started_after (cdbs.WriteSame form lba count b) (endings.Check sense) started ≡ started)) [ true ↦ (refl, refl) | false ↦ (refl, refl) ]) (λ size t. (refl, refl)) (λ cdb t. (refl, refl)) t
 
 checked_seen : (identity : Identity) (modes wanted : Modes) (started : Bool) (attentions : List (List Attention)) (entry : Entry) (others : List Entry) (d' : DriveState) (sense : Sense) (ending : Ending) → IsKeptEntry identity entry → ending ≡ endings.Check sense
     → ended_seen identity modes wanted started attentions entry ending others d' ≡ seen identity modes started attentions others d'

@@ -1,6 +1,5 @@
 -- What commands do that run alone on the drive.
-use Rattle.std.specs.Prelude.{ℕ, Bool, true, false, Option, Some, None}
-use Rattle.satl_base.specs.declared.block.Range.{Range}
+use Rattle.std.specs.Prelude.{Bool, true, false, Option, Some, None}
 use Rattle.satl_cdb.specs.declared.command.Command.{Command}
 use Rattle.satl_cdb.specs.declared.command.Command.TheVariants as commands
 use Rattle.satl_direct.specs.Tasks.{over}

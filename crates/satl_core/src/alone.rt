@@ -1,5 +1,5 @@
 // What commands do that run alone on the drive.
-ghost use Rattle.std.specs.Prelude.{◌≡◌};
+ghost use Rattle.std.specs.Prelude.{◌≡◌, ◌&&◌, not};
 ghost use Rattle.satl_core.specs.Alone.{alone_of};
 
 use satl_base::Range;
@@ -61,13 +61,14 @@ impl Alone {
         Some(alone)
     }
 
-    /// Whether a started unit alone does it (SPC-4 4.5.6, NOT READY).
-    pub fn needs_start(&self) -> bool
-        ensures { result ≡ needs_start self.now }
+    /// Whether it waits for a started unit, which this one is or is not (SPC-4 4.5.6, NOT READY).
+    pub fn waits(&self, started: bool) -> bool
+        ensures { result ≡ (not started && needs_start self.now) }
     {
-        !matches!(
-            *self,
-            Alone::Select | Alone::Switch { .. } | Alone::Through { .. }
-        )
+        !started
+            && !matches!(
+                *self,
+                Alone::Select | Alone::Switch { .. } | Alone::Through { .. }
+            )
     }
 }

@@ -82,7 +82,7 @@ pub fn run_task<D: Drive, L: Ledger>(
     let Some(alone) = Alone::of(&task.command) else {
         return Ok(not_ready());
     };
-    if !started && alone.needs_start() {
+    if alone.waits(started) {
         return Ok(not_ready());
     }
     carry_out(alone, modes, wanted, task, pool, drive, steps)

@@ -116,12 +116,14 @@ returns-in-Ok-clause-ends g c =
     let tied = subst (λ l. Tied l d) (sym c.self.view_is) c.requires.tied in
     let first = first_of i.queue.tasks c.remove-task.new.self.tasks c.remove-task.result c.remove-task.ensures.value c.remove-task.ensures.others in
     let new = seen i.identity c.modes_after-modes.result c.started_after-self-inside.result c.post.new.attentions (map task_of (entries_of c.remove-task.new.self.tasks)) d' in
+    let kept = first_kept i.identity i.queue.tasks c.remove-task.new.self.tasks c.remove-task.result c.self.invariant.kept first in
+    let carry = can_carry i.identity c.remove-task.result d kept.0 (sym (capacity_is _ d tied.agrees)) (sym (capacity_is _ d tied.agrees) ∙ sym tied.agrees.fit.sectors) (has_as_noted _ d tied.agrees).trim in
     inl (
       c.end_task.result,
       c.push.ensures ∙ ap (λ l. l ++ c.end_task.result ∷ []) c.requires.empty,
       subst (λ r. EndsOne (view c.args.self.now d) r new) (sym (c.end_task.ensures.reply ∙ ap (λ t. ended_reply t c.in-Ok.ending i.modes.d_sense) c.run_task.ensures.task))
           (subst (λ l. EndsOne (view l d) (ended_reply (record c.remove-task.result { body = c.run_task.new.task.body }) c.in-Ok.ending i.modes.d_sense) new) c.self.view_is
-          (first_ends was c.remove-task.new.self.tasks c.remove-task.result d d' c.self.invariant.kept first tied.agrees (run_task-requires-clause-carry _ c) c.in-Ok.ending c.run_task.new.task.body c.started_after-self-inside.result c.wanted_by-wanted.result c.modes_after-modes.result c.change_posting-posting.result c.post.new.attentions
+          (first_ends was c.remove-task.new.self.tasks c.remove-task.result d d' c.self.invariant.kept first tied.agrees carry c.in-Ok.ending c.run_task.new.task.body c.started_after-self-inside.result c.wanted_by-wanted.result c.modes_after-modes.result c.change_posting-posting.result c.post.new.attentions
           c.wanted_by-wanted.ensures c.in-Ok.ensures.ends c.started_after-self-inside.ensures c.modes_after-modes.ensures c.change_posting-posting.ensures c.post.ensures)),
     )
 
