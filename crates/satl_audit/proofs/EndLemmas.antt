@@ -39,7 +39,7 @@ use Rattle.satl_audit.proofs.Frames.{pages_whole}
 use Rattle.satl_audit.proofs.NextLemmas.{all_at, device_at_place, eligible_same, removed_at}
 use Rattle.satl_audit.proofs.ReplyLemmas.{good_is}
 use Rattle.satl_audit.proofs.Showing.{all_of, eligible_there}
-use Rattle.satl_audit.proofs.Telling.{whole-length, whole_same}
+use Rattle.satl_audit.proofs.ReplyLemmas.{whole-length, whole_same}
 
 -- ---- pages of whole blocks
 

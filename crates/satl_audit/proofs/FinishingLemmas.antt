@@ -7,7 +7,7 @@ use Rattle.satl_audit.specs.Following.{GivesBlocks}
 use Rattle.satl_audit.specs.Kept.{Keeping}
 use Rattle.satl_audit.specs.Finishing.{IsReadBy, Reads, head_bytes}
 use Rattle.satl_audit.proofs.FixingEvents.{after_same}
-use Rattle.satl_audit.proofs.Telling.{fronts}
+use Rattle.satl_audit.proofs.ReplyLemmas.{fronts}
 
 pub if_ok_map : {T E : Type 0} (r : Result T E) (P Q : T → Type 0) → IfOk r P → ((x : T) → P x → Q x) → IfOk r Q
 if_ok_map (Ok x) P Q h f = f x h

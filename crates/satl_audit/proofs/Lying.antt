@@ -27,7 +27,7 @@ use Rattle.satl_audit.proofs.Coming.{Comes, IsKnown, KnownBy, arrival_comes}
 use Rattle.satl_audit.proofs.Showing.{all_of, eligible_there}
 use Rattle.satl_audit.proofs.Links.{both_right}
 use Rattle.satl_audit.proofs.Splitting.{Lies}
-use Rattle.satl_audit.proofs.Stepping.{All-filter}
+use Rattle.satl_audit.proofs.ArrivalSplit.{All-filter}
 use Rattle.satl_audit.proofs.Walking.{AllLie}
 use Rattle.satl_audit.proofs.Identities.{all_front, all_last, AllKnown, stepped_same}
 

@@ -20,13 +20,14 @@ use Rattle.satl_audit.specs.Kept.{Keeping, blank_keeping, sector_at, sector_of}
 use Rattle.satl_audit.specs.Sectors.{Sector, sector_gives, sector_power, sector_puts, sectored, settled_in}
 use Rattle.satl_audit.specs.Skeleton.{IsExplained}
 use Rattle.satl_audit.specs.declared.arriving.Steps.{Steps}
-use Rattle.satl_audit.proofs.AdvanceLemmas.{begins_stepped, refuses_join}
+use Rattle.satl_audit.proofs.JoinedDeeds.{begins_stepped, refuses_join}
 use Rattle.satl_audit.proofs.AlongLemmas.{refuses_more}
 use Rattle.satl_audit.proofs.Deciding.{explained_has_steps, explained_is_sectored, sectored_is_explained}
 use Rattle.satl_audit.proofs.Fixing.{steps_fixed}
 use Rattle.satl_audit.proofs.FixingEvents.{after_same}
 use Rattle.satl_audit.proofs.Further.{goes_onward}
-use Rattle.satl_audit.proofs.ReachLemmas.{Reached, decided}
+use Rattle.satl_audit.proofs.ReachBegins.{Reached}
+use Rattle.satl_audit.proofs.ReachLemmas.{decided}
 use Rattle.satl_audit.proofs.Taking.{taken_is_input}
 
 -- ---- sectors of zeros

@@ -4,7 +4,7 @@ use Rattle.satl_audit.specs.Finishing.{AreTasks}
 use Rattle.satl_audit.specs.Waiting.{Placed}
 use Rattle.satl_audit.proofs.EndLemmas.{both_at, fits_at, flush_arm, no_other, read_arm, read_within, write_arm, write_within}
 use Rattle.satl_audit.proofs.FinishingLemmas.{if_ok_map}
-use Rattle.satl_audit.proofs.SweepLemmas.{if_both}
+use Rattle.satl_audit.proofs.SweptSectors.{if_both}
 use Rattle.satl_audit.proofs.TurnLemmas.{tasks_left}
 use Rattle.satl_audit.proofs.finishing.end_task.Goals as goal
 
