@@ -21,6 +21,7 @@ use Rattle.satl_audit.specs.Following.{Follows, blocks_from, pairs_in}
 use Rattle.satl_audit.specs.Kept.{Keeping, blank_keeping, kept_power, sector_at, sector_of}
 use Rattle.satl_audit.specs.Powering.{PendsAll, power_deeds}
 use Rattle.satl_audit.specs.Waiting.{MayWait, Placed, task_in}
+use Rattle.satl_audit.proofs.EndWithin.{write_body}
 
 -- ---- what a task writes
 
@@ -39,7 +40,7 @@ pub write_pairs : (identity : Identity) (input : List ℕ) (waiting : List Place
 write_pairs identity input waiting p form lba count fua c held =
     ap (λ (k : Command). written_by k (device_of identity input waiting []) (task_in input p)) c
     ∙ ap (λ (l : List Block). pairs_from lba l (identity.cache && not fua))
-    (ap (λ (k : Command). data_out k (blocks_from input p.at p.entry.blocks)) c ∙ ap (blocks_from input p.at) (held ∙ ap (λ (k : Command). held_blocks k) c))
+    (write_body input p form lba count fua c held)
 
 none_by : (capacity bytes : ℕ) (c : Command) (s : Device) (t : Entry) → MayWait capacity bytes c → ((form : Form) (lba count : ℕ) (fua : Bool) → c ≡ commands.Write form lba count fua → ⊥) → written_by c s t ≡ []
 none_by capacity bytes commands.TestUnitReady s t w other = refl
