@@ -12,10 +12,7 @@ use Rattle.satl_audit.specs.Skeleton.{bare}
 use Rattle.satl_laws.proofs.QuietArrivals.{arrival_quiet}
 use Rattle.satl_audit.proofs.Coming.{Comes, IsKnown}
 use Rattle.satl_audit.proofs.Keeping.{IsSane, sane_same}
-
-pub All-filter : {X : Type 0} (P : X → Type 0) (p : X → Bool) (xs : List X) → AllByRecursion P xs → AllByRecursion P (filter p xs)
-All-filter P p [] all = all
-All-filter P p (x ∷ xs) all = elim (p x) as (λ b. AllByRecursion P (if b then x ∷ filter p xs else filter p xs)) [ true ↦ (all.0, All-filter P p xs all.1) | false ↦ All-filter P p xs all.1 ]
+use Rattle.satl_laws.proofs.Rows.{All-filter}
 
 -- the same arrival at the bare device
 pub arrival_bare : (s : Device) (r : Request) → arrival (bare s) r ≡ arrival s r

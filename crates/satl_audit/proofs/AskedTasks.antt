@@ -21,8 +21,8 @@ use Rattle.satl_audit.specs.Skeleton.{TurnsDone, shown}
 use Rattle.satl_audit.proofs.Each.{is_same}
 use Rattle.satl_audit.proofs.Forming.{IsFormed}
 use Rattle.satl_audit.proofs.Naming.{own_removed}
-use Rattle.satl_audit.proofs.Links.{both_right}
 use Rattle.satl_audit.proofs.FewReach.{Follows, follow_done}
+use Rattle.satl_laws.proofs.Cases.{both_right, both_left}
 
 -- the tasks, each formed, called as no other and asked for
 abbrev pub Asked : List Frame → Entry → Type 0
@@ -42,14 +42,10 @@ none_called r all (t ∷ ts) h z =
   where
     clash : is_called r.nexus (r.tag).0 t ≡ true → ⊥
     clash e =
-        let nexus : t.nexus ≡ r.nexus = eqb-true t.nexus r.nexus (left (t.nexus == r.nexus) ((t.tag).0 == (r.tag).0) e) in
+        let nexus : t.nexus ≡ r.nexus = eqb-true t.nexus r.nexus (both_left (t.nexus == r.nexus) ((t.tag).0 == (r.tag).0) e) in
         let tag : (t.tag).0 ≡ (r.tag).0 = eqb-true (t.tag).0 (r.tag).0 (both_right (t.nexus == r.nexus) ((t.tag).0 == (r.tag).0) e) in
         let some : 1 ≤ how_many (asks_by r.nexus (r.tag).0) all = subst (λ n. 1 ≤ how_many (asks_by r.nexus n) all) tag (subst (λ n. 1 ≤ how_many (asks_by n (t.tag).0) all) nexus h.0) in
         omega (arith, some, z)
-      where
-        left : (a b : Bool) → (a && b) ≡ true → a ≡ true
-        left true b h = refl
-        left false b h = absurd cc
 
 -- its own count
 pub asks_own : (r : Request) → how_many (asks_by r.nexus (r.tag).0) (frames.Request r ∷ []) ≡ 1

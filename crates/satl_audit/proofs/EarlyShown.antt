@@ -14,10 +14,12 @@ use Rattle.satl_direct.specs.Quiet.{writes, written_by}
 use Rattle.satl_direct.specs.Run.{eligibles}
 use Rattle.satl_audit.specs.Skeleton.{shown}
 use Rattle.satl_audit.proofs.Forming.{FormedBy, IsFormed}
-use Rattle.satl_audit.proofs.Showing.{all_of, eligible_in, eligible_there, in_eligible, in_pairs, of_pairs}
+use Rattle.satl_audit.proofs.Showing.{eligible_in, in_eligible, in_pairs, of_pairs}
 use Rattle.satl_audit.proofs.EarlyPairs.{from_one}
 use Rattle.satl_audit.proofs.Links.{false_not_true}
 use Rattle.satl_audit.proofs.Meeting.{TouchesBy, write_at, clashes, touches_by}
+use Rattle.satl_laws.proofs.Ends.{eligible_in as eligible_there}
+use Rattle.satl_laws.proofs.Rows.{in_all as all_of}
 
 -- a command's pairs turn on the mode values alone
 writes_modes : (c : Command) (s u : Device) (t : Entry) → FormedBy c t → u.modes ≡ s.modes → written_by c u t ≡ written_by c s t

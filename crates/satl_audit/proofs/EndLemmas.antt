@@ -36,9 +36,10 @@ use Rattle.satl_audit.specs.declared.arriving.Steps.{Steps}
 use Rattle.satl_audit.proofs.Frames.{pages_whole}
 use Rattle.satl_audit.proofs.NextLemmas.{all_at, device_at_place, eligible_same, removed_at}
 use Rattle.satl_audit.proofs.ReplyLemmas.{good_is, whole-length}
-use Rattle.satl_audit.proofs.Showing.{all_of, eligible_there}
 use Rattle.satl_audit.proofs.FinishingLemmas.{pages_same, all_bytes, refusing, settle_sector}
 use Rattle.satl_audit.proofs.EndWithin.{write_body}
+use Rattle.satl_laws.proofs.Ends.{eligible_in as eligible_there}
+use Rattle.satl_laws.proofs.Rows.{in_all as all_of}
 
 module _ (identity : Identity) (input : List ℕ) (old : Steps) (place : ℕ) (p : Placed) (tasks : AreTasks identity input old.waiting) (at : slice_get old.waiting place ≡ Some p)
     (eligible : eligible_at (entries_in old.waiting) place ≡ true) (only : OnlyEnds old (Some place)) (waiting : List Placed) (left : List ℕ) (is : waiting ≡ remove old.waiting place) (sectors after : List Keeping) (same : length after ≡ length sectors) where

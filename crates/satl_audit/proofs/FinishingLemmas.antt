@@ -13,7 +13,7 @@ use Rattle.satl_audit.specs.Kept.{Keeping, blank_keeping, kept_settle, sector_at
 use Rattle.satl_audit.specs.Sectors.{Sector, sector_gives, settled_in}
 use Rattle.satl_audit.specs.declared.content.Content.{Content}
 use Rattle.satl_audit.proofs.Frames.{pages_whole}
-use Rattle.satl_audit.proofs.ReplyLemmas.{whole-length, whole_same, fronts}
+use Rattle.satl_audit.proofs.ReplyLemmas.{whole-length, whole_same, fronts, take_own}
 use Rattle.satl_base.specs.declared.block.Range.{Range}
 use Rattle.satl_audit.specs.Following.{GivesBlocks, along}
 use Rattle.satl_audit.specs.Deeds.{Deed}
@@ -48,11 +48,7 @@ pages_same vs whole =
     whole_same (pages_of bytes) vs (pages_whole bytes) whole (length-pages_of bytes ∙ count) (bytes_of-pages_of bytes ∙ no_more _ spare bytes)
 
 pub all_bytes : (vs : List Block) → AreWhole vs → first_bytes (512 * length vs) vs ≡ bytes_of vs
-all_bytes vs whole = ap (λ n. take n (bytes_of vs)) (sym (whole-length vs whole)) ∙ own (bytes_of vs)
-  where
-    own : (xs : List ℕ) → take (length xs) xs ≡ xs
-    own [] = refl
-    own (x ∷ xs) = ap (λ l. x ∷ l) (own xs)
+all_bytes vs whole = ap (λ n. take n (bytes_of vs)) (sym (whole-length vs whole)) ∙ take_own (bytes_of vs)
 
 -- blocks that a sector refuses
 pub refusing : (x : ℕ) (s : Device) (k : Sector) (deed : Deed) (lba : ℕ) (blocks : List Block) → deed ≡ gives lba blocks → sector_gives x lba blocks (Some k) ≡ None → along x None (end_deeds s deed) (Some k) ≡ None

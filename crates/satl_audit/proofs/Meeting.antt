@@ -19,7 +19,7 @@ use Rattle.satl_base.specs.declared.block.Range.{Range}
 pub ranges_that_meet : (x lba count lba' count' : ℕ) → lba ≤ x → x < lba + count → lba' ≤ x → x < lba' + count' → ranges_meet (over lba count) (over lba' count') ≡ true
 ranges_that_meet x lba count lba' count' a b c d = lt-ltb (max lba lba') (min (lba + count) (lba' + count')) (omega (arith, a, b, c, d))
 
-or_true : (a b : Bool) → b ≡ true → (a || b) ≡ true
+pub or_true : (a b : Bool) → b ≡ true → (a || b) ≡ true
 or_true true b e = refl
 or_true false b e = e
 

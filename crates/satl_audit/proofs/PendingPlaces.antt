@@ -3,7 +3,7 @@ use Rattle.std.proofs.Common.{arith, ◌≡◌, refl, sym, ap, ◌∙◌, ℕ, z
 use Rattle.std.specs.Prelude.{◌<◌, ◌≤◌, ◌==◌, ◌||◌, filter, if◌then◌else◌, not, Option, Some, slice_get, unwrap_or}
 use Rattle.std.specs.List.{list_any}
 use Rattle.std.specs.Option.{option_map}
-use Rattle.std.proofs.lemmas.List.{length-map}
+use Rattle.std.proofs.lemmas.List.{length-map, drop_all}
 use Rattle.satl_base.specs.declared.block.Block.{Block}
 use Rattle.satl_base.specs.Cells.{Pair}
 use Rattle.satl_identify.specs.declared.identity.Identity.{Identity}
@@ -72,12 +72,6 @@ module _ (identity : Identity) (input : List ℕ) (waiting : List Placed) where
   shown_all =
       ap (pairs_by (device_of identity input waiting []))
       (eligibles_are (device_tasks input waiting) ∙ picks_same (eligible_at (device_tasks input waiting)) (eligible_at (entries_in waiting)) (eligible_same input waiting) 0 (device_tasks input waiting))
-
-  drop_all : (n : ℕ) (ts : List Entry) → length ts ≤ n → drop n ts ≡ []
-  drop_all zero [] le = refl
-  drop_all zero (t ∷ ts) le = absurd (omega (arith, le))
-  drop_all (suc n) [] le = refl
-  drop_all (suc n) (t ∷ ts) le = drop_all n ts (omega (arith, le))
 
   pub shown_none : (n : ℕ) → length waiting ≤ n → shown_from identity input waiting n ≡ []
   shown_none n le = ap (λ (l : List Entry). pairs_by (device_of identity input waiting []) (picks (eligible_at (entries_in waiting)) n l)) (drop_all n (device_tasks input waiting) (omega (arith, le, length-map waiting (task_in input))))

@@ -20,7 +20,7 @@ use Rattle.satl_cover.specs.Covered.{AreCovered, is_covered, is_repeated, place_
 use Rattle.satl_cover.specs.Known.{is_known, is_known_frame}
 use Rattle.satl_audit.specs.Advancing.{GoesOn, IsGoodFrame, MayHappen}
 use Rattle.satl_audit.specs.Arriving.{device_at}
-use Rattle.satl_audit.specs.Deciding.{AllWhole, IsFineFrame, IsInput}
+use Rattle.satl_audit.specs.Deciding.{AllWhole, IsFineFrame, IsInput, GivesWhole}
 use Rattle.satl_audit.specs.Deeds.{Deed}
 use Rattle.satl_audit.specs.Finishing.{AreTasks}
 use Rattle.satl_audit.specs.Judged.{IsTaken, blank, blank_cell}
@@ -30,12 +30,15 @@ use Rattle.satl_audit.specs.Waiting.{AllFit, device_tasks}
 use Rattle.satl_audit.specs.declared.arriving.Steps.{Steps}
 use Rattle.satl_audit.proofs.JoinedDeeds.{begins_stepped, follows_join}
 use Rattle.satl_audit.proofs.Fixing.{answered_push, steps_fixed}
-use Rattle.satl_audit.proofs.FixingTurns.{Kept, all_back, all_fore}
+use Rattle.satl_audit.proofs.FixingTurns.{Kept}
 use Rattle.satl_audit.proofs.Identities.{AllKnown}
 use Rattle.satl_audit.proofs.Sparse.{no_name}
 use Rattle.satl_audit.proofs.StandsLemmas.{data_stands, data_within, frames_behind}
-use Rattle.satl_audit.proofs.Taking.{both_left, both_right, frames_of, none_counted, not_true, once_of, taken_is_input}
+use Rattle.satl_audit.proofs.Taking.{frames_of, none_counted, once_of, taken_is_input}
 use Rattle.satl_audit.proofs.ReachBegins.{Reached, covered_front, covered_next, tags_of, expected_of, known_cut, good_cut}
+use Rattle.satl_laws.proofs.Cases.{both_left, both_right}
+use Rattle.std.proofs.lemmas.Bool.{not-true}
+use Rattle.satl_line.proofs.SlotsLemmas.{All-append, All-right, All-left}
 
 module _ (identity : Identity) (is : IsIdentity identity) (input output : List ℕ) (all : List Frame) (taken : IsTaken identity input all) (so_far later : List Frame) (event : Frame) (all_are : all ≡ so_far ++ event ∷ later) (steps : Steps) (sectors : List Keeping)
     (reached : Reached identity input output so_far steps sectors) where
@@ -52,16 +55,16 @@ module _ (identity : Identity) (is : IsIdentity identity) (input output : List �
   known = both_left (is_known_frame identity.trim event) (not (is_repeated so_far event)) next_covered
 
   fresh : is_repeated so_far event ≡ false
-  fresh = not_true (is_repeated so_far event) (both_right (is_known_frame identity.trim event) (not (is_repeated so_far event)) next_covered)
+  fresh = not-true (is_repeated so_far event) (both_right (is_known_frame identity.trim event) (not (is_repeated so_far event)) next_covered)
 
   good_frame : IsFrame One event
-  good_frame = (all_back (IsFrame One) so_far (event ∷ later) (subst (AllByRecursion (IsFrame One)) all_are (frames_of (IsFrame One) (λ f h. h) 8 all (taken.whole.reads).each))).0
+  good_frame = (All-right (IsFrame One) so_far (event ∷ later) (subst (AllByRecursion (IsFrame One)) all_are (frames_of (IsFrame One) (λ f h. h) 8 all (taken.whole.reads).each))).0
 
   known_before : AllKnown identity.trim so_far
-  known_before = all_fore (λ g. is_known_frame identity.trim g ≡ true) so_far (event ∷ later) ((decided.audited).known)
+  known_before = All-left (λ g. is_known_frame identity.trim g ≡ true) so_far (event ∷ later) ((decided.audited).known)
 
   fine_before : AllByRecursion IsFineFrame so_far
-  fine_before = all_fore IsFineFrame so_far (event ∷ later) decided.fine
+  fine_before = All-left IsFineFrame so_far (event ∷ later) decided.fine
 
   once_before : AskOnce so_far
   once_before nexus tag = once_of identity.trim nexus tag [] so_far (covered_front identity.trim [] so_far (event ∷ later) covered) (omega arith)
@@ -120,16 +123,12 @@ module _ (identity : Identity) (is : IsIdentity identity) (input output : List �
     answers = reached.answers ++ g.answers;
     deeds = reached.deeds ++ g.deeds;
     skeleton = further event g.answers g.deeds reached.skeleton g.stepped;
-    whole = both reached.deeds g.deeds reached.whole g.whole;
+    whole = All-append GivesWhole reached.deeds g.deeds reached.whole g.whole;
     said = reached.said ∙ said;
     follows = follows_join input reached.deeds g.deeds (replicate identity.capacity blank_keeping) sectors after (begins_stepped event (device_at identity input steps) (device_at identity input new) g.answers g.deeds g.stepped) reached.follows g.follows;
     fit = fit;
   }
     where
-      both : (xs ys : List Deed) → AllWhole xs → AllWhole ys → AllWhole (xs ++ ys)
-      both [] ys p q = q
-      both (x ∷ xs) ys p q = (p.0, both xs ys p.1 q)
-
       said : out reached.answers ++ steps.output ≡ out (reached.answers ++ g.answers) ++ new.output
       said =
           ap (λ (l : List ℕ). out reached.answers ++ l) g.said

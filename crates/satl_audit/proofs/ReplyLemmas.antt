@@ -1,22 +1,15 @@
 -- The bytes of answers, and of the blocks in them.
 use Rattle.std.proofs.Common.{arith, ◌≡◌, refl, sym, ap, ◌∙◌, subst, ℕ, ◌*◌, List, [], ◌∷◌, ◌++◌, length, Option, None}
 use Rattle.std.specs.Prelude.{take}
-use Rattle.std.proofs.lemmas.List.{length-append}
+use Rattle.std.proofs.lemmas.List.{length-append, append-nil}
 use Rattle.satl_base.specs.declared.block.Block.{Block}
 use Rattle.satl_base.specs.declared.reply.Scsi.TheVariants.{Good}
 use Rattle.satl_base.specs.Blocks.{bytes_of, first_bytes}
 use Rattle.satl_frame.specs.Output.{reply_bytes}
 use Rattle.satl_line.specs.declared.entry.Entry.{Entry}
 use Rattle.satl_audit.specs.Deciding.{AreWhole}
-use Rattle.std.proofs.Common.{◌≡◌, ap, ◌∙◌, ℕ, ◌*◌, List, [], ◌++◌, length, Option, None}
-use Rattle.std.proofs.lemmas.List.{append-nil}
 use Rattle.satl_base.specs.declared.request.Request.{Request}
-use Rattle.satl_base.specs.declared.block.Block.{Block}
 use Rattle.satl_base.specs.declared.reply.Scsi.{Scsi}
-use Rattle.satl_base.specs.declared.reply.Scsi.TheVariants.{Good}
-use Rattle.satl_base.specs.Blocks.{first_bytes}
-use Rattle.satl_frame.specs.Output.{reply_bytes}
-use Rattle.satl_line.specs.declared.entry.Entry.{Entry}
 use Rattle.satl_direct.specs.Arrival.{reply_to}
 use Rattle.satl_direct.specs.Ending.{task_reply}
 use Rattle.satl_audit.specs.Finishing.{head_bytes}
@@ -48,7 +41,7 @@ pub whole-length : (vs : List Block) → AreWhole vs → length (bytes_of vs) �
 whole-length [] w = refl
 whole-length (v ∷ vs) w = omega (arith, length-append v.bytes (bytes_of vs), w.0, whole-length vs w.1)
 
-take_own : {X : Type 0} (xs : List X) → take (length xs) xs ≡ xs
+pub take_own : {X : Type 0} (xs : List X) → take (length xs) xs ≡ xs
 take_own [] = refl
 take_own (x ∷ xs) = ap (λ l. x ∷ l) (take_own xs)
 

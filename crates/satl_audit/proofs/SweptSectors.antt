@@ -1,19 +1,14 @@
 -- One sector that has caught up.
-use Rattle.std.proofs.Common.{arith, ◌≡◌, refl, sym, ap, ◌∙◌, ℕ, Bool, true, false, List, [], ◌∷◌, length, map, drop}
+use Rattle.std.proofs.Common.{arith, ◌≡◌, refl, sym, ap, ◌∙◌, ℕ, Bool, true, false, List, [], ◌∷◌, length, map, drop, ◌<◌}
 use Rattle.std.specs.Prelude.{Result, Ok, Err, OnOk, IfOk, slice_set}
 use Rattle.std.proofs.Math.ListN.{get_or, set}
-use Rattle.std.proofs.Common.{◌<◌}
-use Rattle.std.proofs.lemmas.List.{length-map, get_or-map, map-set}
+use Rattle.std.proofs.lemmas.List.{length-map, get_or-map, map-set, drop_all}
 use Rattle.satl_audit.specs.Kept.{Keeping, ShowsAt, blank_keeping, kept_at, sector_of}
 use Rattle.satl_audit.specs.Sectors.{sector_show}
 use Rattle.satl_audit.specs.Sweeps.{Shows, caught_up}
 use Rattle.satl_audit.specs.declared.sectors.Stamped.{Stamped}
 use Rattle.satl_audit.specs.declared.sectors.Sweep.{Sweep}
 use Rattle.satl_audit.proofs.SweepLemmas.{now_kept}
-
-drop_all : (ss : List Sweep) → drop (length ss) ss ≡ []
-drop_all [] = refl
-drop_all (s ∷ ss) = drop_all ss
 
 -- what is kept of the sector at an address
 pub kept_there : (ss : List Sweep) (ts : List Stamped) (ks : List Keeping) (lba : ℕ) (t : Stamped) → map (now_kept ss) ts ≡ ks → lba < length ks → t ≡ get_or ts lba t → now_kept ss t ≡ kept_at ks lba
@@ -23,7 +18,7 @@ kept_there ss ts ks lba t all less is = ap (now_kept ss) is ∙ sym (get_or-map 
 pub set_kept : (ss : List Sweep) (ts : List Stamped) (ks : List Keeping) (lba : ℕ) (t : Stamped) → map (now_kept ss) ts ≡ ks → t.seen ≡ length ss → map (now_kept ss) (set ts lba t) ≡ slice_set ks lba t.kept
 set_kept ss ts ks lba t all seen =
     map-set (now_kept ss) ts lba t
-    ∙ ap (λ (k : Keeping). set (map (now_kept ss) ts) lba k) (ap (λ (l : List Sweep). caught_up l t.kept) (ap (λ n. drop n ss) seen ∙ drop_all ss))
+    ∙ ap (λ (k : Keeping). set (map (now_kept ss) ts) lba k) (ap (λ (l : List Sweep). caught_up l t.kept) (ap (λ n. drop n ss) seen ∙ drop_all (length ss) ss (omega arith)))
     ∙ ap (λ (l : List Keeping). slice_set l lba t.kept) all
 
 pub on_both : {T E : Type 0} (r : Result T E) (P Q R : Type 0) → OnOk r P → OnOk r Q → (P → Q → R) → OnOk r R

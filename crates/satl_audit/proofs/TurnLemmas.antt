@@ -21,11 +21,12 @@ use Rattle.satl_audit.specs.Skeleton.{TaskDone, TurnsDone, shown}
 use Rattle.satl_audit.specs.Waiting.{Fits, Placed, device_tasks}
 use Rattle.satl_audit.specs.declared.arriving.Steps.{Steps}
 use Rattle.satl_audit.proofs.AlongLemmas.{follows_push, refuses_more, refuses_push}
-use Rattle.satl_audit.proofs.FixingTurns.{Kept, all_back, all_fore, idles, said, said-push, turns_same}
+use Rattle.satl_audit.proofs.FixingTurns.{Kept, idles, said, said-push, turns_same}
 use Rattle.satl_audit.proofs.Naming.{own_removed}
 use Rattle.satl_audit.proofs.NextLemmas.{removed_at}
 use Rattle.satl_audit.proofs.Telling.{IsFine}
 use Rattle.satl_audit.proofs.FirstTurns.{first_turns, said-append}
+use Rattle.satl_line.proofs.SlotsLemmas.{All-append, All-right, All-left}
 
 -- ---- tasks that are left
 
@@ -57,14 +58,10 @@ module _ (identity : Identity) (input : List ℕ) (old mid new : Steps) (before 
         deeds = t.deeds ++ shows (shown (device_at identity input mid)) ∷ e.deed ∷ [];
         done = subst (λ n. TurnsDone (device_at identity input old) n (t.replies ++ e.reply ∷ []) (t.deeds ++ shows (shown (device_at identity input mid)) ∷ e.deed ∷ []) (device_at identity input new)) next
             (TurnsDone.more e.reply e.deed t.done e.done);
-        whole = all_both t.deeds (shows (shown (device_at identity input mid)) ∷ e.deed ∷ []) t.whole (tt, (e.whole, tt));
+        whole = All-append GivesWhole t.deeds (shows (shown (device_at identity input mid)) ∷ e.deed ∷ []) t.whole (tt, (e.whole, tt));
         said = t.said ∙ ap (λ l. said t.replies ++ l) e.said ∙ sym (said-push t.replies e.reply new.output);
         follows = follows_push input t.deeds (shown (device_at identity input mid)) (e.deed ∷ []) before between after t.follows e.follows;
       }
-    where
-      all_both : (xs ys : List Deed) → AllWhole xs → AllWhole ys → AllWhole (xs ++ ys)
-      all_both [] ys p q = q
-      all_both (x ∷ xs) ys p q = (p.0, all_both xs ys p.1 q)
 
 -- where no task is left more turns do nothing
 pub idle_turns : (identity : Identity) (input : List ℕ) (old new : Steps) (before after : List Keeping) (i count : ℕ) → i ≤ count → new.waiting ≡ [] → TurnsOn identity input i old new before after → TurnsOn identity input count old new before after
@@ -98,9 +95,9 @@ module _ (identity : Identity) (input : List ℕ) (old mid : Steps) (before betw
       absurd (some (some_tasks input mid.waiting (ap (λ (d : Device). d.tasks) same.new_same ∙ e)))
   by_last (TurnsDone.more {replies = replies} {deeds = deeds} {mid = m} {new = u} reply deed t' d) some others late left whole h =
       let rest = reply_bytes reply ++ (said others ++ left) in
-      let w = all_fore GivesWhole deeds (shows (shown m) ∷ deed ∷ []) whole in
+      let w = All-left GivesWhole deeds (shows (shown m) ∷ deed ∷ []) whole in
       let same = turns_same (device_at identity input old) (kept_of identity input old tasks) t.done t' mid.output rest t.whole w (sym t.said ∙ h ∙ said-push replies reply (said others ++ left)) in
-      let r = cannot reply deed u (said others ++ left) (subst (λ x. TaskDone x reply deed u) (sym same.new_same) d) ((all_back GivesWhole deeds (shows (shown m) ∷ deed ∷ []) whole).1).0 same.rest_same in
+      let r = cannot reply deed u (said others ++ left) (subst (λ x. TaskDone x reply deed u) (sym same.new_same) d) ((All-right GivesWhole deeds (shows (shown m) ∷ deed ∷ []) whole).1).0 same.rest_same in
       let p = refuses_push input t.deeds (shown (device_at identity input mid)) (deed ∷ []) before between t.follows r in
       refuses_more input (deeds ++ shows (shown m) ∷ deed ∷ []) late before
       (subst (λ l. SomeRefuses input l before) (ap (λ l. l ++ shows (shown (device_at identity input mid)) ∷ deed ∷ []) same.deeds_same ∙ ap (λ x. deeds ++ shows (shown x) ∷ deed ∷ []) same.new_same) p)
@@ -109,7 +106,7 @@ module _ (identity : Identity) (input : List ℕ) (old mid : Steps) (before betw
   stuck_turns count less some replies deeds new left done whole h =
       let all : count ≡ (count - suc i) + suc i = omega (arith, less) in
       let f = first_turns (device_at identity input old) (suc i) (count - suc i) replies deeds new (subst (λ n. TurnsDone (device_at identity input old) n replies deeds new) all done) in
-      let w : AllWhole f.early = all_fore GivesWhole f.early f.late (subst AllWhole f.deeds_are whole) in
+      let w : AllWhole f.early = All-left GivesWhole f.early f.late (subst AllWhole f.deeds_are whole) in
       subst (λ l. SomeRefuses input l before) (sym f.deeds_are)
       (by_last f.done some f.others f.late left w (h ∙ ap (λ l. said l ++ left) f.replies_are ∙ said-append f.some f.others left))
 
