@@ -28,11 +28,6 @@ pub all_last : {X : Type 0} (P : X → Type 0) (xs : List X) (y : X) → AllByRe
 all_last P [] y h = h.0
 all_last P (x ∷ xs) y h = all_last P xs y h.1
 
--- one more group of answers
-pub joined-push : (groups : List (List Answer)) (group : List Answer) → joined (groups ++ group ∷ []) ≡ joined groups ++ group
-joined-push [] group = append-nil group
-joined-push (g ∷ groups) group = ap (λ l. g ++ l) (joined-push groups group) ∙ sym (append_assoc g (joined groups) group)
-
 abbrev pub AllKnown : Bool → List Frame → Type 0
 AllKnown trim all = AllByRecursion (λ f. is_known_frame trim f ≡ true) all
 
