@@ -1,12 +1,11 @@
 -- A task that the next answer names ends.
-use Rattle.std.proofs.Common.{arith, ◌≡◌, refl, sym, ap, ◌∙◌, subst, ℕ, ◌+◌, ◌*◌, ◌-◌, Bool, true, false, List, [], ◌++◌, length}
+use Rattle.std.proofs.Common.{arith, ◌≡◌, refl, sym, ap, ◌∙◌, subst, ℕ, ◌*◌, Bool, true, false, List, [], ◌++◌, length}
 use Rattle.std.specs.Prelude.{◌&&◌, not, Option, Some, None, remove, slice_get}
 use Rattle.satl_base.specs.declared.block.Block.{Block}
 use Rattle.satl_base.specs.declared.reply.Reply.{Reply}
 use Rattle.satl_base.specs.declared.reply.Scsi.TheVariants.{Good}
 use Rattle.satl_base.specs.Blocks.{bytes_of}
 use Rattle.satl_base.specs.Cells.{pairs_from}
-use Rattle.satl_cdb.specs.declared.command.Command.{Command}
 use Rattle.satl_cdb.specs.declared.command.Command.TheVariants as commands
 use Rattle.satl_cdb.specs.declared.command.Form.{Form}
 use Rattle.satl_identify.specs.declared.identity.Identity.{Identity}
@@ -21,13 +20,13 @@ use Rattle.satl_line.proofs.EligibleLemmas.{eligible_passes}
 use Rattle.satl_direct.specs.Device.{Device, without}
 use Rattle.satl_direct.specs.Ending.{task_reply}
 use Rattle.satl_direct.specs.Quiet.{written_by}
-use Rattle.satl_direct.specs.Tasks.{data_out, held_blocks, over}
+use Rattle.satl_direct.specs.Tasks.{over}
 use Rattle.satl_audit.specs.Arriving.{device_at, device_of}
 use Rattle.satl_audit.specs.Deciding.{AreWhole, GivesWhole}
 use Rattle.satl_audit.specs.Deeds.{Deed}
 use Rattle.satl_audit.specs.Deeds.Deed.{gives, puts, settles}
-use Rattle.satl_audit.specs.Following.{along, blocks_from, pairs_in}
-use Rattle.satl_audit.specs.Finishing.{AreTasks, CannotEnd, Ends, end_deeds, Flushes, OnlyEnds, Passes, Reads, Writes, head_bytes}
+use Rattle.satl_audit.specs.Following.{along, pairs_in}
+use Rattle.satl_audit.specs.Finishing.{AreTasks, CannotEnd, Ends, Flushes, OnlyEnds, Passes, Reads, Writes, head_bytes}
 use Rattle.satl_audit.specs.Kept.{Keeping, sector_at}
 use Rattle.satl_audit.specs.Sectors.{sector_gives, sector_puts}
 use Rattle.satl_audit.specs.Skeleton.{DoneAs, TaskDone}
