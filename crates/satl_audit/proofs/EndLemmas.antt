@@ -30,13 +30,13 @@ use Rattle.satl_audit.specs.Finishing.{AreTasks, CannotEnd, Ends, Flushes, OnlyE
 use Rattle.satl_audit.specs.Kept.{Keeping, sector_at}
 use Rattle.satl_audit.specs.Sectors.{sector_gives, sector_puts}
 use Rattle.satl_audit.specs.Skeleton.{DoneAs, TaskDone}
-use Rattle.satl_audit.specs.Waiting.{Fits, Placed, device_tasks, entries_in, task_in}
+use Rattle.satl_audit.specs.Waiting.{Placed, device_tasks, entries_in, task_in}
 use Rattle.satl_audit.specs.declared.arriving.Steps.{Steps}
 use Rattle.satl_audit.proofs.Frames.{pages_whole}
-use Rattle.satl_audit.proofs.NextLemmas.{all_at, device_at_place, eligible_same, removed_at}
+use Rattle.satl_audit.proofs.NextLemmas.{device_at_place, eligible_same, removed_at}
 use Rattle.satl_audit.proofs.ReplyLemmas.{good_is, whole-length}
 use Rattle.satl_audit.proofs.FinishingLemmas.{pages_same, all_bytes, refusing, settle_sector}
-use Rattle.satl_audit.proofs.EndWithin.{write_body}
+use Rattle.satl_audit.proofs.EndWithin.{fits_at, write_body}
 use Rattle.satl_laws.proofs.Ends.{eligible_in as eligible_there}
 use Rattle.satl_laws.proofs.Rows.{in_all as all_of}
 
@@ -56,9 +56,6 @@ module _ (identity : Identity) (input : List ℕ) (old : Steps) (place : ℕ) (p
 
   is_eligible : IsEligible (device_tasks input old.waiting) t
   is_eligible = eligible_passes conflicts (device_tasks input old.waiting) place t there (eligible_same input old.waiting place ∙ eligible)
-
-  fits : Fits identity.capacity (length input) p
-  fits = all_at (Fits identity.capacity (length input)) old.waiting place p tasks.fit at
 
   expected : t.expected ≡ None
   expected = all_of (λ u. u.expected ≡ None) (device_tasks input old.waiting) t tasks.expected (eligible_there (device_tasks input old.waiting) t is_eligible)
@@ -137,7 +134,7 @@ module _ (identity : Identity) (input : List ℕ) (old : Steps) (place : ℕ) (p
       }
     where
       pairs : pairs_in input (over lba count) p.at (identity.cache && not fua) ≡ written_by (commands.Write form lba count fua) s t
-      pairs = ap (λ (l : List Block). pairs_from lba l (identity.cache && not fua)) (sym (write_body input p form lba count fua c fits.held))
+      pairs = ap (λ (l : List Block). pairs_from lba l (identity.cache && not fua)) (sym (write_body input p form lba count fua c (fits_at identity input old.waiting place p tasks at).held))
   write_arm form lba count fua c cached through false r = cannot (λ reply deed other d it. (subst (λ x. DoneAs x s t d.blocks deed) c (subst (λ u. DoneAs u.command s u d.blocks deed) it d.done)).0) r.0
 
   pub flush_arm : (form : Form) (lba count : ℕ) → p.entry.command ≡ commands.Flush form lba count → (b : Bool) → Flushes p.entry.nexus (p.entry.tag).0 old.output left sectors after b → Ends identity input old new sectors after b
