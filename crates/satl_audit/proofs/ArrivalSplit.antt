@@ -1,7 +1,6 @@
 -- An arrival at a sane device is that at its bare device, and back.
-use Rattle.std.proofs.Common.{◌≡◌, refl, sym, ap, subst, Bool, true, false, List, [], ◌∷◌, ◌++◌}
-use Rattle.std.specs.Prelude.{not, filter, if◌then◌else◌}
-use Rattle.std.specs.List.{AllByRecursion}
+use Rattle.std.proofs.Common.{◌≡◌, refl, sym, ap, subst, true, List, [], ◌∷◌, ◌++◌}
+use Rattle.std.specs.Prelude.{not}
 use Rattle.satl_base.specs.declared.request.Request.{Request}
 use Rattle.satl_base.specs.declared.reply.Reply.{Reply}
 use Rattle.satl_base.proofs.ListsLemmas.{All-push_end}

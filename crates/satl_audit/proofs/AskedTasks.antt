@@ -1,6 +1,6 @@
 -- Tasks under way that are formed, called as no other and asked for.
 use Rattle.std.proofs.Common.{arith, ◌≡◌, refl, sym, subst, ℕ, Bool, true, false, List, [], ◌∷◌, ◌++◌, append_assoc}
-use Rattle.std.specs.Prelude.{◌≤◌, ◌==◌, ◌&&◌, ◌||◌}
+use Rattle.std.specs.Prelude.{◌≤◌, ◌==◌, ◌||◌}
 use Rattle.std.proofs.lemmas.List.{append-nil}
 use Rattle.std.proofs.lemmas.Bool.{eqb-true}
 use Rattle.std.specs.List.{AllByRecursion, list_any}

@@ -1,12 +1,11 @@
 -- A task that the next answer names ends.
-use Rattle.std.proofs.Common.{arith, ◌≡◌, refl, sym, ap, ◌∙◌, subst, ℕ, ◌+◌, ◌*◌, ◌-◌, Bool, true, false, List, [], ◌++◌, length}
+use Rattle.std.proofs.Common.{arith, ◌≡◌, refl, sym, ap, ◌∙◌, subst, ℕ, ◌*◌, Bool, true, false, List, [], ◌++◌, length}
 use Rattle.std.specs.Prelude.{◌&&◌, not, Option, Some, None, remove, slice_get}
 use Rattle.satl_base.specs.declared.block.Block.{Block}
 use Rattle.satl_base.specs.declared.reply.Reply.{Reply}
 use Rattle.satl_base.specs.declared.reply.Scsi.TheVariants.{Good}
 use Rattle.satl_base.specs.Blocks.{bytes_of}
 use Rattle.satl_base.specs.Cells.{pairs_from}
-use Rattle.satl_cdb.specs.declared.command.Command.{Command}
 use Rattle.satl_cdb.specs.declared.command.Command.TheVariants as commands
 use Rattle.satl_cdb.specs.declared.command.Form.{Form}
 use Rattle.satl_identify.specs.declared.identity.Identity.{Identity}
@@ -21,23 +20,23 @@ use Rattle.satl_line.proofs.EligibleLemmas.{eligible_passes}
 use Rattle.satl_direct.specs.Device.{Device, without}
 use Rattle.satl_direct.specs.Ending.{task_reply}
 use Rattle.satl_direct.specs.Quiet.{written_by}
-use Rattle.satl_direct.specs.Tasks.{data_out, held_blocks, over}
+use Rattle.satl_direct.specs.Tasks.{over}
 use Rattle.satl_audit.specs.Arriving.{device_at, device_of}
 use Rattle.satl_audit.specs.Deciding.{AreWhole, GivesWhole}
 use Rattle.satl_audit.specs.Deeds.{Deed}
 use Rattle.satl_audit.specs.Deeds.Deed.{gives, puts, settles}
-use Rattle.satl_audit.specs.Following.{along, blocks_from, pairs_in}
-use Rattle.satl_audit.specs.Finishing.{AreTasks, CannotEnd, Ends, end_deeds, Flushes, OnlyEnds, Passes, Reads, Writes, head_bytes}
+use Rattle.satl_audit.specs.Following.{along, pairs_in}
+use Rattle.satl_audit.specs.Finishing.{AreTasks, CannotEnd, Ends, Flushes, OnlyEnds, Passes, Reads, Writes, head_bytes}
 use Rattle.satl_audit.specs.Kept.{Keeping, sector_at}
 use Rattle.satl_audit.specs.Sectors.{sector_gives, sector_puts}
 use Rattle.satl_audit.specs.Skeleton.{DoneAs, TaskDone}
-use Rattle.satl_audit.specs.Waiting.{Fits, Placed, device_tasks, entries_in, task_in}
+use Rattle.satl_audit.specs.Waiting.{Placed, device_tasks, entries_in, task_in}
 use Rattle.satl_audit.specs.declared.arriving.Steps.{Steps}
 use Rattle.satl_audit.proofs.Frames.{pages_whole}
-use Rattle.satl_audit.proofs.NextLemmas.{all_at, device_at_place, eligible_same, removed_at}
+use Rattle.satl_audit.proofs.NextLemmas.{device_at_place, eligible_same, removed_at}
 use Rattle.satl_audit.proofs.ReplyLemmas.{good_is, whole-length}
 use Rattle.satl_audit.proofs.FinishingLemmas.{pages_same, all_bytes, refusing, settle_sector}
-use Rattle.satl_audit.proofs.EndWithin.{write_body}
+use Rattle.satl_audit.proofs.EndWithin.{fits_at, write_body}
 use Rattle.satl_laws.proofs.Ends.{eligible_in as eligible_there}
 use Rattle.satl_laws.proofs.Rows.{in_all as all_of}
 
@@ -57,9 +56,6 @@ module _ (identity : Identity) (input : List ℕ) (old : Steps) (place : ℕ) (p
 
   is_eligible : IsEligible (device_tasks input old.waiting) t
   is_eligible = eligible_passes conflicts (device_tasks input old.waiting) place t there (eligible_same input old.waiting place ∙ eligible)
-
-  fits : Fits identity.capacity (length input) p
-  fits = all_at (Fits identity.capacity (length input)) old.waiting place p tasks.fit at
 
   expected : t.expected ≡ None
   expected = all_of (λ u. u.expected ≡ None) (device_tasks input old.waiting) t tasks.expected (eligible_there (device_tasks input old.waiting) t is_eligible)
@@ -138,7 +134,7 @@ module _ (identity : Identity) (input : List ℕ) (old : Steps) (place : ℕ) (p
       }
     where
       pairs : pairs_in input (over lba count) p.at (identity.cache && not fua) ≡ written_by (commands.Write form lba count fua) s t
-      pairs = ap (λ (l : List Block). pairs_from lba l (identity.cache && not fua)) (sym (write_body input p form lba count fua c fits.held))
+      pairs = ap (λ (l : List Block). pairs_from lba l (identity.cache && not fua)) (sym (write_body input p form lba count fua c (fits_at identity input old.waiting place p tasks at).held))
   write_arm form lba count fua c cached through false r = cannot (λ reply deed other d it. (subst (λ x. DoneAs x s t d.blocks deed) c (subst (λ u. DoneAs u.command s u d.blocks deed) it d.done)).0) r.0
 
   pub flush_arm : (form : Form) (lba count : ℕ) → p.entry.command ≡ commands.Flush form lba count → (b : Bool) → Flushes p.entry.nexus (p.entry.tag).0 old.output left sectors after b → Ends identity input old new sectors after b

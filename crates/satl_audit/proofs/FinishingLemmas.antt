@@ -1,5 +1,5 @@
 -- Answers of tasks that end, and what they show.
-use Rattle.std.proofs.Common.{arith, ◌≡◌, refl, sym, ap, ◌∙◌, subst, ℕ, ◌+◌, ◌*◌, ◌-◌, Bool, true, false, List, [], ◌∷◌, ◌++◌, length, map, take, replicate}
+use Rattle.std.proofs.Common.{arith, ◌≡◌, refl, sym, ap, ◌∙◌, subst, ℕ, ◌*◌, ◌-◌, Bool, true, false, List, [], ◌++◌, length, map, take, replicate}
 use Rattle.std.specs.Prelude.{◌<◌, Option, Some, None, Result, Ok, Err, IfOk}
 use Rattle.std.proofs.lemmas.List.{append-nil, get_or-map}
 use Rattle.satl_base.specs.declared.block.Block.{Block}

@@ -1,6 +1,5 @@
 -- Steps keep what the drive says of itself.
-use Rattle.std.proofs.Common.{◌≡◌, refl, sym, ap, ◌∙◌, ℕ, Bool, true, List, [], ◌∷◌, ◌++◌, append_assoc}
-use Rattle.std.proofs.lemmas.List.{append-nil}
+use Rattle.std.proofs.Common.{◌≡◌, refl, ap, ◌∙◌, ℕ, Bool, true, List, [], ◌∷◌, ◌++◌}
 use Rattle.std.specs.List.{AllByRecursion}
 use Rattle.satl_base.specs.declared.reply.Reply.{Reply}
 use Rattle.satl_base.specs.declared.request.Request.{Request}
@@ -12,7 +11,6 @@ use Rattle.satl_base.specs.declared.bench.BenchEvent.{BenchEvent}
 use Rattle.satl_base.specs.declared.bench.BenchEvent.TheVariants as events
 use Rattle.satl_direct.specs.Arrival.{Arrival, ArrivesAs, arrival}
 use Rattle.satl_direct.specs.Arrival.Arrival.{answered, attended, overlaps, waits}
-use Rattle.satl_direct.specs.Run.{joined}
 use Rattle.satl_audit.specs.Deeds.{Deed}
 use Rattle.satl_cover.specs.Known.{is_known_frame}
 use Rattle.satl_audit.specs.Skeleton.{Benched, Skeleton, Stepped, TurnsDone, bare}

@@ -18,7 +18,6 @@ use Rattle.satl_audit.specs.Kept.{Keeping}
 use Rattle.satl_audit.specs.Skeleton.{TaskDone, TurnsDone}
 use Rattle.satl_audit.specs.Waiting.{task_in}
 use Rattle.satl_audit.specs.declared.arriving.Steps.{Steps}
-use Rattle.satl_audit.proofs.Each.{is_same}
 use Rattle.satl_audit.proofs.FixingEvents.{ended_push}
 use Rattle.satl_audit.proofs.FixingTurns.{drains_same, none_ends, said}
 use Rattle.satl_audit.proofs.TurnLemmas.{kept_of}

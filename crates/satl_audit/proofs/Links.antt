@@ -1,6 +1,6 @@
 -- Whether the link was lost.
 use Rattle.std.proofs.Common.{◌≡◌, refl, ℕ, Bool, true, false}
-use Rattle.std.specs.Prelude.{if◌then◌else◌, ◌&&◌}
+use Rattle.std.specs.Prelude.{if◌then◌else◌}
 use Rattle.satl_direct.specs.Device.{Device}
 use Rattle.satl_direct.specs.Run.{losses_of}
 

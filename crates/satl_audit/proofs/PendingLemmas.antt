@@ -15,9 +15,9 @@ use Rattle.satl_unit.specs.Conditions.{posted}
 use Rattle.satl_line.specs.declared.entry.Entry.{Entry}
 use Rattle.satl_direct.specs.Device.{Device}
 use Rattle.satl_direct.specs.Quiet.{writes, written_by}
-use Rattle.satl_direct.specs.Tasks.{data_out, held_blocks, over}
+use Rattle.satl_direct.specs.Tasks.{held_blocks, over}
 use Rattle.satl_audit.specs.Arriving.{device_of}
-use Rattle.satl_audit.specs.Following.{Follows, blocks_from, pairs_in}
+use Rattle.satl_audit.specs.Following.{Follows, pairs_in}
 use Rattle.satl_audit.specs.Kept.{Keeping, blank_keeping, kept_power, sector_at, sector_of}
 use Rattle.satl_audit.specs.Powering.{PendsAll, power_deeds}
 use Rattle.satl_audit.specs.Waiting.{MayWait, Placed, task_in}

@@ -20,8 +20,7 @@ use Rattle.satl_cover.specs.Covered.{AreCovered, is_covered, is_repeated, place_
 use Rattle.satl_cover.specs.Known.{is_known, is_known_frame}
 use Rattle.satl_audit.specs.Advancing.{GoesOn, IsGoodFrame, MayHappen}
 use Rattle.satl_audit.specs.Arriving.{device_at}
-use Rattle.satl_audit.specs.Deciding.{AllWhole, IsFineFrame, IsInput, GivesWhole}
-use Rattle.satl_audit.specs.Deeds.{Deed}
+use Rattle.satl_audit.specs.Deciding.{IsFineFrame, IsInput, GivesWhole}
 use Rattle.satl_audit.specs.Finishing.{AreTasks}
 use Rattle.satl_audit.specs.Judged.{IsTaken, blank, blank_cell}
 use Rattle.satl_audit.specs.Kept.{Keeping, blank_keeping}

@@ -1,5 +1,5 @@
 -- One sector that has caught up.
-use Rattle.std.proofs.Common.{arith, ◌≡◌, refl, sym, ap, ◌∙◌, ℕ, Bool, true, false, List, [], ◌∷◌, length, map, drop, ◌<◌}
+use Rattle.std.proofs.Common.{arith, ◌≡◌, sym, ap, ◌∙◌, ℕ, Bool, true, false, List, length, map, drop, ◌<◌}
 use Rattle.std.specs.Prelude.{Result, Ok, Err, OnOk, IfOk, slice_set}
 use Rattle.std.proofs.Math.ListN.{get_or, set}
 use Rattle.std.proofs.lemmas.List.{length-map, get_or-map, map-set, drop_all}

@@ -1,4 +1,4 @@
-use Rattle.std.proofs.Common.{arith, ◌≡◌, sym, ap, ◌∙◌, ℕ, ◌+◌, ◌<◌, Bool, true, false, length}
+use Rattle.std.proofs.Common.{arith, ◌≡◌, sym, ap, ◌∙◌, ℕ, ◌+◌, ◌<◌, length}
 use Rattle.std.specs.Prelude.{Option, Some, None}
 use Rattle.satl_line.specs.Eligible.{eligible_at}
 use Rattle.satl_base.specs.declared.request.Tag.{Tag}
