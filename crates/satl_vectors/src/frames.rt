@@ -6,6 +6,9 @@ use std::alloc::{AllocError, Global};
 /// TURN by one.
 pub const TURN: [u8; 7] = [0x03, 0, 0, 0, 2, 0, 1];
 
+/// SYNCHRONIZE CACHE(10) of all blocks.
+pub const FLUSH: [u8; 16] = [0x35, 0, 0, 0, 0, 0, 0, 0, 0, 0, 0, 0, 0, 0, 0, 0];
+
 /// END of an input.
 pub const END: [u8; 5] = [0x05, 0, 0, 0, 0];
 

@@ -8,6 +8,8 @@ mod fleet;
 #[cfg(test)]
 mod frames;
 #[cfg(test)]
+mod lost_links;
+#[cfg(test)]
 mod medium_rows;
 #[cfg(test)]
 mod outstanding;
