@@ -4,6 +4,8 @@
 #[cfg(test)]
 mod at_once;
 #[cfg(test)]
+mod changed_drives;
+#[cfg(test)]
 mod fleet;
 #[cfg(test)]
 mod frames;
