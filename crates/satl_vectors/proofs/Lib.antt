@@ -1,1 +1,2 @@
+mod DataLemmas
 mod DriveLemmas
