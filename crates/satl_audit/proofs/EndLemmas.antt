@@ -1,20 +1,18 @@
 -- A task that the next answer names ends.
-use Rattle.std.proofs.Common.{arith, ◌≡◌, refl, sym, ap, ◌∙◌, subst, ℕ, ◌+◌, ◌*◌, ◌-◌, Bool, true, false, List, [], ◌∷◌, ◌++◌, length, map, take, replicate}
-use Rattle.std.specs.Prelude.{◌<◌, ◌≤◌, ◌&&◌, not, Option, Some, None, remove, slice_get}
-use Rattle.std.specs.Option.{option_map}
-use Rattle.std.proofs.lemmas.List.{append-nil, get_or-map}
+use Rattle.std.proofs.Common.{arith, ◌≡◌, refl, sym, ap, ◌∙◌, subst, ℕ, ◌*◌, Bool, true, false, List, [], ◌++◌, length}
+use Rattle.std.specs.Prelude.{◌&&◌, not, Option, Some, None, remove, slice_get}
 use Rattle.satl_base.specs.declared.block.Block.{Block}
 use Rattle.satl_base.specs.declared.reply.Reply.{Reply}
 use Rattle.satl_base.specs.declared.reply.Scsi.TheVariants.{Good}
-use Rattle.satl_base.specs.Blocks.{bytes_of, first_bytes}
+use Rattle.satl_base.specs.Blocks.{bytes_of}
 use Rattle.satl_base.specs.Cells.{pairs_from}
-use Rattle.satl_cdb.specs.declared.command.Command.{Command}
 use Rattle.satl_cdb.specs.declared.command.Command.TheVariants as commands
 use Rattle.satl_cdb.specs.declared.command.Form.{Form}
 use Rattle.satl_identify.specs.declared.identity.Identity.{Identity}
 use Rattle.satl_frame.specs.DataPages.{page_count, pages_of}
 use Rattle.satl_frame.specs.Output.{reply_bytes}
-use Rattle.satl_frame.proofs.Paging.{bytes_of-pages_of, first_bytes-pages_of, length-pages_of}
+use Rattle.satl_frame.proofs.Paging.{first_bytes-pages_of, length-pages_of}
+use Rattle.std.proofs.lemmas.Option.{same_Some}
 use Rattle.satl_line.specs.declared.entry.Entry.{Entry}
 use Rattle.satl_line.specs.Conflict.{conflicts}
 use Rattle.satl_line.specs.Eligible.{IsEligible, eligible_at}
@@ -22,55 +20,25 @@ use Rattle.satl_line.proofs.EligibleLemmas.{eligible_passes}
 use Rattle.satl_direct.specs.Device.{Device, without}
 use Rattle.satl_direct.specs.Ending.{task_reply}
 use Rattle.satl_direct.specs.Quiet.{written_by}
-use Rattle.satl_direct.specs.Tasks.{data_out, held_blocks, over}
+use Rattle.satl_direct.specs.Tasks.{over}
 use Rattle.satl_audit.specs.Arriving.{device_at, device_of}
 use Rattle.satl_audit.specs.Deciding.{AreWhole, GivesWhole}
 use Rattle.satl_audit.specs.Deeds.{Deed}
 use Rattle.satl_audit.specs.Deeds.Deed.{gives, puts, settles}
-use Rattle.satl_audit.specs.Following.{along, blocks_from, pairs_in}
-use Rattle.satl_audit.specs.Finishing.{AreTasks, CannotEnd, Ends, end_deeds, Flushes, OnlyEnds, Passes, Reads, Writes, head_bytes}
-use Rattle.satl_audit.specs.Kept.{Keeping, blank_keeping, kept_settle, sector_at, sector_of}
-use Rattle.satl_audit.specs.Sectors.{sector_gives, sector_puts, settled_in}
+use Rattle.satl_audit.specs.Following.{along, pairs_in}
+use Rattle.satl_audit.specs.Finishing.{AreTasks, CannotEnd, Ends, Flushes, OnlyEnds, Passes, Reads, Writes, head_bytes}
+use Rattle.satl_audit.specs.Kept.{Keeping, sector_at}
+use Rattle.satl_audit.specs.Sectors.{sector_gives, sector_puts}
 use Rattle.satl_audit.specs.Skeleton.{DoneAs, TaskDone}
-use Rattle.satl_audit.specs.Waiting.{Fits, MayWait, Placed, device_tasks, entries_in, task_in}
+use Rattle.satl_audit.specs.Waiting.{Placed, device_tasks, entries_in, task_in}
 use Rattle.satl_audit.specs.declared.arriving.Steps.{Steps}
-use Rattle.satl_audit.specs.declared.content.Content.{Content}
 use Rattle.satl_audit.proofs.Frames.{pages_whole}
-use Rattle.satl_audit.proofs.NextLemmas.{all_at, device_at_place, eligible_same, removed_at}
-use Rattle.satl_audit.proofs.ReplyLemmas.{good_is}
-use Rattle.satl_audit.proofs.Showing.{all_of, eligible_there}
-use Rattle.satl_audit.proofs.Telling.{whole-length, whole_same}
-
--- ---- pages of whole blocks
-
-no_more : (n : ℕ) → n ≡ 0 → (xs : List ℕ) → xs ++ replicate n 0 ≡ xs
-no_more n e xs = ap (λ k. xs ++ replicate k 0) e ∙ append-nil xs
-
-pub pages_same : (vs : List Block) → AreWhole vs → pages_of (bytes_of vs) ≡ vs
-pages_same vs whole =
-    let bytes = bytes_of vs in
-    let size = whole-length vs whole in
-    let count : page_count (length bytes) ≡ length vs = omega (arith, size) in
-    let spare : 512 * page_count (length bytes) - length bytes ≡ 0 = omega (arith, size, count) in
-    whole_same (pages_of bytes) vs (pages_whole bytes) whole (length-pages_of bytes ∙ count) (bytes_of-pages_of bytes ∙ no_more _ spare bytes)
-
-all_bytes : (vs : List Block) → AreWhole vs → first_bytes (512 * length vs) vs ≡ bytes_of vs
-all_bytes vs whole = ap (λ n. take n (bytes_of vs)) (sym (whole-length vs whole)) ∙ own (bytes_of vs)
-  where
-    own : (xs : List ℕ) → take (length xs) xs ≡ xs
-    own [] = refl
-    own (x ∷ xs) = ap (λ l. x ∷ l) (own xs)
-
--- ---- all is written back
-
-settled_at : (input : List ℕ) (now : Option Content) (may : List Content) → sector_of input (kept_settle (record { now = now; may = may })) ≡ settled_in (sector_of input (record { now = now; may = may })).now (sector_of input (record { now = now; may = may })).may
-settled_at input None may = refl
-settled_at input (Some v) may = refl
-
-settle_sector : (input : List ℕ) (ks : List Keeping) (x : ℕ) → x < length ks → settled_in (sector_at input ks x).now (sector_at input ks x).may ≡ sector_at input (map kept_settle ks) x
-settle_sector input ks x less = sym (ap (sector_of input) (get_or-map kept_settle ks x blank_keeping blank_keeping less) ∙ settled_at input _ _)
-
--- ---- the task at a place
+use Rattle.satl_audit.proofs.NextLemmas.{device_at_place, eligible_same, removed_at}
+use Rattle.satl_audit.proofs.ReplyLemmas.{good_is, whole-length}
+use Rattle.satl_audit.proofs.FinishingLemmas.{pages_same, all_bytes, refusing, settle_sector}
+use Rattle.satl_audit.proofs.EndWithin.{fits_at, write_body}
+use Rattle.satl_laws.proofs.Ends.{eligible_in as eligible_there}
+use Rattle.satl_laws.proofs.Rows.{in_all as all_of}
 
 module _ (identity : Identity) (input : List ℕ) (old : Steps) (place : ℕ) (p : Placed) (tasks : AreTasks identity input old.waiting) (at : slice_get old.waiting place ≡ Some p)
     (eligible : eligible_at (entries_in old.waiting) place ≡ true) (only : OnlyEnds old (Some place)) (waiting : List Placed) (left : List ℕ) (is : waiting ≡ remove old.waiting place) (sectors after : List Keeping) (same : length after ≡ length sectors) where
@@ -89,9 +57,6 @@ module _ (identity : Identity) (input : List ℕ) (old : Steps) (place : ℕ) (p
   is_eligible : IsEligible (device_tasks input old.waiting) t
   is_eligible = eligible_passes conflicts (device_tasks input old.waiting) place t there (eligible_same input old.waiting place ∙ eligible)
 
-  fits : Fits identity.capacity (length input) p
-  fits = all_at (Fits identity.capacity (length input)) old.waiting place p tasks.fit at
-
   expected : t.expected ≡ None
   expected = all_of (λ u. u.expected ≡ None) (device_tasks input old.waiting) t tasks.expected (eligible_there (device_tasks input old.waiting) t is_eligible)
 
@@ -105,19 +70,13 @@ module _ (identity : Identity) (input : List ℕ) (old : Steps) (place : ℕ) (p
   is_it : (reply : Reply) (deed : Deed) (other : Device) (rest : List ℕ) (d : TaskDone s reply deed other) → old.output ≡ reply_bytes reply ++ rest → d.task ≡ t
   is_it reply deed other rest d e =
       let o = only identity input reply deed other rest tasks d e in
-      some_same (sym o.2 ∙ ap (λ (q : Option ℕ). at_place q) (sym o.1) ∙ there)
+      same_Some _ _ (sym o.2 ∙ ap (λ (q : Option ℕ). at_place q) (sym o.1) ∙ there)
     where
       at_place : Option ℕ → Option Entry
       at_place None = None
       at_place (Some n) = slice_get (device_tasks input old.waiting) n
 
-      some_same : {x y : Entry} → Some x ≡ Some y → x ≡ y
-      some_same e = cc
-
   -- ---- a READ
-
-  refusing : (x : ℕ) (deed : Deed) (lba : ℕ) (blocks : List Block) → deed ≡ gives lba blocks → sector_gives x lba blocks (Some (sector_at input sectors x)) ≡ None → along x None (end_deeds s deed) (Some (sector_at input sectors x)) ≡ None
-  refusing x deed lba blocks is none = ap (λ d. along x None (end_deeds s d) (Some (sector_at input sectors x))) is ∙ ap (along x None []) none
 
   pub read_arm : (form : Form) (lba count : ℕ) (fua : Bool) → p.entry.command ≡ commands.Read form lba count fua → (b : Bool) → Reads input p.entry.nexus (p.entry.tag).0 (over lba count) old.output left sectors after b → Ends identity input old new sectors after b
   read_arm form lba count fua c true r =
@@ -151,7 +110,7 @@ module _ (identity : Identity) (input : List ℕ) (old : Steps) (place : ℕ) (p
             ∙ ap (λ (l : List ℕ). head_bytes t.nexus (t.tag).0 Good 0 (512 * length blocks) ++ (l ++ rest)) (all_bytes blocks w)
             ∙ ap (λ n. head_bytes t.nexus (t.tag).0 Good 0 (512 * n) ++ (bytes_of blocks ++ rest)) k.0,
       ) in
-      (f.0, f.1, refusing f.0 deed lba blocks k.1 (ap (λ l. sector_gives f.0 lba l (Some (sector_at input sectors f.0))) (sym (pages_same blocks w)) ∙ f.2))
+      (f.0, f.1, refusing f.0 s (sector_at input sectors f.0) deed lba blocks k.1 (ap (λ l. sector_gives f.0 lba l (Some (sector_at input sectors f.0))) (sym (pages_same blocks w)) ∙ f.2))
 
   -- ---- GOOD without data
 
@@ -174,11 +133,8 @@ module _ (identity : Identity) (input : List ℕ) (old : Steps) (place : ℕ) (p
         follows = (same, λ x less. ap Some (ap (λ q. sector_puts x (pairs_in input (over lba count) p.at q) (sector_at input sectors x)) (sym through) ∙ sym (r.1 refl x less)));
       }
     where
-      body : t.body ≡ blocks_from input p.at count
-      body = ap (λ (k : Command). data_out k (blocks_from input p.at p.entry.blocks)) c ∙ ap (blocks_from input p.at) (fits.held ∙ ap (λ (k : Command). held_blocks k) c)
-
       pairs : pairs_in input (over lba count) p.at (identity.cache && not fua) ≡ written_by (commands.Write form lba count fua) s t
-      pairs = ap (λ (l : List Block). pairs_from lba l (identity.cache && not fua)) (sym body)
+      pairs = ap (λ (l : List Block). pairs_from lba l (identity.cache && not fua)) (sym (write_body input p form lba count fua c (fits_at identity input old.waiting place p tasks at).held))
   write_arm form lba count fua c cached through false r = cannot (λ reply deed other d it. (subst (λ x. DoneAs x s t d.blocks deed) c (subst (λ u. DoneAs u.command s u d.blocks deed) it d.done)).0) r.0
 
   pub flush_arm : (form : Form) (lba count : ℕ) → p.entry.command ≡ commands.Flush form lba count → (b : Bool) → Flushes p.entry.nexus (p.entry.tag).0 old.output left sectors after b → Ends identity input old new sectors after b
@@ -191,49 +147,3 @@ module _ (identity : Identity) (input : List ℕ) (old : Steps) (place : ℕ) (p
     follows = (same, λ x less. ap Some (settle_sector input sectors x less ∙ ap (λ (l : List Keeping). sector_at input l x) (sym (r.1 refl))));
   }
   flush_arm form lba count c false r = cannot (λ reply deed other d it. (subst (λ x. DoneAs x s t d.blocks deed) c (subst (λ u. DoneAs u.command s u d.blocks deed) it d.done)).0) r.0
-
--- ---- what its command goes over
-
-pub read_within : (capacity size : ℕ) (p : Placed) → Fits capacity size p → (form : Form) (lba count : ℕ) (fua : Bool) → p.entry.command ≡ commands.Read form lba count fua → lba + count ≤ capacity
-read_within capacity size p f form lba count fua c = subst (MayWait capacity f.bytes) c f.waits
-
-pub write_within : (capacity size : ℕ) (p : Placed) → Fits capacity size p → (form : Form) (lba count : ℕ) (fua : Bool) → p.entry.command ≡ commands.Write form lba count fua → (lba + count ≤ capacity) × (p.at + 512 * count ≤ size)
-write_within capacity size p f form lba count fua c =
-    let w = subst (MayWait capacity f.bytes) c f.waits in
-    (w.0, omega (arith, w.1, f.stands))
-
-pub fits_at : (identity : Identity) (input : List ℕ) (ps : List Placed) (place : ℕ) (p : Placed) → AreTasks identity input ps → slice_get ps place ≡ Some p → Fits identity.capacity (length input) p
-fits_at identity input ps place p tasks at = all_at (Fits identity.capacity (length input)) ps place p tasks.fit at
-
-pub both_at : (o : Option Placed) (entry : Entry) (at : ℕ) → option_map (λ (q : Placed). q.entry) o ≡ Some entry → option_map (λ (q : Placed). q.at) o ≡ Some at → o ≡ Some (record { entry = entry; at = at })
-both_at None entry at e f = absurd cc
-both_at (Some q) entry at e f =
-    let g : q.entry ≡ entry = some_entry e in
-    let h : q.at ≡ at = some_number f in
-    ap (λ (x : Entry). Some (record { entry = x; at = q.at })) g ∙ ap (λ n. Some (record { entry = entry; at = n })) h
-  where
-    some_entry : {x y : Entry} → Some x ≡ Some y → x ≡ y
-    some_entry e = cc
-
-    some_number : {x y : ℕ} → Some x ≡ Some y → x ≡ y
-    some_number e = cc
-
--- no other command waits
-pub no_other : (capacity bytes : ℕ) (c : Command) → MayWait capacity bytes c → ((form : Form) (lba count : ℕ) (fua : Bool) → c ≡ commands.Read form lba count fua → ⊥) →
-    ((form : Form) (lba count : ℕ) (fua : Bool) → c ≡ commands.Write form lba count fua → ⊥) → ((form : Form) (lba count : ℕ) → c ≡ commands.Flush form lba count → ⊥) → ⊥
-no_other capacity bytes commands.TestUnitReady w r v f = absurd w
-no_other capacity bytes (commands.RequestSense descriptor alloc) w r v f = absurd w
-no_other capacity bytes (commands.Inquiry page alloc) w r v f = absurd w
-no_other capacity bytes (commands.ModeSense ten long_lba no_descriptor control page alloc) w r v f = absurd w
-no_other capacity bytes (commands.ModeSelect ten size) w r v f = absurd w
-no_other capacity bytes (commands.StartStop start no_flush) w r v f = absurd w
-no_other capacity bytes commands.ReadCapacity10 w r v f = absurd w
-no_other capacity bytes (commands.ReadCapacity16 alloc) w r v f = absurd w
-no_other capacity bytes (commands.ReportLuns select alloc) w r v f = absurd w
-no_other capacity bytes (commands.Read form lba count fua) w r v f = r form lba count fua refl
-no_other capacity bytes (commands.Write form lba count fua) w r v f = v form lba count fua refl
-no_other capacity bytes (commands.Verify form lba count compare) w r v f = absurd w
-no_other capacity bytes (commands.Flush form lba count) w r v f = f form lba count refl
-no_other capacity bytes (commands.WriteSame form lba count unmap) w r v f = absurd w
-no_other capacity bytes (commands.Unmap size) w r v f = absurd w
-no_other capacity bytes (commands.Pass cdb) w r v f = absurd w

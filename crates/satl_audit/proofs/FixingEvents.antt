@@ -1,7 +1,6 @@
 -- The bytes of the answers fix what an event does.
-use Rattle.std.proofs.Common.{◌≡◌, refl, sym, ap, ◌∙◌, subst, ℕ, Bool, true, false, List, [], ◌∷◌, ◌++◌, map, append_assoc}
-use Rattle.std.specs.Prelude.{◌<◌, ◌^◌, filter, not, if◌then◌else◌}
-use Rattle.std.specs.List.{AllByRecursion}
+use Rattle.std.proofs.Common.{◌≡◌, refl, sym, ap, ◌∙◌, subst, ℕ, true, List, [], ◌∷◌, ◌++◌, map, append_assoc}
+use Rattle.std.specs.Prelude.{◌<◌, ◌^◌, not}
 use Rattle.satl_base.specs.declared.bench.BenchEvent.{BenchEvent}
 use Rattle.satl_base.specs.declared.bench.BenchEvent.TheVariants as events
 use Rattle.satl_base.specs.declared.request.Request.{Request}
@@ -20,20 +19,17 @@ use Rattle.satl_cover.specs.Known.{is_known, is_known_frame}
 use Rattle.satl_audit.specs.Skeleton.{Benched, Stepped}
 use Rattle.satl_audit.proofs.Forming.{IsNewIn, arrival_new}
 use Rattle.satl_audit.proofs.Naming.{own_filtered, own_pushed}
-use Rattle.satl_audit.proofs.Links.{both_right}
 use Rattle.satl_audit.specs.Deciding.{AllWhole, IsFineFrame}
 use Rattle.satl_audit.proofs.Telling.{IsFine}
 use Rattle.satl_audit.proofs.FixingTurns.{said, Kept, turns_keep, SameTurns, turns_same, drains_same}
-
-All-kept : {X : Type 0} (P : X → Type 0) (p : X → Bool) (xs : List X) → AllByRecursion P xs → AllByRecursion P (filter p xs)
-All-kept P p [] all = all
-All-kept P p (x ∷ xs) all = elim (p x) as (λ b. AllByRecursion P (if b then x ∷ filter p xs else filter p xs)) [ true ↦ (all.0, All-kept P p xs all.1) | false ↦ All-kept P p xs all.1 ]
+use Rattle.satl_laws.proofs.Cases.{both_right}
+use Rattle.satl_laws.proofs.Rows.{All-filter}
 
 arrives_keep : (a : Arrival) (r : Request) (s u : Device) (replies : List Reply) → Kept s → IsFineFrame (frames.Request r) → IsNewIn s r a → ArrivesAs a r s replies u → Kept u
 arrives_keep (answered reply) r s u replies k f n e = subst Kept (sym e.1) k
 arrives_keep (attended reply) r s u replies k f n e = subst Kept (sym e.1) (record { own = k.own; fine = k.fine })
 arrives_keep (overlaps reply) r s u replies k f n e =
-    subst Kept (sym e.1) (record { own = own_filtered (λ t. not (is_of r.nexus t)) s.tasks k.own; fine = All-kept IsFine (λ t. not (is_of r.nexus t)) s.tasks k.fine })
+    subst Kept (sym e.1) (record { own = own_filtered (λ t. not (is_of r.nexus t)) s.tasks k.own; fine = All-filter IsFine (λ t. not (is_of r.nexus t)) s.tasks k.fine })
 arrives_keep (waits t) r s u replies k f n e =
     subst Kept (sym e.1) (record { own = own_pushed s.tasks t n.own k.own; fine = All-push_end IsFine s.tasks t k.fine (subst (λ (g : _). g.0 < 2 ^ 32) (sym n.tag) f.0, n.expected ∙ f.1) })
 

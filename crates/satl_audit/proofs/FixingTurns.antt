@@ -15,6 +15,7 @@ use Rattle.satl_audit.specs.Skeleton.{TaskDone, TurnsDone, shown}
 use Rattle.satl_audit.proofs.Naming.{own_removed}
 use Rattle.satl_audit.specs.Deciding.{AllWhole, GivesWhole}
 use Rattle.satl_audit.proofs.Telling.{IsFine, ends_same}
+use Rattle.satl_line.proofs.SlotsLemmas.{All-right, All-left}
 
 abbrev pub said : List Reply → List ℕ
 said replies = all_answered (map replied replies)
@@ -22,14 +23,6 @@ said replies = all_answered (map replied replies)
 pub said-push : (replies : List Reply) (r : Reply) (rest : List ℕ) → said (replies ++ r ∷ []) ++ rest ≡ said replies ++ (reply_bytes r ++ rest)
 said-push [] r rest = append_assoc (reply_bytes r) [] rest
 said-push (q ∷ replies) r rest = append_assoc (reply_bytes q) (said (replies ++ r ∷ [])) rest ∙ ap (λ l. reply_bytes q ++ l) (said-push replies r rest) ∙ sym (append_assoc (reply_bytes q) (said replies) (reply_bytes r ++ rest))
-
-pub all_back : {X : Type 0} (P : X → Type 0) (xs ys : List X) → AllByRecursion P (xs ++ ys) → AllByRecursion P ys
-all_back P [] ys h = h
-all_back P (x ∷ xs) ys h = all_back P xs ys h.1
-
-pub all_fore : {X : Type 0} (P : X → Type 0) (xs ys : List X) → AllByRecursion P (xs ++ ys) → AllByRecursion P xs
-all_fore P [] ys h = tt
-all_fore P (x ∷ xs) ys h = (h.0, all_fore P xs ys h.1)
 
 -- tasks that turns leave
 pub record Kept (s : Device) : Type 0 where
@@ -73,14 +66,14 @@ pub turns_same : (s : Device) → Kept s → {n : ℕ} {replies : List Reply} {d
 turns_same s k TurnsDone.none TurnsDone.none rest rest' w z h = record { deeds_same = refl; new_same = refl; rest_same = h }
 turns_same s k (TurnsDone.idle t e) (TurnsDone.idle t' e') rest rest' w z h = turns_same s k t t' rest rest' w z h
 turns_same s k {u = u} (TurnsDone.idle {mid = mid} t e) {others = _} {v = v} (TurnsDone.more {replies = others} {deeds = es} {mid = mid'} q d t' b) rest rest' w z h =
-    let r = turns_same s k t t' rest (reply_bytes q ++ rest') w (all_fore GivesWhole es (shows (shown mid') ∷ d ∷ []) z) (h ∙ said-push others q rest') in
+    let r = turns_same s k t t' rest (reply_bytes q ++ rest') w (All-left GivesWhole es (shows (shown mid') ∷ d ∷ []) z) (h ∙ said-push others q rest') in
     absurd (none_ends mid' v q d (ap (λ (y : Device). y.tasks) (sym r.new_same) ∙ e) b)
 turns_same s k {u = u} (TurnsDone.more {replies = replies} {deeds = ds} {mid = mid} r d t a) {v = v} (TurnsDone.idle {mid = mid'} t' e) rest rest' w z h =
-    let x = turns_same s k t t' (reply_bytes r ++ rest) rest' (all_fore GivesWhole ds (shows (shown mid) ∷ d ∷ []) w) z (sym (said-push replies r rest) ∙ h) in
+    let x = turns_same s k t t' (reply_bytes r ++ rest) rest' (All-left GivesWhole ds (shows (shown mid) ∷ d ∷ []) w) z (sym (said-push replies r rest) ∙ h) in
     absurd (none_ends mid u r d (ap (λ (y : Device). y.tasks) x.new_same ∙ e) a)
 turns_same s k {u = u} (TurnsDone.more {replies = replies} {deeds = ds} {mid = mid} r d t a) {v = v} (TurnsDone.more {replies = others} {deeds = es} {mid = mid'} q e t' b) rest rest' w z h =
-    let x = turns_same s k t t' (reply_bytes r ++ rest) (reply_bytes q ++ rest') (all_fore GivesWhole ds (shows (shown mid) ∷ d ∷ []) w) (all_fore GivesWhole es (shows (shown mid') ∷ e ∷ []) z) (sym (said-push replies r rest) ∙ h ∙ said-push others q rest') in
-    more_same s mid mid' u v replies others r q ds es d e rest rest' (turns_keep s k t) ((all_back GivesWhole ds (shows (shown mid) ∷ d ∷ []) w).1).0 ((all_back GivesWhole es (shows (shown mid') ∷ e ∷ []) z).1).0 a b x
+    let x = turns_same s k t t' (reply_bytes r ++ rest) (reply_bytes q ++ rest') (All-left GivesWhole ds (shows (shown mid) ∷ d ∷ []) w) (All-left GivesWhole es (shows (shown mid') ∷ e ∷ []) z) (sym (said-push replies r rest) ∙ h ∙ said-push others q rest') in
+    more_same s mid mid' u v replies others r q ds es d e rest rest' (turns_keep s k t) ((All-right GivesWhole ds (shows (shown mid) ∷ d ∷ []) w).1).0 ((All-right GivesWhole es (shows (shown mid') ∷ e ∷ []) z).1).0 a b x
 
 -- where no task is left more turns do nothing
 pub idles : (s : Device) (j : ℕ) {n : ℕ} {replies : List Reply} {ds : List Deed} {u : Device} → TurnsDone s n replies ds u → u.tasks ≡ [] → TurnsDone s (j + n) replies ds u

@@ -1,5 +1,5 @@
 -- The frames of a record, as a reader gives them.
-use Rattle.std.proofs.Common.{◌≡◌, refl, sym, ap, ◌∙◌, subst, ℕ, ◌+◌, ◌-◌, Bool, true, false, List, [], ◌∷◌, ◌++◌, length, append_assoc, Option, Some, None}
+use Rattle.std.proofs.Common.{◌≡◌, refl, sym, ap, ◌∙◌, subst, ℕ, ◌+◌, ◌-◌, Bool, true, false, List, [], ◌∷◌, ◌++◌, length, append_assoc, Option, Some}
 use Rattle.std.specs.Prelude.{max, Ok}
 use Rattle.satl_identify.specs.declared.identity.Identity.{Identity}
 use Rattle.satl_identify.specs.Refusals.{IsIdentity}
@@ -8,12 +8,10 @@ use Rattle.satl_frame.specs.declared.frames.Frame.TheVariants as frames
 use Rattle.satl_frame.specs.declared.frames.FrameFault.TheVariants.{Bad}
 use Rattle.satl_frame.specs.declared.frames.Reason.{Reason}
 use Rattle.satl_frame.specs.declared.frames.Version.{Version}
-use Rattle.satl_frame.specs.declared.frames.Version.TheVariants.{One, Two}
-use Rattle.satl_frame.specs.Frames.{spelled}
-use Rattle.satl_frame.specs.Inputs.{AreFrames, NoneEnds, Reads, all_spelled}
+use Rattle.satl_frame.specs.declared.frames.Version.TheVariants.{One}
+use Rattle.satl_frame.specs.Inputs.{AreFrames, Reads, all_spelled}
 use Rattle.satl_frame.specs.Magic.{magic}
-use Rattle.satl_frame.specs.Output.{out_magic}
-use Rattle.satl_frame.specs.Progress.{HasRead, ReadsToEnd}
+use Rattle.satl_frame.specs.Progress.{ReadsToEnd}
 use Rattle.satl_frame.specs.Pulls.{cut_to}
 use Rattle.satl_frame.specs.Reading.{Blames, Gave, Reading}
 use Rattle.satl_frame.proofs.ProgressLemmas.{has_read_more}
@@ -28,36 +26,11 @@ use Rattle.satl_audit.specs.Waiting.{AllFit}
 use Rattle.satl_audit.specs.declared.arriving.Steps.{Steps}
 use Rattle.satl_audit.specs.declared.verdict.Verdict.TheVariants as says
 use Rattle.satl_cover.specs.Known.{is_known_frame}
-use Rattle.satl_audit.proofs.AdvanceLemmas.{cut_end}
-use Rattle.satl_audit.proofs.ReachLemmas.{Reached, good_here, known_here, may_here, reached_more, tasks_here}
+use Rattle.satl_audit.proofs.CutFrames.{cut_end}
+use Rattle.satl_audit.proofs.ReachBegins.{Reached}
+use Rattle.satl_audit.proofs.ReachLemmas.{good_here, known_here, may_here, reached_more, tasks_here}
 use Rattle.satl_audit.proofs.VerdictLemmas.{explained_here, more_here, stuck_here}
-
--- END is the last of frames
-ends_last : (version : Version) (offset : ℕ) (before later : List Frame) → AreFrames version limit offset (before ++ frames.End ∷ later) → later ≡ []
-ends_last version offset [] later each = each.2 refl
-ends_last version offset (f ∷ before) later each = ends_last version (offset + length (spelled f)) before later each.3
-
--- frames of an input were given and have happened, and none was END
-pub record Goes (identity : Identity) (input output : List ℕ) (reader : Reading) (left : List ℕ) (steps : Steps) (sectors : List Keeping) : Type 0 where
-  pub fresh : reader.refused ≡ None
-  pub newest : reader.newest ≡ Two
-  pub limit_is : reader.limit ≡ limit
-  pub so_far : List Frame
-  pub read : HasRead reader (Some input) (Some left) so_far
-  pub none : NoneEnds so_far
-  pub reached : Reached identity input output so_far steps sectors
-
-pub goes_none : (identity : Identity) (input left : List ℕ) (reader : Reading) (steps : Steps) (sectors : List Keeping) → reader ≡ record { limit = limit; newest = Two; place = None; refused = None } →
-    Reached identity input (out_magic ++ left) [] steps sectors → Goes identity input (out_magic ++ left) reader input steps sectors
-goes_none identity input left reader steps sectors is reached = record {
-  fresh = ap (λ (r : Reading). r.refused) is;
-  newest = ap (λ (r : Reading). r.newest) is;
-  limit_is = ap (λ (r : Reading). r.limit) is;
-  so_far = [];
-  read = subst (λ (r : Reading). HasRead r (Some input) (Some input) []) (sym is) (refl, refl);
-  none = tt;
-  reached = reached;
-}
+use Rattle.satl_audit.proofs.FollowGoes.{ends_last, Goes}
 
 module _ (identity : Identity) (is : IsIdentity identity) (input output : List ℕ) (all : List Frame) (taken : IsTaken identity input all) (reader : Reading) (left : List ℕ) (steps : Steps) (sectors : List Keeping)
     (going : Goes identity input output reader left steps sectors) where

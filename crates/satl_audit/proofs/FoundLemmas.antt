@@ -19,7 +19,8 @@ use Rattle.satl_audit.specs.Waiting.{Fits, device_tasks, entries_in, has_name}
 use Rattle.satl_audit.specs.declared.arriving.Steps.{Steps}
 use Rattle.satl_audit.proofs.NextLemmas.{all_at, at_device, eligible_same, named_at}
 use Rattle.satl_audit.proofs.ReplyLemmas.{good_is}
-use Rattle.satl_audit.proofs.Showing.{all_of, eligible_there}
+use Rattle.satl_laws.proofs.Ends.{eligible_in as eligible_there}
+use Rattle.satl_laws.proofs.Rows.{in_all as all_of}
 
 module _ (identity : Identity) (input : List ℕ) (steps : Steps) (reply : Reply) (deed : Deed) (new : Device) (left : List ℕ) (tasks : AreTasks identity input steps.waiting) (done : TaskDone (device_at identity input steps) reply deed new) (said : steps.output ≡ reply_bytes reply ++ left) where
   -- the search for it

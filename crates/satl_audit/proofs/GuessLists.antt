@@ -1,13 +1,13 @@
 -- Guesses as lists.
 use Rattle.std.proofs.Common.{◌≡◌, sym, ⊎_elim, inl, inr, refl, ap, ◌∙◌, subst, ℕ, Bool, true, false, List, [], ◌∷◌, map}
-use Rattle.std.specs.Prelude.{if◌then◌else◌, filter}
+use Rattle.std.specs.Prelude.{if◌then◌else◌, filter, nat_eq}
 use Rattle.std.specs.Cmp.Lexicographic.{pointwise, same_text}
-use Rattle.std.specs.Prelude.{nat_eq}
 use Rattle.satl_base.specs.declared.block.Block.{Block}
 use Rattle.satl_base.specs.Lists.{IsIn}
 use Rattle.satl_base.proofs.ListsLemmas.{in_either, in_left, in_right}
 use Rattle.satl_audit.specs.Guesses.{Guess, all_may, has_now}
 use Rattle.satl_audit.proofs.Each.{is_same}
+use Rattle.satl_audit.proofs.Links.{false_not_true}
 
 -- ---- lists
 
@@ -39,12 +39,8 @@ filter_in p [] x h t = absurd h
 filter_in p (y ∷ xs) x h t =
     (elim (p y) as (λ b. p y ≡ b → IsIn x (if b then y ∷ filter p xs else filter p xs)) [
       | true ↦ λ s. ⊎_elim (λ e. inl e) (λ r. inr (filter_in p xs x r t)) h
-      | false ↦ λ s. ⊎_elim (λ e. absurd (no_bool (p x) t (ap p e ∙ s))) (λ r. filter_in p xs x r t) h
+      | false ↦ λ s. ⊎_elim (λ e. absurd (false_not_true t (ap p e ∙ s))) (λ r. filter_in p xs x r t) h
     ]) refl
-  where
-    no_bool : (b : Bool) → b ≡ true → b ≡ false → ⊥
-    no_bool true t f = cc
-    no_bool false t f = cc
 
 -- the same bytes
 pub bytes_same : (a b : List ℕ) → pointwise nat_eq b a ≡ true → a ≡ b

@@ -1,6 +1,5 @@
 -- Steps keep what the drive says of itself.
-use Rattle.std.proofs.Common.{◌≡◌, refl, sym, ap, ◌∙◌, ℕ, Bool, true, List, [], ◌∷◌, ◌++◌, append_assoc}
-use Rattle.std.proofs.lemmas.List.{append-nil}
+use Rattle.std.proofs.Common.{◌≡◌, refl, ap, ◌∙◌, ℕ, Bool, true, List, [], ◌∷◌, ◌++◌}
 use Rattle.std.specs.List.{AllByRecursion}
 use Rattle.satl_base.specs.declared.reply.Reply.{Reply}
 use Rattle.satl_base.specs.declared.request.Request.{Request}
@@ -12,7 +11,6 @@ use Rattle.satl_base.specs.declared.bench.BenchEvent.{BenchEvent}
 use Rattle.satl_base.specs.declared.bench.BenchEvent.TheVariants as events
 use Rattle.satl_direct.specs.Arrival.{Arrival, ArrivesAs, arrival}
 use Rattle.satl_direct.specs.Arrival.Arrival.{answered, attended, overlaps, waits}
-use Rattle.satl_direct.specs.Run.{joined}
 use Rattle.satl_audit.specs.Deeds.{Deed}
 use Rattle.satl_cover.specs.Known.{is_known_frame}
 use Rattle.satl_audit.specs.Skeleton.{Benched, Skeleton, Stepped, TurnsDone, bare}
@@ -27,11 +25,6 @@ all_front P (x ∷ xs) y h = (h.0, all_front P xs y h.1)
 pub all_last : {X : Type 0} (P : X → Type 0) (xs : List X) (y : X) → AllByRecursion P (xs ++ y ∷ []) → P y
 all_last P [] y h = h.0
 all_last P (x ∷ xs) y h = all_last P xs y h.1
-
--- one more group of answers
-pub joined-push : (groups : List (List Answer)) (group : List Answer) → joined (groups ++ group ∷ []) ≡ joined groups ++ group
-joined-push [] group = append-nil group
-joined-push (g ∷ groups) group = ap (λ l. g ++ l) (joined-push groups group) ∙ sym (append_assoc g (joined groups) group)
 
 abbrev pub AllKnown : Bool → List Frame → Type 0
 AllKnown trim all = AllByRecursion (λ f. is_known_frame trim f ≡ true) all

@@ -18,30 +18,25 @@ use Rattle.satl_audit.specs.Kept.{Keeping}
 use Rattle.satl_audit.specs.Skeleton.{TaskDone, TurnsDone}
 use Rattle.satl_audit.specs.Waiting.{task_in}
 use Rattle.satl_audit.specs.declared.arriving.Steps.{Steps}
-use Rattle.satl_audit.proofs.Each.{is_same}
 use Rattle.satl_audit.proofs.FixingEvents.{ended_push}
 use Rattle.satl_audit.proofs.FixingTurns.{drains_same, none_ends, said}
-use Rattle.satl_audit.proofs.Showing.{eligible_there}
 use Rattle.satl_audit.proofs.TurnLemmas.{kept_of}
+use Rattle.satl_audit.proofs.Links.{false_not_true}
+use Rattle.satl_laws.proofs.Names.{called_self}
+use Rattle.satl_laws.proofs.Ends.{eligible_in as eligible_there}
 
 -- a task fewer
 removed : (p : Entry → Bool) (ts : List Entry) (t : Entry) → IsIn t ts → p t ≡ true → length ts ≡ suc (length (remove_first p ts))
 removed p [] t there passes = absurd there
 removed p (u ∷ ts) t there passes = by (p u) refl (λ rest. removed p ts t rest passes)
   where
-    apart : {b : Bool} → b ≡ true → b ≡ false → ⊥
-    apart h g = cc
-
     by : (b : Bool) → p u ≡ b → (IsIn t ts → length ts ≡ suc (length (remove_first p ts))) → suc (length ts) ≡ suc (length (if b then ts else u ∷ remove_first p ts))
     by true e rec = refl
-    by false e rec = ap suc (⊎_elim (λ same. absurd (apart (sym (ap p same) ∙ passes) e)) rec there)
-
-own_name : (t : Entry) → is_called t.nexus (t.tag).0 t ≡ true
-own_name t = rw (is_same t.nexus, is_same (t.tag).0) refl
+    by false e rec = ap suc (⊎_elim (λ same. absurd (false_not_true (sym (ap p same) ∙ passes) e)) rec there)
 
 pub done_fewer : (s u : Device) (reply : Reply) (deed : Deed) → TaskDone s reply deed u → length s.tasks ≡ suc (length u.tasks)
 done_fewer s u reply deed d =
-    removed (is_called (d.task).nexus ((d.task).tag).0) s.tasks d.task (eligible_there s.tasks d.task d.eligible) (own_name d.task)
+    removed (is_called (d.task).nexus ((d.task).tag).0) s.tasks d.task (eligible_there s.tasks d.task d.eligible) (called_self d.task)
     ∙ ap (λ (x : Device). suc (length x.tasks)) (sym d.stays)
 
 -- turns without those that do nothing

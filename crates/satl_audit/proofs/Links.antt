@@ -1,6 +1,6 @@
 -- Whether the link was lost.
 use Rattle.std.proofs.Common.{◌≡◌, refl, ℕ, Bool, true, false}
-use Rattle.std.specs.Prelude.{if◌then◌else◌, ◌&&◌}
+use Rattle.std.specs.Prelude.{if◌then◌else◌}
 use Rattle.satl_direct.specs.Device.{Device}
 use Rattle.satl_direct.specs.Run.{losses_of}
 
@@ -29,7 +29,3 @@ still_up s new up = cases s.down new.down up
     cases true b p = refl
     cases false true p = absurd cc
     cases false false p = refl
-
-pub both_right : (a b : Bool) → (a && b) ≡ true → b ≡ true
-both_right true b h = h
-both_right false b h = absurd cc

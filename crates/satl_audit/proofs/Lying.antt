@@ -1,5 +1,5 @@
 -- READs of known tasks lie within the capacity.
-use Rattle.std.proofs.Common.{◌≡◌, refl, sym, ap, ◌∙◌, subst, ℕ, ◌+◌, true, List, [], ◌∷◌, ◌++◌, length}
+use Rattle.std.proofs.Common.{◌≡◌, refl, sym, ap, ◌∙◌, subst, ℕ, ◌+◌, true, List, [], ◌∷◌, length}
 use Rattle.std.specs.Prelude.{◌≤◌, not}
 use Rattle.std.specs.List.{AllByRecursion}
 use Rattle.satl_base.specs.declared.reply.Reply.{Reply}
@@ -24,16 +24,13 @@ use Rattle.satl_cover.specs.Known.{is_known, is_known_frame}
 use Rattle.satl_audit.specs.Skeleton.{Benched, DoneAs, Skeleton, Stepped, TurnsDone, shown}
 use Rattle.satl_audit.specs.Skeleton.Skeleton.{begin, further}
 use Rattle.satl_audit.proofs.Coming.{Comes, IsKnown, KnownBy, arrival_comes}
-use Rattle.satl_audit.proofs.Showing.{all_of, eligible_there}
-use Rattle.satl_audit.proofs.Links.{both_right}
 use Rattle.satl_audit.proofs.Splitting.{Lies}
-use Rattle.satl_audit.proofs.Stepping.{All-filter}
 use Rattle.satl_audit.proofs.Walking.{AllLie}
 use Rattle.satl_audit.proofs.Identities.{all_front, all_last, AllKnown, stepped_same}
-
-all_both : {X : Type 0} (P : X → Type 0) (xs ys : List X) → AllByRecursion P xs → AllByRecursion P ys → AllByRecursion P (xs ++ ys)
-all_both P [] ys p q = q
-all_both P (x ∷ xs) ys p q = (p.0, all_both P xs ys p.1 q)
+use Rattle.satl_laws.proofs.Cases.{both_right}
+use Rattle.satl_laws.proofs.Ends.{eligible_in as eligible_there}
+use Rattle.satl_laws.proofs.Rows.{in_all as all_of, All-filter}
+use Rattle.satl_line.proofs.SlotsLemmas.{All-append}
 
 -- known tasks, and deeds within the capacity
 pub record Within (size : ℕ) (deeds : List Deed) (s : Device) : Type 0 where
@@ -72,7 +69,7 @@ turns_within s size k (TurnsDone.more {deeds = deeds} {mid = mid} reply deed t d
     let task = d.task in
     let known = all_of (IsKnown size) mid.tasks task r.known (eligible_there mid.tasks task d.eligible) in
     record {
-      lie = all_both (λ x. Lies x size) deeds (shows (shown mid) ∷ deed ∷ []) r.lie (tt, (done_lies size task.command mid task d.blocks deed known d.done, tt));
+      lie = All-append (λ x. Lies x size) deeds (shows (shown mid) ∷ deed ∷ []) r.lie (tt, (done_lies size task.command mid task d.blocks deed known d.done, tt));
       known = subst (λ (x : Device). AllByRecursion (IsKnown size) x.tasks) (sym d.stays) (All-remove_first (IsKnown size) (is_called task.nexus (task.tag).0) mid.tasks r.known);
     }
 
@@ -107,6 +104,6 @@ skeleton_within {first = first} {last = last} (further {all = all} {deeds = deed
     let x = stepped_within event s last now more known (subst (λ i. AllByRecursion (IsKnown i.capacity) s.tasks) (sym r.same) r.within.known) e in
     let y : Within first.identity.capacity more last = subst (λ i. Within i.capacity more last) r.same x in
     record {
-      within = record { lie = all_both (λ d. Lies d first.identity.capacity) deeds more r.within.lie y.lie; known = y.known };
+      within = record { lie = All-append (λ d. Lies d first.identity.capacity) deeds more r.within.lie y.lie; known = y.known };
       same = stepped_same event s last now more e ∙ r.same;
     }

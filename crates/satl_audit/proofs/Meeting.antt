@@ -1,15 +1,25 @@
--- When two tasks conflict.
+-- When a WRITE conflicts with a task that goes over one of its sectors.
 use Rattle.std.proofs.Common.{arith, ◌≡◌, refl, ap, ◌∙◌, ℕ, ◌+◌, Bool, true, false, [], ◌∷◌, min, max}
-use Rattle.std.specs.Prelude.{◌≤◌, ◌<◌, ◌||◌, ◌&&◌}
+use Rattle.std.specs.Prelude.{◌≤◌, ◌<◌, ◌&&◌, not, ◌||◌}
+use Rattle.satl_base.specs.Cells.{Pair}
+use Rattle.satl_base.specs.Lists.{IsIn}
+use Rattle.satl_cdb.specs.declared.command.Command.{Command}
+use Rattle.satl_cdb.specs.declared.command.Command.TheVariants as commands
+use Rattle.satl_line.specs.declared.entry.Entry.{Entry}
+use Rattle.satl_line.specs.declared.entry.Kind.TheVariants.{Ranged}
+use Rattle.satl_line.specs.Conflict.{access_of, conflicts, is_alone, is_write, Access, accesses_conflict, any_meet, ranges_meet}
+use Rattle.satl_direct.specs.Device.{Device}
+use Rattle.satl_direct.specs.Quiet.{written_by}
+use Rattle.satl_direct.specs.Tasks.{over}
+use Rattle.satl_audit.proofs.Forming.{FormedBy}
+use Rattle.satl_audit.proofs.EarlyPairs.{from_within}
 use Rattle.std.proofs.lemmas.Bool.{lt-ltb}
 use Rattle.satl_base.specs.declared.block.Range.{Range}
-use Rattle.satl_line.specs.Conflict.{Access, accesses_conflict, any_meet, ranges_meet}
-use Rattle.satl_direct.specs.Tasks.{over}
 
 pub ranges_that_meet : (x lba count lba' count' : ℕ) → lba ≤ x → x < lba + count → lba' ≤ x → x < lba' + count' → ranges_meet (over lba count) (over lba' count') ≡ true
 ranges_that_meet x lba count lba' count' a b c d = lt-ltb (max lba lba') (min (lba + count) (lba' + count')) (omega (arith, a, b, c, d))
 
-or_true : (a b : Bool) → b ≡ true → (a || b) ≡ true
+pub or_true : (a b : Bool) → b ≡ true → (a || b) ≡ true
 or_true true b e = refl
 or_true false b e = e
 
@@ -26,3 +36,82 @@ meeting a b r q w ra rb m =
 pub barred : (a b : Access) → b.alone ≡ true → accesses_conflict a b ≡ true
 unfolding accesses_conflict
 barred a b e = true_or (a.alone || b.alone) ((a.write || b.write) && any_meet a.ranges b.ranges) (or_true a.alone b.alone e)
+
+module _ (x : ℕ) where
+  -- a command goes over the sector
+  abbrev pub TouchesBy : Command → Type 0
+  TouchesBy (commands.Read form lba count fua) = (lba ≤ x) × (x < lba + count)
+  TouchesBy (commands.Write form lba count fua) = (lba ≤ x) × (x < lba + count)
+  TouchesBy (commands.Flush form lba count) = Unit {0}
+  TouchesBy _ = ⊥
+
+  -- a WRITE with a pair there
+  pub record WriteAt (t : Entry) : Type 0 where
+    pub lba : ℕ
+    pub count : ℕ
+    pub kind : t.kind ≡ Ranged true
+    pub ranges : t.ranges.items ≡ over lba count ∷ []
+    pub low : lba ≤ x
+    pub high : x < lba + count
+
+  pub write_at : (c : Command) (s : Device) (t : Entry) (p : Pair) → FormedBy c t → IsIn p (written_by c s t) → p.lba ≡ x → WriteAt t
+  write_at commands.TestUnitReady s t p f i e = absurd f
+  write_at (commands.RequestSense descriptor alloc) s t p f i e = absurd f
+  write_at (commands.Inquiry page alloc) s t p f i e = absurd f
+  write_at (commands.ModeSense ten long_lba no_descriptor control page alloc) s t p f i e = absurd f
+  write_at (commands.ModeSelect ten size) s t p f i e = absurd f
+  write_at (commands.StartStop starts no_flush) s t p f i e = absurd f
+  write_at commands.ReadCapacity10 s t p f i e = absurd f
+  write_at (commands.ReadCapacity16 alloc) s t p f i e = absurd f
+  write_at (commands.ReportLuns select alloc) s t p f i e = absurd f
+  write_at (commands.Read form lba count fua) s t p f i e = absurd i
+  write_at (commands.Write form lba count fua) s t p f i e =
+      let w = from_within lba t.body (s.modes.wce && not fua) p i in
+      record { lba = lba; count = count; kind = f.0; ranges = f.1; low = omega (arith, w.0, e); high = omega (arith, w.1, e, f.2) }
+  write_at (commands.Verify form lba count compare) s t p f i e = absurd f
+  write_at (commands.Flush form lba count) s t p f i e = absurd i
+  write_at (commands.WriteSame form lba count unmap) s t p f i e = absurd f
+  write_at (commands.Unmap size) s t p f i e = absurd f
+  write_at (commands.Pass cdb) s t p f i e = absurd f
+
+  -- conflicts with each task that goes over the sector
+  pub clashes : (c : Command) (w t : Entry) → WriteAt w → FormedBy c t → TouchesBy c → conflicts w t ≡ true
+  clashes commands.TestUnitReady w t a f g = absurd f
+  clashes (commands.RequestSense descriptor alloc) w t a f g = absurd f
+  clashes (commands.Inquiry page alloc) w t a f g = absurd f
+  clashes (commands.ModeSense ten long_lba no_descriptor control page alloc) w t a f g = absurd f
+  clashes (commands.ModeSelect ten size) w t a f g = absurd f
+  clashes (commands.StartStop starts no_flush) w t a f g = absurd f
+  clashes commands.ReadCapacity10 w t a f g = absurd f
+  clashes (commands.ReadCapacity16 alloc) w t a f g = absurd f
+  clashes (commands.ReportLuns select alloc) w t a f g = absurd f
+  clashes (commands.Read form lba count fua) w t a f g =
+      meeting (access_of w) (access_of t) (over a.lba a.count) (over lba count) (ap is_write a.kind) a.ranges f.1 (ranges_that_meet x a.lba a.count lba count a.low a.high g.0 g.1)
+  clashes (commands.Write form lba count fua) w t a f g =
+      meeting (access_of w) (access_of t) (over a.lba a.count) (over lba count) (ap is_write a.kind) a.ranges f.1 (ranges_that_meet x a.lba a.count lba count a.low a.high g.0 g.1)
+  clashes (commands.Verify form lba count compare) w t a f g = absurd f
+  clashes (commands.Flush form lba count) w t a f g = barred (access_of w) (access_of t) (ap (λ k. is_alone k t.ordered) f)
+  clashes (commands.WriteSame form lba count unmap) w t a f g = absurd f
+  clashes (commands.Unmap size) w t a f g = absurd f
+  clashes (commands.Pass cdb) w t a f g = absurd f
+
+  -- a WRITE with a pair there goes over the sector
+  pub touches_by : (c : Command) (s : Device) (t : Entry) (p : Pair) → FormedBy c t → IsIn p (written_by c s t) → p.lba ≡ x → TouchesBy c
+  touches_by commands.TestUnitReady s t p f i e = absurd f
+  touches_by (commands.RequestSense descriptor alloc) s t p f i e = absurd f
+  touches_by (commands.Inquiry page alloc) s t p f i e = absurd f
+  touches_by (commands.ModeSense ten long_lba no_descriptor control page alloc) s t p f i e = absurd f
+  touches_by (commands.ModeSelect ten size) s t p f i e = absurd f
+  touches_by (commands.StartStop starts no_flush) s t p f i e = absurd f
+  touches_by commands.ReadCapacity10 s t p f i e = absurd f
+  touches_by (commands.ReadCapacity16 alloc) s t p f i e = absurd f
+  touches_by (commands.ReportLuns select alloc) s t p f i e = absurd f
+  touches_by (commands.Read form lba count fua) s t p f i e = absurd i
+  touches_by (commands.Write form lba count fua) s t p f i e =
+      let w = from_within lba t.body (s.modes.wce && not fua) p i in
+      (omega (arith, w.0, e), omega (arith, w.1, e, f.2))
+  touches_by (commands.Verify form lba count compare) s t p f i e = absurd f
+  touches_by (commands.Flush form lba count) s t p f i e = absurd i
+  touches_by (commands.WriteSame form lba count unmap) s t p f i e = absurd f
+  touches_by (commands.Unmap size) s t p f i e = absurd f
+  touches_by (commands.Pass cdb) s t p f i e = absurd f

@@ -1,21 +1,14 @@
 -- No two tasks are called the same.
 use Rattle.std.proofs.Common.{◌≡◌, ⊎_elim, refl, sym, ◌∙◌, subst, Bool, true, false, List, [], ◌∷◌, ◌++◌}
-use Rattle.std.specs.Prelude.{if◌then◌else◌, ◌==◌, ◌||◌, ◌&&◌, filter}
+use Rattle.std.specs.Prelude.{if◌then◌else◌, filter}
 use Rattle.std.specs.List.{list_any}
-use Rattle.std.proofs.lemmas.Bool.{eqb-true}
-use Rattle.satl_audit.proofs.Each.{is_same}
 use Rattle.satl_base.specs.Lists.{IsIn, remove_first}
 use Rattle.satl_line.specs.declared.entry.Entry.{Entry}
 use Rattle.satl_direct.specs.Device.{is_called}
 use Rattle.satl_direct.specs.Valid.{AreOwn}
-
-pub or_left : (a b : Bool) → (a || b) ≡ false → a ≡ false
-or_left true b h = h
-or_left false b h = refl
-
-pub or_right : (a b : Bool) → (a || b) ≡ false → b ≡ false
-or_right true b h = absurd cc
-or_right false b h = h
+use Rattle.satl_audit.proofs.Links.{false_not_true}
+use Rattle.satl_laws.proofs.Cases.{or_left, or_right}
+use Rattle.satl_laws.proofs.Names.{called_back}
 
 none_filtered : {X : Type 0} (p q : X → Bool) (xs : List X) → list_any p xs ≡ false → list_any p (filter q xs) ≡ false
 none_filtered p q [] h = refl
@@ -43,26 +36,10 @@ own_removed q [] h = h
 own_removed q (t ∷ ts) h =
     elim (q t) as (λ b. AreOwn (if b then ts else t ∷ remove_first q ts)) [ true ↦ h.1 | false ↦ (none_removed (is_called t.nexus (t.tag).0) q ts h.0, own_removed q ts h.1) ]
 
-both_true : (a b : Bool) → (a && b) ≡ true → (a ≡ true) × (b ≡ true)
-both_true true b h = (refl, h)
-both_true false b h = absurd cc
-
-both_are : (a b : Bool) → a ≡ true → b ≡ true → (a && b) ≡ true
-both_are a b p q = rw (p, q) refl
-
--- tasks that are called the same have the same nexus and tag
-called_same : (t u : Entry) → is_called t.nexus (t.tag).0 u ≡ true → is_called u.nexus (u.tag).0 t ≡ true
-called_same t u h =
-    let b = both_true (u.nexus == t.nexus) ((u.tag).0 == (t.tag).0) h in
-    both_are (t.nexus == u.nexus) ((t.tag).0 == (u.tag).0) (subst (λ n. (n == u.nexus) ≡ true) (eqb-true u.nexus t.nexus b.0) (is_same u.nexus)) (subst (λ n. (n == (u.tag).0) ≡ true) (eqb-true (u.tag).0 (t.tag).0 b.1) (is_same (u.tag).0))
-
 pub called_apart : (t u : Entry) → is_called t.nexus (t.tag).0 u ≡ false → is_called u.nexus (u.tag).0 t ≡ false
 called_apart t u h =
     (elim (is_called u.nexus (u.tag).0 t) as (λ b. is_called u.nexus (u.tag).0 t ≡ b → b ≡ false)
-    [ true ↦ λ e. absurd (clash (called_same u t e) h) | false ↦ λ e. refl ]) refl
-  where
-    clash : {b : Bool} → b ≡ true → b ≡ false → ⊥
-    clash p q = cc
+    [ true ↦ λ e. absurd (false_not_true (called_back u t e) h) | false ↦ λ e. refl ]) refl
 
 pub own_pushed : (ts : List Entry) (t : Entry) → list_any (is_called t.nexus (t.tag).0) ts ≡ false → AreOwn ts → AreOwn (ts ++ t ∷ [])
 own_pushed [] t none own = (refl, tt)
@@ -77,16 +54,13 @@ called_there [] t u own i j h = absurd i
 called_there (v ∷ ts) t u own i j h =
     ⊎_elim
     (λ e. ⊎_elim (λ f. f ∙ sym e) (λ k. absurd (none_here ts v u own.0 k (subst (λ w. is_called w.nexus (w.tag).0 u ≡ true) e h))) j)
-    (λ l. ⊎_elim (λ f. absurd (none_here ts v t own.0 l (subst (λ w. is_called w.nexus (w.tag).0 t ≡ true) f (called_same t u h)))) (λ k. called_there ts t u own.1 l k h) j)
+    (λ l. ⊎_elim (λ f. absurd (none_here ts v t own.0 l (subst (λ w. is_called w.nexus (w.tag).0 t ≡ true) f (called_back t u h)))) (λ k. called_there ts t u own.1 l k h) j)
     i
   where
-    clash : {b : Bool} → b ≡ true → b ≡ false → ⊥
-    clash p q = cc
-
     none_here : (ts : List Entry) (v w : Entry) → list_any (is_called v.nexus (v.tag).0) ts ≡ false → IsIn w ts → is_called v.nexus (v.tag).0 w ≡ true → ⊥
     none_here [] v w none k e = k
     none_here (x ∷ ts) v w none k e =
         ⊎_elim
-        (λ s. clash (subst (λ y. is_called v.nexus (v.tag).0 y ≡ true) s e) (or_left (is_called v.nexus (v.tag).0 x) (list_any (is_called v.nexus (v.tag).0) ts) none))
+        (λ s. false_not_true (subst (λ y. is_called v.nexus (v.tag).0 y ≡ true) s e) (or_left (is_called v.nexus (v.tag).0 x) (list_any (is_called v.nexus (v.tag).0) ts) none))
         (λ l. none_here ts v w (or_right (is_called v.nexus (v.tag).0 x) (list_any (is_called v.nexus (v.tag).0) ts) none) l e)
         k

@@ -10,8 +10,9 @@ use Rattle.satl_line.proofs.EligibleLemmas.{eligible_by-formed}
 use Rattle.satl_direct.specs.Device.{is_called, without}
 use Rattle.satl_direct.specs.Valid.{AreOwn}
 use Rattle.satl_audit.specs.Waiting.{Placed, device_tasks, entries_in, has_name, task_in}
-use Rattle.satl_audit.proofs.Each.{is_same}
-use Rattle.satl_audit.proofs.Naming.{called_apart, or_left, or_right}
+use Rattle.satl_audit.proofs.Naming.{called_apart}
+use Rattle.satl_laws.proofs.Cases.{or_left, or_right}
+use Rattle.satl_laws.proofs.Names.{called_self}
 
 module _ (input : List ℕ) where
   -- a task among those of which none passes
@@ -19,9 +20,6 @@ module _ (input : List ℕ) where
   none_passes f [] place p none at = absurd cc
   none_passes f (q ∷ ps) zero p none at = let same : q ≡ p = cc in ap (λ (x : Placed). f (task_in input x)) (sym same) ∙ or_left (f (task_in input q)) (list_any f (device_tasks input ps)) none
   none_passes f (q ∷ ps) (suc place) p none at = none_passes f ps place p (or_right (f (task_in input q)) (list_any f (device_tasks input ps)) none) at
-
-  own_name : (t : Entry) → is_called t.nexus (t.tag).0 t ≡ true
-  own_name t = rw (is_same t.nexus, is_same (t.tag).0) refl
 
   -- an earlier task has another name
   earlier_apart : (q : Placed) (ps : List Placed) (place : ℕ) (p : Placed) → AreOwn (device_tasks input (q ∷ ps)) → slice_get ps place ≡ Some p → is_called p.entry.nexus (p.entry.tag).0 (task_in input q) ≡ false
@@ -32,7 +30,7 @@ module _ (input : List ℕ) where
   named_at (q ∷ ps) zero n p own at =
       let same : q ≡ p = cc in
       let here : n ≡ n + 0 = omega arith in
-      ap (λ (b : Bool). cond b (Some n) (position_from (has_name p.entry.nexus (p.entry.tag).0) (n + 1) ps)) (ap (has_name p.entry.nexus (p.entry.tag).0) same ∙ own_name p.entry) ∙ ap Some here
+      ap (λ (b : Bool). cond b (Some n) (position_from (has_name p.entry.nexus (p.entry.tag).0) (n + 1) ps)) (ap (has_name p.entry.nexus (p.entry.tag).0) same ∙ called_self p.entry) ∙ ap Some here
   named_at (q ∷ ps) (suc place) n p own at =
       let further : (n + 1) + place ≡ n + suc place = omega arith in
       ap (λ (b : Bool). cond b (Some n) (position_from (has_name p.entry.nexus (p.entry.tag).0) (n + 1) ps)) (earlier_apart q ps place p own at)
@@ -43,7 +41,7 @@ module _ (input : List ℕ) where
   removed_at [] place p own at = absurd cc
   removed_at (q ∷ ps) zero p own at =
       let same : q ≡ p = cc in
-      sym (ap (λ (b : Bool). if b then device_tasks input ps else task_in input q ∷ remove_first (is_called p.entry.nexus (p.entry.tag).0) (device_tasks input ps)) (ap (λ (x : Placed). is_called p.entry.nexus (p.entry.tag).0 (task_in input x)) same ∙ own_name p.entry))
+      sym (ap (λ (b : Bool). if b then device_tasks input ps else task_in input q ∷ remove_first (is_called p.entry.nexus (p.entry.tag).0) (device_tasks input ps)) (ap (λ (x : Placed). is_called p.entry.nexus (p.entry.tag).0 (task_in input x)) same ∙ called_self p.entry))
   removed_at (q ∷ ps) (suc place) p own at =
       ap (λ (l : List Entry). task_in input q ∷ l) (removed_at ps place p own.1 at)
       ∙ sym (ap (λ (b : Bool). if b then device_tasks input ps else task_in input q ∷ remove_first (is_called p.entry.nexus (p.entry.tag).0) (device_tasks input ps)) (earlier_apart q ps place p own at))

@@ -1,20 +1,18 @@
--- How far a record was gone through, and what is known there.
-use Rattle.std.proofs.Common.{arith, ◌≡◌, refl, sym, ap, ◌∙◌, subst, ℕ, ◌+◌, Bool, true, false, List, [], ◌∷◌, ◌++◌, length, drop, append_assoc}
-use Rattle.std.specs.Prelude.{◌<◌, ◌^◌, None, replicate, not}
-use Rattle.std.proofs.lemmas.List.{append-nil}
+-- What is known at the frame that a record has come to.
+use Rattle.std.proofs.Common.{arith, ◌≡◌, refl, sym, ap, ◌∙◌, subst, ℕ, ◌+◌, true, false, List, [], ◌∷◌, ◌++◌, length, drop, append_assoc}
+use Rattle.std.specs.Prelude.{replicate, not}
 use Rattle.std.specs.List.{AllByRecursion}
 use Rattle.satl_base.specs.declared.request.Request.{Request}
 use Rattle.satl_cdb.specs.Table.{says}
 use Rattle.satl_identify.specs.declared.identity.Identity.{Identity}
 use Rattle.satl_identify.specs.Refusals.{IsIdentity}
-use Rattle.satl_line.specs.declared.entry.Entry.{Entry}
 use Rattle.satl_frame.specs.declared.frames.Frame.{Frame}
 use Rattle.satl_frame.specs.declared.frames.Frame.TheVariants as frames
 use Rattle.satl_frame.specs.declared.frames.Version.TheVariants.{One}
 use Rattle.satl_frame.specs.Frames.{IsFrame}
 use Rattle.satl_frame.specs.Inputs.{all_spelled}
 use Rattle.satl_frame.specs.Magic.{magic}
-use Rattle.satl_frame.specs.Output.{Answer, all_answered, out, out_magic}
+use Rattle.satl_frame.specs.Output.{all_answered, out, out_magic}
 use Rattle.satl_frame.specs.Pulls.{cut_to}
 use Rattle.satl_direct.specs.Arrival.{is_unit_0}
 use Rattle.satl_laws.specs.ArrivalOrder.{AskOnce}
@@ -22,84 +20,24 @@ use Rattle.satl_cover.specs.Covered.{AreCovered, is_covered, is_repeated, place_
 use Rattle.satl_cover.specs.Known.{is_known, is_known_frame}
 use Rattle.satl_audit.specs.Advancing.{GoesOn, IsGoodFrame, MayHappen}
 use Rattle.satl_audit.specs.Arriving.{device_at}
-use Rattle.satl_audit.specs.Deciding.{AllWhole, IsFineFrame, IsInput}
-use Rattle.satl_audit.specs.Deeds.{Deed}
+use Rattle.satl_audit.specs.Deciding.{IsFineFrame, IsInput, GivesWhole}
 use Rattle.satl_audit.specs.Finishing.{AreTasks}
-use Rattle.satl_audit.specs.Following.{Follows}
 use Rattle.satl_audit.specs.Judged.{IsTaken, blank, blank_cell}
 use Rattle.satl_audit.specs.Kept.{Keeping, blank_keeping}
-use Rattle.satl_audit.specs.Skeleton.{Skeleton, bare}
-use Rattle.satl_audit.specs.Skeleton.Skeleton.{begin, further}
+use Rattle.satl_audit.specs.Skeleton.Skeleton.{further}
 use Rattle.satl_audit.specs.Waiting.{AllFit, device_tasks}
 use Rattle.satl_audit.specs.declared.arriving.Steps.{Steps}
-use Rattle.satl_audit.proofs.AdvanceLemmas.{begins_stepped, follows_join}
+use Rattle.satl_audit.proofs.JoinedDeeds.{begins_stepped, follows_join}
 use Rattle.satl_audit.proofs.Fixing.{answered_push, steps_fixed}
-use Rattle.satl_audit.proofs.FixingTurns.{Kept, all_back, all_fore}
+use Rattle.satl_audit.proofs.FixingTurns.{Kept}
 use Rattle.satl_audit.proofs.Identities.{AllKnown}
 use Rattle.satl_audit.proofs.Sparse.{no_name}
 use Rattle.satl_audit.proofs.StandsLemmas.{data_stands, data_within, frames_behind}
-use Rattle.satl_audit.proofs.Taking.{both_left, both_right, frames_of, none_counted, not_true, once_of, taken_is_input}
-use Rattle.satl_audit.proofs.Telling.{IsFine}
-
--- these frames have happened, with the front of the output, and each sector goes along with them
-pub record Reached (identity : Identity) (input output : List ℕ) (so_far : List Frame) (steps : Steps) (sectors : List Keeping) : Type 0 where
-  pub answers : List Answer
-  pub deeds : List Deed
-  pub skeleton : Skeleton (bare (blank identity)) so_far answers deeds (device_at identity input steps)
-  pub whole : AllWhole deeds
-  pub said : output ≡ out answers ++ steps.output
-  pub follows : Follows input deeds (replicate identity.capacity blank_keeping) sectors
-  pub fit : AllFit identity.capacity (length input) steps.waiting
-
-pub reached_none : (identity : Identity) (input left : List ℕ) (steps : Steps) (sectors : List Keeping) → steps.waiting ≡ [] → steps.attentions ≡ [] ∷ [] ∷ [] ∷ [] ∷ [] → steps.output ≡ left →
-    sectors ≡ replicate identity.capacity blank_keeping → Reached identity input (out_magic ++ left) [] steps sectors
-reached_none identity input left steps sectors none untold output are = record {
-  answers = [];
-  deeds = [];
-  skeleton = subst (Skeleton (bare (blank identity)) [] [] []) (sym same) begin;
-  whole = tt;
-  said = ap (λ (l : List ℕ). out_magic ++ l) (sym output);
-  follows = subst (Follows input [] (replicate identity.capacity blank_keeping)) (sym are) (refl, λ x less. refl);
-  fit = subst (AllFit identity.capacity (length input)) (sym none) tt;
-}
-  where
-    same : device_at identity input steps ≡ bare (blank identity)
-    same =
-        ap (λ w. record (bare (blank identity)) { tasks = device_tasks input w; attentions = steps.attentions }) none
-        ∙ ap (λ a. record (bare (blank identity)) { attentions = a }) untold
-
--- frames before others are taken
-covered_front : (trim : Bool) (earlier xs ys : List Frame) → AreCovered trim earlier (xs ++ ys) → AreCovered trim earlier xs
-covered_front trim earlier [] ys h = tt
-covered_front trim earlier (x ∷ xs) ys h = (h.0, covered_front trim (earlier ++ x ∷ []) xs ys h.1)
-
-covered_next : (trim : Bool) (earlier xs : List Frame) (f : Frame) (ys : List Frame) → AreCovered trim earlier (xs ++ f ∷ ys) → is_covered trim (earlier ++ xs) f ≡ true
-covered_next trim earlier [] f ys h = ap (λ (l : List Frame). is_covered trim l f) (append-nil earlier) ∙ h.0
-covered_next trim earlier (x ∷ xs) f ys h = ap (λ (l : List Frame). is_covered trim l f) (sym (append_assoc earlier (x ∷ []) xs)) ∙ covered_next trim (earlier ++ x ∷ []) xs f ys h.1
-
--- tasks of version 1
-tags_of : (ts : List Entry) → AllByRecursion IsFine ts → AllByRecursion (λ (t : Entry). (t.tag).0 < 2 ^ 32) ts
-tags_of [] h = tt
-tags_of (t ∷ ts) h = ((h.0).0, tags_of ts h.1)
-
-expected_of : (ts : List Entry) → AllByRecursion IsFine ts → AllByRecursion (λ (t : Entry). t.expected ≡ None) ts
-expected_of [] h = tt
-expected_of (t ∷ ts) h = ((h.0).1, expected_of ts h.1)
-
--- a frame that has no pages with it
-known_cut : (trim : Bool) (f : Frame) → is_known_frame trim f ≡ true → is_known_frame trim (cut_to 0 f) ≡ true
-known_cut trim (frames.Request r) h = h
-known_cut trim (frames.Manage m) h = h
-known_cut trim (frames.Turn n) h = h
-known_cut trim (frames.Bench event) h = h
-known_cut trim frames.End h = h
-
-good_cut : (size at : ℕ) (f : Frame) → IsGoodFrame size at f → IsGoodFrame size at (cut_to 0 f)
-good_cut size at (frames.Request r) h = record { nexus = h.nexus; expected = h.expected; within = h.within }
-good_cut size at (frames.Manage m) h = tt
-good_cut size at (frames.Turn n) h = tt
-good_cut size at (frames.Bench event) h = tt
-good_cut size at frames.End h = tt
+use Rattle.satl_audit.proofs.Taking.{frames_of, none_counted, once_of, taken_is_input}
+use Rattle.satl_audit.proofs.ReachBegins.{Reached, covered_front, covered_next, tags_of, expected_of, known_cut, good_cut}
+use Rattle.satl_laws.proofs.Cases.{both_left, both_right}
+use Rattle.std.proofs.lemmas.Bool.{not-true}
+use Rattle.satl_line.proofs.SlotsLemmas.{All-append, All-right, All-left}
 
 module _ (identity : Identity) (is : IsIdentity identity) (input output : List ℕ) (all : List Frame) (taken : IsTaken identity input all) (so_far later : List Frame) (event : Frame) (all_are : all ≡ so_far ++ event ∷ later) (steps : Steps) (sectors : List Keeping)
     (reached : Reached identity input output so_far steps sectors) where
@@ -116,16 +54,16 @@ module _ (identity : Identity) (is : IsIdentity identity) (input output : List �
   known = both_left (is_known_frame identity.trim event) (not (is_repeated so_far event)) next_covered
 
   fresh : is_repeated so_far event ≡ false
-  fresh = not_true (is_repeated so_far event) (both_right (is_known_frame identity.trim event) (not (is_repeated so_far event)) next_covered)
+  fresh = not-true (is_repeated so_far event) (both_right (is_known_frame identity.trim event) (not (is_repeated so_far event)) next_covered)
 
   good_frame : IsFrame One event
-  good_frame = (all_back (IsFrame One) so_far (event ∷ later) (subst (AllByRecursion (IsFrame One)) all_are (frames_of (IsFrame One) (λ f h. h) 8 all (taken.whole.reads).each))).0
+  good_frame = (All-right (IsFrame One) so_far (event ∷ later) (subst (AllByRecursion (IsFrame One)) all_are (frames_of (IsFrame One) (λ f h. h) 8 all (taken.whole.reads).each))).0
 
   known_before : AllKnown identity.trim so_far
-  known_before = all_fore (λ g. is_known_frame identity.trim g ≡ true) so_far (event ∷ later) ((decided.audited).known)
+  known_before = All-left (λ g. is_known_frame identity.trim g ≡ true) so_far (event ∷ later) ((decided.audited).known)
 
   fine_before : AllByRecursion IsFineFrame so_far
-  fine_before = all_fore IsFineFrame so_far (event ∷ later) decided.fine
+  fine_before = All-left IsFineFrame so_far (event ∷ later) decided.fine
 
   once_before : AskOnce so_far
   once_before nexus tag = once_of identity.trim nexus tag [] so_far (covered_front identity.trim [] so_far (event ∷ later) covered) (omega arith)
@@ -184,16 +122,12 @@ module _ (identity : Identity) (is : IsIdentity identity) (input output : List �
     answers = reached.answers ++ g.answers;
     deeds = reached.deeds ++ g.deeds;
     skeleton = further event g.answers g.deeds reached.skeleton g.stepped;
-    whole = both reached.deeds g.deeds reached.whole g.whole;
+    whole = All-append GivesWhole reached.deeds g.deeds reached.whole g.whole;
     said = reached.said ∙ said;
     follows = follows_join input reached.deeds g.deeds (replicate identity.capacity blank_keeping) sectors after (begins_stepped event (device_at identity input steps) (device_at identity input new) g.answers g.deeds g.stepped) reached.follows g.follows;
     fit = fit;
   }
     where
-      both : (xs ys : List Deed) → AllWhole xs → AllWhole ys → AllWhole (xs ++ ys)
-      both [] ys p q = q
-      both (x ∷ xs) ys p q = (p.0, both xs ys p.1 q)
-
       said : out reached.answers ++ steps.output ≡ out (reached.answers ++ g.answers) ++ new.output
       said =
           ap (λ (l : List ℕ). out reached.answers ++ l) g.said

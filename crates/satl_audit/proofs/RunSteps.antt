@@ -11,7 +11,8 @@ use Rattle.satl_audit.specs.Skeleton.Skeleton.{begin, further}
 use Rattle.satl_audit.proofs.Keeping.{IsSane}
 use Rattle.satl_audit.proofs.EventSteps.{event_split}
 use Rattle.satl_audit.proofs.Stepping.{behind_now, quiet_bare, quiet_behind, quiet_sane}
-use Rattle.satl_audit.proofs.Identities.{all_front, all_last, joined-push, AllKnown, RunSplit, stepped_same}
+use Rattle.satl_audit.proofs.Identities.{all_front, all_last, AllKnown, RunSplit, stepped_same}
+use Rattle.satl_laws.proofs.Runs.{joined-push}
 
 pub run_split : {first last : Device} {all : List Frame} {groups : List (List Answer)} {losses deep : ℕ} → RunDeep first all groups losses last deep → losses ≡ 0 → AllKnown first.identity.trim all → IsSane first → RunSplit first last all (joined groups)
 run_split {first = first} {last = last} (start quiet) z k h = record {

@@ -1,10 +1,9 @@
 -- A sector that is kept, behind a READ.
 use Rattle.std.proofs.Common.{◌≡◌, ⊎_elim, inl, inr, refl, sym, ap, ◌∙◌, subst, ℕ, ◌+◌, Bool, true, false, List, [], ◌∷◌, map, Option, Some, None}
-use Rattle.std.specs.Prelude.{◌==◌, ◌||◌, if◌then◌else◌, filter}
+use Rattle.std.specs.Prelude.{◌==◌, ◌||◌, if◌then◌else◌, filter, nat_eq}
 use Rattle.std.specs.List.{list_any}
 use Rattle.std.proofs.lemmas.Bool.{eqb-true}
 use Rattle.std.specs.Cmp.Lexicographic.{pointwise}
-use Rattle.std.specs.Prelude.{nat_eq}
 use Rattle.satl_base.specs.declared.block.Block.{Block}
 use Rattle.satl_base.specs.Cells.{Cell}
 use Rattle.satl_base.specs.Lists.{IsIn}
@@ -16,6 +15,8 @@ use Rattle.satl_audit.proofs.GuessGives.{Only, filter_fits, not_here}
 use Rattle.satl_audit.proofs.GuessLists.{filter_in, in_filter, in_map, map_in, now_same}
 use Rattle.satl_audit.proofs.Covering.{Covers, fits_as, Stands}
 use Rattle.satl_audit.proofs.StandingPuts.{stands_same}
+use Rattle.satl_audit.proofs.Links.{false_not_true}
+use Rattle.satl_audit.proofs.Meeting.{or_true}
 
 -- a sector that fits, or no cell
 abbrev pub StandsOr : (Cell → Type 0) → Option Sector → Type 0
@@ -39,13 +40,6 @@ in_any : {X : Type 0} (p : X → Bool) (xs : List X) (x : X) → IsIn x xs → p
 in_any p [] x i e = absurd i
 in_any p (y ∷ xs) x i e =
     ⊎_elim (λ s. ap (λ b. b || list_any p xs) (ap p (sym s) ∙ e)) (λ r. or_true (p y) (list_any p xs) (in_any p xs x r e)) i
-  where
-    or_true : (a b : Bool) → b ≡ true → (a || b) ≡ true
-    or_true true b k = refl
-    or_true false b k = k
-
-clash : {b : Bool} → b ≡ true → b ≡ false → ⊥
-clash p q = cc
 
 module _ (v : Block) (K : Cell → Type 0) where
   abbrev Now : Cell → Type 0
@@ -100,7 +94,7 @@ module _ (v : Block) (K : Cell → Type 0) where
           let m = (filter_fits v K (map sure may) h.fits).only c k in
           let f = in_filter (has_now v) (map sure may) m.guess m.among in
           let t = in_map sure may m.guess f.0 in
-          clash (in_any is_v may t.of t.among (subst (λ y. pointwise nat_eq v.bytes y.now.bytes ≡ true) t.same f.1)) e
+          false_not_true (in_any is_v may t.of t.among (subst (λ y. pointwise nat_eq v.bytes y.now.bytes ≡ true) t.same f.1)) e
 
   show_stands : (o : Option Block) (may : List Block) → Stands K (record { now = o; may = may }) → StandsOr Now (shown_in o v may)
   show_stands None may h = one_stands may h

@@ -9,11 +9,11 @@ use Rattle.satl_audit.specs.Deeds.{MovesAt}
 use Rattle.satl_audit.specs.Guesses.{Guess, after_shows, all_may, blocks_at, shown_of, sure}
 use Rattle.satl_audit.specs.Sectors.{Sector, guesses_of, sector_power, settled_in}
 use Rattle.satl_audit.proofs.Fitting.{After, Fits}
-use Rattle.satl_audit.proofs.GuessShows.{guess_of, in_before, own_shown}
+use Rattle.satl_audit.proofs.GuessPairs.{guess_of, in_blocks}
+use Rattle.satl_audit.proofs.GuessShows.{in_before, own_shown, shows_fit}
 use Rattle.satl_audit.proofs.GuessLists.{in_all, of_all}
-use Rattle.satl_audit.proofs.GuessShows.{in_blocks, shows_fit}
 use Rattle.satl_audit.proofs.GuessGives.{powers_fit, settles_fit}
-use Rattle.satl_audit.proofs.GuessShows as guessing
+use Rattle.satl_audit.proofs.GuessPairs as guessing
 use Rattle.satl_audit.proofs.Covering.{fits_as, all_in, sure_now, sure_covers, sure_own, Stands}
 
 pub settle_stands : (K : Cell → Type 0) (o : Option Block) (may : List Block) → Stands K (record { now = o; may = may }) → Stands (After K (λ a b. b ≡ settle a)) (settled_in o may)

@@ -14,7 +14,8 @@ use Rattle.satl_audit.specs.Skeleton.Skeleton.{begin, further}
 use Rattle.satl_audit.proofs.Keeping.{IsSane}
 use Rattle.satl_audit.proofs.Running.{event_made}
 use Rattle.satl_audit.proofs.Stepping.{quiet_none, walks_split}
-use Rattle.satl_audit.proofs.Identities.{all_front, all_last, joined-push, AllKnown, stepped_same}
+use Rattle.satl_audit.proofs.Identities.{all_front, all_last, AllKnown, stepped_same}
+use Rattle.satl_laws.proofs.Runs.{joined-push}
 
 pub record RunMade (first : Device) (all : List Frame) (answers : List Answer) (cells : List Cell) (bared : Device) : Type 0 where
   pub last : Device

@@ -1,8 +1,7 @@
 -- Turns of a record.
-use Rattle.std.proofs.Common.{arith, true, false, ◌≡◌, refl, sym, ap, ◌∙◌, subst, ℕ, zero, suc, ◌+◌, ◌-◌, List, [], ◌∷◌, ◌++◌, length, append_assoc}
+use Rattle.std.proofs.Common.{arith, true, false, ◌≡◌, refl, sym, ap, ◌∙◌, subst, ℕ, zero, suc, ◌+◌, ◌-◌, List, [], ◌∷◌, ◌++◌, length}
 use Rattle.std.specs.Prelude.{◌<◌, ◌≤◌, ◌^◌, ◌==◌, remove, Some, None, slice_get}
 use Rattle.std.proofs.lemmas.Bool.{eqb-false, eqb-true}
-use Rattle.std.proofs.lemmas.List.{append-nil}
 use Rattle.std.specs.List.{AllByRecursion}
 use Rattle.satl_base.specs.declared.reply.Reply.{Reply}
 use Rattle.satl_base.proofs.ListsLemmas.{All-remove_first}
@@ -22,10 +21,12 @@ use Rattle.satl_audit.specs.Skeleton.{TaskDone, TurnsDone, shown}
 use Rattle.satl_audit.specs.Waiting.{Fits, Placed, device_tasks}
 use Rattle.satl_audit.specs.declared.arriving.Steps.{Steps}
 use Rattle.satl_audit.proofs.AlongLemmas.{follows_push, refuses_more, refuses_push}
-use Rattle.satl_audit.proofs.FixingTurns.{Kept, all_back, all_fore, idles, said, said-push, turns_same}
+use Rattle.satl_audit.proofs.FixingTurns.{Kept, idles, said, said-push, turns_same}
 use Rattle.satl_audit.proofs.Naming.{own_removed}
 use Rattle.satl_audit.proofs.NextLemmas.{removed_at}
 use Rattle.satl_audit.proofs.Telling.{IsFine}
+use Rattle.satl_audit.proofs.FirstTurns.{first_turns, said-append}
+use Rattle.satl_line.proofs.SlotsLemmas.{All-append, All-right, All-left}
 
 -- ---- tasks that are left
 
@@ -57,14 +58,10 @@ module _ (identity : Identity) (input : List ℕ) (old mid new : Steps) (before 
         deeds = t.deeds ++ shows (shown (device_at identity input mid)) ∷ e.deed ∷ [];
         done = subst (λ n. TurnsDone (device_at identity input old) n (t.replies ++ e.reply ∷ []) (t.deeds ++ shows (shown (device_at identity input mid)) ∷ e.deed ∷ []) (device_at identity input new)) next
             (TurnsDone.more e.reply e.deed t.done e.done);
-        whole = all_both t.deeds (shows (shown (device_at identity input mid)) ∷ e.deed ∷ []) t.whole (tt, (e.whole, tt));
+        whole = All-append GivesWhole t.deeds (shows (shown (device_at identity input mid)) ∷ e.deed ∷ []) t.whole (tt, (e.whole, tt));
         said = t.said ∙ ap (λ l. said t.replies ++ l) e.said ∙ sym (said-push t.replies e.reply new.output);
         follows = follows_push input t.deeds (shown (device_at identity input mid)) (e.deed ∷ []) before between after t.follows e.follows;
       }
-    where
-      all_both : (xs ys : List Deed) → AllWhole xs → AllWhole ys → AllWhole (xs ++ ys)
-      all_both [] ys p q = q
-      all_both (x ∷ xs) ys p q = (p.0, all_both xs ys p.1 q)
 
 -- where no task is left more turns do nothing
 pub idle_turns : (identity : Identity) (input : List ℕ) (old new : Steps) (before after : List Keeping) (i count : ℕ) → i ≤ count → new.waiting ≡ [] → TurnsOn identity input i old new before after → TurnsOn identity input count old new before after
@@ -78,45 +75,6 @@ idle_turns identity input old new before after i count le none t =
       said = t.said;
       follows = t.follows;
     }
-
--- the first turns of some
-record FirstTurns (s : Device) (n : ℕ) (replies : List Reply) (deeds : List Deed) : Type 0 where
-  pub some : List Reply
-  pub others : List Reply
-  pub early : List Deed
-  pub late : List Deed
-  pub mid : Device
-  pub done : TurnsDone s n some early mid
-  pub replies_are : replies ≡ some ++ others
-  pub deeds_are : deeds ≡ early ++ late
-
-peel_turn : (s : Device) (n k : ℕ) (replies : List Reply) (deeds : List Deed) (u : Device) → TurnsDone s (suc k) replies deeds u →
-    ((some : List Reply) (early : List Deed) (m : Device) → TurnsDone s k some early m → FirstTurns s n some early) → FirstTurns s n replies deeds
-peel_turn s n k replies deeds u (TurnsDone.idle {mid = mid} t e) rec = rec replies deeds mid t
-peel_turn s n k _ _ u (TurnsDone.more {replies = some} {deeds = early} {mid = mid} reply deed t d) rec =
-    let f = rec some early mid t in
-    record {
-      some = f.some;
-      others = f.others ++ reply ∷ [];
-      early = f.early;
-      late = f.late ++ shows (shown mid) ∷ deed ∷ [];
-      mid = f.mid;
-      done = f.done;
-      replies_are = ap (λ l. l ++ reply ∷ []) f.replies_are ∙ append_assoc f.some f.others (reply ∷ []);
-      deeds_are = ap (λ l. l ++ shows (shown mid) ∷ deed ∷ []) f.deeds_are ∙ append_assoc f.early f.late (shows (shown mid) ∷ deed ∷ []);
-    }
-
-first_turns : (s : Device) (n j : ℕ) (replies : List Reply) (deeds : List Deed) (u : Device) → TurnsDone s (j + n) replies deeds u → FirstTurns s n replies deeds
-first_turns s n zero replies deeds u t =
-    let same : 0 + n ≡ n = omega arith in
-    record { some = replies; others = []; early = deeds; late = []; mid = u; done = subst (λ m. TurnsDone s m replies deeds u) same t; replies_are = sym (append-nil replies); deeds_are = sym (append-nil deeds) }
-first_turns s n (suc j) replies deeds u t =
-    let same : suc j + n ≡ suc (j + n) = omega arith in
-    peel_turn s n (j + n) replies deeds u (subst (λ m. TurnsDone s m replies deeds u) same t) (first_turns s n j)
-
-said-append : (xs ys : List Reply) (rest : List ℕ) → said (xs ++ ys) ++ rest ≡ said xs ++ (said ys ++ rest)
-said-append [] ys rest = refl
-said-append (r ∷ xs) ys rest = append_assoc (reply_bytes r) (said (xs ++ ys)) rest ∙ ap (λ l. reply_bytes r ++ l) (said-append xs ys rest) ∙ sym (append_assoc (reply_bytes r) (said xs) (said ys ++ rest))
 
 all_zipped : (ts : List Entry) → AllByRecursion (λ (t : Entry). (t.tag).0 < 2 ^ 32) ts → AllByRecursion (λ (t : Entry). t.expected ≡ None) ts → AllByRecursion IsFine ts
 all_zipped [] p q = tt
@@ -137,9 +95,9 @@ module _ (identity : Identity) (input : List ℕ) (old mid : Steps) (before betw
       absurd (some (some_tasks input mid.waiting (ap (λ (d : Device). d.tasks) same.new_same ∙ e)))
   by_last (TurnsDone.more {replies = replies} {deeds = deeds} {mid = m} {new = u} reply deed t' d) some others late left whole h =
       let rest = reply_bytes reply ++ (said others ++ left) in
-      let w = all_fore GivesWhole deeds (shows (shown m) ∷ deed ∷ []) whole in
+      let w = All-left GivesWhole deeds (shows (shown m) ∷ deed ∷ []) whole in
       let same = turns_same (device_at identity input old) (kept_of identity input old tasks) t.done t' mid.output rest t.whole w (sym t.said ∙ h ∙ said-push replies reply (said others ++ left)) in
-      let r = cannot reply deed u (said others ++ left) (subst (λ x. TaskDone x reply deed u) (sym same.new_same) d) ((all_back GivesWhole deeds (shows (shown m) ∷ deed ∷ []) whole).1).0 same.rest_same in
+      let r = cannot reply deed u (said others ++ left) (subst (λ x. TaskDone x reply deed u) (sym same.new_same) d) ((All-right GivesWhole deeds (shows (shown m) ∷ deed ∷ []) whole).1).0 same.rest_same in
       let p = refuses_push input t.deeds (shown (device_at identity input mid)) (deed ∷ []) before between t.follows r in
       refuses_more input (deeds ++ shows (shown m) ∷ deed ∷ []) late before
       (subst (λ l. SomeRefuses input l before) (ap (λ l. l ++ shows (shown (device_at identity input mid)) ∷ deed ∷ []) same.deeds_same ∙ ap (λ x. deeds ++ shows (shown x) ∷ deed ∷ []) same.new_same) p)
@@ -148,7 +106,7 @@ module _ (identity : Identity) (input : List ℕ) (old mid : Steps) (before betw
   stuck_turns count less some replies deeds new left done whole h =
       let all : count ≡ (count - suc i) + suc i = omega (arith, less) in
       let f = first_turns (device_at identity input old) (suc i) (count - suc i) replies deeds new (subst (λ n. TurnsDone (device_at identity input old) n replies deeds new) all done) in
-      let w : AllWhole f.early = all_fore GivesWhole f.early f.late (subst AllWhole f.deeds_are whole) in
+      let w : AllWhole f.early = All-left GivesWhole f.early f.late (subst AllWhole f.deeds_are whole) in
       subst (λ l. SomeRefuses input l before) (sym f.deeds_are)
       (by_last f.done some f.others f.late left w (h ∙ ap (λ l. said l ++ left) f.replies_are ∙ said-append f.some f.others left))
 

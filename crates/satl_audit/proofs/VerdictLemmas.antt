@@ -1,5 +1,5 @@
 -- What the steps of a record say of its output.
-use Rattle.std.proofs.Common.{arith, ◌≡◌, refl, sym, ap, ◌∙◌, subst, ℕ, zero, suc, ◌+◌, Bool, true, false, List, [], ◌∷◌, ◌++◌, length, append_assoc, Option, Some, None}
+use Rattle.std.proofs.Common.{arith, ◌≡◌, refl, sym, ap, ◌∙◌, subst, ℕ, zero, suc, ◌+◌, true, false, List, [], ◌∷◌, ◌++◌, length, append_assoc, Option, Some, None}
 use Rattle.std.proofs.lemmas.Bool.{eqb-false, eqb-true}
 use Rattle.std.specs.Prelude.{◌<◌, ◌≤◌, ◌==◌, is_some, replicate, slice_index_or}
 use Rattle.std.proofs.lemmas.List.{append-nil}
@@ -20,14 +20,16 @@ use Rattle.satl_audit.specs.Kept.{Keeping, blank_keeping, sector_at, sector_of}
 use Rattle.satl_audit.specs.Sectors.{Sector, sector_gives, sector_power, sector_puts, sectored, settled_in}
 use Rattle.satl_audit.specs.Skeleton.{IsExplained}
 use Rattle.satl_audit.specs.declared.arriving.Steps.{Steps}
-use Rattle.satl_audit.proofs.AdvanceLemmas.{begins_stepped, refuses_join}
+use Rattle.satl_audit.proofs.JoinedDeeds.{begins_stepped, refuses_join}
 use Rattle.satl_audit.proofs.AlongLemmas.{refuses_more}
 use Rattle.satl_audit.proofs.Deciding.{explained_has_steps, explained_is_sectored, sectored_is_explained}
 use Rattle.satl_audit.proofs.Fixing.{steps_fixed}
 use Rattle.satl_audit.proofs.FixingEvents.{after_same}
 use Rattle.satl_audit.proofs.Further.{goes_onward}
-use Rattle.satl_audit.proofs.ReachLemmas.{Reached, decided}
+use Rattle.satl_audit.proofs.ReachBegins.{Reached}
+use Rattle.satl_audit.proofs.ReachLemmas.{decided}
 use Rattle.satl_audit.proofs.Taking.{taken_is_input}
+use Rattle.satl_audit.proofs.Links.{false_not_true}
 
 -- ---- sectors of zeros
 
@@ -76,11 +78,8 @@ module _ (input : List ℕ) (n : ℕ) (ds : List Deed) where
   one_refuses : SomeRefuses input ds (replicate n blank_keeping) → EachSectored 0 (replicate n blank_cell) ds → ⊥
   one_refuses r e =
       let here : r.0 ≡ 0 + r.0 = omega arith in
-      apart (sym (sectored_along r.0 None ds (Some blank_sector)) ∙ ap (λ y. sectored y None ds (Some blank_sector)) here ∙ of_each ds n 0 e r.0 (omega (arith, r.1, size_blank n)))
+      false_not_true (sym (sectored_along r.0 None ds (Some blank_sector)) ∙ ap (λ y. sectored y None ds (Some blank_sector)) here ∙ of_each ds n 0 e r.0 (omega (arith, r.1, size_blank n)))
       (ap (λ (s : Sector). is_some (along r.0 None ds (Some s))) (sym (blank_at input n r.0)) ∙ ap (λ (o : Option Sector). is_some o) r.2)
-    where
-      apart : {b : Bool} → b ≡ true → b ≡ false → ⊥
-      apart h g = cc
 
 -- ---- verdicts
 

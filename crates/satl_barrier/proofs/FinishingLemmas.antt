@@ -57,12 +57,6 @@ ways t r old given ended taken after within carries =
     by None is x = record { way = inl (is, x) }
     by (Some at) is x = record { way = inr (at, is, x) }
 
--- how it ended where no CRC error may stop it
-abbrev pub VerifiesAs : Transfer → Finish → DriveState → DriveState → Type 0
-VerifiesAs t finishes.Done old new = IsDone t old new
-VerifiesAs t (finishes.Flawed at) old new = IsFlawed t at old new
-VerifiesAs t finishes.Garbled old new = ⊥
-
 -- how it ended, by its taskfile; the clauses leave out what moves
 module _ (dma : Bool) (which : Which) (lba count : ℕ) (writes : List Pair) (reads : List Block) (r : Registers) (old : DriveState) (given : List Block) (ended : Taskfile) (taken : List Block) (new : DriveState) (gone : HasGone (over dma which lba count writes reads) r old given ended taken new) where
   done_so : first_flaw which old.cells lba count ≡ None → IsCarriedOut r (over dma which lba count writes reads) (medium_of old) given ended taken gone.after → IsDone (over true which lba count writes []) old new
@@ -105,16 +99,6 @@ module _ (dma : Bool) (which : Which) (lba count : ℕ) (writes : List Pair) (re
       (λ s. subst (λ e. FinishesAs (over true which lba count writes []) count (finish_of e) old new) (sym s.2.ends) (flawed_so s.0 s.1 s.2))
       (ways (over dma which lba count writes reads) r old given ended taken gone.after gone.within gone.carries).way
 
-  -- without DMA no CRC error stops it
-  pub no_dma_verified : dma ≡ false → (at : Finish) → finish_of ended ≡ at → VerifiesAs (over true which lba count writes []) at old new
-  no_dma_verified none at is = subst (λ it. VerifiesAs (over true which lba count writes []) it old new) is (⊎_elim
-      (λ n. ⊎_elim
-      (λ x. subst (λ e. VerifiesAs (over true which lba count writes []) (finish_of e) old new) (sym x.ends) (done_so n.0 x))
-      (λ x. absurd (let dma_is : dma ≡ true = x.by_dma in cc))
-      n.1)
-      (λ s. subst (λ e. VerifiesAs (over true which lba count writes []) (finish_of e) old new) (sym s.2.ends) (flawed_so s.0 s.1 s.2))
-      (ways (over dma which lba count writes reads) r old given ended taken gone.after gone.within gone.carries).way)
-
 pub done_by : (t : Transfer) (count : ℕ) (it : Finish) (old new : DriveState) → it ≡ finishes.Done → FinishesAs t count it old new → IsDone t old new
 done_by t count it old new is x = subst (λ f. FinishesAs t count f old new) is x
 
@@ -125,18 +109,6 @@ pub garbled_by : (t : Transfer) (count : ℕ) (it : Finish) (old new : DriveStat
 garbled_by t count it old new is x = subst (λ f. FinishesAs t count f old new) is x
 
 -- ---- each command
-
-verify_gone : (range : Range) (old : DriveState) (given : List Block) (ended : Taskfile) (taken : List Block) (new : DriveState) → IsReached range old → HasRun (commands.Verify true range.lba range.count) old given ended taken new → HasGone (over false flaws.Read range.lba range.count [] []) (command_registers (commands.Verify true range.lba range.count)) old given ended taken new
-verify_gone range old given ended taken new reached run = record { was_up = run.was_up; within = reached.within; after = run.after; carries = run.does; lost = run.lost; stays = run.stays }
-
-pub verified : (range : Range) (old : DriveState) (given : List Block) (ended : Taskfile) (taken : List Block) (new : DriveState) → IsReached range old → HasRun (commands.Verify true range.lba range.count) old given ended taken new → (it : Finish) → it ≡ finish_of ended → VerifiesAs (verifying range) it old new
-verified range old given ended taken new reached run it is = no_dma_verified false flaws.Read range.lba range.count [] [] (command_registers (commands.Verify true range.lba range.count)) old given ended taken new (verify_gone range old given ended taken new reached run) refl it (sym is)
-
--- it went over all, where no flaw stopped it
-pub all_verified : (t : Transfer) (old new : DriveState) (it : Finish) → ((at : ℕ) → it ≡ finishes.Flawed at → ⊥) → VerifiesAs t it old new → IsDone t old new
-all_verified t old new finishes.Done clear x = x
-all_verified t old new (finishes.Flawed at) clear x = absurd (clear at refl)
-all_verified t old new finishes.Garbled clear x = absurd x
 
 -- the pages stay where nothing is read
 pub pages_kept : (dma : Bool) (which : Which) (lba count : ℕ) (writes : List Pair) (r : Registers) (old : DriveState) (given : List Block) (ended : Taskfile) (taken : List Block) (new : DriveState) → HasGone (over dma which lba count writes []) r old given ended taken new → taken ≡ given

@@ -1,6 +1,6 @@
 -- How a command ends that goes over a range of the medium, in one ATA command or in pieces of 64 blocks upwards.
 use Rattle.std.specs.Prelude.{◌≡◌, ◌⊎◌, ℕ, ◌+◌, ◌-◌, ◌^◌, ◌≤◌, ◌==◌, if◌then◌else◌, true, false, List, [], Option, Some, None, MatchOption, length, min, replicate}
-use Rattle.satl_base.specs.Limits.{piece}
+use Rattle.satl_base.specs.Limits.{most_covered, piece}
 use Rattle.satl_base.specs.declared.block.Block.{Block}
 use Rattle.satl_base.specs.declared.block.Range.{Range}
 use Rattle.satl_base.specs.declared.bench.Which.TheVariants as flaws
@@ -47,6 +47,10 @@ finish_of ended =
     if bits_of 0 0 ended.status == 0 then finishes.Done
     else if bits_of 7 7 ended.error == 1 then finishes.Garbled
     else finishes.Flawed ended.lba
+
+-- the flawed address that a taskfile tells of a read for flaws: that of a bad end (ACS-3, READ VERIFY SECTOR(S) EXT, error outputs)
+abbrev pub flaw_of : Taskfile → Option ℕ
+flaw_of ended = if bits_of 0 0 ended.status == 0 then None else Some ended.lba
 
 -- all of it was carried out, sectors may have been written back since, and the drive is active (ACS-3, normal outputs)
 pub record IsDone (t : Transfer) (old new : DriveState) : Type 0 where
@@ -97,6 +101,6 @@ ComparesAs range blocks comparisons.Garbled old new = IsGarbled (verifying range
 -- a range that one command may go over: some blocks, at most 65,536, within the capacity and the 48 bits of an address (ACS-3)
 pub record IsReached (range : Range) (d : DriveState) : Type 0 where
   pub some : 1 ≤ range.count
-  pub most : range.count ≤ 65536
+  pub most : range.count ≤ most_covered
   pub address : range.lba + range.count ≤ 2 ^ 48
   pub within : range.lba + range.count ≤ length d.cells

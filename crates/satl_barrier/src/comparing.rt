@@ -1,7 +1,7 @@
 // VERIFY: a range is read for its flaws, or compared.
 ghost use Rattle.std.specs.Prelude.{◌≡◌, ◌≤◌, ◌+◌, ◌↔◌, [], None, IfOk, OnErr, IsTrue, length, take, drop};
-ghost use Rattle.satl_base.specs.Limits.{piece};
-ghost use Rattle.satl_barrier.specs.Finishing.{ComparesAs, FinishesAs, IsReached, IsVerified, verifying};
+ghost use Rattle.satl_base.specs.Limits.{most_moved, piece};
+ghost use Rattle.satl_barrier.specs.Finishing.{ComparesAs, FinishesAs, IsReached, IsVerified, flaw_of, verifying};
 ghost use Rattle.satl_base.specs.declared.bench.Which.TheVariants as flaws;
 ghost use Rattle.satl_base.specs.Cells.{first_flaw, nows};
 ghost use Rattle.satl_barrier.specs.declared.finishing.Finish.TheVariants as finishes;
@@ -12,7 +12,7 @@ use crate::commands::run;
 use crate::finishing::{Finish, next_piece};
 use satl_base::{Blocks, Pages, Range, Steps};
 use satl_drive::{Drive, LinkDown};
-use satl_regs::{AtaCommand, How};
+use satl_regs::{AtaCommand, How, Taskfile};
 use std::sync::ledger::Ledger;
 
 /// How a range compares with the data-out of a VERIFY (SBC-3 5.33, BYTCHK).
@@ -46,9 +46,17 @@ pub fn verify<D: Drive, L: Ledger>(
         sectors: range.count,
     };
     let ended = run(drive, &command, &mut Pages::default(), steps)?;
-    match Finish::from(&ended) {
-        Finish::Flawed { lba } => Ok(Some(lba)),
-        _ => Ok(None),
+    Ok(flaw_of(&ended))
+}
+
+/// The flawed address that a taskfile tells of a read for flaws: that of a bad end (ACS-3, error outputs).
+fn flaw_of(ended: &Taskfile) -> Option<u64>
+    ensures { result ≡ flaw_of ended.now }
+{
+    if ended.status & 0x01 == 0 {
+        None
+    } else {
+        Some(ended.lba)
     }
 }
 
@@ -106,7 +114,7 @@ fn compare_pieces<D: Drive, L: Ledger>(
     requires reached { IsReached range (D.state drive.old) }
     requires clean { first_flaw flaws.Read (D.state drive.old).cells range.lba range.count ≡ None }
     requires all { length blocks.now ≡ range.count }
-    requires few { range.count ≤ 4096 }
+    requires few { range.count ≤ most_moved }
     requires room { piece ≤ length scratch.old }
     ensures compares { IfOk result (λ it. ComparesAs range blocks.now it (D.state drive.old) (D.state drive.new)) }
     ensures lost { OnErr result (IsLostIn [] (D.state drive.old) (D.state drive.new)) }
@@ -144,7 +152,7 @@ pub fn compare<D: Drive, L: Ledger>(
     requires free { IsFree (D.state drive.old) }
     requires reached { IsReached range (D.state drive.old) }
     requires all { length blocks.now ≡ range.count }
-    requires few { range.count ≤ 4096 }
+    requires few { range.count ≤ most_moved }
     requires room { piece ≤ length scratch.old }
     ensures compares { IfOk result (λ it. ComparesAs range blocks.now it (D.state drive.old) (D.state drive.new)) }
     ensures lost { OnErr result (IsLostIn [] (D.state drive.old) (D.state drive.new)) }

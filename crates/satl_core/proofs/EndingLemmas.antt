@@ -1,6 +1,6 @@
 -- Tasks end: the first one, or one that was outstanding.
 use Rattle.std.proofs.Common.{◌≡◌, inl, inr, refl, sym, ap, subst, ◌∙◌, arith, ℕ, zero, suc, ◌+◌, ◌≤◌, true, false, Bool, List, [], ◌∷◌, ◌++◌, length, map, Some, None}
-use Rattle.std.specs.Prelude.{MatchBool, Option, slice_get}
+use Rattle.std.specs.Prelude.{IsSome, MatchBool, Option, slice_get}
 use Rattle.std.specs.Option.{option_map}
 use Rattle.std.specs.List.{AllByRecursion, AllZip, remove}
 use Rattle.satl_base.specs.declared.reply.Reply.{Reply}
@@ -25,10 +25,11 @@ use Rattle.satl_barrier.specs.Leaving.{Stays}
 use Rattle.satl_direct.specs.Senses.{link_lost}
 use Rattle.satl_core.specs.declared.turning.Ending.{Ending}
 use Rattle.satl_core.specs.declared.turning.Ending.TheVariants as endings
+use Rattle.satl_core.specs.Alone.{alone_of}
 use Rattle.satl_core.specs.Flushed.{IsFlushed}
 use Rattle.satl_core.specs.Layer.{Agrees, IsKept, IsTask, IsUsed, Layer, Tied, held_pages, view, works}
 use Rattle.satl_core.specs.Refilling.{EndsOne, EndsOrLoses}
-use Rattle.satl_core.specs.Turning.{IsLostInTask, RunsAlone, ended_reply, ending_by, lost_replies}
+use Rattle.satl_core.specs.Turning.{IsLostInTask, ended_reply, ending_by, lost_replies}
 use Rattle.satl_core.proofs.AgreeingLemmas.{agrees_settled, in_flight_down, tied_lost}
 use Rattle.satl_core.proofs.FlushedLemmas.{queued_no_flush}
 use Rattle.satl_core.proofs.HeldLemmas.{IsFirst, IsKeptEntry, alike_lost}
@@ -40,15 +41,16 @@ use Rattle.satl_core.proofs.Transfers.{of_task}
 
 -- ---- the first task runs alone
 
-alone_by : (capacity : ℕ) (queued_trim : Bool) (e : Entry) → IsTask capacity e.command e.blocks → e.kind ≡ kind_of e.command queued_trim → ranged_of e ≡ None → RunsAlone e.command
+alone_by : (capacity : ℕ) (queued_trim : Bool) (e : Entry) → IsTask capacity e.command e.blocks → e.kind ≡ kind_of e.command queued_trim → ranged_of e ≡ None → IsSome (alone_of e.command)
 alone_by capacity queued_trim e task kind none =
-    of_task (λ c. e.kind ≡ kind_of c queued_trim → ranged_of (record e { command = c }) ≡ None → RunsAlone c) capacity e.blocks e.command
+    of_task (λ c. e.kind ≡ kind_of c queued_trim → ranged_of (record e { command = c }) ≡ None → IsSome (alone_of c)) capacity e.blocks e.command
     (λ form lba count fua t k n. let some = subst (λ x. ranged_of (record e { command = cdbs.Read form lba count fua; kind = x }) ≡ None) k n in absurd cc)
     (λ form lba count fua t k n. let some = subst (λ x. ranged_of (record e { command = cdbs.Write form lba count fua; kind = x }) ≡ None) k n in absurd cc)
-    (λ form lba count t k n. tt) (λ start no_flush t k n. tt) (λ ten size t k n. tt) (λ form lba count t k n. tt) (λ form lba count t k n. tt) (λ form lba count unmap t k n. tt) (λ size t k n. tt) (λ cdb t k n. tt) task kind none
+    (λ form lba count t k n. refl) (λ start no_flush t k n. refl) (λ ten size t k n. refl) (λ form lba count t k n. refl) (λ form lba count t k n. refl)
+    (λ form lba count unmap t k n. elim unmap as (λ b. IsSome (alone_of (cdbs.WriteSame form lba count b))) [ true ↦ refl | false ↦ refl ]) (λ size t k n. refl) (λ cdb t k n. refl) task kind none
 
 -- where nothing is outstanding at a unit that works, the first task's command is not queued
-pub first_alone : (l : Layer) (rest : List Held) (entry : Entry) → IsUsed l → l.flying ≡ [] → IsFirst l.tasks entry rest → IsKeptEntry l.identity entry → l.down ≡ false → l.started ≡ true → RunsAlone entry.command
+pub first_alone : (l : Layer) (rest : List Held) (entry : Entry) → IsUsed l → l.flying ≡ [] → IsFirst l.tasks entry rest → IsKeptEntry l.identity entry → l.down ≡ false → l.started ≡ true → IsSome (alone_of entry.command)
 first_alone l rest entry used idle first kept up on =
     let filled : IsFilled l.flying l.tasks = subst (λ b. MatchBool b (IsFilled l.flying l.tasks) (l.flying ≡ [])) (works_by l.down l.started up on) used in
     let none = first_is_barrier first.held rest (subst (λ ts. IsFilled [] ts) first.are (subst (λ (fs : List Flying). IsFilled fs l.tasks) idle filled)) in

@@ -18,6 +18,7 @@ pub mod AddingLemmas
 pub mod PostingLemmas
 pub mod SelectLemmas
 pub mod MediumLemmas
+pub mod AloneLemmas
 pub mod PassingLemmas
 pub mod ServedLemmas
 pub mod TellingLemmas

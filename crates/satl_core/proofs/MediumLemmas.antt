@@ -1,9 +1,9 @@
 -- A command that goes over the medium alone ends as the device says.
-use Rattle.std.proofs.Common.{◌≡◌, ⊎_elim, inl, inr, refl, sym, ap, subst, ◌∙◌, arith, ℕ, zero, suc, ◌+◌, ◌≤◌, Bool, true, false, List, [], ◌∷◌, ◌++◌, length, map, Some, None}
+use Rattle.std.proofs.Common.{◌≡◌, ⊎_elim, inl, inr, refl, sym, ap, subst, ◌∙◌, arith, ℕ, zero, suc, ◌+◌, ◌≤◌, Bool, true, false, List, [], ◌∷◌, ◌++◌, length, Some, None}
 use Rattle.std.specs.List.{AllByRecursion}
 use Rattle.satl_base.specs.Identify.{has_trim}
 use Rattle.satl_base.specs.Lists.{IsIn}
-use Rattle.std.specs.Prelude.{◌⊎◌, MatchBool, MatchOption, Option, if◌then◌else◌, not, ◌&&◌, ◌||◌, get_or, min, replicate, take}
+use Rattle.std.specs.Prelude.{IfSome, IsSomeAnd, ◌⊎◌, MatchOption, Option, if◌then◌else◌, not, ◌&&◌, ◌||◌, get_or, min, replicate}
 use Rattle.satl_base.specs.declared.block.Block.{Block}
 use Rattle.satl_base.specs.declared.block.Range.{Range}
 use Rattle.satl_base.specs.declared.bench.Which.TheVariants as flaws
@@ -11,8 +11,7 @@ use Rattle.satl_base.specs.declared.modes.Modes.{Modes}
 use Rattle.satl_base.specs.declared.reply.Reply.{Reply}
 use Rattle.satl_base.specs.declared.reply.Scsi.TheVariants.{Good}
 use Rattle.satl_base.specs.Blocks.{no_block, zero_block}
-use Rattle.satl_base.specs.Cells.{Cell, Pair, Part, first_flaw, nows, pairs_from, whole}
-use Rattle.satl_base.specs.Losses.{Loses}
+use Rattle.satl_base.specs.Cells.{Cell, Pair, Part, first_flaw, pairs_from, whole}
 use Rattle.satl_base.specs.Moves.{stay}
 use Rattle.satl_base.proofs.MovesLemmas.{lose_once}
 use Rattle.satl_cdb.specs.declared.command.Command.{Command}
@@ -24,9 +23,8 @@ use Rattle.satl_pass.specs.Status.{error_sense_at}
 use Rattle.satl_regs.specs.Effects.{Transfer, unc, zeros_at}
 use Rattle.satl_regs.specs.Trim.{addresses, addresses_from}
 use Rattle.satl_line.specs.declared.entry.Entry.{Entry}
-use Rattle.satl_line.specs.Ending.{EndsAs, Outcome, active_after}
 use Rattle.satl_line.specs.Ending.Outcome.{ends_done, ends_glitched}
-use Rattle.satl_line.specs.Ranged.{written_pairs, zeros_over}
+use Rattle.satl_line.specs.Ranged.{zeros_over}
 use Rattle.satl_line.specs.Ranged.RangedTask.{ranged_trim}
 use Rattle.satl_unit.specs.declared.attention.Attention.{Attention}
 use Rattle.satl_drive.specs.State.{DriveState}
@@ -39,15 +37,16 @@ use Rattle.satl_barrier.specs.Finishing.{ComparesAs, FinishesAs, IsVerified, IsT
 use Rattle.satl_direct.specs.Device.{Device, without}
 use Rattle.satl_direct.specs.Tasks.{asks, over, task_of}
 use Rattle.satl_direct.specs.Ending.{EndsBy, EndsCompared, EndsGarbled, EndsInPieces, EndsOnMedium, EndsTorn, EndsVerified, IsChecked, IsCompared, IsDone, same_pairs, task_check, task_reply}
-use Rattle.satl_direct.specs.Quiet.{MayShow, MayWake, Quiet, StaysOrWakes, is_pass, wakes, writes}
+use Rattle.satl_direct.specs.Quiet.{MayShow, MayWake, Quiet, is_pass, wakes, writes}
 use Rattle.satl_direct.specs.Senses.{crc_error, miscompare, read_error, write_error}
 use Rattle.satl_core.specs.declared.turning.Ending.{Ending}
 use Rattle.satl_core.specs.declared.turning.Ending.TheVariants as endings
+use Rattle.satl_core.specs.Alone.{alone_of}
 use Rattle.satl_core.specs.Medium as medium
-use Rattle.satl_core.specs.Layer.{AreTrimmed, CanTrim, IsCovered, IsTask, entry_pages}
+use Rattle.satl_core.specs.Layer.{AreTrimmed, CanTrim, IsCovered, entry_pages}
 use Rattle.satl_barrier.specs.Leaving.{TellsOf}
 use Rattle.satl_barrier.specs.Settings.{IsSetBy}
-use Rattle.satl_core.specs.Medium.{HasCompared, HasData, HasFinished, HasVerified, HasWhole, MayTrim, TakesTrim, written_alone}
+use Rattle.satl_core.specs.Medium.{CanCarry, HasCompared, HasFinished, HasVerified, HasWhole, TakesTrim, written_alone}
 use Rattle.satl_core.specs.Refilling.{EndsOne}
 use Rattle.satl_core.specs.Turning.{ended_reply, read_pages}
 use Rattle.satl_core.proofs.DeviceLemmas.{ends_around, ends_by, first_gone, quiet_none, seen}
@@ -288,49 +287,53 @@ module _ (identity : Identity) (modes : Modes) (started : Bool) (attentions : Li
 
 -- ---- a task that is kept
 
--- it has the data-out of its command
-pub has_data : (identity : Identity) (entry : Entry) → IsKeptEntry identity entry → HasData entry.command entry
-has_data identity entry kept =
-    of_task (λ c. length entry.body ≡ entry.blocks + entry_pages c identity.queued_trim → HasData c entry) identity.capacity entry.blocks entry.command
-    (λ form lba count fua t size. tt) (λ form lba count fua t size. tt) (λ form lba count none size. tt) (λ start no_flush none size. tt) (λ ten size none pages. tt) (λ form lba count t size. tt)
-    (λ form lba count t size. omega (arith, t.0, size)) (λ form lba count unmap t size. omega (arith, t.0, size)) (λ size t pages. tt)
-    (λ cdb t size. omega (arith, t.0, size)) kept.task kept.pages
-
--- a drive takes what it trims
-pub may_trim : (identity : Identity) (entry : Entry) (d : DriveState) → IsKeptEntry identity entry → identity.capacity ≡ length d.cells → has_trim d.identify ≡ identity.trim → MayTrim entry.command entry d
-may_trim identity entry d kept size has =
-    of_task (λ c. CanTrim identity c entry.ranges.items → MayTrim c entry d) identity.capacity entry.blocks entry.command
-    (λ form lba count fua t can. tt) (λ form lba count fua t can. tt) (λ form lba count none can. tt) (λ start no_flush none can. tt) (λ ten size none can. tt) (λ form lba count t can. tt) (λ form lba count t can. tt)
-    (λ form lba count unmap. elim unmap as (λ b. (entry.blocks ≡ 1) × IsCovered identity.capacity lba count → CanTrim identity (cdbs.WriteSame form lba count b) entry.ranges.items → MayTrim (cdbs.WriteSame form lba count b) entry d) [ true ↦ λ t can. takes (over lba count ∷ []) can | false ↦ λ t can. tt ])
-    (λ size t can. takes entry.ranges.items can) (λ cdb t can. tt) kept.task kept.trims
+-- it has what the drive needs to carry it out
+pub can_carry : (identity : Identity) (entry : Entry) (d : DriveState) → IsKeptEntry identity entry → identity.capacity ≡ d.capacity → identity.capacity ≡ length d.cells → has_trim d.identify ≡ identity.trim → IfSome (alone_of entry.command) (λ alone. CanCarry alone entry d)
+can_carry identity entry d kept capacity size has =
+    of_task (λ c. length entry.body ≡ entry.blocks + entry_pages c identity.queued_trim → CanTrim identity c entry.ranges.items → IfSome (alone_of c) (λ alone. CanCarry alone entry d)) identity.capacity entry.blocks entry.command
+    (λ form lba count fua t pages can. tt) (λ form lba count fua t pages can. tt) (λ form lba count none pages can. tt) (λ start no_flush none pages can. tt) (λ ten size none pages can. tt)
+    (λ form lba count t pages can. reached lba count t.1) (λ form lba count t pages can. (omega (arith, t.0, pages), t.1, reached lba count t.2))
+    (λ form lba count unmap. elim unmap as (λ b. (entry.blocks ≡ 1) × IsCovered identity.capacity lba count → length entry.body ≡ entry.blocks + 0 → CanTrim identity (cdbs.WriteSame form lba count b) entry.ranges.items → IfSome (alone_of (cdbs.WriteSame form lba count b)) (λ alone. CanCarry alone entry d)) [
+      | true ↦ λ t pages can. takes (over lba count ∷ []) can
+      | false ↦ λ t pages can. (omega (arith, t.0, pages), reached lba count t.1)
+    ])
+    (λ size t pages can. takes entry.ranges.items can) (λ cdb t pages can. (omega (arith, t.0, pages), t.1)) kept.task kept.pages kept.trims
   where
+    reached : (lba count : ℕ) → IsCovered identity.capacity lba count → IsCovered d.capacity lba count
+    reached lba count = subst (λ n. IsCovered n lba count) capacity
+
     takes : (ranges : List Range) → AreTrimmed identity ranges → TakesTrim ranges d
     takes ranges can = record { has = has ∙ can.has; list = can.list; within = subst (λ n. AllByRecursion (λ (r : Range). r.lba + r.count ≤ n) ranges) size can.within }
 
 -- what it writes is what the device says that it writes
-written_is : (identity : Identity) (modes : Modes) (started : Bool) (attentions : List (List Attention)) (entry : Entry) (others : List Entry) (d : DriveState) (pair : Pair) → IsSetBy modes d → TellsOf identity.bytes d → HasWhole entry.command entry → IsKeptEntry identity entry
-    → IsIn pair (written_alone entry.command entry d) → IsIn pair (writes (seen identity modes started attentions (task_of entry ∷ others) d) (task_of entry))
-written_is identity modes started attentions entry others d pair set told whole kept =
-    of_task (λ c. HasWhole c entry → length entry.body ≡ entry.blocks + entry_pages c identity.queued_trim → IsIn pair (written_alone c entry d) → IsIn pair (writes (seen identity modes started attentions (task_of (record entry { command = c }) ∷ others) d) (task_of (record entry { command = c })))) identity.capacity entry.blocks entry.command
-    (λ form lba count fua t whole size i. absurd i) (λ form lba count fua t whole size i. absurd i) (λ form lba count none whole size i. absurd i) (λ start no_flush none whole size i. absurd i) (λ ten size none whole pages i. absurd i) (λ form lba count t whole size i. absurd i) (λ form lba count t whole size i. absurd i)
-    (λ form lba count unmap. elim unmap as (λ b. (entry.blocks ≡ 1) × IsCovered identity.capacity lba count → Unit {0} → length entry.body ≡ entry.blocks + 0 → IsIn pair (written_alone (cdbs.WriteSame form lba count b) entry d) → IsIn pair (writes (seen identity modes started attentions (task_of (record entry { command = cdbs.WriteSame form lba count b }) ∷ others) d) (task_of (record entry { command = cdbs.WriteSame form lba count b })))) [
-      | true ↦ λ t whole size i. subst (IsIn pair) (zeros_same (over lba count ∷ []) d.cache ∙ ap (zeros_over (over lba count ∷ [])) cache) i
-      | false ↦ λ t whole size i. subst (IsIn pair) (same_is lba count entry.body d.cache (omega (arith, t.0, size)) ∙ ap (same_pairs lba count entry.body) cache) i
+written_is : (identity : Identity) (modes : Modes) (started : Bool) (attentions : List (List Attention)) (entry : Entry) (others : List Entry) (d : DriveState) (pairs : List Pair) (pair : Pair) → IsSetBy modes d → TellsOf identity.bytes d
+    → IsSomeAnd (alone_of entry.command) (λ alone. HasWhole alone entry × (pairs ≡ written_alone alone entry d)) → IsKeptEntry identity entry → IsIn pair pairs → IsIn pair (writes (seen identity modes started attentions (task_of entry ∷ others) d) (task_of entry))
+written_is identity modes started attentions entry others d pairs pair set told written kept =
+    of_task (λ c. Written c → length entry.body ≡ entry.blocks + entry_pages c identity.queued_trim → IsIn pair pairs → Shown c) identity.capacity entry.blocks entry.command
+    (λ form lba count fua t is size i. absurd is) (λ form lba count fua t is size i. absurd is) (λ form lba count none is size i. absurd (subst (IsIn pair) is.1 i)) (λ start no_flush none is size i. absurd (subst (IsIn pair) is.1 i))
+    (λ ten size none is pages i. absurd (subst (IsIn pair) is.1 i)) (λ form lba count t is size i. absurd (subst (IsIn pair) is.1 i)) (λ form lba count t is size i. absurd (subst (IsIn pair) is.1 i))
+    (λ form lba count unmap. elim unmap as (λ b. (entry.blocks ≡ 1) × IsCovered identity.capacity lba count → Written (cdbs.WriteSame form lba count b) → length entry.body ≡ entry.blocks + 0 → IsIn pair pairs → Shown (cdbs.WriteSame form lba count b)) [
+      | true ↦ λ t is size i. subst (IsIn pair) (is.1 ∙ (zeros_same (over lba count ∷ []) d.cache ∙ ap (zeros_over (over lba count ∷ [])) set.cache)) i
+      | false ↦ λ t is size i. subst (IsIn pair) (is.1 ∙ (same_is lba count entry.body d.cache (omega (arith, t.0, size)) ∙ ap (same_pairs lba count entry.body) set.cache)) i
     ])
-    (λ size t whole pages i. subst (IsIn pair) (zeros_same entry.ranges.items d.cache ∙ ap (zeros_over entry.ranges.items) cache) i)
-    (λ cdb t whole size i. pass_pairs identity modes started attentions entry others d cdb pair set told t.1 (omega (arith, t.0, size)) whole i) kept.task whole kept.pages
+    (λ size t is pages i. subst (IsIn pair) (is.1 ∙ (zeros_same entry.ranges.items d.cache ∙ ap (zeros_over entry.ranges.items) set.cache)) i)
+    (λ cdb t is size i. pass_pairs identity modes started attentions entry others d cdb pair set told t.1 (omega (arith, t.0, size)) is.0 (subst (IsIn pair) is.1 i)) kept.task written kept.pages
   where
-    cache : d.cache ≡ modes.wce
-    cache = set.cache
+    Written : Command → Type 0
+    Written c = IsSomeAnd (alone_of c) (λ alone. HasWhole alone entry × (pairs ≡ written_alone alone entry d))
+
+    Shown : Command → Type 0
+    Shown c = IsIn pair (writes (seen identity modes started attentions (task_of (record entry { command = c }) ∷ others) d) (task_of (record entry { command = c })))
 
 -- so it may show, as the first task, where the unit is started if the command needs it
-pub shows : (identity : Identity) (modes : Modes) (started : Bool) (attentions : List (List Attention)) (entry : Entry) (others : List Entry) (d : DriveState) → IsSetBy modes d → TellsOf identity.bytes d → HasWhole entry.command entry → (not started && (asks entry.command).starts) ≡ false → IsKeptEntry identity entry
-    → (pair : Pair) → IsIn pair (written_alone entry.command entry d) → MayShow (seen identity modes started attentions (task_of entry ∷ others) d) pair
-shows identity modes started attentions entry others d set told whole ready kept pair i = record {
+pub shows : (identity : Identity) (modes : Modes) (started : Bool) (attentions : List (List Attention)) (entry : Entry) (others : List Entry) (d : DriveState) (pairs : List Pair) → IsSetBy modes d → TellsOf identity.bytes d
+    → IsSomeAnd (alone_of entry.command) (λ alone. HasWhole alone entry × (pairs ≡ written_alone alone entry d)) → (not started && (asks entry.command).starts) ≡ false → IsKeptEntry identity entry → (pair : Pair) → IsIn pair pairs
+    → MayShow (seen identity modes started attentions (task_of entry ∷ others) d) pair
+shows identity modes started attentions entry others d pairs set told written ready kept pair i = record {
   task = task_of entry;
   under_way = record { up = set.up; eligible = inl refl };
-  started = on started (asks entry.command).starts (is_pass entry.command) ready (starts_it i);
-  among = written_is identity modes started attentions entry others d pair set told whole kept i;
+  started = on started (asks entry.command).starts (is_pass entry.command) ready starts_it;
+  among = written_is identity modes started attentions entry others d pairs pair set told written kept i;
 }
   where
     on : (b s p : Bool) → (not b && s) ≡ false → s || p ≡ true → b || p ≡ true
@@ -338,9 +341,12 @@ shows identity modes started attentions entry others d set told whole ready kept
     on false true p e h = absurd cc
     on false false p e h = h
 
-    starts_it : IsIn pair (written_alone entry.command entry d) → (asks entry.command).starts || is_pass entry.command ≡ true
-    starts_it i =
-        of_task (λ c. IsIn pair (written_alone c entry d) → (asks c).starts || is_pass c ≡ true) identity.capacity entry.blocks entry.command
-        (λ form lba count fua t i. absurd i) (λ form lba count fua t i. absurd i) (λ form lba count none i. absurd i) (λ start no_flush none i. absurd i) (λ ten size none i. absurd i) (λ form lba count t i. absurd i) (λ form lba count t i. absurd i)
-        (λ form lba count unmap. elim unmap as (λ b. (entry.blocks ≡ 1) × IsCovered identity.capacity lba count → IsIn pair (written_alone (cdbs.WriteSame form lba count b) entry d) → (asks (cdbs.WriteSame form lba count b)).starts || false ≡ true) [ true ↦ λ t i. refl | false ↦ λ t i. refl ])
-        (λ size t i. refl) (λ cdb t i. refl) kept.task i
+    Written : Command → Type 0
+    Written c = IsSomeAnd (alone_of c) (λ alone. HasWhole alone entry × (pairs ≡ written_alone alone entry d))
+
+    starts_it : (asks entry.command).starts || is_pass entry.command ≡ true
+    starts_it =
+        of_task (λ c. Written c → (asks c).starts || is_pass c ≡ true) identity.capacity entry.blocks entry.command
+        (λ form lba count fua t is. absurd is) (λ form lba count fua t is. absurd is) (λ form lba count none is. refl) (λ start no_flush none is. absurd (subst (IsIn pair) is.1 i)) (λ ten size none is. absurd (subst (IsIn pair) is.1 i))
+        (λ form lba count t is. refl) (λ form lba count t is. refl)
+        (λ form lba count unmap t is. elim unmap as (λ b. (asks (cdbs.WriteSame form lba count b)).starts || false ≡ true) [ true ↦ refl | false ↦ refl ]) (λ size t is. refl) (λ cdb t is. refl) kept.task written

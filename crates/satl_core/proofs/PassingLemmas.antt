@@ -1,5 +1,5 @@
 -- ATA PASS-THROUGH: what its command does on the drive is what the device says.
-use Rattle.std.proofs.Common.{◌≡◌, ◌⊎◌, ⊎_elim, inl, inr, refl, sym, ap, subst, ◌∙◌, arith, cond, ℕ, ◌+◌, ◌*◌, ◌≤◌, Bool, true, false, List, [], ◌∷◌, ◌++◌, length, take}
+use Rattle.std.proofs.Common.{◌≡◌, ◌⊎◌, ⊎_elim, inl, inr, refl, sym, ap, subst, ◌∙◌, arith, ℕ, ◌+◌, ◌*◌, ◌≤◌, Bool, true, false, List, [], ◌∷◌, ◌++◌, length}
 use Rattle.std.specs.Prelude.{MatchBool, MatchOption, Option, Some, None, Result, Ok, IfOk, if◌then◌else◌, not, ◌==◌, ◌&&◌, ◌||◌, nat_lt}
 use Rattle.std.proofs.lemmas.Bool.{eqb-true}
 use Rattle.std.proofs.lemmas.List.{length-append, length-take, take_all}
@@ -25,8 +25,8 @@ use Rattle.satl_regs.specs.Effects.{Carries, Does, IsRefused, Medium, Setting, T
 use Rattle.satl_regs.specs.Effects.Setting.{sets_cache, sets_look}
 use Rattle.satl_pass.specs.declared.pass.Pass.{Pass}
 use Rattle.satl_pass.specs.Fields.{form_of, pass_in}
-use Rattle.satl_pass.specs.Reading.{CanRun, has_other_length, pass_says, rules}
-use Rattle.satl_pass.specs.Status.{is_bad, status_sense}
+use Rattle.satl_pass.specs.Reading.{CanRun, pass_says, rules}
+use Rattle.satl_pass.specs.Status.{is_bad}
 use Rattle.satl_pass.specs.Transfers.{is_other}
 use Rattle.satl_frame.specs.DataPages.{page_count, pages_from, pages_of}
 use Rattle.satl_frame.proofs.Paging.{length-pages_of, pages_of-append, whole_block}
@@ -38,7 +38,7 @@ use Rattle.satl_barrier.specs.Commands.{AreWhole}
 use Rattle.satl_barrier.specs.Leaving.{TellsOf}
 use Rattle.satl_barrier.specs.Settings.{IsSetBy}
 use Rattle.satl_direct.specs.Device.{Device}
-use Rattle.satl_direct.specs.Ending.{EndsPassed, medium_of, pass_data, pass_reply}
+use Rattle.satl_direct.specs.Ending.{EndsPassed, medium_of, pass_reply}
 use Rattle.satl_direct.specs.Tasks.{pass_of, task_of}
 use Rattle.satl_direct.proofs.Passing.{writes_none}
 use Rattle.satl_core.specs.declared.turning.Ending.{Ending}

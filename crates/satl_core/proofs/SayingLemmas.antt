@@ -1,53 +1,17 @@
 -- What is known of a command by the bytes of its CDB.
-use Rattle.std.proofs.Common.{inl, inr, ◌-◌, ◌≡◌, refl, sym, ap, subst, ◌∙◌, arith, cond, ℕ, suc, ◌+◌, ◌<◌, ◌≤◌, ◌^◌, Bool, true, false, List, [], ◌∷◌, length, map, ⊎_elim, take}
-use Rattle.std.specs.Prelude.{Option, Some, None, Result, Ok, Err, IfOk, not, ◌==◌, ◌&&◌, ◌||◌, nat_lt, slice_get, slice_index, slice_index_or, MatchBool, IfSome, ◌*◌}
-use Rattle.std.specs.List.{AllByRecursion, list_all}
-use Rattle.std.proofs.lemmas.Bool.{eqb-false, eqb-true, le-ltb, ltb-false}
-use Rattle.satl_base.specs.declared.reply.Reply.{Reply}
-use Rattle.satl_base.specs.declared.reply.Scsi.TheVariants as statuses
-use Rattle.satl_base.specs.declared.request.Request.{Request}
+use Rattle.std.proofs.Common.{◌≡◌, refl, subst, arith, cond, ℕ, ◌<◌, ◌≤◌, Bool, true, false, List, [], ◌∷◌}
+use Rattle.std.specs.Prelude.{Some, Ok, Err, not, ◌==◌, nat_lt, slice_index}
+use Rattle.std.specs.List.{AllByRecursion}
+use Rattle.std.proofs.lemmas.Bool.{eqb-false, eqb-true, ltb-false}
 use Rattle.satl_base.specs.Fields.{bit, bits, bytes}
-use Rattle.satl_base.specs.Lists.{is_in}
 use Rattle.satl_cdb.specs.declared.command.Command.{Command}
 use Rattle.satl_cdb.specs.declared.command.Command.TheVariants as cdbs
-use Rattle.satl_cdb.specs.declared.command.Illegal.{Illegal}
-use Rattle.satl_base.specs.Blocks.{no_block}
-use Rattle.satl_cdb.specs.Refusals.{invalid_field, list_length_error}
-use Rattle.satl_cdb.specs.Unmap.{list_fault, ranges_of}
+use Rattle.satl_cdb.specs.Refusals.{invalid_field}
 use Rattle.satl_cdb.specs.Rows.{Format, Row, Rule, found_says, format_of, format_says, never, unless_broken}
 use Rattle.satl_cdb.specs.BlockCommands.{Layout, read, read_6, read_capacity_10, read_capacity_16, six, sixteen, start_stop, synchronize_cache, ten, transfer_rules, twelve, unmap, verify, write, write_6, write_same}
 use Rattle.satl_cdb.specs.PrimaryCommands.{inquiry, mode_length, mode_select, mode_sense, report_luns, request_sense, test_unit_ready}
 use Rattle.satl_cdb.specs.Table.{pass_through_12, pass_through_16, says, table}
-use Rattle.satl_base.specs.declared.modes.Modes.{Modes}
-use Rattle.satl_identify.specs.declared.identity.Identity.{Identity}
-use Rattle.satl_identify.specs.Refusals.{IsIdentity}
-use Rattle.satl_vpd.specs.Standard.{standard_data}
-use Rattle.satl_mode.specs.ModeData.{mode_data}
-use Rattle.satl_mode.specs.Changes.{AreModesOf, IsChangeOf, applied, change_in}
-use Rattle.satl_mode.specs.SelectList.{select_fault, select_says, unless_fault}
-use Rattle.satl_mode.proofs.Unchanged.{ok_change}
-use Rattle.satl_core.proofs.SelectLemmas.{Agree, select_same, taken_agrees}
-use Rattle.satl_core.proofs.UnmapLemmas.{list_same, ranges_same}
-use Rattle.std.proofs.lemmas.List.{get_or-take, length-take}
-use Rattle.satl_identify.proofs.Judging.{capacity_bounds}
-use Rattle.satl_line.specs.Tasks.{Held, entries_of, is_too_much, total_blocks}
-use Rattle.satl_drive.specs.State.{DriveState}
-use Rattle.satl_cdb.specs.declared.command.Form.{Form}
-use Rattle.satl_cdb.specs.declared.command.Form.TheVariants.{Six, Ten, Sixteen}
-use Rattle.satl_unit.specs.declared.attention.Attention.{Attention}
-use Rattle.satl_direct.specs.Device.{Device, is_of}
-use Rattle.satl_direct.specs.Senses.{attention_sense, no_sense, out_of_range, overlapped, refusal, sense_in, short_data, unknown_unit}
-use Rattle.satl_direct.specs.Arrival as direct
-use Rattle.satl_direct.specs.Arrival.{untold_codes, attended, Arrival, ArrivesAs, Arrives, answered, waits, arrival, asks_for, attention_arrival, cdb_arrival, check, code_arrival, code_of, is_unit_0, other_arrival, unit_arrival}
-use Rattle.satl_base.specs.declared.block.Block.{Block}
-use Rattle.satl_direct.specs.Tasks.{asks, block_fault, held_blocks, held_by, is_full, needed, range_of, task_for, task_of}
-use Rattle.satl_core.specs.declared.submitting.AtOnce.{AtOnce}
-use Rattle.satl_core.specs.declared.submitting.AtOnce.TheVariants as at_once
-use Rattle.satl_core.specs.Layer.{IsCovered, IsTask, IsWithin, Layer, view}
-use Rattle.satl_core.specs.Leaving.{left_by}
-use Rattle.satl_core.specs.Submitting.{CanPass, CanSubmit, sense_data, tell_attention, answer_to, is_for_unit, other_answer, Becomes, IsAdded, IsRefused, attention_answer, attention_of, cdb_answer, code_answer, command_answer, judged, once_judged, overlaps, readiness, reply_at_once, task_without_pages, untold, HasLengths, HasList, HoldsList, is_idle, trims, unless_idle, unless_refused, unmap_list_fault}
-use Rattle.satl_core.specs.declared.telling.Data.TheVariants as datas
-use Rattle.satl_core.proofs.LeavingLemmas.{found_is, left_tasks}
+use Rattle.satl_core.specs.Submitting.{HasLengths}
 
 -- what is known of a command by its bytes: how many blocks it may go over, that a parameter list has fewer than 65,536 bytes, and that it trims
 -- on a drive with trim alone
@@ -168,37 +132,94 @@ select_short false cdb bytes = omega (arith, bytes.0)
 
 -- each row of the table
 said_by : (cdb : List ℕ) (trim : Bool) (c : Command) → AllByRecursion (λ (r : Row). slice_index cdb 0 ≡ r.code → format_says r.format cdb ≡ Ok c → IsSaid cdb trim c) (table trim)
-said_by cdb trim c =
-    (λ is e. bare_said test_unit_ready cdb trim c e tt,
-    (λ is e. bare_said request_sense cdb trim c e is,
-    (λ is e. bare_said read_6 cdb trim c e (short_count cdb),
-    (λ is e. bare_said write_6 cdb trim c e (short_count cdb),
-    (λ is e. bare_said inquiry cdb trim c e tt,
-    (λ is e. bare_said (mode_select false) cdb trim c e (select_short false cdb),
-    (λ is e. bare_said (mode_sense false) cdb trim c e tt,
-    (λ is e. bare_said start_stop cdb trim c e tt,
-    (λ is e. bare_said read_capacity_10 cdb trim c e tt,
-    (λ is e. said_read ten cdb trim c e,
-    (λ is e. said_write ten cdb trim c e,
-    (λ is e. said_verify ten cdb trim c e,
-    (λ is e. bare_said (synchronize_cache ten) cdb trim c e tt,
-    (λ is e. said_same ten cdb trim c e,
-    (λ is e. said_unmap cdb trim c e,
-    (λ is e. bare_said (mode_select true) cdb trim c e (select_short true cdb),
-    (λ is e. bare_said (mode_sense true) cdb trim c e tt,
-    (λ is e. bare_said pass_through_16 cdb trim c e tt,
-    (λ is e. said_read sixteen cdb trim c e,
-    (λ is e. said_write sixteen cdb trim c e,
-    (λ is e. said_verify sixteen cdb trim c e,
-    (λ is e. bare_said (synchronize_cache sixteen) cdb trim c e tt,
-    (λ is e. said_same sixteen cdb trim c e,
-    (λ is e. bare_said read_capacity_16 cdb trim c e tt,
-    (λ is e. bare_said report_luns cdb trim c e tt,
-    (λ is e. bare_said pass_through_12 cdb trim c e tt,
-    (λ is e. said_read twelve cdb trim c e,
-    (λ is e. said_write twelve cdb trim c e,
-    (λ is e. said_verify twelve cdb trim c e,
-    tt)))))))))))))))))))))))))))))
+said_by cdb trim c = (
+  λ is e. bare_said test_unit_ready cdb trim c e tt,
+  (
+    λ is e. bare_said request_sense cdb trim c e is,
+    (
+      λ is e. bare_said read_6 cdb trim c e (short_count cdb),
+      (
+        λ is e. bare_said write_6 cdb trim c e (short_count cdb),
+        (
+          λ is e. bare_said inquiry cdb trim c e tt,
+          (
+            λ is e. bare_said (mode_select false) cdb trim c e (select_short false cdb),
+            (
+              λ is e. bare_said (mode_sense false) cdb trim c e tt,
+              (
+                λ is e. bare_said start_stop cdb trim c e tt,
+                (
+                  λ is e. bare_said read_capacity_10 cdb trim c e tt,
+                  (
+                    λ is e. said_read ten cdb trim c e,
+                    (
+                      λ is e. said_write ten cdb trim c e,
+                      (
+                        λ is e. said_verify ten cdb trim c e,
+                        (
+                          λ is e. bare_said (synchronize_cache ten) cdb trim c e tt,
+                          (
+                            λ is e. said_same ten cdb trim c e,
+                            (
+                              λ is e. said_unmap cdb trim c e,
+                              (
+                                λ is e. bare_said (mode_select true) cdb trim c e (select_short true cdb),
+                                (
+                                  λ is e. bare_said (mode_sense true) cdb trim c e tt,
+                                  (
+                                    λ is e. bare_said pass_through_16 cdb trim c e tt,
+                                    (
+                                      λ is e. said_read sixteen cdb trim c e,
+                                      (
+                                        λ is e. said_write sixteen cdb trim c e,
+                                        (
+                                          λ is e. said_verify sixteen cdb trim c e,
+                                          (
+                                            λ is e. bare_said (synchronize_cache sixteen) cdb trim c e tt,
+                                            (
+                                              λ is e. said_same sixteen cdb trim c e,
+                                              (
+                                                λ is e. bare_said read_capacity_16 cdb trim c e tt,
+                                                (
+                                                  λ is e. bare_said report_luns cdb trim c e tt,
+                                                  (
+                                                    λ is e. bare_said pass_through_12 cdb trim c e tt,
+                                                    (
+                                                      λ is e. said_read twelve cdb trim c e,
+                                                      (
+                                                        λ is e. said_write twelve cdb trim c e,
+                                                        (
+                                                          λ is e. said_verify twelve cdb trim c e,
+                                                          tt,
+                                                        ),
+                                                      ),
+                                                    ),
+                                                  ),
+                                                ),
+                                              ),
+                                            ),
+                                          ),
+                                        ),
+                                      ),
+                                    ),
+                                  ),
+                                ),
+                              ),
+                            ),
+                          ),
+                        ),
+                      ),
+                    ),
+                  ),
+                ),
+              ),
+            ),
+          ),
+        ),
+      ),
+    ),
+  ),
+)
 
 -- what the table says of a CDB
 pub said_of : (cdb : List ℕ) (trim : Bool) (c : Command) → says cdb trim ≡ Ok c → IsSaid cdb trim c

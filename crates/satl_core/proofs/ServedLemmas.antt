@@ -1,12 +1,12 @@
 -- The first task ends as the device says, where nothing is outstanding.
 use Rattle.std.proofs.Common.{◌≡◌, inl, refl, sym, ap, subst, ◌∙◌, ℕ, true, false, Bool, List, [], ◌∷◌, ◌++◌, map, Some, None}
-use Rattle.std.specs.Prelude.{◌≤◌, length, MatchBool, Option, if◌then◌else◌, not, ◌==◌, ◌&&◌}
+use Rattle.std.specs.Prelude.{IfSome, IsSomeAnd, MatchBool, Option, if◌then◌else◌, not, ◌==◌, ◌&&◌}
 use Rattle.std.specs.List.{AllByRecursion}
 use Rattle.satl_base.specs.declared.block.Block.{Block}
 use Rattle.satl_base.specs.declared.modes.Modes.{Modes}
 use Rattle.satl_base.specs.declared.reply.Reply.{Reply}
 use Rattle.satl_base.specs.declared.reply.Scsi.TheVariants.{Good}
-use Rattle.satl_base.specs.Cells.{Cell, settle}
+use Rattle.satl_base.specs.Cells.{Cell, Pair, settle}
 use Rattle.satl_base.specs.Losses.{Loses}
 use Rattle.satl_base.proofs.MovesLemmas.{lose_once, moves_weaker}
 use Rattle.satl_cdb.specs.declared.command.Command.{Command}
@@ -35,16 +35,17 @@ use Rattle.satl_core.specs.declared.managing.Posting.{Posting}
 use Rattle.satl_core.specs.declared.managing.Posting.TheVariants.{ModesChanged}
 use Rattle.satl_core.specs.declared.turning.Ending.{Ending}
 use Rattle.satl_core.specs.declared.turning.Ending.TheVariants as endings
+use Rattle.satl_core.specs.Alone.{alone_of}
 use Rattle.satl_core.specs.Managing.{once_posted}
 use Rattle.satl_core.specs.Layer.{Agrees, IsCovered, IsKept, IsTask, Layer}
 use Rattle.satl_core.specs.Refilling.{EndsOne}
 use Rattle.satl_core.specs.Turning as core
-use Rattle.satl_core.specs.Turning.{CarriedOut, IsLostInTask, IsUnasked, TaskEnds, change_posting, ended_reply, modes_after, read_pages, started_after, wanted_by, where_done}
+use Rattle.satl_core.specs.Turning.{DoneAlone, IsLostInTask, IsUnasked, TaskEnds, change_posting, ended_reply, modes_after, read_pages, started_after, wanted_by, where_done}
 use Rattle.satl_core.proofs.DeviceLemmas.{all_lost, ends_around, ends_by, ends_down, ends_stopped, first_checked, first_gone, first_tasks, quiet_none, quiet_same, seen}
 use Rattle.satl_core.proofs.HeldLemmas.{IsFirst, IsKeptEntry, first_kept}
-use Rattle.satl_core.specs.Medium.{HasData, HasWhole, written_alone}
+use Rattle.satl_core.specs.Medium.{CanCarry, HasWhole, written_alone}
 use Rattle.satl_core.proofs.PassingLemmas.{pass_turn}
-use Rattle.satl_core.proofs.MediumLemmas.{check_turn, compare_turn, has_data, same_turn, shows, unmap_turn, zero_turn}
+use Rattle.satl_core.proofs.MediumLemmas.{check_turn, compare_turn, same_turn, shows, unmap_turn, zero_turn}
 use Rattle.satl_core.proofs.Transfers.{of_task}
 
 -- a task that moves no has is done, and leaves these sectors
@@ -146,10 +147,10 @@ ended_seen identity modes wanted started attentions entry ending others d =
 
 -- what the drive did for a task ends it
 task_turn : (identity : Identity) (modes : Modes) (started : Bool) (attentions : List (List Attention)) (entry : Entry) (taken : List Block) (others : List Entry) (d d' : DriveState) (ending : Ending) → IsKeptEntry identity entry → IsSetBy modes d → TellsOf identity.bytes d
-    → (not started && (asks entry.command).starts) ≡ false → HasData entry.command entry → CarriedOut (wanted_by modes entry.modes) entry.command entry taken d ending d'
+    → (not started && (asks entry.command).starts) ≡ false → IfSome (alone_of entry.command) (λ alone. CanCarry alone entry d) → DoneAlone (wanted_by modes entry.modes) entry.command entry taken d ending d'
     → EndsOne (seen identity modes started attentions (task_of entry ∷ others) d) (ended_reply (record entry { body = taken }) ending modes.d_sense) (ended_seen identity modes (wanted_by modes entry.modes) started attentions entry ending others d')
 task_turn identity modes started attentions entry taken others d d' ending kept set told ready has x =
-    of_task (λ c. (not started && (asks c).starts) ≡ false → HasData c entry → CarriedOut (wanted_by modes entry.modes) c entry taken d ending d' → Ends c) identity.capacity entry.blocks entry.command
+    of_task (λ c. (not started && (asks c).starts) ≡ false → IfSome (alone_of c) (λ alone. CanCarry alone entry d) → DoneAlone (wanted_by modes entry.modes) c entry taken d ending d' → Ends c) identity.capacity entry.blocks entry.command
     (λ form lba count fua t ready has x. absurd x)
     (λ form lba count fua t ready has x. absurd x)
     (λ form lba count none ready has x. bare (cdbs.Flush form lba count) refl refl (bare_turn identity modes started started attentions (record entry { command = cdbs.Flush form lba count }) others d d' (map settle d.cells) d.active ending ready (λ reply new e. e) x.1 x.0 refl))
@@ -162,12 +163,12 @@ task_turn identity modes started attentions entry taken others d d' ending kept 
     (selected_turn identity modes started ten size attentions entry others d d' ending set.cache x.1 x.0)))
     (λ form lba count t ready has x. bare (cdbs.Verify form lba count false) refl refl (check_turn identity modes started attentions entry others d d' form lba count ending ready x))
     (λ form lba count t ready has x. bare (cdbs.Verify form lba count true) refl refl (compare_turn identity modes started attentions entry others d d' form lba count ending ready x))
-    (λ form lba count unmap. elim unmap as (λ b. (entry.blocks ≡ 1) × IsCovered identity.capacity lba count → (not started && (asks (cdbs.WriteSame form lba count b)).starts) ≡ false → 1 ≤ length entry.body → CarriedOut (wanted_by modes entry.modes) (cdbs.WriteSame form lba count b) entry taken d ending d' → Ends (cdbs.WriteSame form lba count b)) [
+    (λ form lba count unmap. elim unmap as (λ b. (entry.blocks ≡ 1) × IsCovered identity.capacity lba count → (not started && (asks (cdbs.WriteSame form lba count b)).starts) ≡ false → IfSome (alone_of (cdbs.WriteSame form lba count b)) (λ alone. CanCarry alone entry d) → DoneAlone (wanted_by modes entry.modes) (cdbs.WriteSame form lba count b) entry taken d ending d' → Ends (cdbs.WriteSame form lba count b)) [
       | true ↦ λ t ready has x. bare (cdbs.WriteSame form lba count true) refl refl (zero_turn identity modes started attentions entry others d d' set.cache form lba count ending ready x)
-      | false ↦ λ t ready has x. bare (cdbs.WriteSame form lba count false) refl refl (same_turn identity modes started attentions entry others d d' set.cache form lba count ending ready has x)
+      | false ↦ λ t ready has x. bare (cdbs.WriteSame form lba count false) refl refl (same_turn identity modes started attentions entry others d d' set.cache form lba count ending ready has.0 x)
     ])
     (λ size t ready has x. bare (cdbs.Unmap size) refl refl (unmap_turn identity modes started attentions entry others d d' set.cache size ending ready x))
-    (λ cdb t ready has x. pass_turn identity modes started attentions entry others d cdb d' ending taken set told t.1 has x)
+    (λ cdb t ready has x. pass_turn identity modes started attentions entry others d cdb d' ending taken set told t.1 has.0 x)
     kept.task ready has x
   where
     -- the device with the task as its first one, with another command
@@ -185,15 +186,16 @@ task_turn identity modes started attentions entry taken others d d' ending kept 
     bare c none nothing turn = subst (λ r. EndsOne (first c) r (after c)) (same_reply (record entry { command = c }) taken ending modes.d_sense none nothing) turn
 
 -- the pairs of the first task may show
-lost_turn : (identity : Identity) (modes : Modes) (started : Bool) (attentions : List (List Attention)) (entry : Entry) (others : List Entry) (d d' : DriveState) (answers : List Reply) → IsSetBy modes d → TellsOf identity.bytes d → HasWhole entry.command entry → (not started && (asks entry.command).starts) ≡ false → IsKeptEntry identity entry
-    → IsLostIn (written_alone entry.command entry d) d d' → answers ≡ turns.lost_replies (seen identity modes started attentions (task_of entry ∷ others) d) → Around Turn (seen identity modes started attentions (task_of entry ∷ others) d) answers (seen identity modes started attentions [] d')
-lost_turn identity modes started attentions entry others d d' answers set told whole ready kept x is =
+lost_turn : (identity : Identity) (modes : Modes) (started : Bool) (attentions : List (List Attention)) (entry : Entry) (others : List Entry) (d d' : DriveState) (pairs : List Pair) (answers : List Reply) → IsSetBy modes d → TellsOf identity.bytes d
+    → IsSomeAnd (alone_of entry.command) (λ alone. HasWhole alone entry × (pairs ≡ written_alone alone entry d)) → (not started && (asks entry.command).starts) ≡ false → IsKeptEntry identity entry
+    → IsLostIn pairs d d' → answers ≡ turns.lost_replies (seen identity modes started attentions (task_of entry ∷ others) d) → Around Turn (seen identity modes started attentions (task_of entry ∷ others) d) answers (seen identity modes started attentions [] d')
+lost_turn identity modes started attentions entry others d d' pairs answers set told written ready kept x is =
     let s : Device = seen identity modes started attentions (task_of entry ∷ others) d in
     let new : Device = seen identity modes started attentions [] d' in
     record {
       before = record s { cells = d'.cells };
       after = new;
-      quiet_before = record { cells = moves_weaker (λ pair among. shows identity modes started attentions entry others d set told whole ready kept pair among) x.cells; active = inl refl; stays = refl };
+      quiet_before = record { cells = moves_weaker (λ pair among. shows identity modes started attentions entry others d pairs set told written ready kept pair among) x.cells; active = inl refl; stays = refl };
       step = loses some (record {
         was_up = set.up;
         answer = is;
@@ -209,7 +211,7 @@ lost_turn identity modes started attentions entry others d d' answers set told w
 -- a task that ends with sense has sets nothing
 pub still : (capacity n : ℕ) (modes wanted : Modes) (started : Bool) (sense : Sense) (command : Command) → IsTask capacity command n → (modes_after command (endings.Check sense) modes wanted ≡ modes) × (started_after command (endings.Check sense) started ≡ started)
 still capacity n modes wanted started sense command t =
-    of_task (λ c. (modes_after c (endings.Check sense) modes wanted ≡ modes) × (started_after c (endings.Check sense) started ≡ started)) capacity n command (λ form lba count fua t. (refl, refl)) (λ form lba count fua t. (refl, refl)) (λ form lba count none. (refl, refl)) (λ start no_flush none. (refl, refl)) (λ ten size none. (refl, refl)) (λ form lba count t. (refl, refl)) (λ form lba count t. (refl, refl)) (λ form lba count unmap t. (refl, refl)) (λ size t. (refl, refl)) (λ cdb t. (refl, refl)) t
+    of_task (λ c. (modes_after c (endings.Check sense) modes wanted ≡ modes) × (started_after c (endings.Check sense) started ≡ started)) capacity n command (λ form lba count fua t. (refl, refl)) (λ form lba count fua t. (refl, refl)) (λ form lba count none. (refl, refl)) (λ start no_flush none. (refl, refl)) (λ ten size none. (refl, refl)) (λ form lba count t. (refl, refl)) (λ form lba count t. (refl, refl)) (λ form lba count unmap t. elim unmap as (λ b. (modes_after (cdbs.WriteSame form lba count b) (endings.Check sense) modes wanted ≡ modes) × (started_after (cdbs.WriteSame form lba count b) (endings.Check sense) started ≡ started)) [ true ↦ (refl, refl) | false ↦ (refl, refl) ]) (λ size t. (refl, refl)) (λ cdb t. (refl, refl)) t
 
 checked_seen : (identity : Identity) (modes wanted : Modes) (started : Bool) (attentions : List (List Attention)) (entry : Entry) (others : List Entry) (d' : DriveState) (sense : Sense) (ending : Ending) → IsKeptEntry identity entry → ending ≡ endings.Check sense
     → ended_seen identity modes wanted started attentions entry ending others d' ≡ seen identity modes started attentions others d'
@@ -237,8 +239,8 @@ unasked_turn identity modes wanted started attentions entry taken others d d' se
 
 -- a unit that is stopped, or the drive
 up_turn : (stopped : Bool) (identity : Identity) (modes : Modes) (started : Bool) (attentions : List (List Attention)) (entry : Entry) (taken : List Block) (others : List Entry) (d d' : DriveState) (ending : Ending)
-    → IsKeptEntry identity entry → IsSetBy modes d → TellsOf identity.bytes d → HasData entry.command entry → (not started && (asks entry.command).starts) ≡ stopped
-    → MatchBool stopped (IsUnasked not_ready d ending d') (CarriedOut (wanted_by modes entry.modes) entry.command entry taken d ending d')
+    → IsKeptEntry identity entry → IsSetBy modes d → TellsOf identity.bytes d → IfSome (alone_of entry.command) (λ alone. CanCarry alone entry d) → (not started && (asks entry.command).starts) ≡ stopped
+    → MatchBool stopped (IsUnasked not_ready d ending d') (DoneAlone (wanted_by modes entry.modes) entry.command entry taken d ending d')
     → EndsOne (seen identity modes started attentions (task_of entry ∷ others) d) (ended_reply (record entry { body = taken }) ending modes.d_sense) (ended_seen identity modes (wanted_by modes entry.modes) started attentions entry ending others d')
 up_turn true identity modes started attentions entry taken others d d' ending kept set told has stopped x =
     unasked_turn identity modes (wanted_by modes entry.modes) started attentions entry taken others d d' not_ready ending (λ reply mid e. ends_stopped _ _ _ _ set.up stopped e) x kept
@@ -247,7 +249,7 @@ up_turn false identity modes started attentions entry taken others d d' ending k
 -- whichever decides, a lost link, a unit that is stopped, or the drive
 ended_turn : (identity : Identity) (modes : Modes) (down started : Bool) (attentions : List (List Attention)) (entry : Entry) (taken : List Block) (others : List Entry) (d d' : DriveState) (ending : Ending) → down ≡ d.down
     → IsKeptEntry identity entry → (down ≡ false → IsSetBy modes d) → TellsOf identity.bytes d
-    → HasData entry.command entry → TaskEnds down started (wanted_by modes entry.modes) entry taken d ending d'
+    → IfSome (alone_of entry.command) (λ alone. CanCarry alone entry d) → TaskEnds down started (wanted_by modes entry.modes) entry taken d ending d'
     → EndsOne (seen identity modes started attentions (task_of entry ∷ others) d) (ended_reply (record entry { body = taken }) ending modes.d_sense) (ended_seen identity modes (wanted_by modes entry.modes) started attentions entry ending others d')
 ended_turn identity modes true started attentions entry taken others d d' ending mark kept set told has x =
     unasked_turn identity modes (wanted_by modes entry.modes) started attentions entry taken others d d' link_lost ending (λ reply mid e. ends_down _ _ _ _ (sym mark) e) x kept
@@ -277,13 +279,13 @@ module _ (l : Layer) (rest : List Held) (entry : Entry) (d d' : DriveState) (kep
   set_by_modes : l.down ≡ false → IsSetBy l.modes d
   set_by_modes up = record { up = sym agrees.mark ∙ up; cache = agrees.cache up; look = agrees.look up }
 
-  pub first_ends : (ending : Ending) (taken : List Block) (started' : Bool) (wanted modes' : Modes) (posting : Option Posting) (attentions' : List (List Attention)) → wanted ≡ wanted_by l.modes entry.modes → TaskEnds l.down l.started wanted entry taken d ending d'
+  pub first_ends : IfSome (alone_of entry.command) (λ alone. CanCarry alone entry d) → (ending : Ending) (taken : List Block) (started' : Bool) (wanted modes' : Modes) (posting : Option Posting) (attentions' : List (List Attention)) → wanted ≡ wanted_by l.modes entry.modes → TaskEnds l.down l.started wanted entry taken d ending d'
       → started' ≡ started_after entry.command ending l.started → modes' ≡ modes_after entry.command ending l.modes wanted → posting ≡ change_posting entry.command l.modes modes' entry.nexus → attentions' ≡ once_posted posting rest l.attentions
       → EndsOne (seen l.identity l.modes l.started l.attentions (map task_of (entries_of l.tasks)) d) (ended_reply (record entry { body = taken }) ending l.modes.d_sense) (seen l.identity modes' started' attentions' (map task_of (entries_of rest)) d')
-  first_ends ending taken started' wanted modes' posting attentions' wants ends after changed posts told =
+  first_ends carry ending taken started' wanted modes' posting attentions' wants ends after changed posts told =
       subst (EndsOne (seen l.identity l.modes l.started l.attentions (map task_of (entries_of l.tasks)) d) (ended_reply (record entry { body = taken }) ending l.modes.d_sense)) (sym same)
       (subst (λ ts. EndsOne (seen l.identity l.modes l.started l.attentions ts d) (ended_reply (record entry { body = taken }) ending l.modes.d_sense) (ended_seen l.identity l.modes (wanted_by l.modes entry.modes) l.started l.attentions entry ending (map task_of (entries_of rest)) d')) (sym all)
-      (ended_turn l.identity l.modes l.down l.started l.attentions entry taken (map task_of (entries_of rest)) d d' ending agrees.mark here set_by_modes agrees.told (has_data l.identity entry here) (subst (λ w. TaskEnds l.down l.started w entry taken d ending d') wants ends)))
+      (ended_turn l.identity l.modes l.down l.started l.attentions entry taken (map task_of (entries_of rest)) d d' ending agrees.mark here set_by_modes agrees.told carry (subst (λ w. TaskEnds l.down l.started w entry taken d ending d') wants ends)))
     where
       set : modes' ≡ modes_after entry.command ending l.modes (wanted_by l.modes entry.modes)
       set = changed ∙ ap (modes_after entry.command ending l.modes) wants
@@ -300,5 +302,5 @@ module _ (l : Layer) (rest : List Held) (entry : Entry) (d d' : DriveState) (kep
   first_loses ending given pushed answers reply left nothing lost none push more is by =
       subst (λ (ts : List Held). Around Turn (seen l.identity l.modes l.started l.attentions (map task_of (entries_of l.tasks)) d) answers (seen l.identity l.modes l.started l.attentions (map task_of (entries_of ts)) d')) (sym nothing)
       (subst (λ ts. Around Turn (seen l.identity l.modes l.started l.attentions ts d) answers (seen l.identity l.modes l.started l.attentions [] d')) (sym all)
-      (lost_turn l.identity l.modes l.started l.attentions entry (map task_of (entries_of rest)) d d' answers (set_by_modes lost.was_up) agrees.told lost.whole lost.ready here lost.lost
+      (lost_turn l.identity l.modes l.started l.attentions entry (map task_of (entries_of rest)) d d' lost.pairs answers (set_by_modes lost.was_up) agrees.told lost.written lost.ready here lost.lost
       (all_lost (seen l.identity l.modes l.started l.attentions (task_of entry ∷ map task_of (entries_of rest)) d) entry rest given pushed answers reply ending refl none push more is by)))

@@ -30,7 +30,7 @@ use Rattle.satl_flight.specs.Settled.{IsFilled}
 use Rattle.satl_flight.proofs.ComingLemmas.{tie_come}
 use Rattle.satl_flight.proofs.FlownLemmas.{FitsOn, fits_by, fits_on}
 use Rattle.satl_core.specs.Refilling.{Comes}
-use Rattle.satl_core.specs.Layer.{Agrees, IsExpectable, IsTask, IsUsed, Layer, Tied, view, works}
+use Rattle.satl_core.specs.Layer.{Agrees, IsExpectable, IsUsed, Layer, Tied, view, works}
 use Rattle.satl_core.proofs.AgreeingLemmas.{agrees_by, capacity_is, idle_in_flight}
 use Rattle.satl_core.specs.Leaving.{left_by}
 use Rattle.satl_core.specs.Submitting.{is_for_unit, Becomes, IsAdded, IsRefused, attention_of, code_answer, judged, once_judged, overlaps, task_without_pages, untold}
@@ -42,7 +42,7 @@ use Rattle.satl_core.specs.declared.managing.Posting.{Posting}
 use Rattle.satl_core.specs.declared.turning.Ending.{Ending}
 use Rattle.satl_core.specs.declared.turning.Ending.TheVariants as endings
 use Rattle.satl_core.specs.Managing.{once_posted}
-use Rattle.satl_core.specs.Turning.{modes_after, wanted_by, where_done}
+use Rattle.satl_core.specs.Turning.{modes_after, wanted_by}
 use Rattle.satl_mode.specs.Changes.{AreModesOf, IsChangeOf}
 use Rattle.satl_mode.proofs.Unchanged.{applied_of}
 use Rattle.satl_base.specs.declared.modes.ModeChange.{ModeChange}

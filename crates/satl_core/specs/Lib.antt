@@ -1,3 +1,4 @@
+pub mod Alone
 pub mod Benching
 pub mod Flushed
 pub mod Layer

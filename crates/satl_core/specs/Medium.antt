@@ -4,14 +4,14 @@ use Rattle.std.specs.List.{AllByRecursion}
 use Rattle.satl_base.specs.declared.block.Block.{Block}
 use Rattle.satl_base.specs.declared.block.Range.{Range}
 use Rattle.satl_base.specs.Blocks.{no_block}
+use Rattle.satl_base.specs.Limits.{most_moved}
 use Rattle.satl_base.specs.Cells.{Pair}
 use Rattle.satl_base.specs.Identify.{has_trim}
-use Rattle.satl_cdb.specs.declared.command.Command.{Command}
-use Rattle.satl_cdb.specs.declared.command.Command.TheVariants.{Pass, Unmap, Verify, WriteSame}
 use Rattle.satl_line.specs.declared.entry.Entry.{Entry}
 use Rattle.satl_sense.specs.declared.sense.Sense.{Sense}
 use Rattle.satl_frame.specs.DataPages.{page_count}
-use Rattle.satl_pass.specs.declared.pass.Pass as passes
+use Rattle.satl_pass.specs.declared.pass.Pass.{Pass}
+use Rattle.satl_pass.specs.Reading.{CanRun}
 use Rattle.satl_pass.specs.Status.{is_bad, status_sense}
 use Rattle.satl_regs.specs.declared.values.Taskfile.{Taskfile}
 use Rattle.satl_regs.specs.Commands.{command_in}
@@ -25,7 +25,10 @@ use Rattle.satl_barrier.specs.declared.comparing.Comparison.TheVariants as compa
 use Rattle.satl_barrier.specs.Commands.{AreWhole, HasPassed}
 use Rattle.satl_barrier.specs.Finishing.{ComparesAs, FinishesAs, IsVerified, trimming, writing_same}
 use Rattle.satl_direct.specs.Senses.{crc_error, miscompare, read_error, write_error}
-use Rattle.satl_direct.specs.Tasks.{over, pass_of}
+use Rattle.satl_direct.specs.Tasks.{pass_of}
+use Rattle.satl_core.specs.Layer.{IsCovered}
+use Rattle.satl_core.specs.declared.alone.Alone.{Alone}
+use Rattle.satl_core.specs.declared.alone.Alone.TheVariants as alones
 use Rattle.satl_core.specs.declared.turning.Ending.{Ending}
 use Rattle.satl_core.specs.declared.turning.Ending.TheVariants as endings
 
@@ -75,11 +78,11 @@ ending_with None bad = endings.Good
 ending_with (Some sense) bad = if bad then endings.Check sense else endings.Informed sense
 
 -- how an ATA PASS-THROUGH ends (SAT-3 12.2)
-abbrev pub passed : passes.Pass → Taskfile → Ending
+abbrev pub passed : Pass → Taskfile → Ending
 passed pass ended = ending_with (status_sense pass ended) (is_bad ended)
 
 -- the command of an ATA PASS-THROUGH was carried out with these pages, which are left with these blocks, and the task ends so (SAT-3 12.2)
-pub record PassesThrough (pass : passes.Pass) (given taken : List Block) (old : DriveState) (ending : Ending) (new : DriveState) : Type 0 where
+pub record PassesThrough (pass : Pass) (given taken : List Block) (old : DriveState) (ending : Ending) (new : DriveState) : Type 0 where
   pub ended : Taskfile
   pub is : HasPassed pass.regs old given ended taken new
   pub whole : AreWhole given
@@ -94,36 +97,26 @@ pub record TakesTrim (ranges : List Range) (d : DriveState) : Type 0 where
   pub list : IsTrimList ranges
   pub within : AllByRecursion (λ range. range.lba + range.count ≤ length d.cells) ranges
 
--- a drive takes what a task trims (ACS-3, DATA SET MANAGEMENT)
-abbrev pub MayTrim : Command → Entry → DriveState → Type 0
-MayTrim (WriteSame form lba count true) t d = TakesTrim (over lba count ∷ []) d
-MayTrim (Unmap size) t d = TakesTrim t.ranges.items d
-MayTrim _ t d = Unit {0}
-
--- a task has the data-out of its command: a VERIFY with comparison its blocks, a WRITE SAME its one, and an ATA PASS-THROUGH the pages of its
--- data (SBC-3 5.33, 5.42; SAT-3 12.2)
-abbrev pub HasData : Command → Entry → Type 0
-HasData (Verify form lba count true) t = length t.body ≡ count
-HasData (WriteSame form lba count unmap) t = 1 ≤ length t.body
-HasData (Pass cdb) t = length t.body ≡ page_count (pass_of cdb).length
-HasData _ t = Unit {0}
+-- what a command that runs alone needs of its task and of the drive: a range within the capacity, its data-out in the pages, and that the
+-- drive takes what it trims (SBC-3 5; SAT-3 12.2)
+abbrev pub CanCarry : Alone → Entry → DriveState → Type 0
+CanCarry (alones.Verify range) t d = IsCovered d.capacity range.lba range.count
+CanCarry (alones.Compare range) t d = (length t.body ≡ range.count) × (range.count ≤ most_moved) × IsCovered d.capacity range.lba range.count
+CanCarry (alones.WriteSame range) t d = (1 ≤ length t.body) × IsCovered d.capacity range.lba range.count
+CanCarry (alones.TrimRange range) t d = TakesTrim (range ∷ []) d
+CanCarry alones.TrimList t d = TakesTrim t.ranges.items d
+CanCarry (alones.Through cdb) t d = (length t.body ≡ page_count (pass_of cdb).length) × CanRun (pass_of cdb)
+CanCarry _ t d = Unit {0}
 
 -- the pages of an ATA PASS-THROUGH are whole (profile)
-abbrev pub HasWhole : Command → Entry → Type 0
-HasWhole (Pass cdb) t = AreWhole t.body
+abbrev pub HasWhole : Alone → Entry → Type 0
+HasWhole (alones.Through cdb) t = AreWhole t.body
 HasWhole _ t = Unit {0}
 
 -- what a command that runs alone writes (SBC-3 5.28, 5.42; SAT-3 12.2)
-abbrev pub written_alone : Command → Entry → DriveState → List Pair
-written_alone (WriteSame form lba count false) t d = (writing_same (over lba count) (get_or t.body 0 no_block) d).writes
-written_alone (WriteSame form lba count true) t d = (trimming (over lba count ∷ []) d).writes
-written_alone (Unmap size) t d = (trimming t.ranges.items d).writes
-written_alone (Pass cdb) t d = pairs_of (command_in (pass_of cdb).regs) (medium_of d) t.body
+abbrev pub written_alone : Alone → Entry → DriveState → List Pair
+written_alone (alones.WriteSame range) t d = (writing_same range (get_or t.body 0 no_block) d).writes
+written_alone (alones.TrimRange range) t d = (trimming (range ∷ []) d).writes
+written_alone alones.TrimList t d = (trimming t.ranges.items d).writes
+written_alone (alones.Through cdb) t d = pairs_of (command_in (pass_of cdb).regs) (medium_of d) t.body
 written_alone _ t d = []
-
--- the drive is as it was, but for its sectors, whether it is active, and its glitches (profile)
-pub record IsSameButCells (old new : DriveState) : Type 0 where
-  pub down : new.down ≡ false
-  pub cache : new.cache ≡ old.cache
-  pub look : new.look ≡ old.look
-  pub faults : new.faults ≡ old.faults

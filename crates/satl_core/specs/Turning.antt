@@ -1,5 +1,6 @@
 -- How the layer ends a task.
-use Rattle.std.specs.Prelude.{◌≡◌, ℕ, ◌*◌, ◌+◌, ◌&&◌, not, Bool, true, false, if◌then◌else◌, List, [], ◌∷◌, length, map, min, get_or, MatchBool, Option, Some, None, unwrap_or}
+use Rattle.std.specs.Prelude.{◌≡◌, ℕ, ◌*◌, ◌+◌, ◌&&◌, not, Bool, true, false, if◌then◌else◌, List, [], ◌∷◌, length, map, min, get_or, MatchBool, IsSomeAnd, Option, Some, None, unwrap_or}
+use Rattle.std.specs.Option.{option_map}
 use Rattle.satl_base.specs.declared.block.Block.{Block}
 use Rattle.satl_base.specs.declared.modes.ModeChange.{ModeChange}
 use Rattle.satl_base.specs.declared.modes.Modes.{Modes}
@@ -9,8 +10,8 @@ use Rattle.satl_base.specs.declared.reply.Scsi.TheVariants as statuses
 use Rattle.satl_cdb.specs.declared.command.Command.{Command}
 use Rattle.satl_base.specs.Blocks.{no_block}
 use Rattle.satl_base.specs.Limits.{piece}
-use Rattle.satl_base.specs.Cells.{settle}
-use Rattle.satl_cdb.specs.declared.command.Command.TheVariants.{Flush, ModeSelect, Pass, Read, StartStop, Unmap, Verify, WriteSame}
+use Rattle.satl_base.specs.Cells.{Pair, settle}
+use Rattle.satl_cdb.specs.declared.command.Command.TheVariants.{ModeSelect, Pass, Read, StartStop}
 use Rattle.satl_sense.specs.declared.sense.Sense.{Sense}
 use Rattle.satl_sense.specs.Descriptor.{descriptor_form}
 use Rattle.satl_sense.specs.Fixed.{fixed_form}
@@ -24,7 +25,7 @@ use Rattle.satl_line.specs.declared.entry.Entry.{Entry}
 use Rattle.satl_line.specs.Tasks.{Held}
 use Rattle.satl_mode.specs.Changes.{applied, no_change}
 use Rattle.satl_direct.specs.Attentions.{are_same_modes}
-use Rattle.satl_direct.specs.Tasks.{asks, over, pass_of}
+use Rattle.satl_direct.specs.Tasks.{asks, pass_of}
 use Rattle.satl_pass.specs.Status.{error_sense_at}
 use Rattle.satl_direct.specs.Senses.{link_lost, not_ready}
 use Rattle.satl_drive.specs.State.{DriveState}
@@ -33,6 +34,9 @@ use Rattle.satl_barrier.specs.Leaving.{IsLostIn}
 use Rattle.satl_barrier.specs.Settings.{IsTuned}
 use Rattle.satl_barrier.specs.Flushing.{IsLeftWith, IsSwitched}
 use Rattle.satl_core.specs.Medium.{HasCompared, HasFinished, HasVerified, HasWhole, PassesThrough, written_alone}
+use Rattle.satl_core.specs.Alone.{alone_of}
+use Rattle.satl_core.specs.declared.alone.Alone.{Alone}
+use Rattle.satl_core.specs.declared.alone.Alone.TheVariants as alones
 use Rattle.satl_core.specs.declared.managing.Posting.{Posting}
 use Rattle.satl_core.specs.declared.managing.Posting.TheVariants.{ModesChanged}
 use Rattle.satl_core.specs.declared.turning.Ending.{Ending}
@@ -109,37 +113,21 @@ pub record IsUnasked (sense : Sense) (old : DriveState) (ending : Ending) (new :
   pub sensed : ending ≡ endings.Check sense
   pub stays : new ≡ old
 
--- the commands that run alone on the drive (profile)
-abbrev pub RunsAlone : Command → Type 0
-RunsAlone (ModeSelect ten size) = Unit {0}
-RunsAlone (StartStop start no_flush) = Unit {0}
-RunsAlone (Flush form lba count) = Unit {0}
-RunsAlone (Verify form lba count compare) = Unit {0}
-RunsAlone (WriteSame form lba count unmap) = Unit {0}
-RunsAlone (Unmap size) = Unit {0}
-RunsAlone (Pass cdb) = Unit {0}
-RunsAlone _ = ⊥
+-- what the drive did for a task that wants these mode values and runs alone, which leaves these blocks in its pages (SAT-3 8)
+abbrev pub CarriedOut : Modes → Alone → Entry → List Block → DriveState → Ending → DriveState → Type 0
+CarriedOut wanted alones.Flush t taken old ending new = (ending ≡ endings.Good) × IsLeftWith (map settle old.cells) old.active old new
+CarriedOut wanted alones.Select t taken old ending new = (ending ≡ endings.Good) × IsTuned wanted.wce (not wanted.dra) old new
+CarriedOut wanted (alones.Switch start no_flush) t taken old ending new = (ending ≡ endings.Good) × IsSwitched start no_flush old new
+CarriedOut wanted (alones.Verify range) t taken old ending new = HasVerified range old ending new
+CarriedOut wanted (alones.Compare range) t taken old ending new = HasCompared range t.body old ending new
+CarriedOut wanted (alones.WriteSame range) t taken old ending new = HasFinished (writing_same range (get_or t.body 0 no_block) old) (min piece range.count) old ending new
+CarriedOut wanted (alones.TrimRange range) t taken old ending new = HasFinished (trimming (range ∷ []) old) 0 old ending new
+CarriedOut wanted alones.TrimList t taken old ending new = HasFinished (trimming t.ranges.items old) 0 old ending new
+CarriedOut wanted (alones.Through cdb) t taken old ending new = PassesThrough (pass_of cdb) t.body taken old ending new
 
--- the commands that go over the medium alone (SBC-3 5)
-abbrev pub GoesOver : Command → Type 0
-GoesOver (Verify form lba count compare) = Unit {0}
-GoesOver (WriteSame form lba count unmap) = Unit {0}
-GoesOver (Unmap size) = Unit {0}
-GoesOver _ = ⊥
-
--- what the drive did for the command of a task that wants these mode values and runs alone, which leaves these blocks in its pages
--- (SAT-3 8)
-abbrev pub CarriedOut : Modes → Command → Entry → List Block → DriveState → Ending → DriveState → Type 0
-CarriedOut wanted (ModeSelect ten size) t taken old ending new = (ending ≡ endings.Good) × IsTuned wanted.wce (not wanted.dra) old new
-CarriedOut wanted (StartStop start no_flush) t taken old ending new = (ending ≡ endings.Good) × IsSwitched start no_flush old new
-CarriedOut wanted (Flush form lba count) t taken old ending new = (ending ≡ endings.Good) × IsLeftWith (map settle old.cells) old.active old new
-CarriedOut wanted (Verify form lba count false) t taken old ending new = HasVerified (over lba count) old ending new
-CarriedOut wanted (Verify form lba count true) t taken old ending new = HasCompared (over lba count) t.body old ending new
-CarriedOut wanted (WriteSame form lba count false) t taken old ending new = HasFinished (writing_same (over lba count) (get_or t.body 0 no_block) old) (min piece count) old ending new
-CarriedOut wanted (WriteSame form lba count true) t taken old ending new = HasFinished (trimming (over lba count ∷ []) old) 0 old ending new
-CarriedOut wanted (Unmap size) t taken old ending new = HasFinished (trimming t.ranges.items old) 0 old ending new
-CarriedOut wanted (Pass cdb) t taken old ending new = PassesThrough (pass_of cdb) t.body taken old ending new
-CarriedOut wanted _ t taken old ending new = ⊥
+-- what the drive did for a command that runs alone (SAT-3 8)
+abbrev pub DoneAlone : Modes → Command → Entry → List Block → DriveState → Ending → DriveState → Type 0
+DoneAlone wanted command t taken old ending new = IsSomeAnd (alone_of command) (λ alone. CarriedOut wanted alone t taken old ending new)
 
 -- how the task ends whose turn it is: the first that holds decides, a lost link, a unit that is stopped where the command needs it started,
 -- and the drive (SAT-3 11; profile)
@@ -147,14 +135,15 @@ abbrev pub TaskEnds : Bool → Bool → Modes → Entry → List Block → Drive
 TaskEnds down started wanted t taken old ending new =
     MatchBool down (IsUnasked link_lost old ending new)
     (MatchBool (not started && (asks t.command).starts) (IsUnasked not_ready old ending new)
-    (CarriedOut wanted t.command t taken old ending new))
+    (DoneAlone wanted t.command t taken old ending new))
 
--- the link was lost while a task was carried out, at a unit that is started where the command needs it (profile)
+-- the link was lost while a task was carried out that writes these pairs, at a unit that is started where the command needs it (profile)
 pub record IsLostInTask (down started : Bool) (t : Entry) (old new : DriveState) : Type 0 where
   pub was_up : down ≡ false
   pub ready : (not started && (asks t.command).starts) ≡ false
-  pub whole : HasWhole t.command t
-  pub lost : IsLostIn (written_alone t.command t old) old new
+  pub pairs : List Pair
+  pub written : IsSomeAnd (alone_of t.command) (λ alone. HasWhole alone t × (pairs ≡ written_alone alone t old))
+  pub lost : IsLostIn pairs old new
 
 -- one of two by how a task ended: the first where it is done (profile)
 abbrev pub where_done : {A : Type 0} → Ending → A → A → A
@@ -182,12 +171,16 @@ abbrev pub set_by : AtaCommand → Modes → Modes
 set_by (ata.SetFeatures what) modes = with_setting (setting_of what) modes
 set_by _ modes = modes
 
+-- the mode values once a command has ended that runs alone (SPC-4, MODE SELECT commands; SAT-3 12.2)
+abbrev pub modes_left : Alone → Ending → Modes → Modes → Modes
+modes_left alones.Select ending modes wanted = where_done ending wanted modes
+modes_left (alones.Through cdb) ending modes wanted = where_done ending (set_by (command_in (pass_of cdb).regs) modes) modes
+modes_left _ ending modes wanted = modes
+
 -- the mode values once a task has ended: those that a MODE SELECT that is done wants, and those that the command of an ATA PASS-THROUGH
 -- that is done sets (SPC-4, MODE SELECT commands; SAT-3 12.2)
 abbrev pub modes_after : Command → Ending → Modes → Modes → Modes
-modes_after (ModeSelect ten size) ending modes wanted = where_done ending wanted modes
-modes_after (Pass cdb) ending modes wanted = where_done ending (set_by (command_in (pass_of cdb).regs) modes) modes
-modes_after _ ending modes wanted = modes
+modes_after command ending modes wanted = unwrap_or (option_map (λ alone. modes_left alone ending modes wanted) (alone_of command)) modes
 
 -- what is posted where a task of a nexus has ended: after a MODE SELECT the others are told where a value has changed (SPC-4, MODE SELECT
 -- commands)

@@ -1,6 +1,7 @@
 //! The layer: it serves a SCSI block device on an ATA drive.
 #![tactic(auto)]
 
+mod alone;
 mod arrival;
 mod benching;
 mod leaving;

@@ -1,7 +1,7 @@
 // Commands that go over the medium alone on the drive: VERIFY, WRITE SAME and trims that are not queued.
 ghost use Rattle.std.specs.Prelude.{◌≡◌, ◌≤◌, ◌+◌, ◌∷◌, [], IfOk, OnErr, false, if◌then◌else◌, length, min, get_or, slice_index_or};
 ghost use Rattle.satl_base.specs.Blocks.{no_block};
-ghost use Rattle.satl_base.specs.Limits.{piece};
+ghost use Rattle.satl_base.specs.Limits.{most_moved, piece};
 ghost use Rattle.satl_barrier.specs.Finishing.{IsReached, trimming, verifying, writing_same};
 ghost use Rattle.satl_barrier.specs.Leaving.{IsFree, IsLostIn, Stays};
 ghost use Rattle.satl_direct.specs.Senses;
@@ -55,7 +55,7 @@ pub fn compare_range<D: Drive, L: Ledger>(
     requires free { IsFree (D.state drive.old) }
     requires reached { IsReached range (D.state drive.old) }
     requires all { length blocks.now ≡ range.count }
-    requires few { range.count ≤ 4096 }
+    requires few { range.count ≤ most_moved }
     requires room { piece ≤ pool.old.free }
     ensures ends { IfOk result (λ ending. HasCompared range blocks.now (D.state drive.old) ending (D.state drive.new)) }
     ensures lost { OnErr result (IsLostIn [] (D.state drive.old) (D.state drive.new)) }

@@ -143,6 +143,13 @@ impl Satl {
         })
     }
 
+    /// What the drive's IDENTIFY DEVICE data said when the layer was opened (ACS-3, IDENTIFY DEVICE).
+    pub fn identity(&self) -> &Identity
+        ensures { result.now ≡ self.now.identity }
+    {
+        &self.identity
+    }
+
     /// A command arrives: it is answered at once, or waits as a task, which is issued where it may be. Its pages become the task's or
     /// are given back (SAM-5 5; the order of the tests: profile). Where it has the nexus and tag of a task, all tasks of its nexus go
     /// without an answer. Where no page was free for all of its data-out, it does what the whole request does. Where the link is lost

@@ -3,6 +3,7 @@ ghost use Rattle.std.specs.Prelude.{◌≡◌};
 ghost use Rattle.satl_direct.specs.Attentions.{are_same_modes};
 ghost use Rattle.satl_core.specs.Turning.{change_posting, modes_after, set_by, wanted_by};
 
+use crate::alone::Alone;
 use crate::managing::Posting;
 use crate::turning::Ending;
 use satl_base::{ModeChange, Modes, Nexus};
@@ -26,10 +27,10 @@ pub fn wanted_by(modes: &Modes, change: &Option<ModeChange>) -> Modes
 pub fn modes_after(command: &Command, ending: Ending, modes: &Modes, wanted: &Modes) -> Modes
     ensures { result ≡ modes_after command.now ending modes.now wanted.now }
 {
-    match (command, ending) {
+    match (Alone::of(command), ending) {
         (_, Ending::Check(_)) => *modes,
-        (Command::ModeSelect { .. }, _) => *wanted,
-        (Command::Pass { cdb }, _) => set_by(&plan(&pass_of(cdb)), modes),
+        (Some(Alone::Select), _) => *wanted,
+        (Some(Alone::Through { cdb }), _) => set_by(&plan(&pass_of(&cdb)), modes),
         _ => *modes,
     }
 }
@@ -39,10 +40,22 @@ fn set_by(command: &AtaCommand, modes: &Modes) -> Modes
     ensures { result ≡ set_by command.now modes.now }
 {
     match *command {
-        AtaCommand::SetFeatures { what: 0x02 } => Modes { wce: true, ..*modes },
-        AtaCommand::SetFeatures { what: 0x82 } => Modes { wce: false, ..*modes },
-        AtaCommand::SetFeatures { what: 0xAA } => Modes { dra: false, ..*modes },
-        AtaCommand::SetFeatures { what: 0x55 } => Modes { dra: true, ..*modes },
+        AtaCommand::SetFeatures { what: 0x02 } => Modes {
+            wce: true,
+            ..*modes
+        },
+        AtaCommand::SetFeatures { what: 0x82 } => Modes {
+            wce: false,
+            ..*modes
+        },
+        AtaCommand::SetFeatures { what: 0xAA } => Modes {
+            dra: false,
+            ..*modes
+        },
+        AtaCommand::SetFeatures { what: 0x55 } => Modes {
+            dra: true,
+            ..*modes
+        },
         _ => *modes,
     }
 }

@@ -1,25 +1,26 @@
 // A task ends.
-ghost use Rattle.std.specs.Prelude.{◌≡◌, ◌≤◌, ◌<◌, ◌+◌, ◌*◌, ◌-◌, ◌++◌, ◌∷◌, ◌&&◌, ℕ, not, [], length, true, false, None, IfOk, OnOk, OnErr};
+ghost use Rattle.std.specs.Prelude.{◌≡◌, ◌≤◌, ◌<◌, ◌+◌, ◌*◌, ◌-◌, ◌++◌, ◌∷◌, ◌&&◌, ℕ, not, [], length, true, false, None, IfOk, IfSome, IsSome, OnOk, OnErr};
 ghost use Rattle.std.specs.List.{AllByRecursion};
 ghost use Rattle.satl_frame.specs.Output.{IsWritable};
 ghost use Rattle.satl_base.specs.Cells.{AreSound};
 ghost use Rattle.satl_direct.specs.Senses;
 ghost use Rattle.satl_base.specs.Limits.{most_moved, piece};
 ghost use Rattle.satl_core.specs.Layer.{IsTask, held_pages};
-ghost use Rattle.satl_core.specs.Medium.{HasData, HasWhole, IsSameButCells, MayTrim, written_alone};
+ghost use Rattle.satl_core.specs.Alone.{alone_of};
+ghost use Rattle.satl_core.specs.Medium.{CanCarry, HasWhole, written_alone};
 ghost use Rattle.satl_base.specs.declared.modes.Modes.{Modes};
 ghost use Rattle.satl_core.specs.Turning;
 ghost use Rattle.satl_barrier.specs.Leaving.{IsFree, IsLostIn, Stays};
 ghost use Rattle.satl_barrier.specs.Settings.{CanSet, IsSetBy};
-ghost use Rattle.satl_core.specs.Turning.{CarriedOut, GoesOver, IsLostInTask, RunsAlone, TaskEnds, barrier_calls, ended_reply, lost_replies, modes_after, started_after};
-ghost use Rattle.satl_direct.specs.Tasks.{asks};
+ghost use Rattle.satl_core.specs.Turning.{CarriedOut, IsLostInTask, TaskEnds, barrier_calls, ended_reply, lost_replies, modes_after, modes_left, started_after};
 
+use crate::alone::Alone;
 use crate::arrival::plain;
 use crate::medium::{compare_range, trim_ranges, verify_range, write_range};
 use crate::passing::run_through;
 use arrayvec::ArrayVec;
 use satl_barrier::{flush, switch, tune};
-use satl_base::{Modes, Pages, Range, Replies, Reply, Scsi, Steps};
+use satl_base::{Modes, Pages, Replies, Reply, Scsi, Steps};
 use satl_cdb::Command;
 use satl_drive::{Drive, LinkDown};
 use satl_errlog::NcqError;
@@ -39,9 +40,9 @@ pub enum Ending {
     Check(Sense),
 }
 
-/// How the task ends whose turn it is and whose command is not queued: the first that holds decides, a lost link, a unit that is
-/// stopped where the command needs it started, and the drive. `modes` are the mode values that there are, as the drive is set, and
-/// `wanted` those that the task wants. `LinkDown`: the link was lost while the task was carried out.
+/// How the task ends whose turn it is and whose command is not outstanding: the first that holds decides, a lost link, a unit that is
+/// stopped where the command needs it started, as a READ and a WRITE do, and the drive. `modes` are the mode values that there are, as the
+/// drive is set, and `wanted` those that the task wants. `LinkDown`: the link was lost while the task was carried out.
 pub fn run_task<D: Drive, L: Ledger>(
     down: bool,
     started: bool,
@@ -54,13 +55,12 @@ pub fn run_task<D: Drive, L: Ledger>(
 ) -> Result<Ending, LinkDown>
     requires free { IsFree (D.state drive.old) }
     requires task { IsTask (D.state drive.old).capacity task.old.command task.old.blocks }
-    requires alone { down ≡ false → started ≡ true → RunsAlone task.old.command }
+    requires alone { down ≡ false → started ≡ true → IsSome (alone_of task.old.command) }
     requires sound { AreSound (D.state drive.old).cells }
     requires mark { down ≡ (D.state drive.old).down }
     requires set { down ≡ false → IsSetBy modes.now (D.state drive.old) }
     requires may { CanSet modes.now wanted.now (D.state drive.old) }
-    requires trims { MayTrim task.old.command task.old (D.state drive.old) }
-    requires data { HasData task.old.command task.old }
+    requires carry { IfSome (alone_of task.old.command) (λ alone. CanCarry alone task.old (D.state drive.old)) }
     requires room { piece ≤ pool.old.free }
     ensures stays { Stays (D.state drive.old) (D.state drive.new) }
     ensures cache { IfOk result (λ ending. down ≡ false → (D.state drive.new).cache ≡ (modes_after task.old.command ending modes.now wanted.now).wce) }
@@ -79,25 +79,25 @@ pub fn run_task<D: Drive, L: Ledger>(
     if down {
         return Ok(link_lost());
     }
-    if has_to_start(started, &task.command) {
-        return Ok(Ending::Check(plain(0x2, 0x04, 0x02)));
+    let Some(alone) = Alone::of(&task.command) else {
+        return Ok(not_ready());
+    };
+    if alone.waits(started) {
+        return Ok(not_ready());
     }
-    carry_out(modes, wanted, task, pool, drive, steps)
+    carry_out(alone, modes, wanted, task, pool, drive, steps)
 }
 
-/// Whether a unit is stopped that a command needs started (SPC-4 4.5.6, NOT READY).
-fn has_to_start(started: bool, command: &Command) -> bool
-    ensures { (capacity blocks : ℕ) → IsTask capacity command.now blocks → result ≡ (not started && (asks command.now).starts) }
+/// LOGICAL UNIT NOT READY, INITIALIZING COMMAND REQUIRED (SPC-4 4.5.6).
+fn not_ready() -> Ending
+    ensures { result ≡ Ending.Check Senses.not_ready }
 {
-    !started
-        && !matches!(
-            *command,
-            Command::StartStop { .. } | Command::ModeSelect { .. } | Command::Pass { .. }
-        )
+    Ending::Check(plain(0x2, 0x04, 0x02))
 }
 
-/// Carries out a command that runs alone, on a drive whose link is up. `LinkDown`: the link was lost meanwhile.
+/// Carries out what runs alone, on a drive whose link is up. `LinkDown`: the link was lost meanwhile.
 fn carry_out<D: Drive, L: Ledger>(
+    alone: Alone,
     modes: &Modes,
     wanted: &Modes,
     task: &mut Entry,
@@ -106,80 +106,36 @@ fn carry_out<D: Drive, L: Ledger>(
     steps: &mut Steps<L>,
 ) -> Result<Ending, LinkDown>
     requires free { IsFree (D.state drive.old) }
-    requires alone { RunsAlone task.old.command }
     requires sound { AreSound (D.state drive.old).cells }
     requires set { IsSetBy modes.now (D.state drive.old) }
     requires may { CanSet modes.now wanted.now (D.state drive.old) }
-    requires task { IsTask (D.state drive.old).capacity task.old.command task.old.blocks }
-    requires trims { MayTrim task.old.command task.old (D.state drive.old) }
-    requires data { HasData task.old.command task.old }
+    requires carry { CanCarry alone task.old (D.state drive.old) }
     requires room { piece ≤ pool.old.free }
     ensures stays { Stays (D.state drive.old) (D.state drive.new) }
-    ensures cache { IfOk result (λ ending. (D.state drive.new).cache ≡ (modes_after task.old.command ending modes.now wanted.now).wce) }
-    ensures look { IfOk result (λ ending. (D.state drive.new).look ≡ not (modes_after task.old.command ending modes.now wanted.now).dra) }
+    ensures cache { IfOk result (λ ending. (D.state drive.new).cache ≡ (modes_left alone ending modes.now wanted.now).wce) }
+    ensures look { IfOk result (λ ending. (D.state drive.new).look ≡ not (modes_left alone ending modes.now wanted.now).dra) }
     ensures up { OnOk result ((D.state drive.new).down ≡ false) }
     ensures faults { OnOk result ((D.state drive.new).faults ≡ (D.state drive.old).faults) }
-    ensures ends { IfOk result (λ ending. CarriedOut wanted.now task.old.command task.old task.new.body (D.state drive.old) ending (D.state drive.new)) }
-    ensures lost { OnErr result (IsLostIn (written_alone task.old.command task.old (D.state drive.old)) (D.state drive.old) (D.state drive.new)) }
-    ensures whole { OnErr result (HasWhole task.old.command task.old) }
+    ensures ends { IfOk result (λ ending. CarriedOut wanted.now alone task.old task.new.body (D.state drive.old) ending (D.state drive.new)) }
+    ensures lost { OnErr result (IsLostIn (written_alone alone task.old (D.state drive.old)) (D.state drive.old) (D.state drive.new)) }
+    ensures whole { OnErr result (HasWhole alone task.old) }
     ensures task { task.new ≡ record task.old { body = task.new.body } }
     ensures size { length task.new.body ≡ length task.old.body }
     ensures pool { pool.new ≡ pool.old }
     ensures step { steps.new ≤ steps.old + barrier_calls }
 {
-    match task.command {
-        Command::Flush { .. } => flush(drive, steps)?,
-        Command::ModeSelect { .. } => tune(modes, wanted, drive, steps)?,
-        Command::StartStop { start, no_flush } => switch(start, no_flush, drive, steps)?,
-        Command::Pass { cdb } => return run_through(&cdb, &mut task.body, drive, steps),
-        _ => return go_over(task, pool, drive, steps),
+    match alone {
+        Alone::Flush => flush(drive, steps)?,
+        Alone::Select => tune(modes, wanted, drive, steps)?,
+        Alone::Switch { start, no_flush } => switch(start, no_flush, drive, steps)?,
+        Alone::Verify(range) => return verify_range(range, drive, steps),
+        Alone::Compare(range) => return compare_range(range, &task.body, pool, drive, steps),
+        Alone::WriteSame(range) => return write_range(range, &task.body, pool, drive, steps),
+        Alone::TrimRange(range) => return trim_ranges(&[range], pool, drive, steps),
+        Alone::TrimList => return trim_ranges(&task.ranges, pool, drive, steps),
+        Alone::Through { cdb } => return run_through(&cdb, &mut task.body, drive, steps),
     }
     Ok(Ending::Good)
-}
-
-/// Carries out a command that goes over the medium alone. `LinkDown`: the link was lost meanwhile.
-fn go_over<D: Drive, L: Ledger>(
-    task: &Entry,
-    pool: &mut Pool,
-    drive: &mut D,
-    steps: &mut Steps<L>,
-) -> Result<Ending, LinkDown>
-    requires free { IsFree (D.state drive.old) }
-    requires over { GoesOver task.now.command }
-    requires task { IsTask (D.state drive.old).capacity task.now.command task.now.blocks }
-    requires trims { MayTrim task.now.command task.now (D.state drive.old) }
-    requires data { HasData task.now.command task.now }
-    requires room { piece ≤ pool.old.free }
-    ensures stays { Stays (D.state drive.old) (D.state drive.new) }
-    ensures ends { (wanted : Modes) → IfOk result (λ ending. CarriedOut wanted task.now.command task.now task.now.body (D.state drive.old) ending (D.state drive.new)) }
-    ensures same { IfOk result (λ ending. IsSameButCells (D.state drive.old) (D.state drive.new)) }
-    ensures lost { OnErr result (IsLostIn (written_alone task.now.command task.now (D.state drive.old)) (D.state drive.old) (D.state drive.new)) }
-    ensures whole { OnErr result (HasWhole task.now.command task.now) }
-    ensures pool { pool.new ≡ pool.old }
-    ensures step { steps.new ≤ steps.old + barrier_calls }
-{
-    match task.command {
-        Command::Verify {
-            compare: false,
-            lba,
-            count,
-            ..
-        } => verify_range(Range { lba, count }, drive, steps),
-        Command::Verify { lba, count, .. } => {
-            compare_range(Range { lba, count }, &task.body, pool, drive, steps)
-        }
-        Command::WriteSame {
-            unmap: false,
-            lba,
-            count,
-            ..
-        } => write_range(Range { lba, count }, &task.body, pool, drive, steps),
-        Command::WriteSame { lba, count, .. } => {
-            trim_ranges(&[Range { lba, count }], pool, drive, steps)
-        }
-        Command::Unmap { .. } => trim_ranges(&task.ranges, pool, drive, steps),
-        _ => unreachable!(),
-    }
 }
 
 /// Whether the unit is started once a task has ended: a START STOP UNIT that is done decides.

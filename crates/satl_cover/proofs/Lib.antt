@@ -1,5 +1,6 @@
 pub mod Going
 pub mod NotingLemmas
 pub mod OneAnswer
+pub mod RefusedInputs
 pub mod ReadingLemmas
 pub mod Stopping

@@ -14,7 +14,8 @@ use Rattle.satl_direct.specs.Run.TurnsOf.{none}
 use Rattle.satl_direct.specs.Tasks.{over}
 use Rattle.satl_scenarios.specs.Arrivals.{full_of_blocks, lengths_expected, no_block, no_block_at_rest, one_block_too_many, other_unit, sense_requested}
 use Rattle.satl_scenarios.specs.Scenario.{CanHappen}
-use Rattle.satl_scenarios.specs.Words.{blank, task}
+use Rattle.satl_scenarios.specs.Devices.{blank}
+use Rattle.satl_scenarios.specs.Requests.{task}
 use Rattle.satl_scenarios.proofs.Building.{it_can_happen, arrives, turn_more, turns}
 use Rattle.satl_scenarios.proofs.Building.Follows.{next, ends_here}
 use Rattle.satl_scenarios.proofs.Endings.{done, ended}

@@ -16,7 +16,8 @@ use Rattle.satl_direct.specs.Run.{depth}
 use Rattle.satl_direct.specs.Tasks.{over}
 use Rattle.satl_scenarios.specs.Commands.{compared, ends_with, miscompared, same_written, started, stopped, stopped_unflushed, unmap_list, unmapped, verify_failed, written}
 use Rattle.satl_scenarios.specs.Scenario.{CanHappen}
-use Rattle.satl_scenarios.specs.Words.{aa, bb, holds, task, unreadable, with_task, zeros}
+use Rattle.satl_scenarios.specs.Devices.{aa, bb, holds, unreadable, zeros}
+use Rattle.satl_scenarios.specs.Requests.{task, with_task}
 use Rattle.satl_scenarios.proofs.Building.{it_can_happen, one_turn}
 use Rattle.satl_scenarios.proofs.Building.Follows.{next, ends_here}
 use Rattle.satl_scenarios.proofs.Endings.{ended, done}

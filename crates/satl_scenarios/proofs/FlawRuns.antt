@@ -13,7 +13,8 @@ use Rattle.satl_direct.specs.Tasks.{over}
 use Rattle.satl_direct.specs.Run.TurnsOf.{none}
 use Rattle.satl_scenarios.specs.Scenario.{CanHappen}
 use Rattle.satl_scenarios.specs.Flaws.{flaw_among_writes, torn_write, garbled_read, spared_read, described}
-use Rattle.satl_scenarios.specs.Words.{aa, bb, task, blank, device, cached_over, holds, unreadable, unwritable, zeros}
+use Rattle.satl_scenarios.specs.Devices.{aa, bb, blank, device, cached_over, holds, unreadable, unwritable, zeros}
+use Rattle.satl_scenarios.specs.Requests.{task}
 use Rattle.satl_scenarios.proofs.Building.{it_can_happen, arrives, drained, happens, one_turn, turn_more}
 use Rattle.satl_scenarios.proofs.Building.Follows.{next, ends_here}
 use Rattle.satl_scenarios.proofs.Endings.{ended, done, flawed, glitched}

@@ -13,7 +13,8 @@ use Rattle.satl_direct.specs.Device.{Device}
 use Rattle.satl_direct.specs.Run.TurnsOf.{none}
 use Rattle.satl_scenarios.specs.Scenario.{CanHappen}
 use Rattle.satl_scenarios.specs.Functions.{cleared, nexus_reset, queried, reset, set_aborted}
-use Rattle.satl_scenarios.specs.Words.{task, blank}
+use Rattle.satl_scenarios.specs.Devices.{blank}
+use Rattle.satl_scenarios.specs.Requests.{task}
 use Rattle.satl_scenarios.proofs.Building.{it_can_happen, arrives, drained, manages, still}
 use Rattle.satl_scenarios.proofs.Building.Follows.{next, ends_here}
 

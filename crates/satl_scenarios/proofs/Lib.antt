@@ -5,6 +5,7 @@ pub mod Endings
 pub mod FlawRuns
 pub mod FunctionRuns
 pub mod LinkRuns
+pub mod OrderLaws
 pub mod OrderRuns
 pub mod PassArrivals
 pub mod PassRuns
@@ -15,3 +16,4 @@ pub mod RefusedRuns
 pub mod StandbyRuns
 pub mod TransferRuns
 pub mod Validity
+pub mod WaitingRuns

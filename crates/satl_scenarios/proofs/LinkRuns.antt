@@ -19,7 +19,8 @@ use Rattle.satl_line.specs.Ranged.RangedTask.{ranged_read}
 use Rattle.satl_scenarios.proofs.Endings.{done, ended}
 use Rattle.satl_scenarios.specs.Scenario.{CanHappen}
 use Rattle.satl_scenarios.specs.Links.{done_and_lost, glitch_lost, lost_at_an_abort, lost_at_the_end, lost_in_turn, lost_on_arrival, unplugged_again}
-use Rattle.satl_scenarios.specs.Words.{aa, task, blank, device}
+use Rattle.satl_scenarios.specs.Devices.{aa, blank, device}
+use Rattle.satl_scenarios.specs.Requests.{task}
 use Rattle.satl_scenarios.proofs.Building.{it_can_happen, arrives, arrives_and_loses, drained, happens, manages_and_loses, one_turn, turn_more}
 use Rattle.satl_scenarios.proofs.Building.Follows.{next, ends_here}
 

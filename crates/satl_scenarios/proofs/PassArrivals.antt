@@ -17,7 +17,8 @@ use Rattle.satl_direct.specs.Tasks.{over, pass_of}
 use Rattle.satl_scenarios.specs.Commands.{written}
 use Rattle.satl_scenarios.specs.Passes.{identified_on_request, identify, read_behind_it, write_block}
 use Rattle.satl_scenarios.specs.Scenario.{CanHappen}
-use Rattle.satl_scenarios.specs.Words.{bb, device, filled, identify_data, task, with_task, zeros}
+use Rattle.satl_scenarios.specs.Devices.{bb, device, filled, identify_data, zeros}
+use Rattle.satl_scenarios.specs.Requests.{task, with_task}
 use Rattle.satl_scenarios.proofs.Building.{arrives, it_can_happen, one_turn, turn_more, turns}
 use Rattle.satl_scenarios.proofs.Building.Follows.{ends_here, next}
 use Rattle.satl_scenarios.proofs.Endings.{done, ended}

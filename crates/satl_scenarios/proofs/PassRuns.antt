@@ -15,7 +15,7 @@ use Rattle.satl_direct.specs.Tasks.{pass_of}
 use Rattle.satl_scenarios.specs.Commands.{written}
 use Rattle.satl_scenarios.specs.Passes.{cache_disabled, identified, identify, power_checked, through, unreadable_through, write_block, written_through}
 use Rattle.satl_scenarios.specs.Scenario.{CanHappen}
-use Rattle.satl_scenarios.specs.Words.{bb, device, filled, holds, identify_data, unreadable, zeros}
+use Rattle.satl_scenarios.specs.Devices.{bb, device, filled, holds, identify_data, unreadable, zeros}
 use Rattle.satl_scenarios.proofs.CommandRuns.{turn_ends}
 
 abbrev identify_data_2 : Block

@@ -19,7 +19,8 @@ use Rattle.satl_direct.specs.Tasks.{over}
 use Rattle.satl_direct.specs.Run.TurnsOf.{none}
 use Rattle.satl_scenarios.specs.Scenario.{CanHappen}
 use Rattle.satl_scenarios.specs.Power.{caching_list, flush, flushed, flushed_then_written, select, power_with_a_task, told_once, turned_off, turned_off_then_power}
-use Rattle.satl_scenarios.specs.Words.{aa, bb, task, blank, device, cached_over, holds, powered, zeros, unreadable}
+use Rattle.satl_scenarios.specs.Devices.{aa, bb, blank, device, cached_over, holds, powered, zeros, unreadable}
+use Rattle.satl_scenarios.specs.Requests.{task}
 use Rattle.satl_scenarios.proofs.Building.{it_can_happen, arrives, happens, one_turn, turn_more, turns}
 use Rattle.satl_scenarios.proofs.Building.Follows.{next, ends_here}
 use Rattle.satl_scenarios.proofs.Endings.{ended, done, carried_out}

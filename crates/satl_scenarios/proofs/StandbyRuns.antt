@@ -21,7 +21,8 @@ use Rattle.satl_scenarios.specs.Passes.{through}
 use Rattle.satl_scenarios.specs.Power.{caching_list, select}
 use Rattle.satl_scenarios.specs.Scenario.{CanHappen}
 use Rattle.satl_scenarios.specs.Standby.{at_rest, ends_at_rest, read_through, selected_at_rest, standby_told}
-use Rattle.satl_scenarios.specs.Words.{aa, filled, holds, task, with_task, zeros}
+use Rattle.satl_scenarios.specs.Devices.{aa, filled, holds, zeros}
+use Rattle.satl_scenarios.specs.Requests.{task, with_task}
 use Rattle.satl_scenarios.proofs.Building.{it_can_happen, one_turn}
 use Rattle.satl_scenarios.proofs.Building.Follows.{next, ends_here}
 use Rattle.satl_scenarios.proofs.Endings.{ended}

@@ -1,24 +1,21 @@
--- Reads and writes that are done, aborted or not let in.
-use Rattle.std.proofs.Common.{inl, inr, refl, arith, true, false, [], ◌∷◌}
-use Rattle.satl_base.specs.declared.reply.Response.TheVariants.{Complete}
-use Rattle.satl_base.specs.Moves.{stay, write}
+-- Reads and writes that end in their turns.
+use Rattle.std.proofs.Common.{inl, inr, refl, true, false, [], ◌∷◌}
+use Rattle.satl_base.specs.Moves.{write}
 use Rattle.satl_cdb.specs.declared.command.Command.TheVariants.{Read, Write}
 use Rattle.satl_cdb.specs.declared.command.Form.TheVariants.{Ten}
 use Rattle.satl_cdb.specs.Table.{says}
 use Rattle.satl_sense.specs.Fixed.{fixed_form}
-use Rattle.satl_unit.specs.Functions.{function_of}
 use Rattle.satl_line.specs.Conflict.{accesses_conflict}
 use Rattle.satl_line.specs.declared.entry.Entry.{Entry}
-use Rattle.satl_frame.specs.declared.frames.Frame.TheVariants.{Turn}
 use Rattle.satl_line.specs.Ranged.RangedTask.{ranged_read, ranged_write}
 use Rattle.satl_direct.specs.Device.{Device}
 use Rattle.satl_direct.specs.Tasks.{over}
-use Rattle.satl_direct.specs.Quiet.{Quiet}
 use Rattle.satl_direct.specs.Run.TurnsOf.{none}
-use Rattle.satl_scenarios.specs.Scenario.{CanBeCut, CanHappen, Scenario, events_of}
-use Rattle.satl_scenarios.specs.Transfers.{waking_read, ordered_read, written_then_read, aborted_half_done, overlapped_reads, reads_in_order, reads_in_reverse, written_past_the_cache, garbled_write, one_too_many, full, cut_off}
-use Rattle.satl_scenarios.specs.Words.{aa, bb, read, silent, task, blank, device, cached_over, holds, zeros}
-use Rattle.satl_scenarios.proofs.Building.{it_can_happen, arrives, drained, manages, one_turn, turn_more}
+use Rattle.satl_scenarios.specs.Scenario.{CanHappen}
+use Rattle.satl_scenarios.specs.Transfers.{waking_read, ordered_read, written_then_read, reads_in_order, reads_in_reverse, written_past_the_cache, garbled_write}
+use Rattle.satl_scenarios.specs.Devices.{aa, bb, blank, device, cached_over, holds, zeros}
+use Rattle.satl_scenarios.specs.Requests.{read, task}
+use Rattle.satl_scenarios.proofs.Building.{it_can_happen, arrives, drained, one_turn, turn_more}
 use Rattle.satl_scenarios.proofs.Building.Follows.{next, ends_here}
 use Rattle.satl_scenarios.proofs.Endings.{ended, done, glitched}
 
@@ -46,14 +43,14 @@ read_after_write =
 
 -- ---- two reads
 
-abbrev low_read : Entry
+abbrev pub low_read : Entry
 low_read = task 1 (Read Ten 0 1 false) []
 
 abbrev high_read : Entry
 high_read = task 2 (Read Ten 1 1 false) []
 
 -- the device while both wait
-abbrev both_wait : Device
+abbrev pub both_wait : Device
 both_wait = record (blank 2) { tasks = low_read ∷ high_read ∷ [] }
 
 pub in_order : CanHappen reads_in_order
@@ -111,45 +108,6 @@ read_wakes =
     (next (one_turn (blank 2) (ended low_read (inl refl) (done (ranged_read false (over 0 1)) _ low_read refl)))
     ends_here))
 
--- ---- a write is aborted
-
-abbrev long_write : Entry
-long_write = task 1 (Write Ten 0 2 false) (aa ∷ bb ∷ [])
-
-abbrev half_done : Device
-half_done = device (cached_over zeros aa ∷ holds zeros ∷ [])
-
--- the first block shows before the write ends
-first_shows : Quiet (record (blank 2) { tasks = long_write ∷ [] }) (record half_done { tasks = long_write ∷ [] })
-first_shows = record {
-  cells =
-      write (record { lba = 0; block = aa; cached = true })
-      (record { task = long_write; under_way = record { up = refl; eligible = inl refl }; started = refl; among = inl refl })
-      stay;
-  active = inl refl;
-  stays = refl;
-}
-
-pub abort_in_the_middle : CanHappen aborted_half_done
-unfolding says function_of
-abort_in_the_middle =
-    it_can_happen aborted_half_done
-    (next (arrives [] (record (blank 2) { tasks = long_write ∷ [] }) (refl, refl))
-    (next (manages _ Complete _ (record half_done { tasks = long_write ∷ [] }) half_done first_shows (record { response_is = refl; stays = refl }))
-    (next (drained none refl)
-    ends_here)))
-
--- ---- a read has the tag of another
-
-pub overlap : CanHappen overlapped_reads
-unfolding says fixed_form
-overlap =
-    it_can_happen overlapped_reads
-    (next (arrives [] (record (blank 2) { tasks = task 1 (Read Ten 0 1 false) [] ∷ [] }) (refl, refl))
-    (next (arrives _ (blank 2) (refl, refl))
-    (next (drained none refl)
-    ends_here)))
-
 -- ---- past the cache
 
 abbrev forced_write : Entry
@@ -165,6 +123,9 @@ write_past_the_cache =
 
 -- ---- a write is garbled: its first block is left out, and the second is put
 
+abbrev pub long_write : Entry
+long_write = task 1 (Write Ten 0 2 false) (aa ∷ bb ∷ [])
+
 pub write_garbled : CanHappen garbled_write
 unfolding says fixed_form
 write_garbled =
@@ -173,47 +134,3 @@ write_garbled =
     (next (one_turn garbled_write.last
     (ended long_write (inl refl) (glitched (ranged_write false (over 0 2) (aa ∷ bb ∷ [])) garbled_write.last.cells 0 _ long_write refl (inl (inr refl)) refl)))
     ends_here))
-
--- ---- a full task set
-
-pub set_full : CanHappen one_too_many
-unfolding says accesses_conflict
-set_full = it_can_happen one_too_many (next (arrives _ full (refl, refl)) ends_here)
-
--- ---- a run is cut off
-
--- the two reads arrive
-abbrev arrived : Scenario
-arrived = record {
-  first = blank 2;
-  steps = silent (read 1 0 1) ∷ silent (read 2 1 1) ∷ [];
-  losses = 0;
-  depth = 2;
-  last = both_wait;
-}
-
-both_arrive : CanHappen arrived
-unfolding says accesses_conflict
-both_arrive =
-    it_can_happen arrived
-    (next (arrives [] (record (blank 2) { tasks = low_read ∷ [] }) (refl, refl))
-    (next (arrives [] arrived.last (refl, refl))
-    ends_here))
-
-pub run_cut : CanBeCut cut_off
-run_cut = record {
-  before = events_of arrived;
-  event = Turn 3;
-  events_are = refl;
-  earlier = [];
-  lost = 0;
-  mid = arrived.last;
-  run = both_arrive.run;
-  count = 1;
-  asked = omega arith;
-  replies = _;
-  deep = _;
-  turns = turn_more cut_off.last none (ended low_read (inl refl) (done (ranged_read false (over 0 1)) arrived.last low_read refl));
-  answer = refl;
-  losses_are = refl;
-}

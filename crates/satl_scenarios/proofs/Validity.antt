@@ -9,8 +9,9 @@ use Rattle.satl_base.specs.Identify.{capacity}
 use Rattle.satl_base.specs.Cells.{AreSound}
 use Rattle.satl_direct.specs.Valid.{IsValid}
 use Rattle.satl_cdb.specs.Table.{says}
-use Rattle.satl_scenarios.specs.Transfers.{two_waiting}
-use Rattle.satl_scenarios.specs.Words.{aa, blank, cdb_10, request, filled, identify_data, identity, holds, zeros}
+use Rattle.satl_scenarios.specs.Waiting.{two_waiting}
+use Rattle.satl_scenarios.specs.Devices.{aa, blank, filled, identify_data, identity, holds, zeros}
+use Rattle.satl_scenarios.specs.Requests.{cdb_10, request}
 
 pub all_sound : (count : ℕ) → AreSound (replicate count (holds zeros))
 all_sound zero = tt

@@ -10,8 +10,10 @@ use Rattle.satl_frame.specs.declared.frames.Frame.TheVariants.{Request, Turn}
 use Rattle.satl_frame.specs.Output.{Answer}
 use Rattle.satl_frame.specs.Output.Answer.{replied}
 use Rattle.satl_direct.specs.Device.{Device}
-use Rattle.satl_scenarios.specs.Scenario.{Scenario}
-use Rattle.satl_scenarios.specs.Words.{answered, blank, cdb_10, check, good, read, reply, request, sense, silent, task, zeros}
+use Rattle.satl_scenarios.specs.Scenario.{Scenario, answered, silent}
+use Rattle.satl_scenarios.specs.Devices.{blank, zeros}
+use Rattle.satl_scenarios.specs.Replies.{check, good, reply, sense}
+use Rattle.satl_scenarios.specs.Requests.{cdb_10, read, request, task}
 
 -- another logical unit (SAM-5 4.6.4)
 abbrev pub unit_1 : List ℕ
@@ -51,8 +53,8 @@ sense_requested = record {
   last = blank 2;
 }
 
--- at another logical unit REQUEST SENSE says as data that there is none, here the first four bytes in the descriptor form; TEST UNIT READY
--- is refused with it; and no condition is told (SPC-4 6.39; SAM-5 5.3)
+-- at another logical unit REQUEST SENSE says as data that there is none, here the first four bytes in the descriptor form; TEST
+-- UNIT READY is refused with it; and no condition is told (SPC-4 6.39; SAM-5 5.3)
 abbrev pub other_unit : Scenario
 other_unit = record {
   first = record (blank 2) { attentions = (UnitReset ∷ []) ∷ [] ∷ [] ∷ [] ∷ [] };
@@ -65,7 +67,8 @@ other_unit = record {
   last = record (blank 2) { attentions = (UnitReset ∷ []) ∷ [] ∷ [] ∷ [] ∷ [] };
 }
 
--- a READ and a WRITE of no block are done at once, also right behind the last sector, and further on there is no address (SBC-3 5.10, 5.31)
+-- a READ and a WRITE of no block are done at once, also right behind the last sector, and further on there is no address (SBC-3
+-- 5.10, 5.31)
 abbrev pub no_block : Scenario
 no_block = record {
   first = blank 2;

@@ -9,8 +9,10 @@ use Rattle.satl_cdb.specs.declared.command.Form.TheVariants.{Ten}
 use Rattle.satl_frame.specs.declared.frames.Frame.TheVariants.{Turn}
 use Rattle.satl_frame.specs.Output.{Answer}
 use Rattle.satl_direct.specs.Device.{Device}
-use Rattle.satl_scenarios.specs.Scenario.{Scenario}
-use Rattle.satl_scenarios.specs.Words.{aa, answered, bb, cached_over, check, device, good, holds, sense, sense_at, unreadable, with_task, zeros}
+use Rattle.satl_scenarios.specs.Scenario.{Scenario, answered}
+use Rattle.satl_scenarios.specs.Devices.{aa, bb, cached_over, device, holds, unreadable, zeros}
+use Rattle.satl_scenarios.specs.Replies.{check, good, sense, sense_at}
+use Rattle.satl_scenarios.specs.Requests.{with_task}
 
 -- a command of tag 1 that waits at a device with these sectors ends in a turn with this answer, and leaves this device
 abbrev pub ends_with : Command → List Block → List Cell → Answer → Device → Scenario
@@ -28,11 +30,15 @@ written = cached_over zeros aa ∷ holds zeros ∷ []
 
 -- START STOP UNIT: the unit is stopped and in standby, with all written back (SBC-3, START STOP UNIT; SAT-3)
 abbrev pub stopped : Scenario
-stopped = ends_with (StartStop false false) [] written (good 1 []) (record (device (holds aa ∷ holds zeros ∷ [])) { started = false; active = false })
+stopped =
+    ends_with (StartStop false false) [] written (good 1 [])
+    (record (device (holds aa ∷ holds zeros ∷ [])) { started = false; active = false })
 
 -- with NO_FLUSH nothing is written back
 abbrev pub stopped_unflushed : Scenario
-stopped_unflushed = ends_with (StartStop false true) [] written (good 1 []) (record (device written) { started = false; active = false })
+stopped_unflushed =
+    ends_with (StartStop false true) [] written (good 1 [])
+    (record (device written) { started = false; active = false })
 
 -- START STOP UNIT of a stopped unit: it is started and active (SBC-3, START STOP UNIT; SAT-3)
 abbrev pub started : Scenario
@@ -53,16 +59,24 @@ miscompared = ends_with (Verify Ten 0 2 true) (aa ∷ bb ∷ []) written (check 
 
 -- VERIFY without comparison meets a flaw (SBC-3 5.33)
 abbrev pub verify_failed : Scenario
-verify_failed = ends_with (Verify Ten 0 2 false) [] (holds zeros ∷ unreadable zeros ∷ []) (check 1 (sense_at 0x3 0x11 0x00 1)) (device (holds zeros ∷ unreadable zeros ∷ []))
+verify_failed =
+    ends_with (Verify Ten 0 2 false) [] (holds zeros ∷ unreadable zeros ∷ []) (check 1 (sense_at 0x3 0x11 0x00 1))
+    (device (holds zeros ∷ unreadable zeros ∷ []))
 
 -- WRITE SAME: the block at each address (SBC-3 5.42)
 abbrev pub same_written : Scenario
-same_written = ends_with (WriteSame Ten 0 2 false) (bb ∷ []) written (good 1 []) (device (record (holds bb) { may = zeros ∷ aa ∷ bb ∷ [] } ∷ cached_over zeros bb ∷ []))
+same_written =
+    ends_with (WriteSame Ten 0 2 false) (bb ∷ []) written (good 1 [])
+    (device (record (holds bb) { may = zeros ∷ aa ∷ bb ∷ [] } ∷ cached_over zeros bb ∷ []))
 
 -- a parameter list for UNMAP: one descriptor, of one block at address 1 (SBC-3 5.28.2)
 unfoldable pub unmap_list : Block
-unmap_list = record { bytes = (0 ∷ 22 ∷ 0 ∷ 16 ∷ 0 ∷ 0 ∷ 0 ∷ 0 ∷ 0 ∷ 0 ∷ 0 ∷ 0 ∷ 0 ∷ 0 ∷ 0 ∷ 1 ∷ 0 ∷ 0 ∷ 0 ∷ 1 ∷ []) ++ replicate 492 0 }
+unmap_list = record {
+  bytes = (0 ∷ 22 ∷ 0 ∷ 16 ∷ 0 ∷ 0 ∷ 0 ∷ 0 ∷ 0 ∷ 0 ∷ 0 ∷ 0 ∷ 0 ∷ 0 ∷ 0 ∷ 1 ∷ 0 ∷ 0 ∷ 0 ∷ 1 ∷ []) ++ replicate 492 0;
+}
 
 -- UNMAP: its blocks read as zeros (SBC-3 5.28, LBPRZ)
 abbrev pub unmapped : Scenario
-unmapped = ends_with (Unmap 24) (unmap_list ∷ []) (holds aa ∷ holds bb ∷ []) (good 1 []) (device (holds aa ∷ cached_over bb zero_block ∷ []))
+unmapped =
+    ends_with (Unmap 24) (unmap_list ∷ []) (holds aa ∷ holds bb ∷ []) (good 1 [])
+    (device (holds aa ∷ cached_over bb zero_block ∷ []))

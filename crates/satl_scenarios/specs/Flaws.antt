@@ -4,8 +4,10 @@ use Rattle.satl_base.specs.declared.bench.BenchEvent.TheVariants.{Glitch, Strike
 use Rattle.satl_base.specs.declared.bench.Which.TheVariants as flaws
 use Rattle.satl_frame.specs.declared.frames.Frame.TheVariants.{Bench, End, Turn}
 use Rattle.satl_frame.specs.Output.Answer.{ended}
-use Rattle.satl_scenarios.specs.Scenario.{Scenario}
-use Rattle.satl_scenarios.specs.Words.{aa, answered, bb, blank, cached_over, check, device, good, holds, read, sense, sense_at, silent, unreadable, unwritable, write, zeros}
+use Rattle.satl_scenarios.specs.Scenario.{Scenario, answered, silent}
+use Rattle.satl_scenarios.specs.Devices.{aa, bb, blank, cached_over, device, holds, unreadable, unwritable, zeros}
+use Rattle.satl_scenarios.specs.Replies.{check, good, sense, sense_at}
+use Rattle.satl_scenarios.specs.Requests.{read, write}
 
 -- of three commands that wait, the read in the middle fails first, and the writes about it are done: UNRECOVERED READ ERROR at
 -- its address (SPC-4 4.5.6)
@@ -75,7 +77,10 @@ described = record {
   first = record (device (holds zeros ∷ unreadable zeros ∷ [])) { modes = record { wce = true; dra = false; d_sense = true } };
   steps =
       silent (read 1 0 2)
-      ∷ answered (Turn 1) (check 1 ((0x72 ∷ 0x3 ∷ 0x11 ∷ 0x00 ∷ 0 ∷ 0 ∷ 0 ∷ 0x0C ∷ []) ++ (0 ∷ 0x0A ∷ 0x80 ∷ 0 ∷ 0 ∷ 0 ∷ 0 ∷ 0 ∷ 0 ∷ 0 ∷ 0 ∷ 1 ∷ [])) ∷ [])
+      ∷ answered (Turn 1) (
+      check 1 ((0x72 ∷ 0x3 ∷ 0x11 ∷ 0x00 ∷ 0 ∷ 0 ∷ 0 ∷ 0x0C ∷ []) ++ (0 ∷ 0x0A ∷ 0x80 ∷ 0 ∷ 0 ∷ 0 ∷ 0 ∷ 0 ∷ 0 ∷ 0 ∷ 0 ∷ 1 ∷ []))
+      ∷ []
+      )
       ∷ [];
   losses = 0;
   depth = 1;

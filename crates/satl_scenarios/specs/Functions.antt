@@ -6,10 +6,13 @@ use Rattle.satl_cdb.specs.declared.command.Form.TheVariants.{Ten}
 use Rattle.satl_unit.specs.declared.attention.Attention.TheVariants.{UnitReset}
 use Rattle.satl_frame.specs.declared.frames.Frame.TheVariants.{End, Manage, Request}
 use Rattle.satl_frame.specs.Output.Answer.{ended}
-use Rattle.satl_scenarios.specs.Scenario.{Scenario}
-use Rattle.satl_scenarios.specs.Words.{answered, blank, cdb_10, check, manage, read, request, response, sense, silent, task}
+use Rattle.satl_scenarios.specs.Scenario.{Scenario, answered, silent}
+use Rattle.satl_scenarios.specs.Devices.{blank}
+use Rattle.satl_scenarios.specs.Replies.{check, response, sense}
+use Rattle.satl_scenarios.specs.Requests.{cdb_10, manage, read, request, task}
 
--- QUERY TASK of a task that waits and of one that does not, a code that stands for no function, and another logical unit (SAM-5 7.1, 7.9)
+-- QUERY TASK of a task that waits and of one that does not, a code that stands for no function, and another logical unit (SAM-5
+-- 7.1, 7.9)
 abbrev pub queried : Scenario
 queried = record {
   first = blank 2;
@@ -54,7 +57,8 @@ reset = record {
   last = record (blank 2) { attentions = [] ∷ (UnitReset ∷ []) ∷ (UnitReset ∷ []) ∷ (UnitReset ∷ []) ∷ [] };
 }
 
--- ABORT TASK SET: all tasks of the nexus go without an answer, which QUERY TASK SET tells, and nobody is told of it (SAM-5 7.3, 7.9)
+-- ABORT TASK SET: all tasks of the nexus go without an answer, which QUERY TASK SET tells, and nobody is told of it (SAM-5 7.3,
+-- 7.9)
 abbrev pub set_aborted : Scenario
 set_aborted = record {
   first = blank 2;
@@ -71,7 +75,8 @@ set_aborted = record {
   last = blank 2;
 }
 
--- I_T NEXUS RESET, whatever the logical unit: the tasks of the nexus go, and it alone is told; the task of nexus 1 stays (SAM-5 7.6)
+-- I_T NEXUS RESET, whatever the logical unit: the tasks of the nexus go, and it alone is told; the task of nexus 1 stays (SAM-5
+-- 7.6)
 abbrev pub nexus_reset : Scenario
 nexus_reset = record {
   first = blank 2;

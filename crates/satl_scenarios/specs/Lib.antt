@@ -1,5 +1,6 @@
 pub mod Arrivals
 pub mod Commands
+pub mod Devices
 pub mod Flaws
 pub mod Functions
 pub mod Links
@@ -8,7 +9,9 @@ pub mod Passes
 pub mod Pieces
 pub mod Power
 pub mod Refused
+pub mod Replies
+pub mod Requests
 pub mod Scenario
 pub mod Standby
 pub mod Transfers
-pub mod Words
+pub mod Waiting

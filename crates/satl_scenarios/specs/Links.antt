@@ -4,8 +4,10 @@ use Rattle.satl_base.specs.declared.bench.BenchEvent.TheVariants.{Unplug}
 use Rattle.satl_base.specs.declared.reply.Response.TheVariants.{Complete}
 use Rattle.satl_frame.specs.declared.frames.Frame.TheVariants.{Bench, End, Manage, Turn}
 use Rattle.satl_frame.specs.Output.Answer.{ended}
-use Rattle.satl_scenarios.specs.Scenario.{Scenario}
-use Rattle.satl_scenarios.specs.Words.{aa, answered, blank, cached_over, check, device, good, holds, manage, read, response, sense, silent, write, zeros}
+use Rattle.satl_scenarios.specs.Scenario.{Scenario, answered, silent}
+use Rattle.satl_scenarios.specs.Devices.{aa, blank, cached_over, device, holds, zeros}
+use Rattle.satl_scenarios.specs.Replies.{check, good, response, sense}
+use Rattle.satl_scenarios.specs.Requests.{manage, read, write}
 
 -- the link is lost in a turn: all that waits is answered in order, with LOGICAL UNIT COMMUNICATION FAILURE (SPC-4 4.5.6)
 abbrev pub lost_in_turn : Scenario

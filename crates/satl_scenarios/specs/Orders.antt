@@ -14,11 +14,13 @@ use Rattle.satl_laws.specs.OrderUnderErrors.{is_mild}
 use Rattle.satl_laws.specs.Passing.{ComesAfter, DoNotClash, goes_alone}
 use Rattle.satl_direct.specs.Device.{Device}
 use Rattle.satl_direct.specs.Valid.{IsValid}
-use Rattle.satl_scenarios.specs.Scenario.{Scenario, events_of}
-use Rattle.satl_scenarios.specs.Words.{aa, answered, bb, blank, cached_over, cdb_10, check, device, good, holds, powered, read, request, sense, silent, task, write, zeros}
+use Rattle.satl_scenarios.specs.Scenario.{Scenario, answered, events_of, silent}
+use Rattle.satl_scenarios.specs.Devices.{aa, bb, blank, cached_over, device, holds, powered, zeros}
+use Rattle.satl_scenarios.specs.Replies.{check, good, sense}
+use Rattle.satl_scenarios.specs.Requests.{cdb_10, read, request, task, write}
 
--- just after the power came back: TEST UNIT READY is told so; then two WRITEs, a READ over both and SYNCHRONIZE CACHE, sent without
--- waiting. The second WRITE ends first, and the READ gives both blocks (SAM-5 5.14, 8; SBC-3 5)
+-- just after the power came back: TEST UNIT READY is told so; then two WRITEs, a READ over both and SYNCHRONIZE CACHE, sent
+-- without waiting. The second WRITE ends first, and the READ gives both blocks (SAM-5 5.14, 8; SBC-3 5)
 abbrev pub written_out_of_order : Scenario
 written_out_of_order = record {
   first = powered (blank 3).cells;
@@ -32,11 +34,13 @@ written_out_of_order = record {
       ∷ [];
   losses = 0;
   depth = 2;
-  last = record (device (holds aa ∷ holds bb ∷ holds zeros ∷ [])) { attentions = [] ∷ (PowerOn ∷ []) ∷ (PowerOn ∷ []) ∷ (PowerOn ∷ []) ∷ [] };
+  last = record (device (holds aa ∷ holds bb ∷ holds zeros ∷ [])) {
+    attentions = [] ∷ (PowerOn ∷ []) ∷ (PowerOn ∷ []) ∷ (PowerOn ∷ []) ∷ [];
+  };
 }
 
--- a CRC error: of two WRITEs the second ends first; of the first, the second block alone is written, and a READ over both gives it so;
--- then a third WRITE waits as the link is lost (SAM-5 8; SPC-4 4.5.6; profile)
+-- a CRC error: of two WRITEs the second ends first; of the first, the second block alone is written, and a READ over both gives
+-- it so; then a third WRITE waits as the link is lost (SAM-5 8; SPC-4 4.5.6; profile)
 abbrev pub torn_out_of_order : Scenario
 torn_out_of_order = record {
   first = blank 3;

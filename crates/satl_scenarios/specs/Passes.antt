@@ -4,8 +4,10 @@ use Rattle.satl_cdb.specs.declared.command.Command.TheVariants.{Pass}
 use Rattle.satl_frame.specs.declared.frames.Frame.TheVariants.{Request, Turn}
 use Rattle.satl_frame.specs.Output.{Answer}
 use Rattle.satl_scenarios.specs.Commands.{ends_with, written}
-use Rattle.satl_scenarios.specs.Scenario.{Scenario}
-use Rattle.satl_scenarios.specs.Words.{aa, answered, bb, cached_over, check, device, good, holds, identify_data, read, request, silent, unreadable, zeros}
+use Rattle.satl_scenarios.specs.Scenario.{Scenario, answered, silent}
+use Rattle.satl_scenarios.specs.Devices.{aa, bb, cached_over, device, holds, identify_data, unreadable, zeros}
+use Rattle.satl_scenarios.specs.Replies.{check, good}
+use Rattle.satl_scenarios.specs.Requests.{read, request}
 
 -- an ATA PASS-THROUGH (16): bytes 1 and 2 with PROTOCOL, EXTEND and the flags, and the low bytes of FEATURES, COUNT, LBA,
 -- DEVICE and COMMAND (SAT-3 12.2.2.3)

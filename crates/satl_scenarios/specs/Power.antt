@@ -8,8 +8,10 @@ use Rattle.satl_cdb.specs.declared.command.Form.TheVariants.{Ten}
 use Rattle.satl_unit.specs.declared.attention.Attention.TheVariants.{ModeChanged, PowerOn}
 use Rattle.satl_frame.specs.declared.frames.Frame.TheVariants.{Bench, Turn}
 use Rattle.satl_direct.specs.Device.{Device}
-use Rattle.satl_scenarios.specs.Scenario.{Scenario}
-use Rattle.satl_scenarios.specs.Words.{aa, answered, bb, blank, cached_over, check, device, good, holds, powered, read, sense, silent, unreadable, with_task, write, zeros}
+use Rattle.satl_scenarios.specs.Scenario.{Scenario, answered, silent}
+use Rattle.satl_scenarios.specs.Devices.{aa, bb, blank, cached_over, device, holds, powered, unreadable, zeros}
+use Rattle.satl_scenarios.specs.Replies.{check, good, sense}
+use Rattle.satl_scenarios.specs.Requests.{read, with_task, write}
 
 -- a device whose first sector was written through the cache, with a command of tag 1 that waits
 abbrev pub cached_with : Command → List Block → Device
@@ -88,8 +90,9 @@ told_once = record {
   last = record (blank 2) { attentions = [] ∷ (PowerOn ∷ []) ∷ (PowerOn ∷ []) ∷ (PowerOn ∷ []) ∷ [] };
 }
 
--- a power cycle of a unit that is stopped and has lost its link: its task goes without an answer, a sector that was written through the
--- cache has its old block, flaws and glitches stay, and the mode values are the defaults (SAM-5 6.3; SBC-3 4.15; profile)
+-- a power cycle of a unit that is stopped and has lost its link: its task goes without an answer, a sector that was written
+-- through the cache has its old block, flaws and glitches stay, and the mode values are the defaults (SAM-5 6.3; SBC-3 4.15;
+-- profile)
 abbrev pub power_with_a_task : Scenario
 power_with_a_task = record {
   first = record (with_task 1 (commands.Read Ten 0 1 false) [] (cached_over zeros aa ∷ unreadable bb ∷ [])) {

@@ -1,18 +1,22 @@
 -- Commands that are refused when they arrive, or at their turn because the unit is stopped.
 use Rattle.std.specs.Prelude.{false, [], ◌∷◌, drop, replicate}
 use Rattle.satl_frame.specs.declared.frames.Frame.TheVariants.{Request, Turn}
-use Rattle.satl_scenarios.specs.Scenario.{Scenario}
-use Rattle.satl_scenarios.specs.Words.{aa, answered, blank, cdb_10, check, read, request, sense, sense_pointing, silent}
+use Rattle.satl_scenarios.specs.Scenario.{Scenario, answered, silent}
+use Rattle.satl_scenarios.specs.Devices.{aa, blank}
+use Rattle.satl_scenarios.specs.Replies.{check, sense, sense_pointing}
+use Rattle.satl_scenarios.specs.Requests.{cdb_10, read, request}
 
--- refused at once, each for its own fault: another logical unit, an operation code that there is none for, RDPROTECT in byte 1, a block
--- past the last sector, and fewer bytes of data-out than the blocks (SPC-4 4.5.6)
+-- refused at once, each for its own fault: another logical unit, an operation code that there is none for, RDPROTECT in byte 1,
+-- a block past the last sector, and fewer bytes of data-out than the blocks (SPC-4 4.5.6)
 abbrev pub refused : Scenario
 refused = record {
   first = blank 2;
   steps =
-      answered (Request (record (request 1 (cdb_10 0x28 0 1) []) { lun = 0 ∷ 1 ∷ replicate 6 0 })) (check 1 (sense 0x5 0x25 0x00) ∷ [])
+      answered (Request (record (request 1 (cdb_10 0x28 0 1) []) { lun = 0 ∷ 1 ∷ replicate 6 0 }))
+      (check 1 (sense 0x5 0x25 0x00) ∷ [])
       ∷ answered (Request (request 2 (cdb_10 0xFF 0 1) [])) (check 2 (sense 0x5 0x20 0x00) ∷ [])
-      ∷ answered (Request (request 3 (0x28 ∷ 0x20 ∷ drop 2 (cdb_10 0x28 0 1)) [])) (check 3 (sense_pointing 0x5 0x24 0x00 1) ∷ [])
+      ∷ answered (Request (request 3 (0x28 ∷ 0x20 ∷ drop 2 (cdb_10 0x28 0 1)) []))
+      (check 3 (sense_pointing 0x5 0x24 0x00 1) ∷ [])
       ∷ answered (read 4 2 1) (check 4 (sense 0x5 0x21 0x00) ∷ [])
       ∷ answered (Request (request 5 (cdb_10 0x2A 0 2) (aa ∷ []))) (check 5 (sense 0xB 0x4B 0x00) ∷ [])
       ∷ [];

@@ -1,5 +1,5 @@
 -- Scenarios: runs of the device that are written down event by event (profile).
-use Rattle.std.specs.Prelude.{◌≡◌, ℕ, List, map}
+use Rattle.std.specs.Prelude.{◌≡◌, ℕ, List, [], map}
 use Rattle.satl_frame.specs.declared.frames.Frame.{Frame}
 use Rattle.satl_frame.specs.Output.{Answer}
 use Rattle.satl_direct.specs.Device.{Device}
@@ -9,6 +9,13 @@ use Rattle.satl_direct.specs.Run.{CutShort, Run, joined}
 pub record Step : Type 0 where
   pub event : Frame
   pub answers : List Answer
+
+-- an event without an answer, and one with some
+abbrev pub silent : Frame → Step
+silent event = record { event = event; answers = [] }
+
+abbrev pub answered : Frame → List Answer → Step
+answered event answers = record { event = event; answers = answers }
 
 -- the device at first, the events with their answers, how often the link is lost, how many commands the device lets its drive
 -- hold at most, and the device at last

@@ -1,17 +1,13 @@
--- Reads and writes that are done, aborted or not let in.
-use Rattle.std.specs.Prelude.{false, List, [], ◌∷◌, ◌++◌, drop, map}
+-- Reads and writes that end in their turns.
+use Rattle.std.specs.Prelude.{false, List, [], ◌∷◌, ◌++◌, drop}
 use Rattle.satl_base.specs.declared.request.Attr.TheVariants.{Ordered}
-use Rattle.satl_base.specs.declared.reply.Scsi.TheVariants.{TaskSetFull}
-use Rattle.satl_base.specs.Places.{places}
-use Rattle.satl_cdb.specs.declared.command.Command.TheVariants as commands
-use Rattle.satl_cdb.specs.declared.command.Form.TheVariants.{Ten}
-use Rattle.satl_direct.specs.Device.{Device}
-use Rattle.satl_base.specs.declared.reply.Response.TheVariants.{Complete}
-use Rattle.satl_frame.specs.declared.frames.Frame.TheVariants.{End, Manage, Request, Turn}
+use Rattle.satl_frame.specs.declared.frames.Frame.TheVariants.{End, Request, Turn}
 use Rattle.satl_frame.specs.Output.{Answer}
 use Rattle.satl_frame.specs.Output.Answer.{ended}
-use Rattle.satl_scenarios.specs.Scenario.{Scenario}
-use Rattle.satl_scenarios.specs.Words.{aa, answered, bb, blank, cached_over, cdb_10, check, device, good, holds, manage, read, reply, request, response, sense, silent, task, write, zeros}
+use Rattle.satl_scenarios.specs.Scenario.{Scenario, answered, silent}
+use Rattle.satl_scenarios.specs.Devices.{aa, bb, blank, cached_over, device, holds, zeros}
+use Rattle.satl_scenarios.specs.Replies.{check, good, sense}
+use Rattle.satl_scenarios.specs.Requests.{cdb_10, read, request, write}
 
 -- a block is written through the cache and read: power may still bring the old one back (SBC-3 4.15, 5.10, 5.31)
 abbrev pub written_then_read : Scenario
@@ -73,34 +69,6 @@ waking_read = record {
   last = blank 2;
 }
 
--- a write of two blocks is aborted when the first of them is on the medium: it is not answered (SAM-5 7.2)
-abbrev pub aborted_half_done : Scenario
-aborted_half_done = record {
-  first = blank 2;
-  steps =
-      silent (write 1 0 (aa ∷ bb ∷ []))
-      ∷ answered (Manage (manage 0 0x01 1)) (response 0 0x01 1 Complete ∷ [])
-      ∷ answered End (ended ∷ [])
-      ∷ [];
-  losses = 0;
-  depth = 1;
-  last = device (cached_over zeros aa ∷ holds zeros ∷ []);
-}
-
--- a read with the tag of one that waits: both go, and one answer says so (SAM-5 5.1, overlapped commands)
-abbrev pub overlapped_reads : Scenario
-overlapped_reads = record {
-  first = blank 2;
-  steps =
-      silent (read 1 0 1)
-      ∷ answered (read 1 1 1) (check 1 (sense 0xB 0x4E 0x00) ∷ [])
-      ∷ answered End (ended ∷ [])
-      ∷ [];
-  losses = 0;
-  depth = 1;
-  last = blank 2;
-}
-
 -- a write past the cache: nothing else is left to a loss of power (SBC-3 5.31, FUA)
 abbrev pub written_past_the_cache : Scenario
 written_past_the_cache = record {
@@ -125,36 +93,4 @@ garbled_write = record {
   losses = 0;
   depth = 1;
   last = device (holds zeros ∷ cached_over zeros bb ∷ []);
-}
-
--- as many reads as a task set holds, with the tags 1 to 64 (SAM-5 4.8; the figure: profile)
-abbrev pub full : Device
-full = record (blank 2) { tasks = map (λ tag. task tag (commands.Read Ten 0 1 false) []) (places 1 64 (λ tag. tag)) }
-
--- one more is not taken: TASK SET FULL; and the drive holds 32 of them (SAM-5 5.3.1; the figure: profile)
-abbrev pub one_too_many : Scenario
-one_too_many = record {
-  first = full;
-  steps = answered (read 65 0 1) (reply 65 TaskSetFull [] [] ∷ []) ∷ [];
-  losses = 0;
-  depth = 32;
-  last = full;
-}
-
--- two commands that wait
-abbrev pub two_waiting : Device
-two_waiting = record (blank 3) { tasks = task 1 (commands.Write Ten 0 1 false) (aa ∷ []) ∷ task 2 (commands.Read Ten 1 1 false) [] ∷ [] }
-
--- two reads, and of three turns one is taken: the second read waits
-abbrev pub cut_off : Scenario
-cut_off = record {
-  first = blank 2;
-  steps =
-      silent (read 1 0 1)
-      ∷ silent (read 2 1 1)
-      ∷ answered (Turn 3) (good 1 (zeros ∷ []) ∷ [])
-      ∷ [];
-  losses = 0;
-  depth = 2;
-  last = record (blank 2) { tasks = task 2 (commands.Read Ten 1 1 false) [] ∷ [] };
 }

@@ -1,8 +1,13 @@
 //! Commands as they arrive.
 
 ghost use Rattle.satl_scenarios.specs.Arrivals.{lengths_expected, no_block, no_block_at_rest, one_block_too_many, other_unit, sense_requested};
-ghost use Rattle.satl_scenarios.specs.Passes.{identified_on_request, read_behind_it};
+ghost use Rattle.satl_scenarios.specs.Refused.{refused};
 ghost use Rattle.satl_scenarios.specs.Scenario.{CanHappen};
+
+/// Commands are refused when they arrive (SPC-4 4.5.6).
+pub fn commands_refused_on_arrival()
+    ensures { CanHappen refused }
+{}
 
 /// REQUEST SENSE tells conditions one by one (SPC-4 6.39).
 pub fn conditions_told_by_request_sense()
@@ -32,14 +37,4 @@ pub fn a_task_set_full_of_blocks()
 /// An answer carries what its host expects (SAM-5 5.1).
 pub fn lengths_that_hosts_expect()
     ensures { CanHappen lengths_expected }
-{}
-
-/// A host sends IDENTIFY DEVICE: it waits for its turn, and gives its data (SAT-3 12.2).
-pub fn a_drive_identified_on_request()
-    ensures { CanHappen identified_on_request }
-{}
-
-/// A READ behind an ATA command that writes waits for it, and gives its block (SAT-3 12.2; SBC-3 5.10).
-pub fn a_read_behind_an_ata_command()
-    ensures { CanHappen read_behind_it }
 {}

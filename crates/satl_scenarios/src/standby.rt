@@ -1,7 +1,29 @@
-//! Commands that a unit carries out while it is stopped and in standby.
+//! A unit is stopped and started, and commands come while it is stopped or in standby.
 
-ghost use Rattle.satl_scenarios.specs.Standby.{read_through, selected_at_rest, standby_told};
+ghost use Rattle.satl_scenarios.specs.Commands.{started, stopped, stopped_unflushed};
+ghost use Rattle.satl_scenarios.specs.Refused.{not_started};
 ghost use Rattle.satl_scenarios.specs.Scenario.{CanHappen};
+ghost use Rattle.satl_scenarios.specs.Standby.{read_through, selected_at_rest, standby_told};
+
+/// A unit is stopped, with all written back (SBC-3, START STOP UNIT).
+pub fn a_unit_stopped()
+    ensures { CanHappen stopped }
+{}
+
+/// A unit is stopped, and nothing is written back (SBC-3, START STOP UNIT).
+pub fn a_unit_stopped_without_a_flush()
+    ensures { CanHappen stopped_unflushed }
+{}
+
+/// A stopped unit is started (SBC-3, START STOP UNIT).
+pub fn a_unit_started()
+    ensures { CanHappen started }
+{}
+
+/// A stopped unit reads nothing (SPC-4 4.5.6).
+pub fn a_read_of_a_stopped_unit()
+    ensures { CanHappen not_started }
+{}
 
 /// A host reads by an ATA command, and the unit stays stopped (SAT-3 12.2).
 pub fn a_read_by_an_ata_command_while_stopped()

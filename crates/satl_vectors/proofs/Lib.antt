@@ -1,2 +1,1 @@
 mod DataLemmas
-mod DriveLemmas

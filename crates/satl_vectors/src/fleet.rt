@@ -4,9 +4,8 @@ ghost use Rattle.std.specs.List.{AllByRecursion};
 ghost use Rattle.satl_disk.specs.Disk.{state_of};
 ghost use Rattle.satl_fleet.specs.Opening.{IsServable};
 
-use crate::frames::ENDED;
 use crate::replaying::words;
-use satl_base::{NoMemory, Steps};
+use satl_base::{NoMemory, Steps, Which};
 use satl_disk::ModelDrive;
 use satl_drive::Bench;
 use satl_io::{MemorySink, MemorySource, Sink, Source};
@@ -17,9 +16,6 @@ use std::process::Abort;
 use std::rc::RcStr;
 use std::sync::ledger::{Blank, Ledger};
 use std::test::Fail;
-
-/// The drives of the fleet.
-const DRIVES: u32 = 2;
 
 /// REPORT LUNS of nexus 0, tag 1, and END.
 const LUNS: &[u8] = b"SATLRPL1\
@@ -41,8 +37,11 @@ const TWO_READS: &[u8] = b"SATLRPL1\
 /// The block of unit 0, in zeros.
 const BLOCK_TOLD: &[u8] = b"SATLRSP1\x84\0\0\0\x01\0\x81\0\0\x02\x07\0\0\0\0\0\x01\0";
 
-/// The block of unit 1, in zeros.
-const SECOND_BLOCK_TOLD: &[u8] = b"\x84\0\0\0\x01\x01\x81\0\0\x02\x07\0\0\0\0\0\x01\0";
+/// MEDIUM ERROR 3/11/00 of unit 1 with address 0 as its INFORMATION, and ENDED.
+const FLAW_TOLD: &[u8] = b"\x84\0\0\0\x01\x01\
+    \x81\0\0\0\x19\0\x02\0\0\0\x01\x12\
+    \xf0\0\x03\0\0\0\0\x0a\0\0\0\0\x11\0\0\0\0\0\
+    \x85\0\0\0\0";
 
 fn counted<S: Source, K: Sink, D: Bench, L: Ledger>(
     alloc: Global,
@@ -63,15 +62,30 @@ fn counted<S: Source, K: Sink, D: Bench, L: Ledger>(
     program(alloc, words, source, sink, drives, &mut steps)
 }
 
-/// Two modelled drives.
+/// A fresh drive.
+fn fresh(alloc: Global) -> Result<ModelDrive, NoMemory>
+    ensures servable { IfOk result (λ d. IsServable (state_of d)) }
+{
+    ModelDrive::new(alloc, 8192)
+}
+
+/// A drive whose block at address 0 cannot be read.
+fn flawed(alloc: Global) -> Result<ModelDrive, NoMemory>
+    ensures servable { IfOk result (λ d. IsServable (state_of d)) }
+{
+    let mut drive = fresh(alloc)?;
+    drive.strike(Which::Read, 0);
+    Ok(drive)
+}
+
+/// A fresh drive and a flawed one.
 fn modelled(alloc: Global) -> Result<Vec<ModelDrive>, NoMemory>
     ensures count { IfOk result (λ drives. vec_len drives ≡ 2) }
     ensures servable { IfOk result (λ drives. AllByRecursion IsServable (map state_of drives.items)) }
 {
     let mut drives = Vec::new(alloc);
-    for _ in 0..DRIVES {
-        drives.push(ModelDrive::new(alloc, 8192)?)?;
-    }
+    drives.push(fresh(alloc)?)?;
+    drives.push(flawed(alloc)?)?;
     Ok(drives)
 }
 
@@ -109,14 +123,13 @@ fn luns_of_two_drives(rt: HostRuntime) -> Result<(), Fail> {
     expect(&rt, rt.alloc(), LUNS, LUNS_TOLD)
 }
 
-/// The same tag at two LUNs: each unit has a task set of its own.
+/// The same tag at two LUNs: each unit has a task set and a medium of its own, so one read ends with data, and the other at a
+/// flaw.
 #[test]
 fn same_tag_on_two_drives(rt: HostRuntime) -> Result<(), Fail> {
     let alloc = rt.alloc();
     let mut output = BLOCK_TOLD.to_vec(alloc)?;
     output.extend_from_slice(&[0; 512])?;
-    output.extend_from_slice(SECOND_BLOCK_TOLD)?;
-    output.extend_from_slice(&[0; 512])?;
-    output.extend_from_slice(&ENDED)?;
+    output.extend_from_slice(FLAW_TOLD)?;
     expect(&rt, alloc, TWO_READS, &output)
 }

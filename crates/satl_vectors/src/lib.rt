@@ -14,6 +14,8 @@ mod medium_rows;
 #[cfg(test)]
 mod outstanding;
 #[cfg(test)]
+mod pass_rows;
+#[cfg(test)]
 mod queue;
 #[cfg(test)]
 mod records;

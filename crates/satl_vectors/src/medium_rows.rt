@@ -4,7 +4,7 @@ use crate::spelled::{Part, Row, expect_rows, spelled};
 use satl_top::Status;
 use std::test::Fail;
 
-const VERIFY_AND_WRITE_SAME: [Row; 3] = [
+const VERIFY_AND_WRITE_SAME: [Row; 4] = [
     (
         "verify_compares_1",
         &[
@@ -37,6 +37,25 @@ const VERIFY_AND_WRITE_SAME: [Row; 3] = [
         &[Part::Hex(
             "5341544c52535031810000001900020000000112700005000000000a00000000240000c000078500000000",
         )],
+    ),
+    (
+        "write_same_in_pieces",
+        &[
+            Part::Hex(
+                "5341544c52504c31010000021e000000000000000000000000000141000000006400008200000000000000",
+            ),
+            Part::Fill(0x5A, 512),
+            Part::Hex(
+                "010000001e0000000000000000000000000002280000000063000084000000000000000500000000",
+            ),
+        ],
+        &[
+            Part::Hex("5341544c525350318100000007000000000001008100010807000000000002"),
+            Part::Fill(0x00, 513),
+            Part::Fill(0x5A, 66560),
+            Part::Fill(0x00, 512),
+            Part::Hex("8500000000"),
+        ],
     ),
 ];
 

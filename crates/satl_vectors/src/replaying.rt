@@ -92,7 +92,7 @@ pub fn run(
     let piece = streams.piece.max(1);
     let mut source = MemorySource::new(input, piece, calls(alloc, streams.failing_read)?);
     let failing = calls(alloc, streams.failing_write)?;
-    let mut sink = MemorySink::new(alloc, 65536, piece, failing)?;
+    let mut sink = MemorySink::new(alloc, 131072, piece, failing)?;
     let mut drive = ModelDrive::new(alloc, 8192)?;
     let status = counted::<_, _, _, Brand>(
         alloc,

@@ -4,8 +4,9 @@ use Rattle.satl_frame.specs.Output.{out_magic}
 use Rattle.satl_frame.specs.declared.frames.FrameFault.{FrameFault}
 use Rattle.satl_frame.specs.Reading.{Blames}
 use Rattle.satl_audit.specs.Kept.{Keeping}
-use Rattle.satl_audit.proofs.FollowLemmas.{Goes, goes, goes_none, goes_on, good_next, known_next, not_bad, says_no_more, says_yes, stops, tasks_next}
-use Rattle.satl_audit.proofs.ReachLemmas.{reached_none}
+use Rattle.satl_audit.proofs.FollowGoes.{Goes, goes_none}
+use Rattle.satl_audit.proofs.FollowLemmas.{goes, goes_on, good_next, known_next, not_bad, says_no_more, says_yes, stops, tasks_next}
+use Rattle.satl_audit.proofs.ReachBegins.{reached_none}
 use Rattle.satl_audit.proofs.VerdictLemmas.{none_left, size_blank, some_left}
 use Rattle.satl_audit.proofs.auditing.follow.Goals as goal
 

@@ -1,6 +1,6 @@
 use Rattle.std.proofs.Common.{◌≡◌, ◌++◌, length}
 use Rattle.satl_frame.specs.Output.{out_magic}
-use Rattle.satl_audit.proofs.FollowLemmas.{Goes}
+use Rattle.satl_audit.proofs.FollowGoes.{Goes}
 use Rattle.satl_audit.proofs.auditing.follow.Given as goal
 
 abbrev pub invariant-loop-frame : goal.invariant-loop-frame

@@ -1,5 +1,5 @@
 use Rattle.std.proofs.Common.{arith, ◌∙◌, sym}
-use Rattle.satl_audit.proofs.EffectLemmas.{pends_begin, pends_end, pends_turn}
+use Rattle.satl_audit.proofs.PendEffects.{pends_begin, pends_end, pends_turn}
 use Rattle.satl_audit.proofs.effects.pend_blocks.Goals as goal
 
 pub loop-i-preserved : goal.loop-i-preserved

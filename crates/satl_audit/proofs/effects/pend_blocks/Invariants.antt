@@ -1,5 +1,5 @@
 use Rattle.std.proofs.Common.{◌≡◌, ◌<◌, ℕ, Bool, List, length}
-use Rattle.satl_audit.proofs.EffectLemmas.{left_pends}
+use Rattle.satl_audit.proofs.PendEffects.{left_pends}
 use Rattle.satl_audit.proofs.effects.pend_blocks.Given as goal
 
 abbrev pub invariant-loop-i : goal.invariant-loop-i

@@ -1,5 +1,5 @@
 use Rattle.std.proofs.Common.{arith, ◌∙◌, sym}
-use Rattle.satl_audit.proofs.EffectLemmas.{puts_begin, puts_end, puts_turn}
+use Rattle.satl_audit.proofs.PutEffects.{puts_begin, puts_end, puts_turn}
 use Rattle.satl_audit.proofs.effects.put_blocks.Goals as goal
 
 pub loop-i-preserved : goal.loop-i-preserved

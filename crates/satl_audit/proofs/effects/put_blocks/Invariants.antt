@@ -1,5 +1,5 @@
 use Rattle.std.proofs.Common.{◌≡◌, ◌<◌, ℕ, List, length}
-use Rattle.satl_audit.proofs.EffectLemmas.{left_puts}
+use Rattle.satl_audit.proofs.PutEffects.{left_puts}
 use Rattle.satl_audit.proofs.effects.put_blocks.Given as goal
 
 abbrev pub invariant-loop-i : goal.invariant-loop-i

@@ -1,7 +1,8 @@
 use Rattle.std.proofs.Common.{arith, ◌∙◌, subst, ◌+◌, ◌*◌, ◌<◌, Bool, length}
 use Rattle.satl_audit.specs.Kept.{ShowsAt}
 use Rattle.satl_audit.proofs.Comparing.{at_place}
-use Rattle.satl_audit.proofs.EffectLemmas.{gives_begin, gives_end, gives_none, gives_turn, sliced}
+use Rattle.satl_audit.proofs.ShowEffects.{gives_begin, gives_end, gives_none, gives_turn}
+use Rattle.satl_audit.proofs.Comparing.{sliced}
 use Rattle.satl_audit.proofs.effects.show_blocks.Goals as goal
 
 pub returns-then-not-branch-clause-gives : goal.returns-then-not-branch-clause-gives

@@ -1,5 +1,5 @@
 use Rattle.std.proofs.Common.{◌≡◌, ◌<◌, ℕ, length}
-use Rattle.satl_audit.proofs.EffectLemmas.{left_gives}
+use Rattle.satl_audit.proofs.ShowEffects.{left_gives}
 use Rattle.satl_audit.proofs.effects.show_blocks.Given as goal
 
 abbrev pub invariant-loop-i : goal.invariant-loop-i

@@ -2,9 +2,10 @@ use Rattle.std.proofs.Common.{arith, sym, subst}
 use Rattle.std.specs.Prelude.{slice_get}
 use Rattle.satl_audit.specs.Finishing.{AreTasks}
 use Rattle.satl_audit.specs.Waiting.{Placed}
-use Rattle.satl_audit.proofs.EndLemmas.{both_at, fits_at, flush_arm, no_other, read_arm, read_within, write_arm, write_within}
+use Rattle.satl_audit.proofs.EndWithin.{both_at, fits_at, no_other, read_within, write_within}
+use Rattle.satl_audit.proofs.EndLemmas.{flush_arm, read_arm, write_arm}
 use Rattle.satl_audit.proofs.FinishingLemmas.{if_ok_map}
-use Rattle.satl_audit.proofs.SweepLemmas.{if_both}
+use Rattle.satl_audit.proofs.SweptSectors.{if_both}
 use Rattle.satl_audit.proofs.TurnLemmas.{tasks_left}
 use Rattle.satl_audit.proofs.finishing.end_task.Goals as goal
 

@@ -4,9 +4,10 @@ use Rattle.satl_line.specs.declared.entry.Entry.{Entry}
 use Rattle.satl_audit.specs.Guesses.{blocks_at}
 use Rattle.satl_audit.specs.Kept.{sector_at}
 use Rattle.satl_audit.specs.Waiting.{Fits, Placed}
-use Rattle.satl_audit.proofs.EndLemmas.{both_at, write_within}
+use Rattle.satl_audit.proofs.EndWithin.{both_at, write_within}
 use Rattle.satl_audit.proofs.NextLemmas.{all_at}
-use Rattle.satl_audit.proofs.PendingLemmas.{moved, on_ok_map, placed_of, some_at, still, write_pairs, writes_none}
+use Rattle.satl_audit.proofs.PendingPlaces.{moved, still}
+use Rattle.satl_audit.proofs.PendingLemmas.{on_ok_map, placed_of, some_at, write_pairs, writes_none}
 use Rattle.satl_audit.proofs.powering.pend_task.Goals as goal
 
 pub returns-then-not-eligible-clause-pends : goal.returns-then-not-eligible-clause-pends

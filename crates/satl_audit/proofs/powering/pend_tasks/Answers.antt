@@ -2,7 +2,7 @@ use Rattle.std.proofs.Common.{arith, sym, ap, ◌∙◌, subst, ◌<◌, ◌++�
 use Rattle.std.proofs.lemmas.List.{append-nil}
 use Rattle.satl_audit.specs.Guesses.{blocks_at}
 use Rattle.satl_audit.specs.Kept.{sector_at}
-use Rattle.satl_audit.proofs.PendingLemmas.{shown_all, shown_none}
+use Rattle.satl_audit.proofs.PendingPlaces.{shown_all, shown_none}
 use Rattle.satl_audit.proofs.powering.pend_tasks.Goals as goal
 
 pub loop-place-preserved : goal.loop-place-preserved

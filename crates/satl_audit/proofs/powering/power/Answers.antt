@@ -1,5 +1,5 @@
 use Rattle.std.proofs.Common.{refl}
-use Rattle.satl_audit.proofs.AdvanceLemmas.{power_goes}
+use Rattle.satl_audit.proofs.PowerGoes.{power_goes}
 use Rattle.satl_audit.proofs.powering.power.Goals as goal
 
 pub returns-clause-goes : goal.returns-clause-goes

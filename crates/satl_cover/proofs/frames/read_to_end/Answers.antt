@@ -2,7 +2,7 @@ use Rattle.std.proofs.Common.{arith, ◌∙◌, subst, Some}
 use Rattle.satl_frame.specs.declared.frames.FrameFault.{FrameFault}
 use Rattle.satl_frame.specs.Reading.{Blames}
 use Rattle.satl_cover.proofs.Going.{goes_on, goes_to_end}
-use Rattle.satl_cover.proofs.ReadingLemmas.{refused_is_bad}
+use Rattle.satl_cover.proofs.RefusedInputs.{refused_is_bad}
 use Rattle.satl_cover.proofs.frames.read_to_end.Goals as goal
 
 pub returns-in-Err-Bad-clause-refuses : goal.returns-in-Err-Bad-clause-refuses

@@ -12,7 +12,7 @@ use Rattle.satl_core.specs.Refilling.{EndsOne}
 use Rattle.satl_core.specs.Turning.{data_in, ended_reply, lost_replies}
 use Rattle.satl_core.proofs.AgreeingLemmas.{alone_down, capacity_is, tied_lost}
 use Rattle.satl_core.proofs.ArrivalLemmas.{held_by_is}
-use Rattle.satl_core.proofs.MediumLemmas.{has_data, may_trim}
+use Rattle.satl_core.proofs.MediumLemmas.{can_carry}
 use Rattle.satl_core.proofs.CountedLemmas.{few_tasks, kept_rose, kept_same}
 use Rattle.satl_core.proofs.DeviceLemmas.{first_tasks, seen}
 use Rattle.satl_core.proofs.EndingLemmas.{alone_deepens, alone_loses, first_alone, nothing_out}
@@ -58,19 +58,13 @@ run_task-requires-clause-may g c =
       look = wanted_look c.self.inside.identity c.self.inside.modes c.wanted_by-wanted.result c.remove-task.result.modes _ noted.look c.wanted_by-wanted.ensures tied.agrees.valid.modes kept.0.change;
     }
 
-pub run_task-requires-clause-trims : goal.run_task-requires-clause-trims
-run_task-requires-clause-trims g c =
+pub run_task-requires-clause-carry : goal.run_task-requires-clause-carry
+run_task-requires-clause-carry g c =
     let d = g.D.Drive.state c.args.drive.now in
     let tied = subst (λ l. Tied l d) (sym c.self.view_is) c.requires.tied in
     let first = first_of c.self.inside.queue.tasks c.remove-task.new.self.tasks c.remove-task.result c.remove-task.ensures.value c.remove-task.ensures.others in
     let kept = first_kept c.self.inside.identity c.self.inside.queue.tasks c.remove-task.new.self.tasks c.remove-task.result c.self.invariant.kept first in
-    may_trim c.self.inside.identity c.remove-task.result d kept.0 (sym (capacity_is _ d tied.agrees) ∙ sym tied.agrees.fit.sectors) (has_as_noted _ d tied.agrees).trim
-
-pub run_task-requires-clause-data : goal.run_task-requires-clause-data
-run_task-requires-clause-data g c =
-    let first = first_of c.self.inside.queue.tasks c.remove-task.new.self.tasks c.remove-task.result c.remove-task.ensures.value c.remove-task.ensures.others in
-    let kept = first_kept c.self.inside.identity c.self.inside.queue.tasks c.remove-task.new.self.tasks c.remove-task.result c.self.invariant.kept first in
-    has_data c.self.inside.identity c.remove-task.result kept.0
+    can_carry c.self.inside.identity c.remove-task.result d kept.0 (sym (capacity_is _ d tied.agrees)) (sym (capacity_is _ d tied.agrees) ∙ sym tied.agrees.fit.sectors) (has_as_noted _ d tied.agrees).trim
 
 pub run_task-requires-clause-room : goal.run_task-requires-clause-room
 run_task-requires-clause-room g c =
@@ -122,12 +116,14 @@ returns-in-Ok-clause-ends g c =
     let tied = subst (λ l. Tied l d) (sym c.self.view_is) c.requires.tied in
     let first = first_of i.queue.tasks c.remove-task.new.self.tasks c.remove-task.result c.remove-task.ensures.value c.remove-task.ensures.others in
     let new = seen i.identity c.modes_after-modes.result c.started_after-self-inside.result c.post.new.attentions (map task_of (entries_of c.remove-task.new.self.tasks)) d' in
+    let kept = first_kept i.identity i.queue.tasks c.remove-task.new.self.tasks c.remove-task.result c.self.invariant.kept first in
+    let carry = can_carry i.identity c.remove-task.result d kept.0 (sym (capacity_is _ d tied.agrees)) (sym (capacity_is _ d tied.agrees) ∙ sym tied.agrees.fit.sectors) (has_as_noted _ d tied.agrees).trim in
     inl (
       c.end_task.result,
       c.push.ensures ∙ ap (λ l. l ++ c.end_task.result ∷ []) c.requires.empty,
       subst (λ r. EndsOne (view c.args.self.now d) r new) (sym (c.end_task.ensures.reply ∙ ap (λ t. ended_reply t c.in-Ok.ending i.modes.d_sense) c.run_task.ensures.task))
           (subst (λ l. EndsOne (view l d) (ended_reply (record c.remove-task.result { body = c.run_task.new.task.body }) c.in-Ok.ending i.modes.d_sense) new) c.self.view_is
-          (first_ends was c.remove-task.new.self.tasks c.remove-task.result d d' c.self.invariant.kept first tied.agrees c.in-Ok.ending c.run_task.new.task.body c.started_after-self-inside.result c.wanted_by-wanted.result c.modes_after-modes.result c.change_posting-posting.result c.post.new.attentions
+          (first_ends was c.remove-task.new.self.tasks c.remove-task.result d d' c.self.invariant.kept first tied.agrees carry c.in-Ok.ending c.run_task.new.task.body c.started_after-self-inside.result c.wanted_by-wanted.result c.modes_after-modes.result c.change_posting-posting.result c.post.new.attentions
           c.wanted_by-wanted.ensures c.in-Ok.ensures.ends c.started_after-self-inside.ensures c.modes_after-modes.ensures c.change_posting-posting.ensures c.post.ensures)),
     )
 

@@ -1,0 +1,20 @@
+use Rattle.std.proofs.Common.{◌≡◌, ◌∙◌, refl, subst, sym}
+use Rattle.std.specs.Prelude.{IsSomeAnd}
+use Rattle.satl_core.specs.Medium.{HasWhole, written_alone}
+use Rattle.satl_core.proofs.AloneLemmas.{both_err, stops_alike}
+use Rattle.satl_core.proofs.turning.run_task.Goals as goal
+
+pub returns-clause-lost : goal.returns-clause-lost
+returns-clause-lost g c =
+    let task = c.args.task.now in
+    let d = g.D.Drive.state c.args.drive.now in
+    let is = sym c.of.ensures ∙ c.in-Some.is in
+    both_err c.carry_out.result
+    (λ lost whole. record {
+      was_up = c.if-down.false;
+      ready = stops_alike task.command c.in-Some.alone c.args.started is ∙ (sym c.waits.ensures ∙ c.if-waits.false);
+      pairs = written_alone c.in-Some.alone task d;
+      written = subst (λ o. IsSomeAnd o (λ alone. HasWhole alone task × (written_alone c.in-Some.alone task d ≡ written_alone alone task d))) (sym is) (whole, refl);
+      lost = lost;
+    })
+    c.carry_out.ensures.lost c.carry_out.ensures.whole

@@ -1,5 +1,0 @@
-use Rattle.satl_scenarios.proofs.PassRuns.{drive_identified}
-use Rattle.satl_scenarios.proofs.a_drive_identified.Goals as goal
-
-pub returns : goal.returns
-returns c = drive_identified

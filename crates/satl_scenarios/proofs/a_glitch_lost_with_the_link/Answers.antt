@@ -1,5 +1,0 @@
-use Rattle.satl_scenarios.proofs.LinkRuns.{glitch_lost_in_turn}
-use Rattle.satl_scenarios.proofs.a_glitch_lost_with_the_link.Goals as goal
-
-pub returns : goal.returns
-returns c = glitch_lost_in_turn

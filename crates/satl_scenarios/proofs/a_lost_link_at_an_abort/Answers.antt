@@ -1,5 +1,0 @@
-use Rattle.satl_scenarios.proofs.LinkRuns.{link_lost_at_an_abort}
-use Rattle.satl_scenarios.proofs.a_lost_link_at_an_abort.Goals as goal
-
-pub returns : goal.returns
-returns c = link_lost_at_an_abort

@@ -1,5 +1,0 @@
-use Rattle.satl_scenarios.proofs.FunctionRuns.{unit_reset}
-use Rattle.satl_scenarios.proofs.a_unit_reset.Goals as goal
-
-pub returns : goal.returns
-returns c = unit_reset

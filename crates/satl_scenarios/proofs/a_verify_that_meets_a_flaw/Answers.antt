@@ -1,5 +1,0 @@
-use Rattle.satl_scenarios.proofs.CommandRuns.{flaw_found}
-use Rattle.satl_scenarios.proofs.a_verify_that_meets_a_flaw.Goals as goal
-
-pub returns : goal.returns
-returns c = flaw_found

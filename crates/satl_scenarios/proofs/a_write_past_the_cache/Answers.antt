@@ -1,5 +1,0 @@
-use Rattle.satl_scenarios.proofs.TransferRuns.{write_past_the_cache}
-use Rattle.satl_scenarios.proofs.a_write_past_the_cache.Goals as goal
-
-pub returns : goal.returns
-returns c = write_past_the_cache

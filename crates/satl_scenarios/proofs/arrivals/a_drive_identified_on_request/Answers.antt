@@ -1,5 +1,0 @@
-use Rattle.satl_scenarios.proofs.PassArrivals.{identified_from_its_arrival}
-use Rattle.satl_scenarios.proofs.arrivals.a_drive_identified_on_request.Goals as goal
-
-pub returns : goal.returns
-returns c = identified_from_its_arrival

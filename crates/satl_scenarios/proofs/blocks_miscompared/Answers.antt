@@ -1,5 +1,0 @@
-use Rattle.satl_scenarios.proofs.CommandRuns.{blocks_miscompared}
-use Rattle.satl_scenarios.proofs.blocks_miscompared.Goals as goal
-
-pub returns : goal.returns
-returns c = blocks_miscompared

@@ -1,5 +1,0 @@
-use Rattle.satl_scenarios.proofs.CommandRuns.{blocks_unmapped}
-use Rattle.satl_scenarios.proofs.blocks_unmapped.Goals as goal
-
-pub returns : goal.returns
-returns c = blocks_unmapped

@@ -1,5 +1,0 @@
-use Rattle.satl_scenarios.proofs.RefusedRuns.{all_refused}
-use Rattle.satl_scenarios.proofs.commands_refused_on_arrival.Goals as goal
-
-pub returns : goal.returns
-returns c = all_refused

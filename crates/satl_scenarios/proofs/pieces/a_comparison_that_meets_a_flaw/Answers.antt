@@ -1,5 +1,0 @@
-use Rattle.satl_scenarios.proofs.PieceRuns.{flaw_before_comparison}
-use Rattle.satl_scenarios.proofs.pieces.a_comparison_that_meets_a_flaw.Goals as goal
-
-pub returns : goal.returns
-returns c = flaw_before_comparison

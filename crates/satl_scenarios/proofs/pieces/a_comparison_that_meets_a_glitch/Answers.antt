@@ -1,5 +1,0 @@
-use Rattle.satl_scenarios.proofs.PieceRuns.{comparison_garbled}
-use Rattle.satl_scenarios.proofs.pieces.a_comparison_that_meets_a_glitch.Goals as goal
-
-pub returns : goal.returns
-returns c = comparison_garbled

@@ -1,5 +1,0 @@
-use Rattle.satl_scenarios.proofs.PieceRuns.{same_trimmed}
-use Rattle.satl_scenarios.proofs.pieces.the_same_blocks_unmapped.Goals as goal
-
-pub returns : goal.returns
-returns c = same_trimmed

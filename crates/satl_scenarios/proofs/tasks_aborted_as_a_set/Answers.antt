@@ -1,5 +1,0 @@
-use Rattle.satl_scenarios.proofs.FunctionRuns.{tasks_aborted}
-use Rattle.satl_scenarios.proofs.tasks_aborted_as_a_set.Goals as goal
-
-pub returns : goal.returns
-returns c = tasks_aborted

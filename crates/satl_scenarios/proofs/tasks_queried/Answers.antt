@@ -1,5 +1,0 @@
-use Rattle.satl_scenarios.proofs.FunctionRuns.{functions_queried}
-use Rattle.satl_scenarios.proofs.tasks_queried.Goals as goal
-
-pub returns : goal.returns
-returns c = functions_queried

@@ -1,5 +1,0 @@
-use Rattle.satl_scenarios.proofs.PowerRuns.{cache_off}
-use Rattle.satl_scenarios.proofs.the_cache_turned_off.Goals as goal
-
-pub returns : goal.returns
-returns c = cache_off

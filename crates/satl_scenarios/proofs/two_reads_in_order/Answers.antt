@@ -1,5 +1,0 @@
-use Rattle.satl_scenarios.proofs.TransferRuns.{in_order}
-use Rattle.satl_scenarios.proofs.two_reads_in_order.Goals as goal
-
-pub returns : goal.returns
-returns c = in_order

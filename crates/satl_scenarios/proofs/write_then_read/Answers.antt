@@ -1,5 +1,0 @@
-use Rattle.satl_scenarios.proofs.TransferRuns.{read_after_write}
-use Rattle.satl_scenarios.proofs.write_then_read.Goals as goal
-
-pub returns : goal.returns
-returns c = read_after_write

@@ -1,0 +1,82 @@
+-- Blocks, sectors and small devices that the scenarios share.
+use Rattle.std.specs.Prelude.{ℕ, true, false, List, [], ◌∷◌, length, replicate}
+use Rattle.satl_base.specs.declared.block.Block.{Block}
+use Rattle.satl_base.specs.Cells.{Cell}
+use Rattle.satl_base.specs.Places.{byte, laid}
+use Rattle.satl_identify.specs.declared.identity.Identity.{Identity}
+use Rattle.satl_unit.specs.declared.attention.Attention.TheVariants.{PowerOn}
+use Rattle.satl_direct.specs.Device.{Device}
+
+-- a block that is filled with one byte (profile)
+unfoldable pub filled : ℕ → Block
+filled byte = record { bytes = replicate 512 byte }
+
+-- what is on a blank medium, and two blocks to be written
+abbrev pub zeros : Block
+zeros = filled 0x00
+
+abbrev pub aa : Block
+aa = filled 0xAA
+
+abbrev pub bb : Block
+bb = filled 0xBB
+
+-- a sector without flaws, which a loss of power leaves as it is (profile)
+abbrev pub holds : Block → Cell
+holds block = record { now = block; may = block ∷ []; read_flaw = false; write_flaw = false }
+
+-- a sector that was written through the cache, over a block that a loss of power may bring back (SBC-3 4.15)
+abbrev pub cached_over : Block → Block → Cell
+cached_over old new = record (holds new) { may = old ∷ new ∷ [] }
+
+-- a sector with a flaw at which reads fail, and one at which writes fail (profile)
+abbrev pub unreadable : Block → Cell
+unreadable block = record (holds block) { read_flaw = true }
+
+abbrev pub unwritable : Block → Cell
+unwritable block = record (holds block) { write_flaw = true }
+
+-- the IDENTIFY DEVICE data of a drive of fewer than 256 sectors: LBA and DMA (word 49), trims with zeros (69, 105, 169), a
+-- queue of 32 with trims in it (75 to 77), a cache and look-ahead that are there and on (82, 85), 48-bit addresses (83; ACS-3
+-- 7.12.7)
+unfoldable pub identify_data : ℕ → List ℕ
+identify_data capacity =
+    laid 512 (
+    byte 99 0x03 ∷ byte 138 0x20 ∷ byte 139 0x40 ∷ byte 150 31 ∷ byte 153 0x01 ∷ byte 154 0x40 ∷ byte 164 0x60 ∷ byte 167 0x64
+    ∷ byte 170 0x60 ∷ byte 200 capacity ∷ byte 210 1 ∷ byte 338 0x01 ∷ [])
+
+-- what these data say (ACS-3 7.12.7)
+abbrev pub identity : ℕ → Identity
+identity capacity = record {
+  bytes = identify_data capacity;
+  capacity = capacity;
+  exponent = 0;
+  trim = true;
+  queued_trim = true;
+  cache = true;
+  look = true;
+  cache_on = true;
+  look_on = true;
+}
+
+-- a device with these sectors, started and up, with its cache on, no task and nothing to tell (profile)
+abbrev pub device : List Cell → Device
+device cells = record {
+  cells = cells;
+  tasks = [];
+  modes = record { wce = true; dra = false; d_sense = false };
+  started = true;
+  active = true;
+  down = false;
+  attentions = [] ∷ [] ∷ [] ∷ [] ∷ [];
+  glitches = 0;
+  identity = identity (length cells);
+}
+
+-- a device that has never been written to (profile)
+abbrev pub blank : ℕ → Device
+blank count = device (replicate count (holds zeros))
+
+-- a device just after a power cycle: each nexus is told of it (SAM-5 6.3)
+abbrev pub powered : List Cell → Device
+powered cells = record (device cells) { attentions = (PowerOn ∷ []) ∷ (PowerOn ∷ []) ∷ (PowerOn ∷ []) ∷ (PowerOn ∷ []) ∷ [] }
