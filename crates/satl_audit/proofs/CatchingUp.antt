@@ -8,8 +8,8 @@ use Rattle.std.proofs.Common.{Bor, ◌<◌}
 use Rattle.satl_audit.specs.Kept.{Keeping, kept_power, kept_settle}
 use Rattle.satl_audit.specs.Sweeps.{after_first, caught_up, has_power}
 use Rattle.satl_audit.specs.declared.content.Content.{Content}
-use Rattle.satl_audit.specs.declared.sectors.Sweep.{Sweep}
-use Rattle.satl_audit.specs.declared.sectors.Sweep.TheVariants.{Settled, Powered}
+use Rattle.satl_audit.specs.declared.stamped.Sweep.{Sweep}
+use Rattle.satl_audit.specs.declared.stamped.Sweep.TheVariants.{Settled, Powered}
 
 -- a sector whose block is not known stays as it is
 idle : (es : List Sweep) (may : List Content) → caught_up es (record { now = None; may = may }) ≡ record { now = None; may = may }

@@ -6,9 +6,9 @@ use Rattle.std.proofs.lemmas.Bool.{cases_lt, lt-ltb, le-ltb}
 use Rattle.std.proofs.lemmas.List.{length-append}
 use Rattle.satl_audit.specs.Kept.{Keeping, blank_keeping}
 use Rattle.satl_audit.specs.Sweeps.{caught_up, has_power, swept}
-use Rattle.satl_audit.specs.declared.sectors.Stamped.{Stamped}
-use Rattle.satl_audit.specs.declared.sectors.Sweep.{Sweep}
-use Rattle.satl_audit.specs.declared.sectors.Sweep.TheVariants.{Settled, Powered}
+use Rattle.satl_audit.specs.declared.stamped.Stamped.{Stamped}
+use Rattle.satl_audit.specs.declared.stamped.Sweep.{Sweep}
+use Rattle.satl_audit.specs.declared.stamped.Sweep.TheVariants.{Settled, Powered}
 
 caught_more : (ss : List Sweep) (s : Sweep) (k : Keeping) → caught_up (ss ++ s ∷ []) k ≡ swept s (caught_up ss k)
 caught_more [] s k = refl

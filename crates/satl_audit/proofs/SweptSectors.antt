@@ -6,8 +6,8 @@ use Rattle.std.proofs.lemmas.List.{length-map, get_or-map, map-set, drop_all}
 use Rattle.satl_audit.specs.Kept.{Keeping, ShowsAt, blank_keeping, kept_at, sector_of}
 use Rattle.satl_audit.specs.Sectors.{sector_show}
 use Rattle.satl_audit.specs.Sweeps.{Shows, caught_up}
-use Rattle.satl_audit.specs.declared.sectors.Stamped.{Stamped}
-use Rattle.satl_audit.specs.declared.sectors.Sweep.{Sweep}
+use Rattle.satl_audit.specs.declared.stamped.Stamped.{Stamped}
+use Rattle.satl_audit.specs.declared.stamped.Sweep.{Sweep}
 use Rattle.satl_audit.proofs.SweepLemmas.{now_kept}
 
 -- what is kept of the sector at an address

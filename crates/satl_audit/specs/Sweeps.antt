@@ -2,8 +2,8 @@
 use Rattle.std.specs.Prelude.{◌≡◌, ℕ, Bool, true, false, List, [], ◌∷◌, Option, Some, None}
 use Rattle.satl_audit.specs.Kept.{Keeping, kept_power, kept_settle, sector_of}
 use Rattle.satl_audit.specs.Sectors.{sector_show}
-use Rattle.satl_audit.specs.declared.sectors.Sweep.{Sweep}
-use Rattle.satl_audit.specs.declared.sectors.Sweep.TheVariants.{Settled, Powered}
+use Rattle.satl_audit.specs.declared.stamped.Sweep.{Sweep}
+use Rattle.satl_audit.specs.declared.stamped.Sweep.TheVariants.{Settled, Powered}
 
 -- all is written back, or the power is lost (SBC-3 4.15)
 abbrev pub swept : Sweep → Keeping → Keeping

@@ -1,7 +1,7 @@
 use Rattle.std.proofs.Common.{arith, sym, ap, subst, ◌∙◌, ◌≡◌, map, drop, ℕ, List, []}
 use Rattle.std.specs.Prelude.{nat_lt, replicate}
 use Rattle.satl_audit.specs.Sweeps.{has_power}
-use Rattle.satl_audit.specs.declared.sectors.Sweep.{Sweep}
+use Rattle.satl_audit.specs.declared.stamped.Sweep.{Sweep}
 use Rattle.satl_audit.specs.Kept.{blank_keeping}
 use Rattle.satl_audit.proofs.SweepLemmas.{AllSeen, all_blank, no_power, none_missed, now_kept}
 use Rattle.satl_audit.proofs.sectors.Sectors.new.Goals as goal

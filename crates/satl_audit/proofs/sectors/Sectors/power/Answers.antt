@@ -2,8 +2,8 @@ use Rattle.std.proofs.Common.{sym, ap, subst, ◌∙◌, ◌≡◌, map, drop, �
 use Rattle.std.specs.Prelude.{nat_lt}
 use Rattle.satl_audit.specs.Kept.{kept_power}
 use Rattle.satl_audit.specs.Sweeps.{has_power}
-use Rattle.satl_audit.specs.declared.sectors.Sweep.{Sweep}
-use Rattle.satl_audit.specs.declared.sectors.Sweep.TheVariants.{Powered}
+use Rattle.satl_audit.specs.declared.stamped.Sweep.{Sweep}
+use Rattle.satl_audit.specs.declared.stamped.Sweep.TheVariants.{Powered}
 use Rattle.satl_audit.proofs.SweepLemmas.{AllSeen, all_swept, now_kept, power_powered, seen_still}
 use Rattle.satl_audit.proofs.sectors.Sectors.power.Goals as goal
 

@@ -2,7 +2,7 @@ use Rattle.std.proofs.Common.{ap, ◌∙◌, List, drop, length}
 use Rattle.std.specs.Prelude.{slice_set}
 use Rattle.satl_audit.specs.Kept.{Keeping, kept_put}
 use Rattle.satl_audit.specs.Sweeps.{caught_up}
-use Rattle.satl_audit.specs.declared.sectors.Sweep.{Sweep}
+use Rattle.satl_audit.specs.declared.stamped.Sweep.{Sweep}
 use Rattle.satl_audit.proofs.SweptSectors.{kept_there, on_both, set_kept}
 use Rattle.satl_audit.proofs.sectors.Sectors.put.Goals as goal
 

@@ -1,6 +1,6 @@
 use Rattle.std.proofs.Common.{ap, ◌∙◌, List, drop, length}
 use Rattle.satl_audit.specs.Sweeps.{caught_up}
-use Rattle.satl_audit.specs.declared.sectors.Sweep.{Sweep}
+use Rattle.satl_audit.specs.declared.stamped.Sweep.{Sweep}
 use Rattle.satl_audit.proofs.SweptSectors.{if_both, kept_there, set_kept, shows_there}
 use Rattle.satl_audit.proofs.sectors.Sectors.show.Goals as goal
 

@@ -2,7 +2,7 @@ use Rattle.std.proofs.Common.{◌∙◌, ap, sym, ℕ, ◌*◌, List, ◌++◌}
 use Rattle.satl_base.specs.declared.reply.Scsi.TheVariants.{Good}
 use Rattle.satl_audit.specs.Finishing.{head_bytes}
 use Rattle.satl_audit.proofs.FinishingLemmas.{if_ok_map, reads_as}
-use Rattle.satl_audit.proofs.finishing.read_ends.Goals as goal
+use Rattle.satl_audit.proofs.ends.read_ends.Goals as goal
 
 pub returns-then-not-pass-clause-reads : goal.returns-then-not-pass-clause-reads
 returns-then-not-pass-clause-reads c = λ given rest read.

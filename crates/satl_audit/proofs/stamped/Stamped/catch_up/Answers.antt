@@ -2,7 +2,7 @@ use Rattle.std.proofs.Common.{sym, ap, ◌∙◌}
 use Rattle.std.specs.Prelude.{nat_lt}
 use Rattle.satl_audit.specs.Sweeps.{after_first}
 use Rattle.satl_audit.proofs.CatchingUp.{caught_is, copied_at, if_lost}
-use Rattle.satl_audit.proofs.sectors.Stamped.catch_up.Goals as goal
+use Rattle.satl_audit.proofs.stamped.Stamped.catch_up.Goals as goal
 
 pub returns-clause-kept : goal.returns-clause-kept
 returns-clause-kept c =

@@ -5,7 +5,7 @@ use Rattle.satl_base.specs.declared.request.Tag.{Tag}
 use Rattle.satl_audit.specs.Waiting.{entries_in, has_name}
 use Rattle.satl_audit.proofs.FoundLemmas.{found_by, search_ends}
 use Rattle.satl_audit.proofs.NextLemmas.{found_within}
-use Rattle.satl_audit.proofs.finishing.next_task.Goals as goal
+use Rattle.satl_audit.proofs.ends.next_task.Goals as goal
 use Rattle.satl_audit.proofs.Links.{false_not_true}
 
 no_place : {place : ℕ} (o : Option ℕ) → o ≡ None → o ≡ Some place → ⊥
