@@ -8,7 +8,7 @@ use Rattle.satl_direct.specs.Device.{is_called}
 use Rattle.satl_direct.specs.Valid.{AreOwn}
 use Rattle.satl_audit.proofs.Links.{false_not_true}
 use Rattle.satl_laws.proofs.Cases.{or_left, or_right}
-use Rattle.satl_laws.proofs.Names.{called_back}
+use Rattle.satl_laws.proofs.Names.{called_apart, called_back}
 
 none_filtered : {X : Type 0} (p q : X → Bool) (xs : List X) → list_any p xs ≡ false → list_any p (filter q xs) ≡ false
 none_filtered p q [] h = refl
@@ -35,11 +35,6 @@ pub own_removed : (q : Entry → Bool) (ts : List Entry) → AreOwn ts → AreOw
 own_removed q [] h = h
 own_removed q (t ∷ ts) h =
     elim (q t) as (λ b. AreOwn (if b then ts else t ∷ remove_first q ts)) [ true ↦ h.1 | false ↦ (none_removed (is_called t.nexus (t.tag).0) q ts h.0, own_removed q ts h.1) ]
-
-pub called_apart : (t u : Entry) → is_called t.nexus (t.tag).0 u ≡ false → is_called u.nexus (u.tag).0 t ≡ false
-called_apart t u h =
-    (elim (is_called u.nexus (u.tag).0 t) as (λ b. is_called u.nexus (u.tag).0 t ≡ b → b ≡ false)
-    [ true ↦ λ e. absurd (false_not_true (called_back u t e) h) | false ↦ λ e. refl ]) refl
 
 pub own_pushed : (ts : List Entry) (t : Entry) → list_any (is_called t.nexus (t.tag).0) ts ≡ false → AreOwn ts → AreOwn (ts ++ t ∷ [])
 own_pushed [] t none own = (refl, tt)

@@ -56,10 +56,6 @@ pub covered_front : (trim : Bool) (earlier xs ys : List Frame) → AreCovered tr
 covered_front trim earlier [] ys h = tt
 covered_front trim earlier (x ∷ xs) ys h = (h.0, covered_front trim (earlier ++ x ∷ []) xs ys h.1)
 
-pub covered_next : (trim : Bool) (earlier xs : List Frame) (f : Frame) (ys : List Frame) → AreCovered trim earlier (xs ++ f ∷ ys) → is_covered trim (earlier ++ xs) f ≡ true
-covered_next trim earlier [] f ys h = ap (λ (l : List Frame). is_covered trim l f) (append-nil earlier) ∙ h.0
-covered_next trim earlier (x ∷ xs) f ys h = ap (λ (l : List Frame). is_covered trim l f) (sym (append_assoc earlier (x ∷ []) xs)) ∙ covered_next trim (earlier ++ x ∷ []) xs f ys h.1
-
 -- tasks of version 1
 pub tags_of : (ts : List Entry) → AllByRecursion IsFine ts → AllByRecursion (λ (t : Entry). (t.tag).0 < 2 ^ 32) ts
 tags_of [] h = tt

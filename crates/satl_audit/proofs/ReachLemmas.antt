@@ -34,7 +34,8 @@ use Rattle.satl_audit.proofs.Identities.{AllKnown}
 use Rattle.satl_audit.proofs.Sparse.{no_name}
 use Rattle.satl_audit.proofs.StandsLemmas.{data_stands, data_within, frames_behind}
 use Rattle.satl_audit.proofs.Taking.{frames_of, none_counted, once_of, taken_is_input}
-use Rattle.satl_audit.proofs.ReachBegins.{Reached, covered_front, covered_next, tags_of, expected_of, known_cut, good_cut}
+use Rattle.satl_cover.proofs.OneAnswer.{covered_there}
+use Rattle.satl_audit.proofs.ReachBegins.{Reached, covered_front, tags_of, expected_of, known_cut, good_cut}
 use Rattle.satl_laws.proofs.Cases.{both_left, both_right}
 use Rattle.std.proofs.lemmas.Bool.{not-true}
 use Rattle.satl_line.proofs.SlotsLemmas.{All-append, All-right, All-left}
@@ -48,7 +49,7 @@ module _ (identity : Identity) (is : IsIdentity identity) (input output : List �
   covered = subst (AreCovered identity.trim []) all_are taken.covered
 
   next_covered : is_covered identity.trim so_far event ≡ true
-  next_covered = covered_next identity.trim [] so_far event later covered
+  next_covered = covered_there identity.trim [] so_far event later covered
 
   known : is_known_frame identity.trim event ≡ true
   known = both_left (is_known_frame identity.trim event) (not (is_repeated so_far event)) next_covered

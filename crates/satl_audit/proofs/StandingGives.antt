@@ -7,6 +7,7 @@ use Rattle.std.specs.Cmp.Lexicographic.{pointwise}
 use Rattle.satl_base.specs.declared.block.Block.{Block}
 use Rattle.satl_base.specs.Cells.{Cell}
 use Rattle.satl_base.specs.Lists.{IsIn}
+use Rattle.satl_laws.proofs.Meeting.{any_passes}
 use Rattle.satl_audit.specs.Deeds.{GivesAt}
 use Rattle.satl_audit.specs.Guesses.{Guess, has_now, sure}
 use Rattle.satl_audit.specs.Sectors.{Sector, sector_gives, sector_show, shown_in}
@@ -16,7 +17,6 @@ use Rattle.satl_audit.proofs.GuessLists.{filter_in, in_filter, in_map, map_in, n
 use Rattle.satl_audit.proofs.Covering.{Covers, fits_as, Stands}
 use Rattle.satl_audit.proofs.StandingPuts.{stands_same}
 use Rattle.satl_audit.proofs.Links.{false_not_true}
-use Rattle.satl_audit.proofs.Meeting.{or_true}
 
 -- a sector that fits, or no cell
 abbrev pub StandsOr : (Cell → Type 0) → Option Sector → Type 0
@@ -35,11 +35,6 @@ any_in p (x ∷ xs) h =
       | true ↦ λ e k. record { of = x; among = inl refl; passes = e }
       | false ↦ λ e k. let r = any_in p xs k in record { of = r.of; among = inr r.among; passes = r.passes }
     ]) refl h
-
-in_any : {X : Type 0} (p : X → Bool) (xs : List X) (x : X) → IsIn x xs → p x ≡ true → list_any p xs ≡ true
-in_any p [] x i e = absurd i
-in_any p (y ∷ xs) x i e =
-    ⊎_elim (λ s. ap (λ b. b || list_any p xs) (ap p (sym s) ∙ e)) (λ r. or_true (p y) (list_any p xs) (in_any p xs x r e)) i
 
 module _ (v : Block) (K : Cell → Type 0) where
   abbrev Now : Cell → Type 0
@@ -94,7 +89,7 @@ module _ (v : Block) (K : Cell → Type 0) where
           let m = (filter_fits v K (map sure may) h.fits).only c k in
           let f = in_filter (has_now v) (map sure may) m.guess m.among in
           let t = in_map sure may m.guess f.0 in
-          false_not_true (in_any is_v may t.of t.among (subst (λ y. pointwise nat_eq v.bytes y.now.bytes ≡ true) t.same f.1)) e
+          false_not_true (any_passes is_v may t.of t.among (subst (λ y. pointwise nat_eq v.bytes y.now.bytes ≡ true) t.same f.1)) e
 
   show_stands : (o : Option Block) (may : List Block) → Stands K (record { now = o; may = may }) → StandsOr Now (shown_in o v may)
   show_stands None may h = one_stands may h

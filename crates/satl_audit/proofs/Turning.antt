@@ -12,6 +12,7 @@ use Rattle.satl_direct.specs.Quiet.{Around, Quiet}
 use Rattle.satl_direct.specs.Run.{TurnsOf, depth}
 use Rattle.satl_direct.specs.Turn.{OneEnds, Turn}
 use Rattle.satl_direct.specs.Turn.Turn.{idle, ends, loses, ends_and_loses}
+use Rattle.satl_laws.proofs.InOrderSteps.{by_true}
 use Rattle.satl_audit.specs.Deeds.{Deed, DoneBy, Walks}
 use Rattle.satl_audit.specs.Deeds.Deed.{shows}
 use Rattle.satl_audit.specs.Skeleton.{TaskDone, TurnsDone, bare, shown}
@@ -21,15 +22,11 @@ use Rattle.satl_audit.proofs.Stepping.{Behind, quiet_bare, quiet_behind, quiet_d
 
 -- ---- a lost link stays lost
 
-first_of : (A B : Type 0) (b : Bool) → b ≡ true → MatchBool b A B → A
-first_of A B true e h = h
-first_of A B false e h = absurd cc
-
 one_down : (s : Device) (reply : Reply) (new : Device) → OneEnds s reply new → s.down ≡ true → new.down ≡ true
 one_down s reply new e h =
     let t = e.task in
     let c : IsChecked link_lost s t reply new =
-    first_of (IsChecked link_lost s t reply new) (MatchBool (not s.started && (asks t.command).starts) (IsChecked not_ready s t reply new) (EndsBy t.command s t reply new)) s.down h e.ends in
+    by_true (IsChecked link_lost s t reply new) (MatchBool (not s.started && (asks t.command).starts) (IsChecked not_ready s t reply new) (EndsBy t.command s t reply new)) s.down h e.ends in
     ap (λ (x : Device). x.down) c.stays ∙ h
 
 turn_down : (s : Device) (replies : List Reply) (new : Device) → Turn s replies new → s.down ≡ true → new.down ≡ true

@@ -6,9 +6,10 @@ ghost use Rattle.satl_audit.specs.Arriving.{CannotPlace, Goes, Places, Sticks, a
 ghost use Rattle.satl_audit.specs.Waiting.{AllFit, MayWait};
 
 use crate::cursor::Cursor;
-use crate::judging::{AtOnce, attention_sense, is_untold, judge, task_of};
+use crate::judging::{AtOnce, judge, task_of};
 use crate::reply::{pass_check, pass_status};
 use crate::waiting::Waiting;
+use satl_asks::{attention_sense, is_untold};
 use satl_base::{NoMemory, Request, Scsi};
 use satl_cdb::Command;
 use satl_identify::Identity;

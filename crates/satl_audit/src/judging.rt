@@ -1,109 +1,27 @@
 // What becomes of a request that the auditor knows.
-ghost use Rattle.std.specs.Prelude.{◌≡◌, ◌+◌, List, [], true, nat_lt, Ok, IfOk};
+ghost use Rattle.std.specs.Prelude.{◌≡◌, List, true, Ok, IfOk};
 ghost use Rattle.satl_base.specs.declared.block.Block.{Block};
-ghost use Rattle.satl_base.specs.Lists.{is_in};
 ghost use Rattle.satl_cdb.specs.Table.{says};
-ghost use Rattle.satl_direct.specs.Arrival.{code_arrival, command_arrival, untold_codes};
+ghost use Rattle.satl_direct.specs.Arrival.{code_arrival, command_arrival};
 ghost use Rattle.satl_direct.specs.Device.{Device};
-ghost use Rattle.satl_direct.specs.Senses.{attention_sense, plain, refusal};
-ghost use Rattle.satl_direct.specs.Tasks.{asks, held_blocks, is_ordered, needed, range_of};
+ghost use Rattle.satl_direct.specs.Tasks.{asks};
 ghost use Rattle.satl_cover.specs.Known.{is_known};
 ghost use Rattle.satl_audit.specs.Arriving.{BecomesJudged, IsServing, bare_task, judged};
 ghost use Rattle.satl_audit.specs.Waiting.{IsTransfer, MayWait};
 
 use arrayvec::ArrayVec;
-use satl_base::{Attr, Pages, Range, Request};
-use satl_cdb::{Command, Illegal, read_cdb};
+use satl_asks::{held_blocks, is_ordered, is_outside, needed, plain, range_of, refusal};
+use satl_base::{Pages, Range, Request};
+use satl_cdb::{Command, read_cdb};
 use satl_identify::Identity;
 use satl_line::{Entry, Kind};
-use satl_sense::{Extra, Sense};
-use satl_unit::Attention;
+use satl_sense::Sense;
 
 /// Why a request is answered at once (SAM-5 5.3.1).
 #[derive(Clone, Copy, Debug, PartialEq, Eq)]
 pub enum AtOnce {
     Good,
     Check(Sense),
-}
-
-/// Whether a command of this operation code is carried out before a unit attention is told (SAM-5 5.14).
-pub fn is_untold(code: u8) -> bool
-    ensures { result ≡ is_in code untold_codes }
-{
-    matches!(code, 0x12 | 0xA0 | 0x03)
-}
-
-fn plain(key: u8, asc: u8, ascq: u8) -> Sense
-    ensures { result ≡ plain key asc ascq }
-{
-    Sense {
-        key,
-        asc,
-        ascq,
-        extra: Extra::None,
-    }
-}
-
-/// UNIT ATTENTION, by its condition (SPC-4 4.5.6).
-pub fn attention_sense(what: Attention) -> Sense
-    ensures { result ≡ attention_sense what }
-{
-    let codes = what.additional_sense();
-    plain(0x6, codes.asc, codes.ascq)
-}
-
-fn pointer_to(in_cdb: bool, pointer: Option<u16>) -> Extra
-    ensures { result ≡ Rattle.satl_direct.specs.Senses.pointer_to in_cdb pointer }
-{
-    match pointer {
-        None => Extra::None,
-        Some(byte) => Extra::Pointer { in_cdb, byte },
-    }
-}
-
-/// A command that is refused (SPC-4 4.5.6).
-fn refusal(why: Illegal) -> Sense
-    ensures { result ≡ refusal why }
-{
-    Sense {
-        key: 0x5,
-        asc: why.asc,
-        ascq: why.ascq,
-        extra: pointer_to(why.in_cdb, why.pointer),
-    }
-}
-
-fn is_ordered(attr: Attr) -> bool
-    ensures { result ≡ is_ordered attr }
-{
-    match attr {
-        Attr::Simple => false,
-        Attr::Ordered => true,
-    }
-}
-
-/// The blocks that a known command goes over.
-pub fn range_of(command: &Command) -> Range
-    requires { is_known (Ok command.now) ≡ true }
-    ensures { result ≡ range_of command.now }
-{
-    match *command {
-        Command::Read { lba, count, .. }
-        | Command::Write { lba, count, .. }
-        | Command::Flush { lba, count, .. } => Range { lba, count },
-        _ => Range { lba: 0, count: 0 },
-    }
-}
-
-/// The blocks that the task of a known command holds.
-fn held_blocks(command: &Command) -> u32
-    requires { is_known (Ok command.now) ≡ true }
-    ensures { result ≡ held_blocks command.now }
-{
-    match *command {
-        Command::Read { count, .. } | Command::Write { count, .. } => count,
-        _ => 0,
-    }
 }
 
 /// The ranges that the task of a known command reads or writes.
@@ -116,24 +34,6 @@ fn ranges_of(command: &Command) -> ArrayVec<Range, 64>
         ranges.push(Range { lba, count });
     }
     ranges
-}
-
-/// The bytes of data-out that a known command needs.
-fn needed(command: &Command) -> u64
-    requires { is_known (Ok command.now) ≡ true }
-    ensures { result ≡ needed command.now }
-{
-    match *command {
-        Command::Write { count, .. } => 512 * u64::from(count),
-        _ => 0,
-    }
-}
-
-/// Whether a range goes past the last sector.
-fn is_outside(range: Range, capacity: u64) -> bool
-    ensures { result ≡ nat_lt capacity (range.lba + range.count) }
-{
-    u64::from(range.count) > capacity || range.lba > capacity - u64::from(range.count)
 }
 
 /// A known command whose fields and data-out are good: it may become a task, unless it has nothing to do.

@@ -21,7 +21,8 @@ use Rattle.satl_line.proofs.SlotsLemmas.{All-append, total-append}
 use Rattle.satl_direct.specs.Tasks.{asks, data_out, held_blocks, needed, pass_of, task_for, task_of}
 use Rattle.satl_core.specs.Layer.{CanTrim, IsCovered, IsExpectable, IsKept, IsTask, Layer, entry_pages, held_pages}
 use Rattle.satl_core.specs.Refilling.{Comes}
-use Rattle.satl_core.specs.Submitting.{Becomes, HasEntries, HasList, IsAdded, IsRefused, task_without_pages, trims}
+use Rattle.satl_asks.specs.Commands.{HasList}
+use Rattle.satl_core.specs.Submitting.{Becomes, HasEntries, IsAdded, IsRefused, task_without_pages, trims}
 use Rattle.satl_identify.specs.Refusals.{IsIdentity}
 use Rattle.satl_core.proofs.AgreeingLemmas.{HasOwnEntries, fits_kept}
 use Rattle.std.proofs.lemmas.List.{length-take}

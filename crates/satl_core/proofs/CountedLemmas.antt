@@ -17,7 +17,8 @@ use Rattle.satl_flight.proofs.LaunchedLemmas.{deepens_on, deepens_same}
 use Rattle.satl_core.specs.Layer.{Layer, view}
 use Rattle.satl_core.specs.Refilling.{AreKept}
 use Rattle.satl_core.specs.Leaving.{left_by}
-use Rattle.satl_core.specs.Submitting.{is_for_unit, Becomes, IsAdded, IsRefused, attention_of, once_judged, overlaps, task_without_pages, untold}
+use Rattle.satl_asks.specs.Requests.{is_for_unit}
+use Rattle.satl_core.specs.Submitting.{Becomes, IsAdded, IsRefused, attention_of, once_judged, overlaps, task_without_pages, untold}
 use Rattle.satl_core.proofs.LeavingLemmas.{left_fewer}
 
 -- ---- losses

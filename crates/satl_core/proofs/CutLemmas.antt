@@ -22,7 +22,8 @@ use Rattle.satl_direct.specs.Tasks.{asks, block_fault, needed, range_of}
 use Rattle.satl_core.specs.declared.submitting.AtOnce.{AtOnce}
 use Rattle.satl_core.specs.declared.submitting.AtOnce.TheVariants as at_once
 use Rattle.satl_core.specs.Layer.{Layer}
-use Rattle.satl_core.specs.Submitting.{CanSubmit, answer_to, is_for_unit, other_answer, attention_answer, attention_of, cdb_answer, code_answer, command_answer, judged, overlaps, readiness, HasLengths, HoldsList, is_idle, unless_refused, unmap_list_fault}
+use Rattle.satl_asks.specs.Requests.{is_for_unit}
+use Rattle.satl_core.specs.Submitting.{CanSubmit, answer_to, other_answer, attention_answer, attention_of, cdb_answer, code_answer, command_answer, judged, overlaps, readiness, HasLengths, HoldsList, is_idle, unless_refused, unmap_list_fault}
 use Rattle.satl_core.proofs.SayingLemmas.{IsSaid, said_of}
 use Rattle.satl_core.proofs.JudgingLemmas.{has_header, list_held, of_command, of_told}
 

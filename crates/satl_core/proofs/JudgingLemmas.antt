@@ -27,7 +27,9 @@ use Rattle.satl_direct.specs.Tasks.{asks, held_blocks, needed, range_of}
 use Rattle.satl_core.specs.declared.submitting.AtOnce.{AtOnce}
 use Rattle.satl_core.specs.declared.submitting.AtOnce.TheVariants as at_once
 use Rattle.satl_core.specs.Layer.{IsCovered, IsTask, IsWithin, Layer}
-use Rattle.satl_core.specs.Submitting.{CanPass, answer_to, is_for_unit, other_answer, attention_answer, attention_of, cdb_answer, code_answer, command_answer, judged, overlaps, readiness, untold, HasLengths, HasList, HoldsList, is_idle, trims, unless_idle, unless_refused, unmap_list_fault}
+use Rattle.satl_asks.specs.Commands.{CanPass, HasList}
+use Rattle.satl_asks.specs.Requests.{is_for_unit}
+use Rattle.satl_core.specs.Submitting.{answer_to, other_answer, attention_answer, attention_of, cdb_answer, code_answer, command_answer, judged, overlaps, readiness, untold, HasLengths, HoldsList, is_idle, trims, unless_idle, unless_refused, unmap_list_fault}
 use Rattle.satl_core.proofs.SayingLemmas.{IsSaid, said_of}
 
 -- a command that is answered from what the device says of itself

@@ -15,7 +15,8 @@ use Rattle.satl_core.specs.declared.submitting.AtOnce.TheVariants as at_once
 use Rattle.satl_core.specs.Layer.{Layer, view}
 use Rattle.satl_core.specs.Leaving.{is_within, left_by}
 use Rattle.satl_core.specs.Refilling.{Answers, Refills, Removes}
-use Rattle.satl_core.specs.Submitting.{IsCutOf, is_for_unit, is_overlapping, judged, once_judged, overlaps, reply_at_once}
+use Rattle.satl_asks.specs.Requests.{is_for_unit}
+use Rattle.satl_core.specs.Submitting.{IsCutOf, is_overlapping, judged, once_judged, overlaps, reply_at_once}
 use Rattle.satl_core.proofs.ArrivalLemmas.{answers_at_once}
 use Rattle.satl_core.proofs.ComposeLemmas.{around_step, step_on}
 use Rattle.satl_core.proofs.DeviceLemmas.{around_alone}

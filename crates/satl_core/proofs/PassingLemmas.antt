@@ -1,7 +1,7 @@
 -- ATA PASS-THROUGH: what its command does on the drive is what the device says.
 use Rattle.std.proofs.Common.{◌≡◌, ◌⊎◌, ⊎_elim, inl, inr, refl, sym, ap, subst, ◌∙◌, arith, ℕ, ◌+◌, ◌*◌, ◌≤◌, Bool, true, false, List, [], ◌∷◌, ◌++◌, length}
-use Rattle.std.specs.Prelude.{MatchBool, MatchOption, Option, Some, None, Result, Ok, IfOk, if◌then◌else◌, not, ◌==◌, ◌&&◌, ◌||◌, nat_lt}
-use Rattle.std.proofs.lemmas.Bool.{eqb-true}
+use Rattle.std.specs.Prelude.{MatchBool, MatchOption, Option, Some, None, if◌then◌else◌, not, ◌==◌, ◌&&◌, ◌||◌, nat_lt}
+use Rattle.std.proofs.lemmas.Bool.{eqb-true, not-false}
 use Rattle.std.proofs.lemmas.List.{length-append, length-take, take_all}
 use Rattle.satl_base.specs.declared.block.Block.{Block}
 use Rattle.satl_base.specs.declared.modes.Modes.{Modes}
@@ -11,7 +11,6 @@ use Rattle.satl_base.specs.Cells.{Pair, first_flaw}
 use Rattle.satl_base.specs.Lists.{IsIn}
 use Rattle.satl_base.proofs.MovesLemmas.{lose_once}
 use Rattle.satl_cdb.specs.declared.command.Command.TheVariants as cdbs
-use Rattle.satl_cdb.specs.declared.command.Illegal.{Illegal}
 use Rattle.satl_identify.specs.declared.identity.Identity.{Identity}
 use Rattle.satl_identify.specs.Data.{identity_data}
 use Rattle.satl_sense.specs.declared.sense.Sense.{Sense}
@@ -24,8 +23,7 @@ use Rattle.satl_regs.specs.Effects as effects
 use Rattle.satl_regs.specs.Effects.{Carries, Does, IsRefused, Medium, Setting, Transfer, abrt, has_setting, own_blocks, pairs_of, reading, setting_of, settable, trimming, verifying, writing}
 use Rattle.satl_regs.specs.Effects.Setting.{sets_cache, sets_look}
 use Rattle.satl_pass.specs.declared.pass.Pass.{Pass}
-use Rattle.satl_pass.specs.Fields.{form_of, pass_in}
-use Rattle.satl_pass.specs.Reading.{CanRun, pass_says, rules}
+use Rattle.satl_pass.specs.Reading.{CanRun}
 use Rattle.satl_pass.specs.Status.{is_bad}
 use Rattle.satl_pass.specs.Transfers.{is_other}
 use Rattle.satl_frame.specs.DataPages.{page_count, pages_from, pages_of}
@@ -46,28 +44,12 @@ use Rattle.satl_core.specs.Medium.{PassesThrough, passed}
 use Rattle.satl_core.specs.Refilling.{EndsOne}
 use Rattle.satl_core.specs.Turning.{ended_reply, modes_after, set_by, where_done, with_setting}
 use Rattle.satl_core.proofs.DeviceLemmas.{ends_around, ends_by, first_gone, quiet_none, seen}
-use Rattle.satl_core.proofs.SayingLemmas.{unbroken}
-
--- ---- what is judged
-
--- where nothing is refused, what is said is what the fields say
-says_fields : (cdb : List ℕ) (pass : Pass) → pass_says cdb ≡ Ok pass → pass_of cdb ≡ pass
-unfolding pass_says
-says_fields cdb pass e = unbroken (rules (form_of cdb)) cdb (pass_in (form_of cdb) cdb) pass e
-
--- so it can be run
-pub can_run : (cdb : List ℕ) (pass : Pass) (found : Result Pass Illegal) → found ≡ Ok pass → found ≡ pass_says cdb → IfOk found CanRun → CanRun (pass_of cdb)
-can_run cdb pass found is says can = subst CanRun (sym (says_fields cdb pass (sym says ∙ is))) (subst (λ f. IfOk f CanRun) is can)
-
-not_false : (b : Bool) → not b ≡ false → b ≡ true
-not_false true h = refl
-not_false false h = absurd cc
 
 -- the length of a command of the profile is its own
 own_length : (pass : Pass) → is_other (command_in pass.regs) ≡ false → CanRun pass → pass.length ≡ 512 * own_blocks (command_in pass.regs)
 own_length pass named can =
     eqb-true pass.length (512 * own_blocks (command_in pass.regs))
-    (not_false (pass.length == 512 * own_blocks (command_in pass.regs)) (subst (λ b. (not b && not (pass.length == 512 * own_blocks (command_in pass.regs))) ≡ false) named can.own_length))
+    (not-false (pass.length == 512 * own_blocks (command_in pass.regs)) (subst (λ b. (not b && not (pass.length == 512 * own_blocks (command_in pass.regs))) ≡ false) named can.own_length))
 
 -- its data have room in its pages
 pub own_room : (pass : Pass) (n : ℕ) → CanRun pass → n ≡ page_count pass.length → own_blocks (command_in pass.regs) ≤ n

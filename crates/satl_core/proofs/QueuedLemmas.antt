@@ -43,7 +43,7 @@ use Rattle.satl_flight.specs.Settled.{IsFilled, IsFlawOrCrc, IsLostInFlight, IsL
 use Rattle.satl_core.specs.Layer.{Agrees, Layer, view, works}
 use Rattle.satl_core.specs.Refilling.{EndsOne}
 use Rattle.satl_core.specs.Turning as core
-use Rattle.satl_core.specs.Turning.{ended_reply, ending_by, is_writer, read_pages}
+use Rattle.satl_core.specs.Turning.{ended_reply, ending_by, is_read, read_pages}
 use Rattle.satl_core.proofs.DeviceLemmas.{ends_by, quiet_none, rest_lost}
 
 -- ---- a task as the device sees it
@@ -119,7 +119,7 @@ crc_sense writes at = refl
 -- what the layer tells of a ranged task is what the device tells
 record TellsSame (command : Command) (ranged : RangedTask) : Type 0 where
   data_in : (body : List Block) → read_pages command body ≡ read_into ranged body
-  flaw : (at : ℕ) → error_sense_at (is_writer command) unc at ≡ medium_error ranged at
+  flaw : (at : ℕ) → error_sense_at (not (is_read command)) unc at ≡ medium_error ranged at
 
 tells : (command : Command) (ranges : List Range) (body : List Block) (ranged : RangedTask) → ranged_by command ranges body ≡ Some ranged → TellsSame command ranged
 tells (commands.Read form lba count fua) ranges body ranged h = let is : ranged_read fua (record { lba = lba; count = count }) ≡ ranged = cc in subst (TellsSame (commands.Read form lba count fua)) is (record { data_in = λ b. refl; flaw = read_flaw })
@@ -145,12 +145,12 @@ settled_reply s e ranged body None is kind = ap (task_reply (task_of e) Good [])
 settled_reply s e ranged body (Some x) is kind =
     ⊎_elim
     (λ flawed.
-    ap (λ n. task_check s (task_of e) (error_sense_at (is_writer e.command) n x.lba)) flawed
+    ap (λ n. task_check s (task_of e) (error_sense_at (not (is_read e.command)) n x.lba)) flawed
     ∙ (ap (task_check s (task_of e)) ((tells e.command e.ranges.items e.body ranged (by_command e ranged is)).flaw x.lba)
     ∙ ap (λ b. outcome_reply s (task_of e) ranged (if b then ends_flawed x.lba else ends_glitched)) (sym (ap (λ n. n == unc) flawed))))
     (λ garbled.
-    ap (λ n. task_check s (task_of e) (error_sense_at (is_writer e.command) n x.lba)) garbled
-    ∙ (ap (task_check s (task_of e)) (crc_sense (is_writer e.command) x.lba)
+    ap (λ n. task_check s (task_of e) (error_sense_at (not (is_read e.command)) n x.lba)) garbled
+    ∙ (ap (task_check s (task_of e)) (crc_sense (not (is_read e.command)) x.lba)
     ∙ ap (λ b. outcome_reply s (task_of e) ranged (if b then ends_flawed x.lba else ends_glitched)) (sym (ap (λ n. n == unc) garbled))))
     kind
 

@@ -11,6 +11,7 @@ use Rattle.satl_cdb.specs.Rows.{Format, Row, Rule, found_says, format_of, format
 use Rattle.satl_cdb.specs.BlockCommands.{Layout, read, read_6, read_capacity_10, read_capacity_16, six, sixteen, start_stop, synchronize_cache, ten, transfer_rules, twelve, unmap, verify, write, write_6, write_same}
 use Rattle.satl_cdb.specs.PrimaryCommands.{inquiry, mode_length, mode_select, mode_sense, report_luns, request_sense, test_unit_ready}
 use Rattle.satl_cdb.specs.Table.{pass_through_12, pass_through_16, says, table}
+use Rattle.satl_asks.proofs.Passing.{unbroken}
 use Rattle.satl_core.specs.Submitting.{HasLengths}
 
 -- what is known of a command by its bytes: how many blocks it may go over, that a parameter list has fewer than 65,536 bytes, and that it trims
@@ -57,15 +58,6 @@ short_few n few = elim (n == 0) as (λ b. cond b 256 n ≤ 4096) [ true ↦ omeg
 
 short_count : (cdb : List ℕ) → slice_index cdb 4 < 256 → six.count cdb ≤ 4096
 short_count cdb byte = short_few (bytes 4 4 cdb) (omega (arith, byte))
-
--- what is said where no rule is broken
-pub unbroken : {A : Type 0} (rules : List Rule) (cdb : List ℕ) (c d : A) → unless_broken rules cdb c ≡ Ok d → c ≡ d
-unbroken [] cdb c d e = cc
-unbroken {A = A} (rule ∷ rules) cdb c d e =
-    (elim (rule.breaks cdb) as (λ b. cond b (Err rule.refusal) (unless_broken rules cdb c) ≡ Ok d → c ≡ d) [
-      | true ↦ λ f. absurd cc
-      | false ↦ λ f. unbroken rules cdb c d f
-    ]) e
 
 -- no rule is broken
 pub rules_kept : (rules : List Rule) (cdb : List ℕ) (c d : Command) → unless_broken rules cdb c ≡ Ok d → AllByRecursion (λ (rule : Rule). rule.breaks cdb ≡ false) rules

@@ -20,7 +20,7 @@ use Rattle.satl_regs.proofs.Trims.{block_back, entries_fit}
 use Rattle.satl_line.specs.Ranged.RangedTask.{ranged_trim}
 use Rattle.satl_flight.specs.Flown.{RangedFits}
 use Rattle.satl_core.specs.Layer.{AreTrimmed}
-use Rattle.satl_core.specs.Submitting.{IsList}
+use Rattle.satl_asks.specs.Commands.{IsList}
 use Rattle.satl_core.proofs.SelectLemmas.{Agree, number_same}
 
 -- the blocks of ranges

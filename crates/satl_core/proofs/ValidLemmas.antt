@@ -33,7 +33,8 @@ use Rattle.satl_core.specs.Refilling.{Comes}
 use Rattle.satl_core.specs.Layer.{Agrees, IsExpectable, IsUsed, Layer, Tied, view, works}
 use Rattle.satl_core.proofs.AgreeingLemmas.{agrees_by, capacity_is, idle_in_flight}
 use Rattle.satl_core.specs.Leaving.{left_by}
-use Rattle.satl_core.specs.Submitting.{is_for_unit, Becomes, IsAdded, IsRefused, attention_of, code_answer, judged, once_judged, overlaps, task_without_pages, untold}
+use Rattle.satl_asks.specs.Requests.{is_for_unit}
+use Rattle.satl_core.specs.Submitting.{Becomes, IsAdded, IsRefused, attention_of, code_answer, judged, once_judged, overlaps, task_without_pages, untold}
 use Rattle.satl_barrier.specs.Leaving.{Stays}
 use Rattle.satl_core.proofs.TieLemmas.{bytes_long, has_as_noted, queue_alike}
 use Rattle.satl_core.proofs.ArrivalLemmas.{code_waits, full_is, full_or_waits}

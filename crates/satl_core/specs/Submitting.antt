@@ -17,13 +17,14 @@ use Rattle.satl_cdb.specs.Unmap as unmap
 use Rattle.satl_identify.specs.declared.identity.Identity.{Identity}
 use Rattle.satl_sense.specs.declared.sense.Sense.{Sense}
 use Rattle.satl_regs.specs.Trim.{trim_block}
-use Rattle.satl_pass.specs.Reading.{CanRun}
 use Rattle.satl_line.specs.declared.entry.Entry.{Entry}
 use Rattle.satl_unit.specs.declared.attention.Attention.{Attention}
-use Rattle.satl_direct.specs.Arrival.{asks_for, code_of, is_unit_0, reply_to, told, untold_codes}
+use Rattle.satl_direct.specs.Arrival.{asks_for, code_of, reply_to, told, untold_codes}
 use Rattle.satl_direct.specs.Device.{is_of}
 use Rattle.satl_direct.specs.Senses.{attention_sense, link_lost, no_sense, not_ready, out_of_range, overlapped, refusal, sense_text, short_data, unknown_unit}
-use Rattle.satl_direct.specs.Tasks.{asks, needed, pass_of, range_of, task_for, task_of}
+use Rattle.satl_direct.specs.Tasks.{asks, needed, range_of, task_for, task_of}
+use Rattle.satl_asks.specs.Commands.{IsList}
+use Rattle.satl_asks.specs.Requests.{is_for_unit}
 use Rattle.satl_core.specs.declared.submitting.AtOnce.{AtOnce}
 use Rattle.satl_core.specs.declared.submitting.AtOnce.TheVariants as at_once
 use Rattle.satl_line.specs.Tasks.{Held, entries_of, is_named, is_too_much}
@@ -122,17 +123,6 @@ HoldsList r = (r.data_len ≤ 512 * length r.body) ⊎ (65536 ≤ 512 * length r
 abbrev pub HasLengths : List ℕ → Type 0
 HasLengths cdb = (slice_index cdb 4 < 256) × (slice_index cdb 7 < 256) × (slice_index cdb 8 < 256)
 
--- a list of an UNMAP that has no fault: its header, its bytes in the pages, and its descriptors (SBC-3 5.28)
-pub record IsList (body : List Block) (size capacity : ℕ) : Type 0 where
-  pub header : 8 ≤ size
-  pub whole : size ≤ 512 * length body
-  pub sound : unmap.list_fault body size capacity ≡ None
-
--- the list of an UNMAP has no fault (SBC-3 5.28)
-abbrev pub HasList : Command → List Block → ℕ → Type 0
-HasList (commands.Unmap size) body capacity = IsList body size capacity
-HasList _ body capacity = Unit {0}
-
 -- the same, or it is empty (SBC-3 5.28)
 abbrev pub HasListUnlessEmpty : Command → List Block → ℕ → Type 0
 HasListUnlessEmpty (commands.Unmap size) body capacity = (size ≡ 0) ⊎ IsList body size capacity
@@ -145,11 +135,6 @@ unmap_list_fault body size capacity = if size == 0 then None else unmap.list_fau
 -- the refusal of the block of a WRITE SAME that unmaps: it has to be zeros (SBC-3 5.42; profile)
 abbrev pub fault_of_block : Block → Option Illegal
 fault_of_block block = if list_all (λ byte. byte == 0) block.bytes then None else Some (invalid_field 1)
-
--- an ATA PASS-THROUGH can be run as it stands (SAT-3 12.2)
-abbrev pub CanPass : Command → Type 0
-CanPass (commands.Pass cdb) = CanRun (pass_of cdb)
-CanPass _ = Unit {0}
 
 -- whether a command trims: an UNMAP, and a WRITE SAME that unmaps (SBC-3 5.28, 5.42)
 abbrev pub trims : Command → Bool
@@ -165,10 +150,6 @@ HasEntries _ queued_trim list pages = Unit {0}
 -- whether a task has the nexus and tag of a request (SAM-5 5.1, overlapped commands)
 abbrev pub overlaps : List Held → Request → Bool
 overlaps tasks r = is_some (position_from (is_named r.nexus r.tag) 0 tasks)
-
--- to logical unit 0, or REPORT LUNS to any (SPC-4 6.33)
-abbrev pub is_for_unit : Request → Bool
-is_for_unit r = is_unit_0 r.lun || asks_for 0xA0 r
 
 -- whether it is for logical unit 0 and has the nexus and tag of a task (SAM-5 5.1, overlapped commands)
 abbrev pub is_overlapping : List Held → Request → Bool

@@ -98,15 +98,15 @@ turn_calls = barrier_calls + 32
 abbrev pub off_calls : ℕ
 off_calls = 1 + 32
 
--- whether a command writes, or trims (SBC-3 5)
-abbrev pub is_writer : Command → Bool
-is_writer (Read form lba count fua) = false
-is_writer _ = true
+-- whether a command is a READ; each other command that is queued writes, or trims (SBC-3 5)
+abbrev pub is_read : Command → Bool
+is_read (Read form lba count fua) = true
+is_read _ = false
 
 -- how a queued command ends a task: with GOOD, or by the error log with the sense data of the table of errors (SAT-3 11)
 abbrev pub ending_by : Command → Option NcqError → Ending
 ending_by command None = endings.Good
-ending_by command (Some e) = endings.Check (error_sense_at (is_writer command) e.error e.lba)
+ending_by command (Some e) = endings.Check (error_sense_at (not (is_read command)) e.error e.lba)
 
 -- a task ends with this sense, and the drive is not asked (profile)
 pub record IsUnasked (sense : Sense) (old : DriveState) (ending : Ending) (new : DriveState) : Type 0 where

@@ -2,7 +2,6 @@
 #![tactic(auto)]
 
 mod alone;
-mod arrival;
 mod benching;
 mod leaving;
 mod managing;

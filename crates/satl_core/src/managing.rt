@@ -4,8 +4,8 @@ ghost use Rattle.satl_unit.specs.Conditions.{posted};
 ghost use Rattle.satl_direct.specs.Management.{found, has_unit};
 ghost use Rattle.satl_core.specs.Managing.{condition_of, effect, effect_of, is_told, once_posted, only, with_posted};
 
-use crate::arrival::is_unit_0;
 use crate::leaving::{Scope, has_any};
+use satl_asks::is_unit_0;
 use satl_base::{Manage, Nexus, Response};
 use satl_flight::Queue;
 use satl_unit::{Attention, Attentions, Function};

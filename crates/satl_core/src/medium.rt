@@ -9,8 +9,8 @@ ghost use Rattle.satl_core.specs.Medium as medium;
 ghost use Rattle.satl_core.specs.Medium.{HasCompared, HasFinished, HasVerified, TakesTrim};
 ghost use Rattle.satl_core.specs.Turning.{barrier_calls};
 
-use crate::arrival::plain;
 use crate::turning::Ending;
+use satl_asks::plain;
 use satl_barrier::{Comparison, Finish, compare, trim, verify, write_same};
 use satl_base::{Pages, Range, Steps};
 use satl_drive::{Drive, LinkDown};

@@ -17,7 +17,8 @@ ghost use Rattle.satl_direct.specs.Turn.{Turn};
 ghost use Rattle.satl_core.specs.Layer.{IsTask, Tied, reply_pages, view};
 ghost use Rattle.satl_core.specs.Opening.{IsCause, IsOpened, IsUndisturbed};
 ghost use Rattle.satl_core.specs.Refilling.{AreKept, Comes};
-ghost use Rattle.satl_core.specs.Submitting.{Becomes, CanSubmit, HasLengths, HasList, HoldsList, IsCutOf, arrival_calls, is_overlapping, judged, once_judged, trims};
+ghost use Rattle.satl_asks.specs.Commands.{HasList};
+ghost use Rattle.satl_core.specs.Submitting.{Becomes, CanSubmit, HasLengths, HoldsList, IsCutOf, arrival_calls, is_overlapping, judged, once_judged, trims};
 ghost use Rattle.satl_mode.specs.Changes.{AreModesOf, IsChangeOf};
 ghost use Rattle.satl_line.specs.Tasks.{total_blocks};
 ghost use Rattle.satl_base.specs.Limits.{most_held, most_tasks};
@@ -25,7 +26,6 @@ ghost use Rattle.satl_core.specs.Flushed.{IsFlushed, IsSettled};
 ghost use Rattle.satl_core.specs.Turning.{off_calls, turn_calls};
 ghost use Rattle.satl_flight.specs.Settled.{Deepens};
 
-use crate::arrival::{is_for_unit, plain};
 use crate::benching::{act_on, powered_on};
 use crate::leaving::{Scope, drop_tasks};
 use crate::managing::{decide, post};
@@ -33,6 +33,7 @@ use crate::submitting::{
     AtOnce, answer_at_once, judge_code, next_attention, other_answer, own_pages, read_lengths,
     reply_to, task_without_pages, tell_attention,
 };
+use satl_asks::{is_for_unit, plain};
 use satl_barrier::tell_identity;
 use satl_base::{
     BenchEvent, Lender, Manage, Modes, NoMemory, Pages, Replies, Request, Response, Scsi,

@@ -7,15 +7,16 @@ ghost use Rattle.satl_identify.specs.Refusals.{IsIdentity};
 ghost use Rattle.satl_mode.specs.SelectList.{select_fault};
 ghost use Rattle.satl_direct.specs.Tasks.{asks, data_out, held_blocks, needed};
 ghost use Rattle.satl_core.specs.Layer.{IsExpectable, entry_pages, reply_pages};
-ghost use Rattle.satl_core.specs.Submitting.{CanPass, HasEntries, HasLengths, HasList, HasListUnlessEmpty, HoldsList, answer_to, attention_of, code_answer, command_answer, data_answer, fault_of_block, is_idle, other_answer, readiness, reply_at_once, sense_data, task_without_pages, tell_attention, trims, unless_idle, unmap_list_fault, untold};
+ghost use Rattle.satl_asks.specs.Commands.{CanPass, HasList};
+ghost use Rattle.satl_core.specs.Submitting.{HasEntries, HasLengths, HasListUnlessEmpty, HoldsList, answer_to, attention_of, code_answer, command_answer, data_answer, fault_of_block, is_idle, other_answer, readiness, reply_at_once, sense_data, task_without_pages, tell_attention, trims, unless_idle, unmap_list_fault, untold};
 
-use crate::arrival::{
-    attention_sense, change_of, fields_fault, held_blocks, is_ordered, is_outside, is_untold,
-    length_fault, listed_ranges, needed, plain, range_of, ranges_of, refusal,
-};
 use crate::satl::Satl;
 use crate::telling::{Data, data_text, told};
 use arrayvec::ArrayVec;
+use satl_asks::{
+    attention_sense, change_of, fields_fault, held_blocks, is_ordered, is_outside, is_untold,
+    length_fault, listed_ranges, needed, plain, range_of, ranges_of, refusal,
+};
 use satl_base::{Block, Modes, Pages, Replies, Reply, Request, Scsi, SenseBytes};
 use satl_cdb::{Command, Illegal, read_cdb, read_unmap_list};
 use satl_identify::Identity;

@@ -15,10 +15,10 @@ ghost use Rattle.satl_barrier.specs.Settings.{CanSet, IsSetBy};
 ghost use Rattle.satl_core.specs.Turning.{CarriedOut, IsLostInTask, TaskEnds, barrier_calls, ended_reply, lost_replies, modes_after, modes_left, started_after};
 
 use crate::alone::Alone;
-use crate::arrival::plain;
 use crate::medium::{compare_range, trim_ranges, verify_range, write_range};
 use crate::passing::run_through;
 use arrayvec::ArrayVec;
+use satl_asks::plain;
 use satl_barrier::{flush, switch, tune};
 use satl_base::{Modes, Pages, Replies, Reply, Scsi, Steps};
 use satl_cdb::Command;
@@ -181,15 +181,15 @@ pub fn ending_by(command: &Command, error: &Option<NcqError>) -> Ending
 {
     match error {
         None => Ending::Good,
-        Some(e) => Ending::Check(error_sense_at(is_writer(command), e.error, e.lba)),
+        Some(e) => Ending::Check(error_sense_at(!is_read(command), e.error, e.lba)),
     }
 }
 
-/// Whether a command writes, or trims.
-fn is_writer(command: &Command) -> bool
-    ensures { result ≡ Turning.is_writer command.now }
+/// Whether a command is a READ; each other command that is queued writes, or trims (SBC-3 5).
+fn is_read(command: &Command) -> bool
+    ensures { result ≡ Turning.is_read command.now }
 {
-    !matches!(*command, Command::Read { .. })
+    matches!(*command, Command::Read { .. })
 }
 
 /// Answers a task. A READ that is done gives its pages as data-in, and so does an ATA PASS-THROUGH whose data came from the drive; all other

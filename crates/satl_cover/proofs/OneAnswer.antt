@@ -73,7 +73,7 @@ one_fault (bad_rest {version} fs {rest} reads some r o) (bad_rest {version = v} 
 
 -- ---- the first frame that is not covered
 
-covered_there : (trim : Bool) (earlier before : List Frame) (event : Frame) (later : List Frame) → AreCovered trim earlier (before ++ event ∷ later) → is_covered trim (earlier ++ before) event ≡ true
+pub covered_there : (trim : Bool) (earlier before : List Frame) (event : Frame) (later : List Frame) → AreCovered trim earlier (before ++ event ∷ later) → is_covered trim (earlier ++ before) event ≡ true
 covered_there trim earlier [] event later all = subst (λ (l : List Frame). is_covered trim l event ≡ true) (sym (append-nil earlier)) all.0
 covered_there trim earlier (f ∷ before) event later all =
     subst (λ (l : List Frame). is_covered trim l event ≡ true) (append_assoc earlier (f ∷ []) before) (covered_there trim (earlier ++ f ∷ []) before event later all.1)

@@ -9,7 +9,7 @@ use Rattle.satl_line.specs.Conflict.{conflicts}
 use Rattle.satl_line.specs.Eligible.{IsEligible}
 use Rattle.satl_direct.specs.Device.{is_called, without}
 use Rattle.satl_direct.specs.Valid.{AreOwn}
-use Rattle.satl_laws.proofs.Names.{called_back, called_self, none_in}
+use Rattle.satl_laws.proofs.Names.{called_apart, called_self, none_in}
 
 -- one of a list, by its place
 pub record SplitAt {X : Type 0} (xs : List X) (x : X) : Type 0 where
@@ -29,15 +29,8 @@ split_at (y ∷ ys) x i =
 pub without_is : (before : List Entry) (t : Entry) (later : List Entry) → AreOwn (before ++ t ∷ later) → without t (before ++ t ∷ later) ≡ before ++ later
 without_is [] t later own = ap (λ b. if b then later else t ∷ without t later) (called_self t)
 without_is (u ∷ us) t later own =
-    let other : is_called t.nexus (t.tag).0 u ≡ false = apart u t (none_in (is_called u.nexus (u.tag).0) (us ++ t ∷ later) t own.0 (in_right t us (t ∷ later) (inl refl))) in
+    let other : is_called t.nexus (t.tag).0 u ≡ false = called_apart u t (none_in (is_called u.nexus (u.tag).0) (us ++ t ∷ later) t own.0 (in_right t us (t ∷ later) (inl refl))) in
     ap (λ b. if b then us ++ t ∷ later else u ∷ without t (us ++ t ∷ later)) other ∙ ap (λ l. u ∷ l) (without_is us t later own.1)
-  where
-    apart : (u t : Entry) → is_called u.nexus (u.tag).0 t ≡ false → is_called t.nexus (t.tag).0 u ≡ false
-    apart u t h = decide (is_called t.nexus (t.tag).0 u) refl
-      where
-        decide : (b : Bool) → is_called t.nexus (t.tag).0 u ≡ b → is_called t.nexus (t.tag).0 u ≡ false
-        decide false e = e
-        decide true e = let no : true ≡ false = sym (called_back t u e) ∙ h in absurd cc
 
 -- no task before an eligible one conflicts with it
 pub before_free : (before : List Entry) (t : Entry) (later : List Entry) → AreOwn (before ++ t ∷ later) → IsEligible (before ++ t ∷ later) t → AllByRecursion (λ u. conflicts u t ≡ false) before

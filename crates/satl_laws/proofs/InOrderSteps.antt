@@ -30,7 +30,7 @@ use Rattle.satl_laws.proofs.Rows.{in_all}
 use Rattle.satl_laws.proofs.Tasks.{IsPlainTask, may_eligible, tasks_plain}
 
 -- the first of two cases
-by_true : (A B : Type 0) (b : Bool) → b ≡ true → MatchBool b A B → A
+pub by_true : (A B : Type 0) (b : Bool) → b ≡ true → MatchBool b A B → A
 by_true A B true h m = m
 by_true A B false h m = absurd cc
 

@@ -22,13 +22,15 @@ passes_any p (x ∷ xs) h =
     (λ miss k. let r = passes_any p xs k in record { of = r.of; among = inr r.among; passes = r.passes })
     h
 
-any_passes : {X : Type 0} (p : X → Bool) (xs : List X) (x : X) → IsIn x xs → p x ≡ true → list_any p xs ≡ true
+-- one of two holds where the second does
+pub or_either : (a b : Bool) → b ≡ true → (a || b) ≡ true
+or_either true b h = refl
+or_either false b h = h
+
+-- what passes is among them
+pub any_passes : {X : Type 0} (p : X → Bool) (xs : List X) (x : X) → IsIn x xs → p x ≡ true → list_any p xs ≡ true
 any_passes p [] x i h = elim i [ ]
 any_passes p (y ∷ ys) x i h = ⊎_elim (λ same. ap (λ b. b || list_any p ys) (ap p (sym same) ∙ h)) (λ later. or_either (p y) (list_any p ys) (any_passes p ys x later h)) i
-  where
-    or_either : (a b : Bool) → b ≡ true → (a || b) ≡ true
-    or_either true b h = refl
-    or_either false b h = h
 
 -- whether a sector lies in a range
 abbrev pub has : ℕ → Range → Bool

@@ -23,7 +23,7 @@ use Rattle.satl_laws.proofs.SparingEvents.{NoneComes, NoneComesBy, does_keep}
 -- ---- the last event
 
 -- lists with one more at the end are equal in both parts
-last_same : {X : Type 0} (xs ys : List X) (x y : X) → xs ++ x ∷ [] ≡ ys ++ y ∷ [] → (xs ≡ ys) × (x ≡ y)
+pub last_same : {X : Type 0} (xs ys : List X) (x y : X) → xs ++ x ∷ [] ≡ ys ++ y ∷ [] → (xs ≡ ys) × (x ≡ y)
 last_same [] [] x y h = (refl, cc)
 last_same [] (b ∷ []) x y h = absurd cc
 last_same [] (b ∷ c ∷ ys) x y h = absurd cc

@@ -6,6 +6,9 @@ use std::alloc::{AllocError, Global};
 /// TURN by one.
 pub const TURN: [u8; 7] = [0x03, 0, 0, 0, 2, 0, 1];
 
+/// SYNCHRONIZE CACHE(10) of all blocks.
+pub const FLUSH: [u8; 16] = [0x35, 0, 0, 0, 0, 0, 0, 0, 0, 0, 0, 0, 0, 0, 0, 0];
+
 /// END of an input.
 pub const END: [u8; 5] = [0x05, 0, 0, 0, 0];
 
@@ -48,11 +51,11 @@ pub fn output(alloc: Global) -> Result<Vec<u8>, AllocError> {
 }
 
 /// Appends a REQUEST, SIMPLE and to logical unit 0 from nexus 0, with this data-out.
-pub fn request(input: &mut Vec<u8>, transfer: Transfer, data: &[u8]) -> Result<(), AllocError>
-    requires { length data.now ≤ 2097152 }
+pub fn request(input: &mut Vec<u8>, transfer: Transfer, data_out: &[u8]) -> Result<(), AllocError>
+    requires { length data_out.now ≤ 2097152 }
 {
     input.push(0x01)?;
-    input.extend_from_slice(&(data.len() as u32 + 30).to_be_bytes())?;
+    input.extend_from_slice(&(data_out.len() as u32 + 30).to_be_bytes())?;
     input.extend_from_slice(&[0; 13])?;
     input.push(transfer.tag)?;
     input.extend_from_slice(&[transfer.code, 0, 0, 0])?;
@@ -60,7 +63,7 @@ pub fn request(input: &mut Vec<u8>, transfer: Transfer, data: &[u8]) -> Result<(
     input.push(0)?;
     input.extend_from_slice(&transfer.count.to_be_bytes())?;
     input.extend_from_slice(&[0; 7])?;
-    input.extend_from_slice(data)
+    input.extend_from_slice(data_out)
 }
 
 /// Appends a REQUEST without data-out, SIMPLE and to logical unit 0 from nexus 0, by its bytes.
@@ -72,13 +75,13 @@ pub fn command(input: &mut Vec<u8>, tag: u8, cdb: [u8; 16]) -> Result<(), AllocE
 }
 
 /// Appends a REPLY with GOOD and this data-in.
-pub fn good(output: &mut Vec<u8>, tag: u8, data: &[u8]) -> Result<(), AllocError>
-    requires { length data.now ≤ 2097152 }
+pub fn good(output: &mut Vec<u8>, tag: u8, data_in: &[u8]) -> Result<(), AllocError>
+    requires { length data_in.now ≤ 2097152 }
 {
     output.push(0x81)?;
-    output.extend_from_slice(&(data.len() as u32 + 7).to_be_bytes())?;
+    output.extend_from_slice(&(data_in.len() as u32 + 7).to_be_bytes())?;
     output.extend_from_slice(&[0, 0, 0, 0, 0, tag, 0])?;
-    output.extend_from_slice(data)
+    output.extend_from_slice(data_in)
 }
 
 /// Appends a REPLY with TASK SET FULL.

@@ -4,9 +4,13 @@
 #[cfg(test)]
 mod at_once;
 #[cfg(test)]
+mod changed_drives;
+#[cfg(test)]
 mod fleet;
 #[cfg(test)]
 mod frames;
+#[cfg(test)]
+mod lost_links;
 #[cfg(test)]
 mod medium_rows;
 #[cfg(test)]

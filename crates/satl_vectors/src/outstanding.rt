@@ -1,15 +1,12 @@
 // Replays with 32 commands outstanding: their ends in every order that a byte of ORDER chooses, and a reset; and links lost at each call,
 // power at each place.
-use crate::frames::{END, ENDED, TURN, command, good, input, output, read, request, write};
+use crate::frames::{END, ENDED, FLUSH, TURN, command, good, input, output, read, request, write};
 use crate::queue::write_errors;
 use crate::replaying::{expect_replies, pieces, replay, run_until_lost};
 use satl_top::Status;
 use std::alloc::{AllocError, Global};
 use std::process::Abort;
 use std::test::Fail;
-
-// SYNCHRONIZE CACHE(10) of all blocks.
-const FLUSH: [u8; 16] = [0x35, 0, 0, 0, 0, 0, 0, 0, 0, 0, 0, 0, 0, 0, 0, 0];
 
 /// The end of the command at a place among those outstanding, and what is issued then: behind a write of a block the read of it.
 fn end_one(

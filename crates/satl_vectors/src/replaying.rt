@@ -1,5 +1,7 @@
 // Replays over memory streams.
-ghost use Rattle.std.specs.Prelude.{◌≡◌, ◌<◌, [], None};
+ghost use Rattle.std.specs.Prelude.{◌≡◌, ◌<◌, [], None, false};
+ghost use Rattle.satl_base.specs.Lists.{is_in};
+ghost use Rattle.satl_disk.specs.Bench.{fitting_words};
 ghost use Rattle.satl_drive.specs.State.{IsFit};
 
 use crate::frames::{END, ENDED};
@@ -103,22 +105,34 @@ pub fn run(
     Ok((status, sink.written().to_vec(alloc)?))
 }
 
-/// What a replay of an input writes on a drive whose trims are not queued.
-pub fn replay_unqueued(alloc: Global, input: Vec<u8>) -> Result<(Status, Vec<u8>), NoMemory> {
+/// How a replay of a source ends, and what it writes, on a drive with this value in this word of its IDENTIFY DEVICE data.
+pub fn replay_changed(
+    alloc: Global,
+    word: u8,
+    value: u16,
+    source: &mut MemorySource,
+) -> Result<(Status, Vec<u8>), NoMemory>
+    requires { is_in word fitting_words ≡ false }
+{
     let words = words(alloc, &["replay"])?;
-    let mut source = MemorySource::new(input, 65536, Vec::new(alloc));
     let mut sink = MemorySink::new(alloc, 65536, 65536, Vec::new(alloc))?;
     let mut drive = ModelDrive::new(alloc, 8192)?;
-    drive.set_identify_word(77, 0);
+    drive.set_identify_word(word, value);
     let status = counted::<_, _, _, Brand>(
         alloc,
         &words,
-        &mut source,
+        source,
         &mut sink,
         &mut drive,
         Blank::new(1),
     );
     Ok((status, sink.written().to_vec(alloc)?))
+}
+
+/// What a replay of an input writes on a drive whose trims are not queued.
+pub fn replay_unqueued(alloc: Global, input: Vec<u8>) -> Result<(Status, Vec<u8>), NoMemory> {
+    let mut source = MemorySource::new(input, 65536, Vec::new(alloc));
+    replay_changed(alloc, 77, 0, &mut source)
 }
 
 /// How the program ends with these words behind its name, over a drive of 64 sectors, and what it writes, where the drive's link is lost at

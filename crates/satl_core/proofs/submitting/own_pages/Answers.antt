@@ -1,6 +1,7 @@
 use Rattle.std.proofs.Common.{ap, subst, sym, ◌∙◌}
 use Rattle.satl_regs.specs.Trim.{IsTrimList}
-use Rattle.satl_core.specs.Submitting.{HasList, trims}
+use Rattle.satl_asks.specs.Commands.{HasList}
+use Rattle.satl_core.specs.Submitting.{trims}
 use Rattle.satl_core.proofs.UnmapLemmas.{list_trims}
 use Rattle.satl_core.proofs.submitting.own_pages.Goals as goal
 

@@ -8,7 +8,8 @@ use Rattle.satl_core.specs.Layer.{CanTrim, IsExpectable, IsTask, Layer, entry_pa
 use Rattle.satl_core.proofs.JudgingLemmas.{list_held, long_enough}
 use Rattle.std.specs.Prelude.{IfSome}
 use Rattle.satl_mode.specs.Changes.{IsChangeOf}
-use Rattle.satl_core.specs.Submitting.{Becomes, HasList, trims}
+use Rattle.satl_asks.specs.Commands.{HasList}
+use Rattle.satl_core.specs.Submitting.{Becomes, trims}
 use Rattle.satl_core.proofs.HeldLemmas.{held_is, on_ok}
 use Rattle.satl_core.proofs.Transfers.{task_needs}
 use Rattle.satl_core.specs.Refilling.{Comes}

@@ -3,7 +3,8 @@ use Rattle.std.specs.Prelude.{IfOk, IfSome}
 use Rattle.satl_mode.specs.Changes.{AreModesOf, IsChangeOf}
 use Rattle.satl_direct.specs.Tasks.{asks, held_blocks}
 use Rattle.satl_core.specs.Layer.{IsTask, Layer}
-use Rattle.satl_core.specs.Submitting.{HasList, trims}
+use Rattle.satl_asks.specs.Commands.{HasList}
+use Rattle.satl_core.specs.Submitting.{trims}
 use Rattle.satl_core.proofs.JudgingLemmas.{code_change, code_list, code_task, code_trims}
 use Rattle.satl_core.proofs.TieLemmas.{layer_of}
 use Rattle.satl_core.proofs.satl.Satl.judge.Goals as goal

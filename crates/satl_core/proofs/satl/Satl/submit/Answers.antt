@@ -8,7 +8,8 @@ use Rattle.satl_direct.specs.Tasks.{asks, held_blocks}
 use Rattle.satl_direct.specs.Valid.{IsValid}
 use Rattle.satl_core.specs.Layer.{IsTask, Layer, view}
 use Rattle.satl_core.specs.Refilling.{Comes}
-use Rattle.satl_core.specs.Submitting.{Becomes, HasList, judged, once_judged, reply_at_once, trims}
+use Rattle.satl_asks.specs.Commands.{HasList}
+use Rattle.satl_core.specs.Submitting.{Becomes, judged, once_judged, reply_at_once, trims}
 use Rattle.satl_core.proofs.AddingLemmas.{becomes_whole}
 use Rattle.satl_core.proofs.ArrivalLemmas.{answers_at_once, becomes_arrives, held_by_is}
 use Rattle.satl_core.proofs.CutLemmas.{judged_whole}

@@ -1,52 +1,15 @@
-// What becomes of a request, judged in the order of the steps.
-ghost use Rattle.std.specs.Prelude.{◌≡◌, ◌⊎◌, ◌≤◌, ◌+◌, ◌*◌, ◌∷◌, [], IfNone, List, length, nat_lt, if◌then◌else◌};
+// What a command goes over, needs and holds, and what is wrong with its fields.
+ghost use Rattle.std.specs.Prelude.{◌≡◌, ◌⊎◌, ◌≤◌, ◌*◌, ◌∷◌, [], IfNone, length, if◌then◌else◌};
 ghost use Rattle.satl_frame.specs.DataPages.{page_count};
-ghost use Rattle.satl_base.specs.Lists.{is_in};
-ghost use Rattle.satl_direct.specs.Arrival.{is_unit_0, untold_codes};
-ghost use Rattle.satl_direct.specs.Senses.{attention_sense, plain, refusal};
-ghost use Rattle.satl_base.specs.declared.block.Block.{Block};
-ghost use Rattle.satl_direct.specs.Tasks.{asks, held_blocks, is_ordered, needed, range_of};
 ghost use Rattle.satl_cdb.specs.Unmap as unmap;
-ghost use Rattle.satl_core.specs.Submitting.{CanPass, HasList, IsList, is_for_unit};
+ghost use Rattle.satl_direct.specs.Tasks.{asks, held_blocks, needed, range_of};
+ghost use Rattle.satl_asks.specs.Commands.{CanPass, HasList, IsList};
 
 use arrayvec::ArrayVec;
-use satl_base::{Attr, ModeChange, Pages, Range, Request};
+use satl_base::{ModeChange, Pages, Range};
 use satl_cdb::{Command, Illegal, read_unmap_list};
 use satl_mode::select_change;
 use satl_pass::{Pass, pass_of, read_pass};
-use satl_sense::{Extra, Sense};
-use satl_unit::Attention;
-
-/// Whether a command of this operation code is carried out before a unit attention is told: INQUIRY, REPORT LUNS and REQUEST
-/// SENSE (SAM-5 5.14).
-pub fn is_untold(code: u8) -> bool
-    ensures { result ≡ is_in code untold_codes }
-{
-    matches!(code, 0x12 | 0xA0 | 0x03)
-}
-
-/// Whether a LUN is that of logical unit 0.
-pub fn is_unit_0(lun: &[u8; 8]) -> bool
-    ensures { result ≡ is_unit_0 lun.now }
-{
-    lun.iter().all(|byte| *byte == 0)
-}
-
-/// Whether a request goes to logical unit 0. REPORT LUNS does at each LUN (SPC-4 6.33).
-pub fn is_for_unit(request: &Request) -> bool
-    ensures { result ≡ is_for_unit request.now }
-{
-    is_unit_0(&request.lun) || request.cdb[0] == 0xA0
-}
-
-pub fn is_ordered(attr: Attr) -> bool
-    ensures { result ≡ is_ordered attr }
-{
-    match attr {
-        Attr::Simple => false,
-        Attr::Ordered => true,
-    }
-}
 
 /// The blocks that a command goes over.
 pub fn range_of(command: &Command) -> Range
@@ -178,53 +141,5 @@ pub fn change_of(command: &Command, body: &Pages) -> Option<ModeChange>
     match *command {
         Command::ModeSelect { ten, length } => Some(select_change(body, length, ten)),
         _ => None,
-    }
-}
-
-/// Whether a range goes past the last sector.
-pub fn is_outside(range: Range, capacity: u64) -> bool
-    ensures { result ≡ nat_lt capacity (range.lba + range.count) }
-{
-    u64::from(range.count) > capacity || range.lba > capacity - u64::from(range.count)
-}
-
-/// Sense data without an extra.
-pub fn plain(key: u8, asc: u8, ascq: u8) -> Sense
-    ensures { result ≡ plain key asc ascq }
-{
-    Sense {
-        key,
-        asc,
-        ascq,
-        extra: Extra::None,
-    }
-}
-
-/// UNIT ATTENTION, by its condition (SPC-4 4.5.6).
-pub fn attention_sense(what: Attention) -> Sense
-    ensures { result ≡ attention_sense what }
-{
-    let codes = what.additional_sense();
-    plain(0x6, codes.asc, codes.ascq)
-}
-
-fn pointer_to(in_cdb: bool, pointer: Option<u16>) -> Extra
-    ensures { result ≡ Rattle.satl_direct.specs.Senses.pointer_to in_cdb pointer }
-{
-    match pointer {
-        None => Extra::None,
-        Some(byte) => Extra::Pointer { in_cdb, byte },
-    }
-}
-
-/// The sense data of a refused command.
-pub fn refusal(why: Illegal) -> Sense
-    ensures { result ≡ refusal why }
-{
-    Sense {
-        key: 0x5,
-        asc: why.asc,
-        ascq: why.ascq,
-        extra: pointer_to(why.in_cdb, why.pointer),
     }
 }

@@ -1,0 +1,14 @@
+//! What a request and its command ask for, and the sense data of a refusal: facts that the layer and the auditor judge by.
+#![tactic(auto)]
+
+mod commands;
+mod requests;
+mod senses;
+#[cfg(test)]
+mod tests;
+
+pub use commands::{
+    change_of, fields_fault, held_blocks, length_fault, listed_ranges, needed, range_of, ranges_of,
+};
+pub use requests::{is_for_unit, is_ordered, is_outside, is_unit_0, is_untold};
+pub use senses::{attention_sense, plain, refusal};

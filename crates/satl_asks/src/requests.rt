@@ -1,0 +1,47 @@
+// What a request says beside its command.
+ghost use Rattle.std.specs.Prelude.{◌≡◌, ◌+◌, nat_lt};
+ghost use Rattle.satl_base.specs.Lists.{is_in};
+ghost use Rattle.satl_direct.specs.Arrival.{is_unit_0, untold_codes};
+ghost use Rattle.satl_direct.specs.Tasks.{is_ordered};
+ghost use Rattle.satl_asks.specs.Requests.{is_for_unit};
+
+use satl_base::{Attr, Range, Request};
+
+/// Whether a command of this operation code is carried out before a unit attention is told: INQUIRY, REPORT LUNS and REQUEST
+/// SENSE (SAM-5 5.14).
+pub fn is_untold(code: u8) -> bool
+    ensures { result ≡ is_in code untold_codes }
+{
+    matches!(code, 0x12 | 0xA0 | 0x03)
+}
+
+/// Whether a LUN is that of logical unit 0.
+pub fn is_unit_0(lun: &[u8; 8]) -> bool
+    ensures { result ≡ is_unit_0 lun.now }
+{
+    lun.iter().all(|byte| *byte == 0)
+}
+
+/// Whether a request goes to logical unit 0. REPORT LUNS does at each LUN (SPC-4 6.33).
+pub fn is_for_unit(request: &Request) -> bool
+    ensures { result ≡ is_for_unit request.now }
+{
+    is_unit_0(&request.lun) || request.cdb[0] == 0xA0
+}
+
+/// Whether a task has the attribute ORDERED (SAM-5 8.6).
+pub fn is_ordered(attr: Attr) -> bool
+    ensures { result ≡ is_ordered attr }
+{
+    match attr {
+        Attr::Simple => false,
+        Attr::Ordered => true,
+    }
+}
+
+/// Whether a range goes past the last sector.
+pub fn is_outside(range: Range, capacity: u64) -> bool
+    ensures { result ≡ nat_lt capacity (range.lba + range.count) }
+{
+    u64::from(range.count) > capacity || range.lba > capacity - u64::from(range.count)
+}
