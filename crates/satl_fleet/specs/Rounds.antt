@@ -123,14 +123,6 @@ abbrev pub calls_for : ℕ → List Frame → ℕ
 calls_for units [] = 0
 calls_for units (frame ∷ others) = frame_calls units frame + calls_for units others
 
--- an event that has no pages, and may go to each unit (profile)
-abbrev pub IsShared : Frame → Type 0
-IsShared (frames.Request r) = ⊥
-IsShared (frames.Manage m) = Unit {0}
-IsShared (frames.Turn count) = Unit {0}
-IsShared (frames.Bench event) = Unit {0}
-IsShared frames.End = Unit {0}
-
 -- turns, or an event of the bench (profile)
 abbrev pub IsTurnOrBench : Frame → Type 0
 IsTurnOrBench (frames.Request r) = ⊥

@@ -8,13 +8,15 @@ ghost use Rattle.satl_core.specs.Layer.{IsExpectable};
 ghost use Rattle.satl_core.specs.Turning.{turn_calls};
 ghost use Rattle.satl_pages.specs.Counts.{number_of};
 ghost use Rattle.satl_step.specs.Runs.{calls_allowed};
-ghost use Rattle.satl_fleet.specs.Rounds.{AllDid, AllDidInPart, CanRoute, IsShared, IsTurnOrBench, RoundDone, RoundInPart, frame_calls, stage};
+ghost use Rattle.satl_fleet.specs.Rounds.{AllDid, AllDidInPart, CanRoute, IsTurnOrBench, RoundDone, RoundInPart, frame_calls, stage};
+ghost use Rattle.satl_fleet.specs.Shared.{frame_of};
 ghost use Rattle.satl_fleet.specs.Units.{IsReady, IsTiedSpot, pending, spots_of};
 
 use crate::event::{serve_at, serve_request_at};
 use crate::reporting::report;
 use crate::routing::{LUN_0, Route, is_for_all, is_report, route_to};
-use satl_base::{BenchEvent, Manage, OrderBytes, Replies, Request, Steps};
+use crate::shared::Shared;
+use satl_base::{Manage, Replies, Request, Steps};
 use satl_core::Satl;
 use satl_drive::Bench;
 use satl_frame::{Frame, OutFrame, WriteFault, write_frame};
@@ -22,53 +24,11 @@ use satl_io::Sink;
 use satl_pages::Pool;
 use std::sync::ledger::Ledger;
 
-fn order_again(bytes: &OrderBytes) -> OrderBytes
-    ensures { result ≡ bytes.now }
-{
-    let mut again = OrderBytes::new();
-    let Ok(()) = again.try_extend_from_slice(bytes.as_slice()) else {
-        unreachable!();
-    };
-    again
-}
-
-fn bench_again(event: &BenchEvent) -> BenchEvent
-    ensures { result ≡ event.now }
-{
-    match event {
-        BenchEvent::Strike { which, lba } => BenchEvent::Strike {
-            which: *which,
-            lba: *lba,
-        },
-        BenchEvent::Mend { lba } => BenchEvent::Mend { lba: *lba },
-        BenchEvent::Glitch { count } => BenchEvent::Glitch { count: *count },
-        BenchEvent::Order { bytes } => BenchEvent::Order {
-            bytes: order_again(bytes),
-        },
-        BenchEvent::Power => BenchEvent::Power,
-        BenchEvent::Unplug => BenchEvent::Unplug,
-    }
-}
-
-/// The same event for one unit more.
-fn again(event: &Frame) -> Frame
-    requires { IsShared event.now }
-    ensures { result ≡ event.now }
-{
-    match event {
-        Frame::Request(_) => unreachable!(),
-        Frame::Manage(manage) => Frame::Manage(*manage),
-        Frame::Turn(count) => Frame::Turn(*count),
-        Frame::Bench(event) => Frame::Bench(bench_again(event)),
-        Frame::End => Frame::End,
-    }
-}
-
 /// Carries out an event on each unit in order.
 fn serve_all<K: Sink, D: Bench, L: Ledger>(
     units: &mut Vec<Satl>,
     drives: &mut Vec<D>,
-    event: &Frame,
+    event: &Shared,
     sink: &mut K,
     replies: &mut Replies,
     steps: &mut Steps<L>,
@@ -77,19 +37,18 @@ fn serve_all<K: Sink, D: Bench, L: Ledger>(
     requires ready { AllByRecursion IsReady (spots_of units.old.items (map D.state drives.old.items)) }
     requires none { replies.old ≡ [] }
     requires few { vec_len units.old ≤ 4 }
-    requires shared { IsShared event.now }
-    ensures done { OnOk result (AllDid event.now (stage (spots_of units.old.items (map D.state drives.old.items)) (K.written sink.old)) (stage (spots_of units.new.items (map D.state drives.new.items)) (K.written sink.new))) }
-    ensures part { OnErr result (AllDidInPart event.now (stage (spots_of units.old.items (map D.state drives.old.items)) (K.written sink.old)) (stage (spots_of units.new.items (map D.state drives.new.items)) (K.written sink.new))) }
+    ensures done { OnOk result (AllDid (frame_of event.now) (stage (spots_of units.old.items (map D.state drives.old.items)) (K.written sink.old)) (stage (spots_of units.new.items (map D.state drives.new.items)) (K.written sink.new))) }
+    ensures part { OnErr result (AllDidInPart (frame_of event.now) (stage (spots_of units.old.items (map D.state drives.old.items)) (K.written sink.old)) (stage (spots_of units.new.items (map D.state drives.new.items)) (K.written sink.new))) }
     ensures ready { OnOk result (AllByRecursion IsReady (spots_of units.new.items (map D.state drives.new.items))) }
     ensures tied { AllByRecursion IsTiedSpot (spots_of units.new.items (map D.state drives.new.items)) }
     ensures none { OnOk result (replies.new ≡ []) }
-    ensures calls { steps.new + turn_calls * pending (spots_of units.new.items (map D.state drives.new.items)) ≤ steps.old + turn_calls * pending (spots_of units.old.items (map D.state drives.old.items)) + vec_len units.old * calls_allowed (event.now ∷ []) }
+    ensures calls { steps.new + turn_calls * pending (spots_of units.new.items (map D.state drives.new.items)) ≤ steps.old + turn_calls * pending (spots_of units.old.items (map D.state drives.old.items)) + vec_len units.old * calls_allowed (frame_of event.now ∷ []) }
     ensures units { vec_len units.new ≡ vec_len units.old }
     ensures drives { vec_len drives.new ≡ vec_len drives.old }
     ensures cause { HasCause (K.faults sink.old) (K.faults sink.new) result }
 {
     for k in 0..units.len() as u8 {
-        serve_at(units, drives, k, again(event), sink, replies, steps)?;
+        serve_at(units, drives, k, event.again(), sink, replies, steps)?;
     }
     Ok(())
 }
@@ -158,7 +117,7 @@ fn serve_manage<K: Sink, D: Bench, L: Ledger>(
     ensures cause { HasCause (K.faults sink.old) (K.faults sink.new) result }
 {
     if is_for_all(&manage) {
-        let event = Frame::Manage(Manage {
+        let event = Shared::Manage(Manage {
             lun: LUN_0,
             ..manage
         });
@@ -191,7 +150,7 @@ fn serve_end<K: Sink, D: Bench, L: Ledger>(
     ensures drives { vec_len drives.new ≡ vec_len drives.old }
     ensures cause { HasCause (K.faults sink.old) (K.faults sink.new) result }
 {
-    serve_all(units, drives, &Frame::End, sink, replies, steps)?;
+    serve_all(units, drives, &Shared::End, sink, replies, steps)?;
     write_frame(OutFrame::End, sink)
 }
 
@@ -233,10 +192,10 @@ pub fn serve_frame<K: Sink, D: Bench, L: Ledger>(
         }
         Frame::Manage(manage) => serve_manage(units, drives, manage, sink, replies, steps),
         Frame::Turn(count) => {
-            serve_shared(units, drives, Frame::Turn(count), sink, replies, steps)
+            serve_shared(units, drives, &Shared::Turn(count), sink, replies, steps)
         }
         Frame::Bench(event) => {
-            serve_shared(units, drives, Frame::Bench(event), sink, replies, steps)
+            serve_shared(units, drives, &Shared::Bench(event), sink, replies, steps)
         }
         Frame::End => serve_end(units, drives, sink, replies, steps),
     }
@@ -246,7 +205,7 @@ pub fn serve_frame<K: Sink, D: Bench, L: Ledger>(
 fn serve_shared<K: Sink, D: Bench, L: Ledger>(
     units: &mut Vec<Satl>,
     drives: &mut Vec<D>,
-    frame: Frame,
+    event: &Shared,
     sink: &mut K,
     replies: &mut Replies,
     steps: &mut Steps<L>,
@@ -255,16 +214,16 @@ fn serve_shared<K: Sink, D: Bench, L: Ledger>(
     requires ready { AllByRecursion IsReady (spots_of units.old.items (map D.state drives.old.items)) }
     requires none { replies.old ≡ [] }
     requires few { vec_len units.old ≤ 4 }
-    requires plain { IsTurnOrBench frame }
-    ensures done { OnOk result (RoundDone (vec_len units.old) frame (stage (spots_of units.old.items (map D.state drives.old.items)) (K.written sink.old)) (stage (spots_of units.new.items (map D.state drives.new.items)) (K.written sink.new))) }
-    ensures part { OnErr result (RoundInPart (vec_len units.old) frame (stage (spots_of units.old.items (map D.state drives.old.items)) (K.written sink.old)) (stage (spots_of units.new.items (map D.state drives.new.items)) (K.written sink.new))) }
+    requires plain { IsTurnOrBench (frame_of event.now) }
+    ensures done { OnOk result (RoundDone (vec_len units.old) (frame_of event.now) (stage (spots_of units.old.items (map D.state drives.old.items)) (K.written sink.old)) (stage (spots_of units.new.items (map D.state drives.new.items)) (K.written sink.new))) }
+    ensures part { OnErr result (RoundInPart (vec_len units.old) (frame_of event.now) (stage (spots_of units.old.items (map D.state drives.old.items)) (K.written sink.old)) (stage (spots_of units.new.items (map D.state drives.new.items)) (K.written sink.new))) }
     ensures ready { OnOk result (AllByRecursion IsReady (spots_of units.new.items (map D.state drives.new.items))) }
     ensures tied { AllByRecursion IsTiedSpot (spots_of units.new.items (map D.state drives.new.items)) }
     ensures none { OnOk result (replies.new ≡ []) }
-    ensures calls { steps.new + turn_calls * pending (spots_of units.new.items (map D.state drives.new.items)) ≤ steps.old + turn_calls * pending (spots_of units.old.items (map D.state drives.old.items)) + frame_calls (vec_len units.old) frame }
+    ensures calls { steps.new + turn_calls * pending (spots_of units.new.items (map D.state drives.new.items)) ≤ steps.old + turn_calls * pending (spots_of units.old.items (map D.state drives.old.items)) + frame_calls (vec_len units.old) (frame_of event.now) }
     ensures units { vec_len units.new ≡ vec_len units.old }
     ensures drives { vec_len drives.new ≡ vec_len drives.old }
     ensures cause { HasCause (K.faults sink.old) (K.faults sink.new) result }
 {
-    serve_all(units, drives, &frame, sink, replies, steps)
+    serve_all(units, drives, event, sink, replies, steps)
 }

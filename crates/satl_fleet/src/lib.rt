@@ -9,6 +9,7 @@ mod opening;
 mod reporting;
 mod routing;
 mod serving;
+mod shared;
 mod telling;
 mod unit;
 
