@@ -9,8 +9,8 @@ use Rattle.satl_disk.proofs.data_in.take_filled.Goals as goal
 
 pub loop-i-preserved : goal.loop-i-preserved
 loop-i-preserved c =
-    let read = nows (cells_of c.args.sectors.now.items) c.args.lba c.loop-i.i in
-    let more = nows_more c.args.sectors.now.items c.args.lba c.loop-i.i c.index.result.now (omega arith) c.index.ensures in
+    let read = nows (cells_of c.args.sectors.now) c.args.lba c.loop-i.i in
+    let more = nows_more c.args.sectors.now c.args.lba c.loop-i.i c.index.result.now (omega arith) c.index.ensures in
     let turned : reverse (c.set.new.self ∷ c.loop-i.filled) ≡ reverse c.loop-i.filled ++ c.set.new.self ∷ [] = reverse-append (c.set.new.self ∷ []) c.loop-i.filled in
     record {
       filled = rw c.push_first.ensures (turned ∙ ap (λ l. l ++ c.set.new.self ∷ []) c.loop-i.invariant.filled ∙ ap (λ b. read ++ b ∷ []) c.set.ensures ∙ sym more);
