@@ -1,7 +1,7 @@
 -- Blocks behind the end of a list, and the three lists of the sectors side by side.
-use Rattle.std.proofs.Common.{◌≡◌, refl, sym, ◌∙◌, ap, ℕ, ◌+◌, ◌<◌, ◌≤◌, zero, suc, Bool, true, false, List, [], ◌∷◌, ◌++◌, arith, length, map}
-use Rattle.std.specs.Prelude.{if◌then◌else◌, ◌==◌, ◌%◌, drop, replicate, slice_index_or, slice_set}
-use Rattle.std.proofs.lemmas.List.{get_or_default, get_or_past, set-get_or}
+use Rattle.std.proofs.Common.{◌≡◌, refl, sym, ◌∙◌, ap, ℕ, ◌+◌, ◌<◌, ◌≤◌, zero, suc, Bool, true, false, List, [], ◌∷◌, ◌++◌, append_assoc, arith, length, map}
+use Rattle.std.specs.Prelude.{if◌then◌else◌, ◌==◌, ◌%◌, ◌-◌, drop, replicate, slice_index_or, slice_set}
+use Rattle.std.proofs.lemmas.List.{append-nil, get_or_default, get_or_past, set-get_or}
 use Rattle.satl_base.specs.declared.block.Block.{Block}
 use Rattle.satl_base.specs.declared.bench.Which.{Which}
 use Rattle.satl_base.specs.declared.bench.Which.TheVariants.{Read, Write}
@@ -60,6 +60,44 @@ filled_clear (suc n) zero [] h = refl
 filled_clear (suc n) (suc place) [] h = ap (λ xs. zero_block ∷ xs) (filled_clear n place [] (omega arith))
 filled_clear (suc n) zero (x ∷ bs) h = absurd (omega arith)
 filled_clear (suc n) (suc place) (x ∷ bs) h = ap (λ xs. x ∷ xs) (filled_clear n place bs (omega arith))
+
+-- the blocks of which a list is the front
+module _ (n : ℕ) (bs olds : List Block) (view : filled n bs ≡ olds) where
+  pub number_is : length olds ≡ n
+  number_is = sym (ap length view) ∙ filled-length n bs
+
+  module _ (place : ℕ) where
+    pub kept_is : (b : Block) → place < length olds → place < length bs → b ≡ slice_index_or bs place b → b ≡ block_at olds place
+    kept_is b within h e = e ∙ get_or_default bs place b zero_block h ∙ filled_at n place bs (omega (arith, number_is, within)) ∙ ap (λ xs. block_at xs place) view
+
+    pub zeros_are : place < length olds → length bs ≤ place → zero_block ≡ block_at olds place
+    zeros_are within h = sym (get_or_past bs place zero_block h) ∙ filled_at n place bs (omega (arith, number_is, within)) ∙ ap (λ xs. block_at xs place) view
+
+    pub set_is : (b : Block) → place < length bs → filled n (slice_set bs place b) ≡ slice_set olds place b
+    set_is b h = filled_set n place bs b h ∙ ap (λ xs. slice_set xs place b) view
+
+    pub push_is : (b : Block) (g : ℕ) (new : List Block) → length (bs ++ replicate g zero_block) ≡ place → new ≡ (bs ++ replicate g zero_block) ++ b ∷ [] → filled n new ≡ slice_set olds place b
+    push_is b g new h is = ap (filled n) is ∙ filled_push n g place bs b h ∙ ap (λ xs. slice_set xs place b) view
+
+    pub clear_is : length bs ≤ place → olds ≡ slice_set olds place zero_block
+    clear_is h = sym view ∙ filled_clear n place bs h ∙ ap (λ xs. slice_set xs place zero_block) view
+
+-- zeros that are pushed one by one
+last_zero : (g : ℕ) → replicate g zero_block ++ zero_block ∷ [] ≡ zero_block ∷ replicate g zero_block
+last_zero zero = refl
+last_zero (suc g) = ap (λ xs. zero_block ∷ xs) (last_zero g)
+
+pub zeros_start : (bs : List Block) (a : ℕ) → bs ≡ bs ++ replicate (a - a) zero_block
+zeros_start bs a = let none : 0 ≡ a - a = omega arith in sym (append-nil bs) ∙ ap (λ k. bs ++ replicate k zero_block) none
+
+pub zeros_more : (bs now new : List Block) (a i : ℕ) → a ≤ i → now ≡ bs ++ replicate (i - a) zero_block → new ≡ now ++ zero_block ∷ [] → new ≡ bs ++ replicate (i + 1 - a) zero_block
+zeros_more bs now new a i h is pushed =
+    let more : suc (i - a) ≡ i + 1 - a = omega arith in
+    pushed
+    ∙ ap (λ xs. xs ++ zero_block ∷ []) is
+    ∙ append_assoc bs (replicate (i - a) zero_block) (zero_block ∷ [])
+    ∙ ap (λ xs. bs ++ xs) (last_zero (i - a))
+    ∙ ap (λ k. bs ++ replicate k zero_block) more
 
 pub sectors_in-length : (ns ss : List Block) (ms : List Mark) → length ns ≡ length ms → length ss ≡ length ms → length (sectors_in ns ss ms) ≡ length ms
 sectors_in-length [] ss ms hn hs = hn
