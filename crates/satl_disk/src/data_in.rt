@@ -1,16 +1,16 @@
 // Blocks of sectors into pages.
-ghost use Rattle.std.specs.Prelude.{◌≡◌, ◌+◌, ◌≤◌, ◌^◌, ◌<◌, ◌++◌, length, drop, reverse, vec_len};
+ghost use Rattle.std.specs.Prelude.{◌≡◌, ◌+◌, ◌≤◌, ◌^◌, ◌<◌, ◌++◌, length, drop, reverse};
 ghost use Rattle.satl_base.specs.Cells.{nows};
 ghost use Rattle.satl_disk.specs.Sectors.{cells_of};
 
-use crate::sectors::Sector;
+use crate::sectors::Sectors;
 use satl_base::Pages;
 
 /// Takes the first pages off, each with the block of its sector; the last of them is on top.
-fn take_filled(sectors: &Vec<Sector>, lba: u32, count: u32, pages: &mut Pages) -> Pages
-    requires range { lba + count ≤ vec_len sectors.now }
+fn take_filled(sectors: &Sectors, lba: u32, count: u32, pages: &mut Pages) -> Pages
+    requires range { lba + count ≤ length sectors.now }
     requires room { count ≤ length pages.old }
-    ensures blocks { reverse result ≡ nows (cells_of sectors.now.items) lba count }
+    ensures blocks { reverse result ≡ nows (cells_of sectors.now) lba count }
     ensures rest { pages.new ≡ drop count pages.old }
 {
     let mut filled = Pages::default();
@@ -18,7 +18,7 @@ fn take_filled(sectors: &Vec<Sector>, lba: u32, count: u32, pages: &mut Pages) -
         let Some(mut page) = pages.pop_first() else {
             unreachable!();
         };
-        page.set(&sectors[lba as usize + i as usize].now);
+        sectors.load(lba as usize + i as usize, &mut page);
         filled.push_first(page);
     }
     filled
@@ -38,10 +38,10 @@ fn put_back(mut filled: Pages, pages: &mut Pages)
 }
 
 /// Fills the first pages with the blocks of a range.
-pub fn fill(sectors: &Vec<Sector>, lba: u32, count: u32, pages: &mut Pages)
-    requires range { lba + count ≤ vec_len sectors.now }
+pub fn fill(sectors: &Sectors, lba: u32, count: u32, pages: &mut Pages)
+    requires range { lba + count ≤ length sectors.now }
     requires room { count ≤ length pages.old }
-    ensures { pages.new ≡ nows (cells_of sectors.now.items) lba count ++ drop count pages.old }
+    ensures { pages.new ≡ nows (cells_of sectors.now) lba count ++ drop count pages.old }
 {
     // That the pages are fewer than 2^32 is what the last step needs.
     prove!(pages.blocks() >= count);

@@ -5,7 +5,7 @@ use Rattle.satl_disk.proofs.data_in.take_filled.Given as goal
 
 abbrev pub invariant-loop-i : goal.invariant-loop-i
 invariant-loop-i l = record {
-  filled : reverse l.filled ≡ nows (cells_of l.sectors.items) l.lba l.i;
+  filled : reverse l.filled ≡ nows (cells_of l.sectors) l.lba l.i;
   count : length l.filled ≡ l.i;
   rest : l.pages ≡ drop l.i l.initial.pages;
 }

@@ -1,0 +1,13 @@
+use Rattle.std.proofs.Common.{arith, ◌∙◌}
+use Rattle.satl_disk.proofs.InsideLemmas.{now_is, size_is}
+use Rattle.satl_disk.proofs.sectors.Sectors.load.Goals as goal
+
+pub load-requires : goal.load-requires
+load-requires c =
+    let i = c.self.inside in
+    omega (arith, size_is i.nows i.stables i.marks.items c.args.self.now c.self.view_is c.self.invariant, c.self.invariant.0)
+
+pub returns : goal.returns
+returns c =
+    let i = c.self.inside in
+    c.load.ensures ∙ now_is i.nows i.stables i.marks.items c.args.self.now c.self.view_is c.self.invariant c.args.place (omega (arith, size_is i.nows i.stables i.marks.items c.args.self.now c.self.view_is c.self.invariant))

@@ -1,0 +1,116 @@
+// Blocks of which memory is touched only as they are first set.
+ghost use Rattle.std.specs.Prelude.{◌≡◌, ◌≤◌, ◌<◌, ◌-◌, ◌++◌, ◌∷◌, [], IfOk, length, replicate, slice_set, vec_len, vec_capacity};
+ghost use Rattle.satl_base.specs.Blocks.{zero_block};
+ghost use Rattle.satl_disk.specs.Layout.{block_at};
+
+use satl_base::{Block, NoMemory, Page};
+use std::alloc::Global;
+use std::marker::Model;
+
+/// A fixed number of blocks of 512 bytes, zeros at first (profile). Clauses see all of them. Their memory is taken when they
+/// are made, and touched up to the highest block that has been set.
+#[derive(Drop)]
+pub struct Blocks {
+    // Made with room for all blocks, so that it never grows. Blocks behind its end are zeros.
+    kept: Vec<Block>,
+    number: usize,
+}
+
+impl Model for Blocks {
+    ghost use Rattle.std.specs.Prelude.{List, ◌≤◌, vec_capacity};
+    ghost use Rattle.satl_base.specs.declared.block.Block.{Block};
+    ghost use Rattle.satl_disk.specs.Layout.{filled};
+
+    ghost Value = { List Block };
+
+    ghost view = { λ b. filled b.number b.kept.items };
+
+    ghost invariant = { λ b. b.number ≤ vec_capacity b.kept };
+}
+
+impl Blocks {
+    /// So many blocks of zeros. The error is want of memory (profile).
+    pub fn zeros(alloc: Global, number: usize) -> Result<Blocks, NoMemory>
+        ensures { IfOk result (λ blocks. blocks ≡ replicate number zero_block) }
+    {
+        Ok(Blocks {
+            kept: Vec::with_capacity(alloc, number)?,
+            number,
+        })
+    }
+
+    /// Writes the block at a place into a page.
+    pub fn load(&self, place: usize, page: &mut Page)
+        requires { place < length self.now }
+        ensures { page.new ≡ block_at self.now place }
+    {
+        if place < self.kept.len() {
+            page.set(&self.kept[place]);
+        } else {
+            page.set(&Block::zero());
+        }
+    }
+
+    /// Sets the block at a place.
+    pub fn set(&mut self, place: usize, block: &Block)
+        requires { place < length self.old }
+        ensures { self.new ≡ slice_set self.old place block.now }
+    {
+        if place < self.kept.len() {
+            self.kept[place] = *block;
+        } else {
+            push_at(&mut self.kept, place, block);
+        }
+    }
+
+    /// Sets the block at a place to that of other blocks.
+    pub fn copy_from(&mut self, place: usize, other: &Blocks)
+        requires here { place < length self.old }
+        requires there { place < length other.now }
+        ensures { self.new ≡ slice_set self.old place (block_at other.now place) }
+    {
+        if place < other.kept.len() {
+            self.set(place, &other.kept[place]);
+        } else {
+            self.clear(place);
+        }
+    }
+
+    /// Sets the block at a place to zeros.
+    fn clear(&mut self, place: usize)
+        requires { place < length self.old }
+        ensures { self.new ≡ slice_set self.old place zero_block }
+    {
+        if place < self.kept.len() {
+            self.kept[place] = Block::zero();
+        }
+    }
+}
+
+/// Pushes a block at a place behind the end, which has the room, and zeros up to there.
+fn push_at(kept: &mut Vec<Block>, place: usize, block: &Block)
+    requires behind { vec_len kept.old ≤ place }
+    requires room { place < vec_capacity kept.old }
+    ensures items { kept.new.items ≡ (kept.old.items ++ replicate (place - vec_len kept.old) zero_block) ++ block.now ∷ [] }
+    ensures capacity { vec_capacity kept.old ≤ vec_capacity kept.new }
+{
+    push_zeros(kept, place);
+    let Ok(()) = kept.push(*block) else {
+        unreachable!();
+    };
+}
+
+/// Pushes zeros up to a number of blocks, for which there is the room.
+fn push_zeros(kept: &mut Vec<Block>, number: usize)
+    requires fewer { vec_len kept.old ≤ number }
+    requires room { number ≤ vec_capacity kept.old }
+    ensures items { kept.new.items ≡ kept.old.items ++ replicate (number - vec_len kept.old) zero_block }
+    ensures size { vec_len kept.new ≡ number }
+    ensures capacity { vec_capacity kept.old ≤ vec_capacity kept.new }
+{
+    for _ in kept.len()..number {
+        let Ok(()) = kept.push(Block::zero()) else {
+            unreachable!();
+        };
+    }
+}
