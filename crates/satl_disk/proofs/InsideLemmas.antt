@@ -1,24 +1,20 @@
 -- What the sectors are, by the three lists that they are kept in.
-use Rattle.std.proofs.Common.{◌≡◌, refl, sym, ◌∙◌, ap, ℕ, ◌<◌, ◌≤◌, Bool, true, false, List, arith, length, map}
+use Rattle.std.proofs.Common.{◌≡◌, sym, ◌∙◌, ap, ℕ, ◌<◌, Bool, true, false, List, arith, length, map}
 use Rattle.std.specs.Prelude.{if◌then◌else◌, ◌==◌, ◌%◌, drop, slice_index_or, slice_set}
-use Rattle.std.proofs.lemmas.List.{get_or_default, length-map, length-set}
+use Rattle.std.proofs.lemmas.List.{get_or_default}
 use Rattle.satl_base.specs.declared.block.Block.{Block}
 use Rattle.satl_base.specs.declared.bench.Which.{Which}
 use Rattle.satl_base.specs.Cells.{has_flaw}
 use Rattle.satl_disk.specs.declared.sectors.Mark.{Mark}
 use Rattle.satl_disk.specs.Disk.{blank_sector}
 use Rattle.satl_disk.specs.Layout.{block_at, marked, sector_at, sector_of, sectors_in, settled_mark, written_mark}
-use Rattle.satl_disk.specs.Sectors.{Sector, cell_of, cells_of, changed_at, is_stuck, left_by, rest_by, write_at, written}
+use Rattle.satl_disk.specs.Sectors.{Sector, cells_of, changed_at, is_stuck, left_by, rest_by, write_at, written}
 use Rattle.satl_disk.proofs.LayoutLemmas.{left_clean, left_dirty, mark_changed, marked_of, now_changed, rest_clean, rest_dirty, sectors_in-at, sectors_in-length, sectors_in_changed}
 use Rattle.satl_disk.proofs.SectorsLemmas.{changed_same, flag_at, stuck_at}
 
 -- the lists have one length
 abbrev pub AreAligned : List Block → List Block → List Mark → Type 0
 AreAligned ns ss ms = (length ns ≡ length ms) × (length ss ≡ length ms)
-
--- as long as the lists stay aligned, no change of their items changes that
-pub aligned_after : (ns ss ns2 ss2 : List Block) (ms ms2 : List Mark) → AreAligned ns ss ms → length ns2 ≡ length ns → length ss2 ≡ length ss → length ms2 ≡ length ms → AreAligned ns2 ss2 ms2
-aligned_after ns ss ns2 ss2 ms ms2 sizes hn hs hm = (hn ∙ sizes.0 ∙ sym hm, hs ∙ sizes.1 ∙ sym hm)
 
 module _ (ns ss : List Block) (ms : List Mark) (olds : List Sector) (view : sectors_in ns ss ms ≡ olds) (sizes : AreAligned ns ss ms) where
   pub size_is : length olds ≡ length ms

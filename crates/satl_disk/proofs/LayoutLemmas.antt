@@ -1,5 +1,5 @@
 -- Blocks behind the end of a list, and the three lists of the sectors side by side.
-use Rattle.std.proofs.Common.{◌≡◌, refl, sym, ◌∙◌, ap, ℕ, ◌+◌, ◌<◌, ◌≤◌, zero, suc, Bool, true, false, List, [], ◌∷◌, ◌++◌, append_assoc, arith, length, map}
+use Rattle.std.proofs.Common.{◌≡◌, refl, sym, ◌∙◌, ap, ℕ, ◌+◌, ◌<◌, ◌≤◌, zero, suc, true, false, List, [], ◌∷◌, ◌++◌, append_assoc, arith, length, map}
 use Rattle.std.specs.Prelude.{if◌then◌else◌, ◌==◌, ◌%◌, ◌-◌, drop, replicate, slice_index_or, slice_set}
 use Rattle.std.proofs.lemmas.List.{append-nil, get_or_default, get_or_past, set-get_or}
 use Rattle.satl_base.specs.declared.block.Block.{Block}

@@ -1,5 +1,5 @@
 -- IDENTIFY DEVICE data with another word still fit the drive.
-use Rattle.std.proofs.Common.{◌≡◌, refl, sym, ◌∙◌, ap, subst, ℕ, suc, ◌+◌, ◌*◌, ◌/◌, ◌%◌, ◌^◌, ◌<◌, Bool, true, false, List, [], ◌∷◌, arith, length, eqb-true, eq-eqb}
+use Rattle.std.proofs.Common.{◌≡◌, refl, sym, ◌∙◌, ap, ℕ, ◌+◌, ◌*◌, ◌/◌, ◌%◌, ◌^◌, ◌<◌, Bool, true, false, List, [], ◌∷◌, arith, length, eqb-true, eq-eqb}
 use Rattle.std.specs.List.{AllByRecursion}
 use Rattle.std.specs.Prelude.{if◌then◌else◌, ◌==◌, ◌&&◌, slice_index, slice_set}
 use Rattle.std.proofs.lemmas.List.{get_or-set_other}
@@ -7,7 +7,7 @@ use Rattle.satl_base.specs.Identify.{has_cache, has_look, has_trim, word, word_b
 use Rattle.satl_base.specs.Lists.{is_in}
 use Rattle.satl_identify.specs.Data.{integrity_byte, settings_byte, with_integrity, with_settings}
 use Rattle.satl_drive.specs.State.{IsFit}
-use Rattle.satl_disk.specs.Bench.{MayReword, fitting_words, with_word}
+use Rattle.satl_disk.specs.Bench.{MayReword, with_word}
 use Rattle.satl_disk.specs.Data.{at, integrity_kept, set_word}
 use Rattle.satl_disk.specs.Disk.{Disk, IsTold, state_of}
 use Rattle.satl_disk.proofs.BytesLemmas.{IsByte, all_set, set_word_bytes}

@@ -1,4 +1,4 @@
--- How the modelled drive keeps its sectors: their blocks, what a loss of power may leave, and their marks, each in a list (profile).
+-- How the modelled drive keeps its sectors: their blocks, what a loss of power may leave, and their marks (profile).
 use Rattle.std.specs.Prelude.{ℕ, zero, suc, Bool, true, false, List, [], ◌∷◌, slice_index_or}
 use Rattle.satl_base.specs.declared.block.Block.{Block}
 use Rattle.satl_base.specs.declared.bench.Which.{Which}
@@ -20,7 +20,7 @@ block_at bs place = slice_index_or bs place zero_block
 
 -- a sector by its two blocks and its mark
 abbrev pub sector_of : Block → Block → Mark → Sector
-sector_of now stable m = record { now = now; stable = stable; dirty = m.dirty; read_flaw = m.read_flaw; write_flaw = m.write_flaw }
+sector_of n s m = record { now = n; stable = s; dirty = m.dirty; read_flaw = m.read_flaw; write_flaw = m.write_flaw }
 
 -- the sectors by three lists of one length, which are read side by side
 abbrev pub sectors_in : List Block → List Block → List Mark → List Sector

@@ -47,7 +47,7 @@ impl Blocks {
         if place < self.kept.len() {
             page.set(&self.kept[place]);
         } else {
-            page.set(&Block::zero());
+            clear_page(page);
         }
     }
 
@@ -85,6 +85,13 @@ impl Blocks {
             self.kept[place] = Block::zero();
         }
     }
+}
+
+/// Writes zeros into a page. Apart from `load`, which would clear a block of its own at each call.
+fn clear_page(page: &mut Page)
+    ensures { page.new ≡ zero_block }
+{
+    page.set(&Block::zero());
 }
 
 /// Pushes a block at a place behind the end, which has the room, and zeros up to there.

@@ -10,4 +10,4 @@ returns-then-place-len c =
 pub returns-else-place-len : goal.returns-else-place-len
 returns-else-place-len c =
     let i = c.self.inside in
-    c.set-else-place-len.ensures ∙ c.zero.ensures ∙ zeros_are i.number i.kept.items c.args.self.now c.self.view_is c.args.place c.requires (omega (arith, i.kept.ok.0))
+    c.clear_page.ensures ∙ zeros_are i.number i.kept.items c.args.self.now c.self.view_is c.args.place c.requires (omega (arith, i.kept.ok.0))

@@ -1,4 +1,4 @@
-use Rattle.std.proofs.Common.{arith, ap, ◌∙◌, ◌≡◌, ◌<◌, ℕ, List, length}
+use Rattle.std.proofs.Common.{arith, ap, ◌∙◌, ℕ, List, length}
 use Rattle.circular_buffer.specs.Buffer.{buffer}
 use Rattle.satl_disk.specs.Sectors.{byte_of, changed_at, left_by}
 use Rattle.satl_disk.proofs.InsideLemmas.{clean_is, clean_rest, dirty_is, dirty_rest, size_is}

@@ -1,4 +1,4 @@
-use Rattle.std.proofs.Common.{arith, ap, ◌∙◌, ◌≡◌, length}
+use Rattle.std.proofs.Common.{arith, ap, ◌∙◌, length}
 use Rattle.satl_disk.specs.declared.sectors.Mark.{Mark}
 use Rattle.satl_disk.specs.Layout.{block_at, sector_of}
 use Rattle.satl_disk.specs.Sectors.{mended_sector}
