@@ -1,5 +1,6 @@
 -- An ATA PASS-THROUGH whose data do not go to the drive writes nothing.
 use Rattle.std.proofs.Common.{◌≡◌, refl, ap, ◌∙◌, subst, ℕ, ◌*◌, Bool, true, false, List, [], arith, eqb-true, take}
+use Rattle.std.proofs.lemmas.Bool.{not-false}
 use Rattle.std.specs.Prelude.{if◌then◌else◌, not, ◌==◌, ◌&&◌, ◌+◌, nat_lt, length}
 use Rattle.satl_base.specs.declared.block.Block.{Block}
 use Rattle.satl_base.specs.Cells.{pairs_from}
@@ -10,16 +11,11 @@ use Rattle.satl_regs.specs.Trim.{addresses}
 use Rattle.satl_pass.specs.declared.pass.Pass.{Pass}
 use Rattle.satl_pass.specs.Reading.{has_other_direction, has_other_length}
 
--- what is not false is true
-not_false : (b : Bool) → not b ≡ false → b ≡ true
-not_false true h = refl
-not_false false h = absurd cc
-
 -- where a length is the command's and is not 0, the data go the command's way
 no_blocks : (pass : Pass) (sectors : ℕ) → not (pass.length == 512 * sectors) ≡ false → (not (pass.length == 0) && (if pass.out then false else true)) ≡ false → pass.out ≡ false → sectors ≡ 0
 no_blocks pass sectors own way back =
-    let size : pass.length ≡ 512 * sectors = eqb-true pass.length (512 * sectors) (not_false (pass.length == 512 * sectors) own) in
-    let empty : pass.length ≡ 0 = eqb-true pass.length 0 (not_false (pass.length == 0) (only (not (pass.length == 0)) (subst (λ b. (not (pass.length == 0) && (if b then false else true)) ≡ false) back way))) in
+    let size : pass.length ≡ 512 * sectors = eqb-true pass.length (512 * sectors) (not-false (pass.length == 512 * sectors) own) in
+    let empty : pass.length ≡ 0 = eqb-true pass.length 0 (not-false (pass.length == 0) (only (not (pass.length == 0)) (subst (λ b. (not (pass.length == 0) && (if b then false else true)) ≡ false) back way))) in
     omega (arith, size, empty)
   where
     only : (b : Bool) → (b && true) ≡ false → b ≡ false

@@ -17,23 +17,12 @@ use Rattle.satl_direct.specs.Tasks.{over, pass_of}
 
 -- what a command of a task writes, through the cache where WCE is on and FUA is 0 (SBC-3 5, 6.4.5; SAT-3 12.2)
 abbrev pub written_by : Command → Device → Entry → List Pair
-written_by commands.TestUnitReady s t = []
-written_by (commands.RequestSense descriptor alloc) s t = []
-written_by (commands.Inquiry page alloc) s t = []
-written_by (commands.ModeSense ten long_lba no_descriptor control page alloc) s t = []
-written_by (commands.ModeSelect ten size) s t = []
-written_by (commands.StartStop start no_flush) s t = []
-written_by commands.ReadCapacity10 s t = []
-written_by (commands.ReadCapacity16 alloc) s t = []
-written_by (commands.ReportLuns select alloc) s t = []
-written_by (commands.Read form lba count fua) s t = []
 written_by (commands.Write form lba count fua) s t = written_pairs s.modes.wce (ranged_write fua (over lba count) t.body)
-written_by (commands.Verify form lba count compare) s t = []
-written_by (commands.Flush form lba count) s t = []
 written_by (commands.WriteSame form lba count false) s t = same_pairs lba count t.body s.modes.wce
 written_by (commands.WriteSame form lba count true) s t = written_pairs s.modes.wce (ranged_trim (over lba count ∷ []))
 written_by (commands.Unmap size) s t = written_pairs s.modes.wce (ranged_trim t.ranges.items)
 written_by (commands.Pass cdb) s t = pairs_of (command_in (pass_of cdb).regs) (medium_of s) t.body
+written_by _ s t = []
 
 -- what a task writes (SBC-3 5)
 abbrev pub writes : Device → Entry → List Pair
@@ -41,41 +30,18 @@ writes s t = written_by t.command s t
 
 -- whether a command reads, writes, verifies or trims, which makes a drive active (ACS-3, power modes)
 abbrev pub wakes : Command → Bool
-wakes commands.TestUnitReady = false
-wakes (commands.RequestSense descriptor alloc) = false
-wakes (commands.Inquiry page alloc) = false
-wakes (commands.ModeSense ten long_lba no_descriptor control page alloc) = false
-wakes (commands.ModeSelect ten size) = false
-wakes (commands.StartStop start no_flush) = false
-wakes commands.ReadCapacity10 = false
-wakes (commands.ReadCapacity16 alloc) = false
-wakes (commands.ReportLuns select alloc) = false
 wakes (commands.Read form lba count fua) = true
 wakes (commands.Write form lba count fua) = true
 wakes (commands.Verify form lba count compare) = true
-wakes (commands.Flush form lba count) = false
 wakes (commands.WriteSame form lba count unmap) = true
 wakes (commands.Unmap size) = true
 wakes (commands.Pass cdb) = goes_over_medium (command_in (pass_of cdb).regs)
+wakes _ = false
 
 -- an ATA PASS-THROUGH (SAT-3 12.2)
 abbrev pub is_pass : Command → Bool
-is_pass commands.TestUnitReady = false
-is_pass (commands.RequestSense descriptor alloc) = false
-is_pass (commands.Inquiry page alloc) = false
-is_pass (commands.ModeSense ten long_lba no_descriptor control page alloc) = false
-is_pass (commands.ModeSelect ten size) = false
-is_pass (commands.StartStop starts no_flush) = false
-is_pass commands.ReadCapacity10 = false
-is_pass (commands.ReadCapacity16 alloc) = false
-is_pass (commands.ReportLuns select alloc) = false
-is_pass (commands.Read form lba count fua) = false
-is_pass (commands.Write form lba count fua) = false
-is_pass (commands.Verify form lba count compare) = false
-is_pass (commands.Flush form lba count) = false
-is_pass (commands.WriteSame form lba count unmap) = false
-is_pass (commands.Unmap size) = false
 is_pass (commands.Pass cdb) = true
+is_pass _ = false
 
 -- an eligible task of a device that is up (profile)
 pub record IsUnderWay (s : Device) (task : Entry) : Type 0 where

@@ -21,22 +21,11 @@ use Rattle.satl_laws.specs.Untouched.{SparedBy, SparedThrough, WithoutPower, now
 -- a command of a task that leaves nothing of a sector to a loss of power when it ends with GOOD: SYNCHRONIZE CACHE, START STOP UNIT that
 -- stops and flushes, MODE SELECT that turns WCE off, or a WRITE of the sector past the cache (SBC-3 4.15)
 abbrev pub secures : Command → Device → Entry → ℕ → Bool
-secures commands.TestUnitReady s t x = false
-secures (commands.RequestSense descriptor alloc) s t x = false
-secures (commands.Inquiry page alloc) s t x = false
-secures (commands.ModeSense ten long_lba no_descriptor control page alloc) s t x = false
 secures (commands.ModeSelect ten size) s t x = s.modes.wce && not (selected s t).wce
 secures (commands.StartStop starts no_flush) s t x = not starts && not no_flush
-secures commands.ReadCapacity10 s t x = false
-secures (commands.ReadCapacity16 alloc) s t x = false
-secures (commands.ReportLuns select alloc) s t x = false
-secures (commands.Read form lba count fua) s t x = false
 secures (commands.Write form lba count fua) s t x = list_any (λ p. (p.lba == x) && not p.cached) (writes s t)
-secures (commands.Verify form lba count compare) s t x = false
 secures (commands.Flush form lba count) s t x = true
-secures (commands.WriteSame form lba count unmap) s t x = false
-secures (commands.Unmap size) s t x = false
-secures (commands.Pass cdb) s t x = false
+secures _ s t x = false
 
 -- from a device on: the turns that are left of an event, a run, and then a loss of power; no task writes the sector (profile)
 pub record IsSpan (x : ℕ) (s after : Device) : Type 0 where
