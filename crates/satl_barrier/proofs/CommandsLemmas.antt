@@ -21,7 +21,7 @@ use Rattle.satl_regs.specs.declared.values.AtaCommand.TheVariants as commands
 use Rattle.satl_regs.specs.Commands.{command_in}
 use Rattle.satl_regs.specs.Spelling.{command_registers}
 use Rattle.satl_regs.specs.QueuedCommands.{queued_codes}
-use Rattle.satl_regs.specs.Effects.{Carries, Does, IsCarriedOut, IsFlawed, IsGarbled, IsLogged, IsRefused, IsSet, IsTelling, Medium, Setting, Transfer, abrt, has_setting, idnf, is_error_log, is_no_trim, no_error_log, own_blocks, pairs_of, reading, setting_of, settable, trimming, verifying, with_setting, writing}
+use Rattle.satl_regs.specs.Effects.{Carries, HasEffect, IsCarriedOut, IsFlawed, IsGarbled, IsLogged, IsRefused, IsSet, IsTelling, Medium, Setting, Transfer, abrt, has_setting, idnf, is_error_log, is_no_trim, no_error_log, own_blocks, pairs_of, reading, setting_of, settable, trimming, verifying, with_setting, writing}
 use Rattle.satl_identify.specs.Data.{identity_data}
 use Rattle.satl_drive.specs.State.{DriveState, IsFit, medium_of, with_medium}
 use Rattle.satl_drive.specs.Rules.{CanRun, IsCarriedOut as IsRunOut, IsCutOff, IsRun, IsRunBy, IsRunCutOff, MayRun}
@@ -73,7 +73,7 @@ has_run old command r given taken ended new no_error is again run =
     record {
       was_up = out.was_up;
       after = out.after;
-      does = subst (λ x. Does command x (medium_of old) given ended taken out.after) is (subst (λ c. Does c r (medium_of old) given ended taken out.after) again out.does);
+      does = subst (λ x. HasEffect command x (medium_of old) given ended taken out.after) is (subst (λ c. HasEffect c r (medium_of old) given ended taken out.after) again out.does);
       lost = out.lost;
       stays = out.stays;
     }
@@ -146,7 +146,7 @@ trim_set : (none : Bool) (blocks : ℕ) (r : Registers) (old : Medium) (given : 
 trim_set true blocks r old given ended taken new x = as_set old new _ _ _ x.medium
 trim_set false blocks r old given ended taken new x = carries_set r (trimming blocks given old) old given ended taken new x
 
-does_retell : (c : AtaCommand) (r : Registers) (old : Medium) (given : List Block) (ended : Taskfile) (taken : List Block) (new : Medium) → Does c r old given ended taken new → IsRetold old new
+does_retell : (c : AtaCommand) (r : Registers) (old : Medium) (given : List Block) (ended : Taskfile) (taken : List Block) (new : Medium) → HasEffect c r old given ended taken new → IsRetold old new
 does_retell (commands.Read how lba sectors) r old given ended taken new x = inl (carries_set r (reading how lba sectors old) old given ended taken new x)
 does_retell (commands.Write how lba sectors) r old given ended taken new x = inl (carries_set r (writing how lba sectors given old) old given ended taken new x)
 does_retell (commands.Verify ext lba sectors) r old given ended taken new x = inl (carries_set r (verifying ext lba sectors) old given ended taken new x)

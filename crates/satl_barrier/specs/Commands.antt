@@ -9,7 +9,7 @@ use Rattle.satl_regs.specs.declared.values.AtaCommand.TheVariants as commands
 use Rattle.satl_regs.specs.declared.values.Registers.{Registers}
 use Rattle.satl_regs.specs.declared.values.Taskfile.{Taskfile}
 use Rattle.satl_regs.specs.Spelling.{command_registers}
-use Rattle.satl_regs.specs.Effects.{Ata, Does, Medium}
+use Rattle.satl_regs.specs.Effects.{Ata, HasEffect, Medium}
 use Rattle.satl_drive.specs.State.{DriveState, medium_of, with_medium}
 use Rattle.satl_drive.specs.Rules.{IsCutOff, MaySet}
 
@@ -33,7 +33,7 @@ IsNamed (commands.Other code) = ⊥
 pub record HasRun (command : AtaCommand) (old : DriveState) (given : List Block) (ended : Taskfile) (taken : List Block) (new : DriveState) : Type 0 where
   pub was_up : old.down ≡ false
   pub after : Medium
-  pub does : Does command (command_registers command) (medium_of old) given ended taken after
+  pub does : HasEffect command (command_registers command) (medium_of old) given ended taken after
   pub lost : Loses after.cells new.cells
   pub stays : new ≡ record (with_medium old after) { cells = new.cells }
 

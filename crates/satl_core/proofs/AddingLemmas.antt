@@ -16,7 +16,7 @@ use Rattle.satl_identify.specs.declared.identity.Identity.{Identity}
 use Rattle.satl_line.specs.declared.entry.Entry.{Entry}
 use Rattle.satl_line.specs.Kinds.{kind_of}
 use Rattle.satl_mode.specs.Changes.{IsChangeOf}
-use Rattle.satl_line.specs.Tasks.{Adds, Held, change_at, entries_of, is_too_much, total_blocks, with_body}
+use Rattle.satl_line.specs.Tasks.{Adds, Held, change_task, entries_of, is_too_much, total_blocks, with_body}
 use Rattle.satl_line.proofs.SlotsLemmas.{All-append, total-append}
 use Rattle.satl_direct.specs.Tasks.{asks, data_out, held_blocks, needed, pass_of, task_for, task_of}
 use Rattle.satl_core.specs.Layer.{CanTrim, IsCovered, IsExpectable, IsKept, IsTask, Layer, entry_pages, held_pages}
@@ -61,10 +61,10 @@ pub record HasPages (old : List Held) (entry : Entry) (body : List Block) (new :
   pub slot : ℕ
   pub are : new ≡ old ++ record { slot = slot; entry = record entry { body = body } } ∷ []
 
-pub given_pages : (old mid new : List Held) (entry : Entry) (body : List Block) (place : ℕ) → Adds old entry mid → place ≡ length old → new ≡ change_at (with_body body) mid place → HasPages old entry body new
+pub given_pages : (old mid new : List Held) (entry : Entry) (body : List Block) (place : ℕ) → Adds old entry mid → place ≡ length old → new ≡ change_task (with_body body) mid place → HasPages old entry body new
 given_pages old mid new entry body place a at is = record {
   slot = a.slot;
-  are = is ∙ (ap (λ t. change_at (with_body body) t place) a.last ∙ last_changed (with_body body) old (record { slot = a.slot; entry = entry }) place at);
+  are = is ∙ (ap (λ t. change_task (with_body body) t place) a.last ∙ last_changed (with_body body) old (record { slot = a.slot; entry = entry }) place at);
 }
 
 -- the task that came, with its pages, may be issued

@@ -25,7 +25,7 @@ use Rattle.satl_unit.specs.declared.attention.Attention.TheVariants.{PowerOn}
 use Rattle.satl_unit.specs.Conditions.{IsInReportOrder, posted}
 use Rattle.satl_line.specs.Tasks.{Held}
 use Rattle.satl_drive.specs.State.{DriveState, IsFit}
-use Rattle.satl_drive.specs.Bench.{IsPowered, IsUnplugged}
+use Rattle.satl_drive.specs.Bench.{IsPowerCycled, IsUnplugged}
 use Rattle.satl_drive.specs.Queue.{all_pairs}
 use Rattle.satl_direct.specs.Bench as direct
 use Rattle.satl_direct.specs.Bench.{Happens}
@@ -120,7 +120,7 @@ all_told : {X Y : Type 0} (y : Y) (xs : List X) (n : ℕ) → length xs ≡ n �
 all_told y [] n e = rw (sym e) refl
 all_told y (x ∷ xs) n e = rw (sym e) (ap (λ l. y ∷ l) (all_told y xs (length xs) refl))
 
-powered : (l new : Layer) (d d' : DriveState) (replies : List Reply) → length l.attentions ≡ 4 → IsPowered d d' → StartsAnew l replies new → direct.IsPowered (view l d) replies (view new d')
+powered : (l new : Layer) (d d' : DriveState) (replies : List Reply) → length l.attentions ≡ 4 → IsPowerCycled d d' → StartsAnew l replies new → direct.IsPowered (view l d) replies (view new d')
 powered l new d d' replies four p r = record {
   none = r.none;
   cells = p.cells;
@@ -188,7 +188,7 @@ twice true = refl
 twice false = refl
 
 -- the device after a power cycle is valid
-valid_powered : (l : Layer) (d d' : DriveState) (slots : Slots) (free out : ℕ) → IsPowered d d' → IsValid (view l d) → IsValid (view (record l { modes = defaults l.identity; started = true; down = false; attentions = replicate 4 (PowerOn ∷ []); tasks = []; flying = []; slots = slots; free = free; out = out }) d')
+valid_powered : (l : Layer) (d d' : DriveState) (slots : Slots) (free out : ℕ) → IsPowerCycled d d' → IsValid (view l d) → IsValid (view (record l { modes = defaults l.identity; started = true; down = false; attentions = replicate 4 (PowerOn ∷ []); tasks = []; flying = []; slots = slots; free = free; out = out }) d')
 valid_powered l d d' slots free out p v = record {
   identity = v.identity;
   cells = left_behind-length d.cells d'.cells p.cells ∙ v.cells;
@@ -205,7 +205,7 @@ valid_powered l d d' slots free out p v = record {
     told : IsInReportOrder (PowerOn ∷ [])
     told = inr (refl, tt)
 
-tied_powered : (l new : Layer) (d d' : DriveState) (replies : List Reply) → IsPowered d d' → StartsAnew l replies new → IsFit d' → Tied l d → Tied new d'
+tied_powered : (l new : Layer) (d d' : DriveState) (replies : List Reply) → IsPowerCycled d d' → StartsAnew l replies new → IsFit d' → Tied l d → Tied new d'
 tied_powered l new d d' replies p r fit tied =
     let noted = has_as_noted l d tied.agrees in
     subst (λ x. Tied x d') (sym r.stays) (record {

@@ -36,7 +36,7 @@ use Rattle.satl_barrier.specs.Finishing as barrier
 use Rattle.satl_barrier.specs.Finishing.{ComparesAs, FinishesAs, IsVerified, IsTorn, trimming, verifying, writing_same}
 use Rattle.satl_direct.specs.Device.{Device, without}
 use Rattle.satl_direct.specs.Tasks.{asks, over, task_of}
-use Rattle.satl_direct.specs.Ending.{EndsBy, EndsCompared, EndsGarbled, EndsInPieces, EndsOnMedium, EndsTorn, EndsVerified, IsChecked, IsCompared, IsDone, same_pairs, task_check, task_reply}
+use Rattle.satl_direct.specs.Ending.{EndsBy, EndsCompared, EndsGarbled, EndsInPieces, EndsOnMedium, EndsTorn, EndsVerified, IsChecked, IsCompared, IsTaskDone, same_pairs, task_check, task_reply}
 use Rattle.satl_direct.specs.Quiet.{MayShow, MayWake, Quiet, is_pass, wakes, writes}
 use Rattle.satl_direct.specs.Senses.{crc_error, miscompare, read_error, write_error}
 use Rattle.satl_core.specs.declared.turning.Ending.{Ending}
@@ -104,7 +104,7 @@ module _ (identity : Identity) (modes : Modes) (started : Bool) (attentions : Li
 
   -- it is done
   pub done_turn : (t : Transfer) → barrier.IsDone t d d' → read_pages entry.command entry.body ≡ []
-      → ((reply : Reply) (new : Device) → IsDone (record before { cells = whole d.cells t.writes; active = true }) (task_of entry) reply new → EndsBy entry.command before (task_of entry) reply new)
+      → ((reply : Reply) (new : Device) → IsTaskDone (record before { cells = whole d.cells t.writes; active = true }) (task_of entry) reply new → EndsBy entry.command before (task_of entry) reply new)
       → EndsOne before (ended_reply entry endings.Good modes.d_sense) after
   done_turn t x none how =
       let mid : Device = seen identity modes started attentions others (record d { cells = whole d.cells t.writes; active = true }) in
@@ -133,16 +133,16 @@ module _ (identity : Identity) (modes : Modes) (started : Bool) (attentions : Li
 -- ---- the cases of the device
 
 verified_by : (s : Device) (t : Entry) (reply : Reply) (new : Device) (lba count : ℕ) (o : Option ℕ) → first_flaw flaws.Read s.cells lba count ≡ o
-    → MatchOption o (IsDone (record s { active = true }) t reply new) (λ at. IsChecked (read_error at) s t reply new) → EndsVerified lba count s t reply new
-verified_by s t reply new lba count o is x = subst (λ o. MatchOption o (IsDone (record s { active = true }) t reply new) (λ at. IsChecked (read_error at) s t reply new)) (sym is) x
+    → MatchOption o (IsTaskDone (record s { active = true }) t reply new) (λ at. IsChecked (read_error at) s t reply new) → EndsVerified lba count s t reply new
+verified_by s t reply new lba count o is x = subst (λ o. MatchOption o (IsTaskDone (record s { active = true }) t reply new) (λ at. IsChecked (read_error at) s t reply new)) (sym is) x
 
 compared_by : (s : Device) (t : Entry) (reply : Reply) (new : Device) (lba count : ℕ) (o : Option ℕ) → first_flaw flaws.Read s.cells lba count ≡ o
     → MatchOption o (EndsGarbled [] s t reply new ⊎ IsCompared lba count s t reply new) (λ at. IsChecked (read_error at) s t reply new) → EndsCompared lba count s t reply new
 compared_by s t reply new lba count o is x = subst (λ o. MatchOption o (EndsGarbled [] s t reply new ⊎ IsCompared lba count s t reply new) (λ at. IsChecked (read_error at) s t reply new)) (sym is) x
 
 pieces_by : (s : Device) (t : Entry) (reply : Reply) (new : Device) (lba count : ℕ) (writes : List Pair) (o : Option ℕ) → first_flaw flaws.Write s.cells lba count ≡ o
-    → MatchOption o (IsDone (record s { cells = whole s.cells writes; active = true }) t reply new) (λ at. EndsTorn writes at s t reply new) → EndsInPieces lba count writes s t reply new
-pieces_by s t reply new lba count writes o is x = inr (subst (λ o. MatchOption o (IsDone (record s { cells = whole s.cells writes; active = true }) t reply new) (λ at. EndsTorn writes at s t reply new)) (sym is) x)
+    → MatchOption o (IsTaskDone (record s { cells = whole s.cells writes; active = true }) t reply new) (λ at. EndsTorn writes at s t reply new) → EndsInPieces lba count writes s t reply new
+pieces_by s t reply new lba count writes o is x = inr (subst (λ o. MatchOption o (IsTaskDone (record s { cells = whole s.cells writes; active = true }) t reply new) (λ at. EndsTorn writes at s t reply new)) (sym is) x)
 
 -- the device with the sectors that it had
 stays_so : (s new : Device) (cells : List Cell) (tasks : List Entry) (glitches : ℕ) → new ≡ record s { cells = cells; tasks = tasks; glitches = glitches } → cells ≡ s.cells → glitches ≡ s.glitches → new ≡ record s { tasks = tasks }
@@ -165,7 +165,7 @@ torn_by s t reply new torn writes at left answer same part unspent = record {
   stays = same ∙ (ap (λ n. record s { cells = torn; tasks = without t s.tasks; glitches = n }) unspent ∙ sym (ap (λ (x : Device). record s { cells = x.cells; tasks = without t s.tasks }) same));
 }
 
-trim_done : (s : Device) (t : Entry) (reply : Reply) (new : Device) (ranges : List Range) (writes : List Pair) → writes ≡ zeros_over ranges s.modes.wce → IsDone (record s { cells = whole s.cells writes; active = true }) t reply new → EndsOnMedium (ranged_trim ranges) s t reply new
+trim_done : (s : Device) (t : Entry) (reply : Reply) (new : Device) (ranges : List Range) (writes : List Pair) → writes ≡ zeros_over ranges s.modes.wce → IsTaskDone (record s { cells = whole s.cells writes; active = true }) t reply new → EndsOnMedium (ranged_trim ranges) s t reply new
 trim_done s t reply new ranges writes pairs e = record {
   outcome = ends_done [];
   ends = record { no_flaw = refl; read = refl; written = ap (λ (x : Device). x.cells) e.stays ∙ ap (whole s.cells) pairs; glitches_stay = ap (λ (x : Device). x.glitches) e.stays };
@@ -250,7 +250,7 @@ module _ (identity : Identity) (modes : Modes) (started : Bool) (attentions : Li
         by finishes.Done x =
             done_turn identity modes started attentions (asking (cdbs.WriteSame form lba count false)) others d d' ready refl (writing_same (over lba count) (get_or entry.body 0 no_block) d) x refl
             (λ reply new e. pieces_by (with_it (cdbs.WriteSame form lba count false)) (task_of (asking (cdbs.WriteSame form lba count false))) reply new lba count (same_pairs lba count entry.body modes.wce) None x.no_flaw
-            (subst (λ ps. IsDone (record (with_it (cdbs.WriteSame form lba count false)) { cells = whole d.cells ps; active = true }) (task_of (asking (cdbs.WriteSame form lba count false))) reply new) pairs e))
+            (subst (λ ps. IsTaskDone (record (with_it (cdbs.WriteSame form lba count false)) { cells = whole d.cells ps; active = true }) (task_of (asking (cdbs.WriteSame form lba count false))) reply new) pairs e))
         by (finishes.Flawed at) x =
             torn_turn identity modes started attentions (asking (cdbs.WriteSame form lba count false)) others d d' ready refl (writing_same (over lba count) (get_or entry.body 0 no_block) d) (write_error at) x.torn (ap (λ (y : DriveState). y.down) x.stays)
             (λ reply new answer same. pieces_by (roused (cdbs.WriteSame form lba count false)) (task_of (asking (cdbs.WriteSame form lba count false))) reply new lba count (same_pairs lba count entry.body modes.wce) (Some at) x.flaw

@@ -20,7 +20,7 @@ use Rattle.satl_regs.specs.declared.values.Registers.{Registers}
 use Rattle.satl_regs.specs.declared.values.Taskfile.{Taskfile}
 use Rattle.satl_regs.specs.Commands.{command_in}
 use Rattle.satl_regs.specs.Effects as effects
-use Rattle.satl_regs.specs.Effects.{Carries, Does, IsRefused, Medium, Setting, Transfer, abrt, has_setting, own_blocks, pairs_of, reading, setting_of, settable, trimming, verifying, writing}
+use Rattle.satl_regs.specs.Effects.{Carries, HasEffect, IsRefused, Medium, Setting, Transfer, abrt, has_setting, own_blocks, pairs_of, reading, setting_of, settable, trimming, verifying, writing}
 use Rattle.satl_regs.specs.Effects.Setting.{sets_cache, sets_look}
 use Rattle.satl_pass.specs.declared.pass.Pass.{Pass}
 use Rattle.satl_pass.specs.Reading.{CanRun}
@@ -142,7 +142,7 @@ module _ (r : Registers) (modes : Modes) (old : Medium) (given : List Block) (en
       by false x = refused_keeps x (λ b. if b then modes else with_setting (Some s) modes) refl
 
   -- what an ATA command leaves is set as the mode values behind it say
-  pub set_after : (c : AtaCommand) → Does c r old given ended taken new → AreSet (modes_by c (is_bad ended) modes) new
+  pub set_after : (c : AtaCommand) → HasEffect c r old given ended taken new → AreSet (modes_by c (is_bad ended) modes) new
   set_after (ata.Read how lba sectors) x = keeps modes old new (is_bad ended) set (carries_keep r (reading how lba sectors old) old given ended taken new x)
   set_after (ata.Write how lba sectors) x = keeps modes old new (is_bad ended) set (carries_keep r (writing how lba sectors given old) old given ended taken new x)
   set_after (ata.Verify ext lba sectors) x = keeps modes old new (is_bad ended) set (carries_keep r (verifying ext lba sectors) old given ended taken new x)
@@ -228,8 +228,8 @@ pass_sets cdb modes wanted given taken d d' ending set x =
 -- ---- the data that the device sees
 
 -- a command that the profile does not have is refused whatever is handed in
-refused_all : (c : AtaCommand) (r : Registers) (m : Medium) (given : List Block) (ended : Taskfile) (taken : List Block) (new : Medium) → Does c r m given ended taken new
-    → (is_other c ≡ false) ⊎ ((other : List Block) → Does c r m other ended other new × (is_bad ended ≡ true))
+refused_all : (c : AtaCommand) (r : Registers) (m : Medium) (given : List Block) (ended : Taskfile) (taken : List Block) (new : Medium) → HasEffect c r m given ended taken new
+    → (is_other c ≡ false) ⊎ ((other : List Block) → HasEffect c r m other ended other new × (is_bad ended ≡ true))
 refused_all (ata.Other code) r m given ended taken new x = inr (λ other. (record { ends = x.ends; data_in = refl; medium = x.medium }, ap is_bad x.ends))
 refused_all c r m given ended taken new x = inl refl
 
@@ -288,8 +288,8 @@ module _ (identity : Identity) (modes : Modes) (started : Bool) (attentions : Li
     abbrev reply : Reply
     reply = ended_reply (record task { body = taken }) (passed pass x.ended) modes.d_sense
 
-    does : Does command pass.regs (medium_of before) entry.body x.ended taken x.is.after
-    does = subst (λ m. Does command pass.regs m entry.body x.ended taken x.is.after) (same_medium set told) x.is.does
+    does : HasEffect command pass.regs (medium_of before) entry.body x.ended taken x.is.after
+    does = subst (λ m. HasEffect command pass.regs m entry.body x.ended taken x.is.after) (same_medium set told) x.is.does
 
     left_is : left ≡ where_done (passed pass x.ended) (set_by command modes) modes
     left_is =
@@ -299,7 +299,7 @@ module _ (identity : Identity) (modes : Modes) (started : Bool) (attentions : Li
     goes : mid ≡ record before { cells = x.is.after.cells; tasks = Rattle.satl_direct.specs.Device.without (task_of task) before.tasks; modes = left; active = x.is.after.active; glitches = x.is.after.glitches }
     goes = first_gone identity left started attentions (task_of task) others (with_medium d x.is.after)
 
-    passes : (is_other command ≡ false) ⊎ ((other : List Block) → Does command pass.regs (medium_of before) other x.ended other x.is.after × (is_bad x.ended ≡ true)) → EndsPassed pass before (task_of task) reply mid
+    passes : (is_other command ≡ false) ⊎ ((other : List Block) → HasEffect command pass.regs (medium_of before) other x.ended other x.is.after × (is_bad x.ended ≡ true)) → EndsPassed pass before (task_of task) reply mid
     passes (inl named) =
         let size = own_length pass named can in
         record {

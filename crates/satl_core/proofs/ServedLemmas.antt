@@ -24,7 +24,7 @@ use Rattle.satl_barrier.specs.Flushing.{IsLeftWith, IsSwitched, settled_if}
 use Rattle.satl_direct.specs.Device.{Device}
 use Rattle.satl_direct.specs.Tasks.{asks, task_of}
 use Rattle.satl_direct.specs.Ending as direct
-use Rattle.satl_direct.specs.Ending.{Ends, EndsBy, IsChecked, IsDone, task_reply}
+use Rattle.satl_direct.specs.Ending.{Ends, EndsBy, IsChecked, IsTaskDone, task_reply}
 use Rattle.satl_direct.specs.Quiet.{Around}
 use Rattle.satl_direct.specs.Senses.{link_lost, not_ready}
 use Rattle.satl_direct.specs.Attentions.{are_same, are_same_modes, post, with_modes_changed}
@@ -50,7 +50,7 @@ use Rattle.satl_core.proofs.Transfers.{of_task}
 
 -- a task that moves no has is done, and leaves these sectors
 left_turn : (identity : Identity) (modes modes' : Modes) (started started' : Bool) (attentions attentions' : List (List Attention)) (entry : Entry) (others : List Entry) (d d' : DriveState) (cells : List Cell) (active : Bool) (ending : Ending) → (not started && (asks entry.command).starts) ≡ false
-    → ((reply : Reply) (new : Device) → IsDone (record (seen identity modes started attentions (task_of entry ∷ others) d) { cells = cells; active = active; started = started'; modes = modes'; attentions = attentions' }) (task_of entry) reply new → EndsBy entry.command (seen identity modes started attentions (task_of entry ∷ others) d) (task_of entry) reply new)
+    → ((reply : Reply) (new : Device) → IsTaskDone (record (seen identity modes started attentions (task_of entry ∷ others) d) { cells = cells; active = active; started = started'; modes = modes'; attentions = attentions' }) (task_of entry) reply new → EndsBy entry.command (seen identity modes started attentions (task_of entry ∷ others) d) (task_of entry) reply new)
     → d.down ≡ false → Loses cells d'.cells → d'.active ≡ active → d'.down ≡ d.down → d'.glitches ≡ d.glitches → ending ≡ endings.Good → read_pages entry.command entry.body ≡ []
     → EndsOne (seen identity modes started attentions (task_of entry ∷ others) d) (ended_reply entry ending modes.d_sense) (seen identity modes' started' attentions' others d')
 left_turn identity modes modes' started started' attentions attentions' entry others d d' cells active ending ready how up lost still link glitches good none =
@@ -72,7 +72,7 @@ left_turn identity modes modes' started started' attentions attentions' entry ot
 
 -- the same where the mode values stay
 bare_turn : (identity : Identity) (modes : Modes) (started started' : Bool) (attentions : List (List Attention)) (entry : Entry) (others : List Entry) (d d' : DriveState) (cells : List Cell) (active : Bool) (ending : Ending) → (not started && (asks entry.command).starts) ≡ false
-    → ((reply : Reply) (new : Device) → IsDone (record (seen identity modes started attentions (task_of entry ∷ others) d) { cells = cells; active = active; started = started' }) (task_of entry) reply new → EndsBy entry.command (seen identity modes started attentions (task_of entry ∷ others) d) (task_of entry) reply new)
+    → ((reply : Reply) (new : Device) → IsTaskDone (record (seen identity modes started attentions (task_of entry ∷ others) d) { cells = cells; active = active; started = started' }) (task_of entry) reply new → EndsBy entry.command (seen identity modes started attentions (task_of entry ∷ others) d) (task_of entry) reply new)
     → IsLeftWith cells active d d' → ending ≡ endings.Good → read_pages entry.command entry.body ≡ []
     → EndsOne (seen identity modes started attentions (task_of entry ∷ others) d) (ended_reply entry ending modes.d_sense) (seen identity modes started' attentions others d')
 bare_turn identity modes started started' attentions entry others d d' cells active ending ready how x good none =
@@ -92,8 +92,8 @@ switched_turn identity modes started false false attentions entry others d d' en
 
 -- the device after a MODE SELECT, whether all was written back or not
 selected_so : (settles : Bool) (modes wanted : Modes) (attentions : List (List Attention)) (identity : Identity) (started : Bool) (tasks : List Entry) (d : DriveState) (t : Entry) (reply : Reply) (new : Device)
-    → IsDone (record (seen identity modes started attentions tasks d) { cells = settled_if settles d.cells; modes = wanted; attentions = with_modes_changed modes wanted t.nexus attentions }) t reply new
-    → IsDone (record (direct.settled_if settles (seen identity modes started attentions tasks d)) { modes = wanted; attentions = with_modes_changed modes wanted t.nexus attentions }) t reply new
+    → IsTaskDone (record (seen identity modes started attentions tasks d) { cells = settled_if settles d.cells; modes = wanted; attentions = with_modes_changed modes wanted t.nexus attentions }) t reply new
+    → IsTaskDone (record (direct.settled_if settles (seen identity modes started attentions tasks d)) { modes = wanted; attentions = with_modes_changed modes wanted t.nexus attentions }) t reply new
 selected_so true modes wanted attentions identity started tasks d t reply new e = e
 selected_so false modes wanted attentions identity started tasks d t reply new e = e
 

@@ -7,7 +7,7 @@ use Rattle.satl_io.specs.Causes.{next_count}
 use Rattle.satl_mode.specs.ModePages.{defaults}
 use Rattle.satl_unit.specs.declared.attention.Attention.TheVariants.{PowerOn}
 use Rattle.satl_drive.specs.State.{DriveState}
-use Rattle.satl_drive.specs.Bench.{IsGlitched, IsMended, IsOrdered, IsPowered, IsStruck, IsUnplugged}
+use Rattle.satl_drive.specs.Bench.{IsGlitched, IsMended, IsOrdered, IsPowerCycled, IsStruck, IsUnplugged}
 use Rattle.satl_core.specs.Layer.{Layer}
 use Rattle.satl_core.specs.Turning.{lost_replies}
 
@@ -17,7 +17,7 @@ IsActedOn (Strike which lba) old new = IsStruck which lba old new
 IsActedOn (Mend lba) old new = IsMended lba old new
 IsActedOn (Glitch count) old new = IsGlitched count old new
 IsActedOn (Order order) old new = IsOrdered old new
-IsActedOn Power old new = IsPowered old new
+IsActedOn Power old new = IsPowerCycled old new
 IsActedOn Unplug old new = IsUnplugged old new
 
 -- the layer is as before, and nothing is answered (profile)

@@ -43,7 +43,7 @@ pub record IsChecked (sense : Sense) (s : Device) (t : Entry) (reply : Reply) (n
   pub stays : new ≡ record s { tasks = without t s.tasks }
 
 -- a task is done without data, and the device is this one but for the task (SAM-5 5.3.1)
-pub record IsDone (after : Device) (t : Entry) (reply : Reply) (new : Device) : Type 0 where
+pub record IsTaskDone (after : Device) (t : Entry) (reply : Reply) (new : Device) : Type 0 where
   pub answer : reply ≡ task_reply t Good [] []
   pub stays : new ≡ record after { tasks = without t after.tasks }
 
@@ -91,20 +91,20 @@ abbrev pub EndsInPieces : ℕ → ℕ → List Pair → Device → Entry → Rep
 EndsInPieces lba count writes s t reply new =
     ((first_flaw flaws.Write s.cells lba (min piece count) ≡ None) × EndsGarbled writes s t reply new)
     ⊎ MatchOption (first_flaw flaws.Write s.cells lba count)
-    (IsDone (record s { cells = whole s.cells writes; active = true }) t reply new)
+    (IsTaskDone (record s { cells = whole s.cells writes; active = true }) t reply new)
     (λ at. EndsTorn writes at s t reply new)
 
 -- VERIFY: a read flaw in its range, or it is done (SBC-3 5.33)
 abbrev pub EndsVerified : ℕ → ℕ → Device → Entry → Reply → Device → Type 0
 EndsVerified lba count s t reply new =
     MatchOption (first_flaw flaws.Read s.cells lba count)
-    (IsDone (record s { active = true }) t reply new)
+    (IsTaskDone (record s { active = true }) t reply new)
     (λ at. IsChecked (read_error at) s t reply new)
 
 -- the data-out are what reads give, and it is done; or they differ (SBC-3 5.33, BYTCHK)
 abbrev pub IsCompared : ℕ → ℕ → Device → Entry → Reply → Device → Type 0
 IsCompared lba count s t reply new =
-    ((t.body ≡ nows s.cells lba count) × IsDone (record s { active = true }) t reply new)
+    ((t.body ≡ nows s.cells lba count) × IsTaskDone (record s { active = true }) t reply new)
     ⊎ ((t.body ≡ nows s.cells lba count → ⊥) × IsChecked miscompare s t reply new)
 
 -- VERIFY with comparison: a read flaw in its range; a CRC error; or it is compared (SBC-3 5.33; of CRC errors: profile)
@@ -194,8 +194,8 @@ EndsBy commands.TestUnitReady s t reply new = ⊥
 EndsBy (commands.RequestSense descriptor alloc) s t reply new = ⊥
 EndsBy (commands.Inquiry page alloc) s t reply new = ⊥
 EndsBy (commands.ModeSense ten long_lba no_descriptor control page alloc) s t reply new = ⊥
-EndsBy (commands.ModeSelect ten size) s t reply new = IsDone (after_select s t) t reply new
-EndsBy (commands.StartStop start no_flush) s t reply new = IsDone (after_start_stop start no_flush s) t reply new
+EndsBy (commands.ModeSelect ten size) s t reply new = IsTaskDone (after_select s t) t reply new
+EndsBy (commands.StartStop start no_flush) s t reply new = IsTaskDone (after_start_stop start no_flush s) t reply new
 EndsBy commands.ReadCapacity10 s t reply new = ⊥
 EndsBy (commands.ReadCapacity16 alloc) s t reply new = ⊥
 EndsBy (commands.ReportLuns select alloc) s t reply new = ⊥
@@ -203,7 +203,7 @@ EndsBy (commands.Read form lba count fua) s t reply new = EndsOnMedium (ranged_r
 EndsBy (commands.Write form lba count fua) s t reply new = EndsOnMedium (ranged_write fua (over lba count) t.body) s t reply new
 EndsBy (commands.Verify form lba count false) s t reply new = EndsVerified lba count s t reply new
 EndsBy (commands.Verify form lba count true) s t reply new = EndsCompared lba count s t reply new
-EndsBy (commands.Flush form lba count) s t reply new = IsDone (settled s) t reply new
+EndsBy (commands.Flush form lba count) s t reply new = IsTaskDone (settled s) t reply new
 EndsBy (commands.WriteSame form lba count false) s t reply new = EndsInPieces lba count (same_pairs lba count t.body s.modes.wce) s t reply new
 EndsBy (commands.WriteSame form lba count true) s t reply new = EndsOnMedium (ranged_trim (over lba count ∷ [])) s t reply new
 EndsBy (commands.Unmap size) s t reply new = EndsOnMedium (ranged_trim t.ranges.items) s t reply new

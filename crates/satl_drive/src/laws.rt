@@ -13,7 +13,7 @@ ghost use Rattle.satl_regs.specs.declared.values.Registers.{Registers};
 ghost use Rattle.satl_regs.specs.Commands.{command_in};
 ghost use Rattle.satl_errlog.specs.declared.entry.NcqError.{NcqError};
 ghost use Rattle.satl_drive.specs.declared.drive.Report.TheVariants as reports;
-ghost use Rattle.satl_drive.specs.Bench.{IsPowered, IsStruck, IsUnplugged};
+ghost use Rattle.satl_drive.specs.Bench.{IsPowerCycled, IsStruck, IsUnplugged};
 ghost use Rattle.satl_drive.specs.Queue.{CanIssue, CanPoll, IsIssued, IsPolled, IsReset, Slots, is_tagged, queued_pairs};
 ghost use Rattle.satl_drive.specs.Rules.{CanRun, IsRunCutOff};
 ghost use Rattle.satl_drive.specs.State.{DriveState, IsFit, Outstanding};
@@ -107,7 +107,7 @@ pub fn a_strike_outside_the_capacity_changes_nothing()
 /// Law of power: what was written back is read after a loss of power, and the write cache is off where the drive has none
 /// (SBC-3 4.15; ACS-3, power-on).
 pub fn power_keeps_what_was_written_back()
-    ensures blocks { (old new : DriveState) → AllByRecursion (λ c. c.may ≡ c.now ∷ []) old.cells → IsPowered old new →
+    ensures blocks { (old new : DriveState) → AllByRecursion (λ c. c.may ≡ c.now ∷ []) old.cells → IsPowerCycled old new →
         map (λ c. c.now) new.cells ≡ map (λ c. c.now) old.cells }
-    ensures cache { (old new : DriveState) → has_cache old.identify ≡ false → IsPowered old new → new.cache ≡ false }
+    ensures cache { (old new : DriveState) → has_cache old.identify ≡ false → IsPowerCycled old new → new.cache ≡ false }
 {}

@@ -11,7 +11,7 @@ use Rattle.satl_direct.specs.Tasks.{task_of}
 use Rattle.satl_core.specs.Layer.{Layer, Tied, view}
 use Rattle.satl_core.specs.Opening.{IsOpened}
 use Rattle.satl_core.specs.Tie.{given_by}
-use Rattle.satl_serve.specs.Runs.{IsFirst, IsLeftAs}
+use Rattle.satl_serve.specs.Runs.{IsFirstDevice, IsLeftAs}
 use Rattle.satl_step.specs.Runs.{unplugs_in}
 use Rattle.satl_fleet.specs.Opening.{Opens, OpensTo}
 use Rattle.satl_fleet.specs.Opening.OpensTo.{rest, more}
@@ -23,7 +23,7 @@ use Rattle.satl_fleet.specs.Runs.HaveRunInPart.{here as run_here, later as run_l
 use Rattle.satl_fleet.specs.Units.{IsTiedSpot, Spot, spot, spots_of}
 
 -- an opened layer and its drive are a first device
-first_of : (old new : DriveState) (l : Layer) → IsOpened old l new → IsFirst old (view l new)
+first_of : (old new : DriveState) (l : Layer) → IsOpened old l new → IsFirstDevice old (view l new)
 first_of old new l o = record {
   cells = o.lost;
   tasks = ap (λ t. map task_of (entries_of t)) o.tasks;

@@ -6,7 +6,7 @@ use Rattle.satl_frame.specs.Output.{Answer}
 use Rattle.satl_drive.specs.State.{DriveState}
 use Rattle.satl_direct.specs.Device.{Device}
 use Rattle.satl_direct.specs.Run.{RunDeep}
-use Rattle.satl_serve.specs.Runs.{IsFirst, IsLeftAs, KeepsQueue}
+use Rattle.satl_serve.specs.Runs.{IsFirstDevice, IsLeftAs, KeepsQueue}
 use Rattle.satl_step.specs.Runs.{RunInPart, unplugs_in}
 use Rattle.satl_fleet.specs.Output.{Round, frames_of, groups_for}
 use Rattle.satl_fleet.specs.Routing.{project}
@@ -48,7 +48,7 @@ RanRoundsInPart units k rounds first old last new = RanInPart first old (project
 pub record UnitServed (Run : Device → Device → Type 0) (old new : DriveState) : Type 0 where
   pub first : Device
   pub last : Device
-  pub begins : IsFirst old first
+  pub begins : IsFirstDevice old first
   pub run : Run first last
   pub ends : IsLeftAs last new
   pub queue : KeepsQueue last new

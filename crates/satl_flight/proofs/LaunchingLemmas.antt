@@ -15,7 +15,7 @@ use Rattle.satl_line.specs.Conflict.{conflicts}
 use Rattle.satl_line.specs.Eligible.{IsEligibleBy, eligible_at, eligible_by, is_clear_by}
 use Rattle.satl_line.specs.Ranged.{RangedTask, ranged_of}
 use Rattle.satl_line.specs.Ranged.RangedTask.{ranged_read, ranged_write, ranged_trim}
-use Rattle.satl_line.specs.Tasks.{Held, change_at, count_of, entries_of, entry_at, slots_of, with_body}
+use Rattle.satl_line.specs.Tasks.{Held, change_task, count_of, entries_of, entry_at, slots_of, with_body}
 use Rattle.satl_line.proofs.EligibleLemmas.{eligible_by-formed, eligible_passes, eligible_stands}
 use Rattle.satl_drive.specs.State.{DriveState}
 use Rattle.satl_drive.specs.Queue.{CanIssue, IsIssueCutOff, IsIssued, Slots}
@@ -116,7 +116,7 @@ module _ (flying : List Flying) (slots : Slots) (tasks : List Held) (lending : I
     pub queued_does : QueuedFits (queued_for tag task)
     queued_does = queued_fits tag old.capacity (has_queued_trim old.identify) entry.body task small (fits task ranged)
 
-    module _ (slots' : Slots) (tasks' : List Held) (pages : List Block) (taken : option_map (λ (e : Entry). e.body) (entry_at tasks place) ≡ Some pages) (slots_are : slots' ≡ slice_set slots tag (Some pages)) (tasks_are : tasks' ≡ change_at (with_body []) tasks place) where
+    module _ (slots' : Slots) (tasks' : List Held) (pages : List Block) (taken : option_map (λ (e : Entry). e.body) (entry_at tasks place) ≡ Some pages) (slots_are : slots' ≡ slice_set slots tag (Some pages)) (tasks_are : tasks' ≡ change_task (with_body []) tasks place) where
       body_is : pages ≡ entry.body
       body_is = let same : Some pages ≡ Some entry.body = sym taken ∙ ap (option_map (λ (e : Entry). e.body)) is in cc
 

@@ -26,7 +26,7 @@ use Rattle.satl_line.specs.Ranged.{MayPut, RangedTask, ranged_of, written_pairs}
 use Rattle.satl_line.specs.Ranged.RangedTask.{ranged_read, ranged_write, ranged_trim}
 use Rattle.satl_line.specs.Tasks.{Held, entries_of}
 use Rattle.satl_drive.specs.State.{DriveState, Outstanding}
-use Rattle.satl_drive.specs.Queue.{FailsAtFlaw, FailsByCrc, IsDone, IsFailed, Slots, all_pairs, is_tagged, queued_flaw, queued_pairs, slots_after}
+use Rattle.satl_drive.specs.Queue.{FailsAtFlaw, FailsByCrc, IsQueuedDone, IsFailed, Slots, all_pairs, is_tagged, queued_flaw, queued_pairs, slots_after}
 use Rattle.satl_drive.specs.Rules.{IsLogRead}
 use Rattle.satl_pages.specs.Slots.{pages_at}
 use Rattle.satl_flight.specs.declared.flight.Flying.{Flying}
@@ -99,7 +99,7 @@ module _ (flying : List Flying) (tasks : List Held) (old : DriveState) (tie : Is
   held_is f q place held flown at = let same : Some flown.held ≡ Some held = sym flown.found ∙ at.found in cc
 
   pub settled_done : (tag place : ℕ) (f : Flying) (held : Held) (slots taken : Slots) (pages body : List Block) (new : DriveState) → find (has_tag tag) flying ≡ Some f → IsAt tasks place f.slot held
-      → pages_at slots tag ≡ Some pages → pages_at taken tag ≡ Some body → IsDone tag old slots taken new
+      → pages_at slots tag ≡ Some pages → pages_at taken tag ≡ Some body → IsQueuedDone tag old slots taken new
       → (ranged : RangedTask) × ((ranged_of held.entry ≡ Some ranged) × IsSettled tasks old place (outcome_of None ranged body) (remove_first (has_tag tag) flying) new)
   settled_done tag place f held slots taken pages body new found at filled gave done =
       let flown = flown_found flying tasks old tag f done.done tie found done.found in

@@ -3,7 +3,7 @@ ghost use Rattle.std.specs.Option.{option_map};
 ghost use Rattle.std.specs.List.{position_from};
 ghost use Rattle.std.specs.Prelude.{◌≡◌, ◌≢◌, ◌≤◌, ◌<◌, ◌+◌, ◌-◌, ◌↔◌, [], length, Some, false, IfErr, IfOk, IsTrue, OnOk, OnErr, is_err, remove, slice_get};
 ghost use Rattle.satl_base.specs.Limits.{most_held, most_tasks};
-ghost use Rattle.satl_line.specs.Tasks.{Adds, AreOwnSlots, Held, change_at, entry_at, is_named, is_too_much, total_blocks, with_body};
+ghost use Rattle.satl_line.specs.Tasks.{Adds, AreOwnSlots, Held, change_task, entry_at, is_named, is_too_much, total_blocks, with_body};
 ghost use Rattle.satl_flight.specs.Flown.{holds};
 ghost use Rattle.satl_drive.specs.State.{DriveState, IsFit};
 ghost use Rattle.satl_flight.specs.Lending.{AreAlike};
@@ -185,7 +185,7 @@ impl Queue {
     pub fn fill_last(&mut self, body: Pages)
         requires some { 0 < length self.old.tasks }
         requires waits { (h : Held) → slice_get self.old.tasks (length self.old.tasks - 1) ≡ Some h → (holds self.old.flying h.slot ≡ false) × (h.entry.body ≡ []) }
-        ensures filled { self.new.tasks ≡ change_at (with_body body) self.old.tasks (length self.old.tasks - 1) }
+        ensures filled { self.new.tasks ≡ change_task (with_body body) self.old.tasks (length self.old.tasks - 1) }
         ensures flying { self.new.flying ≡ self.old.flying }
         ensures slots { self.new.slots ≡ self.old.slots }
     {

@@ -11,7 +11,7 @@ use Rattle.satl_frame.specs.declared.frames.Frame.TheVariants as frames
 use Rattle.satl_frame.specs.declared.frames.Version.TheVariants.{One}
 use Rattle.satl_frame.proofs.FieldSizes.{length-request_fields}
 use Rattle.satl_gen.specs.Coming.{request_head}
-use Rattle.satl_gen.specs.Generated.{is_write, sent_blocks, command_of, request_of, blocks_from}
+use Rattle.satl_gen.specs.Generated.{is_write, sent_blocks, drawn_command, request_of, blocks_from}
 use Rattle.satl_gen.specs.declared.draw.Draw.{Draw}
 use Rattle.satl_gen.proofs.Blocks.{length-blocks, first_blocks, blocks_are_pages}
 
@@ -27,7 +27,7 @@ sent_blocks-le d = by_case (is_write d)
     by_case false = omega arith
 
 pub fields_fit : (i : ℕ) (d : Draw) → i < 2 ^ 32 → HasFields One (request_of i d)
-fields_fit i d small = record { nexus = omega arith; lun = refl; tag = small; cdb = length-cdb (command_of d); expected = refl }
+fields_fit i d small = record { nexus = omega arith; lun = refl; tag = small; cdb = length-cdb (drawn_command d); expected = refl }
 
 has_data : (i : ℕ) (d : Draw) → HasData (request_of i d)
 has_data i d =

@@ -39,8 +39,8 @@ abbrev pub is_write : Draw → Bool
 is_write d = nat_le 3 (d.a % 8) && nat_lt (d.a % 8) 6
 
 -- the command: READ(10) and WRITE(10) of 1 to 32 blocks below address 8,032, SYNCHRONIZE CACHE(10) of all, TEST UNIT READY (profile)
-abbrev pub command_of : Draw → Command
-command_of d =
+abbrev pub drawn_command : Draw → Command
+drawn_command d =
     if nat_lt (d.a % 8) 3 then commands.Read Ten (d.b % 8000) (1 + d.c % 32) false
     else if is_write d then commands.Write Ten (d.b % 8000) (1 + d.c % 32) false
     else if d.a % 8 == 6 then commands.Flush Ten 0 0
@@ -66,7 +66,7 @@ request_of i d = record {
   attr = if d.a / 32 % 16 == 0 then Ordered else Simple;
   lun = replicate 8 0;
   tag = record { 0 = i };
-  cdb = cdb_bytes (command_of d);
+  cdb = cdb_bytes (drawn_command d);
   body = blocks_from (sent_blocks d) i;
   data_len = 512 * sent_blocks d;
   expected = None;

@@ -1,7 +1,7 @@
 // Random numbers, and what they ask for.
 ghost use Rattle.std.specs.Prelude.{◌≡◌};
 ghost use Rattle.satl_gen.specs.Coming.{burst_behind};
-ghost use Rattle.satl_gen.specs.Generated.{seeded, draw, after_draw, is_write, command_of, sent_blocks};
+ghost use Rattle.satl_gen.specs.Generated.{seeded, draw, after_draw, is_write, drawn_command, sent_blocks};
 
 use rand_core::SeedableRng;
 use rand_core::utils::NextWord;
@@ -62,7 +62,7 @@ impl Draw {
     }
 
     pub fn command(self) -> Command
-        ensures { result ≡ command_of self }
+        ensures { result ≡ drawn_command self }
     {
         let lba = u64::from(self.b % 8000);
         let count = 1 + self.c % 32;

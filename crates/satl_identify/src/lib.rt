@@ -9,6 +9,6 @@ mod words;
 mod writing;
 
 pub use identity::{Identity, IdentityFault};
-pub use reading::{read_identity, serves_trim};
+pub use reading::{has_trim, read_identity};
 pub use words::{bit_at, word_at};
 pub use writing::{identity_bytes, mend, settings_of};

@@ -7,13 +7,13 @@ use crate::identity::{Identity, IdentityFault};
 use crate::words::{bit_at, checksum_of, number_at, word_at};
 
 // The integrity word is there, and the bytes do not sum to 0.
-fn is_damaged(bytes: &[u8; 512]) -> bool
+fn has_bad_sum(bytes: &[u8; 512]) -> bool
     ensures { result ≡ has_bad_sum bytes.now }
 {
     word_at(bytes, 255) & 0xFF == 0xA5 && checksum_of(bytes) != 0
 }
 
-fn serves_lba48(bytes: &[u8; 512]) -> bool
+fn has_lba48(bytes: &[u8; 512]) -> bool
     ensures { result ≡ has_lba48 bytes.now }
 {
     bit_at(bytes, 49, 8)
@@ -23,20 +23,20 @@ fn serves_lba48(bytes: &[u8; 512]) -> bool
         && bit_at(bytes, 83, 13)
 }
 
-fn serves_queue(bytes: &[u8; 512]) -> bool
+fn has_queue(bytes: &[u8; 512]) -> bool
     ensures { result ≡ has_queue bytes.now }
 {
     word_at(bytes, 76) != 0xFFFF && bit_at(bytes, 76, 8) && word_at(bytes, 75) & 0x1F == 31
 }
 
-fn states_capacity(bytes: &[u8; 512]) -> bool
+fn has_capacity(bytes: &[u8; 512]) -> bool
     ensures { result ≡ has_capacity bytes.now }
 {
     let capacity = number_at(bytes, 100);
     capacity != 0 && capacity <= 0xFFFF_FFFF_FFFF
 }
 
-fn uses_other_block(bytes: &[u8; 512]) -> bool
+fn is_other_block(bytes: &[u8; 512]) -> bool
     ensures { result ≡ is_other_block bytes.now }
 {
     word_at(bytes, 106) >> 14 == 1 && bit_at(bytes, 106, 12)
@@ -53,16 +53,16 @@ fn exponent_of(bytes: &[u8; 512]) -> u8
 }
 
 /// Whether the drive trims, and a read of what was trimmed gives zeros (ACS-3, words 69 and 169).
-pub fn serves_trim(bytes: &[u8; 512]) -> bool
+pub fn has_trim(bytes: &[u8; 512]) -> bool
     ensures { result ≡ has_trim bytes.now }
 {
     bit_at(bytes, 169, 0) && bit_at(bytes, 69, 14) && bit_at(bytes, 69, 5)
 }
 
-fn serves_queued_trim(bytes: &[u8; 512]) -> bool
+fn has_queued_trim(bytes: &[u8; 512]) -> bool
     ensures { result ≡ has_queued_trim bytes.now }
 {
-    serves_trim(bytes) && bit_at(bytes, 77, 6)
+    has_trim(bytes) && bit_at(bytes, 77, 6)
 }
 
 fn identity_from(bytes: &[u8; 512]) -> Identity
@@ -72,8 +72,8 @@ fn identity_from(bytes: &[u8; 512]) -> Identity
         bytes: *bytes,
         capacity: number_at(bytes, 100),
         exponent: exponent_of(bytes),
-        trim: serves_trim(bytes),
-        queued_trim: serves_queued_trim(bytes),
+        trim: has_trim(bytes),
+        queued_trim: has_queued_trim(bytes),
         cache: bit_at(bytes, 82, 5),
         look: bit_at(bytes, 82, 6),
         cache_on: bit_at(bytes, 85, 5),
@@ -88,19 +88,19 @@ fn judge(bytes: &[u8; 512]) -> Result<Identity, IdentityFault>
     if bit_at(bytes, 0, 15) {
         return Err(IdentityFault::NotAta);
     }
-    if is_damaged(bytes) {
+    if has_bad_sum(bytes) {
         return Err(IdentityFault::BadIntegrity);
     }
-    if !serves_lba48(bytes) {
+    if !has_lba48(bytes) {
         return Err(IdentityFault::NoLba48);
     }
-    if !serves_queue(bytes) {
+    if !has_queue(bytes) {
         return Err(IdentityFault::NoNcq);
     }
-    if !states_capacity(bytes) {
+    if !has_capacity(bytes) {
         return Err(IdentityFault::NoCapacity);
     }
-    if uses_other_block(bytes) {
+    if is_other_block(bytes) {
         return Err(IdentityFault::NotBlock512);
     }
     Ok(identity_from(bytes))

@@ -15,7 +15,7 @@ use Rattle.satl_line.specs.Ranged.RangedTask.{ranged_read, ranged_write}
 use Rattle.satl_line.specs.Ending.{EndsAs, Outcome, flaw_met}
 use Rattle.satl_line.specs.Ending.Outcome.{ends_done, ends_flawed, ends_glitched}
 use Rattle.satl_direct.specs.Device.{Device}
-use Rattle.satl_direct.specs.Ending.{Ends, EndsBy, EndsCompared, EndsOnMedium, EndsVerified, IsChecked, IsDone, outcome_reply, selected, settled, settled_if}
+use Rattle.satl_direct.specs.Ending.{Ends, EndsBy, EndsCompared, EndsOnMedium, EndsVerified, IsChecked, IsTaskDone, outcome_reply, selected, settled, settled_if}
 use Rattle.satl_laws.specs.ArrivalOrder.{is_good, stops_or_starts, writes_plainly}
 use Rattle.satl_direct.specs.Quiet.{Quiet}
 use Rattle.satl_direct.specs.Senses.{link_lost, not_ready}
@@ -66,10 +66,10 @@ module _ (s new : Device) (t : Entry) (reply : Reply) (calm : IsCalm s) where
   checked_calm : {sense : Sense} → IsChecked sense s t reply new → IsCalm new
   checked_calm e = same_calm s calm (ap (λ d. d.started) e.stays) (ap (λ d. d.glitches) e.stays) (ap (λ d. d.cells) e.stays)
 
-  done_calm : (after : Device) → IsCalm after → IsDone after t reply new → IsCalm new
+  done_calm : (after : Device) → IsCalm after → IsTaskDone after t reply new → IsCalm new
   done_calm after c e = same_calm after c (ap (λ d. d.started) e.stays) (ap (λ d. d.glitches) e.stays) (ap (λ d. d.cells) e.stays)
 
-  active_done : (active : Bool) → IsDone (record s { active = active }) t reply new → IsCalm new
+  active_done : (active : Bool) → IsTaskDone (record s { active = active }) t reply new → IsCalm new
   active_done active e = same_calm s calm (ap (λ d. d.started) e.stays) (ap (λ d. d.glitches) e.stays) (ap (λ d. d.cells) e.stays)
 
   -- on the medium it is done

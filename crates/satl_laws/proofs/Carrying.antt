@@ -7,7 +7,7 @@ use Rattle.satl_regs.specs.declared.values.AtaCommand.{AtaCommand}
 use Rattle.satl_regs.specs.declared.values.AtaCommand.TheVariants as ata
 use Rattle.satl_regs.specs.declared.values.Registers.{Registers}
 use Rattle.satl_regs.specs.declared.values.Taskfile.{Taskfile}
-use Rattle.satl_regs.specs.Effects.{Carries, Does, IsSet, Medium, Setting, Transfer, is_error_log, is_no_trim, pairs_of, reading, setting_of, settable, trimming, verifying, writing}
+use Rattle.satl_regs.specs.Effects.{Carries, HasEffect, IsSet, Medium, Setting, Transfer, is_error_log, is_no_trim, pairs_of, reading, setting_of, settable, trimming, verifying, writing}
 use Rattle.satl_regs.specs.Effects.Setting.{sets_cache, sets_look}
 use Rattle.satl_laws.specs.Untouched.{Spares}
 use Rattle.satl_laws.proofs.Cases.{by_bool, by_option}
@@ -50,7 +50,7 @@ module _ (r : Registers) (old new : Medium) (given taken : List Block) (ended : 
   set_carried a (sets_look on) h = as_before a (ap (λ m. m.cells) h.medium)
 
   -- each command
-  pub carried_out : (a : AtaCommand) → Does a r old given ended taken new → Carried a given old new
+  pub carried_out : (a : AtaCommand) → HasEffect a r old given ended taken new → Carried a given old new
   carried_out (ata.Read how lba sectors) h = transfer (ata.Read how lba sectors) (reading how lba sectors old) (λ fits. refl) h
   carried_out (ata.Write how lba sectors) h =
       transfer (ata.Write how lba sectors) (writing how lba sectors given old)

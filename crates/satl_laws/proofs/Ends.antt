@@ -16,7 +16,7 @@ use Rattle.satl_line.specs.Ending.{Outcome}
 use Rattle.satl_line.specs.Ending.Outcome.{ends_done, ends_flawed, ends_glitched}
 use Rattle.satl_direct.specs.Device.{Device, without}
 use Rattle.satl_direct.specs.Tasks.{asks}
-use Rattle.satl_direct.specs.Ending.{Ends, EndsBy, EndsCompared, EndsGarbled, EndsInPieces, EndsOnMedium, EndsPassed, EndsTorn, EndsVerified, IsChecked, IsDone, after_select, after_start_stop, outcome_reply, settled, settled_if, selected}
+use Rattle.satl_direct.specs.Ending.{Ends, EndsBy, EndsCompared, EndsGarbled, EndsInPieces, EndsOnMedium, EndsPassed, EndsTorn, EndsVerified, IsChecked, IsTaskDone, after_select, after_start_stop, outcome_reply, settled, settled_if, selected}
 use Rattle.satl_direct.specs.Turn.{IsFirst, MayEnd}
 use Rattle.satl_laws.proofs.Cases.{by_bool, by_option}
 
@@ -41,7 +41,7 @@ module _ (s new : Device) (t : Entry) (reply : Reply) where
   checked_leaves : (sense : Sense) → IsChecked sense s t reply new → Leaves s t reply new
   checked_leaves sense e = record { tasks = ap (λ d. d.tasks) e.stays; nexus = ap (λ r. r.nexus) e.answer; tag = ap (λ r. r.tag) e.answer }
 
-  done_leaves : (after : Device) → after.tasks ≡ s.tasks → IsDone after t reply new → Leaves s t reply new
+  done_leaves : (after : Device) → after.tasks ≡ s.tasks → IsTaskDone after t reply new → Leaves s t reply new
   done_leaves after same e = record {
     tasks = ap (λ d. d.tasks) e.stays ∙ ap (without t) same;
     nexus = ap (λ r. r.nexus) e.answer;

@@ -16,7 +16,7 @@ use Rattle.satl_line.specs.Ending.{EndsAs, Outcome}
 use Rattle.satl_line.specs.Ending.Outcome.{ends_done, ends_flawed, ends_glitched}
 use Rattle.satl_direct.specs.Device.{Device}
 use Rattle.satl_direct.specs.Tasks.{asks, pass_of}
-use Rattle.satl_direct.specs.Ending.{Ends, EndsBy, EndsCompared, EndsInPieces, EndsOnMedium, EndsPassed, EndsVerified, IsChecked, IsDone, after_select, after_start_stop, medium_of, selected, settled, settled_if}
+use Rattle.satl_direct.specs.Ending.{Ends, EndsBy, EndsCompared, EndsInPieces, EndsOnMedium, EndsPassed, EndsVerified, IsChecked, IsTaskDone, after_select, after_start_stop, medium_of, selected, settled, settled_if}
 use Rattle.satl_direct.specs.Quiet.{written_by}
 use Rattle.satl_laws.specs.Untouched.{Spares}
 use Rattle.satl_laws.proofs.Cases.{by_bool, by_option}
@@ -41,7 +41,7 @@ module _ (s new : Device) (t : Entry) (reply : Reply) where
   checked : (c : Command) (sense : Sense) → IsChecked sense s t reply new → Reaches c s t new
   checked c sense e = nothing_put c (stays s.cells new.cells (ap (λ d. d.cells) e.stays)) (ap (λ d. d.identity) e.stays)
 
-  done : (c : Command) (after : Device) → Steps [] s.cells after.cells → after.identity ≡ s.identity → IsDone after t reply new → Reaches c s t new
+  done : (c : Command) (after : Device) → Steps [] s.cells after.cells → after.identity ≡ s.identity → IsTaskDone after t reply new → Reaches c s t new
   done c after steps same e = nothing_put c (subst (Steps [] s.cells) (sym (ap (λ d. d.cells) e.stays)) steps) (ap (λ d. d.identity) e.stays ∙ same)
 
   -- what was written back where a flag is set
@@ -54,10 +54,10 @@ module _ (s new : Device) (t : Entry) (reply : Reply) where
   flushed_identity true = refl
   flushed_identity false = refl
 
-  select_done : (c : Command) → IsDone (after_select s t) t reply new → Reaches c s t new
+  select_done : (c : Command) → IsTaskDone (after_select s t) t reply new → Reaches c s t new
   select_done c = done c (after_select s t) (flushed (s.modes.wce && not (selected s t).wce)) (flushed_identity (s.modes.wce && not (selected s t).wce))
 
-  start_stop_done : (c : Command) (start no_flush : Bool) → IsDone (after_start_stop start no_flush s) t reply new → Reaches c s t new
+  start_stop_done : (c : Command) (start no_flush : Bool) → IsTaskDone (after_start_stop start no_flush s) t reply new → Reaches c s t new
   start_stop_done c true no_flush = done c (after_start_stop true no_flush s) (stays s.cells s.cells refl) refl
   start_stop_done c false no_flush = done c (after_start_stop false no_flush s) (flushed (not no_flush)) (flushed_identity (not no_flush))
 
@@ -85,7 +85,7 @@ module _ (s new : Device) (t : Entry) (reply : Reply) where
       reached : Steps (written_by c s t) s.cells new.cells → new.identity ≡ s.identity → Reaches c s t new
       reached steps same = record { pairs = written_by c s t; spared = λ x own h. h; cells = steps; identity = same }
 
-  same_done : (c : Command) (active : Bool) → IsDone (record s { active = active }) t reply new → Reaches c s t new
+  same_done : (c : Command) (active : Bool) → IsTaskDone (record s { active = active }) t reply new → Reaches c s t new
   same_done c active = done c (record s { active = active }) (stays s.cells s.cells refl) refl
 
   verified : (c : Command) (lba count : ℕ) → EndsVerified lba count s t reply new → Reaches c s t new

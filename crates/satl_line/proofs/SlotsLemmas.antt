@@ -16,7 +16,7 @@ use Rattle.std.proofs.lemmas.List.{get_or-set_same, get_or-set_other, length-app
 use Rattle.satl_line.specs.declared.entry.Entry.{Entry}
 use Rattle.satl_line.specs.Conflict.{access_of, accesses_conflict, conflicts}
 use Rattle.satl_line.specs.Eligible.{eligible_at, is_clear_by}
-use Rattle.satl_line.specs.Tasks.{AreOwnSlots, AreMasks, is_barred_from, entries_of, Held, count_of, slots_of, total_blocks, entry_at, Adds, with_body, change_at}
+use Rattle.satl_line.specs.Tasks.{AreOwnSlots, AreMasks, is_barred_from, entries_of, Held, count_of, slots_of, total_blocks, entry_at, Adds, with_body, change_task}
 use Rattle.satl_line.specs.Layout.{Mark, mark_of, is_marked, IsMask, HaveMasks, IsMasked, clear_bit, cleared, entry_or, held_in, tasks_in, IsFilled, IsSound, is_unbarred_at}
 use Rattle.satl_line.proofs.MasksLemmas.{bit, HasNot, AreSmall, is_struck, zero_mask, are_removed, are_added, get_or-cleared, mask_more_yes, mask_more_no}
 
@@ -445,7 +445,7 @@ count_at (q ∷ qs) (suc k) s lt is = let r = count_at qs k s (omega arith) is i
 
 pub record Changes (tasks : List Held) (place : ℕ) (body : List Block) (slots' : List (Option Entry)) (order free masks : List ℕ) (blocks : ℕ) : Type 0 where
   pub sound : IsSound slots' order free masks blocks
-  pub rest : tasks_in slots' order ≡ change_at (with_body body) tasks place
+  pub rest : tasks_in slots' order ≡ change_task (with_body body) tasks place
 
 module _ (slots : List (Option Entry)) (s : ℕ) (body : List Block) (within : s < length slots) (full : is_some (get_or slots s None) ≡ true) where
   abbrev changed : List (Option Entry)
@@ -474,7 +474,7 @@ module _ (slots : List (Option Entry)) (s : ℕ) (body : List Block) (within : s
   filled_same [] h = tt
   filled_same (q ∷ qs) h = ((h.0.0, same_of (λ r o. is_some o) (sym full) q ∙ h.0.1), filled_same qs h.1)
 
-  change_is : (order : List ℕ) (place : ℕ) → place < length order → count_of s order ≤ 1 → get_or order place 0 ≡ s → tasks_in changed order ≡ change_at (with_body body) (tasks_in slots order) place
+  change_is : (order : List ℕ) (place : ℕ) → place < length order → count_of s order ≤ 1 → get_or order place 0 ≡ s → tasks_in changed order ≡ change_task (with_body body) (tasks_in slots order) place
   change_is [] place lt once is = absurd (omega arith)
   change_is (q ∷ qs) zero lt once is =
       let here = eq-eqb q s is in
@@ -518,7 +518,7 @@ changes slots order free masks blocks tasks place seen body slots' sound is lt s
     let once : count_of s order ≤ 1 = omega (arith, sound.once s filled.0) in
     record {
       sound = subst (λ l. IsSound l order free masks blocks) (sym slots_are) new_sound;
-      rest = ap (λ l. tasks_in l order) slots_are ∙ change_is slots s body room filled.1 order place within once refl ∙ ap (λ l. change_at (with_body body) l place) is;
+      rest = ap (λ l. tasks_in l order) slots_are ∙ change_is slots s body room filled.1 order place within once refl ∙ ap (λ l. change_task (with_body body) l place) is;
     }
 
 pub body_is : (slots : List (Option Entry)) (order : List ℕ) (tasks : List Held) (place : ℕ) (seen : List ℕ) (taken : List Block) → tasks_in slots order ≡ tasks → place < length tasks → seen ≡ order → taken ≡ (entry_or (get_or slots (get_or seen place 0) None)).body →
@@ -587,7 +587,7 @@ are_masks tasks tasks' masks is masked =
     subst (λ l. AreMasks l masks) is (record { held = λ place held. masks_from [] tasks masks place held masked.full; empty = masked.empty })
 
 -- the pages of the task at a place, once they were changed
-pub body-changed : (tasks : List Held) (place : ℕ) (body : List Block) → place < length tasks → option_map (λ e. e.body) (entry_at (change_at (with_body body) tasks place) place) ≡ Some body
+pub body-changed : (tasks : List Held) (place : ℕ) (body : List Block) → place < length tasks → option_map (λ e. e.body) (entry_at (change_task (with_body body) tasks place) place) ≡ Some body
 body-changed [] place body lt = absurd (omega arith)
 body-changed (h ∷ hs) zero body lt = refl
 body-changed (h ∷ hs) (suc place) body lt = body-changed hs place body (omega arith)

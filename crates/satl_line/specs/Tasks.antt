@@ -62,10 +62,10 @@ abbrev pub with_body : List Block → Held → Held
 with_body body held = record { slot = held.slot; entry = record held.entry { body = body } }
 
 -- the tasks with the one at a place changed (profile)
-abbrev pub change_at : (Held → Held) → List Held → ℕ → List Held
-change_at change [] place = []
-change_at change (held ∷ rest) zero = change held ∷ rest
-change_at change (held ∷ rest) (suc place) = held ∷ change_at change rest place
+abbrev pub change_task : (Held → Held) → List Held → ℕ → List Held
+change_task change [] place = []
+change_task change (held ∷ rest) zero = change held ∷ rest
+change_task change (held ∷ rest) (suc place) = held ∷ change_task change rest place
 
 -- bit p is 1 exactly where a task stands at place p and is eligible (profile)
 abbrev pub IsReady : List Held → ℕ → Type 0

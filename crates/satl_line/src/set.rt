@@ -6,7 +6,7 @@ ghost use Rattle.std.specs.List.{AllByRecursion, position_from};
 ghost use Rattle.satl_base.specs.Limits.{most_held, most_tasks};
 ghost use Rattle.satl_line.specs.Conflict.{access_of};
 ghost use Rattle.satl_line.specs.Eligible.{eligible_at};
-ghost use Rattle.satl_line.specs.Tasks.{Adds, AreMasks, AreOwnSlots, IsReady, change_at, count_of, entries_of, entry_at, is_named, is_too_much, slots_of, total_blocks, with_body};
+ghost use Rattle.satl_line.specs.Tasks.{Adds, AreMasks, AreOwnSlots, IsReady, change_task, count_of, entries_of, entry_at, is_named, is_too_much, slots_of, total_blocks, with_body};
 ghost use Rattle.satl_line.specs.Layout.{IsFilled, IsMask, cleared, entry_or, held_in, is_unbarred_at, mark_of, tasks_in};
 
 use crate::conflict::conflict;
@@ -165,7 +165,7 @@ impl TaskSet {
         requires { place < length self.old }
         ensures value { option_map (λ entry. entry.body) (entry_at self.old place) ≡ Some result }
         ensures emptied { option_map (λ entry. entry.body) (entry_at self.new place) ≡ Some [] }
-        ensures others { self.new ≡ change_at (with_body []) self.old place }
+        ensures others { self.new ≡ change_task (with_body []) self.old place }
     {
         let slot = self.order[place];
         swap_body(&mut self.slots, slot, Pages::default())
@@ -175,7 +175,7 @@ impl TaskSet {
     pub fn put_data(&mut self, place: usize, body: Pages)
         requires within { place < length self.old }
         requires none { option_map (λ entry. entry.body) (entry_at self.old place) ≡ Some [] }
-        ensures { self.new ≡ change_at (with_body body) self.old place }
+        ensures { self.new ≡ change_task (with_body body) self.old place }
     {
         let slot = self.order[place];
         swap_body(&mut self.slots, slot, body);

@@ -136,7 +136,7 @@ pub record IsIdentified (r : Registers) (old : Medium) (given : List Block) (end
   pub medium : new ≡ old
 
 -- it ends good with what COUNT and LBA tell, moves no data, and leaves the medium so (ACS-3, normal outputs)
-pub record IsDone (r : Registers) (count lba : ℕ) (after : Medium) (given : List Block) (ended : Taskfile) (taken : List Block) (new : Medium) : Type 0 where
+pub record EndsGood (r : Registers) (count lba : ℕ) (after : Medium) (given : List Block) (ended : Taskfile) (taken : List Block) (new : Medium) : Type 0 where
   pub ends : ended ≡ good_end r count lba
   pub data_in : taken ≡ given
   pub medium : new ≡ after
@@ -256,33 +256,33 @@ own_blocks (commands.Other code) = 0
 
 -- the effect of a command: from a medium and the pages handed in to its end, the pages after it and the medium after it
 -- (ACS-3 section 7)
-abbrev pub Does : AtaCommand → Registers → Medium → List Block → Taskfile → List Block → Medium → Type 0
-Does (commands.Read how lba sectors) r old given ended taken new = Carries r (reading how lba sectors old) old given ended taken new
-Does (commands.Write how lba sectors) r old given ended taken new = Carries r (writing how lba sectors given old) old given ended taken new
-Does (commands.Verify ext lba sectors) r old given ended taken new = Carries r (verifying ext lba sectors) old given ended taken new
-Does (commands.Flush ext) r old given ended taken new = IsDone r 0 0 (all_settled old) given ended taken new
-Does commands.Identify r old given ended taken new = IsIdentified r old given ended taken new
-Does (commands.SetFeatures what) r old given ended taken new =
+abbrev pub HasEffect : AtaCommand → Registers → Medium → List Block → Taskfile → List Block → Medium → Type 0
+HasEffect (commands.Read how lba sectors) r old given ended taken new = Carries r (reading how lba sectors old) old given ended taken new
+HasEffect (commands.Write how lba sectors) r old given ended taken new = Carries r (writing how lba sectors given old) old given ended taken new
+HasEffect (commands.Verify ext lba sectors) r old given ended taken new = Carries r (verifying ext lba sectors) old given ended taken new
+HasEffect (commands.Flush ext) r old given ended taken new = EndsGood r 0 0 (all_settled old) given ended taken new
+HasEffect commands.Identify r old given ended taken new = IsIdentified r old given ended taken new
+HasEffect (commands.SetFeatures what) r old given ended taken new =
     MatchOption (settable old.identify (setting_of what))
     (IsRefused r abrt 0 old given ended taken new)
     (λ setting. IsSet setting r old given ended taken new)
-Does commands.Standby r old given ended taken new = IsDone r 0 0 (record old { active = false }) given ended taken new
-Does commands.Idle r old given ended taken new = IsDone r 0 0 (record old { active = true }) given ended taken new
-Does commands.CheckPower r old given ended taken new = IsDone r (power_count old.active) 0 old given ended taken new
-Does (commands.ReadLog log page blocks) r old given ended taken new =
+HasEffect commands.Standby r old given ended taken new = EndsGood r 0 0 (record old { active = false }) given ended taken new
+HasEffect commands.Idle r old given ended taken new = EndsGood r 0 0 (record old { active = true }) given ended taken new
+HasEffect commands.CheckPower r old given ended taken new = EndsGood r (power_count old.active) 0 old given ended taken new
+HasEffect (commands.ReadLog log page blocks) r old given ended taken new =
     MatchBool (is_error_log log page blocks)
     (IsLogged r no_error_log old given ended taken new)
     (IsRefused r abrt 0 old given ended taken new)
-Does (commands.Trim blocks) r old given ended taken new =
+HasEffect (commands.Trim blocks) r old given ended taken new =
     MatchBool (is_no_trim blocks given old)
     (IsRefused r abrt 0 old given ended taken new)
     (Carries r (trimming blocks given old) old given ended taken new)
-Does commands.SmartStatus r old given ended taken new = IsDone r 0 (0xC24F * 2 ^ 8) old given ended taken new
-Does (commands.Other code) r old given ended taken new = IsRefused r abrt 0 old given ended taken new
+HasEffect commands.SmartStatus r old given ended taken new = EndsGood r 0 (0xC24F * 2 ^ 8) old given ended taken new
+HasEffect (commands.Other code) r old given ended taken new = IsRefused r abrt 0 old given ended taken new
 
 -- the effect of the command in the registers (ACS-3 section 7)
 abbrev pub Ata : Registers → Medium → List Block → Taskfile → List Block → Medium → Type 0
-Ata r old given ended taken new = Does (command_in r) r old given ended taken new
+Ata r old given ended taken new = HasEffect (command_in r) r old given ended taken new
 
 -- the pairs that a command may write, also where it is cut short: none where its range or its entries are refused (ACS-3; profile)
 abbrev pub pairs_of : AtaCommand → Medium → List Block → List Pair

@@ -9,7 +9,7 @@ use Rattle.satl_line.specs.Ending.{flaw_met, blocks_read}
 use Rattle.satl_line.specs.Ending.Outcome.{ends_done, ends_flawed, ends_glitched}
 use Rattle.satl_line.specs.Ranged.{RangedTask, written_pairs}
 use Rattle.satl_direct.specs.Device.{Device, without}
-use Rattle.satl_direct.specs.Ending.{Ends, EndsOnMedium, IsDone, medium_error, task_check, task_reply}
+use Rattle.satl_direct.specs.Ending.{Ends, EndsOnMedium, IsTaskDone, medium_error, task_check, task_reply}
 use Rattle.satl_direct.specs.Senses.{crc_error}
 use Rattle.satl_direct.specs.Turn.{MayEnd, Turn}
 use Rattle.satl_direct.specs.Turn.Turn.{ends}
@@ -47,5 +47,5 @@ pub glitched : (ranged : RangedTask) (cells : List Cell) (left : ℕ) (s : Devic
 glitched ranged cells left s t no_flaw part one = record { outcome = ends_glitched; ends = record { no_flaw = no_flaw; written = part; one_glitch = one }; answer = refl; stays = refl }
 
 -- a task that is done otherwise
-pub carried_out : (after : Device) (t : Entry) → IsDone after t (task_reply t Good [] []) (record after { tasks = without t after.tasks })
+pub carried_out : (after : Device) (t : Entry) → IsTaskDone after t (task_reply t Good [] []) (record after { tasks = without t after.tasks })
 carried_out after t = record { answer = refl; stays = refl }

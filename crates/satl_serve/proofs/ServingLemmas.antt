@@ -18,14 +18,14 @@ use Rattle.satl_core.specs.Tie.{TiesQueue, given_by}
 use Rattle.satl_step.specs.Runs.{AreCounted, Covers, IsDeep, RunCutSoFar, RunSoFar, Stand, Tally, tally_of, unplugs_in}
 use Rattle.satl_serve.specs.Headline.{IsStopped}
 use Rattle.satl_serve.specs.Moments.{Moment, Spot, spot_at}
-use Rattle.satl_serve.specs.Runs.{BrokeInAnswers, BrokeInFault, BrokeInMagic, IsFirst, IsLeftAs, RanBefore, RanInPart, RanWhole, Serves}
+use Rattle.satl_serve.specs.Runs.{BrokeInAnswers, BrokeInFault, BrokeInMagic, IsFirstDevice, IsLeftAs, RanBefore, RanInPart, RanWhole, Serves}
 use Rattle.satl_serve.specs.Stopping.{RanTo}
 use Rattle.satl_serve.specs.declared.serving.ServeFault.{ServeFault}
 use Rattle.satl_serve.specs.declared.serving.ServeFault.TheVariants as faults
 use Rattle.satl_serve.specs.declared.telling.Form.{Form}
 
 -- an opened layer and its drive are a first device
-pub first_of : (old new : DriveState) (l : Layer) → IsOpened old l new → IsFirst old (view l new)
+pub first_of : (old new : DriveState) (l : Layer) → IsOpened old l new → IsFirstDevice old (view l new)
 first_of old new l o = record {
   cells = o.lost;
   tasks = ap (λ t. map task_of (entries_of t)) o.tasks;

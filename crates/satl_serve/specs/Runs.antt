@@ -32,7 +32,7 @@ input_limit = 2 ^ 40
 
 -- the device that a drive is when the layer has just been opened on it: a valid one with its sectors, some of which it may have
 -- written back by itself; no task and no unit attention; the modes by its settings; started and up (profile)
-pub record IsFirst (d : DriveState) (s : Device) : Type 0 where
+pub record IsFirstDevice (d : DriveState) (s : Device) : Type 0 where
   pub cells : Loses d.cells s.cells
   pub tasks : s.tasks ≡ []
   pub identity : identity_of d.identify ≡ Ok s.identity
@@ -66,7 +66,7 @@ pub record KeepsQueue (s : Device) (d : DriveState) : Type 0 where
 pub record Serves (Run : Spot → Spot → Type 0) (before after : Moment) : Type 0 where
   pub first : Device
   pub last : Device
-  pub begins : IsFirst before.drive first
+  pub begins : IsFirstDevice before.drive first
   pub run : Run (spot_at first (before.calls + 1) before) (spot_at last after.calls after)
   pub ends : IsLeftAs last after.drive
   pub queue : KeepsQueue last after.drive
