@@ -1,23 +1,21 @@
 -- The runs of units, which grow by a round.
-use Rattle.std.proofs.Common.{◌≡◌, ◌⊎◌, append_assoc, inl, inr, refl, sym, ap, subst, arith, ◌∙◌, ℕ, suc, ◌+◌, ◌≤◌, max, List, [], ◌∷◌, ◌++◌, length, map}
+use Rattle.std.proofs.Common.{◌≡◌, append_assoc, refl, sym, ap, subst, arith, ◌∙◌, ℕ, suc, ◌+◌, max, List, [], ◌∷◌, ◌++◌, length}
 use Rattle.std.proofs.lemmas.List.{append-nil, length-append}
 use Rattle.std.specs.Prelude.{slice_index_or}
 use Rattle.std.specs.List.{AllByRecursion}
-use Rattle.satl_base.specs.declared.bench.BenchEvent.TheVariants as events
-use Rattle.satl_base.proofs.ListsLemmas.{how_many-push}
 use Rattle.satl_io.specs.Causes.{RoseBy}
 use Rattle.satl_io.proofs.Counting.{RoseBy-more, RoseBy-none}
 use Rattle.satl_frame.specs.Output.{Answer}
 use Rattle.satl_frame.specs.declared.frames.Frame.{Frame}
-use Rattle.satl_frame.specs.declared.frames.Frame.TheVariants as frames
 use Rattle.satl_drive.specs.State.{DriveState}
 use Rattle.satl_direct.specs.Device.{Device}
 use Rattle.satl_direct.specs.Run.{losses_in}
 use Rattle.satl_direct.specs.Run.RunDeep.{start, step}
 use Rattle.satl_core.proofs.DeviceLemmas.{quiet_none}
 use Rattle.satl_step.specs.Events.{unplugs_behind}
-use Rattle.satl_step.specs.Runs.{Covers, is_unplug, tally_of, unplugs_in}
+use Rattle.satl_step.specs.Runs.{Covers, tally_of, unplugs_in}
 use Rattle.satl_step.specs.Runs.RunInPart.{last}
+use Rattle.satl_step.proofs.RunLemmas.{Unplugs, unplugs_one, unplugs_pushed}
 use Rattle.satl_fleet.specs.Output.{Round, frames_of, group_of, groups_for}
 use Rattle.satl_fleet.specs.Rounds.{Serves, Stops, round_of}
 use Rattle.satl_fleet.specs.Rounds.Serves.{none as no_unit, passes as unit_passes, serves as unit_serves}
@@ -29,27 +27,10 @@ use Rattle.satl_fleet.specs.Units.{Did, DidInPart, Spot, device_of}
 
 -- ---- one unit
 
--- an event unplugs the drive as often as it is counted to
-record Unplugs (event : Frame) (before now : ℕ) : Type 0 where
-  pub rose : RoseBy (unplugs_in (event ∷ [])) before now
-  pub few : now ≤ before + unplugs_in (event ∷ [])
-
-unplugs_one : (event : Frame) (before : ℕ) → Unplugs event before (unplugs_behind event before)
-unplugs_one (frames.Request w) before = record { rose = RoseBy-none before; few = omega arith }
-unplugs_one (frames.Manage m) before = record { rose = RoseBy-none before; few = omega arith }
-unplugs_one (frames.Turn n) before = record { rose = RoseBy-none before; few = omega arith }
-unplugs_one (frames.Bench (events.Strike which lba)) before = record { rose = RoseBy-none before; few = omega arith }
-unplugs_one (frames.Bench (events.Mend lba)) before = record { rose = RoseBy-none before; few = omega arith }
-unplugs_one (frames.Bench (events.Glitch count)) before = record { rose = RoseBy-none before; few = omega arith }
-unplugs_one (frames.Bench (events.Order order)) before = record { rose = RoseBy-none before; few = omega arith }
-unplugs_one (frames.Bench events.Power) before = record { rose = RoseBy-none before; few = omega arith }
-unplugs_one (frames.Bench events.Unplug) before = record { rose = omega arith; few = omega arith }
-unplugs_one frames.End before = record { rose = RoseBy-none before; few = omega arith }
-
 counted_more : (events : List Frame) (losses lost : ℕ) (old mid new : DriveState) (event : Frame) → UnitCounted events losses old mid → RoseBy lost mid.faults new.faults → new.unplugs ≡ unplugs_behind event mid.unplugs → Covers (tally_of mid 0) (tally_of new 0) → UnitCounted (events ++ event ∷ []) (losses + lost) old new
 counted_more events losses lost old mid new event counted faults unplugged queue =
     let u = subst (Unplugs event mid.unplugs) (sym unplugged) (unplugs_one event mid.unplugs) in
-    let pushed : unplugs_in (events ++ event ∷ []) ≡ unplugs_in events + unplugs_in (event ∷ []) = omega (arith, how_many-push is_unplug events event) in
+    let pushed = unplugs_pushed events event in
     record {
       faults = RoseBy-more losses lost old.faults mid.faults new.faults counted.faults faults;
       unplugged = subst (λ n. RoseBy n old.unplugs new.unplugs) (sym pushed) (RoseBy-more (unplugs_in events) (unplugs_in (event ∷ [])) old.unplugs mid.unplugs new.unplugs counted.unplugged u.rose);

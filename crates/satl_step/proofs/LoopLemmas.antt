@@ -28,13 +28,13 @@ use Rattle.satl_step.specs.Telling.{IsTold}
 use Rattle.satl_step.proofs.TellingLemmas.{told_more, told_none}
 use Rattle.satl_step.proofs.RunLemmas.{joined-push, run_cut, run_more, run_start}
 
-expectable : (version : Version) (expected : Option ℕ) → HasExpected version expected → IsExpectable expected
+pub expectable : (version : Version) (expected : Option ℕ) → HasExpected version expected → IsExpectable expected
 expectable One expected h = rw h tt
 expectable Two None h = absurd h
 expectable Two (Some count) h = h
 
 -- the pages of a whole request hold its data-out
-holds : (version : Version) (w : Request) → IsRequest version w → w.data_len ≤ 512 * length w.body
+pub holds : (version : Version) (w : Request) → IsRequest version w → w.data_len ≤ 512 * length w.body
 holds version w is =
     let pages = ap length is.sent.pages ∙ length-pages_of (data_out w) in
     let size = is.sent.size in

@@ -24,14 +24,14 @@ joined-push (g ∷ groups) now = ap (λ l. g ++ l) (joined-push groups now) ∙ 
 
 -- ---- what an event counts of a whole one
 
-tallied_whole : (room : ℕ) (a b : Stand) (event whole : Frame) → event ≡ cut_to room whole → IsTallied event a b → IsTallied whole a b
+pub tallied_whole : (room : ℕ) (a b : Stand) (event whole : Frame) → event ≡ cut_to room whole → IsTallied event a b → IsTallied whole a b
 tallied_whole room a b event (frames.Request w) is tallied = let x = subst (λ f. IsTallied f a b) is tallied in record { faults = x.faults; unplugs = x.unplugs; calls = x.calls; queue = x.queue }
 tallied_whole room a b event (frames.Manage m) is tallied = subst (λ f. IsTallied f a b) is tallied
 tallied_whole room a b event (frames.Turn n) is tallied = subst (λ f. IsTallied f a b) is tallied
 tallied_whole room a b event (frames.Bench e) is tallied = subst (λ f. IsTallied f a b) is tallied
 tallied_whole room a b event frames.End is tallied = subst (λ f. IsTallied f a b) is tallied
 
-asked_whole : (room count : ℕ) (event whole : Frame) → event ≡ cut_to room whole → CutTurns event count → CutTurns whole count
+pub asked_whole : (room count : ℕ) (event whole : Frame) → event ≡ cut_to room whole → CutTurns event count → CutTurns whole count
 asked_whole room count event (frames.Request w) is asked = subst (λ f. CutTurns f count) is asked
 asked_whole room count event (frames.Manage m) is asked = subst (λ f. CutTurns f count) is asked
 asked_whole room count event (frames.Turn n) is asked = subst (λ f. CutTurns f count) is asked
@@ -43,7 +43,7 @@ pub record Unplugs (event : Frame) (before now : ℕ) : Type 0 where
   pub rose : RoseBy (unplugs_in (event ∷ [])) before now
   pub few : now ≤ before + unplugs_in (event ∷ [])
 
-unplugs_one : (event : Frame) (before : ℕ) → Unplugs event before (unplugs_behind event before)
+pub unplugs_one : (event : Frame) (before : ℕ) → Unplugs event before (unplugs_behind event before)
 unplugs_one (frames.Request w) before = record { rose = RoseBy-none before; few = omega arith }
 unplugs_one (frames.Manage m) before = record { rose = RoseBy-none before; few = omega arith }
 unplugs_one (frames.Turn n) before = record { rose = RoseBy-none before; few = omega arith }
@@ -55,7 +55,7 @@ unplugs_one (frames.Bench events.Power) before = record { rose = RoseBy-none bef
 unplugs_one (frames.Bench events.Unplug) before = record { rose = omega arith; few = omega arith }
 unplugs_one frames.End before = record { rose = RoseBy-none before; few = omega arith }
 
-unplugs_pushed : (events : List Frame) (event : Frame) → unplugs_in (events ++ event ∷ []) ≡ unplugs_in events + unplugs_in (event ∷ [])
+pub unplugs_pushed : (events : List Frame) (event : Frame) → unplugs_in (events ++ event ∷ []) ≡ unplugs_in events + unplugs_in (event ∷ [])
 unplugs_pushed events event = omega (arith, how_many-push is_unplug events event)
 
 -- what covered the queue before covers it
