@@ -1,8 +1,9 @@
 -- One event on the unit of a number.
-use Rattle.std.proofs.Common.{◌≡◌, sym, ap, subst, ◌∙◌, arith, ℕ, ◌+◌, ◌*◌, ◌<◌, ◌≤◌, List, length, map, mul-add, refl}
+use Rattle.std.proofs.Common.{◌≡◌, sym, ap, subst, ◌∙◌, arith, ℕ, ◌+◌, ◌*◌, ◌<◌, ◌≤◌, List, [], length, map, mul-add, refl}
 use Rattle.std.specs.Prelude.{Option, Some, slice_get, slice_set, slice_index_or}
 use Rattle.std.specs.List.{AllByRecursion}
 use Rattle.std.proofs.lemmas.List.{map-set}
+use Rattle.satl_base.specs.declared.reply.Reply.{Reply}
 use Rattle.satl_io.specs.Causes.{RoseBy}
 use Rattle.satl_frame.specs.Output.{Answer}
 use Rattle.satl_frame.specs.declared.frames.Frame.{Frame}
@@ -14,8 +15,10 @@ use Rattle.satl_core.proofs.AgreeingLemmas.{agrees_by}
 use Rattle.satl_drive.specs.State.{DriveState}
 use Rattle.satl_core.specs.Layer.{IsUsed, Layer, Tied, view}
 use Rattle.satl_fleet.specs.Rounds.{DidAt, DidAtInPart, stage}
+use Rattle.satl_fleet.specs.Serving.{CanServe, HasUnits, KeepsUnits, Target}
 use Rattle.satl_fleet.specs.Units.{Did, IsReady, IsTiedSpot, Spot, UnitDid, UnitDidInPart, device_of, pending, spot, spots_of}
-use Rattle.satl_fleet.proofs.SpotLemmas.{all_at, all_map, all_set, map_at, pending_set, some_at, spots_at, spots_set}
+use Rattle.satl_fleet.proofs.SpotLemmas.{all_at, all_set, map_at, pending_set, some_at, spots_at, spots_set}
+use Rattle.satl_fleet.proofs.TargetLemmas.{all_tied, serves_on}
 
 module _ {D : Type 0} (f : D → DriveState) (ls : List Layer) (ds : List D) (k : ℕ) (l : Layer) (d : D) (small : k < length ls) (less : k < length ds) (l_is : l ≡ slice_index_or ls k l) (d_is : d ≡ slice_index_or ds k d) where
   abbrev before : List Spot
@@ -31,17 +34,30 @@ module _ {D : Type 0} (f : D → DriveState) (ls : List Layer) (ds : List D) (k 
     pub set_there : spots_of (slice_set ls k l') (map f (slice_set ds k d')) ≡ slice_set before k (spot l' (f d'))
     set_there = ap (spots_of (slice_set ls k l')) (map-set f ds k d') ∙ spots_set ls (map f ds) k l' (f d')
 
-    pub did_at : (event : Frame) (written written' : Option (List ℕ)) → UnitDid k event (spot l (f d)) (spot l' (f d')) written written' → DidAt k event (stage before written) (stage (spots_of (slice_set ls k l') (map f (slice_set ds k d'))) written')
-    did_at event written written' u = record { old = spot l (f d); new = spot l' (f d'); answers = u.answers; here = here; set = set_there; did = u.did; wrote = u.wrote }
+    module _ (layers drives : ℕ) where
+      abbrev target_before : Target
+      target_before = record { units = before; layers = layers; drives = drives }
 
-    pub did_at_in_part : (event : Frame) (written written' : Option (List ℕ)) → UnitDidInPart k event (spot l (f d)) (spot l' (f d')) written written' → DidAtInPart k event (stage before written) (stage (spots_of (slice_set ls k l') (map f (slice_set ds k d'))) written')
-    did_at_in_part event written written' u = record { old = spot l (f d); new = spot l' (f d'); answers = u.answers; here = here; set = set_there; did = u.did; part = u.part }
+      abbrev target_there : Target
+      target_there = record { units = spots_of (slice_set ls k l') (map f (slice_set ds k d')); layers = layers; drives = drives }
 
-    pub ready_there : AllByRecursion IsReady before → IsTiedSpot (spot l' (f d')) → l'.out ≡ 0 → AllByRecursion IsReady (spots_of (slice_set ls k l') (map f (slice_set ds k d')))
-    ready_there all tied none = subst (AllByRecursion IsReady) (sym set_there) (all_set IsReady before k (spot l' (f d')) all (record { tied = tied; all_in = none }))
+      pub did_at : (event : Frame) (written written' : Option (List ℕ)) → UnitDid k event (spot l (f d)) (spot l' (f d')) written written' → DidAt k event (stage target_before written) (stage target_there written')
+      did_at event written written' u = record { old = spot l (f d); new = spot l' (f d'); answers = u.answers; here = here; set = set_there; did = u.did; wrote = u.wrote }
 
-    pub tied_there : AllByRecursion IsReady before → IsTiedSpot (spot l' (f d')) → AllByRecursion IsTiedSpot (spots_of (slice_set ls k l') (map f (slice_set ds k d')))
-    tied_there all tied = subst (AllByRecursion IsTiedSpot) (sym set_there) (all_set IsTiedSpot before k (spot l' (f d')) (all_map IsReady IsTiedSpot before (λ s r. r.tied) all) tied)
+      pub did_at_in_part : (event : Frame) (written written' : Option (List ℕ)) → UnitDidInPart k event (spot l (f d)) (spot l' (f d')) written written' → DidAtInPart k event (stage target_before written) (stage target_there written')
+      did_at_in_part event written written' u = record { old = spot l (f d); new = spot l' (f d'); answers = u.answers; here = here; set = set_there; did = u.did; part = u.part }
+
+      pub keeps_there : AllByRecursion IsReady before → IsTiedSpot (spot l' (f d')) → KeepsUnits target_before target_there
+      keeps_there all tied = record {
+        tied = subst (AllByRecursion IsTiedSpot) (sym set_there) (all_set IsTiedSpot before k (spot l' (f d')) (all_tied before all) tied);
+        layers = refl;
+        drives = refl;
+      }
+
+      pub serves_there : (replies : List Reply) → HasUnits target_before → IsTiedSpot (spot l' (f d')) → l'.out ≡ 0 → replies ≡ [] → CanServe target_there replies
+      serves_there replies has tied all_in none =
+          serves_on target_before target_there replies has (keeps_there has.ready tied)
+          (subst (AllByRecursion IsReady) (sym set_there) (all_set IsReady before k (spot l' (f d')) has.ready (record { tied = tied; all_in = all_in }))) none
 
     pub calls_there : (turn calls calls' allowed : ℕ) → calls' + turn * length l'.tasks ≤ calls + turn * length l.tasks + allowed → calls' + turn * pending (spots_of (slice_set ls k l') (map f (slice_set ds k d'))) ≤ calls + turn * pending before + allowed
     calls_there turn calls calls' allowed few =

@@ -1,5 +1,5 @@
 -- Serving, from before the units were opened to its end.
-use Rattle.std.proofs.Common.{◌≡◌, ◌⊎◌, inl, inr, refl, sym, ap, subst, arith, ◌∙◌, ℕ, ◌+◌, ◌≤◌, List, [], ◌∷◌, ◌++◌, length}
+use Rattle.std.proofs.Common.{◌≡◌, ◌⊎◌, inl, inr, refl, sym, subst, arith, ℕ, ◌+◌, ◌≤◌, List, [], ◌∷◌, ◌++◌, length}
 use Rattle.std.specs.Prelude.{Result, Ok, Err, IfErr}
 use Rattle.std.specs.Result.{IsErrAnd}
 use Rattle.std.specs.List.{AllByRecursion, AllZip}
@@ -58,12 +58,12 @@ stream_cause before after faults.Read cause = cause
 stream_cause before after faults.Write cause = cause
 stream_cause before after faults.NoMemory cause = absurd cause
 
-module _ (limit units : ℕ) (before after : FleetMoment) (mids : List DriveState) (opened : ℕ) (ls ls' : List Layer) (o : OpensTo before.drives ls mids) (few : opened ≤ before.calls + length before.drives) (each : length ls ≡ length before.drives) (long : length ls' ≡ length after.drives) (is : units ≡ length before.drives) (tied : AllByRecursion IsTiedSpot (spots_of ls' after.drives)) where
+module _ (limit units : ℕ) (before after : FleetMoment) (mids : List DriveState) (opened : ℕ) (ls ls' : List Layer) (mid_drives last_units last_drives : ℕ) (o : OpensTo before.drives ls mids) (few : opened ≤ before.calls + length before.drives) (each : length ls ≡ length before.drives) (long : length ls' ≡ length after.drives) (is : units ≡ length before.drives) (tied : AllByRecursion IsTiedSpot (spots_of ls' after.drives)) where
   abbrev a : Place
-  a = record { left = before.source.left; stage = record { spots = spots_of ls mids; written = before.sink.written }; calls = opened }
+  a = record { left = before.source.left; stage = record { target = record { units = spots_of ls mids; layers = units; drives = mid_drives }; written = before.sink.written }; calls = opened }
 
   abbrev b : Place
-  b = record { left = after.source.left; stage = record { spots = spots_of ls' after.drives; written = after.sink.written }; calls = after.calls }
+  b = record { left = after.source.left; stage = record { target = record { units = spots_of ls' after.drives; layers = last_units; drives = last_drives }; written = after.sink.written }; calls = after.calls }
 
   served : (rounds : List Round) → HaveRun (length before.drives) 0 rounds (spots_of ls mids) (spots_of ls' after.drives) → AreServed (length before.drives) 0 rounds before.drives after.drives
   served rounds run = are_served (length before.drives) 0 rounds ls' after.drives o each long run tied

@@ -1,5 +1,5 @@
 -- A frame, routed.
-use Rattle.std.proofs.Common.{◌≡◌, inl, inr, refl, sym, ap, subst, ◌∙◌, arith, ℕ, ◌+◌, ◌≤◌, true, false, List, [], ◌∷◌, ◌++◌}
+use Rattle.std.proofs.Common.{◌≡◌, inl, inr, refl, sym, ap, subst, ◌∙◌, arith, ℕ, true, false, List, [], ◌∷◌, ◌++◌}
 use Rattle.std.proofs.lemmas.Bool.{eq-eqb, ne_eqb}
 use Rattle.std.proofs.lemmas.List.{append-nil}
 use Rattle.std.specs.Prelude.{◌==◌, if◌then◌else◌, Option}
@@ -12,11 +12,11 @@ use Rattle.satl_frame.specs.Output.Answer.{replied}
 use Rattle.satl_frame.specs.declared.frames.Frame.{Frame}
 use Rattle.satl_frame.specs.declared.frames.Frame.TheVariants as frames
 use Rattle.satl_fleet.specs.Output.{end_told, named, round_told, target_told, told_from, told_under}
-use Rattle.satl_fleet.specs.Rounds.{AllDid, AllDidInPart, DidAt, DidAtInPart, IsTurnOrBench, RoundDone, RoundInPart, Serves, Stage, Stops, round_of}
+use Rattle.satl_fleet.specs.Rounds.{AllDid, AllDidInPart, DidAt, DidAtInPart, IsTurnOrBench, RoundDone, RoundInPart, Serves, Stage, Stops, round_of, stage}
 use Rattle.satl_fleet.specs.Routing.{is_for_all, is_report, lun_0, route_to, seen}
 use Rattle.satl_fleet.specs.declared.routing.Route.{Route}
 use Rattle.satl_fleet.specs.Target.{target_reply}
-use Rattle.satl_fleet.specs.Units.{Spot}
+use Rattle.satl_fleet.specs.Serving.{Target}
 use Rattle.satl_fleet.proofs.RoundLemmas.{all_pass, alone, one_serves, one_stops, serves_all, silence, stops_all, told_alone, told_silence, told_up_to, up_to}
 
 -- ---- what it is to the units
@@ -83,36 +83,36 @@ module _ (units : ℕ) (frame : Frame) (quiet : target_told units frame ≡ []) 
     module _ (at : ℕ) (here : seen units at frame ≡ event ∷ []) (others : (i : ℕ) → (i ≡ at → ⊥) → seen units i frame ≡ []) where
       pub one_round : DidAt at event a b → RoundDone units frame a b
       one_round d = record {
-        groups = alone at d.answers a.spots;
-        each = subst (Serves units frame 0 (alone at d.answers a.spots) a.spots) (sym d.set) (one_serves units frame event at here others d.answers d.old d.new 0 at a.spots (omega arith) d.here d.did);
-        wrote = subst (Wrote a.written b.written) (ap (λ n. told_under n d.answers) (omega arith) ∙ (sym (told_alone 0 at d.answers a.spots d.old d.here) ∙ plain_told (alone at d.answers a.spots))) d.wrote;
+        groups = alone at d.answers a.target.units;
+        each = subst (Serves units frame 0 (alone at d.answers a.target.units) a.target.units) (sym d.set) (one_serves units frame event at here others d.answers d.old d.new 0 at a.target.units (omega arith) d.here d.did);
+        wrote = subst (Wrote a.written b.written) (ap (λ n. told_under n d.answers) (omega arith) ∙ (sym (told_alone 0 at d.answers a.target.units d.old d.here) ∙ plain_told (alone at d.answers a.target.units))) d.wrote;
       }
 
       pub one_round_part : DidAtInPart at event a b → RoundInPart units frame a b
       one_round_part d = record {
         groups = up_to at d.answers;
-        each = inr (subst (λ ss. Stops units frame 0 (up_to at d.answers) a.spots ss) (sym d.set) (one_stops units frame event at here others d.answers d.old d.new 0 at a.spots (omega arith) d.here d.did));
+        each = inr (subst (λ ss. Stops units frame 0 (up_to at d.answers) a.target.units ss) (sym d.set) (one_stops units frame event at here others d.answers d.old d.new 0 at a.target.units (omega arith) d.here d.did));
         part = subst (WrotePart a.written b.written) (ap (λ n. told_under n d.answers) (omega arith) ∙ (sym (told_up_to 0 at d.answers) ∙ plain_told (up_to at d.answers))) d.part;
       }
 
 -- the target's own answer
-module _ (units : ℕ) (r : Request) (said : is_report r ≡ true) (ss : List Spot) (written written' : Option (List ℕ)) where
-  reported : named 0 (replied (target_reply units r) ∷ []) ≡ round_told units (round_of (frames.Request r) (silence ss))
+module _ (units : ℕ) (r : Request) (said : is_report r ≡ true) (t : Target) (written written' : Option (List ℕ)) where
+  reported : named 0 (replied (target_reply units r) ∷ []) ≡ round_told units (round_of (frames.Request r) (silence t.units))
   reported =
-      sym (ap (λ b. (if b then named 0 (replied (target_reply units r) ∷ []) else []) ++ (told_from 0 (silence ss) ++ [])) said
-      ∙ (ap (λ l. named 0 (replied (target_reply units r) ∷ []) ++ (l ++ [])) (told_silence 0 ss) ∙ append-nil (named 0 (replied (target_reply units r) ∷ []))))
+      sym (ap (λ b. (if b then named 0 (replied (target_reply units r) ∷ []) else []) ++ (told_from 0 (silence t.units) ++ [])) said
+      ∙ (ap (λ l. named 0 (replied (target_reply units r) ∷ []) ++ (l ++ [])) (told_silence 0 t.units) ∙ append-nil (named 0 (replied (target_reply units r) ∷ []))))
 
-  pub report_round : Wrote written written' (named 0 (replied (target_reply units r) ∷ [])) → RoundDone units (frames.Request r) (record { spots = ss; written = written }) (record { spots = ss; written = written' })
+  pub report_round : Wrote written written' (named 0 (replied (target_reply units r) ∷ [])) → RoundDone units (frames.Request r) (stage t written) (stage t written')
   report_round wrote = record {
-    groups = silence ss;
-    each = all_pass units (frames.Request r) (frames.Request r) 0 ss (λ i le. request_none units r said i);
+    groups = silence t.units;
+    each = all_pass units (frames.Request r) (frames.Request r) 0 t.units (λ i le. request_none units r said i);
     wrote = subst (Wrote written written') reported wrote;
   }
 
-  pub report_round_part : WrotePart written written' (named 0 (replied (target_reply units r) ∷ [])) → RoundInPart units (frames.Request r) (record { spots = ss; written = written }) (record { spots = ss; written = written' })
+  pub report_round_part : WrotePart written written' (named 0 (replied (target_reply units r) ∷ [])) → RoundInPart units (frames.Request r) (stage t written) (stage t written')
   report_round_part part = record {
-    groups = silence ss;
-    each = inl (all_pass units (frames.Request r) (frames.Request r) 0 ss (λ i le. request_none units r said i));
+    groups = silence t.units;
+    each = inl (all_pass units (frames.Request r) (frames.Request r) 0 t.units (λ i le. request_none units r said i));
     part = subst (WrotePart written written') reported part;
   }
 

@@ -89,18 +89,18 @@ not_end : (frame : Frame) → is_end frame ≡ false → frame ≡ frames.End �
 not_end frame other is = let bad : true ≡ false = sym (ap is_end is) ∙ other in absurd cc
 
 module _ (units : ℕ) where
-  pub going_start : (a : Scene) → a.reader.place ≡ None → AllByRecursion IsIdle a.stage.spots → Going units a a
+  pub going_start : (a : Scene) → a.reader.place ≡ None → AllByRecursion IsIdle a.stage.target.units → Going units a a
   going_start a unread idle = record {
     rounds = [];
     so_far = record {
-      given = record { limit = refl; newest = refl; read = rw unread (refl, refl); calls = let none = ap (λ n. turn_calls * n) (none_pending a.stage.spots idle) in omega (arith, none) };
+      given = record { limit = refl; newest = refl; read = rw unread (refl, refl); calls = let none = ap (λ n. turn_calls * n) (none_pending a.stage.target.units idle) in omega (arith, none) };
       wrote = Wrote-none a.stage.written;
-      run = run_none units 0 a.stage.spots idle;
+      run = run_none units 0 a.stage.target.units idle;
     };
     none_ends = tt;
   }
 
-  module _ (a b c : Scene) (room : ℕ) (frame : Frame) (going : Going units a b) (gave : Gave b.reader room frame c.reader b.left c.left) (whole : gave.whole ≡ frame) (calls : c.calls + turn_calls * pending c.stage.spots ≤ b.calls + turn_calls * pending b.stage.spots + frame_calls units frame) where
+  module _ (a b c : Scene) (room : ℕ) (frame : Frame) (going : Going units a b) (gave : Gave b.reader room frame c.reader b.left c.left) (whole : gave.whole ≡ frame) (calls : c.calls + turn_calls * pending c.stage.target.units ≤ b.calls + turn_calls * pending b.stage.target.units + frame_calls units frame) where
     given_more : HasGiven units a c (frames_of going.rounds ++ frame ∷ [])
     given_more = record {
       limit = ap (λ (r : Reading). r.limit) gave.new_is ∙ going.so_far.given.limit;
@@ -117,7 +117,7 @@ module _ (units : ℕ) where
       so_far_more = record {
         given = subst (HasGiven units a c) (sym (frames_push going.rounds round)) given_more;
         wrote = subst (Wrote a.stage.written c.stage.written) (sym (told_push units going.rounds round)) (Wrote-more going.so_far.wrote done.wrote);
-        run = run_round units going.rounds frame done.groups 0 [] a.stage.spots refl refl going.so_far.run done.each;
+        run = run_round units going.rounds frame done.groups 0 [] a.stage.target.units refl refl going.so_far.run done.each;
       }
 
       pub going_more : is_end frame ≡ false → Going units a c
@@ -145,7 +145,7 @@ module _ (units : ℕ) where
       run = by_each done.each;
     }
       where
-        by_each : Serves units frame 0 done.groups b.stage.spots c.stage.spots ⊎ Stops units frame 0 done.groups b.stage.spots c.stage.spots
-            → HaveRun units 0 (going.rounds ++ round_of frame done.groups ∷ []) a.stage.spots c.stage.spots ⊎ HaveRunInPart units going.rounds (round_of frame done.groups) 0 a.stage.spots c.stage.spots
-        by_each (inl each) = inl (run_round units going.rounds frame done.groups 0 [] a.stage.spots refl refl going.so_far.run each)
-        by_each (inr each) = inr (run_round_part units going.rounds frame done.groups 0 [] a.stage.spots refl refl going.so_far.run each)
+        by_each : Serves units frame 0 done.groups b.stage.target.units c.stage.target.units ⊎ Stops units frame 0 done.groups b.stage.target.units c.stage.target.units
+            → HaveRun units 0 (going.rounds ++ round_of frame done.groups ∷ []) a.stage.target.units c.stage.target.units ⊎ HaveRunInPart units going.rounds (round_of frame done.groups) 0 a.stage.target.units c.stage.target.units
+        by_each (inl each) = inl (run_round units going.rounds frame done.groups 0 [] a.stage.target.units refl refl going.so_far.run each)
+        by_each (inr each) = inr (run_round_part units going.rounds frame done.groups 0 [] a.stage.target.units refl refl going.so_far.run each)

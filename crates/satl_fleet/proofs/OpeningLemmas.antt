@@ -1,11 +1,11 @@
 -- Units that are opened one after the other.
-use Rattle.std.proofs.Common.{◌≡◌, ◌⊎◌, inl, inr, refl, sym, ap, subst, ◌∙◌, arith, ℕ, zero, suc, ◌+◌, ◌<◌, List, [], ◌∷◌, ◌++◌, length, map}
-use Rattle.std.specs.Prelude.{Option, Some, slice_get, slice_index_or, slice_set}
+use Rattle.std.proofs.Common.{◌≡◌, inl, inr, refl, sym, ap, subst, ◌∙◌, arith, ℕ, zero, suc, ◌<◌, List, [], ◌∷◌, ◌++◌, length, map}
+use Rattle.std.specs.Prelude.{Some, slice_get, slice_index_or, slice_set}
 use Rattle.std.proofs.lemmas.List.{map-set}
 use Rattle.std.specs.List.{AllByRecursion, AllZip}
 use Rattle.satl_drive.specs.State.{DriveState}
 use Rattle.satl_core.specs.Layer.{Layer}
-use Rattle.satl_core.specs.Opening.{IsCause, IsUndisturbed}
+use Rattle.satl_core.specs.Opening.{IsCause}
 use Rattle.satl_core.specs.Opening.IsUndisturbed.{untouched, written_back}
 use Rattle.satl_core.specs.declared.satl.OpenFault.{OpenFault}
 use Rattle.satl_fleet.specs.Opening.{IsCauseOfOne, IsLeftAlone, IsServable, Opens, OpensTo}

@@ -1,7 +1,7 @@
 -- One frame over the units.
 use Rattle.std.proofs.Common.{◌≡◌, append_assoc, refl, sym, ap, subst, ◌∙◌, arith, ℕ, zero, suc, ◌+◌, ◌≤◌, List, [], ◌∷◌, ◌++◌, length, map}
 use Rattle.std.proofs.lemmas.List.{append-nil}
-use Rattle.std.specs.Prelude.{Option, Some, slice_get, slice_set}
+use Rattle.std.specs.Prelude.{Some, slice_get, slice_set}
 use Rattle.satl_io.specs.Known.{Wrote, WrotePart}
 use Rattle.satl_io.proofs.Joined.{Wrote-more, Wrote-none, WrotePart-more}
 use Rattle.satl_frame.specs.Output.{Answer}
@@ -80,7 +80,7 @@ part_push (more d to) is did = part_later d (part_push to is did)
 -- so many units did an event, and told it
 pub record DoneTo (event : Frame) (n : ℕ) (before after : Stage) : Type 0 where
   pub groups : List (List Answer)
-  pub did : DidTo event n groups before.spots after.spots
+  pub did : DidTo event n groups before.target.units after.target.units
   pub wrote : Wrote before.written after.written (told_from 0 groups)
 
 pub done_none : (event : Frame) (a : Stage) → DoneTo event 0 a a
@@ -92,20 +92,20 @@ place {event} {n} {groups} answers to = sym (told_from-push 0 groups answers ∙
 pub done_more : (event : Frame) (n : ℕ) (a b c : Stage) → DoneTo event n a b → DidAt n event b c → DoneTo event (suc n) a c
 done_more event n a b c done at = record {
   groups = done.groups ++ at.answers ∷ [];
-  did = subst (DidTo event (suc n) (done.groups ++ at.answers ∷ []) a.spots) (sym at.set) (did_push done.did at.here at.did);
+  did = subst (DidTo event (suc n) (done.groups ++ at.answers ∷ []) a.target.units) (sym at.set) (did_push done.did at.here at.did);
   wrote = subst (Wrote a.written c.written) (place at.answers done.did) (Wrote-more done.wrote at.wrote);
 }
 
 pub done_next : (event : Frame) (n : ℕ) (a b c : Stage) → DoneTo event n a b → DidAt n event b c → DoneTo event (n + 1) a c
 done_next event n a b c done at = subst (λ m. DoneTo event m a c) (omega arith) (done_more event n a b c done at)
 
-pub done_all : (event : Frame) (n : ℕ) (a b : Stage) → n ≡ length a.spots → DoneTo event n a b → AllDid event a b
-done_all event n a b all done = record { groups = done.groups; did = subst (λ m. DidTo event m done.groups a.spots b.spots) all done.did; wrote = done.wrote }
+pub done_all : (event : Frame) (n : ℕ) (a b : Stage) → n ≡ length a.target.units → DoneTo event n a b → AllDid event a b
+done_all event n a b all done = record { groups = done.groups; did = subst (λ m. DidTo event m done.groups a.target.units b.target.units) all done.did; wrote = done.wrote }
 
 pub done_part : (event : Frame) (n : ℕ) (a b c : Stage) → DoneTo event n a b → DidAtInPart n event b c → AllDidInPart event a c
 done_part event n a b c done at = record {
   groups = done.groups ++ at.answers ∷ [];
-  did = subst (DidToInPart event (done.groups ++ at.answers ∷ []) a.spots) (sym at.set) (part_push done.did at.here at.did);
+  did = subst (DidToInPart event (done.groups ++ at.answers ∷ []) a.target.units) (sym at.set) (part_push done.did at.here at.did);
   part = subst (WrotePart a.written c.written) (place at.answers done.did) (WrotePart-more done.wrote at.part);
 }
 

@@ -1,5 +1,5 @@
 -- What a run of the units is, once it stops, from the magic on.
-use Rattle.std.proofs.Common.{◌≡◌, ◌⊎◌, append_assoc, inl, inr, refl, sym, ap, subst, arith, ◌∙◌, ℕ, ◌+◌, ◌≤◌, List, [], ◌∷◌, ◌++◌, length}
+use Rattle.std.proofs.Common.{◌≡◌, inl, inr, refl, sym, ap, subst, arith, ◌∙◌, ℕ, ◌≤◌, List, [], ◌∷◌, ◌++◌, length}
 use Rattle.std.proofs.lemmas.List.{length-append}
 use Rattle.std.specs.Prelude.{Option, None, Some, Result, Ok, Err, IfErr}
 use Rattle.std.specs.Result.{IsErrAnd}
@@ -23,19 +23,18 @@ use Rattle.satl_step.specs.Loop.{HasStopCause}
 use Rattle.satl_step.specs.declared.frames_loop.Stop.{Stop}
 use Rattle.satl_step.specs.declared.frames_loop.Stop.TheVariants as stops
 use Rattle.satl_fleet.specs.Headline.{ReadBefore, told_of}
-use Rattle.satl_fleet.specs.Loop.{Ended, Going, Refused, Scene, StoppedInRound, StoppedSo}
+use Rattle.satl_fleet.specs.Loop.{Ended, Refused, Scene, StoppedInRound, StoppedSo}
 use Rattle.satl_fleet.specs.Output.{Round, all_told, frames_of, output}
-use Rattle.satl_fleet.specs.Rounds.{Stage}
 use Rattle.satl_fleet.specs.Runs.{IsIdle}
+use Rattle.satl_fleet.specs.Serving.{Target}
 use Rattle.satl_fleet.specs.Stopping.{HasStreamCause, Place, RanBefore, RanInPart, RanTo, RanWhole, StoppedInAnswers, StoppedInFault, StoppedInMagic, Tells, TellsSo, TellsStop}
-use Rattle.satl_fleet.specs.Units.{Spot}
 use Rattle.satl_fleet.specs.declared.fault.FleetFault.{FleetFault}
 use Rattle.satl_fleet.specs.declared.fault.FleetFault.TheVariants as faults
 use Rattle.satl_fleet.proofs.RunLemmas.{run_none}
 
 -- where a scene stands that was reached behind what was written
 abbrev pub place_of : Option (List ℕ) → Scene → Place
-place_of written a = record { left = a.left; stage = record { spots = a.stage.spots; written = written }; calls = a.calls }
+place_of written a = record { left = a.left; stage = record a.stage { written = written }; calls = a.calls }
 
 -- a scene at which serving begins: a new reader, and the magic was written
 pub record Begins (written : Option (List ℕ)) (a : Scene) : Type 0 where
@@ -149,8 +148,8 @@ stop_cause read read' first begun_at now after fault stops.Write earlier cause (
     let same = ap (λ (w : Writes). w.faults) stays in subst (HasStreamCause read read' first after) (sym is) (omega (arith, cause, earlier, same))
 
 -- nothing was read, and the magic was written in part
-pub in_magic : (units : ℕ) (left written written' : Option (List ℕ)) (ss : List Spot) (calls : ℕ) → AllByRecursion IsIdle ss → WrotePart written written' out_magic → StoppedInMagic units (record { left = left; stage = record { spots = ss; written = written }; calls = calls }) (record { left = left; stage = record { spots = ss; written = written' }; calls = calls })
-in_magic units left written written' ss calls idle part = record { read = refl; part = part; run = run_none units 0 ss idle; calls = omega arith }
+pub in_magic : (units : ℕ) (left written written' : Option (List ℕ)) (t : Target) (calls : ℕ) → AllByRecursion IsIdle t.units → WrotePart written written' out_magic → StoppedInMagic units (record { left = left; stage = record { target = t; written = written }; calls = calls }) (record { left = left; stage = record { target = t; written = written' }; calls = calls })
+in_magic units left written written' t calls idle part = record { read = refl; part = part; run = run_none units 0 t.units idle; calls = omega arith }
 
 -- a write failed before anything was read
 pub any_write : (limit units : ℕ) (before after : Place) (r : Result (Unit {0}) FleetFault) (P : FleetFault → Type 0) → IsErrAnd r P → ((e : FleetFault) → P e → e ≡ faults.Write) → RanInPart limit units before after → IfErr r (RanTo limit units before after)

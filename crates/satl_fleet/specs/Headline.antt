@@ -13,7 +13,6 @@ use Rattle.satl_frame.specs.Inputs.{NoneEnds}
 use Rattle.satl_frame.specs.Output.{fault_bytes, out_magic}
 use Rattle.satl_frame.specs.Progress.{HasRead, ReadTo}
 use Rattle.satl_frame.specs.Reading.{Blames, Reading}
-use Rattle.satl_drive.specs.State.{DriveState}
 use Rattle.satl_fleet.specs.Moments.{FleetMoment}
 use Rattle.satl_fleet.specs.Opening.{IsLeftAlone}
 use Rattle.satl_fleet.specs.Output.{Round, frames_of, output, round_told}
@@ -41,8 +40,8 @@ pub record ReadBefore (limit : ℕ) (left left' : Option (List ℕ)) (fs : List 
   pub read : HasRead reader left mid fs
   pub blames : Blames reader mid left' why
 
--- frames of version 1 up to END were read and no byte behind them; the output of rounds over exactly these was written; and each unit was
--- served in these rounds (profile)
+-- frames of version 1 up to END were read and no byte behind them; the output of rounds over exactly these was written; and
+-- each unit was served in these rounds (profile)
 pub record IsFleetWhole (limit : ℕ) (before after : FleetMoment) : Type 0 where
   pub rounds : List Round
   pub earlier : List Frame
@@ -68,8 +67,9 @@ pub record BrokeInMagic (before after : FleetMoment) : Type 0 where
   pub served : AreServed (length before.drives) 0 [] before.drives after.drives
   pub calls : HasFewCalls [] before after
 
--- rounds were served, none of which is END, and their output was written whole; then one frame more was read, and of what is due to it a
--- front was written: units from the first on did it, one of them perhaps in part, and those behind that one leave it out (profile)
+-- rounds were served, none of which is END, and their output was written whole; then one frame more was read, and of what is
+-- due to it a front was written: units from the first on did it, one of them perhaps in part, and those behind that one leave
+-- it out (profile)
 pub record BrokeInRound (limit : ℕ) (before after : FleetMoment) : Type 0 where
   pub rounds : List Round
   pub round : Round
@@ -81,11 +81,12 @@ pub record BrokeInRound (limit : ℕ) (before after : FleetMoment) : Type 0 wher
   pub read : HasRead reader before.source.left after.source.left (frames_of rounds ++ round.frame ∷ [])
   pub wrote : Wrote before.sink.written behind (output (length before.drives) rounds)
   pub part : WrotePart behind after.sink.written (round_told (length before.drives) round)
-  pub served : AreServed (length before.drives) 0 (rounds ++ round ∷ []) before.drives after.drives ⊎ AreServedInPart (length before.drives) rounds round 0 before.drives after.drives
+  pub served : AreServed (length before.drives) 0 (rounds ++ round ∷ []) before.drives after.drives
+      ⊎ AreServedInPart (length before.drives) rounds round 0 before.drives after.drives
   pub calls : HasFewCalls (frames_of rounds ++ round.frame ∷ []) before after
 
--- rounds were served, none of which is END; their output was written whole; and what follows was refused, of which a front was told
--- (profile)
+-- rounds were served, none of which is END; their output was written whole; and what follows was refused, of which a front was
+-- told (profile)
 pub record BrokeInFault (limit : ℕ) (before after : FleetMoment) : Type 0 where
   pub rounds : List Round
   pub reason : Reason
@@ -99,7 +100,8 @@ pub record BrokeInFault (limit : ℕ) (before after : FleetMoment) : Type 0 wher
 
 -- a write failed: in the magic, in what is due to the last frame, or in what tells a refusal (profile)
 abbrev pub IsFleetInPart : ℕ → FleetMoment → FleetMoment → Type 0
-IsFleetInPart limit before after = BrokeInMagic before after ⊎ (BrokeInRound limit before after ⊎ BrokeInFault limit before after)
+IsFleetInPart limit before after =
+    BrokeInMagic before after ⊎ (BrokeInRound limit before after ⊎ BrokeInFault limit before after)
 
 -- nothing was read or written; each drive was at most asked for its IDENTIFY DEVICE data (profile)
 pub record IsFleetNotServed (before after : FleetMoment) : Type 0 where

@@ -6,6 +6,7 @@ pub mod Output
 pub mod Rounds
 pub mod Routing
 pub mod Runs
+pub mod Serving
 pub mod Shared
 pub mod Stopping
 pub mod Target

@@ -25,19 +25,19 @@ pub record Scene : Type 0 where
 abbrev pub scene : Reading → Option (List ℕ) → Stage → ℕ → Scene
 scene reader left stage calls = record { reader = reader; left = left; stage = stage; calls = calls }
 
--- the reader is the same but for where it stands, and has given these frames; the drives were called as often at most as they allow, but
--- for the turns of the tasks that are left (profile)
+-- the reader is the same but for where it stands, and has given these frames; the drives were called as often at most as they
+-- allow, but for the turns of the tasks that are left (profile)
 pub record HasGiven (units : ℕ) (before after : Scene) (fs : List Frame) : Type 0 where
   pub limit : after.reader.limit ≡ before.reader.limit
   pub newest : after.reader.newest ≡ before.reader.newest
   pub read : HasRead after.reader before.left after.left fs
-  pub calls : after.calls + turn_calls * pending after.stage.spots ≤ before.calls + calls_for units fs
+  pub calls : after.calls + turn_calls * pending after.stage.target.units ≤ before.calls + calls_for units fs
 
 -- rounds were served, and their answers told (profile)
 pub record SoFar (units : ℕ) (before after : Scene) (rounds : List Round) : Type 0 where
   pub given : HasGiven units before after (frames_of rounds)
   pub wrote : Wrote before.stage.written after.stage.written (all_told units rounds)
-  pub run : HaveRun units 0 rounds before.stage.spots after.stage.spots
+  pub run : HaveRun units 0 rounds before.stage.target.units after.stage.target.units
 
 -- the same, and none of the frames is END (profile)
 pub record Going (units : ℕ) (before after : Scene) : Type 0 where
@@ -59,15 +59,16 @@ pub record Refused (units : ℕ) (why : FrameFault) (before after : Scene) : Typ
   pub going : Going units before (record after { reader = reader; left = mid })
   pub blames : Blames reader mid after.left why
 
--- rounds were served and told; then one frame more was read, and a front of what is due to it was written: all units did it, or units up to
--- one that did it in whole or in part (profile)
+-- rounds were served and told; then one frame more was read, and a front of what is due to it was written: all units did it, or
+-- units up to one that did it in whole or in part (profile)
 pub record StoppedInRound (units : ℕ) (before after : Scene) : Type 0 where
   pub mid : Scene
   pub going : Going units before mid
   pub round : Round
   pub given : HasGiven units before after (frames_of going.rounds ++ round.frame ∷ [])
   pub part : WrotePart mid.stage.written after.stage.written (round_told units round)
-  pub run : HaveRun units 0 (going.rounds ++ round ∷ []) before.stage.spots after.stage.spots ⊎ HaveRunInPart units going.rounds round 0 before.stage.spots after.stage.spots
+  pub run : HaveRun units 0 (going.rounds ++ round ∷ []) before.stage.target.units after.stage.target.units
+      ⊎ HaveRunInPart units going.rounds round 0 before.stage.target.units after.stage.target.units
 
 -- by why frames are carried out no further (profile)
 abbrev pub StoppedSo : ℕ → Scene → Scene → Stop → Type 0

@@ -1,5 +1,5 @@
 -- What serving a target meets, before and after (profile).
-use Rattle.std.specs.Prelude.{ℕ, List, Option}
+use Rattle.std.specs.Prelude.{ℕ, List}
 use Rattle.satl_drive.specs.State.{DriveState}
 use Rattle.satl_serve.specs.Moments.{Reads, Writes}
 

@@ -1,6 +1,5 @@
 -- The units of a target are opened, each on its drive (SAT-3 8.1, IDENTIFY DEVICE; profile).
-use Rattle.std.specs.Prelude.{◌≡◌, ◌⊎◌, ℕ, List, [], ◌∷◌, None, map}
-use Rattle.std.specs.List.{AllZip}
+use Rattle.std.specs.Prelude.{◌≡◌, ◌⊎◌, List, [], ◌∷◌, None, map}
 use Rattle.satl_drive.specs.State.{DriveState, IsFit}
 use Rattle.satl_core.specs.Layer.{Layer}
 use Rattle.satl_core.specs.Opening.{IsCause, IsOpened, IsUndisturbed}
@@ -15,8 +14,8 @@ pub record IsServable (d : DriveState) : Type 0 where
   pub no_error : d.error ≡ None
   pub fit : IsFit d
 
--- a drive was at most asked for its IDENTIFY DEVICE data: it stays as it was, but for entries that its sectors may be left with, and,
--- where its link was lost meanwhile, for what that does; each sector reads as before; it was not unplugged (profile)
+-- a drive was at most asked for its IDENTIFY DEVICE data: it stays as it was, but for entries that its sectors may be left
+-- with, and, where its link was lost meanwhile, for what that does; each sector reads as before; it was not unplugged (profile)
 pub record IsLeftAlone (old new : DriveState) : Type 0 where
   pub undisturbed : IsUndisturbed old new
   pub nows : map (λ c. c.now) new.cells ≡ map (λ c. c.now) old.cells
@@ -31,7 +30,8 @@ pub record Opens (old : DriveState) (l : Layer) (new : DriveState) : Type 0 wher
 -- layers were opened on the first drives, and those behind them stay (profile)
 pub data OpensTo : List DriveState → List Layer → List DriveState → Type 0 where
   rest : {ds : List DriveState} → OpensTo ds [] ds
-  more : {old new : DriveState} {l : Layer} {olds news : List DriveState} {ls : List Layer} → Opens old l new → OpensTo olds ls news → OpensTo (old ∷ olds) (l ∷ ls) (new ∷ news)
+  more : {old new : DriveState} {l : Layer} {olds news : List DriveState} {ls : List Layer}
+      → Opens old l new → OpensTo olds ls news → OpensTo (old ∷ olds) (l ∷ ls) (new ∷ news)
 
 -- some drive is refused for this cause (profile)
 abbrev pub IsCauseOfOne : OpenFault → List DriveState → List DriveState → Type 0

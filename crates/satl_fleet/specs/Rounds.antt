@@ -1,5 +1,6 @@
 -- One frame over the units of a target (profile).
-use Rattle.std.specs.Prelude.{◌≡◌, ◌⊎◌, ℕ, zero, suc, ◌+◌, ◌*◌, ◌≤◌, List, [], ◌∷◌, length, Option, Some, slice_get, slice_set, if◌then◌else◌}
+use Rattle.std.specs.Prelude.{◌≡◌, ◌⊎◌, ℕ, zero, suc, ◌+◌, ◌*◌, ◌≤◌, if◌then◌else◌}
+use Rattle.std.specs.Prelude.{List, [], ◌∷◌, length, Option, Some, slice_get, slice_set}
 use Rattle.satl_io.specs.Known.{Wrote, WrotePart}
 use Rattle.satl_frame.specs.declared.frames.Frame.{Frame}
 use Rattle.satl_frame.specs.declared.frames.Frame.TheVariants as frames
@@ -8,15 +9,16 @@ use Rattle.satl_core.specs.Layer.{IsExpectable}
 use Rattle.satl_core.specs.Turning.{off_calls, turn_calls}
 use Rattle.satl_fleet.specs.Output.{Round, round_told, told_from, told_under}
 use Rattle.satl_fleet.specs.Routing.{is_for_all, is_report, seen}
+use Rattle.satl_fleet.specs.Serving.{Target}
 use Rattle.satl_fleet.specs.Units.{Did, DidInPart, Spot}
 
--- the units, and what was written (profile)
+-- a target, and what was written (profile)
 pub record Stage : Type 0 where
-  pub spots : List Spot
+  pub target : Target
   pub written : Option (List ℕ)
 
-abbrev pub stage : List Spot → Option (List ℕ) → Stage
-stage spots written = record { spots = spots; written = written }
+abbrev pub stage : Target → Option (List ℕ) → Stage
+stage target written = record { target = target; written = written }
 
 -- ---- one unit
 
@@ -25,8 +27,8 @@ pub record DidAt (k : ℕ) (event : Frame) (before after : Stage) : Type 0 where
   pub old : Spot
   pub new : Spot
   pub answers : List Answer
-  pub here : slice_get before.spots k ≡ Some old
-  pub set : after.spots ≡ slice_set before.spots k new
+  pub here : slice_get before.target.units k ≡ Some old
+  pub set : after.target.units ≡ slice_set before.target.units k new
   pub did : Did event old answers new
   pub wrote : Wrote before.written after.written (told_under k answers)
 
@@ -35,8 +37,8 @@ pub record DidAtInPart (k : ℕ) (event : Frame) (before after : Stage) : Type 0
   pub old : Spot
   pub new : Spot
   pub answers : List Answer
-  pub here : slice_get before.spots k ≡ Some old
-  pub set : after.spots ≡ slice_set before.spots k new
+  pub here : slice_get before.target.units k ≡ Some old
+  pub set : after.target.units ≡ slice_set before.target.units k new
   pub did : DidInPart event old answers new
   pub part : WrotePart before.written after.written (told_under k answers)
 
@@ -46,24 +48,27 @@ pub record DidAtInPart (k : ℕ) (event : Frame) (before after : Stage) : Type 0
 pub data DidTo (event : Frame) : ℕ → List (List Answer) → List Spot → List Spot → Type 0 where
   rest : {ss : List Spot} → DidTo event zero [] ss ss
   more : {count : ℕ} {groups : List (List Answer)} {olds news : List Spot} {old new : Spot} {answers : List Answer}
-      → Did event old answers new → DidTo event count groups olds news → DidTo event (suc count) (answers ∷ groups) (old ∷ olds) (new ∷ news)
+      → Did event old answers new → DidTo event count groups olds news
+      → DidTo event (suc count) (answers ∷ groups) (old ∷ olds) (new ∷ news)
 
 -- units from the first on did it, the next one in whole or in part, and those behind it stay (profile)
 pub data DidToInPart (event : Frame) : List (List Answer) → List Spot → List Spot → Type 0 where
-  here : {ss : List Spot} {old new : Spot} {answers : List Answer} → DidInPart event old answers new → DidToInPart event (answers ∷ []) (old ∷ ss) (new ∷ ss)
+  here : {ss : List Spot} {old new : Spot} {answers : List Answer}
+      → DidInPart event old answers new → DidToInPart event (answers ∷ []) (old ∷ ss) (new ∷ ss)
   later : {groups : List (List Answer)} {olds news : List Spot} {old new : Spot} {answers : List Answer}
-      → Did event old answers new → DidToInPart event groups olds news → DidToInPart event (answers ∷ groups) (old ∷ olds) (new ∷ news)
+      → Did event old answers new → DidToInPart event groups olds news
+      → DidToInPart event (answers ∷ groups) (old ∷ olds) (new ∷ news)
 
 -- all units did an event, and told it (profile)
 pub record AllDid (event : Frame) (before after : Stage) : Type 0 where
   pub groups : List (List Answer)
-  pub did : DidTo event (length before.spots) groups before.spots after.spots
+  pub did : DidTo event (length before.target.units) groups before.target.units after.target.units
   pub wrote : Wrote before.written after.written (told_from 0 groups)
 
 -- units did it up to one that did it in whole or in part, and it was told in part (profile)
 pub record AllDidInPart (event : Frame) (before after : Stage) : Type 0 where
   pub groups : List (List Answer)
-  pub did : DidToInPart event groups before.spots after.spots
+  pub did : DidToInPart event groups before.target.units after.target.units
   pub part : WrotePart before.written after.written (told_from 0 groups)
 
 -- ---- a frame
@@ -72,18 +77,23 @@ pub record AllDidInPart (event : Frame) (before after : Stage) : Type 0 where
 pub data Serves (units : ℕ) (frame : Frame) : ℕ → List (List Answer) → List Spot → List Spot → Type 0 where
   none : {k : ℕ} → Serves units frame k [] [] []
   passes : {k : ℕ} {groups : List (List Answer)} {olds news : List Spot} {old : Spot}
-      → seen units k frame ≡ [] → Serves units frame (suc k) groups olds news → Serves units frame k ([] ∷ groups) (old ∷ olds) (old ∷ news)
-  serves : {k : ℕ} {groups : List (List Answer)} {olds news : List Spot} {old new : Spot} {answers : List Answer} (event : Frame)
+      → seen units k frame ≡ [] → Serves units frame (suc k) groups olds news
+      → Serves units frame k ([] ∷ groups) (old ∷ olds) (old ∷ news)
+  serves : {k : ℕ} {groups : List (List Answer)} {olds news : List Spot} {old new : Spot} {answers : List Answer}
+      (event : Frame)
       → seen units k frame ≡ event ∷ [] → Did event old answers new → Serves units frame (suc k) groups olds news
       → Serves units frame k (answers ∷ groups) (old ∷ olds) (new ∷ news)
 
 -- the same up to a unit that did it in whole or in part; those behind it stay (profile)
 pub data Stops (units : ℕ) (frame : Frame) : ℕ → List (List Answer) → List Spot → List Spot → Type 0 where
   here : {k : ℕ} {ss : List Spot} {old new : Spot} {answers : List Answer} (event : Frame)
-      → seen units k frame ≡ event ∷ [] → DidInPart event old answers new → Stops units frame k (answers ∷ []) (old ∷ ss) (new ∷ ss)
+      → seen units k frame ≡ event ∷ [] → DidInPart event old answers new
+      → Stops units frame k (answers ∷ []) (old ∷ ss) (new ∷ ss)
   passes : {k : ℕ} {groups : List (List Answer)} {olds news : List Spot} {old : Spot}
-      → seen units k frame ≡ [] → Stops units frame (suc k) groups olds news → Stops units frame k ([] ∷ groups) (old ∷ olds) (old ∷ news)
-  serves : {k : ℕ} {groups : List (List Answer)} {olds news : List Spot} {old new : Spot} {answers : List Answer} (event : Frame)
+      → seen units k frame ≡ [] → Stops units frame (suc k) groups olds news
+      → Stops units frame k ([] ∷ groups) (old ∷ olds) (old ∷ news)
+  serves : {k : ℕ} {groups : List (List Answer)} {olds news : List Spot} {old new : Spot} {answers : List Answer}
+      (event : Frame)
       → seen units k frame ≡ event ∷ [] → Did event old answers new → Stops units frame (suc k) groups olds news
       → Stops units frame k (answers ∷ groups) (old ∷ olds) (new ∷ news)
 
@@ -93,13 +103,14 @@ round_of frame groups = record { frame = frame; groups = groups }
 -- a frame was served by all units, and told (profile)
 pub record RoundDone (units : ℕ) (frame : Frame) (before after : Stage) : Type 0 where
   pub groups : List (List Answer)
-  pub each : Serves units frame 0 groups before.spots after.spots
+  pub each : Serves units frame 0 groups before.target.units after.target.units
   pub wrote : Wrote before.written after.written (round_told units (round_of frame groups))
 
 -- a frame was served by all units, or up to one that did it in whole or in part, and a front of what is due was told (profile)
 pub record RoundInPart (units : ℕ) (frame : Frame) (before after : Stage) : Type 0 where
   pub groups : List (List Answer)
-  pub each : Serves units frame 0 groups before.spots after.spots ⊎ Stops units frame 0 groups before.spots after.spots
+  pub each : Serves units frame 0 groups before.target.units after.target.units
+      ⊎ Stops units frame 0 groups before.target.units after.target.units
   pub part : WrotePart before.written after.written (round_told units (round_of frame groups))
 
 -- the pages of a frame that can be routed hold all of its data-out (profile)

@@ -15,9 +15,12 @@ lun_0 = replicate 8 0
 abbrev pub names_unit : ℕ → List ℕ → Bool
 names_unit units lun = slice_index lun 0 == 0 && (nat_lt (slice_index lun 1) units && list_all (λ byte. byte == 0) (drop 2 lun))
 
--- where a frame to this LUN goes: to the unit of that number, at LUN 0 there; or, where there is none, to unit 0 at the same LUN (profile)
+-- where a frame to this LUN goes: to the unit of that number, at LUN 0 there; or, where there is none, to unit 0 at the same
+-- LUN (profile)
 abbrev pub route_to : ℕ → List ℕ → Route
-route_to units lun = if names_unit units lun then record { unit = slice_index lun 1; lun = lun_0 } else record { unit = 0; lun = lun }
+route_to units lun =
+    if names_unit units lun then record { unit = slice_index lun 1; lun = lun_0 }
+    else record { unit = 0; lun = lun }
 
 -- whether it is REPORT LUNS, which the target itself answers (SPC-4 6.33; profile)
 abbrev pub is_report : Request → Bool

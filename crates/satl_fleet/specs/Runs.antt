@@ -12,8 +12,9 @@ use Rattle.satl_fleet.specs.Output.{Round, frames_of, groups_for}
 use Rattle.satl_fleet.specs.Routing.{project}
 use Rattle.satl_fleet.specs.Units.{Spot, device_of}
 
--- events with so many losses were counted: the drive's count of faults rose by the losses at least, or stands at its last value; its
--- number of unplugs rose by the events that unplug it, or stands at its last value; its deepest queue did not fall (profile)
+-- events with so many losses were counted: the drive's count of faults rose by the losses at least, or stands at its last
+-- value; its number of unplugs rose by the events that unplug it, or stands at its last value; its deepest queue did not fall
+-- (profile)
 pub record UnitCounted (events : List Frame) (losses : ℕ) (old new : DriveState) : Type 0 where
   pub faults : RoseBy losses old.faults new.faults
   pub unplugged : RoseBy (unplugs_in events) old.unplugs new.unplugs
@@ -21,9 +22,10 @@ pub record UnitCounted (events : List Frame) (losses : ℕ) (old new : DriveStat
   pub rises : old.deepest ≤ new.deepest
   pub covers : length new.outstanding ≤ new.deepest
 
--- events were carried out one after the other, from a device without tasks on, with a group of answers for each; the drive had at once as
--- many commands as the device let it have (profile)
-pub record Ran (first : Device) (old : DriveState) (events : List Frame) (groups : List (List Answer)) (last : Device) (new : DriveState) : Type 0 where
+-- events were carried out one after the other, from a device without tasks on, with a group of answers for each; the drive had
+-- at once as many commands as the device let it have (profile)
+pub record Ran (first : Device) (old : DriveState) (events : List Frame) (groups : List (List Answer))
+    (last : Device) (new : DriveState) : Type 0 where
   pub losses : ℕ
   pub deep : ℕ
   pub run : RunDeep first events groups losses last deep
@@ -31,20 +33,23 @@ pub record Ran (first : Device) (old : DriveState) (events : List Frame) (groups
   pub counted : UnitCounted events losses old new
 
 -- the same, and the last event was carried out or cut short between two of its turns (profile)
-pub record RanInPart (first : Device) (old : DriveState) (events : List Frame) (groups : List (List Answer)) (last : Device) (new : DriveState) : Type 0 where
+pub record RanInPart (first : Device) (old : DriveState) (events : List Frame) (groups : List (List Answer))
+    (last : Device) (new : DriveState) : Type 0 where
   pub losses : ℕ
   pub run : RunInPart first events groups losses last
   pub counted : UnitCounted events losses old new
 
 -- so did a unit in rounds (profile)
 abbrev pub RanRounds : ℕ → ℕ → List Round → Device → DriveState → Device → DriveState → Type 0
-RanRounds units k rounds first old last new = Ran first old (project units k (frames_of rounds)) (groups_for units k rounds) last new
+RanRounds units k rounds first old last new =
+    Ran first old (project units k (frames_of rounds)) (groups_for units k rounds) last new
 
 abbrev pub RanRoundsInPart : ℕ → ℕ → List Round → Device → DriveState → Device → DriveState → Type 0
-RanRoundsInPart units k rounds first old last new = RanInPart first old (project units k (frames_of rounds)) (groups_for units k rounds) last new
+RanRoundsInPart units k rounds first old last new =
+    RanInPart first old (project units k (frames_of rounds)) (groups_for units k rounds) last new
 
--- a unit was served: it began with the first device of its drive, and the drive is left as its last device is, with its tasks in the queue
--- (profile)
+-- a unit was served: it began with the first device of its drive, and the drive is left as its last device is, with its tasks
+-- in the queue (profile)
 pub record UnitServed (Run : Device → Device → Type 0) (old new : DriveState) : Type 0 where
   pub first : Device
   pub last : Device
@@ -61,9 +66,10 @@ AreServed units k rounds (old ∷ olds) [] = ⊥
 AreServed units k rounds (old ∷ olds) (new ∷ news) =
     UnitServed (λ first last. RanRounds units k rounds first old last new) old new × AreServed units (suc k) rounds olds news
 
--- units from this one on were served in rounds and in one more, the next one in the last round in whole or in part, and those behind it
--- leave the last round out (profile)
-pub data AreServedInPart (units : ℕ) (rounds : List Round) (round : Round) : ℕ → List DriveState → List DriveState → Type 0 where
+-- units from this one on were served in rounds and in one more, the next one in the last round in whole or in part, and those
+-- behind it leave the last round out (profile)
+pub data AreServedInPart (units : ℕ) (rounds : List Round) (round : Round)
+    : ℕ → List DriveState → List DriveState → Type 0 where
   here : {k : ℕ} {old new : DriveState} {olds news : List DriveState}
       → UnitServed (λ first last. RanRoundsInPart units k (rounds ++ round ∷ []) first old last new) old new
       → AreServed units (suc k) rounds olds news → AreServedInPart units rounds round k (old ∷ olds) (new ∷ news)
@@ -78,7 +84,8 @@ abbrev pub HaveRun : ℕ → ℕ → List Round → List Spot → List Spot → 
 HaveRun units k rounds [] [] = Unit {0}
 HaveRun units k rounds [] (s ∷ ss) = ⊥
 HaveRun units k rounds (a ∷ starts) [] = ⊥
-HaveRun units k rounds (a ∷ starts) (s ∷ ss) = RanRounds units k rounds (device_of a) a.drive (device_of s) s.drive × HaveRun units (suc k) rounds starts ss
+HaveRun units k rounds (a ∷ starts) (s ∷ ss) =
+    RanRounds units k rounds (device_of a) a.drive (device_of s) s.drive × HaveRun units (suc k) rounds starts ss
 
 -- the same, and in one round more, up to a unit that did it in whole or in part (profile)
 pub data HaveRunInPart (units : ℕ) (rounds : List Round) (round : Round) : ℕ → List Spot → List Spot → Type 0 where

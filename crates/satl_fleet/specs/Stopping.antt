@@ -25,8 +25,8 @@ use Rattle.satl_fleet.specs.Runs.{HaveRun, HaveRunInPart}
 use Rattle.satl_fleet.specs.declared.fault.FleetFault.{FleetFault}
 use Rattle.satl_fleet.specs.declared.fault.FleetFault.TheVariants as faults
 
--- a read fault comes only where the source's count rose, a write fault only where the sink's did, and a drive is refused only for its own
--- cause (profile)
+-- a read fault comes only where the source's count rose, a write fault only where the sink's did, and a drive is refused only
+-- for its own cause (profile)
 abbrev pub HasFleetCause : FleetMoment → FleetMoment → FleetFault → Type 0
 HasFleetCause before after (faults.Open fault) = IsCauseOfOne fault before.drives after.drives
 HasFleetCause before after (faults.BadInput reason offset) = Unit {0}
@@ -57,7 +57,7 @@ pub record RanWhole (limit units : ℕ) (before after : Place) : Type 0 where
   pub ends : frames_of rounds ≡ earlier ++ frames.End ∷ []
   pub read : ReadTo limit One at before.left after.left (frames_of rounds)
   pub wrote : Wrote before.stage.written after.stage.written (output units rounds)
-  pub run : HaveRun units 0 rounds before.stage.spots after.stage.spots
+  pub run : HaveRun units 0 rounds before.stage.target.units after.stage.target.units
   pub calls : HasFewCallsOn units (frames_of rounds) before after
 
 -- frames none of which is END were read and served, and what follows was refused or not read, which was told (profile)
@@ -65,14 +65,14 @@ pub record RanBefore (limit units : ℕ) (why : FrameFault) (before after : Plac
   pub rounds : List Round
   pub read : ReadBefore limit before.left after.left (frames_of rounds) why
   pub wrote : Wrote before.stage.written after.stage.written (output units rounds ++ told_of why)
-  pub run : HaveRun units 0 rounds before.stage.spots after.stage.spots
+  pub run : HaveRun units 0 rounds before.stage.target.units after.stage.target.units
   pub calls : HasFewCallsOn units (frames_of rounds) before after
 
 -- nothing was read, and a front of the magic was written (profile)
 pub record StoppedInMagic (units : ℕ) (before after : Place) : Type 0 where
   pub read : after.left ≡ before.left
   pub part : WrotePart before.stage.written after.stage.written out_magic
-  pub run : HaveRun units 0 [] before.stage.spots after.stage.spots
+  pub run : HaveRun units 0 [] before.stage.target.units after.stage.target.units
   pub calls : HasFewCallsOn units [] before after
 
 -- a write failed in what is due to the last frame (profile)
@@ -87,7 +87,8 @@ pub record StoppedInAnswers (limit units : ℕ) (before after : Place) : Type 0 
   pub read : HasRead reader before.left after.left (frames_of rounds ++ round.frame ∷ [])
   pub wrote : Wrote before.stage.written behind (output units rounds)
   pub part : WrotePart behind after.stage.written (round_told units round)
-  pub run : HaveRun units 0 (rounds ++ round ∷ []) before.stage.spots after.stage.spots ⊎ HaveRunInPart units rounds round 0 before.stage.spots after.stage.spots
+  pub run : HaveRun units 0 (rounds ++ round ∷ []) before.stage.target.units after.stage.target.units
+      ⊎ HaveRunInPart units rounds round 0 before.stage.target.units after.stage.target.units
   pub calls : HasFewCallsOn units (frames_of rounds ++ round.frame ∷ []) before after
 
 -- a write failed in what tells a refusal (profile)
@@ -99,11 +100,12 @@ pub record StoppedInFault (limit units : ℕ) (before after : Place) : Type 0 wh
   pub read : ReadBefore limit before.left after.left (frames_of rounds) (Bad reason offset)
   pub wrote : Wrote before.stage.written behind (output units rounds)
   pub part : WrotePart behind after.stage.written (fault_bytes reason offset)
-  pub run : HaveRun units 0 rounds before.stage.spots after.stage.spots
+  pub run : HaveRun units 0 rounds before.stage.target.units after.stage.target.units
   pub calls : HasFewCallsOn units (frames_of rounds) before after
 
 abbrev pub RanInPart : ℕ → ℕ → Place → Place → Type 0
-RanInPart limit units before after = StoppedInMagic units before after ⊎ (StoppedInAnswers limit units before after ⊎ StoppedInFault limit units before after)
+RanInPart limit units before after =
+    StoppedInMagic units before after ⊎ (StoppedInAnswers limit units before after ⊎ StoppedInFault limit units before after)
 
 -- how far a run came where it stopped with a fault (profile)
 abbrev pub RanTo : ℕ → ℕ → Place → Place → FleetFault → Type 0
@@ -124,9 +126,11 @@ HasStreamCause read read' write write' faults.NoMemory = ⊥
 -- a refusal of the reader is told, where a frame is bad (profile)
 abbrev pub Tells : FrameFault → Option (List ℕ) → Option (List ℕ) → FleetFault → Type 0
 Tells why written written' (faults.Open fault) = ⊥
-Tells why written written' (faults.BadInput reason offset) = (why ≡ Bad reason offset) × Wrote written written' (fault_bytes reason offset)
+Tells why written written' (faults.BadInput reason offset) =
+    (why ≡ Bad reason offset) × Wrote written written' (fault_bytes reason offset)
 Tells why written written' faults.Read = (why ≡ ReadFault) × (written' ≡ written)
-Tells why written written' faults.Write = (reason : Reason) × (offset : ℕ) × (why ≡ Bad reason offset) × WrotePart written written' (fault_bytes reason offset)
+Tells why written written' faults.Write =
+    (reason : Reason) × (offset : ℕ) × (why ≡ Bad reason offset) × WrotePart written written' (fault_bytes reason offset)
 Tells why written written' faults.NoMemory = ⊥
 
 -- the same, which takes no fault of writing back, and has one where a write failed (profile)
@@ -135,7 +139,8 @@ pub record TellsSo (why : FrameFault) (before after : Writes) (fault : FleetFaul
   pub later : before.faults ≤ after.faults
   pub cause : (fault ≡ faults.Write) → Rose before.faults after.faults
 
--- why serving stops where frames are carried out no further: a refusal is told, and behind a write that failed nothing is (profile)
+-- why serving stops where frames are carried out no further: a refusal is told, and behind a write that failed nothing is
+-- (profile)
 abbrev pub TellsStop : Writes → Writes → FleetFault → Stop → Type 0
 TellsStop before after fault (stops.Refused why) = TellsSo why before after fault
 TellsStop before after fault stops.Write = (fault ≡ faults.Write) × (after ≡ before)

@@ -1,5 +1,6 @@
 -- What a target answers itself: REPORT LUNS (SPC-4 6.33; that no unit sees it: profile).
-use Rattle.std.specs.Prelude.{ℕ, zero, suc, ◌*◌, ◌==◌, nat_lt, min, List, [], ◌∷◌, ◌++◌, length, replicate, slice_index, if◌then◌else◌}
+use Rattle.std.specs.Prelude.{ℕ, zero, suc, ◌*◌, ◌==◌, nat_lt, min, if◌then◌else◌}
+use Rattle.std.specs.Prelude.{List, [], ◌∷◌, ◌++◌, length, replicate, slice_index}
 use Rattle.satl_base.specs.Fields.{bytes}
 use Rattle.satl_base.specs.declared.reply.Reply.{Reply}
 use Rattle.satl_base.specs.declared.reply.Scsi.TheVariants.{CheckCondition, Good}
@@ -19,8 +20,8 @@ abbrev pub luns_from : ℕ → ℕ → List ℕ
 luns_from k zero = []
 luns_from k (suc more) = lun_of k ++ luns_from (suc k) more
 
--- the list of LUNs of at most four units, for SELECT REPORT 00h and 02h: the number of bytes of the LUNs, four bytes of zero, and the LUNs; and none for 01h, well known
--- logical units (SPC-4 6.33)
+-- the list of LUNs of at most four units, for SELECT REPORT 00h and 02h: the number of bytes of the LUNs, four bytes of zero,
+-- and the LUNs; and none for 01h, well known logical units (SPC-4 6.33)
 abbrev pub lun_list : ℕ → ℕ → List ℕ
 lun_list units select = if select == 1 then replicate 8 0 else (0 ∷ 0 ∷ 0 ∷ 8 * units ∷ 0 ∷ 0 ∷ 0 ∷ 0 ∷ []) ++ luns_from 0 units
 
@@ -28,9 +29,18 @@ lun_list units select = if select == 1 then replicate 8 0 else (0 ∷ 0 ∷ 0 �
 abbrev pub luns_told : ℕ → Request → Reply
 luns_told units r =
     let luns = lun_list units (slice_index r.cdb 2) in
-    record { nexus = r.nexus; tag = r.tag; status = Good; sense = record { items = [] }; body = padded_block luns ∷ []; data_len = min (bytes 6 9 r.cdb) (length luns); expected = r.expected }
+    record {
+      nexus = r.nexus;
+      tag = r.tag;
+      status = Good;
+      sense = record { items = [] };
+      body = padded_block luns ∷ [];
+      data_len = min (bytes 6 9 r.cdb) (length luns);
+      expected = r.expected;
+    }
 
--- the answer to REPORT LUNS: a SELECT REPORT above 02h is an invalid field in the CDB, and told in the fixed form (SPC-4 6.33; profile)
+-- the answer to REPORT LUNS: a SELECT REPORT above 02h is an invalid field in the CDB, and told in the fixed form (SPC-4 6.33;
+-- profile)
 abbrev pub target_reply : ℕ → Request → Reply
 target_reply units r =
     if nat_lt 2 (slice_index r.cdb 2) then reply_to r CheckCondition (fixed_form (refusal (invalid_field 2)))

@@ -46,8 +46,8 @@ abbrev pub pending : List Spot → ℕ
 pending [] = 0
 pending (s ∷ ss) = length s.layer.tasks + pending ss
 
--- a unit did an event, with these answers, and its drive was counted: the drive had at once as many commands as the device let it have, its
--- faults rose by the losses, it was unplugged by the event alone, and its deepest queue did not fall (profile)
+-- a unit did an event, with these answers, and its drive was counted: the drive had at once as many commands as the device let
+-- it have, its faults rose by the losses, it was unplugged by the event alone, and its deepest queue did not fall (profile)
 pub record Did (event : Frame) (old : Spot) (answers : List Answer) (new : Spot) : Type 0 where
   pub deep : ℕ
   pub does : Does event (device_of old) answers (device_of new) deep

@@ -1,15 +1,13 @@
 // One event on the unit of a number, among all units.
-ghost use Rattle.std.specs.Prelude.{◌≡◌, ◌≤◌, ◌<◌, ◌+◌, ◌*◌, ◌∷◌, ℕ, [], OnErr, OnOk, length, map, vec_len};
-ghost use Rattle.std.specs.List.{AllByRecursion};
+ghost use Rattle.std.specs.Prelude.{◌≡◌, ◌≤◌, ◌<◌, ◌+◌, ◌*◌, ◌∷◌, ℕ, [], OnErr, OnOk, length, vec_len};
 ghost use Rattle.satl_io.specs.Causes.{HasCause};
 ghost use Rattle.satl_frame.specs.declared.frames.Frame.{Frame};
 ghost use Rattle.satl_core.specs.Layer.{IsExpectable};
-ghost use Rattle.satl_core.specs.Turning.{turn_calls};
 ghost use Rattle.satl_pages.specs.Counts.{number_of};
 ghost use Rattle.satl_step.specs.Events.{CanTake, IsWholeOf};
 ghost use Rattle.satl_step.specs.Runs.{calls_allowed};
 ghost use Rattle.satl_fleet.specs.Rounds.{DidAt, DidAtInPart, stage};
-ghost use Rattle.satl_fleet.specs.Units.{IsReady, IsTiedSpot, pending, spots_of};
+ghost use Rattle.satl_fleet.specs.Serving.{CanServe, KeepsUnits, calls_due, target};
 
 use crate::unit::{lend, serve_unit};
 use satl_base::{Replies, Request, Steps};
@@ -30,20 +28,20 @@ pub fn serve_at<K: Sink, D: Bench, L: Ledger>(
     replies: &mut Replies,
     steps: &mut Steps<L>,
 ) -> Result<(), WriteFault>
-    requires same { vec_len drives.old ≡ vec_len units.old }
+    requires serve { CanServe (target D.state units.old drives.old) replies.old }
     requires within { k < vec_len units.old }
-    requires ready { AllByRecursion IsReady (spots_of units.old.items (map D.state drives.old.items)) }
-    requires none { replies.old ≡ [] }
     requires can { (free : ℕ) → CanTake event free 0 }
     requires whole { IsWholeOf event event }
-    ensures done { OnOk result (DidAt k event (stage (spots_of units.old.items (map D.state drives.old.items)) (K.written sink.old)) (stage (spots_of units.new.items (map D.state drives.new.items)) (K.written sink.new))) }
-    ensures part { OnErr result (DidAtInPart k event (stage (spots_of units.old.items (map D.state drives.old.items)) (K.written sink.old)) (stage (spots_of units.new.items (map D.state drives.new.items)) (K.written sink.new))) }
-    ensures ready { OnOk result (AllByRecursion IsReady (spots_of units.new.items (map D.state drives.new.items))) }
-    ensures tied { AllByRecursion IsTiedSpot (spots_of units.new.items (map D.state drives.new.items)) }
-    ensures none { OnOk result (replies.new ≡ []) }
-    ensures calls { steps.new + turn_calls * pending (spots_of units.new.items (map D.state drives.new.items)) ≤ steps.old + turn_calls * pending (spots_of units.old.items (map D.state drives.old.items)) + calls_allowed (event ∷ []) }
-    ensures units { vec_len units.new ≡ vec_len units.old }
-    ensures drives { vec_len drives.new ≡ vec_len drives.old }
+    ensures done { OnOk result (DidAt k event
+        (stage (target D.state units.old drives.old) (K.written sink.old))
+        (stage (target D.state units.new drives.new) (K.written sink.new))) }
+    ensures part { OnErr result (DidAtInPart k event
+        (stage (target D.state units.old drives.old) (K.written sink.old))
+        (stage (target D.state units.new drives.new) (K.written sink.new))) }
+    ensures ready { OnOk result (CanServe (target D.state units.new drives.new) replies.new) }
+    ensures keeps { KeepsUnits (target D.state units.old drives.old) (target D.state units.new drives.new) }
+    ensures calls { calls_due (target D.state units.new drives.new) steps.new
+        ≤ calls_due (target D.state units.old drives.old) steps.old + calls_allowed (event ∷ []) }
     ensures cause { HasCause (K.faults sink.old) (K.faults sink.new) result }
 {
     let satl = &mut units[k as usize];
@@ -62,21 +60,21 @@ pub fn serve_request_at<K: Sink, D: Bench, L: Ledger>(
     replies: &mut Replies,
     steps: &mut Steps<L>,
 ) -> Result<(), WriteFault>
-    requires same { vec_len drives.old ≡ vec_len units.old }
+    requires serve { CanServe (target D.state units.old drives.old) replies.old }
     requires within { k < vec_len units.old }
-    requires ready { AllByRecursion IsReady (spots_of units.old.items (map D.state drives.old.items)) }
-    requires none { replies.old ≡ [] }
     requires pages { pool.old.out ≡ length request.body }
     requires holds { request.data_len ≤ 512 * length request.body }
     requires expected { IsExpectable request.expected }
-    ensures done { OnOk result (DidAt k (Frame.Request request) (stage (spots_of units.old.items (map D.state drives.old.items)) (K.written sink.old)) (stage (spots_of units.new.items (map D.state drives.new.items)) (K.written sink.new))) }
-    ensures part { OnErr result (DidAtInPart k (Frame.Request request) (stage (spots_of units.old.items (map D.state drives.old.items)) (K.written sink.old)) (stage (spots_of units.new.items (map D.state drives.new.items)) (K.written sink.new))) }
-    ensures ready { OnOk result (AllByRecursion IsReady (spots_of units.new.items (map D.state drives.new.items))) }
-    ensures tied { AllByRecursion IsTiedSpot (spots_of units.new.items (map D.state drives.new.items)) }
-    ensures none { OnOk result (replies.new ≡ []) }
-    ensures calls { steps.new + turn_calls * pending (spots_of units.new.items (map D.state drives.new.items)) ≤ steps.old + turn_calls * pending (spots_of units.old.items (map D.state drives.old.items)) + calls_allowed (Frame.Request request ∷ []) }
-    ensures units { vec_len units.new ≡ vec_len units.old }
-    ensures drives { vec_len drives.new ≡ vec_len drives.old }
+    ensures done { OnOk result (DidAt k (Frame.Request request)
+        (stage (target D.state units.old drives.old) (K.written sink.old))
+        (stage (target D.state units.new drives.new) (K.written sink.new))) }
+    ensures part { OnErr result (DidAtInPart k (Frame.Request request)
+        (stage (target D.state units.old drives.old) (K.written sink.old))
+        (stage (target D.state units.new drives.new) (K.written sink.new))) }
+    ensures ready { OnOk result (CanServe (target D.state units.new drives.new) replies.new) }
+    ensures keeps { KeepsUnits (target D.state units.old drives.old) (target D.state units.new drives.new) }
+    ensures calls { calls_due (target D.state units.new drives.new) steps.new
+        ≤ calls_due (target D.state units.old drives.old) steps.old + calls_allowed (Frame.Request request ∷ []) }
     ensures all_in { OnOk result (pool.new.out ≡ 0) }
     ensures number { number_of pool.new ≡ number_of pool.old }
     ensures cause { HasCause (K.faults sink.old) (K.faults sink.new) result }

@@ -1,16 +1,14 @@
 // One frame over the units of a target.
-ghost use Rattle.std.specs.Prelude.{◌≡◌, ◌≤◌, ◌<◌, ◌+◌, ◌*◌, ◌∷◌, ℕ, [], OnErr, OnOk, length, map, vec_len};
-ghost use Rattle.std.specs.List.{AllByRecursion};
+ghost use Rattle.std.specs.Prelude.{◌≡◌, ◌≤◌, ◌+◌, ◌*◌, ◌∷◌, [], OnErr, OnOk, length, vec_len};
 ghost use Rattle.satl_io.specs.Causes.{HasCause};
 ghost use Rattle.satl_frame.specs.declared.frames.Frame.{Frame};
 ghost use Rattle.satl_frame.specs.Pulls.{frame_pages};
-ghost use Rattle.satl_core.specs.Layer.{IsExpectable};
-ghost use Rattle.satl_core.specs.Turning.{turn_calls};
 ghost use Rattle.satl_pages.specs.Counts.{number_of};
 ghost use Rattle.satl_step.specs.Runs.{calls_allowed};
-ghost use Rattle.satl_fleet.specs.Rounds.{AllDid, AllDidInPart, CanRoute, IsTurnOrBench, RoundDone, RoundInPart, frame_calls, stage};
+ghost use Rattle.satl_fleet.specs.Rounds.{AllDid, AllDidInPart, CanRoute, IsTurnOrBench, RoundDone, RoundInPart};
+ghost use Rattle.satl_fleet.specs.Rounds.{frame_calls, stage};
+ghost use Rattle.satl_fleet.specs.Serving.{CanServe, KeepsUnits, calls_due, target};
 ghost use Rattle.satl_fleet.specs.Shared.{frame_of};
-ghost use Rattle.satl_fleet.specs.Units.{IsReady, IsTiedSpot, pending, spots_of};
 
 use crate::event::{serve_at, serve_request_at};
 use crate::reporting::report;
@@ -33,18 +31,17 @@ fn serve_all<K: Sink, D: Bench, L: Ledger>(
     replies: &mut Replies,
     steps: &mut Steps<L>,
 ) -> Result<(), WriteFault>
-    requires same { vec_len drives.old ≡ vec_len units.old }
-    requires ready { AllByRecursion IsReady (spots_of units.old.items (map D.state drives.old.items)) }
-    requires none { replies.old ≡ [] }
-    requires few { vec_len units.old ≤ 4 }
-    ensures done { OnOk result (AllDid (frame_of event.now) (stage (spots_of units.old.items (map D.state drives.old.items)) (K.written sink.old)) (stage (spots_of units.new.items (map D.state drives.new.items)) (K.written sink.new))) }
-    ensures part { OnErr result (AllDidInPart (frame_of event.now) (stage (spots_of units.old.items (map D.state drives.old.items)) (K.written sink.old)) (stage (spots_of units.new.items (map D.state drives.new.items)) (K.written sink.new))) }
-    ensures ready { OnOk result (AllByRecursion IsReady (spots_of units.new.items (map D.state drives.new.items))) }
-    ensures tied { AllByRecursion IsTiedSpot (spots_of units.new.items (map D.state drives.new.items)) }
-    ensures none { OnOk result (replies.new ≡ []) }
-    ensures calls { steps.new + turn_calls * pending (spots_of units.new.items (map D.state drives.new.items)) ≤ steps.old + turn_calls * pending (spots_of units.old.items (map D.state drives.old.items)) + vec_len units.old * calls_allowed (frame_of event.now ∷ []) }
-    ensures units { vec_len units.new ≡ vec_len units.old }
-    ensures drives { vec_len drives.new ≡ vec_len drives.old }
+    requires serve { CanServe (target D.state units.old drives.old) replies.old }
+    ensures done { OnOk result (AllDid (frame_of event.now)
+        (stage (target D.state units.old drives.old) (K.written sink.old))
+        (stage (target D.state units.new drives.new) (K.written sink.new))) }
+    ensures part { OnErr result (AllDidInPart (frame_of event.now)
+        (stage (target D.state units.old drives.old) (K.written sink.old))
+        (stage (target D.state units.new drives.new) (K.written sink.new))) }
+    ensures ready { OnOk result (CanServe (target D.state units.new drives.new) replies.new) }
+    ensures keeps { KeepsUnits (target D.state units.old drives.old) (target D.state units.new drives.new) }
+    ensures calls { calls_due (target D.state units.new drives.new) steps.new
+        ≤ calls_due (target D.state units.old drives.old) steps.old + vec_len units.old * calls_allowed (frame_of event.now ∷ []) }
     ensures cause { HasCause (K.faults sink.old) (K.faults sink.new) result }
 {
     for k in 0..units.len() as u8 {
@@ -63,22 +60,20 @@ fn serve_request<K: Sink, D: Bench, L: Ledger>(
     replies: &mut Replies,
     steps: &mut Steps<L>,
 ) -> Result<(), WriteFault>
-    requires same { vec_len drives.old ≡ vec_len units.old }
-    requires ready { AllByRecursion IsReady (spots_of units.old.items (map D.state drives.old.items)) }
-    requires none { replies.old ≡ [] }
-    requires some { 1 ≤ vec_len units.old }
-    requires few { vec_len units.old ≤ 4 }
+    requires serve { CanServe (target D.state units.old drives.old) replies.old }
     requires pages { pool.old.out ≡ length request.body }
     requires pool { 1 ≤ number_of pool.old }
     requires can { CanRoute (Frame.Request request) }
-    ensures done { OnOk result (RoundDone (vec_len units.old) (Frame.Request request) (stage (spots_of units.old.items (map D.state drives.old.items)) (K.written sink.old)) (stage (spots_of units.new.items (map D.state drives.new.items)) (K.written sink.new))) }
-    ensures part { OnErr result (RoundInPart (vec_len units.old) (Frame.Request request) (stage (spots_of units.old.items (map D.state drives.old.items)) (K.written sink.old)) (stage (spots_of units.new.items (map D.state drives.new.items)) (K.written sink.new))) }
-    ensures ready { OnOk result (AllByRecursion IsReady (spots_of units.new.items (map D.state drives.new.items))) }
-    ensures tied { AllByRecursion IsTiedSpot (spots_of units.new.items (map D.state drives.new.items)) }
-    ensures none { OnOk result (replies.new ≡ []) }
-    ensures calls { steps.new + turn_calls * pending (spots_of units.new.items (map D.state drives.new.items)) ≤ steps.old + turn_calls * pending (spots_of units.old.items (map D.state drives.old.items)) + frame_calls (vec_len units.old) (Frame.Request request) }
-    ensures units { vec_len units.new ≡ vec_len units.old }
-    ensures drives { vec_len drives.new ≡ vec_len drives.old }
+    ensures done { OnOk result (RoundDone (vec_len units.old) (Frame.Request request)
+        (stage (target D.state units.old drives.old) (K.written sink.old))
+        (stage (target D.state units.new drives.new) (K.written sink.new))) }
+    ensures part { OnErr result (RoundInPart (vec_len units.old) (Frame.Request request)
+        (stage (target D.state units.old drives.old) (K.written sink.old))
+        (stage (target D.state units.new drives.new) (K.written sink.new))) }
+    ensures ready { OnOk result (CanServe (target D.state units.new drives.new) replies.new) }
+    ensures keeps { KeepsUnits (target D.state units.old drives.old) (target D.state units.new drives.new) }
+    ensures calls { calls_due (target D.state units.new drives.new) steps.new
+        ≤ calls_due (target D.state units.old drives.old) steps.old + frame_calls (vec_len units.old) (Frame.Request request) }
     ensures all_in { OnOk result (pool.new.out ≡ 0) }
     ensures number { number_of pool.new ≡ number_of pool.old }
     ensures cause { HasCause (K.faults sink.old) (K.faults sink.new) result }
@@ -101,19 +96,17 @@ fn serve_manage<K: Sink, D: Bench, L: Ledger>(
     replies: &mut Replies,
     steps: &mut Steps<L>,
 ) -> Result<(), WriteFault>
-    requires same { vec_len drives.old ≡ vec_len units.old }
-    requires ready { AllByRecursion IsReady (spots_of units.old.items (map D.state drives.old.items)) }
-    requires none { replies.old ≡ [] }
-    requires some { 1 ≤ vec_len units.old }
-    requires few { vec_len units.old ≤ 4 }
-    ensures done { OnOk result (RoundDone (vec_len units.old) (Frame.Manage manage) (stage (spots_of units.old.items (map D.state drives.old.items)) (K.written sink.old)) (stage (spots_of units.new.items (map D.state drives.new.items)) (K.written sink.new))) }
-    ensures part { OnErr result (RoundInPart (vec_len units.old) (Frame.Manage manage) (stage (spots_of units.old.items (map D.state drives.old.items)) (K.written sink.old)) (stage (spots_of units.new.items (map D.state drives.new.items)) (K.written sink.new))) }
-    ensures ready { OnOk result (AllByRecursion IsReady (spots_of units.new.items (map D.state drives.new.items))) }
-    ensures tied { AllByRecursion IsTiedSpot (spots_of units.new.items (map D.state drives.new.items)) }
-    ensures none { OnOk result (replies.new ≡ []) }
-    ensures calls { steps.new + turn_calls * pending (spots_of units.new.items (map D.state drives.new.items)) ≤ steps.old + turn_calls * pending (spots_of units.old.items (map D.state drives.old.items)) + frame_calls (vec_len units.old) (Frame.Manage manage) }
-    ensures units { vec_len units.new ≡ vec_len units.old }
-    ensures drives { vec_len drives.new ≡ vec_len drives.old }
+    requires serve { CanServe (target D.state units.old drives.old) replies.old }
+    ensures done { OnOk result (RoundDone (vec_len units.old) (Frame.Manage manage)
+        (stage (target D.state units.old drives.old) (K.written sink.old))
+        (stage (target D.state units.new drives.new) (K.written sink.new))) }
+    ensures part { OnErr result (RoundInPart (vec_len units.old) (Frame.Manage manage)
+        (stage (target D.state units.old drives.old) (K.written sink.old))
+        (stage (target D.state units.new drives.new) (K.written sink.new))) }
+    ensures ready { OnOk result (CanServe (target D.state units.new drives.new) replies.new) }
+    ensures keeps { KeepsUnits (target D.state units.old drives.old) (target D.state units.new drives.new) }
+    ensures calls { calls_due (target D.state units.new drives.new) steps.new
+        ≤ calls_due (target D.state units.old drives.old) steps.old + frame_calls (vec_len units.old) (Frame.Manage manage) }
     ensures cause { HasCause (K.faults sink.old) (K.faults sink.new) result }
 {
     if is_for_all(&manage) {
@@ -136,27 +129,26 @@ fn serve_end<K: Sink, D: Bench, L: Ledger>(
     replies: &mut Replies,
     steps: &mut Steps<L>,
 ) -> Result<(), WriteFault>
-    requires same { vec_len drives.old ≡ vec_len units.old }
-    requires ready { AllByRecursion IsReady (spots_of units.old.items (map D.state drives.old.items)) }
-    requires none { replies.old ≡ [] }
-    requires few { vec_len units.old ≤ 4 }
-    ensures done { OnOk result (RoundDone (vec_len units.old) Frame.End (stage (spots_of units.old.items (map D.state drives.old.items)) (K.written sink.old)) (stage (spots_of units.new.items (map D.state drives.new.items)) (K.written sink.new))) }
-    ensures part { OnErr result (RoundInPart (vec_len units.old) Frame.End (stage (spots_of units.old.items (map D.state drives.old.items)) (K.written sink.old)) (stage (spots_of units.new.items (map D.state drives.new.items)) (K.written sink.new))) }
-    ensures ready { OnOk result (AllByRecursion IsReady (spots_of units.new.items (map D.state drives.new.items))) }
-    ensures tied { AllByRecursion IsTiedSpot (spots_of units.new.items (map D.state drives.new.items)) }
-    ensures none { OnOk result (replies.new ≡ []) }
-    ensures calls { steps.new + turn_calls * pending (spots_of units.new.items (map D.state drives.new.items)) ≤ steps.old + turn_calls * pending (spots_of units.old.items (map D.state drives.old.items)) + frame_calls (vec_len units.old) Frame.End }
-    ensures units { vec_len units.new ≡ vec_len units.old }
-    ensures drives { vec_len drives.new ≡ vec_len drives.old }
+    requires serve { CanServe (target D.state units.old drives.old) replies.old }
+    ensures done { OnOk result (RoundDone (vec_len units.old) Frame.End
+        (stage (target D.state units.old drives.old) (K.written sink.old))
+        (stage (target D.state units.new drives.new) (K.written sink.new))) }
+    ensures part { OnErr result (RoundInPart (vec_len units.old) Frame.End
+        (stage (target D.state units.old drives.old) (K.written sink.old))
+        (stage (target D.state units.new drives.new) (K.written sink.new))) }
+    ensures ready { OnOk result (CanServe (target D.state units.new drives.new) replies.new) }
+    ensures keeps { KeepsUnits (target D.state units.old drives.old) (target D.state units.new drives.new) }
+    ensures calls { calls_due (target D.state units.new drives.new) steps.new
+        ≤ calls_due (target D.state units.old drives.old) steps.old + frame_calls (vec_len units.old) Frame.End }
     ensures cause { HasCause (K.faults sink.old) (K.faults sink.new) result }
 {
     serve_all(units, drives, &Shared::End, sink, replies, steps)?;
     write_frame(OutFrame::End, sink)
 }
 
-/// Carries out a frame on the units that it goes to, and tells their answers. The pages that are out of the fleet's pool are those of
-/// the frame; they come back to it. `WriteFault` comes only where the sink's count of faults rose; then units from the first on did what
-/// the frame is to them, one perhaps in part, and those behind that one did nothing (profile).
+/// Carries out a frame on the units that it goes to, and tells their answers. The pages that are out of the fleet's pool are
+/// those of the frame; they come back to it. `WriteFault` comes only where the sink's count of faults rose; then units from the
+/// first on did what the frame is to them, one perhaps in part, and those behind that one did nothing (profile).
 pub fn serve_frame<K: Sink, D: Bench, L: Ledger>(
     units: &mut Vec<Satl>,
     drives: &mut Vec<D>,
@@ -166,22 +158,20 @@ pub fn serve_frame<K: Sink, D: Bench, L: Ledger>(
     replies: &mut Replies,
     steps: &mut Steps<L>,
 ) -> Result<(), WriteFault>
-    requires same { vec_len drives.old ≡ vec_len units.old }
-    requires ready { AllByRecursion IsReady (spots_of units.old.items (map D.state drives.old.items)) }
-    requires none { replies.old ≡ [] }
-    requires some { 1 ≤ vec_len units.old }
-    requires few { vec_len units.old ≤ 4 }
+    requires serve { CanServe (target D.state units.old drives.old) replies.old }
     requires pages { pool.old.out ≡ frame_pages frame }
     requires pool { 1 ≤ number_of pool.old }
     requires can { CanRoute frame }
-    ensures done { OnOk result (RoundDone (vec_len units.old) frame (stage (spots_of units.old.items (map D.state drives.old.items)) (K.written sink.old)) (stage (spots_of units.new.items (map D.state drives.new.items)) (K.written sink.new))) }
-    ensures part { OnErr result (RoundInPart (vec_len units.old) frame (stage (spots_of units.old.items (map D.state drives.old.items)) (K.written sink.old)) (stage (spots_of units.new.items (map D.state drives.new.items)) (K.written sink.new))) }
-    ensures ready { OnOk result (AllByRecursion IsReady (spots_of units.new.items (map D.state drives.new.items))) }
-    ensures tied { AllByRecursion IsTiedSpot (spots_of units.new.items (map D.state drives.new.items)) }
-    ensures none { OnOk result (replies.new ≡ []) }
-    ensures calls { steps.new + turn_calls * pending (spots_of units.new.items (map D.state drives.new.items)) ≤ steps.old + turn_calls * pending (spots_of units.old.items (map D.state drives.old.items)) + frame_calls (vec_len units.old) frame }
-    ensures units { vec_len units.new ≡ vec_len units.old }
-    ensures drives { vec_len drives.new ≡ vec_len drives.old }
+    ensures done { OnOk result (RoundDone (vec_len units.old) frame
+        (stage (target D.state units.old drives.old) (K.written sink.old))
+        (stage (target D.state units.new drives.new) (K.written sink.new))) }
+    ensures part { OnErr result (RoundInPart (vec_len units.old) frame
+        (stage (target D.state units.old drives.old) (K.written sink.old))
+        (stage (target D.state units.new drives.new) (K.written sink.new))) }
+    ensures ready { OnOk result (CanServe (target D.state units.new drives.new) replies.new) }
+    ensures keeps { KeepsUnits (target D.state units.old drives.old) (target D.state units.new drives.new) }
+    ensures calls { calls_due (target D.state units.new drives.new) steps.new
+        ≤ calls_due (target D.state units.old drives.old) steps.old + frame_calls (vec_len units.old) frame }
     ensures all_in { OnOk result (pool.new.out ≡ 0) }
     ensures number { number_of pool.new ≡ number_of pool.old }
     ensures cause { HasCause (K.faults sink.old) (K.faults sink.new) result }
@@ -210,19 +200,18 @@ fn serve_shared<K: Sink, D: Bench, L: Ledger>(
     replies: &mut Replies,
     steps: &mut Steps<L>,
 ) -> Result<(), WriteFault>
-    requires same { vec_len drives.old ≡ vec_len units.old }
-    requires ready { AllByRecursion IsReady (spots_of units.old.items (map D.state drives.old.items)) }
-    requires none { replies.old ≡ [] }
-    requires few { vec_len units.old ≤ 4 }
+    requires serve { CanServe (target D.state units.old drives.old) replies.old }
     requires plain { IsTurnOrBench (frame_of event.now) }
-    ensures done { OnOk result (RoundDone (vec_len units.old) (frame_of event.now) (stage (spots_of units.old.items (map D.state drives.old.items)) (K.written sink.old)) (stage (spots_of units.new.items (map D.state drives.new.items)) (K.written sink.new))) }
-    ensures part { OnErr result (RoundInPart (vec_len units.old) (frame_of event.now) (stage (spots_of units.old.items (map D.state drives.old.items)) (K.written sink.old)) (stage (spots_of units.new.items (map D.state drives.new.items)) (K.written sink.new))) }
-    ensures ready { OnOk result (AllByRecursion IsReady (spots_of units.new.items (map D.state drives.new.items))) }
-    ensures tied { AllByRecursion IsTiedSpot (spots_of units.new.items (map D.state drives.new.items)) }
-    ensures none { OnOk result (replies.new ≡ []) }
-    ensures calls { steps.new + turn_calls * pending (spots_of units.new.items (map D.state drives.new.items)) ≤ steps.old + turn_calls * pending (spots_of units.old.items (map D.state drives.old.items)) + frame_calls (vec_len units.old) (frame_of event.now) }
-    ensures units { vec_len units.new ≡ vec_len units.old }
-    ensures drives { vec_len drives.new ≡ vec_len drives.old }
+    ensures done { OnOk result (RoundDone (vec_len units.old) (frame_of event.now)
+        (stage (target D.state units.old drives.old) (K.written sink.old))
+        (stage (target D.state units.new drives.new) (K.written sink.new))) }
+    ensures part { OnErr result (RoundInPart (vec_len units.old) (frame_of event.now)
+        (stage (target D.state units.old drives.old) (K.written sink.old))
+        (stage (target D.state units.new drives.new) (K.written sink.new))) }
+    ensures ready { OnOk result (CanServe (target D.state units.new drives.new) replies.new) }
+    ensures keeps { KeepsUnits (target D.state units.old drives.old) (target D.state units.new drives.new) }
+    ensures calls { calls_due (target D.state units.new drives.new) steps.new
+        ≤ calls_due (target D.state units.old drives.old) steps.old + frame_calls (vec_len units.old) (frame_of event.now) }
     ensures cause { HasCause (K.faults sink.old) (K.faults sink.new) result }
 {
     serve_all(units, drives, event, sink, replies, steps)

@@ -1,12 +1,10 @@
 // The loop over the frames of an input, for the units of a target.
-ghost use Rattle.std.specs.Prelude.{◌≡◌, ◌≤◌, ◌<◌, ◌+◌, ◌-◌, ◌^◌, [], None, IfErr, OnOk, map, vec_len};
-ghost use Rattle.std.specs.List.{AllByRecursion};
+ghost use Rattle.std.specs.Prelude.{◌≡◌, ◌≤◌, ◌<◌, ◌+◌, ◌-◌, ◌^◌, None, IfErr, OnOk, vec_len};
 ghost use Rattle.satl_pages.specs.Counts.{number_of};
 ghost use Rattle.satl_step.specs.Loop.{HasStopCause, is_end};
 ghost use Rattle.satl_fleet.specs.Loop.{Ended, StoppedSo, scene};
 ghost use Rattle.satl_fleet.specs.Rounds.{stage};
-ghost use Rattle.satl_fleet.specs.Runs.{IsIdle};
-ghost use Rattle.satl_fleet.specs.Units.{IsReady, IsTiedSpot, spots_of};
+ghost use Rattle.satl_fleet.specs.Serving.{CanBegin, KeepsUnits, target};
 
 use crate::frame::serve_frame;
 use satl_base::{Replies, Steps};
@@ -28,10 +26,10 @@ fn is_end(frame: &Frame) -> bool
     }
 }
 
-/// Carries out the frames of an input up to END on the units, and tells the answers of each before it reads the next. Frames are read into
-/// the pool, whose 4,096 pages hold each whole one. The reader has given no frame, and no unit has a task. `Refused`: the next frame is
-/// refused, which is told to nobody, or a read failed, where the source's count of faults rose. `Write` comes only where the sink's
-/// count rose (profile).
+/// Carries out the frames of an input up to END on the units, and tells the answers of each before it reads the next. Frames
+/// are read into the pool, whose 4,096 pages hold each whole one. The reader has given no frame, and no unit has a task.
+/// `Refused`: the next frame is refused, which is told to nobody, or a read failed, where the source's count of faults rose.
+/// `Write` comes only where the sink's count rose (profile).
 pub fn serve_frames<S: Source, K: Sink, D: Bench, L: Ledger>(
     alloc: Global,
     reader: &mut FrameReader,
@@ -42,20 +40,18 @@ pub fn serve_frames<S: Source, K: Sink, D: Bench, L: Ledger>(
     sink: &mut K,
     steps: &mut Steps<L>,
 ) -> Result<(), Stop>
-    requires same { vec_len drives.old ≡ vec_len units.old }
-    requires some { 1 ≤ vec_len units.old }
-    requires few { vec_len units.old ≤ 4 }
-    requires ready { AllByRecursion IsReady (spots_of units.old.items (map D.state drives.old.items)) }
-    requires idle { AllByRecursion IsIdle (spots_of units.old.items (map D.state drives.old.items)) }
+    requires opened { CanBegin (target D.state units.old drives.old) }
     requires pool { number_of pool.old ≡ 4096 }
     requires all_in { pool.old.out ≡ 0 }
     requires fresh { reader.old.refused ≡ None }
     requires unread { reader.old.place ≡ None }
-    ensures ended { OnOk result (Ended (vec_len units.old) (scene reader.old (S.left source.old) (stage (spots_of units.old.items (map D.state drives.old.items)) (K.written sink.old)) steps.old) (scene reader.new (S.left source.new) (stage (spots_of units.new.items (map D.state drives.new.items)) (K.written sink.new)) steps.new)) }
-    ensures stopped { IfErr result (StoppedSo (vec_len units.old) (scene reader.old (S.left source.old) (stage (spots_of units.old.items (map D.state drives.old.items)) (K.written sink.old)) steps.old) (scene reader.new (S.left source.new) (stage (spots_of units.new.items (map D.state drives.new.items)) (K.written sink.new)) steps.new)) }
-    ensures tied { AllByRecursion IsTiedSpot (spots_of units.new.items (map D.state drives.new.items)) }
-    ensures units { vec_len units.new ≡ vec_len units.old }
-    ensures drives { vec_len drives.new ≡ vec_len drives.old }
+    ensures ended { OnOk result (Ended (vec_len units.old)
+        (scene reader.old (S.left source.old) (stage (target D.state units.old drives.old) (K.written sink.old)) steps.old)
+        (scene reader.new (S.left source.new) (stage (target D.state units.new drives.new) (K.written sink.new)) steps.new)) }
+    ensures stopped { IfErr result (StoppedSo (vec_len units.old)
+        (scene reader.old (S.left source.old) (stage (target D.state units.old drives.old) (K.written sink.old)) steps.old)
+        (scene reader.new (S.left source.new) (stage (target D.state units.new drives.new) (K.written sink.new)) steps.new)) }
+    ensures keeps { KeepsUnits (target D.state units.old drives.old) (target D.state units.new drives.new) }
     ensures causes { IfErr result (HasStopCause (S.faults source.old) (S.faults source.new) (K.faults sink.old) (K.faults sink.new)) }
     ensures later { K.faults sink.old ≤ K.faults sink.new }
 {

@@ -1,4 +1,5 @@
-//! Up to four drives as the logical units of one target: each frame goes to its units, and their answers are told in one output.
+//! Up to four drives as the logical units of one target: each frame goes to its units, and their answers are told in one
+//! output.
 #![tactic(auto)]
 
 mod event;

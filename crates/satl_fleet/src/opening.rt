@@ -11,9 +11,9 @@ use satl_step::see_queue;
 use std::alloc::Global;
 use std::sync::ledger::Ledger;
 
-/// Opens a unit on each drive, in order. Each drive has nothing outstanding and is in no error state, and its IDENTIFY DEVICE data fit it.
-/// `Open`: the layer was not opened on one of them, for the cause told. `NoMemory`: there was not the memory. No other fault comes
-/// (SAT-3; profile).
+/// Opens a unit on each drive, in order. Each drive has nothing outstanding and is in no error state, and its IDENTIFY DEVICE
+/// data fit it. `Open`: the layer was not opened on one of them, for the cause told. `NoMemory`: there was not the memory. No
+/// other fault comes (SAT-3; profile).
 pub fn open_units<D: Bench, L: Ledger>(
     alloc: Global,
     drives: &mut Vec<D>,

@@ -142,8 +142,8 @@ fn target_reply(units: u8, request: &Request, pool: &mut Pool) -> Reply
     luns_told(units, request, pages)
 }
 
-/// Answers REPORT LUNS, under unit 0. The pages that are out are those of the request; they come back to the pool. `WriteFault` comes
-/// only where the sink's count of faults rose (SPC-4 6.33; profile).
+/// Answers REPORT LUNS, under unit 0. The pages that are out are those of the request; they come back to the pool. `WriteFault`
+/// comes only where the sink's count of faults rose (SPC-4 6.33; profile).
 pub fn report<K: Sink>(
     units: u8,
     mut request: Request,
@@ -155,7 +155,8 @@ pub fn report<K: Sink>(
     requires some { 1 ≤ number_of pool.old }
     requires expected { IsExpectable request.expected }
     ensures all { OnOk result (Wrote (K.written sink.old) (K.written sink.new) (named 0 (replied (target_reply units request) ∷ []))) }
-    ensures part { OnErr result (WrotePart (K.written sink.old) (K.written sink.new) (named 0 (replied (target_reply units request) ∷ []))) }
+    ensures part { OnErr result (WrotePart (K.written sink.old) (K.written sink.new)
+        (named 0 (replied (target_reply units request) ∷ []))) }
     ensures all_in { OnOk result (pool.new.out ≡ 0) }
     ensures number { number_of pool.new ≡ number_of pool.old }
     ensures cause { HasCause (K.faults sink.old) (K.faults sink.new) result }

@@ -9,9 +9,8 @@ ghost use Rattle.satl_fleet.specs.Headline.{IsFleetStopped, IsFleetWhole};
 ghost use Rattle.satl_fleet.specs.Moments.{fleet_moment};
 ghost use Rattle.satl_fleet.specs.Opening.{IsServable};
 ghost use Rattle.satl_fleet.specs.Rounds.{stage};
-ghost use Rattle.satl_fleet.specs.Runs.{IsIdle};
+ghost use Rattle.satl_fleet.specs.Serving.{CanBegin, KeepsUnits, target};
 ghost use Rattle.satl_fleet.specs.Stopping.{HasFleetCause, HasStreamCause, RanTo, RanWhole, Tells, TellsStop, place};
-ghost use Rattle.satl_fleet.specs.Units.{IsReady, IsTiedSpot, spots_of};
 
 use crate::fault::FleetFault;
 use crate::frames_loop::serve_frames;
@@ -32,16 +31,16 @@ const LIMIT: u64 = 1 << 40;
 // The pages of the longest data-out of a request.
 const POOL_PAGES: u32 = 4096;
 
-/// Serves an input of frames of version 1 on one to four drives, the logical units 0 to 3 of one target: opens the layer on each, and
-/// carries out one frame after the other up to END, which ends it. A command or a function for LUN n goes to unit n, which sees it at
-/// LUN 0, and that for another LUN to unit 0; the target answers REPORT LUNS; I_T NEXUS RESET, turns, events of the bench and END go to
-/// every unit in ascending order. Answers are written as frames, each before the next frame is read, and a frame names their unit before
-/// those of one frame. To each LUN the answers are those of its own direct device alone. Each drive has nothing outstanding and is in no
-/// error state, and its IDENTIFY DEVICE data fit it.
-/// `Open` and `NoMemory`: the layer was not opened on each drive, for the cause told of one of them or for want of memory, and nothing was
-/// read or written. `BadInput` comes after its FAULT frame was written, with the reason and the offset of the refused frame in bytes.
-/// `Read` and `Write` come only where the source's or the sink's count of faults rose. The drives are called once each for their
-/// identity, and then as often at most as the frames allow (SAM-5 4.7.2; profile).
+/// Serves an input of frames of version 1 on one to four drives, the logical units 0 to 3 of one target: opens the layer on
+/// each, and carries out one frame after the other up to END, which ends it. A command or a function for LUN n goes to unit n,
+/// which sees it at LUN 0, and that for another LUN to unit 0; the target answers REPORT LUNS; I_T NEXUS RESET, turns, events
+/// of the bench and END go to every unit in ascending order. Answers are written as frames, each before the next frame is read,
+/// and a frame names their unit before those of one frame. To each LUN the answers are those of its own direct device alone.
+/// Each drive has nothing outstanding and is in no error state, and its IDENTIFY DEVICE data fit it.
+/// `Open` and `NoMemory`: the layer was not opened on each drive, for the cause told of one of them or for want of memory, and
+/// nothing was read or written. `BadInput` comes after its FAULT frame was written, with the reason and the offset of the
+/// refused frame in bytes. `Read` and `Write` come only where the source's or the sink's count of faults rose. The drives are
+/// called once each for their identity, and then as often at most as the frames allow (SAM-5 4.7.2; profile).
 pub fn serve_fleet<S: Source, K: Sink, D: Bench, L: Ledger>(
     alloc: Global,
     source: &mut S,
@@ -52,9 +51,15 @@ pub fn serve_fleet<S: Source, K: Sink, D: Bench, L: Ledger>(
     requires some { 1 ≤ vec_len drives.old }
     requires few { vec_len drives.old ≤ 4 }
     requires servable { AllByRecursion IsServable (map D.state drives.old.items) }
-    ensures served { OnOk result (IsFleetWhole input_limit (fleet_moment (reads (S.left source.old) (S.faults source.old)) (writes (K.written sink.old) (K.faults sink.old)) steps.old (map D.state drives.old.items)) (fleet_moment (reads (S.left source.new) (S.faults source.new)) (writes (K.written sink.new) (K.faults sink.new)) steps.new (map D.state drives.new.items))) }
-    ensures stopped { IfErr result (IsFleetStopped input_limit (fleet_moment (reads (S.left source.old) (S.faults source.old)) (writes (K.written sink.old) (K.faults sink.old)) steps.old (map D.state drives.old.items)) (fleet_moment (reads (S.left source.new) (S.faults source.new)) (writes (K.written sink.new) (K.faults sink.new)) steps.new (map D.state drives.new.items))) }
-    ensures causes { IfErr result (HasFleetCause (fleet_moment (reads (S.left source.old) (S.faults source.old)) (writes (K.written sink.old) (K.faults sink.old)) steps.old (map D.state drives.old.items)) (fleet_moment (reads (S.left source.new) (S.faults source.new)) (writes (K.written sink.new) (K.faults sink.new)) steps.new (map D.state drives.new.items))) }
+    ensures served { OnOk result (IsFleetWhole input_limit
+        (fleet_moment (reads (S.left source.old) (S.faults source.old)) (writes (K.written sink.old) (K.faults sink.old)) steps.old (map D.state drives.old.items))
+        (fleet_moment (reads (S.left source.new) (S.faults source.new)) (writes (K.written sink.new) (K.faults sink.new)) steps.new (map D.state drives.new.items))) }
+    ensures stopped { IfErr result (IsFleetStopped input_limit
+        (fleet_moment (reads (S.left source.old) (S.faults source.old)) (writes (K.written sink.old) (K.faults sink.old)) steps.old (map D.state drives.old.items))
+        (fleet_moment (reads (S.left source.new) (S.faults source.new)) (writes (K.written sink.new) (K.faults sink.new)) steps.new (map D.state drives.new.items))) }
+    ensures causes { IfErr result (HasFleetCause
+        (fleet_moment (reads (S.left source.old) (S.faults source.old)) (writes (K.written sink.old) (K.faults sink.old)) steps.old (map D.state drives.old.items))
+        (fleet_moment (reads (S.left source.new) (S.faults source.new)) (writes (K.written sink.new) (K.faults sink.new)) steps.new (map D.state drives.new.items))) }
     ensures drives { vec_len drives.new ≡ vec_len drives.old }
 {
     let mut pool = Pool::new(alloc, POOL_PAGES)?;
@@ -72,19 +77,19 @@ fn serve_opened<S: Source, K: Sink, D: Bench, L: Ledger>(
     sink: &mut K,
     steps: &mut Steps<L>,
 ) -> Result<(), FleetFault>
-    requires same { vec_len drives.old ≡ vec_len units.old }
-    requires some { 1 ≤ vec_len units.old }
-    requires few { vec_len units.old ≤ 4 }
-    requires ready { AllByRecursion IsReady (spots_of units.old.items (map D.state drives.old.items)) }
-    requires idle { AllByRecursion IsIdle (spots_of units.old.items (map D.state drives.old.items)) }
+    requires opened { CanBegin (target D.state units.old drives.old) }
     requires pool { number_of pool.old ≡ 4096 }
     requires all_in { pool.old.out ≡ 0 }
-    ensures whole { OnOk result (RanWhole input_limit (vec_len units.old) (place (S.left source.old) (stage (spots_of units.old.items (map D.state drives.old.items)) (K.written sink.old)) steps.old) (place (S.left source.new) (stage (spots_of units.new.items (map D.state drives.new.items)) (K.written sink.new)) steps.new)) }
-    ensures stopped { IfErr result (RanTo input_limit (vec_len units.old) (place (S.left source.old) (stage (spots_of units.old.items (map D.state drives.old.items)) (K.written sink.old)) steps.old) (place (S.left source.new) (stage (spots_of units.new.items (map D.state drives.new.items)) (K.written sink.new)) steps.new)) }
-    ensures tied { AllByRecursion IsTiedSpot (spots_of units.new.items (map D.state drives.new.items)) }
-    ensures units { vec_len units.new ≡ vec_len units.old }
-    ensures drives { vec_len drives.new ≡ vec_len drives.old }
-    ensures causes { IfErr result (HasStreamCause (reads (S.left source.old) (S.faults source.old)) (reads (S.left source.new) (S.faults source.new)) (writes (K.written sink.old) (K.faults sink.old)) (writes (K.written sink.new) (K.faults sink.new))) }
+    ensures whole { OnOk result (RanWhole input_limit (vec_len units.old)
+        (place (S.left source.old) (stage (target D.state units.old drives.old) (K.written sink.old)) steps.old)
+        (place (S.left source.new) (stage (target D.state units.new drives.new) (K.written sink.new)) steps.new)) }
+    ensures stopped { IfErr result (RanTo input_limit (vec_len units.old)
+        (place (S.left source.old) (stage (target D.state units.old drives.old) (K.written sink.old)) steps.old)
+        (place (S.left source.new) (stage (target D.state units.new drives.new) (K.written sink.new)) steps.new)) }
+    ensures keeps { KeepsUnits (target D.state units.old drives.old) (target D.state units.new drives.new) }
+    ensures causes { IfErr result (HasStreamCause
+        (reads (S.left source.old) (S.faults source.old)) (reads (S.left source.new) (S.faults source.new))
+        (writes (K.written sink.old) (K.faults sink.old)) (writes (K.written sink.new) (K.faults sink.new))) }
 {
     write_frame(OutFrame::Magic, sink)?;
     let mut reader = FrameReader::first_only(alloc, LIMIT);

@@ -38,8 +38,10 @@ impl UnitTeller {
 
     /// Names the unit, unless that was done.
     fn name<K: Sink>(&mut self, sink: &mut K) -> Result<(), WriteFault>
-        ensures all { OnOk result (Wrote (K.written sink.old) (K.written sink.new) (if self.old.named then [] else unit_bytes self.old.unit)) }
-        ensures part { OnErr result (WrotePart (K.written sink.old) (K.written sink.new) (if self.old.named then [] else unit_bytes self.old.unit)) }
+        ensures all { OnOk result (Wrote (K.written sink.old) (K.written sink.new)
+            (if self.old.named then [] else unit_bytes self.old.unit)) }
+        ensures part { OnErr result (WrotePart (K.written sink.old) (K.written sink.new)
+            (if self.old.named then [] else unit_bytes self.old.unit)) }
         ensures named { OnOk result (self.new ≡ record self.old { named = true }) }
         ensures cause { HasCause (K.faults sink.old) (K.faults sink.new) result }
     {

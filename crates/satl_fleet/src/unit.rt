@@ -20,8 +20,9 @@ use satl_pages::Pool;
 use satl_step::{see_queue, serve_event};
 use std::sync::ledger::Ledger;
 
-/// Lends pages of a unit to a request that was read into the fleet's pool: as many as it has, or all that the unit has free. They go to
-/// the pool, which gives as many of the request's own for them; the request's other pages go back to the pool (profile).
+/// Lends pages of a unit to a request that was read into the fleet's pool: as many as it has, or all that the unit has free.
+/// They go to the pool, which gives as many of the request's own for them; the request's other pages go back to the pool
+/// (profile).
 pub fn lend(satl: &mut Satl, pool: &mut Pool, mut request: Request) -> Request
     requires all_in { satl.old.out ≡ 0 }
     requires pages { pool.old.out ≡ length request.body }
@@ -43,8 +44,8 @@ pub fn lend(satl: &mut Satl, pool: &mut Pool, mut request: Request) -> Request
     request
 }
 
-/// Carries out one event on the unit of this number, and tells its answers under its name. `WriteFault` comes only where the sink's
-/// count of faults rose (profile).
+/// Carries out one event on the unit of this number, and tells its answers under its name. `WriteFault` comes only where the
+/// sink's count of faults rose (profile).
 pub fn serve_unit<K: Sink, D: Bench, L: Ledger>(
     satl: &mut Satl,
     unit: u8,
@@ -60,9 +61,12 @@ pub fn serve_unit<K: Sink, D: Bench, L: Ledger>(
     ensures tied { IsTiedSpot (spot satl.new (D.state drive.new)) }
     ensures all_in { OnOk result (satl.new.out ≡ 0) }
     ensures none { OnOk result (replies.new ≡ []) }
-    ensures done { (whole : Frame) → IsWholeOf event whole → OnOk result (UnitDid unit whole (spot satl.old (D.state drive.old)) (spot satl.new (D.state drive.new)) (K.written sink.old) (K.written sink.new)) }
-    ensures part { (whole : Frame) → IsWholeOf event whole → OnErr result (UnitDidInPart unit whole (spot satl.old (D.state drive.old)) (spot satl.new (D.state drive.new)) (K.written sink.old) (K.written sink.new)) }
-    ensures calls { steps.new + turn_calls * length satl.new.tasks ≤ steps.old + turn_calls * length satl.old.tasks + calls_allowed (event ∷ []) }
+    ensures done { (whole : Frame) → IsWholeOf event whole → OnOk result (UnitDid unit whole
+        (spot satl.old (D.state drive.old)) (spot satl.new (D.state drive.new)) (K.written sink.old) (K.written sink.new)) }
+    ensures part { (whole : Frame) → IsWholeOf event whole → OnErr result (UnitDidInPart unit whole
+        (spot satl.old (D.state drive.old)) (spot satl.new (D.state drive.new)) (K.written sink.old) (K.written sink.new)) }
+    ensures calls { steps.new + turn_calls * length satl.new.tasks
+        ≤ steps.old + turn_calls * length satl.old.tasks + calls_allowed (event ∷ []) }
     ensures cause { HasCause (K.faults sink.old) (K.faults sink.new) result }
 {
     let mut teller = UnitTeller { unit, named: false };

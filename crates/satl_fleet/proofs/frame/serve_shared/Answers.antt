@@ -1,15 +1,15 @@
-use Rattle.std.proofs.Common.{map, vec_len}
+use Rattle.std.proofs.Common.{vec_len}
 use Rattle.satl_step.proofs.OutcomeLemmas.{on_ok, on_err}
 use Rattle.satl_fleet.specs.Rounds.{stage}
 use Rattle.satl_fleet.specs.Shared.{frame_of}
-use Rattle.satl_fleet.specs.Units.{spots_of}
+use Rattle.satl_fleet.specs.Serving.{target}
 use Rattle.satl_fleet.proofs.FrameLemmas.{all_round, all_round_part, turn_goes_on, turn_quiet, turn_seen}
 use Rattle.satl_fleet.proofs.frame.serve_shared.Goals as goal
 
 pub returns-clause-done : goal.returns-clause-done
 returns-clause-done g c =
-    on_ok c.serve_all.result _ _ (λ all. all_round (vec_len c.args.units.now) (frame_of c.args.event.now) (turn_quiet (vec_len c.args.units.now) (frame_of c.args.event.now) c.requires.plain) (turn_goes_on (frame_of c.args.event.now) c.requires.plain) (frame_of c.args.event.now) (stage (spots_of c.args.units.now.items (map g.D.Drive.state c.args.drives.now.items)) (g.K.Sink.written c.args.sink.now)) (stage (spots_of c.serve_all.new.units.items (map g.D.Drive.state c.serve_all.new.drives.items)) (g.K.Sink.written c.serve_all.new.sink)) (turn_seen (vec_len c.args.units.now) (frame_of c.args.event.now) c.requires.plain) all) c.serve_all.ensures.done
+    on_ok c.serve_all.result _ _ (λ all. all_round (vec_len c.args.units.now) (frame_of c.args.event.now) (turn_quiet (vec_len c.args.units.now) (frame_of c.args.event.now) c.requires.plain) (turn_goes_on (frame_of c.args.event.now) c.requires.plain) (frame_of c.args.event.now) (stage (target g.D.Drive.state c.args.units.now c.args.drives.now) (g.K.Sink.written c.args.sink.now)) (stage (target g.D.Drive.state c.serve_all.new.units c.serve_all.new.drives) (g.K.Sink.written c.serve_all.new.sink)) (turn_seen (vec_len c.args.units.now) (frame_of c.args.event.now) c.requires.plain) all) c.serve_all.ensures.done
 
 pub returns-clause-part : goal.returns-clause-part
 returns-clause-part g c =
-    on_err c.serve_all.result _ _ (λ all. all_round_part (vec_len c.args.units.now) (frame_of c.args.event.now) (turn_quiet (vec_len c.args.units.now) (frame_of c.args.event.now) c.requires.plain) (turn_goes_on (frame_of c.args.event.now) c.requires.plain) (frame_of c.args.event.now) (stage (spots_of c.args.units.now.items (map g.D.Drive.state c.args.drives.now.items)) (g.K.Sink.written c.args.sink.now)) (stage (spots_of c.serve_all.new.units.items (map g.D.Drive.state c.serve_all.new.drives.items)) (g.K.Sink.written c.serve_all.new.sink)) (turn_seen (vec_len c.args.units.now) (frame_of c.args.event.now) c.requires.plain) all) c.serve_all.ensures.part
+    on_err c.serve_all.result _ _ (λ all. all_round_part (vec_len c.args.units.now) (frame_of c.args.event.now) (turn_quiet (vec_len c.args.units.now) (frame_of c.args.event.now) c.requires.plain) (turn_goes_on (frame_of c.args.event.now) c.requires.plain) (frame_of c.args.event.now) (stage (target g.D.Drive.state c.args.units.now c.args.drives.now) (g.K.Sink.written c.args.sink.now)) (stage (target g.D.Drive.state c.serve_all.new.units c.serve_all.new.drives) (g.K.Sink.written c.serve_all.new.sink)) (turn_seen (vec_len c.args.units.now) (frame_of c.args.event.now) c.requires.plain) all) c.serve_all.ensures.part

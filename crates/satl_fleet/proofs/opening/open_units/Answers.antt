@@ -1,4 +1,4 @@
-use Rattle.std.proofs.Common.{arith, map, refl, sym, subst, ◌+◌}
+use Rattle.std.proofs.Common.{arith, map, refl, sym, subst}
 use Rattle.std.specs.Prelude.{slice_set}
 use Rattle.satl_fleet.specs.Opening.{OpensTo}
 use Rattle.satl_fleet.specs.Opening.OpensTo.{rest}

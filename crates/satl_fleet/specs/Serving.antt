@@ -1,0 +1,52 @@
+-- A target at a moment: what it has to be for a frame to be served, and what stays of it (profile).
+use Rattle.std.specs.Prelude.{◌≡◌, ℕ, ◌+◌, ◌*◌, ◌≤◌, List, [], Vec, map, vec_len}
+use Rattle.std.specs.List.{AllByRecursion}
+use Rattle.satl_base.specs.declared.reply.Reply.{Reply}
+use Rattle.satl_drive.specs.State.{DriveState}
+use Rattle.satl_core.specs.Layer.{Layer}
+use Rattle.satl_core.specs.Turning.{turn_calls}
+use Rattle.satl_fleet.specs.Runs.{IsIdle}
+use Rattle.satl_fleet.specs.Units.{IsReady, IsTiedSpot, Spot, pending, spots_of}
+
+-- a target: its units in order, each a layer with its drive, and how many layers and how many drives there are (profile)
+pub record Target : Type 0 where
+  pub units : List Spot
+  pub layers : ℕ
+  pub drives : ℕ
+
+-- the target of these layers and drives, of which the function gives the states (profile)
+abbrev pub target : {D X Z : Type 0} → (D → DriveState) → Vec Layer X → Vec D Z → Target
+target state layers drives = record {
+  units = spots_of layers.items (map state drives.items);
+  layers = vec_len layers;
+  drives = vec_len drives;
+}
+
+-- there are one to four units, each ready: tied to its drive, and with no page out (profile)
+pub record HasUnits (t : Target) : Type 0 where
+  -- each layer has its drive
+  pub same : t.drives ≡ t.layers
+  pub some : 1 ≤ t.layers
+  pub few : t.layers ≤ 4
+  pub ready : AllByRecursion IsReady t.units
+
+-- the first frame can be served: there are units, and none has a task (profile)
+pub record CanBegin (t : Target) : Type 0 where
+  pub has : HasUnits t
+  pub idle : AllByRecursion IsIdle t.units
+
+-- the next frame can be served: there are units, and no reply waits to be told (profile)
+pub record CanServe (t : Target) (replies : List Reply) : Type 0 where
+  pub has : HasUnits t
+  pub none : replies ≡ []
+
+-- what stays, also where a write failed: each unit is tied to its drive, and there are as many layers and drives as before
+-- (profile)
+pub record KeepsUnits (before after : Target) : Type 0 where
+  pub tied : AllByRecursion IsTiedSpot after.units
+  pub layers : after.layers ≡ before.layers
+  pub drives : after.drives ≡ before.drives
+
+-- how often the drives were called, with the calls of a turn for each task that waits (profile)
+abbrev pub calls_due : Target → ℕ → ℕ
+calls_due t calls = calls + turn_calls * pending t.units
