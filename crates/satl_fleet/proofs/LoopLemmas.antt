@@ -24,6 +24,7 @@ use Rattle.satl_fleet.specs.Loop.{Ended, Going, HasGiven, Scene, SoFar, StoppedI
 use Rattle.satl_fleet.specs.Output.{Round, all_told, frames_of, round_told}
 use Rattle.satl_fleet.specs.Rounds.{CanRoute, RoundDone, RoundInPart, Serves, Stops, calls_for, frame_calls, round_of}
 use Rattle.satl_fleet.specs.Runs.{HaveRun, HaveRunInPart, IsIdle}
+use Rattle.satl_fleet.specs.Serving.{calls_due}
 use Rattle.satl_fleet.specs.Units.{Spot, pending}
 use Rattle.satl_fleet.proofs.RunLemmas.{run_none, run_round, run_round_part}
 
@@ -100,7 +101,7 @@ module _ (units : ℕ) where
     none_ends = tt;
   }
 
-  module _ (a b c : Scene) (room : ℕ) (frame : Frame) (going : Going units a b) (gave : Gave b.reader room frame c.reader b.left c.left) (whole : gave.whole ≡ frame) (calls : c.calls + turn_calls * pending c.stage.target.units ≤ b.calls + turn_calls * pending b.stage.target.units + frame_calls units frame) where
+  module _ (a b c : Scene) (room : ℕ) (frame : Frame) (going : Going units a b) (gave : Gave b.reader room frame c.reader b.left c.left) (whole : gave.whole ≡ frame) (calls : calls_due c.stage.target c.calls ≤ calls_due b.stage.target b.calls + frame_calls units frame) where
     given_more : HasGiven units a c (frames_of going.rounds ++ frame ∷ [])
     given_more = record {
       limit = ap (λ (r : Reading). r.limit) gave.new_is ∙ going.so_far.given.limit;

@@ -1,5 +1,5 @@
 -- The frames of an input, carried out on the units of a target (profile).
-use Rattle.std.specs.Prelude.{◌≡◌, ◌⊎◌, ℕ, ◌+◌, ◌*◌, ◌≤◌, List, [], ◌∷◌, ◌++◌, Option}
+use Rattle.std.specs.Prelude.{◌≡◌, ◌⊎◌, ℕ, ◌+◌, ◌≤◌, List, [], ◌∷◌, ◌++◌, Option}
 use Rattle.satl_io.specs.Known.{Wrote, WrotePart}
 use Rattle.satl_frame.specs.declared.frames.Frame.{Frame}
 use Rattle.satl_frame.specs.declared.frames.Frame.TheVariants as frames
@@ -7,13 +7,12 @@ use Rattle.satl_frame.specs.declared.frames.FrameFault.{FrameFault}
 use Rattle.satl_frame.specs.Inputs.{NoneEnds}
 use Rattle.satl_frame.specs.Progress.{HasRead}
 use Rattle.satl_frame.specs.Reading.{Blames, Reading}
-use Rattle.satl_core.specs.Turning.{turn_calls}
 use Rattle.satl_step.specs.declared.frames_loop.Stop.{Stop}
 use Rattle.satl_step.specs.declared.frames_loop.Stop.TheVariants as stops
 use Rattle.satl_fleet.specs.Output.{Round, all_told, frames_of, round_told}
 use Rattle.satl_fleet.specs.Rounds.{Stage, calls_for}
 use Rattle.satl_fleet.specs.Runs.{HaveRun, HaveRunInPart}
-use Rattle.satl_fleet.specs.Units.{pending}
+use Rattle.satl_fleet.specs.Serving.{calls_due}
 
 -- a reader, what is left to read, the units and what was written, and how often the drives were called (profile)
 pub record Scene : Type 0 where
@@ -31,7 +30,7 @@ pub record HasGiven (units : ℕ) (before after : Scene) (fs : List Frame) : Typ
   pub limit : after.reader.limit ≡ before.reader.limit
   pub newest : after.reader.newest ≡ before.reader.newest
   pub read : HasRead after.reader before.left after.left fs
-  pub calls : after.calls + turn_calls * pending after.stage.target.units ≤ before.calls + calls_for units fs
+  pub calls : calls_due after.stage.target after.calls ≤ before.calls + calls_for units fs
 
 -- rounds were served, and their answers told (profile)
 pub record SoFar (units : ℕ) (before after : Scene) (rounds : List Round) : Type 0 where

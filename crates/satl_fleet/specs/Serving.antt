@@ -8,13 +8,14 @@ use Rattle.satl_core.specs.Turning.{turn_calls}
 use Rattle.satl_fleet.specs.Runs.{IsIdle}
 use Rattle.satl_fleet.specs.Units.{IsReady, IsTiedSpot, Spot, pending, spots_of}
 
--- a target: its units in order, each a layer with its drive, and how many layers and how many drives there are (profile)
+-- a target, of which it is told what its units are, and how many layers and drives make them up (profile)
 pub record Target : Type 0 where
+  -- the units in order, each a layer with its drive
   pub units : List Spot
   pub layers : ℕ
   pub drives : ℕ
 
--- the target of these layers and drives, of which the function gives the states (profile)
+-- the target of these layers and drives, where each drive has the state that the function gives (profile)
 abbrev pub target : {D X Z : Type 0} → (D → DriveState) → Vec Layer X → Vec D Z → Target
 target state layers drives = record {
   units = spots_of layers.items (map state drives.items);
@@ -22,28 +23,33 @@ target state layers drives = record {
   drives = vec_len drives;
 }
 
--- there are one to four units, each ready: tied to its drive, and with no page out (profile)
+-- a target has units that can do an event (profile)
 pub record HasUnits (t : Target) : Type 0 where
   -- each layer has its drive
   pub same : t.drives ≡ t.layers
+  -- there are one to four
   pub some : 1 ≤ t.layers
   pub few : t.layers ≤ 4
+  -- each unit is tied to its drive, and has no page out
   pub ready : AllByRecursion IsReady t.units
 
--- the first frame can be served: there are units, and none has a task (profile)
+-- the first frame can be served (profile)
 pub record CanBegin (t : Target) : Type 0 where
   pub has : HasUnits t
+  -- no unit has a task
   pub idle : AllByRecursion IsIdle t.units
 
--- the next frame can be served: there are units, and no reply waits to be told (profile)
+-- the next frame can be served (profile)
 pub record CanServe (t : Target) (replies : List Reply) : Type 0 where
   pub has : HasUnits t
+  -- no reply waits to be told
   pub none : replies ≡ []
 
--- what stays, also where a write failed: each unit is tied to its drive, and there are as many layers and drives as before
--- (profile)
+-- what stays, also where a write failed (profile)
 pub record KeepsUnits (before after : Target) : Type 0 where
+  -- each unit is tied to its drive
   pub tied : AllByRecursion IsTiedSpot after.units
+  -- there are as many layers and drives as before
   pub layers : after.layers ≡ before.layers
   pub drives : after.drives ≡ before.drives
 
