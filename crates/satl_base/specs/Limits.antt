@@ -9,12 +9,13 @@ most_tasks = 64
 abbrev pub most_held : ℕ
 most_held = 32768
 
--- the most blocks that one command moves: READ, WRITE, VERIFY with comparison and ATA PASS-THROUGH (SBC-3, MAXIMUM TRANSFER LENGTH; the figure: profile)
+-- the most blocks that one command moves: READ, WRITE, VERIFY with comparison and ATA PASS-THROUGH (SBC-3, MAXIMUM TRANSFER
+-- LENGTH; the figure: profile)
 abbrev pub most_moved : ℕ
 most_moved = 4096
 
--- the most blocks that one command goes over without moving each: VERIFY without comparison, WRITE SAME, and an UNMAP in all its ranges
--- (SBC-3, MAXIMUM WRITE SAME LENGTH and MAXIMUM UNMAP LBA COUNT; the figure: profile)
+-- the most blocks that one command goes over without moving each: VERIFY without comparison, WRITE SAME, and an UNMAP in all
+-- its ranges (SBC-3, MAXIMUM WRITE SAME LENGTH and MAXIMUM UNMAP LBA COUNT; the figure: profile)
 abbrev pub most_covered : ℕ
 most_covered = 65536
 

@@ -27,9 +27,10 @@ use Rattle.satl_direct.specs.Device.{Device}
 use Rattle.satl_direct.specs.Tasks.{over, pass_of, task_of}
 use Rattle.satl_direct.specs.Valid.{IsValid}
 
--- the layer: what its drive says of itself, the mode values, whether the unit is started, its mark of a lost link, the unit attention
--- conditions of each nexus from nexus 0 on; its tasks with their pages, those that are outstanding on the drive in order of issue, and
--- the slots of the tags; and how many pages are free and out (a task's pages are neither) (SAM-5 5.14; the rest: profile)
+-- the layer: what its drive says of itself, the mode values, whether the unit is started, its mark of a lost link, the unit
+-- attention conditions of each nexus from nexus 0 on; its tasks with their pages, those that are outstanding on the drive in
+-- order of issue, and the slots of the tags; and how many pages are free and out (a task's pages are neither) (SAM-5 5.14; the
+-- rest: profile)
 pub record Layer : Type 0 where
   pub identity : Identity
   pub modes : Modes
@@ -49,7 +50,8 @@ held_pages (h ∷ hs) = length h.entry.body + held_pages hs
 
 -- 1 to 4,096 blocks within the capacity and the 48 bits of an address, and pages for each (profile)
 abbrev pub IsWithin : ℕ → ℕ → ℕ → ℕ → Type 0
-IsWithin capacity lba count blocks = (blocks ≡ count) × (lba < 2 ^ 48) × (1 ≤ count) × (count ≤ most_moved) × (lba + count ≤ capacity)
+IsWithin capacity lba count blocks =
+    (blocks ≡ count) × (lba < 2 ^ 48) × (1 ≤ count) × (count ≤ most_moved) × (lba + count ≤ capacity)
 
 -- 1 to 65,536 blocks within the capacity and the 48 bits of an address (profile)
 pub record IsCovered (capacity lba count : ℕ) : Type 0 where
@@ -58,8 +60,8 @@ pub record IsCovered (capacity lba count : ℕ) : Type 0 where
   pub address : lba + count ≤ 2 ^ 48
   pub within : lba + count ≤ capacity
 
--- a command that makes a task, which holds so many blocks: READ, WRITE and VERIFY with comparison their blocks, WRITE SAME its one, ATA
--- PASS-THROUGH those of its data, and all others none (profile)
+-- a command that makes a task, which holds so many blocks: READ, WRITE and VERIFY with comparison their blocks, WRITE SAME its
+-- one, ATA PASS-THROUGH those of its data, and all others none (profile)
 abbrev pub IsTask : ℕ → Command → ℕ → Type 0
 IsTask capacity TestUnitReady blocks = ⊥
 IsTask capacity (RequestSense descriptor alloc) blocks = ⊥
@@ -100,8 +102,8 @@ CanTrim identity (WriteSame form lba count true) ranges = AreTrimmed identity (o
 CanTrim identity (Unmap size) ranges = AreTrimmed identity ranges
 CanTrim identity _ ranges = Unit {0}
 
--- a task holds as many pages as blocks, and one for entries where it needs it, is one that its command makes, is of the kind of its command,
--- trims what can be trimmed, and changes mode values alone that the drive can change (profile)
+-- a task holds as many pages as blocks, and one for entries where it needs it, is one that its command makes, is of the kind of
+-- its command, trims what can be trimmed, and changes mode values alone that the drive can change (profile)
 pub record IsKept (identity : Identity) (h : Held) : Type 0 where
   pub pages : length h.entry.body ≡ h.entry.blocks + entry_pages h.entry.command identity.queued_trim
   pub trims : CanTrim identity h.entry.command h.entry.ranges.items
@@ -124,10 +126,10 @@ view l d = record {
   identity = l.identity;
 }
 
--- the layer's record of its drive is right: together they are a valid device; what was given to the drive is outstanding there, and no
--- queued command has failed; the drive fits its data; as long as the link is up the cache is on where WCE is, and look-ahead where DRA is
--- not; the drive's data are those of the identity with the drive's settings in them; and the mark of a lost link is set where the link is
--- lost (profile)
+-- the layer's record of its drive is right: together they are a valid device; what was given to the drive is outstanding there,
+-- and no queued command has failed; the drive fits its data; as long as the link is up the cache is on where WCE is, and
+-- look-ahead where DRA is not; the drive's data are those of the identity with the drive's settings in them; and the mark of a
+-- lost link is set where the link is lost (profile)
 pub record Agrees (l : Layer) (d : DriveState) : Type 0 where
   pub mark : l.down ≡ d.down
   pub queue : IsInFlight l.flying l.tasks d
@@ -141,7 +143,8 @@ pub record Agrees (l : Layer) (d : DriveState) : Type 0 where
 abbrev pub works : Layer → Bool
 works l = not l.down && l.started
 
--- the queue is used: while the unit is up and started, 32 tasks are outstanding or each eligible ranged task is, and else none (profile)
+-- the queue is used: while the unit is up and started, 32 tasks are outstanding or each eligible ranged task is, and else none
+-- (profile)
 abbrev pub IsUsed : Layer → Type 0
 IsUsed l = MatchBool (works l) (IsFilled l.flying l.tasks) (l.flying ≡ [])
 
@@ -155,8 +158,8 @@ abbrev pub reply_pages : List Reply → ℕ
 reply_pages [] = 0
 reply_pages (r ∷ rs) = length r.body + reply_pages rs
 
--- the parts of the layer fit together: the pool's 32,960 pages are free, in tasks, or out; each task is kept; the identity is one
--- that a drive's data give (profile)
+-- the parts of the layer fit together: the pool's 32,960 pages are free, in tasks, or out; each task is kept; the identity is
+-- one that a drive's data give (profile)
 pub record IsSoundLayer (identity : Identity) (tasks : List Held) (pool : Counts) : Type 0 where
   pub held : held_pages tasks ≤ pool.out
   pub all : number_of pool ≡ 32960

@@ -17,7 +17,8 @@ abbrev pub data_text : Identity → Modes → Data → List ℕ
 data_text i m (datas.Inquiry None) = standard_data i true
 data_text i m (datas.Inquiry (Some page)) = unwrap_or (vpd_page page i) []
 data_text i m datas.NoUnit = standard_data i false
-data_text i m (datas.Modes ten long_lba no_descriptor control page) = mode_data i m (commands.ModeSense ten long_lba no_descriptor control page 0)
+data_text i m (datas.Modes ten long_lba no_descriptor control page) =
+    mode_data i m (commands.ModeSense ten long_lba no_descriptor control page 0)
 data_text i m datas.Capacity10 = capacity_10 i
 data_text i m datas.Capacity16 = capacity_16 i
 data_text i m (datas.Luns select) = lun_list select

@@ -29,7 +29,8 @@ use satl_sense::{Sense, sense_bytes};
 use satl_unit::{Attention, Attentions};
 use std::mem;
 
-/// Why a command is answered at once: GOOD, GOOD with data-in up to an allocation length, or CHECK CONDITION with its sense data.
+/// Why a command is answered at once: GOOD, GOOD with data-in up to an allocation length, or CHECK CONDITION with its sense
+/// data.
 #[derive(Clone, Copy, Debug, PartialEq, Eq)]
 pub enum AtOnce {
     Good,
@@ -146,8 +147,8 @@ fn judge_data(satl: &Satl, request: &Request, command: Command) -> Result<Comman
     }
 }
 
-/// The refusal of the data-out: that of a MODE SELECT list, of a block that is not zeros where a WRITE SAME unmaps, and of the list of an
-/// UNMAP (SPC-4, MODE SELECT commands; SBC-3 5.28, 5.42).
+/// The refusal of the data-out: that of a MODE SELECT list, of a block that is not zeros where a WRITE SAME unmaps, and of the
+/// list of an UNMAP (SPC-4, MODE SELECT commands; SBC-3 5.28, 5.42).
 fn data_fault(satl: &Satl, request: &Request, command: &Command) -> Option<Illegal>
     requires holds { HoldsList request.now }
     requires header { (asks command.now).length_fault ≡ None }
@@ -205,8 +206,8 @@ fn list_fault(satl: &Satl, request: &Request, length: u16, ten: bool) -> Option<
     }
 }
 
-/// Answers a command from what the device says of itself, or lets it become a task, unless it has nothing to do: then it answers as TEST
-/// UNIT READY does (profile).
+/// Answers a command from what the device says of itself, or lets it become a task, unless it has nothing to do: then it
+/// answers as TEST UNIT READY does (profile).
 fn answer_to(satl: &Satl, request: &Request, command: Command) -> Result<Command, AtOnce>
     requires list { HasListUnlessEmpty command request.now.body satl.now.identity.capacity }
     ensures { result ≡ answer_to satl.now request.now.body command }
@@ -303,8 +304,8 @@ pub fn task_without_pages(request: &Request, command: Command, identity: &Identi
     }
 }
 
-/// The pages of a task: a READ and an ATA PASS-THROUGH take pages for their data-in, an UNMAP whose trim is queued keeps its entries in one, and all others keep the
-/// first ones of their data-out, as many as they hold. The rest is given back.
+/// The pages of a task: a READ and an ATA PASS-THROUGH take pages for their data-in, an UNMAP whose trim is queued keeps its
+/// entries in one, and all others keep the first ones of their data-out, as many as they hold. The rest is given back.
 pub fn own_pages(pool: &mut Pool, command: &Command, identity: &Identity, body: Pages) -> Pages
     requires out { length body ≤ pool.old.out }
     requires room { held_blocks command.now ≤ pool.old.free + length body }

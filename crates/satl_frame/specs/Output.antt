@@ -46,7 +46,8 @@ reply_kind (Some expected) = 0x83
 -- nexus 1, status 1, tag 4, residual 4, sense length 1
 abbrev pub reply_fields : Reply → List ℕ
 reply_fields r =
-    (r.nexus ∷ scsi_code r.status ∷ big_bytes 4 (r.tag).0) ++ (residual_field r.expected r.data_len ++ length r.sense.items ∷ [])
+    (r.nexus ∷ scsi_code r.status ∷ big_bytes 4 (r.tag).0)
+    ++ (residual_field r.expected r.data_len ++ length r.sense.items ∷ [])
 
 -- the length of these fields with sense and data
 abbrev pub reply_len : Reply → ℕ

@@ -28,7 +28,8 @@ dpofua = 0x10
 -- the header before so many bytes: MODE DATA LENGTH does not count itself
 abbrev pub header : Bool → Descriptor → ℕ → List ℕ
 header false d rest = laid 4 (byte 0 (3 + rest) ∷ byte 2 dpofua ∷ byte 3 (descriptor_size d) ∷ [])
-header true d rest = laid 8 (number 0 1 (6 + rest) ∷ byte 3 dpofua ∷ byte 4 (long_lba_bit d) ∷ number 6 7 (descriptor_size d) ∷ [])
+header true d rest =
+    laid 8 (number 0 1 (6 + rest) ∷ byte 3 dpofua ∷ byte 4 (long_lba_bit d) ∷ number 6 7 (descriptor_size d) ∷ [])
 
 -- header, descriptor and pages
 abbrev pub with_header : Bool → Descriptor → List ℕ → List ℕ
@@ -38,7 +39,8 @@ with_header ten d rest = header ten d (length rest) ++ rest
 unfoldable pub mode_data : Identity → Modes → Command → List ℕ
 mode_data i m (commands.ModeSense ten long_lba no_descriptor control page alloc) =
     with_header ten (descriptor_shown ten long_lba no_descriptor)
-    (descriptor_bytes (descriptor_shown ten long_lba no_descriptor) i.capacity ++ pages_bytes (pages_asked page) (shown_by control i m))
+    (descriptor_bytes (descriptor_shown ten long_lba no_descriptor) i.capacity
+    ++ pages_bytes (pages_asked page) (shown_by control i m))
 mode_data i m command = []
 
 abbrev pub is_mode_sense : Command → Bool

@@ -21,9 +21,11 @@ shown i m ten long_lba no_descriptor = mode_data i m (sense_all ten long_lba no_
 abbrev pub beginning : List ℕ → List ℕ → List Block → List Block
 beginning bytes more rest = record { bytes = bytes ++ more } ∷ rest
 
--- what MODE SENSE showed of some modes is a list for MODE SELECT of the same form that gives these modes, whatever the drive's modes
--- are by then (SPC-4, MODE SELECT commands)
+-- what MODE SENSE showed of some modes is a list for MODE SELECT of the same form that gives these modes, whatever the drive's
+-- modes are by then (SPC-4, MODE SELECT commands)
 abbrev pub GivesWhatWasShown : Type 0
 GivesWhatWasShown =
-    (i : Identity) (m now : Modes) (ten long_lba no_descriptor : Bool) (more : List ℕ) (rest : List Block) → i.capacity < 2 ^ 64 → AreModesOf i m → AreModesOf i now →
-    select_says i now (beginning (shown i m ten long_lba no_descriptor) more rest) (length (shown i m ten long_lba no_descriptor)) ten ≡ Ok m
+    (i : Identity) (m now : Modes) (ten long_lba no_descriptor : Bool) (more : List ℕ) (rest : List Block) → i.capacity < 2 ^ 64
+    → AreModesOf i m → AreModesOf i now →
+    select_says i now (beginning (shown i m ten long_lba no_descriptor) more rest)
+    (length (shown i m ten long_lba no_descriptor)) ten ≡ Ok m

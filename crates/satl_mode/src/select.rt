@@ -202,8 +202,8 @@ fn judge(
 /// The modes with the changes of a MODE SELECT parameter list of `list_length` bytes, for the drive with this identity and with
 /// these modes (SPC-4, MODE SELECT commands and 7.5; SBC-3). An empty list changes nothing.
 ///
-/// `Err` is the first fault, from the left (profile). PARAMETER LIST LENGTH ERROR: the header, the block descriptor or a page is
-/// not whole. INVALID FIELD IN PARAMETER LIST, with a pointer to its byte: a descriptor length other than 0, 8, or 16 with
+/// `Err` is the first fault, from the left (profile). PARAMETER LIST LENGTH ERROR: the header, the block descriptor or a page
+/// is not whole. INVALID FIELD IN PARAMETER LIST, with a pointer to its byte: a descriptor length other than 0, 8, or 16 with
 /// LONGLBA; a number of blocks or a block length that is neither 0 nor what MODE SENSE shows; a page that there is not; a page
 /// length other than the page's; a byte that differs from the current page in a bit that can't change.
 pub fn read_select(
