@@ -6,7 +6,7 @@ use Rattle.satl_base.specs.declared.modes.Modes.{Modes}
 use Rattle.satl_base.specs.declared.reply.Reply.{Reply}
 use Rattle.satl_base.specs.Limits.{longest_data, most_covered, most_moved}
 use Rattle.satl_cdb.specs.declared.command.Command.{Command}
-use Rattle.satl_cdb.specs.declared.command.Command.TheVariants.{Flush, Inquiry, ModeSelect, ModeSense, Pass, Read, ReadCapacity10, ReadCapacity16, ReportLuns, RequestSense, StartStop, TestUnitReady, Unmap, Verify, Write, WriteSame}
+use Rattle.satl_cdb.specs.declared.command.Command.TheVariants.{Flush, ModeSelect, Pass, Read, StartStop, Unmap, Verify, Write, WriteSame}
 use Rattle.satl_identify.specs.declared.identity.Identity.{Identity}
 use Rattle.satl_identify.specs.Refusals.{IsIdentity}
 use Rattle.satl_mode.specs.Changes.{IsChangeOf}
@@ -63,15 +63,8 @@ pub record IsCovered (capacity lba count : ℕ) : Type 0 where
 -- a command that makes a task, which holds so many blocks: READ, WRITE and VERIFY with comparison their blocks, WRITE SAME its
 -- one, ATA PASS-THROUGH those of its data, and all others none (profile)
 abbrev pub IsTask : ℕ → Command → ℕ → Type 0
-IsTask capacity TestUnitReady blocks = ⊥
-IsTask capacity (RequestSense descriptor alloc) blocks = ⊥
-IsTask capacity (Inquiry page alloc) blocks = ⊥
-IsTask capacity (ModeSense ten long_lba no_descriptor control page alloc) blocks = ⊥
 IsTask capacity (ModeSelect ten size) blocks = (blocks ≡ 0) × (size < 65536)
 IsTask capacity (StartStop start no_flush) blocks = blocks ≡ 0
-IsTask capacity ReadCapacity10 blocks = ⊥
-IsTask capacity (ReadCapacity16 alloc) blocks = ⊥
-IsTask capacity (ReportLuns select alloc) blocks = ⊥
 IsTask capacity (Read form lba count fua) blocks = IsWithin capacity lba count blocks
 IsTask capacity (Write form lba count fua) blocks = IsWithin capacity lba count blocks
 IsTask capacity (Verify form lba count false) blocks = (blocks ≡ 0) × IsCovered capacity lba count
@@ -80,6 +73,7 @@ IsTask capacity (Flush form lba count) blocks = blocks ≡ 0
 IsTask capacity (WriteSame form lba count unmap) blocks = (blocks ≡ 1) × IsCovered capacity lba count
 IsTask capacity (Unmap size) blocks = (blocks ≡ 0) × (size < 65536)
 IsTask capacity (Pass cdb) blocks = (blocks ≡ page_count (pass_of cdb).length) × CanRun (pass_of cdb)
+IsTask capacity _ blocks = ⊥
 
 -- a number of bytes that a host may take: at most 2,097,152 (profile)
 abbrev pub IsExpectable : Option ℕ → Type 0

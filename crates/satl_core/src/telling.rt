@@ -143,8 +143,28 @@ fn in_pages(pool: &mut Pool, bytes: &[u8]) -> Pages
     done
 }
 
+/// GOOD with what the device says of itself, cut to the allocation length (SPC-4 4.3.5.6). A function of its own, so that no other
+/// answer pays for the room of its text.
+pub fn tell(
+    pool: &mut Pool,
+    identity: &Identity,
+    modes: &Modes,
+    request: &Request,
+    what: &Data,
+    alloc: u32,
+) -> Reply
+    requires capacity { 1 ≤ identity.now.capacity }
+    requires room { 2 ≤ pool.old.free }
+    ensures reply { result ≡ told request.now alloc (data_text identity.now modes.now what.now) }
+    ensures free { pool.new.free + length result.body ≡ pool.old.free }
+    ensures out { pool.new.out ≡ pool.old.out + length result.body }
+    ensures writable { IsExpectable request.now.expected → IsWritable result }
+{
+    told(pool, request, alloc, &data_text(identity, modes, what))
+}
+
 /// GOOD with data-in, cut to the allocation length (SPC-4 4.3.5.6).
-pub fn told(pool: &mut Pool, request: &Request, alloc: u32, text: &[u8]) -> Reply
+fn told(pool: &mut Pool, request: &Request, alloc: u32, text: &[u8]) -> Reply
     requires few { length text.now ≤ 576 }
     requires room { 2 ≤ pool.old.free }
     ensures reply { result ≡ told request.now alloc text.now }

@@ -211,18 +211,11 @@ pub record EndsPassed (pass : Pass) (s : Device) (t : Entry) (reply : Reply) (ne
     glitches = after.glitches;
   }
 
--- how a command of a task ends on a device that is up and ready for it (SBC-3 5, SPC-4 6, SAT-3); those that are answered on
--- arrival are no tasks
+-- how a command of a task ends on a device that is up and ready for it (SBC-3 5, SPC-4 6, SAT-3); all others are answered on
+-- arrival, and are no tasks
 abbrev pub EndsBy : Command → Device → Entry → Reply → Device → Type 0
-EndsBy commands.TestUnitReady s t reply new = ⊥
-EndsBy (commands.RequestSense descriptor alloc) s t reply new = ⊥
-EndsBy (commands.Inquiry page alloc) s t reply new = ⊥
-EndsBy (commands.ModeSense ten long_lba no_descriptor control page alloc) s t reply new = ⊥
 EndsBy (commands.ModeSelect ten size) s t reply new = IsTaskDone (after_select s t) t reply new
 EndsBy (commands.StartStop start no_flush) s t reply new = IsTaskDone (after_start_stop start no_flush s) t reply new
-EndsBy commands.ReadCapacity10 s t reply new = ⊥
-EndsBy (commands.ReadCapacity16 alloc) s t reply new = ⊥
-EndsBy (commands.ReportLuns select alloc) s t reply new = ⊥
 EndsBy (commands.Read form lba count fua) s t reply new = EndsOnMedium (ranged_read fua (over lba count)) s t reply new
 EndsBy (commands.Write form lba count fua) s t reply new = EndsOnMedium (ranged_write fua (over lba count) t.body) s t reply new
 EndsBy (commands.Verify form lba count false) s t reply new = EndsVerified lba count s t reply new
@@ -233,6 +226,7 @@ EndsBy (commands.WriteSame form lba count false) s t reply new =
 EndsBy (commands.WriteSame form lba count true) s t reply new = EndsOnMedium (ranged_trim (over lba count ∷ [])) s t reply new
 EndsBy (commands.Unmap size) s t reply new = EndsOnMedium (ranged_trim t.ranges.items) s t reply new
 EndsBy (commands.Pass cdb) s t reply new = EndsPassed (pass_of cdb) s t reply new
+EndsBy _ s t reply new = ⊥
 
 -- the first that holds: the link is lost; the unit is stopped, and the command needs it started; and then the command itself
 -- (SAT-3 11; profile)

@@ -33,7 +33,8 @@ depth s = if s.down || not s.started then 0 else min 32 (length (filter is_range
 -- a step, or a step and then a loss of the link (profile)
 pub data MayLose (Step : Device → List Reply → Device → Type 0) (old : Device) : List Reply → Device → Type 0 where
   keeps : {answers : List Reply} {new : Device} → Step old answers new → MayLose Step old answers new
-  loses : {answers more : List Reply} {mid after new : Device} → Step old answers mid → Quiet mid after → Loss after more new
+  keeps_and_loses : {answers more : List Reply} {mid after new : Device} → Step old answers mid → Quiet mid after
+      → Loss after more new
       → MayLose Step old (answers ++ more) new
 
 -- n turns with quiet moves around each, and the greatest depth after one of them (profile)

@@ -16,7 +16,7 @@ use Rattle.satl_direct.specs.Senses.{link_lost}
 use Rattle.satl_direct.specs.Turn.{IsFirst, MayEnd, OneEnds, Turn, lost_replies}
 use Rattle.satl_direct.specs.Turn.Turn.{ends, ends_and_loses, idle, loses}
 use Rattle.satl_direct.specs.Run.{MayLose}
-use Rattle.satl_direct.specs.Run.MayLose.{keeps, loses as keeps_and_loses}
+use Rattle.satl_direct.specs.Run.MayLose.{keeps, keeps_and_loses}
 use Rattle.satl_laws.specs.OneReplyEach.{OneAnswered, OneReplyEach}
 
 -- ---- one task is left, or its answer was given

@@ -21,7 +21,7 @@ use Rattle.satl_direct.specs.Bench.{Happens}
 use Rattle.satl_direct.specs.Management.{effect}
 use Rattle.satl_direct.specs.Quiet.{Quiet}
 use Rattle.satl_direct.specs.Run.{Does, Manages, MayLose}
-use Rattle.satl_direct.specs.Run.MayLose.{keeps, loses as steps_and_loses}
+use Rattle.satl_direct.specs.Run.MayLose.{keeps, keeps_and_loses}
 use Rattle.satl_laws.specs.Untouched.{is_power}
 use Rattle.satl_laws.proofs.Addresses.{Alike}
 use Rattle.satl_laws.proofs.Kept.{KeptAt, mend_keeps, strike_keeps}
@@ -40,7 +40,7 @@ module _ (x : ℕ) where
   may_lose_keeps : (Step : Device → List Reply → Device → Type 0) (old new : Device) (answers : List Reply)
       → ((mid : Device) (said : List Reply) → Step old said mid → Keeps x old mid) → MayLose Step old answers new → Keeps x old new
   may_lose_keeps Step old new answers each (keeps h) = each new answers h
-  may_lose_keeps Step old new _ each (steps_and_loses {answers = said} {mid = mid} {after = after} h q l) =
+  may_lose_keeps Step old new _ each (keeps_and_loses {answers = said} {mid = mid} {after = after} h q l) =
       keeps_on x old after new (keeps_on x old mid after (each mid said h) (quiet_keeps x mid after q))
       (λ g. loss_keeps x after new (ap (λ d. d.cells) l.stays) (ap (λ d. d.identity) l.stays) (ap (λ d. d.tasks) l.stays))
 

@@ -18,7 +18,7 @@ use Rattle.satl_direct.specs.Management.{IsManaged}
 use Rattle.satl_direct.specs.Quiet.{Around, Quiet}
 use Rattle.satl_direct.specs.Turn.{Loss, Turn}
 use Rattle.satl_direct.specs.Run.{Does, Manages, MayLose, RunDeep, TurnsOf, depth, losses_in}
-use Rattle.satl_direct.specs.Run.MayLose.{keeps, loses}
+use Rattle.satl_direct.specs.Run.MayLose.{keeps, keeps_and_loses}
 use Rattle.satl_direct.specs.Run.TurnsOf.{none, more}
 use Rattle.satl_direct.specs.Run.RunDeep.{start, step}
 use Rattle.satl_scenarios.specs.Scenario.{Step, Scenario, CanHappen, groups_of}
@@ -41,7 +41,7 @@ arrives {r = r} {s = s} replies new a = record { does = (replies, refl, alone (M
 
 -- and the link is lost at that
 pub arrives_and_loses : {r : Request} {s : Device} (replies lost : List Reply) (mid new : Device) → Arrives r s replies mid → Loss mid lost new → Occurs (frames.Request r) s (map replied (replies ++ lost)) new (depth new)
-arrives_and_loses {r = r} {s = s} replies lost mid new a loss = record { does = (replies ++ lost, refl, alone (MayLose (Arrives r)) s new (replies ++ lost) (loses a (still mid) loss), refl) }
+arrives_and_loses {r = r} {s = s} replies lost mid new a loss = record { does = (replies ++ lost, refl, alone (MayLose (Arrives r)) s new (replies ++ lost) (keeps_and_loses a (still mid) loss), refl) }
 
 pub happens : {event : BenchEvent} {s : Device} (replies : List Reply) (new : Device) → bench.Happens event s replies new → Occurs (frames.Bench event) s (map replied replies) new (depth new)
 happens {event = event} {s = s} replies new h = record { does = (replies, refl, alone (bench.Happens event) s new replies h, refl) }
@@ -77,7 +77,7 @@ manages m response s shown new quiet done = record {
 pub manages_and_loses : {m : Manage} {s : Device} (said : Response) (lost : List Reply) (mid new : Device) → IsManaged m s said mid → Loss mid lost new
     → Occurs (frames.Manage m) s (map replied lost ++ managed m.nexus m.function said m.tag ∷ []) new (depth new)
 manages_and_loses {m = m} {s = s} said lost mid new done loss = record {
-  does = (record { response = said; replies = lost; step = alone (MayLose (Manages m said)) s new lost (loses (refl, done) (still mid) loss); answer = refl }, refl);
+  does = (record { response = said; replies = lost; step = alone (MayLose (Manages m said)) s new lost (keeps_and_loses (refl, done) (still mid) loss); answer = refl }, refl);
 }
 
 -- ---- the run
