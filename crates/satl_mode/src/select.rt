@@ -7,12 +7,12 @@ ghost use Rattle.satl_mode.specs.Descriptors.{block_fields, descriptor_size};
 ghost use Rattle.satl_mode.specs.Changes.{AreModesOf, IsChangeOf, KeepsFixed, applied, change_in, descriptor_length, first_page, header_size};
 ghost use Rattle.satl_mode.specs.SelectList.{agrees, descriptor_length_place, descriptor_rules, descriptor_sized, difference, field_rule, first_broken, front_rules, has_long_lba, pages_rules, select_says, unless_fault};
 
-use crate::bytes::{byte_of, u24_at, u32_at, u64_at};
 use crate::change::{apply, descriptor_length, first_page, header_size, page_at, select_change};
 use crate::descriptor::{Descriptor, short_capacity};
 use crate::page::{ModePage, shown_by};
 use satl_base::{Modes, Pages};
 use satl_cdb::Illegal;
+use satl_cdb::list::{byte_of, u24_at, u32_at, u64_at};
 use satl_identify::Identity;
 
 fn has_long_lba(list: &Pages, ten: bool) -> bool
