@@ -17,7 +17,6 @@ use Rattle.satl_cdb.specs.Table.{says, table}
 use Rattle.satl_base.specs.declared.modes.Modes.{Modes}
 use Rattle.satl_identify.specs.declared.identity.Identity.{Identity}
 use Rattle.satl_vpd.specs.Standard.{standard_data}
-use Rattle.satl_mode.specs.ModeData.{mode_data}
 use Rattle.satl_line.specs.Tasks.{Held, entries_of, is_too_much, total_blocks}
 use Rattle.satl_drive.specs.State.{DriveState}
 use Rattle.satl_unit.specs.declared.attention.Attention.{Attention}
@@ -71,11 +70,6 @@ same_answer l d r x a reply is e = ap answered is ∙ ap (λ y. answered (reply_
 abbrev pub full_or_waits : Layer → DriveState → Request → Command → Arrival
 full_or_waits l d r c = cond (is_full (map task_of (entries_of l.tasks)) c) (answered (direct.reply_to r statuses.TaskSetFull [])) (waits (task_for l.identity.queued_trim r c))
 
--- the data of a MODE SENSE do not depend on its allocation length
-any_length : (i : Identity) (m : Modes) (is_ten long_lba no_descriptor : Bool) (control page alloc : ℕ) → mode_data i m (cdbs.ModeSense is_ten long_lba no_descriptor control page alloc) ≡ mode_data i m (cdbs.ModeSense is_ten long_lba no_descriptor control page 0)
-unfolding mode_data
-any_length i m is_ten long_lba no_descriptor control page alloc = refl
-
 inquiry_is : (l : Layer) (d : DriveState) (r : Request) (page : Option ℕ) (alloc : ℕ) → answered (direct.told r alloc (direct.inquiry_text (view l d) page)) ≡ answered (reply_at_once l.identity l.modes r (at_once.Tell (datas.Inquiry page) alloc))
 inquiry_is l d r None alloc = refl
 inquiry_is l d r (Some page) alloc = refl
@@ -91,7 +85,7 @@ first_of l r = slice_get (slice_index_or l.attentions r.nexus []) 0
 becomes_at_once : (l : Layer) (d : DriveState) (r : Request) (a : AtOnce) (c : Command) → IsSaid r.cdb l.identity.trim c → (slice_index r.cdb 0 ≡ 0x03 → first_of l r ≡ None) → l.down ≡ d.down → answer_to l r.body c ≡ Err a → direct.becomes (view l d) r c ≡ answered (reply_at_once l.identity l.modes r a)
 becomes_at_once l d r a cdbs.TestUnitReady here none mark e = same_answer l d r (readiness l) a _ (readiness_is l d r mark) e
 becomes_at_once l d r a (cdbs.Inquiry page alloc) here none mark e = inquiry_is l d r page alloc ∙ same_answer l d r (at_once.Tell (datas.Inquiry page) alloc) a _ refl e
-becomes_at_once l d r a (cdbs.ModeSense ten long_lba no_descriptor control page alloc) here none mark e = ap (λ text. answered (direct.told r alloc text)) (any_length l.identity l.modes ten long_lba no_descriptor control page alloc) ∙ same_answer l d r (at_once.Tell (datas.Modes ten long_lba no_descriptor control page) alloc) a _ refl e
+becomes_at_once l d r a (cdbs.ModeSense ten long_lba no_descriptor control page alloc) here none mark e = same_answer l d r (at_once.Tell (datas.Modes (direct.sense_asked ten long_lba no_descriptor control page)) alloc) a _ refl e
 becomes_at_once l d r a cdbs.ReadCapacity10 here none mark e = same_answer l d r (at_once.Tell datas.Capacity10 8) a _ refl e
 becomes_at_once l d r a (cdbs.ReadCapacity16 alloc) here none mark e = same_answer l d r (at_once.Tell datas.Capacity16 alloc) a _ refl e
 becomes_at_once l d r a (cdbs.ReportLuns select alloc) here none mark e = same_answer l d r (at_once.Tell (datas.Luns select) alloc) a _ refl e

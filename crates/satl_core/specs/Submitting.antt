@@ -19,7 +19,7 @@ use Rattle.satl_sense.specs.declared.sense.Sense.{Sense}
 use Rattle.satl_regs.specs.Trim.{trim_block}
 use Rattle.satl_line.specs.declared.entry.Entry.{Entry}
 use Rattle.satl_unit.specs.declared.attention.Attention.{Attention}
-use Rattle.satl_direct.specs.Arrival.{asks_for, code_of, reply_to, told, untold_codes}
+use Rattle.satl_direct.specs.Arrival.{asks_for, code_of, reply_to, sense_asked, told, untold_codes}
 use Rattle.satl_direct.specs.Device.{is_of}
 use Rattle.satl_direct.specs.Senses.{attention_sense, link_lost, no_sense, not_ready, out_of_range, overlapped, refusal, sense_text, short_data, unknown_unit}
 use Rattle.satl_direct.specs.Tasks.{asks, needed, range_of, task_for, task_of}
@@ -82,7 +82,7 @@ answer_to l body commands.TestUnitReady = Err (readiness l)
 answer_to l body (commands.RequestSense descriptor alloc) = Err (at_once.Tell (datas.Sense descriptor no_sense) alloc)
 answer_to l body (commands.Inquiry page alloc) = Err (at_once.Tell (datas.Inquiry page) alloc)
 answer_to l body (commands.ModeSense ten long_lba no_descriptor control page alloc) =
-    Err (at_once.Tell (datas.Modes ten long_lba no_descriptor control page) alloc)
+    Err (at_once.Tell (datas.Modes (sense_asked ten long_lba no_descriptor control page)) alloc)
 answer_to l body commands.ReadCapacity10 = Err (at_once.Tell datas.Capacity10 8)
 answer_to l body (commands.ReadCapacity16 alloc) = Err (at_once.Tell datas.Capacity16 alloc)
 answer_to l body (commands.ReportLuns select alloc) = Err (at_once.Tell (datas.Luns select) alloc)

@@ -23,7 +23,7 @@ use satl_base::{Block, Modes, Pages, Replies, Reply, Request, Scsi, SenseBytes};
 use satl_cdb::{Command, Illegal, read_cdb, read_unmap_list};
 use satl_identify::Identity;
 use satl_line::{Entry, Kind};
-use satl_mode::read_select;
+use satl_mode::{ModeSense, read_select};
 use satl_pages::Pool;
 use satl_pass::pass_of;
 use satl_regs::trim_bytes;
@@ -225,14 +225,14 @@ fn answer_to(satl: &Satl, request: &Request, command: Command) -> Result<Command
             page,
             alloc,
         } => {
-            let what = Data::Modes {
+            let asked = ModeSense {
                 ten,
                 long_lba,
                 no_descriptor,
                 control,
                 page,
             };
-            (what, u32::from(alloc))
+            (Data::Modes(asked), u32::from(alloc))
         }
         Command::RequestSense { descriptor, alloc } => {
             let sense = plain(0x0, 0x00, 0x00);

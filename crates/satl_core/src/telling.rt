@@ -10,9 +10,8 @@ ghost use Rattle.satl_core.specs.Telling.{data_text};
 
 use arrayvec::ArrayVec;
 use satl_base::{Block, Modes, Pages, Reply, Request, Scsi};
-use satl_cdb::Command;
 use satl_identify::Identity;
-use satl_mode::mode_sense;
+use satl_mode::{ModeSense, mode_sense};
 use satl_pages::Pool;
 use satl_sense::{Sense, sense_bytes};
 use satl_vpd::{capacity10, capacity16, inquiry, luns, vpd};
@@ -24,23 +23,14 @@ pub enum Data {
     Inquiry(Option<u8>),
     /// The standard INQUIRY data of a LUN at which there is no logical unit.
     NoUnit,
-    /// The fields of a MODE SENSE.
-    Modes {
-        ten: bool,
-        long_lba: bool,
-        no_descriptor: bool,
-        control: u8,
-        page: u8,
-    },
+    /// Mode pages, as a MODE SENSE asks for them.
+    Modes(ModeSense),
     Capacity10,
     Capacity16,
     /// The list of LUNs by SELECT REPORT.
     Luns(u8),
     /// Sense data, in the descriptor form or in the fixed form.
-    Sense {
-        descriptor: bool,
-        sense: Sense,
-    },
+    Sense { descriptor: bool, sense: Sense },
 }
 
 /// Data-in before they are cut, at most 572 bytes.
@@ -85,23 +75,7 @@ pub fn data_text(identity: &Identity, modes: &Modes, what: &Data) -> Text
         Data::Inquiry(None) => text(&inquiry(identity, true)),
         Data::Inquiry(Some(page)) => page_text(identity, page),
         Data::NoUnit => text(&inquiry(identity, false)),
-        Data::Modes {
-            ten,
-            long_lba,
-            no_descriptor,
-            control,
-            page,
-        } => {
-            let command = Command::ModeSense {
-                ten,
-                long_lba,
-                no_descriptor,
-                control,
-                page,
-                alloc: 0,
-            };
-            text(&mode_sense(identity, modes, &command))
-        }
+        Data::Modes(asked) => text(&mode_sense(identity, modes, &asked)),
         Data::Capacity10 => text(&capacity10(identity)),
         Data::Capacity16 => text(&capacity16(identity)),
         Data::Luns(select) => lun_text(select),

@@ -17,6 +17,7 @@ use Rattle.satl_vpd.specs.Capacity.{capacity_10, capacity_16}
 use Rattle.satl_vpd.specs.Luns.{lun_list}
 use Rattle.satl_vpd.specs.Standard.{standard_data}
 use Rattle.satl_vpd.specs.Vital.{vpd_page}
+use Rattle.satl_mode.specs.declared.sense.ModeSense.{ModeSense}
 use Rattle.satl_mode.specs.ModeData.{mode_data}
 use Rattle.satl_unit.specs.declared.attention.Attention.{Attention}
 use Rattle.satl_frame.specs.DataPages.{pages_of}
@@ -101,13 +102,23 @@ abbrev pub inquiry_text : Device → Option ℕ → List ℕ
 inquiry_text s None = standard_data s.identity true
 inquiry_text s (Some page) = unwrap_or (vpd_page page s.identity) []
 
+-- what a MODE SENSE asks to be shown (SPC-4, MODE SENSE commands)
+abbrev pub sense_asked : Bool → Bool → Bool → ℕ → ℕ → ModeSense
+sense_asked ten long_lba no_descriptor control page = record {
+  ten = ten;
+  long_lba = long_lba;
+  no_descriptor = no_descriptor;
+  control = control;
+  page = page;
+}
+
 -- a command whose fields and data-out are good: answered from what the device says of itself, or a task (SPC-4 6, SBC-3 5)
 abbrev pub becomes : Device → Request → Command → Arrival
 becomes s r commands.TestUnitReady = answered (readiness s r)
 becomes s r (commands.RequestSense descriptor alloc) = sense_told (slice_get (attentions_of r.nexus s) 0) r descriptor alloc
 becomes s r (commands.Inquiry page alloc) = answered (told r alloc (inquiry_text s page))
 becomes s r (commands.ModeSense ten long_lba no_descriptor control page alloc) =
-    answered (told r alloc (mode_data s.identity s.modes (commands.ModeSense ten long_lba no_descriptor control page alloc)))
+    answered (told r alloc (mode_data s.identity s.modes (sense_asked ten long_lba no_descriptor control page)))
 becomes s r (commands.ModeSelect ten size) = placed_unless (size == 0) s r (commands.ModeSelect ten size)
 becomes s r (commands.StartStop start no_flush) = placed s r (commands.StartStop start no_flush)
 becomes s r commands.ReadCapacity10 = answered (told r 8 (capacity_10 s.identity))
