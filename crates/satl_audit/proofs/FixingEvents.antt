@@ -14,11 +14,11 @@ use Rattle.satl_cdb.specs.Table.{says}
 use Rattle.satl_direct.specs.Device.{Device, is_of}
 use Rattle.satl_direct.specs.Arrival.{Arrival, ArrivesAs, arrival, is_unit_0}
 use Rattle.satl_direct.specs.Arrival.Arrival.{answered, attended, overlaps, waits}
+use Rattle.satl_direct.proofs.Naming.{own_filtered, own_pushed}
 use Rattle.satl_audit.specs.Deeds.{Deed}
 use Rattle.satl_cover.specs.Known.{is_known, is_known_frame}
 use Rattle.satl_audit.specs.Skeleton.{Benched, Stepped}
 use Rattle.satl_audit.proofs.Forming.{IsNewIn, arrival_new}
-use Rattle.satl_audit.proofs.Naming.{own_filtered, own_pushed}
 use Rattle.satl_audit.specs.Deciding.{AllWhole, IsFineFrame}
 use Rattle.satl_audit.proofs.Telling.{IsFine}
 use Rattle.satl_audit.proofs.FixingTurns.{said, Kept, turns_keep, SameTurns, turns_same, drains_same}

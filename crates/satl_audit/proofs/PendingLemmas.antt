@@ -11,7 +11,6 @@ use Rattle.satl_cdb.specs.declared.command.Form.{Form}
 use Rattle.satl_identify.specs.declared.identity.Identity.{Identity}
 use Rattle.satl_unit.specs.declared.attention.Attention.{Attention}
 use Rattle.satl_unit.specs.declared.attention.Attention.TheVariants.{PowerOn}
-use Rattle.satl_unit.specs.Conditions.{posted}
 use Rattle.satl_line.specs.declared.entry.Entry.{Entry}
 use Rattle.satl_direct.specs.Device.{Device}
 use Rattle.satl_direct.specs.Quiet.{writes, written_by}
@@ -84,11 +83,6 @@ power_follows identity input waiting old mid new size pends is = (
       ∙ ap (λ (k : Keeping). Some (sector_of input k)) (sym (get_or-map kept_power mid x blank_keeping blank_keeping (subst (λ n. x < n) (sym size) less)))
       ∙ ap (λ (l : List Keeping). Some (sector_at input l x)) (sym is),
 )
-
--- the first condition that is posted is the only one
-pub power_on_alone : (conditions given : List Attention) → given ≡ [] → conditions ≡ posted PowerOn given → conditions ≡ PowerOn ∷ []
-unfolding posted
-power_on_alone conditions given none is = is ∙ ap (posted PowerOn) none
 
 pub told_all : (before : List (List Attention)) → length before ≡ 4 → (PowerOn ∷ []) ∷ (PowerOn ∷ []) ∷ (PowerOn ∷ []) ∷ (PowerOn ∷ []) ∷ [] ≡ map (λ (conditions : List Attention). PowerOn ∷ []) before
 told_all (a ∷ b ∷ c ∷ d ∷ []) four = refl

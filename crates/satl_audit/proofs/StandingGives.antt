@@ -2,7 +2,7 @@
 use Rattle.std.proofs.Common.{◌≡◌, ⊎_elim, inl, inr, refl, sym, ap, ◌∙◌, subst, ℕ, ◌+◌, Bool, true, false, List, [], ◌∷◌, map, Option, Some, None}
 use Rattle.std.specs.Prelude.{◌==◌, ◌||◌, if◌then◌else◌, filter, nat_eq}
 use Rattle.std.specs.List.{list_any}
-use Rattle.std.proofs.lemmas.Bool.{eqb-true}
+use Rattle.std.proofs.lemmas.Bool.{eqb-true, both_ways}
 use Rattle.std.specs.Cmp.Lexicographic.{pointwise}
 use Rattle.satl_base.specs.declared.block.Block.{Block}
 use Rattle.satl_base.specs.Cells.{Cell}
@@ -16,7 +16,6 @@ use Rattle.satl_audit.proofs.GuessGives.{Only, filter_fits, not_here}
 use Rattle.satl_audit.proofs.GuessLists.{filter_in, in_filter, in_map, map_in, now_same}
 use Rattle.satl_audit.proofs.Covering.{Covers, fits_as, Stands}
 use Rattle.satl_audit.proofs.StandingPuts.{stands_same}
-use Rattle.satl_audit.proofs.Links.{false_not_true}
 
 -- a sector that fits, or no cell
 abbrev pub StandsOr : (Cell → Type 0) → Option Sector → Type 0
@@ -89,7 +88,7 @@ module _ (v : Block) (K : Cell → Type 0) where
           let m = (filter_fits v K (map sure may) h.fits).only c k in
           let f = in_filter (has_now v) (map sure may) m.guess m.among in
           let t = in_map sure may m.guess f.0 in
-          false_not_true (any_passes is_v may t.of t.among (subst (λ y. pointwise nat_eq v.bytes y.now.bytes ≡ true) t.same f.1)) e
+          both_ways _ e (any_passes is_v may t.of t.among (subst (λ y. pointwise nat_eq v.bytes y.now.bytes ≡ true) t.same f.1))
 
   show_stands : (o : Option Block) (may : List Block) → Stands K (record { now = o; may = may }) → StandsOr Now (shown_in o v may)
   show_stands None may h = one_stands may h

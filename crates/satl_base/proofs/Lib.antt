@@ -1,3 +1,5 @@
+pub mod BlocksLemmas
+pub mod Booleans
 pub mod CellsLemmas
 pub mod ChainLemmas
 pub mod FieldsLemmas

@@ -22,7 +22,7 @@ use Rattle.satl_identify.specs.declared.identity.Identity.{Identity}
 use Rattle.satl_mode.specs.ModePages.{defaults}
 use Rattle.satl_unit.specs.declared.attention.Attention.{Attention}
 use Rattle.satl_unit.specs.declared.attention.Attention.TheVariants.{PowerOn}
-use Rattle.satl_unit.specs.Conditions.{IsInReportOrder, posted}
+use Rattle.satl_unit.specs.Conditions.{IsInReportOrder}
 use Rattle.satl_line.specs.Tasks.{Held}
 use Rattle.satl_drive.specs.State.{DriveState, IsFit}
 use Rattle.satl_drive.specs.Bench.{IsPowerCycled, IsUnplugged}
@@ -288,11 +288,6 @@ follows_fewer Power l new replies r = no_tasks l new (ap (λ (x : Layer). x.task
 follows_fewer Unplug l new replies r = no_tasks l new (ap (λ (x : Layer). x.tasks) r.stays)
 
 -- ---- power on
-
--- the first condition that is posted is the only one
-pub power_on_alone : (conditions given : List Attention) → given ≡ [] → conditions ≡ posted PowerOn given → conditions ≡ PowerOn ∷ []
-unfolding posted
-power_on_alone conditions given none is = is ∙ ap (posted PowerOn) none
 
 -- the layer by its parts starts anew
 pub anew_by : (identity : Identity) (modes modes' : Modes) (started down : Bool) (lists lists' : List (List Attention)) (q q' : Waiting) (pool pool' : Counts) (l : Layer)

@@ -23,6 +23,7 @@ use Rattle.satl_drive.specs.State.{DriveState, Outstanding}
 use Rattle.satl_direct.specs.Device.{is_called}
 use Rattle.satl_direct.specs.Tasks.{data_out, task_of}
 use Rattle.satl_direct.specs.Valid.{AreOwn}
+use Rattle.satl_direct.proofs.Naming.{called-sym}
 use Rattle.satl_flight.specs.declared.flight.Flying.{Flying}
 use Rattle.satl_flight.specs.Flown as flown
 use Rattle.satl_flight.specs.Flown.{IsFlown, IsInFlight, clash, is_in_slot, queued_for, outstanding_for, blocks_for}
@@ -178,9 +179,6 @@ flip a b = go (a == b) refl (b == a) refl
     go false e true f = let no : (a == b) ≡ true = eq-eqb a b (sym (eqb-true b a f)) in absurd cc
     go false e false f = e ∙ sym f
 
-called-comm : (t u : Entry) → is_called t.nexus (t.tag).0 u ≡ is_called u.nexus (u.tag).0 t
-called-comm t u = ap (λ b. b && ((u.tag).0 == (t.tag).0)) (flip u.nexus t.nexus) ∙ ap (λ b. (t.nexus == u.nexus) && b) (flip (u.tag).0 (t.tag).0)
-
 any_found : (p : Entry → Bool) (q : Held → Bool) (hs : List Held) (b : Held) → list_any p (map task_of (entries_of hs)) ≡ false → find q hs ≡ Some b → p (task_of b.entry) ≡ false
 any_found p q [] b none found = absurd cc
 any_found p q (h ∷ hs) b none found = go (p (task_of h.entry)) refl none (q h) refl found (λ n f. any_found p q hs b n f)
@@ -202,7 +200,7 @@ other_name (h ∷ hs) i j a b own apart fa fb = go (h.slot == i) refl fa (h.slot
     go true hi fa false hj fb rest = let one : h ≡ a = cc in any_found (is_called a.entry.nexus (a.entry.tag).0) (is_in_slot j) hs b (ap (λ (k : Held). list_any (is_called k.entry.nexus (k.entry.tag).0) (map task_of (entries_of hs))) (sym one) ∙ own.0) fb
     go false hi fa true hj fb rest =
         let one : h ≡ b = cc in
-        called-comm (task_of a.entry) (task_of b.entry) ∙ any_found (is_called b.entry.nexus (b.entry.tag).0) (is_in_slot i) hs a (ap (λ (k : Held). list_any (is_called k.entry.nexus (k.entry.tag).0) (map task_of (entries_of hs))) (sym one) ∙ own.0) fa
+        called-sym (task_of a.entry) (task_of b.entry) ∙ any_found (is_called b.entry.nexus (b.entry.tag).0) (is_in_slot i) hs a (ap (λ (k : Held). list_any (is_called k.entry.nexus (k.entry.tag).0) (map task_of (entries_of hs))) (sym one) ∙ own.0) fa
     go false hi fa false hj fb rest = rest fa fb
 
 abbrev IsFound : List Held → Flying → Type 0

@@ -1,8 +1,8 @@
 -- ATA PASS-THROUGH: what its command does on the drive is what the device says.
-use Rattle.std.proofs.Common.{◌≡◌, ◌⊎◌, ⊎_elim, inl, inr, refl, sym, ap, subst, ◌∙◌, arith, ℕ, ◌+◌, ◌*◌, ◌≤◌, Bool, true, false, List, [], ◌∷◌, ◌++◌, length}
+use Rattle.std.proofs.Common.{◌≡◌, ◌⊎◌, ⊎_elim, inl, inr, refl, sym, ap, subst, ◌∙◌, arith, ℕ, ◌+◌, ◌*◌, ◌≤◌, Bool, true, false, List, [], ◌∷◌, length}
 use Rattle.std.specs.Prelude.{MatchBool, MatchOption, Option, Some, None, if◌then◌else◌, not, ◌==◌, ◌&&◌, ◌||◌, nat_lt}
 use Rattle.std.proofs.lemmas.Bool.{eqb-true, not-false}
-use Rattle.std.proofs.lemmas.List.{length-append, length-take, take_all}
+use Rattle.std.proofs.lemmas.List.{length-take, take_all}
 use Rattle.satl_base.specs.declared.block.Block.{Block}
 use Rattle.satl_base.specs.declared.modes.Modes.{Modes}
 use Rattle.satl_base.specs.declared.reply.Reply.{Reply}
@@ -10,6 +10,7 @@ use Rattle.satl_base.specs.Blocks.{bytes_of, first_bytes}
 use Rattle.satl_base.specs.Cells.{Pair, first_flaw}
 use Rattle.satl_base.specs.Lists.{IsIn}
 use Rattle.satl_base.proofs.MovesLemmas.{lose_once}
+use Rattle.satl_base.proofs.BlocksLemmas.{length-bytes_of}
 use Rattle.satl_cdb.specs.declared.command.Command.TheVariants as cdbs
 use Rattle.satl_identify.specs.declared.identity.Identity.{Identity}
 use Rattle.satl_identify.specs.Data.{identity_data}
@@ -27,7 +28,7 @@ use Rattle.satl_pass.specs.Reading.{CanRun}
 use Rattle.satl_pass.specs.Status.{is_bad}
 use Rattle.satl_pass.specs.Transfers.{is_other}
 use Rattle.satl_frame.specs.DataPages.{page_count, pages_from, pages_of}
-use Rattle.satl_frame.proofs.Paging.{length-pages_of, pages_of-append, whole_block}
+use Rattle.satl_frame.proofs.Paging.{length-pages_of, pages_of-bytes_of}
 use Rattle.satl_line.specs.declared.entry.Entry.{Entry}
 use Rattle.satl_unit.specs.declared.attention.Attention.{Attention}
 use Rattle.satl_drive.specs.State as drive
@@ -61,33 +62,20 @@ own_room pass n can count = by (command_in pass.regs) refl
 
 -- ---- whole pages
 
-one_page : (b : Block) → length b.bytes ≡ 512 → pages_of b.bytes ≡ b ∷ []
-unfolding pages_of pages_from
-one_page b size = rw size (ap (λ (p : Block). p ∷ []) (sym (whole_block b.bytes b.bytes (omega arith) (sym (take_all 512 b.bytes (omega arith))))))
-
-whole_length : (bs : List Block) → AreWhole bs → length (bytes_of bs) ≡ 512 * length bs
-whole_length [] whole = refl
-whole_length (b ∷ bs) whole = omega (arith, length-append b.bytes (bytes_of bs), whole.0, whole_length bs whole.1)
-
-pages_whole : (bs : List Block) → AreWhole bs → pages_of (bytes_of bs) ≡ bs
-unfolding pages_of pages_from
-pages_whole [] whole = refl
-pages_whole (b ∷ bs) whole = pages_of-append 1 b.bytes (bytes_of bs) whole.0 ∙ (ap (λ (ps : List Block). ps ++ pages_of (bytes_of bs)) (one_page b whole.0) ∙ ap (λ (ps : List Block). b ∷ ps) (pages_whole bs whole.1))
-
 first_all : (n : ℕ) (bs : List Block) → AreWhole bs → n ≡ 512 * length bs → first_bytes n bs ≡ bytes_of bs
-first_all n bs whole size = take_all n (bytes_of bs) (omega (arith, size, whole_length bs whole))
+first_all n bs whole size = take_all n (bytes_of bs) (omega (arith, size, length-bytes_of bs whole))
 
 -- whole pages are those of their bytes
 own_pages : (n : ℕ) (bs : List Block) → AreWhole bs → n ≡ 512 * length bs → pages_of (first_bytes n bs) ≡ bs
-own_pages n bs whole size = ap pages_of (first_all n bs whole size) ∙ pages_whole bs whole
+own_pages n bs whole size = ap pages_of (first_all n bs whole size) ∙ pages_of-bytes_of bs whole
 
 own_size : (n : ℕ) (bs : List Block) → AreWhole bs → n ≡ 512 * length bs → length (first_bytes n bs) ≡ 512 * length bs
-own_size n bs whole size = ap length (first_all n bs whole size) ∙ whole_length bs whole
+own_size n bs whole size = ap length (first_all n bs whole size) ∙ length-bytes_of bs whole
 
 -- pages of so many bytes
 size_of_pages : (n : ℕ) (bs : List Block) → AreWhole bs → length bs ≡ page_count n → length (pages_of (first_bytes n bs)) ≡ page_count n
 size_of_pages n bs whole count =
-    length-pages_of (first_bytes n bs) ∙ ap page_count (length-take n (bytes_of bs) ∙ omega (arith, whole_length bs whole, count))
+    length-pages_of (first_bytes n bs) ∙ ap page_count (length-take n (bytes_of bs) ∙ omega (arith, length-bytes_of bs whole, count))
 
 -- ---- what it sets
 

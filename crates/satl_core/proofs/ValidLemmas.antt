@@ -1,6 +1,6 @@
 -- Each step of the layer leaves a valid device.
 use Rattle.std.proofs.Common.{◌≡◌, ⊎_elim, inl, refl, sym, ap, subst, ◌∙◌, arith, cond, ℕ, zero, suc, ◌+◌, ◌≤◌, Bool, true, false, List, [], ◌∷◌, ◌++◌, length, map, take, drop, get_or, set, Some, None}
-use Rattle.std.specs.Prelude.{Option, Ok, MatchBool, not, ◌||◌, ◌&&◌, ◌==◌, ◌*◌, nat_lt, filter, replicate, IfSome}
+use Rattle.std.specs.Prelude.{Option, Ok, MatchBool, not, ◌||◌, ◌==◌, ◌*◌, nat_lt, filter, replicate, IfSome}
 use Rattle.std.specs.List.{AllByRecursion, list_any}
 use Rattle.std.proofs.lemmas.Bool.{eq-eqb, eqb-false, eqb-true, ltb-false}
 use Rattle.std.proofs.lemmas.List.{length-append, length-replicate, length-set}
@@ -24,7 +24,8 @@ use Rattle.satl_sense.specs.declared.sense.Sense.{Sense}
 use Rattle.satl_direct.specs.Arrival.{waits}
 use Rattle.satl_direct.specs.Device.{Device, is_called, is_of, once_told}
 use Rattle.satl_direct.specs.Tasks.{held_blocks, held_by, is_full, task_for, task_of}
-use Rattle.satl_direct.specs.Valid.{AreOwn, HasCome, IsValid}
+use Rattle.satl_direct.specs.Valid.{HasCome, IsValid}
+use Rattle.satl_direct.proofs.Naming.{own_filtered, own_pushed}
 use Rattle.satl_flight.specs.Flown.{IsInFlight}
 use Rattle.satl_flight.specs.Settled.{IsFilled}
 use Rattle.satl_flight.proofs.ComingLemmas.{tie_come}
@@ -75,23 +76,6 @@ eqb_both a b =
 
 -- ---- tasks that go
 
-none_kept : (p q : Entry → Bool) (ts : List Entry) → list_any q ts ≡ false → list_any q (filter p ts) ≡ false
-none_kept p q [] none = refl
-none_kept p q (t ∷ ts) none =
-    let both = neither (q t) (list_any q ts) none in
-    elim (p t) as (λ b. list_any q (cond b (t ∷ filter p ts) (filter p ts)) ≡ false) [
-      | true ↦ or_false (q t) (list_any q (filter p ts)) both.0 (none_kept p q ts both.1)
-      | false ↦ none_kept p q ts both.1
-    ]
-
-own_kept : (p : Entry → Bool) (ts : List Entry) → AreOwn ts → AreOwn (filter p ts)
-own_kept p [] own = tt
-own_kept p (t ∷ ts) own =
-    elim (p t) as (λ b. AreOwn (cond b (t ∷ filter p ts) (filter p ts))) [
-      | true ↦ (none_kept p (is_called t.nexus (t.tag).0) ts own.0, own_kept p ts own.1)
-      | false ↦ own_kept p ts own.1
-    ]
-
 come_kept : (identity : Identity) (p : Entry → Bool) (ts : List Entry) → AllByRecursion (HasCome identity) ts → AllByRecursion (HasCome identity) (filter p ts)
 come_kept identity p [] come = tt
 come_kept identity p (t ∷ ts) come =
@@ -119,7 +103,7 @@ valid_left p s v =
       sound = v.sound;
       few = omega (arith, less.0, v.few);
       blocks = omega (arith, less.1, v.blocks);
-      own = own_kept p s.tasks v.own;
+      own = own_filtered p s.tasks v.own;
       come = come_kept s.identity p s.tasks v.come;
       modes = v.modes;
       nexuses = v.nexuses;
@@ -169,21 +153,6 @@ once_judged_valid l d r v =
     ]
 
 -- ---- a task that comes
-
-called_both : (t u : Entry) → is_called t.nexus (t.tag).0 u ≡ false → is_called u.nexus (u.tag).0 t ≡ false
-called_both t u apart = ap (λ b. b && ((t.tag).0 == (u.tag).0)) (eqb_both t.nexus u.nexus) ∙ (ap (λ b. (u.nexus == t.nexus) && b) (eqb_both (t.tag).0 (u.tag).0) ∙ apart)
-
-none_pushed : (q : Entry → Bool) (ts : List Entry) (t : Entry) → list_any q ts ≡ false → q t ≡ false → list_any q (ts ++ t ∷ []) ≡ false
-none_pushed q [] t none last = or_false (q t) false last refl
-none_pushed q (u ∷ ts) t none last =
-    let both = neither (q u) (list_any q ts) none in
-    or_false (q u) (list_any q (ts ++ t ∷ [])) both.0 (none_pushed q ts t both.1 last)
-
-own_pushed : (ts : List Entry) (t : Entry) → list_any (is_called t.nexus (t.tag).0) ts ≡ false → AreOwn ts → AreOwn (ts ++ t ∷ [])
-own_pushed [] t none own = (refl, tt)
-own_pushed (u ∷ ts) t none own =
-    let both = neither (is_called t.nexus (t.tag).0 u) (list_any (is_called t.nexus (t.tag).0) ts) none in
-    (none_pushed (is_called u.nexus (u.tag).0) ts t own.0 (called_both t u both.0), own_pushed ts t both.1 own.1)
 
 come_pushed : (identity : Identity) (ts : List Entry) (t : Entry) → AllByRecursion (HasCome identity) ts → HasCome identity t → AllByRecursion (HasCome identity) (ts ++ t ∷ [])
 come_pushed identity [] t come here = (here, tt)

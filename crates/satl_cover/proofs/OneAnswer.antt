@@ -2,6 +2,7 @@
 use Rattle.std.proofs.Common.{◌≡◌, inl, inr, refl, sym, ap, ◌∙◌, subst, ℕ, Bool, true, false, List, [], ◌∷◌, ◌++◌, append_assoc, Some, None}
 use Rattle.std.specs.Prelude.{Ok, Err}
 use Rattle.std.proofs.lemmas.List.{append-nil}
+use Rattle.std.proofs.lemmas.Bool.{both_ways}
 use Rattle.satl_frame.specs.declared.frames.Frame.{Frame}
 use Rattle.satl_frame.specs.declared.frames.Frame.TheVariants as frames
 use Rattle.satl_frame.specs.declared.frames.Reason.{Reason}
@@ -78,21 +79,18 @@ covered_there trim earlier [] event later all = subst (λ (l : List Frame). is_c
 covered_there trim earlier (f ∷ before) event later all =
     subst (λ (l : List Frame). is_covered trim l event ≡ true) (append_assoc earlier (f ∷ []) before) (covered_there trim (earlier ++ f ∷ []) before event later all.1)
 
-not_both : {b : Bool} → b ≡ true → b ≡ false → ⊥
-not_both p q = cc
-
 none_uncovered : {trim : Bool} {all : List Frame} {offset : ℕ} → AreCovered trim [] all → FirstUncovered trim all offset → ⊥
-none_uncovered {trim} all f = not_both (covered_there trim [] f.before f.event f.later (subst (AreCovered trim []) f.split all)) f.not_covered
+none_uncovered {trim} all f = both_ways _ f.not_covered (covered_there trim [] f.before f.event f.later (subst (AreCovered trim []) f.split all))
 
 first_same : (trim : Bool) (earlier xs ys : List Frame) (e e' : Frame) (l l' : List Frame) → xs ++ e ∷ l ≡ ys ++ e' ∷ l' → AreCovered trim earlier xs → AreCovered trim earlier ys →
     is_covered trim (earlier ++ xs) e ≡ false → is_covered trim (earlier ++ ys) e' ≡ false → xs ≡ ys
 first_same trim earlier [] [] e e' l l' same p q a b = refl
 first_same trim earlier [] (y ∷ ys) e e' l l' same p q a b =
     let head : e ≡ y = cc in
-    absurd (not_both (subst (λ (f : Frame). is_covered trim earlier f ≡ true) (sym head) q.0) (subst (λ (k : List Frame). is_covered trim k e ≡ false) (append-nil earlier) a))
+    absurd (both_ways _ (subst (λ (k : List Frame). is_covered trim k e ≡ false) (append-nil earlier) a) (subst (λ (f : Frame). is_covered trim earlier f ≡ true) (sym head) q.0))
 first_same trim earlier (x ∷ xs) [] e e' l l' same p q a b =
     let head : e' ≡ x = cc in
-    absurd (not_both (subst (λ (f : Frame). is_covered trim earlier f ≡ true) (sym head) p.0) (subst (λ (k : List Frame). is_covered trim k e' ≡ false) (append-nil earlier) b))
+    absurd (both_ways _ (subst (λ (k : List Frame). is_covered trim k e' ≡ false) (append-nil earlier) b) (subst (λ (f : Frame). is_covered trim earlier f ≡ true) (sym head) p.0))
 first_same trim earlier (x ∷ xs) (y ∷ ys) e e' l l' same p q a b =
     let head : x ≡ y = cc in
     let tail : xs ++ e ∷ l ≡ ys ++ e' ∷ l' = cc in

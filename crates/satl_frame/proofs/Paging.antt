@@ -3,6 +3,7 @@ use Rattle.std.proofs.Common.{◌≡◌, ℕ, zero, suc, ◌+◌, ◌-◌, ◌*�
 use Rattle.std.proofs.lemmas.Bool.{cases_lt}
 use Rattle.std.proofs.lemmas.List.{take-append-drop, drop-drop, length-drop, length-append, length-take-le, length-replicate, length-reverse, reverse-append, take-append-le, drop-append-le, take_all, take_at, append-nil, replicate-append-replicate, drop-replicate, take-replicate}
 use Rattle.std.proofs.Math.Seq.{take-append-add, drop-append-add}
+use Rattle.std.specs.List.{AllByRecursion}
 use Rattle.satl_base.specs.declared.block.Block.{Block}
 use Rattle.satl_base.specs.Blocks.{bytes_of}
 use Rattle.satl_frame.specs.DataPages.{page_count, padded_block, pages_from, pages_of, zeros}
@@ -230,3 +231,13 @@ all_filled lent n taken pages size few is =
 pub length-zeros : (n : ℕ) → length (zeros n) ≡ n
 unfolding zeros
 length-zeros n = length-replicate n 0
+
+-- a whole block is one page of its bytes, and whole blocks are the pages of theirs
+pub one_page : (b : Block) → length b.bytes ≡ 512 → pages_of b.bytes ≡ b ∷ []
+unfolding pages_of pages_from
+one_page b size = rw size (ap (λ (p : Block). p ∷ []) (sym (whole_block b.bytes b.bytes (omega arith) (sym (take_all 512 b.bytes (omega arith))))))
+
+pub pages_of-bytes_of : (bs : List Block) → AllByRecursion (λ (b : Block). length b.bytes ≡ 512) bs → pages_of (bytes_of bs) ≡ bs
+unfolding pages_of pages_from
+pages_of-bytes_of [] whole = refl
+pages_of-bytes_of (b ∷ bs) whole = pages_of-append 1 b.bytes (bytes_of bs) whole.0 ∙ (ap (λ (ps : List Block). ps ++ pages_of (bytes_of bs)) (one_page b whole.0) ∙ ap (λ (ps : List Block). b ∷ ps) (pages_of-bytes_of bs whole.1))

@@ -15,6 +15,10 @@ use Rattle.satl_frame.specs.declared.frames.Frame.{Frame}
 use Rattle.satl_frame.specs.declared.frames.Place.{Place}
 use Rattle.satl_frame.proofs.Refusals.{version_read, length-magic}
 
+pub all_spelled-append : (fs gs : List Frame) → all_spelled (fs ++ gs) ≡ all_spelled fs ++ all_spelled gs
+all_spelled-append [] gs = refl
+all_spelled-append (f ∷ fs) gs = ap (λ (xs : List ℕ). spelled f ++ xs) (all_spelled-append fs gs) ∙ sym (append_assoc (spelled f) (all_spelled fs) (all_spelled gs))
+
 pub all_spelled-push : (fs : List Frame) (f : Frame) → all_spelled (fs ++ f ∷ []) ≡ all_spelled fs ++ spelled f
 all_spelled-push [] f = append-nil (spelled f)
 all_spelled-push (g ∷ fs) f = ap (λ (xs : List ℕ). spelled g ++ xs) (all_spelled-push fs f) ∙ sym (append_assoc (spelled g) (all_spelled fs) (spelled f))

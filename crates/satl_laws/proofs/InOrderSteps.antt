@@ -2,6 +2,7 @@
 use Rattle.std.proofs.Common.{◌≡◌, refl, sym, ap, ◌∙◌, subst, ℕ, ◌<◌, Bool, true, false, List, [], ◌∷◌, ◌++◌}
 use Rattle.std.specs.Prelude.{◌&&◌, MatchBool, not, Ok}
 use Rattle.std.specs.List.{AllByRecursion}
+use Rattle.std.proofs.lemmas.Bool.{both_ways}
 use Rattle.satl_base.specs.declared.reply.Reply.{Reply}
 use Rattle.satl_base.specs.Cells.{Cell}
 use Rattle.satl_base.specs.Lists.{IsIn, how_many}
@@ -33,10 +34,6 @@ use Rattle.satl_laws.proofs.Tasks.{IsPlainTask, may_eligible, tasks_plain}
 pub by_true : (A B : Type 0) (b : Bool) → b ≡ true → MatchBool b A B → A
 by_true A B true h m = m
 by_true A B false h m = absurd cc
-
--- a lost link is not up
-pub both_ways : (b : Bool) → b ≡ true → b ≡ false → ⊥
-both_ways b h k = let no : true ≡ false = sym h ∙ k in cc
 
 -- a device that is down stays down when a task ends
 pub one_down : (s new : Device) (reply : Reply) → s.down ≡ true → OneEnds s reply new → new.down ≡ true
@@ -106,7 +103,7 @@ module _ (first : Device) (exact : Bool) where
   }
     where
       was_up : new.down ≡ false → s.down ≡ false
-      was_up up = by_test (λ b. s.down ≡ b → s.down ≡ false) s.down (λ yes h. absurd (both_ways new.down (one_down s new reply h e) up)) (λ no h. h) refl
+      was_up up = by_test (λ b. s.down ≡ b → s.down ≡ false) s.down (λ yes h. absurd (both_ways new.down up (one_down s new reply h e))) (λ no h. h) refl
 
       there : IsIn e.task s.tasks
       there = eligible_in s.tasks e.task (may_eligible s e.task e.may)

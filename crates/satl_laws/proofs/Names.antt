@@ -28,21 +28,6 @@ none_in p (x ∷ xs) y h i = ⊎_elim (λ same. ap p same ∙ or_left (p x) (lis
 pub called_self : (t : Entry) → is_called t.nexus (t.tag).0 t ≡ true
 called_self t = ap (λ b. b && ((t.tag).0 == (t.tag).0)) (eq-eqb t.nexus t.nexus refl) ∙ eq-eqb (t.tag).0 (t.tag).0 refl
 
--- and two that have one name have each other's
-pub called_back : (t u : Entry) → is_called t.nexus (t.tag).0 u ≡ true → is_called u.nexus (u.tag).0 t ≡ true
-called_back t u h =
-    let nexus : u.nexus ≡ t.nexus = eqb-true u.nexus t.nexus (both_left (u.nexus == t.nexus) ((u.tag).0 == (t.tag).0) h) in
-    let tag : (u.tag).0 ≡ (t.tag).0 = eqb-true (u.tag).0 (t.tag).0 (both_right (u.nexus == t.nexus) ((u.tag).0 == (t.tag).0) h) in
-    ap (λ b. b && ((t.tag).0 == (u.tag).0)) (eq-eqb t.nexus u.nexus (sym nexus)) ∙ eq-eqb (t.tag).0 (u.tag).0 (sym tag)
-
--- and so have two that have not
-pub called_apart : (t u : Entry) → is_called t.nexus (t.tag).0 u ≡ false → is_called u.nexus (u.tag).0 t ≡ false
-called_apart t u h = decide (is_called u.nexus (u.tag).0 t) refl
-  where
-    decide : (b : Bool) → is_called u.nexus (u.tag).0 t ≡ b → is_called u.nexus (u.tag).0 t ≡ false
-    decide false e = e
-    decide true e = let no : true ≡ false = sym (called_back u t e) ∙ h in absurd cc
-
 -- a request asks by its own nexus and tag
 pub asks_self : (r : Request) → asks_by r.nexus (r.tag).0 (frames.Request r) ≡ true
 asks_self r = ap (λ b. b && ((r.tag).0 == (r.tag).0)) (eq-eqb r.nexus r.nexus refl) ∙ eq-eqb (r.tag).0 (r.tag).0 refl
