@@ -2,7 +2,7 @@
 use Rattle.std.proofs.Common.{◌≡◌, ⊎_elim, refl, sym, ap, ◌∙◌, subst, ℕ, true, false, List, [], ◌∷◌, ◌++◌, map}
 use Rattle.std.proofs.lemmas.List.{append-nil}
 use Rattle.std.specs.List.{AllByRecursion}
-use Rattle.std.proofs.lemmas.Bool.{both_ways}
+use Rattle.std.proofs.lemmas.Bool.{both_ways, and_parts}
 use Rattle.satl_base.specs.declared.bench.BenchEvent.{BenchEvent}
 use Rattle.satl_base.specs.declared.bench.BenchEvent.TheVariants as events
 use Rattle.satl_base.specs.declared.request.Request.{Request}
@@ -30,7 +30,6 @@ use Rattle.satl_audit.proofs.Stepping.{Behind, behind_now, quiet_bare, quiet_beh
 use Rattle.satl_audit.proofs.ArrivalSplit.{arrival_bare, arrives_split}
 use Rattle.satl_audit.proofs.Turning.{turns_split}
 use Rattle.satl_audit.proofs.Links.{not_lost}
-use Rattle.satl_laws.proofs.Cases.{both_right}
 
 pub record EventSplit (first : List Cell) (ds : List Deed) (event : Frame) (s : Device) (now : List Answer) (new : Device) : Type 0 where
   pub deeds : List Deed
@@ -115,7 +114,7 @@ module _ (first : List Cell) (ds : List Deed) (s new : Device) (now : List Answe
 
   pub event_split : (event : Frame) (deep : ℕ) → is_known_frame s.identity.trim event ≡ true → Does event s now new deep → losses_in event s new ≡ 0 → EventSplit first ds event s now new
   event_split (frames.Request r) deep k e l =
-      not_lost_arrival r e.0 (e.2).before (e.2).after (both_right (is_unit_0 r.lun) (is_known (says r.cdb s.identity.trim)) k) e.1 (e.2).quiet_before (e.2).step (e.2).quiet_after (not_lost s new h.up l)
+      not_lost_arrival r e.0 (e.2).before (e.2).after (and_parts (is_unit_0 r.lun) (is_known (says r.cdb s.identity.trim)) k).1 e.1 (e.2).quiet_before (e.2).step (e.2).quiet_after (not_lost s new h.up l)
   event_split (frames.Manage m) deep k e l = absurd cc
   event_split (frames.Turn n) deep k e l = turn_event n e.1 e.0 e.2 e.3 (not_lost s new h.up l)
   event_split (frames.Bench event) deep k e l = bench_split event e.0 k e.1 e.2

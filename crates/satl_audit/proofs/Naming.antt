@@ -2,19 +2,18 @@
 use Rattle.std.proofs.Common.{◌≡◌, ⊎_elim, refl, sym, ◌∙◌, subst, Bool, true, false, List, [], ◌∷◌}
 use Rattle.std.specs.Prelude.{if◌then◌else◌}
 use Rattle.std.specs.List.{list_any}
-use Rattle.std.proofs.lemmas.Bool.{both_ways}
+use Rattle.std.proofs.lemmas.Bool.{both_ways, or_parts}
 use Rattle.satl_base.specs.Lists.{IsIn, remove_first}
 use Rattle.satl_line.specs.declared.entry.Entry.{Entry}
 use Rattle.satl_direct.specs.Device.{is_called}
 use Rattle.satl_direct.specs.Valid.{AreOwn}
 use Rattle.satl_direct.proofs.Naming.{called_back}
-use Rattle.satl_laws.proofs.Cases.{or_left, or_right}
 
 none_removed : {X : Type 0} (p q : X → Bool) (xs : List X) → list_any p xs ≡ false → list_any p (remove_first q xs) ≡ false
 none_removed p q [] h = refl
 none_removed p q (x ∷ xs) h =
     elim (q x) as (λ b. list_any p (if b then xs else x ∷ remove_first q xs) ≡ false)
-    [ true ↦ or_right (p x) (list_any p xs) h | false ↦ rw (or_left (p x) (list_any p xs) h) (none_removed p q xs (or_right (p x) (list_any p xs) h)) ]
+    [ true ↦ (or_parts (p x) (list_any p xs) h).1 | false ↦ rw (or_parts (p x) (list_any p xs) h).0 (none_removed p q xs (or_parts (p x) (list_any p xs) h).1) ]
 
 pub own_removed : (q : Entry → Bool) (ts : List Entry) → AreOwn ts → AreOwn (remove_first q ts)
 own_removed q [] h = h
@@ -34,6 +33,6 @@ called_there (v ∷ ts) t u own i j h =
     none_here [] v w none k e = k
     none_here (x ∷ ts) v w none k e =
         ⊎_elim
-        (λ s. both_ways _ (or_left (is_called v.nexus (v.tag).0 x) (list_any (is_called v.nexus (v.tag).0) ts) none) (subst (λ y. is_called v.nexus (v.tag).0 y ≡ true) s e))
-        (λ l. none_here ts v w (or_right (is_called v.nexus (v.tag).0 x) (list_any (is_called v.nexus (v.tag).0) ts) none) l e)
+        (λ s. both_ways _ (or_parts (is_called v.nexus (v.tag).0 x) (list_any (is_called v.nexus (v.tag).0) ts) none).0 (subst (λ y. is_called v.nexus (v.tag).0 y ≡ true) s e))
+        (λ l. none_here ts v w (or_parts (is_called v.nexus (v.tag).0 x) (list_any (is_called v.nexus (v.tag).0) ts) none).1 l e)
         k

@@ -2,6 +2,7 @@
 use Rattle.std.proofs.Common.{◌≡◌, ◌⊎◌, ⊎_elim, inl, inr, refl, sym, ap, ◌∙◌, subst, ℕ, suc, Bool, true, false, List, [], ◌∷◌, ◌++◌}
 use Rattle.std.specs.Prelude.{max, not, ◌&&◌, MatchBool}
 use Rattle.std.proofs.lemmas.List.{append-nil}
+use Rattle.std.proofs.lemmas.Bool.{MatchBool-at_true}
 use Rattle.satl_base.specs.declared.reply.Reply.{Reply}
 use Rattle.satl_base.specs.Cells.{Cell}
 use Rattle.satl_direct.specs.Device.{Device}
@@ -12,7 +13,6 @@ use Rattle.satl_direct.specs.Quiet.{Around, Quiet}
 use Rattle.satl_direct.specs.Run.{TurnsOf, depth}
 use Rattle.satl_direct.specs.Turn.{OneEnds, Turn}
 use Rattle.satl_direct.specs.Turn.Turn.{idle, ends, loses, ends_and_loses}
-use Rattle.satl_laws.proofs.InOrderSteps.{by_true}
 use Rattle.satl_audit.specs.Deeds.{Deed, DoneBy, Walks}
 use Rattle.satl_audit.specs.Deeds.Deed.{shows}
 use Rattle.satl_audit.specs.Skeleton.{TaskDone, TurnsDone, bare, shown}
@@ -26,7 +26,7 @@ one_down : (s : Device) (reply : Reply) (new : Device) → OneEnds s reply new �
 one_down s reply new e h =
     let t = e.task in
     let c : IsChecked link_lost s t reply new =
-    by_true (IsChecked link_lost s t reply new) (MatchBool (not s.started && (asks t.command).starts) (IsChecked not_ready s t reply new) (EndsBy t.command s t reply new)) s.down h e.ends in
+    MatchBool-at_true (IsChecked link_lost s t reply new) (MatchBool (not s.started && (asks t.command).starts) (IsChecked not_ready s t reply new) (EndsBy t.command s t reply new)) h e.ends in
     ap (λ (x : Device). x.down) c.stays ∙ h
 
 turn_down : (s : Device) (replies : List Reply) (new : Device) → Turn s replies new → s.down ≡ true → new.down ≡ true

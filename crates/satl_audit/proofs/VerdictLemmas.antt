@@ -77,7 +77,9 @@ module _ (input : List ℕ) (n : ℕ) (ds : List Deed) where
   one_refuses : SomeRefuses input ds (replicate n blank_keeping) → EachSectored 0 (replicate n blank_cell) ds → ⊥
   one_refuses r e =
       let here : r.0 ≡ 0 + r.0 = omega arith in
-      both_ways _ (ap (λ (s : Sector). is_some (along r.0 None ds (Some s))) (sym (blank_at input n r.0)) ∙ ap (λ (o : Option Sector). is_some o) r.2) (sym (sectored_along r.0 None ds (Some blank_sector)) ∙ ap (λ y. sectored y None ds (Some blank_sector)) here ∙ of_each ds n 0 e r.0 (omega (arith, r.1, size_blank n)))
+      both_ways _
+      (ap (λ (s : Sector). is_some (along r.0 None ds (Some s))) (sym (blank_at input n r.0)) ∙ ap (λ (o : Option Sector). is_some o) r.2)
+      (sym (sectored_along r.0 None ds (Some blank_sector)) ∙ ap (λ y. sectored y None ds (Some blank_sector)) here ∙ of_each ds n 0 e r.0 (omega (arith, r.1, size_blank n)))
 
 -- ---- verdicts
 

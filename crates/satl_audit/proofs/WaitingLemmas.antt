@@ -1,10 +1,11 @@
 -- Tasks that wait, and the places of their data-out.
 use Rattle.std.proofs.Common.{arith, ◌≡◌, refl, sym, ap, ◌∙◌, subst, ℕ, zero, suc, ◌+◌, Bool, true, false, List, [], ◌∷◌, ◌++◌, length}
-use Rattle.std.specs.Prelude.{◌==◌, ◌||◌, ◌<◌, if◌then◌else◌, nat_lt, Option, Some, None, slice_get, slice_index, slice_set}
+use Rattle.std.specs.Prelude.{◌==◌, ◌||◌, ◌<◌, if◌then◌else◌, nat_lt, Some, slice_get, slice_index, slice_set}
 use Rattle.std.proofs.Math.ListN.{set}
 use Rattle.std.specs.Option.{option_map}
 use Rattle.std.proofs.lemmas.Bool.{eqb-false}
 use Rattle.std.proofs.lemmas.List.{get_or-set_other, get_or-set_same, length-map, map-append}
+use Rattle.std.proofs.lemmas.Option.{same_Some}
 use Rattle.satl_base.specs.Limits.{most_held, most_tasks}
 use Rattle.satl_line.specs.declared.entry.Entry.{Entry}
 use Rattle.satl_line.specs.Tasks.{Adds, Held, count_of, entries_of, is_too_much, slots_of, total_blocks}
@@ -46,18 +47,11 @@ last_slot : (old : List Held) (h : Held) → slice_get (slots_of (old ++ h ∷ [
 last_slot [] h = refl
 last_slot (x ∷ old) h = last_slot old h
 
-some_same : (a b : ℕ) → Some a ≡ Some b → a ≡ b
-some_same a b e = ap (λ (o : Option ℕ). value o) e
-  where
-    value : Option ℕ → ℕ
-    value None = 0
-    value (Some n) = n
-
 -- a task comes last
 pub placed_last : (places : List ℕ) (old new : List Held) (ps : List Placed) (entry : Entry) (slot at : ℕ) → placed_in places old ≡ ps → Adds old entry new → slice_get (slots_of new) (length old) ≡ Some slot → slot < length places →
     placed_in (slice_set places slot at) new ≡ ps ++ record { entry = entry; at = at } ∷ []
 placed_last places old new ps entry slot at is a found small =
-    let same : a.slot ≡ slot = some_same a.slot slot (sym (last_slot old (record { slot = a.slot; entry = entry })) ∙ ap (λ (l : List Held). slice_get (slots_of l) (length old)) (sym a.last) ∙ found) in
+    let same : a.slot ≡ slot = same_Some a.slot slot (sym (last_slot old (record { slot = a.slot; entry = entry })) ∙ ap (λ (l : List Held). slice_get (slots_of l) (length old)) (sym a.last) ∙ found) in
     ap (placed_in (slice_set places slot at)) a.last
     ∙ map-append (place_held (slice_set places slot at)) old (record { slot = a.slot; entry = entry } ∷ [])
     ∙ ap (λ (l : List Placed). l ++ record { entry = entry; at = slice_index (slice_set places slot at) a.slot } ∷ []) (places_other places slot at old (subst (λ n. count_of n (slots_of old) ≡ 0) same a.vacant) ∙ is)
@@ -66,5 +60,5 @@ placed_last places old new ps entry slot at is a found small =
 -- the place that is kept for a task
 pub at_place : (places : List ℕ) (tasks : List Held) (place slot : ℕ) → slice_get (slots_of tasks) place ≡ Some slot → option_map (λ (p : Placed). p.at) (slice_get (placed_in places tasks) place) ≡ Some (slice_index places slot)
 at_place places [] place slot h = absurd cc
-at_place places (t ∷ tasks) zero slot h = ap (λ n. Some (slice_index places n)) (some_same t.slot slot h)
+at_place places (t ∷ tasks) zero slot h = ap (λ n. Some (slice_index places n)) (same_Some t.slot slot h)
 at_place places (t ∷ tasks) (suc place) slot h = at_place places tasks place slot h

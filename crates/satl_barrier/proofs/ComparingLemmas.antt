@@ -1,6 +1,6 @@
 -- Blocks that are read, compared with those that are wanted.
-use Rattle.std.proofs.Common.{◌≡◌, refl, sym, ap, arith, ◌∙◌, ℕ, suc, ◌+◌, ◌≤◌, Bool, true, false, List, ◌∷◌, ◌++◌, length, map, take, drop, Some, None, Bor, take_all}
-use Rattle.std.specs.Prelude.{Option, nat_eq, not, ◌-◌}
+use Rattle.std.proofs.Common.{◌≡◌, sym, ap, arith, ◌∙◌, ℕ, suc, ◌+◌, ◌≤◌, Bool, true, false, List, ◌∷◌, ◌++◌, length, map, take, drop, Some, None, Bor, take_all}
+use Rattle.std.specs.Prelude.{Option, nat_eq, ◌-◌}
 use Rattle.std.specs.Option.{option_eq}
 use Rattle.std.specs.Iterator.{YieldsFirstRef}
 use Rattle.std.specs.Cmp.Lexicographic.{pointwise, other_text, same_text}
@@ -79,14 +79,6 @@ none_same left k wanted read is next each a =
     sym (ap (take (suc k)) next.read_is) ∙ (sym (ap (λ n. take n read) is) ∙ (each a ∙ (ap (λ n. take n wanted) is ∙ ap (take (suc k)) next.wanted_is))) in
     let heads : next.second ≡ next.first = cc in
     next.differ (sym heads)
-
-pub not_is : (t b : Bool) → t ≡ not b → t ≡ false → true ≡ b
-not_is t true is clear = refl
-not_is t false is clear = let x : true ≡ false = sym is ∙ clear in cc
-
-pub is_not : (t b : Bool) → t ≡ not b → t ≡ true → false ≡ b
-is_not t true is set = let x : false ≡ true = sym is ∙ set in cc
-is_not t false is set = refl
 
 -- ---- what reads give
 

@@ -1,6 +1,7 @@
 -- Tests, where the lemmas of the standard library do not have it.
 use Rattle.std.proofs.Common.{◌≡◌, refl, sym, ◌∙◌, ℕ, Bool, true, false, eq-eqb, eqb-true}
-use Rattle.std.specs.Prelude.{MatchBool, not, ◌==◌}
+use Rattle.std.specs.Prelude.{MatchBool, not, ◌&&◌, ◌==◌}
+use Rattle.std.proofs.lemmas.Bool.{not-false, not-true}
 
 -- numbers are compared either way
 pub eqb-sym : (a b : ℕ) → (a == b) ≡ (b == a)
@@ -17,6 +18,17 @@ differ-sym a b h = eqb-sym b a ∙ h
 pub not-not : (b : Bool) → not (not b) ≡ b
 not-not true = refl
 not-not false = refl
+
+pub and_true : (b : Bool) → (b && true) ≡ b
+and_true true = refl
+and_true false = refl
+
+-- a test that is the opposite of another
+pub opposite_false : (t b : Bool) → t ≡ not b → t ≡ false → b ≡ true
+opposite_false t b is clear = not-false b (sym is ∙ clear)
+
+pub opposite_true : (t b : Bool) → t ≡ not b → t ≡ true → b ≡ false
+opposite_true t b is set = not-true b (sym is ∙ set)
 
 -- the case of a test that fails
 pub second_case : (A B : Type 0) (b : Bool) → b ≡ false → B → MatchBool b A B

@@ -2,6 +2,7 @@
 use Rattle.std.proofs.Common.{◌≡◌, ⊎_elim, refl, sym, ap, subst, ◌∙◌, arith, ℕ, zero, suc, ◌+◌, ◌≤◌, Bool, true, false, List, [], ◌∷◌, length, map, None, Some}
 use Rattle.std.specs.Prelude.{not, ◌||◌, ◌^◌, MatchBool}
 use Rattle.std.specs.List.{AllByRecursion, AllZip, list_any, remove}
+use Rattle.std.proofs.lemmas.Bool.{or_parts}
 use Rattle.satl_base.specs.declared.block.Block.{Block}
 use Rattle.satl_base.specs.declared.block.Range.{Range}
 use Rattle.satl_base.specs.declared.modes.Modes.{Modes}
@@ -59,11 +60,7 @@ valid_with_cells s new cells started active down glitches size sound same v =
 none_removed : (q : Entry → Bool) (ts : List Entry) (place : ℕ) → list_any q ts ≡ false → list_any q (remove ts place) ≡ false
 none_removed q [] zero none = none
 none_removed q [] (suc place) none = none
-none_removed q (t ∷ ts) zero none = right (q t) (list_any q ts) none
-  where
-    right : (a b : Bool) → (a || b) ≡ false → b ≡ false
-    right true b e = absurd cc
-    right false b e = e
+none_removed q (t ∷ ts) zero none = (or_parts (q t) (list_any q ts) none).1
 none_removed q (t ∷ ts) (suc place) none = both (q t) (list_any q ts) none (none_removed q ts place)
   where
     both : (a b : Bool) → (a || b) ≡ false → (b ≡ false → list_any q (remove ts place) ≡ false) → (a || list_any q (remove ts place)) ≡ false

@@ -35,6 +35,7 @@ use Rattle.satl_direct.specs.Run.{bench_losses}
 use Rattle.satl_direct.specs.Valid.{IsValid}
 use Rattle.satl_core.specs.Benching.{Follows, IsActedOn, LosesLink, StartsAnew, StaysSame}
 use Rattle.satl_base.specs.Moves.{Moves}
+use Rattle.satl_base.proofs.Booleans.{not-not}
 use Rattle.satl_direct.specs.Quiet.{MayShow}
 use Rattle.satl_core.specs.Layer.{Layer, Tied, view, works}
 use Rattle.satl_core.proofs.AgreeingLemmas.{IsLeftDown, agrees_by, idle_in_flight, still_told, tied_lost, valid_with_cells}
@@ -183,10 +184,6 @@ tied_changed l new d d' change same fit tied =
     queue : IsInFlight l.flying l.tasks d
     queue = tied.agrees.queue
 
-twice : (b : Bool) → b ≡ not (not b)
-twice true = refl
-twice false = refl
-
 -- the device after a power cycle is valid
 valid_powered : (l : Layer) (d d' : DriveState) (slots : Slots) (free out : ℕ) → IsPowerCycled d d' → IsValid (view l d) → IsValid (view (record l { modes = defaults l.identity; started = true; down = false; attentions = replicate 4 (PowerOn ∷ []); tasks = []; flying = []; slots = slots; free = free; out = out }) d')
 valid_powered l d d' slots free out p v = record {
@@ -214,7 +211,7 @@ tied_powered l new d d' replies p r fit tied =
         queue = idle_in_flight [] d' (ap (λ (x : DriveState). x.outstanding) p.stays) (ap (λ (x : DriveState). x.error) p.stays) tt (omega (arith, ap (λ (x : DriveState). x.capacity) p.stays, tied.agrees.queue.small));
         fit = fit;
         cache = λ up. ap (λ (x : DriveState). x.cache) p.stays ∙ noted.cache;
-        look = λ up. ap (λ (x : DriveState). x.look) p.stays ∙ (noted.look ∙ twice l.identity.look);
+        look = λ up. ap (λ (x : DriveState). x.look) p.stays ∙ (noted.look ∙ sym (not-not l.identity.look));
         told = retold l.identity.bytes d.identify d'.identify d.cache d.look d'.cache d'.look (bytes_long l d tied.agrees) (all_bytes d'.identify fit.bytes) tied.agrees.told (subst (λ b. IsTelling b d'.look d.identify d'.identify) (sym (ap (λ (x : DriveState). x.cache) p.stays)) (subst (λ b. IsTelling (has_cache d.identify) b d.identify d'.identify) (sym (ap (λ (x : DriveState). x.look) p.stays)) p.tells));
         valid = valid_powered l d d' new.slots new.free new.out p tied.agrees.valid;
       };

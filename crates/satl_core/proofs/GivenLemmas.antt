@@ -5,6 +5,7 @@ use Rattle.std.specs.Option.{option_map}
 use Rattle.std.specs.List.{AllByRecursion, AllZip, find, list_any}
 use Rattle.std.proofs.lemmas.List.{length-map}
 use Rattle.satl_base.specs.declared.modes.Modes.{Modes}
+use Rattle.satl_base.proofs.Booleans.{eqb-sym}
 use Rattle.satl_cdb.specs.declared.command.Command.{Command}
 use Rattle.satl_cdb.specs.declared.command.Command.TheVariants as commands
 use Rattle.satl_identify.specs.declared.identity.Identity.{Identity}
@@ -171,14 +172,6 @@ module _ (tasks : List Held) (modes : Modes) (started : Bool) (attentions : List
 
 -- ---- what is given is apart
 
-flip : (a b : ℕ) → (a == b) ≡ (b == a)
-flip a b = go (a == b) refl (b == a) refl
-  where
-    go : (x : Bool) → (a == b) ≡ x → (y : Bool) → (b == a) ≡ y → (a == b) ≡ (b == a)
-    go true e y f = e ∙ sym (eq-eqb b a (sym (eqb-true a b e)))
-    go false e true f = let no : (a == b) ≡ true = eq-eqb a b (sym (eqb-true b a f)) in absurd cc
-    go false e false f = e ∙ sym f
-
 any_found : (p : Entry → Bool) (q : Held → Bool) (hs : List Held) (b : Held) → list_any p (map task_of (entries_of hs)) ≡ false → find q hs ≡ Some b → p (task_of b.entry) ≡ false
 any_found p q [] b none found = absurd cc
 any_found p q (h ∷ hs) b none found = go (p (task_of h.entry)) refl none (q h) refl found (λ n f. any_found p q hs b n f)
@@ -212,7 +205,7 @@ given_apart tasks (f ∷ fs) own apart found = (tags fs apart.0, names fs apart.
   where
     tags : (gs : List Flying) → AllByRecursion (λ (g : Flying). ((f.slot == g.slot) ≡ false) × ((f.tag == g.tag) ≡ false)) gs → list_any (λ (h : Given). h.tag == f.tag) (map (given_of tasks) gs) ≡ false
     tags [] all = refl
-    tags (g ∷ gs) all = ap (λ b. b || list_any (λ (h : Given). h.tag == f.tag) (map (given_of tasks) gs)) (flip g.tag f.tag ∙ all.0.1) ∙ tags gs all.1
+    tags (g ∷ gs) all = ap (λ b. b || list_any (λ (h : Given). h.tag == f.tag) (map (given_of tasks) gs)) (eqb-sym g.tag f.tag ∙ all.0.1) ∙ tags gs all.1
 
     task_is : (g : Flying) (h : Held) → find (is_in_slot g.slot) tasks ≡ Some h → (given_of tasks g).task ≡ task_of h.entry
     task_is g h at = ap (λ x. unwrap_or (option_map (λ (k : Held). task_of k.entry) x) no_entry) at

@@ -5,6 +5,7 @@ use Rattle.satl_base.specs.declared.block.Block.{Block}
 use Rattle.satl_base.specs.declared.modes.Modes.{Modes}
 use Rattle.satl_base.proofs.LossesLemmas.{loses-nows, loses-sound}
 use Rattle.satl_base.specs.Identify.{has_cache, has_look, look_is_on}
+use Rattle.satl_base.proofs.Booleans.{not-not}
 use Rattle.satl_identify.specs.declared.identity.Identity.{Identity}
 use Rattle.satl_identify.specs.declared.identity.IdentityFault.{IdentityFault}
 use Rattle.satl_identify.specs.Data.{identity_data}
@@ -42,10 +43,6 @@ off : (on has : Bool) → (on ≡ true → has ≡ true) → has ≡ false → o
 off true has must none = let has_it = must refl in absurd cc
 off false has must none = refl
 
-twice : (b : Bool) → not (not b) ≡ b
-twice true = refl
-twice false = refl
-
 -- the data of a drive that fits them are those of themselves, with its settings in them
 own : (old new : DriveState) → new ≡ record old { cells = new.cells } → IsFit old → Unbroken rules old.identify → TellsOf old.identify new
 own old new stays fit right =
@@ -63,7 +60,7 @@ agrees old new given taken i modes slots free idle no_error told fit fit' judged
       queue = idle_in_flight [] new (ap (λ (d : DriveState). d.outstanding) told.stays ∙ idle) (ap (λ (d : DriveState). d.error) told.stays ∙ no_error) tt (omega (arith, (capacity_bounds i (subst (λ b. identity_of b ≡ Ok i) (ap (λ (j : Identity). j.bytes) say) judged)).1, ap (λ (d : DriveState). d.capacity) told.stays, fit.told, ap (λ (j : Identity). j.capacity) say));
       fit = fit';
       cache = λ up. ap (λ (d : DriveState). d.cache) told.stays ∙ (sym fit.cache_told ∙ (ap (λ (j : Identity). j.cache_on) say ∙ sym wce));
-      look = λ up. ap (λ (d : DriveState). d.look) told.stays ∙ (sym fit.look_told ∙ (ap (λ (j : Identity). j.look_on) say ∙ (sym (twice i.look_on) ∙ ap not (sym dra))));
+      look = λ up. ap (λ (d : DriveState). d.look) told.stays ∙ (sym fit.look_told ∙ (ap (λ (j : Identity). j.look_on) say ∙ (sym (not-not i.look_on) ∙ ap not (sym dra))));
       told = subst (λ b. TellsOf b new) (ap (λ (j : Identity). j.bytes) say) (own old new told.stays fit (unbroken old.identify i judged).0);
       valid = record {
         identity = subst (λ b. identity_of b ≡ Ok i) (ap (λ (j : Identity). j.bytes) say) judged;

@@ -1,7 +1,7 @@
 -- ATA PASS-THROUGH: what its command does on the drive is what the device says.
 use Rattle.std.proofs.Common.{◌≡◌, ◌⊎◌, ⊎_elim, inl, inr, refl, sym, ap, subst, ◌∙◌, arith, ℕ, ◌+◌, ◌*◌, ◌≤◌, Bool, true, false, List, [], ◌∷◌, length}
 use Rattle.std.specs.Prelude.{MatchBool, MatchOption, Option, Some, None, if◌then◌else◌, not, ◌==◌, ◌&&◌, ◌||◌, nat_lt}
-use Rattle.std.proofs.lemmas.Bool.{eqb-true, not-false}
+use Rattle.std.proofs.lemmas.Bool.{eqb-true, not-false, and_right}
 use Rattle.std.proofs.lemmas.List.{length-take, take_all}
 use Rattle.satl_base.specs.declared.block.Block.{Block}
 use Rattle.satl_base.specs.declared.modes.Modes.{Modes}
@@ -11,6 +11,7 @@ use Rattle.satl_base.specs.Cells.{Pair, first_flaw}
 use Rattle.satl_base.specs.Lists.{IsIn}
 use Rattle.satl_base.proofs.MovesLemmas.{lose_once}
 use Rattle.satl_base.proofs.BlocksLemmas.{length-bytes_of}
+use Rattle.satl_base.proofs.Booleans.{not-not}
 use Rattle.satl_cdb.specs.declared.command.Command.TheVariants as cdbs
 use Rattle.satl_identify.specs.declared.identity.Identity.{Identity}
 use Rattle.satl_identify.specs.Data.{identity_data}
@@ -164,15 +165,11 @@ same_form (ata.SetFeatures what) false modes = by (setting_of what)
     by (Some (sets_look on)) = refl
 same_form c false modes = refl
 
-twice : (b : Bool) → not (not b) ≡ b
-twice true = refl
-twice false = refl
-
 -- mode values by the settings of a medium
 modes_of : (modes set : Modes) (m : Medium) → AreSet set m → set.d_sense ≡ modes.d_sense → record modes { wce = m.cache; dra = not m.look } ≡ set
 modes_of modes set m are form =
     ap (λ b. record modes { wce = b; dra = not m.look }) are.cache
-    ∙ (ap (λ b. record modes { wce = set.wce; dra = b }) (ap not are.look ∙ twice set.dra)
+    ∙ (ap (λ b. record modes { wce = set.wce; dra = b }) (ap not are.look ∙ not-not set.dra)
     ∙ ap (λ b. record { wce = set.wce; dra = set.dra; d_sense = b }) (sym form))
 
 -- ---- how it ends
@@ -323,13 +320,9 @@ module _ (identity : Identity) (modes : Modes) (started : Bool) (attentions : Li
         subst (λ e. EndsOne before (ended_reply (record task { body = taken }) e modes.d_sense) (seen identity (where_done e (set_by command modes) modes) started attentions others d')) (sym x.told)
         (subst (λ m. EndsOne before reply (seen identity m started attentions others d')) left_is
         (ends_around before before mid (seen identity left started attentions others d') (task_of task) others reply (quiet_none before) refl
-        (ends_by before (task_of task) reply mid set.up (never started) (passes (refused_all command pass.regs (medium_of before) entry.body x.ended taken x.is.after does)))
+        (ends_by before (task_of task) reply mid set.up (and_right (not started) false refl) (passes (refused_all command pass.regs (medium_of before) entry.body x.ended taken x.is.after does)))
         (record {
           cells = lose_once x.is.lost;
           active = inl (ap (λ (y : DriveState). y.active) x.is.stays);
           stays = ap (λ (y : DriveState). record mid { cells = d'.cells; active = d'.active; down = y.down; glitches = y.glitches }) x.is.stays;
         })))
-      where
-        never : (b : Bool) → (not b && false) ≡ false
-        never true = refl
-        never false = refl

@@ -2,6 +2,7 @@
 use Rattle.std.proofs.Common.{◌≡◌, inl, ⊎_elim, refl, sym, ap, subst, ◌∙◌, ◌-◌, arith, ◌+◌, ◌≤◌, true, false, Bool, List, [], ◌∷◌, ◌++◌, length, map, cond, Some, eqb-true, eq-eqb}
 use Rattle.std.specs.Prelude.{not, ◌||◌, ◌==◌, filter, MatchBool}
 use Rattle.std.specs.List.{AllByRecursion, find}
+use Rattle.std.proofs.lemmas.Bool.{or_right}
 use Rattle.satl_base.specs.declared.modes.Modes.{Modes}
 use Rattle.satl_base.specs.declared.reply.Reply.{Reply}
 use Rattle.satl_base.specs.Lists.{IsIn}
@@ -37,13 +38,9 @@ use Rattle.satl_core.proofs.ValidLemmas.{valid_left}
 
 -- ---- the others stay outstanding
 
-or_true : (a b : Bool) → b ≡ true → (a || b) ≡ true
-or_true true b e = refl
-or_true false b e = e
-
 in_holds : (flying : List Flying) (f : Flying) → IsIn f flying → holds flying f.slot ≡ true
 in_holds [] f i = absurd i
-in_holds (g ∷ flying) f i = ⊎_elim (λ e. ap (λ b. b || holds flying f.slot) (eq-eqb g.slot f.slot (ap (λ (x : Flying). x.slot) (sym e)))) (λ later. or_true (g.slot == f.slot) (holds flying f.slot) (in_holds flying f later)) i
+in_holds (g ∷ flying) f i = ⊎_elim (λ e. ap (λ b. b || holds flying f.slot) (eq-eqb g.slot f.slot (ap (λ (x : Flying). x.slot) (sym e)))) (λ later. or_right (g.slot == f.slot) (holds flying f.slot) (in_holds flying f later)) i
 
 all_in : (P : Flying → Type 0) (fs : List Flying) → ((f : Flying) → IsIn f fs → P f) → AllByRecursion P fs
 all_in P [] each = tt

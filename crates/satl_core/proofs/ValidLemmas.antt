@@ -1,8 +1,8 @@
 -- Each step of the layer leaves a valid device.
 use Rattle.std.proofs.Common.{◌≡◌, ⊎_elim, inl, refl, sym, ap, subst, ◌∙◌, arith, cond, ℕ, zero, suc, ◌+◌, ◌≤◌, Bool, true, false, List, [], ◌∷◌, ◌++◌, length, map, take, drop, get_or, set, Some, None}
-use Rattle.std.specs.Prelude.{Option, Ok, MatchBool, not, ◌||◌, ◌==◌, ◌*◌, nat_lt, filter, replicate, IfSome}
+use Rattle.std.specs.Prelude.{Option, Ok, MatchBool, not, ◌==◌, ◌*◌, nat_lt, filter, replicate, IfSome}
 use Rattle.std.specs.List.{AllByRecursion, list_any}
-use Rattle.std.proofs.lemmas.Bool.{eq-eqb, eqb-false, eqb-true, ltb-false}
+use Rattle.std.proofs.lemmas.Bool.{eqb-false, ltb-false, not-false, or_parts}
 use Rattle.std.proofs.lemmas.List.{length-append, length-replicate, length-set}
 use Rattle.std.proofs.Math.Seq.{take-append_seam}
 use Rattle.satl_base.specs.declared.modes.Modes.{Modes}
@@ -55,24 +55,6 @@ use Rattle.satl_core.proofs.ServedLemmas.{still}
 use Rattle.satl_core.proofs.LeavingLemmas.{found_is, left_tasks}
 
 -- ---- tests
-
-neither : (a b : Bool) → (a || b) ≡ false → (a ≡ false) × (b ≡ false)
-neither true b e = absurd cc
-neither false b e = (refl, e)
-
-or_false : (a b : Bool) → a ≡ false → b ≡ false → (a || b) ≡ false
-or_false true b one other = absurd cc
-or_false false b one other = other
-
-eqb_both : (a b : ℕ) → (a == b) ≡ (b == a)
-eqb_both a b =
-    (elim (a == b) as (λ t. (a == b) ≡ t → t ≡ (b == a)) [
-      | true ↦ λ is. sym (eq-eqb b a (sym (eqb-true a b is)))
-      | false ↦ λ is. (elim (b == a) as (λ t. (b == a) ≡ t → false ≡ t) [
-        | true ↦ λ back. let same = eqb-true b a back in let apart = eqb-false a b is in absurd (omega (arith, same, apart))
-        | false ↦ λ back. refl
-      ]) refl
-    ]) refl
 
 -- ---- tasks that go
 
@@ -189,7 +171,7 @@ valid_with s t room fits apart come v =
 added_valid : (l new : Layer) (d : DriveState) (r : Request) (c : Command) (replies : List Reply) → judged l r ≡ Ok c → is_too_much l.tasks (task_without_pages r c l.identity.queued_trim) ≡ false → IsAdded r c l replies new → r.data_len ≤ 512 * length r.body → IsExpectable r.expected → IsValid (view l d) → IsValid (view new d)
 added_valid l new d r c replies e fits a pages expected v =
     let room : is_full (map task_of (entries_of l.tasks)) c ≡ false = full_is l.tasks r c l.identity.queued_trim ∙ fits in
-    let both = neither (length (map task_of (entries_of l.tasks)) == 64) (nat_lt 32768 (held_by (map task_of (entries_of l.tasks)) + held_blocks c)) room in
+    let both = or_parts (length (map task_of (entries_of l.tasks)) == 64) (nat_lt 32768 (held_by (map task_of (entries_of l.tasks)) + held_blocks c)) room in
     let apart : overlaps l.tasks r ≡ false = by_ok (λ unit over what. over ≡ false) (is_for_unit r) (overlaps l.tasks r) (attention_of l.attentions r) l r c (λ ok. refl) e in
     let answer : code_answer l r ≡ Ok c = by_ok (λ unit over what. code_answer l r ≡ Ok c) (is_for_unit r) (overlaps l.tasks r) (attention_of l.attentions r) l r c (λ ok. ok) e in
     subst IsValid (sym (ap (λ x. view x d) a.stays ∙ ap (λ ts. record (view l d) { tasks = ts }) a.last))
@@ -299,16 +281,12 @@ wanted_look identity modes wanted change has is wants valid may none = ap (λ (m
 set_valid : (identity : Identity) (modes : Modes) (d : DriveState) → IsFit d → has_cache d.identify ≡ identity.cache → has_look d.identify ≡ identity.look → d.cache ≡ modes.wce → d.look ≡ not modes.dra → AreModesOf identity modes
 set_valid identity modes d fit has looks cache look = record {
   cache = λ none. sym cache ∙ off d.cache (λ is. sym (fit.cache is) ∙ (has ∙ none));
-  look = λ none. on modes.dra (sym look ∙ off d.look (λ is. sym (fit.look is) ∙ (looks ∙ none)));
+  look = λ none. not-false modes.dra (sym look ∙ off d.look (λ is. sym (fit.look is) ∙ (looks ∙ none)));
 }
   where
     off : (b : Bool) → (b ≡ true → true ≡ false) → b ≡ false
     off true has_none = let clash = has_none refl in absurd cc
     off false has_none = refl
-
-    on : (b : Bool) → not b ≡ false → b ≡ true
-    on true e = refl
-    on false e = absurd cc
 
 -- the first task is gone, with nothing outstanding, and the link is as it was
 pub agrees_rest : (l new : Layer) (wanted : Modes) (posting : Option Posting) (rest : List Held) (entry : Entry) (ending : Ending) (d d' : DriveState) → IsFirst l.tasks entry rest → IsKeptEntry l.identity entry → (l.down ≡ true → (sense : Sense) × (ending ≡ endings.Check sense))

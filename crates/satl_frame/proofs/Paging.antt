@@ -1,19 +1,15 @@
 -- Bytes in pages.
 use Rattle.std.proofs.Common.{◌≡◌, ℕ, zero, suc, ◌+◌, ◌-◌, ◌*◌, ◌/◌, ◌%◌, ◌<◌, ◌≤◌, min, List, [], ◌∷◌, ◌++◌, length, take, drop, reverse, replicate, refl, ◌∙◌, ap, sym, arith, append_assoc, inl, inr}
 use Rattle.std.proofs.lemmas.Bool.{cases_lt}
-use Rattle.std.proofs.lemmas.List.{take-append-drop, drop-drop, length-drop, length-append, length-take-le, length-replicate, length-reverse, reverse-append, take-append-le, drop-append-le, take_all, take_at, append-nil, replicate-append-replicate, drop-replicate, take-replicate}
+use Rattle.std.proofs.lemmas.List.{take-append-drop, drop-drop, length-drop, length-append, length-take-le, length-replicate, length-reverse, reverse-append, take-append-le, drop-append-le, take_all, take_at, append-nil, replicate-append-replicate, drop-replicate, take-replicate, nil_from_length}
 use Rattle.std.proofs.Math.Seq.{take-append-add, drop-append-add}
 use Rattle.std.specs.List.{AllByRecursion}
 use Rattle.satl_base.specs.declared.block.Block.{Block}
 use Rattle.satl_base.specs.Blocks.{bytes_of}
 use Rattle.satl_frame.specs.DataPages.{page_count, padded_block, pages_from, pages_of, zeros}
 
-nothing : {X : Type 0} (xs : List X) → length xs ≡ 0 → xs ≡ []
-nothing [] e = refl
-nothing (x ∷ xs) e = absurd (omega arith)
-
 drop_all : (n : ℕ) (xs : List ℕ) → length xs ≤ n → drop n xs ≡ []
-drop_all n xs l = nothing (drop n xs) (omega (arith, length-drop n xs))
+drop_all n xs l = nil_from_length (drop n xs) (omega (arith, length-drop n xs))
 
 -- 512 bytes are a block
 pub whole_block : (xs bytes : List ℕ) → 512 ≤ length xs → bytes ≡ take 512 xs → record { bytes = bytes } ≡ padded_block xs
@@ -105,7 +101,7 @@ padded_front xs ys l =
 -- whole pages, and others behind them
 pages_from-append : (q n : ℕ) (xs ys : List ℕ) → length xs ≡ 512 * q → pages_from (q + n) (xs ++ ys) ≡ pages_from q xs ++ pages_from n ys
 unfolding pages_from
-pages_from-append zero n xs ys l = let none : xs ≡ [] = nothing xs (omega arith) in rw none (ap (λ k. pages_from k ys) (omega arith))
+pages_from-append zero n xs ys l = let none : xs ≡ [] = nil_from_length xs (omega arith) in rw none (ap (λ k. pages_from k ys) (omega arith))
 pages_from-append (suc q) n xs ys l =
     let first : padded_block (xs ++ ys) ≡ padded_block xs = padded_front xs ys (omega arith) in
     let behind : drop 512 (xs ++ ys) ≡ drop 512 xs ++ ys = drop-append-le 512 xs ys (omega arith) in
@@ -152,7 +148,7 @@ chunk_placed count m chunk buffer short size is =
 bytes_of-pages_from : (n : ℕ) (xs : List ℕ) → length xs ≤ 512 * n → bytes_of (pages_from n xs) ≡ xs ++ replicate (512 * n - length xs) 0
 unfolding pages_from padded_block
 bytes_of-pages_from zero xs l =
-    let none : xs ≡ [] = nothing xs (omega arith) in rw none refl
+    let none : xs ≡ [] = nil_from_length xs (omega arith) in rw none refl
 bytes_of-pages_from (suc n) xs l =
     let next : bytes_of (pages_from n (drop 512 xs)) ≡ drop 512 xs ++ replicate (512 * n - length (drop 512 xs)) 0 =
     bytes_of-pages_from n (drop 512 xs) (omega (arith, length-drop 512 xs)) in

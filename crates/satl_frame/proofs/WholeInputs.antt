@@ -1,6 +1,7 @@
 -- Inputs that can be read to END.
 use Rattle.std.proofs.Common.{◌≡◌, ℕ, ◌+◌, List, [], ◌∷◌, ◌++◌, length, Option, Some, None, refl, ◌∙◌, ap, sym, subst, add-zero, arith, append_assoc}
 use Rattle.std.proofs.lemmas.List.{length-append, append-nil}
+use Rattle.std.proofs.lemmas.Option.{same_Some}
 use Rattle.satl_io.specs.Known.{Took}
 use Rattle.satl_frame.specs.Frames.{spelled, IsFrame}
 use Rattle.satl_frame.specs.Faults.{fault, frame_fault}
@@ -15,7 +16,7 @@ use Rattle.satl_frame.specs.declared.frames.Frame.TheVariants as frames
 use Rattle.satl_frame.specs.declared.frames.FrameFault.TheVariants.{Bad}
 use Rattle.satl_frame.specs.declared.frames.Place.{Place}
 use Rattle.satl_frame.proofs.OneReading.{same_frame, same_version}
-use Rattle.satl_frame.proofs.ProgressLemmas.{all_spelled-push, has_read_all, refused_there, some_same}
+use Rattle.satl_frame.proofs.ProgressLemmas.{all_spelled-push, has_read_all, refused_there}
 use Rattle.satl_frame.proofs.Refusals.{computed}
 use Rattle.satl_frame.proofs.Standing.{stands_good}
 
@@ -94,7 +95,7 @@ none_refused r input fs given rest mid left' reason offset all read none blames 
     by_place limit newest None left all (nothing, same) refused =
         let whole : Reads limit input all.place.version (fs ++ frames.End ∷ []) rest = has_read_all limit newest all.place input rest (fs ++ frames.End ∷ []) all.read in
         let behind = all_spelled (fs ++ frames.End ∷ []) ++ rest in
-        let is : left ≡ magic all.place.version ++ behind = some_same left input same ∙ whole.split in
+        let is : left ≡ magic all.place.version ++ behind = same_Some left input same ∙ whole.split in
         let good : frame_fault all.place.version limit 8 behind ≡ None = stands_good all.place.version limit 8 behind (next_stands all.place.version limit 8 fs rest behind refl whole.each) in
         let nothing_there : refusal limit newest None left ≡ None =
         ap (λ (xs : List ℕ). refusal limit newest None xs) is ∙ (computed limit newest all.place.version behind all.read.named).0 ∙ ap (λ (f : Option Reason). at_offset 8 f) good in
@@ -140,7 +141,7 @@ next_given old new input fs given rest mid left' room frame all read none gave =
     by_place limit newest None left behind all (nothing, same) next is =
         let whole : Reads limit input all.place.version (fs ++ frames.End ∷ []) rest = has_read_all limit newest all.place input rest (fs ++ frames.End ∷ []) all.read in
         let versions = same_version all.place.version gave.place.version (all_spelled (fs ++ frames.End ∷ []) ++ rest) (spelled gave.whole ++ behind)
-        (sym whole.split ∙ sym (some_same left input same) ∙ is ∙ append_assoc (magic gave.place.version) (spelled gave.whole) behind) in
+        (sym whole.split ∙ sym (same_Some left input same) ∙ is ∙ append_assoc (magic gave.place.version) (spelled gave.whole) behind) in
         let each : AreFrames gave.place.version limit 8 (fs ++ frames.End ∷ []) = subst (λ (v : Version). AreFrames v limit 8 (fs ++ frames.End ∷ [])) versions.0 whole.each in
         let ahead : Ahead gave.place.version limit 8 fs given rest (spelled gave.whole ++ behind) =
         record { later = fs; split = ap (λ (gs : List Frame). gs ++ fs) nothing; left_is = sym versions.1; each = each } in

@@ -1,10 +1,11 @@
 -- Which tasks may end before earlier ones, and that others can.
 use Rattle.std.proofs.Common.{◌≡◌, inl, inr, refl, sym, subst, ap, ◌∙◌, Bool, true, false, List, [], ◌∷◌, ◌++◌, ℕ, Option, Some, None}
-use Rattle.std.specs.Prelude.{not, ◌&&◌, ◌||◌, MatchBool}
+use Rattle.std.specs.Prelude.{not, ◌&&◌, ◌||◌}
 use Rattle.std.specs.List.{AllByRecursion}
 use Rattle.satl_base.specs.declared.reply.Reply.{Reply}
 use Rattle.satl_base.specs.Cells.{whole}
 use Rattle.satl_base.proofs.CellsLemmas.{part_none}
+use Rattle.satl_base.proofs.Booleans.{second_case}
 use Rattle.satl_cdb.specs.declared.command.Command.{Command}
 use Rattle.satl_cdb.specs.declared.command.Command.TheVariants as commands
 use Rattle.satl_line.specs.declared.entry.Entry.{Entry}
@@ -65,11 +66,6 @@ has_end q s t c h = absurd cc
 
 -- ---- the task that ends
 
--- the case of a test that fails
-at_false : (A : Type 0) {B : Type 0} (b : Bool) → b ≡ false → B → MatchBool b A B
-at_false A true h x = absurd cc
-at_false A false h x = x
-
 -- tasks with something that holds of each in another way
 all_on : {X : Type 0} (P Q R : X → Type 0) (xs : List X) → ((x : X) → P x → Q x → R x) → AllByRecursion P xs → AllByRecursion Q xs → AllByRecursion R xs
 all_on P Q R [] f p q = tt
@@ -105,10 +101,10 @@ module _ (s : Device) (earlier : List Entry) (t : Entry) (after : ComesAfter s e
     may_end : AllByRecursion (λ u. goes_alone s u ≡ false) earlier → AllByRecursion (λ u. DoNotClash u t) earlier → MayEnd s t
     may_end with_all clear =
         let free = all_on _ _ _ earlier (λ u come rest. conflict_none s u t (come_asked s.identity u come) it_asked rest.0 with_it rest.1) earlier_come (all_on _ _ (λ u. (goes_alone s u ≡ false) × DoNotClash u t) earlier (λ u p q. (p, q)) with_all clear) in
-        at_false (IsFirst s.tasks t) (s.down || not s.started) (ap (λ d. d || not s.started) up ∙ ap not started) (subst (λ ts. IsEligible ts t) (sym after.place) (eligible_after earlier after.later free))
+        second_case (IsFirst s.tasks t) _ (s.down || not s.started) (ap (λ d. d || not s.started) up ∙ ap not started) (subst (λ ts. IsEligible ts t) (sym after.place) (eligible_after earlier after.later free))
 
     ends_at_work : (reply : Reply) (new : Device) → EndsBy t.command s t reply new → Ends s t reply new
-    ends_at_work reply new e = at_false (IsChecked link_lost s t reply new) s.down up (at_false (IsChecked not_ready s t reply new) (not s.started && (asks t.command).starts) (ap (λ b. not b && (asks t.command).starts) started) e)
+    ends_at_work reply new e = second_case (IsChecked link_lost s t reply new) _ s.down up (second_case (IsChecked not_ready s t reply new) _ (not s.started && (asks t.command).starts) (ap (λ b. not b && (asks t.command).starts) started) e)
 
     -- so it can end, if its command does
     can_end : MayEnd s t → (c : Command) → t.command ≡ c → HasEnd c s t → CanEnd s t
