@@ -1,6 +1,6 @@
 -- Answers of tasks that end, and what they show.
 use Rattle.std.proofs.Common.{◌≡◌, refl, sym, ap, ◌∙◌, subst, ℕ, ◌*◌, Bool, true, false, List, [], ◌++◌, length, map, take}
-use Rattle.std.specs.Prelude.{◌<◌, Option, Some, None, Result, Ok, Err, IfOk}
+use Rattle.std.specs.Prelude.{◌<◌, Option, Some, None}
 use Rattle.std.proofs.lemmas.List.{get_or-map}
 use Rattle.satl_base.specs.declared.block.Block.{Block}
 use Rattle.satl_base.specs.declared.reply.Scsi.TheVariants.{Good}
@@ -18,10 +18,6 @@ use Rattle.satl_audit.specs.Deeds.{Deed}
 use Rattle.satl_audit.specs.Deeds.Deed.{gives}
 use Rattle.satl_direct.specs.Device.{Device}
 use Rattle.satl_audit.proofs.FixingEvents.{after_same}
-
-pub if_ok_map : {T E : Type 0} (r : Result T E) (P Q : T → Type 0) → IfOk r P → ((x : T) → P x → Q x) → IfOk r Q
-if_ok_map (Ok x) P Q h f = f x h
-if_ok_map (Err e) P Q h f = tt
 
 -- the data of a READ are fixed by the output
 pub reads_as : (input : List ℕ) (nexus tag : ℕ) (range : Range) (output left given : List ℕ) (old new : List Keeping) → IsReadBy nexus tag range output given left → (b : Bool) → GivesBlocks input range.lba given old new b →

@@ -6,7 +6,7 @@ use Rattle.satl_base.specs.declared.bench.BenchEvent.{BenchEvent}
 use Rattle.satl_base.specs.declared.bench.BenchEvent.TheVariants as events
 use Rattle.satl_base.specs.declared.request.Request.{Request}
 use Rattle.satl_base.specs.declared.reply.Reply.{Reply}
-use Rattle.satl_base.proofs.ListsLemmas.{All-push_end}
+use Rattle.satl_base.proofs.ListsLemmas.{All-push_end, All-filter}
 use Rattle.satl_frame.specs.declared.frames.Frame.{Frame}
 use Rattle.satl_frame.specs.declared.frames.Frame.TheVariants as frames
 use Rattle.satl_frame.specs.Output.{Answer, all_answered, end_bytes, reply_bytes}
@@ -23,7 +23,6 @@ use Rattle.satl_audit.proofs.Forming.{IsNewIn, arrival_new}
 use Rattle.satl_audit.specs.Deciding.{AllWhole, IsFineFrame}
 use Rattle.satl_audit.proofs.Telling.{IsFine}
 use Rattle.satl_audit.proofs.FixingTurns.{said, Kept, turns_keep, SameTurns, turns_same, drains_same}
-use Rattle.satl_laws.proofs.Rows.{All-filter}
 
 arrives_keep : (a : Arrival) (r : Request) (s u : Device) (replies : List Reply) → Kept s → IsFineFrame (frames.Request r) → IsNewIn s r a → ArrivesAs a r s replies u → Kept u
 arrives_keep (answered reply) r s u replies k f n e = subst Kept (sym e.1) k

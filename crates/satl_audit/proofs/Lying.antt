@@ -6,7 +6,7 @@ use Rattle.std.proofs.lemmas.Bool.{and_parts}
 use Rattle.satl_base.specs.declared.reply.Reply.{Reply}
 use Rattle.satl_base.specs.declared.request.Request.{Request}
 use Rattle.satl_base.specs.declared.block.Block.{Block}
-use Rattle.satl_base.proofs.ListsLemmas.{All-push_end, All-remove_first}
+use Rattle.satl_base.proofs.ListsLemmas.{All-push_end, All-remove_first, All-filter}
 use Rattle.satl_cdb.specs.Table.{says}
 use Rattle.satl_cdb.specs.declared.command.Command.{Command}
 use Rattle.satl_cdb.specs.declared.command.Command.TheVariants as commands
@@ -29,7 +29,7 @@ use Rattle.satl_audit.proofs.Splitting.{Lies}
 use Rattle.satl_audit.proofs.Walking.{AllLie}
 use Rattle.satl_audit.proofs.Identities.{all_front, all_last, AllKnown, stepped_same}
 use Rattle.satl_laws.proofs.Ends.{eligible_in as eligible_there}
-use Rattle.satl_laws.proofs.Rows.{in_all as all_of, All-filter}
+use Rattle.satl_laws.proofs.Rows.{in_all as all_of}
 use Rattle.satl_line.proofs.SlotsLemmas.{All-append}
 
 -- known tasks, and deeds within the capacity

@@ -18,6 +18,7 @@ use Rattle.satl_direct.specs.Device.{Device}
 use Rattle.satl_direct.specs.Arrival.{ArrivesAs, Arrives, arrival, is_unit_0}
 use Rattle.satl_direct.specs.Quiet.{Quiet}
 use Rattle.satl_direct.specs.Run.{Does, MayLose, depth, losses_in}
+use Rattle.satl_direct.proofs.Quieting.{quiet_none}
 use Rattle.satl_audit.specs.Deeds.{Deed, DoneBy, Walks}
 use Rattle.satl_audit.specs.Deeds.Deed.{shows, powers}
 use Rattle.satl_cover.specs.Known.{is_known, is_known_frame}
@@ -25,7 +26,7 @@ use Rattle.satl_audit.specs.Skeleton.{Benched, Stepped, bare, powered, shown}
 use Rattle.satl_audit.proofs.Coming.{arrival_comes}
 use Rattle.satl_audit.proofs.Keeping.{IsSane, sane_on}
 use Rattle.satl_audit.proofs.ArrivalSplit.{arrival_bare, arrives_made}
-use Rattle.satl_audit.proofs.Stepping.{quiet_made, quiet_none, quiet_sane}
+use Rattle.satl_audit.proofs.Stepping.{quiet_made, quiet_sane}
 use Rattle.satl_audit.proofs.Turning.{turns_made}
 use Rattle.satl_audit.proofs.Links.{still_up}
 

@@ -13,12 +13,13 @@ use Rattle.satl_direct.specs.Quiet.{Around, Quiet}
 use Rattle.satl_direct.specs.Run.{TurnsOf, depth}
 use Rattle.satl_direct.specs.Turn.{OneEnds, Turn}
 use Rattle.satl_direct.specs.Turn.Turn.{idle, ends, loses, ends_and_loses}
+use Rattle.satl_direct.proofs.Quieting.{quiet_none}
 use Rattle.satl_audit.specs.Deeds.{Deed, DoneBy, Walks}
 use Rattle.satl_audit.specs.Deeds.Deed.{shows}
 use Rattle.satl_audit.specs.Skeleton.{TaskDone, TurnsDone, bare, shown}
 use Rattle.satl_audit.proofs.Ended.{turn_made}
 use Rattle.satl_audit.proofs.Keeping.{IsSane}
-use Rattle.satl_audit.proofs.Stepping.{Behind, quiet_bare, quiet_behind, quiet_down, quiet_made, quiet_none, quiet_sane, turn_went, walks_split}
+use Rattle.satl_audit.proofs.Stepping.{Behind, quiet_bare, quiet_behind, quiet_down, quiet_made, quiet_sane, turn_went, walks_split}
 
 -- ---- a lost link stays lost
 

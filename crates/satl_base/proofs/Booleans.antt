@@ -12,8 +12,8 @@ eqb-sym a b = go (a == b) refl (b == a) refl
     go false e true f = let no : (a == b) ≡ true = eq-eqb a b (sym (eqb-true b a f)) in absurd cc
     go false e false f = e ∙ sym f
 
-pub differ-sym : (a b : ℕ) → (a == b) ≡ false → (b == a) ≡ false
-differ-sym a b h = eqb-sym b a ∙ h
+pub eqb_false-sym : (a b : ℕ) → (a == b) ≡ false → (b == a) ≡ false
+eqb_false-sym a b h = eqb-sym b a ∙ h
 
 pub not-not : (b : Bool) → not (not b) ≡ b
 not-not true = refl

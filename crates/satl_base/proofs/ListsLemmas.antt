@@ -1,6 +1,6 @@
 -- The first element that passes, and the list without it.
-use Rattle.std.proofs.Common.{◌≡◌, ◌⊎◌, ⊎_elim, refl, sym, ◌∙◌, ap, subst, inl, inr, ℕ, suc, Bool, true, false, cond, List, [], ◌∷◌, ◌++◌, Option, Some, None, arith, ◌+◌, ◌<◌, length}
-use Rattle.std.specs.Prelude.{map, if◌then◌else◌, slice_index_or, ◌||◌, filter}
+use Rattle.std.proofs.Common.{◌≡◌, ◌⊎◌, ⊎_elim, refl, sym, ◌∙◌, ap, subst, inl, inr, ℕ, zero, suc, Bool, true, false, cond, List, [], ◌∷◌, ◌++◌, Option, Some, None, arith, ◌+◌, ◌<◌, length}
+use Rattle.std.specs.Prelude.{map, if◌then◌else◌, slice_index_or, ◌||◌, filter, slice_get}
 use Rattle.std.specs.Option.{option_map}
 use Rattle.std.specs.List.{AllByRecursion, find, position_from, remove, list_any}
 use Rattle.std.proofs.lemmas.Bool.{or_parts}
@@ -206,3 +206,18 @@ none_pushed p [] y h e = rw e refl
 none_pushed p (x ∷ xs) y h e =
     let both = or_parts (p x) (list_any p xs) h in
     rw both.0 (none_pushed p xs y both.1 e)
+
+pub All-filter : {X : Type 0} (P : X → Type 0) (p : X → Bool) (xs : List X) → AllByRecursion P xs → AllByRecursion P (filter p xs)
+All-filter P p [] all = all
+All-filter P p (x ∷ xs) all =
+    elim (p x) as (λ b. AllByRecursion P (cond b (x ∷ filter p xs) (filter p xs)))
+    [ true ↦ (all.0, All-filter P p xs all.1) | false ↦ All-filter P p xs all.1 ]
+
+pub get-map : {X Y : Type 0} (f : X → Y) (xs : List X) (k : ℕ) (x : X) → slice_get xs k ≡ Some x → slice_get (map f xs) k ≡ Some (f x)
+get-map f [] k x h = absurd cc
+get-map f (y ∷ ys) zero x h = let one : y ≡ x = cc in ap (λ z. Some (f z)) one
+get-map f (y ∷ ys) (suc k) x h = get-map f ys k x h
+
+pub push_not_empty : {X : Type 0} (xs : List X) (x : X) → xs ++ x ∷ [] ≡ [] → ⊥
+push_not_empty [] x h = cc
+push_not_empty (y ∷ ys) x h = cc

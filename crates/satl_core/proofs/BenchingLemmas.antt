@@ -37,6 +37,7 @@ use Rattle.satl_core.specs.Benching.{Follows, IsActedOn, LosesLink, StartsAnew, 
 use Rattle.satl_base.specs.Moves.{Moves}
 use Rattle.satl_base.proofs.Booleans.{not-not}
 use Rattle.satl_direct.specs.Quiet.{MayShow}
+use Rattle.satl_direct.proofs.Quieting.{quiet_none, around_alone}
 use Rattle.satl_core.specs.Layer.{Layer, Tied, view, works}
 use Rattle.satl_core.proofs.AgreeingLemmas.{IsLeftDown, agrees_by, idle_in_flight, still_told, tied_lost, valid_with_cells}
 use Rattle.satl_core.proofs.EndingLemmas.{nothing_out}
@@ -49,8 +50,9 @@ use Rattle.satl_barrier.proofs.ToldLemmas.{all_bytes, retold}
 use Rattle.satl_pages.specs.Counts.{Counts}
 use Rattle.satl_flight.specs.declared.flight.Flying.{Flying}
 use Rattle.satl_flight.specs.Queueing.{Waiting}
+use Rattle.satl_flight.proofs.SettledLemmas.{deepens_shorter}
 use Rattle.satl_core.proofs.TieLemmas.{bytes_long, has_as_noted, layer_of}
-use Rattle.satl_core.proofs.DeviceLemmas.{around_alone, quiet_none, rest_lost}
+use Rattle.satl_core.proofs.DeviceLemmas.{rest_lost}
 
 -- ---- what the drive does
 
@@ -257,17 +259,14 @@ losses_counted (Order order) d d' acted = none_rose d d' (ap (λ (x : DriveState
 losses_counted Power d d' acted = none_rose d d' (ap (λ (x : DriveState). x.faults) acted.stays)
 losses_counted Unplug d d' acted = acted.cut.0.rose
 
-deeper_by : (d d' : DriveState) → d'.deepest ≡ d.deepest → length d'.outstanding ≤ length d.outstanding → Deepens d d'
-deeper_by d d' same fewer = record { rises = omega (arith, same); covers = λ was. omega (arith, was, same, fewer) }
-
 -- the deepest queue does not fall
 pub none_deeper : (event : BenchEvent) (d d' : DriveState) → IsActedOn event d d' → Deepens d d'
-none_deeper (Strike which lba) d d' acted = deeper_by d d' (ap (λ (x : DriveState). x.deepest) acted) (omega (arith, ap (λ (x : DriveState). length x.outstanding) acted))
-none_deeper (Mend lba) d d' acted = deeper_by d d' (ap (λ (x : DriveState). x.deepest) acted) (omega (arith, ap (λ (x : DriveState). length x.outstanding) acted))
-none_deeper (Glitch count) d d' acted = deeper_by d d' (ap (λ (x : DriveState). x.deepest) acted) (omega (arith, ap (λ (x : DriveState). length x.outstanding) acted))
-none_deeper (Order order) d d' acted = deeper_by d d' (ap (λ (x : DriveState). x.deepest) acted) (omega (arith, ap (λ (x : DriveState). length x.outstanding) acted))
-none_deeper Power d d' acted = deeper_by d d' (ap (λ (x : DriveState). x.deepest) acted.stays) (omega (arith, ap (λ (x : DriveState). length x.outstanding) acted.stays))
-none_deeper Unplug d d' acted = deeper_by d d' (ap (λ (x : DriveState). x.deepest) acted.cut.0.stays) (omega (arith, ap (λ (x : DriveState). length x.outstanding) acted.cut.0.stays))
+none_deeper (Strike which lba) d d' acted = deepens_shorter d d' (ap (λ (x : DriveState). x.deepest) acted) (omega (arith, ap (λ (x : DriveState). length x.outstanding) acted))
+none_deeper (Mend lba) d d' acted = deepens_shorter d d' (ap (λ (x : DriveState). x.deepest) acted) (omega (arith, ap (λ (x : DriveState). length x.outstanding) acted))
+none_deeper (Glitch count) d d' acted = deepens_shorter d d' (ap (λ (x : DriveState). x.deepest) acted) (omega (arith, ap (λ (x : DriveState). length x.outstanding) acted))
+none_deeper (Order order) d d' acted = deepens_shorter d d' (ap (λ (x : DriveState). x.deepest) acted) (omega (arith, ap (λ (x : DriveState). length x.outstanding) acted))
+none_deeper Power d d' acted = deepens_shorter d d' (ap (λ (x : DriveState). x.deepest) acted.stays) (omega (arith, ap (λ (x : DriveState). length x.outstanding) acted.stays))
+none_deeper Unplug d d' acted = deepens_shorter d d' (ap (λ (x : DriveState). x.deepest) acted.cut.0.stays) (omega (arith, ap (λ (x : DriveState). length x.outstanding) acted.cut.0.stays))
 
 same_tasks : (l new : Layer) → new ≡ l → length new.tasks ≤ length l.tasks
 same_tasks l new same = let count = ap (λ (x : Layer). length x.tasks) same in omega (arith, count)

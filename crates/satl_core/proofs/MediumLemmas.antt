@@ -39,6 +39,7 @@ use Rattle.satl_direct.specs.Tasks.{asks, over, task_of}
 use Rattle.satl_direct.specs.Ending.{EndsBy, EndsCompared, EndsGarbled, EndsInPieces, EndsOnMedium, EndsTorn, EndsVerified, IsChecked, IsCompared, IsTaskDone, same_pairs, task_check, task_reply}
 use Rattle.satl_direct.specs.Quiet.{MayShow, MayWake, Quiet, is_pass, wakes, writes}
 use Rattle.satl_direct.specs.Senses.{crc_error, miscompare, read_error, write_error}
+use Rattle.satl_direct.proofs.Quieting.{quiet_none}
 use Rattle.satl_core.specs.declared.turning.Ending.{Ending}
 use Rattle.satl_core.specs.declared.turning.Ending.TheVariants as endings
 use Rattle.satl_core.specs.Alone.{alone_of}
@@ -49,7 +50,7 @@ use Rattle.satl_barrier.specs.Settings.{IsSetBy}
 use Rattle.satl_core.specs.Medium.{CanCarry, HasCompared, HasFinished, HasVerified, HasWhole, TakesTrim, written_alone}
 use Rattle.satl_core.specs.Refilling.{EndsOne}
 use Rattle.satl_core.specs.Turning.{ended_reply, read_pages}
-use Rattle.satl_core.proofs.DeviceLemmas.{ends_around, ends_by, first_gone, quiet_none, seen}
+use Rattle.satl_core.proofs.DeviceLemmas.{ends_around, ends_by, first_gone, seen}
 use Rattle.satl_core.proofs.HeldLemmas.{IsKeptEntry}
 use Rattle.satl_core.proofs.PassingLemmas.{pass_pairs}
 use Rattle.satl_core.proofs.QueuedLemmas.{read_flaw, write_flaw}

@@ -11,6 +11,7 @@ use Rattle.satl_direct.specs.Device.{Device, is_of}
 use Rattle.satl_direct.specs.Quiet.{Around, Quiet}
 use Rattle.satl_direct.specs.Run.{MayLose}
 use Rattle.satl_direct.specs.Senses.{overlapped}
+use Rattle.satl_direct.proofs.Quieting.{around_alone}
 use Rattle.satl_core.specs.declared.leaving.Scope.TheVariants as scopes
 use Rattle.satl_core.specs.declared.submitting.AtOnce.TheVariants as at_once
 use Rattle.satl_core.specs.Layer.{Layer, view}
@@ -20,7 +21,6 @@ use Rattle.satl_asks.specs.Requests.{is_for_unit}
 use Rattle.satl_core.specs.Submitting.{IsCutOf, is_overlapping, judged, once_judged, overlaps, reply_at_once}
 use Rattle.satl_core.proofs.ArrivalLemmas.{answers_at_once}
 use Rattle.satl_core.proofs.ComposeLemmas.{around_step, step_on}
-use Rattle.satl_core.proofs.DeviceLemmas.{around_alone}
 use Rattle.satl_core.proofs.LeavingLemmas.{left_tasks}
 
 -- the whole request overlaps, too

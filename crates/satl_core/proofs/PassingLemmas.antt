@@ -41,11 +41,12 @@ use Rattle.satl_direct.specs.Device.{Device}
 use Rattle.satl_direct.specs.Ending.{EndsPassed, medium_of, pass_reply}
 use Rattle.satl_direct.specs.Tasks.{pass_of, task_of}
 use Rattle.satl_direct.proofs.Passing.{writes_none}
+use Rattle.satl_direct.proofs.Quieting.{quiet_none}
 use Rattle.satl_core.specs.declared.turning.Ending.{Ending}
 use Rattle.satl_core.specs.Medium.{PassesThrough, passed}
 use Rattle.satl_core.specs.Refilling.{EndsOne}
 use Rattle.satl_core.specs.Turning.{ended_reply, modes_after, set_by, where_done, with_setting}
-use Rattle.satl_core.proofs.DeviceLemmas.{ends_around, ends_by, first_gone, quiet_none, seen}
+use Rattle.satl_core.proofs.DeviceLemmas.{ends_around, ends_by, first_gone, seen}
 
 -- the length of a command of the profile is its own
 own_length : (pass : Pass) → is_other (command_in pass.regs) ≡ false → CanRun pass → pass.length ≡ 512 * own_blocks (command_in pass.regs)

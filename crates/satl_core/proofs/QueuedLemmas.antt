@@ -12,6 +12,7 @@ use Rattle.satl_base.specs.Cells.{Cell, Pair}
 use Rattle.satl_base.specs.Moves.{Moves}
 use Rattle.satl_base.proofs.MovesLemmas.{moves_weaker}
 use Rattle.satl_base.proofs.Booleans.{eqb-sym}
+use Rattle.satl_base.proofs.ListsLemmas.{get-map}
 use Rattle.satl_cdb.specs.declared.command.Command.{Command}
 use Rattle.satl_cdb.specs.declared.command.Command.TheVariants as commands
 use Rattle.satl_errlog.specs.declared.entry.NcqError.{NcqError}
@@ -40,13 +41,14 @@ use Rattle.satl_direct.specs.Turn.{Loss, TurnLoss}
 use Rattle.satl_direct.specs.Turn.Turn.{loses}
 use Rattle.satl_direct.specs.Quiet.{Around}
 use Rattle.satl_direct.specs.Valid.{AreOwn}
+use Rattle.satl_direct.proofs.Quieting.{quiet_none}
 use Rattle.satl_flight.specs.Flown.{clash}
 use Rattle.satl_flight.specs.Settled.{IsFilled, IsFlawOrCrc, IsLostInFlight, IsLostQuietly, IsSettled, outcome_of, read_into}
 use Rattle.satl_core.specs.Layer.{Agrees, Layer, view, works}
 use Rattle.satl_core.specs.Refilling.{EndsOne}
 use Rattle.satl_core.specs.Turning as core
 use Rattle.satl_core.specs.Turning.{ended_reply, ending_by, is_read, read_pages}
-use Rattle.satl_core.proofs.DeviceLemmas.{ends_by, quiet_none, rest_lost}
+use Rattle.satl_core.proofs.DeviceLemmas.{ends_by, rest_lost}
 
 -- ---- a task as the device sees it
 
@@ -185,11 +187,6 @@ without_place (u ∷ us) (suc place) t own at = ap (λ b. if b then us else u �
     other [] k none is = absurd cc
     other (x ∷ xs) zero none is = let one : x ≡ t = cc in ap (λ b. b && ((u.tag).0 == (t.tag).0)) (eqb-sym u.nexus t.nexus) ∙ ap (λ b. (t.nexus == u.nexus) && b) (eqb-sym (u.tag).0 (t.tag).0) ∙ ap (is_called u.nexus (u.tag).0) (sym one) ∙ (or_parts _ _ none).0
     other (x ∷ xs) (suc k) none is = other xs k (or_parts _ _ none).1 is
-
-pub get-map : {X Y : Type 0} (f : X → Y) (xs : List X) (k : ℕ) (x : X) → slice_get xs k ≡ Some x → slice_get (map f xs) k ≡ Some (f x)
-get-map f [] k x h = absurd cc
-get-map f (y ∷ ys) zero x h = let one : y ≡ x = cc in ap (λ z. Some (f z)) one
-get-map f (y ∷ ys) (suc k) x h = get-map f ys k x h
 
 -- ---- a unit that works
 

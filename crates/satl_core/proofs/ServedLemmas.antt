@@ -32,6 +32,7 @@ use Rattle.satl_direct.specs.Attentions.{are_same, are_same_modes, post, with_mo
 use Rattle.satl_direct.specs.Turn as turns
 use Rattle.satl_direct.specs.Turn.{Turn}
 use Rattle.satl_direct.specs.Turn.Turn.{loses}
+use Rattle.satl_direct.proofs.Quieting.{quiet_none}
 use Rattle.satl_core.specs.declared.managing.Posting.{Posting}
 use Rattle.satl_core.specs.declared.managing.Posting.TheVariants.{ModesChanged}
 use Rattle.satl_core.specs.declared.turning.Ending.{Ending}
@@ -42,7 +43,7 @@ use Rattle.satl_core.specs.Layer.{Agrees, IsCovered, IsKept, IsTask, Layer}
 use Rattle.satl_core.specs.Refilling.{EndsOne}
 use Rattle.satl_core.specs.Turning as core
 use Rattle.satl_core.specs.Turning.{DoneAlone, IsLostInTask, IsUnasked, TaskEnds, change_posting, ended_reply, modes_after, read_pages, started_after, wanted_by, where_done}
-use Rattle.satl_core.proofs.DeviceLemmas.{all_lost, ends_around, ends_by, ends_down, ends_stopped, first_checked, first_gone, first_tasks, quiet_none, quiet_same, seen}
+use Rattle.satl_core.proofs.DeviceLemmas.{all_lost, ends_around, ends_by, ends_down, ends_stopped, first_checked, first_gone, first_tasks, quiet_same, seen}
 use Rattle.satl_core.proofs.HeldLemmas.{IsFirst, IsKeptEntry, first_kept}
 use Rattle.satl_core.specs.Medium.{CanCarry, HasWhole, written_alone}
 use Rattle.satl_core.proofs.PassingLemmas.{pass_turn}

@@ -17,6 +17,7 @@ use Rattle.satl_direct.specs.Quiet.{Around}
 use Rattle.satl_direct.specs.Run.{MayLose}
 use Rattle.satl_direct.specs.Tasks.{task_of}
 use Rattle.satl_direct.specs.Valid.{IsValid}
+use Rattle.satl_direct.proofs.Quieting.{quiet_none}
 use Rattle.satl_flight.specs.declared.flight.Flying.{Flying}
 use Rattle.satl_flight.specs.Flown.{IsInFlight, holds, is_in_slot}
 use Rattle.satl_flight.specs.Queueing.{Waiting}
@@ -29,7 +30,7 @@ use Rattle.satl_core.specs.Refilling.{Answers, KeepsRest, Refills, Removes}
 use Rattle.satl_core.specs.Turning.{lost_replies}
 use Rattle.satl_core.proofs.AgreeingLemmas.{agrees_by, agrees_cut}
 use Rattle.satl_core.proofs.ComposeLemmas.{removes_and_loses, removes_quietly, step_on}
-use Rattle.satl_core.proofs.DeviceLemmas.{quiet_none, rest_lost}
+use Rattle.satl_core.proofs.DeviceLemmas.{rest_lost}
 use Rattle.satl_core.proofs.LeavingLemmas.{idle_waits, left_tasks}
 use Rattle.satl_core.proofs.ManagingLemmas.{within_seen}
 use Rattle.satl_core.proofs.QueuedLemmas.{is_up, moves_shown}

@@ -13,11 +13,6 @@ some_at [] k x less is = absurd (omega (arith, less))
 some_at (y ∷ ys) zero x less is = ap Some (sym is)
 some_at (y ∷ ys) (suc k) x less is = some_at ys k x (omega (arith, less)) is
 
-pub map_at : {X Y : Type 0} (f : X → Y) (xs : List X) (k : ℕ) (x : X) → slice_get xs k ≡ Some x → slice_get (map f xs) k ≡ Some (f x)
-map_at f [] k x is = absurd cc
-map_at f (y ∷ ys) zero x is = let same : y ≡ x = cc in ap (λ z. Some (f z)) same
-map_at f (y ∷ ys) (suc k) x is = map_at f ys k x is
-
 pub spots_at : (ls : List Layer) (ds : List DriveState) (k : ℕ) (l : Layer) (d : DriveState) → slice_get ls k ≡ Some l → slice_get ds k ≡ Some d → slice_get (spots_of ls ds) k ≡ Some (spot l d)
 spots_at [] ds k l d is there = absurd cc
 spots_at (x ∷ xs) [] k l d is there = absurd cc

@@ -1,15 +1,12 @@
 -- Bytes in pages.
 use Rattle.std.proofs.Common.{◌≡◌, ℕ, zero, suc, ◌+◌, ◌-◌, ◌*◌, ◌/◌, ◌%◌, ◌<◌, ◌≤◌, min, List, [], ◌∷◌, ◌++◌, length, take, drop, reverse, replicate, refl, ◌∙◌, ap, sym, arith, append_assoc, inl, inr}
 use Rattle.std.proofs.lemmas.Bool.{cases_lt}
-use Rattle.std.proofs.lemmas.List.{take-append-drop, drop-drop, length-drop, length-append, length-take-le, length-replicate, length-reverse, reverse-append, take-append-le, drop-append-le, take_all, take_at, append-nil, replicate-append-replicate, drop-replicate, take-replicate, nil_from_length}
+use Rattle.std.proofs.lemmas.List.{take-append-drop, drop-drop, length-drop, length-append, length-take-le, length-replicate, length-reverse, reverse-append, take-append-le, drop-append-le, take_all, take_at, append-nil, replicate-append-replicate, drop-replicate, take-replicate, nil_from_length, length-take, drop_all}
 use Rattle.std.proofs.Math.Seq.{take-append-add, drop-append-add}
 use Rattle.std.specs.List.{AllByRecursion}
 use Rattle.satl_base.specs.declared.block.Block.{Block}
 use Rattle.satl_base.specs.Blocks.{bytes_of}
 use Rattle.satl_frame.specs.DataPages.{page_count, padded_block, pages_from, pages_of, zeros}
-
-drop_all : (n : ℕ) (xs : List ℕ) → length xs ≤ n → drop n xs ≡ []
-drop_all n xs l = nil_from_length (drop n xs) (omega (arith, length-drop n xs))
 
 -- 512 bytes are a block
 pub whole_block : (xs bytes : List ℕ) → 512 ≤ length xs → bytes ≡ take 512 xs → record { bytes = bytes } ≡ padded_block xs
@@ -194,15 +191,9 @@ pub placed_more : (room left at : ℕ) (before chunk : List ℕ) (done done' : L
     reverse done' ≡ take room (pages_of (before ++ chunk))
 placed_more room left at before chunk done done' size aligned placed all more =
     let whole : length before ≡ 512 * (at / 512) = omega arith in
-    let filled : length done ≡ min room (length (pages_of before)) = sym (length-reverse done) ∙ ap length placed ∙ length_take room (pages_of before) in
+    let filled : length done ≡ min room (length (pages_of before)) = sym (length-reverse done) ∙ ap length placed ∙ length-take room (pages_of before) in
     let rest : left ≡ room - length (pages_of before) = omega arith in
     rw (pages_of-append (at / 512) before chunk whole, take-both room (pages_of before) (pages_of chunk), ← rest, ← placed) more
-  where
-    length_take : {X : Type 0} (n : ℕ) (xs : List X) → length (take n xs) ≡ min n (length xs)
-    length_take n xs = elim (cases_lt (length xs) n) [
-      | inl l ↦ let e : min n (length xs) ≡ length xs = omega arith in rw e (ap length (take_all n xs (omega arith)))
-      | inr g ↦ let e : min n (length xs) ≡ n = omega arith in rw e (length-take-le n xs g)
-    ]
 
 pub nothing_placed : (room : ℕ) (done : List Block) → done ≡ [] → reverse done ≡ take room (pages_of [])
 unfolding pages_of pages_from

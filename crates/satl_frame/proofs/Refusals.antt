@@ -52,7 +52,7 @@ head_at version limit offset (Some input) (Some rest) h r took short ends f =
     (rw (whole, f) refl, rw (whole, f) (rw whole took))
 
 -- a test that refuses was passed
-refused_not : (b : Bool) (r : Reason) (later : Option Reason) → cond b (Some r) later ≡ None → (b ≡ false) × (later ≡ None)
+pub refused_not : (b : Bool) (r : Reason) (later : Option Reason) → cond b (Some r) later ≡ None → (b ≡ false) × (later ≡ None)
 refused_not true r later e = cc
 refused_not false r later e = (refl, e)
 

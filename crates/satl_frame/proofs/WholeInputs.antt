@@ -2,6 +2,7 @@
 use Rattle.std.proofs.Common.{◌≡◌, ℕ, ◌+◌, List, [], ◌∷◌, ◌++◌, length, Option, Some, None, refl, ◌∙◌, ap, sym, subst, add-zero, arith, append_assoc}
 use Rattle.std.proofs.lemmas.List.{length-append, append-nil}
 use Rattle.std.proofs.lemmas.Option.{same_Some}
+use Rattle.satl_base.proofs.ListsLemmas.{push_not_empty}
 use Rattle.satl_io.specs.Known.{Took}
 use Rattle.satl_frame.specs.Frames.{spelled, IsFrame}
 use Rattle.satl_frame.specs.Faults.{fault, frame_fault}
@@ -19,11 +20,6 @@ use Rattle.satl_frame.proofs.OneReading.{same_frame, same_version}
 use Rattle.satl_frame.proofs.ProgressLemmas.{all_spelled-push, has_read_all, refused_there}
 use Rattle.satl_frame.proofs.Refusals.{computed}
 use Rattle.satl_frame.proofs.Standing.{stands_good}
-
--- a list with a last frame is not empty
-not_empty : (fs : List Frame) (f : Frame) → fs ++ f ∷ [] ≡ [] → ⊥
-not_empty [] f e = cc
-not_empty (g ∷ fs) f e = cc
 
 -- what tells its bytes goes on telling them
 nowhere : (limit : ℕ) (newest : Version) (at : Option Place) (input : List ℕ) (given : List Frame) → ReadUpTo limit newest at (Some input) None given → ⊥
@@ -161,7 +157,7 @@ before_last : (version : Version) (limit offset : ℕ) (gs : List Frame) (last :
 before_last version limit offset [] last each = (tt, tt)
 before_last version limit offset (g ∷ gs) last each =
     let rest = before_last version limit (offset + length (spelled g)) gs last each.3 in
-    ((each.0, each.1, λ e. absurd (not_empty gs last (each.2 e)), rest.0), (λ e. not_empty gs last (each.2 e), rest.1))
+    ((each.0, each.1, λ e. absurd (push_not_empty gs last (each.2 e)), rest.0), (λ e. push_not_empty gs last (each.2 e), rest.1))
 
 -- an input is read to END in one way
 pub one_end : (limit : ℕ) (newest : Version) (input : List ℕ) (fs gs : List Frame) (rest behind : List ℕ) →
@@ -185,4 +181,4 @@ one_end limit newest input fs gs rest behind first second =
         (sym split ∙ append-nil gs, sym same.1)
     by_later version offset (f ∷ later) split is each =
         let same = same_frame version frames.End f behind (all_spelled (later ++ frames.End ∷ []) ++ rest) tt each.0 (is ∙ append_assoc (spelled f) (all_spelled (later ++ frames.End ∷ [])) rest) in
-        absurd (not_empty later frames.End (each.2 (sym same.0)))
+        absurd (push_not_empty later frames.End (each.2 (sym same.0)))

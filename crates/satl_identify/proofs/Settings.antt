@@ -10,7 +10,7 @@ use Rattle.satl_identify.specs.Refusals.{rules, identity_in, identity_of, IsIden
 use Rattle.satl_identify.proofs.Sums.{checksum-integrity}
 use Rattle.satl_identify.proofs.Judging.{Unbroken, judged_unbroken, unbroken}
 
-length-integrity : (d : List ℕ) → length (with_integrity d) ≡ length d
+pub length-integrity : (d : List ℕ) → length (with_integrity d) ≡ length d
 length-integrity d = elim (word_bits 255 7 0 d == 0xA5) as (λ b. length (cond b (set d 511 (integrity_byte (set d 511 0))) d) ≡ length d) [ true ↦ length-set d 511 _ | false ↦ refl ]
 
 integrity_other : (d : List ℕ) (j : ℕ) → j ≢ 511 → slice_index (with_integrity d) j ≡ slice_index d j

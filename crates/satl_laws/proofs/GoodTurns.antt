@@ -25,6 +25,7 @@ use Rattle.satl_direct.specs.Turn.Turn.{idle, ends, loses, ends_and_loses}
 use Rattle.satl_laws.specs.Scenes.{at_work}
 use Rattle.satl_laws.proofs.Runs.{once}
 use Rattle.satl_laws.proofs.Sparing.{Keeps, NoneWrites, keeps_none, keeps_on, loss_keeps, quiet_keeps}
+use Rattle.satl_laws.proofs.Names.{one_reply}
 
 -- no turn changes nothing
 none_taken : {s new : Device} {answers : List Reply} {n deep : ℕ} → TurnsOf n s answers new deep → n ≡ 0 → (new ≡ s) × (answers ≡ [])
@@ -65,14 +66,10 @@ good_end {s = s} reply (ends_and_loses {mid = mid} {after = after} {new = new} o
 
 -- ---- replies
 
--- equal answers are equal replies
-of_replied : (a b : Reply) → replied a ≡ replied b → a ≡ b
-of_replied a b h = cc
-
 -- a reply among answers is among their replies
 replied_in : (reply : Reply) (replies : List Reply) → IsIn (replied reply) (map replied replies) → IsIn reply replies
 replied_in reply [] i = i
-replied_in reply (r ∷ rs) i = ⊎_elim (λ same. inl (of_replied reply r same)) (λ later. inr (replied_in reply rs later)) i
+replied_in reply (r ∷ rs) i = ⊎_elim (λ same. inl (one_reply reply r same)) (λ later. inr (replied_in reply rs later)) i
 
 -- a status that is GOOD by its test
 good_is : (status : Scsi) → is_good status ≡ true → status ≡ Good

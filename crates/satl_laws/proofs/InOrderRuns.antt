@@ -18,6 +18,7 @@ use Rattle.satl_laws.specs.OnceEach.{asks_by}
 use Rattle.satl_laws.specs.OrderUnderErrors.{is_mild}
 use Rattle.satl_direct.specs.Run.{Does, RunDeep, joined, losses_in}
 use Rattle.satl_direct.specs.Run.RunDeep.{start, step}
+use Rattle.satl_direct.proofs.Quieting.{joined-push}
 use Rattle.satl_laws.proofs.Cases.{how_many-append}
 use Rattle.satl_laws.proofs.InOrder.{InOrder}
 use Rattle.satl_laws.proofs.InOrderRequests.{MayStand}
@@ -29,7 +30,7 @@ use Rattle.satl_laws.specs.OrderUnderErrors.{OrderUnderErrors}
 use Rattle.satl_laws.proofs.InOrderEnd.{act_as_done, act_as_items, acted_by, done_acts, in_order_as}
 use Rattle.satl_laws.proofs.InOrderEvents.{does_at}
 use Rattle.satl_laws.proofs.Requests.{requests-append, requests_of}
-use Rattle.satl_laws.proofs.Runs.{joined-push, split}
+use Rattle.satl_laws.proofs.Runs.{split}
 
 -- a device at rest
 rest_at : (first : Device) (exact : Bool) → first.tasks ≡ [] → (exact ≡ true → IsFresh first) → InOrderAt first exact [] [] first

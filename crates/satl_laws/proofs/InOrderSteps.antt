@@ -18,8 +18,8 @@ use Rattle.satl_laws.specs.OnceEach.{asks_by}
 use Rattle.satl_direct.specs.Quiet.{Quiet}
 use Rattle.satl_direct.specs.Senses.{link_lost}
 use Rattle.satl_direct.specs.Turn.{OneEnds}
+use Rattle.satl_direct.proofs.Quieting.{quiet_tasks}
 use Rattle.satl_laws.proofs.Calm.{EndsCalm, IsCalm, ends_calm, quiet_calm}
-use Rattle.satl_laws.proofs.Weighing.{quiet_tasks}
 use Rattle.satl_laws.proofs.Ends.{eligible_in, ends_leaves}
 use Rattle.satl_laws.proofs.InOrder.{InOrder, sectors, trim}
 use Rattle.satl_laws.proofs.InOrderEnds.{one_in_order}

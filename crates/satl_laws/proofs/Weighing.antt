@@ -16,13 +16,10 @@ use Rattle.satl_direct.specs.Turn.{OneEnds, Turn, lost_replies}
 use Rattle.satl_direct.specs.Turn.Turn.{idle, ends, loses, ends_and_loses}
 use Rattle.satl_direct.specs.Run.{TurnsOf}
 use Rattle.satl_direct.specs.Run.TurnsOf.{none, more}
+use Rattle.satl_direct.proofs.Quieting.{quiet_tasks}
 use Rattle.satl_laws.specs.OnceEach.{answers_to}
 use Rattle.satl_laws.proofs.Cases.{how_many-append}
 use Rattle.satl_laws.proofs.Ends.{ends_leaves, may_end_in}
-
--- quiet moves leave the tasks
-pub quiet_tasks : (old new : Device) → Quiet old new → new.tasks ≡ old.tasks
-quiet_tasks old new q = ap (λ d. d.tasks) q.stays
 
 module _ (nexus tag : ℕ) where
   -- one of the nexus and tag counts 1, another 0

@@ -1,5 +1,5 @@
 pub mod EventLemmas
-mod LoopLemmas
+pub mod LoopLemmas
 pub mod OutcomeLemmas
 pub mod RunLemmas
 pub mod TallyLemmas

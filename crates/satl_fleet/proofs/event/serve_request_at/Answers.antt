@@ -6,7 +6,8 @@ use Rattle.satl_step.specs.Events.{CanTake}
 use Rattle.satl_step.specs.Runs.{calls_allowed}
 use Rattle.std.specs.Prelude.{[], ◌∷◌}
 use Rattle.satl_step.proofs.OutcomeLemmas.{on_ok, on_err}
-use Rattle.satl_fleet.proofs.EventLemmas.{calls_there, did_at, did_at_in_part, ready_here, ready_there, tied_lent, tied_there, unit_did_in_part_lent, unit_did_lent}
+use Rattle.satl_step.proofs.TallyLemmas.{tied_lent}
+use Rattle.satl_fleet.proofs.EventLemmas.{calls_there, did_at, did_at_in_part, ready_here, ready_there, tied_there, unit_did_in_part_lent, unit_did_lent}
 use Rattle.satl_fleet.specs.Units.{spot}
 use Rattle.satl_fleet.proofs.event.serve_request_at.Goals as goal
 

@@ -3,9 +3,10 @@ use Rattle.satl_frame.specs.Reading.{Reading}
 use Rattle.satl_fleet.specs.Loop.{scene}
 use Rattle.satl_fleet.specs.Rounds.{RoundDone, RoundInPart, frame_calls, stage}
 use Rattle.satl_fleet.specs.Units.{IsReady, IsTiedSpot, spots_of}
-use Rattle.satl_fleet.proofs.LoopLemmas.{can_route, ended, going_more, going_start, is_whole, nearer, part_more}
+use Rattle.satl_fleet.proofs.LoopLemmas.{can_route, ended, going_more, going_start, is_whole, part_more}
 use Rattle.satl_fleet.proofs.SpotLemmas.{all_map}
 use Rattle.satl_fleet.proofs.frames_loop.serve_frames.Goals as goal
+use Rattle.satl_step.proofs.LoopLemmas.{nearer}
 
 pub frames-init : goal.frames-init
 frames-init g c = record {
