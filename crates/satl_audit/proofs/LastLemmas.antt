@@ -11,6 +11,7 @@ use Rattle.satl_frame.specs.declared.frames.Frame.TheVariants as frames
 use Rattle.satl_frame.specs.Output.{all_answered, end_bytes}
 use Rattle.satl_frame.specs.Output.Answer.{replied, ended}
 use Rattle.satl_direct.specs.Device.{Device, is_called}
+use Rattle.satl_direct.proofs.Naming.{called_self}
 use Rattle.satl_audit.specs.Advancing.{Advances, CannotGoOn, GoesOn}
 use Rattle.satl_audit.specs.Arriving.{device_at}
 use Rattle.satl_audit.specs.Deeds.{Deed}
@@ -22,7 +23,6 @@ use Rattle.satl_audit.specs.declared.arriving.Steps.{Steps}
 use Rattle.satl_audit.proofs.FixingEvents.{ended_push}
 use Rattle.satl_audit.proofs.FixingTurns.{drains_same, none_ends, said}
 use Rattle.satl_audit.proofs.TurnLemmas.{kept_of}
-use Rattle.satl_laws.proofs.Names.{called_self}
 use Rattle.satl_laws.proofs.Ends.{eligible_in as eligible_there}
 
 -- a task fewer

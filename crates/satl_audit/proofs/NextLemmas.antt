@@ -10,9 +10,8 @@ use Rattle.satl_line.specs.Eligible.{eligible_at}
 use Rattle.satl_line.proofs.EligibleLemmas.{eligible_by-formed}
 use Rattle.satl_direct.specs.Device.{is_called, without}
 use Rattle.satl_direct.specs.Valid.{AreOwn}
-use Rattle.satl_direct.proofs.Naming.{called_apart}
+use Rattle.satl_direct.proofs.Naming.{called_apart, called_self}
 use Rattle.satl_audit.specs.Waiting.{Placed, device_tasks, entries_in, has_name, task_in}
-use Rattle.satl_laws.proofs.Names.{called_self}
 
 module _ (input : List ℕ) where
   -- a task among those of which none passes

@@ -1,6 +1,6 @@
 -- What a pending task writes, and what a loss of power leaves.
 use Rattle.std.proofs.Common.{arith, ◌≡◌, refl, sym, ap, ◌∙◌, ℕ, zero, suc, Bool, List, [], ◌∷◌, length, map, subst}
-use Rattle.std.specs.Prelude.{◌<◌, ◌&&◌, Result, Ok, Err, OnOk, not, Option, Some, None, slice_get}
+use Rattle.std.specs.Prelude.{◌<◌, ◌&&◌, not, Option, Some, None, slice_get}
 use Rattle.std.specs.Option.{option_map}
 use Rattle.std.proofs.lemmas.List.{get_or-map, length-map}
 use Rattle.satl_base.specs.declared.block.Block.{Block}
@@ -62,10 +62,6 @@ none_by capacity bytes (commands.Pass cdb) s t w other = absurd w
 pub writes_none : (identity : Identity) (input : List ℕ) (waiting : List Placed) (capacity bytes : ℕ) (p : Placed) → MayWait capacity bytes p.entry.command → ((form : Form) (lba count : ℕ) (fua : Bool) → p.entry.command ≡ commands.Write form lba count fua → ⊥) →
     writes (device_of identity input waiting []) (task_in input p) ≡ []
 writes_none identity input waiting capacity bytes p w other = none_by capacity bytes p.entry.command (device_of identity input waiting []) (task_in input p) w other
-
-pub on_ok_map : {T E : Type 0} (r : Result T E) (P Q : Type 0) → OnOk r P → (P → Q) → OnOk r Q
-on_ok_map (Ok x) P Q h f = f h
-on_ok_map (Err e) P Q h f = tt
 
 pub some_at : (ps : List Placed) (n : ℕ) → n < length ps → (p : Placed) × (slice_get ps n ≡ Some p)
 some_at [] n less = absurd (omega (arith, less))

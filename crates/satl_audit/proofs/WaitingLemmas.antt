@@ -1,6 +1,6 @@
 -- Tasks that wait, and the places of their data-out.
-use Rattle.std.proofs.Common.{arith, ◌≡◌, refl, sym, ap, ◌∙◌, subst, ℕ, zero, suc, ◌+◌, Bool, true, false, List, [], ◌∷◌, ◌++◌, length}
-use Rattle.std.specs.Prelude.{◌==◌, ◌||◌, ◌<◌, if◌then◌else◌, nat_lt, Some, slice_get, slice_index, slice_set}
+use Rattle.std.proofs.Common.{◌≡◌, refl, sym, ap, ◌∙◌, subst, ℕ, zero, suc, ◌+◌, List, [], ◌∷◌, ◌++◌, length}
+use Rattle.std.specs.Prelude.{◌==◌, ◌||◌, ◌<◌, nat_lt, Some, slice_get, slice_index, slice_set}
 use Rattle.std.proofs.Math.ListN.{set}
 use Rattle.std.specs.Option.{option_map}
 use Rattle.std.proofs.lemmas.Bool.{eqb-false}
@@ -9,6 +9,7 @@ use Rattle.std.proofs.lemmas.Option.{same_Some}
 use Rattle.satl_base.specs.Limits.{most_held, most_tasks}
 use Rattle.satl_line.specs.declared.entry.Entry.{Entry}
 use Rattle.satl_line.specs.Tasks.{Adds, Held, count_of, entries_of, is_too_much, slots_of, total_blocks}
+use Rattle.satl_line.proofs.SlotsLemmas.{head_out}
 use Rattle.satl_direct.specs.Tasks.{held_by}
 use Rattle.satl_audit.specs.Waiting.{Placed, entries_in, has_no_room, placed_in}
 
@@ -28,18 +29,10 @@ room_same places tasks entry =
     ap (λ n. (n == most_tasks) || nat_lt most_held (total_blocks tasks + entry.blocks)) (sym (length-map tasks (place_held places)))
     ∙ ap (λ n. (length (placed_in places tasks) == most_tasks) || nat_lt most_held (n + entry.blocks)) (blocks_same places tasks)
 
--- what is kept for a slot that no task has
-head_out : (q s n : ℕ) → (if q == s then 1 else 0) + n ≡ 0 → ((q == s) ≡ false) × (n ≡ 0)
-head_out q s n h = by (q == s) h
-  where
-    by : (b : Bool) → (if b then 1 else 0) + n ≡ 0 → (b ≡ false) × (n ≡ 0)
-    by true h = absurd (omega (arith, h))
-    by false h = (refl, omega (arith, h))
-
 pub places_other : (places : List ℕ) (slot at : ℕ) (tasks : List Held) → count_of slot (slots_of tasks) ≡ 0 → placed_in (slice_set places slot at) tasks ≡ placed_in places tasks
 places_other places slot at [] h = refl
 places_other places slot at (held ∷ tasks) h =
-    let out = head_out held.slot slot (count_of slot (slots_of tasks)) h in
+    let out = head_out slot held.slot (count_of slot (slots_of tasks)) h in
     ap (λ n. record { entry = held.entry; at = n } ∷ placed_in (slice_set places slot at) tasks) (get_or-set_other places slot held.slot at 0 (eqb-false held.slot slot out.0))
     ∙ ap (λ (l : List Placed). record { entry = held.entry; at = slice_index places held.slot } ∷ l) (places_other places slot at tasks out.1)
 

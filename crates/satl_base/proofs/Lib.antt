@@ -6,4 +6,5 @@ pub mod FieldsLemmas
 pub mod ListsLemmas
 pub mod LossesLemmas
 pub mod MovesLemmas
+pub mod OutcomeLemmas
 pub mod PlacesLemmas

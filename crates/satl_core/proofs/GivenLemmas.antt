@@ -24,7 +24,7 @@ use Rattle.satl_drive.specs.State.{DriveState, Outstanding}
 use Rattle.satl_direct.specs.Device.{is_called}
 use Rattle.satl_direct.specs.Tasks.{data_out, task_of}
 use Rattle.satl_direct.specs.Valid.{AreOwn}
-use Rattle.satl_direct.proofs.Naming.{called-sym}
+use Rattle.satl_direct.proofs.Naming.{called-sym, called_same}
 use Rattle.satl_flight.specs.declared.flight.Flying.{Flying}
 use Rattle.satl_flight.specs.Flown as flown
 use Rattle.satl_flight.specs.Flown.{IsFlown, IsInFlight, clash, is_in_slot, queued_for, outstanding_for, blocks_for}
@@ -130,10 +130,7 @@ holds_given tasks (f ∷ fs) h t same found held = go (f.slot == h.slot) refl he
     go : (b : Bool) → (f.slot == h.slot) ≡ b → (b || flown.holds fs h.slot) ≡ true → (flown.holds fs h.slot ≡ true → holds (map (given_of tasks) fs) t ≡ true) → holds (map (given_of tasks) (f ∷ fs)) t ≡ true
     go true is e rest =
         let task : (given_of tasks f).task ≡ t = ap (λ n. unwrap_or (option_map (λ (k : Held). task_of k.entry) (find (is_in_slot n) tasks)) no_entry) (eqb-true f.slot h.slot is) ∙ ap (λ x. unwrap_or (option_map (λ (k : Held). task_of k.entry) x) no_entry) found ∙ same in
-        ap (λ b. b || holds (map (given_of tasks) fs) t) (named (given_of tasks f).task t task)
-      where
-        named : (u t : Entry) → u ≡ t → is_called t.nexus (t.tag).0 u ≡ true
-        named u t one = ap (λ b. b && ((u.tag).0 == (t.tag).0)) (eq-eqb u.nexus t.nexus (ap (λ (e : Entry). e.nexus) one)) ∙ eq-eqb (u.tag).0 (t.tag).0 (ap (λ (e : Entry). (e.tag).0) one)
+        ap (λ b. b || holds (map (given_of tasks) fs) t) (called_same (given_of tasks f).task t task)
     go false is e rest = either (is_called t.nexus (t.tag).0 (given_of tasks f).task) (rest e)
       where
         either : (b : Bool) → holds (map (given_of tasks) fs) t ≡ true → (b || holds (map (given_of tasks) fs) t) ≡ true

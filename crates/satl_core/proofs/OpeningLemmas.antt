@@ -1,6 +1,6 @@
 -- What opening the layer gives.
 use Rattle.std.proofs.Common.{subst, ◌≡◌, refl, sym, ap, inr, ◌∙◌, ◌-◌, arith, ℕ, Bool, true, false, List, [], map, None}
-use Rattle.std.specs.Prelude.{Result, Ok, Err, OnErr, not, replicate, slice_index_or}
+use Rattle.std.specs.Prelude.{Result, Ok, not, replicate, slice_index_or}
 use Rattle.satl_base.specs.declared.block.Block.{Block}
 use Rattle.satl_base.specs.declared.modes.Modes.{Modes}
 use Rattle.satl_base.proofs.LossesLemmas.{loses-nows, loses-sound}
@@ -24,11 +24,6 @@ use Rattle.satl_core.proofs.AgreeingLemmas.{idle_in_flight}
 use Rattle.satl_core.proofs.TieLemmas.{layer_of}
 use Rattle.satl_barrier.specs.Commands.{IsTold}
 use Rattle.satl_core.specs.Opening.{IsOpened}
-
--- what holds in any case holds at an error
-pub at_error : {A E P : Type 0} (r : Result A E) → P → OnErr r P
-at_error (Ok a) p = tt
-at_error (Err e) p = p
 
 pub told_nows : (old new : DriveState) (given taken : List Block) → IsTold old given taken new → map (λ c. c.now) new.cells ≡ map (λ c. c.now) old.cells
 told_nows old new given taken told = loses-nows old.cells new.cells told.lost

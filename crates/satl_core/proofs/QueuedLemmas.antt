@@ -1,5 +1,5 @@
 -- What the queue does is what the device does.
-use Rattle.std.proofs.Common.{◌≡◌, refl, sym, ◌∙◌, ap, subst, inl, ⊎_elim, ℕ, zero, suc, Bool, true, false, List, [], ◌∷◌, Option, Some, None, arith, eq-eqb}
+use Rattle.std.proofs.Common.{◌≡◌, refl, sym, ◌∙◌, ap, subst, inl, ⊎_elim, ℕ, zero, suc, Bool, true, false, List, [], ◌∷◌, Option, Some, None, arith}
 use Rattle.std.specs.Prelude.{◌==◌, ◌&&◌, ◌||◌, not, map, MatchBool, slice_get, if◌then◌else◌}
 use Rattle.std.specs.List.{list_any, remove}
 use Rattle.std.proofs.lemmas.Bool.{or_parts}
@@ -42,6 +42,7 @@ use Rattle.satl_direct.specs.Turn.Turn.{loses}
 use Rattle.satl_direct.specs.Quiet.{Around}
 use Rattle.satl_direct.specs.Valid.{AreOwn}
 use Rattle.satl_direct.proofs.Quieting.{quiet_none}
+use Rattle.satl_direct.proofs.Naming.{called_same}
 use Rattle.satl_flight.specs.Flown.{clash}
 use Rattle.satl_flight.specs.Settled.{IsFilled, IsFlawOrCrc, IsLostInFlight, IsLostQuietly, IsSettled, outcome_of, read_into}
 use Rattle.satl_core.specs.Layer.{Agrees, Layer, view, works}
@@ -177,10 +178,7 @@ may_show s cache entries pair tasks_are wce up started m = record {
 -- the task at a place is the one of its name
 without_place : (tasks : List Entry) (place : ℕ) (t : Entry) → AreOwn tasks → slice_get tasks place ≡ Some t → without t tasks ≡ remove tasks place
 without_place [] place t own at = absurd cc
-without_place (u ∷ us) zero t own at = let one : u ≡ t = cc in ap (λ b. if b then us else u ∷ remove_first (is_called t.nexus (t.tag).0) us) (called t u one)
-  where
-    called : (t u : Entry) → u ≡ t → is_called t.nexus (t.tag).0 u ≡ true
-    called t u one = ap (λ b. b && ((u.tag).0 == (t.tag).0)) (eq-eqb u.nexus t.nexus (ap (λ (e : Entry). e.nexus) one)) ∙ eq-eqb (u.tag).0 (t.tag).0 (ap (λ (e : Entry). (e.tag).0) one)
+without_place (u ∷ us) zero t own at = let one : u ≡ t = cc in ap (λ b. if b then us else u ∷ remove_first (is_called t.nexus (t.tag).0) us) (called_same u t one)
 without_place (u ∷ us) (suc place) t own at = ap (λ b. if b then us else u ∷ remove_first (is_called t.nexus (t.tag).0) us) (other us place own.0 at) ∙ ap (λ xs. u ∷ xs) (without_place us place t own.1 at)
   where
     other : (ts : List Entry) (k : ℕ) → list_any (is_called u.nexus (u.tag).0) ts ≡ false → slice_get ts k ≡ Some t → is_called t.nexus (t.tag).0 u ≡ false

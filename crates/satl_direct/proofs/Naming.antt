@@ -2,7 +2,7 @@
 use Rattle.std.proofs.Common.{◌≡◌, refl, sym, ap, ◌∙◌, Bool, true, false, List, [], ◌∷◌, ◌++◌}
 use Rattle.std.specs.Prelude.{if◌then◌else◌, filter, ◌==◌, ◌&&◌}
 use Rattle.std.specs.List.{list_any}
-use Rattle.std.proofs.lemmas.Bool.{or_parts}
+use Rattle.std.proofs.lemmas.Bool.{or_parts, eq-eqb}
 use Rattle.satl_base.proofs.Booleans.{eqb-sym}
 use Rattle.satl_base.proofs.ListsLemmas.{none_filtered, none_pushed}
 use Rattle.satl_line.specs.declared.entry.Entry.{Entry}
@@ -18,6 +18,13 @@ called_back t u h = sym (called-sym t u) ∙ h
 
 pub called_apart : (t u : Entry) → is_called t.nexus (t.tag).0 u ≡ false → is_called u.nexus (u.tag).0 t ≡ false
 called_apart t u h = sym (called-sym t u) ∙ h
+
+-- a task is called as itself
+pub called_self : (t : Entry) → is_called t.nexus (t.tag).0 t ≡ true
+called_self t = ap (λ b. b && ((t.tag).0 == (t.tag).0)) (eq-eqb t.nexus t.nexus refl) ∙ eq-eqb (t.tag).0 (t.tag).0 refl
+
+pub called_same : (u t : Entry) → u ≡ t → is_called t.nexus (t.tag).0 u ≡ true
+called_same u t one = ap (is_called t.nexus (t.tag).0) one ∙ called_self t
 
 -- tasks of their own nexus and tag stay so where some go
 pub own_filtered : (q : Entry → Bool) (ts : List Entry) → AreOwn ts → AreOwn (filter q ts)

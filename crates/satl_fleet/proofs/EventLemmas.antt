@@ -3,7 +3,7 @@ use Rattle.std.proofs.Common.{◌≡◌, sym, ap, subst, ◌∙◌, arith, ℕ, 
 use Rattle.std.specs.Prelude.{Option, Some, slice_get, slice_set, slice_index_or}
 use Rattle.std.specs.List.{AllByRecursion}
 use Rattle.std.proofs.lemmas.List.{map-set}
-use Rattle.satl_base.proofs.ListsLemmas.{get-map}
+use Rattle.satl_base.proofs.ListsLemmas.{get-map, All-weaken}
 use Rattle.satl_io.specs.Causes.{RoseBy}
 use Rattle.satl_frame.specs.Output.{Answer}
 use Rattle.satl_frame.specs.declared.frames.Frame.{Frame}
@@ -13,7 +13,7 @@ use Rattle.satl_drive.specs.State.{DriveState}
 use Rattle.satl_core.specs.Layer.{Layer, view}
 use Rattle.satl_fleet.specs.Rounds.{DidAt, DidAtInPart, stage}
 use Rattle.satl_fleet.specs.Units.{Did, IsReady, IsTiedSpot, Spot, UnitDid, UnitDidInPart, device_of, pending, spot, spots_of}
-use Rattle.satl_fleet.proofs.SpotLemmas.{all_at, all_map, all_set, pending_set, some_at, spots_at, spots_set}
+use Rattle.satl_fleet.proofs.SpotLemmas.{all_at, all_set, pending_set, some_at, spots_at, spots_set}
 
 module _ {D : Type 0} (f : D → DriveState) (ls : List Layer) (ds : List D) (k : ℕ) (l : Layer) (d : D) (small : k < length ls) (less : k < length ds) (l_is : l ≡ slice_index_or ls k l) (d_is : d ≡ slice_index_or ds k d) where
   abbrev before : List Spot
@@ -39,7 +39,7 @@ module _ {D : Type 0} (f : D → DriveState) (ls : List Layer) (ds : List D) (k 
     ready_there all tied none = subst (AllByRecursion IsReady) (sym set_there) (all_set IsReady before k (spot l' (f d')) all (record { tied = tied; all_in = none }))
 
     pub tied_there : AllByRecursion IsReady before → IsTiedSpot (spot l' (f d')) → AllByRecursion IsTiedSpot (spots_of (slice_set ls k l') (map f (slice_set ds k d')))
-    tied_there all tied = subst (AllByRecursion IsTiedSpot) (sym set_there) (all_set IsTiedSpot before k (spot l' (f d')) (all_map IsReady IsTiedSpot before (λ s r. r.tied) all) tied)
+    tied_there all tied = subst (AllByRecursion IsTiedSpot) (sym set_there) (all_set IsTiedSpot before k (spot l' (f d')) (All-weaken IsReady IsTiedSpot (λ s r. r.tied) before all) tied)
 
     pub calls_there : (turn calls calls' allowed : ℕ) → calls' + turn * length l'.tasks ≤ calls + turn * length l.tasks + allowed → calls' + turn * pending (spots_of (slice_set ls k l') (map f (slice_set ds k d'))) ≤ calls + turn * pending before + allowed
     calls_there turn calls calls' allowed few =

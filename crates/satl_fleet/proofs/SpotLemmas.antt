@@ -44,10 +44,6 @@ all_set P [] k x all p = tt
 all_set P (y ∷ ys) zero x all p = (p, all.1)
 all_set P (y ∷ ys) (suc k) x all p = (all.0, all_set P ys k x all.1 p)
 
-pub all_map : {X : Type 0} (P Q : X → Type 0) (xs : List X) → ((x : X) → P x → Q x) → AllByRecursion P xs → AllByRecursion Q xs
-all_map P Q [] f all = tt
-all_map P Q (y ∷ ys) f all = (f y all.0, all_map P Q ys f all.1)
-
 -- the tasks that wait, once those of one unit are others
 pub pending_set : (ss : List Spot) (k : ℕ) (old new : Spot) → slice_get ss k ≡ Some old → pending (slice_set ss k new) + length old.layer.tasks ≡ pending ss + length new.layer.tasks
 pending_set [] k old new is = absurd cc

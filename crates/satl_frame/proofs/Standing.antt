@@ -1,6 +1,6 @@
 -- A frame stands exactly where no reason refuses the bytes.
 use Rattle.std.proofs.Common.{◌≡◌, ℕ, zero, suc, ◌+◌, ◌<◌, ◌≤◌, ◌^◌, ◌⊎◌, true, false, not, ◌&&◌, ◌||◌, nat_le, nat_lt, ◌==◌, List, [], ◌∷◌, ◌++◌, length, take, drop, get_or, slice_index, Option, Some, None, refl, ◌∙◌, ap, sym, subst, arith, append_assoc, inl, inr}
-use Rattle.std.proofs.lemmas.List.{length-append, length-take-le, length-drop, take_at, take-append-drop, take_all, get_or-take, get_or-drop, append-nil}
+use Rattle.std.proofs.lemmas.List.{length-append, length-take-le, length-drop, take_at, take-append-drop, take_all, get_or-take, get_or-drop, append-nil, nil_from_length}
 use Rattle.std.proofs.lemmas.Bool.{le-ltb, ltb-false, leb-true, and_parts, or_parts, eq-eqb, ne_eqb, cases_eq, cases_lt, false≢true, not-false, le-leb}
 use Rattle.std.proofs.lemmas.Nat.{be_bytes_2}
 use Rattle.byteorder.specs.Endian.{big_from, big_bytes}
@@ -262,10 +262,6 @@ decode_event p b good =
     by_event (suc (suc (suc (suc (suc (suc (suc e))))))) is allowed which =
         absurd (false≢true (sym (beyond_events (suc (suc (suc (suc (suc (suc (suc e))))))) (length p) (omega arith)) ∙ allowed))
 
-nothing : (p : List ℕ) → length p ≡ 0 → [] ≡ p
-nothing [] l = refl
-nothing (x ∷ p) l = absurd (omega arith)
-
 -- a payload of a kind and a length that the table has, without a bad field, is that of a frame
 decode : (version : Version) (k : ℕ) (p : List ℕ) → IsBytes p → has_code (frame_rows version) k ≡ true → allows (frame_rows version) k (length p) ≡ true → has_bad_field version k p ≡ false →
     Decoded version k p
@@ -278,7 +274,7 @@ decode version (suc (suc (suc (suc zero)))) p b known allowed good =
     record { frame = frames.Bench e.event; is_frame = e.is_event; kind_is = refl; payload_is = e.fields_are }
 decode version (suc (suc (suc (suc (suc zero))))) p b known allowed good =
     let sizes = within 0 0 (length p) allowed in
-    record { frame = frames.End; is_frame = tt; kind_is = refl; payload_is = nothing p (omega (arith, sizes)) }
+    record { frame = frames.End; is_frame = tt; kind_is = refl; payload_is = sym (nil_from_length p (omega (arith, sizes))) }
 decode version (suc (suc (suc (suc (suc (suc k)))))) p b known allowed good =
     absurd (false≢true (sym (beyond_kinds version (suc (suc (suc (suc (suc (suc k)))))) (omega arith)) ∙ known))
 

@@ -15,6 +15,7 @@ use Rattle.satl_direct.specs.Device.{is_called}
 use Rattle.satl_laws.specs.ArrivalOrder.{is_done, is_good}
 use Rattle.satl_laws.specs.OnceEach.{answers_to, asks_by}
 use Rattle.satl_direct.specs.Valid.{AreOwn}
+use Rattle.satl_direct.proofs.Naming.{called_self}
 use Rattle.satl_laws.proofs.Seen.{by_test}
 
 -- what holds of none holds of none of them
@@ -23,10 +24,6 @@ none_in p [] y h i = elim i [ ]
 none_in p (x ∷ xs) y h i = ⊎_elim (λ same. ap p same ∙ (or_parts (p x) (list_any p xs) h).0) (λ later. none_in p xs y (or_parts (p x) (list_any p xs) h).1 later) i
 
 -- ---- names
-
--- a task has its own name
-pub called_self : (t : Entry) → is_called t.nexus (t.tag).0 t ≡ true
-called_self t = ap (λ b. b && ((t.tag).0 == (t.tag).0)) (eq-eqb t.nexus t.nexus refl) ∙ eq-eqb (t.tag).0 (t.tag).0 refl
 
 -- a request asks by its own nexus and tag
 pub asks_self : (r : Request) → asks_by r.nexus (r.tag).0 (frames.Request r) ≡ true

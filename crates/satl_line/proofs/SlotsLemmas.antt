@@ -36,7 +36,7 @@ count_other q s other =
       | false ↦ λ e. omega arith
     ]) refl
 
-head_out : (q x : ℕ) (n : ℕ) → (if x == q then 1 else 0) + n ≡ 0 → ((x == q) ≡ false) × (n ≡ 0)
+pub head_out : (q x : ℕ) (n : ℕ) → (if x == q then 1 else 0) + n ≡ 0 → ((x == q) ≡ false) × (n ≡ 0)
 head_out q x n h =
     (elim (x == q) as (λ b. (if b then 1 else 0) + n ≡ 0 → (b ≡ false) × (n ≡ 0)) [
       | true ↦ λ e. absurd (omega arith)

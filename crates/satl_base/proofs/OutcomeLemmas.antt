@@ -1,18 +1,9 @@
--- What follows of what holds where all went well, or did not.
+-- What follows of two facts where all went well, or did not, and what holds in any case.
 use Rattle.std.specs.Prelude.{Result, Ok, Err, OnErr, OnOk}
 
-pub on_ok : {A E : Type 0} (r : Result A E) (P Q : Type 0) → (P → Q) → OnOk r P → OnOk r Q
-on_ok (Ok x) P Q f p = f p
-on_ok (Err e) P Q f p = tt
-
--- the same of two facts
 pub on_both : {A E : Type 0} (r : Result A E) (P P' Q : Type 0) → (P → P' → Q) → OnOk r P → OnOk r P' → OnOk r Q
 on_both (Ok x) P P' Q f p q = f p q
 on_both (Err e) P P' Q f p q = tt
-
-pub on_err : {A E : Type 0} (r : Result A E) (P Q : Type 0) → (P → Q) → OnErr r P → OnErr r Q
-on_err (Ok x) P Q f p = tt
-on_err (Err e) P Q f p = f p
 
 pub on_both_err : {A E : Type 0} (r : Result A E) (P P' Q : Type 0) → (P → P' → Q) → OnErr r P → OnErr r P' → OnErr r Q
 on_both_err (Ok x) P P' Q f p q = tt
