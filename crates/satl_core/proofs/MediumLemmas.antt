@@ -21,7 +21,6 @@ use Rattle.satl_identify.specs.declared.identity.Identity.{Identity}
 use Rattle.satl_sense.specs.declared.sense.Sense.{Sense}
 use Rattle.satl_pass.specs.Status.{error_sense_at}
 use Rattle.satl_regs.specs.Effects.{Transfer, unc}
-use Rattle.satl_regs.specs.Trim.{addresses}
 use Rattle.satl_line.specs.declared.entry.Entry.{Entry}
 use Rattle.satl_line.specs.Ending.Outcome.{ends_done, ends_glitched}
 use Rattle.satl_line.specs.Ranged.{zeros_over}
