@@ -1,5 +1,5 @@
 -- What the layer judges of a request is what the device does with it.
-use Rattle.std.proofs.Common.{◌≡◌, refl, sym, ap, subst, ◌∙◌, arith, cond, ℕ, suc, ◌+◌, Bool, true, false, List, [], ◌∷◌, length, map}
+use Rattle.std.proofs.Common.{◌≡◌, refl, sym, ap, subst, ◌∙◌, arith, cond, ℕ, ◌+◌, Bool, true, false, List, [], ◌∷◌, length, map}
 use Rattle.std.specs.Prelude.{Option, Some, None, Result, Ok, Err, not, ◌==◌, ◌&&◌, nat_lt, slice_get, slice_index, slice_index_or, MatchBool}
 use Rattle.std.proofs.lemmas.Bool.{eqb-true, le-ltb}
 use Rattle.satl_base.specs.declared.reply.Reply.{Reply}
@@ -35,6 +35,7 @@ use Rattle.satl_core.specs.declared.telling.Data.TheVariants as datas
 use Rattle.satl_core.proofs.LeavingLemmas.{found_is, left_tasks}
 use Rattle.satl_core.proofs.SayingLemmas.{IsSaid, said_of}
 use Rattle.satl_core.proofs.JudgingLemmas.{by_ok, judged_by, tested}
+use Rattle.satl_core.proofs.CountedLemmas.{tasks_seen}
 
 -- ---- the arrival
 
@@ -286,12 +287,8 @@ pub held_by_is : (tasks : List Held) → held_by (map task_of (entries_of tasks)
 held_by_is [] = refl
 held_by_is (h ∷ tasks) = ap (λ n. h.entry.blocks + n) (held_by_is tasks)
 
-count_is : (tasks : List Held) → length (map task_of (entries_of tasks)) ≡ length tasks
-count_is [] = refl
-count_is (h ∷ tasks) = ap suc (count_is tasks)
-
 pub full_is : (tasks : List Held) (r : Request) (c : Command) (queued_trim : Bool) → is_full (map task_of (entries_of tasks)) c ≡ is_too_much tasks (task_without_pages r c queued_trim)
-full_is tasks r c queued_trim = rw (count_is tasks, held_by_is tasks) refl
+full_is tasks r c queued_trim = rw (tasks_seen tasks, held_by_is tasks) refl
 
 pub becomes_arrives : (l new : Layer) (d : DriveState) (r : Request) (c : Command) (replies : List Reply) → judged l r ≡ Ok c → Becomes r c l replies new → Arrives r (view l d) replies (view new d)
 becomes_arrives l new d r c replies e b =

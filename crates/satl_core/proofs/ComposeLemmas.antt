@@ -10,8 +10,8 @@ use Rattle.satl_direct.specs.Run.{MayLose}
 use Rattle.satl_direct.specs.Run.MayLose.{keeps, keeps_and_loses}
 use Rattle.satl_direct.specs.Turn.{Loss, Turn, TurnLoss}
 use Rattle.satl_direct.specs.Turn.Turn.{ends as turn_ends, ends_and_loses as turn_ends_and_loses}
+use Rattle.satl_direct.proofs.Quieting.{quiet_none}
 use Rattle.satl_core.specs.Refilling.{Answers, EndsOne, EndsOrLoses, Refills, Removes}
-use Rattle.satl_core.proofs.DeviceLemmas.{quiet_none}
 use Rattle.satl_core.proofs.QuietLemmas.{quiet_on}
 
 turn_loss : (a b : Device) (answers : List Reply) → Loss a answers b → TurnLoss a answers b

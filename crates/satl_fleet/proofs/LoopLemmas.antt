@@ -1,27 +1,25 @@
 -- Frames that a reader gives, one after the other.
-use Rattle.std.proofs.Common.{◌≡◌, ◌⊎◌, append_assoc, inl, inr, refl, sym, ap, subst, ◌∙◌, arith, ℕ, ◌+◌, ◌-◌, ◌*◌, ◌<◌, ◌≤◌, true, false, List, [], ◌∷◌, ◌++◌, length, take}
+use Rattle.std.proofs.Common.{◌≡◌, ◌⊎◌, append_assoc, inl, inr, refl, sym, ap, subst, ◌∙◌, arith, ℕ, ◌+◌, ◌*◌, ◌≤◌, true, false, List, [], ◌∷◌, ◌++◌, length, take}
 use Rattle.std.proofs.lemmas.List.{append-nil, take_all}
-use Rattle.std.specs.Prelude.{Option, Some, None}
+use Rattle.std.specs.Prelude.{Option, None}
 use Rattle.std.specs.List.{AllByRecursion}
 use Rattle.satl_base.specs.declared.request.Request.{Request}
 use Rattle.satl_io.specs.Known.{Wrote, WrotePart}
 use Rattle.satl_io.proofs.Joined.{Wrote-more, Wrote-none}
-use Rattle.satl_frame.specs.Frames.{HasExpected, IsFrame, IsRequest, data_out, spelled}
+use Rattle.satl_frame.specs.Frames.{IsFrame, IsRequest, data_out}
 use Rattle.satl_frame.specs.Inputs.{NoneEnds}
 use Rattle.satl_frame.specs.Progress.{HasRead}
 use Rattle.satl_frame.specs.Pulls.{cut_to}
-use Rattle.satl_frame.specs.Reading.{Gave, IsNext, Reading}
-use Rattle.satl_frame.specs.declared.frames.Place.{Place}
+use Rattle.satl_frame.specs.Reading.{Gave, Reading}
 use Rattle.satl_frame.specs.declared.frames.Version.{Version}
-use Rattle.satl_frame.specs.declared.frames.Version.TheVariants.{One, Two}
 use Rattle.satl_frame.specs.declared.frames.Frame.{Frame}
 use Rattle.satl_frame.specs.declared.frames.Frame.TheVariants as frames
 use Rattle.satl_frame.proofs.Paging.{length-pages_of}
 use Rattle.satl_frame.proofs.ProgressLemmas.{has_read_more}
 use Rattle.satl_line.proofs.SlotsLemmas.{All-append}
-use Rattle.satl_core.specs.Layer.{IsExpectable}
 use Rattle.satl_core.specs.Turning.{turn_calls}
-use Rattle.satl_step.specs.Loop.{is_end, place_offset}
+use Rattle.satl_step.specs.Loop.{is_end}
+use Rattle.satl_step.proofs.LoopLemmas.{expectable, holds}
 use Rattle.satl_fleet.specs.Loop.{Ended, Going, HasGiven, Scene, SoFar, StoppedInRound}
 use Rattle.satl_fleet.specs.Output.{Round, all_told, frames_of, round_told}
 use Rattle.satl_fleet.specs.Rounds.{CanRoute, RoundDone, RoundInPart, Serves, Stops, calls_for, frame_calls, round_of}
@@ -30,18 +28,6 @@ use Rattle.satl_fleet.specs.Units.{Spot, pending}
 use Rattle.satl_fleet.proofs.RunLemmas.{run_none, run_round, run_round_part}
 
 -- ---- whole frames
-
-expectable : (version : Version) (expected : Option ℕ) → HasExpected version expected → IsExpectable expected
-expectable One expected h = rw h tt
-expectable Two None h = absurd h
-expectable Two (Some count) h = h
-
--- the pages of a whole request hold its data-out
-holds : (version : Version) (w : Request) → IsRequest version w → w.data_len ≤ 512 * length w.body
-holds version w is =
-    let pages = ap length is.sent.pages ∙ length-pages_of (data_out w) in
-    let size = is.sent.size in
-    omega (arith, pages, size)
 
 -- and are 4,096 at most
 few_pages : (version : Version) (w : Request) → IsRequest version w → length w.body ≤ 4096
@@ -71,19 +57,6 @@ module _ {old new : Reading} {room : ℕ} {frame : Frame} {left left' : Option (
 
   pub can_route : CanRoute frame
   can_route = subst CanRoute is_whole (routable gave.place.version gave.whole gave.is_frame)
-
--- what is left to the limit gets less
-pub nearer : {old new : Reading} {room : ℕ} {frame : Frame} {left left' : Option (List ℕ)} → Gave old room frame new left left' → new.limit - place_offset new.place < old.limit - place_offset old.place
-nearer {old} {new} gave =
-    subst (λ (r : Reading). r.limit - place_offset r.place < old.limit - place_offset old.place) (sym gave.new_is)
-    (by_place old.limit old.newest old.place gave.place (length (spelled gave.whole)) gave.next gave.within some_bytes)
-  where
-    some_bytes : 0 < length (spelled gave.whole)
-    some_bytes = omega arith
-
-    by_place : (limit : ℕ) (newest : Version) (at : Option Place) (place : Place) (size : ℕ) → IsNext newest at place → place.offset + size ≤ limit → 0 < size → limit - (place.offset + size) < limit - place_offset at
-    by_place limit newest None place size next within some = omega arith
-    by_place limit newest (Some p) place size next within some = let same : place.offset ≡ p.offset = ap (λ (x : Place). x.offset) next in omega arith
 
 -- ---- lists of rounds
 

@@ -1,5 +1,5 @@
 -- The runs of units, which grow by a round.
-use Rattle.std.proofs.Common.{◌≡◌, ◌⊎◌, append_assoc, inl, inr, refl, sym, ap, subst, arith, ◌∙◌, ℕ, suc, ◌+◌, ◌≤◌, max, List, [], ◌∷◌, ◌++◌, length, map}
+use Rattle.std.proofs.Common.{◌≡◌, ◌⊎◌, append_assoc, inl, inr, refl, sym, ap, subst, arith, ◌∙◌, ℕ, suc, ◌+◌, max, List, [], ◌∷◌, ◌++◌, length, map}
 use Rattle.std.proofs.lemmas.List.{append-nil, length-append}
 use Rattle.std.specs.Prelude.{slice_index_or}
 use Rattle.std.specs.List.{AllByRecursion}
@@ -14,10 +14,11 @@ use Rattle.satl_drive.specs.State.{DriveState}
 use Rattle.satl_direct.specs.Device.{Device}
 use Rattle.satl_direct.specs.Run.{losses_in}
 use Rattle.satl_direct.specs.Run.RunDeep.{start, step}
-use Rattle.satl_core.proofs.DeviceLemmas.{quiet_none}
+use Rattle.satl_direct.proofs.Quieting.{quiet_none}
 use Rattle.satl_step.specs.Events.{unplugs_behind}
 use Rattle.satl_step.specs.Runs.{Covers, is_unplug, tally_of, unplugs_in}
 use Rattle.satl_step.specs.Runs.RunInPart.{last}
+use Rattle.satl_step.proofs.RunLemmas.{unplugs_one, Unplugs}
 use Rattle.satl_fleet.specs.Output.{Round, frames_of, group_of, groups_for}
 use Rattle.satl_fleet.specs.Rounds.{Serves, Stops, round_of}
 use Rattle.satl_fleet.specs.Rounds.Serves.{none as no_unit, passes as unit_passes, serves as unit_serves}
@@ -28,23 +29,6 @@ use Rattle.satl_fleet.specs.Runs.HaveRunInPart.{here as run_here, later as run_l
 use Rattle.satl_fleet.specs.Units.{Did, DidInPart, Spot, device_of}
 
 -- ---- one unit
-
--- an event unplugs the drive as often as it is counted to
-record Unplugs (event : Frame) (before now : ℕ) : Type 0 where
-  pub rose : RoseBy (unplugs_in (event ∷ [])) before now
-  pub few : now ≤ before + unplugs_in (event ∷ [])
-
-unplugs_one : (event : Frame) (before : ℕ) → Unplugs event before (unplugs_behind event before)
-unplugs_one (frames.Request w) before = record { rose = RoseBy-none before; few = omega arith }
-unplugs_one (frames.Manage m) before = record { rose = RoseBy-none before; few = omega arith }
-unplugs_one (frames.Turn n) before = record { rose = RoseBy-none before; few = omega arith }
-unplugs_one (frames.Bench (events.Strike which lba)) before = record { rose = RoseBy-none before; few = omega arith }
-unplugs_one (frames.Bench (events.Mend lba)) before = record { rose = RoseBy-none before; few = omega arith }
-unplugs_one (frames.Bench (events.Glitch count)) before = record { rose = RoseBy-none before; few = omega arith }
-unplugs_one (frames.Bench (events.Order order)) before = record { rose = RoseBy-none before; few = omega arith }
-unplugs_one (frames.Bench events.Power) before = record { rose = RoseBy-none before; few = omega arith }
-unplugs_one (frames.Bench events.Unplug) before = record { rose = omega arith; few = omega arith }
-unplugs_one frames.End before = record { rose = RoseBy-none before; few = omega arith }
 
 counted_more : (events : List Frame) (losses lost : ℕ) (old mid new : DriveState) (event : Frame) → UnitCounted events losses old mid → RoseBy lost mid.faults new.faults → new.unplugs ≡ unplugs_behind event mid.unplugs → Covers (tally_of mid 0) (tally_of new 0) → UnitCounted (events ++ event ∷ []) (losses + lost) old new
 counted_more events losses lost old mid new event counted faults unplugged queue =

@@ -1,17 +1,14 @@
 -- Serving from before the units were opened.
-use Rattle.std.proofs.Common.{◌≡◌, ◌⊎◌, inl, inr, refl, sym, ap, subst, arith, ◌∙◌, ℕ, suc, ◌+◌, ◌≤◌, List, [], ◌∷◌, ◌++◌, length, map}
+use Rattle.std.proofs.Common.{◌≡◌, ◌⊎◌, inl, inr, ap, subst, arith, ℕ, suc, ◌+◌, ◌≤◌, List, [], ◌∷◌, ◌++◌, length}
 use Rattle.std.specs.List.{AllByRecursion}
 use Rattle.satl_io.specs.Causes.{RoseBy}
 use Rattle.satl_frame.specs.Output.{Answer}
 use Rattle.satl_frame.specs.declared.frames.Frame.{Frame}
-use Rattle.satl_line.specs.Tasks.{entries_of}
 use Rattle.satl_drive.specs.State.{DriveState}
 use Rattle.satl_direct.specs.Device.{Device}
-use Rattle.satl_direct.specs.Tasks.{task_of}
-use Rattle.satl_core.specs.Layer.{Layer, Tied, view}
-use Rattle.satl_core.specs.Opening.{IsOpened}
+use Rattle.satl_core.specs.Layer.{Layer, view}
 use Rattle.satl_core.specs.Tie.{given_by}
-use Rattle.satl_serve.specs.Runs.{IsFirstDevice, IsLeftAs}
+use Rattle.satl_serve.proofs.ServingLemmas.{first_of, left_as}
 use Rattle.satl_step.specs.Runs.{unplugs_in}
 use Rattle.satl_fleet.specs.Opening.{Opens, OpensTo}
 use Rattle.satl_fleet.specs.Opening.OpensTo.{rest, more}
@@ -21,34 +18,6 @@ use Rattle.satl_fleet.specs.Runs.{AreServed, AreServedInPart, HaveRun, HaveRunIn
 use Rattle.satl_fleet.specs.Runs.AreServedInPart.{here as served_here, later as served_later}
 use Rattle.satl_fleet.specs.Runs.HaveRunInPart.{here as run_here, later as run_later}
 use Rattle.satl_fleet.specs.Units.{IsTiedSpot, Spot, spot, spots_of}
-
--- an opened layer and its drive are a first device
-first_of : (old new : DriveState) (l : Layer) → IsOpened old l new → IsFirstDevice old (view l new)
-first_of old new l o = record {
-  cells = o.lost;
-  tasks = ap (λ t. map task_of (entries_of t)) o.tasks;
-  identity = o.identity;
-  wce = o.wce;
-  dra = o.dra;
-  d_sense = o.d_sense;
-  started = o.started;
-  up = sym o.tied.agrees.mark ∙ o.up;
-  active = ap (λ (d : DriveState). d.active) o.stays;
-  attentions = o.attentions;
-  glitches = ap (λ (d : DriveState). d.glitches) o.stays;
-  valid = o.tied.agrees.valid;
-}
-
--- a drive is left as the device that it and its layer are
-left_as : (l : Layer) (d : DriveState) → Tied l d → IsLeftAs (view l d) d
-left_as l d t = record {
-  cells = refl;
-  active = refl;
-  glitches = refl;
-  down = refl;
-  cache = λ up. t.agrees.cache (t.agrees.mark ∙ up);
-  look = λ up. t.agrees.look (t.agrees.mark ∙ up);
-}
 
 -- ---- a run is counted from before the layer was opened
 

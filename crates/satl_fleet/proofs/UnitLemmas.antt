@@ -3,16 +3,15 @@ use Rattle.std.proofs.Common.{◌≡◌, ◌⊎◌, inl, inr, append_assoc, refl
 use Rattle.std.specs.Prelude.{Option, if◌then◌else◌}
 use Rattle.satl_io.specs.Known.{Wrote, WrotePart}
 use Rattle.satl_frame.specs.Output.{Answer, all_answered, answer_bytes}
-use Rattle.satl_frame.specs.Pulls.{cut_to}
 use Rattle.satl_frame.specs.declared.frames.Frame.{Frame}
 use Rattle.satl_frame.specs.declared.frames.Frame.TheVariants as frames
 use Rattle.satl_drive.specs.State.{DriveState}
-use Rattle.satl_direct.specs.Run.{CutTurns}
 use Rattle.satl_core.specs.Layer.{Layer}
 use Rattle.satl_step.specs.Events.{Carried, Done, DoneInPart, IsTallied, IsWholeOf, scene_of}
-use Rattle.satl_step.specs.Runs.{DoesInPart, DoesShort, Stand, stand_of}
+use Rattle.satl_step.specs.Runs.{DoesInPart, DoesShort, stand_of}
 use Rattle.satl_step.specs.Runs.DoesInPart.{does_all, does_some}
 use Rattle.satl_step.specs.Telling.{all_told}
+use Rattle.satl_step.proofs.RunLemmas.{tallied_whole, asked_whole}
 use Rattle.satl_fleet.specs.Output.{is_left_out, kept, named, named_behind, told_one, told_under, unit_bytes}
 use Rattle.satl_fleet.specs.Units.{Did, DidInPart, UnitDid, UnitDidInPart, device_of, spot}
 use Rattle.satl_fleet.specs.declared.telling.UnitTeller.{UnitTeller}
@@ -47,20 +46,6 @@ unnamed_told k (answer ∷ answers) =
     ])
 
 -- ---- doing
-
-tallied_whole : (room : ℕ) (a b : Stand) (event whole : Frame) → event ≡ cut_to room whole → IsTallied event a b → IsTallied whole a b
-tallied_whole room a b event (frames.Request w) is tallied = let x = subst (λ f. IsTallied f a b) is tallied in record { faults = x.faults; unplugs = x.unplugs; calls = x.calls; queue = x.queue }
-tallied_whole room a b event (frames.Manage m) is tallied = subst (λ f. IsTallied f a b) is tallied
-tallied_whole room a b event (frames.Turn n) is tallied = subst (λ f. IsTallied f a b) is tallied
-tallied_whole room a b event (frames.Bench e) is tallied = subst (λ f. IsTallied f a b) is tallied
-tallied_whole room a b event frames.End is tallied = subst (λ f. IsTallied f a b) is tallied
-
-asked_whole : (room count : ℕ) (event whole : Frame) → event ≡ cut_to room whole → CutTurns event count → CutTurns whole count
-asked_whole room count event (frames.Request w) is asked = subst (λ f. CutTurns f count) is asked
-asked_whole room count event (frames.Manage m) is asked = subst (λ f. CutTurns f count) is asked
-asked_whole room count event (frames.Turn n) is asked = subst (λ f. CutTurns f count) is asked
-asked_whole room count event (frames.Bench e) is asked = subst (λ f. CutTurns f count) is asked
-asked_whole room count event frames.End is asked = tt
 
 module _ (l l' : Layer) (d d' : DriveState) (calls calls' : ℕ) (event whole : Frame) (is : IsWholeOf event whole) (tallied : IsTallied event (stand_of l d calls) (stand_of l' d' calls')) where
   did : (answers : List Answer) → Carried event (stand_of l d calls) answers (stand_of l' d' calls') → Did whole (spot l d) answers (spot l' d')

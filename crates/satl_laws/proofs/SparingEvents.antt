@@ -9,7 +9,7 @@ use Rattle.satl_base.specs.declared.reply.Reply.{Reply}
 use Rattle.satl_base.specs.declared.reply.Response.{Response}
 use Rattle.satl_base.specs.Cells.{Cell, change_at}
 use Rattle.satl_base.proofs.CellsLemmas.{change_at-length}
-use Rattle.satl_base.proofs.ListsLemmas.{All-push_end}
+use Rattle.satl_base.proofs.ListsLemmas.{All-push_end, All-filter}
 use Rattle.satl_regs.specs.Sectors.{with_flaw, without_flaws}
 use Rattle.satl_frame.specs.declared.frames.Frame.{Frame}
 use Rattle.satl_frame.specs.declared.frames.Frame.TheVariants as frames
@@ -25,7 +25,6 @@ use Rattle.satl_direct.specs.Run.MayLose.{keeps, keeps_and_loses}
 use Rattle.satl_laws.specs.Untouched.{is_power}
 use Rattle.satl_laws.proofs.Addresses.{Alike}
 use Rattle.satl_laws.proofs.Kept.{KeptAt, mend_keeps, strike_keeps}
-use Rattle.satl_laws.proofs.Rows.{All-filter}
 use Rattle.satl_laws.proofs.Sparing.{Keeps, NoneWrites, SparesAt, around_keeps, keeps_on, loss_keeps, none_still, quiet_keeps, same_cells, turns_keep}
 
 module _ (x : ℕ) where

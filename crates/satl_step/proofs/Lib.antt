@@ -1,6 +1,5 @@
 pub mod EventLemmas
-mod LoopLemmas
-pub mod OutcomeLemmas
+pub mod LoopLemmas
 pub mod RunLemmas
 pub mod TallyLemmas
 pub mod TellingLemmas

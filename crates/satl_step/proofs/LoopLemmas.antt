@@ -19,6 +19,7 @@ use Rattle.satl_frame.proofs.ProgressLemmas.{has_read_more}
 use Rattle.satl_line.proofs.SlotsLemmas.{All-append}
 use Rattle.satl_direct.specs.Device.{Device}
 use Rattle.satl_direct.specs.Run.{joined}
+use Rattle.satl_direct.proofs.Quieting.{joined-push}
 use Rattle.satl_core.specs.Layer.{IsExpectable}
 use Rattle.satl_core.specs.Submitting.{CanSubmit}
 use Rattle.satl_step.specs.Events.{CanTake, Done, DoneInPart, IsTallied}
@@ -26,15 +27,15 @@ use Rattle.satl_step.specs.Loop.{Ended, Going, HasGiven, SoFar, Stage, StoppedIn
 use Rattle.satl_step.specs.Runs.{is_request, requests_in}
 use Rattle.satl_step.specs.Telling.{IsTold}
 use Rattle.satl_step.proofs.TellingLemmas.{told_more, told_none}
-use Rattle.satl_step.proofs.RunLemmas.{joined-push, run_cut, run_more, run_start}
+use Rattle.satl_step.proofs.RunLemmas.{run_cut, run_more, run_start}
 
-expectable : (version : Version) (expected : Option ℕ) → HasExpected version expected → IsExpectable expected
+pub expectable : (version : Version) (expected : Option ℕ) → HasExpected version expected → IsExpectable expected
 expectable One expected h = rw h tt
 expectable Two None h = absurd h
 expectable Two (Some count) h = h
 
 -- the pages of a whole request hold its data-out
-holds : (version : Version) (w : Request) → IsRequest version w → w.data_len ≤ 512 * length w.body
+pub holds : (version : Version) (w : Request) → IsRequest version w → w.data_len ≤ 512 * length w.body
 holds version w is =
     let pages = ap length is.sent.pages ∙ length-pages_of (data_out w) in
     let size = is.sent.size in

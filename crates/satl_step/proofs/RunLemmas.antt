@@ -1,6 +1,5 @@
 -- A run that grows by one event.
-use Rattle.std.proofs.Common.{◌≡◌, ◌⊎◌, append_assoc, sym, ap, subst, ◌∙◌, arith, ℕ, ◌+◌, ◌≤◌, max, inl, inr, List, [], ◌∷◌, ◌++◌, length}
-use Rattle.std.proofs.lemmas.List.{append-nil}
+use Rattle.std.proofs.Common.{◌≡◌, ◌⊎◌, sym, ap, subst, arith, ℕ, ◌+◌, ◌≤◌, max, inl, inr, List, [], ◌∷◌, ◌++◌, length}
 use Rattle.satl_base.specs.declared.bench.BenchEvent.TheVariants as events
 use Rattle.satl_base.proofs.ListsLemmas.{how_many-push}
 use Rattle.satl_io.specs.Causes.{RoseBy}
@@ -10,28 +9,24 @@ use Rattle.satl_frame.specs.declared.frames.Frame.TheVariants as frames
 use Rattle.satl_frame.specs.Output.{Answer}
 use Rattle.satl_frame.specs.Pulls.{cut_to}
 use Rattle.satl_direct.specs.Device.{Device}
-use Rattle.satl_direct.specs.Run.{CutTurns, joined, losses_in}
+use Rattle.satl_direct.specs.Run.{CutTurns, losses_in}
 use Rattle.satl_direct.specs.Run.RunDeep.{start, step}
-use Rattle.satl_core.proofs.DeviceLemmas.{quiet_none}
+use Rattle.satl_direct.proofs.Quieting.{quiet_none}
 use Rattle.satl_step.specs.Events.{Carried, IsTallied, IsWholeOf, unplugs_behind}
 use Rattle.satl_step.specs.Runs.{AreCounted, Covers, DoesInPart, DoesShort, RunCutSoFar, RunSoFar, Stand, is_manage, is_request, is_unplug, unplugs_in}
 use Rattle.satl_step.specs.Runs.DoesInPart.{does_all, does_some}
 use Rattle.satl_step.specs.Runs.RunInPart.{last}
 
-pub joined-push : (groups : List (List Answer)) (now : List Answer) → joined (groups ++ now ∷ []) ≡ joined groups ++ now
-joined-push [] now = append-nil now
-joined-push (g ∷ groups) now = ap (λ l. g ++ l) (joined-push groups now) ∙ sym (append_assoc g (joined groups) now)
-
 -- ---- what an event counts of a whole one
 
-tallied_whole : (room : ℕ) (a b : Stand) (event whole : Frame) → event ≡ cut_to room whole → IsTallied event a b → IsTallied whole a b
+pub tallied_whole : (room : ℕ) (a b : Stand) (event whole : Frame) → event ≡ cut_to room whole → IsTallied event a b → IsTallied whole a b
 tallied_whole room a b event (frames.Request w) is tallied = let x = subst (λ f. IsTallied f a b) is tallied in record { faults = x.faults; unplugs = x.unplugs; calls = x.calls; queue = x.queue }
 tallied_whole room a b event (frames.Manage m) is tallied = subst (λ f. IsTallied f a b) is tallied
 tallied_whole room a b event (frames.Turn n) is tallied = subst (λ f. IsTallied f a b) is tallied
 tallied_whole room a b event (frames.Bench e) is tallied = subst (λ f. IsTallied f a b) is tallied
 tallied_whole room a b event frames.End is tallied = subst (λ f. IsTallied f a b) is tallied
 
-asked_whole : (room count : ℕ) (event whole : Frame) → event ≡ cut_to room whole → CutTurns event count → CutTurns whole count
+pub asked_whole : (room count : ℕ) (event whole : Frame) → event ≡ cut_to room whole → CutTurns event count → CutTurns whole count
 asked_whole room count event (frames.Request w) is asked = subst (λ f. CutTurns f count) is asked
 asked_whole room count event (frames.Manage m) is asked = subst (λ f. CutTurns f count) is asked
 asked_whole room count event (frames.Turn n) is asked = subst (λ f. CutTurns f count) is asked
@@ -43,7 +38,7 @@ pub record Unplugs (event : Frame) (before now : ℕ) : Type 0 where
   pub rose : RoseBy (unplugs_in (event ∷ [])) before now
   pub few : now ≤ before + unplugs_in (event ∷ [])
 
-unplugs_one : (event : Frame) (before : ℕ) → Unplugs event before (unplugs_behind event before)
+pub unplugs_one : (event : Frame) (before : ℕ) → Unplugs event before (unplugs_behind event before)
 unplugs_one (frames.Request w) before = record { rose = RoseBy-none before; few = omega arith }
 unplugs_one (frames.Manage m) before = record { rose = RoseBy-none before; few = omega arith }
 unplugs_one (frames.Turn n) before = record { rose = RoseBy-none before; few = omega arith }

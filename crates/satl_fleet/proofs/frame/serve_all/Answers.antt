@@ -2,12 +2,13 @@ use Rattle.std.proofs.Common.{arith, refl, ap, subst, sym, ◌+◌, ◌*◌, ◌
 use Rattle.std.specs.List.{AllByRecursion}
 use Rattle.std.proofs.Common.{add-mul}
 use Rattle.satl_step.specs.Runs.{calls_allowed}
-use Rattle.satl_step.proofs.OutcomeLemmas.{any_err}
+use Rattle.satl_base.proofs.OutcomeLemmas.{any_err}
+use Rattle.satl_base.proofs.ListsLemmas.{All-weaken}
 use Rattle.satl_fleet.specs.Rounds.{DidAt, DidAtInPart, stage}
 use Rattle.satl_fleet.specs.Shared.{frame_of}
 use Rattle.satl_fleet.specs.Units.{IsReady, IsTiedSpot, spots_of}
 use Rattle.satl_fleet.proofs.RoundLemmas.{done_all, done_next, done_none, done_part}
-use Rattle.satl_fleet.proofs.SpotLemmas.{all_map, length_spots, length_states}
+use Rattle.satl_fleet.proofs.SpotLemmas.{length_spots, length_states}
 use Rattle.satl_fleet.proofs.frame.serve_all.Goals as goal
 
 pub loop-k-init : goal.loop-k-init
@@ -44,4 +45,4 @@ returns-clause-done g c =
     done_all (frame_of c.args.event.now) c.loop-k.k (stage (spots_of c.args.units.now.items (map g.D.Drive.state c.args.drives.now.items)) (g.K.Sink.written c.args.sink.now)) (stage (spots_of c.loop-k.units.items (map g.D.Drive.state c.loop-k.drives.items)) (g.K.Sink.written c.loop-k.sink)) (omega (arith, long, c.args.units.now.ok.0, c.loop-k-test.false)) c.loop-k.invariant.done
 
 pub returns-clause-tied : goal.returns-clause-tied
-returns-clause-tied g c = all_map IsReady IsTiedSpot (spots_of c.loop-k.units.items (map g.D.Drive.state c.loop-k.drives.items)) (λ s r. r.tied) c.loop-k.invariant.ready
+returns-clause-tied g c = All-weaken IsReady IsTiedSpot (λ s r. r.tied) (spots_of c.loop-k.units.items (map g.D.Drive.state c.loop-k.drives.items)) c.loop-k.invariant.ready

@@ -4,35 +4,36 @@ use Rattle.satl_fleet.specs.Output.{named}
 use Rattle.satl_fleet.specs.Target.{target_reply}
 use Rattle.std.proofs.Common.{subst, ap, arith, map, refl, sym, vec_len, ◌∙◌, ◌∷◌, [], false, true}
 use Rattle.std.specs.Prelude.{if◌then◌else◌, ◌+◌, ◌*◌}
-use Rattle.satl_step.proofs.OutcomeLemmas.{any_err, on_ok, on_err}
+use Rattle.std.proofs.lemmas.Result.{on_ok_weaker, on_err_weaker}
+use Rattle.satl_base.proofs.OutcomeLemmas.{any_err}
+use Rattle.satl_base.proofs.ListsLemmas.{All-weaken}
 use Rattle.satl_frame.specs.declared.frames.Frame.TheVariants as frames
 use Rattle.satl_core.specs.Turning.{off_calls, turn_calls}
 use Rattle.satl_fleet.specs.Routing.{lun_0, route_to}
 use Rattle.satl_fleet.specs.Rounds.{stage}
 use Rattle.satl_fleet.specs.Units.{IsReady, IsTiedSpot, spots_of}
-use Rattle.satl_fleet.proofs.SpotLemmas.{all_map}
 use Rattle.satl_fleet.proofs.FrameLemmas.{report_round, report_round_part, request_one, request_one_part}
 use Rattle.satl_fleet.proofs.frame.serve_request.Goals as goal
 
 pub returns-then-is_report-clause-done : goal.returns-then-is_report-clause-done
 returns-then-is_report-clause-done g c =
     let said = sym c.is_report.ensures ∙ c.if-is_report.true in
-    on_ok c.report.result _ _ (λ wrote. report_round (vec_len c.args.units.now) c.args.request said (spots_of c.args.units.now.items (map g.D.Drive.state c.args.drives.now.items)) (g.K.Sink.written c.args.sink.now) (g.K.Sink.written c.report.new.sink) (subst (λ n. Wrote (g.K.Sink.written c.args.sink.now) (g.K.Sink.written c.report.new.sink) (named 0 (replied (target_reply n c.args.request) ∷ []))) c.len-count.ensures wrote)) c.report.ensures.all
+    on_ok_weaker c.report.result (λ wrote. report_round (vec_len c.args.units.now) c.args.request said (spots_of c.args.units.now.items (map g.D.Drive.state c.args.drives.now.items)) (g.K.Sink.written c.args.sink.now) (g.K.Sink.written c.report.new.sink) (subst (λ n. Wrote (g.K.Sink.written c.args.sink.now) (g.K.Sink.written c.report.new.sink) (named 0 (replied (target_reply n c.args.request) ∷ []))) c.len-count.ensures wrote)) c.report.ensures.all
 
 pub returns-then-is_report-clause-part : goal.returns-then-is_report-clause-part
 returns-then-is_report-clause-part g c =
     let said = sym c.is_report.ensures ∙ c.if-is_report.true in
-    on_err c.report.result _ _ (λ part. report_round_part (vec_len c.args.units.now) c.args.request said (spots_of c.args.units.now.items (map g.D.Drive.state c.args.drives.now.items)) (g.K.Sink.written c.args.sink.now) (g.K.Sink.written c.report.new.sink) (subst (λ n. WrotePart (g.K.Sink.written c.args.sink.now) (g.K.Sink.written c.report.new.sink) (named 0 (replied (target_reply n c.args.request) ∷ []))) c.len-count.ensures part)) c.report.ensures.part
+    on_err_weaker c.report.result (λ part. report_round_part (vec_len c.args.units.now) c.args.request said (spots_of c.args.units.now.items (map g.D.Drive.state c.args.drives.now.items)) (g.K.Sink.written c.args.sink.now) (g.K.Sink.written c.report.new.sink) (subst (λ n. WrotePart (g.K.Sink.written c.args.sink.now) (g.K.Sink.written c.report.new.sink) (named 0 (replied (target_reply n c.args.request) ∷ []))) c.len-count.ensures part)) c.report.ensures.part
 
 pub returns-clause-done : goal.returns-clause-done
 returns-clause-done g c =
     let other = sym c.is_report.ensures ∙ c.if-is_report.false in
-    on_ok c.serve_request_at.result _ _ (λ d. request_one (vec_len c.args.units.now) c.args.request c.route_to-unit.result (c.route_to-unit.ensures ∙ ap (λ n. route_to n c.args.request.lun) c.len-count.ensures) other (stage (spots_of c.args.units.now.items (map g.D.Drive.state c.args.drives.now.items)) (g.K.Sink.written c.args.sink.now)) (stage (spots_of c.serve_request_at.new.units.items (map g.D.Drive.state c.serve_request_at.new.drives.items)) (g.K.Sink.written c.serve_request_at.new.sink)) d) c.serve_request_at.ensures.done
+    on_ok_weaker c.serve_request_at.result (λ d. request_one (vec_len c.args.units.now) c.args.request c.route_to-unit.result (c.route_to-unit.ensures ∙ ap (λ n. route_to n c.args.request.lun) c.len-count.ensures) other (stage (spots_of c.args.units.now.items (map g.D.Drive.state c.args.drives.now.items)) (g.K.Sink.written c.args.sink.now)) (stage (spots_of c.serve_request_at.new.units.items (map g.D.Drive.state c.serve_request_at.new.drives.items)) (g.K.Sink.written c.serve_request_at.new.sink)) d) c.serve_request_at.ensures.done
 
 pub returns-clause-part : goal.returns-clause-part
 returns-clause-part g c =
     let other = sym c.is_report.ensures ∙ c.if-is_report.false in
-    on_err c.serve_request_at.result _ _ (λ d. request_one_part (vec_len c.args.units.now) c.args.request c.route_to-unit.result (c.route_to-unit.ensures ∙ ap (λ n. route_to n c.args.request.lun) c.len-count.ensures) other (stage (spots_of c.args.units.now.items (map g.D.Drive.state c.args.drives.now.items)) (g.K.Sink.written c.args.sink.now)) (stage (spots_of c.serve_request_at.new.units.items (map g.D.Drive.state c.serve_request_at.new.drives.items)) (g.K.Sink.written c.serve_request_at.new.sink)) d) c.serve_request_at.ensures.part
+    on_err_weaker c.serve_request_at.result (λ d. request_one_part (vec_len c.args.units.now) c.args.request c.route_to-unit.result (c.route_to-unit.ensures ∙ ap (λ n. route_to n c.args.request.lun) c.len-count.ensures) other (stage (spots_of c.args.units.now.items (map g.D.Drive.state c.args.drives.now.items)) (g.K.Sink.written c.args.sink.now)) (stage (spots_of c.serve_request_at.new.units.items (map g.D.Drive.state c.serve_request_at.new.drives.items)) (g.K.Sink.written c.serve_request_at.new.sink)) d) c.serve_request_at.ensures.part
 
 pub returns-then-is_report-clause-tied : goal.returns-then-is_report-clause-tied
-returns-then-is_report-clause-tied g c = all_map IsReady IsTiedSpot (spots_of c.args.units.now.items (map g.D.Drive.state c.args.drives.now.items)) (λ s r. r.tied) c.requires.ready
+returns-then-is_report-clause-tied g c = All-weaken IsReady IsTiedSpot (λ s r. r.tied) (spots_of c.args.units.now.items (map g.D.Drive.state c.args.drives.now.items)) c.requires.ready

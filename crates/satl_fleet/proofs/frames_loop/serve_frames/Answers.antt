@@ -1,11 +1,12 @@
 use Rattle.std.proofs.Common.{◌≡◌, ap, arith, map, refl, subst, sym, vec_len, ◌∙◌}
+use Rattle.satl_base.proofs.ListsLemmas.{All-weaken}
 use Rattle.satl_frame.specs.Reading.{Reading}
 use Rattle.satl_fleet.specs.Loop.{scene}
 use Rattle.satl_fleet.specs.Rounds.{RoundDone, RoundInPart, frame_calls, stage}
 use Rattle.satl_fleet.specs.Units.{IsReady, IsTiedSpot, spots_of}
-use Rattle.satl_fleet.proofs.LoopLemmas.{can_route, ended, going_more, going_start, is_whole, nearer, part_more}
-use Rattle.satl_fleet.proofs.SpotLemmas.{all_map}
+use Rattle.satl_fleet.proofs.LoopLemmas.{can_route, ended, going_more, going_start, is_whole, part_more}
 use Rattle.satl_fleet.proofs.frames_loop.serve_frames.Goals as goal
+use Rattle.satl_step.proofs.LoopLemmas.{nearer}
 
 pub frames-init : goal.frames-init
 frames-init g c = record {
@@ -60,4 +61,4 @@ frames-preserved g c =
     }
 
 pub returns-in-Err-clause-tied : goal.returns-in-Err-clause-tied
-returns-in-Err-clause-tied g c = all_map IsReady IsTiedSpot (spots_of c.frames.units.items (map g.D.Drive.state c.frames.drives.items)) (λ s r. r.tied) c.frames.invariant.ready
+returns-in-Err-clause-tied g c = All-weaken IsReady IsTiedSpot (λ s r. r.tied) (spots_of c.frames.units.items (map g.D.Drive.state c.frames.drives.items)) c.frames.invariant.ready
