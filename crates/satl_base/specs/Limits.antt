@@ -1,5 +1,5 @@
 -- Limits of the profile.
-use Rattle.std.specs.Prelude.{ℕ}
+use Rattle.std.specs.Prelude.{ℕ, ◌≤◌, Option, IfSome}
 
 -- the most tasks that wait at once (SAM-5 5.3.1, TASK SET FULL; the figure: profile)
 abbrev pub most_tasks : ℕ
@@ -30,3 +30,7 @@ most_ranges = 64
 -- the most bytes of data of one command: those of 4,096 blocks (profile)
 abbrev pub longest_data : ℕ
 longest_data = 2097152
+
+-- a number of bytes of data-in that a host may take, where it says one (profile)
+abbrev pub IsExpectable : Option ℕ → Type 0
+IsExpectable expected = IfSome expected (λ count. count ≤ longest_data)

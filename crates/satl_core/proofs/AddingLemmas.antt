@@ -19,7 +19,8 @@ use Rattle.satl_mode.specs.Changes.{IsChangeOf}
 use Rattle.satl_line.specs.Tasks.{Adds, Held, change_task, entries_of, is_too_much, total_blocks, with_body}
 use Rattle.satl_line.proofs.SlotsLemmas.{All-append, total-append}
 use Rattle.satl_direct.specs.Tasks.{asks, data_out, held_blocks, needed, pass_of, task_for, task_of}
-use Rattle.satl_core.specs.Layer.{CanTrim, IsCovered, IsExpectable, IsKept, IsTask, Layer, entry_pages, held_pages}
+use Rattle.satl_core.specs.Layer.{CanTrim, IsCovered, IsKept, IsTask, Layer, entry_pages, held_pages}
+use Rattle.satl_base.specs.Limits.{IsExpectable}
 use Rattle.satl_core.specs.Refilling.{Comes}
 use Rattle.satl_asks.specs.Commands.{HasList}
 use Rattle.satl_core.specs.Submitting.{Becomes, HasEntries, IsAdded, IsRefused, task_without_pages, trims}

@@ -31,7 +31,7 @@ use Rattle.satl_core.specs.Layer.{Layer, view}
 use Rattle.satl_core.specs.Leaving.{left_by}
 use Rattle.satl_asks.specs.Requests.{is_for_unit}
 use Rattle.satl_core.specs.Submitting.{sense_data, tell_attention, answer_to, other_answer, Becomes, IsAdded, IsRefused, attention_of, cdb_answer, code_answer, judged, once_judged, overlaps, readiness, reply_at_once, task_without_pages, untold, is_idle}
-use Rattle.satl_core.specs.declared.telling.Data.TheVariants as datas
+use Rattle.satl_telling.specs.declared.telling.Data.TheVariants as datas
 use Rattle.satl_core.proofs.LeavingLemmas.{found_is, left_tasks}
 use Rattle.satl_core.proofs.SayingLemmas.{IsSaid, said_of}
 use Rattle.satl_core.proofs.JudgingLemmas.{by_ok, judged_by, tested}

@@ -31,7 +31,8 @@ use Rattle.satl_flight.specs.Settled.{IsFilled}
 use Rattle.satl_flight.proofs.ComingLemmas.{tie_come}
 use Rattle.satl_flight.proofs.FlownLemmas.{FitsOn, fits_by, fits_on}
 use Rattle.satl_core.specs.Refilling.{Comes}
-use Rattle.satl_core.specs.Layer.{Agrees, IsExpectable, IsUsed, Layer, Tied, view, works}
+use Rattle.satl_core.specs.Layer.{Agrees, IsUsed, Layer, Tied, view, works}
+use Rattle.satl_base.specs.Limits.{IsExpectable}
 use Rattle.satl_core.proofs.AgreeingLemmas.{agrees_by, capacity_is, idle_in_flight}
 use Rattle.satl_core.specs.Leaving.{left_by}
 use Rattle.satl_asks.specs.Requests.{is_for_unit}

@@ -1,10 +1,10 @@
 -- What the layer holds, and the direct device that it and its drive are.
-use Rattle.std.specs.Prelude.{◌≡◌, ℕ, ◌+◌, ◌≤◌, ◌<◌, ◌^◌, ◌&&◌, Bool, true, false, not, if◌then◌else◌, List, [], ◌∷◌, map, length, Option, IfSome, MatchBool}
+use Rattle.std.specs.Prelude.{◌≡◌, ℕ, ◌+◌, ◌≤◌, ◌<◌, ◌^◌, ◌&&◌, Bool, true, false, not, if◌then◌else◌, List, [], ◌∷◌, map, length, IfSome, MatchBool}
 use Rattle.std.specs.List.{AllByRecursion}
 use Rattle.satl_base.specs.declared.block.Range.{Range}
 use Rattle.satl_base.specs.declared.modes.Modes.{Modes}
 use Rattle.satl_base.specs.declared.reply.Reply.{Reply}
-use Rattle.satl_base.specs.Limits.{longest_data, most_covered, most_moved}
+use Rattle.satl_base.specs.Limits.{IsExpectable, most_covered, most_moved}
 use Rattle.satl_cdb.specs.declared.command.Command.{Command}
 use Rattle.satl_cdb.specs.declared.command.Command.TheVariants.{Flush, ModeSelect, Pass, Read, StartStop, Unmap, Verify, Write, WriteSame}
 use Rattle.satl_identify.specs.declared.identity.Identity.{Identity}
@@ -74,10 +74,6 @@ IsTask capacity (WriteSame form lba count unmap) blocks = (blocks ≡ 1) × IsCo
 IsTask capacity (Unmap size) blocks = (blocks ≡ 0) × (size < 65536)
 IsTask capacity (Pass cdb) blocks = (blocks ≡ page_count (pass_of cdb).length) × CanRun (pass_of cdb)
 IsTask capacity _ blocks = ⊥
-
--- a number of bytes that a host may take: at most 2,097,152 (profile)
-abbrev pub IsExpectable : Option ℕ → Type 0
-IsExpectable expected = IfSome expected (λ count. count ≤ longest_data)
 
 -- the pages that a task holds beside those of its blocks: one for the entries of an UNMAP whose trim is queued (profile)
 abbrev pub entry_pages : Command → Bool → ℕ

@@ -28,9 +28,10 @@ use Rattle.satl_asks.specs.Requests.{is_for_unit}
 use Rattle.satl_core.specs.declared.submitting.AtOnce.{AtOnce}
 use Rattle.satl_core.specs.declared.submitting.AtOnce.TheVariants as at_once
 use Rattle.satl_line.specs.Tasks.{Held, entries_of, is_named, is_too_much}
-use Rattle.satl_core.specs.declared.telling.Data.TheVariants as datas
-use Rattle.satl_core.specs.Telling.{data_text}
-use Rattle.satl_core.specs.Layer.{IsExpectable, Layer}
+use Rattle.satl_telling.specs.declared.telling.Data.TheVariants as datas
+use Rattle.satl_telling.specs.Telling.{data_text}
+use Rattle.satl_core.specs.Layer.{Layer}
+use Rattle.satl_base.specs.Limits.{IsExpectable}
 use Rattle.satl_core.specs.Leaving.{left_by}
 use Rattle.satl_core.specs.Turning.{off_calls}
 

@@ -8,12 +8,12 @@ ghost use Rattle.satl_direct.specs.Arrival.{reply_to};
 ghost use Rattle.satl_identify.specs.Refusals.{IsIdentity};
 ghost use Rattle.satl_mode.specs.SelectList.{select_fault};
 ghost use Rattle.satl_direct.specs.Tasks.{asks, data_out, held_blocks, needed};
-ghost use Rattle.satl_core.specs.Layer.{IsExpectable, entry_pages, reply_pages};
+ghost use Rattle.satl_core.specs.Layer.{entry_pages, reply_pages};
+ghost use Rattle.satl_base.specs.Limits.{IsExpectable};
 ghost use Rattle.satl_asks.specs.Commands.{CanPass, HasList, IsList};
 ghost use Rattle.satl_core.specs.Submitting.{HasEntries, HasLengths, HasListUnlessEmpty, HoldsList, answer_to, attention_of, code_answer, command_answer, data_answer, fault_of_block, is_idle, other_answer, readiness, reply_at_once, sense_data, task_without_pages, tell_attention, trims, unless_idle, unmap_list_fault, untold};
 
 use crate::satl::Satl;
-use crate::telling::{Data, tell};
 use arrayvec::ArrayVec;
 use satl_asks::{
     attention_sense, change_of, fields_fault, held_blocks, is_ordered, is_outside, is_untold,
@@ -28,6 +28,7 @@ use satl_pages::Pool;
 use satl_pass::pass_of;
 use satl_regs::trim_bytes;
 use satl_sense::{Sense, sense_bytes};
+use satl_telling::{Data, tell};
 use satl_unit::{Attention, Attentions};
 use std::mem;
 

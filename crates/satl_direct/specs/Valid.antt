@@ -1,9 +1,9 @@
 -- Which devices there can be (SAM-5 4.8; SBC-3; the figures: profile).
-use Rattle.std.specs.Prelude.{◌≡◌, ◌*◌, ◌≤◌, false, List, [], ◌∷◌, length, IfSome}
+use Rattle.std.specs.Prelude.{◌≡◌, ◌*◌, ◌≤◌, false, List, [], ◌∷◌, length}
 use Rattle.std.specs.List.{AllByRecursion, list_any}
 use Rattle.satl_base.specs.declared.request.Request.{Request}
 use Rattle.satl_base.specs.Cells.{AreSound}
-use Rattle.satl_base.specs.Limits.{longest_data, most_held, most_tasks}
+use Rattle.satl_base.specs.Limits.{IsExpectable, most_held, most_tasks}
 use Rattle.satl_identify.specs.declared.identity.Identity.{Identity}
 use Rattle.satl_identify.specs.Refusals.{IsIdentity}
 use Rattle.satl_mode.specs.Changes.{AreModesOf}
@@ -24,7 +24,7 @@ AreOwn (t ∷ ts) = (list_any (is_called t.nexus (t.tag).0) ts ≡ false) × Are
 pub record HasCome (identity : Identity) (t : Entry) : Type 0 where
   pub request : Request
   pub pages : request.data_len ≤ 512 * length request.body
-  pub expected : IfSome request.expected (λ count. count ≤ longest_data)
+  pub expected : IsExpectable request.expected
   pub at : Device
   pub same : at.identity ≡ identity
   pub modes : AreModesOf identity at.modes

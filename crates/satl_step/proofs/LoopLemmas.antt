@@ -20,7 +20,7 @@ use Rattle.satl_line.proofs.SlotsLemmas.{All-append}
 use Rattle.satl_direct.specs.Device.{Device}
 use Rattle.satl_direct.specs.Run.{joined}
 use Rattle.satl_direct.proofs.Quieting.{joined-push}
-use Rattle.satl_core.specs.Layer.{IsExpectable}
+use Rattle.satl_base.specs.Limits.{IsExpectable}
 use Rattle.satl_core.specs.Submitting.{CanSubmit}
 use Rattle.satl_step.specs.Events.{CanTake, Done, DoneInPart, IsTallied}
 use Rattle.satl_step.specs.Loop.{Ended, Going, HasGiven, SoFar, Stage, StoppedInAnswers, is_end, place_offset}

@@ -8,8 +8,8 @@ use Rattle.satl_vpd.specs.Standard.{standard_data}
 use Rattle.satl_vpd.specs.Vital.{vpd_page}
 use Rattle.satl_mode.specs.ModeData.{mode_data}
 use Rattle.satl_direct.specs.Senses.{sense_in}
-use Rattle.satl_core.specs.declared.telling.Data.{Data}
-use Rattle.satl_core.specs.declared.telling.Data.TheVariants as datas
+use Rattle.satl_telling.specs.declared.telling.Data.{Data}
+use Rattle.satl_telling.specs.declared.telling.Data.TheVariants as datas
 
 -- the data before they are cut to an allocation length (SPC-4 6, SBC-3 5)
 abbrev pub data_text : Identity → Modes → Data → List ℕ

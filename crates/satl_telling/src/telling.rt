@@ -5,8 +5,8 @@ ghost use Rattle.satl_vpd.specs.Vital.{vpd_page};
 ghost use Rattle.satl_frame.specs.DataPages.{padded_block, pages_of};
 ghost use Rattle.satl_frame.specs.Output.{IsWritable};
 ghost use Rattle.satl_direct.specs.Arrival.{told};
-ghost use Rattle.satl_core.specs.Layer.{IsExpectable};
-ghost use Rattle.satl_core.specs.Telling.{data_text};
+ghost use Rattle.satl_base.specs.Limits.{IsExpectable};
+ghost use Rattle.satl_telling.specs.Telling.{data_text};
 
 use arrayvec::ArrayVec;
 use satl_base::{Block, Modes, Pages, Reply, Request, Scsi};
@@ -117,8 +117,8 @@ fn in_pages(pool: &mut Pool, bytes: &[u8]) -> Pages
     done
 }
 
-/// GOOD with what the device says of itself, cut to the allocation length (SPC-4 4.3.5.6). A function of its own, so that no other
-/// answer pays for the room of its text.
+/// GOOD with what the device says of itself, cut to the allocation length (SPC-4 4.3.5.6). A function of its own, so that no
+/// other answer pays for the room of its text.
 pub fn tell(
     pool: &mut Pool,
     identity: &Identity,
