@@ -1,7 +1,8 @@
 //! `satl replay` and `satl show`: framed commands on standard input, framed answers or lines of text on standard output, over a
-//! modelled drive. `satl fleet`: the same over four of them, behind one target. `satl usb`: commands and answers on the wire of USB
-//! Bulk-Only Transport. `satl audit`: a record on standard input, and on standard output whether its output is that of a run of the
-//! device over its input. `satl gen --seed N --requests N`: a generated input over one drive, and its totals on standard output.
+//! modelled drive. `satl fleet`: the same over four of them, behind one target. `satl usb`: commands and answers on the wire of
+//! USB Bulk-Only Transport. `satl audit`: a record on standard input, and on standard output whether its output is that of a
+//! run of the device over its input. `satl gen --seed N --requests N`: a generated input over one drive, and its totals on
+//! standard output.
 #![tactic(auto)]
 
 ghost use Rattle.std.specs.Prelude.{◌≡◌, ◌<◌, ◌≤◌, IfOk, map, vec_len};

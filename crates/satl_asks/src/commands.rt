@@ -50,8 +50,8 @@ fn page_count(length: u32) -> u32
     length.div_ceil(512)
 }
 
-/// The ranges that the task of a command reads, writes or trims: that of a READ or a WRITE, and those of the list of an UNMAP, which has
-/// no fault on a medium of this capacity (SBC-3 5.28).
+/// The ranges that the task of a command reads, writes or trims: that of a READ or a WRITE, and those of the list of an UNMAP,
+/// which has no fault on a medium of this capacity (SBC-3 5.28).
 pub fn ranges_of(command: &Command, body: &Pages, capacity: u64) -> ArrayVec<Range, 64>
     requires list { HasList command.now body.now capacity }
     ensures { result.items ≡ (asks command.now).ranges body.now }

@@ -3,7 +3,7 @@ use Rattle.std.proofs.Common.{◌≡◌, refl, sym, ap, subst, true, List, [], �
 use Rattle.std.specs.Prelude.{not}
 use Rattle.satl_base.specs.declared.request.Request.{Request}
 use Rattle.satl_base.specs.declared.reply.Reply.{Reply}
-use Rattle.satl_base.proofs.ListsLemmas.{All-push_end}
+use Rattle.satl_base.proofs.ListsLemmas.{All-push_end, All-filter}
 use Rattle.satl_direct.specs.Device.{Device, is_of, of_others, once_told}
 use Rattle.satl_direct.specs.Arrival.{Arrival, ArrivesAs, arrival}
 use Rattle.satl_direct.specs.Arrival.Arrival.{answered, attended, overlaps, waits}
@@ -11,7 +11,6 @@ use Rattle.satl_audit.specs.Skeleton.{bare}
 use Rattle.satl_laws.proofs.QuietArrivals.{arrival_quiet}
 use Rattle.satl_audit.proofs.Coming.{Comes, IsKnown}
 use Rattle.satl_audit.proofs.Keeping.{IsSane, sane_same}
-use Rattle.satl_laws.proofs.Rows.{All-filter}
 
 -- the same arrival at the bare device
 pub arrival_bare : (s : Device) (r : Request) → arrival (bare s) r ≡ arrival s r

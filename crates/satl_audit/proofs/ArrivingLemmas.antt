@@ -1,6 +1,6 @@
 -- What the device does with a request that arrives, by what the auditor found.
 use Rattle.std.proofs.Common.{◌≡◌, refl, sym, ap, ◌∙◌, subst, ℕ, Bool, true, false, List, [], ◌∷◌, ◌++◌, map}
-use Rattle.std.specs.Prelude.{not, ◌≤◌, ◌||◌, if◌then◌else◌, Option, Some, None, Ok}
+use Rattle.std.specs.Prelude.{◌≤◌, ◌||◌, if◌then◌else◌, Option, Some, None, Ok}
 use Rattle.std.specs.List.{list_any}
 use Rattle.std.proofs.lemmas.List.{append-nil, map-append}
 use Rattle.satl_base.specs.declared.request.Request.{Request}
@@ -90,14 +90,6 @@ pub attention_first : (s : Device) (r : Request) → is_unit_0 r.lun ≡ true �
 attention_first s r unit alone =
     ap (λ (b : Bool). if b || asks_for 0xA0 r then (if list_any (is_called r.nexus (r.tag).0) s.tasks then overlaps (check s r overlapped) else attention_arrival (attention_for s r) s r) else other_arrival s r) unit
     ∙ ap (λ (b : Bool). if b then overlaps (check s r overlapped) else attention_arrival (attention_for s r) s r) alone
-
-pub is_false : (b c : Bool) → b ≡ not c → b ≡ true → c ≡ false
-is_false b true e h = absurd cc
-is_false b false e h = refl
-
-pub is_true : (b c : Bool) → b ≡ not c → b ≡ false → c ≡ true
-is_true b true e h = refl
-is_true b false e h = absurd cc
 
 -- a unit attention is told, or there is none
 module _ (i : Identity) (input : List ℕ) (ps : List Placed) (attentions : List (List Attention)) (r : Request) (unit : is_unit_0 r.lun ≡ true) (alone : list_any (is_called r.nexus (r.tag).0) (device_tasks input ps) ≡ false) where

@@ -2,7 +2,7 @@
 use Rattle.std.proofs.Common.{arith, ◌≡◌, refl, sym, subst, ℕ, Bool, true, false, List, [], ◌∷◌, ◌++◌, append_assoc}
 use Rattle.std.specs.Prelude.{◌≤◌, ◌==◌, ◌||◌}
 use Rattle.std.proofs.lemmas.List.{append-nil}
-use Rattle.std.proofs.lemmas.Bool.{eqb-true}
+use Rattle.std.proofs.lemmas.Bool.{eqb-true, and_parts}
 use Rattle.std.specs.List.{AllByRecursion, list_any}
 use Rattle.satl_base.specs.declared.request.Request.{Request}
 use Rattle.satl_base.specs.declared.reply.Reply.{Reply}
@@ -22,7 +22,6 @@ use Rattle.satl_audit.proofs.Each.{is_same}
 use Rattle.satl_audit.proofs.Forming.{IsFormed}
 use Rattle.satl_audit.proofs.Naming.{own_removed}
 use Rattle.satl_audit.proofs.FewReach.{Follows, follow_done}
-use Rattle.satl_laws.proofs.Cases.{both_right, both_left}
 
 -- the tasks, each formed, called as no other and asked for
 abbrev pub Asked : List Frame → Entry → Type 0
@@ -42,8 +41,8 @@ none_called r all (t ∷ ts) h z =
   where
     clash : is_called r.nexus (r.tag).0 t ≡ true → ⊥
     clash e =
-        let nexus : t.nexus ≡ r.nexus = eqb-true t.nexus r.nexus (both_left (t.nexus == r.nexus) ((t.tag).0 == (r.tag).0) e) in
-        let tag : (t.tag).0 ≡ (r.tag).0 = eqb-true (t.tag).0 (r.tag).0 (both_right (t.nexus == r.nexus) ((t.tag).0 == (r.tag).0) e) in
+        let nexus : t.nexus ≡ r.nexus = eqb-true t.nexus r.nexus (and_parts (t.nexus == r.nexus) ((t.tag).0 == (r.tag).0) e).0 in
+        let tag : (t.tag).0 ≡ (r.tag).0 = eqb-true (t.tag).0 (r.tag).0 (and_parts (t.nexus == r.nexus) ((t.tag).0 == (r.tag).0) e).1 in
         let some : 1 ≤ how_many (asks_by r.nexus (r.tag).0) all = subst (λ n. 1 ≤ how_many (asks_by r.nexus n) all) tag (subst (λ n. 1 ≤ how_many (asks_by n (t.tag).0) all) nexus h.0) in
         omega (arith, some, z)
 

@@ -34,10 +34,3 @@ cut_bench event (frames.Manage m) e = absurd cc
 cut_bench event (frames.Turn k) e = absurd cc
 cut_bench event (frames.Bench other) e = sym e
 cut_bench event frames.End e = absurd cc
-
-pub cut_end : (whole : Frame) → frames.End ≡ cut_to 0 whole → whole ≡ frames.End
-cut_end (frames.Request r) e = absurd cc
-cut_end (frames.Manage m) e = absurd cc
-cut_end (frames.Turn k) e = absurd cc
-cut_end (frames.Bench other) e = absurd cc
-cut_end frames.End e = refl

@@ -2,6 +2,7 @@
 use Rattle.std.proofs.Common.{◌≡◌, ⊎_elim, inl, inr, refl, sym, ap, ◌∙◌, subst, ℕ, true, false, List, [], ◌∷◌}
 use Rattle.std.specs.Prelude.{◌&&◌, if◌then◌else◌, not}
 use Rattle.std.specs.List.{AllByRecursion}
+use Rattle.std.proofs.lemmas.Bool.{both_ways}
 use Rattle.satl_base.specs.Cells.{Pair, pairs_from}
 use Rattle.satl_base.specs.Lists.{IsIn, remove_first}
 use Rattle.satl_cdb.specs.declared.command.Command.{Command}
@@ -16,7 +17,6 @@ use Rattle.satl_audit.specs.Skeleton.{shown}
 use Rattle.satl_audit.proofs.Forming.{FormedBy, IsFormed}
 use Rattle.satl_audit.proofs.Showing.{eligible_in, in_eligible, in_pairs, of_pairs}
 use Rattle.satl_audit.proofs.EarlyPairs.{from_one}
-use Rattle.satl_audit.proofs.Links.{false_not_true}
 use Rattle.satl_audit.proofs.Meeting.{TouchesBy, write_at, clashes, touches_by}
 use Rattle.satl_laws.proofs.Ends.{eligible_in as eligible_there}
 use Rattle.satl_laws.proofs.Rows.{in_all as all_of}
@@ -64,7 +64,7 @@ pub eligible_without : (ts : List Entry) (t w : Entry) → is_called t.nexus (t.
 eligible_without [] t w h e = e
 eligible_without (v ∷ ts) t w h e =
     (elim (is_called t.nexus (t.tag).0 v) as (λ b. is_called t.nexus (t.tag).0 v ≡ b → IsEligible (if b then ts else v ∷ remove_first (is_called t.nexus (t.tag).0) ts) w) [
-      | true ↦ λ c. ⊎_elim (λ s. absurd (false_not_true (subst (λ y. is_called t.nexus (t.tag).0 y ≡ true) s c) h)) (λ l. l.1) e
+      | true ↦ λ c. ⊎_elim (λ s. absurd (both_ways _ h (subst (λ y. is_called t.nexus (t.tag).0 y ≡ true) s c))) (λ l. l.1) e
       | false ↦ λ c. ⊎_elim (λ s. inl s) (λ l. inr (l.0, eligible_without ts t w h l.1)) e
     ]) refl
 
@@ -82,7 +82,7 @@ module _ (x : ℕ) where
       let ft : IsFormed t = all_of IsFormed s.tasks t formed (eligible_there s.tasks t e) in
       ⊎_elim
       (λ same. subst (λ u. IsIn p (writes s u)) same w.among)
-      (λ apart. absurd (false_not_true (clashes x t.command w.task t (write_at x w.task.command s w.task p fw w.among a.here) ft g) apart))
+      (λ apart. absurd (both_ways _ apart (clashes x t.command w.task t (write_at x w.task.command s w.task p fw w.among a.here) ft g)))
       (eligible_do_not_conflict s.tasks w.task t el e)
 
   -- at most one pair may show there

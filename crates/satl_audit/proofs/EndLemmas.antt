@@ -6,12 +6,13 @@ use Rattle.satl_base.specs.declared.reply.Reply.{Reply}
 use Rattle.satl_base.specs.declared.reply.Scsi.TheVariants.{Good}
 use Rattle.satl_base.specs.Blocks.{bytes_of}
 use Rattle.satl_base.specs.Cells.{pairs_from}
+use Rattle.satl_base.proofs.BlocksLemmas.{length-bytes_of}
 use Rattle.satl_cdb.specs.declared.command.Command.TheVariants as commands
 use Rattle.satl_cdb.specs.declared.command.Form.{Form}
 use Rattle.satl_identify.specs.declared.identity.Identity.{Identity}
 use Rattle.satl_frame.specs.DataPages.{page_count, pages_of}
 use Rattle.satl_frame.specs.Output.{reply_bytes}
-use Rattle.satl_frame.proofs.Paging.{first_bytes-pages_of, length-pages_of}
+use Rattle.satl_frame.proofs.Paging.{first_bytes-pages_of, length-pages_of, pages_of-bytes_of}
 use Rattle.std.proofs.lemmas.Option.{same_Some}
 use Rattle.satl_line.specs.declared.entry.Entry.{Entry}
 use Rattle.satl_line.specs.Conflict.{conflicts}
@@ -34,8 +35,8 @@ use Rattle.satl_audit.specs.Waiting.{Placed, device_tasks, entries_in, task_in}
 use Rattle.satl_audit.specs.declared.arriving.Steps.{Steps}
 use Rattle.satl_audit.proofs.Frames.{pages_whole}
 use Rattle.satl_audit.proofs.NextLemmas.{device_at_place, eligible_same, removed_at}
-use Rattle.satl_audit.proofs.ReplyLemmas.{good_is, whole-length}
-use Rattle.satl_audit.proofs.FinishingLemmas.{pages_same, all_bytes, refusing, settle_sector}
+use Rattle.satl_audit.proofs.ReplyLemmas.{good_is}
+use Rattle.satl_audit.proofs.FinishingLemmas.{all_bytes, refusing, settle_sector}
 use Rattle.satl_audit.proofs.EndWithin.{fits_at, write_body}
 use Rattle.satl_laws.proofs.Ends.{eligible_in as eligible_there}
 use Rattle.satl_laws.proofs.Rows.{in_all as all_of}
@@ -103,14 +104,14 @@ module _ (identity : Identity) (input : List ℕ) (old : Steps) (place : ℕ) (p
       let w : AreWhole blocks = subst GivesWhole k.1 whole in
       let answer : reply ≡ task_reply t Good [] blocks = d.answer ∙ ap (λ u. task_reply u Good [] blocks) it in
       let f = r (bytes_of blocks) rest (
-        whole-length blocks w ∙ ap (λ n. 512 * n) k.0,
+        length-bytes_of blocks w ∙ ap (λ n. 512 * n) k.0,
         said
             ∙ ap (λ (q : Reply). reply_bytes q ++ rest) answer
             ∙ good_is t blocks rest expected
             ∙ ap (λ (l : List ℕ). head_bytes t.nexus (t.tag).0 Good 0 (512 * length blocks) ++ (l ++ rest)) (all_bytes blocks w)
             ∙ ap (λ n. head_bytes t.nexus (t.tag).0 Good 0 (512 * n) ++ (bytes_of blocks ++ rest)) k.0,
       ) in
-      (f.0, f.1, refusing f.0 s (sector_at input sectors f.0) deed lba blocks k.1 (ap (λ l. sector_gives f.0 lba l (Some (sector_at input sectors f.0))) (sym (pages_same blocks w)) ∙ f.2))
+      (f.0, f.1, refusing f.0 s (sector_at input sectors f.0) deed lba blocks k.1 (ap (λ l. sector_gives f.0 lba l (Some (sector_at input sectors f.0))) (sym (pages_of-bytes_of blocks w)) ∙ f.2))
 
   -- ---- GOOD without data
 

@@ -6,6 +6,7 @@ use Rattle.satl_base.specs.declared.bench.Which.TheVariants as flaws
 use Rattle.satl_base.specs.declared.reply.Reply.{Reply}
 use Rattle.satl_base.specs.declared.reply.Scsi.TheVariants.{Good}
 use Rattle.satl_base.specs.Cells.{Cell, nows, settle, whole}
+use Rattle.satl_base.proofs.Booleans.{second_case}
 use Rattle.satl_cdb.specs.declared.command.Command.{Command}
 use Rattle.satl_cdb.specs.declared.command.Command.TheVariants as commands
 use Rattle.satl_line.specs.declared.entry.Entry.{Entry}
@@ -23,7 +24,7 @@ use Rattle.satl_audit.specs.Deeds.{Deed, DoneBy}
 use Rattle.satl_audit.specs.Deeds.Deed.{puts, gives, settles}
 use Rattle.satl_audit.specs.Skeleton.{DoneAs, TaskDone, bare}
 use Rattle.satl_audit.proofs.Keeping.{IsSane, no_flaw}
-use Rattle.satl_audit.proofs.Ending.{as_second, Started, neither, off, sane_ended}
+use Rattle.satl_audit.proofs.Ending.{Started, neither, off, sane_ended}
 
 -- a device that is left
 pub record Ended (c : Command) (s : Device) (t : Entry) (reply : Reply) (cells : List Cell) : Type 0 where
@@ -97,10 +98,10 @@ turn_made s reply deed bared cells h d does =
       new = r.new;
       ends = record {
         task = t;
-        may = as_second (IsFirst s.tasks t) (IsEligible s.tasks t) (s.down || not s.started) (neither s.down s.started h.up h.started) d.eligible;
+        may = second_case (IsFirst s.tasks t) (IsEligible s.tasks t) (s.down || not s.started) (neither s.down s.started h.up h.started) d.eligible;
         ends =
-            as_second (IsChecked link_lost s t reply r.new) (Started s t reply r.new) s.down h.up
-            (as_second (IsChecked not_ready s t reply r.new) (EndsBy t.command s t reply r.new) (not s.started && (asks t.command).starts) (off s.started (asks t.command).starts h.started) r.ends);
+            second_case (IsChecked link_lost s t reply r.new) (Started s t reply r.new) s.down h.up
+            (second_case (IsChecked not_ready s t reply r.new) (EndsBy t.command s t reply r.new) (not s.started && (asks t.command).starts) (off s.started (asks t.command).starts h.started) r.ends);
       };
       bared_is = r.stays ∙ sym d.stays;
       cells_are = r.cells_are;

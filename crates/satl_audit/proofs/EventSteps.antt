@@ -2,6 +2,7 @@
 use Rattle.std.proofs.Common.{◌≡◌, ⊎_elim, refl, sym, ap, ◌∙◌, subst, ℕ, true, false, List, [], ◌∷◌, ◌++◌, map}
 use Rattle.std.proofs.lemmas.List.{append-nil}
 use Rattle.std.specs.List.{AllByRecursion}
+use Rattle.std.proofs.lemmas.Bool.{both_ways, and_parts}
 use Rattle.satl_base.specs.declared.bench.BenchEvent.{BenchEvent}
 use Rattle.satl_base.specs.declared.bench.BenchEvent.TheVariants as events
 use Rattle.satl_base.specs.declared.request.Request.{Request}
@@ -28,8 +29,7 @@ use Rattle.satl_audit.proofs.Keeping.{IsSane, sane_on}
 use Rattle.satl_audit.proofs.Stepping.{Behind, behind_now, quiet_bare, quiet_behind, quiet_down, quiet_sane, walks_on}
 use Rattle.satl_audit.proofs.ArrivalSplit.{arrival_bare, arrives_split}
 use Rattle.satl_audit.proofs.Turning.{turns_split}
-use Rattle.satl_audit.proofs.Links.{false_not_true, not_lost}
-use Rattle.satl_laws.proofs.Cases.{both_right}
+use Rattle.satl_audit.proofs.Links.{not_lost}
 
 pub record EventSplit (first : List Cell) (ds : List Deed) (event : Frame) (s : Device) (now : List Answer) (new : Device) : Type 0 where
   pub deeds : List Deed
@@ -56,7 +56,7 @@ module _ (first : List Cell) (ds : List Deed) (s new : Device) (now : List Answe
 
   not_lost_arrival : (r : Request) (replies : List Reply) (u v : Device) → is_known (says r.cdb s.identity.trim) ≡ true → now ≡ map replied replies → Quiet s u → MayLose (Arrives r) u replies v → Quiet v new → new.down ≡ false → EventSplit first ds (frames.Request r) s now new
   not_lost_arrival r replies u v k is q (MayLose.keeps m) q' up = arrived r replies u v k is q m q'
-  not_lost_arrival r _ u v k is q (MayLose.loses m q'' l) q' up = absurd (false_not_true (quiet_down v new q' (ap (λ (d : Device). d.down) l.stays)) up)
+  not_lost_arrival r _ u v k is q (MayLose.loses m q'' l) q' up = absurd (both_ways _ up (quiet_down v new q' (ap (λ (d : Device). d.down) l.stays)))
 
   -- a loss of power
   power_split : (replies : List Reply) → now ≡ map replied replies → Around (Happens events.Power) s replies new → EventSplit first ds (frames.Bench events.Power) s now new
@@ -106,15 +106,15 @@ module _ (first : List Cell) (ds : List Deed) (s new : Device) (now : List Answe
 
   turn_event : (n deep : ℕ) (replies : List Reply) → now ≡ map replied replies → TurnsOf n s replies new deep → new.down ≡ false → EventSplit first ds (frames.Turn n) s now new
   turn_event n deep replies is t up =
-      ⊎_elim (λ d. absurd (false_not_true d up)) (λ r. record { deeds = r.deeds; stepped = (replies, is, r.turns); behind = r.behind; sane = r.sane }) (turns_split first ds t h b)
+      ⊎_elim (λ d. absurd (both_ways _ up d)) (λ r. record { deeds = r.deeds; stepped = (replies, is, r.turns); behind = r.behind; sane = r.sane }) (turns_split first ds t h b)
 
   end_event : (count deep : ℕ) (replies : List Reply) → now ≡ map replied replies ++ ended ∷ [] → TurnsOf count s replies new deep → new.tasks ≡ [] → new.down ≡ false → EventSplit first ds frames.End s now new
   end_event count deep replies is t empty up =
-      ⊎_elim (λ d. absurd (false_not_true d up)) (λ r. record { deeds = r.deeds; stepped = (replies, is, count, r.turns, empty); behind = r.behind; sane = r.sane }) (turns_split first ds t h b)
+      ⊎_elim (λ d. absurd (both_ways _ up d)) (λ r. record { deeds = r.deeds; stepped = (replies, is, count, r.turns, empty); behind = r.behind; sane = r.sane }) (turns_split first ds t h b)
 
   pub event_split : (event : Frame) (deep : ℕ) → is_known_frame s.identity.trim event ≡ true → Does event s now new deep → losses_in event s new ≡ 0 → EventSplit first ds event s now new
   event_split (frames.Request r) deep k e l =
-      not_lost_arrival r e.0 (e.2).before (e.2).after (both_right (is_unit_0 r.lun) (is_known (says r.cdb s.identity.trim)) k) e.1 (e.2).quiet_before (e.2).step (e.2).quiet_after (not_lost s new h.up l)
+      not_lost_arrival r e.0 (e.2).before (e.2).after (and_parts (is_unit_0 r.lun) (is_known (says r.cdb s.identity.trim)) k).1 e.1 (e.2).quiet_before (e.2).step (e.2).quiet_after (not_lost s new h.up l)
   event_split (frames.Manage m) deep k e l = absurd cc
   event_split (frames.Turn n) deep k e l = turn_event n e.1 e.0 e.2 e.3 (not_lost s new h.up l)
   event_split (frames.Bench event) deep k e l = bench_split event e.0 k e.1 e.2

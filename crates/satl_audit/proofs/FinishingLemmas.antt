@@ -1,29 +1,23 @@
 -- Answers of tasks that end, and what they show.
-use Rattle.std.proofs.Common.{arith, ◌≡◌, refl, sym, ap, ◌∙◌, subst, ℕ, ◌*◌, ◌-◌, Bool, true, false, List, [], ◌++◌, length, map, take, replicate}
-use Rattle.std.specs.Prelude.{◌<◌, Option, Some, None, Result, Ok, Err, IfOk}
-use Rattle.std.proofs.lemmas.List.{append-nil, get_or-map}
+use Rattle.std.proofs.Common.{◌≡◌, refl, sym, ap, ◌∙◌, subst, ℕ, ◌*◌, Bool, true, false, List, [], ◌++◌, length, map, take}
+use Rattle.std.specs.Prelude.{◌<◌, Option, Some, None}
+use Rattle.std.proofs.lemmas.List.{get_or-map}
 use Rattle.satl_base.specs.declared.block.Block.{Block}
 use Rattle.satl_base.specs.declared.reply.Scsi.TheVariants.{Good}
 use Rattle.satl_base.specs.Blocks.{bytes_of, first_bytes}
-use Rattle.satl_frame.specs.DataPages.{page_count, pages_of}
-use Rattle.satl_frame.proofs.Paging.{bytes_of-pages_of, length-pages_of}
 use Rattle.satl_audit.specs.Deciding.{AreWhole}
 use Rattle.satl_audit.specs.Finishing.{IsReadBy, Reads, end_deeds, head_bytes}
 use Rattle.satl_audit.specs.Kept.{Keeping, blank_keeping, kept_settle, sector_at, sector_of}
 use Rattle.satl_audit.specs.Sectors.{Sector, sector_gives, settled_in}
 use Rattle.satl_audit.specs.declared.content.Content.{Content}
-use Rattle.satl_audit.proofs.Frames.{pages_whole}
-use Rattle.satl_audit.proofs.ReplyLemmas.{whole-length, whole_same, fronts, take_own}
+use Rattle.satl_audit.proofs.ReplyLemmas.{fronts, take_own}
 use Rattle.satl_base.specs.declared.block.Range.{Range}
+use Rattle.satl_base.proofs.BlocksLemmas.{length-bytes_of}
 use Rattle.satl_audit.specs.Following.{GivesBlocks, along}
 use Rattle.satl_audit.specs.Deeds.{Deed}
 use Rattle.satl_audit.specs.Deeds.Deed.{gives}
 use Rattle.satl_direct.specs.Device.{Device}
 use Rattle.satl_audit.proofs.FixingEvents.{after_same}
-
-pub if_ok_map : {T E : Type 0} (r : Result T E) (P Q : T → Type 0) → IfOk r P → ((x : T) → P x → Q x) → IfOk r Q
-if_ok_map (Ok x) P Q h f = f x h
-if_ok_map (Err e) P Q h f = tt
 
 -- the data of a READ are fixed by the output
 pub reads_as : (input : List ℕ) (nexus tag : ℕ) (range : Range) (output left given : List ℕ) (old new : List Keeping) → IsReadBy nexus tag range output given left → (b : Bool) → GivesBlocks input range.lba given old new b →
@@ -35,20 +29,8 @@ reads_as input nexus tag range output left given old new read false h =
     let same = fronts given other left rest (read.0 ∙ sym also.0) (after_same head head (given ++ left) (other ++ rest) refl (sym read.1 ∙ also.1)) in
     subst (λ l. GivesBlocks input range.lba l old new false) same.front h
 
--- pages of whole blocks
-no_more : (n : ℕ) → n ≡ 0 → (xs : List ℕ) → xs ++ replicate n 0 ≡ xs
-no_more n e xs = ap (λ k. xs ++ replicate k 0) e ∙ append-nil xs
-
-pub pages_same : (vs : List Block) → AreWhole vs → pages_of (bytes_of vs) ≡ vs
-pages_same vs whole =
-    let bytes = bytes_of vs in
-    let size = whole-length vs whole in
-    let count : page_count (length bytes) ≡ length vs = omega (arith, size) in
-    let spare : 512 * page_count (length bytes) - length bytes ≡ 0 = omega (arith, size, count) in
-    whole_same (pages_of bytes) vs (pages_whole bytes) whole (length-pages_of bytes ∙ count) (bytes_of-pages_of bytes ∙ no_more _ spare bytes)
-
 pub all_bytes : (vs : List Block) → AreWhole vs → first_bytes (512 * length vs) vs ≡ bytes_of vs
-all_bytes vs whole = ap (λ n. take n (bytes_of vs)) (sym (whole-length vs whole)) ∙ take_own (bytes_of vs)
+all_bytes vs whole = ap (λ n. take n (bytes_of vs)) (sym (length-bytes_of vs whole)) ∙ take_own (bytes_of vs)
 
 -- blocks that a sector refuses
 pub refusing : (x : ℕ) (s : Device) (k : Sector) (deed : Deed) (lba : ℕ) (blocks : List Block) → deed ≡ gives lba blocks → sector_gives x lba blocks (Some k) ≡ None → along x None (end_deeds s deed) (Some k) ≡ None

@@ -1,11 +1,12 @@
 -- The bytes of the answers fix what an event does.
 use Rattle.std.proofs.Common.{◌≡◌, refl, sym, ap, ◌∙◌, subst, ℕ, true, List, [], ◌∷◌, ◌++◌, map, append_assoc}
 use Rattle.std.specs.Prelude.{◌<◌, ◌^◌, not}
+use Rattle.std.proofs.lemmas.Bool.{and_parts}
 use Rattle.satl_base.specs.declared.bench.BenchEvent.{BenchEvent}
 use Rattle.satl_base.specs.declared.bench.BenchEvent.TheVariants as events
 use Rattle.satl_base.specs.declared.request.Request.{Request}
 use Rattle.satl_base.specs.declared.reply.Reply.{Reply}
-use Rattle.satl_base.proofs.ListsLemmas.{All-push_end}
+use Rattle.satl_base.proofs.ListsLemmas.{All-push_end, All-filter}
 use Rattle.satl_frame.specs.declared.frames.Frame.{Frame}
 use Rattle.satl_frame.specs.declared.frames.Frame.TheVariants as frames
 use Rattle.satl_frame.specs.Output.{Answer, all_answered, end_bytes, reply_bytes}
@@ -14,16 +15,14 @@ use Rattle.satl_cdb.specs.Table.{says}
 use Rattle.satl_direct.specs.Device.{Device, is_of}
 use Rattle.satl_direct.specs.Arrival.{Arrival, ArrivesAs, arrival, is_unit_0}
 use Rattle.satl_direct.specs.Arrival.Arrival.{answered, attended, overlaps, waits}
+use Rattle.satl_direct.proofs.Naming.{own_filtered, own_pushed}
 use Rattle.satl_audit.specs.Deeds.{Deed}
 use Rattle.satl_cover.specs.Known.{is_known, is_known_frame}
 use Rattle.satl_audit.specs.Skeleton.{Benched, Stepped}
 use Rattle.satl_audit.proofs.Forming.{IsNewIn, arrival_new}
-use Rattle.satl_audit.proofs.Naming.{own_filtered, own_pushed}
 use Rattle.satl_audit.specs.Deciding.{AllWhole, IsFineFrame}
 use Rattle.satl_audit.proofs.Telling.{IsFine}
 use Rattle.satl_audit.proofs.FixingTurns.{said, Kept, turns_keep, SameTurns, turns_same, drains_same}
-use Rattle.satl_laws.proofs.Cases.{both_right}
-use Rattle.satl_laws.proofs.Rows.{All-filter}
 
 arrives_keep : (a : Arrival) (r : Request) (s u : Device) (replies : List Reply) → Kept s → IsFineFrame (frames.Request r) → IsNewIn s r a → ArrivesAs a r s replies u → Kept u
 arrives_keep (answered reply) r s u replies k f n e = subst Kept (sym e.1) k
@@ -42,7 +41,7 @@ benched_keep events.Power s u ds k e = subst Kept (sym e.1) (record { own = tt; 
 benched_keep events.Unplug s u ds k e = absurd e
 
 pub stepped_keep : (event : Frame) (s u : Device) (now : List Answer) (ds : List Deed) → Kept s → IsFineFrame event → is_known_frame s.identity.trim event ≡ true → Stepped event s now ds u → Kept u
-stepped_keep (frames.Request r) s u now ds k f kn e = arrives_keep (arrival s r) r s u e.0 k f (arrival_new s r (both_right (is_unit_0 r.lun) (is_known (says r.cdb s.identity.trim)) kn)) e.2
+stepped_keep (frames.Request r) s u now ds k f kn e = arrives_keep (arrival s r) r s u e.0 k f (arrival_new s r (and_parts (is_unit_0 r.lun) (is_known (says r.cdb s.identity.trim)) kn).1) e.2
 stepped_keep (frames.Manage m) s u now ds k f kn e = absurd e
 stepped_keep (frames.Turn n) s u now ds k f kn e = turns_keep s k e.2
 stepped_keep (frames.Bench event) s u now ds k f kn e = benched_keep event s u ds k e.1

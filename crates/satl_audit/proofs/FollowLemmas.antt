@@ -17,7 +17,7 @@ use Rattle.satl_frame.specs.Reading.{Blames, Gave, Reading}
 use Rattle.satl_frame.proofs.ProgressLemmas.{has_read_more}
 use Rattle.satl_frame.proofs.WholeInputs.{next_given, none_refused}
 use Rattle.satl_cover.specs.Covered.{limit, place_behind}
-use Rattle.satl_cover.proofs.ReadingLemmas.{next_place, none_ends}
+use Rattle.satl_cover.proofs.ReadingLemmas.{next_place, none_ends, end_whole}
 use Rattle.satl_audit.specs.Advancing.{Advances, CannotGoOn, GoesOn, IsGoodFrame, MayHappen}
 use Rattle.satl_audit.specs.Finishing.{AreTasks}
 use Rattle.satl_audit.specs.Judged.{IsTaken, Judged}
@@ -26,7 +26,6 @@ use Rattle.satl_audit.specs.Waiting.{AllFit}
 use Rattle.satl_audit.specs.declared.arriving.Steps.{Steps}
 use Rattle.satl_audit.specs.declared.verdict.Verdict.TheVariants as says
 use Rattle.satl_cover.specs.Known.{is_known_frame}
-use Rattle.satl_audit.proofs.CutFrames.{cut_end}
 use Rattle.satl_audit.proofs.ReachBegins.{Reached}
 use Rattle.satl_audit.proofs.ReachLemmas.{good_here, known_here, may_here, reached_more, tasks_here}
 use Rattle.satl_audit.proofs.VerdictLemmas.{explained_here, more_here, stuck_here}
@@ -95,7 +94,7 @@ module _ (identity : Identity) (is : IsIdentity identity) (input output : List �
       }
 
       whole_is : frame ≡ frames.End → gave.whole ≡ frames.End
-      whole_is is_end = cut_end gave.whole (sym is_end ∙ gave.cut)
+      whole_is is_end = end_whole gave.whole (sym gave.cut ∙ is_end)
 
       all_is : frame ≡ frames.End → going.so_far ++ gave.whole ∷ [] ≡ all
       all_is is_end =

@@ -1,14 +1,13 @@
 -- Guesses behind a READ, a flush and a loss of power.
 use Rattle.std.proofs.Common.{◌≡◌, ⊎_elim, inl, refl, sym, ◌∙◌, subst, ℕ, ◌+◌, true, false, List, [], ◌∷◌, map}
 use Rattle.std.specs.Prelude.{◌==◌, if◌then◌else◌, filter}
-use Rattle.std.proofs.lemmas.Bool.{eqb-true}
+use Rattle.std.proofs.lemmas.Bool.{eqb-true, eqb-false}
 use Rattle.satl_base.specs.declared.block.Block.{Block}
 use Rattle.satl_base.specs.Cells.{Cell, IsSound, settle}
 use Rattle.satl_base.specs.Lists.{IsIn}
 use Rattle.satl_regs.specs.Sectors.{IsLeftBehind}
 use Rattle.satl_audit.specs.Deeds.{GivesAt}
 use Rattle.satl_audit.specs.Guesses.{Guess, after_gives, all_may, has_now, sure}
-use Rattle.satl_audit.proofs.Each.{is_same}
 use Rattle.satl_audit.proofs.GuessLists.{in_map, map_in, in_filter, filter_in, now_same, same_now, in_all, of_all}
 use Rattle.satl_audit.proofs.Fitting.{Among, Reached, Fits, fits_same, After}
 
@@ -23,9 +22,6 @@ filter_fits v K gs h = record {
   own = λ g i. h.own g (in_filter (has_now v) gs g i).0;
 }
 
-pub not_here : (lba x : ℕ) → lba ≡ x → (lba == x) ≡ false → ⊥
-not_here lba x e s = let t : (lba == x) ≡ true = subst (λ n. (lba == n) ≡ true) e (is_same lba) in cc
-
 pub gives_fit : (x lba : ℕ) (vs : List Block) (K : Cell → Type 0) (gs : List Guess) → Fits K gs → Fits (Only K (GivesAt x lba vs)) (after_gives x lba vs gs)
 gives_fit x lba [] K gs h = fits_same K (Only K (GivesAt x lba [])) gs (λ c k. (k, tt)) (λ c q. q.0) h
 gives_fit x lba (v ∷ vs) K gs h =
@@ -37,7 +33,7 @@ gives_fit x lba (v ∷ vs) K gs h =
     first =
         (elim (lba == x) as (λ b. (lba == x) ≡ b → Fits (Only K (λ c. lba ≡ x → c.now ≡ v)) (if b then filter (has_now v) gs else gs)) [
           | true ↦ λ s. fits_same (Only K (λ c. c.now ≡ v)) (Only K (λ c. lba ≡ x → c.now ≡ v)) (filter (has_now v) gs) (λ c q. (q.0, λ e. q.1)) (λ c q. (q.0, q.1 (eqb-true lba x s))) (filter_fits v K gs h)
-          | false ↦ λ s. fits_same K (Only K (λ c. lba ≡ x → c.now ≡ v)) gs (λ c k. (k, λ e. absurd (not_here lba x e s))) (λ c q. q.0) h
+          | false ↦ λ s. fits_same K (Only K (λ c. lba ≡ x → c.now ≡ v)) gs (λ c k. (k, λ e. absurd (eqb-false lba x s e))) (λ c q. q.0) h
         ]) refl
 
 pub settles_fit : (K : Cell → Type 0) (gs : List Guess) → Fits K gs → Fits (After K (λ a b. b ≡ settle a)) (map (λ g. sure g.now) gs)

@@ -2,12 +2,12 @@
 use Rattle.std.proofs.Common.{◌≡◌, sym, ⊎_elim, inl, inr, refl, ap, ◌∙◌, subst, ℕ, Bool, true, false, List, [], ◌∷◌, map}
 use Rattle.std.specs.Prelude.{if◌then◌else◌, filter, nat_eq}
 use Rattle.std.specs.Cmp.Lexicographic.{pointwise, same_text}
+use Rattle.std.proofs.lemmas.Bool.{both_ways}
 use Rattle.satl_base.specs.declared.block.Block.{Block}
 use Rattle.satl_base.specs.Lists.{IsIn}
 use Rattle.satl_base.proofs.ListsLemmas.{in_either, in_left, in_right}
 use Rattle.satl_audit.specs.Guesses.{Guess, all_may, has_now}
 use Rattle.satl_audit.proofs.Each.{is_same}
-use Rattle.satl_audit.proofs.Links.{false_not_true}
 
 -- ---- lists
 
@@ -39,7 +39,7 @@ filter_in p [] x h t = absurd h
 filter_in p (y ∷ xs) x h t =
     (elim (p y) as (λ b. p y ≡ b → IsIn x (if b then y ∷ filter p xs else filter p xs)) [
       | true ↦ λ s. ⊎_elim (λ e. inl e) (λ r. inr (filter_in p xs x r t)) h
-      | false ↦ λ s. ⊎_elim (λ e. absurd (false_not_true t (ap p e ∙ s))) (λ r. filter_in p xs x r t) h
+      | false ↦ λ s. ⊎_elim (λ e. absurd (both_ways _ (ap p e ∙ s) t)) (λ r. filter_in p xs x r t) h
     ]) refl
 
 -- the same bytes

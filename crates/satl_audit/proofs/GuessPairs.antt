@@ -1,13 +1,12 @@
 -- Pairs of an address, and what they bring.
 use Rattle.std.proofs.Common.{◌≡◌, ⊎_elim, inl, inr, refl, ap, subst, ℕ, true, false, List, [], ◌∷◌}
 use Rattle.std.specs.Prelude.{◌==◌, if◌then◌else◌}
-use Rattle.std.proofs.lemmas.Bool.{eqb-true}
+use Rattle.std.proofs.lemmas.Bool.{eqb-true, both_ways}
 use Rattle.satl_base.specs.declared.block.Block.{Block}
 use Rattle.satl_base.specs.Cells.{Pair}
 use Rattle.satl_base.specs.Lists.{IsIn}
 use Rattle.satl_audit.specs.Guesses.{Guess, blocks_at, shown_of}
 use Rattle.satl_audit.proofs.Each.{is_same}
-use Rattle.satl_audit.proofs.Links.{false_not_true}
 
 module _ (x : ℕ) where
   -- a pair of the address
@@ -29,7 +28,7 @@ module _ (x : ℕ) where
   blocks_in (q ∷ pairs) p i e =
       (elim (q.lba == x) as (λ b. (q.lba == x) ≡ b → IsIn p.block (if b then q.block ∷ blocks_at x pairs else blocks_at x pairs)) [
         | true ↦ λ s. ⊎_elim (λ h. inl (ap (λ k. k.block) h)) (λ r. inr (blocks_in pairs p r e)) i
-        | false ↦ λ s. ⊎_elim (λ h. absurd (false_not_true (subst (λ k. (k.lba == x) ≡ true) h (subst (λ n. (p.lba == n) ≡ true) e (is_same p.lba))) s)) (λ r. blocks_in pairs p r e) i
+        | false ↦ λ s. ⊎_elim (λ h. absurd (both_ways _ s (subst (λ k. (k.lba == x) ≡ true) h (subst (λ n. (p.lba == n) ≡ true) e (is_same p.lba))))) (λ r. blocks_in pairs p r e) i
       ]) refl
 
   pub in_blocks : (pairs : List Pair) (w : Block) → IsIn w (blocks_at x pairs) → Brought pairs w
@@ -49,7 +48,7 @@ module _ (x : ℕ) where
     shown_in (q ∷ pairs) p i e =
         (elim (q.lba == x) as (λ b. (q.lba == x) ≡ b → IsIn (guess_of p) (if b then guess_of q ∷ shown_of x before pairs else shown_of x before pairs)) [
           | true ↦ λ s. ⊎_elim (λ h. inl (ap guess_of h)) (λ r. inr (shown_in pairs p r e)) i
-          | false ↦ λ s. ⊎_elim (λ h. absurd (false_not_true (subst (λ k. (k.lba == x) ≡ true) h (subst (λ n. (p.lba == n) ≡ true) e (is_same p.lba))) s)) (λ r. shown_in pairs p r e) i
+          | false ↦ λ s. ⊎_elim (λ h. absurd (both_ways _ s (subst (λ k. (k.lba == x) ≡ true) h (subst (λ n. (p.lba == n) ≡ true) e (is_same p.lba))))) (λ r. shown_in pairs p r e) i
         ]) refl
 
     pub in_shown : (pairs : List Pair) (g : Guess) → IsIn g (shown_of x before pairs) → Shown before pairs g

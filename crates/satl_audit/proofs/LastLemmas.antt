@@ -2,6 +2,7 @@
 use Rattle.std.proofs.Common.{arith, ◌≡◌, ◌⊎◌, ⊎_elim, inl, inr, refl, sym, ap, ◌∙◌, subst, ℕ, suc, ◌+◌, Bool, true, false, List, [], ◌∷◌, ◌++◌, length, map}
 use Rattle.std.specs.Prelude.{if◌then◌else◌}
 use Rattle.std.proofs.lemmas.List.{length-map}
+use Rattle.std.proofs.lemmas.Bool.{both_ways}
 use Rattle.satl_base.specs.declared.reply.Reply.{Reply}
 use Rattle.satl_base.specs.Lists.{IsIn, remove_first}
 use Rattle.satl_identify.specs.declared.identity.Identity.{Identity}
@@ -10,6 +11,7 @@ use Rattle.satl_frame.specs.declared.frames.Frame.TheVariants as frames
 use Rattle.satl_frame.specs.Output.{all_answered, end_bytes}
 use Rattle.satl_frame.specs.Output.Answer.{replied, ended}
 use Rattle.satl_direct.specs.Device.{Device, is_called}
+use Rattle.satl_direct.proofs.Naming.{called_self}
 use Rattle.satl_audit.specs.Advancing.{Advances, CannotGoOn, GoesOn}
 use Rattle.satl_audit.specs.Arriving.{device_at}
 use Rattle.satl_audit.specs.Deeds.{Deed}
@@ -21,8 +23,6 @@ use Rattle.satl_audit.specs.declared.arriving.Steps.{Steps}
 use Rattle.satl_audit.proofs.FixingEvents.{ended_push}
 use Rattle.satl_audit.proofs.FixingTurns.{drains_same, none_ends, said}
 use Rattle.satl_audit.proofs.TurnLemmas.{kept_of}
-use Rattle.satl_audit.proofs.Links.{false_not_true}
-use Rattle.satl_laws.proofs.Names.{called_self}
 use Rattle.satl_laws.proofs.Ends.{eligible_in as eligible_there}
 
 -- a task fewer
@@ -32,7 +32,7 @@ removed p (u ∷ ts) t there passes = by (p u) refl (λ rest. removed p ts t res
   where
     by : (b : Bool) → p u ≡ b → (IsIn t ts → length ts ≡ suc (length (remove_first p ts))) → suc (length ts) ≡ suc (length (if b then ts else u ∷ remove_first p ts))
     by true e rec = refl
-    by false e rec = ap suc (⊎_elim (λ same. absurd (false_not_true (sym (ap p same) ∙ passes) e)) rec there)
+    by false e rec = ap suc (⊎_elim (λ same. absurd (both_ways _ e (sym (ap p same) ∙ passes))) rec there)
 
 pub done_fewer : (s u : Device) (reply : Reply) (deed : Deed) → TaskDone s reply deed u → length s.tasks ≡ suc (length u.tasks)
 done_fewer s u reply deed d =

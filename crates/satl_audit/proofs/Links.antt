@@ -6,9 +6,6 @@ use Rattle.satl_direct.specs.Run.{losses_of}
 
 -- ---- losses
 
-pub false_not_true : {b : Bool} → b ≡ true → b ≡ false → ⊥
-false_not_true p q = cc
-
 -- losses by whether the link was lost before and after
 abbrev lost_by : Bool → Bool → ℕ
 lost_by a b = if a then 0 else (if b then 1 else 0)

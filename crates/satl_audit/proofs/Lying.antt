@@ -2,10 +2,11 @@
 use Rattle.std.proofs.Common.{◌≡◌, refl, sym, ap, ◌∙◌, subst, ℕ, ◌+◌, true, List, [], ◌∷◌, length}
 use Rattle.std.specs.Prelude.{◌≤◌, not}
 use Rattle.std.specs.List.{AllByRecursion}
+use Rattle.std.proofs.lemmas.Bool.{and_parts}
 use Rattle.satl_base.specs.declared.reply.Reply.{Reply}
 use Rattle.satl_base.specs.declared.request.Request.{Request}
 use Rattle.satl_base.specs.declared.block.Block.{Block}
-use Rattle.satl_base.proofs.ListsLemmas.{All-push_end, All-remove_first}
+use Rattle.satl_base.proofs.ListsLemmas.{All-push_end, All-remove_first, All-filter}
 use Rattle.satl_cdb.specs.Table.{says}
 use Rattle.satl_cdb.specs.declared.command.Command.{Command}
 use Rattle.satl_cdb.specs.declared.command.Command.TheVariants as commands
@@ -27,9 +28,8 @@ use Rattle.satl_audit.proofs.Coming.{Comes, IsKnown, KnownBy, arrival_comes}
 use Rattle.satl_audit.proofs.Splitting.{Lies}
 use Rattle.satl_audit.proofs.Walking.{AllLie}
 use Rattle.satl_audit.proofs.Identities.{all_front, all_last, AllKnown, stepped_same}
-use Rattle.satl_laws.proofs.Cases.{both_right}
 use Rattle.satl_laws.proofs.Ends.{eligible_in as eligible_there}
-use Rattle.satl_laws.proofs.Rows.{in_all as all_of, All-filter}
+use Rattle.satl_laws.proofs.Rows.{in_all as all_of}
 use Rattle.satl_line.proofs.SlotsLemmas.{All-append}
 
 -- known tasks, and deeds within the capacity
@@ -85,7 +85,7 @@ stepped_within : (event : Frame) (s new : Device) (now : List Answer) (deeds : L
 stepped_within (frames.Request r) s new now deeds f k e =
     record {
       lie = subst (λ l. AllLie l s.identity.capacity) (sym e.3) (tt, tt);
-      known = arrives_within (arrival s r) r s new e.0 s.identity.capacity (arrival_comes s r (both_right (is_unit_0 r.lun) (is_known (says r.cdb s.identity.trim)) f)) k e.2;
+      known = arrives_within (arrival s r) r s new e.0 s.identity.capacity (arrival_comes s r (and_parts (is_unit_0 r.lun) (is_known (says r.cdb s.identity.trim)) f).1) k e.2;
     }
 stepped_within (frames.Manage m) s new now deeds f k e = absurd e
 stepped_within (frames.Turn n) s new now deeds f k e = turns_within s s.identity.capacity k e.2

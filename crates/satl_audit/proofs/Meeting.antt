@@ -1,5 +1,5 @@
 -- When a WRITE conflicts with a task that goes over one of its sectors.
-use Rattle.std.proofs.Common.{arith, ◌≡◌, refl, ap, ◌∙◌, ℕ, ◌+◌, Bool, true, false, [], ◌∷◌, min, max}
+use Rattle.std.proofs.Common.{arith, ◌≡◌, ap, ◌∙◌, ℕ, ◌+◌, true, false, [], ◌∷◌, min, max}
 use Rattle.std.specs.Prelude.{◌≤◌, ◌<◌, ◌&&◌, not, ◌||◌}
 use Rattle.satl_base.specs.Cells.{Pair}
 use Rattle.satl_base.specs.Lists.{IsIn}
@@ -11,28 +11,23 @@ use Rattle.satl_line.specs.Conflict.{access_of, conflicts, is_alone, is_write, A
 use Rattle.satl_direct.specs.Device.{Device}
 use Rattle.satl_direct.specs.Quiet.{written_by}
 use Rattle.satl_direct.specs.Tasks.{over}
-use Rattle.satl_laws.proofs.Meeting.{or_either}
 use Rattle.satl_audit.proofs.Forming.{FormedBy}
 use Rattle.satl_audit.proofs.EarlyPairs.{from_within}
-use Rattle.std.proofs.lemmas.Bool.{lt-ltb}
+use Rattle.std.proofs.lemmas.Bool.{lt-ltb, or_left, or_right}
 use Rattle.satl_base.specs.declared.block.Range.{Range}
 
 pub ranges_that_meet : (x lba count lba' count' : ℕ) → lba ≤ x → x < lba + count → lba' ≤ x → x < lba' + count' → ranges_meet (over lba count) (over lba' count') ≡ true
 ranges_that_meet x lba count lba' count' a b c d = lt-ltb (max lba lba') (min (lba + count) (lba' + count')) (omega (arith, a, b, c, d))
 
-true_or : (a b : Bool) → a ≡ true → (a || b) ≡ true
-true_or true b e = refl
-true_or false b e = absurd cc
-
 pub meeting : (a b : Access) (r q : Range) → a.write ≡ true → a.ranges ≡ r ∷ [] → b.ranges ≡ q ∷ [] → ranges_meet r q ≡ true → accesses_conflict a b ≡ true
 unfolding accesses_conflict
 meeting a b r q w ra rb m =
-    or_either (a.alone || b.alone) ((a.write || b.write) && any_meet a.ranges b.ranges)
+    or_right (a.alone || b.alone) ((a.write || b.write) && any_meet a.ranges b.ranges)
     (ap (λ t. (t || b.write) && any_meet a.ranges b.ranges) w ∙ ap (λ l. any_meet l b.ranges) ra ∙ ap (any_meet (r ∷ [])) rb ∙ ap (λ t. (t || false) || false) m)
 
 pub barred : (a b : Access) → b.alone ≡ true → accesses_conflict a b ≡ true
 unfolding accesses_conflict
-barred a b e = true_or (a.alone || b.alone) ((a.write || b.write) && any_meet a.ranges b.ranges) (or_either a.alone b.alone e)
+barred a b e = or_left (a.alone || b.alone) ((a.write || b.write) && any_meet a.ranges b.ranges) (or_right a.alone b.alone e)
 
 module _ (x : ℕ) where
   -- a command goes over the sector

@@ -1,47 +1,24 @@
 -- No two tasks are called the same.
-use Rattle.std.proofs.Common.{◌≡◌, ⊎_elim, refl, sym, ◌∙◌, subst, Bool, true, false, List, [], ◌∷◌, ◌++◌}
-use Rattle.std.specs.Prelude.{if◌then◌else◌, filter}
+use Rattle.std.proofs.Common.{◌≡◌, ⊎_elim, refl, sym, ◌∙◌, subst, Bool, true, false, List, [], ◌∷◌}
+use Rattle.std.specs.Prelude.{if◌then◌else◌}
 use Rattle.std.specs.List.{list_any}
+use Rattle.std.proofs.lemmas.Bool.{both_ways, or_parts}
 use Rattle.satl_base.specs.Lists.{IsIn, remove_first}
 use Rattle.satl_line.specs.declared.entry.Entry.{Entry}
 use Rattle.satl_direct.specs.Device.{is_called}
 use Rattle.satl_direct.specs.Valid.{AreOwn}
-use Rattle.satl_audit.proofs.Links.{false_not_true}
-use Rattle.satl_laws.proofs.Cases.{or_left, or_right}
-use Rattle.satl_laws.proofs.Names.{called_apart, called_back}
-
-none_filtered : {X : Type 0} (p q : X → Bool) (xs : List X) → list_any p xs ≡ false → list_any p (filter q xs) ≡ false
-none_filtered p q [] h = refl
-none_filtered p q (x ∷ xs) h =
-    elim (q x) as (λ b. list_any p (if b then x ∷ filter q xs else filter q xs) ≡ false)
-    [ true ↦ rw (or_left (p x) (list_any p xs) h) (none_filtered p q xs (or_right (p x) (list_any p xs) h)) | false ↦ none_filtered p q xs (or_right (p x) (list_any p xs) h) ]
+use Rattle.satl_direct.proofs.Naming.{called_back}
 
 none_removed : {X : Type 0} (p q : X → Bool) (xs : List X) → list_any p xs ≡ false → list_any p (remove_first q xs) ≡ false
 none_removed p q [] h = refl
 none_removed p q (x ∷ xs) h =
     elim (q x) as (λ b. list_any p (if b then xs else x ∷ remove_first q xs) ≡ false)
-    [ true ↦ or_right (p x) (list_any p xs) h | false ↦ rw (or_left (p x) (list_any p xs) h) (none_removed p q xs (or_right (p x) (list_any p xs) h)) ]
-
-none_pushed : {X : Type 0} (p : X → Bool) (xs : List X) (y : X) → list_any p xs ≡ false → p y ≡ false → list_any p (xs ++ y ∷ []) ≡ false
-none_pushed p [] y h e = rw e refl
-none_pushed p (x ∷ xs) y h e = rw (or_left (p x) (list_any p xs) h) (none_pushed p xs y (or_right (p x) (list_any p xs) h) e)
-
-pub own_filtered : (q : Entry → Bool) (ts : List Entry) → AreOwn ts → AreOwn (filter q ts)
-own_filtered q [] h = h
-own_filtered q (t ∷ ts) h =
-    elim (q t) as (λ b. AreOwn (if b then t ∷ filter q ts else filter q ts)) [ true ↦ (none_filtered (is_called t.nexus (t.tag).0) q ts h.0, own_filtered q ts h.1) | false ↦ own_filtered q ts h.1 ]
+    [ true ↦ (or_parts (p x) (list_any p xs) h).1 | false ↦ rw (or_parts (p x) (list_any p xs) h).0 (none_removed p q xs (or_parts (p x) (list_any p xs) h).1) ]
 
 pub own_removed : (q : Entry → Bool) (ts : List Entry) → AreOwn ts → AreOwn (remove_first q ts)
 own_removed q [] h = h
 own_removed q (t ∷ ts) h =
     elim (q t) as (λ b. AreOwn (if b then ts else t ∷ remove_first q ts)) [ true ↦ h.1 | false ↦ (none_removed (is_called t.nexus (t.tag).0) q ts h.0, own_removed q ts h.1) ]
-
-pub own_pushed : (ts : List Entry) (t : Entry) → list_any (is_called t.nexus (t.tag).0) ts ≡ false → AreOwn ts → AreOwn (ts ++ t ∷ [])
-own_pushed [] t none own = (refl, tt)
-own_pushed (u ∷ ts) t none own = (
-  none_pushed (is_called u.nexus (u.tag).0) ts t own.0 (called_apart t u (or_left (is_called t.nexus (t.tag).0 u) (list_any (is_called t.nexus (t.tag).0) ts) none)),
-  own_pushed ts t (or_right (is_called t.nexus (t.tag).0 u) (list_any (is_called t.nexus (t.tag).0) ts) none) own.1,
-)
 
 -- of two tasks that are there, one that is called as the other is the other
 pub called_there : (ts : List Entry) (t u : Entry) → AreOwn ts → IsIn t ts → IsIn u ts → is_called t.nexus (t.tag).0 u ≡ true → u ≡ t
@@ -56,6 +33,6 @@ called_there (v ∷ ts) t u own i j h =
     none_here [] v w none k e = k
     none_here (x ∷ ts) v w none k e =
         ⊎_elim
-        (λ s. false_not_true (subst (λ y. is_called v.nexus (v.tag).0 y ≡ true) s e) (or_left (is_called v.nexus (v.tag).0 x) (list_any (is_called v.nexus (v.tag).0) ts) none))
-        (λ l. none_here ts v w (or_right (is_called v.nexus (v.tag).0 x) (list_any (is_called v.nexus (v.tag).0) ts) none) l e)
+        (λ s. both_ways _ (or_parts (is_called v.nexus (v.tag).0 x) (list_any (is_called v.nexus (v.tag).0) ts) none).0 (subst (λ y. is_called v.nexus (v.tag).0 y ≡ true) s e))
+        (λ l. none_here ts v w (or_parts (is_called v.nexus (v.tag).0 x) (list_any (is_called v.nexus (v.tag).0) ts) none).1 l e)
         k

@@ -2,6 +2,7 @@
 use Rattle.std.proofs.Common.{arith, ◌≡◌, refl, sym, ap, ◌∙◌, subst, ℕ, zero, suc, ◌+◌, Bool, true, false, List, [], ◌∷◌, length, cond}
 use Rattle.std.specs.Prelude.{◌<◌, if◌then◌else◌, Some, remove, slice_get}
 use Rattle.std.specs.List.{AllByRecursion, list_any, position_from}
+use Rattle.std.proofs.lemmas.Bool.{or_parts}
 use Rattle.satl_base.specs.Lists.{remove_first}
 use Rattle.satl_line.specs.declared.entry.Entry.{Entry}
 use Rattle.satl_line.specs.Conflict.{conflicts}
@@ -9,16 +10,15 @@ use Rattle.satl_line.specs.Eligible.{eligible_at}
 use Rattle.satl_line.proofs.EligibleLemmas.{eligible_by-formed}
 use Rattle.satl_direct.specs.Device.{is_called, without}
 use Rattle.satl_direct.specs.Valid.{AreOwn}
+use Rattle.satl_direct.proofs.Naming.{called_apart, called_self}
 use Rattle.satl_audit.specs.Waiting.{Placed, device_tasks, entries_in, has_name, task_in}
-use Rattle.satl_laws.proofs.Cases.{or_left, or_right}
-use Rattle.satl_laws.proofs.Names.{called_apart, called_self}
 
 module _ (input : List ℕ) where
   -- a task among those of which none passes
   none_passes : (f : Entry → Bool) (ps : List Placed) (place : ℕ) (p : Placed) → list_any f (device_tasks input ps) ≡ false → slice_get ps place ≡ Some p → f (task_in input p) ≡ false
   none_passes f [] place p none at = absurd cc
-  none_passes f (q ∷ ps) zero p none at = let same : q ≡ p = cc in ap (λ (x : Placed). f (task_in input x)) (sym same) ∙ or_left (f (task_in input q)) (list_any f (device_tasks input ps)) none
-  none_passes f (q ∷ ps) (suc place) p none at = none_passes f ps place p (or_right (f (task_in input q)) (list_any f (device_tasks input ps)) none) at
+  none_passes f (q ∷ ps) zero p none at = let same : q ≡ p = cc in ap (λ (x : Placed). f (task_in input x)) (sym same) ∙ (or_parts (f (task_in input q)) (list_any f (device_tasks input ps)) none).0
+  none_passes f (q ∷ ps) (suc place) p none at = none_passes f ps place p (or_parts (f (task_in input q)) (list_any f (device_tasks input ps)) none).1 at
 
   -- an earlier task has another name
   earlier_apart : (q : Placed) (ps : List Placed) (place : ℕ) (p : Placed) → AreOwn (device_tasks input (q ∷ ps)) → slice_get ps place ≡ Some p → is_called p.entry.nexus (p.entry.tag).0 (task_in input q) ≡ false

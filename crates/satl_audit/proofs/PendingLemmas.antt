@@ -1,6 +1,6 @@
 -- What a pending task writes, and what a loss of power leaves.
 use Rattle.std.proofs.Common.{arith, ◌≡◌, refl, sym, ap, ◌∙◌, ℕ, zero, suc, Bool, List, [], ◌∷◌, length, map, subst}
-use Rattle.std.specs.Prelude.{◌<◌, ◌&&◌, Result, Ok, Err, OnOk, not, Option, Some, None, slice_get}
+use Rattle.std.specs.Prelude.{◌<◌, ◌&&◌, not, Option, Some, None, slice_get}
 use Rattle.std.specs.Option.{option_map}
 use Rattle.std.proofs.lemmas.List.{get_or-map, length-map}
 use Rattle.satl_base.specs.declared.block.Block.{Block}
@@ -11,7 +11,6 @@ use Rattle.satl_cdb.specs.declared.command.Form.{Form}
 use Rattle.satl_identify.specs.declared.identity.Identity.{Identity}
 use Rattle.satl_unit.specs.declared.attention.Attention.{Attention}
 use Rattle.satl_unit.specs.declared.attention.Attention.TheVariants.{PowerOn}
-use Rattle.satl_unit.specs.Conditions.{posted}
 use Rattle.satl_line.specs.declared.entry.Entry.{Entry}
 use Rattle.satl_direct.specs.Device.{Device}
 use Rattle.satl_direct.specs.Quiet.{writes, written_by}
@@ -64,10 +63,6 @@ pub writes_none : (identity : Identity) (input : List ℕ) (waiting : List Place
     writes (device_of identity input waiting []) (task_in input p) ≡ []
 writes_none identity input waiting capacity bytes p w other = none_by capacity bytes p.entry.command (device_of identity input waiting []) (task_in input p) w other
 
-pub on_ok_map : {T E : Type 0} (r : Result T E) (P Q : Type 0) → OnOk r P → (P → Q) → OnOk r Q
-on_ok_map (Ok x) P Q h f = f h
-on_ok_map (Err e) P Q h f = tt
-
 pub some_at : (ps : List Placed) (n : ℕ) → n < length ps → (p : Placed) × (slice_get ps n ≡ Some p)
 some_at [] n less = absurd (omega (arith, less))
 some_at (p ∷ ps) zero less = (p, refl)
@@ -84,11 +79,6 @@ power_follows identity input waiting old mid new size pends is = (
       ∙ ap (λ (k : Keeping). Some (sector_of input k)) (sym (get_or-map kept_power mid x blank_keeping blank_keeping (subst (λ n. x < n) (sym size) less)))
       ∙ ap (λ (l : List Keeping). Some (sector_at input l x)) (sym is),
 )
-
--- the first condition that is posted is the only one
-pub power_on_alone : (conditions given : List Attention) → given ≡ [] → conditions ≡ posted PowerOn given → conditions ≡ PowerOn ∷ []
-unfolding posted
-power_on_alone conditions given none is = is ∙ ap (posted PowerOn) none
 
 pub told_all : (before : List (List Attention)) → length before ≡ 4 → (PowerOn ∷ []) ∷ (PowerOn ∷ []) ∷ (PowerOn ∷ []) ∷ (PowerOn ∷ []) ∷ [] ≡ map (λ (conditions : List Attention). PowerOn ∷ []) before
 told_all (a ∷ b ∷ c ∷ d ∷ []) four = refl

@@ -36,8 +36,7 @@ use Rattle.satl_audit.proofs.StandsLemmas.{data_stands, data_within, frames_behi
 use Rattle.satl_audit.proofs.Taking.{frames_of, none_counted, once_of, taken_is_input}
 use Rattle.satl_cover.proofs.OneAnswer.{covered_there}
 use Rattle.satl_audit.proofs.ReachBegins.{Reached, covered_front, tags_of, expected_of, known_cut, good_cut}
-use Rattle.satl_laws.proofs.Cases.{both_left, both_right}
-use Rattle.std.proofs.lemmas.Bool.{not-true}
+use Rattle.std.proofs.lemmas.Bool.{not-true, and_parts}
 use Rattle.satl_line.proofs.SlotsLemmas.{All-append, All-right, All-left}
 
 module _ (identity : Identity) (is : IsIdentity identity) (input output : List ℕ) (all : List Frame) (taken : IsTaken identity input all) (so_far later : List Frame) (event : Frame) (all_are : all ≡ so_far ++ event ∷ later) (steps : Steps) (sectors : List Keeping)
@@ -52,10 +51,10 @@ module _ (identity : Identity) (is : IsIdentity identity) (input output : List �
   next_covered = covered_there identity.trim [] so_far event later covered
 
   known : is_known_frame identity.trim event ≡ true
-  known = both_left (is_known_frame identity.trim event) (not (is_repeated so_far event)) next_covered
+  known = (and_parts (is_known_frame identity.trim event) (not (is_repeated so_far event)) next_covered).0
 
   fresh : is_repeated so_far event ≡ false
-  fresh = not-true (is_repeated so_far event) (both_right (is_known_frame identity.trim event) (not (is_repeated so_far event)) next_covered)
+  fresh = not-true (is_repeated so_far event) (and_parts (is_known_frame identity.trim event) (not (is_repeated so_far event)) next_covered).1
 
   good_frame : IsFrame One event
   good_frame = (All-right (IsFrame One) so_far (event ∷ later) (subst (AllByRecursion (IsFrame One)) all_are (frames_of (IsFrame One) (λ f h. h) 8 all (taken.whole.reads).each))).0
@@ -109,7 +108,7 @@ module _ (identity : Identity) (is : IsIdentity identity) (input output : List �
           let here : is_known_frame identity.trim (frames.Request r) ≡ true = subst (λ (f : Frame). is_known_frame identity.trim f ≡ true) e known in
           let none : is_repeated so_far (frames.Request r) ≡ false = subst (λ (f : Frame). is_repeated so_far f ≡ false) e fresh in
           record {
-            unit = both_left (is_unit_0 r.lun) (is_known (says r.cdb identity.trim)) here;
+            unit = (and_parts (is_unit_0 r.lun) (is_known (says r.cdb identity.trim)) here).0;
             alone = no_name blank_cell reached.skeleton refl known_before once_before r (none_counted _ so_far none);
             stands = data_stands input at r later good (stands_here at same r e);
           }

@@ -1,7 +1,7 @@
 -- The bytes of answers, and of the blocks in them.
 use Rattle.std.proofs.Common.{arith, ◌≡◌, refl, sym, ap, ◌∙◌, subst, ℕ, ◌*◌, List, [], ◌∷◌, ◌++◌, length, Option, None}
 use Rattle.std.specs.Prelude.{take}
-use Rattle.std.proofs.lemmas.List.{length-append, append-nil}
+use Rattle.std.proofs.lemmas.List.{append-nil}
 use Rattle.satl_base.specs.declared.block.Block.{Block}
 use Rattle.satl_base.specs.declared.reply.Scsi.TheVariants.{Good}
 use Rattle.satl_base.specs.Blocks.{bytes_of, first_bytes}
@@ -36,10 +36,6 @@ fronts (x ∷ a) (y ∷ b) c d l e =
     let tail : a ++ c ≡ b ++ d = cc in
     let r = fronts a b c d (omega (arith, l)) tail in
     record { front = ap (λ z. z ∷ a) head ∙ ap (λ t. y ∷ t) r.front; rest = r.rest }
-
-pub whole-length : (vs : List Block) → AreWhole vs → length (bytes_of vs) ≡ 512 * length vs
-whole-length [] w = refl
-whole-length (v ∷ vs) w = omega (arith, length-append v.bytes (bytes_of vs), w.0, whole-length vs w.1)
 
 pub take_own : {X : Type 0} (xs : List X) → take (length xs) xs ≡ xs
 take_own [] = refl

@@ -5,6 +5,7 @@ use Rattle.satl_frame.specs.Output.{Answer}
 use Rattle.satl_direct.specs.Device.{Device}
 use Rattle.satl_direct.specs.Run.{RunDeep, joined}
 use Rattle.satl_direct.specs.Run.RunDeep.{start, step}
+use Rattle.satl_direct.proofs.Quieting.{joined-push}
 use Rattle.satl_cover.specs.Known.{is_known_frame}
 use Rattle.satl_audit.specs.Skeleton.{Skeleton, bare}
 use Rattle.satl_audit.specs.Skeleton.Skeleton.{begin, further}
@@ -12,7 +13,6 @@ use Rattle.satl_audit.proofs.Keeping.{IsSane}
 use Rattle.satl_audit.proofs.EventSteps.{event_split}
 use Rattle.satl_audit.proofs.Stepping.{behind_now, quiet_bare, quiet_behind, quiet_sane}
 use Rattle.satl_audit.proofs.Identities.{all_front, all_last, AllKnown, RunSplit, stepped_same}
-use Rattle.satl_laws.proofs.Runs.{joined-push}
 
 pub run_split : {first last : Device} {all : List Frame} {groups : List (List Answer)} {losses deep : ℕ} → RunDeep first all groups losses last deep → losses ≡ 0 → AllKnown first.identity.trim all → IsSane first → RunSplit first last all (joined groups)
 run_split {first = first} {last = last} (start quiet) z k h = record {

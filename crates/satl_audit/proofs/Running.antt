@@ -1,6 +1,7 @@
 -- A step is an event of a run.
 use Rattle.std.proofs.Common.{◌≡◌, refl, sym, ap, ◌∙◌, subst, ℕ, true, List, [], ◌∷◌, map}
 use Rattle.std.specs.Prelude.{max}
+use Rattle.std.proofs.lemmas.Bool.{and_parts}
 use Rattle.satl_base.specs.declared.bench.BenchEvent.{BenchEvent}
 use Rattle.satl_base.specs.declared.bench.BenchEvent.TheVariants as events
 use Rattle.satl_base.specs.declared.request.Request.{Request}
@@ -17,6 +18,7 @@ use Rattle.satl_direct.specs.Device.{Device}
 use Rattle.satl_direct.specs.Arrival.{ArrivesAs, Arrives, arrival, is_unit_0}
 use Rattle.satl_direct.specs.Quiet.{Quiet}
 use Rattle.satl_direct.specs.Run.{Does, MayLose, depth, losses_in}
+use Rattle.satl_direct.proofs.Quieting.{quiet_none}
 use Rattle.satl_audit.specs.Deeds.{Deed, DoneBy, Walks}
 use Rattle.satl_audit.specs.Deeds.Deed.{shows, powers}
 use Rattle.satl_cover.specs.Known.{is_known, is_known_frame}
@@ -24,10 +26,9 @@ use Rattle.satl_audit.specs.Skeleton.{Benched, Stepped, bare, powered, shown}
 use Rattle.satl_audit.proofs.Coming.{arrival_comes}
 use Rattle.satl_audit.proofs.Keeping.{IsSane, sane_on}
 use Rattle.satl_audit.proofs.ArrivalSplit.{arrival_bare, arrives_made}
-use Rattle.satl_audit.proofs.Stepping.{quiet_made, quiet_none, quiet_sane}
+use Rattle.satl_audit.proofs.Stepping.{quiet_made, quiet_sane}
 use Rattle.satl_audit.proofs.Turning.{turns_made}
 use Rattle.satl_audit.proofs.Links.{still_up}
-use Rattle.satl_laws.proofs.Cases.{both_right}
 
 pub record EventMade (event : Frame) (s : Device) (now : List Answer) (cells : List Cell) (bared : Device) : Type 0 where
   pub new : Device
@@ -94,7 +95,7 @@ module _ (s bared : Device) (now : List Answer) (cells : List Cell) (h : IsSane 
   pub event_made : (event : Frame) (deeds : List Deed) → is_known_frame s.identity.trim event ≡ true → Stepped event (bare s) now deeds bared → Walks DoneBy deeds s.cells cells → EventMade event s now cells bared
   event_made (frames.Request r) deeds k e w =
       let v : Walks DoneBy (shows (shown (bare s)) ∷ []) s.cells cells = subst (λ l. Walks DoneBy l s.cells cells) e.3 w in
-      request_made r e.0 (both_right (is_unit_0 r.lun) (is_known (says r.cdb s.identity.trim)) k) e.1 e.2 (subst (Moves (λ p. IsIn p (shown (bare s))) s.cells) (sym v.2) v.1)
+      request_made r e.0 (and_parts (is_unit_0 r.lun) (is_known (says r.cdb s.identity.trim)) k).1 e.1 e.2 (subst (Moves (λ p. IsIn p (shown (bare s))) s.cells) (sym v.2) v.1)
   event_made (frames.Manage m) deeds k e w = absurd cc
   event_made (frames.Turn n) deeds k e w =
       let t = turns_made s h e.2 cells w in

@@ -2,7 +2,7 @@
 use Rattle.std.proofs.Common.{◌≡◌, ⊎_elim, inl, inr, refl, sym, ap, ◌∙◌, subst, ℕ, ◌+◌, Bool, true, false, List, [], ◌∷◌, map, Option, Some, None}
 use Rattle.std.specs.Prelude.{◌==◌, ◌||◌, if◌then◌else◌, filter, nat_eq}
 use Rattle.std.specs.List.{list_any}
-use Rattle.std.proofs.lemmas.Bool.{eqb-true}
+use Rattle.std.proofs.lemmas.Bool.{eqb-true, both_ways, eqb-false}
 use Rattle.std.specs.Cmp.Lexicographic.{pointwise}
 use Rattle.satl_base.specs.declared.block.Block.{Block}
 use Rattle.satl_base.specs.Cells.{Cell}
@@ -12,11 +12,10 @@ use Rattle.satl_audit.specs.Deeds.{GivesAt}
 use Rattle.satl_audit.specs.Guesses.{Guess, has_now, sure}
 use Rattle.satl_audit.specs.Sectors.{Sector, sector_gives, sector_show, shown_in}
 use Rattle.satl_audit.proofs.Fitting.{Fits}
-use Rattle.satl_audit.proofs.GuessGives.{Only, filter_fits, not_here}
+use Rattle.satl_audit.proofs.GuessGives.{Only, filter_fits}
 use Rattle.satl_audit.proofs.GuessLists.{filter_in, in_filter, in_map, map_in, now_same}
 use Rattle.satl_audit.proofs.Covering.{Covers, fits_as, Stands}
 use Rattle.satl_audit.proofs.StandingPuts.{stands_same}
-use Rattle.satl_audit.proofs.Links.{false_not_true}
 
 -- a sector that fits, or no cell
 abbrev pub StandsOr : (Cell → Type 0) → Option Sector → Type 0
@@ -89,7 +88,7 @@ module _ (v : Block) (K : Cell → Type 0) where
           let m = (filter_fits v K (map sure may) h.fits).only c k in
           let f = in_filter (has_now v) (map sure may) m.guess m.among in
           let t = in_map sure may m.guess f.0 in
-          false_not_true (any_passes is_v may t.of t.among (subst (λ y. pointwise nat_eq v.bytes y.now.bytes ≡ true) t.same f.1)) e
+          both_ways _ e (any_passes is_v may t.of t.among (subst (λ y. pointwise nat_eq v.bytes y.now.bytes ≡ true) t.same f.1))
 
   show_stands : (o : Option Block) (may : List Block) → Stands K (record { now = o; may = may }) → StandsOr Now (shown_in o v may)
   show_stands None may h = one_stands may h
@@ -112,5 +111,5 @@ gives_stand x lba (v ∷ vs) K (Some s) h =
     first =
         (elim (lba == x) as (λ b. (lba == x) ≡ b → StandsOr (Only K (λ c. lba ≡ x → c.now ≡ v)) (if b then sector_show v s else Some s)) [
           | true ↦ λ e. stands_or_same (Now v K) (Only K (λ c. lba ≡ x → c.now ≡ v)) (sector_show v s) (λ c q. (q.0, λ r. q.1)) (λ c q. (q.0, q.1 (eqb-true lba x e))) (show_stands v K s.now s.may h)
-          | false ↦ λ e. stands_same K (Only K (λ c. lba ≡ x → c.now ≡ v)) s (λ c k. (k, λ r. absurd (not_here lba x r e))) (λ c q. q.0) h
+          | false ↦ λ e. stands_same K (Only K (λ c. lba ≡ x → c.now ≡ v)) s (λ c k. (k, λ r. absurd (eqb-false lba x e r))) (λ c q. q.0) h
         ]) refl

@@ -9,12 +9,13 @@ use Rattle.satl_frame.specs.declared.frames.Frame.{Frame}
 use Rattle.satl_frame.specs.declared.frames.Frame.TheVariants as frames
 use Rattle.satl_frame.specs.declared.frames.Version.TheVariants.{One}
 use Rattle.satl_frame.specs.DataPages.{padded_block, page_count, pages_from, pages_of}
-use Rattle.satl_frame.specs.Frames.{IsFrame, data_out, payload_bytes, request_fields, spelled}
+use Rattle.satl_frame.specs.Frames.{IsFrame, data_out, payload_bytes, request_fields}
 use Rattle.satl_frame.specs.Inputs.{all_spelled}
 use Rattle.satl_frame.specs.Magic.{magic}
 use Rattle.satl_frame.proofs.FieldSizes.{length-request_fields}
 use Rattle.satl_frame.proofs.Paging.{whole_block}
 use Rattle.satl_frame.proofs.Refusals.{length-magic}
+use Rattle.satl_frame.proofs.ProgressLemmas.{all_spelled-append}
 use Rattle.satl_cover.specs.Covered.{place_behind}
 use Rattle.satl_audit.specs.declared.content.Content.TheVariants.{Input}
 use Rattle.satl_audit.specs.Arriving.{StandsAt}
@@ -40,10 +41,6 @@ module _ (input : List ℕ) where
   pub pages_stand : (count at : ℕ) (given post : List ℕ) → 512 * count ≤ length given → drop at input ≡ given ++ post → take count (pages_of given) ≡ blocks_from input at count
   unfolding pages_of
   pages_stand count at given post size is = blocks_stand (page_count (length given)) count at given post (omega (arith, size)) size is
-
-all_spelled-append : (fs gs : List Frame) → all_spelled (fs ++ gs) ≡ all_spelled fs ++ all_spelled gs
-all_spelled-append [] gs = refl
-all_spelled-append (f ∷ fs) gs = ap (λ (l : List ℕ). spelled f ++ l) (all_spelled-append fs gs) ∙ sym (append_assoc (spelled f) (all_spelled fs) (all_spelled gs))
 
 -- the frames behind the first ones
 pub frames_behind : (input : List ℕ) (before later : List Frame) → input ≡ magic One ++ (all_spelled (before ++ later) ++ []) → drop (place_behind before) input ≡ all_spelled later

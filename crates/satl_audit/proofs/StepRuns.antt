@@ -7,15 +7,15 @@ use Rattle.satl_frame.specs.Output.{Answer}
 use Rattle.satl_direct.specs.Device.{Device}
 use Rattle.satl_direct.specs.Run.{RunDeep, joined, losses_in}
 use Rattle.satl_direct.specs.Run.RunDeep.{start, step}
+use Rattle.satl_direct.proofs.Quieting.{quiet_none, joined-push}
 use Rattle.satl_audit.specs.Deeds.{Deed, DoneBy, Walks}
 use Rattle.satl_cover.specs.Known.{is_known_frame}
 use Rattle.satl_audit.specs.Skeleton.{Skeleton, Stepped, bare}
 use Rattle.satl_audit.specs.Skeleton.Skeleton.{begin, further}
 use Rattle.satl_audit.proofs.Keeping.{IsSane}
 use Rattle.satl_audit.proofs.Running.{event_made}
-use Rattle.satl_audit.proofs.Stepping.{quiet_none, walks_split}
+use Rattle.satl_audit.proofs.Stepping.{walks_split}
 use Rattle.satl_audit.proofs.Identities.{all_front, all_last, AllKnown, stepped_same}
-use Rattle.satl_laws.proofs.Runs.{joined-push}
 
 pub record RunMade (first : Device) (all : List Frame) (answers : List Answer) (cells : List Cell) (bared : Device) : Type 0 where
   pub last : Device

@@ -63,9 +63,6 @@ quiet_behind first ds s u h q b = record {
   moves = subst (λ x. Moves (λ p. IsIn p (shown x)) b.mid u.cells) (sym (quiet_bare s u q)) (moves_on b.moves (moves_of_may s.identity.capacity s h.known q.cells));
 }
 
-pub quiet_none : (s : Device) → Quiet s s
-quiet_none s = record { cells = stay; active = inl refl; stays = refl }
-
 -- moves that may show are quiet
 pub quiet_made : (s : Device) (cells : List Cell) → IsSane s → Moves (λ p. IsIn p (shown (bare s))) s.cells cells → Quiet s (record s { cells = cells })
 quiet_made s cells h m = record { cells = may_of_moves s.identity.capacity s h.known h.up h.started m; active = inl refl; stays = refl }

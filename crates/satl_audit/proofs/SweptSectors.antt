@@ -21,10 +21,6 @@ set_kept ss ts ks lba t all seen =
     ∙ ap (λ (k : Keeping). set (map (now_kept ss) ts) lba k) (ap (λ (l : List Sweep). caught_up l t.kept) (ap (λ n. drop n ss) seen ∙ drop_all (length ss) ss (omega arith)))
     ∙ ap (λ (l : List Keeping). slice_set l lba t.kept) all
 
-pub on_both : {T E : Type 0} (r : Result T E) (P Q R : Type 0) → OnOk r P → OnOk r Q → (P → Q → R) → OnOk r R
-on_both (Ok x) P Q R p q f = f p q
-on_both (Err e) P Q R p q f = tt
-
 pub if_both : {T E : Type 0} (r : Result T E) (P : T → Type 0) (Q : Type 0) (R : T → Type 0) → IfOk r P → OnOk r Q → ((x : T) → P x → Q → R x) → IfOk r R
 if_both (Ok x) P Q R p q f = f x p q
 if_both (Err e) P Q R p q f = tt

@@ -1,37 +1,29 @@
 -- Turns without a loss are turns of the bare device and deeds of the sectors, and back.
 use Rattle.std.proofs.Common.{◌≡◌, ◌⊎◌, ⊎_elim, inl, inr, refl, sym, ap, ◌∙◌, subst, ℕ, suc, Bool, true, false, List, [], ◌∷◌, ◌++◌}
-use Rattle.std.specs.Prelude.{max, not, ◌&&◌, MatchBool}
+use Rattle.std.specs.Prelude.{max}
 use Rattle.std.proofs.lemmas.List.{append-nil}
+use Rattle.std.proofs.lemmas.Bool.{MatchBool-at_true}
 use Rattle.satl_base.specs.declared.reply.Reply.{Reply}
 use Rattle.satl_base.specs.Cells.{Cell}
 use Rattle.satl_direct.specs.Device.{Device}
-use Rattle.satl_direct.specs.Tasks.{asks}
-use Rattle.satl_direct.specs.Ending.{EndsBy, IsChecked}
-use Rattle.satl_direct.specs.Senses.{link_lost, not_ready}
 use Rattle.satl_direct.specs.Quiet.{Around, Quiet}
 use Rattle.satl_direct.specs.Run.{TurnsOf, depth}
-use Rattle.satl_direct.specs.Turn.{OneEnds, Turn}
+use Rattle.satl_direct.specs.Turn.{Turn}
 use Rattle.satl_direct.specs.Turn.Turn.{idle, ends, loses, ends_and_loses}
-use Rattle.satl_laws.proofs.InOrderSteps.{by_true}
+use Rattle.satl_direct.proofs.Quieting.{quiet_none}
 use Rattle.satl_audit.specs.Deeds.{Deed, DoneBy, Walks}
 use Rattle.satl_audit.specs.Deeds.Deed.{shows}
 use Rattle.satl_audit.specs.Skeleton.{TaskDone, TurnsDone, bare, shown}
 use Rattle.satl_audit.proofs.Ended.{turn_made}
 use Rattle.satl_audit.proofs.Keeping.{IsSane}
-use Rattle.satl_audit.proofs.Stepping.{Behind, quiet_bare, quiet_behind, quiet_down, quiet_made, quiet_none, quiet_sane, turn_went, walks_split}
+use Rattle.satl_audit.proofs.Stepping.{Behind, quiet_bare, quiet_behind, quiet_down, quiet_made, quiet_sane, turn_went, walks_split}
+use Rattle.satl_laws.proofs.InOrderSteps.{one_down}
 
 -- ---- a lost link stays lost
 
-one_down : (s : Device) (reply : Reply) (new : Device) → OneEnds s reply new → s.down ≡ true → new.down ≡ true
-one_down s reply new e h =
-    let t = e.task in
-    let c : IsChecked link_lost s t reply new =
-    by_true (IsChecked link_lost s t reply new) (MatchBool (not s.started && (asks t.command).starts) (IsChecked not_ready s t reply new) (EndsBy t.command s t reply new)) s.down h e.ends in
-    ap (λ (x : Device). x.down) c.stays ∙ h
-
 turn_down : (s : Device) (replies : List Reply) (new : Device) → Turn s replies new → s.down ≡ true → new.down ≡ true
 turn_down s _ _ (idle e) h = h
-turn_down s _ new (ends reply e) h = one_down s reply new e h
+turn_down s _ new (ends reply e) h = one_down s new reply h e
 turn_down s _ new (loses some l) h = ap (λ (x : Device). x.down) l.stays
 turn_down s _ new (ends_and_loses reply e q l) h = ap (λ (x : Device). x.down) l.stays
 

@@ -1,6 +1,6 @@
 -- What the steps of a record say of its output.
 use Rattle.std.proofs.Common.{arith, ◌≡◌, refl, sym, ap, ◌∙◌, subst, ℕ, zero, suc, ◌+◌, true, false, List, [], ◌∷◌, ◌++◌, length, append_assoc, Option, Some, None}
-use Rattle.std.proofs.lemmas.Bool.{eqb-false, eqb-true}
+use Rattle.std.proofs.lemmas.Bool.{eqb-false, eqb-true, both_ways}
 use Rattle.std.specs.Prelude.{◌<◌, ◌≤◌, ◌==◌, is_some, replicate, slice_index_or}
 use Rattle.std.proofs.lemmas.List.{append-nil}
 use Rattle.satl_base.specs.Blocks.{zero_block}
@@ -29,7 +29,6 @@ use Rattle.satl_audit.proofs.Further.{goes_onward}
 use Rattle.satl_audit.proofs.ReachBegins.{Reached}
 use Rattle.satl_audit.proofs.ReachLemmas.{decided}
 use Rattle.satl_audit.proofs.Taking.{taken_is_input}
-use Rattle.satl_audit.proofs.Links.{false_not_true}
 
 -- ---- sectors of zeros
 
@@ -78,8 +77,9 @@ module _ (input : List ℕ) (n : ℕ) (ds : List Deed) where
   one_refuses : SomeRefuses input ds (replicate n blank_keeping) → EachSectored 0 (replicate n blank_cell) ds → ⊥
   one_refuses r e =
       let here : r.0 ≡ 0 + r.0 = omega arith in
-      false_not_true (sym (sectored_along r.0 None ds (Some blank_sector)) ∙ ap (λ y. sectored y None ds (Some blank_sector)) here ∙ of_each ds n 0 e r.0 (omega (arith, r.1, size_blank n)))
+      both_ways _
       (ap (λ (s : Sector). is_some (along r.0 None ds (Some s))) (sym (blank_at input n r.0)) ∙ ap (λ (o : Option Sector). is_some o) r.2)
+      (sym (sectored_along r.0 None ds (Some blank_sector)) ∙ ap (λ y. sectored y None ds (Some blank_sector)) here ∙ of_each ds n 0 e r.0 (omega (arith, r.1, size_blank n)))
 
 -- ---- verdicts
 

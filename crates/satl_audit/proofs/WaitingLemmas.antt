@@ -1,13 +1,15 @@
 -- Tasks that wait, and the places of their data-out.
-use Rattle.std.proofs.Common.{arith, ◌≡◌, refl, sym, ap, ◌∙◌, subst, ℕ, zero, suc, ◌+◌, Bool, true, false, List, [], ◌∷◌, ◌++◌, length}
-use Rattle.std.specs.Prelude.{◌==◌, ◌||◌, ◌<◌, if◌then◌else◌, nat_lt, Option, Some, None, slice_get, slice_index, slice_set}
+use Rattle.std.proofs.Common.{◌≡◌, refl, sym, ap, ◌∙◌, subst, ℕ, zero, suc, ◌+◌, List, [], ◌∷◌, ◌++◌, length}
+use Rattle.std.specs.Prelude.{◌==◌, ◌||◌, ◌<◌, nat_lt, Some, slice_get, slice_index, slice_set}
 use Rattle.std.proofs.Math.ListN.{set}
 use Rattle.std.specs.Option.{option_map}
 use Rattle.std.proofs.lemmas.Bool.{eqb-false}
 use Rattle.std.proofs.lemmas.List.{get_or-set_other, get_or-set_same, length-map, map-append}
+use Rattle.std.proofs.lemmas.Option.{same_Some}
 use Rattle.satl_base.specs.Limits.{most_held, most_tasks}
 use Rattle.satl_line.specs.declared.entry.Entry.{Entry}
 use Rattle.satl_line.specs.Tasks.{Adds, Held, count_of, entries_of, is_too_much, slots_of, total_blocks}
+use Rattle.satl_line.proofs.SlotsLemmas.{head_out}
 use Rattle.satl_direct.specs.Tasks.{held_by}
 use Rattle.satl_audit.specs.Waiting.{Placed, entries_in, has_no_room, placed_in}
 
@@ -27,18 +29,10 @@ room_same places tasks entry =
     ap (λ n. (n == most_tasks) || nat_lt most_held (total_blocks tasks + entry.blocks)) (sym (length-map tasks (place_held places)))
     ∙ ap (λ n. (length (placed_in places tasks) == most_tasks) || nat_lt most_held (n + entry.blocks)) (blocks_same places tasks)
 
--- what is kept for a slot that no task has
-head_out : (q s n : ℕ) → (if q == s then 1 else 0) + n ≡ 0 → ((q == s) ≡ false) × (n ≡ 0)
-head_out q s n h = by (q == s) h
-  where
-    by : (b : Bool) → (if b then 1 else 0) + n ≡ 0 → (b ≡ false) × (n ≡ 0)
-    by true h = absurd (omega (arith, h))
-    by false h = (refl, omega (arith, h))
-
 pub places_other : (places : List ℕ) (slot at : ℕ) (tasks : List Held) → count_of slot (slots_of tasks) ≡ 0 → placed_in (slice_set places slot at) tasks ≡ placed_in places tasks
 places_other places slot at [] h = refl
 places_other places slot at (held ∷ tasks) h =
-    let out = head_out held.slot slot (count_of slot (slots_of tasks)) h in
+    let out = head_out slot held.slot (count_of slot (slots_of tasks)) h in
     ap (λ n. record { entry = held.entry; at = n } ∷ placed_in (slice_set places slot at) tasks) (get_or-set_other places slot held.slot at 0 (eqb-false held.slot slot out.0))
     ∙ ap (λ (l : List Placed). record { entry = held.entry; at = slice_index places held.slot } ∷ l) (places_other places slot at tasks out.1)
 
@@ -46,18 +40,11 @@ last_slot : (old : List Held) (h : Held) → slice_get (slots_of (old ++ h ∷ [
 last_slot [] h = refl
 last_slot (x ∷ old) h = last_slot old h
 
-some_same : (a b : ℕ) → Some a ≡ Some b → a ≡ b
-some_same a b e = ap (λ (o : Option ℕ). value o) e
-  where
-    value : Option ℕ → ℕ
-    value None = 0
-    value (Some n) = n
-
 -- a task comes last
 pub placed_last : (places : List ℕ) (old new : List Held) (ps : List Placed) (entry : Entry) (slot at : ℕ) → placed_in places old ≡ ps → Adds old entry new → slice_get (slots_of new) (length old) ≡ Some slot → slot < length places →
     placed_in (slice_set places slot at) new ≡ ps ++ record { entry = entry; at = at } ∷ []
 placed_last places old new ps entry slot at is a found small =
-    let same : a.slot ≡ slot = some_same a.slot slot (sym (last_slot old (record { slot = a.slot; entry = entry })) ∙ ap (λ (l : List Held). slice_get (slots_of l) (length old)) (sym a.last) ∙ found) in
+    let same : a.slot ≡ slot = same_Some a.slot slot (sym (last_slot old (record { slot = a.slot; entry = entry })) ∙ ap (λ (l : List Held). slice_get (slots_of l) (length old)) (sym a.last) ∙ found) in
     ap (placed_in (slice_set places slot at)) a.last
     ∙ map-append (place_held (slice_set places slot at)) old (record { slot = a.slot; entry = entry } ∷ [])
     ∙ ap (λ (l : List Placed). l ++ record { entry = entry; at = slice_index (slice_set places slot at) a.slot } ∷ []) (places_other places slot at old (subst (λ n. count_of n (slots_of old) ≡ 0) same a.vacant) ∙ is)
@@ -66,5 +53,5 @@ placed_last places old new ps entry slot at is a found small =
 -- the place that is kept for a task
 pub at_place : (places : List ℕ) (tasks : List Held) (place slot : ℕ) → slice_get (slots_of tasks) place ≡ Some slot → option_map (λ (p : Placed). p.at) (slice_get (placed_in places tasks) place) ≡ Some (slice_index places slot)
 at_place places [] place slot h = absurd cc
-at_place places (t ∷ tasks) zero slot h = ap (λ n. Some (slice_index places n)) (some_same t.slot slot h)
+at_place places (t ∷ tasks) zero slot h = ap (λ n. Some (slice_index places n)) (same_Some t.slot slot h)
 at_place places (t ∷ tasks) (suc place) slot h = at_place places tasks place slot h

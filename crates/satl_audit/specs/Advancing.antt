@@ -16,7 +16,8 @@ use Rattle.satl_audit.specs.Waiting.{Placed}
 use Rattle.satl_audit.specs.declared.arriving.Steps.{Steps}
 
 -- an event happens with the answers that come first in the output, and each sector goes along with it (SAM-5 5, 8; profile)
-pub record GoesOn (identity : Identity) (input : List ℕ) (event : Frame) (old new : Steps) (sectors after : List Keeping) : Type 0 where
+pub record GoesOn (identity : Identity) (input : List ℕ) (event : Frame) (old new : Steps)
+    (sectors after : List Keeping) : Type 0 where
   pub answers : List Answer
   pub deeds : List Deed
   pub stepped : Stepped event (device_at identity input old) answers deeds (device_at identity input new)
@@ -24,11 +25,12 @@ pub record GoesOn (identity : Identity) (input : List ℕ) (event : Frame) (old 
   pub said : old.output ≡ all_answered answers ++ new.output
   pub follows : Follows input deeds sectors after
 
--- it cannot happen so: in each way that has the answers that come first in the output, some sector does not go along with it (SAM-5 5,
--- 8; profile)
+-- it cannot happen so: in each way that has the answers that come first in the output, some sector does not go along with it
+-- (SAM-5 5, 8; profile)
 abbrev pub CannotGoOn : Identity → List ℕ → Frame → Steps → List Keeping → Type 0
 CannotGoOn identity input event old sectors = (answers : List Answer) (deeds : List Deed) (new : Device) (left : List ℕ) →
-    Stepped event (device_at identity input old) answers deeds new → AllWhole deeds → old.output ≡ all_answered answers ++ left →
+    Stepped event (device_at identity input old) answers deeds new → AllWhole deeds →
+    old.output ≡ all_answered answers ++ left →
     SomeRefuses input deeds sectors
 
 -- it happens so, or it cannot (SAM-5 5, 8; profile)
@@ -44,7 +46,8 @@ MayHappen input at waiting (frames.Turn count) = Unit {0}
 MayHappen input at waiting (frames.Bench event) = Unit {0}
 MayHappen input at waiting frames.End = Unit {0}
 
--- a request is of one of the four nexuses and of version 1, and its data-out ends within so many bytes from a place on (profile)
+-- a request is of one of the four nexuses and of version 1, and its data-out ends within so many bytes from a place on
+-- (profile)
 pub record IsGood (size at : ℕ) (r : Request) : Type 0 where
   pub nexus : r.nexus ≤ 3
   pub expected : r.expected ≡ None

@@ -41,7 +41,8 @@ judged s r (Ok command) = placed s r command
 
 -- so does a device that is started and up take a command whose fields, range and data-out are good (SPC-4 6, SBC-3 5)
 abbrev pub BecomesJudged : Command → Result Command AtOnce → Type 0
-BecomesJudged command result = (identity : Identity) (s : Device) (r : Request) → IsServing identity s → becomes s r command ≡ judged s r result
+BecomesJudged command result =
+    (identity : Identity) (s : Device) (r : Request) → IsServing identity s → becomes s r command ≡ judged s r result
 
 -- the task of a request and its command, without its pages (profile)
 abbrev pub bare_task : Bool → Request → Command → Entry
@@ -73,7 +74,8 @@ device_of identity input waiting attentions = record {
 abbrev pub StandsAt : List ℕ → ℕ → ℕ → List Block → Type 0
 StandsAt input at bytes body = (count : ℕ) → 512 * count ≤ bytes → take count body ≡ blocks_from input at count
 
--- a request goes to logical unit 0 with a name that no task has, and its data-out stands in the input (SAM-5 4.6.4, 4.7; profile)
+-- a request goes to logical unit 0 with a name that no task has, and its data-out stands in the input (SAM-5 4.6.4, 4.7;
+-- profile)
 pub record IsSent (input : List ℕ) (at : ℕ) (r : Request) (waiting : List Placed) : Type 0 where
   pub unit : is_unit_0 r.lun ≡ true
   pub alone : list_any (is_called r.nexus (r.tag).0) (device_tasks input waiting) ≡ false
@@ -96,21 +98,25 @@ device_at identity input steps = device_of identity input steps.waiting steps.at
 
 -- the device makes a task of a request with this command, where there is room (SAM-5 5.3.1)
 abbrev pub IsPlacedBy : Identity → List ℕ → Steps → Request → Command → Type 0
-IsPlacedBy identity input steps r command = arrival (device_at identity input steps) r ≡ placed (device_at identity input steps) r command
+IsPlacedBy identity input steps r command =
+    arrival (device_at identity input steps) r ≡ placed (device_at identity input steps) r command
 
 -- a request with this command, whose data-out stands at a place of the input, may arrive so; or it may not (SAM-5 5)
 abbrev pub Places : Identity → Request → Command → ℕ → Steps → Steps → Type 0
-Places identity head command at old new = (input : List ℕ) (body : List Block) → IsSent input at (record head { body = body }) old.waiting →
+Places identity head command at old new =
+    (input : List ℕ) (body : List Block) → IsSent input at (record head { body = body }) old.waiting →
     IsPlacedBy identity input old (record head { body = body }) command →
     ArrivesOn (record head { body = body }) (device_at identity input old) (device_at identity input new) old.output new.output
 
 abbrev pub CannotPlace : Identity → Request → Command → Steps → Type 0
-CannotPlace identity head command old = (input : List ℕ) (body : List Block) → IsPlacedBy identity input old (record head { body = body }) command →
+CannotPlace identity head command old =
+    (input : List ℕ) (body : List Block) → IsPlacedBy identity input old (record head { body = body }) command →
     CannotArrive (record head { body = body }) (device_at identity input old) old.output
 
 -- a request whose data-out stands at a place of the input may arrive so; or it may not (SAM-5 5)
 abbrev pub Goes : Identity → Request → ℕ → Steps → Steps → Type 0
-Goes identity head at old new = (input : List ℕ) (body : List Block) → IsSent input at (record head { body = body }) old.waiting →
+Goes identity head at old new =
+    (input : List ℕ) (body : List Block) → IsSent input at (record head { body = body }) old.waiting →
     ArrivesOn (record head { body = body }) (device_at identity input old) (device_at identity input new) old.output new.output
 
 abbrev pub Sticks : Identity → Request → ℕ → Steps → Type 0

@@ -32,8 +32,8 @@ abbrev pub IsReadBy : ℕ → ℕ → Range → List ℕ → List ℕ → List �
 IsReadBy nexus tag range output given left = (length given ≡ 512 * range.count)
     × (output ≡ head_bytes nexus tag Good 0 (512 * range.count) ++ (given ++ left))
 
--- the answer of a READ comes first in the output, with what each sector may have; or with what some sector cannot have, or it does
--- not come first (SBC-3, READ commands)
+-- the answer of a READ comes first in the output, with what each sector may have; or with what some sector cannot have, or it
+-- does not come first (SBC-3, READ commands)
 abbrev pub Reads : List ℕ → ℕ → ℕ → Range → List ℕ → List ℕ → List Keeping → List Keeping → Bool → Type 0
 Reads input nexus tag range output left old new true = (given : List ℕ) × IsReadBy nexus tag range output given left
     × GivesBlocks input range.lba given old new true
@@ -97,8 +97,10 @@ OnlyEnds steps found = (identity : Identity) (input : List ℕ) (reply : Reply) 
     steps.output ≡ reply_bytes reply ++ left →
     (place : ℕ) × (found ≡ Some place) × (slice_get (device_tasks input steps.waiting) place ≡ Some done.task)
 
--- so many turns are done, with the answers that come first in the output, and each sector goes along with them (SAM-5 8; profile)
-pub record TurnsOn (identity : Identity) (input : List ℕ) (count : ℕ) (old new : Steps) (sectors after : List Keeping) : Type 0 where
+-- so many turns are done, with the answers that come first in the output, and each sector goes along with them (SAM-5 8;
+-- profile)
+pub record TurnsOn (identity : Identity) (input : List ℕ) (count : ℕ) (old new : Steps)
+    (sectors after : List Keeping) : Type 0 where
   pub replies : List Reply
   pub deeds : List Deed
   pub done : TurnsDone (device_at identity input old) count replies deeds (device_at identity input new)
@@ -106,7 +108,8 @@ pub record TurnsOn (identity : Identity) (input : List ℕ) (count : ℕ) (old n
   pub said : old.output ≡ all_answered (map replied replies) ++ new.output
   pub follows : Follows input deeds sectors after
 
--- no turns can be done so: of all whose answers come first in the output some sector does not go along with them (SAM-5 8; profile)
+-- no turns can be done so: of all whose answers come first in the output some sector does not go along with them (SAM-5 8;
+-- profile)
 abbrev pub CannotTurn : Identity → List ℕ → ℕ → Steps → List Keeping → Type 0
 CannotTurn identity input count old sectors = (replies : List Reply) (deeds : List Deed) (new : Device) (left : List ℕ) →
     TurnsDone (device_at identity input old) count replies deeds new → AllWhole deeds →

@@ -30,7 +30,8 @@ abbrev pub PendsBlocks : List ℕ → Range → ℕ → List Keeping → List Ke
 PendsBlocks input range at old new = (cached : Bool) → (x : ℕ) → x < length old →
     (sector_at input new x).may ≡ (sector_at input old x).may ++ blocks_at x (pairs_in input range at cached)
 
--- a READ from an address gave these bytes: some sector cannot have them; or each can, and has them from then on (SBC-3, READ commands)
+-- a READ from an address gave these bytes: some sector cannot have them; or each can, and has them from then on (SBC-3, READ
+-- commands)
 abbrev pub GivesBlocks : List ℕ → ℕ → List ℕ → List Keeping → List Keeping → Bool → Type 0
 GivesBlocks input lba given old new false = (x : ℕ) × (x < length old)
     × (sector_gives x lba (pages_of given) (Some (sector_at input old x)) ≡ None)

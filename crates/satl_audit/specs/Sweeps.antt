@@ -27,7 +27,8 @@ after_first None k = k
 after_first (Some Settled) k = kept_settle k
 after_first (Some Powered) k = k
 
--- a READ gave these 512 bytes: the sector cannot have them; or it can, and they are its block from then on (SBC-3, READ commands)
+-- a READ gave these 512 bytes: the sector cannot have them; or it can, and they are its block from then on (SBC-3, READ
+-- commands)
 abbrev pub Shows : List ℕ → List ℕ → Keeping → Keeping → Bool → Type 0
 Shows input given old new false = sector_show (record { bytes = given }) (sector_of input old) ≡ None
 Shows input given old new true = sector_show (record { bytes = given }) (sector_of input old) ≡ Some (sector_of input new)

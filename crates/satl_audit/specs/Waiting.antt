@@ -33,7 +33,8 @@ has_no_room tasks blocks = (length tasks == most_tasks) || nat_lt most_held (hel
 
 -- the task with its data-out, which stands in the input (SBC-3 5)
 abbrev pub task_in : List ℕ → Placed → Entry
-task_in input placed = record placed.entry { body = data_out placed.entry.command (blocks_from input placed.at placed.entry.blocks) }
+task_in input placed =
+    record placed.entry { body = data_out placed.entry.command (blocks_from input placed.at placed.entry.blocks) }
 
 -- the tasks of the device (SAM-5, task set)
 abbrev pub device_tasks : List ℕ → List Placed → List Entry

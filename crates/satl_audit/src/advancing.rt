@@ -20,8 +20,8 @@ use satl_identify::Identity;
 /// The frame that ends an output.
 const END: [u8; 5] = [0x85, 0, 0, 0, 0];
 
-/// END comes: whether each task that waits can end with the answers that come next in the output, each sector goes along with it, and
-/// then the output ends (SAM-5 8; profile).
+/// END comes: whether each task that waits can end with the answers that come next in the output, each sector goes along with
+/// it, and then the output ends (SAM-5 8; profile).
 fn end(
     steps: &mut Steps<'_>,
     sectors: &mut Sectors,
@@ -59,8 +59,8 @@ fn bench(steps: &mut Steps<'_>, sectors: &mut Sectors, event: &BenchEvent) -> Re
     }
 }
 
-/// An event happens: whether it can with the answers that come next in the output, and each sector goes along with it (SAM-5 5, 8;
-/// profile). The data-out of a request stands in the input from a place on.
+/// An event happens: whether it can with the answers that come next in the output, and each sector goes along with it (SAM-5 5,
+/// 8; profile). The data-out of a request stands in the input from a place on.
 pub fn advance(
     steps: &mut Steps<'_>,
     sectors: &mut Sectors,

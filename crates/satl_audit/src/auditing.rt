@@ -19,11 +19,12 @@ use std::alloc::Global;
 /// What an output begins with.
 const MAGIC: [u8; 8] = *b"SATLRSP1";
 
-/// Where the data-out of a request stands, in bytes behind the first of its frame: five of the frame's head, and thirty of fields.
+/// Where the data-out of a request stands, in bytes behind the first of its frame: five of the frame's head, and thirty of
+/// fields.
 const DATA_OUT: usize = 35;
 
-/// Goes through the frames of an input all of which are covered, and says whether the output, which stands behind its magic, is that
-/// of a run.
+/// Goes through the frames of an input all of which are covered, and says whether the output, which stands behind its magic, is
+/// that of a run.
 fn follow(
     alloc: Global,
     identity: &Identity,
@@ -65,10 +66,11 @@ fn follow(
     }
 }
 
-/// Whether a recorded output is that of a run without losses of the direct device over a recorded input. The device is one of this
-/// identity, whose sectors are zeros. `Yes` and `No` for an input all of whose frames are covered; `NotCovered` with the offset in
-/// bytes of the first frame that is not, which is 0 for an input of version 2; `BadInput` with reason and offset where the input is
-/// refused, also where bytes follow END; `NoMemory` where there is none for the sectors or for what the record asks to be kept (profile).
+/// Whether a recorded output is that of a run without losses of the direct device over a recorded input. The device is one of
+/// this identity, whose sectors are zeros. `Yes` and `No` for an input all of whose frames are covered; `NotCovered` with the
+/// offset in bytes of the first frame that is not, which is 0 for an input of version 2; `BadInput` with reason and offset
+/// where the input is refused, also where bytes follow END; `NoMemory` where there is none for the sectors or for what the
+/// record asks to be kept (profile).
 pub fn audit(
     alloc: Global,
     identity: &Identity,

@@ -64,8 +64,8 @@ fn read_ends(
     show_blocks(sectors, range, input, given)
 }
 
-/// A WRITE ends: whether GOOD comes next in the output; then its blocks are put, which stand in the input from a place on (SBC-3,
-/// WRITE commands).
+/// A WRITE ends: whether GOOD comes next in the output; then its blocks are put, which stand in the input from a place on
+/// (SBC-3, WRITE commands).
 fn write_ends(
     output: &mut Cursor<'_>,
     sectors: &mut Sectors,

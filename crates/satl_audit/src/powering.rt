@@ -84,7 +84,8 @@ fn tell_all(conditions: &mut [Attentions; 4])
     *conditions = powered_on();
 }
 
-/// The power is lost: no task waits any more, each nexus is to be told, and each sector goes along with it (SAM-5 6.3; SBC-3 4.15).
+/// The power is lost: no task waits any more, each nexus is to be told, and each sector goes along with it (SAM-5 6.3; SBC-3
+/// 4.15).
 pub fn power(steps: &mut Steps<'_>, sectors: &mut Sectors) -> Result<(), NoMemory>
     requires fit { (size : ℕ) × (size < 2 ^ 63) × AllFit (length sectors.old) size steps.old.waiting }
     requires capacity { length sectors.old < 2 ^ 64 }

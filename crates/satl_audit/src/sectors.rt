@@ -184,7 +184,8 @@ impl Sectors {
         self.stamped.is_empty()
     }
 
-    /// A block is put at an address, through the cache or past it (SBC-3 4.15). `NoMemory` leaves sectors of which nothing is said.
+    /// A block is put at an address, through the cache or past it (SBC-3 4.15). `NoMemory` leaves sectors of which nothing is
+    /// said.
     pub fn put(&mut self, lba: usize, v: Content, cached: bool) -> Result<(), NoMemory>
         requires { lba < length self.old }
         ensures length { length self.new ≡ length self.old }
@@ -193,8 +194,8 @@ impl Sectors {
         self.stamped[lba].put(&self.sweeps, self.powers, v, cached)
     }
 
-    /// The power is lost at an address where this block may have been put before (SBC-3 4.15). `NoMemory` leaves sectors of which
-    /// nothing is said.
+    /// The power is lost at an address where this block may have been put before (SBC-3 4.15). `NoMemory` leaves sectors of
+    /// which nothing is said.
     pub fn pending(&mut self, lba: usize, v: Content) -> Result<(), NoMemory>
         requires { lba < length self.old }
         ensures length { length self.new ≡ length self.old }

@@ -1,15 +1,16 @@
 -- Blocks that are read, compared with those that are wanted.
-use Rattle.std.proofs.Common.{◌≡◌, refl, sym, ap, arith, ◌∙◌, ℕ, suc, ◌+◌, ◌≤◌, Bool, true, false, List, ◌∷◌, ◌++◌, length, map, take, drop, Some, None, Bor, take_all}
-use Rattle.std.specs.Prelude.{Option, nat_eq, not, slice_range, ◌-◌}
+use Rattle.std.proofs.Common.{◌≡◌, sym, ap, arith, ◌∙◌, ℕ, suc, ◌+◌, ◌≤◌, Bool, true, false, List, ◌∷◌, ◌++◌, length, map, take, drop, Some, None, Bor, take_all}
+use Rattle.std.specs.Prelude.{Option, nat_eq, ◌-◌}
 use Rattle.std.specs.Option.{option_eq}
 use Rattle.std.specs.Iterator.{YieldsFirstRef}
 use Rattle.std.specs.Cmp.Lexicographic.{pointwise, other_text, same_text}
 use Rattle.std.proofs.Math.Seq.{take-add, take-append_seam}
-use Rattle.std.proofs.lemmas.List.{drop-drop, drop-map, drop-take, length-drop, length-map, length-take, take-map, take-take}
+use Rattle.std.proofs.lemmas.List.{drop-drop, drop-map, drop-take, take-map, take-take}
 use Rattle.satl_base.specs.declared.block.Block.{Block}
 use Rattle.satl_base.specs.Cells.{Cell, nows}
 use Rattle.satl_base.specs.Losses.{Loses}
 use Rattle.satl_base.proofs.LossesLemmas.{loses-nows}
+use Rattle.satl_base.proofs.CellsLemmas.{nows-length}
 
 -- ---- the next of two lists
 
@@ -79,20 +80,7 @@ none_same left k wanted read is next each a =
     let heads : next.second ≡ next.first = cc in
     next.differ (sym heads)
 
-pub not_is : (t b : Bool) → t ≡ not b → t ≡ false → true ≡ b
-not_is t true is clear = refl
-not_is t false is clear = let x : true ≡ false = sym is ∙ clear in cc
-
-pub is_not : (t b : Bool) → t ≡ not b → t ≡ true → false ≡ b
-is_not t true is set = let x : false ≡ true = sym is ∙ set in cc
-is_not t false is set = refl
-
 -- ---- what reads give
-
-pub nows-length : (cells : List Cell) (lba count : ℕ) → lba + count ≤ length cells → length (nows cells lba count) ≡ count
-nows-length cells lba count within =
-    length-map (slice_range cells lba (lba + count)) (λ (c : Cell). c.now)
-    ∙ omega (arith, length-take (lba + count - lba) (drop lba cells), length-drop lba cells, within)
 
 -- the first of the pages are those that were read
 pub first_read : (cells : List Cell) (lba count : ℕ) (given taken : List Block) → lba + count ≤ length cells → taken ≡ nows cells lba count ++ drop (length (nows cells lba count)) given → take count taken ≡ nows cells lba count

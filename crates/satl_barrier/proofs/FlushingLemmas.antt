@@ -1,6 +1,6 @@
 -- What commands that move no data do to a drive.
 use Rattle.std.proofs.Common.{◌≡◌, ⊎_elim, inl, refl, ap, subst, ◌∙◌, ℕ, ◌+◌, Bool, true, false, List, [], length, map, Some, None}
-use Rattle.std.specs.Prelude.{MatchBool, MatchOption, Result, Ok, Err, OnOk, nat_lt, not, ◌⊎◌}
+use Rattle.std.specs.Prelude.{MatchBool, MatchOption, nat_lt, not, ◌⊎◌}
 use Rattle.satl_base.specs.declared.block.Block.{Block}
 use Rattle.satl_base.specs.Cells.{AreSound, Cell, first_flaw, settle}
 use Rattle.satl_base.specs.Losses.{Loses}
@@ -16,11 +16,6 @@ use Rattle.satl_barrier.specs.Commands.{HasRunBare, IsCutShort}
 use Rattle.satl_barrier.specs.Leaving.{IsLostIn}
 use Rattle.satl_barrier.specs.Flushing.{IsLeftWith, settled_if}
 use Rattle.satl_barrier.proofs.CommandsLemmas.{lost_after, settled_loses}
-
--- what an Ok says, said otherwise
-pub ok_then : {A E : Type 0} {P Q : Type 0} (r : Result A E) → (P → Q) → OnOk r P → OnOk r Q
-ok_then (Ok a) f p = f p
-ok_then (Err e) f p = tt
 
 left_with : (c : AtaCommand) (old new : DriveState) (cells : List Cell) (active : Bool) (run : HasRunBare c old new) → run.run.after ≡ record (medium_of old) { cells = cells; active = active } → IsLeftWith cells active old new
 left_with c old new cells active bare is = record {

@@ -1,6 +1,6 @@
 -- The drive's data tell its settings, and are those of the identity.
 use Rattle.std.proofs.Common.{◌≡◌, refl, sym, ◌∙◌, ap, subst, ℕ, zero, suc, ◌+◌, ◌*◌, ◌/◌, ◌%◌, ◌^◌, ◌<◌, Bool, true, false, List, [], ◌∷◌, length, set, arith, get_or-set_other, get_or-set_same, eqb-true, ⊎_elim}
-use Rattle.std.proofs.lemmas.Bool.{cases_eq}
+use Rattle.std.proofs.lemmas.Bool.{cases_eq, not-false}
 use Rattle.std.proofs.lemmas.List.{length-set, set-get_or}
 use Rattle.std.specs.List.{AllByRecursion}
 use Rattle.std.specs.Prelude.{◌==◌, ◌&&◌, not, MatchBool, slice_index, slice_set, if◌then◌else◌}
@@ -220,8 +220,4 @@ module _ (b : List ℕ) (c l : Bool) (long : length b ≡ 512) where
 
 -- a bad sum is one of data that have a sum
 pub right_sum : (b : List ℕ) → has_bad_sum b ≡ false → (word_bits 255 7 0 b == 0xA5) ≡ true → checksum b ≡ 0
-right_sum b good is = eqb-true (checksum b) 0 (by (checksum b == 0) (ap (λ t. t && not (checksum b == 0)) (sym is) ∙ good))
-  where
-    by : (t : Bool) → not t ≡ false → t ≡ true
-    by true e = refl
-    by false e = absurd cc
+right_sum b good is = eqb-true (checksum b) 0 (not-false (checksum b == 0) (ap (λ t. t && not (checksum b == 0)) (sym is) ∙ good))

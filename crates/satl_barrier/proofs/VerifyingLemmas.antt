@@ -7,6 +7,7 @@ use Rattle.satl_base.specs.declared.bench.Which.TheVariants as flaws
 use Rattle.satl_base.specs.Cells.{first_flaw, first_set, nows}
 use Rattle.satl_base.proofs.LossesLemmas.{loses-flaws}
 use Rattle.satl_base.proofs.MovesLemmas.{lose_once, moves_on}
+use Rattle.satl_base.proofs.CellsLemmas.{nows-length}
 use Rattle.satl_io.specs.Causes.{Rose}
 use Rattle.satl_drive.specs.State.{DriveState}
 use Rattle.satl_barrier.specs.declared.comparing.Comparison.{Comparison}
@@ -15,7 +16,7 @@ use Rattle.satl_barrier.specs.Commands.{IsCutShort}
 use Rattle.satl_barrier.specs.Finishing.{ComparesAs, IsDone, IsFlawed, IsGarbled, IsVerified, piece_behind, verifying}
 use Rattle.satl_barrier.specs.Leaving.{IsLostIn, Stays}
 use Rattle.satl_barrier.proofs.FinishingLemmas.{over}
-use Rattle.satl_barrier.proofs.ComparingLemmas.{loses-nows_at, nows-length, nows_part, same_all}
+use Rattle.satl_barrier.proofs.ComparingLemmas.{loses-nows_at, nows_part, same_all}
 use Rattle.satl_barrier.proofs.PiecesLemmas.{IsBegun, IsSoFar, all_done, begun, begun-nows, begun-read_flaws, head, next_done, next_flawed, next_garbled, next_lost, stays_so_far}
 
 -- without flaws, a garbled piece garbles all

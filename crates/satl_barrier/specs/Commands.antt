@@ -30,7 +30,8 @@ IsNamed commands.SmartStatus = Unit {0}
 IsNamed (commands.Other code) = ⊥
 
 -- a command was carried out: its effect, and sectors may have been written back (ACS-3 section 7)
-pub record HasRun (command : AtaCommand) (old : DriveState) (given : List Block) (ended : Taskfile) (taken : List Block) (new : DriveState) : Type 0 where
+pub record HasRun (command : AtaCommand) (old : DriveState) (given : List Block) (ended : Taskfile) (taken : List Block)
+    (new : DriveState) : Type 0 where
   pub was_up : old.down ≡ false
   pub after : Medium
   pub does : HasEffect command (command_registers command) (medium_of old) given ended taken after
@@ -38,7 +39,8 @@ pub record HasRun (command : AtaCommand) (old : DriveState) (given : List Block)
   pub stays : new ≡ record (with_medium old after) { cells = new.cells }
 
 -- the command in these registers was carried out: its effect, and sectors may have been written back (ACS-3 section 7)
-pub record HasPassed (regs : Registers) (old : DriveState) (given : List Block) (ended : Taskfile) (taken : List Block) (new : DriveState) : Type 0 where
+pub record HasPassed (regs : Registers) (old : DriveState) (given : List Block) (ended : Taskfile) (taken : List Block)
+    (new : DriveState) : Type 0 where
   pub was_up : old.down ≡ false
   pub after : Medium
   pub does : Ata regs (medium_of old) given ended taken after

@@ -26,29 +26,58 @@ most_pieces = 1024
 
 -- a read of a range, for its flaws or to compare its blocks: it writes nothing (SBC-3 5.33)
 abbrev pub verifying : Range → Transfer
-verifying range = record { ext = true; dma = true; stopped_by = flaws.Read; lba = range.lba; sectors = range.count; writes = []; reads = [] }
+verifying range =
+    record { ext = true; dma = true; stopped_by = flaws.Read; lba = range.lba; sectors = range.count; writes = []; reads = [] }
 
 -- blocks at the addresses of a range, through the cache where it is on (SBC-3, WRITE commands)
 abbrev pub writing : Range → List Block → DriveState → Transfer
-writing range blocks d = record { ext = true; dma = true; stopped_by = flaws.Write; lba = range.lba; sectors = range.count; writes = pairs_from range.lba blocks d.cache; reads = [] }
+writing range blocks d =
+    record {
+      ext = true;
+      dma = true;
+      stopped_by = flaws.Write;
+      lba = range.lba;
+      sectors = range.count;
+      writes = pairs_from range.lba blocks d.cache;
+      reads = [];
+    }
 
 -- the same block at each address of a range, through the cache where it is on (SBC-3 5.42)
 abbrev pub writing_same : Range → Block → DriveState → Transfer
-writing_same range block d = record { ext = true; dma = true; stopped_by = flaws.Write; lba = range.lba; sectors = range.count; writes = pairs_from range.lba (replicate range.count block) d.cache; reads = [] }
+writing_same range block d =
+    record {
+      ext = true;
+      dma = true;
+      stopped_by = flaws.Write;
+      lba = range.lba;
+      sectors = range.count;
+      writes = pairs_from range.lba (replicate range.count block) d.cache;
+      reads = [];
+    }
 
 -- zeros at each address of some ranges, through the cache where it is on; no flaw stops it (SBC-3 5.28; of flaws: profile)
 abbrev pub trimming : List Range → DriveState → Transfer
-trimming ranges d = record { ext = true; dma = true; stopped_by = flaws.Write; lba = 0; sectors = 0; writes = zeros_at d.cache (addresses ranges); reads = [] }
+trimming ranges d =
+    record {
+      ext = true;
+      dma = true;
+      stopped_by = flaws.Write;
+      lba = 0;
+      sectors = 0;
+      writes = zeros_at d.cache (addresses ranges);
+      reads = [];
+    }
 
--- what a taskfile tells of the end: STATUS(0) is 1 at a bad end, and then ERROR(7) at a CRC error; else LBA is the flawed address (ACS-3, error
--- outputs)
+-- what a taskfile tells of the end: STATUS(0) is 1 at a bad end, and then ERROR(7) at a CRC error; else LBA is the flawed
+-- address (ACS-3, error outputs)
 abbrev pub finish_of : Taskfile → Finish
 finish_of ended =
     if bits_of 0 0 ended.status == 0 then finishes.Done
     else if bits_of 7 7 ended.error == 1 then finishes.Garbled
     else finishes.Flawed ended.lba
 
--- the flawed address that a taskfile tells of a read for flaws: that of a bad end (ACS-3, READ VERIFY SECTOR(S) EXT, error outputs)
+-- the flawed address that a taskfile tells of a read for flaws: that of a bad end (ACS-3, READ VERIFY SECTOR(S) EXT, error
+-- outputs)
 abbrev pub flaw_of : Taskfile → Option ℕ
 flaw_of ended = if bits_of 0 0 ended.status == 0 then None else Some ended.lba
 
@@ -59,8 +88,8 @@ pub record IsDone (t : Transfer) (old new : DriveState) : Type 0 where
   pub lost : Loses (whole old.cells t.writes) new.cells
   pub stays : new ≡ record old { cells = new.cells; active = true }
 
--- part of what it writes was written, sectors may have been written back since, and a piece may have made the drive active (ACS-3, error
--- outputs)
+-- part of what it writes was written, sectors may have been written back since, and a piece may have made the drive active
+-- (ACS-3, error outputs)
 pub record IsTorn (t : Transfer) (old new : DriveState) : Type 0 where
   pub was_up : old.down ≡ false
   pub torn : List Cell
@@ -89,12 +118,15 @@ FinishesAs t first finishes.Garbled old new = IsGarbled t first old new
 
 -- a range was verified: the lowest address that reads stop at, or all of it was read (SBC-3 5.33)
 abbrev pub IsVerified : Range → Option ℕ → DriveState → DriveState → Type 0
-IsVerified range flaw old new = MatchOption flaw (IsDone (verifying range) old new) (λ at. IsFlawed (verifying range) at old new)
+IsVerified range flaw old new =
+    MatchOption flaw (IsDone (verifying range) old new) (λ at. IsFlawed (verifying range) at old new)
 
 -- a range was compared with these blocks: reads give them, or others; or it ended before (SBC-3 5.33, BYTCHK)
 abbrev pub ComparesAs : Range → List Block → Comparison → DriveState → DriveState → Type 0
-ComparesAs range blocks comparisons.Same old new = (nows old.cells range.lba range.count ≡ blocks) × IsDone (verifying range) old new
-ComparesAs range blocks comparisons.Differs old new = (nows old.cells range.lba range.count ≡ blocks → ⊥) × IsDone (verifying range) old new
+ComparesAs range blocks comparisons.Same old new =
+    (nows old.cells range.lba range.count ≡ blocks) × IsDone (verifying range) old new
+ComparesAs range blocks comparisons.Differs old new =
+    (nows old.cells range.lba range.count ≡ blocks → ⊥) × IsDone (verifying range) old new
 ComparesAs range blocks (comparisons.Flawed at) old new = IsFlawed (verifying range) at old new
 ComparesAs range blocks comparisons.Garbled old new = IsGarbled (verifying range) range.count old new
 

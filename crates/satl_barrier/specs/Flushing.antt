@@ -8,7 +8,8 @@ use Rattle.satl_drive.specs.State.{DriveState}
 abbrev pub settled_if : Bool → List Cell → List Cell
 settled_if settles cells = if settles then map settle cells else cells
 
--- the drive is left with these sectors, which may have been written back since, and active or not; all else is as before (profile)
+-- the drive is left with these sectors, which may have been written back since, and active or not; all else is as before
+-- (profile)
 pub record IsLeftWith (cells : List Cell) (active : Bool) (old new : DriveState) : Type 0 where
   pub was_up : old.down ≡ false
   pub lost : Loses cells new.cells

@@ -8,8 +8,8 @@ use Rattle.satl_io.specs.Causes.{Rose}
 use Rattle.satl_identify.specs.Data.{identity_data}
 use Rattle.satl_drive.specs.State.{DriveState, IsFit}
 
--- a drive on which a command may be carried out alone: nothing is outstanding, no queued command has failed, and it fits its data (ACS-3;
--- profile)
+-- a drive on which a command may be carried out alone: nothing is outstanding, no queued command has failed, and it fits its
+-- data (ACS-3; profile)
 pub record IsFree (d : DriveState) : Type 0 where
   pub idle : d.outstanding ≡ []
   pub no_error : d.error ≡ None
@@ -24,9 +24,9 @@ pub record SaysSo (old new : List ℕ) : Type 0 where
   pub cache : has_cache new ≡ has_cache old
   pub look : has_look new ≡ has_look old
 
--- what commands leave of a drive, whatever they do and also where the link is lost: it is free for the next, with as many sectors, which are sound; its
--- data say as before that it has a write cache and look-ahead, and are those of the same identity; it was not unplugged, and
--- its queue was never deeper (profile)
+-- what commands leave of a drive, whatever they do and also where the link is lost: it is free for the next, with as many
+-- sectors, which are sound; its data say as before that it has a write cache and look-ahead, and are those of the same
+-- identity; it was not unplugged, and its queue was never deeper (profile)
 pub record Stays (old new : DriveState) : Type 0 where
   pub free : IsFree new
   pub capacity : new.capacity ≡ old.capacity
@@ -40,8 +40,8 @@ pub record Stays (old new : DriveState) : Type 0 where
 abbrev pub OneGlitchAtMost : DriveState → DriveState → Type 0
 OneGlitchAtMost old new = (new.glitches ≡ old.glitches) ⊎ (new.glitches + 1 ≡ old.glitches)
 
--- the link was lost in one of the commands for a task that writes these pairs: each may have been written and entries of sectors lost, and
--- a glitch may have gone (profile)
+-- the link was lost in one of the commands for a task that writes these pairs: each may have been written and entries of
+-- sectors lost, and a glitch may have gone (profile)
 pub record IsLostIn (pairs : List Pair) (old new : DriveState) : Type 0 where
   pub cells : Moves (λ pair. IsIn pair pairs) old.cells new.cells
   pub glitches : OneGlitchAtMost old new

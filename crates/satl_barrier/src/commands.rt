@@ -11,8 +11,8 @@ use satl_drive::{Drive, LinkDown};
 use satl_regs::{AtaCommand, Taskfile, put_command};
 use std::sync::ledger::Ledger;
 
-/// Carries out one command on the drive, with its data in pages of 512 bytes: at least as many as it moves. `LinkDown`: the link was
-/// lost, and what it writes is written in part (ACS-3).
+/// Carries out one command on the drive, with its data in pages of 512 bytes: at least as many as it moves. `LinkDown`: the
+/// link was lost, and what it writes is written in part (ACS-3).
 pub fn run<D: Drive, L: Ledger>(
     drive: &mut D,
     command: &AtaCommand,

@@ -26,8 +26,8 @@ pub enum Comparison {
     Garbled,
 }
 
-/// Reads a range of 1 to 65,536 blocks for its flaws: the lowest address with one, if any. `LinkDown`: the link was lost (SAT-3,
-/// VERIFY: READ VERIFY SECTOR(S) EXT).
+/// Reads a range of 1 to 65,536 blocks for its flaws: the lowest address with one, if any. `LinkDown`: the link was lost
+/// (SAT-3, VERIFY: READ VERIFY SECTOR(S) EXT).
 pub fn verify<D: Drive, L: Ledger>(
     range: Range,
     drive: &mut D,
@@ -139,9 +139,9 @@ fn compare_pieces<D: Drive, L: Ledger>(
     Ok(Comparison::Same)
 }
 
-/// Compares a range of 1 to 4,096 blocks with as many pages, first read for its flaws and then in pieces of 64 blocks, in 65 calls at
-/// most. The scratch pages, at least 64, are left with whatever was read. `LinkDown`: the link was lost (SAT-3, VERIFY with BYTCHK: READ
-/// VERIFY SECTOR(S) EXT and READ DMA EXT).
+/// Compares a range of 1 to 4,096 blocks with as many pages, first read for its flaws and then in pieces of 64 blocks, in 65
+/// calls at most. The scratch pages, at least 64, are left with whatever was read. `LinkDown`: the link was lost (SAT-3, VERIFY
+/// with BYTCHK: READ VERIFY SECTOR(S) EXT and READ DMA EXT).
 pub fn compare<D: Drive, L: Ledger>(
     range: Range,
     blocks: &Pages,

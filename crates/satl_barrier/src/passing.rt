@@ -13,8 +13,8 @@ use satl_drive::{Drive, LinkDown};
 use satl_regs::{Registers, Taskfile};
 use std::sync::ledger::Ledger;
 
-/// Carries out the command in these registers, whichever it is but a queued one, with its data in pages of 512 bytes: at least as many as
-/// it moves. `LinkDown`: the link was lost (SAT-3 12.2).
+/// Carries out the command in these registers, whichever it is but a queued one, with its data in pages of 512 bytes: at least
+/// as many as it moves. `LinkDown`: the link was lost (SAT-3 12.2).
 pub fn pass_through<D: Drive, L: Ledger>(
     regs: &Registers,
     pages: &mut Pages,

@@ -96,8 +96,8 @@ fn set_look<D: Drive, L: Ledger>(
     turn_feature(drive, Feature::LookAhead, on, steps)
 }
 
-/// Sets the drive as the mode values are to be: its write cache by WCE, and read look-ahead by DRA. `LinkDown`: the link was lost
-/// (SAT-3 10, MODE SELECT commands).
+/// Sets the drive as the mode values are to be: its write cache by WCE, and read look-ahead by DRA. `LinkDown`: the link was
+/// lost (SAT-3 10, MODE SELECT commands).
 pub fn tune<D: Drive, L: Ledger>(
     modes: &Modes,
     wanted: &Modes,

@@ -1,8 +1,10 @@
 -- What puts do to cells, one at a time and in a row.
 use Rattle.std.proofs.Common.{◌≡◌, ⊎_elim, inl, inr, ℕ, zero, suc, ◌+◌, List, [], ◌∷◌, ◌++◌, Bool, true, false, map, length, refl, ap, sym, ◌∙◌, subst, arith, add-zero}
+use Rattle.std.specs.Prelude.{◌≤◌, ◌-◌, drop, slice_range}
+use Rattle.std.proofs.lemmas.List.{length-drop, length-map, length-take}
 use Rattle.satl_base.specs.declared.block.Block.{Block}
 use Rattle.satl_base.specs.declared.bench.Which.TheVariants.{Write}
-use Rattle.satl_base.specs.Cells.{Cell, Pair, IsSound, AreSound, put, put_at, change_at, whole, Part, pairs_from, has_flaw}
+use Rattle.satl_base.specs.Cells.{Cell, Pair, IsSound, AreSound, put, put_at, change_at, whole, Part, pairs_from, has_flaw, nows}
 use Rattle.satl_base.proofs.ListsLemmas.{in_right}
 
 -- pairs after pairs
@@ -88,3 +90,10 @@ part-sound cells new (p ∷ ps) s h =
     (λ l. part-sound cells new ps s l)
     (λ r. part-sound (put_at cells p) new ps (change_at-sound cells p.lba (λ c. put c p.block p.cached) (λ c. put-sound c p.block p.cached) s) r)
     h
+
+-- a READ gives as many blocks
+pub nows-length : (cells : List Cell) (lba count : ℕ) → lba + count ≤ length cells → length (nows cells lba count) ≡ count
+nows-length cells lba count h =
+    length-map (slice_range cells lba (lba + count)) (λ (c : Cell). c.now)
+    ∙ length-take (lba + count - lba) (drop lba cells)
+    ∙ omega (arith, length-drop lba cells)

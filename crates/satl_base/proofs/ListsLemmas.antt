@@ -1,8 +1,9 @@
 -- The first element that passes, and the list without it.
-use Rattle.std.proofs.Common.{◌≡◌, ◌⊎◌, ⊎_elim, refl, sym, ◌∙◌, ap, subst, inl, inr, ℕ, suc, Bool, true, false, cond, List, [], ◌∷◌, ◌++◌, Option, Some, None, arith, ◌+◌, ◌<◌, length}
-use Rattle.std.specs.Prelude.{map, if◌then◌else◌, slice_index_or, ◌||◌}
+use Rattle.std.proofs.Common.{◌≡◌, ◌⊎◌, ⊎_elim, refl, sym, ◌∙◌, ap, subst, inl, inr, ℕ, zero, suc, Bool, true, false, cond, List, [], ◌∷◌, ◌++◌, Option, Some, None, arith, ◌+◌, ◌<◌, length}
+use Rattle.std.specs.Prelude.{map, if◌then◌else◌, slice_index_or, ◌||◌, filter, slice_get}
 use Rattle.std.specs.Option.{option_map}
 use Rattle.std.specs.List.{AllByRecursion, find, position_from, remove, list_any}
+use Rattle.std.proofs.lemmas.Bool.{or_parts}
 use Rattle.satl_base.specs.Lists.{remove_first, IsIn, how_many, LeavesOut}
 
 pub find-map : {X Y : Type 0} (f : X → Y) (p : Y → Bool) (xs : List X) → find p (map f xs) ≡ option_map f (find (λ x. p (f x)) xs)
@@ -191,3 +192,32 @@ leaves_in v (x ∷ xs) (y ∷ ys) h i =
 pub leaves_only : {X : Type 0} (v : X) (xs : List X) → IsIn v xs → LeavesOut xs (v ∷ [])
 leaves_only v [] i = absurd i
 leaves_only v (x ∷ xs) i = ⊎_elim (λ e. inr (sym e, leaves_all xs)) (λ r. inl (leaves_only v xs r)) i
+
+-- what passes for none passes for none of fewer, nor with one more that does not pass
+pub none_filtered : {X : Type 0} (p q : X → Bool) (xs : List X) → list_any p xs ≡ false → list_any p (filter q xs) ≡ false
+none_filtered p q [] h = refl
+none_filtered p q (x ∷ xs) h =
+    let both = or_parts (p x) (list_any p xs) h in
+    elim (q x) as (λ b. list_any p (if b then x ∷ filter q xs else filter q xs) ≡ false)
+    [ true ↦ rw both.0 (none_filtered p q xs both.1) | false ↦ none_filtered p q xs both.1 ]
+
+pub none_pushed : {X : Type 0} (p : X → Bool) (xs : List X) (y : X) → list_any p xs ≡ false → p y ≡ false → list_any p (xs ++ y ∷ []) ≡ false
+none_pushed p [] y h e = rw e refl
+none_pushed p (x ∷ xs) y h e =
+    let both = or_parts (p x) (list_any p xs) h in
+    rw both.0 (none_pushed p xs y both.1 e)
+
+pub All-filter : {X : Type 0} (P : X → Type 0) (p : X → Bool) (xs : List X) → AllByRecursion P xs → AllByRecursion P (filter p xs)
+All-filter P p [] all = all
+All-filter P p (x ∷ xs) all =
+    elim (p x) as (λ b. AllByRecursion P (cond b (x ∷ filter p xs) (filter p xs)))
+    [ true ↦ (all.0, All-filter P p xs all.1) | false ↦ All-filter P p xs all.1 ]
+
+pub get-map : {X Y : Type 0} (f : X → Y) (xs : List X) (k : ℕ) (x : X) → slice_get xs k ≡ Some x → slice_get (map f xs) k ≡ Some (f x)
+get-map f [] k x h = absurd cc
+get-map f (y ∷ ys) zero x h = let one : y ≡ x = cc in ap (λ z. Some (f z)) one
+get-map f (y ∷ ys) (suc k) x h = get-map f ys k x h
+
+pub push_not_empty : {X : Type 0} (xs : List X) (x : X) → xs ++ x ∷ [] ≡ [] → ⊥
+push_not_empty [] x h = cc
+push_not_empty (y ∷ ys) x h = cc

@@ -1,5 +1,5 @@
 -- A list is what stands at each of its places.
-use Rattle.std.proofs.Common.{◌≡◌, ℕ, zero, suc, ◌+◌, List, [], ◌∷◌, length, refl, sym, ap, ◌∙◌, add-one}
+use Rattle.std.proofs.Common.{◌≡◌, ℕ, zero, suc, ◌+◌, List, [], ◌∷◌, length, refl, sym, ap, ◌∙◌, add-one, ◌<◌, arith}
 use Rattle.std.specs.Prelude.{slice_index}
 use Rattle.satl_base.specs.Places.{places}
 
@@ -17,3 +17,8 @@ by_places (b ∷ bs) =
     let shifted : places (0 + 1) (length bs) (slice_index (b ∷ bs)) ≡ places 0 (length bs) (λ k. slice_index (b ∷ bs) (k + 1)) = places_shift (length bs) 0 (slice_index (b ∷ bs)) in
     let same : places 0 (length bs) (slice_index bs) ≡ places 0 (length bs) (λ k. slice_index (b ∷ bs) (k + 1)) = places_ext (length bs) 0 (slice_index bs) (λ k. slice_index (b ∷ bs) (k + 1)) (λ k. rw add-one refl) in
     ap (λ (r : List ℕ). b ∷ r) (by_places bs ∙ same ∙ sym shifted)
+
+-- what stands at the places below a bound is enough
+pub places-below : (n i : ℕ) (f g : ℕ → ℕ) → ((k : ℕ) → k < i + n → f k ≡ g k) → places i n f ≡ places i n g
+places-below zero i f g h = refl
+places-below (suc n) i f g h = rw (h i (omega arith), places-below n (i + 1) f g (λ k lt. h k (omega arith))) refl

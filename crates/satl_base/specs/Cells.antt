@@ -6,7 +6,8 @@ use Rattle.satl_base.specs.declared.bench.Which.{Which}
 use Rattle.satl_base.specs.declared.bench.Which.TheVariants.{Read, Write}
 use Rattle.satl_base.specs.Lists.{IsIn}
 
--- a sector: the block that a read gives, the blocks that a loss of power may leave, and whether reads or writes fail there (SBC-3 4.15)
+-- a sector: the block that a read gives, the blocks that a loss of power may leave, and whether reads or writes fail there
+-- (SBC-3 4.15)
 pub record Cell : Type 0 where
   pub now : Block
   pub may : List Block
@@ -20,9 +21,11 @@ IsSound c = IsIn c.now c.may
 abbrev pub AreSound : List Cell → Type 0
 AreSound cells = AllByRecursion IsSound cells
 
--- a block is written (SBC-3 4.15): through the cache it may be left beside what was there, else it alone is left; the read flaw goes
+-- a block is written (SBC-3 4.15): through the cache it may be left beside what was there, else it alone is left; the read flaw
+-- goes
 abbrev pub put : Cell → Block → Bool → Cell
-put c v cached = record { now = v; may = (if cached then c.may ++ v ∷ [] else v ∷ []); read_flaw = false; write_flaw = c.write_flaw }
+put c v cached =
+    record { now = v; may = (if cached then c.may ++ v ∷ [] else v ∷ []); read_flaw = false; write_flaw = c.write_flaw }
 
 -- only what a read gives is left by a loss of power (SBC-3, SYNCHRONIZE CACHE)
 abbrev pub settle : Cell → Cell

@@ -1,5 +1,5 @@
 -- Limits of the profile.
-use Rattle.std.specs.Prelude.{ℕ}
+use Rattle.std.specs.Prelude.{ℕ, ◌≤◌, Option, IfSome}
 
 -- the most tasks that wait at once (SAM-5 5.3.1, TASK SET FULL; the figure: profile)
 abbrev pub most_tasks : ℕ
@@ -9,12 +9,13 @@ most_tasks = 64
 abbrev pub most_held : ℕ
 most_held = 32768
 
--- the most blocks that one command moves: READ, WRITE, VERIFY with comparison and ATA PASS-THROUGH (SBC-3, MAXIMUM TRANSFER LENGTH; the figure: profile)
+-- the most blocks that one command moves: READ, WRITE, VERIFY with comparison and ATA PASS-THROUGH (SBC-3, MAXIMUM TRANSFER
+-- LENGTH; the figure: profile)
 abbrev pub most_moved : ℕ
 most_moved = 4096
 
--- the most blocks that one command goes over without moving each: VERIFY without comparison, WRITE SAME, and an UNMAP in all its ranges
--- (SBC-3, MAXIMUM WRITE SAME LENGTH and MAXIMUM UNMAP LBA COUNT; the figure: profile)
+-- the most blocks that one command goes over without moving each: VERIFY without comparison, WRITE SAME, and an UNMAP in all
+-- its ranges (SBC-3, MAXIMUM WRITE SAME LENGTH and MAXIMUM UNMAP LBA COUNT; the figure: profile)
 abbrev pub most_covered : ℕ
 most_covered = 65536
 
@@ -29,3 +30,7 @@ most_ranges = 64
 -- the most bytes of data of one command: those of 4,096 blocks (profile)
 abbrev pub longest_data : ℕ
 longest_data = 2097152
+
+-- a number of bytes of data-in that a host may take, where it says one (profile)
+abbrev pub IsExpectable : Option ℕ → Type 0
+IsExpectable expected = IfSome expected (λ count. count ≤ longest_data)

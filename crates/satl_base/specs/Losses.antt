@@ -4,7 +4,8 @@ use Rattle.std.specs.List.{AllZip}
 use Rattle.satl_base.specs.Lists.{IsIn, LeavesOut}
 use Rattle.satl_base.specs.Cells.{Cell}
 
--- a loss of power may leave fewer blocks than before, and still what a read gives (SBC-3 4.15: a cache may write back at any time)
+-- a loss of power may leave fewer blocks than before, and still what a read gives (SBC-3 4.15: a cache may write back at any
+-- time)
 pub record Lost (old new : Cell) : Type 0 where
   pub now : new.now ≡ old.now
   pub read_flaw : new.read_flaw ≡ old.read_flaw

@@ -22,7 +22,8 @@ text first value = record { first = first; bytes = value }
 -- the byte at a place: that of the first line that has the place, and 0 where none has (profile)
 abbrev pub at_place : List Line → ℕ → ℕ
 at_place [] i = 0
-at_place (l ∷ ls) i = if nat_le l.first i && nat_lt i (l.first + length l.bytes) then get_or l.bytes (i - l.first) 0 else at_place ls i
+at_place (l ∷ ls) i =
+    if nat_le l.first i && nat_lt i (l.first + length l.bytes) then get_or l.bytes (i - l.first) 0 else at_place ls i
 
 -- the values of n places from the i-th on (profile)
 abbrev pub places : ℕ → ℕ → (ℕ → ℕ) → List ℕ

@@ -1,6 +1,6 @@
 -- The limits of what the table gives: each number fits its field and the rules.
 use Rattle.std.proofs.Common.{◌≡◌, ℕ, zero, suc, ◌+◌, ◌*◌, ◌/◌, ◌%◌, ◌^◌, ◌<◌, ◌≤◌, Bool, true, false, List, [], ◌∷◌, Option, Some, None, Ok, Err, eqb, cond, refl, arith, inl, inr, subst}
-use Rattle.std.proofs.lemmas.Bool.{cases_lt, ne_eqb, ltb-false, eqb-true}
+use Rattle.std.proofs.lemmas.Bool.{cases_lt, ne_eqb, ltb-false, eqb-true, not-false}
 use Rattle.std.proofs.Math.Nat.{mod-lt}
 use Rattle.std.specs.Prelude.{◌==◌, nat_lt, not, slice_index}
 use Rattle.std.specs.List.{AllByRecursion}
@@ -157,22 +157,18 @@ same_10 cdb trim b k = (big_from-lt 2 4 cdb b, above_zero _ k.1.1.1.1.0, big_fro
 same_16 : (cdb : List ℕ) (trim : Bool) → IsBytes cdb → Kept (write_same trim sixteen).rules cdb → FitsWriteSame Sixteen (sixteen.lba cdb) (sixteen.count cdb)
 same_16 cdb trim b k = (big_from-lt 2 8 cdb b, above_zero _ k.1.1.1.1.0, big_from-lt 10 4 cdb b, ltb-false _ _ k.1.1.1.1.1.0)
 
-not_false : (x : Bool) → not x ≡ false → x ≡ true
-not_false true e = refl
-not_false false e = absurd cc
-
 page_fits : (evpd : Bool) (page : ℕ) → not (is_in page (cond evpd vital_pages (0x00 ∷ []))) ≡ false → FitsPage (cond evpd (Some page) None)
-page_fits true page e = not_false _ e
+page_fits true page e = not-false _ e
 page_fits false page e = tt
 
 inquiry_fits : (cdb : List ℕ) → IsBytes cdb → Kept inquiry.rules cdb → Fits (inquiry.command cdb)
 inquiry_fits cdb b k = (page_fits (bit 1 0 cdb) (bytes 2 2 cdb) k.0, big_from-lt 3 2 cdb b)
 
 sense_6 : (cdb : List ℕ) → IsBytes cdb → Kept (mode_sense false).rules cdb → Fits ((mode_sense false).command cdb)
-sense_6 cdb b k = (mod-lt (slice_index cdb 2 / 64) (omega arith), mod-lt (slice_index cdb 2 / 1) (omega arith), byte_fits 4 cdb b, k.0, not_false _ k.1.0, λ e. refl)
+sense_6 cdb b k = (mod-lt (slice_index cdb 2 / 64) (omega arith), mod-lt (slice_index cdb 2 / 1) (omega arith), byte_fits 4 cdb b, k.0, not-false _ k.1.0, λ e. refl)
 
 sense_10 : (cdb : List ℕ) → IsBytes cdb → Kept (mode_sense true).rules cdb → Fits ((mode_sense true).command cdb)
-sense_10 cdb b k = (mod-lt (slice_index cdb 2 / 64) (omega arith), mod-lt (slice_index cdb 2 / 1) (omega arith), big_from-lt 7 2 cdb b, k.0, not_false _ k.1.0, λ e. absurd cc)
+sense_10 cdb b k = (mod-lt (slice_index cdb 2 / 64) (omega arith), mod-lt (slice_index cdb 2 / 1) (omega arith), big_from-lt 7 2 cdb b, k.0, not-false _ k.1.0, λ e. absurd cc)
 
 luns_fits : (cdb : List ℕ) → IsBytes cdb → Kept report_luns.rules cdb → Fits (report_luns.command cdb)
 luns_fits cdb b k = (ltb-false _ _ k.0, big_from-lt 6 4 cdb b)

@@ -80,7 +80,8 @@ synchronize_cache long = record {
   command = λ cdb. commands.Flush long.form (long.lba cdb) (long.count cdb);
 }
 
--- SBC-3, WRITE SAME (10) and (16) commands: WRPROTECT byte 1 bits 7 to 5, ANCHOR bit 4, UNMAP bit 3, which needs a drive with trim
+-- SBC-3, WRITE SAME (10) and (16) commands: WRPROTECT byte 1 bits 7 to 5, ANCHOR bit 4, UNMAP bit 3, which needs a drive with
+-- trim
 abbrev pub write_same : Bool → Layout → Format
 write_same trim long = record {
   rules =

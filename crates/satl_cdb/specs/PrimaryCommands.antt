@@ -45,7 +45,8 @@ abbrev pub long_lba : Bool → Flag
 long_lba false = never
 long_lba true = bit 1 4
 
--- SPC-4, MODE SENSE (6) and (10) commands: DBD byte 1 bit 3, PC byte 2 bits 7 to 6, PAGE CODE byte 2 bits 5 to 0, SUBPAGE CODE byte 3
+-- SPC-4, MODE SENSE (6) and (10) commands: DBD byte 1 bit 3, PC byte 2 bits 7 to 6, PAGE CODE byte 2 bits 5 to 0, SUBPAGE CODE
+-- byte 3
 abbrev pub mode_sense : Bool → Format
 mode_sense ten = record {
   rules =
@@ -53,7 +54,8 @@ mode_sense ten = record {
       ∷ on 2 5 0 (is_none_of mode_pages)
       ∷ at 3 (λ cdb. is_none_of (if is 0x3F (bits 2 5 0) cdb then 0x00 ∷ 0xFF ∷ [] else 0x00 ∷ []) (bytes 3 3) cdb)
       ∷ [];
-  command = λ cdb. commands.ModeSense ten (long_lba ten cdb) (bit 1 3 cdb) (bits 2 7 6 cdb) (bits 2 5 0 cdb) (mode_length ten cdb);
+  command = λ cdb. commands.ModeSense ten (long_lba ten cdb) (bit 1 3 cdb) (bits 2 7 6 cdb) (bits 2 5 0 cdb)
+      (mode_length ten cdb);
 }
 
 -- SPC-4, REPORT LUNS command: SELECT REPORT byte 2, ALLOCATION LENGTH bytes 6 to 9

@@ -1,4 +1,5 @@
--- The command descriptor block that is written for a command: reserved bits, DPO, IMMED and the control byte are 0 (SPC-4, SBC-3, SAT-3).
+-- The command descriptor block that is written for a command: reserved bits, DPO, IMMED and the control byte are 0 (SPC-4,
+-- SBC-3, SAT-3).
 use Rattle.std.specs.Prelude.{ℕ, ◌+◌, ◌*◌, ◌/◌, ◌%◌, ◌^◌, Bool, true, false, List, [], ◌∷◌, Some, None, if◌then◌else◌}
 use Rattle.satl_base.specs.Places.{Line, byte, number, text, laid}
 use Rattle.satl_cdb.specs.declared.command.Form.TheVariants.{Six, Ten, Twelve, Sixteen}
@@ -9,7 +10,8 @@ use Rattle.satl_cdb.specs.declared.command.Command.TheVariants as commands
 abbrev pub bit_of : ℕ → Bool → ℕ
 bit_of place set = if set then 2 ^ place else 0
 
--- The layouts of 6, 10, 12 and 16 bytes: operation code, byte 1, address and count; that of 6 has the address's high bits in byte 1.
+-- The layouts of 6, 10, 12 and 16 bytes: operation code, byte 1, address and count; that of 6 has the address's high bits in
+-- byte 1.
 abbrev pub short : ℕ → ℕ → ℕ → List Line
 short code lba count = byte 0 code ∷ byte 1 (lba / 2 ^ 16 % 2 ^ 5) ∷ number 2 3 lba ∷ byte 4 (count % 256) ∷ []
 

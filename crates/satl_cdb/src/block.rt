@@ -34,7 +34,8 @@ pub fn write_6_of(cdb: &[u8; 16]) -> Command
 fn check_transfer(cdb: &[u8; 16], form: Form) -> Result<(), Illegal>
     ensures { result ≡ unless_broken (transfer_rules (layout_of form)) cdb.now tt }
 {
-    if cdb[1] >> 5 != 0 {
+    let protect = cdb[1] >> 5;
+    if protect != 0 {
         return Err(Illegal::invalid_field(1));
     }
     if count_of(cdb, form) > MOST_MOVED {
@@ -70,11 +71,12 @@ pub fn write_of(cdb: &[u8; 16], form: Form) -> Result<Command, Illegal>
 pub fn verify_of(cdb: &[u8; 16], form: Form) -> Result<Command, Illegal>
     ensures { result ≡ format_says (verify (layout_of form)) cdb.now }
 {
-    let check = cdb[1] >> 1 & 3;
-    if cdb[1] >> 5 != 0 || check > 1 {
+    let protect = cdb[1] >> 5;
+    let byte_check = cdb[1] >> 1 & 3;
+    if protect != 0 || byte_check > 1 {
         return Err(Illegal::invalid_field(1));
     }
-    let compare = check == 1;
+    let compare = byte_check == 1;
     let limit = if compare { MOST_MOVED } else { MOST_COVERED };
     let count = count_of(cdb, form);
     if count > limit {
@@ -151,7 +153,8 @@ pub fn start_stop_of(cdb: &[u8; 16]) -> Result<Command, Illegal>
 pub fn read_capacity_16_of(cdb: &[u8; 16]) -> Result<Command, Illegal>
     ensures { result ≡ format_says read_capacity_16 cdb.now }
 {
-    if cdb[1] & 0x1F != 0x10 {
+    let service_action = cdb[1] & 0x1F;
+    if service_action != 0x10 {
         return Err(Illegal::invalid_field(1));
     }
     Ok(Command::ReadCapacity16 {

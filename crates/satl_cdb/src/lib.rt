@@ -6,6 +6,7 @@ mod block;
 mod command;
 mod fields;
 pub mod laws;
+pub mod list;
 mod primary;
 mod reading;
 mod unmap;

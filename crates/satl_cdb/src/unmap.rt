@@ -2,60 +2,13 @@
 
 ghost use Rattle.std.specs.Prelude.{◌≡◌, ◌≢◌, ◌<◌, ◌≤◌, ◌+◌, ◌*◌, ◌/◌, ◌++◌, [], ◌∷◌, IfOk, IfErr, IfSome, Some, None, MatchOption, MatchResult, filter, length, nat_lt, ◌==◌};
 ghost use Rattle.arrayvec.specs.ArrayVec.{array_vec_len};
-ghost use Rattle.satl_base.specs.Blocks.{byte_at};
 ghost use Rattle.satl_base.specs.Limits.{most_ranges};
 ghost use Rattle.satl_cdb.specs.Unmap.{descriptor, descriptors_from, descriptor_fault, is_used, list_fault, number_at, ranges_of};
 
 use crate::command::Illegal;
+use crate::list::{u16_at, u32_at, u64_at};
 use arrayvec::ArrayVec;
-use byteorder::{BigEndian, ByteOrder};
 use satl_base::{MOST_COVERED, MOST_RANGES, Pages, Range};
-
-fn byte_of(list: &Pages, place: usize) -> u8
-    requires place { place < 2048 }
-    requires room { place < 512 * length list.now }
-    ensures { result ≡ byte_at list.now place }
-{
-    list.block((place / 512) as u32).bytes[place % 512]
-}
-
-fn u16_at(list: &Pages, place: usize) -> u16
-    requires place { place + 2 ≤ 2048 }
-    requires room { place + 2 ≤ 512 * length list.now }
-    ensures { result ≡ number_at place 2 list.now }
-{
-    BigEndian::read_u16(&[byte_of(list, place), byte_of(list, place + 1)])
-}
-
-fn u32_at(list: &Pages, place: usize) -> u32
-    requires place { place + 4 ≤ 2048 }
-    requires room { place + 4 ≤ 512 * length list.now }
-    ensures { result ≡ number_at place 4 list.now }
-{
-    BigEndian::read_u32(&[
-        byte_of(list, place),
-        byte_of(list, place + 1),
-        byte_of(list, place + 2),
-        byte_of(list, place + 3),
-    ])
-}
-
-fn u64_at(list: &Pages, place: usize) -> u64
-    requires place { place + 8 ≤ 2048 }
-    requires room { place + 8 ≤ 512 * length list.now }
-    ensures { result ≡ number_at place 8 list.now }
-{
-    BigEndian::read_u64(&[
-        byte_of(list, place),
-        byte_of(list, place + 1),
-        byte_of(list, place + 2),
-        byte_of(list, place + 3),
-        byte_of(list, place + 4),
-        byte_of(list, place + 5),
-        byte_of(list, place + 6),
-        byte_of(list, place + 7),
-    ])
-}
 
 #[tactic(auto, unfolding(crate::specs::Unmap::descriptor))]
 fn descriptor_at(list: &Pages, i: usize) -> Range

@@ -1,7 +1,7 @@
 -- A request becomes the last task.
 use Rattle.std.proofs.Common.{◌≡◌, refl, sym, ap, subst, ◌∙◌, arith, ℕ, zero, suc, ◌+◌, ◌*◌, ◌≤◌, Bool, true, false, List, [], ◌∷◌, ◌++◌, length, map, take, Some}
-use Rattle.std.proofs.lemmas.Bool.{ltb-false}
-use Rattle.std.specs.Prelude.{IfSome, MatchBool, Option, ◌==◌, ◌||◌, if◌then◌else◌, nat_lt, slice_get}
+use Rattle.std.proofs.lemmas.Bool.{ltb-false, or_parts}
+use Rattle.std.specs.Prelude.{IfSome, MatchBool, Option, ◌==◌, if◌then◌else◌, nat_lt, slice_get}
 use Rattle.satl_base.specs.Blocks.{first_bytes}
 use Rattle.satl_frame.specs.DataPages.{page_count, pages_of}
 use Rattle.std.specs.List.{AllByRecursion}
@@ -19,7 +19,8 @@ use Rattle.satl_mode.specs.Changes.{IsChangeOf}
 use Rattle.satl_line.specs.Tasks.{Adds, Held, change_task, entries_of, is_too_much, total_blocks, with_body}
 use Rattle.satl_line.proofs.SlotsLemmas.{All-append, total-append}
 use Rattle.satl_direct.specs.Tasks.{asks, data_out, held_blocks, needed, pass_of, task_for, task_of}
-use Rattle.satl_core.specs.Layer.{CanTrim, IsCovered, IsExpectable, IsKept, IsTask, Layer, entry_pages, held_pages}
+use Rattle.satl_core.specs.Layer.{CanTrim, IsCovered, IsKept, IsTask, Layer, entry_pages, held_pages}
+use Rattle.satl_base.specs.Limits.{IsExpectable}
 use Rattle.satl_core.specs.Refilling.{Comes}
 use Rattle.satl_asks.specs.Commands.{HasList}
 use Rattle.satl_core.specs.Submitting.{Becomes, HasEntries, IsAdded, IsRefused, task_without_pages, trims}
@@ -43,11 +44,7 @@ count_with old new entry a = ap length a.last ∙ length-push old (record { slot
 
 -- the blocks of all tasks with one that is not too much
 pub fits_in : (tasks : List Held) (e : Entry) → is_too_much tasks e ≡ false → total_blocks tasks + e.blocks ≤ 32768
-fits_in tasks e fits = ltb-false 32768 (total_blocks tasks + e.blocks) (right (length tasks == 64) (nat_lt 32768 (total_blocks tasks + e.blocks)) fits)
-  where
-    right : (a b : Bool) → (a || b) ≡ false → b ≡ false
-    right true b e = absurd cc
-    right false b e = e
+fits_in tasks e fits = ltb-false 32768 (total_blocks tasks + e.blocks) (or_parts (length tasks == 64) (nat_lt 32768 (total_blocks tasks + e.blocks)) fits).1
 
 -- the last task, as it came
 pub last_is : (old new : List Held) (entry : Entry) (place : ℕ) → Adds old entry new → place ≡ length old → (h : Held) → slice_get new place ≡ Some h → h.entry ≡ entry

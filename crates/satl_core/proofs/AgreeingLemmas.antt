@@ -2,6 +2,7 @@
 use Rattle.std.proofs.Common.{◌≡◌, ⊎_elim, refl, sym, ap, subst, ◌∙◌, arith, ℕ, zero, suc, ◌+◌, ◌≤◌, Bool, true, false, List, [], ◌∷◌, length, map, None, Some}
 use Rattle.std.specs.Prelude.{not, ◌||◌, ◌^◌, MatchBool}
 use Rattle.std.specs.List.{AllByRecursion, AllZip, list_any, remove}
+use Rattle.std.proofs.lemmas.Bool.{or_parts}
 use Rattle.satl_base.specs.declared.block.Block.{Block}
 use Rattle.satl_base.specs.declared.block.Range.{Range}
 use Rattle.satl_base.specs.declared.modes.Modes.{Modes}
@@ -9,19 +10,18 @@ use Rattle.satl_cdb.specs.declared.command.Command.{Command}
 use Rattle.satl_cdb.specs.declared.command.Command.TheVariants as cdbs
 use Rattle.satl_regs.specs.Trim.{trim_block}
 use Rattle.satl_base.specs.Cells.{AreSound, Cell}
-use Rattle.satl_base.proofs.CellsLemmas.{part-sound, whole-sound}
 use Rattle.satl_base.proofs.LossesLemmas.{loses-length, loses-sound}
 use Rattle.satl_base.proofs.MovesLemmas.{moves-length, moves-sound}
 use Rattle.satl_identify.specs.Data.{identity_data}
 use Rattle.satl_identify.specs.declared.identity.Identity.{Identity}
 use Rattle.satl_line.specs.declared.entry.Entry.{Entry}
-use Rattle.satl_line.specs.Ending.{EndsAs, Outcome}
-use Rattle.satl_line.specs.Ending.Outcome.{ends_done, ends_flawed, ends_glitched}
+use Rattle.satl_line.specs.Ending.{Outcome}
 use Rattle.satl_line.specs.Kinds.{kind_of}
-use Rattle.satl_line.specs.Ranged.{RangedTask, ranged_by, ranged_of, written_pairs}
+use Rattle.satl_line.specs.Ranged.{ranged_by, ranged_of}
 use Rattle.satl_line.specs.Ranged.RangedTask.{ranged_read, ranged_trim, ranged_write}
 use Rattle.satl_line.specs.Tasks.{Held, entries_of}
 use Rattle.satl_line.proofs.SlotsLemmas.{remove-map}
+use Rattle.satl_line.proofs.EndingLemmas.{ends-sound}
 use Rattle.satl_drive.specs.State.{DriveState, IsFit}
 use Rattle.satl_drive.specs.Rules.{MaySet}
 use Rattle.satl_flight.specs.Flown.{FitsDrive, IsFlown, IsInFlight, RangedFits}
@@ -59,11 +59,7 @@ valid_with_cells s new cells started active down glitches size sound same v =
 none_removed : (q : Entry → Bool) (ts : List Entry) (place : ℕ) → list_any q ts ≡ false → list_any q (remove ts place) ≡ false
 none_removed q [] zero none = none
 none_removed q [] (suc place) none = none
-none_removed q (t ∷ ts) zero none = right (q t) (list_any q ts) none
-  where
-    right : (a b : Bool) → (a || b) ≡ false → b ≡ false
-    right true b e = absurd cc
-    right false b e = e
+none_removed q (t ∷ ts) zero none = (or_parts (q t) (list_any q ts) none).1
 none_removed q (t ∷ ts) (suc place) none = both (q t) (list_any q ts) none (none_removed q ts place)
   where
     both : (a b : Bool) → (a || b) ≡ false → (b ≡ false → list_any q (remove ts place) ≡ false) → (a || list_any q (remove ts place)) ≡ false
@@ -251,11 +247,6 @@ tied_lost l new d d' left same agrees =
 
 -- ---- a task that has ended
 
-ends-sound : (cache : Bool) (ranged : RangedTask) (outcome : Outcome) (old new : List Cell) (glitches left : ℕ) → EndsAs cache ranged outcome old glitches new left → AreSound old → AreSound new
-ends-sound cache ranged (ends_done blocks) old new glitches left e sound = subst AreSound (sym e.written) (whole-sound old (written_pairs cache ranged) sound)
-ends-sound cache ranged (ends_flawed lba) old new glitches left e sound = part-sound old new (written_pairs cache ranged) sound e.written
-ends-sound cache ranged ends_glitched old new glitches left e sound = part-sound old new (written_pairs cache ranged) sound e.written
-
 pub agrees_settled : (l new : Layer) (d d' : DriveState) (place : ℕ) (outcome : Outcome) → IsSettled l.tasks d place outcome new.flying d' → new ≡ record l { tasks = remove l.tasks place; flying = new.flying; slots = new.slots; free = new.free; out = new.out } → IsFit d' → Agrees l d → Agrees new d'
 agrees_settled l new d d' place outcome s same fit agrees =
     agrees_by l new d d' (ap (λ (x : Layer). x.down) same) (ap (λ (x : Layer). x.modes) same) (ap (λ (x : Layer). x.identity) same)
@@ -271,7 +262,7 @@ agrees_settled l new d d' place outcome s same fit agrees =
     size = fit.sectors ∙ (ap (λ (x : DriveState). x.capacity) s.stays ∙ sym agrees.fit.sectors)
 
     sound : AreSound d'.cells
-    sound = moves-sound s.moves_after (ends-sound d.cache s.ranged outcome s.before s.after d.glitches d'.glitches s.ends (moves-sound s.moves_before agrees.valid.sound))
+    sound = moves-sound s.moves_after (ends-sound d.cache s.ranged outcome s.before d.glitches s.after d'.glitches (moves-sound s.moves_before agrees.valid.sound) s.ends)
 
 -- ---- the queue is used
 

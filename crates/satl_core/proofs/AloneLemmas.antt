@@ -1,6 +1,6 @@
 -- A task whose command runs alone, or waits for a started unit.
 use Rattle.std.proofs.Common.{◌≡◌, refl, sym, ap, subst, ℕ, Bool, true, false, Some, None}
-use Rattle.std.specs.Prelude.{Err, IsSome, Ok, OnErr, Option, Result, not, ◌&&◌, unwrap_or}
+use Rattle.std.specs.Prelude.{IsSome, Option, not, ◌&&◌, unwrap_or}
 use Rattle.std.specs.Option.{option_map}
 use Rattle.satl_base.specs.declared.modes.Modes.{Modes}
 use Rattle.satl_cdb.specs.declared.command.Command.{Command}
@@ -48,11 +48,6 @@ starts_alike _ alone is = absurd cc
 -- so is the test of a stopped unit
 pub stops_alike : (command : Command) (alone : Alone) (started : Bool) → alone_of command ≡ Some alone → (not started && (asks command).starts) ≡ (not started && needs_start alone)
 stops_alike command alone started is = ap (λ b. not started && b) (starts_alike command alone is)
-
--- where two things hold at an error, so does what follows of both
-pub both_err : {T E P Q R : Type 0} (r : Result T E) → (P → Q → R) → OnErr r P → OnErr r Q → OnErr r R
-both_err (Ok x) f p q = tt
-both_err (Err e) f p q = f p q
 
 -- and the mode values behind it
 pub modes_alike : (command : Command) (alone : Alone) (ending : Ending) (modes wanted : Modes) → alone_of command ≡ Some alone → modes_left alone ending modes wanted ≡ modes_after command ending modes wanted

@@ -1,5 +1,5 @@
 -- What the layer judges of a request is what the device does with it.
-use Rattle.std.proofs.Common.{◌≡◌, refl, sym, ap, subst, ◌∙◌, arith, cond, ℕ, suc, ◌+◌, Bool, true, false, List, [], ◌∷◌, length, map}
+use Rattle.std.proofs.Common.{◌≡◌, refl, sym, ap, subst, ◌∙◌, arith, cond, ℕ, ◌+◌, Bool, true, false, List, [], ◌∷◌, length, map}
 use Rattle.std.specs.Prelude.{Option, Some, None, Result, Ok, Err, not, ◌==◌, ◌&&◌, nat_lt, slice_get, slice_index, slice_index_or, MatchBool}
 use Rattle.std.proofs.lemmas.Bool.{eqb-true, le-ltb}
 use Rattle.satl_base.specs.declared.reply.Reply.{Reply}
@@ -17,7 +17,6 @@ use Rattle.satl_cdb.specs.Table.{says, table}
 use Rattle.satl_base.specs.declared.modes.Modes.{Modes}
 use Rattle.satl_identify.specs.declared.identity.Identity.{Identity}
 use Rattle.satl_vpd.specs.Standard.{standard_data}
-use Rattle.satl_mode.specs.ModeData.{mode_data}
 use Rattle.satl_line.specs.Tasks.{Held, entries_of, is_too_much, total_blocks}
 use Rattle.satl_drive.specs.State.{DriveState}
 use Rattle.satl_unit.specs.declared.attention.Attention.{Attention}
@@ -32,10 +31,11 @@ use Rattle.satl_core.specs.Layer.{Layer, view}
 use Rattle.satl_core.specs.Leaving.{left_by}
 use Rattle.satl_asks.specs.Requests.{is_for_unit}
 use Rattle.satl_core.specs.Submitting.{sense_data, tell_attention, answer_to, other_answer, Becomes, IsAdded, IsRefused, attention_of, cdb_answer, code_answer, judged, once_judged, overlaps, readiness, reply_at_once, task_without_pages, untold, is_idle}
-use Rattle.satl_core.specs.declared.telling.Data.TheVariants as datas
+use Rattle.satl_telling.specs.declared.telling.Data.TheVariants as datas
 use Rattle.satl_core.proofs.LeavingLemmas.{found_is, left_tasks}
 use Rattle.satl_core.proofs.SayingLemmas.{IsSaid, said_of}
 use Rattle.satl_core.proofs.JudgingLemmas.{by_ok, judged_by, tested}
+use Rattle.satl_core.proofs.CountedLemmas.{tasks_seen}
 
 -- ---- the arrival
 
@@ -71,11 +71,6 @@ same_answer l d r x a reply is e = ap answered is ∙ ap (λ y. answered (reply_
 abbrev pub full_or_waits : Layer → DriveState → Request → Command → Arrival
 full_or_waits l d r c = cond (is_full (map task_of (entries_of l.tasks)) c) (answered (direct.reply_to r statuses.TaskSetFull [])) (waits (task_for l.identity.queued_trim r c))
 
--- the data of a MODE SENSE do not depend on its allocation length
-any_length : (i : Identity) (m : Modes) (is_ten long_lba no_descriptor : Bool) (control page alloc : ℕ) → mode_data i m (cdbs.ModeSense is_ten long_lba no_descriptor control page alloc) ≡ mode_data i m (cdbs.ModeSense is_ten long_lba no_descriptor control page 0)
-unfolding mode_data
-any_length i m is_ten long_lba no_descriptor control page alloc = refl
-
 inquiry_is : (l : Layer) (d : DriveState) (r : Request) (page : Option ℕ) (alloc : ℕ) → answered (direct.told r alloc (direct.inquiry_text (view l d) page)) ≡ answered (reply_at_once l.identity l.modes r (at_once.Tell (datas.Inquiry page) alloc))
 inquiry_is l d r None alloc = refl
 inquiry_is l d r (Some page) alloc = refl
@@ -91,7 +86,7 @@ first_of l r = slice_get (slice_index_or l.attentions r.nexus []) 0
 becomes_at_once : (l : Layer) (d : DriveState) (r : Request) (a : AtOnce) (c : Command) → IsSaid r.cdb l.identity.trim c → (slice_index r.cdb 0 ≡ 0x03 → first_of l r ≡ None) → l.down ≡ d.down → answer_to l r.body c ≡ Err a → direct.becomes (view l d) r c ≡ answered (reply_at_once l.identity l.modes r a)
 becomes_at_once l d r a cdbs.TestUnitReady here none mark e = same_answer l d r (readiness l) a _ (readiness_is l d r mark) e
 becomes_at_once l d r a (cdbs.Inquiry page alloc) here none mark e = inquiry_is l d r page alloc ∙ same_answer l d r (at_once.Tell (datas.Inquiry page) alloc) a _ refl e
-becomes_at_once l d r a (cdbs.ModeSense ten long_lba no_descriptor control page alloc) here none mark e = ap (λ text. answered (direct.told r alloc text)) (any_length l.identity l.modes ten long_lba no_descriptor control page alloc) ∙ same_answer l d r (at_once.Tell (datas.Modes ten long_lba no_descriptor control page) alloc) a _ refl e
+becomes_at_once l d r a (cdbs.ModeSense ten long_lba no_descriptor control page alloc) here none mark e = same_answer l d r (at_once.Tell (datas.Modes (direct.sense_asked ten long_lba no_descriptor control page)) alloc) a _ refl e
 becomes_at_once l d r a cdbs.ReadCapacity10 here none mark e = same_answer l d r (at_once.Tell datas.Capacity10 8) a _ refl e
 becomes_at_once l d r a (cdbs.ReadCapacity16 alloc) here none mark e = same_answer l d r (at_once.Tell datas.Capacity16 alloc) a _ refl e
 becomes_at_once l d r a (cdbs.ReportLuns select alloc) here none mark e = same_answer l d r (at_once.Tell (datas.Luns select) alloc) a _ refl e
@@ -292,12 +287,8 @@ pub held_by_is : (tasks : List Held) → held_by (map task_of (entries_of tasks)
 held_by_is [] = refl
 held_by_is (h ∷ tasks) = ap (λ n. h.entry.blocks + n) (held_by_is tasks)
 
-count_is : (tasks : List Held) → length (map task_of (entries_of tasks)) ≡ length tasks
-count_is [] = refl
-count_is (h ∷ tasks) = ap suc (count_is tasks)
-
 pub full_is : (tasks : List Held) (r : Request) (c : Command) (queued_trim : Bool) → is_full (map task_of (entries_of tasks)) c ≡ is_too_much tasks (task_without_pages r c queued_trim)
-full_is tasks r c queued_trim = rw (count_is tasks, held_by_is tasks) refl
+full_is tasks r c queued_trim = rw (tasks_seen tasks, held_by_is tasks) refl
 
 pub becomes_arrives : (l new : Layer) (d : DriveState) (r : Request) (c : Command) (replies : List Reply) → judged l r ≡ Ok c → Becomes r c l replies new → Arrives r (view l d) replies (view new d)
 becomes_arrives l new d r c replies e b =

@@ -22,7 +22,7 @@ use Rattle.satl_identify.specs.declared.identity.Identity.{Identity}
 use Rattle.satl_mode.specs.ModePages.{defaults}
 use Rattle.satl_unit.specs.declared.attention.Attention.{Attention}
 use Rattle.satl_unit.specs.declared.attention.Attention.TheVariants.{PowerOn}
-use Rattle.satl_unit.specs.Conditions.{IsInReportOrder, posted}
+use Rattle.satl_unit.specs.Conditions.{IsInReportOrder}
 use Rattle.satl_line.specs.Tasks.{Held}
 use Rattle.satl_drive.specs.State.{DriveState, IsFit}
 use Rattle.satl_drive.specs.Bench.{IsPowerCycled, IsUnplugged}
@@ -35,7 +35,9 @@ use Rattle.satl_direct.specs.Run.{bench_losses}
 use Rattle.satl_direct.specs.Valid.{IsValid}
 use Rattle.satl_core.specs.Benching.{Follows, IsActedOn, LosesLink, StartsAnew, StaysSame}
 use Rattle.satl_base.specs.Moves.{Moves}
+use Rattle.satl_base.proofs.Booleans.{not-not}
 use Rattle.satl_direct.specs.Quiet.{MayShow}
+use Rattle.satl_direct.proofs.Quieting.{quiet_none, around_alone}
 use Rattle.satl_core.specs.Layer.{Layer, Tied, view, works}
 use Rattle.satl_core.proofs.AgreeingLemmas.{IsLeftDown, agrees_by, idle_in_flight, still_told, tied_lost, valid_with_cells}
 use Rattle.satl_core.proofs.EndingLemmas.{nothing_out}
@@ -48,8 +50,9 @@ use Rattle.satl_barrier.proofs.ToldLemmas.{all_bytes, retold}
 use Rattle.satl_pages.specs.Counts.{Counts}
 use Rattle.satl_flight.specs.declared.flight.Flying.{Flying}
 use Rattle.satl_flight.specs.Queueing.{Waiting}
+use Rattle.satl_flight.proofs.SettledLemmas.{deepens_shorter}
 use Rattle.satl_core.proofs.TieLemmas.{bytes_long, has_as_noted, layer_of}
-use Rattle.satl_core.proofs.DeviceLemmas.{around_alone, quiet_none, rest_lost}
+use Rattle.satl_core.proofs.DeviceLemmas.{rest_lost}
 
 -- ---- what the drive does
 
@@ -183,10 +186,6 @@ tied_changed l new d d' change same fit tied =
     queue : IsInFlight l.flying l.tasks d
     queue = tied.agrees.queue
 
-twice : (b : Bool) → b ≡ not (not b)
-twice true = refl
-twice false = refl
-
 -- the device after a power cycle is valid
 valid_powered : (l : Layer) (d d' : DriveState) (slots : Slots) (free out : ℕ) → IsPowerCycled d d' → IsValid (view l d) → IsValid (view (record l { modes = defaults l.identity; started = true; down = false; attentions = replicate 4 (PowerOn ∷ []); tasks = []; flying = []; slots = slots; free = free; out = out }) d')
 valid_powered l d d' slots free out p v = record {
@@ -214,7 +213,7 @@ tied_powered l new d d' replies p r fit tied =
         queue = idle_in_flight [] d' (ap (λ (x : DriveState). x.outstanding) p.stays) (ap (λ (x : DriveState). x.error) p.stays) tt (omega (arith, ap (λ (x : DriveState). x.capacity) p.stays, tied.agrees.queue.small));
         fit = fit;
         cache = λ up. ap (λ (x : DriveState). x.cache) p.stays ∙ noted.cache;
-        look = λ up. ap (λ (x : DriveState). x.look) p.stays ∙ (noted.look ∙ twice l.identity.look);
+        look = λ up. ap (λ (x : DriveState). x.look) p.stays ∙ (noted.look ∙ sym (not-not l.identity.look));
         told = retold l.identity.bytes d.identify d'.identify d.cache d.look d'.cache d'.look (bytes_long l d tied.agrees) (all_bytes d'.identify fit.bytes) tied.agrees.told (subst (λ b. IsTelling b d'.look d.identify d'.identify) (sym (ap (λ (x : DriveState). x.cache) p.stays)) (subst (λ b. IsTelling (has_cache d.identify) b d.identify d'.identify) (sym (ap (λ (x : DriveState). x.look) p.stays)) p.tells));
         valid = valid_powered l d d' new.slots new.free new.out p tied.agrees.valid;
       };
@@ -260,17 +259,14 @@ losses_counted (Order order) d d' acted = none_rose d d' (ap (λ (x : DriveState
 losses_counted Power d d' acted = none_rose d d' (ap (λ (x : DriveState). x.faults) acted.stays)
 losses_counted Unplug d d' acted = acted.cut.0.rose
 
-deeper_by : (d d' : DriveState) → d'.deepest ≡ d.deepest → length d'.outstanding ≤ length d.outstanding → Deepens d d'
-deeper_by d d' same fewer = record { rises = omega (arith, same); covers = λ was. omega (arith, was, same, fewer) }
-
 -- the deepest queue does not fall
 pub none_deeper : (event : BenchEvent) (d d' : DriveState) → IsActedOn event d d' → Deepens d d'
-none_deeper (Strike which lba) d d' acted = deeper_by d d' (ap (λ (x : DriveState). x.deepest) acted) (omega (arith, ap (λ (x : DriveState). length x.outstanding) acted))
-none_deeper (Mend lba) d d' acted = deeper_by d d' (ap (λ (x : DriveState). x.deepest) acted) (omega (arith, ap (λ (x : DriveState). length x.outstanding) acted))
-none_deeper (Glitch count) d d' acted = deeper_by d d' (ap (λ (x : DriveState). x.deepest) acted) (omega (arith, ap (λ (x : DriveState). length x.outstanding) acted))
-none_deeper (Order order) d d' acted = deeper_by d d' (ap (λ (x : DriveState). x.deepest) acted) (omega (arith, ap (λ (x : DriveState). length x.outstanding) acted))
-none_deeper Power d d' acted = deeper_by d d' (ap (λ (x : DriveState). x.deepest) acted.stays) (omega (arith, ap (λ (x : DriveState). length x.outstanding) acted.stays))
-none_deeper Unplug d d' acted = deeper_by d d' (ap (λ (x : DriveState). x.deepest) acted.cut.0.stays) (omega (arith, ap (λ (x : DriveState). length x.outstanding) acted.cut.0.stays))
+none_deeper (Strike which lba) d d' acted = deepens_shorter d d' (ap (λ (x : DriveState). x.deepest) acted) (omega (arith, ap (λ (x : DriveState). length x.outstanding) acted))
+none_deeper (Mend lba) d d' acted = deepens_shorter d d' (ap (λ (x : DriveState). x.deepest) acted) (omega (arith, ap (λ (x : DriveState). length x.outstanding) acted))
+none_deeper (Glitch count) d d' acted = deepens_shorter d d' (ap (λ (x : DriveState). x.deepest) acted) (omega (arith, ap (λ (x : DriveState). length x.outstanding) acted))
+none_deeper (Order order) d d' acted = deepens_shorter d d' (ap (λ (x : DriveState). x.deepest) acted) (omega (arith, ap (λ (x : DriveState). length x.outstanding) acted))
+none_deeper Power d d' acted = deepens_shorter d d' (ap (λ (x : DriveState). x.deepest) acted.stays) (omega (arith, ap (λ (x : DriveState). length x.outstanding) acted.stays))
+none_deeper Unplug d d' acted = deepens_shorter d d' (ap (λ (x : DriveState). x.deepest) acted.cut.0.stays) (omega (arith, ap (λ (x : DriveState). length x.outstanding) acted.cut.0.stays))
 
 same_tasks : (l new : Layer) → new ≡ l → length new.tasks ≤ length l.tasks
 same_tasks l new same = let count = ap (λ (x : Layer). length x.tasks) same in omega (arith, count)
@@ -288,11 +284,6 @@ follows_fewer Power l new replies r = no_tasks l new (ap (λ (x : Layer). x.task
 follows_fewer Unplug l new replies r = no_tasks l new (ap (λ (x : Layer). x.tasks) r.stays)
 
 -- ---- power on
-
--- the first condition that is posted is the only one
-pub power_on_alone : (conditions given : List Attention) → given ≡ [] → conditions ≡ posted PowerOn given → conditions ≡ PowerOn ∷ []
-unfolding posted
-power_on_alone conditions given none is = is ∙ ap (posted PowerOn) none
 
 -- the layer by its parts starts anew
 pub anew_by : (identity : Identity) (modes modes' : Modes) (started down : Bool) (lists lists' : List (List Attention)) (q q' : Waiting) (pool pool' : Counts) (l : Layer)

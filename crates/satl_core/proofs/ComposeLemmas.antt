@@ -7,11 +7,11 @@ use Rattle.satl_line.specs.declared.entry.Entry.{Entry}
 use Rattle.satl_direct.specs.Device.{Device}
 use Rattle.satl_direct.specs.Quiet.{Around, Quiet}
 use Rattle.satl_direct.specs.Run.{MayLose}
-use Rattle.satl_direct.specs.Run.MayLose.{keeps, loses as loses_after}
+use Rattle.satl_direct.specs.Run.MayLose.{keeps, keeps_and_loses}
 use Rattle.satl_direct.specs.Turn.{Loss, Turn, TurnLoss}
 use Rattle.satl_direct.specs.Turn.Turn.{ends as turn_ends, ends_and_loses as turn_ends_and_loses}
+use Rattle.satl_direct.proofs.Quieting.{quiet_none}
 use Rattle.satl_core.specs.Refilling.{Answers, EndsOne, EndsOrLoses, Refills, Removes}
-use Rattle.satl_core.proofs.DeviceLemmas.{quiet_none}
 use Rattle.satl_core.proofs.QuietLemmas.{quiet_on}
 
 turn_loss : (a b : Device) (answers : List Reply) → Loss a answers b → TurnLoss a answers b
@@ -57,7 +57,7 @@ step_on Step old mid new answers more a refills =
       before = a.before;
       after = new;
       quiet_before = a.quiet_before;
-      step = loses_after a.step (quiet_on a.after mid lost.0 a.quiet_after lost.1) lost.2;
+      step = keeps_and_loses a.step (quiet_on a.after mid lost.0 a.quiet_after lost.1) lost.2;
       quiet_after = quiet_none new;
     })
     refills
@@ -66,8 +66,8 @@ step_on Step old mid new answers more a refills =
 pub map_step : (S T : Device → List Reply → Device → Type 0) (first : List Reply) (s t : Device) → ((mid : Device) (answers : List Reply) → S s answers mid → T t (first ++ answers) mid)
     → (answers : List Reply) (new : Device) → MayLose S s answers new → MayLose T t (first ++ answers) new
 map_step S T first s t each answers new (keeps step) = keeps (each new answers step)
-map_step S T first s t each all new (loses_after {answers = answers} {more = more} {mid = mid} {after = after} step quiet loss) =
-    subst (λ l. MayLose T t l new) (append_assoc first answers more) (loses_after (each mid answers step) quiet loss)
+map_step S T first s t each all new (keeps_and_loses {answers = answers} {more = more} {mid = mid} {after = after} step quiet loss) =
+    subst (λ l. MayLose T t l new) (append_assoc first answers more) (keeps_and_loses (each mid answers step) quiet loss)
 
 pub around_step : (S T : Device → List Reply → Device → Type 0) (first : List Reply) (old new : Device) (answers : List Reply) → ((s mid : Device) (given : List Reply) → Quiet old s → S s given mid → T s (first ++ given) mid)
     → Around (MayLose S) old answers new → Around (MayLose T) old (first ++ answers) new
@@ -96,6 +96,6 @@ removes_and_loses goes old before mid new answers quiet is loss = record {
   before = before;
   after = new;
   quiet_before = quiet;
-  step = loses_after {answers = []} (record { none = refl; stays = is }) (quiet_none mid) loss;
+  step = keeps_and_loses {answers = []} (record { none = refl; stays = is }) (quiet_none mid) loss;
   quiet_after = quiet_none new;
 }

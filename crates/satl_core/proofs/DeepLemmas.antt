@@ -3,7 +3,7 @@ use Rattle.std.proofs.Common.{◌≡◌, ◌⊎◌, refl, sym, ◌∙◌, ap, su
 use Rattle.std.specs.Prelude.{◌==◌, ◌||◌, ◌&&◌, not, map, min, if◌then◌else◌, slice_get}
 use Rattle.std.specs.List.{AllByRecursion, AllZip, filter, find, list_any}
 use Rattle.satl_base.specs.Lists.{remove_first}
-use Rattle.satl_base.proofs.ListsLemmas.{length-remove_first, All-weaken, All-both}
+use Rattle.satl_base.proofs.ListsLemmas.{length-remove_first, All-weaken, All-both, All-filter}
 use Rattle.satl_line.specs.Eligible.{IsEligibleBy}
 use Rattle.std.proofs.lemmas.List.{length-map}
 use Rattle.satl_line.specs.declared.entry.Entry.{Entry}
@@ -55,10 +55,6 @@ pigeon (h ∷ hs) fs own held =
 filter-map : {X Y : Type 0} (f : X → Y) (p : Y → Bool) (xs : List X) → filter p (map f xs) ≡ map f (filter (λ x. p (f x)) xs)
 filter-map f p [] = refl
 filter-map f p (x ∷ xs) = elim (p (f x)) as (λ b. cond b (f x ∷ filter p (map f xs)) (filter p (map f xs)) ≡ map f (cond b (x ∷ filter (λ x. p (f x)) xs) (filter (λ x. p (f x)) xs))) [ true ↦ ap (λ l. f x ∷ l) (filter-map f p xs) | false ↦ filter-map f p xs ]
-
-All-filter : {X : Type 0} (P : X → Type 0) (p : X → Bool) (xs : List X) → AllByRecursion P xs → AllByRecursion P (filter p xs)
-All-filter P p [] all = tt
-All-filter P p (x ∷ xs) all = elim (p x) as (λ b. AllByRecursion P (cond b (x ∷ filter p xs) (filter p xs))) [ true ↦ (all.0, All-filter P p xs all.1) | false ↦ All-filter P p xs all.1 ]
 
 All-passing : {X : Type 0} (P : X → Type 0) (p : X → Bool) (xs : List X) → AllByRecursion (λ x. p x ≡ true → P x) xs → AllByRecursion P (filter p xs)
 All-passing P p [] all = tt

@@ -5,7 +5,6 @@ use Rattle.std.proofs.lemmas.Bool.{eq-eqb}
 use Rattle.satl_base.specs.declared.modes.Modes.{Modes}
 use Rattle.satl_base.specs.declared.request.Request.{Request}
 use Rattle.satl_base.specs.declared.reply.Reply.{Reply}
-use Rattle.satl_base.specs.Moves.{stay}
 use Rattle.satl_sense.specs.declared.sense.Sense.{Sense}
 use Rattle.satl_identify.specs.declared.identity.Identity.{Identity}
 use Rattle.satl_line.specs.declared.entry.Entry.{Entry}
@@ -24,6 +23,7 @@ use Rattle.satl_direct.specs.Senses.{link_lost, not_ready}
 use Rattle.satl_direct.specs.Turn as turns
 use Rattle.satl_direct.specs.Turn.{MayEnd, Turn}
 use Rattle.satl_direct.specs.Turn.Turn.{idle}
+use Rattle.satl_direct.proofs.Quieting.{quiet_none, around_alone}
 use Rattle.satl_core.specs.declared.turning.Ending.{Ending}
 use Rattle.satl_core.specs.declared.turning.Ending.TheVariants as endings
 use Rattle.satl_core.specs.Refilling.{EndsOne}
@@ -37,14 +37,8 @@ seen identity modes started attentions tasks d = record { cells = d.cells; tasks
 
 -- ---- quiet moves
 
-pub quiet_none : (s : Device) → Quiet s s
-quiet_none s = record { cells = stay; active = inl refl; stays = refl }
-
 pub quiet_same : (s new : Device) → new ≡ s → Quiet s new
 quiet_same s new same = subst (Quiet s) (sym same) (quiet_none s)
-
-pub around_alone : (Step : Device → List Reply → Device → Type 0) (s new : Device) (answers : List Reply) → Step s answers new → Around Step s answers new
-around_alone Step s new answers step = record { before = s; after = new; quiet_before = quiet_none s; step = step; quiet_after = quiet_none new }
 
 pub arrives_around : (r : Request) (s new : Device) (answers : List Reply) → Arrives r s answers new → Around (MayLose (Arrives r)) s answers new
 arrives_around r s new answers a = around_alone (MayLose (Arrives r)) s new answers (keeps a)

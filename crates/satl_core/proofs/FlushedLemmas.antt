@@ -2,6 +2,7 @@
 use Rattle.std.proofs.Common.{◌≡◌, ⊎_elim, inl, inr, refl, sym, ap, subst, ◌∙◌, ℕ, zero, suc, Bool, true, false, List, [], ◌∷◌, ◌++◌, map, eq-eqb, Some}
 use Rattle.std.specs.Prelude.{MatchBool, slice_get, not, ◌&&◌, ◌||◌, ◌==◌}
 use Rattle.std.specs.List.{AllByRecursion, list_any}
+use Rattle.std.proofs.lemmas.Bool.{or_right}
 use Rattle.satl_base.specs.declared.block.Block.{Block}
 use Rattle.satl_base.specs.declared.block.Range.{Range}
 use Rattle.satl_base.specs.declared.modes.Modes.{Modes}
@@ -88,11 +89,7 @@ called_in nexus tag t [] among same named = absurd among
 called_in nexus tag t (h ∷ rest) among same named =
     ⊎_elim
     (λ e. ap (λ b. b || list_any (is_called nexus tag.0) (map task_of (entries_of rest))) (ap (λ (x : Held). is_called nexus tag.0 (task_of x.entry)) (sym e) ∙ (ap (λ b. b && ((t.entry.tag).0 == tag.0)) (eq-eqb t.entry.nexus nexus same) ∙ eq-eqb (t.entry.tag).0 tag.0 (ap (λ (x : Tag). x.0) named))))
-    (λ i. or_true (is_called nexus tag.0 (task_of h.entry)) (list_any (is_called nexus tag.0) (map task_of (entries_of rest))) (called_in nexus tag t rest i same named)) among
-  where
-    or_true : (a b : Bool) → b ≡ true → (a || b) ≡ true
-    or_true true b e = refl
-    or_true false b e = e
+    (λ i. or_right (is_called nexus tag.0 (task_of h.entry)) (list_any (is_called nexus tag.0) (map task_of (entries_of rest))) (called_in nexus tag t rest i same named)) among
 
 -- so it is the first task, and done
 pub record IsFirstFlush (first : Entry) (ending : Ending) : Type 0 where

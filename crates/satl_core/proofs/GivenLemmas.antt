@@ -5,6 +5,7 @@ use Rattle.std.specs.Option.{option_map}
 use Rattle.std.specs.List.{AllByRecursion, AllZip, find, list_any}
 use Rattle.std.proofs.lemmas.List.{length-map}
 use Rattle.satl_base.specs.declared.modes.Modes.{Modes}
+use Rattle.satl_base.proofs.Booleans.{eqb-sym}
 use Rattle.satl_cdb.specs.declared.command.Command.{Command}
 use Rattle.satl_cdb.specs.declared.command.Command.TheVariants as commands
 use Rattle.satl_identify.specs.declared.identity.Identity.{Identity}
@@ -23,6 +24,7 @@ use Rattle.satl_drive.specs.State.{DriveState, Outstanding}
 use Rattle.satl_direct.specs.Device.{is_called}
 use Rattle.satl_direct.specs.Tasks.{data_out, task_of}
 use Rattle.satl_direct.specs.Valid.{AreOwn}
+use Rattle.satl_direct.proofs.Naming.{called-sym, called_same}
 use Rattle.satl_flight.specs.declared.flight.Flying.{Flying}
 use Rattle.satl_flight.specs.Flown as flown
 use Rattle.satl_flight.specs.Flown.{IsFlown, IsInFlight, clash, is_in_slot, queued_for, outstanding_for, blocks_for}
@@ -128,10 +130,7 @@ holds_given tasks (f ∷ fs) h t same found held = go (f.slot == h.slot) refl he
     go : (b : Bool) → (f.slot == h.slot) ≡ b → (b || flown.holds fs h.slot) ≡ true → (flown.holds fs h.slot ≡ true → holds (map (given_of tasks) fs) t ≡ true) → holds (map (given_of tasks) (f ∷ fs)) t ≡ true
     go true is e rest =
         let task : (given_of tasks f).task ≡ t = ap (λ n. unwrap_or (option_map (λ (k : Held). task_of k.entry) (find (is_in_slot n) tasks)) no_entry) (eqb-true f.slot h.slot is) ∙ ap (λ x. unwrap_or (option_map (λ (k : Held). task_of k.entry) x) no_entry) found ∙ same in
-        ap (λ b. b || holds (map (given_of tasks) fs) t) (named (given_of tasks f).task t task)
-      where
-        named : (u t : Entry) → u ≡ t → is_called t.nexus (t.tag).0 u ≡ true
-        named u t one = ap (λ b. b && ((u.tag).0 == (t.tag).0)) (eq-eqb u.nexus t.nexus (ap (λ (e : Entry). e.nexus) one)) ∙ eq-eqb (u.tag).0 (t.tag).0 (ap (λ (e : Entry). (e.tag).0) one)
+        ap (λ b. b || holds (map (given_of tasks) fs) t) (called_same (given_of tasks f).task t task)
     go false is e rest = either (is_called t.nexus (t.tag).0 (given_of tasks f).task) (rest e)
       where
         either : (b : Bool) → holds (map (given_of tasks) fs) t ≡ true → (b || holds (map (given_of tasks) fs) t) ≡ true
@@ -170,17 +169,6 @@ module _ (tasks : List Held) (modes : Modes) (started : Bool) (attentions : List
 
 -- ---- what is given is apart
 
-flip : (a b : ℕ) → (a == b) ≡ (b == a)
-flip a b = go (a == b) refl (b == a) refl
-  where
-    go : (x : Bool) → (a == b) ≡ x → (y : Bool) → (b == a) ≡ y → (a == b) ≡ (b == a)
-    go true e y f = e ∙ sym (eq-eqb b a (sym (eqb-true a b e)))
-    go false e true f = let no : (a == b) ≡ true = eq-eqb a b (sym (eqb-true b a f)) in absurd cc
-    go false e false f = e ∙ sym f
-
-called-comm : (t u : Entry) → is_called t.nexus (t.tag).0 u ≡ is_called u.nexus (u.tag).0 t
-called-comm t u = ap (λ b. b && ((u.tag).0 == (t.tag).0)) (flip u.nexus t.nexus) ∙ ap (λ b. (t.nexus == u.nexus) && b) (flip (u.tag).0 (t.tag).0)
-
 any_found : (p : Entry → Bool) (q : Held → Bool) (hs : List Held) (b : Held) → list_any p (map task_of (entries_of hs)) ≡ false → find q hs ≡ Some b → p (task_of b.entry) ≡ false
 any_found p q [] b none found = absurd cc
 any_found p q (h ∷ hs) b none found = go (p (task_of h.entry)) refl none (q h) refl found (λ n f. any_found p q hs b n f)
@@ -202,7 +190,7 @@ other_name (h ∷ hs) i j a b own apart fa fb = go (h.slot == i) refl fa (h.slot
     go true hi fa false hj fb rest = let one : h ≡ a = cc in any_found (is_called a.entry.nexus (a.entry.tag).0) (is_in_slot j) hs b (ap (λ (k : Held). list_any (is_called k.entry.nexus (k.entry.tag).0) (map task_of (entries_of hs))) (sym one) ∙ own.0) fb
     go false hi fa true hj fb rest =
         let one : h ≡ b = cc in
-        called-comm (task_of a.entry) (task_of b.entry) ∙ any_found (is_called b.entry.nexus (b.entry.tag).0) (is_in_slot i) hs a (ap (λ (k : Held). list_any (is_called k.entry.nexus (k.entry.tag).0) (map task_of (entries_of hs))) (sym one) ∙ own.0) fa
+        called-sym (task_of a.entry) (task_of b.entry) ∙ any_found (is_called b.entry.nexus (b.entry.tag).0) (is_in_slot i) hs a (ap (λ (k : Held). list_any (is_called k.entry.nexus (k.entry.tag).0) (map task_of (entries_of hs))) (sym one) ∙ own.0) fa
     go false hi fa false hj fb rest = rest fa fb
 
 abbrev IsFound : List Held → Flying → Type 0
@@ -214,7 +202,7 @@ given_apart tasks (f ∷ fs) own apart found = (tags fs apart.0, names fs apart.
   where
     tags : (gs : List Flying) → AllByRecursion (λ (g : Flying). ((f.slot == g.slot) ≡ false) × ((f.tag == g.tag) ≡ false)) gs → list_any (λ (h : Given). h.tag == f.tag) (map (given_of tasks) gs) ≡ false
     tags [] all = refl
-    tags (g ∷ gs) all = ap (λ b. b || list_any (λ (h : Given). h.tag == f.tag) (map (given_of tasks) gs)) (flip g.tag f.tag ∙ all.0.1) ∙ tags gs all.1
+    tags (g ∷ gs) all = ap (λ b. b || list_any (λ (h : Given). h.tag == f.tag) (map (given_of tasks) gs)) (eqb-sym g.tag f.tag ∙ all.0.1) ∙ tags gs all.1
 
     task_is : (g : Flying) (h : Held) → find (is_in_slot g.slot) tasks ≡ Some h → (given_of tasks g).task ≡ task_of h.entry
     task_is g h at = ap (λ x. unwrap_or (option_map (λ (k : Held). task_of k.entry) x) no_entry) at

@@ -11,7 +11,8 @@ use Rattle.satl_line.specs.Tasks.{Held, change_task, entry_at, total_blocks}
 use Rattle.satl_core.specs.declared.turning.Ending.TheVariants as endings
 use Rattle.satl_direct.specs.Senses.{link_lost}
 use Rattle.satl_flight.specs.Lending.{AreAlike}
-use Rattle.satl_core.specs.Layer.{CanTrim, IsExpectable, IsKept, IsTask, entry_pages, held_pages, reply_pages}
+use Rattle.satl_core.specs.Layer.{CanTrim, IsKept, IsTask, entry_pages, held_pages, reply_pages}
+use Rattle.satl_base.specs.Limits.{IsExpectable}
 use Rattle.satl_core.specs.Turning.{ended_reply, lost_replies}
 use Rattle.satl_core.proofs.Transfers.{entries_few}
 

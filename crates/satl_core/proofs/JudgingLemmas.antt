@@ -1,7 +1,7 @@
 -- What is known of a command that the layer lets become a task.
 use Rattle.std.proofs.Common.{◌≡◌, refl, sym, ap, subst, arith, cond, ℕ, ◌+◌, ◌<◌, ◌≤◌, ◌^◌, Bool, true, false, List, length, ⊎_elim}
-use Rattle.std.specs.Prelude.{Option, Some, None, Result, Ok, Err, IfOk, not, ◌==◌, ◌&&◌, ◌||◌, nat_lt, IfSome, ◌*◌}
-use Rattle.std.proofs.lemmas.Bool.{eqb-false, ltb-false}
+use Rattle.std.specs.Prelude.{Option, Some, None, Result, Ok, Err, IfOk, not, ◌==◌, ◌&&◌, nat_lt, IfSome, ◌*◌}
+use Rattle.std.proofs.lemmas.Bool.{eqb-false, ltb-false, or_parts}
 use Rattle.satl_base.specs.declared.request.Request.{Request}
 use Rattle.satl_base.specs.Fields.{bytes}
 use Rattle.satl_cdb.specs.declared.command.Command.{Command}
@@ -248,16 +248,12 @@ code_list l r (Ok c) bytes holds e =
     let j = code_ok l r c (sym e) in
     by c (said_of r.cdb l.identity.trim c j.said) j.good
   where
-    idle_no : (a b : Bool) → (a || b) ≡ false → a ≡ false
-    idle_no true b e = absurd cc
-    idle_no false b e = refl
-
     fault_no : (size : ℕ) → (size == 0) ≡ false → unmap_list_fault r.body size l.identity.capacity ≡ None → list_fault r.body size l.identity.capacity ≡ None
     fault_no size some none = (elim (size == 0) as (λ b. b ≡ false → cond b None (list_fault r.body size l.identity.capacity) ≡ None → list_fault r.body size l.identity.capacity ≡ None) [ true ↦ λ is none. absurd cc | false ↦ λ is none. none ]) some none
 
     by : (c : Command) → IsSaid r.cdb l.identity.trim c → IsGood l r c → HasList c r.body l.identity.capacity
     by (cdbs.Unmap size) said good =
-        let some = idle_no (size == 0) (length (ranges_of r.body) == 0) good.some in
+        let some = (or_parts (size == 0) (length (ranges_of r.body) == 0) good.some).0 in
         let long = ltb-false r.data_len size good.long in
         record {
           header = has_header size good.header some;

@@ -21,7 +21,6 @@ pub mod MediumLemmas
 pub mod AloneLemmas
 pub mod PassingLemmas
 pub mod ServedLemmas
-pub mod TellingLemmas
 pub mod OpeningLemmas
 pub mod TurningLemmas
 pub mod FlushedLemmas

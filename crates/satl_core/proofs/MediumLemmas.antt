@@ -1,5 +1,5 @@
 -- A command that goes over the medium alone ends as the device says.
-use Rattle.std.proofs.Common.{◌≡◌, ⊎_elim, inl, inr, refl, sym, ap, subst, ◌∙◌, arith, ℕ, zero, suc, ◌+◌, ◌≤◌, Bool, true, false, List, [], ◌∷◌, ◌++◌, length, Some, None}
+use Rattle.std.proofs.Common.{◌≡◌, ⊎_elim, inl, inr, refl, sym, ap, subst, ◌∙◌, arith, ℕ, ◌+◌, ◌≤◌, Bool, true, false, List, [], ◌∷◌, length, Some, None}
 use Rattle.std.specs.List.{AllByRecursion}
 use Rattle.satl_base.specs.Identify.{has_trim}
 use Rattle.satl_base.specs.Lists.{IsIn}
@@ -10,7 +10,7 @@ use Rattle.satl_base.specs.declared.bench.Which.TheVariants as flaws
 use Rattle.satl_base.specs.declared.modes.Modes.{Modes}
 use Rattle.satl_base.specs.declared.reply.Reply.{Reply}
 use Rattle.satl_base.specs.declared.reply.Scsi.TheVariants.{Good}
-use Rattle.satl_base.specs.Blocks.{no_block, zero_block}
+use Rattle.satl_base.specs.Blocks.{no_block}
 use Rattle.satl_base.specs.Cells.{Cell, Pair, Part, first_flaw, pairs_from, whole}
 use Rattle.satl_base.specs.Moves.{stay}
 use Rattle.satl_base.proofs.MovesLemmas.{lose_once}
@@ -20,8 +20,7 @@ use Rattle.satl_cdb.specs.declared.command.Form.{Form}
 use Rattle.satl_identify.specs.declared.identity.Identity.{Identity}
 use Rattle.satl_sense.specs.declared.sense.Sense.{Sense}
 use Rattle.satl_pass.specs.Status.{error_sense_at}
-use Rattle.satl_regs.specs.Effects.{Transfer, unc, zeros_at}
-use Rattle.satl_regs.specs.Trim.{addresses, addresses_from}
+use Rattle.satl_regs.specs.Effects.{Transfer, unc}
 use Rattle.satl_line.specs.declared.entry.Entry.{Entry}
 use Rattle.satl_line.specs.Ending.Outcome.{ends_done, ends_glitched}
 use Rattle.satl_line.specs.Ranged.{zeros_over}
@@ -39,6 +38,7 @@ use Rattle.satl_direct.specs.Tasks.{asks, over, task_of}
 use Rattle.satl_direct.specs.Ending.{EndsBy, EndsCompared, EndsGarbled, EndsInPieces, EndsOnMedium, EndsTorn, EndsVerified, IsChecked, IsCompared, IsTaskDone, same_pairs, task_check, task_reply}
 use Rattle.satl_direct.specs.Quiet.{MayShow, MayWake, Quiet, is_pass, wakes, writes}
 use Rattle.satl_direct.specs.Senses.{crc_error, miscompare, read_error, write_error}
+use Rattle.satl_direct.proofs.Quieting.{quiet_none}
 use Rattle.satl_core.specs.declared.turning.Ending.{Ending}
 use Rattle.satl_core.specs.declared.turning.Ending.TheVariants as endings
 use Rattle.satl_core.specs.Alone.{alone_of}
@@ -49,33 +49,17 @@ use Rattle.satl_barrier.specs.Settings.{IsSetBy}
 use Rattle.satl_core.specs.Medium.{CanCarry, HasCompared, HasFinished, HasVerified, HasWhole, TakesTrim, written_alone}
 use Rattle.satl_core.specs.Refilling.{EndsOne}
 use Rattle.satl_core.specs.Turning.{ended_reply, read_pages}
-use Rattle.satl_core.proofs.DeviceLemmas.{ends_around, ends_by, first_gone, quiet_none, seen}
+use Rattle.satl_core.proofs.DeviceLemmas.{ends_around, ends_by, first_gone, seen}
 use Rattle.satl_core.proofs.HeldLemmas.{IsKeptEntry}
 use Rattle.satl_core.proofs.PassingLemmas.{pass_pairs}
 use Rattle.satl_core.proofs.QueuedLemmas.{read_flaw, write_flaw}
 use Rattle.satl_core.proofs.Transfers.{of_task}
+use Rattle.satl_flight.proofs.FlownLemmas.{zeros_of_ranges}
 
 -- the sense data of a flaw
 pub flaw_sense : (writes : Bool) (at : ℕ) → error_sense_at writes unc at ≡ (if writes then write_error at else read_error at)
 flaw_sense true at = write_flaw at
 flaw_sense false at = read_flaw at
-
--- ---- zeros at the addresses of ranges
-
-zeros_from : (lba count : ℕ) (cached : Bool) → zeros_at cached (addresses_from lba count) ≡ pairs_from lba (replicate count zero_block) cached
-unfolding addresses_from
-zeros_from lba zero cached = refl
-zeros_from lba (suc count) cached = ap (λ ps. record { lba = lba; block = zero_block; cached = cached } ∷ ps) (zeros_from (lba + 1) count cached)
-
-zeros_append : (cached : Bool) (xs ys : List ℕ) → zeros_at cached (xs ++ ys) ≡ zeros_at cached xs ++ zeros_at cached ys
-zeros_append cached [] ys = refl
-zeros_append cached (x ∷ xs) ys = ap (λ ps. record { lba = x; block = zero_block; cached = cached } ∷ ps) (zeros_append cached xs ys)
-
-pub zeros_same : (ranges : List Range) (cached : Bool) → zeros_at cached (addresses ranges) ≡ zeros_over ranges cached
-zeros_same [] cached = refl
-zeros_same (r ∷ ranges) cached =
-    zeros_append cached (addresses_from r.lba r.count) (addresses ranges)
-    ∙ (ap (λ ps. ps ++ zeros_at cached (addresses ranges)) (zeros_from r.lba r.count cached) ∙ ap (λ ps. pairs_from r.lba (replicate r.count zero_block) cached ++ ps) (zeros_same ranges cached))
 
 -- the block of a WRITE SAME at each address
 pub same_is : (lba count : ℕ) (body : List Block) (cached : Bool) → 1 ≤ length body → pairs_from lba (replicate count (get_or body 0 no_block)) cached ≡ same_pairs lba count body cached
@@ -265,7 +249,7 @@ module _ (identity : Identity) (modes : Modes) (started : Bool) (attentions : Li
     trimmed_turn c ranges ending ready wake none how h = subst (EndsSo c) (sym h.told) (by h.finish h.is)
       where
         pairs : (trimming ranges d).writes ≡ zeros_over ranges modes.wce
-        pairs = zeros_same ranges d.cache ∙ ap (zeros_over ranges) cache
+        pairs = zeros_of_ranges d.cache ranges ∙ ap (zeros_over ranges) cache
 
         by : (it : Finish) → FinishesAs (trimming ranges d) 0 it d d' → EndsSo c (medium.finished it)
         by finishes.Done x =
@@ -313,10 +297,10 @@ written_is identity modes started attentions entry others d pairs pair set told 
     (λ form lba count fua t is size i. absurd is) (λ form lba count fua t is size i. absurd is) (λ form lba count none is size i. absurd (subst (IsIn pair) is.1 i)) (λ start no_flush none is size i. absurd (subst (IsIn pair) is.1 i))
     (λ ten size none is pages i. absurd (subst (IsIn pair) is.1 i)) (λ form lba count t is size i. absurd (subst (IsIn pair) is.1 i)) (λ form lba count t is size i. absurd (subst (IsIn pair) is.1 i))
     (λ form lba count unmap. elim unmap as (λ b. (entry.blocks ≡ 1) × IsCovered identity.capacity lba count → Written (cdbs.WriteSame form lba count b) → length entry.body ≡ entry.blocks + 0 → IsIn pair pairs → Shown (cdbs.WriteSame form lba count b)) [
-      | true ↦ λ t is size i. subst (IsIn pair) (is.1 ∙ (zeros_same (over lba count ∷ []) d.cache ∙ ap (zeros_over (over lba count ∷ [])) set.cache)) i
+      | true ↦ λ t is size i. subst (IsIn pair) (is.1 ∙ (zeros_of_ranges d.cache (over lba count ∷ []) ∙ ap (zeros_over (over lba count ∷ [])) set.cache)) i
       | false ↦ λ t is size i. subst (IsIn pair) (is.1 ∙ (same_is lba count entry.body d.cache (omega (arith, t.0, size)) ∙ ap (same_pairs lba count entry.body) set.cache)) i
     ])
-    (λ size t is pages i. subst (IsIn pair) (is.1 ∙ (zeros_same entry.ranges.items d.cache ∙ ap (zeros_over entry.ranges.items) set.cache)) i)
+    (λ size t is pages i. subst (IsIn pair) (is.1 ∙ (zeros_of_ranges d.cache entry.ranges.items ∙ ap (zeros_over entry.ranges.items) set.cache)) i)
     (λ cdb t is size i. pass_pairs identity modes started attentions entry others d cdb pair set told t.1 (omega (arith, t.0, size)) is.0 (subst (IsIn pair) is.1 i)) kept.task written kept.pages
   where
     Written : Command → Type 0

@@ -1,10 +1,11 @@
 -- What opening the layer gives.
 use Rattle.std.proofs.Common.{subst, ◌≡◌, refl, sym, ap, inr, ◌∙◌, ◌-◌, arith, ℕ, Bool, true, false, List, [], map, None}
-use Rattle.std.specs.Prelude.{Result, Ok, Err, OnErr, not, replicate, slice_index_or}
+use Rattle.std.specs.Prelude.{Result, Ok, not, replicate, slice_index_or}
 use Rattle.satl_base.specs.declared.block.Block.{Block}
 use Rattle.satl_base.specs.declared.modes.Modes.{Modes}
 use Rattle.satl_base.proofs.LossesLemmas.{loses-nows, loses-sound}
 use Rattle.satl_base.specs.Identify.{has_cache, has_look, look_is_on}
+use Rattle.satl_base.proofs.Booleans.{not-not}
 use Rattle.satl_identify.specs.declared.identity.Identity.{Identity}
 use Rattle.satl_identify.specs.declared.identity.IdentityFault.{IdentityFault}
 use Rattle.satl_identify.specs.Data.{identity_data}
@@ -24,11 +25,6 @@ use Rattle.satl_core.proofs.TieLemmas.{layer_of}
 use Rattle.satl_barrier.specs.Commands.{IsTold}
 use Rattle.satl_core.specs.Opening.{IsOpened}
 
--- what holds in any case holds at an error
-pub at_error : {A E P : Type 0} (r : Result A E) → P → OnErr r P
-at_error (Ok a) p = tt
-at_error (Err e) p = p
-
 pub told_nows : (old new : DriveState) (given taken : List Block) → IsTold old given taken new → map (λ c. c.now) new.cells ≡ map (λ c. c.now) old.cells
 told_nows old new given taken told = loses-nows old.cells new.cells told.lost
 
@@ -41,10 +37,6 @@ judged_as_told old new given taken block found told is judged = judged ∙ ap (�
 off : (on has : Bool) → (on ≡ true → has ≡ true) → has ≡ false → on ≡ false
 off true has must none = let has_it = must refl in absurd cc
 off false has must none = refl
-
-twice : (b : Bool) → not (not b) ≡ b
-twice true = refl
-twice false = refl
 
 -- the data of a drive that fits them are those of themselves, with its settings in them
 own : (old new : DriveState) → new ≡ record old { cells = new.cells } → IsFit old → Unbroken rules old.identify → TellsOf old.identify new
@@ -63,7 +55,7 @@ agrees old new given taken i modes slots free idle no_error told fit fit' judged
       queue = idle_in_flight [] new (ap (λ (d : DriveState). d.outstanding) told.stays ∙ idle) (ap (λ (d : DriveState). d.error) told.stays ∙ no_error) tt (omega (arith, (capacity_bounds i (subst (λ b. identity_of b ≡ Ok i) (ap (λ (j : Identity). j.bytes) say) judged)).1, ap (λ (d : DriveState). d.capacity) told.stays, fit.told, ap (λ (j : Identity). j.capacity) say));
       fit = fit';
       cache = λ up. ap (λ (d : DriveState). d.cache) told.stays ∙ (sym fit.cache_told ∙ (ap (λ (j : Identity). j.cache_on) say ∙ sym wce));
-      look = λ up. ap (λ (d : DriveState). d.look) told.stays ∙ (sym fit.look_told ∙ (ap (λ (j : Identity). j.look_on) say ∙ (sym (twice i.look_on) ∙ ap not (sym dra))));
+      look = λ up. ap (λ (d : DriveState). d.look) told.stays ∙ (sym fit.look_told ∙ (ap (λ (j : Identity). j.look_on) say ∙ (sym (not-not i.look_on) ∙ ap not (sym dra))));
       told = subst (λ b. TellsOf b new) (ap (λ (j : Identity). j.bytes) say) (own old new told.stays fit (unbroken old.identify i judged).0);
       valid = record {
         identity = subst (λ b. identity_of b ≡ Ok i) (ap (λ (j : Identity). j.bytes) say) judged;

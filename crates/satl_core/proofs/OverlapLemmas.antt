@@ -1,6 +1,7 @@
 -- A request that overlaps a task, and one that becomes a task and is issued.
-use Rattle.std.proofs.Common.{◌≡◌, refl, sym, ap, subst, ◌∙◌, true, false, Bool, List, [], ◌∷◌, ◌++◌, Err}
+use Rattle.std.proofs.Common.{◌≡◌, refl, sym, ap, subst, ◌∙◌, true, false, List, [], ◌∷◌, ◌++◌, Err}
 use Rattle.std.specs.Prelude.{not, ◌&&◌, filter}
+use Rattle.std.proofs.lemmas.Bool.{and_parts}
 use Rattle.satl_base.specs.declared.reply.Reply.{Reply}
 use Rattle.satl_base.specs.declared.request.Request.{Request}
 use Rattle.satl_line.specs.Tasks.{Held}
@@ -10,6 +11,7 @@ use Rattle.satl_direct.specs.Device.{Device, is_of}
 use Rattle.satl_direct.specs.Quiet.{Around, Quiet}
 use Rattle.satl_direct.specs.Run.{MayLose}
 use Rattle.satl_direct.specs.Senses.{overlapped}
+use Rattle.satl_direct.proofs.Quieting.{around_alone}
 use Rattle.satl_core.specs.declared.leaving.Scope.TheVariants as scopes
 use Rattle.satl_core.specs.declared.submitting.AtOnce.TheVariants as at_once
 use Rattle.satl_core.specs.Layer.{Layer, view}
@@ -19,22 +21,17 @@ use Rattle.satl_asks.specs.Requests.{is_for_unit}
 use Rattle.satl_core.specs.Submitting.{IsCutOf, is_overlapping, judged, once_judged, overlaps, reply_at_once}
 use Rattle.satl_core.proofs.ArrivalLemmas.{answers_at_once}
 use Rattle.satl_core.proofs.ComposeLemmas.{around_step, step_on}
-use Rattle.satl_core.proofs.DeviceLemmas.{around_alone}
 use Rattle.satl_core.proofs.LeavingLemmas.{left_tasks}
-
-both_so : (a b : Bool) → (a && b) ≡ true → (a ≡ true) × (b ≡ true)
-both_so true b e = (refl, e)
-both_so false b e = absurd cc
 
 -- the whole request overlaps, too
 same_overlap : (tasks : List Held) (whole cut : Request) → IsCutOf whole cut → is_overlapping tasks cut ≡ true → is_overlapping tasks whole ≡ true
 same_overlap tasks whole cut c is = ap (is_overlapping tasks) (sym c.cut_is) ∙ is
 
 judged_overlapped : (l : Layer) (r : Request) → is_overlapping l.tasks r ≡ true → judged l r ≡ Err (at_once.Check overlapped)
-judged_overlapped l r is = let b = both_so (is_for_unit r) (overlaps l.tasks r) is in rw (b.0, b.1) refl
+judged_overlapped l r is = let b = and_parts (is_for_unit r) (overlaps l.tasks r) is in rw (b.0, b.1) refl
 
 left_overlapped : (l : Layer) (r : Request) → is_overlapping l.tasks r ≡ true → once_judged l r ≡ record l { tasks = left_by (is_of r.nexus) l.tasks }
-left_overlapped l r is = let b = both_so (is_for_unit r) (overlaps l.tasks r) is in rw (b.0, b.1) refl
+left_overlapped l r is = let b = and_parts (is_for_unit r) (overlaps l.tasks r) is in rw (b.0, b.1) refl
 
 -- the tasks of its nexus go, and it is refused
 overlap_step : (l : Layer) (d : DriveState) (r : Request) (s mid : Device) (given : List Reply) → l.down ≡ d.down → is_overlapping l.tasks r ≡ true → Quiet (view l d) s → Removes (is_within (scopes.OfNexus r.nexus)) s given mid

@@ -1,8 +1,8 @@
 -- ATA PASS-THROUGH: what its command does on the drive is what the device says.
-use Rattle.std.proofs.Common.{◌≡◌, ◌⊎◌, ⊎_elim, inl, inr, refl, sym, ap, subst, ◌∙◌, arith, ℕ, ◌+◌, ◌*◌, ◌≤◌, Bool, true, false, List, [], ◌∷◌, ◌++◌, length}
+use Rattle.std.proofs.Common.{◌≡◌, ◌⊎◌, ⊎_elim, inl, inr, refl, sym, ap, subst, ◌∙◌, arith, ℕ, ◌+◌, ◌*◌, ◌≤◌, Bool, true, false, List, [], ◌∷◌, length}
 use Rattle.std.specs.Prelude.{MatchBool, MatchOption, Option, Some, None, if◌then◌else◌, not, ◌==◌, ◌&&◌, ◌||◌, nat_lt}
-use Rattle.std.proofs.lemmas.Bool.{eqb-true, not-false}
-use Rattle.std.proofs.lemmas.List.{length-append, length-take, take_all}
+use Rattle.std.proofs.lemmas.Bool.{eqb-true, not-false, and_right}
+use Rattle.std.proofs.lemmas.List.{length-take, take_all}
 use Rattle.satl_base.specs.declared.block.Block.{Block}
 use Rattle.satl_base.specs.declared.modes.Modes.{Modes}
 use Rattle.satl_base.specs.declared.reply.Reply.{Reply}
@@ -10,6 +10,8 @@ use Rattle.satl_base.specs.Blocks.{bytes_of, first_bytes}
 use Rattle.satl_base.specs.Cells.{Pair, first_flaw}
 use Rattle.satl_base.specs.Lists.{IsIn}
 use Rattle.satl_base.proofs.MovesLemmas.{lose_once}
+use Rattle.satl_base.proofs.BlocksLemmas.{length-bytes_of}
+use Rattle.satl_base.proofs.Booleans.{not-not}
 use Rattle.satl_cdb.specs.declared.command.Command.TheVariants as cdbs
 use Rattle.satl_identify.specs.declared.identity.Identity.{Identity}
 use Rattle.satl_identify.specs.Data.{identity_data}
@@ -27,7 +29,7 @@ use Rattle.satl_pass.specs.Reading.{CanRun}
 use Rattle.satl_pass.specs.Status.{is_bad}
 use Rattle.satl_pass.specs.Transfers.{is_other}
 use Rattle.satl_frame.specs.DataPages.{page_count, pages_from, pages_of}
-use Rattle.satl_frame.proofs.Paging.{length-pages_of, pages_of-append, whole_block}
+use Rattle.satl_frame.proofs.Paging.{length-pages_of, pages_of-bytes_of}
 use Rattle.satl_line.specs.declared.entry.Entry.{Entry}
 use Rattle.satl_unit.specs.declared.attention.Attention.{Attention}
 use Rattle.satl_drive.specs.State as drive
@@ -39,11 +41,12 @@ use Rattle.satl_direct.specs.Device.{Device}
 use Rattle.satl_direct.specs.Ending.{EndsPassed, medium_of, pass_reply}
 use Rattle.satl_direct.specs.Tasks.{pass_of, task_of}
 use Rattle.satl_direct.proofs.Passing.{writes_none}
+use Rattle.satl_direct.proofs.Quieting.{quiet_none}
 use Rattle.satl_core.specs.declared.turning.Ending.{Ending}
 use Rattle.satl_core.specs.Medium.{PassesThrough, passed}
 use Rattle.satl_core.specs.Refilling.{EndsOne}
 use Rattle.satl_core.specs.Turning.{ended_reply, modes_after, set_by, where_done, with_setting}
-use Rattle.satl_core.proofs.DeviceLemmas.{ends_around, ends_by, first_gone, quiet_none, seen}
+use Rattle.satl_core.proofs.DeviceLemmas.{ends_around, ends_by, first_gone, seen}
 
 -- the length of a command of the profile is its own
 own_length : (pass : Pass) → is_other (command_in pass.regs) ≡ false → CanRun pass → pass.length ≡ 512 * own_blocks (command_in pass.regs)
@@ -61,33 +64,20 @@ own_room pass n can count = by (command_in pass.regs) refl
 
 -- ---- whole pages
 
-one_page : (b : Block) → length b.bytes ≡ 512 → pages_of b.bytes ≡ b ∷ []
-unfolding pages_of pages_from
-one_page b size = rw size (ap (λ (p : Block). p ∷ []) (sym (whole_block b.bytes b.bytes (omega arith) (sym (take_all 512 b.bytes (omega arith))))))
-
-whole_length : (bs : List Block) → AreWhole bs → length (bytes_of bs) ≡ 512 * length bs
-whole_length [] whole = refl
-whole_length (b ∷ bs) whole = omega (arith, length-append b.bytes (bytes_of bs), whole.0, whole_length bs whole.1)
-
-pages_whole : (bs : List Block) → AreWhole bs → pages_of (bytes_of bs) ≡ bs
-unfolding pages_of pages_from
-pages_whole [] whole = refl
-pages_whole (b ∷ bs) whole = pages_of-append 1 b.bytes (bytes_of bs) whole.0 ∙ (ap (λ (ps : List Block). ps ++ pages_of (bytes_of bs)) (one_page b whole.0) ∙ ap (λ (ps : List Block). b ∷ ps) (pages_whole bs whole.1))
-
 first_all : (n : ℕ) (bs : List Block) → AreWhole bs → n ≡ 512 * length bs → first_bytes n bs ≡ bytes_of bs
-first_all n bs whole size = take_all n (bytes_of bs) (omega (arith, size, whole_length bs whole))
+first_all n bs whole size = take_all n (bytes_of bs) (omega (arith, size, length-bytes_of bs whole))
 
 -- whole pages are those of their bytes
 own_pages : (n : ℕ) (bs : List Block) → AreWhole bs → n ≡ 512 * length bs → pages_of (first_bytes n bs) ≡ bs
-own_pages n bs whole size = ap pages_of (first_all n bs whole size) ∙ pages_whole bs whole
+own_pages n bs whole size = ap pages_of (first_all n bs whole size) ∙ pages_of-bytes_of bs whole
 
 own_size : (n : ℕ) (bs : List Block) → AreWhole bs → n ≡ 512 * length bs → length (first_bytes n bs) ≡ 512 * length bs
-own_size n bs whole size = ap length (first_all n bs whole size) ∙ whole_length bs whole
+own_size n bs whole size = ap length (first_all n bs whole size) ∙ length-bytes_of bs whole
 
 -- pages of so many bytes
 size_of_pages : (n : ℕ) (bs : List Block) → AreWhole bs → length bs ≡ page_count n → length (pages_of (first_bytes n bs)) ≡ page_count n
 size_of_pages n bs whole count =
-    length-pages_of (first_bytes n bs) ∙ ap page_count (length-take n (bytes_of bs) ∙ omega (arith, whole_length bs whole, count))
+    length-pages_of (first_bytes n bs) ∙ ap page_count (length-take n (bytes_of bs) ∙ omega (arith, length-bytes_of bs whole, count))
 
 -- ---- what it sets
 
@@ -176,15 +166,11 @@ same_form (ata.SetFeatures what) false modes = by (setting_of what)
     by (Some (sets_look on)) = refl
 same_form c false modes = refl
 
-twice : (b : Bool) → not (not b) ≡ b
-twice true = refl
-twice false = refl
-
 -- mode values by the settings of a medium
 modes_of : (modes set : Modes) (m : Medium) → AreSet set m → set.d_sense ≡ modes.d_sense → record modes { wce = m.cache; dra = not m.look } ≡ set
 modes_of modes set m are form =
     ap (λ b. record modes { wce = b; dra = not m.look }) are.cache
-    ∙ (ap (λ b. record modes { wce = set.wce; dra = b }) (ap not are.look ∙ twice set.dra)
+    ∙ (ap (λ b. record modes { wce = set.wce; dra = b }) (ap not are.look ∙ not-not set.dra)
     ∙ ap (λ b. record { wce = set.wce; dra = set.dra; d_sense = b }) (sym form))
 
 -- ---- how it ends
@@ -335,13 +321,9 @@ module _ (identity : Identity) (modes : Modes) (started : Bool) (attentions : Li
         subst (λ e. EndsOne before (ended_reply (record task { body = taken }) e modes.d_sense) (seen identity (where_done e (set_by command modes) modes) started attentions others d')) (sym x.told)
         (subst (λ m. EndsOne before reply (seen identity m started attentions others d')) left_is
         (ends_around before before mid (seen identity left started attentions others d') (task_of task) others reply (quiet_none before) refl
-        (ends_by before (task_of task) reply mid set.up (never started) (passes (refused_all command pass.regs (medium_of before) entry.body x.ended taken x.is.after does)))
+        (ends_by before (task_of task) reply mid set.up (and_right (not started) false refl) (passes (refused_all command pass.regs (medium_of before) entry.body x.ended taken x.is.after does)))
         (record {
           cells = lose_once x.is.lost;
           active = inl (ap (λ (y : DriveState). y.active) x.is.stays);
           stays = ap (λ (y : DriveState). record mid { cells = d'.cells; active = d'.active; down = y.down; glitches = y.glitches }) x.is.stays;
         })))
-      where
-        never : (b : Bool) → (not b && false) ≡ false
-        never true = refl
-        never false = refl

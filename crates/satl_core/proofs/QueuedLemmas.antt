@@ -1,7 +1,8 @@
 -- What the queue does is what the device does.
-use Rattle.std.proofs.Common.{◌≡◌, refl, sym, ◌∙◌, ap, subst, inl, ⊎_elim, ℕ, zero, suc, Bool, true, false, List, [], ◌∷◌, Option, Some, None, arith, eqb-true, eq-eqb}
+use Rattle.std.proofs.Common.{◌≡◌, refl, sym, ◌∙◌, ap, subst, inl, ⊎_elim, ℕ, zero, suc, Bool, true, false, List, [], ◌∷◌, Option, Some, None, arith}
 use Rattle.std.specs.Prelude.{◌==◌, ◌&&◌, ◌||◌, not, map, MatchBool, slice_get, if◌then◌else◌}
 use Rattle.std.specs.List.{list_any, remove}
+use Rattle.std.proofs.lemmas.Bool.{or_parts}
 use Rattle.satl_base.specs.declared.block.Block.{Block}
 use Rattle.satl_base.specs.declared.block.Range.{Range}
 use Rattle.satl_base.specs.declared.reply.Reply.{Reply}
@@ -10,6 +11,8 @@ use Rattle.satl_base.specs.Lists.{IsIn, remove_first}
 use Rattle.satl_base.specs.Cells.{Cell, Pair}
 use Rattle.satl_base.specs.Moves.{Moves}
 use Rattle.satl_base.proofs.MovesLemmas.{moves_weaker}
+use Rattle.satl_base.proofs.Booleans.{eqb-sym}
+use Rattle.satl_base.proofs.ListsLemmas.{get-map}
 use Rattle.satl_cdb.specs.declared.command.Command.{Command}
 use Rattle.satl_cdb.specs.declared.command.Command.TheVariants as commands
 use Rattle.satl_errlog.specs.declared.entry.NcqError.{NcqError}
@@ -38,13 +41,15 @@ use Rattle.satl_direct.specs.Turn.{Loss, TurnLoss}
 use Rattle.satl_direct.specs.Turn.Turn.{loses}
 use Rattle.satl_direct.specs.Quiet.{Around}
 use Rattle.satl_direct.specs.Valid.{AreOwn}
+use Rattle.satl_direct.proofs.Quieting.{quiet_none}
+use Rattle.satl_direct.proofs.Naming.{called_same}
 use Rattle.satl_flight.specs.Flown.{clash}
 use Rattle.satl_flight.specs.Settled.{IsFilled, IsFlawOrCrc, IsLostInFlight, IsLostQuietly, IsSettled, outcome_of, read_into}
 use Rattle.satl_core.specs.Layer.{Agrees, Layer, view, works}
 use Rattle.satl_core.specs.Refilling.{EndsOne}
 use Rattle.satl_core.specs.Turning as core
 use Rattle.satl_core.specs.Turning.{ended_reply, ending_by, is_read, read_pages}
-use Rattle.satl_core.proofs.DeviceLemmas.{ends_by, quiet_none, rest_lost}
+use Rattle.satl_core.proofs.DeviceLemmas.{ends_by, rest_lost}
 
 -- ---- a task as the device sees it
 
@@ -173,37 +178,13 @@ may_show s cache entries pair tasks_are wce up started m = record {
 -- the task at a place is the one of its name
 without_place : (tasks : List Entry) (place : ℕ) (t : Entry) → AreOwn tasks → slice_get tasks place ≡ Some t → without t tasks ≡ remove tasks place
 without_place [] place t own at = absurd cc
-without_place (u ∷ us) zero t own at = let one : u ≡ t = cc in ap (λ b. if b then us else u ∷ remove_first (is_called t.nexus (t.tag).0) us) (called t u one)
-  where
-    called : (t u : Entry) → u ≡ t → is_called t.nexus (t.tag).0 u ≡ true
-    called t u one = ap (λ b. b && ((u.tag).0 == (t.tag).0)) (eq-eqb u.nexus t.nexus (ap (λ (e : Entry). e.nexus) one)) ∙ eq-eqb (u.tag).0 (t.tag).0 (ap (λ (e : Entry). (e.tag).0) one)
+without_place (u ∷ us) zero t own at = let one : u ≡ t = cc in ap (λ b. if b then us else u ∷ remove_first (is_called t.nexus (t.tag).0) us) (called_same u t one)
 without_place (u ∷ us) (suc place) t own at = ap (λ b. if b then us else u ∷ remove_first (is_called t.nexus (t.tag).0) us) (other us place own.0 at) ∙ ap (λ xs. u ∷ xs) (without_place us place t own.1 at)
   where
-    flip : (a b : ℕ) → (a == b) ≡ (b == a)
-    flip a b = go (a == b) refl (b == a) refl
-      where
-        go : (x : Bool) → (a == b) ≡ x → (y : Bool) → (b == a) ≡ y → (a == b) ≡ (b == a)
-        go true e y f = e ∙ sym (eq-eqb b a (sym (eqb-true a b e)))
-        go false e true f = let no : (a == b) ≡ true = eq-eqb a b (sym (eqb-true b a f)) in absurd cc
-        go false e false f = e ∙ sym f
-
     other : (ts : List Entry) (k : ℕ) → list_any (is_called u.nexus (u.tag).0) ts ≡ false → slice_get ts k ≡ Some t → is_called t.nexus (t.tag).0 u ≡ false
     other [] k none is = absurd cc
-    other (x ∷ xs) zero none is = let one : x ≡ t = cc in ap (λ b. b && ((u.tag).0 == (t.tag).0)) (flip u.nexus t.nexus) ∙ ap (λ b. (t.nexus == u.nexus) && b) (flip (u.tag).0 (t.tag).0) ∙ ap (is_called u.nexus (u.tag).0) (sym one) ∙ left _ _ none
-      where
-        left : (a b : Bool) → (a || b) ≡ false → a ≡ false
-        left true b e = e
-        left false b e = refl
-    other (x ∷ xs) (suc k) none is = other xs k (right _ _ none) is
-      where
-        right : (a b : Bool) → (a || b) ≡ false → b ≡ false
-        right true b e = absurd cc
-        right false b e = e
-
-pub get-map : {X Y : Type 0} (f : X → Y) (xs : List X) (k : ℕ) (x : X) → slice_get xs k ≡ Some x → slice_get (map f xs) k ≡ Some (f x)
-get-map f [] k x h = absurd cc
-get-map f (y ∷ ys) zero x h = let one : y ≡ x = cc in ap (λ z. Some (f z)) one
-get-map f (y ∷ ys) (suc k) x h = get-map f ys k x h
+    other (x ∷ xs) zero none is = let one : x ≡ t = cc in ap (λ b. b && ((u.tag).0 == (t.tag).0)) (eqb-sym u.nexus t.nexus) ∙ ap (λ b. (t.nexus == u.nexus) && b) (eqb-sym (u.tag).0 (t.tag).0) ∙ ap (is_called u.nexus (u.tag).0) (sym one) ∙ (or_parts _ _ none).0
+    other (x ∷ xs) (suc k) none is = other xs k (or_parts _ _ none).1 is
 
 -- ---- a unit that works
 

@@ -13,6 +13,7 @@ use Rattle.satl_frame.specs.Output.{IsWritable}
 use Rattle.satl_direct.specs.Device.{Device}
 use Rattle.satl_direct.specs.Quiet.{Quiet}
 use Rattle.satl_direct.specs.Turn.{Loss}
+use Rattle.satl_direct.proofs.Quieting.{quiet_none}
 use Rattle.satl_flight.specs.Settled.{IsCovered, IsFilled, IsLaunched, IsLostQuietly}
 use Rattle.satl_flight.proofs.LaunchedLemmas.{launched_moves}
 use Rattle.satl_flight.proofs.LaunchingLemmas.{filled_come}
@@ -21,7 +22,6 @@ use Rattle.satl_core.specs.Layer.{Agrees, Layer, Tied, reply_pages, view, works}
 use Rattle.satl_core.specs.Refilling.{Answers, Comes, KeepsRest, Refills}
 use Rattle.satl_core.specs.Turning.{lost_replies}
 use Rattle.satl_core.proofs.AgreeingLemmas.{agrees_launched, quietly_down, tied_lost, used_filled}
-use Rattle.satl_core.proofs.DeviceLemmas.{quiet_none}
 use Rattle.satl_core.proofs.FlushedLemmas.{still_settled}
 use Rattle.satl_core.proofs.HeldLemmas.{reply_pages-append}
 use Rattle.satl_core.proofs.QueuedLemmas.{loses_quietly, moves_quietly}

@@ -2,7 +2,7 @@
 use Rattle.std.proofs.Common.{◌≡◌, refl, subst, arith, cond, ℕ, ◌<◌, ◌≤◌, Bool, true, false, List, [], ◌∷◌}
 use Rattle.std.specs.Prelude.{Some, Ok, Err, not, ◌==◌, nat_lt, slice_index}
 use Rattle.std.specs.List.{AllByRecursion}
-use Rattle.std.proofs.lemmas.Bool.{eqb-false, eqb-true, ltb-false}
+use Rattle.std.proofs.lemmas.Bool.{eqb-false, eqb-true, ltb-false, not-false}
 use Rattle.satl_base.specs.Fields.{bit, bits, bytes}
 use Rattle.satl_cdb.specs.declared.command.Command.{Command}
 use Rattle.satl_cdb.specs.declared.command.Command.TheVariants as cdbs
@@ -98,11 +98,7 @@ said_same long cdb trim c e =
 said_unmap : (cdb : List ℕ) (trim : Bool) (c : Command) → unless_broken (unmap trim).rules cdb ((unmap trim).command cdb) ≡ Ok c → IsSaid cdb trim c
 said_unmap cdb trim c e =
     let kept = rules_kept (unmap trim).rules cdb ((unmap trim).command cdb) c e in
-    subst (IsSaid cdb trim) (unbroken (unmap trim).rules cdb ((unmap trim).command cdb) c e) (λ bytes. omega (arith, bytes.1, bytes.2), has trim kept.0)
-  where
-    has : (trim : Bool) → not trim ≡ false → trim ≡ true
-    has true kept = refl
-    has false kept = absurd cc
+    subst (IsSaid cdb trim) (unbroken (unmap trim).rules cdb ((unmap trim).command cdb) c e) (λ bytes. omega (arith, bytes.1, bytes.2), not-false trim kept.0)
 
 -- what holds of each row of a table holds of what the table says
 said_in : (cdb : List ℕ) (trim : Bool) (c : Command) (rows : List Row) → AllByRecursion (λ (r : Row). slice_index cdb 0 ≡ r.code → format_says r.format cdb ≡ Ok c → IsSaid cdb trim c) rows

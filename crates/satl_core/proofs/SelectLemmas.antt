@@ -10,7 +10,7 @@ use Rattle.satl_base.specs.declared.modes.Modes.{Modes}
 use Rattle.satl_base.specs.declared.modes.ModeChange.{ModeChange}
 use Rattle.satl_base.specs.Blocks.{byte_at, no_block}
 use Rattle.satl_base.specs.Fields.{bits_of}
-use Rattle.satl_base.specs.Places.{places}
+use Rattle.satl_base.proofs.PlacesLemmas.{places-below}
 use Rattle.satl_cdb.specs.declared.command.Illegal.{Illegal}
 use Rattle.satl_cdb.specs.Refusals.{invalid_list_field, list_length_error}
 use Rattle.satl_cdb.specs.Unmap.{number_at}
@@ -33,12 +33,8 @@ Agree n a b = (p : ℕ) → p < n → byte_at a p ≡ byte_at b p
 pub taken_agrees : (n count : ℕ) (blocks : List Block) → n ≤ 512 * count → Agree n (take count blocks) blocks
 taken_agrees n count blocks room p below = ap (λ (b : Block). slice_index b.bytes (p % 512)) (get_or-take count blocks (p / 512) no_block (omega (arith, room, below)))
 
-places_same : (i n : ℕ) (f g : ℕ → ℕ) → ((p : ℕ) → p < i + n → f p ≡ g p) → places i n f ≡ places i n g
-places_same i zero f g same = refl
-places_same i (suc n) f g same = ap (λ x. x ∷ places (i + 1) n f) (same i (omega arith)) ∙ ap (λ l. g i ∷ l) (places_same (i + 1) n f g (λ p below. same p (omega (arith, below))))
-
 pub number_same : (place n limit : ℕ) (a b : List Block) → Agree limit a b → place + n ≤ limit → number_at place n a ≡ number_at place n b
-number_same place n limit a b agree room = rw (places_same place n (byte_at a) (byte_at b) (λ p below. agree p (omega (arith, below, room)))) refl
+number_same place n limit a b agree room = rw (places-below n place (byte_at a) (byte_at b) (λ p below. agree p (omega (arith, below, room)))) refl
 
 -- ---- before the pages
 

@@ -2,6 +2,7 @@
 use Rattle.std.proofs.Common.{◌≡◌, inl, refl, sym, ap, subst, ◌∙◌, ℕ, true, false, Bool, List, [], ◌∷◌, ◌++◌, map, Some, None}
 use Rattle.std.specs.Prelude.{IfSome, IsSomeAnd, MatchBool, Option, if◌then◌else◌, not, ◌==◌, ◌&&◌}
 use Rattle.std.specs.List.{AllByRecursion}
+use Rattle.std.proofs.lemmas.Bool.{and_right}
 use Rattle.satl_base.specs.declared.block.Block.{Block}
 use Rattle.satl_base.specs.declared.modes.Modes.{Modes}
 use Rattle.satl_base.specs.declared.reply.Reply.{Reply}
@@ -31,6 +32,7 @@ use Rattle.satl_direct.specs.Attentions.{are_same, are_same_modes, post, with_mo
 use Rattle.satl_direct.specs.Turn as turns
 use Rattle.satl_direct.specs.Turn.{Turn}
 use Rattle.satl_direct.specs.Turn.Turn.{loses}
+use Rattle.satl_direct.proofs.Quieting.{quiet_none}
 use Rattle.satl_core.specs.declared.managing.Posting.{Posting}
 use Rattle.satl_core.specs.declared.managing.Posting.TheVariants.{ModesChanged}
 use Rattle.satl_core.specs.declared.turning.Ending.{Ending}
@@ -41,7 +43,7 @@ use Rattle.satl_core.specs.Layer.{Agrees, IsCovered, IsKept, IsTask, Layer}
 use Rattle.satl_core.specs.Refilling.{EndsOne}
 use Rattle.satl_core.specs.Turning as core
 use Rattle.satl_core.specs.Turning.{DoneAlone, IsLostInTask, IsUnasked, TaskEnds, change_posting, ended_reply, modes_after, read_pages, started_after, wanted_by, where_done}
-use Rattle.satl_core.proofs.DeviceLemmas.{all_lost, ends_around, ends_by, ends_down, ends_stopped, first_checked, first_gone, first_tasks, quiet_none, quiet_same, seen}
+use Rattle.satl_core.proofs.DeviceLemmas.{all_lost, ends_around, ends_by, ends_down, ends_stopped, first_checked, first_gone, first_tasks, quiet_same, seen}
 use Rattle.satl_core.proofs.HeldLemmas.{IsFirst, IsKeptEntry, first_kept}
 use Rattle.satl_core.specs.Medium.{CanCarry, HasWhole, written_alone}
 use Rattle.satl_core.proofs.PassingLemmas.{pass_turn}
@@ -78,17 +80,12 @@ bare_turn : (identity : Identity) (modes : Modes) (started started' : Bool) (att
 bare_turn identity modes started started' attentions entry others d d' cells active ending ready how x good none =
     left_turn identity modes modes started started' attentions attentions entry others d d' cells active ending ready how x.was_up x.lost (ap (λ (y : DriveState). y.active) x.stays) (ap (λ (y : DriveState). y.down) x.stays) (ap (λ (y : DriveState). y.glitches) x.stays) good none
 
--- whether it is started does not matter to a START STOP UNIT or a MODE SELECT
-never : (b : Bool) → (not b && false) ≡ false
-never true = refl
-never false = refl
-
 switched_turn : (identity : Identity) (modes : Modes) (started start no_flush : Bool) (attentions : List (List Attention)) (entry : Entry) (others : List Entry) (d d' : DriveState) (ending : Ending)
     → IsSwitched start no_flush d d' → ending ≡ endings.Good
     → EndsOne (seen identity modes started attentions (task_of (record entry { command = cdbs.StartStop start no_flush }) ∷ others) d) (ended_reply (record entry { command = cdbs.StartStop start no_flush }) ending modes.d_sense) (seen identity modes start attentions others d')
-switched_turn identity modes started true no_flush attentions entry others d d' ending x good = bare_turn identity modes started true attentions (record entry { command = cdbs.StartStop true no_flush }) others d d' d.cells true ending (never started) (λ reply new e. e) x good refl
-switched_turn identity modes started false true attentions entry others d d' ending x good = bare_turn identity modes started false attentions (record entry { command = cdbs.StartStop false true }) others d d' d.cells false ending (never started) (λ reply new e. e) x good refl
-switched_turn identity modes started false false attentions entry others d d' ending x good = bare_turn identity modes started false attentions (record entry { command = cdbs.StartStop false false }) others d d' (map settle d.cells) false ending (never started) (λ reply new e. e) x good refl
+switched_turn identity modes started true no_flush attentions entry others d d' ending x good = bare_turn identity modes started true attentions (record entry { command = cdbs.StartStop true no_flush }) others d d' d.cells true ending (and_right (not started) false refl) (λ reply new e. e) x good refl
+switched_turn identity modes started false true attentions entry others d d' ending x good = bare_turn identity modes started false attentions (record entry { command = cdbs.StartStop false true }) others d d' d.cells false ending (and_right (not started) false refl) (λ reply new e. e) x good refl
+switched_turn identity modes started false false attentions entry others d d' ending x good = bare_turn identity modes started false attentions (record entry { command = cdbs.StartStop false false }) others d d' (map settle d.cells) false ending (and_right (not started) false refl) (λ reply new e. e) x good refl
 
 -- the device after a MODE SELECT, whether all was written back or not
 selected_so : (settles : Bool) (modes wanted : Modes) (attentions : List (List Attention)) (identity : Identity) (started : Bool) (tasks : List Entry) (d : DriveState) (t : Entry) (reply : Reply) (new : Device)
@@ -102,7 +99,7 @@ selected_turn : (identity : Identity) (modes : Modes) (started ten : Bool) (size
     → EndsOne (seen identity modes started attentions (task_of (record entry { command = cdbs.ModeSelect ten size }) ∷ others) d) (ended_reply (record entry { command = cdbs.ModeSelect ten size }) ending modes.d_sense) (seen identity (wanted_by modes entry.modes) started (with_modes_changed modes (wanted_by modes entry.modes) entry.nexus attentions) others d')
 selected_turn identity modes started ten size attentions entry others d d' ending cache x good =
     let wanted : Modes = wanted_by modes entry.modes in
-    left_turn identity modes wanted started started attentions (with_modes_changed modes wanted entry.nexus attentions) (record entry { command = cdbs.ModeSelect ten size }) others d d' (settled_if (modes.wce && not wanted.wce) d.cells) d.active ending (never started)
+    left_turn identity modes wanted started started attentions (with_modes_changed modes wanted entry.nexus attentions) (record entry { command = cdbs.ModeSelect ten size }) others d d' (settled_if (modes.wce && not wanted.wce) d.cells) d.active ending (and_right (not started) false refl)
     (λ reply new e. selected_so (modes.wce && not wanted.wce) modes wanted attentions identity started (task_of (record entry { command = cdbs.ModeSelect ten size }) ∷ others) d (task_of (record entry { command = cdbs.ModeSelect ten size })) reply new e)
     x.was_up (subst (λ b. Loses (settled_if (b && not wanted.wce) d.cells) d'.cells) cache x.lost) (ap (λ (y : DriveState). y.active) x.stays) (ap (λ (y : DriveState). y.down) x.stays) (ap (λ (y : DriveState). y.glitches) x.stays) good refl
 

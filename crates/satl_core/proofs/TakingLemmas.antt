@@ -2,6 +2,7 @@
 use Rattle.std.proofs.Common.{◌≡◌, inl, ⊎_elim, refl, sym, ap, subst, ◌∙◌, ◌-◌, arith, ◌+◌, ◌≤◌, true, false, Bool, List, [], ◌∷◌, ◌++◌, length, map, cond, Some, eqb-true, eq-eqb}
 use Rattle.std.specs.Prelude.{not, ◌||◌, ◌==◌, filter, MatchBool}
 use Rattle.std.specs.List.{AllByRecursion, find}
+use Rattle.std.proofs.lemmas.Bool.{or_right}
 use Rattle.satl_base.specs.declared.modes.Modes.{Modes}
 use Rattle.satl_base.specs.declared.reply.Reply.{Reply}
 use Rattle.satl_base.specs.Lists.{IsIn}
@@ -16,6 +17,7 @@ use Rattle.satl_direct.specs.Quiet.{Around}
 use Rattle.satl_direct.specs.Run.{MayLose}
 use Rattle.satl_direct.specs.Tasks.{task_of}
 use Rattle.satl_direct.specs.Valid.{IsValid}
+use Rattle.satl_direct.proofs.Quieting.{quiet_none}
 use Rattle.satl_flight.specs.declared.flight.Flying.{Flying}
 use Rattle.satl_flight.specs.Flown.{IsInFlight, holds, is_in_slot}
 use Rattle.satl_flight.specs.Queueing.{Waiting}
@@ -28,7 +30,7 @@ use Rattle.satl_core.specs.Refilling.{Answers, KeepsRest, Refills, Removes}
 use Rattle.satl_core.specs.Turning.{lost_replies}
 use Rattle.satl_core.proofs.AgreeingLemmas.{agrees_by, agrees_cut}
 use Rattle.satl_core.proofs.ComposeLemmas.{removes_and_loses, removes_quietly, step_on}
-use Rattle.satl_core.proofs.DeviceLemmas.{quiet_none, rest_lost}
+use Rattle.satl_core.proofs.DeviceLemmas.{rest_lost}
 use Rattle.satl_core.proofs.LeavingLemmas.{idle_waits, left_tasks}
 use Rattle.satl_core.proofs.ManagingLemmas.{within_seen}
 use Rattle.satl_core.proofs.QueuedLemmas.{is_up, moves_shown}
@@ -37,13 +39,9 @@ use Rattle.satl_core.proofs.ValidLemmas.{valid_left}
 
 -- ---- the others stay outstanding
 
-or_true : (a b : Bool) → b ≡ true → (a || b) ≡ true
-or_true true b e = refl
-or_true false b e = e
-
 in_holds : (flying : List Flying) (f : Flying) → IsIn f flying → holds flying f.slot ≡ true
 in_holds [] f i = absurd i
-in_holds (g ∷ flying) f i = ⊎_elim (λ e. ap (λ b. b || holds flying f.slot) (eq-eqb g.slot f.slot (ap (λ (x : Flying). x.slot) (sym e)))) (λ later. or_true (g.slot == f.slot) (holds flying f.slot) (in_holds flying f later)) i
+in_holds (g ∷ flying) f i = ⊎_elim (λ e. ap (λ b. b || holds flying f.slot) (eq-eqb g.slot f.slot (ap (λ (x : Flying). x.slot) (sym e)))) (λ later. or_right (g.slot == f.slot) (holds flying f.slot) (in_holds flying f later)) i
 
 all_in : (P : Flying → Type 0) (fs : List Flying) → ((f : Flying) → IsIn f fs → P f) → AllByRecursion P fs
 all_in P [] each = tt

@@ -16,7 +16,8 @@ use Rattle.satl_direct.specs.Senses.{link_lost}
 use Rattle.satl_direct.specs.Tasks.{pass_of}
 use Rattle.satl_core.specs.declared.turning.Ending.{Ending}
 use Rattle.satl_core.specs.declared.turning.Ending.TheVariants as endings
-use Rattle.satl_core.specs.Layer.{IsExpectable, IsKept, reply_pages}
+use Rattle.satl_core.specs.Layer.{IsKept, reply_pages}
+use Rattle.satl_base.specs.Limits.{IsExpectable}
 use Rattle.satl_core.proofs.HeldLemmas.{IsKeptEntry}
 use Rattle.satl_core.proofs.Transfers.{task_few}
 use Rattle.satl_core.specs.Turning.{data_in, ended_reply, lost_replies, read_pages}

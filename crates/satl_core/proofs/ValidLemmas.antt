@@ -1,8 +1,8 @@
 -- Each step of the layer leaves a valid device.
 use Rattle.std.proofs.Common.{◌≡◌, ⊎_elim, inl, refl, sym, ap, subst, ◌∙◌, arith, cond, ℕ, zero, suc, ◌+◌, ◌≤◌, Bool, true, false, List, [], ◌∷◌, ◌++◌, length, map, take, drop, get_or, set, Some, None}
-use Rattle.std.specs.Prelude.{Option, Ok, MatchBool, not, ◌||◌, ◌&&◌, ◌==◌, ◌*◌, nat_lt, filter, replicate, IfSome}
+use Rattle.std.specs.Prelude.{Option, Ok, MatchBool, not, ◌==◌, ◌*◌, nat_lt, filter, replicate, IfSome}
 use Rattle.std.specs.List.{AllByRecursion, list_any}
-use Rattle.std.proofs.lemmas.Bool.{eq-eqb, eqb-false, eqb-true, ltb-false}
+use Rattle.std.proofs.lemmas.Bool.{eqb-false, ltb-false, not-false, or_parts}
 use Rattle.std.proofs.lemmas.List.{length-append, length-replicate, length-set}
 use Rattle.std.proofs.Math.Seq.{take-append_seam}
 use Rattle.satl_base.specs.declared.modes.Modes.{Modes}
@@ -24,13 +24,15 @@ use Rattle.satl_sense.specs.declared.sense.Sense.{Sense}
 use Rattle.satl_direct.specs.Arrival.{waits}
 use Rattle.satl_direct.specs.Device.{Device, is_called, is_of, once_told}
 use Rattle.satl_direct.specs.Tasks.{held_blocks, held_by, is_full, task_for, task_of}
-use Rattle.satl_direct.specs.Valid.{AreOwn, HasCome, IsValid}
+use Rattle.satl_direct.specs.Valid.{HasCome, IsValid}
+use Rattle.satl_direct.proofs.Naming.{own_filtered, own_pushed}
 use Rattle.satl_flight.specs.Flown.{IsInFlight}
 use Rattle.satl_flight.specs.Settled.{IsFilled}
 use Rattle.satl_flight.proofs.ComingLemmas.{tie_come}
 use Rattle.satl_flight.proofs.FlownLemmas.{FitsOn, fits_by, fits_on}
 use Rattle.satl_core.specs.Refilling.{Comes}
-use Rattle.satl_core.specs.Layer.{Agrees, IsExpectable, IsUsed, Layer, Tied, view, works}
+use Rattle.satl_core.specs.Layer.{Agrees, IsUsed, Layer, Tied, view, works}
+use Rattle.satl_base.specs.Limits.{IsExpectable}
 use Rattle.satl_core.proofs.AgreeingLemmas.{agrees_by, capacity_is, idle_in_flight}
 use Rattle.satl_core.specs.Leaving.{left_by}
 use Rattle.satl_asks.specs.Requests.{is_for_unit}
@@ -55,42 +57,7 @@ use Rattle.satl_core.proofs.LeavingLemmas.{found_is, left_tasks}
 
 -- ---- tests
 
-neither : (a b : Bool) → (a || b) ≡ false → (a ≡ false) × (b ≡ false)
-neither true b e = absurd cc
-neither false b e = (refl, e)
-
-or_false : (a b : Bool) → a ≡ false → b ≡ false → (a || b) ≡ false
-or_false true b one other = absurd cc
-or_false false b one other = other
-
-eqb_both : (a b : ℕ) → (a == b) ≡ (b == a)
-eqb_both a b =
-    (elim (a == b) as (λ t. (a == b) ≡ t → t ≡ (b == a)) [
-      | true ↦ λ is. sym (eq-eqb b a (sym (eqb-true a b is)))
-      | false ↦ λ is. (elim (b == a) as (λ t. (b == a) ≡ t → false ≡ t) [
-        | true ↦ λ back. let same = eqb-true b a back in let apart = eqb-false a b is in absurd (omega (arith, same, apart))
-        | false ↦ λ back. refl
-      ]) refl
-    ]) refl
-
 -- ---- tasks that go
-
-none_kept : (p q : Entry → Bool) (ts : List Entry) → list_any q ts ≡ false → list_any q (filter p ts) ≡ false
-none_kept p q [] none = refl
-none_kept p q (t ∷ ts) none =
-    let both = neither (q t) (list_any q ts) none in
-    elim (p t) as (λ b. list_any q (cond b (t ∷ filter p ts) (filter p ts)) ≡ false) [
-      | true ↦ or_false (q t) (list_any q (filter p ts)) both.0 (none_kept p q ts both.1)
-      | false ↦ none_kept p q ts both.1
-    ]
-
-own_kept : (p : Entry → Bool) (ts : List Entry) → AreOwn ts → AreOwn (filter p ts)
-own_kept p [] own = tt
-own_kept p (t ∷ ts) own =
-    elim (p t) as (λ b. AreOwn (cond b (t ∷ filter p ts) (filter p ts))) [
-      | true ↦ (none_kept p (is_called t.nexus (t.tag).0) ts own.0, own_kept p ts own.1)
-      | false ↦ own_kept p ts own.1
-    ]
 
 come_kept : (identity : Identity) (p : Entry → Bool) (ts : List Entry) → AllByRecursion (HasCome identity) ts → AllByRecursion (HasCome identity) (filter p ts)
 come_kept identity p [] come = tt
@@ -119,7 +86,7 @@ valid_left p s v =
       sound = v.sound;
       few = omega (arith, less.0, v.few);
       blocks = omega (arith, less.1, v.blocks);
-      own = own_kept p s.tasks v.own;
+      own = own_filtered p s.tasks v.own;
       come = come_kept s.identity p s.tasks v.come;
       modes = v.modes;
       nexuses = v.nexuses;
@@ -170,21 +137,6 @@ once_judged_valid l d r v =
 
 -- ---- a task that comes
 
-called_both : (t u : Entry) → is_called t.nexus (t.tag).0 u ≡ false → is_called u.nexus (u.tag).0 t ≡ false
-called_both t u apart = ap (λ b. b && ((t.tag).0 == (u.tag).0)) (eqb_both t.nexus u.nexus) ∙ (ap (λ b. (u.nexus == t.nexus) && b) (eqb_both (t.tag).0 (u.tag).0) ∙ apart)
-
-none_pushed : (q : Entry → Bool) (ts : List Entry) (t : Entry) → list_any q ts ≡ false → q t ≡ false → list_any q (ts ++ t ∷ []) ≡ false
-none_pushed q [] t none last = or_false (q t) false last refl
-none_pushed q (u ∷ ts) t none last =
-    let both = neither (q u) (list_any q ts) none in
-    or_false (q u) (list_any q (ts ++ t ∷ [])) both.0 (none_pushed q ts t both.1 last)
-
-own_pushed : (ts : List Entry) (t : Entry) → list_any (is_called t.nexus (t.tag).0) ts ≡ false → AreOwn ts → AreOwn (ts ++ t ∷ [])
-own_pushed [] t none own = (refl, tt)
-own_pushed (u ∷ ts) t none own =
-    let both = neither (is_called t.nexus (t.tag).0 u) (list_any (is_called t.nexus (t.tag).0) ts) none in
-    (none_pushed (is_called u.nexus (u.tag).0) ts t own.0 (called_both t u both.0), own_pushed ts t both.1 own.1)
-
 come_pushed : (identity : Identity) (ts : List Entry) (t : Entry) → AllByRecursion (HasCome identity) ts → HasCome identity t → AllByRecursion (HasCome identity) (ts ++ t ∷ [])
 come_pushed identity [] t come here = (here, tt)
 come_pushed identity (u ∷ ts) t come here = (come.0, come_pushed identity ts t come.1 here)
@@ -220,7 +172,7 @@ valid_with s t room fits apart come v =
 added_valid : (l new : Layer) (d : DriveState) (r : Request) (c : Command) (replies : List Reply) → judged l r ≡ Ok c → is_too_much l.tasks (task_without_pages r c l.identity.queued_trim) ≡ false → IsAdded r c l replies new → r.data_len ≤ 512 * length r.body → IsExpectable r.expected → IsValid (view l d) → IsValid (view new d)
 added_valid l new d r c replies e fits a pages expected v =
     let room : is_full (map task_of (entries_of l.tasks)) c ≡ false = full_is l.tasks r c l.identity.queued_trim ∙ fits in
-    let both = neither (length (map task_of (entries_of l.tasks)) == 64) (nat_lt 32768 (held_by (map task_of (entries_of l.tasks)) + held_blocks c)) room in
+    let both = or_parts (length (map task_of (entries_of l.tasks)) == 64) (nat_lt 32768 (held_by (map task_of (entries_of l.tasks)) + held_blocks c)) room in
     let apart : overlaps l.tasks r ≡ false = by_ok (λ unit over what. over ≡ false) (is_for_unit r) (overlaps l.tasks r) (attention_of l.attentions r) l r c (λ ok. refl) e in
     let answer : code_answer l r ≡ Ok c = by_ok (λ unit over what. code_answer l r ≡ Ok c) (is_for_unit r) (overlaps l.tasks r) (attention_of l.attentions r) l r c (λ ok. ok) e in
     subst IsValid (sym (ap (λ x. view x d) a.stays ∙ ap (λ ts. record (view l d) { tasks = ts }) a.last))
@@ -330,16 +282,12 @@ wanted_look identity modes wanted change has is wants valid may none = ap (λ (m
 set_valid : (identity : Identity) (modes : Modes) (d : DriveState) → IsFit d → has_cache d.identify ≡ identity.cache → has_look d.identify ≡ identity.look → d.cache ≡ modes.wce → d.look ≡ not modes.dra → AreModesOf identity modes
 set_valid identity modes d fit has looks cache look = record {
   cache = λ none. sym cache ∙ off d.cache (λ is. sym (fit.cache is) ∙ (has ∙ none));
-  look = λ none. on modes.dra (sym look ∙ off d.look (λ is. sym (fit.look is) ∙ (looks ∙ none)));
+  look = λ none. not-false modes.dra (sym look ∙ off d.look (λ is. sym (fit.look is) ∙ (looks ∙ none)));
 }
   where
     off : (b : Bool) → (b ≡ true → true ≡ false) → b ≡ false
     off true has_none = let clash = has_none refl in absurd cc
     off false has_none = refl
-
-    on : (b : Bool) → not b ≡ false → b ≡ true
-    on true e = refl
-    on false e = absurd cc
 
 -- the first task is gone, with nothing outstanding, and the link is as it was
 pub agrees_rest : (l new : Layer) (wanted : Modes) (posting : Option Posting) (rest : List Held) (entry : Entry) (ending : Ending) (d d' : DriveState) → IsFirst l.tasks entry rest → IsKeptEntry l.identity entry → (l.down ≡ true → (sense : Sense) × (ending ≡ endings.Check sense))

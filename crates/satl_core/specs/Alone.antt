@@ -6,8 +6,8 @@ use Rattle.satl_direct.specs.Tasks.{over}
 use Rattle.satl_core.specs.declared.alone.Alone.{Alone}
 use Rattle.satl_core.specs.declared.alone.Alone.TheVariants as alones
 
--- what a command does that runs alone on the drive: a READ and a WRITE go through the queue, and others are answered on arrival (SBC-3 5,
--- SPC-4 6, SAT-3; profile)
+-- what a command does that runs alone on the drive: a READ and a WRITE go through the queue, and others are answered on arrival
+-- (SBC-3 5, SPC-4 6, SAT-3; profile)
 abbrev pub alone_of : Command → Option Alone
 alone_of (commands.Flush form lba count) = Some alones.Flush
 alone_of (commands.ModeSelect ten size) = Some alones.Select

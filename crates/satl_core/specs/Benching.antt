@@ -25,11 +25,21 @@ pub record StaysSame (old : Layer) (replies : List Reply) (new : Layer) : Type 0
   pub none : replies ≡ []
   pub stays : new ≡ old
 
--- after a power cycle the tasks are gone without an answer, the mode values are the defaults, the unit is started, the link is up, and
--- each nexus is to be told that the power was on (SAM-5 6.3; profile)
+-- after a power cycle the tasks are gone without an answer, the mode values are the defaults, the unit is started, the link is
+-- up, and each nexus is to be told that the power was on (SAM-5 6.3; profile)
 pub record StartsAnew (old : Layer) (replies : List Reply) (new : Layer) : Type 0 where
   pub none : replies ≡ []
-  pub stays : new ≡ record old { modes = defaults old.identity; started = true; down = false; attentions = replicate 4 (PowerOn ∷ []); tasks = []; flying = []; slots = new.slots; free = new.free; out = new.out }
+  pub stays : new ≡ record old {
+    modes = defaults old.identity;
+    started = true;
+    down = false;
+    attentions = replicate 4 (PowerOn ∷ []);
+    tasks = [];
+    flying = [];
+    slots = new.slots;
+    free = new.free;
+    out = new.out;
+  }
 
 -- the link is lost: all tasks are answered so, and none is left (profile)
 pub record LosesLink (old : Layer) (replies : List Reply) (new : Layer) : Type 0 where
@@ -45,7 +55,8 @@ Follows (Order order) old replies new = StaysSame old replies new
 Follows Power old replies new = StartsAnew old replies new
 Follows Unplug old replies new = LosesLink old replies new
 
--- how often the drive was unplugged after an event: once more at UNPLUG, or still so often where the number is at its last value (profile)
+-- how often the drive was unplugged after an event: once more at UNPLUG, or still so often where the number is at its last
+-- value (profile)
 abbrev pub unplugs_after : BenchEvent → ℕ → ℕ
 unplugs_after Unplug before = next_count before
 unplugs_after _ before = before

@@ -1,12 +1,12 @@
 -- What the layer holds, and the direct device that it and its drive are.
-use Rattle.std.specs.Prelude.{◌≡◌, ℕ, ◌+◌, ◌≤◌, ◌<◌, ◌^◌, ◌&&◌, Bool, true, false, not, if◌then◌else◌, List, [], ◌∷◌, map, length, Option, IfSome, MatchBool}
+use Rattle.std.specs.Prelude.{◌≡◌, ℕ, ◌+◌, ◌≤◌, ◌<◌, ◌^◌, ◌&&◌, Bool, true, false, not, if◌then◌else◌, List, [], ◌∷◌, map, length, IfSome, MatchBool}
 use Rattle.std.specs.List.{AllByRecursion}
 use Rattle.satl_base.specs.declared.block.Range.{Range}
 use Rattle.satl_base.specs.declared.modes.Modes.{Modes}
 use Rattle.satl_base.specs.declared.reply.Reply.{Reply}
-use Rattle.satl_base.specs.Limits.{longest_data, most_covered, most_moved}
+use Rattle.satl_base.specs.Limits.{IsExpectable, most_covered, most_moved}
 use Rattle.satl_cdb.specs.declared.command.Command.{Command}
-use Rattle.satl_cdb.specs.declared.command.Command.TheVariants.{Flush, Inquiry, ModeSelect, ModeSense, Pass, Read, ReadCapacity10, ReadCapacity16, ReportLuns, RequestSense, StartStop, TestUnitReady, Unmap, Verify, Write, WriteSame}
+use Rattle.satl_cdb.specs.declared.command.Command.TheVariants.{Flush, ModeSelect, Pass, Read, StartStop, Unmap, Verify, Write, WriteSame}
 use Rattle.satl_identify.specs.declared.identity.Identity.{Identity}
 use Rattle.satl_identify.specs.Refusals.{IsIdentity}
 use Rattle.satl_mode.specs.Changes.{IsChangeOf}
@@ -27,9 +27,10 @@ use Rattle.satl_direct.specs.Device.{Device}
 use Rattle.satl_direct.specs.Tasks.{over, pass_of, task_of}
 use Rattle.satl_direct.specs.Valid.{IsValid}
 
--- the layer: what its drive says of itself, the mode values, whether the unit is started, its mark of a lost link, the unit attention
--- conditions of each nexus from nexus 0 on; its tasks with their pages, those that are outstanding on the drive in order of issue, and
--- the slots of the tags; and how many pages are free and out (a task's pages are neither) (SAM-5 5.14; the rest: profile)
+-- the layer: what its drive says of itself, the mode values, whether the unit is started, its mark of a lost link, the unit
+-- attention conditions of each nexus from nexus 0 on; its tasks with their pages, those that are outstanding on the drive in
+-- order of issue, and the slots of the tags; and how many pages are free and out (a task's pages are neither) (SAM-5 5.14; the
+-- rest: profile)
 pub record Layer : Type 0 where
   pub identity : Identity
   pub modes : Modes
@@ -49,7 +50,8 @@ held_pages (h ∷ hs) = length h.entry.body + held_pages hs
 
 -- 1 to 4,096 blocks within the capacity and the 48 bits of an address, and pages for each (profile)
 abbrev pub IsWithin : ℕ → ℕ → ℕ → ℕ → Type 0
-IsWithin capacity lba count blocks = (blocks ≡ count) × (lba < 2 ^ 48) × (1 ≤ count) × (count ≤ most_moved) × (lba + count ≤ capacity)
+IsWithin capacity lba count blocks =
+    (blocks ≡ count) × (lba < 2 ^ 48) × (1 ≤ count) × (count ≤ most_moved) × (lba + count ≤ capacity)
 
 -- 1 to 65,536 blocks within the capacity and the 48 bits of an address (profile)
 pub record IsCovered (capacity lba count : ℕ) : Type 0 where
@@ -58,18 +60,11 @@ pub record IsCovered (capacity lba count : ℕ) : Type 0 where
   pub address : lba + count ≤ 2 ^ 48
   pub within : lba + count ≤ capacity
 
--- a command that makes a task, which holds so many blocks: READ, WRITE and VERIFY with comparison their blocks, WRITE SAME its one, ATA
--- PASS-THROUGH those of its data, and all others none (profile)
+-- a command that makes a task, which holds so many blocks: READ, WRITE and VERIFY with comparison their blocks, WRITE SAME its
+-- one, ATA PASS-THROUGH those of its data, and all others none (profile)
 abbrev pub IsTask : ℕ → Command → ℕ → Type 0
-IsTask capacity TestUnitReady blocks = ⊥
-IsTask capacity (RequestSense descriptor alloc) blocks = ⊥
-IsTask capacity (Inquiry page alloc) blocks = ⊥
-IsTask capacity (ModeSense ten long_lba no_descriptor control page alloc) blocks = ⊥
 IsTask capacity (ModeSelect ten size) blocks = (blocks ≡ 0) × (size < 65536)
 IsTask capacity (StartStop start no_flush) blocks = blocks ≡ 0
-IsTask capacity ReadCapacity10 blocks = ⊥
-IsTask capacity (ReadCapacity16 alloc) blocks = ⊥
-IsTask capacity (ReportLuns select alloc) blocks = ⊥
 IsTask capacity (Read form lba count fua) blocks = IsWithin capacity lba count blocks
 IsTask capacity (Write form lba count fua) blocks = IsWithin capacity lba count blocks
 IsTask capacity (Verify form lba count false) blocks = (blocks ≡ 0) × IsCovered capacity lba count
@@ -78,10 +73,7 @@ IsTask capacity (Flush form lba count) blocks = blocks ≡ 0
 IsTask capacity (WriteSame form lba count unmap) blocks = (blocks ≡ 1) × IsCovered capacity lba count
 IsTask capacity (Unmap size) blocks = (blocks ≡ 0) × (size < 65536)
 IsTask capacity (Pass cdb) blocks = (blocks ≡ page_count (pass_of cdb).length) × CanRun (pass_of cdb)
-
--- a number of bytes that a host may take: at most 2,097,152 (profile)
-abbrev pub IsExpectable : Option ℕ → Type 0
-IsExpectable expected = IfSome expected (λ count. count ≤ longest_data)
+IsTask capacity _ blocks = ⊥
 
 -- the pages that a task holds beside those of its blocks: one for the entries of an UNMAP whose trim is queued (profile)
 abbrev pub entry_pages : Command → Bool → ℕ
@@ -100,8 +92,8 @@ CanTrim identity (WriteSame form lba count true) ranges = AreTrimmed identity (o
 CanTrim identity (Unmap size) ranges = AreTrimmed identity ranges
 CanTrim identity _ ranges = Unit {0}
 
--- a task holds as many pages as blocks, and one for entries where it needs it, is one that its command makes, is of the kind of its command,
--- trims what can be trimmed, and changes mode values alone that the drive can change (profile)
+-- a task holds as many pages as blocks, and one for entries where it needs it, is one that its command makes, is of the kind of
+-- its command, trims what can be trimmed, and changes mode values alone that the drive can change (profile)
 pub record IsKept (identity : Identity) (h : Held) : Type 0 where
   pub pages : length h.entry.body ≡ h.entry.blocks + entry_pages h.entry.command identity.queued_trim
   pub trims : CanTrim identity h.entry.command h.entry.ranges.items
@@ -124,10 +116,10 @@ view l d = record {
   identity = l.identity;
 }
 
--- the layer's record of its drive is right: together they are a valid device; what was given to the drive is outstanding there, and no
--- queued command has failed; the drive fits its data; as long as the link is up the cache is on where WCE is, and look-ahead where DRA is
--- not; the drive's data are those of the identity with the drive's settings in them; and the mark of a lost link is set where the link is
--- lost (profile)
+-- the layer's record of its drive is right: together they are a valid device; what was given to the drive is outstanding there,
+-- and no queued command has failed; the drive fits its data; as long as the link is up the cache is on where WCE is, and
+-- look-ahead where DRA is not; the drive's data are those of the identity with the drive's settings in them; and the mark of a
+-- lost link is set where the link is lost (profile)
 pub record Agrees (l : Layer) (d : DriveState) : Type 0 where
   pub mark : l.down ≡ d.down
   pub queue : IsInFlight l.flying l.tasks d
@@ -141,7 +133,8 @@ pub record Agrees (l : Layer) (d : DriveState) : Type 0 where
 abbrev pub works : Layer → Bool
 works l = not l.down && l.started
 
--- the queue is used: while the unit is up and started, 32 tasks are outstanding or each eligible ranged task is, and else none (profile)
+-- the queue is used: while the unit is up and started, 32 tasks are outstanding or each eligible ranged task is, and else none
+-- (profile)
 abbrev pub IsUsed : Layer → Type 0
 IsUsed l = MatchBool (works l) (IsFilled l.flying l.tasks) (l.flying ≡ [])
 
@@ -155,8 +148,8 @@ abbrev pub reply_pages : List Reply → ℕ
 reply_pages [] = 0
 reply_pages (r ∷ rs) = length r.body + reply_pages rs
 
--- the parts of the layer fit together: the pool's 32,960 pages are free, in tasks, or out; each task is kept; the identity is one
--- that a drive's data give (profile)
+-- the parts of the layer fit together: the pool's 32,960 pages are free, in tasks, or out; each task is kept; the identity is
+-- one that a drive's data give (profile)
 pub record IsSoundLayer (identity : Identity) (tasks : List Held) (pool : Counts) : Type 0 where
   pub held : held_pages tasks ≤ pool.out
   pub all : number_of pool ≡ 32960

@@ -8,6 +8,5 @@ pub mod Medium
 pub mod Opening
 pub mod Refilling
 pub mod Submitting
-pub mod Telling
 pub mod Tie
 pub mod Turning

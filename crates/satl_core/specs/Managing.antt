@@ -54,18 +54,19 @@ effect m tasks =
 
 -- ---- what it posts
 
--- COMMANDS CLEARED BY ANOTHER INITIATOR, BUS DEVICE RESET FUNCTION OCCURRED, I_T NEXUS LOSS OCCURRED, MODE PARAMETERS CHANGED (SAM-5 7,
--- SPC-4 4.5.6)
+-- COMMANDS CLEARED BY ANOTHER INITIATOR, BUS DEVICE RESET FUNCTION OCCURRED, I_T NEXUS LOSS OCCURRED, MODE PARAMETERS CHANGED
+-- (SAM-5 7, SPC-4 4.5.6)
 abbrev pub condition_of : Posting → Attention
 condition_of (postings.ClearedBy asker) = attentions.Cleared
 condition_of postings.UnitReset = attentions.UnitReset
 condition_of (postings.NexusLoss lost) = attentions.NexusLoss
 condition_of (postings.ModesChanged by) = attentions.ModeChanged
 
--- whether a nexus is told: each other one that has a task, all, the one that was reset, or each other one (SAM-5 7.3 to 7.6; SPC-4, MODE
--- SELECT commands)
+-- whether a nexus is told: each other one that has a task, all, the one that was reset, or each other one (SAM-5 7.3 to 7.6;
+-- SPC-4, MODE SELECT commands)
 abbrev pub is_told : Posting → List Held → ℕ → Bool
-is_told (postings.ClearedBy asker) tasks nexus = not (nexus == asker) && list_any (is_within (scopes.OfNexus nexus)) (entries_of tasks)
+is_told (postings.ClearedBy asker) tasks nexus =
+    not (nexus == asker) && list_any (is_within (scopes.OfNexus nexus)) (entries_of tasks)
 is_told postings.UnitReset tasks nexus = true
 is_told (postings.NexusLoss lost) tasks nexus = nexus == lost
 is_told (postings.ModesChanged by) tasks nexus = not (nexus == by)
@@ -73,7 +74,8 @@ is_told (postings.ModesChanged by) tasks nexus = not (nexus == by)
 -- the conditions once one nexus has its own, where it is told (SAM-5 5.14)
 abbrev pub with_posted : Posting → List Held → ℕ → List (List Attention) → List (List Attention)
 with_posted posting tasks nexus attentions =
-    if is_told posting tasks nexus then slice_set attentions nexus (posted (condition_of posting) (slice_index_or attentions nexus []))
+    if is_told posting tasks nexus
+    then slice_set attentions nexus (posted (condition_of posting) (slice_index_or attentions nexus []))
     else attentions
 
 -- the conditions once all that is to be posted is (SAM-5 5.14)

@@ -61,7 +61,8 @@ pub record HasVerified (range : Range) (old : DriveState) (ending : Ending) (new
   pub told : ending ≡ verified flaw
 
 -- a range was compared with these blocks, and the task ends so (SBC-3 5.33, BYTCHK)
-pub record HasCompared (range : Range) (blocks : List Block) (old : DriveState) (ending : Ending) (new : DriveState) : Type 0 where
+pub record HasCompared (range : Range) (blocks : List Block) (old : DriveState) (ending : Ending)
+    (new : DriveState) : Type 0 where
   pub comparison : Comparison
   pub is : ComparesAs range blocks comparison old new
   pub told : ending ≡ compared comparison
@@ -81,8 +82,10 @@ ending_with (Some sense) bad = if bad then endings.Check sense else endings.Info
 abbrev pub passed : Pass → Taskfile → Ending
 passed pass ended = ending_with (status_sense pass ended) (is_bad ended)
 
--- the command of an ATA PASS-THROUGH was carried out with these pages, which are left with these blocks, and the task ends so (SAT-3 12.2)
-pub record PassesThrough (pass : Pass) (given taken : List Block) (old : DriveState) (ending : Ending) (new : DriveState) : Type 0 where
+-- the command of an ATA PASS-THROUGH was carried out with these pages, which are left with these blocks, and the task ends so
+-- (SAT-3 12.2)
+pub record PassesThrough (pass : Pass) (given taken : List Block) (old : DriveState) (ending : Ending)
+    (new : DriveState) : Type 0 where
   pub ended : Taskfile
   pub is : HasPassed pass.regs old given ended taken new
   pub whole : AreWhole given
@@ -90,18 +93,19 @@ pub record PassesThrough (pass : Pass) (given taken : List Block) (old : DriveSt
   pub size : length taken ≡ length given
   pub told : ending ≡ passed pass ended
 
--- a drive takes a trim of these ranges: it has trim, one block of entries names them, and they lie within the capacity (ACS-3, DATA SET
--- MANAGEMENT)
+-- a drive takes a trim of these ranges: it has trim, one block of entries names them, and they lie within the capacity (ACS-3,
+-- DATA SET MANAGEMENT)
 pub record TakesTrim (ranges : List Range) (d : DriveState) : Type 0 where
   pub has : has_trim d.identify ≡ true
   pub list : IsTrimList ranges
   pub within : AllByRecursion (λ range. range.lba + range.count ≤ length d.cells) ranges
 
--- what a command that runs alone needs of its task and of the drive: a range within the capacity, its data-out in the pages, and that the
--- drive takes what it trims (SBC-3 5; SAT-3 12.2)
+-- what a command that runs alone needs of its task and of the drive: a range within the capacity, its data-out in the pages,
+-- and that the drive takes what it trims (SBC-3 5; SAT-3 12.2)
 abbrev pub CanCarry : Alone → Entry → DriveState → Type 0
 CanCarry (alones.Verify range) t d = IsCovered d.capacity range.lba range.count
-CanCarry (alones.Compare range) t d = (length t.body ≡ range.count) × (range.count ≤ most_moved) × IsCovered d.capacity range.lba range.count
+CanCarry (alones.Compare range) t d =
+    (length t.body ≡ range.count) × (range.count ≤ most_moved) × IsCovered d.capacity range.lba range.count
 CanCarry (alones.WriteSame range) t d = (1 ≤ length t.body) × IsCovered d.capacity range.lba range.count
 CanCarry (alones.TrimRange range) t d = TakesTrim (range ∷ []) d
 CanCarry alones.TrimList t d = TakesTrim t.ranges.items d

@@ -9,8 +9,8 @@ use Rattle.satl_core.specs.declared.satl.OpenFault.{OpenFault}
 use Rattle.satl_core.specs.declared.satl.OpenFault.TheVariants as faults
 use Rattle.satl_core.specs.Layer.{Layer, Tied}
 
--- the layer is that of the drive's data: started, without tasks and unit attentions, its modes as the drive's settings are, and no page
--- is out (profile)
+-- the layer is that of the drive's data: started, without tasks and unit attentions, its modes as the drive's settings are, and
+-- no page is out (profile)
 pub record IsOpened (old : DriveState) (l : Layer) (new : DriveState) : Type 0 where
   pub identity : identity_of old.identify ≡ Ok l.identity
   pub tasks : l.tasks ≡ []
@@ -32,8 +32,8 @@ IsCause old new (faults.Identity fault) = identity_of old.identify ≡ Err fault
 IsCause old new faults.LinkDown = Rose old.faults new.faults
 IsCause old new faults.NoMemory = Unit {0}
 
--- a drive that was not to change: it is as it was; or entries that its sectors may be left with were lost; or its link was lost meanwhile
--- (profile)
+-- a drive that was not to change: it is as it was; or entries that its sectors may be left with were lost; or its link was lost
+-- meanwhile (profile)
 pub data IsUndisturbed (old new : DriveState) : Type 0 where
   untouched : new ≡ old → IsUndisturbed old new
   written_back : Loses old.cells new.cells → new ≡ record old { cells = new.cells } → IsUndisturbed old new

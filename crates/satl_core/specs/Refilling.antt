@@ -43,8 +43,8 @@ pub record Answers (Step : List Reply → Type 0) (old new : List Reply) : Type 
   pub behind : new ≡ old ++ more
   pub step : Step more
 
--- what a call leaves of the drive's counts: the count of faults rose by each loss of the link, the number of unplugs stays, and the
--- deepest queue does not fall (profile)
+-- what a call leaves of the drive's counts: the count of faults rose by each loss of the link, the number of unplugs stays, and
+-- the deepest queue does not fall (profile)
 pub record AreKept (old : Layer) (d : DriveState) (new : Layer) (d' : DriveState) : Type 0 where
   pub losses : RoseBy (losses_of (view old d) (view new d')) d.faults d'.faults
   pub unplugs : d'.unplugs ≡ d.unplugs
@@ -56,7 +56,8 @@ pub record Comes (capacity : ℕ) (trims : Bool) (old new : List Held) : Type 0 
   pub last : new ≡ old ++ held ∷ []
   pub fits : FitsDrive capacity trims held
 
--- the mode values and the pages that are out stay, no task comes, and what is answered holds no page and can be written (profile)
+-- the mode values and the pages that are out stay, no task comes, and what is answered holds no page and can be written
+-- (profile)
 pub record KeepsRest (old : Layer) (given : List Reply) (new : Layer) (replies : List Reply) : Type 0 where
   pub modes : new.modes ≡ old.modes
   pub out : new.out ≡ old.out

@@ -19,7 +19,7 @@ use Rattle.satl_sense.specs.declared.sense.Sense.{Sense}
 use Rattle.satl_regs.specs.Trim.{trim_block}
 use Rattle.satl_line.specs.declared.entry.Entry.{Entry}
 use Rattle.satl_unit.specs.declared.attention.Attention.{Attention}
-use Rattle.satl_direct.specs.Arrival.{asks_for, code_of, reply_to, told, untold_codes}
+use Rattle.satl_direct.specs.Arrival.{asks_for, code_of, reply_to, sense_asked, told, untold_codes}
 use Rattle.satl_direct.specs.Device.{is_of}
 use Rattle.satl_direct.specs.Senses.{attention_sense, link_lost, no_sense, not_ready, out_of_range, overlapped, refusal, sense_text, short_data, unknown_unit}
 use Rattle.satl_direct.specs.Tasks.{asks, needed, range_of, task_for, task_of}
@@ -28,9 +28,10 @@ use Rattle.satl_asks.specs.Requests.{is_for_unit}
 use Rattle.satl_core.specs.declared.submitting.AtOnce.{AtOnce}
 use Rattle.satl_core.specs.declared.submitting.AtOnce.TheVariants as at_once
 use Rattle.satl_line.specs.Tasks.{Held, entries_of, is_named, is_too_much}
-use Rattle.satl_core.specs.declared.telling.Data.TheVariants as datas
-use Rattle.satl_core.specs.Telling.{data_text}
-use Rattle.satl_core.specs.Layer.{IsExpectable, Layer}
+use Rattle.satl_telling.specs.declared.telling.Data.TheVariants as datas
+use Rattle.satl_telling.specs.Telling.{data_text}
+use Rattle.satl_core.specs.Layer.{Layer}
+use Rattle.satl_base.specs.Limits.{IsExpectable}
 use Rattle.satl_core.specs.Leaving.{left_by}
 use Rattle.satl_core.specs.Turning.{off_calls}
 
@@ -75,13 +76,14 @@ is_idle _ body = false
 abbrev pub unless_idle : Layer → List Block → Command → Result Command AtOnce
 unless_idle l body command = if is_idle command body then Err (readiness l) else Ok command
 
--- a command whose fields, range and data-out are good: answered from what the device says of itself, or it may become a task (profile);
--- REQUEST SENSE has nothing to tell (SPC-4 6.39)
+-- a command whose fields, range and data-out are good: answered from what the device says of itself, or it may become a task
+-- (profile); REQUEST SENSE has nothing to tell (SPC-4 6.39)
 abbrev pub answer_to : Layer → List Block → Command → Result Command AtOnce
 answer_to l body commands.TestUnitReady = Err (readiness l)
 answer_to l body (commands.RequestSense descriptor alloc) = Err (at_once.Tell (datas.Sense descriptor no_sense) alloc)
 answer_to l body (commands.Inquiry page alloc) = Err (at_once.Tell (datas.Inquiry page) alloc)
-answer_to l body (commands.ModeSense ten long_lba no_descriptor control page alloc) = Err (at_once.Tell (datas.Modes ten long_lba no_descriptor control page) alloc)
+answer_to l body (commands.ModeSense ten long_lba no_descriptor control page alloc) =
+    Err (at_once.Tell (datas.Modes (sense_asked ten long_lba no_descriptor control page)) alloc)
 answer_to l body commands.ReadCapacity10 = Err (at_once.Tell datas.Capacity10 8)
 answer_to l body (commands.ReadCapacity16 alloc) = Err (at_once.Tell datas.Capacity16 alloc)
 answer_to l body (commands.ReportLuns select alloc) = Err (at_once.Tell (datas.Luns select) alloc)
@@ -155,8 +157,8 @@ overlaps tasks r = is_some (position_from (is_named r.nexus r.tag) 0 tasks)
 abbrev pub is_overlapping : List Held → Request → Bool
 is_overlapping tasks r = is_for_unit r && overlaps tasks r
 
--- the most calls of a drive that a request takes as it arrives: one, in which its task is issued, or those of taking tasks off where it
--- overlaps one (profile)
+-- the most calls of a drive that a request takes as it arrives: one, in which its task is issued, or those of taking tasks off
+-- where it overlaps one (profile)
 abbrev pub arrival_calls : List Held → Request → ℕ
 arrival_calls tasks r = if is_overlapping tasks r then off_calls else 1
 
@@ -172,7 +174,8 @@ sense_data cdb sense = at_once.Tell (datas.Sense (bit 1 0 cdb) sense) (bytes 4 4
 
 -- a condition is told: as data to REQUEST SENSE, and else by CHECK CONDITION (SAM-5 5.14, SPC-4 6.39)
 abbrev pub tell_attention : Attention → List ℕ → AtOnce
-tell_attention what cdb = if slice_index cdb 0 == 0x03 then sense_data cdb (attention_sense what) else at_once.Check (attention_sense what)
+tell_attention what cdb =
+    if slice_index cdb 0 == 0x03 then sense_data cdb (attention_sense what) else at_once.Check (attention_sense what)
 
 -- the conditions once a nexus was told one, if it was (SAM-5 5.14)
 abbrev pub untold : Option Attention → ℕ → List (List Attention) → List (List Attention)
@@ -198,7 +201,8 @@ judged l r =
     else if overlaps l.tasks r then Err (at_once.Check overlapped)
     else attention_answer (attention_of l.attentions r) r.cdb (code_answer l r)
 
--- the layer once a request is judged: without the tasks of its nexus where it overlaps one, and without the condition that it is told (profile)
+-- the layer once a request is judged: without the tasks of its nexus where it overlaps one, and without the condition that it
+-- is told (profile)
 abbrev pub once_judged : Layer → Request → Layer
 once_judged l r =
     if not (is_for_unit r) then l
@@ -213,7 +217,8 @@ pub record IsRefused (r : Request) (old : Layer) (replies : List Reply) (new : L
 -- a request becomes the last task, and no page is out (profile)
 pub record IsAdded (r : Request) (command : Command) (old : Layer) (replies : List Reply) (new : Layer) : Type 0 where
   pub none : replies ≡ []
-  pub last : map task_of (entries_of new.tasks) ≡ map task_of (entries_of old.tasks) ++ task_for old.identity.queued_trim r command ∷ []
+  pub last : map task_of (entries_of new.tasks) ≡ map task_of (entries_of old.tasks)
+      ++ task_for old.identity.queued_trim r command ∷ []
   pub stays : new ≡ record old { tasks = new.tasks; free = new.free; out = 0 }
 
 -- a command becomes a task, but for a full task set (profile)

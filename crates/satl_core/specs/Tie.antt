@@ -1,5 +1,5 @@
--- The tie of the layer and its drive where commands are queued: what the layer has given to its drive and what it knows of it (ACS-3,
--- native command queuing; profile).
+-- The tie of the layer and its drive where commands are queued: what the layer has given to its drive and what it knows of it
+-- (ACS-3, native command queuing; profile).
 use Rattle.std.specs.Prelude.{◌≡◌, ◌⊎◌, ℕ, ◌<◌, ◌==◌, ◌&&◌, not, Bool, true, false, List, [], ◌∷◌, Some, MatchBool, length, map, unwrap_or}
 use Rattle.std.specs.Option.{option_map}
 use Rattle.std.specs.List.{AllZip, find, list_any}
@@ -52,14 +52,19 @@ pub record IsQueue (s : Device) (given : List Given) (outstanding : List Outstan
 
 -- the task that was given under a tag, as the device sees it (profile)
 abbrev pub given_of : List Held → Flying → Given
-given_of tasks f = record { tag = f.tag; task = unwrap_or (option_map (λ (h : Held). task_of h.entry) (find (is_in_slot f.slot) tasks)) no_entry }
+given_of tasks f =
+    record {
+      tag = f.tag;
+      task = unwrap_or
+          (option_map (λ (h : Held). task_of h.entry) (find (is_in_slot f.slot) tasks)) no_entry;
+    }
 
 -- the tasks that the layer has given to its drive, in order of issue (profile)
 abbrev pub given_by : Layer → List Given
 given_by l = map (given_of l.tasks) l.flying
 
--- what the tie says of the queue: what was given is outstanding under its tags, as much as can be is given, and the slots hold its pages
--- (ACS-3, native command queuing; profile)
+-- what the tie says of the queue: what was given is outstanding under its tags, as much as can be is given, and the slots hold
+-- its pages (ACS-3, native command queuing; profile)
 pub record TiesQueue (l : Layer) (d : DriveState) : Type 0 where
   pub queue : IsQueue (view l d) (given_by l) d.outstanding
   pub slotted : IsSlotted d.outstanding l.slots

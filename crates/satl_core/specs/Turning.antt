@@ -115,29 +115,34 @@ pub record IsUnasked (sense : Sense) (old : DriveState) (ending : Ending) (new :
 
 -- what the drive did for a task that wants these mode values and runs alone, which leaves these blocks in its pages (SAT-3 8)
 abbrev pub CarriedOut : Modes → Alone → Entry → List Block → DriveState → Ending → DriveState → Type 0
-CarriedOut wanted alones.Flush t taken old ending new = (ending ≡ endings.Good) × IsLeftWith (map settle old.cells) old.active old new
+CarriedOut wanted alones.Flush t taken old ending new =
+    (ending ≡ endings.Good) × IsLeftWith (map settle old.cells) old.active old new
 CarriedOut wanted alones.Select t taken old ending new = (ending ≡ endings.Good) × IsTuned wanted.wce (not wanted.dra) old new
-CarriedOut wanted (alones.Switch start no_flush) t taken old ending new = (ending ≡ endings.Good) × IsSwitched start no_flush old new
+CarriedOut wanted (alones.Switch start no_flush) t taken old ending new =
+    (ending ≡ endings.Good) × IsSwitched start no_flush old new
 CarriedOut wanted (alones.Verify range) t taken old ending new = HasVerified range old ending new
 CarriedOut wanted (alones.Compare range) t taken old ending new = HasCompared range t.body old ending new
-CarriedOut wanted (alones.WriteSame range) t taken old ending new = HasFinished (writing_same range (get_or t.body 0 no_block) old) (min piece range.count) old ending new
+CarriedOut wanted (alones.WriteSame range) t taken old ending new =
+    HasFinished (writing_same range (get_or t.body 0 no_block) old) (min piece range.count) old ending new
 CarriedOut wanted (alones.TrimRange range) t taken old ending new = HasFinished (trimming (range ∷ []) old) 0 old ending new
 CarriedOut wanted alones.TrimList t taken old ending new = HasFinished (trimming t.ranges.items old) 0 old ending new
 CarriedOut wanted (alones.Through cdb) t taken old ending new = PassesThrough (pass_of cdb) t.body taken old ending new
 
 -- what the drive did for a command that runs alone (SAT-3 8)
 abbrev pub DoneAlone : Modes → Command → Entry → List Block → DriveState → Ending → DriveState → Type 0
-DoneAlone wanted command t taken old ending new = IsSomeAnd (alone_of command) (λ alone. CarriedOut wanted alone t taken old ending new)
+DoneAlone wanted command t taken old ending new =
+    IsSomeAnd (alone_of command) (λ alone. CarriedOut wanted alone t taken old ending new)
 
--- how the task ends whose turn it is: the first that holds decides, a lost link, a unit that is stopped where the command needs it started,
--- and the drive (SAT-3 11; profile)
+-- how the task ends whose turn it is: the first that holds decides, a lost link, a unit that is stopped where the command needs
+-- it started, and the drive (SAT-3 11; profile)
 abbrev pub TaskEnds : Bool → Bool → Modes → Entry → List Block → DriveState → Ending → DriveState → Type 0
 TaskEnds down started wanted t taken old ending new =
     MatchBool down (IsUnasked link_lost old ending new)
     (MatchBool (not started && (asks t.command).starts) (IsUnasked not_ready old ending new)
     (DoneAlone wanted t.command t taken old ending new))
 
--- the link was lost while a task was carried out that writes these pairs, at a unit that is started where the command needs it (profile)
+-- the link was lost while a task was carried out that writes these pairs, at a unit that is started where the command needs it
+-- (profile)
 pub record IsLostInTask (down started : Bool) (t : Entry) (old new : DriveState) : Type 0 where
   pub was_up : down ≡ false
   pub ready : (not started && (asks t.command).starts) ≡ false
@@ -177,13 +182,14 @@ modes_left alones.Select ending modes wanted = where_done ending wanted modes
 modes_left (alones.Through cdb) ending modes wanted = where_done ending (set_by (command_in (pass_of cdb).regs) modes) modes
 modes_left _ ending modes wanted = modes
 
--- the mode values once a task has ended: those that a MODE SELECT that is done wants, and those that the command of an ATA PASS-THROUGH
--- that is done sets (SPC-4, MODE SELECT commands; SAT-3 12.2)
+-- the mode values once a task has ended: those that a MODE SELECT that is done wants, and those that the command of an ATA
+-- PASS-THROUGH that is done sets (SPC-4, MODE SELECT commands; SAT-3 12.2)
 abbrev pub modes_after : Command → Ending → Modes → Modes → Modes
-modes_after command ending modes wanted = unwrap_or (option_map (λ alone. modes_left alone ending modes wanted) (alone_of command)) modes
+modes_after command ending modes wanted =
+    unwrap_or (option_map (λ alone. modes_left alone ending modes wanted) (alone_of command)) modes
 
--- what is posted where a task of a nexus has ended: after a MODE SELECT the others are told where a value has changed (SPC-4, MODE SELECT
--- commands)
+-- what is posted where a task of a nexus has ended: after a MODE SELECT the others are told where a value has changed (SPC-4,
+-- MODE SELECT commands)
 abbrev pub change_posting : Command → Modes → Modes → ℕ → Option Posting
 change_posting (ModeSelect ten size) old new nexus = if are_same_modes old new then None else Some (ModesChanged nexus)
 change_posting _ old new nexus = None

@@ -31,8 +31,8 @@ pub enum Alone {
 impl Alone {
     ghost use Rattle.satl_core.specs.Alone.{needs_start};
 
-    /// What a command does that runs alone. None for a READ and a WRITE, which go through the queue, and for commands that are answered on
-    /// arrival (profile).
+    /// What a command does that runs alone. None for a READ and a WRITE, which go through the queue, and for commands that are
+    /// answered on arrival (profile).
     pub fn of(command: &Command) -> Option<Alone>
         ensures { result ≡ alone_of command.now }
     {

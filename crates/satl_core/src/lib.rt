@@ -11,7 +11,6 @@ mod queueing;
 mod satl;
 mod selecting;
 mod submitting;
-mod telling;
 mod turning;
 
 pub use satl::{OpenFault, Satl};

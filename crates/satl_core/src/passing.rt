@@ -22,7 +22,8 @@ use std::sync::ledger::Ledger;
 /// STATUS(0): ERR (ACS-3).
 const ERR: u8 = 0x01;
 
-/// Carries the command of an ATA PASS-THROUGH out, with its data in these pages. `LinkDown`: the link was lost meanwhile (SAT-3 12.2).
+/// Carries the command of an ATA PASS-THROUGH out, with its data in these pages. `LinkDown`: the link was lost meanwhile (SAT-3
+/// 12.2).
 pub fn run_through<D: Drive, L: Ledger>(
     cdb: &[u8; 16],
     body: &mut Pages,

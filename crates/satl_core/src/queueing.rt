@@ -82,6 +82,7 @@ impl Satl {
         ensures kept { AreKept self.old (D.state drive.old) self.new (D.state drive.new) }
         ensures rest { KeepsRest self.old replies.old self.new replies.new }
         ensures unasked { self.old.down ≡ true → drive.new ≡ drive.old }
+        ensures uncalled { self.old.down ≡ true → steps.new ≡ steps.old }
         ensures steps { steps.new ≤ steps.old + 1 }
     {
         if self.down || !self.started {
@@ -93,8 +94,8 @@ impl Satl {
         }
     }
 
-    /// Takes these tasks off, without an answer: where one of them is outstanding the drive is reset, and the others are issued again
-    /// (SAM-5 5.1, overlapped commands, and 7; ACS-3, software reset).
+    /// Takes these tasks off, without an answer: where one of them is outstanding the drive is reset, and the others are issued
+    /// again (SAM-5 5.1, overlapped commands, and 7; ACS-3, software reset).
     pub(crate) fn take_off<D: Drive, L: Ledger>(
         &mut self,
         scope: &Scope,
@@ -120,7 +121,8 @@ impl Satl {
         self.refill(drive, replies, steps);
     }
 
-    /// The drive is reset, these tasks go, and the others are issued again. Where the link is lost in it, all others are answered.
+    /// The drive is reset, these tasks go, and the others are issued again. Where the link is lost in it, all others are
+    /// answered.
     fn cut_off<D: Drive, L: Ledger>(
         &mut self,
         scope: &Scope,

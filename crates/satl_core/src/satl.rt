@@ -101,9 +101,9 @@ impl Model for Satl {
 }
 
 impl Satl {
-    /// Opens the layer on a drive with nothing outstanding and in no error state: it asks the drive for its IDENTIFY DEVICE data
-    /// once, and takes all memory that it will use. `Identity`: the layer does not serve such a drive. `LinkDown`: the drive's link is lost.
-    /// `NoMemory` may come before or after the drive is asked (SAT-3; profile).
+    /// Opens the layer on a drive with nothing outstanding and in no error state: it asks the drive for its IDENTIFY DEVICE
+    /// data once, and takes all memory that it will use. `Identity`: the layer does not serve such a drive. `LinkDown`: the
+    /// drive's link is lost. `NoMemory` may come before or after the drive is asked (SAT-3; profile).
     pub fn open<D: Drive, L: Ledger>(
         alloc: Global,
         drive: &mut D,
@@ -151,10 +151,10 @@ impl Satl {
         &self.identity
     }
 
-    /// A command arrives: it is answered at once, or waits as a task, which is issued where it may be. Its pages become the task's or
-    /// are given back (SAM-5 5; the order of the tests: profile). Where it has the nexus and tag of a task, all tasks of its nexus go
-    /// without an answer. Where no page was free for all of its data-out, it does what the whole request does. Where the link is lost
-    /// in it, all tasks are answered.
+    /// A command arrives: it is answered at once, or waits as a task, which is issued where it may be. Its pages become the
+    /// task's or are given back (SAM-5 5; the order of the tests: profile). Where it has the nexus and tag of a task, all tasks
+    /// of its nexus go without an answer. Where no page was free for all of its data-out, it does what the whole request does.
+    /// Where the link is lost in it, all tasks are answered.
     pub fn submit<D: Drive, L: Ledger>(
         &mut self,
         request: Request,
@@ -173,6 +173,7 @@ impl Satl {
         ensures writable { AllByRecursion IsWritable replies.new }
         ensures kept { AreKept self.old (D.state drive.old) self.new (D.state drive.new) }
         ensures unasked { self.old.down ≡ true → drive.new ≡ drive.old }
+        ensures uncalled { self.old.down ≡ true → steps.new ≡ steps.old }
         ensures calls { steps.new + turn_calls * length self.new.tasks ≤ steps.old + turn_calls * (length self.old.tasks + 1) + off_calls }
         ensures steps { steps.new ≤ steps.old + arrival_calls self.old.tasks request }
     {
@@ -198,8 +199,8 @@ impl Satl {
         }
     }
 
-    /// Whether a request has the nexus and tag of a task, at logical unit 0 (SAM-5 5.1, overlapped commands). Its pages hold what a
-    /// parameter list needs of them.
+    /// Whether a request has the nexus and tag of a task, at logical unit 0 (SAM-5 5.1, overlapped commands). Its pages hold
+    /// what a parameter list needs of them.
     fn overlaps(&self, request: &Request) -> bool
         ensures value { result ≡ is_overlapping self.now.tasks request.now }
         ensures holds { CanSubmit request.now self.now.free self.now.out → total_blocks self.now.tasks ≤ most_held → length self.now.tasks ≤ most_tasks → HoldsList request.now }
@@ -227,6 +228,7 @@ impl Satl {
         ensures pages { self.new.out ≡ reply_pages replies.new }
         ensures writable { AllByRecursion IsWritable replies.new }
         ensures unasked { self.old.down ≡ true → drive.new ≡ drive.old }
+        ensures uncalled { self.old.down ≡ true → steps.new ≡ steps.old }
         ensures steps { steps.new ≤ steps.old + off_calls }
     {
         let scope = Scope::OfNexus(request.nexus);
@@ -242,8 +244,8 @@ impl Satl {
         self.take_off(&scope, drive, replies, steps);
     }
 
-    /// Judges a request that overlaps no task: its command, which may become a task, or why it is answered at once. A unit attention
-    /// that it is answered with is told by that (SAM-5 5.14).
+    /// Judges a request that overlaps no task: its command, which may become a task, or why it is answered at once. A unit
+    /// attention that it is answered with is told by that (SAM-5 5.14).
     fn judge(&mut self, request: &Request) -> Result<Command, AtOnce>
         requires holds { HoldsList request.now }
         requires alone { is_overlapping self.old.tasks request.now ≡ false }
@@ -292,9 +294,9 @@ impl Satl {
         self.queue.fill_last(body);
     }
 
-    /// One turn: a task ends that is outstanding, or else the first one; then what may be issued is. At a lost link all tasks are
-    /// answered, in order of arrival (SAM-5 5; lost links: profile). A MODE SELECT sets the drive first, then the mode values, and the
-    /// other nexuses are told (SPC-4, MODE SELECT commands).
+    /// One turn: a task ends that is outstanding, or else the first one; then what may be issued is. At a lost link all tasks
+    /// are answered, in order of arrival (SAM-5 5; lost links: profile). A MODE SELECT sets the drive first, then the mode
+    /// values, and the other nexuses are told (SPC-4, MODE SELECT commands).
     pub fn turn<D: Drive, L: Ledger>(
         &mut self,
         drive: &mut D,
@@ -345,6 +347,7 @@ impl Satl {
         ensures modes { self.new.modes ≡ self.old.modes }
         ensures kept { AreKept self.old (D.state drive.old) self.new (D.state drive.new) }
         ensures unasked { self.old.down ≡ true → drive.new ≡ drive.old }
+        ensures uncalled { self.old.down ≡ true → steps.new ≡ steps.old }
         ensures calls { steps.new + turn_calls * length self.new.tasks ≤ steps.old + turn_calls * length self.old.tasks + off_calls }
         ensures steps { steps.new ≤ steps.old + off_calls }
     {
@@ -417,8 +420,8 @@ impl Satl {
         self.attentions = powered_on();
     }
 
-    /// The number of tasks that wait, at most 64. Those that the layer has given to its drive are outstanding there under their tags,
-    /// and the slots hold their pages (ACS-3, native command queuing; profile).
+    /// The number of tasks that wait, at most 64. Those that the layer has given to its drive are outstanding there under their
+    /// tags, and the slots hold their pages (ACS-3, native command queuing; profile).
     pub fn pending(&self) -> usize
         ensures count { result ≡ length self.now.tasks }
         ensures few { length self.now.tasks ≤ most_tasks }

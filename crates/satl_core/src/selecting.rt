@@ -66,8 +66,8 @@ fn are_same(a: &Modes, b: &Modes) -> bool
     a.wce == b.wce && a.dra == b.dra && a.d_sense == b.d_sense
 }
 
-/// What is posted where a task of a nexus has ended: after a MODE SELECT the others are told where a value has changed (SPC-4, MODE
-/// SELECT commands).
+/// What is posted where a task of a nexus has ended: after a MODE SELECT the others are told where a value has changed (SPC-4,
+/// MODE SELECT commands).
 pub fn change_posting(command: &Command, old: &Modes, new: &Modes, nexus: Nexus) -> Option<Posting>
     ensures { result ≡ change_posting command.now old.now new.now nexus }
 {

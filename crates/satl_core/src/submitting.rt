@@ -2,16 +2,18 @@
 ghost use Rattle.std.specs.Prelude.{◌≡◌, ◌≤◌, ◌+◌, ◌*◌, ◌==◌, ◌∷◌, [], IfOk, None, true, length, take, ◌⊎◌};
 ghost use Rattle.std.specs.List.{AllByRecursion, list_all};
 ghost use Rattle.satl_frame.specs.Output.{IsWritable};
+ghost use Rattle.satl_cdb.specs.Unmap as unmap;
+ghost use Rattle.satl_regs.specs.Trim.{IsTrimList, trim_block};
 ghost use Rattle.satl_direct.specs.Arrival.{reply_to};
 ghost use Rattle.satl_identify.specs.Refusals.{IsIdentity};
 ghost use Rattle.satl_mode.specs.SelectList.{select_fault};
 ghost use Rattle.satl_direct.specs.Tasks.{asks, data_out, held_blocks, needed};
-ghost use Rattle.satl_core.specs.Layer.{IsExpectable, entry_pages, reply_pages};
-ghost use Rattle.satl_asks.specs.Commands.{CanPass, HasList};
+ghost use Rattle.satl_core.specs.Layer.{entry_pages, reply_pages};
+ghost use Rattle.satl_base.specs.Limits.{IsExpectable};
+ghost use Rattle.satl_asks.specs.Commands.{CanPass, HasList, IsList};
 ghost use Rattle.satl_core.specs.Submitting.{HasEntries, HasLengths, HasListUnlessEmpty, HoldsList, answer_to, attention_of, code_answer, command_answer, data_answer, fault_of_block, is_idle, other_answer, readiness, reply_at_once, sense_data, task_without_pages, tell_attention, trims, unless_idle, unmap_list_fault, untold};
 
 use crate::satl::Satl;
-use crate::telling::{Data, data_text, told};
 use arrayvec::ArrayVec;
 use satl_asks::{
     attention_sense, change_of, fields_fault, held_blocks, is_ordered, is_outside, is_untold,
@@ -21,15 +23,17 @@ use satl_base::{Block, Modes, Pages, Replies, Reply, Request, Scsi, SenseBytes};
 use satl_cdb::{Command, Illegal, read_cdb, read_unmap_list};
 use satl_identify::Identity;
 use satl_line::{Entry, Kind};
-use satl_mode::read_select;
+use satl_mode::{ModeSense, read_select};
 use satl_pages::Pool;
 use satl_pass::pass_of;
 use satl_regs::trim_bytes;
 use satl_sense::{Sense, sense_bytes};
+use satl_telling::{Data, tell};
 use satl_unit::{Attention, Attentions};
 use std::mem;
 
-/// Why a command is answered at once: GOOD, GOOD with data-in up to an allocation length, or CHECK CONDITION with its sense data.
+/// Why a command is answered at once: GOOD, GOOD with data-in up to an allocation length, or CHECK CONDITION with its sense
+/// data.
 #[derive(Clone, Copy, Debug, PartialEq, Eq)]
 pub enum AtOnce {
     Good,
@@ -146,8 +150,8 @@ fn judge_data(satl: &Satl, request: &Request, command: Command) -> Result<Comman
     }
 }
 
-/// The refusal of the data-out: that of a MODE SELECT list, of a block that is not zeros where a WRITE SAME unmaps, and of the list of an
-/// UNMAP (SPC-4, MODE SELECT commands; SBC-3 5.28, 5.42).
+/// The refusal of the data-out: that of a MODE SELECT list, of a block that is not zeros where a WRITE SAME unmaps, and of the
+/// list of an UNMAP (SPC-4, MODE SELECT commands; SBC-3 5.28, 5.42).
 fn data_fault(satl: &Satl, request: &Request, command: &Command) -> Option<Illegal>
     requires holds { HoldsList request.now }
     requires header { (asks command.now).length_fault ≡ None }
@@ -205,8 +209,8 @@ fn list_fault(satl: &Satl, request: &Request, length: u16, ten: bool) -> Option<
     }
 }
 
-/// Answers a command from what the device says of itself, or lets it become a task, unless it has nothing to do: then it answers as TEST
-/// UNIT READY does (profile).
+/// Answers a command from what the device says of itself, or lets it become a task, unless it has nothing to do: then it
+/// answers as TEST UNIT READY does (profile).
 fn answer_to(satl: &Satl, request: &Request, command: Command) -> Result<Command, AtOnce>
     requires list { HasListUnlessEmpty command request.now.body satl.now.identity.capacity }
     ensures { result ≡ answer_to satl.now request.now.body command }
@@ -222,14 +226,14 @@ fn answer_to(satl: &Satl, request: &Request, command: Command) -> Result<Command
             page,
             alloc,
         } => {
-            let what = Data::Modes {
+            let asked = ModeSense {
                 ten,
                 long_lba,
                 no_descriptor,
                 control,
                 page,
             };
-            (what, u32::from(alloc))
+            (Data::Modes(asked), u32::from(alloc))
         }
         Command::RequestSense { descriptor, alloc } => {
             let sense = plain(0x0, 0x00, 0x00);
@@ -265,10 +269,17 @@ fn is_idle(command: &Command, body: &Pages, capacity: u64) -> bool
         | Command::Write { count, .. }
         | Command::Verify { count, .. } => count == 0,
         Command::ModeSelect { length, .. } => length == 0,
-        Command::Unmap { length } => length == 0
-            || listed_ranges(body, length, capacity).is_empty(),
+        Command::Unmap { length } => length == 0 || names_none(body, length, capacity),
         _ => false,
     }
+}
+
+/// Whether the list of an UNMAP, of so many bytes, names no range (SBC-3 5.28).
+fn names_none(list: &Pages, size: u16, capacity: u64) -> bool
+    requires { IsList list.now size capacity }
+    ensures { result ≡ (length (unmap.ranges_of list.now) == 0) }
+{
+    listed_ranges(list, size, capacity).is_empty()
 }
 
 fn readiness(satl: &Satl) -> AtOnce
@@ -303,8 +314,8 @@ pub fn task_without_pages(request: &Request, command: Command, identity: &Identi
     }
 }
 
-/// The pages of a task: a READ and an ATA PASS-THROUGH take pages for their data-in, an UNMAP whose trim is queued keeps its entries in one, and all others keep the
-/// first ones of their data-out, as many as they hold. The rest is given back.
+/// The pages of a task: a READ and an ATA PASS-THROUGH take pages for their data-in, an UNMAP whose trim is queued keeps its
+/// entries in one, and all others keep the first ones of their data-out, as many as they hold. The rest is given back.
 pub fn own_pages(pool: &mut Pool, command: &Command, identity: &Identity, body: Pages) -> Pages
     requires out { length body ≤ pool.old.out }
     requires room { held_blocks command.now ≤ pool.old.free + length body }
@@ -324,13 +335,27 @@ pub fn own_pages(pool: &mut Pool, command: &Command, identity: &Identity, body: 
             other_pages(pool, held_blocks(command), body)
         }
         Command::Unmap { length } if identity.queued_trim => {
-            let entries = trim_bytes(&listed_ranges(&body, length, identity.capacity));
-            let mut page = first_pages(pool, 1, body);
-            page.set_block(0, &entries);
-            page
+            entry_page(pool, length, identity.capacity, body)
         }
         _ => first_pages(pool, held_blocks(command), body),
     }
+}
+
+/// The first page of the data-out of an UNMAP, with the entries that trim what its list of so many bytes names (ACS-3, SEND FPDMA
+/// QUEUED).
+fn entry_page(pool: &mut Pool, size: u16, capacity: u64, body: Pages) -> Pages
+    requires out { length body ≤ pool.old.out }
+    requires some { 1 ≤ length body }
+    requires list { IsList body size capacity }
+    requires trimmed { IsTrimList (unmap.ranges_of body) }
+    ensures entries { result ≡ record { bytes = trim_block (unmap.ranges_of body) } ∷ [] }
+    ensures free { pool.new.free + length result ≡ pool.old.free + length body }
+    ensures out { pool.new.out + length body ≡ pool.old.out + length result }
+{
+    let entries = trim_bytes(&listed_ranges(&body, size, capacity));
+    let mut page = first_pages(pool, 1, body);
+    page.set_block(0, &entries);
+    page
 }
 
 /// So many other pages, with whatever they hold.
@@ -400,9 +425,7 @@ fn reply_at_once(
 {
     match answer {
         AtOnce::Good => reply_to(request, Scsi::Good, ArrayVec::new()),
-        AtOnce::Tell { what, alloc } => {
-            told(pool, request, alloc, &data_text(identity, modes, &what))
-        }
+        AtOnce::Tell { what, alloc } => tell(pool, identity, modes, request, &what, alloc),
         AtOnce::Check(sense) => reply_to(
             request,
             Scsi::CheckCondition,

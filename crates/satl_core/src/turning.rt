@@ -31,8 +31,8 @@ use satl_pass::{error_sense_at, pass_of};
 use satl_sense::{Sense, sense_bytes};
 use std::sync::ledger::Ledger;
 
-/// How a task ends: with GOOD; done, and told with sense data beside its data-in, which is CHECK CONDITION as well (SAT-3 12.2); or with
-/// CHECK CONDITION and its sense data.
+/// How a task ends: with GOOD; done, and told with sense data beside its data-in, which is CHECK CONDITION as well (SAT-3
+/// 12.2); or with CHECK CONDITION and its sense data.
 #[derive(Clone, Copy, Debug, PartialEq, Eq)]
 pub enum Ending {
     Good,
@@ -40,9 +40,10 @@ pub enum Ending {
     Check(Sense),
 }
 
-/// How the task ends whose turn it is and whose command is not outstanding: the first that holds decides, a lost link, a unit that is
-/// stopped where the command needs it started, as a READ and a WRITE do, and the drive. `modes` are the mode values that there are, as the
-/// drive is set, and `wanted` those that the task wants. `LinkDown`: the link was lost while the task was carried out.
+/// How the task ends whose turn it is and whose command is not outstanding: the first that holds decides, a lost link, a unit
+/// that is stopped where the command needs it started, as a READ and a WRITE do, and the drive. `modes` are the mode values
+/// that there are, as the drive is set, and `wanted` those that the task wants. `LinkDown`: the link was lost while the task
+/// was carried out.
 pub fn run_task<D: Drive, L: Ledger>(
     down: bool,
     started: bool,
@@ -174,8 +175,8 @@ pub fn lose_tasks(queue: &mut Queue, pool: &mut Pool, descriptor: bool, replies:
     }
 }
 
-/// How a task ends whose queued command has ended: GOOD, or by the entry of the error log and the table of errors, a CRC error or
-/// a medium error at the address (SAT-3 11; for the address and a WRITE: profile).
+/// How a task ends whose queued command has ended: GOOD, or by the entry of the error log and the table of errors, a CRC error
+/// or a medium error at the address (SAT-3 11; for the address and a WRITE: profile).
 pub fn ending_by(command: &Command, error: &Option<NcqError>) -> Ending
     ensures { result ≡ Turning.ending_by command.now error.now }
 {
@@ -192,8 +193,8 @@ fn is_read(command: &Command) -> bool
     matches!(*command, Command::Read { .. })
 }
 
-/// Answers a task. A READ that is done gives its pages as data-in, and so does an ATA PASS-THROUGH whose data came from the drive; all other
-/// pages are given back.
+/// Answers a task. A READ that is done gives its pages as data-in, and so does an ATA PASS-THROUGH whose data came from the
+/// drive; all other pages are given back.
 pub fn end_task(pool: &mut Pool, task: Entry, ending: Ending, descriptor: bool) -> Reply
     requires held { length task.body ≤ pool.old.out }
     requires few { length task.body ≤ most_moved }

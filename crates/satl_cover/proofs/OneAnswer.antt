@@ -2,6 +2,8 @@
 use Rattle.std.proofs.Common.{◌≡◌, inl, inr, refl, sym, ap, ◌∙◌, subst, ℕ, Bool, true, false, List, [], ◌∷◌, ◌++◌, append_assoc, Some, None}
 use Rattle.std.specs.Prelude.{Ok, Err}
 use Rattle.std.proofs.lemmas.List.{append-nil}
+use Rattle.std.proofs.lemmas.Bool.{both_ways}
+use Rattle.std.proofs.lemmas.Option.{same_Some}
 use Rattle.satl_frame.specs.declared.frames.Frame.{Frame}
 use Rattle.satl_frame.specs.declared.frames.Frame.TheVariants as frames
 use Rattle.satl_frame.specs.declared.frames.Reason.{Reason}
@@ -45,11 +47,8 @@ record SameFault (reason other : Reason) (offset place : ℕ) : Type 0 where
   pub reason_is : reason ≡ other
   pub offset_is : offset ≡ place
 
-some_same : {X : Type 0} {x y : X} → Some x ≡ Some y → x ≡ y
-some_same e = cc
-
 one_fault : {input : List ℕ} {reason other : Reason} {offset place : ℕ} → IsBadInput input reason offset → IsBadInput input other place → SameFault reason other offset place
-one_fault (bad_magic e o) (bad_magic f p) = record { reason_is = some_same (sym e ∙ f); offset_is = o ∙ sym p }
+one_fault (bad_magic e o) (bad_magic f p) = record { reason_is = same_Some _ _ (sym e ∙ f); offset_is = o ∙ sym p }
 one_fault (bad_magic e o) (bad_frame fs reads none refused p) = absurd (good_magic reads e)
 one_fault (bad_magic e o) (bad_rest fs reads some r p) = absurd (good_magic reads e)
 one_fault (bad_frame fs reads none refused o) (bad_magic f p) = absurd (good_magic reads f)
@@ -57,7 +56,7 @@ one_fault (bad_frame {version} fs {rest} reads none refused o) (bad_frame {versi
     let same = stopped_once (record { reads = reads; stops = stops_refused version 8 fs rest (_, refused) }) (record { reads = reads'; stops = stops_refused v 8 gs behind (_, refused') }) in
     let moved = subst (λ (w : Version). frame_fault w limit (place_behind gs) behind ≡ frame_fault v limit (place_behind gs) behind) (sym same.version_is) refl in
     record {
-      reason_is = some_same (sym refused ∙ ap (λ (l : List ℕ). frame_fault version limit (place_behind fs) l) same.rest_is ∙ ap (λ (l : List Frame). frame_fault version limit (place_behind l) behind) same.frames_are ∙ moved ∙ refused');
+      reason_is = same_Some _ _ (sym refused ∙ ap (λ (l : List ℕ). frame_fault version limit (place_behind fs) l) same.rest_is ∙ ap (λ (l : List Frame). frame_fault version limit (place_behind l) behind) same.frames_are ∙ moved ∙ refused');
       offset_is = o ∙ ap place_behind same.frames_are ∙ sym p;
     }
 one_fault (bad_frame {version} fs {rest} reads none refused o) (bad_rest {version = v} gs {rest = behind} reads' some r p) =
@@ -78,21 +77,18 @@ covered_there trim earlier [] event later all = subst (λ (l : List Frame). is_c
 covered_there trim earlier (f ∷ before) event later all =
     subst (λ (l : List Frame). is_covered trim l event ≡ true) (append_assoc earlier (f ∷ []) before) (covered_there trim (earlier ++ f ∷ []) before event later all.1)
 
-not_both : {b : Bool} → b ≡ true → b ≡ false → ⊥
-not_both p q = cc
-
 none_uncovered : {trim : Bool} {all : List Frame} {offset : ℕ} → AreCovered trim [] all → FirstUncovered trim all offset → ⊥
-none_uncovered {trim} all f = not_both (covered_there trim [] f.before f.event f.later (subst (AreCovered trim []) f.split all)) f.not_covered
+none_uncovered {trim} all f = both_ways _ f.not_covered (covered_there trim [] f.before f.event f.later (subst (AreCovered trim []) f.split all))
 
 first_same : (trim : Bool) (earlier xs ys : List Frame) (e e' : Frame) (l l' : List Frame) → xs ++ e ∷ l ≡ ys ++ e' ∷ l' → AreCovered trim earlier xs → AreCovered trim earlier ys →
     is_covered trim (earlier ++ xs) e ≡ false → is_covered trim (earlier ++ ys) e' ≡ false → xs ≡ ys
 first_same trim earlier [] [] e e' l l' same p q a b = refl
 first_same trim earlier [] (y ∷ ys) e e' l l' same p q a b =
     let head : e ≡ y = cc in
-    absurd (not_both (subst (λ (f : Frame). is_covered trim earlier f ≡ true) (sym head) q.0) (subst (λ (k : List Frame). is_covered trim k e ≡ false) (append-nil earlier) a))
+    absurd (both_ways _ (subst (λ (k : List Frame). is_covered trim k e ≡ false) (append-nil earlier) a) (subst (λ (f : Frame). is_covered trim earlier f ≡ true) (sym head) q.0))
 first_same trim earlier (x ∷ xs) [] e e' l l' same p q a b =
     let head : e' ≡ x = cc in
-    absurd (not_both (subst (λ (f : Frame). is_covered trim earlier f ≡ true) (sym head) p.0) (subst (λ (k : List Frame). is_covered trim k e' ≡ false) (append-nil earlier) b))
+    absurd (both_ways _ (subst (λ (k : List Frame). is_covered trim k e' ≡ false) (append-nil earlier) b) (subst (λ (f : Frame). is_covered trim earlier f ≡ true) (sym head) p.0))
 first_same trim earlier (x ∷ xs) (y ∷ ys) e e' l l' same p q a b =
     let head : x ≡ y = cc in
     let tail : xs ++ e ∷ l ≡ ys ++ e' ∷ l' = cc in

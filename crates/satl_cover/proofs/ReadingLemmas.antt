@@ -21,6 +21,7 @@ use Rattle.satl_cover.specs.Covered.IsBadInput.{bad_rest}
 use Rattle.satl_cover.specs.Noting.{Knows}
 use Rattle.satl_cover.specs.Reading.{ReadWhole}
 use Rattle.std.proofs.lemmas.Option.{same_Some}
+use Rattle.satl_base.proofs.ListsLemmas.{push_not_empty}
 
 -- the place of the next frame
 pub next_place : (r : Reading) (input left : List ℕ) (given : List Frame) → HasRead r (Some input) (Some left) given → max (length input - length left) 8 ≡ place_behind given
@@ -43,11 +44,7 @@ pub read_whole : (trim : Bool) (r : Reading) (input left : List ℕ) (given : Li
 read_whole trim r input left given names o is_limit read knows = by_place r.limit r.newest r.place is_limit read
   where
     by_place : (l : ℕ) (newest : Version) (at : Option Place) → l ≡ limit → ReadUpTo l newest at (Some input) (Some left) (given ++ frames.End ∷ []) → ReadWhole trim input left names o
-    by_place l newest None is_limit (nothing, same) = absurd (not_empty given frames.End nothing)
-      where
-        not_empty : (fs : List Frame) (f : Frame) → fs ++ f ∷ [] ≡ [] → ⊥
-        not_empty [] f e = cc
-        not_empty (g ∷ fs) f e = cc
+    by_place l newest None is_limit (nothing, same) = absurd (push_not_empty given frames.End nothing)
     by_place l newest (Some p) is_limit read = record {
       version = p.version;
       before = given;

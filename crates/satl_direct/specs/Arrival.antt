@@ -17,6 +17,7 @@ use Rattle.satl_vpd.specs.Capacity.{capacity_10, capacity_16}
 use Rattle.satl_vpd.specs.Luns.{lun_list}
 use Rattle.satl_vpd.specs.Standard.{standard_data}
 use Rattle.satl_vpd.specs.Vital.{vpd_page}
+use Rattle.satl_mode.specs.declared.sense.ModeSense.{ModeSense}
 use Rattle.satl_mode.specs.ModeData.{mode_data}
 use Rattle.satl_unit.specs.declared.attention.Attention.{Attention}
 use Rattle.satl_frame.specs.DataPages.{pages_of}
@@ -35,7 +36,16 @@ asks_for code r = code_of r == code
 
 -- an answer without data (SAM-5 5.1)
 abbrev pub reply_to : Request → Scsi → List ℕ → Reply
-reply_to r status sense = record { nexus = r.nexus; tag = r.tag; status = status; sense = record { items = sense }; body = []; data_len = 0; expected = r.expected }
+reply_to r status sense =
+    record {
+      nexus = r.nexus;
+      tag = r.tag;
+      status = status;
+      sense = record { items = sense };
+      body = [];
+      data_len = 0;
+      expected = r.expected;
+    }
 
 -- CHECK CONDITION with sense data in the form that D_SENSE chooses (SAM-5 5.3.1, SPC-4 4.5)
 abbrev pub check : Device → Request → Sense → Reply
@@ -43,14 +53,23 @@ check s r sense = reply_to r CheckCondition (sense_text s.modes sense)
 
 -- GOOD with data-in, cut to the allocation length (SPC-4 4.3.5.6)
 abbrev pub told : Request → ℕ → List ℕ → Reply
-told r alloc text = record { nexus = r.nexus; tag = r.tag; status = Good; sense = record { items = [] }; body = pages_of (take alloc text); data_len = length (take alloc text); expected = r.expected }
+told r alloc text =
+    record {
+      nexus = r.nexus;
+      tag = r.tag;
+      status = Good;
+      sense = record { items = [] };
+      body = pages_of (take alloc text);
+      data_len = length (take alloc text);
+      expected = r.expected;
+    }
 
 -- the logical unit 0: eight bytes of zero (SAM-5 4.6.4)
 abbrev pub is_unit_0 : List ℕ → Bool
 is_unit_0 lun = list_all (λ byte. byte == 0) lun
 
--- what becomes of a request: it is answered at once and nothing changes; or with the first unit attention condition of its nexus,
--- which is told by that; or it overlaps a task, and all tasks of its nexus go; or it is a task from now on (SAM-5 5)
+-- what becomes of a request: it is answered at once and nothing changes; or with the first unit attention condition of its
+-- nexus, which is told by that; or it overlaps a task, and all tasks of its nexus go; or it is a task from now on (SAM-5 5)
 pub data Arrival : Type 0 where
   answered : Reply → Arrival
   attended : Reply → Arrival
@@ -66,7 +85,8 @@ readiness s r =
 
 -- a command that makes a task, where the task set has a place for it (SAM-5 5.3.1)
 abbrev pub placed : Device → Request → Command → Arrival
-placed s r command = if is_full s.tasks command then answered (reply_to r TaskSetFull []) else waits (task_for s.identity.queued_trim r command)
+placed s r command =
+    if is_full s.tasks command then answered (reply_to r TaskSetFull []) else waits (task_for s.identity.queued_trim r command)
 
 -- a command that makes a task, unless it has nothing to do (profile)
 abbrev pub placed_unless : Bool → Device → Request → Command → Arrival
@@ -82,13 +102,23 @@ abbrev pub inquiry_text : Device → Option ℕ → List ℕ
 inquiry_text s None = standard_data s.identity true
 inquiry_text s (Some page) = unwrap_or (vpd_page page s.identity) []
 
+-- what a MODE SENSE asks to be shown (SPC-4, MODE SENSE commands)
+abbrev pub sense_asked : Bool → Bool → Bool → ℕ → ℕ → ModeSense
+sense_asked ten long_lba no_descriptor control page = record {
+  ten = ten;
+  long_lba = long_lba;
+  no_descriptor = no_descriptor;
+  control = control;
+  page = page;
+}
+
 -- a command whose fields and data-out are good: answered from what the device says of itself, or a task (SPC-4 6, SBC-3 5)
 abbrev pub becomes : Device → Request → Command → Arrival
 becomes s r commands.TestUnitReady = answered (readiness s r)
 becomes s r (commands.RequestSense descriptor alloc) = sense_told (slice_get (attentions_of r.nexus s) 0) r descriptor alloc
 becomes s r (commands.Inquiry page alloc) = answered (told r alloc (inquiry_text s page))
 becomes s r (commands.ModeSense ten long_lba no_descriptor control page alloc) =
-    answered (told r alloc (mode_data s.identity s.modes (commands.ModeSense ten long_lba no_descriptor control page alloc)))
+    answered (told r alloc (mode_data s.identity s.modes (sense_asked ten long_lba no_descriptor control page)))
 becomes s r (commands.ModeSelect ten size) = placed_unless (size == 0) s r (commands.ModeSelect ten size)
 becomes s r (commands.StartStop start no_flush) = placed s r (commands.StartStop start no_flush)
 becomes s r commands.ReadCapacity10 = answered (told r 8 (capacity_10 s.identity))
@@ -107,7 +137,8 @@ abbrev pub unless_refused : Option Illegal → Device → Request → Arrival �
 unless_refused None s r next = next
 unless_refused (Some why) s r next = answered (check s r (refusal why))
 
--- the data-out: the length of the list, fewer bytes than the command needs, and what is in them; more bytes are ignored (SBC-3 5; profile)
+-- the data-out: the length of the list, fewer bytes than the command needs, and what is in them; more bytes are ignored (SBC-3
+-- 5; profile)
 abbrev pub data_arrival : Device → Request → Command → Arrival
 data_arrival s r command =
     unless_refused (asks command).length_fault s r
@@ -125,7 +156,8 @@ abbrev pub cdb_arrival : Device → Request → Result Command Illegal → Arriv
 cdb_arrival s r (Err why) = answered (check s r (refusal why))
 cdb_arrival s r (Ok command) = unless_refused (asks command).fields_fault s r (command_arrival s r command)
 
--- the codes of commands that are carried out before a unit attention is told: INQUIRY, REPORT LUNS and REQUEST SENSE (SAM-5 5.14)
+-- the codes of commands that are carried out before a unit attention is told: INQUIRY, REPORT LUNS and REQUEST SENSE (SAM-5
+-- 5.14)
 abbrev pub untold_codes : List ℕ
 untold_codes = 0x12 ∷ 0xA0 ∷ 0x03 ∷ []
 

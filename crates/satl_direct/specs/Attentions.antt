@@ -8,7 +8,8 @@ use Rattle.satl_unit.specs.Conditions.{posted}
 -- the conditions of each nexus from this number on, with one more for those that pass a test (SAM-5 5.14)
 abbrev pub posted_for : (ℕ → Bool) → Attention → ℕ → List (List Attention) → List (List Attention)
 posted_for for what nexus [] = []
-posted_for for what nexus (conditions ∷ rest) = (if for nexus then posted what conditions else conditions) ∷ posted_for for what (nexus + 1) rest
+posted_for for what nexus (conditions ∷ rest) =
+    (if for nexus then posted what conditions else conditions) ∷ posted_for for what (nexus + 1) rest
 
 -- one more for each nexus that passes a test (SAM-5 5.14)
 abbrev pub post : (ℕ → Bool) → Attention → List (List Attention) → List (List Attention)

@@ -16,9 +16,9 @@ pub record IsUnanswered (after : Device) (answers : List Reply) (new : Device) :
   pub none : answers ≡ []
   pub new_is : new ≡ after
 
--- a power cycle: the tasks go without an answer, each sector has one of the blocks that it might be left with, flaws and glitches stay,
--- the unit is started, up and active, the mode values are the defaults, and each nexus is told that the power was on (SAM-5 6.3; SBC-3
--- 4.15; profile)
+-- a power cycle: the tasks go without an answer, each sector has one of the blocks that it might be left with, flaws and
+-- glitches stay, the unit is started, up and active, the mode values are the defaults, and each nexus is told that the power
+-- was on (SAM-5 6.3; SBC-3 4.15; profile)
 pub record IsPowered (old : Device) (answers : List Reply) (new : Device) : Type 0 where
   pub none : answers ≡ []
   pub cells : AllZip IsLeftBehind old.cells new.cells
@@ -32,10 +32,11 @@ pub record IsPowered (old : Device) (answers : List Reply) (new : Device) : Type
     attentions = map (λ conditions. PowerOn ∷ []) old.attentions;
   }
 
--- what an event does: flaws are set or cleared, outside the capacity nothing changes; so many glitches are left; the drive's choices are
--- steered; a power cycle; or the link is lost, also where it was lost before (profile)
+-- what an event does: flaws are set or cleared, outside the capacity nothing changes; so many glitches are left; the drive's
+-- choices are steered; a power cycle; or the link is lost, also where it was lost before (profile)
 abbrev pub Happens : BenchEvent → Device → List Reply → Device → Type 0
-Happens (Strike which lba) s answers new = IsUnanswered (record s { cells = change_at s.cells lba (with_flaw which) }) answers new
+Happens (Strike which lba) s answers new =
+    IsUnanswered (record s { cells = change_at s.cells lba (with_flaw which) }) answers new
 Happens (Mend lba) s answers new = IsUnanswered (record s { cells = change_at s.cells lba without_flaws }) answers new
 Happens (Glitch count) s answers new = IsUnanswered (record s { glitches = count }) answers new
 Happens (Order order) s answers new = IsUnanswered s answers new

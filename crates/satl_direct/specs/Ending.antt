@@ -31,7 +31,16 @@ use Rattle.satl_direct.specs.Senses.{sense_text, link_lost, miscompare, not_read
 
 -- the answer to a task, with the blocks that it read (SAM-5 5.1)
 abbrev pub task_reply : Entry → Scsi → List ℕ → List Block → Reply
-task_reply t status sense blocks = record { nexus = t.nexus; tag = t.tag; status = status; sense = record { items = sense }; body = blocks; data_len = 512 * length blocks; expected = t.expected }
+task_reply t status sense blocks =
+    record {
+      nexus = t.nexus;
+      tag = t.tag;
+      status = status;
+      sense = record { items = sense };
+      body = blocks;
+      data_len = 512 * length blocks;
+      expected = t.expected;
+    }
 
 -- a task is answered with CHECK CONDITION and this sense (SAM-5 5.3.1)
 abbrev pub task_check : Device → Entry → Sense → Reply
@@ -59,13 +68,18 @@ outcome_reply s t ranged (ends_done blocks) = task_reply t Good [] blocks
 outcome_reply s t ranged (ends_flawed lba) = task_check s t (medium_error ranged lba)
 outcome_reply s t ranged ends_glitched = task_check s t crc_error
 
--- a READ, a WRITE or a trim ends by its outcome on the medium: at a flaw of its kind with the lowest flawed address; while glitches
--- are left it may end with a CRC error, which takes one; else it is done (SBC-3 5; of CRC errors: profile)
+-- a READ, a WRITE or a trim ends by its outcome on the medium: at a flaw of its kind with the lowest flawed address; while
+-- glitches are left it may end with a CRC error, which takes one; else it is done (SBC-3 5; of CRC errors: profile)
 pub record EndsOnMedium (ranged : RangedTask) (s : Device) (t : Entry) (reply : Reply) (new : Device) : Type 0 where
   pub outcome : Outcome
   pub ends : EndsAs s.modes.wce ranged outcome s.cells s.glitches new.cells new.glitches
   pub answer : reply ≡ outcome_reply s t ranged outcome
-  pub stays : new ≡ record s { cells = new.cells; tasks = without t s.tasks; glitches = new.glitches; active = active_after outcome s.active }
+  pub stays : new ≡ record s {
+    cells = new.cells;
+    tasks = without t s.tasks;
+    glitches = new.glitches;
+    active = active_after outcome s.active;
+  }
 
 -- a CRC error: what the task writes is written in part, and one glitch is used up (SPC-4 4.5.6; profile)
 pub record EndsGarbled (writes : List Pair) (s : Device) (t : Entry) (reply : Reply) (new : Device) : Type 0 where
@@ -85,8 +99,8 @@ abbrev pub same_pairs : ℕ → ℕ → List Block → Bool → List Pair
 same_pairs lba count [] cached = []
 same_pairs lba count (block ∷ blocks) cached = pairs_from lba (replicate count block) cached
 
--- a WRITE SAME goes over pieces of 64 blocks upwards, so a CRC error may come where the first piece has no flaw; else the lowest
--- flaw of all decides (SBC-3 5.42; the pieces: profile)
+-- a WRITE SAME goes over pieces of 64 blocks upwards, so a CRC error may come where the first piece has no flaw; else the
+-- lowest flaw of all decides (SBC-3 5.42; the pieces: profile)
 abbrev pub EndsInPieces : ℕ → ℕ → List Pair → Device → Entry → Reply → Device → Type 0
 EndsInPieces lba count writes s t reply new =
     ((first_flaw flaws.Write s.cells lba (min piece count) ≡ None) × EndsGarbled writes s t reply new)
@@ -122,7 +136,8 @@ settled s = record s { cells = map settle s.cells }
 abbrev pub settled_if : Bool → Device → Device
 settled_if settles s = if settles then settled s else s
 
--- START STOP UNIT: stopped and in standby, with all written back unless NO_FLUSH; or started and active (SBC-3, START STOP UNIT; SAT-3)
+-- START STOP UNIT: stopped and in standby, with all written back unless NO_FLUSH; or started and active (SBC-3, START STOP
+-- UNIT; SAT-3)
 abbrev pub after_start_stop : Bool → Bool → Device → Device
 after_start_stop false no_flush s = record (settled_if (not no_flush) s) { active = false; started = false }
 after_start_stop true no_flush s = record s { active = true; started = true }
@@ -131,11 +146,14 @@ after_start_stop true no_flush s = record s { active = true; started = true }
 abbrev pub selected : Device → Entry → Modes
 selected s t = applied s.modes (unwrap_or t.modes no_change)
 
--- MODE SELECT: all is written back where WCE is turned off, and where a value has changed the other nexuses are told (SPC-4, MODE
--- SELECT commands; SBC-3 6.4.5)
+-- MODE SELECT: all is written back where WCE is turned off, and where a value has changed the other nexuses are told (SPC-4,
+-- MODE SELECT commands; SBC-3 6.4.5)
 abbrev pub after_select : Device → Entry → Device
 after_select s t =
-    record (settled_if (s.modes.wce && not (selected s t).wce) s) { modes = selected s t; attentions = with_modes_changed s.modes (selected s t) t.nexus s.attentions }
+    record (settled_if (s.modes.wce && not (selected s t).wce) s) {
+      modes = selected s t;
+      attentions = with_modes_changed s.modes (selected s t) t.nexus s.attentions;
+    }
 
 -- what ATA commands see of the device (ACS-3; SAT-3)
 abbrev pub medium_of : Device → Medium
@@ -174,8 +192,8 @@ pass_reply s t pass ended taken = record {
   expected = t.expected;
 }
 
--- ATA PASS-THROUGH: its command is carried out on the medium, with its data-out or with as many pages as its data-in needs; what it
--- sets are the mode values from then on (SAT-3 12.2)
+-- ATA PASS-THROUGH: its command is carried out on the medium, with its data-out or with as many pages as its data-in needs;
+-- what it sets are the mode values from then on (SAT-3 12.2)
 pub record EndsPassed (pass : Pass) (s : Device) (t : Entry) (reply : Reply) (new : Device) : Type 0 where
   pub given : List Block
   pub data_out : pass.out ≡ true → given ≡ t.body
@@ -185,31 +203,33 @@ pub record EndsPassed (pass : Pass) (s : Device) (t : Entry) (reply : Reply) (ne
   pub after : Medium
   pub does : Ata pass.regs (medium_of s) given ended taken after
   pub answer : reply ≡ pass_reply s t pass ended taken
-  pub stays : new ≡ record s { cells = after.cells; tasks = without t s.tasks; modes = record s.modes { wce = after.cache; dra = not after.look }; active = after.active; glitches = after.glitches }
+  pub stays : new ≡ record s {
+    cells = after.cells;
+    tasks = without t s.tasks;
+    modes = record s.modes { wce = after.cache; dra = not after.look };
+    active = after.active;
+    glitches = after.glitches;
+  }
 
--- how a command of a task ends on a device that is up and ready for it (SBC-3 5, SPC-4 6, SAT-3); those that are answered on arrival
--- are no tasks
+-- how a command of a task ends on a device that is up and ready for it (SBC-3 5, SPC-4 6, SAT-3); all others are answered on
+-- arrival, and are no tasks
 abbrev pub EndsBy : Command → Device → Entry → Reply → Device → Type 0
-EndsBy commands.TestUnitReady s t reply new = ⊥
-EndsBy (commands.RequestSense descriptor alloc) s t reply new = ⊥
-EndsBy (commands.Inquiry page alloc) s t reply new = ⊥
-EndsBy (commands.ModeSense ten long_lba no_descriptor control page alloc) s t reply new = ⊥
 EndsBy (commands.ModeSelect ten size) s t reply new = IsTaskDone (after_select s t) t reply new
 EndsBy (commands.StartStop start no_flush) s t reply new = IsTaskDone (after_start_stop start no_flush s) t reply new
-EndsBy commands.ReadCapacity10 s t reply new = ⊥
-EndsBy (commands.ReadCapacity16 alloc) s t reply new = ⊥
-EndsBy (commands.ReportLuns select alloc) s t reply new = ⊥
 EndsBy (commands.Read form lba count fua) s t reply new = EndsOnMedium (ranged_read fua (over lba count)) s t reply new
 EndsBy (commands.Write form lba count fua) s t reply new = EndsOnMedium (ranged_write fua (over lba count) t.body) s t reply new
 EndsBy (commands.Verify form lba count false) s t reply new = EndsVerified lba count s t reply new
 EndsBy (commands.Verify form lba count true) s t reply new = EndsCompared lba count s t reply new
 EndsBy (commands.Flush form lba count) s t reply new = IsTaskDone (settled s) t reply new
-EndsBy (commands.WriteSame form lba count false) s t reply new = EndsInPieces lba count (same_pairs lba count t.body s.modes.wce) s t reply new
+EndsBy (commands.WriteSame form lba count false) s t reply new =
+    EndsInPieces lba count (same_pairs lba count t.body s.modes.wce) s t reply new
 EndsBy (commands.WriteSame form lba count true) s t reply new = EndsOnMedium (ranged_trim (over lba count ∷ [])) s t reply new
 EndsBy (commands.Unmap size) s t reply new = EndsOnMedium (ranged_trim t.ranges.items) s t reply new
 EndsBy (commands.Pass cdb) s t reply new = EndsPassed (pass_of cdb) s t reply new
+EndsBy _ s t reply new = ⊥
 
--- the first that holds: the link is lost; the unit is stopped, and the command needs it started; and then the command itself (SAT-3 11; profile)
+-- the first that holds: the link is lost; the unit is stopped, and the command needs it started; and then the command itself
+-- (SAT-3 11; profile)
 abbrev pub Ends : Device → Entry → Reply → Device → Type 0
 Ends s t reply new =
     MatchBool s.down (IsChecked link_lost s t reply new)

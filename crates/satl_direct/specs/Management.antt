@@ -34,10 +34,18 @@ effect_of ClearTaskSet m s = record {
   attentions = post (λ nexus. not (nexus == m.nexus) && list_any (is_of nexus) s.tasks) attentions.Cleared s.attentions;
   response = Complete;
 }
-effect_of UnitReset m s = record { goes = λ t. true; attentions = post (λ nexus. true) attentions.UnitReset s.attentions; response = Complete }
-effect_of NexusReset m s = record { goes = is_of m.nexus; attentions = post (λ nexus. nexus == m.nexus) attentions.NexusLoss s.attentions; response = Complete }
-effect_of QueryTask m s = record { goes = λ t. false; attentions = s.attentions; response = found (list_any (is_called m.nexus (m.tag).0) s.tasks) }
-effect_of QueryTaskSet m s = record { goes = λ t. false; attentions = s.attentions; response = found (list_any (is_of m.nexus) s.tasks) }
+effect_of UnitReset m s =
+    record { goes = λ t. true; attentions = post (λ nexus. true) attentions.UnitReset s.attentions; response = Complete }
+effect_of NexusReset m s =
+    record {
+      goes = is_of m.nexus;
+      attentions = post (λ nexus. nexus == m.nexus) attentions.NexusLoss s.attentions;
+      response = Complete;
+    }
+effect_of QueryTask m s =
+    record { goes = λ t. false; attentions = s.attentions; response = found (list_any (is_called m.nexus (m.tag).0) s.tasks) }
+effect_of QueryTaskSet m s =
+    record { goes = λ t. false; attentions = s.attentions; response = found (list_any (is_of m.nexus) s.tasks) }
 
 -- nothing happens but this response (profile)
 abbrev pub only : Response → Device → Effect

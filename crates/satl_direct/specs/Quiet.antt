@@ -65,14 +65,16 @@ pub record MayWake (s : Device) : Type 0 where
 abbrev pub StaysOrWakes : Device → Bool → Type 0
 StaysOrWakes s active = (active ≡ s.active) ⊎ ((active ≡ true) × MayWake s)
 
--- quiet moves: blocks that a loss of power might have left are lost, pairs of tasks under way show, and the drive wakes (profile)
+-- quiet moves: blocks that a loss of power might have left are lost, pairs of tasks under way show, and the drive wakes
+-- (profile)
 pub record Quiet (old new : Device) : Type 0 where
   pub cells : Moves (MayShow old) old.cells new.cells
   pub active : StaysOrWakes old new.active
   pub stays : new ≡ record old { cells = new.cells; active = new.active }
 
 -- a step, with quiet moves before it and after it (profile)
-pub record Around {A : Type 0} (Step : Device → List A → Device → Type 0) (old : Device) (answers : List A) (new : Device) : Type 0 where
+pub record Around {A : Type 0} (Step : Device → List A → Device → Type 0) (old : Device) (answers : List A)
+    (new : Device) : Type 0 where
   pub before : Device
   pub after : Device
   pub quiet_before : Quiet old before

@@ -25,20 +25,23 @@ abbrev pub eligibles : List Entry → List Entry
 eligibles [] = []
 eligibles (t ∷ ts) = t ∷ filter (λ u. not (conflicts t u)) (eligibles ts)
 
--- how many commands the device lets a drive hold at once: its eligible ranged tasks, 32 at most, and none while it is down or stopped
--- (ACS-3, native command queuing; profile)
+-- how many commands the device lets a drive hold at once: its eligible ranged tasks, 32 at most, and none while it is down or
+-- stopped (ACS-3, native command queuing; profile)
 abbrev pub depth : Device → ℕ
 depth s = if s.down || not s.started then 0 else min 32 (length (filter is_ranged (eligibles s.tasks)))
 
 -- a step, or a step and then a loss of the link (profile)
 pub data MayLose (Step : Device → List Reply → Device → Type 0) (old : Device) : List Reply → Device → Type 0 where
   keeps : {answers : List Reply} {new : Device} → Step old answers new → MayLose Step old answers new
-  loses : {answers more : List Reply} {mid after new : Device} → Step old answers mid → Quiet mid after → Loss after more new → MayLose Step old (answers ++ more) new
+  keeps_and_loses : {answers more : List Reply} {mid after new : Device} → Step old answers mid → Quiet mid after
+      → Loss after more new
+      → MayLose Step old (answers ++ more) new
 
 -- n turns with quiet moves around each, and the greatest depth after one of them (profile)
 pub data TurnsOf : ℕ → Device → List Reply → Device → ℕ → Type 0 where
   none : {s : Device} → TurnsOf 0 s [] s 0
-  more : {n deep : ℕ} {s mid new : Device} {first rest : List Reply} → TurnsOf n s first mid deep → Around Turn mid rest new → TurnsOf (suc n) s (first ++ rest) new (max deep (depth new))
+  more : {n deep : ℕ} {s mid new : Device} {first rest : List Reply} → TurnsOf n s first mid deep → Around Turn mid rest new
+      → TurnsOf (suc n) s (first ++ rest) new (max deep (depth new))
 
 -- turns until no task is left (profile)
 pub record Drains (s : Device) (answers : List Reply) (new : Device) (deep : ℕ) : Type 0 where
@@ -50,7 +53,8 @@ pub record Drains (s : Device) (answers : List Reply) (new : Device) (deep : ℕ
 abbrev pub Manages : Manage → Response → Device → List Reply → Device → Type 0
 Manages m response s answers new = (answers ≡ []) × IsManaged m s response new
 
--- a management function, or one and then a loss of the link: what is answered at the loss comes first, and then the response (SAM-5 7; profile)
+-- a management function, or one and then a loss of the link: what is answered at the loss comes first, and then the response
+-- (SAM-5 7; profile)
 pub record ManagedAnswers (m : Manage) (s : Device) (answers : List Answer) (new : Device) : Type 0 where
   pub response : Response
   pub replies : List Reply
@@ -65,10 +69,12 @@ Does (frames.Request r) s answers new deep =
     (replies : List Reply) × (answers ≡ map replied replies) × Around (MayLose (Arrives r)) s replies new × (deep ≡ depth new)
 Does (frames.Manage m) s answers new deep = ManagedAnswers m s answers new × (deep ≡ depth new)
 Does (frames.Turn n) s answers new deep =
-    (replies : List Reply) × (turned : ℕ) × (answers ≡ map replied replies) × TurnsOf n s replies new turned × (deep ≡ max turned (depth new))
+    (replies : List Reply) × (turned : ℕ) × (answers ≡ map replied replies) × TurnsOf n s replies new turned
+    × (deep ≡ max turned (depth new))
 Does (frames.Bench event) s answers new deep =
     (replies : List Reply) × (answers ≡ map replied replies) × Around (Happens event) s replies new × (deep ≡ depth new)
-Does frames.End s answers new deep = (replies : List Reply) × (answers ≡ map replied replies ++ ended ∷ []) × Drains s replies new deep
+Does frames.End s answers new deep =
+    (replies : List Reply) × (answers ≡ map replied replies ++ ended ∷ []) × Drains s replies new deep
 
 -- whether the link was lost between the two (profile)
 abbrev pub losses_of : Device → Device → ℕ
@@ -91,11 +97,12 @@ losses_in (frames.Turn n) old new = losses_of old new
 losses_in (frames.Bench event) old new = bench_losses event
 losses_in frames.End old new = losses_of old new
 
--- the events one after the other, with quiet moves before the first: a group of answers for each, the number of losses, the last
--- device, and the greatest depth after an event or a turn (profile)
+-- the events one after the other, with quiet moves before the first: a group of answers for each, the number of losses, the
+-- last device, and the greatest depth after an event or a turn (profile)
 pub data RunDeep (first : Device) : List Frame → List (List Answer) → ℕ → Device → ℕ → Type 0 where
   start : {s : Device} → Quiet first s → RunDeep first [] [] 0 s 0
-  step : {events : List Frame} {groups : List (List Answer)} {losses deep : ℕ} {s new : Device} (event : Frame) (now : List Answer) (d : ℕ)
+  step : {events : List Frame} {groups : List (List Answer)} {losses deep : ℕ} {s new : Device} (event : Frame)
+      (now : List Answer) (d : ℕ)
       → RunDeep first events groups losses s deep → Does event s now new d
       → RunDeep first (events ++ event ∷ []) (groups ++ now ∷ []) (losses + losses_in event s new) new (max deep d)
 

@@ -29,10 +29,10 @@ use Rattle.satl_line.specs.Kinds.{kind_of}
 abbrev pub pass_of : List ℕ → Pass
 pass_of cdb = pass_in (form_of cdb) cdb
 
--- what a command asks of the device: the refusal of its fields, where the table of commands has not judged them; the range that it
--- goes over; the refusal of its list length; the bytes of data-out that it needs; the refusal of its data-out; the blocks that its
--- task holds; what its task keeps of the data-out; the ranges that its task reads, writes or trims; the mode values that it sets;
--- and whether a started unit alone carries it out (SBC-3 5, SPC-4 6, SAT-3 12.2; the blocks held: profile)
+-- what a command asks of the device: the refusal of its fields, where the table of commands has not judged them; the range that
+-- it goes over; the refusal of its list length; the bytes of data-out that it needs; the refusal of its data-out; the blocks
+-- that its task holds; what its task keeps of the data-out; the ranges that its task reads, writes or trims; the mode values
+-- that it sets; and whether a started unit alone carries it out (SBC-3 5, SPC-4 6, SAT-3 12.2; the blocks held: profile)
 pub record Asks : Type 0 where
   pub fields_fault : Option Illegal
   pub range : Range
@@ -116,12 +116,25 @@ asks commands.ReadCapacity10 = nothing
 asks (commands.ReadCapacity16 alloc) = nothing
 asks (commands.ReportLuns select alloc) = nothing
 asks (commands.Read form lba count fua) = record (over_range lba count) { held = count; ranges = λ body. over lba count ∷ [] }
-asks (commands.Write form lba count fua) = record (over_range lba count) { needed = 512 * count; held = count; kept = λ body. body; ranges = λ body. over lba count ∷ [] }
+asks (commands.Write form lba count fua) =
+    record (over_range lba count) {
+      needed = 512 * count;
+      held = count;
+      kept = λ body. body;
+      ranges = λ body. over lba count ∷ [];
+    }
 asks (commands.Verify form lba count false) = over_range lba count
-asks (commands.Verify form lba count true) = record (over_range lba count) { needed = 512 * count; held = count; kept = λ body. body }
+asks (commands.Verify form lba count true) =
+    record (over_range lba count) { needed = 512 * count; held = count; kept = λ body. body }
 asks (commands.Flush form lba count) = over_range lba count
 asks (commands.WriteSame form lba count false) = record (over_range lba count) { needed = 512; held = 1; kept = λ body. body }
-asks (commands.WriteSame form lba count true) = record (over_range lba count) { needed = 512; data_fault = λ identity modes body. block_fault body; held = 1; kept = λ body. body }
+asks (commands.WriteSame form lba count true) =
+    record (over_range lba count) {
+      needed = 512;
+      data_fault = λ identity modes body. block_fault body;
+      held = 1;
+      kept = λ body. body;
+    }
 asks (commands.Unmap length) = asks_unmap length
 asks (commands.Pass cdb) = asks_through cdb (pass_of cdb)
 
@@ -146,7 +159,8 @@ abbrev pub held_by : List Entry → ℕ
 held_by [] = 0
 held_by (t ∷ ts) = t.blocks + held_by ts
 
--- the task set has no place for a command: 64 tasks, or more than 32,768 blocks (SAM-5 5.3.1, TASK SET FULL; the figures: profile)
+-- the task set has no place for a command: 64 tasks, or more than 32,768 blocks (SAM-5 5.3.1, TASK SET FULL; the figures:
+-- profile)
 abbrev pub is_full : List Entry → Command → Bool
 is_full tasks command = (length tasks == most_tasks) || nat_lt most_held (held_by tasks + held_blocks command)
 

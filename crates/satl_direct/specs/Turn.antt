@@ -45,9 +45,11 @@ pub record OneEnds (s : Device) (reply : Reply) (new : Device) : Type 0 where
   pub may : MayEnd s task
   pub ends : Ends s task reply new
 
--- a turn: with no task nothing happens; else one ends, or the link is lost, or one ends and then the link is lost (SAM-5 8; profile)
+-- a turn: with no task nothing happens; else one ends, or the link is lost, or one ends and then the link is lost (SAM-5 8;
+-- profile)
 pub data Turn (s : Device) : List Reply → Device → Type 0 where
   idle : s.tasks ≡ [] → Turn s [] s
   ends : {new : Device} (reply : Reply) → OneEnds s reply new → Turn s (reply ∷ []) new
   loses : {new : Device} {answers : List Reply} → (s.tasks ≡ [] → ⊥) → TurnLoss s answers new → Turn s answers new
-  ends_and_loses : {mid after new : Device} {answers : List Reply} (reply : Reply) → OneEnds s reply mid → Quiet mid after → TurnLoss after answers new → Turn s (reply ∷ answers) new
+  ends_and_loses : {mid after new : Device} {answers : List Reply} (reply : Reply) → OneEnds s reply mid → Quiet mid after
+      → TurnLoss after answers new → Turn s (reply ∷ answers) new

@@ -1,9 +1,9 @@
 -- Which devices there can be (SAM-5 4.8; SBC-3; the figures: profile).
-use Rattle.std.specs.Prelude.{◌≡◌, ◌*◌, ◌≤◌, false, List, [], ◌∷◌, length, IfSome}
+use Rattle.std.specs.Prelude.{◌≡◌, ◌*◌, ◌≤◌, false, List, [], ◌∷◌, length}
 use Rattle.std.specs.List.{AllByRecursion, list_any}
 use Rattle.satl_base.specs.declared.request.Request.{Request}
 use Rattle.satl_base.specs.Cells.{AreSound}
-use Rattle.satl_base.specs.Limits.{longest_data, most_held, most_tasks}
+use Rattle.satl_base.specs.Limits.{IsExpectable, most_held, most_tasks}
 use Rattle.satl_identify.specs.declared.identity.Identity.{Identity}
 use Rattle.satl_identify.specs.Refusals.{IsIdentity}
 use Rattle.satl_mode.specs.Changes.{AreModesOf}
@@ -19,20 +19,20 @@ abbrev pub AreOwn : List Entry → Type 0
 AreOwn [] = Unit {0}
 AreOwn (t ∷ ts) = (list_any (is_called t.nexus (t.tag).0) ts ≡ false) × AreOwn ts
 
--- a task is that of a request, with the pages of its data-out, whose operation code, fields, range and data-out were good at a device of
--- this identity, with mode values that its drive can have (SAM-5 4.8; the longest transfer: profile)
+-- a task is that of a request, with the pages of its data-out, whose operation code, fields, range and data-out were good at a
+-- device of this identity, with mode values that its drive can have (SAM-5 4.8; the longest transfer: profile)
 pub record HasCome (identity : Identity) (t : Entry) : Type 0 where
   pub request : Request
   pub pages : request.data_len ≤ 512 * length request.body
-  pub expected : IfSome request.expected (λ count. count ≤ longest_data)
+  pub expected : IsExpectable request.expected
   pub at : Device
   pub same : at.identity ≡ identity
   pub modes : AreModesOf identity at.modes
   pub became : code_arrival at request ≡ waits t
 
--- a device that there can be: what its drive says of itself; as many sound sectors as its capacity; at most 64 tasks with at most
--- 32,768 blocks, each with a nexus and tag of its own, and come by a request; mode values that its drive can have; and for each of
--- the four nexuses its conditions (SAM-5 4.8; profile)
+-- a device that there can be: what its drive says of itself; as many sound sectors as its capacity; at most 64 tasks with at
+-- most 32,768 blocks, each with a nexus and tag of its own, and come by a request; mode values that its drive can have; and for
+-- each of the four nexuses its conditions (SAM-5 4.8; profile)
 pub record IsValid (s : Device) : Type 0 where
   pub identity : IsIdentity s.identity
   pub cells : length s.cells ≡ s.identity.capacity

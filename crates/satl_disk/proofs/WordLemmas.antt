@@ -1,16 +1,16 @@
 -- IDENTIFY DEVICE data with another word still fit the drive.
 use Rattle.std.proofs.Common.{◌≡◌, refl, sym, ◌∙◌, ap, ℕ, ◌+◌, ◌*◌, ◌/◌, ◌%◌, ◌^◌, ◌<◌, Bool, true, false, List, [], ◌∷◌, arith, length, eqb-true, eq-eqb}
 use Rattle.std.specs.List.{AllByRecursion}
-use Rattle.std.specs.Prelude.{if◌then◌else◌, ◌==◌, ◌&&◌, slice_index, slice_set}
+use Rattle.std.specs.Prelude.{if◌then◌else◌, ◌==◌, ◌&&◌, slice_index}
 use Rattle.std.proofs.lemmas.List.{get_or-set_other}
-use Rattle.satl_base.specs.Identify.{has_cache, has_look, has_trim, word, word_bit, word_bits}
+use Rattle.satl_base.specs.Identify.{has_cache, has_look, has_trim, word, word_bit}
 use Rattle.satl_base.specs.Lists.{is_in}
-use Rattle.satl_identify.specs.Data.{integrity_byte, settings_byte, with_integrity, with_settings}
+use Rattle.satl_identify.specs.Data.{settings_byte, with_integrity, with_settings}
 use Rattle.satl_drive.specs.State.{IsFit}
 use Rattle.satl_disk.specs.Bench.{MayReword, with_word}
 use Rattle.satl_disk.specs.Data.{at, integrity_kept, set_word}
 use Rattle.satl_disk.specs.Disk.{Disk, IsTold, state_of}
-use Rattle.satl_disk.proofs.BytesLemmas.{IsByte, all_set, set_word_bytes}
+use Rattle.satl_disk.proofs.BytesLemmas.{IsByte, all_set, set_word_bytes, integrity_bytes}
 use Rattle.satl_disk.proofs.IdentifyLemmas.{set_word-length, word-set_word, word-with_integrity}
 use Rattle.satl_disk.proofs.SettingsLemmas.{byte_small, reworded_told}
 
@@ -38,13 +38,6 @@ word-kept : (place i : ℕ) (d : List ℕ) → i < 255 → word i (integrity_kep
 word-kept place i d low = elim (place == 255) as (λ b. word i (if b then d else with_integrity d) ≡ word i d) [ true ↦ refl | false ↦ word-with_integrity d i low ]
 
 -- ---- bytes stay bytes
-
-integrity_bytes : (d : List ℕ) → AllByRecursion IsByte d → AllByRecursion IsByte (with_integrity d)
-integrity_bytes d all =
-    elim (word_bits 255 7 0 d == 0xA5) as (λ b. AllByRecursion IsByte (if b then slice_set d 511 (integrity_byte (slice_set d 511 0)) else d)) [
-      | true ↦ all_set d 511 (integrity_byte (slice_set d 511 0)) (omega arith) all
-      | false ↦ all
-    ]
 
 kept_bytes : (place : ℕ) (d : List ℕ) → AllByRecursion IsByte d → AllByRecursion IsByte (integrity_kept place d)
 kept_bytes place d all = elim (place == 255) as (λ b. AllByRecursion IsByte (if b then d else with_integrity d)) [ true ↦ all | false ↦ integrity_bytes d all ]

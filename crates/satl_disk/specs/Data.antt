@@ -47,13 +47,16 @@ identify_data n = with_integrity (set_words (size_words n) (set_words fixed_word
 abbrev pub balanced : ℕ → ℕ → ℕ → ℕ
 balanced byte old new = (byte + old + (256 - new)) % 256
 
--- the data with these settings: where bits 7:0 of word 255 are A5h, its high byte keeps the sum (ACS-3 7.12.7, words 85 and 255)
+-- the data with these settings: where bits 7:0 of word 255 are A5h, its high byte keeps the sum (ACS-3 7.12.7, words 85 and
+-- 255)
 abbrev pub retold : Bool → Bool → List ℕ → List ℕ
 retold cache_on look_on d =
     if word_bits 255 7 0 d == 0xA5
-    then slice_set (with_settings d cache_on look_on) 511 (balanced (slice_index d 511) (slice_index d 170) (settings_byte (slice_index d 170) cache_on look_on))
+    then slice_set (with_settings d cache_on look_on) 511
+    (balanced (slice_index d 511) (slice_index d 170) (settings_byte (slice_index d 170) cache_on look_on))
     else with_settings d cache_on look_on
 
--- the data after a word was changed: the integrity byte is brought up to date, but not where it stands in that word (ACS-3 7.12.7, word 255; profile)
+-- the data after a word was changed: the integrity byte is brought up to date, but not where it stands in that word (ACS-3
+-- 7.12.7, word 255; profile)
 abbrev pub integrity_kept : ℕ → List ℕ → List ℕ
 integrity_kept place d = if place == 255 then d else with_integrity d

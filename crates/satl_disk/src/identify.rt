@@ -113,7 +113,8 @@ pub fn keep_integrity(data_bytes: &mut [u8; 512], place: u8)
     }
 }
 
-/// Makes the data tell these settings. Where there is an integrity byte, it keeps the sum of all bytes, whether that is 0 or not.
+/// Makes the data tell these settings. Where there is an integrity byte, it keeps the sum of all bytes, whether that is 0 or
+/// not.
 pub fn retell(data_bytes: &mut [u8; 512], cache_on: bool, look_on: bool)
     ensures { data_bytes.new ≡ retold cache_on look_on data_bytes.old }
 {

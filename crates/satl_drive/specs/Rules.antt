@@ -22,7 +22,8 @@ abbrev pub MayRun : Option NcqError → AtaCommand → Type 0
 MayRun None command = Unit {0}
 MayRun (Some e) command = command ≡ ReadLog 0x10 0 1
 
--- `run` may be called: nothing is outstanding, the command is not a queued one, and the pages hold its own length (ACS-3; profile)
+-- `run` may be called: nothing is outstanding, the command is not a queued one, and the pages hold its own length (ACS-3;
+-- profile)
 pub record CanRun (d : DriveState) (r : Registers) (pages : List Block) : Type 0 where
   pub idle : d.outstanding ≡ []
   pub not_queued : is_in r.command queued_codes ≡ false
@@ -30,7 +31,8 @@ pub record CanRun (d : DriveState) (r : Registers) (pages : List Block) : Type 0
   pub room : own_blocks (command_in r) ≤ length pages
 
 -- the command was carried out: the effect is that of the command, and sectors may have been written back (ACS-3 section 7)
-pub record IsCarriedOut (old : DriveState) (r : Registers) (given : List Block) (ended : Taskfile) (taken : List Block) (new : DriveState) : Type 0 where
+pub record IsCarriedOut (old : DriveState) (r : Registers) (given : List Block) (ended : Taskfile) (taken : List Block)
+    (new : DriveState) : Type 0 where
   pub was_up : old.down ≡ false
   pub after : Medium
   pub does : Ata r (medium_of old) given ended taken after
@@ -38,7 +40,8 @@ pub record IsCarriedOut (old : DriveState) (r : Registers) (given : List Block) 
   pub stays : new ≡ record (with_medium old after) { cells = new.cells }
 
 -- the error log was read, which ends the error state (ACS-3 annex A, log 10h)
-pub record IsLogRead (e : NcqError) (old : DriveState) (r : Registers) (given : List Block) (ended : Taskfile) (taken : List Block) (new : DriveState) : Type 0 where
+pub record IsLogRead (e : NcqError) (old : DriveState) (r : Registers) (given : List Block) (ended : Taskfile)
+    (taken : List Block) (new : DriveState) : Type 0 where
   pub was_up : old.down ≡ false
   pub ends : ended ≡ good_end r 0 0
   pub data_in : taken ≡ record { bytes = log_of e } ∷ drop 1 given
@@ -54,22 +57,32 @@ IsRunBy (Some e) old r given ended taken new = IsLogRead e old r given ended tak
 abbrev pub IsRun : DriveState → Registers → List Block → Taskfile → List Block → DriveState → Type 0
 IsRun old r given ended taken new = IsRunBy old.error old r given ended taken new
 
--- the link was lost while these pairs were under way: each is written or not, nothing is outstanding, and the count rose (profile)
+-- the link was lost while these pairs were under way: each is written or not, nothing is outstanding, and the count rose
+-- (profile)
 pub record IsCutOff (old : DriveState) (pairs : List Pair) (new : DriveState) : Type 0 where
   pub mid : List Cell
   pub part : Part old.cells pairs mid
   pub lost : Loses mid new.cells
   pub rose : Rose old.faults new.faults
-  pub stays : new ≡ record old { cells = new.cells; outstanding = []; error = None; active = new.active; down = true; faults = new.faults }
+  pub stays : new ≡ record old {
+    cells = new.cells;
+    outstanding = [];
+    error = None;
+    active = new.active;
+    down = true;
+    faults = new.faults;
+  }
 
--- write cache and look-ahead may each be on where the drive has them, and its IDENTIFY DEVICE data tell them (ACS-3, SET FEATURES)
+-- write cache and look-ahead may each be on where the drive has them, and its IDENTIFY DEVICE data tell them (ACS-3, SET
+-- FEATURES)
 pub record MaySet (old new : DriveState) : Type 0 where
   pub cache : new.cache ≡ true → has_cache old.identify ≡ true
   pub look : new.look ≡ true → has_look old.identify ≡ true
   pub tells : IsTelling new.cache new.look old.identify new.identify
 
--- the link was lost in `run`, also where it was lost before: what the command writes is written in part, and the settings may be
--- others (profile)
+-- the link was lost in `run`, also where it was lost before: what the command writes is written in part, and the settings may
+-- be others (profile)
 pub record IsRunCutOff (old : DriveState) (r : Registers) (given : List Block) (new : DriveState) : Type 0 where
   pub settings : MaySet old new
-  pub cut : IsCutOff old (pairs_of (command_in r) (medium_of old) given) (record new { cache = old.cache; look = old.look; identify = old.identify })
+  pub cut : IsCutOff old (pairs_of (command_in r) (medium_of old) given)
+      (record new { cache = old.cache; look = old.look; identify = old.identify })

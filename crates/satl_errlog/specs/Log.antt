@@ -8,7 +8,8 @@ use Rattle.satl_errlog.specs.declared.entry.NcqError.{NcqError}
 use Rattle.satl_errlog.specs.declared.entry.LogFault.{LogFault}
 use Rattle.satl_errlog.specs.declared.entry.LogFault.TheVariants.{BadChecksum, NotQueued}
 
--- the bytes of an entry: byte 0 has the tag below its bits NQ and UNL, both 0; LBA and COUNT stand in the order of a register dump
+-- the bytes of an entry: byte 0 has the tag below its bits NQ and UNL, both 0; LBA and COUNT stand in the order of a register
+-- dump
 abbrev pub fields : NcqError → List Line
 fields e =
     byte 0 (bits_of 4 0 e.tag) ∷ byte 2 e.status ∷ byte 3 e.error

@@ -4,20 +4,18 @@ use Rattle.std.specs.Prelude.{Option, Some, slice_get, slice_set, slice_index_or
 use Rattle.std.specs.List.{AllByRecursion}
 use Rattle.std.proofs.lemmas.List.{map-set}
 use Rattle.satl_base.specs.declared.reply.Reply.{Reply}
+use Rattle.satl_base.proofs.ListsLemmas.{get-map}
 use Rattle.satl_io.specs.Causes.{RoseBy}
 use Rattle.satl_frame.specs.Output.{Answer}
 use Rattle.satl_frame.specs.declared.frames.Frame.{Frame}
 use Rattle.satl_direct.specs.Run.{Does, losses_in}
-use Rattle.satl_direct.specs.Valid.{IsValid}
-use Rattle.satl_flight.specs.Flown.{IsInFlight}
 use Rattle.satl_step.specs.Runs.{DoesInPart}
-use Rattle.satl_core.proofs.AgreeingLemmas.{agrees_by}
 use Rattle.satl_drive.specs.State.{DriveState}
-use Rattle.satl_core.specs.Layer.{IsUsed, Layer, Tied, view}
+use Rattle.satl_core.specs.Layer.{Layer, view}
 use Rattle.satl_fleet.specs.Rounds.{DidAt, DidAtInPart, stage}
 use Rattle.satl_fleet.specs.Serving.{CanServe, HasUnits, KeepsUnits, Target}
 use Rattle.satl_fleet.specs.Units.{Did, IsReady, IsTiedSpot, Spot, UnitDid, UnitDidInPart, device_of, pending, spot, spots_of}
-use Rattle.satl_fleet.proofs.SpotLemmas.{all_at, all_set, map_at, pending_set, some_at, spots_at, spots_set}
+use Rattle.satl_fleet.proofs.SpotLemmas.{all_at, all_set, pending_set, some_at, spots_at, spots_set}
 use Rattle.satl_fleet.proofs.TargetLemmas.{all_tied, serves_on}
 
 module _ {D : Type 0} (f : D → DriveState) (ls : List Layer) (ds : List D) (k : ℕ) (l : Layer) (d : D) (small : k < length ls) (less : k < length ds) (l_is : l ≡ slice_index_or ls k l) (d_is : d ≡ slice_index_or ds k d) where
@@ -25,7 +23,7 @@ module _ {D : Type 0} (f : D → DriveState) (ls : List Layer) (ds : List D) (k 
   before = spots_of ls (map f ds)
 
   pub here : slice_get before k ≡ Some (spot l (f d))
-  here = spots_at ls (map f ds) k l (f d) (some_at ls k l small l_is) (map_at f ds k d (some_at ds k d less d_is))
+  here = spots_at ls (map f ds) k l (f d) (some_at ls k l small l_is) (get-map f ds k d (some_at ds k d less d_is))
 
   pub ready_here : AllByRecursion IsReady before → IsReady (spot l (f d))
   ready_here all = all_at IsReady before k (spot l (f d)) all here
@@ -66,14 +64,6 @@ module _ {D : Type 0} (f : D → DriveState) (ls : List Layer) (ds : List D) (k 
         let left : turn * (pending (slice_set before k (spot l' (f d'))) + length l.tasks) ≡ turn * pending (slice_set before k (spot l' (f d'))) + turn * length l.tasks = mul-add turn _ _ in
         let right : turn * (pending before + length l'.tasks) ≡ turn * pending before + turn * length l'.tasks = mul-add turn _ _ in
         omega (arith, few, new, sums, left, right)
-
--- the tie does not see pages
-pub tied_lent : (l l' : Layer) (d : DriveState) → record l' { free = 0; out = 0 } ≡ record l { free = 0; out = 0 } → Tied l d → Tied l' d
-tied_lent l l' d same t = record {
-  agrees = agrees_by l l' d d (ap (λ (x : Layer). x.down) same) (ap (λ (x : Layer). x.modes) same) (ap (λ (x : Layer). x.identity) same) (record { down = refl; cache = refl; look = refl; identify = refl })
-      (subst (λ (x : Layer). IsInFlight x.flying x.tasks d) (sym same) t.agrees.queue) t.agrees.fit (subst IsValid (sym (ap (λ (x : Layer). view x d) same)) t.agrees.valid) t.agrees;
-  used = subst IsUsed (sym same) t.used;
-}
 
 -- what a unit did from where pages were lent is what it did
 module _ (l mid : Layer) (d : DriveState) (same : record mid { free = 0; out = 0 } ≡ record l { free = 0; out = 0 }) where

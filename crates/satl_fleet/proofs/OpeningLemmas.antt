@@ -3,6 +3,7 @@ use Rattle.std.proofs.Common.{◌≡◌, inl, inr, refl, sym, ap, subst, ◌∙�
 use Rattle.std.specs.Prelude.{Some, slice_get, slice_index_or, slice_set}
 use Rattle.std.proofs.lemmas.List.{map-set}
 use Rattle.std.specs.List.{AllByRecursion, AllZip}
+use Rattle.satl_base.proofs.ListsLemmas.{get-map}
 use Rattle.satl_drive.specs.State.{DriveState}
 use Rattle.satl_core.specs.Layer.{Layer}
 use Rattle.satl_core.specs.Opening.{IsCause}
@@ -12,7 +13,7 @@ use Rattle.satl_fleet.specs.Opening.{IsCauseOfOne, IsLeftAlone, IsServable, Open
 use Rattle.satl_fleet.specs.Opening.OpensTo.{rest, more}
 use Rattle.satl_fleet.specs.Runs.{IsIdle}
 use Rattle.satl_fleet.specs.Units.{IsReady, spots_of}
-use Rattle.satl_fleet.proofs.SpotLemmas.{all_at, map_at, some_at}
+use Rattle.satl_fleet.proofs.SpotLemmas.{all_at, some_at}
 
 -- ---- one drive
 
@@ -68,7 +69,7 @@ cause_push fault old new (suc k) (more o os) long is c = inr (cause_push fault o
 
 module _ {D : Type 0} (f : D → DriveState) (olds : List DriveState) (ls : List Layer) (ds : List D) (k : ℕ) (d : D) (to : OpensTo olds ls (map f ds)) (long : length ls ≡ k) (small : k < length ds) (is : d ≡ slice_index_or ds k d) where
   there : slice_get (map f ds) k ≡ Some (f d)
-  there = map_at f ds k d (some_at ds k d small is)
+  there = get-map f ds k d (some_at ds k d small is)
 
   pub able : AllByRecursion IsServable olds → IsServable (f d)
   able all = all_at IsServable olds k (f d) all (next_is (f d) k to long there)

@@ -11,7 +11,7 @@ use Rattle.satl_drive.specs.State.{DriveState}
 use Rattle.satl_direct.specs.Device.{Device}
 use Rattle.satl_direct.specs.Run.{losses_in}
 use Rattle.satl_direct.specs.Run.RunDeep.{start, step}
-use Rattle.satl_core.proofs.DeviceLemmas.{quiet_none}
+use Rattle.satl_direct.proofs.Quieting.{quiet_none}
 use Rattle.satl_step.specs.Events.{unplugs_behind}
 use Rattle.satl_step.specs.Runs.{Covers, tally_of, unplugs_in}
 use Rattle.satl_step.specs.Runs.RunInPart.{last}

@@ -13,11 +13,6 @@ some_at [] k x less is = absurd (omega (arith, less))
 some_at (y ∷ ys) zero x less is = ap Some (sym is)
 some_at (y ∷ ys) (suc k) x less is = some_at ys k x (omega (arith, less)) is
 
-pub map_at : {X Y : Type 0} (f : X → Y) (xs : List X) (k : ℕ) (x : X) → slice_get xs k ≡ Some x → slice_get (map f xs) k ≡ Some (f x)
-map_at f [] k x is = absurd cc
-map_at f (y ∷ ys) zero x is = let same : y ≡ x = cc in ap (λ z. Some (f z)) same
-map_at f (y ∷ ys) (suc k) x is = map_at f ys k x is
-
 pub spots_at : (ls : List Layer) (ds : List DriveState) (k : ℕ) (l : Layer) (d : DriveState) → slice_get ls k ≡ Some l → slice_get ds k ≡ Some d → slice_get (spots_of ls ds) k ≡ Some (spot l d)
 spots_at [] ds k l d is there = absurd cc
 spots_at (x ∷ xs) [] k l d is there = absurd cc
@@ -48,10 +43,6 @@ pub all_set : {X : Type 0} (P : X → Type 0) (xs : List X) (k : ℕ) (x : X) �
 all_set P [] k x all p = tt
 all_set P (y ∷ ys) zero x all p = (p, all.1)
 all_set P (y ∷ ys) (suc k) x all p = (all.0, all_set P ys k x all.1 p)
-
-pub all_map : {X : Type 0} (P Q : X → Type 0) (xs : List X) → ((x : X) → P x → Q x) → AllByRecursion P xs → AllByRecursion Q xs
-all_map P Q [] f all = tt
-all_map P Q (y ∷ ys) f all = (f y all.0, all_map P Q ys f all.1)
 
 -- the tasks that wait, once those of one unit are others
 pub pending_set : (ss : List Spot) (k : ℕ) (old new : Spot) → slice_get ss k ≡ Some old → pending (slice_set ss k new) + length old.layer.tasks ≡ pending ss + length new.layer.tasks

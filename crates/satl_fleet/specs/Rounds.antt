@@ -5,7 +5,7 @@ use Rattle.satl_io.specs.Known.{Wrote, WrotePart}
 use Rattle.satl_frame.specs.declared.frames.Frame.{Frame}
 use Rattle.satl_frame.specs.declared.frames.Frame.TheVariants as frames
 use Rattle.satl_frame.specs.Output.{Answer}
-use Rattle.satl_core.specs.Layer.{IsExpectable}
+use Rattle.satl_base.specs.Limits.{IsExpectable}
 use Rattle.satl_core.specs.Turning.{off_calls, turn_calls}
 use Rattle.satl_fleet.specs.Output.{Round, round_told, told_from, told_under}
 use Rattle.satl_fleet.specs.Routing.{is_for_all, is_report, seen}

@@ -2,7 +2,7 @@
 ghost use Rattle.std.specs.Prelude.{◌≡◌, ◌≤◌, ◌<◌, ◌+◌, ◌*◌, ◌∷◌, ℕ, [], OnErr, OnOk, length, vec_len};
 ghost use Rattle.satl_io.specs.Causes.{HasCause};
 ghost use Rattle.satl_frame.specs.declared.frames.Frame.{Frame};
-ghost use Rattle.satl_core.specs.Layer.{IsExpectable};
+ghost use Rattle.satl_base.specs.Limits.{IsExpectable};
 ghost use Rattle.satl_pages.specs.Counts.{number_of};
 ghost use Rattle.satl_step.specs.Events.{CanTake, IsWholeOf};
 ghost use Rattle.satl_step.specs.Runs.{calls_allowed};

@@ -8,7 +8,7 @@ ghost use Rattle.satl_direct.specs.Senses.{refusal};
 ghost use Rattle.satl_frame.specs.DataPages.{padded_block};
 ghost use Rattle.satl_frame.specs.Output.{IsWritable};
 ghost use Rattle.satl_frame.specs.Output.Answer.{replied};
-ghost use Rattle.satl_core.specs.Layer.{IsExpectable};
+ghost use Rattle.satl_base.specs.Limits.{IsExpectable};
 ghost use Rattle.satl_io.specs.Causes.{HasCause};
 ghost use Rattle.satl_io.specs.Known.{Wrote, WrotePart};
 ghost use Rattle.satl_fleet.specs.Output.{named};

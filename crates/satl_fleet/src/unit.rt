@@ -2,7 +2,8 @@
 ghost use Rattle.std.specs.Prelude.{◌≡◌, ◌≤◌, ◌+◌, ◌*◌, ◌∷◌, [], OnErr, OnOk, length};
 ghost use Rattle.satl_io.specs.Causes.{HasCause};
 ghost use Rattle.satl_frame.specs.declared.frames.Frame.{Frame};
-ghost use Rattle.satl_core.specs.Layer.{IsExpectable, Tied};
+ghost use Rattle.satl_core.specs.Layer.{Tied};
+ghost use Rattle.satl_base.specs.Limits.{IsExpectable};
 ghost use Rattle.satl_core.specs.Submitting.{CanSubmit};
 ghost use Rattle.satl_core.specs.Turning.{turn_calls};
 ghost use Rattle.satl_step.specs.Events.{CanTake, IsWholeOf};

@@ -26,7 +26,7 @@ use Rattle.satl_flight.specs.Lending.{IsLending, has_tag, is_of_slot, whole_task
 use Rattle.satl_flight.specs.Settled.{IsCovered, IsFilled, IsLaunched, IsLostQuietly}
 use Rattle.satl_flight.proofs.FlownLemmas.{FitsOn}
 use Rattle.satl_flight.proofs.TagsLemmas.{weigh}
-use Rattle.satl_flight.proofs.LendingLemmas.{at_found, find-none, get-set, lend_lending, lend_same, whole_get, whole-slots}
+use Rattle.satl_flight.proofs.LendingLemmas.{at_found, find-none, get-set, lend_lending, lend_same, whole_get, whole-slots, slots-get}
 use Rattle.satl_flight.proofs.LaunchedLemmas.{can_issue, deepens_same, launched_one, lost_issue, queued_fits}
 
 -- the task at a place, from what the set tells
@@ -171,15 +171,10 @@ covered_still tasks flying flown old new place step covered =
     (λ each. inr (λ h task at passes ranged. ap (λ fs. holds fs h.slot) step.more ∙ holds_append flying step.rest h.slot (each h task at passes ranged)))
     covered
 
-slot_at : (tasks : List Held) (place slot : ℕ) (h : Held) → slice_get tasks place ≡ Some h → slice_get (slots_of tasks) place ≡ Some slot → h.slot ≡ slot
-slot_at [] place slot h at is = absurd cc
-slot_at (k ∷ ks) zero slot h at is = let one : k ≡ h = cc in let two : k.slot ≡ slot = cc in ap (λ (x : Held). x.slot) (sym one) ∙ two
-slot_at (k ∷ ks) (suc place) slot h at is = slot_at ks place slot h at is
-
 -- one that is outstanding is covered
 pub covered_held : (flying : List Flying) (slots : Slots) (tasks : List Held) (place slot : ℕ) → slice_get (slots_of tasks) place ≡ Some slot → holds flying slot ≡ true → IsCovered flying (whole_tasks flying slots tasks) place
 covered_held flying slots tasks place slot is held =
-    inr (λ h task at passes ranged. ap (holds flying) (slot_at (whole_tasks flying slots tasks) place slot h at (ap (λ l. slice_get l place) (whole-slots flying slots tasks) ∙ is)) ∙ held)
+    inr (λ h task at passes ranged. ap (holds flying) (slots-get (whole_tasks flying slots tasks) place h slot at (ap (λ l. slice_get l place) (whole-slots flying slots tasks) ∙ is)) ∙ held)
 
 -- what was outstanding stays so, as tasks are issued
 pub still_held : (tasks : List Held) (flying flown : List Flying) (old new : DriveState) (slot : ℕ) → IsLaunched flying old tasks flown new → holds flying slot ≡ true → holds flown slot ≡ true

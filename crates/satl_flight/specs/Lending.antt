@@ -54,7 +54,8 @@ pub record IsAt (tasks : List Held) (place slot : ℕ) (held : Held) : Type 0 wh
   pub removes : remove tasks place ≡ remove_first (is_in_slot slot) tasks
 
 -- the task with a tag, which stands at this place, has its pages back, and the tag is free (profile)
-pub record Lands (tag : ℕ) (flying : List Flying) (slots : Slots) (tasks : List Held) (place : ℕ) (left : List Flying) (slots' : Slots) (tasks' : List Held) : Type 0 where
+pub record Lands (tag : ℕ) (flying : List Flying) (slots : Slots) (tasks : List Held) (place : ℕ) (left : List Flying)
+    (slots' : Slots) (tasks' : List Held) : Type 0 where
   pub landed : Flying
   pub found : find (has_tag tag) flying ≡ Some landed
   pub left_is : left ≡ remove_first (has_tag tag) flying

@@ -30,24 +30,44 @@ pub record Deepens (old new : DriveState) : Type 0 where
   pub rises : old.deepest ≤ new.deepest
   pub covers : length old.outstanding ≤ old.deepest → length new.outstanding ≤ new.deepest
 
--- the link was lost: nothing is outstanding, pairs of eligible tasks were put, a glitch may have gone, and the settings may be others (profile)
+-- the link was lost: nothing is outstanding, pairs of eligible tasks were put, a glitch may have gone, and the settings may be
+-- others (profile)
 pub record IsLostInFlight (tasks : List Held) (old new : DriveState) : Type 0 where
   pub moves : Moves (MayPut old.cache (entries_of tasks)) old.cells new.cells
   pub glitches : (new.glitches ≡ old.glitches) ⊎ (new.glitches + 1 ≡ old.glitches)
   pub rose : Rose old.faults new.faults
   pub settings : MaySet old new ⊎ ((new.cache ≡ old.cache) × (new.look ≡ old.look) × (new.identify ≡ old.identify))
-  pub stays : new ≡ record old { cells = new.cells; outstanding = []; error = None; cache = new.cache; look = new.look; active = new.active; glitches = new.glitches; down = true; identify = new.identify; faults = new.faults }
+  pub stays : new ≡ record old {
+    cells = new.cells;
+    outstanding = [];
+    error = None;
+    cache = new.cache;
+    look = new.look;
+    active = new.active;
+    glitches = new.glitches;
+    down = true;
+    identify = new.identify;
+    faults = new.faults;
+  }
   pub deep : Deepens old new
 
 -- the link was lost where a command was issued or the drive was reset: beside the sectors all else is as before (profile)
 pub record IsLostQuietly (tasks : List Held) (old new : DriveState) : Type 0 where
   pub moves : Moves (MayPut old.cache (entries_of tasks)) old.cells new.cells
   pub rose : Rose old.faults new.faults
-  pub stays : new ≡ record old { cells = new.cells; outstanding = []; error = None; down = true; faults = new.faults; deepest = new.deepest }
+  pub stays : new ≡ record old {
+    cells = new.cells;
+    outstanding = [];
+    error = None;
+    down = true;
+    faults = new.faults;
+    deepest = new.deepest;
+  }
   pub deep : Deepens old new
 
 -- more is outstanding, and nothing else changes but entries of sectors that are lost, if anything was issued (profile)
-pub record IsLaunched (flying : List Flying) (old : DriveState) (tasks : List Held) (flown : List Flying) (new : DriveState) : Type 0 where
+pub record IsLaunched (flying : List Flying) (old : DriveState) (tasks : List Held) (flown : List Flying)
+    (new : DriveState) : Type 0 where
   pub tie : IsInFlight flown tasks new
   pub rest : List Flying
   pub more : flown ≡ flying ++ rest
@@ -72,7 +92,8 @@ IsFlawOrCrc None = Unit {0}
 IsFlawOrCrc (Some e) = (e.error ≡ unc) ⊎ (e.error ≡ icrc)
 
 -- one task has ended: what the others put before it, its own end, and what they put after it (profile)
-pub record IsSettled (tasks : List Held) (old : DriveState) (place : ℕ) (outcome : Outcome) (flown : List Flying) (new : DriveState) : Type 0 where
+pub record IsSettled (tasks : List Held) (old : DriveState) (place : ℕ) (outcome : Outcome) (flown : List Flying)
+    (new : DriveState) : Type 0 where
   pub held : Held
   pub stands : slice_get tasks place ≡ Some held
   pub eligible : IsEligibleBy clash tasks held
@@ -84,7 +105,12 @@ pub record IsSettled (tasks : List Held) (old : DriveState) (place : ℕ) (outco
   pub ends : EndsAs old.cache ranged outcome before old.glitches after new.glitches
   pub moves_after : Moves (MayPut old.cache (entries_of (remove tasks place))) after new.cells
   pub tie : IsInFlight flown (remove tasks place) new
-  pub stays : new ≡ record old { cells = new.cells; outstanding = new.outstanding; active = active_after outcome old.active; glitches = new.glitches }
+  pub stays : new ≡ record old {
+    cells = new.cells;
+    outstanding = new.outstanding;
+    active = active_after outcome old.active;
+    glitches = new.glitches;
+  }
   pub deep : Deepens old new
 
 -- the drive was reset: nothing is outstanding, and each task waits on (profile)
@@ -95,7 +121,8 @@ pub record IsCut (tasks : List Held) (old new : DriveState) : Type 0 where
   pub deep : Deepens old new
 
 -- the task at this place, with the pages that it has now, is the one that has ended; those that it read stand in them (profile)
-pub record Settles (flying : List Flying) (slots : Slots) (tasks : List Held) (old : DriveState) (place : ℕ) (error : Option NcqError) (flown : List Flying) (slots' : Slots) (tasks' : List Held) (new : DriveState) : Type 0 where
+pub record Settles (flying : List Flying) (slots : Slots) (tasks : List Held) (old : DriveState) (place : ℕ)
+    (error : Option NcqError) (flown : List Flying) (slots' : Slots) (tasks' : List Held) (new : DriveState) : Type 0 where
   pub ranged : RangedTask
   pub body : List Block
   pub settled : IsSettled (whole_tasks flying slots tasks) old place (outcome_of error ranged body) flown new
@@ -124,8 +151,11 @@ pub record IsLogCutOff (old new : DriveState) : Type 0 where
 -- the task at a place is outstanding, or may not be, or no tag is left (profile)
 abbrev pub IsCovered : List Flying → List Held → ℕ → Type 0
 IsCovered flying tasks place =
-    (length flying ≡ 32) ⊎ ((h : Held) (task : RangedTask) → slice_get tasks place ≡ Some h → eligible_by clash tasks place ≡ true → ranged_of h.entry ≡ Some task → holds flying h.slot ≡ true)
+    (length flying ≡ 32) ⊎ ((h : Held) (task : RangedTask) → slice_get tasks place ≡ Some h
+    → eligible_by clash tasks place ≡ true → ranged_of h.entry ≡ Some task → holds flying h.slot ≡ true)
 
 -- the queue is used: 32 tasks are outstanding, or each eligible ranged task is (profile)
 abbrev pub IsFilled : List Flying → List Held → Type 0
-IsFilled flying tasks = (length flying ≡ 32) ⊎ ((h : Held) (task : RangedTask) → IsEligibleBy clash tasks h → ranged_of h.entry ≡ Some task → holds flying h.slot ≡ true)
+IsFilled flying tasks =
+    (length flying ≡ 32) ⊎ ((h : Held) (task : RangedTask) → IsEligibleBy clash tasks h → ranged_of h.entry ≡ Some task
+    → holds flying h.slot ≡ true)

@@ -20,7 +20,8 @@ use std::alloc::Global;
 use std::marker::Model;
 use std::sync::ledger::Ledger;
 
-/// The task set, what is outstanding of it, and the slots of the tags. Clauses see each task with its pages, wherever these lie.
+/// The task set, what is outstanding of it, and the slots of the tags. Clauses see each task with its pages, wherever these
+/// lie.
 #[derive(Drop)]
 pub struct Queue {
     set: TaskSet,
@@ -202,7 +203,8 @@ impl Queue {
         self.flight.is_empty()
     }
 
-    /// Adds a task at the end, which is not outstanding. The error is the task itself, exactly where the set is full (SAM-5, TASK SET FULL).
+    /// Adds a task at the end, which is not outstanding. The error is the task itself, exactly where the set is full (SAM-5,
+    /// TASK SET FULL).
     pub fn add(&mut self, entry: Entry) -> Result<(), Entry>
         ensures full { is_err result ≡ is_too_much self.old.tasks entry }
         ensures ok { OnOk result (Adds self.old.tasks entry self.new.tasks) }

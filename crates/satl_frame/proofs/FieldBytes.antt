@@ -1,7 +1,7 @@
 -- Fields and the bytes that they were read from.
 use Rattle.std.proofs.Common.{◌≡◌, ℕ, zero, suc, ◌+◌, ◌-◌, ◌<◌, ◌≤◌, List, [], ◌∷◌, ◌++◌, length, take, drop, get_or, refl, ◌∙◌, ap, sym, arith, Option, Some, None, true}
 use Rattle.std.proofs.lemmas.Bool.{leb-true}
-use Rattle.std.proofs.lemmas.List.{take-append-drop, drop-drop, length-drop, get_or-drop, take_all}
+use Rattle.std.proofs.lemmas.List.{take-append-drop, drop-drop, length-drop, get_or-drop, take_all, take_rest, nil_from_length}
 use Rattle.std.proofs.lemmas.Nat.{be_bytes_4, be_bytes_8}
 use Rattle.byteorder.specs.Endian.{big_from, big_bytes}
 use Rattle.satl_base.specs.Fields.{IsBytes}
@@ -70,17 +70,13 @@ eight_at i h l b =
     let e : big_from i 8 h ≡ big_from 0 8 (drop i h) = ap (λ k. big_from k 8 h) (omega arith) ∙ big_from-drop i 0 8 h in
     ap (λ n. big_bytes 8 n) e ∙ eight_first (drop i h) (omega (arith, length-drop i h)) (behind_are_bytes i h b)
 
--- the same, of a number that was read from the rest of a buffer
-all_behind : (i : ℕ) (h : List ℕ) → take (length h - i) (drop i h) ≡ drop i h
-all_behind i h = take_all (length h - i) (drop i h) (omega (arith, length-drop i h))
-
 pub four_read : (i n : ℕ) (h : List ℕ) → i + 4 ≤ length h → IsBytes h → n ≡ big_from 0 4 (take (length h - i) (drop i h)) → big_bytes 4 n ≡ take 4 (drop i h)
 four_read i n h l b e =
-    ap (λ k. big_bytes 4 k) (e ∙ ap (λ s. big_from 0 4 s) (all_behind i h)) ∙ four_first (drop i h) (omega (arith, length-drop i h)) (behind_are_bytes i h b)
+    ap (λ k. big_bytes 4 k) (e ∙ ap (λ s. big_from 0 4 s) (take_rest h i)) ∙ four_first (drop i h) (omega (arith, length-drop i h)) (behind_are_bytes i h b)
 
 pub eight_read : (i n : ℕ) (h : List ℕ) → i + 8 ≤ length h → IsBytes h → n ≡ big_from 0 8 (take (length h - i) (drop i h)) → big_bytes 8 n ≡ take 8 (drop i h)
 eight_read i n h l b e =
-    ap (λ k. big_bytes 8 k) (e ∙ ap (λ s. big_from 0 8 s) (all_behind i h)) ∙ eight_first (drop i h) (omega (arith, length-drop i h)) (behind_are_bytes i h b)
+    ap (λ k. big_bytes 8 k) (e ∙ ap (λ s. big_from 0 8 s) (take_rest h i)) ∙ eight_first (drop i h) (omega (arith, length-drop i h)) (behind_are_bytes i h b)
 
 -- the first of a list, and the rest
 pub first_of : (h : List ℕ) → 1 ≤ length h → get_or h 0 0 ∷ drop 1 h ≡ h
@@ -114,11 +110,7 @@ expected_is : (version : Version) (h : List ℕ) → length h ≡ head_size vers
 expected_is One h l b = sym (take_all_drop h l)
   where
     take_all_drop : (h : List ℕ) → length h ≡ 30 → drop 30 h ≡ []
-    take_all_drop h l = none (drop 30 h) (omega (arith, length-drop 30 h))
-      where
-        none : (xs : List ℕ) → length xs ≡ 0 → xs ≡ []
-        none [] e = refl
-        none (x ∷ xs) e = absurd (omega arith)
+    take_all_drop h l = nil_from_length (drop 30 h) (omega (arith, length-drop 30 h))
 expected_is Two h l b = four_at 30 h (omega arith) b ∙ last_of 30 4 h l
 
 at_least_30 : (version : Version) → 30 ≤ head_size version

@@ -19,6 +19,7 @@ use Rattle.satl_frame.specs.declared.frames.Version.TheVariants.{One, Two}
 use Rattle.satl_frame.specs.declared.frames.Frame.{Frame}
 use Rattle.satl_frame.specs.declared.frames.Frame.TheVariants as frames
 use Rattle.satl_frame.proofs.FieldBytes.{big_from-drop}
+use Rattle.satl_frame.proofs.Requested.{at_most_34}
 
 expected_size : (version : Version) (expected : Option ℕ) → HasExpected version expected → 30 + length (expected_field expected) ≡ head_size version
 expected_size One expected has = ap (λ (e : Option ℕ). 30 + length (expected_field e)) has
@@ -104,12 +105,8 @@ good_frame version (frames.Request r) is =
       known = refl;
       allowed = and_from (nat_le (head_size version) (length (request_fields r ++ data_out r))) (nat_le (length (request_fields r ++ data_out r)) (head_size version + 2097152)) low high;
       good = request_good version r (data_out r) is.fields;
-      small = omega (arith, size, is.sent.short, head_small version);
+      small = omega (arith, size, is.sent.short, at_most_34 version);
     }
-  where
-    head_small : (version : Version) → head_size version ≤ 34
-    head_small One = omega arith
-    head_small Two = omega arith
 good_frame version (frames.Manage m) is =
     let size : length (manage_fields m) ≡ 14 = length-append (m.nexus ∷ m.function ∷ m.lun) (big_bytes 4 (m.tag).0) ∙ omega (arith, is.lun) in
     record {

@@ -1,5 +1,5 @@
 -- No bytes are read in two ways.
-use Rattle.std.proofs.Common.{◌≡◌, ℕ, ◌+◌, ◌-◌, ◌<◌, ◌^◌, ◌==◌, List, [], ◌∷◌, ◌++◌, length, take, drop, get_or, Option, Some, None, refl, ◌∙◌, ap, sym, subst, arith, append_assoc}
+use Rattle.std.proofs.Common.{◌≡◌, ℕ, ◌+◌, ◌-◌, ◌==◌, List, [], ◌∷◌, ◌++◌, length, take, drop, get_or, Option, Some, None, refl, ◌∙◌, ap, sym, subst, arith, append_assoc}
 use Rattle.std.specs.Prelude.{if◌then◌else◌}
 use Rattle.std.proofs.lemmas.List.{length-append, take_at, drop_at, drop-drop}
 use Rattle.byteorder.specs.Endian.{big_from, big_bytes}
@@ -13,7 +13,7 @@ use Rattle.satl_base.specs.declared.bench.Which.{Which}
 use Rattle.satl_base.specs.declared.bench.Which.TheVariants.{Read, Write}
 use Rattle.satl_base.specs.declared.bench.BenchEvent.{BenchEvent}
 use Rattle.satl_base.specs.declared.bench.BenchEvent.TheVariants.{Strike, Mend, Glitch, Order, Power, Unplug}
-use Rattle.satl_base.proofs.FieldsLemmas.{back_2, back_8}
+use Rattle.satl_base.proofs.FieldsLemmas.{back_2, back_8, back_4}
 use Rattle.satl_frame.specs.DataPages.{pages_of}
 use Rattle.satl_frame.specs.Frames.{head_size, attr_code, which_code, expected_in, expected_field, request_fields, data_out, manage_fields, event_fields, kind, payload_bytes, spelled, HasExpected, HasFields, IsRequest, IsManage, IsFrame, IsEvent}
 use Rattle.satl_frame.specs.Faults.{told_length}
@@ -117,11 +117,8 @@ manage_again m is =
     let q = manage_fields m in
     let lun : take 8 (drop 2 q) ≡ m.lun = take_at m.lun (big_bytes 4 (m.tag).0) 8 is.lun in
     let behind : drop 10 q ≡ big_bytes 4 (m.tag).0 = drop_at m.lun (big_bytes 4 (m.tag).0) 8 is.lun in
-    let tag : big_from 10 4 q ≡ (m.tag).0 = big_from-drop 10 0 4 q ∙ ap (λ (xs : List ℕ). big_from 0 4 xs) behind ∙ big_back (m.tag).0 is.tag in
+    let tag : big_from 10 4 q ≡ (m.tag).0 = big_from-drop 10 0 4 q ∙ ap (λ (xs : List ℕ). big_from 0 4 xs) behind ∙ back_4 (m.tag).0 is.tag in
     same_manage m.nexus m.function lun tag
-  where
-    big_back : (n : ℕ) → n < 2 ^ 32 → big_from 0 4 (big_bytes 4 n) ≡ n
-    big_back n l = big_number-reads_back 4 n [] l
 
 abbrev decoded_event : List ℕ → BenchEvent
 decoded_event p =

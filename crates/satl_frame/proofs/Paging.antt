@@ -1,18 +1,12 @@
 -- Bytes in pages.
 use Rattle.std.proofs.Common.{◌≡◌, ℕ, zero, suc, ◌+◌, ◌-◌, ◌*◌, ◌/◌, ◌%◌, ◌<◌, ◌≤◌, min, List, [], ◌∷◌, ◌++◌, length, take, drop, reverse, replicate, refl, ◌∙◌, ap, sym, arith, append_assoc, inl, inr}
 use Rattle.std.proofs.lemmas.Bool.{cases_lt}
-use Rattle.std.proofs.lemmas.List.{take-append-drop, drop-drop, length-drop, length-append, length-take-le, length-replicate, length-reverse, reverse-append, take-append-le, drop-append-le, take_all, take_at, append-nil, replicate-append-replicate, drop-replicate, take-replicate}
+use Rattle.std.proofs.lemmas.List.{take-append-drop, drop-drop, length-drop, length-append, length-take-le, length-replicate, length-reverse, reverse-append, take-append-le, drop-append-le, take_all, take_at, append-nil, replicate-append-replicate, drop-replicate, take-replicate, nil_from_length, length-take, drop_all}
 use Rattle.std.proofs.Math.Seq.{take-append-add, drop-append-add}
+use Rattle.std.specs.List.{AllByRecursion}
 use Rattle.satl_base.specs.declared.block.Block.{Block}
 use Rattle.satl_base.specs.Blocks.{bytes_of}
 use Rattle.satl_frame.specs.DataPages.{page_count, padded_block, pages_from, pages_of, zeros}
-
-nothing : {X : Type 0} (xs : List X) → length xs ≡ 0 → xs ≡ []
-nothing [] e = refl
-nothing (x ∷ xs) e = absurd (omega arith)
-
-drop_all : (n : ℕ) (xs : List ℕ) → length xs ≤ n → drop n xs ≡ []
-drop_all n xs l = nothing (drop n xs) (omega (arith, length-drop n xs))
 
 -- 512 bytes are a block
 pub whole_block : (xs bytes : List ℕ) → 512 ≤ length xs → bytes ≡ take 512 xs → record { bytes = bytes } ≡ padded_block xs
@@ -104,7 +98,7 @@ padded_front xs ys l =
 -- whole pages, and others behind them
 pages_from-append : (q n : ℕ) (xs ys : List ℕ) → length xs ≡ 512 * q → pages_from (q + n) (xs ++ ys) ≡ pages_from q xs ++ pages_from n ys
 unfolding pages_from
-pages_from-append zero n xs ys l = let none : xs ≡ [] = nothing xs (omega arith) in rw none (ap (λ k. pages_from k ys) (omega arith))
+pages_from-append zero n xs ys l = let none : xs ≡ [] = nil_from_length xs (omega arith) in rw none (ap (λ k. pages_from k ys) (omega arith))
 pages_from-append (suc q) n xs ys l =
     let first : padded_block (xs ++ ys) ≡ padded_block xs = padded_front xs ys (omega arith) in
     let behind : drop 512 (xs ++ ys) ≡ drop 512 xs ++ ys = drop-append-le 512 xs ys (omega arith) in
@@ -151,7 +145,7 @@ chunk_placed count m chunk buffer short size is =
 bytes_of-pages_from : (n : ℕ) (xs : List ℕ) → length xs ≤ 512 * n → bytes_of (pages_from n xs) ≡ xs ++ replicate (512 * n - length xs) 0
 unfolding pages_from padded_block
 bytes_of-pages_from zero xs l =
-    let none : xs ≡ [] = nothing xs (omega arith) in rw none refl
+    let none : xs ≡ [] = nil_from_length xs (omega arith) in rw none refl
 bytes_of-pages_from (suc n) xs l =
     let next : bytes_of (pages_from n (drop 512 xs)) ≡ drop 512 xs ++ replicate (512 * n - length (drop 512 xs)) 0 =
     bytes_of-pages_from n (drop 512 xs) (omega (arith, length-drop 512 xs)) in
@@ -197,15 +191,9 @@ pub placed_more : (room left at : ℕ) (before chunk : List ℕ) (done done' : L
     reverse done' ≡ take room (pages_of (before ++ chunk))
 placed_more room left at before chunk done done' size aligned placed all more =
     let whole : length before ≡ 512 * (at / 512) = omega arith in
-    let filled : length done ≡ min room (length (pages_of before)) = sym (length-reverse done) ∙ ap length placed ∙ length_take room (pages_of before) in
+    let filled : length done ≡ min room (length (pages_of before)) = sym (length-reverse done) ∙ ap length placed ∙ length-take room (pages_of before) in
     let rest : left ≡ room - length (pages_of before) = omega arith in
     rw (pages_of-append (at / 512) before chunk whole, take-both room (pages_of before) (pages_of chunk), ← rest, ← placed) more
-  where
-    length_take : {X : Type 0} (n : ℕ) (xs : List X) → length (take n xs) ≡ min n (length xs)
-    length_take n xs = elim (cases_lt (length xs) n) [
-      | inl l ↦ let e : min n (length xs) ≡ length xs = omega arith in rw e (ap length (take_all n xs (omega arith)))
-      | inr g ↦ let e : min n (length xs) ≡ n = omega arith in rw e (length-take-le n xs g)
-    ]
 
 pub nothing_placed : (room : ℕ) (done : List Block) → done ≡ [] → reverse done ≡ take room (pages_of [])
 unfolding pages_of pages_from
@@ -230,3 +218,13 @@ all_filled lent n taken pages size few is =
 pub length-zeros : (n : ℕ) → length (zeros n) ≡ n
 unfolding zeros
 length-zeros n = length-replicate n 0
+
+-- a whole block is one page of its bytes, and whole blocks are the pages of theirs
+pub one_page : (b : Block) → length b.bytes ≡ 512 → pages_of b.bytes ≡ b ∷ []
+unfolding pages_of pages_from
+one_page b size = rw size (ap (λ (p : Block). p ∷ []) (sym (whole_block b.bytes b.bytes (omega arith) (sym (take_all 512 b.bytes (omega arith))))))
+
+pub pages_of-bytes_of : (bs : List Block) → AllByRecursion (λ (b : Block). length b.bytes ≡ 512) bs → pages_of (bytes_of bs) ≡ bs
+unfolding pages_of pages_from
+pages_of-bytes_of [] whole = refl
+pages_of-bytes_of (b ∷ bs) whole = pages_of-append 1 b.bytes (bytes_of bs) whole.0 ∙ (ap (λ (ps : List Block). ps ++ pages_of (bytes_of bs)) (one_page b whole.0) ∙ ap (λ (ps : List Block). b ∷ ps) (pages_of-bytes_of bs whole.1))

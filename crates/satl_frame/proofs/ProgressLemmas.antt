@@ -1,6 +1,7 @@
 -- A reader that gives one frame more, and one that refuses.
 use Rattle.std.proofs.Common.{◌≡◌, ℕ, suc, ◌+◌, ◌≤◌, List, [], ◌∷◌, ◌++◌, length, take, drop, Option, Some, None, refl, ◌∙◌, ap, sym, subst, arith, append_assoc, ◌⊎◌, inl, inr}
 use Rattle.std.proofs.lemmas.List.{length-append, append-nil, drop_at}
+use Rattle.std.proofs.lemmas.Option.{same_Some}
 use Rattle.satl_io.specs.Known.{Took}
 use Rattle.satl_io.proofs.Joined.{Took-more}
 use Rattle.satl_frame.specs.Frames.{spelled, IsFrame}
@@ -14,6 +15,10 @@ use Rattle.satl_frame.specs.declared.frames.Reason.{Reason}
 use Rattle.satl_frame.specs.declared.frames.Frame.{Frame}
 use Rattle.satl_frame.specs.declared.frames.Place.{Place}
 use Rattle.satl_frame.proofs.Refusals.{version_read, length-magic}
+
+pub all_spelled-append : (fs gs : List Frame) → all_spelled (fs ++ gs) ≡ all_spelled fs ++ all_spelled gs
+all_spelled-append [] gs = refl
+all_spelled-append (f ∷ fs) gs = ap (λ (xs : List ℕ). spelled f ++ xs) (all_spelled-append fs gs) ∙ sym (append_assoc (spelled f) (all_spelled fs) (all_spelled gs))
 
 pub all_spelled-push : (fs : List Frame) (f : Frame) → all_spelled (fs ++ f ∷ []) ≡ all_spelled fs ++ spelled f
 all_spelled-push [] f = append-nil (spelled f)
@@ -65,14 +70,11 @@ has_read_all limit newest place input rest fs read = record {
   each = read.each;
 }
 
-pub some_same : {X : Type 0} (x y : X) → Some x ≡ Some y → x ≡ y
-some_same x y e = cc
-
 -- a reason at an offset is there, or the later one is meant
 at_some : (o : Option Reason) (m : ℕ) (reason : Reason) (n : ℕ) → at_offset m o ≡ Some (reason, n) → (o ≡ Some reason) × (n ≡ m)
 at_some None m reason n e = cc
 at_some (Some x) m reason n e =
-    let both : ◌≡◌ {A = Reason × ℕ} (x, m) (reason, n) = some_same (x, m) (reason, n) e in
+    let both : ◌≡◌ {A = Reason × ℕ} (x, m) (reason, n) = same_Some (x, m) (reason, n) e in
     (ap (λ (p : Reason × ℕ). Some p.0) both, sym (ap (λ (p : Reason × ℕ). p.1) both))
 
 first_some : (o : Option Reason) (later : Option (Reason × ℕ)) (reason : Reason) (n : ℕ) → first_refusal (at_offset 0 o) later ≡ Some (reason, n) →
@@ -96,7 +98,7 @@ refused_there r input rest fs reason offset read refused = by_place r.limit r.ne
     by_place : (limit : ℕ) (newest : Version) (at : Option Place) (input rest : List ℕ) (fs : List Frame) (reason : Reason) (offset : ℕ) → ReadUpTo limit newest at (Some input) (Some rest) fs →
         refusal limit newest at rest ≡ Some (reason, offset) → fault newest limit input offset ≡ Some reason
     by_place limit newest None input rest fs reason offset (nothing, same) refused =
-        let is : rest ≡ input = some_same rest input same in
+        let is : rest ≡ input = same_Some rest input same in
         elim (first_some (magic_fault newest (take 8 input)) (at_offset 8 (frame_fault (version_of input) limit 8 (drop 8 input))) reason offset (rw is at refused)) [
           | inl zero_there ↦ at_zero limit newest input reason offset zero_there.1 zero_there.0
           | inr later ↦

@@ -4,7 +4,7 @@ use Rattle.std.proofs.lemmas.List.{length-append, length-take-le, append-nil, ta
 use Rattle.std.proofs.Math.ListN.{get_or-append}
 use Rattle.std.proofs.Math.Seq.{take-append-add}
 use Rattle.std.specs.Io.KnownBytes.{IsAtEnd}
-use Rattle.std.proofs.lemmas.Bool.{cases_lt, le-ltb, lt-ltb, ltb-false}
+use Rattle.std.proofs.lemmas.Bool.{cases_lt, le-ltb, lt-ltb, ltb-false, not-false}
 use Rattle.satl_io.specs.Known.{Took}
 use Rattle.satl_io.proofs.Joined.{Took-more}
 use Rattle.std.specs.Prelude.{if◌then◌else◌, is_some}
@@ -52,13 +52,9 @@ head_at version limit offset (Some input) (Some rest) h r took short ends f =
     (rw (whole, f) refl, rw (whole, f) (rw whole took))
 
 -- a test that refuses was passed
-refused_not : (b : Bool) (r : Reason) (later : Option Reason) → cond b (Some r) later ≡ None → (b ≡ false) × (later ≡ None)
+pub refused_not : (b : Bool) (r : Reason) (later : Option Reason) → cond b (Some r) later ≡ None → (b ≡ false) × (later ≡ None)
 refused_not true r later e = cc
 refused_not false r later e = (refl, e)
-
-not_false : (b : Bool) → not b ≡ false → b ≡ true
-not_false true e = refl
-not_false false e = cc
 
 -- what a head is that is not refused
 pub record GoodHead (version : Version) (limit offset : ℕ) (h : List ℕ) : Type 0 where
@@ -78,8 +74,8 @@ good_head version limit offset h short f =
     let five : 5 ≤ length h = ltb-false _ _ counts.0 in
     record {
       whole = omega arith;
-      known = not_false (has_code (frame_rows version) (slice_index h 0)) kinds.0;
-      allowed = not_false (allows (frame_rows version) (slice_index h 0) (told_length h)) lengths.0;
+      known = not-false (has_code (frame_rows version) (slice_index h 0)) kinds.0;
+      allowed = not-false (allows (frame_rows version) (slice_index h 0) (told_length h)) lengths.0;
       within = ltb-false _ _ limits.0;
       none = f;
     }

@@ -1,8 +1,7 @@
 -- A frame stands exactly where no reason refuses the bytes.
-use Rattle.std.proofs.Common.{◌≡◌, ℕ, zero, suc, ◌+◌, ◌<◌, ◌≤◌, ◌^◌, ◌⊎◌, Bool, true, false, not, ◌&&◌, ◌||◌, nat_le, nat_lt, ◌==◌, List, [], ◌∷◌, ◌++◌, length, take, drop, get_or, slice_index, Option, Some, None, refl, ◌∙◌, ap, sym, subst, arith, append_assoc, inl, inr, cond}
-use Rattle.std.proofs.lemmas.List.{length-append, length-take-le, length-drop, take_at, take-append-drop, take_all, get_or-take, get_or-drop, append-nil}
-use Rattle.std.proofs.lemmas.Bool.{le-ltb, ltb-false, leb-true, and_parts, or_parts, eq-eqb, ne_eqb, cases_eq, cases_lt, false≢true, not-false}
-use Rattle.std.proofs.lemmas.Bool.Decides.{nat_tests}
+use Rattle.std.proofs.Common.{◌≡◌, ℕ, zero, suc, ◌+◌, ◌<◌, ◌≤◌, ◌^◌, ◌⊎◌, true, false, not, ◌&&◌, ◌||◌, nat_le, nat_lt, ◌==◌, List, [], ◌∷◌, ◌++◌, length, take, drop, get_or, slice_index, Option, Some, None, refl, ◌∙◌, ap, sym, subst, arith, append_assoc, inl, inr}
+use Rattle.std.proofs.lemmas.List.{length-append, length-take-le, length-drop, take_at, take-append-drop, take_all, get_or-take, get_or-drop, append-nil, nil_from_length}
+use Rattle.std.proofs.lemmas.Bool.{le-ltb, ltb-false, leb-true, and_parts, or_parts, eq-eqb, ne_eqb, cases_eq, cases_lt, false≢true, not-false, le-leb}
 use Rattle.std.proofs.lemmas.Nat.{be_bytes_2}
 use Rattle.byteorder.specs.Endian.{big_from, big_bytes}
 use Rattle.byteorder.specs.Numbers.{big_from-cons, big_from-lt, big_from-take, big_number-reads_back}
@@ -27,7 +26,7 @@ use Rattle.satl_frame.specs.declared.frames.Frame.TheVariants as frames
 use Rattle.satl_frame.proofs.FieldBytes.{four_at, eight_at, first_of, manage_is, request_is, mend_is, strike_is, has_expected}
 use Rattle.satl_frame.proofs.FieldSizes.{GoodFrame, good_frame}
 use Rattle.satl_frame.proofs.Paging.{first_bytes-pages_of}
-use Rattle.satl_frame.proofs.Refusals.{GoodHead, good_head, told_front}
+use Rattle.satl_frame.proofs.Refusals.{GoodHead, good_head, told_front, refused_not}
 
 -- what a frame's head tells
 pub told : (k n : ℕ) → n < 2 ^ 32 → told_length (k ∷ big_bytes 4 n) ≡ n
@@ -117,10 +116,7 @@ good_request One p e =
 good_request Two p e =
     let both = or_parts (nat_lt 3 (slice_index p 0) || nat_lt 1 (slice_index p 1)) (nat_lt 2097152 (bytes 30 33 p)) e in
     let parts = or_parts (nat_lt 3 (slice_index p 0)) (nat_lt 1 (slice_index p 1)) both.0 in
-    record { nexus = ltb-false 3 (slice_index p 0) parts.0; attr = ltb-false 1 (slice_index p 1) parts.1; expected = le_true (bytes 30 33 p) 2097152 (ltb-false 2097152 (bytes 30 33 p) both.1) }
-  where
-    le_true : (m n : ℕ) → m ≤ n → nat_le m n ≡ true
-    le_true m n l = grind (arith, nat_tests)
+    record { nexus = ltb-false 3 (slice_index p 0) parts.0; attr = ltb-false 1 (slice_index p 1) parts.1; expected = le-leb (bytes 30 33 p) 2097152 (ltb-false 2097152 (bytes 30 33 p) both.1) }
 
 expected_front : (version : Version) (p : List ℕ) → expected_in version (take (head_size version) p) ≡ expected_in version p
 expected_front One p = refl
@@ -266,10 +262,6 @@ decode_event p b good =
     by_event (suc (suc (suc (suc (suc (suc (suc e))))))) is allowed which =
         absurd (false≢true (sym (beyond_events (suc (suc (suc (suc (suc (suc (suc e))))))) (length p) (omega arith)) ∙ allowed))
 
-nothing : (p : List ℕ) → length p ≡ 0 → [] ≡ p
-nothing [] l = refl
-nothing (x ∷ p) l = absurd (omega arith)
-
 -- a payload of a kind and a length that the table has, without a bad field, is that of a frame
 decode : (version : Version) (k : ℕ) (p : List ℕ) → IsBytes p → has_code (frame_rows version) k ≡ true → allows (frame_rows version) k (length p) ≡ true → has_bad_field version k p ≡ false →
     Decoded version k p
@@ -282,7 +274,7 @@ decode version (suc (suc (suc (suc zero)))) p b known allowed good =
     record { frame = frames.Bench e.event; is_frame = e.is_event; kind_is = refl; payload_is = e.fields_are }
 decode version (suc (suc (suc (suc (suc zero))))) p b known allowed good =
     let sizes = within 0 0 (length p) allowed in
-    record { frame = frames.End; is_frame = tt; kind_is = refl; payload_is = nothing p (omega (arith, sizes)) }
+    record { frame = frames.End; is_frame = tt; kind_is = refl; payload_is = sym (nil_from_length p (omega (arith, sizes))) }
 decode version (suc (suc (suc (suc (suc (suc k)))))) p b known allowed good =
     absurd (false≢true (sym (beyond_kinds version (suc (suc (suc (suc (suc (suc k)))))) (omega arith)) ∙ known))
 
@@ -290,10 +282,6 @@ decode version (suc (suc (suc (suc (suc (suc k)))))) p b known allowed good =
 no_reason : (a b : Option Reason) → or_else a b ≡ None → (a ≡ None) × (b ≡ None)
 no_reason None b e = (refl, e)
 no_reason (Some r) b e = cc
-
-passes : (b : Bool) (r : Reason) (later : Option Reason) → cond b (Some r) later ≡ None → (b ≡ false) × (later ≡ None)
-passes true r later e = cc
-passes false r later e = (refl, e)
 
 -- where no reason refuses the bytes a frame stands
 pub good_stands : (version : Version) (limit offset : ℕ) (input : List ℕ) → IsBytes input → frame_fault version limit offset input ≡ None → Stands version limit offset input
@@ -304,8 +292,8 @@ good_stands version limit offset input b e =
     let head : GoodHead version limit offset h = good_head version limit offset h short halves.0 in
     let parts : h ++ drop 5 input ≡ input = take-append-drop 5 input in
     let tells : told_length input ≡ told_length h = ap (λ (i : List ℕ). told_length i) (sym parts) ∙ told_front h (drop 5 input) head.whole in
-    let counts = passes (nat_lt (length input) (5 + told_length input)) Truncated _ halves.1 in
-    let fields = passes (has_bad_field version (slice_index input 0) (take (told_length input) (drop 5 input))) BadField None counts.1 in
+    let counts = refused_not (nat_lt (length input) (5 + told_length input)) Truncated _ halves.1 in
+    let fields = refused_not (has_bad_field version (slice_index input 0) (take (told_length input) (drop 5 input))) BadField None counts.1 in
     let enough : 5 + told_length input ≤ length input = ltb-false (length input) (5 + told_length input) counts.0 in
     let p = take (told_length h) (drop 5 input) in
     let rest = drop (told_length h) (drop 5 input) in

@@ -1,6 +1,8 @@
 -- Inputs that can be read to END.
 use Rattle.std.proofs.Common.{◌≡◌, ℕ, ◌+◌, List, [], ◌∷◌, ◌++◌, length, Option, Some, None, refl, ◌∙◌, ap, sym, subst, add-zero, arith, append_assoc}
 use Rattle.std.proofs.lemmas.List.{length-append, append-nil}
+use Rattle.std.proofs.lemmas.Option.{same_Some}
+use Rattle.satl_base.proofs.ListsLemmas.{push_not_empty}
 use Rattle.satl_io.specs.Known.{Took}
 use Rattle.satl_frame.specs.Frames.{spelled, IsFrame}
 use Rattle.satl_frame.specs.Faults.{fault, frame_fault}
@@ -15,14 +17,9 @@ use Rattle.satl_frame.specs.declared.frames.Frame.TheVariants as frames
 use Rattle.satl_frame.specs.declared.frames.FrameFault.TheVariants.{Bad}
 use Rattle.satl_frame.specs.declared.frames.Place.{Place}
 use Rattle.satl_frame.proofs.OneReading.{same_frame, same_version}
-use Rattle.satl_frame.proofs.ProgressLemmas.{all_spelled-push, has_read_all, refused_there, some_same}
+use Rattle.satl_frame.proofs.ProgressLemmas.{all_spelled-push, has_read_all, refused_there}
 use Rattle.satl_frame.proofs.Refusals.{computed}
 use Rattle.satl_frame.proofs.Standing.{stands_good}
-
--- a list with a last frame is not empty
-not_empty : (fs : List Frame) (f : Frame) → fs ++ f ∷ [] ≡ [] → ⊥
-not_empty [] f e = cc
-not_empty (g ∷ fs) f e = cc
 
 -- what tells its bytes goes on telling them
 nowhere : (limit : ℕ) (newest : Version) (at : Option Place) (input : List ℕ) (given : List Frame) → ReadUpTo limit newest at (Some input) None given → ⊥
@@ -94,7 +91,7 @@ none_refused r input fs given rest mid left' reason offset all read none blames 
     by_place limit newest None left all (nothing, same) refused =
         let whole : Reads limit input all.place.version (fs ++ frames.End ∷ []) rest = has_read_all limit newest all.place input rest (fs ++ frames.End ∷ []) all.read in
         let behind = all_spelled (fs ++ frames.End ∷ []) ++ rest in
-        let is : left ≡ magic all.place.version ++ behind = some_same left input same ∙ whole.split in
+        let is : left ≡ magic all.place.version ++ behind = same_Some left input same ∙ whole.split in
         let good : frame_fault all.place.version limit 8 behind ≡ None = stands_good all.place.version limit 8 behind (next_stands all.place.version limit 8 fs rest behind refl whole.each) in
         let nothing_there : refusal limit newest None left ≡ None =
         ap (λ (xs : List ℕ). refusal limit newest None xs) is ∙ (computed limit newest all.place.version behind all.read.named).0 ∙ ap (λ (f : Option Reason). at_offset 8 f) good in
@@ -140,7 +137,7 @@ next_given old new input fs given rest mid left' room frame all read none gave =
     by_place limit newest None left behind all (nothing, same) next is =
         let whole : Reads limit input all.place.version (fs ++ frames.End ∷ []) rest = has_read_all limit newest all.place input rest (fs ++ frames.End ∷ []) all.read in
         let versions = same_version all.place.version gave.place.version (all_spelled (fs ++ frames.End ∷ []) ++ rest) (spelled gave.whole ++ behind)
-        (sym whole.split ∙ sym (some_same left input same) ∙ is ∙ append_assoc (magic gave.place.version) (spelled gave.whole) behind) in
+        (sym whole.split ∙ sym (same_Some left input same) ∙ is ∙ append_assoc (magic gave.place.version) (spelled gave.whole) behind) in
         let each : AreFrames gave.place.version limit 8 (fs ++ frames.End ∷ []) = subst (λ (v : Version). AreFrames v limit 8 (fs ++ frames.End ∷ [])) versions.0 whole.each in
         let ahead : Ahead gave.place.version limit 8 fs given rest (spelled gave.whole ++ behind) =
         record { later = fs; split = ap (λ (gs : List Frame). gs ++ fs) nothing; left_is = sym versions.1; each = each } in
@@ -160,7 +157,7 @@ before_last : (version : Version) (limit offset : ℕ) (gs : List Frame) (last :
 before_last version limit offset [] last each = (tt, tt)
 before_last version limit offset (g ∷ gs) last each =
     let rest = before_last version limit (offset + length (spelled g)) gs last each.3 in
-    ((each.0, each.1, λ e. absurd (not_empty gs last (each.2 e)), rest.0), (λ e. not_empty gs last (each.2 e), rest.1))
+    ((each.0, each.1, λ e. absurd (push_not_empty gs last (each.2 e)), rest.0), (λ e. push_not_empty gs last (each.2 e), rest.1))
 
 -- an input is read to END in one way
 pub one_end : (limit : ℕ) (newest : Version) (input : List ℕ) (fs gs : List Frame) (rest behind : List ℕ) →
@@ -184,4 +181,4 @@ one_end limit newest input fs gs rest behind first second =
         (sym split ∙ append-nil gs, sym same.1)
     by_later version offset (f ∷ later) split is each =
         let same = same_frame version frames.End f behind (all_spelled (later ++ frames.End ∷ []) ++ rest) tt each.0 (is ∙ append_assoc (spelled f) (all_spelled (later ++ frames.End ∷ [])) rest) in
-        absurd (not_empty later frames.End (each.2 (sym same.0)))
+        absurd (push_not_empty later frames.End (each.2 (sym same.0)))

@@ -35,7 +35,8 @@ head_fault version limit offset head =
 -- a nexus above 3, an attribute above 1, or in version 2 an `expected` above 2,097,152
 abbrev pub has_bad_request : Version → List ℕ → Bool
 has_bad_request One payload = nat_lt 3 (slice_index payload 0) || nat_lt 1 (slice_index payload 1)
-has_bad_request Two payload = nat_lt 3 (slice_index payload 0) || nat_lt 1 (slice_index payload 1) || nat_lt longest_data (bytes 30 33 payload)
+has_bad_request Two payload =
+    nat_lt 3 (slice_index payload 0) || nat_lt 1 (slice_index payload 1) || nat_lt longest_data (bytes 30 33 payload)
 
 -- an event or a length that the table does not have, or a STRIKE of neither reads nor writes
 abbrev pub has_bad_event : List ℕ → Bool

@@ -45,13 +45,18 @@ IsRefused version limit offset input = (reason : Reason) × (frame_fault version
 
 -- of any bytes from an offset on, a frame stands there or a reason refuses them
 abbrev pub FrameOrRefusal : Type 0
-FrameOrRefusal = (version : Version) (limit offset : ℕ) (input : List ℕ) → IsBytes input → Stands version limit offset input ⊎ IsRefused version limit offset input
+FrameOrRefusal =
+    (version : Version) (limit offset : ℕ) (input : List ℕ) → IsBytes input → Stands version limit offset input
+    ⊎ IsRefused version limit offset input
 
 -- and never both
 abbrev pub NotBoth : Type 0
-NotBoth = (version : Version) (limit offset : ℕ) (input : List ℕ) → Stands version limit offset input → IsRefused version limit offset input → ⊥
+NotBoth =
+    (version : Version) (limit offset : ℕ) (input : List ℕ) → Stands version limit offset input
+    → IsRefused version limit offset input → ⊥
 
 -- as many frames of one input are the same frames, of the same version, and the same bytes follow
 abbrev pub OneWay : Type 0
 OneWay = (limit : ℕ) (input : List ℕ) (version other : Version) (fs gs : List Frame) (rest behind : List ℕ) →
-    Reads limit input version fs rest → Reads limit input other gs behind → length fs ≡ length gs → (version ≡ other) × (fs ≡ gs) × (rest ≡ behind)
+    Reads limit input version fs rest → Reads limit input other gs behind → length fs ≡ length gs → (version ≡ other)
+    × (fs ≡ gs) × (rest ≡ behind)

@@ -1,10 +1,10 @@
 -- The bytes of the output (profile). A frame is its kind, the length of its payload in four bytes, and its payload. Of a
 -- number the highest byte stands first.
-use Rattle.std.specs.Prelude.{ℕ, pos, ◌-ℤ◌, ◌+◌, ◌*◌, ◌≤◌, min, List, [], ◌∷◌, ◌++◌, length, Option, Some, None, IfSome}
+use Rattle.std.specs.Prelude.{ℕ, pos, ◌-ℤ◌, ◌+◌, ◌*◌, ◌≤◌, min, List, [], ◌∷◌, ◌++◌, length, Option, Some, None}
 use Rattle.std.specs.Int.{w32, cast_unsigned}
 use Rattle.byteorder.specs.Endian.{big_bytes}
 use Rattle.satl_base.specs.Blocks.{first_bytes}
-use Rattle.satl_base.specs.Limits.{longest_data}
+use Rattle.satl_base.specs.Limits.{IsExpectable, longest_data}
 use Rattle.satl_base.specs.Codes.{scsi_code, response_code}
 use Rattle.satl_base.specs.declared.reply.Reply.{Reply}
 use Rattle.satl_base.specs.declared.reply.Response.{Response}
@@ -46,7 +46,8 @@ reply_kind (Some expected) = 0x83
 -- nexus 1, status 1, tag 4, residual 4, sense length 1
 abbrev pub reply_fields : Reply → List ℕ
 reply_fields r =
-    (r.nexus ∷ scsi_code r.status ∷ big_bytes 4 (r.tag).0) ++ (residual_field r.expected r.data_len ++ length r.sense.items ∷ [])
+    (r.nexus ∷ scsi_code r.status ∷ big_bytes 4 (r.tag).0)
+    ++ (residual_field r.expected r.data_len ++ length r.sense.items ∷ [])
 
 -- the length of these fields with sense and data
 abbrev pub reply_len : Reply → ℕ
@@ -97,7 +98,7 @@ written_bytes (written.Fault reason offset) = fault_bytes reason offset
 pub record IsWritable (r : Reply) : Type 0 where
   pub holds : r.data_len ≤ 512 * length r.body
   pub short : r.data_len ≤ longest_data
-  pub expected : IfSome r.expected (λ expected. expected ≤ longest_data)
+  pub expected : IsExpectable r.expected
 
 -- a reply can be written where that holds; all other frames always can
 abbrev pub CanWrite : OutFrame → Type 0

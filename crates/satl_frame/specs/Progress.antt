@@ -35,19 +35,27 @@ pub record ReadsToEnd (limit : ℕ) (newest : Version) (input : List ℕ) (fs : 
 
 -- before END of an input that can be read to END a reader refuses nothing
 abbrev pub NoneRefused : Type 0
-NoneRefused = (r : Reading) (input : List ℕ) (fs given : List Frame) (rest : List ℕ) (mid left' : Option (List ℕ)) (reason : Reason) (offset : ℕ) →
-    ReadsToEnd r.limit r.newest input fs rest → HasRead r (Some input) mid given → NoneEnds given → Blames r mid left' (Bad reason offset) → ⊥
+NoneRefused =
+    (r : Reading) (input : List ℕ) (fs given : List Frame) (rest : List ℕ) (mid left' : Option (List ℕ)) (reason : Reason)
+    (offset : ℕ) →
+    ReadsToEnd r.limit r.newest input fs rest → HasRead r (Some input) mid given → NoneEnds given
+    → Blames r mid left' (Bad reason offset) → ⊥
 
 -- and what it gives next is the next frame of that input
 abbrev pub NextGiven : Type 0
-NextGiven = (old new : Reading) (input : List ℕ) (fs given : List Frame) (rest : List ℕ) (mid left' : Option (List ℕ)) (room : ℕ) (frame : Frame) →
-    ReadsToEnd old.limit old.newest input fs rest → HasRead old (Some input) mid given → NoneEnds given → (gave : Gave old room frame new mid left') →
+NextGiven =
+    (old new : Reading) (input : List ℕ) (fs given : List Frame) (rest : List ℕ) (mid left' : Option (List ℕ)) (room : ℕ)
+    (frame : Frame) →
+    ReadsToEnd old.limit old.newest input fs rest → HasRead old (Some input) mid given → NoneEnds given
+    → (gave : Gave old room frame new mid left') →
     (later : List Frame) × (given ++ gave.whole ∷ later ≡ fs ++ frames.End ∷ [])
 
 -- what a reader refuses, behind the frames that it gave, is refused in its input, at that offset and for that reason
 abbrev pub RefusedThere : Type 0
-RefusedThere = (r : Reading) (input : List ℕ) (given : List Frame) (mid left' : Option (List ℕ)) (reason : Reason) (offset : ℕ) →
-    HasRead r (Some input) mid given → Blames r mid left' (Bad reason offset) → fault r.newest r.limit input offset ≡ Some reason
+RefusedThere =
+    (r : Reading) (input : List ℕ) (given : List Frame) (mid left' : Option (List ℕ)) (reason : Reason) (offset : ℕ) →
+    HasRead r (Some input) mid given → Blames r mid left' (Bad reason offset)
+    → fault r.newest r.limit input offset ≡ Some reason
 
 -- an input is read to END in one way: the frames and the rest are the same
 abbrev pub OneEnd : Type 0

@@ -20,7 +20,8 @@ pub record Lacks (left left' : Option (List ℕ)) (n : ℕ) : Type 0 where
   pub known : IfSome left (λ bytes. (length bytes < n) × Took left left' bytes)
 
 -- bytes are short only where the source had fewer, and a read failed only where the count rose
-pub record PullCauses {T : Type 0} (left left' : Option (List ℕ)) (n before now : ℕ) (result : Result T PullError) : Type 0 where
+pub record PullCauses {T : Type 0} (left left' : Option (List ℕ)) (n before now : ℕ)
+    (result : Result T PullError) : Type 0 where
   pub later : before ≤ now
   pub short : IsErrOf result Short → Lacks left left' n
   pub failed : IsErrOf result Failed → Rose before now

@@ -56,12 +56,14 @@ first_refusal (Some x) later = Some x
 -- why, and where, the bytes that are left are refused: the magic at 0, or the frame at the place
 abbrev pub refusal : ℕ → Version → Option Place → List ℕ → Option (Reason × ℕ)
 refusal limit newest None left =
-    first_refusal (at_offset 0 (magic_fault newest (take 8 left))) (at_offset 8 (frame_fault (version_of left) limit 8 (drop 8 left)))
+    first_refusal (at_offset 0 (magic_fault newest (take 8 left)))
+    (at_offset 8 (frame_fault (version_of left) limit 8 (drop 8 left)))
 refusal limit newest (Some place) left = at_offset place.offset (frame_fault place.version limit place.offset left)
 
 -- how many bytes of a frame are asked for: the first five, and all of it where these are good
 abbrev pub asked_of_frame : Version → ℕ → ℕ → List ℕ → ℕ
-asked_of_frame version limit offset frame = if is_some (head_fault version limit offset (take 5 frame)) then 5 else 5 + told_length frame
+asked_of_frame version limit offset frame =
+    if is_some (head_fault version limit offset (take 5 frame)) then 5 else 5 + told_length frame
 
 -- how many bytes of what is left are asked for: eight of a magic, and the next frame behind a good one
 abbrev pub asked : ℕ → Version → Option Place → List ℕ → ℕ

@@ -27,7 +27,8 @@ BlamesMagic newest left left' (Bad reason offset) =
 BlamesMagic newest left left' ReadFault = FewerThan left left' (λ _. 8)
 
 -- a whole frame stood at the place, and was taken
-pub record StoodAt (limit : ℕ) (place : Place) (left left' : Option (List ℕ)) (room : ℕ) (frame : Frame) (next : ℕ) : Type 0 where
+pub record StoodAt (limit : ℕ) (place : Place) (left left' : Option (List ℕ)) (room : ℕ) (frame : Frame)
+    (next : ℕ) : Type 0 where
   pub whole : Frame
   pub is_frame : IsFrame place.version whole
   pub cut : frame ≡ cut_to room whole
@@ -36,7 +37,8 @@ pub record StoodAt (limit : ℕ) (place : Place) (left left' : Option (List ℕ)
   pub within : next ≤ limit
 
 -- the payload behind a good head was taken, and the two spell the frame
-pub record StoodBehind (version : Version) (head : List ℕ) (left left' : Option (List ℕ)) (room : ℕ) (frame : Frame) : Type 0 where
+pub record StoodBehind (version : Version) (head : List ℕ) (left left' : Option (List ℕ)) (room : ℕ)
+    (frame : Frame) : Type 0 where
   pub whole : Frame
   pub is_frame : IsFrame version whole
   pub cut : frame ≡ cut_to room whole

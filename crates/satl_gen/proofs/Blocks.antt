@@ -4,7 +4,7 @@ use Rattle.std.proofs.lemmas.List.{length-append, length-replicate, take_all}
 use Rattle.satl_base.specs.declared.block.Block.{Block}
 use Rattle.satl_base.specs.Blocks.{bytes_of, first_bytes}
 use Rattle.satl_frame.specs.DataPages.{pages_from, pages_of}
-use Rattle.satl_frame.proofs.Paging.{whole_block, pages_of-append}
+use Rattle.satl_frame.proofs.Paging.{pages_of-append, one_page}
 use Rattle.satl_gen.specs.Generated.{block_of, blocks_from}
 
 pub length-block_of : (value : ℕ) → length (block_of value).bytes ≡ 512
@@ -30,11 +30,6 @@ length-blocks (suc n) value = length-append (block_of value).bytes (bytes_of (bl
 -- they are all of their bytes
 pub first_blocks : (n value : ℕ) → first_bytes (512 * n) (blocks_from n value) ≡ bytes_of (blocks_from n value)
 first_blocks n value = take_all (512 * n) (bytes_of (blocks_from n value)) (omega (arith, length-blocks n value))
-
-one_page : (b : Block) → length b.bytes ≡ 512 → pages_of b.bytes ≡ b ∷ []
-unfolding pages_of pages_from
-one_page b size =
-    rw size (ap (λ (p : Block). p ∷ []) (sym (whole_block b.bytes b.bytes (omega arith) (sym (take_all 512 b.bytes (omega arith))))))
 
 -- they are the pages of their bytes
 pub blocks_are_pages : (n value : ℕ) → blocks_from n value ≡ pages_of (bytes_of (blocks_from n value))

@@ -12,13 +12,10 @@ use Rattle.satl_gen.specs.Coming.{request_head, burst_behind, burst_bytes}
 use Rattle.satl_gen.specs.Generated.{seeded, draw, after_draw, sent_blocks, block_of, blocks_from, burst, request_of, frames_of, frames_from, generated}
 use Rattle.satl_frame.specs.Magic.{magic}
 use Rattle.satl_frame.specs.declared.frames.Version.TheVariants.{One}
+use Rattle.satl_frame.proofs.ProgressLemmas.{all_spelled-append}
 use Rattle.satl_gen.specs.declared.draw.Draw.{Draw}
 use Rattle.satl_gen.proofs.Blocks.{blocks_from-next, blocks_from-none}
 use Rattle.satl_gen.proofs.Requests.{request_spelled}
-
-pub all_spelled-append : (fs gs : List Frame) → all_spelled (fs ++ gs) ≡ all_spelled fs ++ all_spelled gs
-all_spelled-append [] gs = refl
-all_spelled-append (f ∷ fs) gs = ap (λ (xs : List ℕ). spelled f ++ xs) (all_spelled-append fs gs) ∙ sym (append_assoc (spelled f) (all_spelled fs) (all_spelled gs))
 
 -- a block more
 pub block_taken : (n value : ℕ) (piece rest : List ℕ) → 0 < n → piece ≡ (block_of value).bytes →

@@ -38,7 +38,8 @@ after_draw g = (pcg32 (pcg32 (pcg32 g).1).1).1
 abbrev pub is_write : Draw → Bool
 is_write d = nat_le 3 (d.a % 8) && nat_lt (d.a % 8) 6
 
--- the command: READ(10) and WRITE(10) of 1 to 32 blocks below address 8,032, SYNCHRONIZE CACHE(10) of all, TEST UNIT READY (profile)
+-- the command: READ(10) and WRITE(10) of 1 to 32 blocks below address 8,032, SYNCHRONIZE CACHE(10) of all, TEST UNIT READY
+-- (profile)
 abbrev pub drawn_command : Draw → Command
 drawn_command d =
     if nat_lt (d.a % 8) 3 then commands.Read Ten (d.b % 8000) (1 + d.c % 32) false

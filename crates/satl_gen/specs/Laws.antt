@@ -4,6 +4,9 @@ use Rattle.satl_frame.specs.Progress.{ReadsToEnd}
 use Rattle.satl_frame.specs.declared.frames.Version.{Version}
 use Rattle.satl_gen.specs.Generated.{generated, generated_frames}
 
--- one of up to 100,000 requests can be read to END within 2^40 bytes, by a reader of any versions: these are its frames, and nothing stands behind END
+-- one of up to 100,000 requests can be read to END within 2^40 bytes, by a reader of any versions: these are its frames, and
+-- nothing stands behind END
 abbrev pub ReadsWhole : Type 0
-ReadsWhole = (newest : Version) (seed requests : ℕ) → requests ≤ 100000 → ReadsToEnd (2 ^ 40) newest (generated seed requests) (generated_frames seed requests) []
+ReadsWhole =
+    (newest : Version) (seed requests : ℕ) → requests ≤ 100000
+    → ReadsToEnd (2 ^ 40) newest (generated seed requests) (generated_frames seed requests) []

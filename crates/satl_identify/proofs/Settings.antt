@@ -1,7 +1,7 @@
 -- New settings change the settings alone.
 use Rattle.std.proofs.Common.{◌≡◌, ◌≢◌, ℕ, ◌+◌, ◌*◌, ◌/◌, ◌%◌, ◌^◌, Bool, true, false, cond, List, length, set, refl, sym, ap, ◌∙◌, arith, eqb, get_or-set_other, get_or-set_same}
-use Rattle.std.specs.Prelude.{slice_index, Ok, ◌==◌, ◌&&◌, not}
-use Rattle.std.proofs.lemmas.Bool.{eqb-false, eqb-true}
+use Rattle.std.specs.Prelude.{slice_index, Ok, ◌==◌, not}
+use Rattle.std.proofs.lemmas.Bool.{eqb-false, eqb-true, and_right}
 use Rattle.std.proofs.lemmas.List.{length-set}
 use Rattle.satl_base.specs.Identify.{checksum, word_bits, is_not_ata, has_bad_sum, has_lba48, has_queue, has_capacity, is_other_block, capacity, exponent, has_trim, has_queued_trim, has_cache, has_look, cache_is_on, look_is_on}
 use Rattle.satl_identify.specs.declared.identity.Identity.{Identity}
@@ -10,15 +10,11 @@ use Rattle.satl_identify.specs.Refusals.{rules, identity_in, identity_of, IsIden
 use Rattle.satl_identify.proofs.Sums.{checksum-integrity}
 use Rattle.satl_identify.proofs.Judging.{Unbroken, judged_unbroken, unbroken}
 
-length-integrity : (d : List ℕ) → length (with_integrity d) ≡ length d
+pub length-integrity : (d : List ℕ) → length (with_integrity d) ≡ length d
 length-integrity d = elim (word_bits 255 7 0 d == 0xA5) as (λ b. length (cond b (set d 511 (integrity_byte (set d 511 0))) d) ≡ length d) [ true ↦ length-set d 511 _ | false ↦ refl ]
 
 integrity_other : (d : List ℕ) (j : ℕ) → j ≢ 511 → slice_index (with_integrity d) j ≡ slice_index d j
 integrity_other d j ne = elim (word_bits 255 7 0 d == 0xA5) as (λ b. slice_index (cond b (set d 511 (integrity_byte (set d 511 0))) d) j ≡ slice_index d j) [ true ↦ get_or-set_other d 511 j _ 0 ne | false ↦ refl ]
-
-and_false : (b : Bool) → (b && false) ≡ false
-and_false true = refl
-and_false false = refl
 
 -- data with another byte 170, and their integrity byte
 module _ (d new : List ℕ) (byte : ℕ) (len : length new ≡ 512) (made : new ≡ with_integrity (set d 170 byte)) where
@@ -81,7 +77,7 @@ module _ (d new : List ℕ) (byte : ℕ) (len : length new ≡ 512) (made : new 
   good_sum : has_bad_sum d ≡ false → has_bad_sum new ≡ false
   good_sum e =
       (elim (eqb (word_bits 255 7 0 d) 0xA5) as (λ b. eqb (word_bits 255 7 0 d) 0xA5 ≡ b → has_bad_sum new ≡ false) [
-        | true ↦ λ is. rw (sum_is_0 (eqb-true _ _ is)) (and_false (word_bits 255 7 0 new == 0xA5))
+        | true ↦ λ is. rw (sum_is_0 (eqb-true _ _ is)) (and_right (word_bits 255 7 0 new == 0xA5) false refl)
         | false ↦ λ is. rw (mark_same, is) refl
       ]) refl
 

@@ -2,64 +2,20 @@ use super::*;
 use byteorder::{ByteOrder, LittleEndian};
 use std::test::*;
 
-// The words that are not 0 of a drive of 8,192 sectors.
-const WORDS: [(usize, u16); 56] = [
-    (0, 0x0040),
-    (10, 0x5341),
-    (11, 0x544C),
-    (12, 0x3030),
-    (13, 0x3030),
-    (14, 0x3030),
-    (15, 0x3030),
-    (16, 0x3030),
-    (17, 0x3030),
-    (18, 0x3030),
-    (19, 0x3031),
-    (23, 0x4657),
-    (24, 0x3031),
-    (25, 0x3032),
-    (26, 0x3033),
-    (27, 0x4D4F),
-    (28, 0x4445),
-    (29, 0x4C20),
-    (30, 0x4E43),
-    (31, 0x5120),
-    (32, 0x4449),
-    (33, 0x534B),
-    (34, 0x2020),
-    (35, 0x2020),
-    (36, 0x2020),
-    (37, 0x2020),
-    (38, 0x2020),
-    (39, 0x2020),
-    (40, 0x2020),
-    (41, 0x2020),
-    (42, 0x2020),
-    (43, 0x2020),
-    (44, 0x2020),
-    (45, 0x2020),
-    (46, 0x2020),
+// The words that are not 0 of a drive of 16,384 sectors that tells no more than what is read here.
+const WORDS: [(usize, u16); 12] = [
     (49, 0x0300),
-    (60, 0x2000),
     (69, 0x4020),
     (75, 0x001F),
     (76, 0x0100),
     (77, 0x0040),
-    (82, 0x0061),
-    (83, 0x7400),
-    (84, 0x4120),
-    (85, 0x0061),
-    (86, 0x3400),
-    (87, 0x4120),
-    (100, 0x2000),
-    (105, 0x0008),
+    (82, 0x0060),
+    (83, 0x6400),
+    (85, 0x0060),
+    (100, 0x4000),
     (106, 0x6003),
-    (108, 0x5000),
-    (111, 0x0001),
-    (168, 0x0003),
     (169, 0x0001),
-    (217, 0x0001),
-    (255, 0x35A5),
+    (255, 0xD0A5),
 ];
 
 fn set_word(bytes: &mut [u8; 512], place: usize, value: u16) {
@@ -81,7 +37,7 @@ fn identity_and_settings(rt: HostRuntime) {
     let bytes = drive_data();
     let identity = Identity {
         bytes,
-        capacity: 8_192,
+        capacity: 16_384,
         exponent: 3,
         trim: true,
         queued_trim: true,
@@ -95,8 +51,8 @@ fn identity_and_settings(rt: HostRuntime) {
 
     // The write cache off: 20h less in word 85, and so much more in the integrity byte.
     let mut off = bytes;
-    set_word(&mut off, 85, 0x0041);
-    set_word(&mut off, 255, 0x55A5);
+    set_word(&mut off, 85, 0x0040);
+    set_word(&mut off, 255, 0xF0A5);
     assert_eq!(rt; identity_bytes(&identity, false, true), off);
 }
 

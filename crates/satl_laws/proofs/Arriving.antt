@@ -2,7 +2,7 @@
 use Rattle.std.proofs.Common.{◌≡◌, refl, ℕ, ◌+◌, Bool, true, Option, Some, None, eqb-true}
 use Rattle.std.specs.Prelude.{not, ◌||◌, ◌&&◌, nat_lt, Result, Ok, Err}
 use Rattle.std.specs.List.{list_any}
-use Rattle.std.proofs.lemmas.Bool.{ltb-false}
+use Rattle.std.proofs.lemmas.Bool.{ltb-false, and_parts}
 use Rattle.satl_base.specs.declared.request.Request.{Request}
 use Rattle.satl_base.specs.Fields.{bit}
 use Rattle.satl_cdb.specs.declared.command.Command.{Command}
@@ -13,7 +13,6 @@ use Rattle.satl_direct.specs.Device.{Device, is_called}
 use Rattle.satl_direct.specs.Tasks.{asks, needed, range_of}
 use Rattle.satl_direct.specs.Arrival.{Arrival, arrival, asks_for, attention_arrival, attention_for, cdb_arrival, code_arrival, code_of, command_arrival, is_unit_0, other_arrival, unless_refused}
 use Rattle.satl_laws.specs.ArrivalOrder.{writes_plainly}
-use Rattle.satl_laws.proofs.Cases.{both_left}
 use Rattle.satl_laws.proofs.Bringing.{Gets, inquiry_unknown, refused, sense_unknown}
 use Rattle.satl_laws.proofs.Becoming.{becomes_gets, either_gets}
 
@@ -59,7 +58,7 @@ module _ (s : Device) (r : Request) where
     other_gets : Gets n has it r.body (other_arrival s r)
     other_gets =
         either_gets s r it (asks_for 0x12 r && not (bit 1 0 r.cdb)) _ _
-        (λ h. inquiry_unknown r.cdb s.identity.trim (eqb-true (code_of r) 0x12 (both_left (asks_for 0x12 r) (not (bit 1 0 r.cdb)) h)) r.body _)
+        (λ h. inquiry_unknown r.cdb s.identity.trim (eqb-true (code_of r) 0x12 (and_parts (asks_for 0x12 r) (not (bit 1 0 r.cdb)) h).0) r.body _)
         (λ h. either_gets s r it (asks_for 0x03 r) _ _
         (λ k. sense_unknown r.cdb s.identity.trim (eqb-true (code_of r) 0x03 k) r.body _)
         (λ k. refused it r.body _ refl))

@@ -1,7 +1,8 @@
 -- A device that is started, without glitches and flaws: there each WRITE ends with GOOD.
 use Rattle.std.proofs.Common.{◌≡◌, ⊎_elim, sym, ap, ◌∙◌, subst, ℕ, Bool, true, false, List, [], ◌∷◌, Some, None, arith, map}
-use Rattle.std.specs.Prelude.{◌&&◌, not, MatchBool, Ok}
+use Rattle.std.specs.Prelude.{◌&&◌, not, Ok}
 use Rattle.std.specs.List.{AllByRecursion}
+use Rattle.std.proofs.lemmas.Bool.{MatchBool-at_false}
 use Rattle.satl_base.specs.declared.bench.Which.TheVariants as flaws
 use Rattle.satl_base.specs.declared.reply.Reply.{Reply}
 use Rattle.satl_base.specs.Cells.{Cell, Pair, first_flaw, settle}
@@ -29,11 +30,6 @@ pub record IsCalm (s : Device) : Type 0 where
   pub started : s.started ≡ true
   pub no_glitches : s.glitches ≡ 0
   pub clean : AllByRecursion IsClean s.cells
-
--- the second of two cases
-pub by_false : (A B : Type 0) (b : Bool) → b ≡ false → MatchBool b A B → B
-by_false A B true h m = absurd cc
-by_false A B false h m = m
 
 -- quiet moves leave it calm
 moves_clean : {P : Pair → Type 0} {a b : List Cell} → Moves P a b → AllByRecursion IsClean a → AllByRecursion IsClean b
@@ -133,5 +129,5 @@ module _ (s new : Device) (t : Entry) (reply : Reply) (calm : IsCalm s) where
   pub ends_calm : s.down ≡ false → writes_plainly (Ok t.command) ≡ true → stops_or_starts (Ok t.command) ≡ false → Ends s t reply new → EndsCalm t.command
   ends_calm up plain steady e =
       command_calm t.command plain steady
-      (by_false (IsChecked not_ready s t reply new) (EndsBy t.command s t reply new) (not s.started && (asks t.command).starts) (ap (λ b. not b && (asks t.command).starts) calm.started)
-      (by_false (IsChecked link_lost s t reply new) _ s.down up e))
+      (MatchBool-at_false (IsChecked not_ready s t reply new) (EndsBy t.command s t reply new) (ap (λ b. not b && (asks t.command).starts) calm.started)
+      (MatchBool-at_false (IsChecked link_lost s t reply new) _ up e))

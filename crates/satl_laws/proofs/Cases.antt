@@ -1,6 +1,6 @@
 -- Facts that are given by cases, and what a list counts.
-use Rattle.std.proofs.Common.{◌≡◌, refl, ◌+◌, Bool, true, false, List, [], ◌∷◌, ◌++◌, Option, Some, None, arith, cond}
-use Rattle.std.specs.Prelude.{MatchBool, MatchOption, not, filter, ◌&&◌, ◌||◌}
+use Rattle.std.proofs.Common.{◌≡◌, ◌+◌, Bool, true, false, List, [], ◌∷◌, ◌++◌, Option, Some, None, arith, cond}
+use Rattle.std.specs.Prelude.{MatchBool, MatchOption, not, filter}
 use Rattle.satl_base.specs.Lists.{how_many}
 
 -- from each of the two cases of a test
@@ -12,24 +12,6 @@ by_bool false f g h = g h
 pub by_option : {X A C : Type 0} {B : X → Type 0} (o : Option X) → (A → C) → ((x : X) → B x → C) → MatchOption o A B → C
 by_option None f g h = f h
 by_option (Some x) f g h = g x h
-
--- where both hold, each does
-pub both_left : (a b : Bool) → (a && b) ≡ true → a ≡ true
-both_left true b h = refl
-both_left false b h = h
-
-pub both_right : (a b : Bool) → (a && b) ≡ true → b ≡ true
-both_right true b h = h
-both_right false b h = absurd cc
-
--- where neither holds, each fails
-pub or_left : (a b : Bool) → (a || b) ≡ false → a ≡ false
-or_left true b h = h
-or_left false b h = refl
-
-pub or_right : (a b : Bool) → (a || b) ≡ false → b ≡ false
-or_right true b h = absurd cc
-or_right false b h = h
 
 -- what is counted in two lists
 pub how_many-append : {X : Type 0} (p : X → Bool) (xs ys : List X) → how_many p (xs ++ ys) ≡ how_many p xs + how_many p ys

@@ -1,6 +1,7 @@
 -- Two tasks conflict exactly where one of them goes alone, or they clash at a sector.
 use Rattle.std.proofs.Common.{◌≡◌, refl, sym, ap, ◌∙◌, Bool, true, false}
 use Rattle.std.specs.Prelude.{not, ◌&&◌, ◌||◌}
+use Rattle.std.proofs.lemmas.Bool.{and_right}
 use Rattle.satl_line.specs.declared.entry.Entry.{Entry}
 use Rattle.satl_line.specs.Conflict.{accesses_conflict, any_meet, conflicts, is_alone, is_write}
 use Rattle.satl_direct.specs.Device.{Device}
@@ -73,16 +74,12 @@ module _ (s : Device) (a b : Entry) (is_a : IsAsked s.identity.queued_trim a) (i
         (λ hit. let c = common a.ranges.items b.ranges.items hit in
         let none : clash_at c.at a b ≡ false = clear c.at in
         ap (λ w. w && true) (written ∙ last (goes_over a.command a.ranges.items c.at) (goes_over b.command b.ranges.items c.at) (alters a.command || alters b.command) (is_a.goes queued_a c.at ∙ c.here) (is_b.goes queued_b c.at ∙ c.there) none))
-        (λ miss. off writes_one)
+        (λ miss. and_right writes_one false refl)
       where
         last : (p q w : Bool) → p ≡ true → q ≡ true → (p && q && w) ≡ false → w ≡ false
         last true true w h k none = none
         last true false w h k none = absurd cc
         last false q w h k none = absurd cc
-
-        off : (w : Bool) → (w && false) ≡ false
-        off true = refl
-        off false = refl
 
     -- so they conflict not
     pub conflict_none : DoNotClash a b → conflicts a b ≡ false

@@ -13,11 +13,11 @@ use Rattle.satl_laws.specs.Durable.{IsSpan, secures}
 use Rattle.satl_laws.specs.Untouched.{SparedThrough, WithoutPower, now_at}
 use Rattle.satl_direct.specs.Run.{RunDeep}
 use Rattle.satl_direct.specs.Turn.{TurnLoss}
+use Rattle.satl_direct.proofs.Quieting.{quiet_tasks}
 use Rattle.satl_frame.specs.declared.frames.Frame.{Frame}
 use Rattle.satl_frame.specs.Output.{Answer}
 use Rattle.satl_laws.proofs.Addresses.{Alike}
 use Rattle.satl_laws.proofs.Arrivals.{IsFor, code_for}
-use Rattle.satl_laws.proofs.Weighing.{quiet_tasks}
 use Rattle.satl_laws.proofs.Ends.{ends_leaves}
 use Rattle.satl_laws.proofs.Kept.{at_now}
 use Rattle.satl_laws.proofs.Coming.{WritesItsOwn}

@@ -9,7 +9,8 @@ use Rattle.satl_line.specs.Conflict.{conflicts}
 use Rattle.satl_line.specs.Eligible.{IsEligible}
 use Rattle.satl_direct.specs.Device.{is_called, without}
 use Rattle.satl_direct.specs.Valid.{AreOwn}
-use Rattle.satl_laws.proofs.Names.{called_apart, called_self, none_in}
+use Rattle.satl_direct.proofs.Naming.{called_apart, called_self}
+use Rattle.satl_laws.proofs.Names.{none_in}
 
 -- one of a list, by its place
 pub record SplitAt {X : Type 0} (xs : List X) (x : X) : Type 0 where

@@ -16,7 +16,7 @@ use Rattle.satl_direct.specs.Bench.{Happens}
 use Rattle.satl_direct.specs.Management.{effect}
 use Rattle.satl_direct.specs.Quiet.{Quiet}
 use Rattle.satl_direct.specs.Run.{Manages, MayLose}
-use Rattle.satl_direct.specs.Run.MayLose.{keeps, loses as steps_and_loses}
+use Rattle.satl_direct.specs.Run.MayLose.{keeps, keeps_and_loses}
 use Rattle.satl_laws.specs.OnceEach.{cleared_by, cut_by, taken_off}
 use Rattle.satl_laws.proofs.Cases.{how_many-append, how_many-filter}
 use Rattle.satl_laws.proofs.Arrivals.{IsFor, IsTo}
@@ -29,7 +29,7 @@ module _ (nexus tag : ℕ) where
       → ((mid : Device) (said : List Reply) → Step old said mid → replies nexus tag said + mine nexus tag mid.tasks + taken ≡ mine nexus tag old.tasks + asked)
       → MayLose Step old answers new → replies nexus tag answers + mine nexus tag new.tasks + taken ≡ mine nexus tag old.tasks + asked
   may_lose_counts Step old new answers asked taken each (keeps h) = each new answers h
-  may_lose_counts Step old new _ asked taken each (steps_and_loses {answers = said} {more = lost} {mid = mid} {after = after} h q l) =
+  may_lose_counts Step old new _ asked taken each (keeps_and_loses {answers = said} {more = lost} {mid = mid} {after = after} h q l) =
       omega (arith, each mid said h, quiet_counts nexus tag mid after q, loss_counts nexus tag after new lost l.answer (ap (λ d. d.tasks) l.stays), replies-append nexus tag said lost)
 
   -- one reply to a request

@@ -2,13 +2,13 @@
 use Rattle.std.proofs.Common.{◌≡◌, sym, ap, ◌∙◌, ℕ, ◌+◌, ◌≤◌, ◌<◌, Bool, false, List, [], ◌∷◌, ◌++◌, None, map}
 use Rattle.std.specs.Prelude.{◌||◌}
 use Rattle.std.specs.List.{AllByRecursion}
+use Rattle.std.proofs.lemmas.Bool.{or_parts}
 use Rattle.satl_base.specs.declared.block.Block.{Block}
 use Rattle.satl_base.specs.declared.reply.Reply.{Reply}
 use Rattle.satl_cdb.specs.Table.{says}
 use Rattle.satl_regs.specs.Trim.{addresses_from}
 use Rattle.satl_frame.specs.Output.{Answer}
 use Rattle.satl_laws.specs.ArrivalOrder.{IsGoodReply, IsReadOf}
-use Rattle.satl_laws.proofs.Cases.{or_left, or_right}
 use Rattle.satl_laws.proofs.Items.{Item, held, is_to_write, left}
 use Rattle.satl_laws.proofs.Seen.{range_same}
 use Rattle.satl_laws.proofs.Settling.{pending}
@@ -45,7 +45,7 @@ module _ (trim : Bool) where
           settled = λ x from to. (same x (g.settled x from to)).1;
         }),
     right_on answers more is (λ x. left trim i x (holds x)) (λ x. left trim i x (others x)) (λ x. p x || is_to_write i.task x) (λ x. q x || is_to_write i.task x)
-        (λ x h. let s = same x (or_left (p x) (is_to_write i.task x) h) in (ap (left trim i x) s.0, ap (λ b. b || is_to_write i.task x) s.1 ∙ or_right (p x) (is_to_write i.task x) h))
+        (λ x h. let s = same x (or_parts (p x) (is_to_write i.task x) h).0 in (ap (left trim i x) s.0, ap (λ b. b || is_to_write i.task x) s.1 ∙ (or_parts (p x) (is_to_write i.task x) h).1))
         told.1 right.1,
   )
 
@@ -57,7 +57,7 @@ module _ (trim : Bool) where
   right_leave answers more [] back i j holds p none alike told told_back mine right = (
     mine,
     right_on answers more back (λ x. left trim i x (holds x)) (λ x. left trim j x (holds x)) (λ x. p x || is_to_write i.task x) (λ x. p x || is_to_write j.task x)
-        (λ x h. (alike x (holds x) (or_right (p x) (is_to_write i.task x) h), ap (λ o. p x || is_to_write o x) none ∙ ap (λ b. b || false) (or_left (p x) (is_to_write i.task x) h)))
+        (λ x h. (alike x (holds x) (or_parts (p x) (is_to_write i.task x) h).1, ap (λ o. p x || is_to_write o x) none ∙ ap (λ b. b || false) (or_parts (p x) (is_to_write i.task x) h).0))
         told_back right.1,
   )
   right_leave answers more (k ∷ front) back i j holds p none alike told told_back mine right = (

@@ -1,6 +1,7 @@
 -- One turn, in which a reply with GOOD was given.
 use Rattle.std.proofs.Common.{◌≡◌, ⊎_elim, inl, inr, refl, sym, ap, ◌∙◌, subst, ℕ, true, List, [], ◌∷◌, ◌++◌, map, eq-eqb, eqb-true}
 use Rattle.std.specs.Prelude.{◌==◌, ◌&&◌}
+use Rattle.std.proofs.lemmas.Bool.{and_parts}
 use Rattle.satl_base.specs.declared.request.Request.{Request}
 use Rattle.satl_base.specs.declared.reply.Reply.{Reply}
 use Rattle.satl_base.specs.declared.reply.Scsi.{Scsi}
@@ -22,9 +23,9 @@ use Rattle.satl_direct.specs.Senses.{link_lost}
 use Rattle.satl_direct.specs.Turn.{MayEnd, OneEnds, Turn}
 use Rattle.satl_direct.specs.Turn.Turn.{idle, ends, loses, ends_and_loses}
 use Rattle.satl_laws.specs.Scenes.{at_work}
-use Rattle.satl_laws.proofs.Cases.{both_left, both_right}
 use Rattle.satl_laws.proofs.Runs.{once}
 use Rattle.satl_laws.proofs.Sparing.{Keeps, NoneWrites, keeps_none, keeps_on, loss_keeps, quiet_keeps}
+use Rattle.satl_laws.proofs.Names.{one_reply}
 
 -- no turn changes nothing
 none_taken : {s new : Device} {answers : List Reply} {n deep : ℕ} → TurnsOf n s answers new deep → n ≡ 0 → (new ≡ s) × (answers ≡ [])
@@ -65,14 +66,10 @@ good_end {s = s} reply (ends_and_loses {mid = mid} {after = after} {new = new} o
 
 -- ---- replies
 
--- equal answers are equal replies
-of_replied : (a b : Reply) → replied a ≡ replied b → a ≡ b
-of_replied a b h = cc
-
 -- a reply among answers is among their replies
 replied_in : (reply : Reply) (replies : List Reply) → IsIn (replied reply) (map replied replies) → IsIn reply replies
 replied_in reply [] i = i
-replied_in reply (r ∷ rs) i = ⊎_elim (λ same. inl (of_replied reply r same)) (λ later. inr (replied_in reply rs later)) i
+replied_in reply (r ∷ rs) i = ⊎_elim (λ same. inl (one_reply reply r same)) (λ later. inr (replied_in reply rs later)) i
 
 -- a status that is GOOD by its test
 good_is : (status : Scsi) → is_good status ≡ true → status ≡ Good
@@ -92,11 +89,11 @@ done_by r reply answers h = parts h.done
   where
     parts : ((reply.nexus == r.nexus) && ((reply.tag).0 == (r.tag).0) && is_good reply.status) ≡ true → IsDoneBy r reply
     parts d =
-        let named : ((reply.nexus == r.nexus) && ((reply.tag).0 == (r.tag).0)) ≡ true = both_left ((reply.nexus == r.nexus) && ((reply.tag).0 == (r.tag).0)) (is_good reply.status) d in
+        let named : ((reply.nexus == r.nexus) && ((reply.tag).0 == (r.tag).0)) ≡ true = (and_parts ((reply.nexus == r.nexus) && ((reply.tag).0 == (r.tag).0)) (is_good reply.status) d).0 in
         record {
-          nexus = eqb-true reply.nexus r.nexus (both_left (reply.nexus == r.nexus) ((reply.tag).0 == (r.tag).0) named);
-          tag = eqb-true (reply.tag).0 (r.tag).0 (both_right (reply.nexus == r.nexus) ((reply.tag).0 == (r.tag).0) named);
-          good = good_is reply.status (both_right ((reply.nexus == r.nexus) && ((reply.tag).0 == (r.tag).0)) (is_good reply.status) d);
+          nexus = eqb-true reply.nexus r.nexus (and_parts (reply.nexus == r.nexus) ((reply.tag).0 == (r.tag).0) named).0;
+          tag = eqb-true (reply.tag).0 (r.tag).0 (and_parts (reply.nexus == r.nexus) ((reply.tag).0 == (r.tag).0) named).1;
+          good = good_is reply.status (and_parts ((reply.nexus == r.nexus) && ((reply.tag).0 == (r.tag).0)) (is_good reply.status) d).1;
         }
 
 -- equal nexuses and tags pass the test

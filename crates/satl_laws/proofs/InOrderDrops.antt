@@ -3,6 +3,7 @@ use Rattle.std.proofs.Common.{◌≡◌, refl, sym, ◌∙◌, subst, ℕ, ◌<�
 use Rattle.std.specs.Prelude.{◌&&◌, ◌||◌, ◌==◌, not, filter}
 use Rattle.std.specs.List.{list_any}
 use Rattle.std.proofs.lemmas.List.{append-nil}
+use Rattle.std.proofs.lemmas.Bool.{both_ways}
 use Rattle.satl_base.specs.declared.request.Request.{Request}
 use Rattle.satl_base.specs.declared.reply.Reply.{Reply}
 use Rattle.satl_base.specs.Cells.{Cell}
@@ -19,7 +20,7 @@ use Rattle.satl_direct.specs.Senses.{link_lost}
 use Rattle.satl_direct.specs.Turn.{lost_replies}
 use Rattle.satl_laws.proofs.InOrder.{InOrder}
 use Rattle.satl_laws.proofs.InOrderPlace.{dropped_in_order}
-use Rattle.satl_laws.proofs.InOrderSteps.{AreSteady, InOrderAt, both_ways, lowered, not_both}
+use Rattle.satl_laws.proofs.InOrderSteps.{AreSteady, InOrderAt, lowered, not_both}
 
 module _ (first : Device) (exact : Bool) where
   module _ (events : List Frame) (cells : List Cell) (once : (nexus tag : ℕ) → how_many (asks_by nexus tag) events < 2) where
@@ -63,6 +64,6 @@ module _ (first : Device) (exact : Bool) where
         (subst (λ l. InOrder first events (answers ++ map replied l) s.cells [] (exact && not new.down)) (sym is)
         (lowered first exact events (answers ++ map replied (lost_replies s)) s.cells [] false (exact && not new.down) (λ f. absurd (not_both exact new.down down f))
         (lost_in_order events s.cells once s answers s.tasks (exact && not s.down) o.order))));
-    calm = λ x up. absurd (both_ways new.down down up);
+    calm = λ x up. absurd (both_ways new.down up down);
     steady = λ x. subst (AreSteady first exact) (sym tasks) tt;
   }

@@ -1,6 +1,7 @@
 -- The end of a task keeps the order of arrival.
 use Rattle.std.proofs.Common.{◌≡◌, ⊎_elim, sym, ap, ◌∙◌, subst, ℕ, ◌<◌, Bool, true, false, List, [], ◌∷◌, ◌++◌, arith}
 use Rattle.std.specs.Prelude.{◌&&◌, ◌||◌, ◌==◌}
+use Rattle.std.proofs.lemmas.Bool.{and_parts}
 use Rattle.satl_base.specs.declared.reply.Reply.{Reply}
 use Rattle.satl_base.specs.Lists.{how_many}
 use Rattle.satl_cdb.specs.Table.{says}
@@ -13,7 +14,6 @@ use Rattle.satl_direct.specs.Device.{Device, is_called, without}
 use Rattle.satl_direct.specs.Turn.{OneEnds}
 use Rattle.satl_laws.specs.ArrivalOrder.{IsGoodReply, IsReadOf, block_at, is_done, is_good}
 use Rattle.satl_laws.specs.OnceEach.{answers_to, asks_by}
-use Rattle.satl_laws.proofs.Cases.{both_left, both_right}
 use Rattle.satl_laws.proofs.Eligibles.{SplitAt, split_at, without_is}
 use Rattle.satl_laws.proofs.Ends.{eligible_in, ends_leaves}
 use Rattle.satl_laws.proofs.Given.{GivesRight}
@@ -82,7 +82,7 @@ module _ (first : Device) (events : List Frame) (answers : List Answer) (s new :
       c.0 c.1 (λ el. none_before x) (stands_here x inside))
       (λ c. leaves_done (trim first) (sectors first) x (block_at s.cells x) (block_at new.cells x) (block_at first.cells x) in_front behind its_item t (is_good reply.status) it_awaits (sorted_here x inside) its_place.is
       c.0 c.1 (none_before x)
-      (λ u el writes mine. alone first events answers s.cells s.tasks faithful o once at.before at.later t at.split eligible x (writer_fits (sectors first) t task_plain (both_left (brings t.command) (spans t.command x) mine)) (both_right (brings t.command) (spans t.command x) mine) u (subst (λ ts. IsEligible ts u) all_tasks el) writes)
+      (λ u el writes mine. alone first events answers s.cells s.tasks faithful o once at.before at.later t at.split eligible x (writer_fits (sectors first) t task_plain (and_parts (brings t.command) (spans t.command x) mine).0) (and_parts (brings t.command) (spans t.command x) mine).1 u (subst (λ ts. IsEligible ts u) all_tasks el) writes)
       (stands_here x inside))
       (ends_change s new t reply (sectors first) task_plain.plain task_plain.fits e.ends x (omega (arith, inside, o.size)))
 

@@ -2,6 +2,7 @@
 use Rattle.std.proofs.Common.{◌≡◌, refl, sym, ap, ◌∙◌, subst, ℕ, ◌<◌, Bool, true, false, List, [], ◌∷◌, ◌++◌, arith, map, length, append_assoc}
 use Rattle.std.specs.Prelude.{◌&&◌, not, filter}
 use Rattle.std.proofs.lemmas.List.{append-nil}
+use Rattle.std.proofs.lemmas.Bool.{and_parts}
 use Rattle.satl_base.specs.declared.bench.BenchEvent.{BenchEvent}
 use Rattle.satl_base.specs.declared.bench.BenchEvent.TheVariants as bench
 use Rattle.satl_base.specs.declared.request.Manage.{Manage}
@@ -19,7 +20,7 @@ use Rattle.satl_direct.specs.Bench.{Happens}
 use Rattle.satl_laws.specs.OnceEach.{asks_by}
 use Rattle.satl_direct.specs.Management.{effect}
 use Rattle.satl_direct.specs.Run.{Does, Manages}
-use Rattle.satl_laws.proofs.Cases.{both_left, how_many-append}
+use Rattle.satl_laws.proofs.Cases.{how_many-append}
 use Rattle.satl_laws.proofs.InOrderUnasked.{unasking_in_order}
 use Rattle.satl_laws.proofs.InOrderFlaws.{flaw_now, flaws_at}
 use Rattle.satl_laws.proofs.InOrderRequests.{MayStand, arrives_at, told_at}
@@ -48,7 +49,7 @@ module _ (first : Device) (exact : Bool) where
       (subst (InOrderAt first exact events answers) (sym (h.1).stays)
       (record {
         identity = o.identity;
-        order = lowered first exact events answers s.cells (filter (λ t. not ((effect m s).goes t)) s.tasks) false (exact && not s.down) (λ f. absurd (loose (both_left exact (not s.down) f)))
+        order = lowered first exact events answers s.cells (filter (λ t. not ((effect m s).goes t)) s.tasks) false (exact && not s.down) (λ f. absurd (loose (and_parts exact (not s.down) f).0))
             (filtered_in_order first exact events s.cells once (effect m s).goes answers [] s.tasks (exact && not s.down) o.order);
         calm = λ x. absurd (loose x);
         steady = λ x. absurd (loose x);

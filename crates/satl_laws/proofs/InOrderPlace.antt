@@ -1,6 +1,7 @@
 -- A task that waits by its place, and that leaves without GOOD.
 use Rattle.std.proofs.Common.{◌≡◌, inl, refl, sym, ap, ◌∙◌, subst, ℕ, ◌≤◌, ◌<◌, Bool, true, false, List, [], ◌∷◌, ◌++◌}
 use Rattle.std.specs.List.{AllByRecursion, list_any}
+use Rattle.std.proofs.lemmas.Bool.{and_parts}
 use Rattle.satl_base.specs.declared.request.Request.{Request}
 use Rattle.satl_base.specs.Cells.{Cell}
 use Rattle.satl_base.specs.Lists.{IsIn, how_many}
@@ -15,7 +16,6 @@ use Rattle.satl_direct.specs.Device.{Device, is_called}
 use Rattle.satl_laws.specs.ArrivalOrder.{block_at, is_done}
 use Rattle.satl_laws.specs.OnceEach.{answers_to, asks_by}
 use Rattle.satl_direct.specs.Quiet.{writes}
-use Rattle.satl_laws.proofs.Cases.{both_left, both_right}
 use Rattle.satl_laws.proofs.InOrder.{InOrder, holds, sectors, trim}
 use Rattle.satl_laws.proofs.InOrderLeaves.{awaits, own, place}
 use Rattle.satl_laws.proofs.InOrderLeft.{left_in_order}
@@ -65,8 +65,8 @@ module _ (first : Device) (events : List Frame) (answers : List Answer) (cells :
   -- and none reads or writes a sector that it writes
   pub clear : (x : ℕ) → IsEligible tasks t → writes_at t x ≡ true → NoneCovers x front
   clear x el writes =
-      none_covers (trim first) (sectors first) x t (writer_fits (sectors first) t it (both_left (brings t.command) (spans t.command x) writes)) (both_right (brings t.command) (spans t.command x) writes)
-      front (both_left (brings t.command) (spans t.command x) writes) (free el) well_front
+      none_covers (trim first) (sectors first) x t (writer_fits (sectors first) t it (and_parts (brings t.command) (spans t.command x) writes).0) (and_parts (brings t.command) (spans t.command x) writes).1
+      front (and_parts (brings t.command) (spans t.command x) writes).0 (free el) well_front
 
   -- what its sector holds
   pub sorted_at : (x : ℕ) → x < sectors first → AreSorted (trim first) x (front ++ one_item ∷ back)

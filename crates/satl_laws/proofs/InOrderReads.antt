@@ -1,6 +1,7 @@
 -- A READ that may end gives what the requests before it left.
 use Rattle.std.proofs.Common.{◌≡◌, ⊎_elim, refl, sym, ap, ◌∙◌, subst, ℕ, ◌+◌, ◌≤◌, ◌<◌, Bool, true, false, List, [], ◌∷◌, ◌++◌, arith}
 use Rattle.std.specs.Prelude.{◌&&◌, ◌||◌, if◌then◌else◌}
+use Rattle.std.proofs.lemmas.Bool.{and_parts}
 use Rattle.satl_base.specs.declared.block.Block.{Block}
 use Rattle.satl_base.specs.declared.reply.Reply.{Reply}
 use Rattle.satl_base.specs.Cells.{Cell, nows}
@@ -14,7 +15,6 @@ use Rattle.satl_direct.specs.Device.{Device}
 use Rattle.satl_direct.specs.Tasks.{range_of}
 use Rattle.satl_laws.specs.ArrivalOrder.{IsReadOf, block_at, brought}
 use Rattle.satl_laws.specs.OnceEach.{asks_by}
-use Rattle.satl_laws.proofs.Cases.{both_left}
 use Rattle.satl_laws.proofs.Ends.{eligible_in}
 use Rattle.satl_laws.proofs.Given.{GivesRight}
 use Rattle.satl_laws.proofs.InOrder.{InOrder, holds, sectors, trim}
@@ -71,7 +71,7 @@ module _ (first : Device) (events : List Frame) (answers : List Answer) (cells :
       (λ early. absurd (reads_only t.command g
       (ap (λ u. brings u.command) (sym (alone x (reader_fits (sectors first) t task_plain g) has early.task
       (subst (λ ts. IsEligible ts early.task) (tasks_at first events answers cells tasks faithful o once before later t split) early.eligible) early.writes_it))
-      ∙ both_left (brings (early.task).command) (spans (early.task).command x) early.writes_it)))
+      ∙ (and_parts (brings (early.task).command) (spans (early.task).command x) early.writes_it).0)))
       (stands_at first events answers cells tasks faithful o once before later t split x inside)
 
   -- a reply with what its sectors hold gives what it is to give

@@ -28,7 +28,7 @@ use Rattle.satl_laws.proofs.Given.{IsTold, right_on}
 use Rattle.satl_laws.proofs.InOrder.{InOrder, IsOnly, IsSure, sectors, trim}
 use Rattle.satl_laws.proofs.InOrderArrivals.{answered_in_order}
 use Rattle.satl_laws.proofs.InOrderWaits.{waits_in_order}
-use Rattle.satl_laws.proofs.InOrderSteps.{InOrderAt}
+use Rattle.satl_laws.proofs.InOrderSteps.{InOrderAt, up_of}
 use Rattle.satl_laws.proofs.Names.{one}
 use Rattle.satl_laws.proofs.Flawless.{IsClean}
 use Rattle.satl_laws.proofs.Items.{Item}
@@ -121,11 +121,6 @@ module _ (first : Device) (exact : Bool) where
           same_calm : new.cells ≡ old.cells → new.started ≡ old.started → new.glitches ≡ old.glitches → IsCalm old → IsCalm new
           same_calm c s g k = record { started = s ∙ k.started; no_glitches = g ∙ k.no_glitches; clean = subst (AllByRecursion IsClean) (sym c) k.clean }
 
-      and_not : (p q : Bool) → (p && not q) ≡ true → q ≡ false
-      and_not true true k = absurd cc
-      and_not true false k = refl
-      and_not false q k = absurd cc
-
       go : (a : Arrival) → IsFor r a → Gets (sectors first) false (says r.cdb (trim first)) r.body a → ArrivesAs a r old said new → InOrderAt first exact (events ++ frames.Request r ∷ []) (answers ++ map replied said) new
       go (answered reply) to g k =
           subst (λ l. InOrderAt first exact (events ++ frames.Request r ∷ []) (answers ++ map replied l) new) (sym k.0)
@@ -143,5 +138,5 @@ module _ (first : Device) (exact : Bool) where
             order = waits_in_order first events answers old.cells old.tasks (exact && not old.down) r o.order unasked task to g fits.0;
             calm = λ x up. let c = o.calm x up in record { started = c.started; no_glitches = c.no_glitches; clean = c.clean };
             steady = λ x. All-push_end (λ t. stops_or_starts (Ok t.command) ≡ false) old.tasks task (o.steady x)
-                (sym (ap stops_or_starts g.says_it) ∙ and_not (writes_plainly (says r.cdb (trim first))) (stops_or_starts (says r.cdb (trim first))) (fits.1 x));
+                (sym (ap stops_or_starts g.says_it) ∙ up_of (writes_plainly (says r.cdb (trim first))) (stops_or_starts (says r.cdb (trim first))) (fits.1 x));
           })))

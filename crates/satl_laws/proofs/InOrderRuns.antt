@@ -3,6 +3,7 @@ use Rattle.std.proofs.Common.{◌≡◌, inl, refl, sym, ap, ◌∙◌, subst, �
 use Rattle.std.specs.Prelude.{◌&&◌, if◌then◌else◌, not, Ok, filter}
 use Rattle.std.specs.List.{AllByRecursion}
 use Rattle.std.proofs.lemmas.List.{append-nil}
+use Rattle.std.proofs.lemmas.Bool.{and_parts}
 use Rattle.satl_base.specs.declared.bench.BenchEvent.TheVariants as bench
 use Rattle.satl_base.specs.Lists.{how_many}
 use Rattle.satl_base.proofs.ListsLemmas.{All-push_end, All-weaken}
@@ -17,7 +18,8 @@ use Rattle.satl_laws.specs.OnceEach.{asks_by}
 use Rattle.satl_laws.specs.OrderUnderErrors.{is_mild}
 use Rattle.satl_direct.specs.Run.{Does, RunDeep, joined, losses_in}
 use Rattle.satl_direct.specs.Run.RunDeep.{start, step}
-use Rattle.satl_laws.proofs.Cases.{both_left, how_many-append}
+use Rattle.satl_direct.proofs.Quieting.{joined-push}
+use Rattle.satl_laws.proofs.Cases.{how_many-append}
 use Rattle.satl_laws.proofs.InOrder.{InOrder}
 use Rattle.satl_laws.proofs.InOrderRequests.{MayStand}
 use Rattle.satl_laws.proofs.InOrderTurns.{fewer}
@@ -28,7 +30,7 @@ use Rattle.satl_laws.specs.OrderUnderErrors.{OrderUnderErrors}
 use Rattle.satl_laws.proofs.InOrderEnd.{act_as_done, act_as_items, acted_by, done_acts, in_order_as}
 use Rattle.satl_laws.proofs.InOrderEvents.{does_at}
 use Rattle.satl_laws.proofs.Requests.{requests-append, requests_of}
-use Rattle.satl_laws.proofs.Runs.{joined-push, split}
+use Rattle.satl_laws.proofs.Runs.{split}
 
 -- a device at rest
 rest_at : (first : Device) (exact : Bool) → first.tasks ≡ [] → (exact ≡ true → IsFresh first) → InOrderAt first exact [] [] first
@@ -90,7 +92,7 @@ run_up {last = last} trims (step {events = events} {losses = losses} {s = s} eve
 
 -- a plain event may stand in each run
 plain_stands : (first : Device) (event : Frame) → is_plain first.identity.trim event ≡ true → MayStand first true event
-plain_stands first (frames.Request r) h = (both_left (writes_plainly (says r.cdb first.identity.trim)) (not (stops_or_starts (says r.cdb first.identity.trim))) h, λ x. h)
+plain_stands first (frames.Request r) h = ((and_parts (writes_plainly (says r.cdb first.identity.trim)) (not (stops_or_starts (says r.cdb first.identity.trim))) h).0, λ x. h)
 plain_stands first (frames.Manage m) h = absurd cc
 plain_stands first (frames.Turn count) h = (refl, λ x. h)
 plain_stands first (frames.Bench (bench.Order order)) h = (refl, λ x. h)

@@ -1,7 +1,8 @@
 -- The steps of the device keep the order of arrival.
 use Rattle.std.proofs.Common.{◌≡◌, refl, sym, ap, ◌∙◌, subst, ℕ, ◌<◌, Bool, true, false, List, [], ◌∷◌, ◌++◌}
-use Rattle.std.specs.Prelude.{◌&&◌, MatchBool, not, Ok}
+use Rattle.std.specs.Prelude.{◌&&◌, not, Ok}
 use Rattle.std.specs.List.{AllByRecursion}
+use Rattle.std.proofs.lemmas.Bool.{both_ways, and_parts, MatchBool-at_true}
 use Rattle.satl_base.specs.declared.reply.Reply.{Reply}
 use Rattle.satl_base.specs.Cells.{Cell}
 use Rattle.satl_base.specs.Lists.{IsIn, how_many}
@@ -17,9 +18,8 @@ use Rattle.satl_laws.specs.OnceEach.{asks_by}
 use Rattle.satl_direct.specs.Quiet.{Quiet}
 use Rattle.satl_direct.specs.Senses.{link_lost}
 use Rattle.satl_direct.specs.Turn.{OneEnds}
+use Rattle.satl_direct.proofs.Quieting.{quiet_tasks}
 use Rattle.satl_laws.proofs.Calm.{EndsCalm, IsCalm, ends_calm, quiet_calm}
-use Rattle.satl_laws.proofs.Cases.{both_left}
-use Rattle.satl_laws.proofs.Weighing.{quiet_tasks}
 use Rattle.satl_laws.proofs.Ends.{eligible_in, ends_leaves}
 use Rattle.satl_laws.proofs.InOrder.{InOrder, sectors, trim}
 use Rattle.satl_laws.proofs.InOrderEnds.{one_in_order}
@@ -29,21 +29,12 @@ use Rattle.satl_laws.proofs.Seen.{by_test}
 use Rattle.satl_laws.proofs.Rows.{in_all}
 use Rattle.satl_laws.proofs.Tasks.{IsPlainTask, may_eligible, tasks_plain}
 
--- the first of two cases
-pub by_true : (A B : Type 0) (b : Bool) → b ≡ true → MatchBool b A B → A
-by_true A B true h m = m
-by_true A B false h m = absurd cc
-
--- a lost link is not up
-pub both_ways : (b : Bool) → b ≡ true → b ≡ false → ⊥
-both_ways b h k = let no : true ≡ false = sym h ∙ k in cc
-
 -- a device that is down stays down when a task ends
 pub one_down : (s new : Device) (reply : Reply) → s.down ≡ true → OneEnds s reply new → new.down ≡ true
-one_down s new reply down e = ap (λ d. d.down) (by_true (IsChecked link_lost s e.task reply new) _ s.down down e.ends).stays ∙ down
+one_down s new reply down e = ap (λ d. d.down) (MatchBool-at_true (IsChecked link_lost s e.task reply new) _ down e.ends).stays ∙ down
 
 -- neither of two flags
-up_of : (p q : Bool) → (p && not q) ≡ true → q ≡ false
+pub up_of : (p q : Bool) → (p && not q) ≡ true → q ≡ false
 up_of true true h = absurd cc
 up_of true false h = refl
 up_of false q h = absurd cc
@@ -98,7 +89,7 @@ module _ (first : Device) (exact : Bool) where
   one_at events answers s new reply once e o = record {
     identity = (ends_reach s new e.task reply e.ends).identity ∙ o.identity;
     order = one_in_order first events answers s new (exact && not s.down) (exact && not new.down) o.order once reply e
-        (λ f. let x = both_left exact (not new.down) f in
+        (λ f. let x = (and_parts exact (not new.down) f).0 in
         let up = was_up (up_of exact new.down f) in
         (ap (λ b. b && not s.down) x ∙ ap not up, (well x up).whole_write));
     calm = λ x up. (well x (was_up up)).calm_still;
@@ -106,7 +97,7 @@ module _ (first : Device) (exact : Bool) where
   }
     where
       was_up : new.down ≡ false → s.down ≡ false
-      was_up up = by_test (λ b. s.down ≡ b → s.down ≡ false) s.down (λ yes h. absurd (both_ways new.down (one_down s new reply h e) up)) (λ no h. h) refl
+      was_up up = by_test (λ b. s.down ≡ b → s.down ≡ false) s.down (λ yes h. absurd (both_ways new.down up (one_down s new reply h e))) (λ no h. h) refl
 
       there : IsIn e.task s.tasks
       there = eligible_in s.tasks e.task (may_eligible s e.task e.may)

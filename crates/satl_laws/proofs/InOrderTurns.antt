@@ -11,7 +11,7 @@ use Rattle.satl_laws.specs.OnceEach.{asks_by}
 use Rattle.satl_direct.specs.Turn.{Turn}
 use Rattle.satl_direct.specs.Turn.Turn.{idle, ends, loses, ends_and_loses}
 use Rattle.satl_direct.specs.Run.{MayLose, TurnsOf}
-use Rattle.satl_direct.specs.Run.MayLose.{keeps, loses as steps_and_loses}
+use Rattle.satl_direct.specs.Run.MayLose.{keeps, keeps_and_loses}
 use Rattle.satl_direct.specs.Run.TurnsOf.{none, more}
 use Rattle.satl_laws.proofs.Cases.{how_many-append}
 use Rattle.satl_laws.proofs.InOrderSteps.{InOrderAt, one_at, quiet_at}
@@ -49,7 +49,7 @@ module _ (first : Device) (exact : Bool) where
   pub may_lose_at : (events : List Frame) (Step : Device → List Reply → Device → Type 0) (answers : List Answer) (s new : Device) (said : List Reply) → ((nexus tag : ℕ) → how_many (asks_by nexus tag) events < 2)
       → ((mid : Device) (now : List Reply) → Step s now mid → InOrderAt first exact events (answers ++ map replied now) mid) → MayLose Step s said new → InOrderAt first exact events (answers ++ map replied said) new
   may_lose_at events Step answers s new said once h (keeps k) = h new said k
-  may_lose_at events Step answers s new said once h (steps_and_loses {answers = now} {more = rest} {mid = mid} {after = after} k q l) =
+  may_lose_at events Step answers s new said once h (keeps_and_loses {answers = now} {more = rest} {mid = mid} {after = after} k q l) =
       subst (λ a. InOrderAt first exact events a new) (append_assoc answers (map replied now) (map replied rest) ∙ ap (λ l. answers ++ l) (sym (map-append replied now rest)))
       (lost_at first exact events (answers ++ map replied now) after new rest once l.answer (ap (λ d. d.cells) l.stays) (ap (λ d. d.tasks) l.stays) (ap (λ d. d.down) l.stays) (ap (λ d. d.identity) l.stays)
       (quiet_at first exact events (answers ++ map replied now) mid after q (h mid now k)))

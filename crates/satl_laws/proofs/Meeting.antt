@@ -1,7 +1,8 @@
 -- Ranges that meet, and the sectors that they have in common.
-use Rattle.std.proofs.Common.{◌≡◌, ⊎_elim, inl, inr, sym, ap, ◌∙◌, refl, arith, Bool, true, false, List, [], ◌∷◌, ℕ, ◌+◌, max, min, lt-ltb, ltb-true}
+use Rattle.std.proofs.Common.{◌≡◌, ⊎_elim, inl, inr, sym, ap, ◌∙◌, refl, arith, Bool, true, List, [], ◌∷◌, ℕ, ◌+◌, max, min, lt-ltb, ltb-true}
 use Rattle.std.specs.Prelude.{◌||◌}
 use Rattle.std.specs.List.{list_any}
+use Rattle.std.proofs.lemmas.Bool.{or_right}
 use Rattle.satl_base.specs.declared.block.Range.{Range}
 use Rattle.satl_base.specs.Lists.{IsIn}
 use Rattle.satl_line.specs.Conflict.{any_meet, ranges_meet}
@@ -22,15 +23,10 @@ passes_any p (x ∷ xs) h =
     (λ miss k. let r = passes_any p xs k in record { of = r.of; among = inr r.among; passes = r.passes })
     h
 
--- one of two holds where the second does
-pub or_either : (a b : Bool) → b ≡ true → (a || b) ≡ true
-or_either true b h = refl
-or_either false b h = h
-
 -- what passes is among them
 pub any_passes : {X : Type 0} (p : X → Bool) (xs : List X) (x : X) → IsIn x xs → p x ≡ true → list_any p xs ≡ true
 any_passes p [] x i h = elim i [ ]
-any_passes p (y ∷ ys) x i h = ⊎_elim (λ same. ap (λ b. b || list_any p ys) (ap p (sym same) ∙ h)) (λ later. or_either (p y) (list_any p ys) (any_passes p ys x later h)) i
+any_passes p (y ∷ ys) x i h = ⊎_elim (λ same. ap (λ b. b || list_any p ys) (ap p (sym same) ∙ h)) (λ later. or_right (p y) (list_any p ys) (any_passes p ys x later h)) i
 
 -- whether a sector lies in a range
 abbrev pub has : ℕ → Range → Bool

@@ -2,6 +2,7 @@
 use Rattle.std.proofs.Common.{◌≡◌, ⊎_elim, refl, sym, ap, ◌∙◌, ℕ, ◌+◌, ◌<◌, Bool, true, false, List, [], ◌∷◌, arith, eqb-true, eq-eqb}
 use Rattle.std.specs.Prelude.{if◌then◌else◌, ◌==◌, ◌&&◌, ◌||◌}
 use Rattle.std.specs.List.{list_any}
+use Rattle.std.proofs.lemmas.Bool.{or_parts, and_parts}
 use Rattle.satl_base.specs.declared.request.Request.{Request}
 use Rattle.satl_base.specs.declared.reply.Reply.{Reply}
 use Rattle.satl_base.specs.Lists.{IsIn, how_many}
@@ -14,34 +15,15 @@ use Rattle.satl_direct.specs.Device.{is_called}
 use Rattle.satl_laws.specs.ArrivalOrder.{is_done, is_good}
 use Rattle.satl_laws.specs.OnceEach.{answers_to, asks_by}
 use Rattle.satl_direct.specs.Valid.{AreOwn}
-use Rattle.satl_laws.proofs.Cases.{both_left, both_right, or_left, or_right}
+use Rattle.satl_direct.proofs.Naming.{called_self}
 use Rattle.satl_laws.proofs.Seen.{by_test}
 
 -- what holds of none holds of none of them
 pub none_in : {X : Type 0} (p : X → Bool) (xs : List X) (y : X) → list_any p xs ≡ false → IsIn y xs → p y ≡ false
 none_in p [] y h i = elim i [ ]
-none_in p (x ∷ xs) y h i = ⊎_elim (λ same. ap p same ∙ or_left (p x) (list_any p xs) h) (λ later. none_in p xs y (or_right (p x) (list_any p xs) h) later) i
+none_in p (x ∷ xs) y h i = ⊎_elim (λ same. ap p same ∙ (or_parts (p x) (list_any p xs) h).0) (λ later. none_in p xs y (or_parts (p x) (list_any p xs) h).1 later) i
 
 -- ---- names
-
--- a task has its own name
-pub called_self : (t : Entry) → is_called t.nexus (t.tag).0 t ≡ true
-called_self t = ap (λ b. b && ((t.tag).0 == (t.tag).0)) (eq-eqb t.nexus t.nexus refl) ∙ eq-eqb (t.tag).0 (t.tag).0 refl
-
--- and two that have one name have each other's
-pub called_back : (t u : Entry) → is_called t.nexus (t.tag).0 u ≡ true → is_called u.nexus (u.tag).0 t ≡ true
-called_back t u h =
-    let nexus : u.nexus ≡ t.nexus = eqb-true u.nexus t.nexus (both_left (u.nexus == t.nexus) ((u.tag).0 == (t.tag).0) h) in
-    let tag : (u.tag).0 ≡ (t.tag).0 = eqb-true (u.tag).0 (t.tag).0 (both_right (u.nexus == t.nexus) ((u.tag).0 == (t.tag).0) h) in
-    ap (λ b. b && ((t.tag).0 == (u.tag).0)) (eq-eqb t.nexus u.nexus (sym nexus)) ∙ eq-eqb (t.tag).0 (u.tag).0 (sym tag)
-
--- and so have two that have not
-pub called_apart : (t u : Entry) → is_called t.nexus (t.tag).0 u ≡ false → is_called u.nexus (u.tag).0 t ≡ false
-called_apart t u h = decide (is_called u.nexus (u.tag).0 t) refl
-  where
-    decide : (b : Bool) → is_called u.nexus (u.tag).0 t ≡ b → is_called u.nexus (u.tag).0 t ≡ false
-    decide false e = e
-    decide true e = let no : true ≡ false = sym (called_back u t e) ∙ h in absurd cc
 
 -- a request asks by its own nexus and tag
 pub asks_self : (r : Request) → asks_by r.nexus (r.tag).0 (frames.Request r) ≡ true
@@ -57,8 +39,8 @@ and_three false q g h = refl
 pub swapped : (a b c d : ℕ) → ((a == b) && (c == d)) ≡ false → ((b == a) && (d == c)) ≡ false
 swapped a b c d h =
     by_test (λ t. t ≡ false) ((b == a) && (d == c))
-    (λ yes_both. let p : a ≡ b = sym (eqb-true b a (both_left (b == a) (d == c) yes_both)) in
-    let q : c ≡ d = sym (eqb-true d c (both_right (b == a) (d == c) yes_both)) in
+    (λ yes_both. let p : a ≡ b = sym (eqb-true b a (and_parts (b == a) (d == c) yes_both).0) in
+    let q : c ≡ d = sym (eqb-true d c (and_parts (b == a) (d == c) yes_both).1) in
     let both : ((a == b) && (c == d)) ≡ true = ap (λ t. t && (c == d)) (eq-eqb a b p) ∙ eq-eqb c d q in
     sym both ∙ h)
     (λ no. refl)
@@ -75,8 +57,8 @@ none_done r answers h = go answers (none_counted (answers_to r.nexus (r.tag).0) 
     go [] h = refl
     go (replied reply ∷ rest) h =
         ap (λ b. b || list_any (is_done r) rest)
-        (and_three (reply.nexus == r.nexus) ((reply.tag).0 == (r.tag).0) (is_good reply.status) (or_left (answers_to r.nexus (r.tag).0 (replied reply)) (list_any (answers_to r.nexus (r.tag).0) rest) h))
-        ∙ go rest (or_right (answers_to r.nexus (r.tag).0 (replied reply)) (list_any (answers_to r.nexus (r.tag).0) rest) h)
+        (and_three (reply.nexus == r.nexus) ((reply.tag).0 == (r.tag).0) (is_good reply.status) (or_parts (answers_to r.nexus (r.tag).0 (replied reply)) (list_any (answers_to r.nexus (r.tag).0) rest) h).0)
+        ∙ go rest (or_parts (answers_to r.nexus (r.tag).0 (replied reply)) (list_any (answers_to r.nexus (r.tag).0) rest) h).1
     go (managed from function response named ∷ rest) h = go rest h
     go (ended ∷ rest) h = go rest h
 

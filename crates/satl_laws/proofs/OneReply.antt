@@ -16,7 +16,8 @@ use Rattle.satl_direct.specs.Senses.{link_lost}
 use Rattle.satl_direct.specs.Turn.{IsFirst, MayEnd, OneEnds, Turn, lost_replies}
 use Rattle.satl_direct.specs.Turn.Turn.{ends, ends_and_loses, idle, loses}
 use Rattle.satl_direct.specs.Run.{MayLose}
-use Rattle.satl_direct.specs.Run.MayLose.{keeps, loses as keeps_and_loses}
+use Rattle.satl_direct.specs.Run.MayLose.{keeps, keeps_and_loses}
+use Rattle.satl_direct.proofs.Quieting.{quiet_tasks}
 use Rattle.satl_laws.specs.OneReplyEach.{OneAnswered, OneReplyEach}
 
 -- ---- one task is left, or its answer was given
@@ -25,9 +26,6 @@ use Rattle.satl_laws.specs.OneReplyEach.{OneAnswered, OneReplyEach}
 pub data Half (replies : List Reply) (tasks : List Entry) : Type 0 where
   given : (reply : Reply) → replies ≡ reply ∷ [] → tasks ≡ [] → Half replies tasks
   held : (task : Entry) → replies ≡ [] → tasks ≡ task ∷ [] → Half replies tasks
-
-quiet_tasks : (s s' : Device) → Quiet s s' → s'.tasks ≡ s.tasks
-quiet_tasks s s' q = ap (λ (x : Device). x.tasks) q.stays
 
 arrives_as : (a : Arrival) (r : Request) (s new : Device) (replies : List Reply) → s.tasks ≡ [] → ArrivesAs a r s replies new → Half replies new.tasks
 arrives_as (answered reply) r s new replies none is = given reply is.0 (ap (λ (x : Device). x.tasks) is.1 ∙ none)

@@ -1,6 +1,7 @@
 -- No neighbour is answered twice.
 use Rattle.std.proofs.Common.{◌≡◌, ◌≤◌, refl, sym, ap, ◌∙◌, ℕ, ◌+◌, Bool, true, false, List, [], ◌∷◌, arith, eqb-true}
 use Rattle.std.specs.Prelude.{◌==◌, ◌&&◌, if◌then◌else◌}
+use Rattle.std.proofs.lemmas.Bool.{and_parts}
 use Rattle.satl_base.specs.declared.request.Request.{Request}
 use Rattle.satl_base.specs.Cells.{Cell}
 use Rattle.satl_base.specs.Lists.{how_many}
@@ -11,7 +12,6 @@ use Rattle.satl_direct.specs.Device.{Device, is_called}
 use Rattle.satl_laws.specs.OnceEach.{answers_to, asks_by}
 use Rattle.satl_direct.specs.Run.{Run}
 use Rattle.satl_laws.specs.Scenes.{AreApart, AreTurns, at_work, reads_sector_0}
-use Rattle.satl_laws.proofs.Cases.{both_left, both_right}
 use Rattle.satl_laws.proofs.Counts.{run_counts}
 use Rattle.satl_laws.proofs.GoodTurns.{same_name}
 
@@ -22,8 +22,8 @@ apart_back a b h = decide ((b.nexus == a.nexus) && ((b.tag).0 == (a.tag).0)) ref
     decide : (c : Bool) → ((b.nexus == a.nexus) && ((b.tag).0 == (a.tag).0)) ≡ c → ((b.nexus == a.nexus) && ((b.tag).0 == (a.tag).0)) ≡ false
     decide false is = is
     decide true is =
-        let nexus : a.nexus ≡ b.nexus = sym (eqb-true b.nexus a.nexus (both_left (b.nexus == a.nexus) ((b.tag).0 == (a.tag).0) is)) in
-        let tag : (a.tag).0 ≡ (b.tag).0 = sym (eqb-true (b.tag).0 (a.tag).0 (both_right (b.nexus == a.nexus) ((b.tag).0 == (a.tag).0) is)) in
+        let nexus : a.nexus ≡ b.nexus = sym (eqb-true b.nexus a.nexus (and_parts (b.nexus == a.nexus) ((b.tag).0 == (a.tag).0) is).0) in
+        let tag : (a.tag).0 ≡ (b.tag).0 = sym (eqb-true (b.tag).0 (a.tag).0 (and_parts (b.nexus == a.nexus) ((b.tag).0 == (a.tag).0) is).1) in
         let clash : true ≡ false = sym (same_name a.nexus b.nexus (a.tag).0 (b.tag).0 nexus tag) ∙ h in
         absurd cc
 

@@ -1,10 +1,11 @@
 -- Which tasks may end before earlier ones, and that others can.
 use Rattle.std.proofs.Common.{◌≡◌, inl, inr, refl, sym, subst, ap, ◌∙◌, Bool, true, false, List, [], ◌∷◌, ◌++◌, ℕ, Option, Some, None}
-use Rattle.std.specs.Prelude.{not, ◌&&◌, ◌||◌, MatchBool}
+use Rattle.std.specs.Prelude.{not, ◌&&◌, ◌||◌}
 use Rattle.std.specs.List.{AllByRecursion}
 use Rattle.satl_base.specs.declared.reply.Reply.{Reply}
 use Rattle.satl_base.specs.Cells.{whole}
 use Rattle.satl_base.proofs.CellsLemmas.{part_none}
+use Rattle.satl_base.proofs.Booleans.{second_case}
 use Rattle.satl_cdb.specs.declared.command.Command.{Command}
 use Rattle.satl_cdb.specs.declared.command.Command.TheVariants as commands
 use Rattle.satl_line.specs.declared.entry.Entry.{Entry}
@@ -24,7 +25,7 @@ use Rattle.satl_laws.specs.Passing.{CanEnd, ComesAfter, DoNotClash, NonePasses, 
 use Rattle.satl_laws.proofs.Asked.{IsAsked, come_asked}
 use Rattle.satl_laws.proofs.Clashing.{conflict_clear, conflict_none, neither_alone, with_others}
 use Rattle.satl_laws.proofs.Eligibles.{before_free}
-use Rattle.satl_laws.proofs.Rows.{all_at, all_front}
+use Rattle.satl_laws.proofs.Rows.{all_at, all_front, all_from}
 use Rattle.satl_laws.proofs.Tasks.{may_eligible}
 
 -- ---- a READ, a WRITE or a trim has an end
@@ -65,16 +66,6 @@ has_end q s t c h = absurd cc
 
 -- ---- the task that ends
 
--- the case of a test that fails
-at_false : (A : Type 0) {B : Type 0} (b : Bool) → b ≡ false → B → MatchBool b A B
-at_false A true h x = absurd cc
-at_false A false h x = x
-
--- tasks with something that holds of each in another way
-all_on : {X : Type 0} (P Q R : X → Type 0) (xs : List X) → ((x : X) → P x → Q x → R x) → AllByRecursion P xs → AllByRecursion Q xs → AllByRecursion R xs
-all_on P Q R [] f p q = tt
-all_on P Q R (x ∷ xs) f p q = (f x p.0 q.0, all_on P Q R xs f p.1 q.1)
-
 module _ (s : Device) (earlier : List Entry) (t : Entry) (after : ComesAfter s earlier t) where
   -- all have come
   all_come : AllByRecursion (HasCome s.identity) (earlier ++ t ∷ after.later)
@@ -91,10 +82,10 @@ module _ (s : Device) (earlier : List Entry) (t : Entry) (after : ComesAfter s e
   none_conflicts eligible = before_free earlier t after.later (subst AreOwn after.place (after.valid).own) (subst (λ ts. IsEligible ts t) after.place eligible)
 
   none_clashes : IsEligible s.tasks t → AllByRecursion (λ u. DoNotClash u t) earlier
-  none_clashes eligible = all_on _ _ _ earlier (λ u come free. conflict_clear s u t (come_asked s.identity u come) it_asked free) earlier_come (none_conflicts eligible)
+  none_clashes eligible = all_from _ _ _ (λ u come free. conflict_clear s u t (come_asked s.identity u come) it_asked free) earlier earlier_come (none_conflicts eligible)
 
   none_alone : IsEligible s.tasks t → AllByRecursion (λ u. (goes_alone s u || goes_alone s t) ≡ false) earlier
-  none_alone eligible = all_on _ _ _ earlier (λ u come free. neither_alone s u t (come_asked s.identity u come) it_asked free) earlier_come (none_conflicts eligible)
+  none_alone eligible = all_from _ _ _ (λ u come free. neither_alone s u t (come_asked s.identity u come) it_asked free) earlier earlier_come (none_conflicts eligible)
 
   -- where none is in its way it is eligible
   eligible_after : (before rest : List Entry) → AllByRecursion (λ u. conflicts u t ≡ false) before → IsEligible (before ++ t ∷ rest) t
@@ -104,11 +95,11 @@ module _ (s : Device) (earlier : List Entry) (t : Entry) (after : ComesAfter s e
   module _ (up : s.down ≡ false) (started : s.started ≡ true) (with_it : goes_alone s t ≡ false) where
     may_end : AllByRecursion (λ u. goes_alone s u ≡ false) earlier → AllByRecursion (λ u. DoNotClash u t) earlier → MayEnd s t
     may_end with_all clear =
-        let free = all_on _ _ _ earlier (λ u come rest. conflict_none s u t (come_asked s.identity u come) it_asked rest.0 with_it rest.1) earlier_come (all_on _ _ (λ u. (goes_alone s u ≡ false) × DoNotClash u t) earlier (λ u p q. (p, q)) with_all clear) in
-        at_false (IsFirst s.tasks t) (s.down || not s.started) (ap (λ d. d || not s.started) up ∙ ap not started) (subst (λ ts. IsEligible ts t) (sym after.place) (eligible_after earlier after.later free))
+        let free = all_from _ _ _ (λ u come rest. conflict_none s u t (come_asked s.identity u come) it_asked rest.0 with_it rest.1) earlier earlier_come (all_from _ _ (λ u. (goes_alone s u ≡ false) × DoNotClash u t) (λ u p q. (p, q)) earlier with_all clear) in
+        second_case (IsFirst s.tasks t) _ (s.down || not s.started) (ap (λ d. d || not s.started) up ∙ ap not started) (subst (λ ts. IsEligible ts t) (sym after.place) (eligible_after earlier after.later free))
 
     ends_at_work : (reply : Reply) (new : Device) → EndsBy t.command s t reply new → Ends s t reply new
-    ends_at_work reply new e = at_false (IsChecked link_lost s t reply new) s.down up (at_false (IsChecked not_ready s t reply new) (not s.started && (asks t.command).starts) (ap (λ b. not b && (asks t.command).starts) started) e)
+    ends_at_work reply new e = second_case (IsChecked link_lost s t reply new) _ s.down up (second_case (IsChecked not_ready s t reply new) _ (not s.started && (asks t.command).starts) (ap (λ b. not b && (asks t.command).starts) started) e)
 
     -- so it can end, if its command does
     can_end : MayEnd s t → (c : Command) → t.command ≡ c → HasEnd c s t → CanEnd s t

@@ -1,6 +1,5 @@
 -- What holds of all in a row, and of each part of it.
-use Rattle.std.proofs.Common.{⊎_elim, sym, subst, Bool, true, false, cond, List, [], ◌∷◌, ◌++◌}
-use Rattle.std.specs.Prelude.{filter}
+use Rattle.std.proofs.Common.{⊎_elim, sym, subst, List, [], ◌∷◌, ◌++◌}
 use Rattle.std.specs.List.{AllByRecursion}
 use Rattle.satl_base.specs.Lists.{IsIn}
 use Rattle.satl_base.proofs.ListsLemmas.{All-both, All-weaken}
@@ -26,13 +25,6 @@ all_joined P (k ∷ front) back i f p b = (f.0, all_joined P front back i f.1 p 
 pub in_all : {X : Type 0} (P : X → Type 0) (xs : List X) (x : X) → AllByRecursion P xs → IsIn x xs → P x
 in_all P [] x all i = elim i [ ]
 in_all P (y ∷ ys) x all i = ⊎_elim (λ same. subst P (sym same) all.0) (λ later. in_all P ys x all.1 later) i
-
--- and of those that pass a filter
-pub All-filter : {X : Type 0} (P : X → Type 0) (p : X → Bool) (xs : List X) → AllByRecursion P xs → AllByRecursion P (filter p xs)
-All-filter P p [] all = all
-All-filter P p (x ∷ xs) all =
-    elim (p x) as (λ b. AllByRecursion P (cond b (x ∷ filter p xs) (filter p xs)))
-    [ true ↦ (all.0, All-filter P p xs all.1) | false ↦ All-filter P p xs all.1 ]
 
 -- what follows from two facts, where both hold of all
 pub all_from : {X : Type 0} (P Q R : X → Type 0) → ((x : X) → P x → Q x → R x) → (xs : List X) → AllByRecursion P xs → AllByRecursion Q xs → AllByRecursion R xs

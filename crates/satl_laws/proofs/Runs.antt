@@ -1,6 +1,6 @@
 -- Runs by their last event, and runs in which no task writes a sector.
-use Rattle.std.proofs.Common.{◌≡◌, refl, sym, ap, ◌∙◌, subst, ℕ, false, List, [], ◌∷◌, ◌++◌, append_assoc}
-use Rattle.std.proofs.lemmas.List.{append-nil}
+use Rattle.std.proofs.Common.{◌≡◌, refl, sym, ap, ◌∙◌, subst, ℕ, false, List, [], ◌∷◌, ◌++◌}
+use Rattle.std.proofs.lemmas.List.{same_from_push}
 use Rattle.std.specs.List.{AllByRecursion}
 use Rattle.satl_base.specs.declared.request.Request.{Request}
 use Rattle.satl_frame.specs.declared.frames.Frame.{Frame}
@@ -12,6 +12,7 @@ use Rattle.satl_direct.specs.Arrival.Arrival.{answered, attended, overlaps, wait
 use Rattle.satl_direct.specs.Quiet.{Quiet, writes}
 use Rattle.satl_direct.specs.Run.{Does, RunDeep, joined}
 use Rattle.satl_direct.specs.Run.RunDeep.{start, step}
+use Rattle.satl_direct.proofs.Quieting.{joined-push}
 use Rattle.satl_laws.specs.Untouched.{SparedBy, SparedByNew, SparedIn, SparedThrough, Spares, WithoutPower, is_power}
 use Rattle.satl_laws.proofs.Arrivals.{IsFor, arrival_for}
 use Rattle.satl_laws.proofs.Coming.{WritesItsOwn}
@@ -21,24 +22,6 @@ use Rattle.satl_laws.proofs.Sparing.{Keeps, NoneWrites, SparesAt, keeps_on, quie
 use Rattle.satl_laws.proofs.SparingEvents.{NoneComes, NoneComesBy, does_keep}
 
 -- ---- the last event
-
--- lists with one more at the end are equal in both parts
-pub last_same : {X : Type 0} (xs ys : List X) (x y : X) → xs ++ x ∷ [] ≡ ys ++ y ∷ [] → (xs ≡ ys) × (x ≡ y)
-last_same [] [] x y h = (refl, cc)
-last_same [] (b ∷ []) x y h = absurd cc
-last_same [] (b ∷ c ∷ ys) x y h = absurd cc
-last_same (a ∷ []) [] x y h = absurd cc
-last_same (a ∷ c ∷ xs) [] x y h = absurd cc
-last_same (a ∷ xs) (b ∷ ys) x y h =
-    let front : a ≡ b = cc in
-    let rest : xs ++ x ∷ [] ≡ ys ++ y ∷ [] = cc in
-    let r = last_same xs ys x y rest in
-    ((ap (λ l. l ∷ xs) front ∙ ap (λ l. b ∷ l) r.0), r.1)
-
--- one more group of answers
-pub joined-push : (groups : List (List Answer)) (group : List Answer) → joined (groups ++ group ∷ []) ≡ joined groups ++ group
-joined-push [] group = append-nil group
-joined-push (g ∷ groups) group = ap (λ l. g ++ l) (joined-push groups group) ∙ sym (append_assoc g (joined groups) group)
 
 -- a run up to its last event, and that event
 pub record Split (first last : Device) (before : List Frame) (event : Frame) (groups : List (List Answer)) : Type 0 where
@@ -58,7 +41,7 @@ pub split : {first last : Device} {all : List Frame} {groups : List (List Answer
 split (start quiet) [] event h = absurd cc
 split (start quiet) (b ∷ before) event h = absurd cc
 split {first = first} {last = last} (step {events = events} {groups = groups} {losses = losses} {deep = deep} {s = s} other now d so_far does) before event h =
-    let r = last_same events before other event h in
+    let r = same_from_push events before other event h in
     record {
       mid = s;
       earlier = groups;

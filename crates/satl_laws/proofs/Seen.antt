@@ -1,7 +1,7 @@
 -- What reads of a sector give, as writes and quiet moves change it.
 use Rattle.std.proofs.Common.{◌≡◌, ◌⊎◌, ⊎_elim, inl, inr, refl, sym, ap, ◌∙◌, subst, ℕ, zero, suc, ◌+◌, ◌≤◌, ◌<◌, Bool, true, false, List, [], ◌∷◌, Some, arith, map, length, take, drop}
 use Rattle.std.specs.Prelude.{◌-◌, if◌then◌else◌, get_or, nat_le, nat_lt, ◌&&◌, slice_get}
-use Rattle.std.proofs.lemmas.Bool.{cases_lt, le-leb, leb-true, lt-ltb, ltb-true}
+use Rattle.std.proofs.lemmas.Bool.{cases_lt, le-leb, leb-true, lt-ltb, ltb-true, and_parts}
 use Rattle.std.proofs.lemmas.List.{get_or_past}
 use Rattle.satl_base.specs.declared.block.Block.{Block}
 use Rattle.satl_base.specs.Cells.{Cell, Pair, change_at, nows, pairs_from, put, put_at, whole}
@@ -9,7 +9,6 @@ use Rattle.satl_base.specs.Lists.{IsIn}
 use Rattle.satl_base.proofs.CellsLemmas.{change_at-length}
 use Rattle.satl_regs.specs.Trim.{addresses_from}
 use Rattle.satl_laws.specs.ArrivalOrder.{block_at}
-use Rattle.satl_laws.proofs.Cases.{both_left, both_right}
 
 -- a block that was put is read
 pub put_seen : (cells : List Cell) (x : ℕ) (v : Block) (cached : Bool) → x < length cells → block_at (change_at cells x (λ c. put c v cached)) x ≡ v
@@ -59,7 +58,7 @@ by_test P b hit miss = (elim b as (λ c. b ≡ c → P c) [ true ↦ hit | false
 -- the numbers of a sector in a range
 pub within_from : (lba count x : ℕ) → within lba count x ≡ true → (lba ≤ x) × (x < lba + count)
 within_from lba count x h =
-    (leb-true lba x (both_left (nat_le lba x) (nat_lt x (lba + count)) h), ltb-true x (lba + count) (both_right (nat_le lba x) (nat_lt x (lba + count)) h))
+    (leb-true lba x (and_parts (nat_le lba x) (nat_lt x (lba + count)) h).0, ltb-true x (lba + count) (and_parts (nat_le lba x) (nat_lt x (lba + count)) h).1)
 
 -- and of one in a range, the range
 pub within_to : (lba count x : ℕ) → lba ≤ x → x < lba + count → within lba count x ≡ true

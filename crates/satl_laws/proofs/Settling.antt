@@ -2,10 +2,10 @@
 use Rattle.std.proofs.Common.{◌≡◌, ◌⊎◌, inl, inr, refl, sym, ap, ◌∙◌, ℕ, Bool, true, false, List, [], ◌∷◌, ◌++◌, Option, Some, None}
 use Rattle.std.specs.Prelude.{◌||◌}
 use Rattle.std.specs.List.{AllByRecursion}
+use Rattle.std.proofs.lemmas.Bool.{or_right, and_parts}
 use Rattle.satl_base.specs.declared.block.Block.{Block}
 use Rattle.satl_line.specs.declared.entry.Entry.{Entry}
 use Rattle.satl_line.specs.Conflict.{conflicts}
-use Rattle.satl_laws.proofs.Cases.{both_left, both_right}
 use Rattle.satl_laws.proofs.Items.{AreSorted, AwaitsIf, IsWell, Item, before_all, covers, held, held-append, is_to_write, left, waiting}
 use Rattle.satl_laws.proofs.Seen.{by_test}
 use Rattle.satl_laws.proofs.Standing.{NoneCovers}
@@ -39,7 +39,7 @@ module _ (trim : Bool) (n x : ℕ) (t : Entry) (b : Transfers n t) (has : spans 
         ap (λ o. covers o x) is
             ∙ by_test (λ p. covers (Some u) x ≡ p → covers (Some u) x ≡ false) (covers (Some u) x)
             (λ yes h. absurd (let no : true ≡ false =
-            sym (clash n u t x (a.fits (both_left (gives u.command || brings u.command) (spans u.command x) h)) b (inr writes) (both_right (gives u.command || brings u.command) (spans u.command x) h) has) ∙ c.0 in cc))
+            sym (clash n u t x (a.fits (and_parts (gives u.command || brings u.command) (spans u.command x) h).0) b (inr writes) (and_parts (gives u.command || brings u.command) (spans u.command x) h).1 has) ∙ c.0 in cc))
             (λ no h. h) refl,
         next c.1,
       )
@@ -49,18 +49,14 @@ module _ (trim : Bool) (n x : ℕ) (t : Entry) (b : Transfers n t) (has : spans 
   none_to_write [] c w = tt
   none_to_write (j ∷ items) c w = one j.task refl c w.0.waits (λ k. none_to_write items k w.1)
     where
-      or_right_true : (p q : Bool) → q ≡ true → p || q ≡ true
-      or_right_true true q h = refl
-      or_right_true false q h = h
-
       one : (o : Option Entry) → j.task ≡ o → AllByRecursion (λ u. conflicts u t ≡ false) (before_all o (waiting items)) → AwaitsIf trim n j o
           → (AllByRecursion (λ u. conflicts u t ≡ false) (waiting items) → NoneToWrite x items) → (is_to_write j.task x ≡ false) × NoneToWrite x items
       one None is c a next = (ap (λ o. is_to_write o x) is, next c)
       one (Some u) is c a next = (
         ap (λ o. is_to_write o x) is
             ∙ by_test (λ p. is_to_write (Some u) x ≡ p → is_to_write (Some u) x ≡ false) (is_to_write (Some u) x)
-            (λ yes h. absurd (let writes : brings u.command ≡ true = both_left (brings u.command) (spans u.command x) h in
-            let no : true ≡ false = sym (clash n u t x (a.fits (or_right_true (gives u.command) (brings u.command) writes)) b (inl writes) (both_right (brings u.command) (spans u.command x) h) has) ∙ c.0 in cc))
+            (λ yes h. absurd (let writes : brings u.command ≡ true = (and_parts (brings u.command) (spans u.command x) h).0 in
+            let no : true ≡ false = sym (clash n u t x (a.fits (or_right (gives u.command) (brings u.command) writes)) b (inl writes) (and_parts (brings u.command) (spans u.command x) h).1 has) ∙ c.0 in cc))
             (λ no h. h) refl,
         next c.1,
       )

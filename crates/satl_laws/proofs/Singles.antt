@@ -2,24 +2,22 @@
 use Rattle.std.proofs.Common.{◌≡◌, ◌⊎◌, ⊎_elim, inl, inr, refl, sym, ap, ◌∙◌, subst, ℕ, zero, suc, ◌+◌, Bool, true, false, List, [], ◌∷◌, Some, map, eqb-true}
 use Rattle.std.specs.Prelude.{◌==◌, ◌&&◌, ◌||◌, not, slice_get}
 use Rattle.std.specs.List.{AllByRecursion, list_any}
+use Rattle.std.proofs.lemmas.Bool.{and_right, eqb-false}
+use Rattle.std.proofs.lemmas.Option.{same_Some}
 use Rattle.satl_base.specs.declared.block.Block.{Block}
 use Rattle.satl_base.specs.Cells.{Cell, Pair, change_at, pairs_from, put, put_at, settle, whole}
 use Rattle.satl_base.specs.Lists.{IsIn}
-use Rattle.satl_laws.proofs.SparedCells.{apart, elsewhere}
+use Rattle.satl_laws.proofs.SparedCells.{elsewhere}
 
 -- a loss of power leaves what a read gives
 pub record IsSingle (x : ℕ) (cells : List Cell) : Type 0 where
   pub each : (c : Cell) → slice_get cells x ≡ Some c → (v : Block) → IsIn v c.may → v ≡ c.now
 
--- equal options hold equal things
-of_option : {X : Type 0} (a b : X) → Some a ≡ Some b → a ≡ b
-of_option a b h = cc
-
 -- a sector that was written back is single
 settled_here : (cells : List Cell) (x : ℕ) (c : Cell) → slice_get (map settle cells) x ≡ Some c → (v : Block) → IsIn v c.may → v ≡ c.now
 settled_here [] x c h = absurd cc
 settled_here (d ∷ ds) zero c h =
-    subst (λ e. (v : Block) → IsIn v e.may → v ≡ e.now) (of_option (settle d) c h) (λ v i. ⊎_elim (λ same. same) (λ other. absurd other) i)
+    subst (λ e. (v : Block) → IsIn v e.may → v ≡ e.now) (same_Some (settle d) c h) (λ v i. ⊎_elim (λ same. same) (λ other. absurd other) i)
 settled_here (d ∷ ds) (suc x) c h = settled_here ds x c h
 
 -- so is each where all were written back
@@ -30,7 +28,7 @@ settled_single x cells new is = subst (IsSingle x) (sym is) (record { each = set
 put_here : (cells : List Cell) (x : ℕ) (block : Block) (d : Cell) → slice_get (change_at cells x (λ c. put c block false)) x ≡ Some d → (v : Block) → IsIn v d.may → v ≡ d.now
 put_here [] x block d h = absurd cc
 put_here (c ∷ cs) zero block d h =
-    subst (λ e. (v : Block) → IsIn v e.may → v ≡ e.now) (of_option (put c block false) d h) (λ v i. ⊎_elim (λ same. same) (λ other. absurd other) i)
+    subst (λ e. (v : Block) → IsIn v e.may → v ≡ e.now) (same_Some (put c block false) d h) (λ v i. ⊎_elim (λ same. same) (λ other. absurd other) i)
 put_here (c ∷ cs) (suc x) block d h = put_here cs x block d h
 
 -- whether a pair is written past the cache to this sector
@@ -45,7 +43,7 @@ put_single x cells p past here =
 
 -- a pair for another sector leaves it single
 put_still : (x : ℕ) (cells : List Cell) (p : Pair) → (p.lba == x) ≡ false → IsSingle x cells → IsSingle x (put_at cells p)
-put_still x cells p other s = record { each = λ c h. s.each c (sym (elsewhere (λ d. put d p.block p.cached) cells p.lba x (apart p.lba x other)) ∙ h) }
+put_still x cells p other s = record { each = λ c h. s.each c (sym (elsewhere (λ d. put d p.block p.cached) cells p.lba x (eqb-false p.lba x other)) ∙ h) }
 
 -- pairs past the cache make their sectors single
 whole_single : (x : ℕ) (ps : List Pair) (cells : List Cell) → AllByRecursion (λ p. p.cached ≡ false) ps → IsSingle x cells ⊎ (list_any (past_cache x) ps ≡ true) → IsSingle x (whole cells ps)
@@ -59,11 +57,7 @@ whole_single x (p ∷ ps) cells past h =
 -- pairs through the cache are not past it
 none_past : (x lba : ℕ) (blocks : List Block) → list_any (past_cache x) (pairs_from lba blocks true) ≡ false
 none_past x lba [] = refl
-none_past x lba (v ∷ vs) = ap (λ b. b || list_any (past_cache x) (pairs_from (lba + 1) vs true)) (never (lba == x)) ∙ none_past x (lba + 1) vs
-  where
-    never : (b : Bool) → (b && false) ≡ false
-    never true = refl
-    never false = refl
+none_past x lba (v ∷ vs) = ap (λ b. b || list_any (past_cache x) (pairs_from (lba + 1) vs true)) (and_right (lba == x) false refl) ∙ none_past x (lba + 1) vs
 
 -- and those past it all are
 all_past : (lba : ℕ) (blocks : List Block) → AllByRecursion (λ p. p.cached ≡ false) (pairs_from lba blocks false)

@@ -1,14 +1,14 @@
 -- Writes that spare a sector, and losses, keep its block.
-use Rattle.std.proofs.Common.{◌≡◌, ⊎_elim, inl, refl, sym, ap, ◌∙◌, subst, ℕ, zero, suc, true, false, List, [], ◌∷◌, eq-eqb}
+use Rattle.std.proofs.Common.{◌≡◌, ⊎_elim, inl, refl, sym, ap, ◌∙◌, subst, ℕ, zero, suc, false, List, [], ◌∷◌}
 use Rattle.std.specs.Prelude.{◌≢◌, ◌==◌, slice_get}
 use Rattle.std.specs.List.{list_any}
+use Rattle.std.proofs.lemmas.Bool.{or_parts, eqb-false}
 use Rattle.satl_base.specs.Cells.{Cell, Pair, Part, change_at, put, put_at}
 use Rattle.satl_base.specs.Lists.{IsIn}
 use Rattle.satl_base.specs.Losses.{Lost, Loses}
 use Rattle.satl_base.specs.Moves.{Moves, stay, lose, write}
 use Rattle.satl_base.proofs.ListsLemmas.{leaves_in}
 use Rattle.satl_laws.specs.Untouched.{Spares}
-use Rattle.satl_laws.proofs.Cases.{or_left, or_right}
 use Rattle.satl_laws.proofs.Kept.{Kept, KeptAs, KeptAt, as_none, at_none, at_on, at_same}
 
 -- a change at another place
@@ -19,14 +19,10 @@ elsewhere f (c ∷ cs) zero (suc x) other = refl
 elsewhere f (c ∷ cs) (suc lba) zero other = refl
 elsewhere f (c ∷ cs) (suc lba) (suc x) other = elsewhere f cs lba x (λ same. other (ap suc same))
 
--- a test of places that fails
-pub apart : (lba x : ℕ) → (lba == x) ≡ false → lba ≢ x
-apart lba x h same = let no_way : true ≡ false = sym (eq-eqb lba x same) ∙ h in absurd cc
-
 -- a pair for another sector
 put_keeps : (x : ℕ) (cells : List Cell) (p : Pair) → (p.lba == x) ≡ false → KeptAt x cells (put_at cells p)
 put_keeps x cells p other =
-    record { at = subst (KeptAs (slice_get cells x)) (sym (elsewhere (λ c. put c p.block p.cached) cells p.lba x (apart p.lba x other))) (as_none (slice_get cells x)) }
+    record { at = subst (KeptAs (slice_get cells x)) (sym (elsewhere (λ c. put c p.block p.cached) cells p.lba x (eqb-false p.lba x other))) (as_none (slice_get cells x)) }
 
 -- a write that spares the sector, or a part of one
 pub part_keeps : (x : ℕ) (ps : List Pair) (cells new : List Cell) → Spares x ps → Part cells ps new → KeptAt x cells new
@@ -34,11 +30,11 @@ part_keeps x [] cells new spares h = at_same x cells new h
 part_keeps x (p ∷ ps) cells new spares h =
     ⊎_elim
     (λ left. part_keeps x ps cells new rest left)
-    (λ done. at_on x cells (put_at cells p) new (put_keeps x cells p (or_left (p.lba == x) (list_any (λ q. q.lba == x) ps) spares)) (part_keeps x ps (put_at cells p) new rest done))
+    (λ done. at_on x cells (put_at cells p) new (put_keeps x cells p (or_parts (p.lba == x) (list_any (λ q. q.lba == x) ps) spares).0) (part_keeps x ps (put_at cells p) new rest done))
     h
   where
     rest : Spares x ps
-    rest = or_right (p.lba == x) (list_any (λ q. q.lba == x) ps) spares
+    rest = (or_parts (p.lba == x) (list_any (λ q. q.lba == x) ps) spares).1
 
 -- a loss of entries keeps a sector
 lost_keeps : (c d : Cell) → Lost c d → Kept c d
@@ -63,6 +59,6 @@ pub spared_in : (x : ℕ) (ps : List Pair) (p : Pair) → Spares x ps → IsIn p
 spared_in x [] p spares i = elim i [ ]
 spared_in x (q ∷ qs) p spares i =
     ⊎_elim
-    (λ same. ap (λ r. r.lba == x) same ∙ or_left (q.lba == x) (list_any (λ r. r.lba == x) qs) spares)
-    (λ later. spared_in x qs p (or_right (q.lba == x) (list_any (λ r. r.lba == x) qs) spares) later)
+    (λ same. ap (λ r. r.lba == x) same ∙ (or_parts (q.lba == x) (list_any (λ r. r.lba == x) qs) spares).0)
+    (λ later. spared_in x qs p (or_parts (q.lba == x) (list_any (λ r. r.lba == x) qs) spares).1 later)
     i

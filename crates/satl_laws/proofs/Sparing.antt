@@ -12,6 +12,7 @@ use Rattle.satl_direct.specs.Turn.{OneEnds, Turn}
 use Rattle.satl_direct.specs.Turn.Turn.{idle, ends, loses, ends_and_loses}
 use Rattle.satl_direct.specs.Run.{TurnsOf}
 use Rattle.satl_direct.specs.Run.TurnsOf.{none, more}
+use Rattle.satl_direct.proofs.Quieting.{quiet_tasks}
 use Rattle.satl_laws.specs.Untouched.{Spares}
 use Rattle.satl_laws.proofs.Addresses.{Alike, alike_none, alike_on, writes_alike}
 use Rattle.satl_laws.proofs.Coming.{WritesItsOwn}
@@ -21,7 +22,6 @@ use Rattle.satl_laws.proofs.Reaching.{ends_reach}
 use Rattle.satl_laws.proofs.Rows.{in_all}
 use Rattle.satl_laws.proofs.SparedCells.{moves_keep, spared_in}
 use Rattle.satl_laws.proofs.Steps.{steps-length, steps_keep}
-use Rattle.satl_laws.proofs.Weighing.{quiet_tasks}
 
 module _ (x : ℕ) where
   -- a task writes the sector under no circumstances

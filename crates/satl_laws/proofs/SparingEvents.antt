@@ -9,7 +9,7 @@ use Rattle.satl_base.specs.declared.reply.Reply.{Reply}
 use Rattle.satl_base.specs.declared.reply.Response.{Response}
 use Rattle.satl_base.specs.Cells.{Cell, change_at}
 use Rattle.satl_base.proofs.CellsLemmas.{change_at-length}
-use Rattle.satl_base.proofs.ListsLemmas.{All-push_end}
+use Rattle.satl_base.proofs.ListsLemmas.{All-push_end, All-filter}
 use Rattle.satl_regs.specs.Sectors.{with_flaw, without_flaws}
 use Rattle.satl_frame.specs.declared.frames.Frame.{Frame}
 use Rattle.satl_frame.specs.declared.frames.Frame.TheVariants as frames
@@ -21,11 +21,10 @@ use Rattle.satl_direct.specs.Bench.{Happens}
 use Rattle.satl_direct.specs.Management.{effect}
 use Rattle.satl_direct.specs.Quiet.{Quiet}
 use Rattle.satl_direct.specs.Run.{Does, Manages, MayLose}
-use Rattle.satl_direct.specs.Run.MayLose.{keeps, loses as steps_and_loses}
+use Rattle.satl_direct.specs.Run.MayLose.{keeps, keeps_and_loses}
 use Rattle.satl_laws.specs.Untouched.{is_power}
 use Rattle.satl_laws.proofs.Addresses.{Alike}
 use Rattle.satl_laws.proofs.Kept.{KeptAt, mend_keeps, strike_keeps}
-use Rattle.satl_laws.proofs.Rows.{All-filter}
 use Rattle.satl_laws.proofs.Sparing.{Keeps, NoneWrites, SparesAt, around_keeps, keeps_on, loss_keeps, none_still, quiet_keeps, same_cells, turns_keep}
 
 module _ (x : ℕ) where
@@ -40,7 +39,7 @@ module _ (x : ℕ) where
   may_lose_keeps : (Step : Device → List Reply → Device → Type 0) (old new : Device) (answers : List Reply)
       → ((mid : Device) (said : List Reply) → Step old said mid → Keeps x old mid) → MayLose Step old answers new → Keeps x old new
   may_lose_keeps Step old new answers each (keeps h) = each new answers h
-  may_lose_keeps Step old new _ each (steps_and_loses {answers = said} {mid = mid} {after = after} h q l) =
+  may_lose_keeps Step old new _ each (keeps_and_loses {answers = said} {mid = mid} {after = after} h q l) =
       keeps_on x old after new (keeps_on x old mid after (each mid said h) (quiet_keeps x mid after q))
       (λ g. loss_keeps x after new (ap (λ d. d.cells) l.stays) (ap (λ d. d.identity) l.stays) (ap (λ d. d.tasks) l.stays))
 

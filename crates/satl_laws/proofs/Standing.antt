@@ -2,6 +2,7 @@
 use Rattle.std.proofs.Common.{◌≡◌, ◌⊎◌, ⊎_elim, inl, inr, refl, sym, ap, ◌∙◌, subst, ℕ, Bool, true, false, List, [], ◌∷◌, ◌++◌, Some}
 use Rattle.std.specs.Prelude.{if◌then◌else◌, ◌&&◌, ◌||◌}
 use Rattle.std.specs.List.{AllByRecursion}
+use Rattle.std.proofs.lemmas.Bool.{and_parts}
 use Rattle.satl_base.specs.declared.block.Block.{Block}
 use Rattle.satl_cdb.specs.Table.{says}
 use Rattle.satl_line.specs.declared.entry.Entry.{Entry}
@@ -91,7 +92,7 @@ module _ (trim : Bool) (n x : ℕ) (v now first : Block) (front back : List Item
           true,
           record {
             sure = λ h. refl;
-            only = λ h. inr (both_first (brings t.command) (spans t.command x) (subst (λ u. writes_at u x ≡ true) it early.writes_it));
+            only = λ h. inr (and_parts (brings t.command) (spans t.command x) (subst (λ u. writes_at u x ≡ true) it early.writes_it)).0;
             free = λ h writes. clear (subst (IsEligible (waiting front ++ t ∷ waiting back)) it early.eligible) writes;
             stands = inl (same ∙ early.is ∙ ap (λ u. after u x sum) it ∙ sym has_acted);
           },
@@ -106,10 +107,6 @@ module _ (trim : Bool) (n x : ℕ) (v now first : Block) (front back : List Item
           },
         ))
         (still_eligible (waiting front) t (waiting back) early.task early.eligible)
-      where
-        both_first : (p q : Bool) → (p && q) ≡ true → p ≡ true
-        both_first true q h = refl
-        both_first false q h = h
 
     -- it leaves with its block in the sector
     pub leaves_done : (good ≡ true) ⊎ (brings t.command ≡ true) → now ≡ after t x v → (writes_at t x ≡ true → NoneCovers x front)

@@ -1,7 +1,7 @@
 -- How the task of a command that changes no block but as a WRITE does ends: what is read, and what its sectors hold.
 use Rattle.std.proofs.Common.{◌≡◌, ◌⊎◌, ⊎_elim, inl, inr, refl, sym, ap, ◌∙◌, subst, ℕ, ◌<◌, true, false, List, [], ◌∷◌, length}
 use Rattle.std.specs.Prelude.{◌&&◌, ◌||◌, not, Ok}
-use Rattle.std.proofs.lemmas.Bool.{cases_eq}
+use Rattle.std.proofs.lemmas.Bool.{cases_eq, and_left}
 use Rattle.std.proofs.Math.Bool.{or-true}
 use Rattle.satl_base.specs.declared.block.Block.{Block}
 use Rattle.satl_base.specs.declared.reply.Reply.{Reply}
@@ -27,7 +27,7 @@ use Rattle.satl_laws.proofs.PlainTasks.{none_written, own_alone, same_block}
 use Rattle.satl_laws.proofs.Reaching.{ends_reach}
 use Rattle.satl_laws.proofs.Steps.{steps-length, steps_keep}
 use Rattle.satl_laws.proofs.Seen.{by_test, put_elsewhere, put_seen}
-use Rattle.satl_laws.proofs.Transferring.{IsItsOwn, Transfers, after, and_left, brings, gives, pair_of, spans, still, written_seen}
+use Rattle.satl_laws.proofs.Transferring.{IsItsOwn, Transfers, after, brings, gives, pair_of, spans, still, written_seen}
 
 module _ (s new : Device) (t : Entry) (reply : Reply) where
   -- a WRITE is done, or it fails and is written in part

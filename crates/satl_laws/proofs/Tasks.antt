@@ -2,6 +2,7 @@
 use Rattle.std.proofs.Common.{◌≡◌, ⊎_elim, inl, inr, refl, sym, ap, ◌∙◌, ℕ, Bool, true, false, List, [], ◌∷◌, Option, Some, None}
 use Rattle.std.specs.Prelude.{◌&&◌, ◌||◌, ◌==◌, not, Ok}
 use Rattle.std.specs.List.{AllByRecursion}
+use Rattle.std.proofs.lemmas.Bool.{or_right, and_parts}
 use Rattle.satl_base.specs.declared.request.Request.{Request}
 use Rattle.satl_base.specs.declared.reply.Reply.{Reply}
 use Rattle.satl_frame.specs.Output.Answer.{replied}
@@ -10,7 +11,7 @@ use Rattle.satl_line.specs.Eligible.{IsEligible}
 use Rattle.satl_laws.specs.ArrivalOrder.{is_done, is_good, writes_plainly}
 use Rattle.satl_direct.specs.Turn.{IsFirst, MayEnd}
 use Rattle.satl_direct.specs.Device.{Device}
-use Rattle.satl_laws.proofs.Cases.{both_left, both_right, by_bool}
+use Rattle.satl_laws.proofs.Cases.{by_bool}
 use Rattle.satl_laws.proofs.Items.{AwaitsIf, IsWell, Item, before_all, waiting}
 use Rattle.satl_laws.proofs.Eligibles.{both_eligible}
 use Rattle.satl_laws.proofs.Names.{and_three, asks_self, swapped}
@@ -34,11 +35,7 @@ tasks_plain trim n (j ∷ items) w = one j.task w.0.waits (tasks_plain trim n it
 
 -- one that writes is a transfer
 pub writer_fits : (n : ℕ) (t : Entry) → IsPlainTask n t → brings t.command ≡ true → Transfers n t
-writer_fits n t p b = p.fits (or_right_true (gives t.command) (brings t.command) b)
-  where
-    or_right_true : (p q : Bool) → q ≡ true → p || q ≡ true
-    or_right_true true q h = refl
-    or_right_true false q h = h
+writer_fits n t p b = p.fits (or_right (gives t.command) (brings t.command) b)
 
 -- one that reads is
 pub reader_fits : (n : ℕ) (t : Entry) → IsPlainTask n t → gives t.command ≡ true → Transfers n t
@@ -47,8 +44,8 @@ reader_fits n t p g = p.fits (ap (λ b. b || brings t.command) g)
 -- an eligible task that writes a sector is the only eligible one that reads or writes it
 pub writes_alone : (n x : ℕ) (tasks : List Entry) (t u : Entry) → IsEligible tasks t → IsEligible tasks u → Transfers n t → IsPlainTask n u → spans t.command x ≡ true → writes_at u x ≡ true → u ≡ t
 writes_alone n x tasks t u a b fits plain has writes =
-    let brings_u : brings u.command ≡ true = both_left (brings u.command) (spans u.command x) writes in
-    let has_u : spans u.command x ≡ true = both_right (brings u.command) (spans u.command x) writes in
+    let brings_u : brings u.command ≡ true = (and_parts (brings u.command) (spans u.command x) writes).0 in
+    let has_u : spans u.command x ≡ true = (and_parts (brings u.command) (spans u.command x) writes).1 in
     let other : Transfers n u = writer_fits n u plain brings_u in
     ⊎_elim
     (λ same. sym same)

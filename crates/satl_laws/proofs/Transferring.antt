@@ -80,11 +80,6 @@ reads_only c g b = cc
 
 -- ---- conflicts
 
--- where the first of two tests fails
-pub and_left : (p q : Bool) → p ≡ false → (p && q) ≡ false
-and_left true q h = absurd cc
-and_left false q h = refl
-
 -- two ranges that have a sector meet
 met : (a b : Range) (x : ℕ) → within a.lba a.count x ≡ true → within b.lba b.count x ≡ true → ranges_meet a b ≡ true
 met a b x h k =

@@ -2,6 +2,7 @@
 use Rattle.std.proofs.Common.{◌≡◌, ⊎_elim, refl, sym, ap, ◌∙◌, ℕ, ◌+◌, true, false, List, [], ◌∷◌, ◌++◌, arith, eqb-true, eq-eqb, map}
 use Rattle.std.specs.Prelude.{if◌then◌else◌, ◌==◌, ◌&&◌}
 use Rattle.std.proofs.lemmas.List.{map-append}
+use Rattle.std.proofs.lemmas.Bool.{and_parts}
 use Rattle.satl_base.specs.declared.request.Tag.{Tag}
 use Rattle.satl_base.specs.declared.reply.Reply.{Reply}
 use Rattle.satl_base.specs.Lists.{how_many, IsIn}
@@ -15,13 +16,10 @@ use Rattle.satl_direct.specs.Turn.{OneEnds, Turn, lost_replies}
 use Rattle.satl_direct.specs.Turn.Turn.{idle, ends, loses, ends_and_loses}
 use Rattle.satl_direct.specs.Run.{TurnsOf}
 use Rattle.satl_direct.specs.Run.TurnsOf.{none, more}
+use Rattle.satl_direct.proofs.Quieting.{quiet_tasks}
 use Rattle.satl_laws.specs.OnceEach.{answers_to}
-use Rattle.satl_laws.proofs.Cases.{both_left, both_right, how_many-append}
+use Rattle.satl_laws.proofs.Cases.{how_many-append}
 use Rattle.satl_laws.proofs.Ends.{ends_leaves, may_end_in}
-
--- quiet moves leave the tasks
-pub quiet_tasks : (old new : Device) → Quiet old new → new.tasks ≡ old.tasks
-quiet_tasks old new q = ap (λ d. d.tasks) q.stays
 
 module _ (nexus tag : ℕ) where
   -- one of the nexus and tag counts 1, another 0
@@ -46,8 +44,8 @@ module _ (nexus tag : ℕ) where
   without_counts t (u ∷ us) i =
       (elim (is_called t.nexus (t.tag).0 u) as (λ b. is_called t.nexus (t.tag).0 u ≡ b → mine (if b then us else u ∷ without t us) + weigh t.nexus t.tag ≡ mine (u ∷ us)) [
         | true ↦ λ h.
-            let n : u.nexus ≡ t.nexus = eqb-true u.nexus t.nexus (both_left (u.nexus == t.nexus) ((u.tag).0 == (t.tag).0) h) in
-            let g : (u.tag).0 ≡ (t.tag).0 = eqb-true (u.tag).0 (t.tag).0 (both_right (u.nexus == t.nexus) ((u.tag).0 == (t.tag).0) h) in
+            let n : u.nexus ≡ t.nexus = eqb-true u.nexus t.nexus (and_parts (u.nexus == t.nexus) ((u.tag).0 == (t.tag).0) h).0 in
+            let g : (u.tag).0 ≡ (t.tag).0 = eqb-true (u.tag).0 (t.tag).0 (and_parts (u.nexus == t.nexus) ((u.tag).0 == (t.tag).0) h).1 in
             let same : weigh u.nexus u.tag ≡ weigh t.nexus t.tag = ap (λ k. (if (k == nexus) && ((u.tag).0 == tag) then 1 else 0) + 0) n ∙ ap (λ k. (if (t.nexus == nexus) && (k == tag) then 1 else 0) + 0) g in
             omega (arith, same)
         | false ↦ λ h. ⊎_elim (λ same. absurd (apart (sym same) h)) (λ later. plus (if is_called nexus tag u then 1 else 0) _ _ _ (without_counts t us later)) i

@@ -42,7 +42,8 @@ was_done answers r = list_any (is_done r) answers
 
 -- the block that a WRITE brings to a sector of its range, and else what was there (SBC-3 5.31)
 abbrev pub brought : Result Command Illegal → List Block → ℕ → Block → Block
-brought (Ok (commands.Write form lba count fua)) body x was = if nat_le lba x && nat_lt x (lba + count) then get_or body (x - lba) was else was
+brought (Ok (commands.Write form lba count fua)) body x was =
+    if nat_le lba x && nat_lt x (lba + count) then get_or body (x - lba) was else was
 brought (Ok command) body x was = was
 brought (Err why) body x was = was
 
@@ -74,12 +75,18 @@ pub record IsGoodReply (r : Request) (reply : Reply) (answers : List Answer) : T
   pub among : IsIn (replied reply) answers
   pub done : is_done r (replied reply) ≡ true
 
--- each READ that is answered with GOOD gives for each sector the block of the last WRITE before it in the input that has acted on the
--- sector, and at the end each sector has the block of the last of all these; without one, the block that it had at first (SBC-3 5)
-pub record IsInOrder (acted : ℕ → Request → Bool) (first : Device) (all : List Frame) (answers : List Answer) (last : Device) : Type 0 where
-  pub reads : (before after : List Frame) (r : Request) (reply : Reply) (lba count : ℕ) → all ≡ before ++ frames.Request r ∷ after → IsReadOf (says r.cdb first.identity.trim) lba count →
-      IsGoodReply r reply answers → reply.body ≡ map (λ x. content (acted x) first.identity.trim x before (block_at first.cells x)) (addresses_from lba count)
-  pub writes : (x : ℕ) (c : Cell) → slice_get last.cells x ≡ Some c → c.now ≡ content (acted x) first.identity.trim x all (block_at first.cells x)
+-- each READ that is answered with GOOD gives for each sector the block of the last WRITE before it in the input that has acted
+-- on the sector, and at the end each sector has the block of the last of all these; without one, the block that it had at first
+-- (SBC-3 5)
+pub record IsInOrder (acted : ℕ → Request → Bool) (first : Device) (all : List Frame) (answers : List Answer)
+    (last : Device) : Type 0 where
+  pub reads : (before after : List Frame) (r : Request) (reply : Reply) (lba count : ℕ)
+      → all ≡ before ++ frames.Request r ∷ after → IsReadOf (says r.cdb first.identity.trim) lba count →
+      IsGoodReply r reply answers
+      → reply.body ≡ map (λ x. content (acted x) first.identity.trim x before (block_at first.cells x))
+      (addresses_from lba count)
+  pub writes : (x : ℕ) (c : Cell) → slice_get last.cells x ≡ Some c
+      → c.now ≡ content (acted x) first.identity.trim x all (block_at first.cells x)
 
 -- whether a CDB changes no block but as a WRITE does: it is no WRITE SAME, UNMAP or ATA PASS-THROUGH (SBC-3 5; SAT-3 12.2)
 abbrev pub writes_plainly : Result Command Illegal → Bool
@@ -116,8 +123,10 @@ pub record IsFresh (s : Device) : Type 0 where
   pub no_flaws : AllByRecursion (λ c. (c.read_flaw ≡ false) × (c.write_flaw ≡ false)) s.cells
   pub no_glitches : s.glitches ≡ 0
 
--- law of arrival order: in a run to END, without losses, from a device at rest, the WRITEs that are answered with GOOD have acted, and no
--- other (SAM-5 8, command order; SBC-3 5)
+-- law of arrival order: in a run to END, without losses, from a device at rest, the WRITEs that are answered with GOOD have
+-- acted, and no other (SAM-5 8, command order; SBC-3 5)
 abbrev pub ArrivalOrder : Type 0
-ArrivalOrder = (first last : Device) (all : List Frame) (answers : List Answer) → Run first (all ++ frames.End ∷ []) 0 answers last →
-    IsValid first → IsFresh first → AllByRecursion (λ f. is_plain first.identity.trim f ≡ true) all → AskOnce all → IsInOrder (λ x. was_done answers) first all answers last
+ArrivalOrder =
+    (first last : Device) (all : List Frame) (answers : List Answer) → Run first (all ++ frames.End ∷ []) 0 answers last →
+    IsValid first → IsFresh first → AllByRecursion (λ f. is_plain first.identity.trim f ≡ true) all → AskOnce all
+    → IsInOrder (λ x. was_done answers) first all answers last

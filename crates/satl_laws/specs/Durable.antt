@@ -18,8 +18,8 @@ use Rattle.satl_direct.specs.Run.{RunDeep, TurnsOf}
 use Rattle.satl_direct.specs.Turn.{TurnLoss}
 use Rattle.satl_laws.specs.Untouched.{SparedBy, SparedThrough, WithoutPower, now_at}
 
--- a command of a task that leaves nothing of a sector to a loss of power when it ends with GOOD: SYNCHRONIZE CACHE, START STOP UNIT that
--- stops and flushes, MODE SELECT that turns WCE off, or a WRITE of the sector past the cache (SBC-3 4.15)
+-- a command of a task that leaves nothing of a sector to a loss of power when it ends with GOOD: SYNCHRONIZE CACHE, START STOP
+-- UNIT that stops and flushes, MODE SELECT that turns WCE off, or a WRITE of the sector past the cache (SBC-3 4.15)
 abbrev pub secures : Command → Device → Entry → ℕ → Bool
 secures (commands.ModeSelect ten size) s t x = s.modes.wce && not (selected s t).wce
 secures (commands.StartStop starts no_flush) s t x = not starts && not no_flush
@@ -51,8 +51,9 @@ pub record IsSpan (x : ℕ) (s after : Device) : Type 0 where
   pub answers : List Reply
   pub power : Around (Happens events.Power) last answers after
 
--- law of durable sectors: once a task that secures a sector has ended with GOOD, and no task writes it up to a loss of power, it has
--- after that the block that it had at the end of the task (SBC-3 4.15)
+-- law of durable sectors: once a task that secures a sector has ended with GOOD, and no task writes it up to a loss of power,
+-- it has after that the block that it had at the end of the task (SBC-3 4.15)
 abbrev pub Durable : Type 0
 Durable = (x : ℕ) (s mid after : Device) (t : Entry) (reply : Reply) →
-    IsValid s → Ends s t reply mid → reply.status ≡ Good → secures t.command s t x ≡ true → IsSpan x mid after → now_at after.cells x ≡ now_at mid.cells x
+    IsValid s → Ends s t reply mid → reply.status ≡ Good → secures t.command s t x ≡ true → IsSpan x mid after
+    → now_at after.cells x ≡ now_at mid.cells x

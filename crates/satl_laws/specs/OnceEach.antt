@@ -55,12 +55,18 @@ taken_off (frames.Bench event) s = cut_by event s
 taken_off frames.End s = []
 
 -- how many tasks of a nexus and tag a run takes off without an answer (profile)
-abbrev pub removed : ℕ → ℕ → {first last : Device} {events : List Frame} {groups : List (List Answer)} {losses deep : ℕ} → RunDeep first events groups losses last deep → ℕ
+abbrev pub removed : ℕ → ℕ → {first last : Device} {events : List Frame} {groups : List (List Answer)} {losses deep : ℕ}
+    → RunDeep first events groups losses last deep → ℕ
 removed nexus tag (start quiet) = 0
-removed nexus tag (step {s = s} event now d so_far does) = removed nexus tag so_far + how_many (is_called nexus tag) (taken_off event s)
+removed nexus tag (step {s = s} event now d so_far does) =
+    removed nexus tag so_far + how_many (is_called nexus tag) (taken_off event s)
 
--- law of one answer: from a device without tasks, the replies to a nexus and tag, the tasks of it that wait and those that were taken off
--- are together as many as its requests (SAM-5 5)
+-- law of one answer: from a device without tasks, the replies to a nexus and tag, the tasks of it that wait and those that were
+-- taken off are together as many as its requests (SAM-5 5)
 abbrev pub OnceEach : Type 0
-OnceEach = (first last : Device) (events : List Frame) (groups : List (List Answer)) (losses deep : ℕ) (run : RunDeep first events groups losses last deep) (nexus tag : ℕ) →
-    first.tasks ≡ [] → how_many (answers_to nexus tag) (joined groups) + how_many (is_called nexus tag) last.tasks + removed nexus tag run ≡ how_many (asks_by nexus tag) events
+OnceEach =
+    (first last : Device) (events : List Frame) (groups : List (List Answer)) (losses deep : ℕ)
+    (run : RunDeep first events groups losses last deep) (nexus tag : ℕ) →
+    first.tasks ≡ [] →
+    how_many (answers_to nexus tag) (joined groups) + how_many (is_called nexus tag) last.tasks + removed nexus tag run
+    ≡ how_many (asks_by nexus tag) events

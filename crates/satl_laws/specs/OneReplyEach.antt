@@ -14,6 +14,9 @@ pub record OneAnswered (before behind : List Reply) (new : Device) : Type 0 wher
   pub one : before ++ behind ≡ reply ∷ []
   pub none : new.tasks ≡ []
 
--- a request arrives at a device without tasks, and one turn is taken, whatever the request is and wherever the link is lost (SAM-5 5; profile)
+-- a request arrives at a device without tasks, and one turn is taken, whatever the request is and wherever the link is lost
+-- (SAM-5 5; profile)
 abbrev pub OneReplyEach : Type 0
-OneReplyEach = (r : Request) (s mid new : Device) (before behind : List Reply) → s.tasks ≡ [] → Around (MayLose (Arrives r)) s before mid → Around Turn mid behind new → OneAnswered before behind new
+OneReplyEach =
+    (r : Request) (s mid new : Device) (before behind : List Reply) → s.tasks ≡ [] → Around (MayLose (Arrives r)) s before mid
+    → Around Turn mid behind new → OneAnswered before behind new

@@ -28,9 +28,11 @@ pub record HasOutcomes (first : Device) (all : List Frame) (answers : List Answe
   pub done : (x : ℕ) (r : Request) → IsIn (frames.Request r) all → was_done answers r ≡ true → acted x r ≡ true
   pub in_order : IsInOrder acted first all answers last
 
--- law of order under errors: in a run with flaws, glitches, losses of the link and task management functions, from a device without
--- tasks, each WRITE that is not answered with GOOD has acted on each sector or not, and for the rest all is in order of arrival
--- (SAM-5 8, command order; SBC-3 5)
+-- law of order under errors: in a run with flaws, glitches, losses of the link and task management functions, from a device
+-- without tasks, each WRITE that is not answered with GOOD has acted on each sector or not, and for the rest all is in order of
+-- arrival (SAM-5 8, command order; SBC-3 5)
 abbrev pub OrderUnderErrors : Type 0
-OrderUnderErrors = (first last : Device) (all : List Frame) (losses : ℕ) (answers : List Answer) → Run first all losses answers last →
-    IsValid first → first.tasks ≡ [] → AllByRecursion (λ f. is_mild first.identity.trim f ≡ true) all → AskOnce all → HasOutcomes first all answers last
+OrderUnderErrors =
+    (first last : Device) (all : List Frame) (losses : ℕ) (answers : List Answer) → Run first all losses answers last →
+    IsValid first → first.tasks ≡ [] → AllByRecursion (λ f. is_mild first.identity.trim f ≡ true) all → AskOnce all
+    → HasOutcomes first all answers last

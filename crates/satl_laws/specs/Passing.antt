@@ -37,7 +37,8 @@ alters command = false
 
 -- whether two tasks clash at a sector: both go over it, and one of them at least writes or trims it (SBC-3 5)
 abbrev pub clash_at : ℕ → Entry → Entry → Bool
-clash_at x a b = goes_over a.command a.ranges.items x && goes_over b.command b.ranges.items x && (alters a.command || alters b.command)
+clash_at x a b =
+    goes_over a.command a.ranges.items x && goes_over b.command b.ranges.items x && (alters a.command || alters b.command)
 
 -- two tasks clash at no sector (SBC-3 5)
 abbrev pub DoNotClash : Entry → Entry → Type 0

@@ -13,7 +13,14 @@ use Rattle.satl_direct.specs.Tasks.{task_for}
 
 -- a device like another, but up and started, with its write cache on, of two sectors and with these tasks (profile)
 abbrev pub at_work : Cell → Cell → List Entry → Device → Device
-at_work sector_0 sector_1 tasks s = record s { cells = sector_0 ∷ sector_1 ∷ []; tasks = tasks; modes = record s.modes { wce = true }; started = true; down = false }
+at_work sector_0 sector_1 tasks s =
+    record s {
+      cells = sector_0 ∷ sector_1 ∷ [];
+      tasks = tasks;
+      modes = record s.modes { wce = true };
+      started = true;
+      down = false;
+    }
 
 -- a sector whose new block is in the cache alone: a loss of power may leave the old one or the new one (SBC-3 4.15)
 abbrev pub cached : Block → Block → Cell

@@ -45,9 +45,11 @@ SparedIn x (frames.Bench event) s = Unit {0}
 SparedIn x frames.End s = Unit {0}
 
 -- no task of a run writes a sector (profile)
-abbrev pub SparedThrough : ℕ → {first last : Device} {events : List Frame} {groups : List (List Answer)} {losses deep : ℕ} → RunDeep first events groups losses last deep → Type 0
+abbrev pub SparedThrough : ℕ → {first last : Device} {events : List Frame} {groups : List (List Answer)} {losses deep : ℕ}
+    → RunDeep first events groups losses last deep → Type 0
 SparedThrough x {first = first} (start quiet) = SparedBy x first first.tasks
-SparedThrough x (step {s = s} {new = new} event now d so_far does) = SparedThrough x so_far × SparedIn x event s × SparedBy x new new.tasks
+SparedThrough x (step {s = s} {new = new} event now d so_far does) =
+    SparedThrough x so_far × SparedIn x event s × SparedBy x new new.tasks
 
 -- a loss of power (profile)
 abbrev pub is_power : Frame → Bool
@@ -62,8 +64,10 @@ is_power frames.End = false
 abbrev pub WithoutPower : List Frame → Type 0
 WithoutPower all = AllByRecursion (λ f. is_power f ≡ false) all
 
--- law of untouched sectors: in a run without a loss of power, from a device that there can be, a sector that no task of the run writes
--- keeps its block (SBC-3)
+-- law of untouched sectors: in a run without a loss of power, from a device that there can be, a sector that no task of the run
+-- writes keeps its block (SBC-3)
 abbrev pub Untouched : Type 0
-Untouched = (first last : Device) (all : List Frame) (groups : List (List Answer)) (losses deep : ℕ) (run : RunDeep first all groups losses last deep) (x : ℕ) →
+Untouched =
+    (first last : Device) (all : List Frame) (groups : List (List Answer)) (losses deep : ℕ)
+    (run : RunDeep first all groups losses last deep) (x : ℕ) →
     IsValid first → WithoutPower all → SparedThrough x run → now_at last.cells x ≡ now_at first.cells x

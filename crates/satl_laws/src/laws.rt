@@ -40,8 +40,8 @@ pub fn each_write_acts_in_order_or_not_at_all()
 {}
 
 /// Law of passing: no task ends before an earlier one where both go over a sector and one of them writes or trims it, nor where
-/// one of them goes alone, as an ORDERED one does; no block that a task writes shows before such an earlier one has ended; every
-/// other task can end before all earlier ones, where the device is up and started (SAM-5 8, 8.6; SBC-3 5).
+/// one of them goes alone, as an ORDERED one does; no block that a task writes shows before such an earlier one has ended;
+/// every other task can end before all earlier ones, where the device is up and started (SAM-5 8, 8.6; SBC-3 5).
 pub fn no_task_passes_one_that_it_overlaps()
     ensures overlapping { NonePasses }
     ensures alone { NonePassesAlone }

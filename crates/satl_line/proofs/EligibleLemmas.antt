@@ -5,39 +5,24 @@ use Rattle.std.specs.Option.{option_map}
 use Rattle.std.specs.List.{filter, list_any, remove}
 use Rattle.std.proofs.Math.Bool.{or_comm}
 use Rattle.std.proofs.Math.Nat.{max_comm, min_comm}
+use Rattle.std.proofs.lemmas.Bool.{not-true, or_from, or_parts}
 use Rattle.satl_base.specs.declared.block.Range.{Range}
 use Rattle.satl_line.specs.declared.entry.Entry.{Entry}
 use Rattle.satl_line.specs.Conflict.{Access, access_of, accesses_conflict, any_meet, conflicts, ranges_meet}
 use Rattle.satl_line.specs.Eligible.{IsEligibleBy, eligible_by, is_clear_by, IsEligible}
 
-or_left : (a b : Bool) → (a || b) ≡ false → a ≡ false
-or_left true b h = h
-or_left false b h = refl
-
-or_right : (a b : Bool) → (a || b) ≡ false → b ≡ false
-or_right true b h = absurd cc
-or_right false b h = h
-
-both_no : (a b : Bool) → a ≡ false → b ≡ false → (a || b) ≡ false
-both_no true b h k = h
-both_no false b h k = k
-
-not_true : (b : Bool) → not b ≡ true → b ≡ false
-not_true true h = absurd cc
-not_true false h = refl
-
 -- no element before a place passes, taken one by one
 none_before : {X : Type 0} (p : X → Bool) (xs : List X) (place k : ℕ) (x : X) → list_any p (take place xs) ≡ false → k < place → slice_get xs k ≡ Some x → p x ≡ false
 none_before p [] place k x none lt is = absurd cc
 none_before p (y ∷ ys) zero k x none lt is = absurd (omega arith)
-none_before p (y ∷ ys) (suc place) zero x none lt is = let same : y ≡ x = cc in ap p (sym same) ∙ or_left (p y) (list_any p (take place ys)) none
-none_before p (y ∷ ys) (suc place) (suc k) x none lt is = none_before p ys place k x (or_right (p y) (list_any p (take place ys)) none) (omega arith) is
+none_before p (y ∷ ys) (suc place) zero x none lt is = let same : y ≡ x = cc in ap p (sym same) ∙ (or_parts (p y) (list_any p (take place ys)) none).0
+none_before p (y ∷ ys) (suc place) (suc k) x none lt is = none_before p ys place k x (or_parts (p y) (list_any p (take place ys)) none).1 (omega arith) is
 
 none_of_each : {X : Type 0} (p : X → Bool) (xs : List X) (place : ℕ) → ((k : ℕ) (x : X) → k < place → slice_get xs k ≡ Some x → p x ≡ false) → list_any p (take place xs) ≡ false
 none_of_each p [] zero each = refl
 none_of_each p [] (suc place) each = refl
 none_of_each p (y ∷ ys) zero each = refl
-none_of_each p (y ∷ ys) (suc place) each = both_no (p y) (list_any p (take place ys)) (each 0 y (omega arith) refl) (none_of_each p ys place (λ k x lt is. each (suc k) x (omega arith) is))
+none_of_each p (y ∷ ys) (suc place) each = or_from (p y) (list_any p (take place ys)) (each 0 y (omega arith) refl) (none_of_each p ys place (λ k x lt is. each (suc k) x (omega arith) is))
 
 module _ {X : Type 0} (conflict : X → X → Bool) where
   -- a task stays eligible as others come
@@ -72,14 +57,14 @@ module _ {X : Type 0} (conflict : X → X → Bool) where
   eligible_here : (tasks : List X) (place : ℕ) (t : X) → slice_get tasks place ≡ Some t → list_any (λ u. conflict u t) (take place tasks) ≡ false → IsEligibleBy conflict tasks t
   eligible_here [] place t is clear = absurd cc
   eligible_here (u ∷ us) zero t is clear = inl cc
-  eligible_here (u ∷ us) (suc place) t is clear = inr (or_left (conflict u t) (list_any (λ v. conflict v t) (take place us)) clear, eligible_here us place t is (or_right (conflict u t) (list_any (λ v. conflict v t) (take place us)) clear))
+  eligible_here (u ∷ us) (suc place) t is clear = inr ((or_parts (conflict u t) (list_any (λ v. conflict v t) (take place us)) clear).0, eligible_here us place t is (or_parts (conflict u t) (list_any (λ v. conflict v t) (take place us)) clear).1)
 
   test_at : (tasks : List X) (place : ℕ) (t : X) → slice_get tasks place ≡ Some t → eligible_by conflict tasks place ≡ is_clear_by conflict (take place tasks) t
   test_at tasks place t is = ap (λ o. unwrap_or (option_map (is_clear_by conflict (take place tasks)) o) false) is
 
   -- where the test passes at a place, the task there is eligible
   pub eligible_passes : (tasks : List X) (place : ℕ) (t : X) → slice_get tasks place ≡ Some t → eligible_by conflict tasks place ≡ true → IsEligibleBy conflict tasks t
-  eligible_passes tasks place t is passes = eligible_here tasks place t is (not_true _ (sym (test_at tasks place t is) ∙ passes))
+  eligible_passes tasks place t is passes = eligible_here tasks place t is (not-true _ (sym (test_at tasks place t is) ∙ passes))
 
   -- and an eligible task stands at a place where it passes
   pub eligible_stands : (tasks : List X) (t : X) → IsEligibleBy conflict tasks t → (place : ℕ) × (slice_get tasks place ≡ Some t) × (eligible_by conflict tasks place ≡ true)
@@ -92,14 +77,14 @@ module _ {X : Type 0} (conflict : X → X → Bool) where
       stands (u ∷ us) t e =
           ⊎_elim
           (λ same. (0, ap Some same, refl))
-          (λ later. let r = stands us t later.1 in (suc r.0, r.1, both_no (conflict u t) (list_any (λ v. conflict v t) (take r.0 us)) later.0 r.2))
+          (λ later. let r = stands us t later.1 in (suc r.0, r.1, or_from (conflict u t) (list_any (λ v. conflict v t) (take r.0 us)) later.0 r.2))
           e
 
   -- the test at a place, as a statement on pairs
   pub eligible_pairs : (tasks : List X) (place : ℕ) (t : X) → slice_get tasks place ≡ Some t →
       (eligible_by conflict tasks place ≡ true) ↔ ((k : ℕ) (earlier : X) → k < place → slice_get tasks k ≡ Some earlier → conflict earlier t ≡ false)
   eligible_pairs tasks place t is = (
-    λ passes k earlier lt there. none_before (λ u. conflict u t) tasks place k earlier (not_true _ (sym (test_at tasks place t is) ∙ passes)) lt there,
+    λ passes k earlier lt there. none_before (λ u. conflict u t) tasks place k earlier (not-true _ (sym (test_at tasks place t is) ∙ passes)) lt there,
     λ each. test_at tasks place t is ∙ ap not (none_of_each (λ u. conflict u t) tasks place each),
   )
 

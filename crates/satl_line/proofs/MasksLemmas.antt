@@ -5,7 +5,7 @@ use Rattle.std.specs.Int.{bit_at, bit_not, w64}
 use Rattle.std.specs.List.{list_any, AllByRecursion}
 use Rattle.std.specs.Int.Bits.{and_zero_l}
 use Rattle.std.proofs.Math.ListN.{get_or-map}
-use Rattle.std.proofs.lemmas.Bool.{eq-eqb, eqb-true, eqb-false}
+use Rattle.std.proofs.lemmas.Bool.{eq-eqb, eqb-true, eqb-false, false_from_ne_true, or_from, and_right, or_parts}
 use Rattle.std.proofs.lemmas.List.{get_or-set_same, get_or-set_other, append-nil}
 use Rattle.std.proofs.lemmas.List.Folds.{list_any-append}
 use Rattle.std.proofs.lemmas.Nat.Bits.{bit_at_set_same, bit_at_set_other, bit_at_clear_same, bit_at_clear_other, same_from_bits_below, bit_at-zero}
@@ -150,26 +150,10 @@ are_added marks m masks mask small none h is =
 abbrev pub is_struck : List Mark → Access → Bool
 is_struck earlier s = list_any (λ u. accesses_conflict u.access s) earlier
 
-or_left : (a b : Bool) → (a || b) ≡ false → a ≡ false
-or_left true b h = h
-or_left false b h = refl
-
-or_right : (a b : Bool) → (a || b) ≡ false → b ≡ false
-or_right true b h = absurd cc
-or_right false b h = h
-
-and_no : (c d : Bool) → d ≡ false → (c && d) ≡ false
-and_no true d h = h
-and_no false d h = refl
-
-both_no : (a b : Bool) → a ≡ false → b ≡ false → (a || b) ≡ false
-both_no true b h k = h
-both_no false b h k = k
-
 pub unmarked : (earlier : List Mark) (s : Access) → is_struck earlier s ≡ false → (q : ℕ) → is_marked earlier s q ≡ false
 unmarked [] s h q = refl
 unmarked (u ∷ us) s h q =
-    both_no ((u.slot == q) && accesses_conflict u.access s) (is_marked us s q) (and_no (u.slot == q) (accesses_conflict u.access s) (or_left (accesses_conflict u.access s) (is_struck us s) h)) (unmarked us s (or_right (accesses_conflict u.access s) (is_struck us s) h) q)
+    or_from ((u.slot == q) && accesses_conflict u.access s) (is_marked us s q) (and_right (u.slot == q) (accesses_conflict u.access s) (or_parts (accesses_conflict u.access s) (is_struck us s) h).0) (unmarked us s (or_parts (accesses_conflict u.access s) (is_struck us s) h).1 q)
 
 -- each task lies in one of the 64 slots
 abbrev pub AreSmall : List Mark → Type 0
@@ -178,9 +162,9 @@ AreSmall marks = AllByRecursion (λ u. u.slot < 64) marks
 pub unstruck : (earlier : List Mark) (s : Access) → AreSmall earlier → ((q : ℕ) → q < 64 → is_marked earlier s q ≡ false) → is_struck earlier s ≡ false
 unstruck [] s small h = refl
 unstruck (u ∷ us) s small h =
-    both_no (accesses_conflict u.access s) (is_struck us s)
-    (here (u.slot == u.slot) (accesses_conflict u.access s) (eq-eqb u.slot u.slot refl) (or_left ((u.slot == u.slot) && accesses_conflict u.access s) (is_marked us s u.slot) (h u.slot small.0)))
-    (unstruck us s small.1 (λ q lt. or_right ((u.slot == q) && accesses_conflict u.access s) (is_marked us s q) (h q lt)))
+    or_from (accesses_conflict u.access s) (is_struck us s)
+    (here (u.slot == u.slot) (accesses_conflict u.access s) (eq-eqb u.slot u.slot refl) (or_parts ((u.slot == u.slot) && accesses_conflict u.access s) (is_marked us s u.slot) (h u.slot small.0)).0)
+    (unstruck us s small.1 (λ q lt. (or_parts ((u.slot == q) && accesses_conflict u.access s) (is_marked us s q) (h q lt)).1))
   where
     here : (c d : Bool) → c ≡ true → (c && d) ≡ false → d ≡ false
     here true d e k = k
@@ -194,12 +178,8 @@ bit_is_zero false h = refl
 pub zero_mask : (earlier : List Mark) (s : Access) (mask : ℕ) → AreSmall earlier → IsMask earlier s mask → mask < 2 ^ 64 → (mask == 0) ≡ not (is_struck earlier s)
 zero_mask earlier s mask small h fits =
     (elim (is_struck earlier s) as (λ b. is_struck earlier s ≡ b → (mask == 0) ≡ not b) [
-      | true ↦ λ e. not_true (mask == 0) (λ z.
+      | true ↦ λ e. false_from_ne_true (mask == 0) (λ z.
           let none : is_struck earlier s ≡ false = unstruck earlier s small (λ q lt. bit_is_zero (is_marked earlier s q) (sym (h q lt) ∙ ap (λ v. bit_at v q) (eqb-true mask 0 z) ∙ bit_at-zero q)) in
           cc)
       | false ↦ λ e. eq-eqb mask 0 (same_from_bits_below 64 mask 0 fits (omega arith) (λ q lt. h q lt ∙ ap bit (unmarked earlier s e q) ∙ sym (bit_at-zero q)))
     ]) refl
-  where
-    not_true : (b : Bool) → (b ≡ true → ⊥) → b ≡ false
-    not_true true h = absurd (h refl)
-    not_true false h = refl

@@ -11,7 +11,7 @@ use Rattle.satl_base.specs.declared.block.Block.{Block}
 use Rattle.std.proofs.Math.ListN.{length-set, get_or-map}
 use Rattle.std.proofs.Math.Seq.{take-suc}
 use Rattle.std.proofs.lemmas.Option.{slice_get-get_or, slice_get_past}
-use Rattle.std.proofs.lemmas.Bool.{eq-eqb, eqb-true, eqb-false, ltb-true, ltb-false, lt-ltb, le-ltb}
+use Rattle.std.proofs.lemmas.Bool.{eq-eqb, eqb-true, eqb-false, ltb-true, ltb-false, lt-ltb, le-ltb, and_right, ne_eqb}
 use Rattle.std.proofs.lemmas.List.{get_or-set_same, get_or-set_other, length-append, length-map, map-append, append-nil, get_or_default}
 use Rattle.satl_line.specs.declared.entry.Entry.{Entry}
 use Rattle.satl_line.specs.Conflict.{access_of, accesses_conflict, conflicts}
@@ -36,7 +36,7 @@ count_other q s other =
       | false ↦ λ e. omega arith
     ]) refl
 
-head_out : (q x : ℕ) (n : ℕ) → (if x == q then 1 else 0) + n ≡ 0 → ((x == q) ≡ false) × (n ≡ 0)
+pub head_out : (q x : ℕ) (n : ℕ) → (if x == q then 1 else 0) + n ≡ 0 → ((x == q) ≡ false) × (n ≡ 0)
 head_out q x n h =
     (elim (x == q) as (λ b. (if b then 1 else 0) + n ≡ 0 → (b ≡ false) × (n ≡ 0)) [
       | true ↦ λ e. absurd (omega arith)
@@ -398,10 +398,6 @@ lt_other p i other =
       | false ↦ λ e. le-ltb p (i + 1) (let above = ltb-false p i e in let differs = eqb-false p i other in omega arith)
     ]) refl
 
-and_false : (a b : Bool) → b ≡ false → (a && b) ≡ false
-and_false true b h = h
-and_false false b h = refl
-
 -- one more place is looked at
 module _ (masks order : List ℕ) (i free new : ℕ) (small : i < 64) (so_far : (p : ℕ) → p < 64 → bit_at free p ≡ bit (is_free_below masks order i p)) where
   away : (p : ℕ) → (p == i) ≡ false → is_free_below masks order i p ≡ is_free_below masks order (i + 1) p
@@ -417,7 +413,7 @@ module _ (masks order : List ℕ) (i free new : ℕ) (small : i < 64) (so_far : 
   pub free_step_no : (get_or masks (get_or order i 0) 0 == 0) ≡ false → new ≡ free → (p : ℕ) → p < 64 → bit_at new p ≡ bit (is_free_below masks order (i + 1) p)
   free_step_no other_there new_is = λ p lt. ap (λ v. bit_at v p) new_is ∙ so_far p lt ∙ ap bit ((elim (p == i) as (λ b. (p == i) ≡ b → is_free_below masks order i p ≡ is_free_below masks order (i + 1) p) [
     | true ↦ λ e. subst (λ r. is_free_below masks order i r ≡ is_free_below masks order (i + 1) r) (sym (eqb-true p i e))
-        (and_false (nat_lt i i) _ other_there ∙ sym (and_false (nat_lt i (i + 1)) _ other_there))
+        (and_right (nat_lt i i) _ other_there ∙ sym (and_right (nat_lt i (i + 1)) _ other_there))
     | false ↦ λ e. away p e
   ]) refl)
 
@@ -529,9 +525,6 @@ body_is slots order tasks place seen taken is lt same taken_is =
     ∙ ap (λ l. Some (entry_or (get_or slots (get_or l place 0) None)).body) (sym same)
     ∙ ap Some (sym taken_is)
 
-pub eqb-differs : (a b : ℕ) → (a ≡ b → ⊥) → (a == b) ≡ false
-eqb-differs a b h = (elim (a == b) as (λ v. (a == b) ≡ v → v ≡ false) [ true ↦ λ e. absurd (h (eqb-true a b e)) | false ↦ λ e. refl ]) refl
-
 -- no other task lies in the slot of a task
 pub slot_alone : (slots : List (Option Entry)) (order free masks : List ℕ) (blocks : ℕ) (tasks : List Held) (place : ℕ) (seen : List ℕ) → IsSound slots order free masks blocks → tasks_in slots order ≡ tasks → place < length tasks → seen ≡ order →
     (get_or seen place 0 < 64) × (count_of (get_or seen place 0) (slots_of tasks) ≡ 1)
@@ -549,7 +542,7 @@ not_in : (slots : List (Option Entry)) (s : ℕ) (order : List ℕ) → count_of
 not_in slots s [] h = tt
 not_in slots s (q ∷ qs) h =
     let out = head_out s q (count_of s qs) h in
-    (eqb-differs s q (λ e. eqb-false q s out.0 (sym e)), not_in slots s qs out.1)
+    (ne_eqb s q (λ e. eqb-false q s out.0 (sym e)), not_in slots s qs out.1)
 
 -- the slots of all tasks differ
 pub own_slots : (slots : List (Option Entry)) (order : List ℕ) → AllByRecursion (λ s. count_of s order ≤ 1) order → AreOwnSlots (tasks_in slots order)

@@ -16,7 +16,8 @@ is_clear_by conflict earlier task = not (list_any (λ other. conflict other task
 
 -- whether a task stands at a place, and no task before it conflicts with it (profile)
 abbrev pub eligible_by : {X : Type 0} → (X → X → Bool) → List X → ℕ → Bool
-eligible_by conflict tasks place = unwrap_or (option_map (is_clear_by conflict (take place tasks)) (slice_get tasks place)) false
+eligible_by conflict tasks place =
+    unwrap_or (option_map (is_clear_by conflict (take place tasks)) (slice_get tasks place)) false
 
 -- the task stands in the list, and no earlier task conflicts with it (profile)
 abbrev pub IsEligible : List Entry → Entry → Type 0

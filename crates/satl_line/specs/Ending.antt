@@ -6,7 +6,8 @@ use Rattle.satl_base.specs.Cells.{Cell, Part, first_flaw, nows, whole}
 use Rattle.satl_line.specs.Ranged.{RangedTask, written_pairs}
 use Rattle.satl_line.specs.Ranged.RangedTask.{ranged_read, ranged_write, ranged_trim}
 
--- a ranged task is done and gives the blocks that it read, or it meets a flaw at an address, or it ends with a CRC error (profile)
+-- a ranged task is done and gives the blocks that it read, or it meets a flaw at an address, or it ends with a CRC error
+-- (profile)
 pub data Outcome : Type 0 where
   ends_done : List Block → Outcome
   ends_flawed : ℕ → Outcome
@@ -31,20 +32,23 @@ blocks_read cells (ranged_write fua range blocks) = []
 blocks_read cells (ranged_trim ranges) = []
 
 -- done: no flaw was met, all that the task writes is written, and the glitches stay (SBC-3; profile)
-pub record EndsDone (cache_on : Bool) (task : RangedTask) (data_in : List Block) (old : List Cell) (glitches : ℕ) (new : List Cell) (left : ℕ) : Type 0 where
+pub record EndsDone (cache_on : Bool) (task : RangedTask) (data_in : List Block) (old : List Cell) (glitches : ℕ)
+    (new : List Cell) (left : ℕ) : Type 0 where
   pub no_flaw : flaw_met old task ≡ None
   pub read : data_in ≡ blocks_read old task
   pub written : new ≡ whole old (written_pairs cache_on task)
   pub glitches_stay : left ≡ glitches
 
 -- a flaw: the lowest is named, part of what the task writes is written, and the glitches stay (SBC-3, MEDIUM ERROR; profile)
-pub record EndsFlawed (cache_on : Bool) (task : RangedTask) (lba : ℕ) (old : List Cell) (glitches : ℕ) (new : List Cell) (left : ℕ) : Type 0 where
+pub record EndsFlawed (cache_on : Bool) (task : RangedTask) (lba : ℕ) (old : List Cell) (glitches : ℕ) (new : List Cell)
+    (left : ℕ) : Type 0 where
   pub flaw : flaw_met old task ≡ Some lba
   pub written : Part old (written_pairs cache_on task) new
   pub glitches_stay : left ≡ glitches
 
 -- a CRC error: no flaw was met, part of what the task writes is written, and one glitch is used up (ACS-3, ICRC; profile)
-pub record EndsGlitched (cache_on : Bool) (task : RangedTask) (old : List Cell) (glitches : ℕ) (new : List Cell) (left : ℕ) : Type 0 where
+pub record EndsGlitched (cache_on : Bool) (task : RangedTask) (old : List Cell) (glitches : ℕ) (new : List Cell)
+    (left : ℕ) : Type 0 where
   pub no_flaw : flaw_met old task ≡ None
   pub written : Part old (written_pairs cache_on task) new
   pub one_glitch : left + 1 ≡ glitches

@@ -61,7 +61,8 @@ IsMask earlier access mask = (q : ℕ) → q < 64 → bit_at mask q ≡ (if is_m
 -- each task after these has its mask in its slot
 abbrev pub HaveMasks : List Mark → List Mark → List ℕ → Type 0
 HaveMasks earlier [] masks = Unit {0}
-HaveMasks earlier (mark ∷ rest) masks = IsMask earlier mark.access (slice_index_or masks mark.slot 0) × HaveMasks (earlier ++ mark ∷ []) rest masks
+HaveMasks earlier (mark ∷ rest) masks =
+    IsMask earlier mark.access (slice_index_or masks mark.slot 0) × HaveMasks (earlier ++ mark ∷ []) rest masks
 
 -- the masks of these tasks, and 0 where a slot has none
 pub record IsMasked (tasks : List Held) (masks : List ℕ) : Type 0 where

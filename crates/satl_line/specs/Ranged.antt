@@ -12,7 +12,8 @@ use Rattle.satl_line.specs.declared.entry.Kind.{Kind}
 use Rattle.satl_line.specs.declared.entry.Kind.TheVariants.{Ranged, Barrier}
 use Rattle.satl_line.specs.Eligible.{IsEligible}
 
--- a read or a write of one range with its FUA bit, or a trim of some ranges (ACS-3, READ and WRITE FPDMA QUEUED; the queued trim is the profile's)
+-- a read or a write of one range with its FUA bit, or a trim of some ranges (ACS-3, READ and WRITE FPDMA QUEUED; the queued
+-- trim is the profile's)
 pub data RangedTask : Type 0 where
   ranged_read : (fua : Bool) (range : Range) → RangedTask
   ranged_write : (fua : Bool) (range : Range) (blocks : List Block) → RangedTask
@@ -38,7 +39,8 @@ abbrev pub zeros_over : List Range → Bool → List Pair
 zeros_over [] cached = []
 zeros_over (range ∷ rest) cached = pairs_from range.lba (replicate range.count zero_block) cached ++ zeros_over rest cached
 
--- what a ranged task writes, where the drive's cache is on or not: through the cache where it is on and FUA is 0 (SBC-3 FUA, WCE)
+-- what a ranged task writes, where the drive's cache is on or not: through the cache where it is on and FUA is 0 (SBC-3 FUA,
+-- WCE)
 abbrev pub written_pairs : Bool → RangedTask → List Pair
 written_pairs cache_on (ranged_read fua range) = []
 written_pairs cache_on (ranged_write fua range blocks) = pairs_from range.lba blocks (cache_on && not fua)

@@ -1,7 +1,7 @@
 -- A MODE SELECT of what MODE SENSE showed.
 use Rattle.std.proofs.Common.{◌≡◌, ℕ, ◌/◌, ◌%◌, ◌-◌, ◌^◌, ◌<◌, Bool, true, false, List, length, Ok, refl, arith}
 use Rattle.std.specs.Prelude.{◌==◌, ◌&&◌, bit_and, nat_lt, not, if◌then◌else◌}
-use Rattle.std.proofs.lemmas.Bool.{eq-eqb, ltb-false}
+use Rattle.std.proofs.lemmas.Bool.{eq-eqb, ltb-false, and_right}
 use Rattle.byteorder.specs.Endian.{big_bytes, big_from}
 use Rattle.satl_base.specs.declared.block.Block.{Block}
 use Rattle.satl_base.specs.declared.modes.Modes.{Modes}
@@ -51,11 +51,7 @@ bit_5 false = refl
 
 -- a field that is what MODE SENSE shows is no fault
 same_field : (x value : ℕ) → x ≡ value → (not (x == 0) && not (x == value)) ≡ false
-same_field x value is = rw (is, eq-eqb value value refl) (and-false (not (value == 0)))
-  where
-    and-false : (b : Bool) → (b && false) ≡ false
-    and-false true = refl
-    and-false false = refl
+same_field x value is = rw (is, eq-eqb value value refl) (and_right (not (value == 0)) false refl)
 
 short_fits : (capacity : ℕ) → short_capacity capacity < 2 ^ 32
 short_fits capacity = (elim (nat_lt 0xFFFFFFFF capacity) as (λ b. nat_lt 0xFFFFFFFF capacity ≡ b → (if b then 0xFFFFFFFF else capacity) < 2 ^ 32) [

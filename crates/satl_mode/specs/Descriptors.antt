@@ -35,7 +35,8 @@ field_line f = number f.place (f.place + f.width - 1) f.value
 abbrev pub descriptor_bytes : Descriptor → ℕ → List ℕ
 descriptor_bytes d capacity = laid (descriptor_size d) (map field_line (block_fields d capacity))
 
--- the descriptor that MODE SENSE shows: none where DBD is 1, the long one with LLBAA in the form of 10 bytes, else the short one
+-- the descriptor that MODE SENSE shows: none where DBD is 1, the long one with LLBAA in the form of 10 bytes, else the short
+-- one
 abbrev pub descriptor_shown : Bool → Bool → Bool → Descriptor
 descriptor_shown ten long_lba true = Absent
 descriptor_shown true true false = Long

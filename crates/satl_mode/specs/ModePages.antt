@@ -1,4 +1,5 @@
--- The mode pages and their bytes (SPC-4 and SBC-3; the values that are not named there, and which bits a host can change: profile).
+-- The mode pages and their bytes (SPC-4 and SBC-3; the values that are not named there, and which bits a host can change:
+-- profile).
 use Rattle.std.specs.Prelude.{ℕ, ◌+◌, ◌==◌, not, true, false, List, [], ◌∷◌, ◌++◌, Option, if◌then◌else◌}
 use Rattle.std.specs.List.{find}
 use Rattle.satl_base.specs.declared.modes.Modes.{Modes}

@@ -1,4 +1,5 @@
--- Which parameter lists of MODE SELECT are refused: their rules, in the order in which they are judged (SPC-4, MODE SELECT commands and 7.5; the refusals: profile).
+-- Which parameter lists of MODE SELECT are refused: their rules, in the order in which they are judged (SPC-4, MODE SELECT
+-- commands and 7.5; the refusals: profile).
 use Rattle.std.specs.Prelude.{ℕ, zero, suc, ◌+◌, ◌-◌, ◌==◌, ◌&&◌, nat_lt, nat_le, not, bit_and, Bool, true, List, [], ◌∷◌, ◌++◌, map, Option, Some, None, Result, Ok, Err, if◌then◌else◌}
 use Rattle.satl_base.specs.declared.block.Block.{Block}
 use Rattle.satl_base.specs.declared.modes.Modes.{Modes}
@@ -49,13 +50,15 @@ first_broken (rule ∷ rules) = if rule.breaks then Some rule.refusal else first
 -- a field of a descriptor at a place is 0 or what MODE SENSE shows
 abbrev pub field_rule : List Block → ℕ → BlockField → ListRule
 field_rule list place f =
-    refuses (not (number_at (place + f.place) f.width list == 0) && not (number_at (place + f.place) f.width list == f.value)) (invalid_list_field (place + f.place))
+    refuses (not (number_at (place + f.place) f.width list == 0) && not (number_at (place + f.place) f.width list == f.value))
+    (invalid_list_field (place + f.place))
 
 -- of the block descriptor: its length, whole, and each of its fields
 abbrev pub descriptor_rules : Option Descriptor → ℕ → List Block → ℕ → Bool → List ListRule
 descriptor_rules None capacity list length ten = refuses true (invalid_list_field (descriptor_length_place ten)) ∷ []
 descriptor_rules (Some d) capacity list length ten =
-    refuses (nat_lt length (header_size ten + descriptor_size d)) list_length_error ∷ map (field_rule list (header_size ten)) (block_fields d capacity)
+    refuses (nat_lt length (header_size ten + descriptor_size d)) list_length_error
+    ∷ map (field_rule list (header_size ten)) (block_fields d capacity)
 
 -- of what stands before the pages: the header is whole, and the rules of the block descriptor
 abbrev pub front_rules : ℕ → List Block → ℕ → Bool → List ListRule
@@ -71,7 +74,8 @@ module _ (i : Identity) (m : Modes) (list : List Block) where
   -- the byte of a page at a place agrees with the current page in each bit that can't change
   abbrev pub agrees : ModePage → ℕ → ℕ → Bool
   agrees page place at =
-      same_but_for (page_byte page (shown_by changeable_values i m) at) (byte_at list (place + at)) (page_byte page (shown_by current_values i m) at)
+      same_but_for (page_byte page (shown_by changeable_values i m) at) (byte_at list (place + at))
+      (page_byte page (shown_by current_values i m) at)
 
   -- the place of the first byte, of n from the byte at on, that does not
   unfoldable pub difference : ModePage → ℕ → ℕ → ℕ → Option ℕ
@@ -81,7 +85,8 @@ module _ (i : Identity) (m : Modes) (list : List Block) where
   -- of n bytes of a page from a byte on: each bit that can't change is that of the current page
   unfoldable pub bit_rules : ModePage → ℕ → ℕ → ℕ → List ListRule
   bit_rules page place at zero = []
-  bit_rules page place at (suc n) = refuses (not (agrees page place at)) (invalid_list_field (place + at)) ∷ bit_rules page place (at + 1) n
+  bit_rules page place at (suc n) = refuses (not (agrees page place at)) (invalid_list_field (place + at))
+      ∷ bit_rules page place (at + 1) n
 
   -- of a page that there is, or not, at a place: PAGE CODE, PAGE LENGTH, whole, its bits, and then the rules that follow
   abbrev pub page_rules : Option ModePage → ℕ → ℕ → (ℕ → List ListRule) → List ListRule

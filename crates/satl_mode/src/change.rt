@@ -7,10 +7,10 @@ ghost use Rattle.satl_identify.specs.declared.identity.Identity.{Identity as Dri
 ghost use Rattle.satl_mode.specs.ModePages.{page_coded, size_of};
 ghost use Rattle.satl_mode.specs.Changes.{bit_at, applied, change_from, change_in, descriptor_length, first_page, header_size, no_change, page_at, whole_page, with_page, AreModesOf, IsChangeOf};
 
-use crate::bytes::{byte_of, u16_at};
 use crate::page::{ModePage, page_coded};
 use satl_base::{ModeChange, Modes, Pages};
 use satl_cdb::Illegal;
+use satl_cdb::list::{byte_of, u16_at};
 
 fn no_change() -> ModeChange
     ensures { result ≡ no_change }

@@ -14,7 +14,7 @@ pub use change::{apply, select_change};
 pub use page::defaults;
 pub use satl_base::{ModeChange, Modes};
 pub use select::read_select;
-pub use sense::mode_sense;
+pub use sense::{ModeSense, mode_sense};
 
 #[cfg(test)]
 mod tests;

@@ -7,12 +7,12 @@ ghost use Rattle.satl_mode.specs.Descriptors.{block_fields, descriptor_size};
 ghost use Rattle.satl_mode.specs.Changes.{AreModesOf, IsChangeOf, KeepsFixed, applied, change_in, descriptor_length, first_page, header_size};
 ghost use Rattle.satl_mode.specs.SelectList.{agrees, descriptor_length_place, descriptor_rules, descriptor_sized, difference, field_rule, first_broken, front_rules, has_long_lba, pages_rules, select_says, unless_fault};
 
-use crate::bytes::{byte_of, u24_at, u32_at, u64_at};
 use crate::change::{apply, descriptor_length, first_page, header_size, page_at, select_change};
 use crate::descriptor::{Descriptor, short_capacity};
 use crate::page::{ModePage, shown_by};
 use satl_base::{Modes, Pages};
 use satl_cdb::Illegal;
+use satl_cdb::list::{byte_of, u24_at, u32_at, u64_at};
 use satl_identify::Identity;
 
 fn has_long_lba(list: &Pages, ten: bool) -> bool
@@ -202,8 +202,8 @@ fn judge(
 /// The modes with the changes of a MODE SELECT parameter list of `list_length` bytes, for the drive with this identity and with
 /// these modes (SPC-4, MODE SELECT commands and 7.5; SBC-3). An empty list changes nothing.
 ///
-/// `Err` is the first fault, from the left (profile). PARAMETER LIST LENGTH ERROR: the header, the block descriptor or a page is
-/// not whole. INVALID FIELD IN PARAMETER LIST, with a pointer to its byte: a descriptor length other than 0, 8, or 16 with
+/// `Err` is the first fault, from the left (profile). PARAMETER LIST LENGTH ERROR: the header, the block descriptor or a page
+/// is not whole. INVALID FIELD IN PARAMETER LIST, with a pointer to its byte: a descriptor length other than 0, 8, or 16 with
 /// LONGLBA; a number of blocks or a block length that is neither 0 nor what MODE SENSE shows; a page that there is not; a page
 /// length other than the page's; a byte that differs from the current page in a bit that can't change.
 pub fn read_select(

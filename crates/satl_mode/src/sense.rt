@@ -1,17 +1,16 @@
 // MODE SENSE.
 
-ghost use Rattle.std.specs.Prelude.{◌≡◌, ◌≤◌, ◌+◌, ◌++◌, IsTrue, length};
+ghost use Rattle.std.specs.Prelude.{◌≡◌, ◌≤◌, ◌+◌, ◌++◌, length};
 ghost use Rattle.arrayvec.specs.ArrayVec.{array_vec_len};
 ghost use Rattle.satl_mode.specs.Descriptors.{descriptor_bytes};
 ghost use Rattle.satl_mode.specs.ModePages.{page_bytes, pages_bytes, size_of};
-ghost use Rattle.satl_mode.specs.ModeData.{header, is_mode_sense, long_lba_bit, mode_data, pages_asked, with_header};
+ghost use Rattle.satl_mode.specs.ModeData.{header, long_lba_bit, mode_data, pages_asked, with_header};
 
 use crate::bytes::append;
 use crate::descriptor::Descriptor;
 use crate::page::{ModePage, Shown, page_coded, shown_by};
 use arrayvec::ArrayVec;
 use satl_base::Modes;
-use satl_cdb::Command;
 use satl_identify::Identity;
 
 /// DPOFUA: DPO and FUA are allowed (SBC-3, mode parameter header).
@@ -87,29 +86,32 @@ fn data_of(descriptor: Descriptor, capacity: u64, code: u8, shown: &Shown) -> Ar
     text
 }
 
+/// What a MODE SENSE asks to be shown: its fields but for the allocation length (SPC-4, MODE SENSE commands).
+#[derive(Clone, Copy, Debug, PartialEq, Eq)]
+pub struct ModeSense {
+    /// The command of ten bytes.
+    pub ten: bool,
+    /// LLBAA.
+    pub long_lba: bool,
+    /// DBD.
+    pub no_descriptor: bool,
+    /// Page control: current, changeable, default or saved values.
+    pub control: u8,
+    /// The page code, 3Fh for all pages.
+    pub page: u8,
+}
+
 /// The data of a MODE SENSE, before they are cut to its allocation length: header, block descriptor and pages (SPC-4, MODE
 /// SENSE commands and 7.5).
 #[tactic(auto, unfolding(crate::specs::ModeData::mode_data))]
-pub fn mode_sense(identity: &Identity, modes: &Modes, command: &Command) -> ArrayVec<u8, 128>
-    requires { IsTrue (is_mode_sense command.now) }
-    ensures { result.items ≡ mode_data identity.now modes.now command.now }
+pub fn mode_sense(identity: &Identity, modes: &Modes, asked: &ModeSense) -> ArrayVec<u8, 128>
+    ensures { result.items ≡ mode_data identity.now modes.now asked.now }
 {
-    let Command::ModeSense {
-        ten,
-        long_lba,
-        no_descriptor,
-        control,
-        page,
-        ..
-    } = *command
-    else {
-        unreachable!();
-    };
-    let descriptor = Descriptor::shown(ten, long_lba, no_descriptor);
-    let shown = shown_by(control, identity, modes);
+    let descriptor = Descriptor::shown(asked.ten, asked.long_lba, asked.no_descriptor);
+    let shown = shown_by(asked.control, identity, modes);
     with_header(
-        ten,
+        asked.ten,
         descriptor,
-        &data_of(descriptor, identity.capacity, page, &shown),
+        &data_of(descriptor, identity.capacity, asked.page, &shown),
     )
 }

@@ -1,11 +1,8 @@
 // Mode data and MODE SELECT lists from outside, and what they mean.
 
-ghost use Rattle.std.specs.Prelude.{IsTrue};
-ghost use Rattle.satl_mode.specs.ModeData.{is_mode_sense};
-
 use super::*;
 use satl_base::{Block, NoMemory, Pages};
-use satl_cdb::{Command, Illegal};
+use satl_cdb::Illegal;
 use satl_identify::Identity;
 use std::alloc::Global;
 use std::test::*;
@@ -29,16 +26,13 @@ fn modes(wce: bool, dra: bool, d_sense: bool) -> Modes {
 }
 
 /// MODE SENSE (6), or MODE SENSE (10) with LLBAA.
-fn mode_command(ten: bool, no_descriptor: bool, control: u8, page: u8) -> Command
-    ensures { IsTrue (is_mode_sense result) }
-{
-    Command::ModeSense {
+fn asked(ten: bool, no_descriptor: bool, control: u8, page: u8) -> ModeSense {
+    ModeSense {
         ten,
         long_lba: ten,
         no_descriptor,
         control,
         page,
-        alloc: 255,
     }
 }
 
@@ -108,15 +102,15 @@ fn mode_data(rt: HostRuntime) {
         ),
     ];
     for (current, ten, no_descriptor, control, page, wanted) in cases.iter() {
-        let command = mode_command(*ten, *no_descriptor, *control, *page);
-        let text = mode_sense(&identity(true, true), current, &command);
+        let asked = asked(*ten, *no_descriptor, *control, *page);
+        let text = mode_sense(&identity(true, true), current, &asked);
         assert_eq!(rt; text.as_slice(), *wanted);
     }
     // A drive without a write cache and without look-ahead shows that they can't change.
     let text = mode_sense(
         &identity(false, false),
         &modes(false, true, false),
-        &mode_command(false, true, 1, 0x08),
+        &asked(false, true, 1, 0x08),
     );
     let wanted: &[u8] = &[
         0x17, 0, 0x10, 0, 8, 0x12, 0, 0, 0, 0, 0, 0, 0, 0, 0, 0, 0, 0, 0, 0, 0, 0, 0, 0,

@@ -24,15 +24,18 @@ fn row_for(writes: bool, error: u8) -> ErrorCodes
     ensures ascq { result.ascq ≡ (error_row writes error).ascq }
     ensures has_lba { result.has_lba ≡ (error_row writes error).has_lba }
 {
-    let (key, asc, ascq) = if error >> 7 & 1 == 1 {
+    let icrc = error >> 7 & 1 == 1;
+    let unc = error >> 6 & 1 == 1;
+    let idnf = error >> 4 & 1 == 1;
+    let (key, asc, ascq) = if icrc {
         (0x0B, 0x47, 0x03)
-    } else if error >> 6 & 1 == 1 {
+    } else if unc {
         if writes {
             (0x03, 0x0C, 0x02)
         } else {
             (0x03, 0x11, 0x00)
         }
-    } else if error >> 4 & 1 == 1 {
+    } else if idnf {
         (0x05, 0x21, 0x00)
     } else {
         (0x0B, 0x00, 0x00)

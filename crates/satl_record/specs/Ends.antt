@@ -42,15 +42,18 @@ pub record Finds (identify : List ℕ) (left left' : Option (List ℕ)) (found :
   pub took : TookRecord left left' input output
   pub judged : Judged identity input output found
 
--- how the judging of a record ends: told in a line; or in a front of one; or nothing is written, and nothing is read of a source whose
--- drive is refused
-abbrev pub RecordEnds : List ℕ → Option (List ℕ) → Option (List ℕ) → Option (List ℕ) → Option (List ℕ) → Result Verdict RecordFault → Type 0
-RecordEnds identify left left' written written' (Ok verdict) = Finds identify left left' (Ok verdict) × Wrote written written' (verdict_line verdict)
+-- how the judging of a record ends: told in a line; or in a front of one; or nothing is written, and nothing is read of a
+-- source whose drive is refused
+abbrev pub RecordEnds : List ℕ → Option (List ℕ) → Option (List ℕ) → Option (List ℕ) → Option (List ℕ)
+    → Result Verdict RecordFault → Type 0
+RecordEnds identify left left' written written' (Ok verdict) =
+    Finds identify left left' (Ok verdict) × Wrote written written' (verdict_line verdict)
 RecordEnds identify left left' written written' (Err faults.BadInput) = (reason : Reason) × (offset : ℕ)
     × Finds identify left left' (Err (audits.BadInput reason offset)) × Wrote written written' (fault_line reason offset)
 RecordEnds identify left left' written written' (Err faults.Write) = (found : Result Verdict AuditFault)
     × Finds identify left left' found × WrotePart written written' (found_line found)
-RecordEnds identify left left' written written' (Err faults.NoRecord) = IsServed identify × IsNoRecord left × (written' ≡ written)
+RecordEnds identify left left' written written' (Err faults.NoRecord) =
+    IsServed identify × IsNoRecord left × (written' ≡ written)
 RecordEnds identify left left' written written' (Err faults.Read) = IsServed identify × (written' ≡ written)
 RecordEnds identify left left' written written' (Err faults.Drive) = (left' ≡ left) × (written' ≡ written)
 RecordEnds identify left left' written written' (Err faults.NoMemory) = written' ≡ written

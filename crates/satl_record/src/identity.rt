@@ -13,8 +13,9 @@ use satl_identify::{Identity, read_identity};
 use std::alloc::Global;
 use std::sync::ledger::Ledger;
 
-/// The identity that a drive's IDENTIFY DEVICE data give (profile). `Drive` where they are refused, or the link was lost before they
-/// were read; `NoMemory` where there is none for 512 bytes. Nothing else is asked of the drive, and what it reads stays the same.
+/// The identity that a drive's IDENTIFY DEVICE data give (profile). `Drive` where they are refused, or the link was lost before
+/// they were read; `NoMemory` where there is none for 512 bytes. Nothing else is asked of the drive, and what it reads stays
+/// the same.
 pub fn told_identity<D: Drive, L: Ledger>(
     alloc: Global,
     drive: &mut D,

@@ -16,9 +16,10 @@ use satl_io::{Sink, Source};
 use std::alloc::Global;
 use std::sync::ledger::Ledger;
 
-/// Says in a line whether the record of a source is that of a run, for a device of the drive's identity (profile). The drive is asked
-/// for its IDENTIFY DEVICE data alone. Each fault but `BadInput` and `Write` leaves the sink as it was: `Drive` comes first, and then
-/// nothing is read; `Read` and `Write` come only where the count of faults rose; `NoMemory` may come at any time.
+/// Says in a line whether the record of a source is that of a run, for a device of the drive's identity (profile). The drive is
+/// asked for its IDENTIFY DEVICE data alone. Each fault but `BadInput` and `Write` leaves the sink as it was: `Drive` comes
+/// first, and then nothing is read; `Read` and `Write` come only where the count of faults rose; `NoMemory` may come at any
+/// time.
 pub fn audit_record<S: Source, K: Sink, D: Drive, L: Ledger>(
     alloc: Global,
     source: &mut S,

@@ -31,8 +31,8 @@ fn words_of(verdict: Verdict) -> Gathered
     text
 }
 
-/// Appends the line of a verdict to the bytes of the sink. `Write` comes only where the sink's count of faults rose; then some front
-/// of the line was appended.
+/// Appends the line of a verdict to the bytes of the sink. `Write` comes only where the sink's count of faults rose; then some
+/// front of the line was appended.
 pub fn tell_verdict<K: Sink>(sink: &mut K, verdict: Verdict) -> Result<Verdict, RecordFault>
     ensures same { IfOk result (λ told. told ≡ verdict) }
     ensures all { IfOk result (λ _. Wrote (K.written sink.old) (K.written sink.new) (verdict_line verdict)) }
@@ -48,8 +48,8 @@ pub fn tell_verdict<K: Sink>(sink: &mut K, verdict: Verdict) -> Result<Verdict, 
     }
 }
 
-/// Appends the line of a refused input to the bytes of the sink, and is `BadInput` then. `Write` comes only where the sink's count of
-/// faults rose; then some front of the line was appended.
+/// Appends the line of a refused input to the bytes of the sink, and is `BadInput` then. `Write` comes only where the sink's
+/// count of faults rose; then some front of the line was appended.
 pub fn tell_refusal<K: Sink>(
     sink: &mut K,
     reason: Reason,

@@ -21,7 +21,7 @@ addresses_from-zero : (lba count : ℕ) → count ≡ 0 → addresses_from lba c
 unfolding addresses_from
 addresses_from-zero lba count e = rw e refl
 
-addresses-append : (xs ys : List Range) → addresses (xs ++ ys) ≡ addresses xs ++ addresses ys
+pub addresses-append : (xs ys : List Range) → addresses (xs ++ ys) ≡ addresses xs ++ addresses ys
 addresses-append [] ys = refl
 addresses-append (x ∷ xs) ys =
     ap (λ (xs : List ℕ). addresses_from x.lba x.count ++ xs) (addresses-append xs ys)

@@ -2,7 +2,7 @@
 use Rattle.std.proofs.Common.{◌≡◌, ℕ, zero, suc, ◌+◌, ◌-◌, ◌*◌, ◌/◌, ◌%◌, ◌^◌, ◌<◌, ◌≤◌, true, false, cond, List, [], ◌∷◌, ◌++◌, length, take, drop, map, get_or, refl, sym, ap, ◌∙◌, arith, append_assoc, length-append, length-take, eqb, inl, inr}
 use Rattle.std.proofs.lemmas.Bool.{eqb-true, eqb-false, cases_lt}
 use Rattle.std.specs.List.{filter, AllByRecursion}
-use Rattle.std.proofs.lemmas.List.{append-nil, drop-drop, take_at, drop_at}
+use Rattle.std.proofs.lemmas.List.{append-nil, drop-drop, take_at, drop_at, drop-replicate}
 use Rattle.std.proofs.lemmas.List.Concat.{flat_map-cons}
 use Rattle.byteorder.specs.Endian.{little_bytes, little_number}
 use Rattle.byteorder.specs.Numbers.{little_number-reads_back}
@@ -39,16 +39,6 @@ pub ends : (i : ℕ) (block : List ℕ) → 64 ≤ i → rest_of i block ≡ []
 unfolding numbers
 ends i block h = let k : 64 - i ≡ 0 = omega arith in rw k refl
 
--- one more entry stands in the block
-length_replicate : (n : ℕ) → length (zeros n) ≡ n
-length_replicate zero = refl
-length_replicate (suc n) = ap suc (length_replicate n)
-
-drop_replicate : (m n : ℕ) → drop m (zeros n) ≡ zeros (n - m)
-drop_replicate zero n = let e : n - 0 ≡ n = omega arith in rw e refl
-drop_replicate (suc m) zero = let e : 0 - suc m ≡ 0 = omega arith in rw e refl
-drop_replicate (suc m) (suc n) = let e : suc n - suc m ≡ n - m = omega arith in rw e (drop_replicate m n)
-
 length_payload : (es : List Range) → length (payload es) ≡ 8 * length es
 length_payload [] = refl
 length_payload (r ∷ rs) = let ih = length_payload rs in omega (arith, ih)
@@ -58,7 +48,7 @@ put_next xs at w len room =
     let len' : length (xs ++ little_bytes 8 w) ≡ at + 8 = omega (arith, len, length-append xs (little_bytes 8 w)) in
     let t : take at (block_of xs) ≡ xs = take_at xs (zeros (512 - length xs)) at len in
     let d : drop (at + 8) (block_of xs) ≡ zeros (512 - length (xs ++ little_bytes 8 w)) =
-    sym (drop-drop 8 at (block_of xs)) ∙ ap (drop 8) (drop_at xs (zeros (512 - length xs)) at len) ∙ drop_replicate 8 (512 - length xs) ∙ ap (λ (n : ℕ). zeros n) (omega (arith, len, len')) in
+    sym (drop-drop 8 at (block_of xs)) ∙ ap (drop 8) (drop_at xs (zeros (512 - length xs)) at len) ∙ drop-replicate 8 (512 - length xs) 0 ∙ ap (λ (n : ℕ). zeros n) (omega (arith, len, len')) in
     rw (t, d) (sym (append_assoc xs (little_bytes 8 w) (zeros (512 - length (xs ++ little_bytes 8 w)))))
 
 payload-append : (es fs : List Range) → payload (es ++ fs) ≡ payload es ++ payload fs

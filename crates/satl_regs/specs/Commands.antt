@@ -74,7 +74,9 @@ checks_power = always 0xE5 (λ r. commands.CheckPower)
 
 -- READ LOG EXT: the log in LBA(7:0), the page in LBA(15:8) and above it LBA(39:32).
 abbrev pub reads_log : Row
-reads_log = always 0x2F (λ r. commands.ReadLog (bits_of 7 0 r.lba) (bits_of 15 8 r.lba + bits_of 39 32 r.lba * 2 ^ 8) (count_16 r.count))
+reads_log =
+    always 0x2F (λ r. commands.ReadLog (bits_of 7 0 r.lba) (bits_of 15 8 r.lba + bits_of 39 32 r.lba * 2 ^ 8)
+    (count_16 r.count))
 
 -- DATA SET MANAGEMENT: TRIM is FEATURES(0).
 abbrev pub trims : Row

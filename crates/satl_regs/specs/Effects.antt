@@ -17,8 +17,9 @@ use Rattle.satl_regs.specs.declared.values.AtaCommand.TheVariants as commands
 use Rattle.satl_regs.specs.Commands.{command_in, is_ext}
 use Rattle.satl_regs.specs.Trim.{addresses, trimmed}
 
--- what commands read and change: the sectors, whether write cache and look-ahead are on, whether the drive is active and not
--- in standby, how many transfers may still end with a CRC error, and the 512 bytes of IDENTIFY DEVICE data (ACS-3; flaws and CRC errors: profile)
+-- what commands read and change: the sectors, whether write cache and look-ahead are on, whether the drive is active and not in
+-- standby, how many transfers may still end with a CRC error, and the 512 bytes of IDENTIFY DEVICE data (ACS-3; flaws and CRC
+-- errors: profile)
 pub record Medium : Type 0 where
   pub cells : List Cell
   pub cache : Bool
@@ -63,7 +64,13 @@ bad_end r error lba = record { error = error; count = 0; lba = lba; device = r.d
 abbrev pub flawed_end : Registers → Bool → ℕ → Taskfile
 flawed_end r ext at =
     if ext then bad_end r unc at
-    else record { error = unc; count = 0; lba = at % 2 ^ 24; device = r.device / 2 ^ 4 * 2 ^ 4 + at / 2 ^ 24 % 2 ^ 4; status = bad_status }
+    else record {
+      error = unc;
+      count = 0;
+      lba = at % 2 ^ 24;
+      device = r.device / 2 ^ 4 * 2 ^ 4 + at / 2 ^ 24 % 2 ^ 4;
+      status = bad_status;
+    }
 
 -- a command that goes over a range: whether its address has 48 bits, whether its data go by DMA, the flaw that stops it, the
 -- range, the pairs that it writes, and the blocks that it reads (ACS-3, the inputs of the commands)
@@ -85,26 +92,47 @@ is_dma DmaExt = true
 
 -- READ SECTOR(S), READ DMA and their EXT forms (ACS-3, commands of these names)
 abbrev pub reading : How → ℕ → ℕ → Medium → Transfer
-reading how lba sectors m = record { ext = is_ext how; dma = is_dma how; stopped_by = flaws.Read; lba = lba; sectors = sectors; writes = []; reads = nows m.cells lba sectors }
+reading how lba sectors m =
+    record {
+      ext = is_ext how;
+      dma = is_dma how;
+      stopped_by = flaws.Read;
+      lba = lba;
+      sectors = sectors;
+      writes = [];
+      reads = nows m.cells lba sectors;
+    }
 
 -- WRITE SECTOR(S), WRITE DMA and their EXT forms: through the cache where it is on (ACS-3, commands of these names)
 abbrev pub writing : How → ℕ → ℕ → List Block → Medium → Transfer
-writing how lba sectors given m = record { ext = is_ext how; dma = is_dma how; stopped_by = flaws.Write; lba = lba; sectors = sectors; writes = pairs_from lba (take sectors given) m.cache; reads = [] }
+writing how lba sectors given m =
+    record {
+      ext = is_ext how;
+      dma = is_dma how;
+      stopped_by = flaws.Write;
+      lba = lba;
+      sectors = sectors;
+      writes = pairs_from lba (take sectors given) m.cache;
+      reads = [];
+    }
 
 -- it ends bad with this error, and nothing changes (ACS-3, error outputs)
-pub record IsRefused (r : Registers) (error lba : ℕ) (old : Medium) (given : List Block) (ended : Taskfile) (taken : List Block) (new : Medium) : Type 0 where
+pub record IsRefused (r : Registers) (error lba : ℕ) (old : Medium) (given : List Block) (ended : Taskfile) (taken : List Block)
+    (new : Medium) : Type 0 where
   pub ends : ended ≡ bad_end r error lba
   pub data_in : taken ≡ given
   pub medium : new ≡ old
 
 -- it is carried out: the blocks that it reads stand in front in the pages, and the drive is active (ACS-3, normal outputs)
-pub record IsCarriedOut (r : Registers) (t : Transfer) (old : Medium) (given : List Block) (ended : Taskfile) (taken : List Block) (new : Medium) : Type 0 where
+pub record IsCarriedOut (r : Registers) (t : Transfer) (old : Medium) (given : List Block) (ended : Taskfile)
+    (taken : List Block) (new : Medium) : Type 0 where
   pub ends : ended ≡ good_end r 0 0
   pub data_in : taken ≡ t.reads ++ drop (length t.reads) given
   pub medium : new ≡ record old { cells = whole old.cells t.writes; active = true }
 
 -- a CRC error stops it: what it writes is written in part (ACS-3, ICRC; profile)
-pub record IsGarbled (r : Registers) (t : Transfer) (old : Medium) (given : List Block) (ended : Taskfile) (taken : List Block) (new : Medium) : Type 0 where
+pub record IsGarbled (r : Registers) (t : Transfer) (old : Medium) (given : List Block) (ended : Taskfile) (taken : List Block)
+    (new : Medium) : Type 0 where
   pub by_dma : t.dma ≡ true
   pub some : 0 < old.glitches
   pub ends : ended ≡ bad_end r icrc 0
@@ -113,7 +141,8 @@ pub record IsGarbled (r : Registers) (t : Transfer) (old : Medium) (given : List
   pub medium : new ≡ record old { cells = new.cells; glitches = old.glitches - 1 }
 
 -- the flaw at an address stops it: what it writes is written in part (ACS-3, UNC)
-pub record IsFlawed (r : Registers) (t : Transfer) (at : ℕ) (old : Medium) (given : List Block) (ended : Taskfile) (taken : List Block) (new : Medium) : Type 0 where
+pub record IsFlawed (r : Registers) (t : Transfer) (at : ℕ) (old : Medium) (given : List Block) (ended : Taskfile)
+    (taken : List Block) (new : Medium) : Type 0 where
   pub ends : ended ≡ flawed_end r t.ext at
   pub data_in : taken ≡ given
   pub part : Part old.cells t.writes new.cells
@@ -130,20 +159,23 @@ Carries r t old given ended taken new =
     (λ at. IsFlawed r t at old given ended taken new))
 
 -- IDENTIFY DEVICE: the data stand in the first page (ACS-3, IDENTIFY DEVICE)
-pub record IsIdentified (r : Registers) (old : Medium) (given : List Block) (ended : Taskfile) (taken : List Block) (new : Medium) : Type 0 where
+pub record IsIdentified (r : Registers) (old : Medium) (given : List Block) (ended : Taskfile) (taken : List Block)
+    (new : Medium) : Type 0 where
   pub ends : ended ≡ good_end r 0 0
   pub data_in : taken ≡ record { bytes = old.identify } ∷ drop 1 given
   pub medium : new ≡ old
 
 -- it ends good with what COUNT and LBA tell, moves no data, and leaves the medium so (ACS-3, normal outputs)
-pub record EndsGood (r : Registers) (count lba : ℕ) (after : Medium) (given : List Block) (ended : Taskfile) (taken : List Block) (new : Medium) : Type 0 where
+pub record EndsGood (r : Registers) (count lba : ℕ) (after : Medium) (given : List Block) (ended : Taskfile)
+    (taken : List Block) (new : Medium) : Type 0 where
   pub ends : ended ≡ good_end r count lba
   pub data_in : taken ≡ given
   pub medium : new ≡ after
 
 -- READ VERIFY SECTOR(S) and its EXT form: only flaws of reads are looked for (ACS-3, commands of these names)
 abbrev pub verifying : Bool → ℕ → ℕ → Transfer
-verifying ext lba sectors = record { ext = ext; dma = false; stopped_by = flaws.Read; lba = lba; sectors = sectors; writes = []; reads = [] }
+verifying ext lba sectors =
+    record { ext = ext; dma = false; stopped_by = flaws.Read; lba = lba; sectors = sectors; writes = []; reads = [] }
 
 -- every sector is written back (ACS-3, FLUSH CACHE)
 abbrev pub all_settled : Medium → Medium
@@ -188,10 +220,12 @@ pub record IsTelling (cache look : Bool) (old new : List ℕ) : Type 0 where
   pub high_bit : word_bits 85 7 7 new ≡ word_bits 85 7 7 old
   pub low_bits : word_bits 85 4 0 new ≡ word_bits 85 4 0 old
   pub others : (i : ℕ) → (i ≡ 2 * 85 → ⊥) → (i ≡ 511 → ⊥) → slice_index new i ≡ slice_index old i
-  pub integrity : MatchBool (word_bits 255 7 0 old == 0xA5) (checksum new ≡ checksum old) (slice_index new 511 ≡ slice_index old 511)
+  pub integrity : MatchBool (word_bits 255 7 0 old == 0xA5) (checksum new ≡ checksum old)
+      (slice_index new 511 ≡ slice_index old 511)
 
 -- a setting is made (ACS-3, SET FEATURES)
-pub record IsSet (setting : Setting) (r : Registers) (old : Medium) (given : List Block) (ended : Taskfile) (taken : List Block) (new : Medium) : Type 0 where
+pub record IsSet (setting : Setting) (r : Registers) (old : Medium) (given : List Block) (ended : Taskfile) (taken : List Block)
+    (new : Medium) : Type 0 where
   pub ends : ended ≡ good_end r 0 0
   pub data_in : taken ≡ given
   pub tells : IsTelling new.cache new.look old.identify new.identify
@@ -210,7 +244,8 @@ abbrev pub no_error_log : Block
 no_error_log = record { bytes = 0x80 ∷ (replicate 510 0x00 ++ 0x80 ∷ []) }
 
 -- a log stands in the first page (ACS-3, READ LOG EXT)
-pub record IsLogged (r : Registers) (log : Block) (old : Medium) (given : List Block) (ended : Taskfile) (taken : List Block) (new : Medium) : Type 0 where
+pub record IsLogged (r : Registers) (log : Block) (old : Medium) (given : List Block) (ended : Taskfile) (taken : List Block)
+    (new : Medium) : Type 0 where
   pub ends : ended ≡ good_end r 0 0
   pub data_in : taken ≡ log ∷ drop 1 given
   pub medium : new ≡ old
@@ -236,7 +271,15 @@ zeros_at cached lbas = map (λ lba. record { lba = lba; block = zero_block; cach
 -- DATA SET MANAGEMENT with TRIM: it meets no flaw (ACS-3, DATA SET MANAGEMENT; of flaws: profile)
 abbrev pub trimming : ℕ → List Block → Medium → Transfer
 trimming blocks given m =
-    record { ext = true; dma = true; stopped_by = flaws.Write; lba = 0; sectors = 0; writes = zeros_at m.cache (addresses (payload_ranges blocks given)); reads = [] }
+    record {
+      ext = true;
+      dma = true;
+      stopped_by = flaws.Write;
+      lba = 0;
+      sectors = 0;
+      writes = zeros_at m.cache (addresses (payload_ranges blocks given));
+      reads = [];
+    }
 
 -- the length of the data that a command moves, in blocks (ACS-3, the inputs of the commands)
 abbrev pub own_blocks : AtaCommand → ℕ
@@ -257,9 +300,12 @@ own_blocks (commands.Other code) = 0
 -- the effect of a command: from a medium and the pages handed in to its end, the pages after it and the medium after it
 -- (ACS-3 section 7)
 abbrev pub HasEffect : AtaCommand → Registers → Medium → List Block → Taskfile → List Block → Medium → Type 0
-HasEffect (commands.Read how lba sectors) r old given ended taken new = Carries r (reading how lba sectors old) old given ended taken new
-HasEffect (commands.Write how lba sectors) r old given ended taken new = Carries r (writing how lba sectors given old) old given ended taken new
-HasEffect (commands.Verify ext lba sectors) r old given ended taken new = Carries r (verifying ext lba sectors) old given ended taken new
+HasEffect (commands.Read how lba sectors) r old given ended taken new =
+    Carries r (reading how lba sectors old) old given ended taken new
+HasEffect (commands.Write how lba sectors) r old given ended taken new =
+    Carries r (writing how lba sectors given old) old given ended taken new
+HasEffect (commands.Verify ext lba sectors) r old given ended taken new =
+    Carries r (verifying ext lba sectors) old given ended taken new
 HasEffect (commands.Flush ext) r old given ended taken new = EndsGood r 0 0 (all_settled old) given ended taken new
 HasEffect commands.Identify r old given ended taken new = IsIdentified r old given ended taken new
 HasEffect (commands.SetFeatures what) r old given ended taken new =
@@ -284,7 +330,8 @@ HasEffect (commands.Other code) r old given ended taken new = IsRefused r abrt 0
 abbrev pub Ata : Registers → Medium → List Block → Taskfile → List Block → Medium → Type 0
 Ata r old given ended taken new = HasEffect (command_in r) r old given ended taken new
 
--- the pairs that a command may write, also where it is cut short: none where its range or its entries are refused (ACS-3; profile)
+-- the pairs that a command may write, also where it is cut short: none where its range or its entries are refused (ACS-3;
+-- profile)
 abbrev pub pairs_of : AtaCommand → Medium → List Block → List Pair
 pairs_of (commands.Read how lba sectors) m given = []
 pairs_of (commands.Write how lba sectors) m given =
@@ -297,7 +344,8 @@ pairs_of commands.Standby m given = []
 pairs_of commands.Idle m given = []
 pairs_of commands.CheckPower m given = []
 pairs_of (commands.ReadLog log page blocks) m given = []
-pairs_of (commands.Trim blocks) m given = if is_no_trim blocks given m then [] else zeros_at m.cache (addresses (payload_ranges blocks given))
+pairs_of (commands.Trim blocks) m given =
+    if is_no_trim blocks given m then [] else zeros_at m.cache (addresses (payload_ranges blocks given))
 pairs_of commands.SmartStatus m given = []
 pairs_of (commands.Other code) m given = []
 

@@ -32,7 +32,9 @@ queued_fields kind r = record {
 
 -- The queued command in the registers, if they hold one.
 abbrev pub queued_in : Registers → Option Queued
-queued_in r = option_map (λ kind. queued_fields kind r) (find (λ (kind : QueuedKind). r.command == queued_code kind) (Read ∷ Write ∷ Trim ∷ []))
+queued_in r =
+    option_map (λ kind. queued_fields kind r)
+    (find (λ (kind : QueuedKind). r.command == queued_code kind) (Read ∷ Write ∷ Trim ∷ []))
 
 -- The registers of a queued command. DEVICE(6) is 1 in each.
 abbrev pub queued_registers : Queued → Registers

@@ -14,7 +14,13 @@ plain features count lba code = record { features = features; count = count; lba
 abbrev pub addressed : Bool → ℕ → ℕ → ℕ → Registers
 addressed ext lba sectors code =
     if ext then plain 0 (bits_of 15 0 sectors) lba code
-    else record { features = 0; count = bits_of 7 0 sectors; lba = bits_of 23 0 lba; device = 0x40 + bits_of 27 24 lba; command = code }
+    else record {
+      features = 0;
+      count = bits_of 7 0 sectors;
+      lba = bits_of 23 0 lba;
+      device = 0x40 + bits_of 27 24 lba;
+      command = code;
+    }
 
 -- The registers of each command but for its code.
 abbrev pub spelled_with : AtaCommand → ℕ → Registers
@@ -27,7 +33,8 @@ spelled_with (commands.SetFeatures what) = plain what 0 0
 spelled_with commands.Standby = plain 0 0 0
 spelled_with commands.Idle = plain 0 0 0
 spelled_with commands.CheckPower = plain 0 0 0
-spelled_with (commands.ReadLog log page blocks) = plain 0 (bits_of 15 0 blocks) (log + bits_of 7 0 page * 2 ^ 8 + bits_of 15 8 page * 2 ^ 32)
+spelled_with (commands.ReadLog log page blocks) =
+    plain 0 (bits_of 15 0 blocks) (log + bits_of 7 0 page * 2 ^ 8 + bits_of 15 8 page * 2 ^ 32)
 spelled_with (commands.Trim blocks) = plain 1 (bits_of 15 0 blocks) 0
 spelled_with commands.SmartStatus = plain 0xDA 0 (0xC24F * 2 ^ 8)
 spelled_with (commands.Other code) = plain 0 0 0

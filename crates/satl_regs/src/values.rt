@@ -20,7 +20,8 @@ pub struct Taskfile {
     pub status: u8,
 }
 
-/// What a queued command does (ACS-3, READ FPDMA QUEUED and WRITE FPDMA QUEUED; the queued trim is the profile's form of SEND FPDMA QUEUED).
+/// What a queued command does (ACS-3, READ FPDMA QUEUED and WRITE FPDMA QUEUED; the queued trim is the profile's form of SEND
+/// FPDMA QUEUED).
 #[derive(Clone, Copy, Debug, PartialEq, Eq)]
 pub enum QueuedKind {
     Read,
@@ -28,8 +29,8 @@ pub enum QueuedKind {
     Trim,
 }
 
-/// A queued command (ACS-3, READ FPDMA QUEUED, WRITE FPDMA QUEUED and SEND FPDMA QUEUED): 1 to 65,536 sectors from a 48-bit address on, with a tag
-/// from 0 to 31. A trim has address 0 and one sector, its payload.
+/// A queued command (ACS-3, READ FPDMA QUEUED, WRITE FPDMA QUEUED and SEND FPDMA QUEUED): 1 to 65,536 sectors from a 48-bit
+/// address on, with a tag from 0 to 31. A trim has address 0 and one sector, its payload.
 #[derive(Clone, Copy, Debug, PartialEq, Eq)]
 pub struct Queued {
     pub kind: QueuedKind,
@@ -48,8 +49,8 @@ pub enum How {
     DmaExt,
 }
 
-/// An ATA command that is not queued (ACS-3 section 7). Sectors and blocks are of 512 bytes, 1 to 65,536 of them, or 1 to 256 with
-/// a 28-bit address.
+/// An ATA command that is not queued (ACS-3 section 7). Sectors and blocks are of 512 bytes, 1 to 65,536 of them, or 1 to 256
+/// with a 28-bit address.
 #[derive(Clone, Copy, Debug, PartialEq, Eq)]
 pub enum AtaCommand {
     Read { how: How, lba: u64, sectors: u32 },

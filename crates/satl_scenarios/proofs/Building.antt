@@ -1,12 +1,11 @@
 -- Runs, built from their steps, with quiet moves that change nothing.
-use Rattle.std.proofs.Common.{◌≡◌, inl, refl, ℕ, suc, ◌+◌, max, List, [], ◌∷◌, ◌++◌, map}
+use Rattle.std.proofs.Common.{◌≡◌, refl, ℕ, suc, ◌+◌, max, List, [], ◌∷◌, ◌++◌, map}
 use Rattle.std.proofs.lemmas.List.{append_assoc, append-nil}
 use Rattle.satl_base.specs.declared.bench.BenchEvent.{BenchEvent}
 use Rattle.satl_base.specs.declared.reply.Reply.{Reply}
 use Rattle.satl_base.specs.declared.reply.Response.{Response}
 use Rattle.satl_base.specs.declared.request.Manage.{Manage}
 use Rattle.satl_base.specs.declared.request.Request.{Request}
-use Rattle.satl_base.specs.Moves.{stay}
 use Rattle.satl_frame.specs.declared.frames.Frame.{Frame}
 use Rattle.satl_frame.specs.declared.frames.Frame.TheVariants as frames
 use Rattle.satl_frame.specs.Output.{Answer}
@@ -15,20 +14,14 @@ use Rattle.satl_direct.specs.Device.{Device}
 use Rattle.satl_direct.specs.Arrival.{Arrives}
 use Rattle.satl_direct.specs.Bench as bench
 use Rattle.satl_direct.specs.Management.{IsManaged}
-use Rattle.satl_direct.specs.Quiet.{Around, Quiet}
+use Rattle.satl_direct.specs.Quiet.{Quiet}
 use Rattle.satl_direct.specs.Turn.{Loss, Turn}
 use Rattle.satl_direct.specs.Run.{Does, Manages, MayLose, RunDeep, TurnsOf, depth, losses_in}
-use Rattle.satl_direct.specs.Run.MayLose.{keeps, loses}
+use Rattle.satl_direct.specs.Run.MayLose.{keeps, keeps_and_loses}
 use Rattle.satl_direct.specs.Run.TurnsOf.{none, more}
 use Rattle.satl_direct.specs.Run.RunDeep.{start, step}
+use Rattle.satl_direct.proofs.Quieting.{quiet_none, around_alone}
 use Rattle.satl_scenarios.specs.Scenario.{Step, Scenario, CanHappen, groups_of}
-
-pub still : (s : Device) → Quiet s s
-still s = record { cells = stay; active = inl refl; stays = refl }
-
--- a step with no quiet moves
-pub alone : (Does : Device → List Reply → Device → Type 0) (s new : Device) (answers : List Reply) → Does s answers new → Around Does s answers new
-alone Does s new answers does = record { before = s; after = new; quiet_before = still s; step = does; quiet_after = still new }
 
 -- ---- the events
 
@@ -37,18 +30,18 @@ pub record Occurs (event : Frame) (s : Device) (answers : List Answer) (new : De
   pub does : Does event s answers new deep
 
 pub arrives : {r : Request} {s : Device} (replies : List Reply) (new : Device) → Arrives r s replies new → Occurs (frames.Request r) s (map replied replies) new (depth new)
-arrives {r = r} {s = s} replies new a = record { does = (replies, refl, alone (MayLose (Arrives r)) s new replies (keeps a), refl) }
+arrives {r = r} {s = s} replies new a = record { does = (replies, refl, around_alone (MayLose (Arrives r)) s new replies (keeps a), refl) }
 
 -- and the link is lost at that
 pub arrives_and_loses : {r : Request} {s : Device} (replies lost : List Reply) (mid new : Device) → Arrives r s replies mid → Loss mid lost new → Occurs (frames.Request r) s (map replied (replies ++ lost)) new (depth new)
-arrives_and_loses {r = r} {s = s} replies lost mid new a loss = record { does = (replies ++ lost, refl, alone (MayLose (Arrives r)) s new (replies ++ lost) (loses a (still mid) loss), refl) }
+arrives_and_loses {r = r} {s = s} replies lost mid new a loss = record { does = (replies ++ lost, refl, around_alone (MayLose (Arrives r)) s new (replies ++ lost) (keeps_and_loses a (quiet_none mid) loss), refl) }
 
 pub happens : {event : BenchEvent} {s : Device} (replies : List Reply) (new : Device) → bench.Happens event s replies new → Occurs (frames.Bench event) s (map replied replies) new (depth new)
-happens {event = event} {s = s} replies new h = record { does = (replies, refl, alone (bench.Happens event) s new replies h, refl) }
+happens {event = event} {s = s} replies new h = record { does = (replies, refl, around_alone (bench.Happens event) s new replies h, refl) }
 
 -- one turn more
 pub turn_more : {n deep : ℕ} {s mid : Device} {first rest : List Reply} (new : Device) → TurnsOf n s first mid deep → Turn mid rest new → TurnsOf (suc n) s (first ++ rest) new (max deep (depth new))
-turn_more {mid = mid} {rest = rest} new before turn = more before (alone Turn mid new rest turn)
+turn_more {mid = mid} {rest = rest} new before turn = more before (around_alone Turn mid new rest turn)
 
 pub turns : {n deep : ℕ} {s new : Device} {replies : List Reply} → TurnsOf n s replies new deep → Occurs (frames.Turn n) s (map replied replies) new (max deep (depth new))
 turns {deep = deep} {replies = replies} all = record { does = (replies, deep, refl, all, refl) }
@@ -66,7 +59,7 @@ manages m response s shown new quiet done = record {
     record {
       response = response;
       replies = [];
-      step = record { before = shown; after = new; quiet_before = quiet; step = keeps (refl, done); quiet_after = still new };
+      step = record { before = shown; after = new; quiet_before = quiet; step = keeps (refl, done); quiet_after = quiet_none new };
       answer = refl;
     },
     refl,
@@ -77,7 +70,7 @@ manages m response s shown new quiet done = record {
 pub manages_and_loses : {m : Manage} {s : Device} (said : Response) (lost : List Reply) (mid new : Device) → IsManaged m s said mid → Loss mid lost new
     → Occurs (frames.Manage m) s (map replied lost ++ managed m.nexus m.function said m.tag ∷ []) new (depth new)
 manages_and_loses {m = m} {s = s} said lost mid new done loss = record {
-  does = (record { response = said; replies = lost; step = alone (MayLose (Manages m said)) s new lost (loses (refl, done) (still mid) loss); answer = refl }, refl);
+  does = (record { response = said; replies = lost; step = around_alone (MayLose (Manages m said)) s new lost (keeps_and_loses (refl, done) (quiet_none mid) loss); answer = refl }, refl);
 }
 
 -- ---- the run
@@ -99,4 +92,4 @@ run_on (now ∷ rest) events groups r (next {deep = deep} now_does follows) =
 -- a scenario whose steps follow one another is a run
 pub it_can_happen : (scenario : Scenario) → Follows scenario.losses scenario.depth scenario.last 0 0 scenario.first scenario.steps → CanHappen scenario
 it_can_happen scenario follows =
-    record { run = record { groups = groups_of scenario; deep = scenario.depth; answer = refl; run = run_on scenario.steps [] [] (start (still scenario.first)) follows }; groups = refl; depth = refl }
+    record { run = record { groups = groups_of scenario; deep = scenario.depth; answer = refl; run = run_on scenario.steps [] [] (start (quiet_none scenario.first)) follows }; groups = refl; depth = refl }

@@ -11,11 +11,12 @@ use Rattle.satl_unit.specs.declared.attention.Attention.TheVariants.{Cleared, Ne
 use Rattle.satl_line.specs.Conflict.{accesses_conflict}
 use Rattle.satl_direct.specs.Device.{Device}
 use Rattle.satl_direct.specs.Run.TurnsOf.{none}
+use Rattle.satl_direct.proofs.Quieting.{quiet_none}
 use Rattle.satl_scenarios.specs.Scenario.{CanHappen}
 use Rattle.satl_scenarios.specs.Functions.{cleared, nexus_reset, queried, reset, set_aborted}
 use Rattle.satl_scenarios.specs.Devices.{blank}
 use Rattle.satl_scenarios.specs.Requests.{task}
-use Rattle.satl_scenarios.proofs.Building.{it_can_happen, arrives, drained, manages, still}
+use Rattle.satl_scenarios.proofs.Building.{it_can_happen, arrives, drained, manages}
 use Rattle.satl_scenarios.proofs.Building.Follows.{next, ends_here}
 
 -- the device with a read that waits
@@ -27,10 +28,10 @@ unfolding says function_of
 functions_queried =
     it_can_happen queried
     (next (arrives [] waiting (refl, refl))
-    (next (manages _ Succeeded _ waiting waiting (still waiting) (record { response_is = refl; stays = refl }))
-    (next (manages _ Complete _ waiting waiting (still waiting) (record { response_is = refl; stays = refl }))
-    (next (manages _ Rejected _ waiting waiting (still waiting) (record { response_is = refl; stays = refl }))
-    (next (manages _ IncorrectLun _ waiting waiting (still waiting) (record { response_is = refl; stays = refl }))
+    (next (manages _ Succeeded _ waiting waiting (quiet_none waiting) (record { response_is = refl; stays = refl }))
+    (next (manages _ Complete _ waiting waiting (quiet_none waiting) (record { response_is = refl; stays = refl }))
+    (next (manages _ Rejected _ waiting waiting (quiet_none waiting) (record { response_is = refl; stays = refl }))
+    (next (manages _ IncorrectLun _ waiting waiting (quiet_none waiting) (record { response_is = refl; stays = refl }))
     ends_here)))))
 
 pub set_cleared : CanHappen cleared
@@ -38,7 +39,7 @@ unfolding says fixed_form function_of posted
 set_cleared =
     it_can_happen cleared
     (next (arrives [] waiting (refl, refl))
-    (next (manages _ Complete _ waiting (record (blank 2) { attentions = (Cleared ∷ []) ∷ [] ∷ [] ∷ [] ∷ [] }) (still waiting) (record { response_is = refl; stays = refl }))
+    (next (manages _ Complete _ waiting (record (blank 2) { attentions = (Cleared ∷ []) ∷ [] ∷ [] ∷ [] ∷ [] }) (quiet_none waiting) (record { response_is = refl; stays = refl }))
     (next (arrives _ (blank 2) (refl, refl))
     (next (drained none refl)
     ends_here))))
@@ -48,7 +49,7 @@ unfolding says fixed_form function_of posted
 unit_reset =
     it_can_happen reset
     (next (arrives [] waiting (refl, refl))
-    (next (manages _ Complete _ waiting (record (blank 2) { attentions = (UnitReset ∷ []) ∷ (UnitReset ∷ []) ∷ (UnitReset ∷ []) ∷ (UnitReset ∷ []) ∷ [] }) (still waiting) (record { response_is = refl; stays = refl }))
+    (next (manages _ Complete _ waiting (record (blank 2) { attentions = (UnitReset ∷ []) ∷ (UnitReset ∷ []) ∷ (UnitReset ∷ []) ∷ (UnitReset ∷ []) ∷ [] }) (quiet_none waiting) (record { response_is = refl; stays = refl }))
     (next (arrives _ reset.last (refl, refl))
     ends_here)))
 
@@ -65,10 +66,10 @@ tasks_aborted =
     it_can_happen set_aborted
     (next (arrives [] waiting (refl, refl))
     (next (arrives [] both_waiting (refl, refl))
-    (next (manages _ Succeeded _ both_waiting both_waiting (still both_waiting) (record { response_is = refl; stays = refl }))
-    (next (manages _ Complete _ both_waiting both_waiting (still both_waiting) (record { response_is = refl; stays = refl }))
-    (next (manages _ Complete _ both_waiting (blank 2) (still both_waiting) (record { response_is = refl; stays = refl }))
-    (next (manages _ Complete _ (blank 2) (blank 2) (still (blank 2)) (record { response_is = refl; stays = refl }))
+    (next (manages _ Succeeded _ both_waiting both_waiting (quiet_none both_waiting) (record { response_is = refl; stays = refl }))
+    (next (manages _ Complete _ both_waiting both_waiting (quiet_none both_waiting) (record { response_is = refl; stays = refl }))
+    (next (manages _ Complete _ both_waiting (blank 2) (quiet_none both_waiting) (record { response_is = refl; stays = refl }))
+    (next (manages _ Complete _ (blank 2) (blank 2) (quiet_none (blank 2)) (record { response_is = refl; stays = refl }))
     ends_here))))))
 
 pub nexus_is_reset : CanHappen nexus_reset
@@ -77,6 +78,6 @@ nexus_is_reset =
     it_can_happen nexus_reset
     (next (arrives [] waiting (refl, refl))
     (next (arrives [] of_two (refl, refl))
-    (next (manages _ Complete _ of_two (record nexus_reset.last { attentions = (NexusLoss ∷ []) ∷ [] ∷ [] ∷ [] ∷ [] }) (still of_two) (record { response_is = refl; stays = refl }))
+    (next (manages _ Complete _ of_two (record nexus_reset.last { attentions = (NexusLoss ∷ []) ∷ [] ∷ [] ∷ [] ∷ [] }) (quiet_none of_two) (record { response_is = refl; stays = refl }))
     (next (arrives _ nexus_reset.last (refl, refl))
     ends_here))))

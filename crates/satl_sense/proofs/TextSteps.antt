@@ -4,11 +4,7 @@ use Rattle.std.specs.Prelude.{slice_index, replicate}
 use Rattle.std.proofs.lemmas.Bool.{cases_lt}
 use Rattle.std.proofs.lemmas.List.{get_or_past, get_or-take, get_or_append_left, get_or-append_right, get_or-drop, length-take, length-replicate}
 use Rattle.satl_base.specs.Places.{places}
-use Rattle.satl_base.proofs.PlacesLemmas.{by_places}
-
-places-below : (n i : ℕ) (f g : ℕ → ℕ) → ((k : ℕ) → k < i + n → f k ≡ g k) → places i n f ≡ places i n g
-places-below zero i f g h = refl
-places-below (suc n) i f g h = rw (h i (omega arith), places-below n (i + 1) f g (λ k lt. h k (omega arith))) refl
+use Rattle.satl_base.proofs.PlacesLemmas.{by_places, places-below}
 
 zeros : (m k : ℕ) → slice_index (replicate m 0) k ≡ 0
 zeros zero k = refl

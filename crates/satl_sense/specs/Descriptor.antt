@@ -21,7 +21,8 @@ pointer_flags in_cdb = if in_cdb then 0xC0 else 0x80
 abbrev pub descriptor_lines : Extra → List Line
 descriptor_lines extras.None = []
 descriptor_lines (extras.Information n) = byte 8 0x00 ∷ byte 9 0x0A ∷ byte 10 0x80 ∷ number 12 19 n ∷ []
-descriptor_lines (extras.Pointer in_cdb place) = byte 8 0x02 ∷ byte 9 0x06 ∷ byte 12 (pointer_flags in_cdb) ∷ number 13 14 place ∷ []
+descriptor_lines (extras.Pointer in_cdb place) =
+    byte 8 0x02 ∷ byte 9 0x06 ∷ byte 12 (pointer_flags in_cdb) ∷ number 13 14 place ∷ []
 descriptor_lines (extras.Ata r) =
     byte 8 0x09 ∷ byte 9 0x0C ∷ byte 10 (if r.extend then 1 else 0) ∷ byte 11 r.error ∷ number 12 13 r.count
     ∷ byte 14 (byte_at 3 r.lba) ∷ byte 15 (byte_at 0 r.lba)
@@ -32,7 +33,8 @@ descriptor_lines (extras.Ata r) =
 -- response code, sense key, codes and length, and the descriptor
 unfoldable pub descriptor_form : Sense → List ℕ
 descriptor_form s = laid (8 + additional_length s.extra) (
-    (byte 0 0x72 ∷ byte 1 s.key ∷ byte 2 s.asc ∷ byte 3 s.ascq ∷ byte 7 (additional_length s.extra) ∷ []) ++ descriptor_lines s.extra)
+    (byte 0 0x72 ∷ byte 1 s.key ∷ byte 2 s.asc ∷ byte 3 s.ascq ∷ byte 7 (additional_length s.extra) ∷ [])
+    ++ descriptor_lines s.extra)
 
 -- the numbers of an extra fit their fields
 abbrev pub ExtraFits : Extra → Type 0

@@ -13,7 +13,8 @@ ata_return_in b = record {
   extend = bit 10 0 b;
   error = slice_index b 11;
   count = bytes 12 13 b;
-  lba = big_number 6 (slice_index b 18 ∷ slice_index b 16 ∷ slice_index b 14 ∷ slice_index b 19 ∷ slice_index b 17 ∷ slice_index b 15 ∷ []);
+  lba = big_number 6 (slice_index b 18 ∷ slice_index b 16 ∷ slice_index b 14 ∷ slice_index b 19 ∷ slice_index b 17
+      ∷ slice_index b 15 ∷ []);
   device = slice_index b 20;
   status = slice_index b 21;
 }

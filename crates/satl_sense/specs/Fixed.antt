@@ -11,7 +11,10 @@ use Rattle.satl_sense.specs.Descriptor.{pointer_flags}
 
 -- EXTEND, and that COUNT(15:8) and LBA(47:24) are not 0 (profile)
 abbrev pub ata_flags : AtaReturn → ℕ
-ata_flags r = (if r.extend then 0x80 else 0) + (if bits_of 15 8 r.count == 0 then 0 else 0x40) + (if bits_of 47 24 r.lba == 0 then 0 else 0x20)
+ata_flags r =
+    (if r.extend then 0x80 else 0)
+    + (if bits_of 15 8 r.count == 0 then 0 else 0x40)
+    + (if bits_of 47 24 r.lba == 0 then 0 else 0x20)
 
 -- the response code, with VALID where INFORMATION says something, and what an extra puts into INFORMATION, COMMAND-SPECIFIC
 -- INFORMATION and SENSE KEY SPECIFIC INFORMATION

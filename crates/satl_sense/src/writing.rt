@@ -124,7 +124,8 @@ fn fixed_text(sense: &Sense) -> [u8; 18]
 }
 
 /// The bytes of sense data, in the descriptor form or in the fixed form of 18 bytes. The descriptor form is read back by
-/// `read_sense` where the numbers fit it: a key of at most Fh, an LBA below 2^48. The fixed form has INFORMATION of less than 2^32 alone; what it has of an ATA Status Return is the profile's (SPC-4 4.5.2 and 4.5.3, SAT-3 12.2.2.6).
+/// `read_sense` where the numbers fit it: a key of at most Fh, an LBA below 2^48. The fixed form has INFORMATION of less than
+/// 2^32 alone; what it has of an ATA Status Return is the profile's (SPC-4 4.5.2 and 4.5.3, SAT-3 12.2.2.6).
 pub fn sense_bytes(sense: &Sense, descriptor: bool) -> SenseBytes
     ensures descriptor { IsTrue descriptor → result.items ≡ descriptor_form sense.now }
     ensures fixed { IsFalse descriptor → result.items ≡ fixed_form sense.now }

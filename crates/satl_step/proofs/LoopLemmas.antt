@@ -19,14 +19,15 @@ use Rattle.satl_frame.proofs.ProgressLemmas.{has_read_more}
 use Rattle.satl_line.proofs.SlotsLemmas.{All-append}
 use Rattle.satl_direct.specs.Device.{Device}
 use Rattle.satl_direct.specs.Run.{joined}
-use Rattle.satl_core.specs.Layer.{IsExpectable}
+use Rattle.satl_direct.proofs.Quieting.{joined-push}
+use Rattle.satl_base.specs.Limits.{IsExpectable}
 use Rattle.satl_core.specs.Submitting.{CanSubmit}
 use Rattle.satl_step.specs.Events.{CanTake, Done, DoneInPart, IsTallied}
 use Rattle.satl_step.specs.Loop.{Ended, Going, HasGiven, SoFar, Stage, StoppedInAnswers, is_end, place_offset}
 use Rattle.satl_step.specs.Runs.{is_request, requests_in}
 use Rattle.satl_step.specs.Telling.{IsTold}
 use Rattle.satl_step.proofs.TellingLemmas.{told_more, told_none}
-use Rattle.satl_step.proofs.RunLemmas.{joined-push, run_cut, run_more, run_start}
+use Rattle.satl_step.proofs.RunLemmas.{run_cut, run_more, run_start}
 
 pub expectable : (version : Version) (expected : Option ℕ) → HasExpected version expected → IsExpectable expected
 expectable One expected h = rw h tt

@@ -1,6 +1,5 @@
 -- A run that grows by one event.
-use Rattle.std.proofs.Common.{◌≡◌, ◌⊎◌, append_assoc, sym, ap, subst, ◌∙◌, arith, ℕ, ◌+◌, ◌≤◌, max, inl, inr, List, [], ◌∷◌, ◌++◌, length}
-use Rattle.std.proofs.lemmas.List.{append-nil}
+use Rattle.std.proofs.Common.{◌≡◌, ◌⊎◌, sym, ap, subst, arith, ℕ, ◌+◌, ◌≤◌, max, inl, inr, List, [], ◌∷◌, ◌++◌, length}
 use Rattle.satl_base.specs.declared.bench.BenchEvent.TheVariants as events
 use Rattle.satl_base.proofs.ListsLemmas.{how_many-push}
 use Rattle.satl_io.specs.Causes.{RoseBy}
@@ -10,17 +9,13 @@ use Rattle.satl_frame.specs.declared.frames.Frame.TheVariants as frames
 use Rattle.satl_frame.specs.Output.{Answer}
 use Rattle.satl_frame.specs.Pulls.{cut_to}
 use Rattle.satl_direct.specs.Device.{Device}
-use Rattle.satl_direct.specs.Run.{CutTurns, joined, losses_in}
+use Rattle.satl_direct.specs.Run.{CutTurns, losses_in}
 use Rattle.satl_direct.specs.Run.RunDeep.{start, step}
-use Rattle.satl_core.proofs.DeviceLemmas.{quiet_none}
+use Rattle.satl_direct.proofs.Quieting.{quiet_none}
 use Rattle.satl_step.specs.Events.{Carried, IsTallied, IsWholeOf, unplugs_behind}
 use Rattle.satl_step.specs.Runs.{AreCounted, Covers, DoesInPart, DoesShort, RunCutSoFar, RunSoFar, Stand, is_manage, is_request, is_unplug, unplugs_in}
 use Rattle.satl_step.specs.Runs.DoesInPart.{does_all, does_some}
 use Rattle.satl_step.specs.Runs.RunInPart.{last}
-
-pub joined-push : (groups : List (List Answer)) (now : List Answer) → joined (groups ++ now ∷ []) ≡ joined groups ++ now
-joined-push [] now = append-nil now
-joined-push (g ∷ groups) now = ap (λ l. g ++ l) (joined-push groups now) ∙ sym (append_assoc g (joined groups) now)
 
 -- ---- what an event counts of a whole one
 

@@ -25,7 +25,8 @@ pub record Scene (T : Type 0) : Type 0 where
 
 -- a layer, its drive, which was called so often, and who tells what they answer behind what was written (profile)
 abbrev pub scene_of : {T : Type 0} → Layer → DriveState → ℕ → T → Option (List ℕ) → Scene T
-scene_of l d calls teller written = record { stand = stand_of l d calls; telling = record { teller = teller; written = written } }
+scene_of l d calls teller written =
+    record { stand = stand_of l d calls; telling = record { teller = teller; written = written } }
 
 -- the pages that are out are those of a request, or none (profile)
 abbrev pub CanTake : Frame → ℕ → ℕ → Type 0
@@ -40,21 +41,23 @@ pub record IsWholeOf (event whole : Frame) : Type 0 where
   pub room : ℕ
   pub cut : event ≡ cut_to room whole
 
--- an event was carried out, with these answers: it does what each whole event does of which it is the cut form; and the drive had at once
--- as many commands as the device let it have (profile)
+-- an event was carried out, with these answers: it does what each whole event does of which it is the cut form; and the drive
+-- had at once as many commands as the device let it have (profile)
 pub record Carried (event : Frame) (before : Stand) (answers : List Answer) (after : Stand) : Type 0 where
   pub deep : ℕ
   pub does : (whole : Frame) → IsWholeOf event whole → Does whole before.device answers after.device deep
   pub covered : IsDeep before.tally → deep ≤ after.tally.deepest
 
 -- an event was carried out, and its answers were told (profile)
-pub record Done {T : Type 0} (told : T → Answer → List ℕ) (behind : T → Answer → T) (event : Frame) (before after : Scene T) : Type 0 where
+pub record Done {T : Type 0} (told : T → Answer → List ℕ) (behind : T → Answer → T) (event : Frame)
+    (before after : Scene T) : Type 0 where
   pub answers : List Answer
   pub carried : Carried event before.stand answers after.stand
   pub told_so : IsTold told behind before.telling after.telling answers
 
 -- an event was carried out or cut short, and of its answers, one at least, a front was told (profile)
-pub record DoneInPart {T : Type 0} (told : T → Answer → List ℕ) (behind : T → Answer → T) (event : Frame) (before after : Scene T) : Type 0 where
+pub record DoneInPart {T : Type 0} (told : T → Answer → List ℕ) (behind : T → Answer → T) (event : Frame)
+    (before after : Scene T) : Type 0 where
   pub answers : List Answer
   pub some : 1 ≤ length answers
   pub carried : Carried event before.stand answers after.stand ⊎ DoesShort event before.stand.device answers after.stand.device
@@ -68,12 +71,13 @@ unplugs_behind (frames.Turn count) before = before
 unplugs_behind (frames.Bench event) before = unplugs_after event before
 unplugs_behind frames.End before = before
 
--- an event raised the count of faults by its losses; the drive was unplugged by it alone; and it was called as often at most as it
--- allows, and a turn for each task that is gone; its deepest queue did not fall (profile)
+-- an event raised the count of faults by its losses; the drive was unplugged by it alone; and it was called as often at most as
+-- it allows, and a turn for each task that is gone; its deepest queue did not fall (profile)
 pub record IsTallied (event : Frame) (before after : Stand) : Type 0 where
   pub faults : RoseBy (losses_in event before.device after.device) before.tally.faults after.tally.faults
   pub unplugs : after.tally.unplugs ≡ unplugs_behind event before.tally.unplugs
-  pub calls : after.tally.calls + turn_calls * length after.device.tasks ≤ before.tally.calls + turn_calls * length before.device.tasks + calls_allowed (event ∷ [])
+  pub calls : after.tally.calls + turn_calls * length after.device.tasks
+      ≤ before.tally.calls + turn_calls * length before.device.tasks + calls_allowed (event ∷ [])
   pub queue : Covers before.tally after.tally
 
 -- ---- turns
@@ -86,14 +90,16 @@ pub record TurnTold {T : Type 0} (told : T → Answer → List ℕ) (behind : T 
   pub told_so : IsTold told behind before.telling after.telling (map replied replies)
 
 -- a turn was taken, and told in part (profile)
-pub record TurnToldInPart {T : Type 0} (told : T → Answer → List ℕ) (behind : T → Answer → T) (before after : Scene T) : Type 0 where
+pub record TurnToldInPart {T : Type 0} (told : T → Answer → List ℕ) (behind : T → Answer → T)
+    (before after : Scene T) : Type 0 where
   pub replies : List Reply
   pub some : 1 ≤ length replies
   pub step : Around Turn before.stand.device replies after.stand.device
   pub told_so : IsToldInPart told behind before.telling after.telling (map replied replies)
 
 -- so many turns were taken and told (profile)
-pub record TurnsTold {T : Type 0} (told : T → Answer → List ℕ) (behind : T → Answer → T) (count : ℕ) (before after : Scene T) : Type 0 where
+pub record TurnsTold {T : Type 0} (told : T → Answer → List ℕ) (behind : T → Answer → T) (count : ℕ)
+    (before after : Scene T) : Type 0 where
   pub replies : List Reply
   pub deep : ℕ
   pub turns : TurnsOf count before.stand.device replies after.stand.device deep
@@ -101,7 +107,8 @@ pub record TurnsTold {T : Type 0} (told : T → Answer → List ℕ) (behind : T
   pub told_so : IsTold told behind before.telling after.telling (map replied replies)
 
 -- some of so many turns were taken, and told in part (profile)
-pub record SomeTurnsTold {T : Type 0} (told : T → Answer → List ℕ) (behind : T → Answer → T) (count : ℕ) (before after : Scene T) : Type 0 where
+pub record SomeTurnsTold {T : Type 0} (told : T → Answer → List ℕ) (behind : T → Answer → T) (count : ℕ)
+    (before after : Scene T) : Type 0 where
   pub taken : ℕ
   pub some : 1 ≤ taken
   pub most : taken ≤ count

@@ -47,7 +47,8 @@ pub record HasGiven {T : Type 0} (before after : Stage T) (events : List Frame) 
   pub read : HasRead after.reader before.left after.left events
 
 -- frames were read and carried out, so many of them requests, and their answers were told (profile)
-pub record SoFar {T : Type 0} (told : T → Answer → List ℕ) (behind : T → Answer → T) (before after : Stage T) (requests : ℕ) : Type 0 where
+pub record SoFar {T : Type 0} (told : T → Answer → List ℕ) (behind : T → Answer → T) (before after : Stage T)
+    (requests : ℕ) : Type 0 where
   pub events : List Frame
   pub groups : List (List Answer)
   pub given : HasGiven before after events
@@ -56,27 +57,31 @@ pub record SoFar {T : Type 0} (told : T → Answer → List ℕ) (behind : T →
   pub requests_are : requests ≡ counted_requests events
 
 -- the same, and none of them is END (profile)
-pub record Going {T : Type 0} (told : T → Answer → List ℕ) (behind : T → Answer → T) (before after : Stage T) (requests : ℕ) : Type 0 where
+pub record Going {T : Type 0} (told : T → Answer → List ℕ) (behind : T → Answer → T) (before after : Stage T)
+    (requests : ℕ) : Type 0 where
   pub so_far : SoFar told behind before after requests
   pub none_ends : NoneEnds so_far.events
 
 -- the same, and the last of them is END (profile)
-pub record Ended {T : Type 0} (told : T → Answer → List ℕ) (behind : T → Answer → T) (before after : Stage T) (requests : ℕ) : Type 0 where
+pub record Ended {T : Type 0} (told : T → Answer → List ℕ) (behind : T → Answer → T) (before after : Stage T)
+    (requests : ℕ) : Type 0 where
   pub so_far : SoFar told behind before after requests
   pub earlier : List Frame
   pub ends : so_far.events ≡ earlier ++ frames.End ∷ []
 
 -- frames were carried out, none of which is END, and what follows them was refused or not read (profile)
-pub record Refused {T : Type 0} (told : T → Answer → List ℕ) (behind : T → Answer → T) (before after : Stage T) (why : FrameFault) : Type 0 where
+pub record Refused {T : Type 0} (told : T → Answer → List ℕ) (behind : T → Answer → T) (before after : Stage T)
+    (why : FrameFault) : Type 0 where
   pub reader : Reading
   pub mid : Option (List ℕ)
   pub requests : ℕ
   pub going : Going told behind before (record after { reader = reader; left = mid }) requests
   pub blames : Blames reader mid after.left why
 
--- frames were carried out, none of which is END, and their answers were told; then one frame more was read, which was carried out or
--- cut short, and a front of its answers was told (profile)
-pub record StoppedInAnswers {T : Type 0} (told : T → Answer → List ℕ) (behind : T → Answer → T) (before after : Stage T) : Type 0 where
+-- frames were carried out, none of which is END, and their answers were told; then one frame more was read, which was carried
+-- out or cut short, and a front of its answers was told (profile)
+pub record StoppedInAnswers {T : Type 0} (told : T → Answer → List ℕ) (behind : T → Answer → T)
+    (before after : Stage T) : Type 0 where
   pub mid : Stage T
   pub requests : ℕ
   pub going : Going told behind before mid requests
@@ -84,7 +89,8 @@ pub record StoppedInAnswers {T : Type 0} (told : T → Answer → List ℕ) (beh
   pub answers : List Answer
   pub given : HasGiven before after (going.so_far.events ++ event ∷ [])
   pub told_so : IsToldInPart told behind mid.scene.telling after.scene.telling answers
-  pub run : RunCutSoFar before.scene.stand after.scene.stand (going.so_far.events ++ event ∷ []) (going.so_far.groups ++ answers ∷ [])
+  pub run : RunCutSoFar before.scene.stand after.scene.stand (going.so_far.events ++ event ∷ [])
+      (going.so_far.groups ++ answers ∷ [])
 
 -- by why they are carried out no further (profile)
 abbrev pub StoppedSo : {T : Type 0} → (T → Answer → List ℕ) → (T → Answer → T) → Stage T → Stage T → Stop → Type 0

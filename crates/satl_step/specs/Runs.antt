@@ -15,8 +15,8 @@ use Rattle.satl_direct.specs.Run.{CutTurns, Does, RunDeep, TurnsOf, losses_in}
 use Rattle.satl_core.specs.Layer.{Layer, view}
 use Rattle.satl_core.specs.Turning.{off_calls, turn_calls}
 
--- what was counted so far: a drive's faults, how often it was unplugged, the commands that it has, the most that it had at once, and how
--- often it was called (profile)
+-- what was counted so far: a drive's faults, how often it was unplugged, the commands that it has, the most that it had at
+-- once, and how often it was called (profile)
 pub record Tally : Type 0 where
   pub faults : ℕ
   pub unplugs : ℕ
@@ -26,7 +26,8 @@ pub record Tally : Type 0 where
 
 -- the same of a drive that was called so often (profile)
 abbrev pub tally_of : DriveState → ℕ → Tally
-tally_of d calls = record { faults = d.faults; unplugs = d.unplugs; outstanding = length d.outstanding; deepest = d.deepest; calls = calls }
+tally_of d calls =
+    record { faults = d.faults; unplugs = d.unplugs; outstanding = length d.outstanding; deepest = d.deepest; calls = calls }
 
 -- a drive had at once as many commands as it has (profile)
 abbrev pub IsDeep : Tally → Type 0
@@ -66,8 +67,8 @@ is_manage (frames.Turn count) = false
 is_manage (frames.Bench event) = false
 is_manage frames.End = false
 
--- the most calls of a drive that events take: a request those of its turn, and those of taking tasks off where it overlaps one; a task
--- management function those of taking tasks off (profile)
+-- the most calls of a drive that events take: a request those of its turn, and those of taking tasks off where it overlaps one;
+-- a task management function those of taking tasks off (profile)
 abbrev pub calls_allowed : List Frame → ℕ
 calls_allowed events = (turn_calls + off_calls) * requests_in events + off_calls * how_many is_manage events
 
@@ -92,9 +93,9 @@ is_unplug frames.End = false
 abbrev pub unplugs_in : List Frame → ℕ
 unplugs_in events = how_many is_unplug events
 
--- events with so many losses were counted: the drive's count of faults rose by the losses at least, or stands at its last value; its
--- number of unplugs rose by the events that unplug it, or stands at its last value; and it was called as often at most as the events
--- allow, but for the turns of the tasks that are left; its deepest queue did not fall (profile)
+-- events with so many losses were counted: the drive's count of faults rose by the losses at least, or stands at its last
+-- value; its number of unplugs rose by the events that unplug it, or stands at its last value; and it was called as often at
+-- most as the events allow, but for the turns of the tasks that are left; its deepest queue did not fall (profile)
 pub record AreCounted (events : List Frame) (losses : ℕ) (before after : Stand) : Type 0 where
   pub faults : RoseBy losses before.tally.faults after.tally.faults
   pub unplugged : RoseBy (unplugs_in events) before.tally.unplugs after.tally.unplugs
@@ -102,7 +103,8 @@ pub record AreCounted (events : List Frame) (losses : ℕ) (before after : Stand
   pub few_calls : after.tally.calls + turn_calls * length after.device.tasks ≤ before.tally.calls + calls_allowed events
   pub queue : Covers before.tally after.tally
 
--- events were carried out one after the other, from a device without tasks on, and were counted: a group of answers for each (profile)
+-- events were carried out one after the other, from a device without tasks on, and were counted: a group of answers for each
+-- (profile)
 pub record RunSoFar (before after : Stand) (events : List Frame) (groups : List (List Answer)) : Type 0 where
   pub losses : ℕ
   pub deep : ℕ
@@ -127,11 +129,13 @@ pub data DoesInPart (event : Frame) (s : Device) (answers : List Answer) (new : 
 
 -- a run, and one event more, which was carried out or cut short between two of its turns (profile)
 pub data RunInPart (first : Device) : List Frame → List (List Answer) → ℕ → Device → Type 0 where
-  last : {events : List Frame} {groups : List (List Answer)} {losses deep : ℕ} {s new : Device} (event : Frame) (now : List Answer)
+  last : {events : List Frame} {groups : List (List Answer)} {losses deep : ℕ} {s new : Device} (event : Frame)
+      (now : List Answer)
       → RunDeep first events groups losses s deep → DoesInPart event s now new
       → RunInPart first (events ++ event ∷ []) (groups ++ now ∷ []) (losses + losses_in event s new) new
 
--- events were carried out one after the other, and the last one perhaps in part, and were counted: a group of answers for each (profile)
+-- events were carried out one after the other, and the last one perhaps in part, and were counted: a group of answers for each
+-- (profile)
 pub record RunCutSoFar (before after : Stand) (events : List Frame) (groups : List (List Answer)) : Type 0 where
   pub losses : ℕ
   pub run : RunInPart before.device events groups losses after.device

@@ -19,10 +19,12 @@ all_behind behind t [] = t
 all_behind behind t (answer ∷ answers) = all_behind behind (behind t answer) answers
 
 -- answers were told (profile)
-pub record IsTold {T : Type 0} (told : T → Answer → List ℕ) (behind : T → Answer → T) (before after : Telling T) (answers : List Answer) : Type 0 where
+pub record IsTold {T : Type 0} (told : T → Answer → List ℕ) (behind : T → Answer → T) (before after : Telling T)
+    (answers : List Answer) : Type 0 where
   pub wrote : Wrote before.written after.written (all_told told behind before.teller answers)
   pub teller : after.teller ≡ all_behind behind before.teller answers
 
 -- of answers a front was written (profile)
-pub record IsToldInPart {T : Type 0} (told : T → Answer → List ℕ) (behind : T → Answer → T) (before after : Telling T) (answers : List Answer) : Type 0 where
+pub record IsToldInPart {T : Type 0} (told : T → Answer → List ℕ) (behind : T → Answer → T) (before after : Telling T)
+    (answers : List Answer) : Type 0 where
   pub part : WrotePart before.written after.written (all_told told behind before.teller answers)

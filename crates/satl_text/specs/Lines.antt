@@ -43,7 +43,8 @@ reply_line r =
 -- managed, nexus, function, response, tag (profile)
 abbrev pub managed_line : ℕ → ℕ → Response → Tag → List ℕ
 managed_line nexus function response tag =
-    line (codes "managed" ∷ decimal nexus ∷ hex_number 1 function ∷ hex_number 1 (response_code response) ∷ hex_number 4 tag.0 ∷ [])
+    line (codes "managed" ∷ decimal nexus ∷ hex_number 1 function ∷ hex_number 1 (response_code response) ∷ hex_number 4 tag.0
+    ∷ [])
 
 -- end (profile)
 abbrev pub end_line : List ℕ
@@ -80,4 +81,5 @@ number_line name n = line (name ∷ decimal n ∷ [])
 abbrev pub summary_lines : ℕ → Summary → List ℕ
 summary_lines seed s =
     number_line (codes "seed") seed ++ number_line (codes "requests") s.requests ++ number_line (codes "good") s.good ++
-    number_line (codes "check") s.check ++ number_line (codes "full") s.full ++ number_line (codes "data") s.bytes ++ number_line (codes "sum") s.sum
+    number_line (codes "check") s.check ++ number_line (codes "full") s.full ++ number_line (codes "data") s.bytes
+    ++ number_line (codes "sum") s.sum

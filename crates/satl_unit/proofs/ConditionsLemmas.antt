@@ -5,6 +5,7 @@ use Rattle.std.proofs.lemmas.List.Elements.{filter_agree}
 use Rattle.std.proofs.lemmas.Map.Views.{any-filter_same}
 use Rattle.satl_base.specs.Lists.{LeavesOut}
 use Rattle.satl_base.proofs.ListsLemmas.{leaves_first}
+use Rattle.satl_base.proofs.Booleans.{and_true}
 use Rattle.satl_unit.specs.declared.attention.Attention.{Attention}
 use Rattle.satl_unit.specs.declared.attention.Attention.TheVariants.{PowerOn, UnitReset, NexusLoss, Cleared, ModeChanged}
 use Rattle.satl_unit.specs.Conditions.{IsInReportOrder, is_posted, is_same, posted, report_order}
@@ -17,16 +18,12 @@ same_is Cleared Cleared h = refl
 same_is ModeChanged ModeChanged h = refl
 same_is a b h = absurd cc
 
-kept : (b : Bool) → (b && true) ≡ b
-kept true = refl
-kept false = refl
-
 listed : (a : Attention) (b : Bool) → (b && is_posted a report_order) ≡ b
-listed PowerOn b = kept b
-listed UnitReset b = kept b
-listed NexusLoss b = kept b
-listed Cleared b = kept b
-listed ModeChanged b = kept b
+listed PowerOn b = and_true b
+listed UnitReset b = and_true b
+listed NexusLoss b = and_true b
+listed Cleared b = and_true b
+listed ModeChanged b = and_true b
 
 -- a test picks a condition where it passes it
 pub picked-posted : (p : Attention → Bool) (a : Attention) → is_posted a (filter p report_order) ≡ p a
@@ -73,3 +70,8 @@ posted-either a b some =
 pub posted-again : (a : Attention) (some : List Attention) → posted a (posted a some) ≡ posted a some
 posted-again a some =
     posted-alike a a (posted a some) some (λ x. rw (posted-members a x some) (or_again (is_same x a) (is_posted x some)))
+
+-- the first condition that is posted is the only one
+pub power_on_alone : (conditions given : List Attention) → given ≡ [] → conditions ≡ posted PowerOn given → conditions ≡ PowerOn ∷ []
+unfolding posted
+power_on_alone conditions given none is = is ∙ ap (posted PowerOn) none

@@ -15,10 +15,10 @@ use Rattle.satl_direct.specs.Turn.{Turn}
 use Rattle.satl_direct.specs.Turn.Turn.{idle}
 use Rattle.satl_direct.specs.Run.{MayLose, TurnsOf, depth}
 use Rattle.satl_direct.specs.Run.TurnsOf.{none, more}
+use Rattle.satl_direct.proofs.Quieting.{quiet_none}
 use Rattle.satl_laws.proofs.OneReply.{Half, around_half, one_reply}
 use Rattle.satl_laws.proofs.OneReply.Half.{given, held}
 use Rattle.satl_core.proofs.CountedLemmas.{counted_same}
-use Rattle.satl_core.proofs.DeviceLemmas.{quiet_none}
 use Rattle.satl_step.specs.Events.{Carried, Done, DoneInPart, IsTallied, Scene}
 use Rattle.satl_step.specs.Runs.{DoesShort, Stand}
 use Rattle.satl_step.specs.Telling.{IsTold, IsToldInPart}

@@ -48,14 +48,18 @@ pub record Repeated (taken : Taken) (before after : Desk) : Type 0 where
   pub kept_is : after.kept ≡ None
 
 -- its request and a turn were carried out, and the reply was written (profile)
-pub record Sent (taken : Taken) (before after : Stand) (written written' : Option (List ℕ)) (kept : Option (ArrayVec ℕ)) : Type 0 where
+pub record Sent (taken : Taken) (before after : Stand) (written written' : Option (List ℕ))
+    (kept : Option (ArrayVec ℕ)) : Type 0 where
   pub both : BothCarried (request_taken taken) before after
   pub wrote : Wrote written written' (reply_on_wire taken.command both.reply)
   pub kept_is : kept ≡ kept_of both.reply
 
 -- an item was answered (profile)
 abbrev pub Answered : Taken → Desk → Desk → Type 0
-Answered taken before after = Repeated taken before after ⊎ ((is_told_kept before.kept taken.command ≡ false) × Sent taken before.stand after.stand before.written after.written after.kept)
+Answered taken before after =
+    Repeated taken before after
+    ⊎ ((is_told_kept before.kept taken.command ≡ false)
+    × Sent taken before.stand after.stand before.written after.written after.kept)
 
 -- the same, where a front of the answer was written (profile)
 pub record RepeatedInPart (taken : Taken) (before after : Desk) : Type 0 where
@@ -70,4 +74,7 @@ pub record SentInPart (taken : Taken) (before after : Stand) (written written' :
   pub part : WrotePart written written' (reply_on_wire taken.command both.reply)
 
 abbrev pub AnsweredInPart : Taken → Desk → Desk → Type 0
-AnsweredInPart taken before after = RepeatedInPart taken before after ⊎ ((is_told_kept before.kept taken.command ≡ false) × SentInPart taken before.stand after.stand before.written after.written)
+AnsweredInPart taken before after =
+    RepeatedInPart taken before after
+    ⊎ ((is_told_kept before.kept taken.command ≡ false)
+    × SentInPart taken before.stand after.stand before.written after.written)

@@ -15,9 +15,10 @@ pub record HasTaken (limit : ℕ) (left left' : Option (List ℕ)) (items : List
   pub took : Took left left' (all_spelled items)
   pub each : AreItems limit 0 items
 
--- items were taken and carried out: a run of the device over their requests and turns, each of which has exactly one reply; no task is
--- left, and the drive was not unplugged (profile)
-pub record Bridged (limit : ℕ) (before after : Stand) (left left' : Option (List ℕ)) (items : List Item) (wire : List ℕ) (kept : Option (ArrayVec ℕ)) : Type 0 where
+-- items were taken and carried out: a run of the device over their requests and turns, each of which has exactly one reply; no
+-- task is left, and the drive was not unplugged (profile)
+pub record Bridged (limit : ℕ) (before after : Stand) (left left' : Option (List ℕ)) (items : List Item) (wire : List ℕ)
+    (kept : Option (ArrayVec ℕ)) : Type 0 where
   pub events : List Frame
   pub groups : List (List Answer)
   pub taken : HasTaken limit left left' items
@@ -26,8 +27,8 @@ pub record Bridged (limit : ℕ) (before after : Stand) (left left' : Option (Li
   pub idle : after.device.tasks ≡ []
   pub unplugs : after.tally.unplugs ≡ before.tally.unplugs
 
--- all of the input was items, and what these are on the wire was written; the drive had at once as many commands as the device let it
--- have (profile)
+-- all of the input was items, and what these are on the wire was written; the drive had at once as many commands as the device
+-- let it have (profile)
 pub record BridgedWhole (limit : ℕ) (before after : Spot) : Type 0 where
   pub items : List Item
   pub wire : List ℕ
@@ -37,8 +38,8 @@ pub record BridgedWhole (limit : ℕ) (before after : Spot) : Type 0 where
   pub wrote : Wrote before.written after.written wire
   pub deep : bridged.run.deep ≤ after.stand.tally.deepest
 
--- the items before an offset were taken and carried out, and what they are on the wire was written; what stands at the offset is refused,
--- and nothing is written for it (profile)
+-- the items before an offset were taken and carried out, and what they are on the wire was written; what stands at the offset
+-- is refused, and nothing is written for it (profile)
 pub record BridgedBefore (limit offset : ℕ) (before after : Spot) : Type 0 where
   pub items : List Item
   pub wire : List ℕ

@@ -35,16 +35,20 @@ request_of i = record {
 abbrev pub events_of : Item → List Frame
 events_of i = frames.Request (request_of i) ∷ frames.Turn 1 ∷ []
 
--- items one after the other: the events that they are, the answers to each of these, what is written, and the sense data that is then
--- kept. An item is answered with what is kept, and is no event; or it is a request and a turn, to which exactly one reply is given (profile)
+-- items one after the other: the events that they are, the answers to each of these, what is written, and the sense data that
+-- is then kept. An item is answered with what is kept, and is no event; or it is a request and a turn, to which exactly one
+-- reply is given (profile)
 pub data Exchange : List Item → List Frame → List (List Answer) → List ℕ → Option (ArrayVec ℕ) → Type 0 where
   start : Exchange [] [] [] [] None
-  asked : {items : List Item} {events : List Frame} {groups : List (List Answer)} {wire : List ℕ} (i : Item) (sense : ArrayVec ℕ)
+  asked : {items : List Item} {events : List Frame} {groups : List (List Answer)} {wire : List ℕ} (i : Item)
+      (sense : ArrayVec ℕ)
       → Exchange items events groups wire (Some sense) → is_told_kept (Some sense) i.command ≡ true
       → Exchange (items ++ i ∷ []) events groups (wire ++ kept_on_wire i.command sense) None
-  sent : {items : List Item} {events : List Frame} {groups : List (List Answer)} {wire : List ℕ} {kept : Option (ArrayVec ℕ)} (i : Item) (reply : Reply) (first second : List Answer)
+  sent : {items : List Item} {events : List Frame} {groups : List (List Answer)} {wire : List ℕ} {kept : Option (ArrayVec ℕ)}
+      (i : Item) (reply : Reply) (first second : List Answer)
       → Exchange items events groups wire kept → is_told_kept kept i.command ≡ false → first ++ second ≡ replied reply ∷ []
-      → Exchange (items ++ i ∷ []) (events ++ events_of i) (groups ++ first ∷ second ∷ []) (wire ++ reply_on_wire i.command reply) (kept_of reply)
+      → Exchange (items ++ i ∷ []) (events ++ events_of i) (groups ++ first ∷ second ∷ [])
+      (wire ++ reply_on_wire i.command reply) (kept_of reply)
 
 -- ---- who tells the answers to one item
 

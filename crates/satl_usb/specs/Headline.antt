@@ -73,8 +73,8 @@ pub record IsItemInput (limit : ℕ) (left : Option (List ℕ)) (items : List It
   pub told : left ≡ Some (all_spelled items)
   pub each : AreItems limit 0 items
 
--- the faults that are left to such an input where all goes well, before anything is read: want of memory, and a link that was lost while
--- the layer was opened, where the drive's count of faults rose (profile)
+-- the faults that are left to such an input where all goes well, before anything is read: want of memory, and a link that was
+-- lost while the layer was opened, where the drive's count of faults rose (profile)
 abbrev pub MayStop : DriveState → DriveState → UsbFault → Type 0
 MayStop old new (faults.Open opening.NoMemory) = Unit {0}
 MayStop old new (faults.Open opening.LinkDown) = Rose old.faults new.faults

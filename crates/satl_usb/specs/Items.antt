@@ -35,7 +35,8 @@ all_spelled (i ∷ items) = spelled i ++ all_spelled items
 -- each is an item that ends within the limit, and the first one begins at the offset (profile)
 abbrev pub AreItems : ℕ → ℕ → List Item → Type 0
 AreItems limit offset [] = Unit {0}
-AreItems limit offset (i ∷ items) = IsItem i × (offset + length (spelled i) ≤ limit) × AreItems limit (offset + length (spelled i)) items
+AreItems limit offset (i ∷ items) =
+    IsItem i × (offset + length (spelled i) ≤ limit) × AreItems limit (offset + length (spelled i)) items
 
 -- an item that ends within the limit stands at the offset, before these bytes (profile)
 pub record Stands (limit offset : ℕ) (bytes : List ℕ) : Type 0 where
@@ -55,4 +56,6 @@ IsRefused limit offset left = IfSome left (λ bytes. (bytes ≡ [] → ⊥) × (
 
 -- a front was taken that has no whole item
 abbrev pub IsCutOff : ℕ → ℕ → Option (List ℕ) → Option (List ℕ) → Type 0
-IsCutOff limit offset left left' = IfSome left (λ bytes. (count : ℕ) × Took left left' (take count bytes) × ((s : Stands limit offset bytes) → count < length (spelled s.item)))
+IsCutOff limit offset left left' =
+    IfSome left (λ bytes. (count : ℕ) × Took left left' (take count bytes)
+    × ((s : Stands limit offset bytes) → count < length (spelled s.item)))

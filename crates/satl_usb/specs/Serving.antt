@@ -23,11 +23,13 @@ pub record BothCarried (r : Request) (before after : Stand) : Type 0 where
   pub none : after.device.tasks ≡ []
 
 -- and the reply was told (profile)
-pub record Exchanged {T : Type 0} (told : T → Answer → List ℕ) (behind : T → Answer → T) (r : Request) (before after : Scene T) : Type 0 where
+pub record Exchanged {T : Type 0} (told : T → Answer → List ℕ) (behind : T → Answer → T) (r : Request)
+    (before after : Scene T) : Type 0 where
   pub both : BothCarried r before.stand after.stand
   pub told_so : IsTold told behind before.telling after.telling (replied both.reply ∷ [])
 
 -- or a front of it was written (profile)
-pub record ExchangedInPart {T : Type 0} (told : T → Answer → List ℕ) (behind : T → Answer → T) (r : Request) (before after : Scene T) : Type 0 where
+pub record ExchangedInPart {T : Type 0} (told : T → Answer → List ℕ) (behind : T → Answer → T) (r : Request)
+    (before after : Scene T) : Type 0 where
   pub both : BothCarried r before.stand after.stand
   pub told_so : IsToldInPart told behind before.telling after.telling (replied both.reply ∷ [])

@@ -1,5 +1,5 @@
--- What the bridge writes for an answer (USB Mass Storage Class, Bulk-Only Transport 1.0, 5.2, 5.3 and 6.7; the residue and the status:
--- profile).
+-- What the bridge writes for an answer (USB Mass Storage Class, Bulk-Only Transport 1.0, 5.2, 5.3 and 6.7; the residue and the
+-- status: profile).
 use Rattle.std.specs.Prelude.{ℕ, ◌-◌, min, nat_lt, List, ◌++◌, length, take, replicate, slice_index, Option, Some, None, if◌then◌else◌}
 use Rattle.arrayvec.specs.ArrayVec.{ArrayVec}
 use Rattle.satl_base.specs.Blocks.{first_bytes}
@@ -41,7 +41,8 @@ reply_on_wire c r = told_on_wire c r.status r.data_len (first_bytes r.data_len r
 
 -- sense data that was kept, as data, as many bytes as the command allows (SPC-4 6.39)
 abbrev pub kept_on_wire : Cbw → ArrayVec ℕ → List ℕ
-kept_on_wire c sense = told_on_wire c statuses.Good (min (slice_index c.cdb 4) (length sense.items)) (take (slice_index c.cdb 4) sense.items)
+kept_on_wire c sense =
+    told_on_wire c statuses.Good (min (slice_index c.cdb 4) (length sense.items)) (take (slice_index c.cdb 4) sense.items)
 
 -- the sense data of a command that failed is kept for the host to ask for (profile)
 abbrev pub kept_of : Reply → Option (ArrayVec ℕ)

@@ -100,9 +100,9 @@ fn send_item<K: Sink, D: Bench, L: Ledger>(
     Ok(teller.kept)
 }
 
-/// Answers one item: REQUEST SENSE with the sense data that is kept, where some is; else its request is sent to the unit and one turn is
-/// taken. Gives the sense data that is then kept. `WriteFault` comes only where the sink's count of faults rose; then a front of the one
-/// answer was written (profile).
+/// Answers one item: REQUEST SENSE with the sense data that is kept, where some is; else its request is sent to the unit and
+/// one turn is taken. Gives the sense data that is then kept. `WriteFault` comes only where the sink's count of faults rose;
+/// then a front of the one answer was written (profile).
 pub fn answer_item<K: Sink, D: Bench, L: Ledger>(
     satl: &mut Satl,
     item: Taken,

@@ -1,4 +1,5 @@
-//! A USB disk bridge: commands on the wire of Bulk-Only Transport are carried out by the layer over a drive, and answered there.
+//! A USB disk bridge: commands on the wire of Bulk-Only Transport are carried out by the layer over a drive, and answered
+//! there.
 #![tactic(auto)]
 
 mod answering;

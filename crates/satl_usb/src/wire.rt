@@ -74,9 +74,9 @@ fn tell_status<K: Sink>(
     push(sink, gathered.as_slice())
 }
 
-/// Writes a reply to a command on the wire: its data, cut to what the host takes or with zeros behind it, and the wrapper of its
-/// status. `Failed` comes only where the sink's count of faults rose; then some front of it was written (USB Mass Storage Class,
-/// Bulk-Only Transport 1.0, 5.2, 5.3; the residue and the status: profile).
+/// Writes a reply to a command on the wire: its data, cut to what the host takes or with zeros behind it, and the wrapper of
+/// its status. `Failed` comes only where the sink's count of faults rose; then some front of it was written (USB Mass Storage
+/// Class, Bulk-Only Transport 1.0, 5.2, 5.3; the residue and the status: profile).
 pub fn tell_reply<K: Sink>(command: &Cbw, reply: &Reply, sink: &mut K) -> Result<(), Failed>
     requires { IsWritable reply.now }
     ensures all { OnOk result (Wrote (K.written sink.old) (K.written sink.new) (reply_on_wire command.now reply.now)) }
@@ -89,8 +89,8 @@ pub fn tell_reply<K: Sink>(command: &Cbw, reply: &Reply, sink: &mut K) -> Result
     tell_status(command, reply.status, reply.data_len, &mut gathered, sink)
 }
 
-/// Writes sense data that was kept, as the data of a command that passed, as many bytes as byte 4 of its CDB allows. `Failed` comes
-/// only where the sink's count of faults rose; then some front of it was written (SPC-4 6.39).
+/// Writes sense data that was kept, as the data of a command that passed, as many bytes as byte 4 of its CDB allows. `Failed`
+/// comes only where the sink's count of faults rose; then some front of it was written (SPC-4 6.39).
 pub fn tell_kept<K: Sink>(command: &Cbw, sense: &SenseBytes, sink: &mut K) -> Result<(), Failed>
     ensures all { OnOk result (Wrote (K.written sink.old) (K.written sink.new) (kept_on_wire command.now sense.now)) }
     ensures part { OnErr result (WrotePart (K.written sink.old) (K.written sink.new) (kept_on_wire command.now sense.now)) }

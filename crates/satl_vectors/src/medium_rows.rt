@@ -148,8 +148,8 @@ fn trims(rt: HostRuntime) -> Result<(), Fail> {
     expect_rows(&rt, rt.alloc(), &TRIMS)
 }
 
-/// An UNMAP and two READs behind it, on a drive whose trims are not queued: the UNMAP runs alone first, and the byte of ORDER then lets the
-/// second READ end before the first.
+/// An UNMAP and two READs behind it, on a drive whose trims are not queued: the UNMAP runs alone first, and the byte of ORDER
+/// then lets the second READ end before the first.
 #[test]
 fn a_trim_that_is_not_queued(rt: HostRuntime) -> Result<(), Fail> {
     let (_, input, _) = TRIMS[2];

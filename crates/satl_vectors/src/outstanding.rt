@@ -1,5 +1,5 @@
-// Replays with 32 commands outstanding: their ends in every order that a byte of ORDER chooses, and a reset; and links lost at each call,
-// power at each place.
+// Replays with 32 commands outstanding: their ends in every order that a byte of ORDER chooses, and a reset; and links lost at
+// each call, power at each place.
 use crate::frames::{END, ENDED, FLUSH, TURN, command, good, input, output, read, request, write};
 use crate::queue::write_errors;
 use crate::replaying::{expect_replies, pieces, replay, run_until_lost};
@@ -8,7 +8,8 @@ use std::alloc::{AllocError, Global};
 use std::process::Abort;
 use std::test::Fail;
 
-/// The end of the command at a place among those outstanding, and what is issued then: behind a write of a block the read of it.
+/// The end of the command at a place among those outstanding, and what is issued then: behind a write of a block the read of
+/// it.
 fn end_one(
     alloc: Global,
     order: u8,
@@ -30,8 +31,8 @@ fn end_one(
     Ok(())
 }
 
-/// 32 writes of a block each, under the tags from 0, and then 32 reads of the same blocks, where each byte of ORDER, one for each end,
-/// chooses this place modulo how many are outstanding.
+/// 32 writes of a block each, under the tags from 0, and then 32 reads of the same blocks, where each byte of ORDER, one for
+/// each end, chooses this place modulo how many are outstanding.
 fn expect_order(rt: &impl Abort, alloc: Global, order: u8) -> Result<(), Fail> {
     let mut frames = input(alloc)?;
     frames.extend_from_slice(&[0x04, 0, 0, 0, 65, 4])?;
@@ -85,8 +86,8 @@ fn a_reset_with_all_tags(rt: HostRuntime) -> Result<(), Fail> {
     expect_replies(&rt, alloc, &frames, &replies)
 }
 
-/// Where the link is lost at the first call of the drive the layer is not opened; at each of the next 19, each of four requests is
-/// still answered once.
+/// Where the link is lost at the first call of the drive the layer is not opened; at each of the next 19, each of four requests
+/// is still answered once.
 #[test]
 fn the_link_is_lost_at_each_call(rt: HostRuntime) -> Result<(), Fail> {
     let alloc = rt.alloc();
@@ -118,8 +119,8 @@ fn forced_write(
     frames.extend_from_slice(data)
 }
 
-/// A write and a flush, a write past the cache and another write, each with its turn, where the power is lost before one of these eight
-/// frames or behind them; then the unit attention is taken, and two blocks are read.
+/// A write and a flush, a write past the cache and another write, each with its turn, where the power is lost before one of
+/// these eight frames or behind them; then the unit attention is taken, and two blocks are read.
 fn powered_input(alloc: Global, place: usize) -> Result<Vec<u8>, AllocError> {
     let mut frames = input(alloc)?;
     for step in 0..9usize {

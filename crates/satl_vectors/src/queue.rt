@@ -1,5 +1,5 @@
-// Replays of queued commands: 32 at once, ends out of order, errors that cut the queue, and tasks that are taken off. The inputs and the
-// outputs were computed by another program.
+// Replays of queued commands: 32 at once, ends out of order, errors that cut the queue, and tasks that are taken off. The
+// inputs and the outputs were computed by another program.
 use crate::spelled::{Part, Row, expect_rows, spelled};
 use std::alloc::Global;
 use std::test::Fail;

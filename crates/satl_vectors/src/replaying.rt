@@ -135,8 +135,8 @@ pub fn replay_unqueued(alloc: Global, input: Vec<u8>) -> Result<(Status, Vec<u8>
     replay_changed(alloc, 77, 0, &mut source)
 }
 
-/// How the program ends with these words behind its name, over a drive of 64 sectors, and what it writes, where the drive's link is lost at
-/// the call behind so many.
+/// How the program ends with these words behind its name, over a drive of 64 sectors, and what it writes, where the drive's
+/// link is lost at the call behind so many.
 pub fn run_until_lost(
     alloc: Global,
     given: &[&str],

@@ -33,7 +33,8 @@ fn served<S: Source, K: Sink, D: Bench, L: Ledger>(
     serve(alloc, form, source, sink, drive, &mut steps)
 }
 
-/// A write and a read of a block, and a read beyond the capacity: the same totals in each form, and no byte where answers are counted.
+/// A write and a read of a block, and a read beyond the capacity: the same totals in each form, and no byte where answers are
+/// counted.
 #[test]
 fn totals(rt: HostRuntime) -> Result<(), Fail> {
     let alloc = rt.alloc();

@@ -165,8 +165,8 @@ fn other_bytes_are_refused(rt: HostRuntime) -> Result<(), Fail> {
     expect_bridged(&rt, rt.alloc(), &REFUSED, Status::BadInput)
 }
 
-/// Each read or each write of a failing command and of its sense fails once, up to the first number that no call has: a front of the
-/// output is written.
+/// Each read or each write of a failing command and of its sense fails once, up to the first number that no call has: a front
+/// of the output is written.
 fn expect_fronts(rt: &impl Abort, alloc: Global, reads: bool, fault: Status) -> Result<(), Fail> {
     let (_, input, output) = BRIDGED[1];
     let wanted = spelled(alloc, output)?;

@@ -35,7 +35,12 @@ designators d =
 
 -- SPC-4, Device Identification: both descriptors, or the first alone where there is no world wide name
 abbrev pub identification : Page
-identification = record { code = 0x83; rest = λ i. if has_name i.bytes then from_byte_4 84 (designators i.bytes) else from_byte_4 72 (designators i.bytes) }
+identification =
+    record {
+      code = 0x83;
+      rest = λ i. if has_name i.bytes then from_byte_4 84 (designators i.bytes)
+          else from_byte_4 72 (designators i.bytes);
+    }
 
 -- "SATL    "
 abbrev layer_vendor : List ℕ
@@ -43,7 +48,8 @@ layer_vendor = 0x53 ∷ 0x41 ∷ 0x54 ∷ 0x4C ∷ 0x20 ∷ 0x20 ∷ 0x20 ∷ 0x
 
 -- "SATL REPLAY     "
 abbrev layer_product : List ℕ
-layer_product = 0x53 ∷ 0x41 ∷ 0x54 ∷ 0x4C ∷ 0x20 ∷ 0x52 ∷ 0x45 ∷ 0x50 ∷ 0x4C ∷ 0x41 ∷ 0x59 ∷ 0x20 ∷ 0x20 ∷ 0x20 ∷ 0x20 ∷ 0x20 ∷ []
+layer_product =
+    0x53 ∷ 0x41 ∷ 0x54 ∷ 0x4C ∷ 0x20 ∷ 0x52 ∷ 0x45 ∷ 0x50 ∷ 0x4C ∷ 0x41 ∷ 0x59 ∷ 0x20 ∷ 0x20 ∷ 0x20 ∷ 0x20 ∷ 0x20 ∷ []
 
 -- "0001"
 abbrev layer_revision : List ℕ
@@ -54,7 +60,8 @@ layer_revision = 0x30 ∷ 0x30 ∷ 0x30 ∷ 0x31 ∷ []
 abbrev pub ata_information : Page
 ata_information = record {
   code = 0x89;
-  rest = λ i. from_byte_4 56 (text 8 layer_vendor ∷ text 16 layer_product ∷ text 32 layer_revision ∷ byte 56 0xEC ∷ []) ++ i.bytes;
+  rest = λ i. from_byte_4 56 (text 8 layer_vendor ∷ text 16 layer_product ∷ text 32 layer_revision ∷ byte 56 0xEC ∷ [])
+      ++ i.bytes;
 }
 
 -- WSNZ, MAXIMUM TRANSFER LENGTH, MAXIMUM UNMAP LBA COUNT, MAXIMUM UNMAP BLOCK DESCRIPTOR COUNT and MAXIMUM WRITE SAME LENGTH
@@ -63,7 +70,8 @@ abbrev pub block_limits : Page
 block_limits = record {
   code = 0xB0;
   rest = λ i. from_byte_4 60 (
-      byte 4 0x01 ∷ number 8 11 most_moved ∷ number 20 23 (if i.trim then most_covered else 0) ∷ number 24 27 (if i.trim then most_ranges else 0)
+      byte 4 0x01 ∷ number 8 11 most_moved ∷ number 20 23 (if i.trim then most_covered else 0)
+      ∷ number 24 27 (if i.trim then most_ranges else 0)
       ∷ number 36 43 most_covered ∷ []);
 }
 
@@ -96,4 +104,5 @@ page_bytes p i = 0x00 ∷ p.code ∷ (bytes_high_first 2 (length (p.rest i)) ++ 
 
 -- the page of a code
 unfoldable pub vpd_page : ℕ → Identity → Option (List ℕ)
-vpd_page code i = option_map (λ (p : Page). page_bytes p i) (find (λ (p : Page). p.code == code) (supported_pages ∷ described_pages))
+vpd_page code i =
+    option_map (λ (p : Page). page_bytes p i) (find (λ (p : Page). p.code == code) (supported_pages ∷ described_pages))

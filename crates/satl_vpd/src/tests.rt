@@ -6,42 +6,8 @@ use byteorder::{ByteOrder, LittleEndian};
 use satl_identify::Identity;
 use std::test::*;
 
-// The words of its IDENTIFY DEVICE data that are looked at.
-const WORDS: [(usize, u16); 41] = [
-    (10, 0x5341),
-    (11, 0x544C),
-    (12, 0x3030),
-    (13, 0x3030),
-    (14, 0x3030),
-    (15, 0x3030),
-    (16, 0x3030),
-    (17, 0x3030),
-    (18, 0x3030),
-    (19, 0x3031),
-    (23, 0x4657),
-    (24, 0x3031),
-    (25, 0x3032),
-    (26, 0x3033),
-    (27, 0x4D4F),
-    (28, 0x4445),
-    (29, 0x4C20),
-    (30, 0x4E43),
-    (31, 0x5120),
-    (32, 0x4449),
-    (33, 0x534B),
-    (34, 0x2020),
-    (35, 0x2020),
-    (36, 0x2020),
-    (37, 0x2020),
-    (38, 0x2020),
-    (39, 0x2020),
-    (40, 0x2020),
-    (41, 0x2020),
-    (42, 0x2020),
-    (43, 0x2020),
-    (44, 0x2020),
-    (45, 0x2020),
-    (46, 0x2020),
+// The words of its IDENTIFY DEVICE data that are looked at, beside the texts.
+const WORDS: [(usize, u16); 7] = [
     (87, 0x4120),
     (106, 0x6003),
     (108, 0x5000),
@@ -87,6 +53,10 @@ fn drive_identity() -> Identity
     ensures { result.capacity ≡ 8192 }
 {
     let mut bytes = [0; 512];
+    // The two characters of each word stand the other way round.
+    bytes[20..40].copy_from_slice(b"ASLT0000000000000010");
+    bytes[46..54].copy_from_slice(b"WF102030");
+    bytes[54..94].copy_from_slice(b"OMED LCN QIDKS                          ");
     for (place, value) in WORDS.iter() {
         set_word(&mut bytes, *place, *value);
     }

@@ -10,7 +10,8 @@ use Rattle.satl_words.specs.declared.modes.Mode.TheVariants as modes
 
 -- an option that has to be given, with a number up to this one (profile)
 abbrev numbered : Text → ℕ → Rule
-numbered name most = record (new_rule name) { long = Some name; required = true; action = Some Set; parser = Some (parsers.Unsigned 0 most) }
+numbered name most =
+    record (new_rule name) { long = Some name; required = true; action = Some Set; parser = Some (parsers.Unsigned 0 most) }
 
 abbrev pub seed : Rule
 seed = numbered (codes "seed") (2 ^ 64 - 1)
@@ -27,7 +28,8 @@ abbrev pub command_line : App
 command_line =
     with_subcommand (with_subcommand (with_subcommand (with_subcommand (with_subcommand
     (on_top (λ s. record s { disable_help_subcommand = true; subcommand_required = true }) (new_app (codes "satl")))
-    (new_app (codes "replay")).top) (new_app (codes "show")).top) (new_app (codes "usb")).top) (new_app (codes "audit")).top) generate.top
+    (new_app (codes "replay")).top) (new_app (codes "show")).top) (new_app (codes "usb")).top) (new_app (codes "audit")).top)
+    generate.top
 
 -- a text spells a number in decimal digits, perhaps behind a plus sign (profile)
 pub record Spells (text : Text) (n : ℕ) : Type 0 where
@@ -36,16 +38,19 @@ pub record Spells (text : Text) (n : ℕ) : Type 0 where
 
 -- a number is what the text of an option spells, where that is not above the greatest (profile)
 abbrev pub GivesNumber : Text → ℕ → List Row → ℕ → Type 0
-GivesNumber name most rows n = (text : Text) (spelled : ℕ) → one_of name rows ≡ Some text → Spells text spelled → spelled ≤ most → n ≡ spelled
+GivesNumber name most rows n =
+    (text : Text) (spelled : ℕ) → one_of name rows ≡ Some text → Spells text spelled → spelled ≤ most → n ≡ spelled
 
 -- a mode is a load with the numbers of these matches (profile)
 abbrev pub IsLoadOf : List Row → Mode → Type 0
 IsLoadOf rows mode =
-    (s : ℕ) × (r : ℕ) × (mode ≡ modes.Generate s r) × GivesNumber (codes "seed") (2 ^ 64 - 1) rows s × GivesNumber (codes "requests") 100000 rows r
+    (s : ℕ) × (r : ℕ) × (mode ≡ modes.Generate s r) × GivesNumber (codes "seed") (2 ^ 64 - 1) rows s
+    × GivesNumber (codes "requests") 100000 rows r
 
 -- the name of one of the subcommands (profile)
 abbrev pub IsSubcommand : Text → Type 0
-IsSubcommand name = (name ≡ codes "replay") ⊎ ((name ≡ codes "show") ⊎ ((name ≡ codes "usb") ⊎ ((name ≡ codes "audit") ⊎ (name ≡ codes "gen"))))
+IsSubcommand name =
+    (name ≡ codes "replay") ⊎ ((name ≡ codes "show") ⊎ ((name ≡ codes "usb") ⊎ ((name ≡ codes "audit") ⊎ (name ≡ codes "gen"))))
 
 -- the mode that the subcommand of this name with these matches is (profile)
 abbrev pub IsModeOf : Option (Text × List Row) → Mode → Type 0

@@ -7,9 +7,9 @@ use crate::modes::{MOST_REQUESTS, Mode};
 use crate::numbers::plain_number;
 use std::rc::RcStr;
 
-/// What plain words ask for: two words, of which the second is `replay`, `show`, `usb` or `audit`, or six of the form `satl gen --seed N --requests
-/// N` with numbers in decimal digits without a sign or a leading zero, of which the second is at most 100,000 (profile). None
-/// exactly where the words are not plain. Takes no memory.
+/// What plain words ask for: two words, of which the second is `replay`, `show`, `usb` or `audit`, or six of the form `satl gen
+/// --seed N --requests N` with numbers in decimal digits without a sign or a leading zero, of which the second is at most
+/// 100,000 (profile). None exactly where the words are not plain. Takes no memory.
 pub fn plain_mode(words: &[RcStr]) -> Option<Mode>
     ensures spelled { IfSome result (λ mode. IsInRange mode × ArePlain (map rc_str_bytes words.now) mode) }
     ensures plain { (mode : Mode) → IsInRange mode → ArePlain (map rc_str_bytes words.now) mode → result ≡ Some mode }

@@ -8,7 +8,8 @@ use Rattle.satl_direct.specs.Tasks.{held_blocks}
 use Rattle.satl_audit.specs.Arriving.{ArrivesOn, device_of}
 use Rattle.satl_audit.specs.Waiting.{AllFit, Fits, MayWait, Placed, has_no_room}
 use Rattle.satl_base.proofs.ListsLemmas.{All-push_end}
-use Rattle.satl_audit.proofs.ArrivingLemmas.{answered_goes, answered_sticks, full_is, is_false, is_true, placed_goes}
+use Rattle.satl_base.proofs.Booleans.{opposite_false, opposite_true}
+use Rattle.satl_audit.proofs.ArrivingLemmas.{answered_goes, answered_sticks, full_is, placed_goes}
 use Rattle.satl_audit.proofs.JudgingLemmas.{waits_known}
 use Rattle.satl_audit.proofs.arriving.place.Goals as goal
 
@@ -18,7 +19,7 @@ returns-then-add-clause-goes c = λ _ input body sent is.
     let old = c.args.steps.now in
     let r = record c.args.request.now { body = body } in
     let task = c.task_of-task.ensures body in
-    let room = is_false _ _ (c.add.ensures.room ∙ ap (λ (t : Entry). not (has_no_room old.waiting t.blocks)) task) c.if-add.true in
+    let room = opposite_true _ _ (c.add.ensures.room ∙ ap (λ (t : Entry). not (has_no_room old.waiting t.blocks)) task) c.if-add.true in
     subst (λ (ps : List Placed). ArrivesOn r (device_of i input old.waiting old.attentions) (device_of i input ps old.attentions) old.output old.output)
     (sym (c.add.ensures.added c.if-add.true ∙ ap (λ (t : Entry). old.waiting ++ record { entry = t; at = c.args.at } ∷ []) task))
     (placed_goes i input old.waiting old.attentions r c.args.command c.args.at old.output is room (waits_known _ _ _ c.requires.waits).0 (waits_known _ _ _ c.requires.waits).1 sent.stands)
@@ -29,7 +30,7 @@ returns-clause-goes c = λ yes input body sent is.
     let old = c.args.steps.now in
     let r = record c.args.request.now { body = body } in
     let task = c.task_of-task.ensures body in
-    let room = is_true _ _ (c.add.ensures.room ∙ ap (λ (t : Entry). not (has_no_room old.waiting t.blocks)) task) c.if-add.false in
+    let room = opposite_false _ _ (c.add.ensures.room ∙ ap (λ (t : Entry). not (has_no_room old.waiting t.blocks)) task) c.if-add.false in
     subst (λ (ps : List Placed). ArrivesOn r (device_of i input old.waiting old.attentions) (device_of i input ps old.attentions) old.output c.pass_status.new.output)
     (sym (c.add.ensures.kept c.if-add.false))
     (answered_goes r (device_of i input old.waiting old.attentions) (reply_to r TaskSetFull []) old.output c.pass_status.new.output (full_is i input old.waiting old.attentions r c.args.command is room) (c.pass_status.ensures.passed yes))
@@ -40,7 +41,7 @@ returns-clause-sticks c = λ no input body is.
     let old = c.args.steps.now in
     let r = record c.args.request.now { body = body } in
     let task = c.task_of-task.ensures body in
-    let room = is_true _ _ (c.add.ensures.room ∙ ap (λ (t : Entry). not (has_no_room old.waiting t.blocks)) task) c.if-add.false in
+    let room = opposite_false _ _ (c.add.ensures.room ∙ ap (λ (t : Entry). not (has_no_room old.waiting t.blocks)) task) c.if-add.false in
     answered_sticks r (device_of i input old.waiting old.attentions) (reply_to r TaskSetFull []) old.output (full_is i input old.waiting old.attentions r c.args.command is room) (c.pass_status.ensures.other no)
 
 pub task_of-task-requires : goal.task_of-task-requires

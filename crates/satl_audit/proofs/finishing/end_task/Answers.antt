@@ -1,10 +1,10 @@
 use Rattle.std.proofs.Common.{arith, sym, subst}
 use Rattle.std.specs.Prelude.{slice_get}
+use Rattle.std.proofs.lemmas.Result.{IfOk-weaker}
 use Rattle.satl_audit.specs.Finishing.{AreTasks}
 use Rattle.satl_audit.specs.Waiting.{Placed}
 use Rattle.satl_audit.proofs.EndWithin.{both_at, fits_at, no_other, read_within, write_within}
 use Rattle.satl_audit.proofs.EndLemmas.{flush_arm, read_arm, write_arm}
-use Rattle.satl_audit.proofs.FinishingLemmas.{if_ok_map}
 use Rattle.satl_audit.proofs.SweptSectors.{if_both}
 use Rattle.satl_audit.proofs.TurnLemmas.{tasks_left}
 use Rattle.satl_audit.proofs.finishing.end_task.Goals as goal
@@ -68,16 +68,18 @@ returns-in-Read-clause-ends c =
     let old = c.args.steps.now in
     let p : Placed = record { entry = c.entry-entry.result.now; at = c.data_at-at.result } in
     let at = both_at (slice_get old.waiting c.in-Some.place) c.entry-entry.result.now c.data_at-at.result c.entry-entry.ensures c.data_at-at.ensures in
-    if_ok_map c.read_ends.result _ _ c.read_ends.ensures.reads
+    IfOk-weaker c.read_ends.result _ _
     (read_arm c.args.identity.now c.args.input.now old c.in-Some.place p c.requires.tasks at c.in-Some.ensures.eligible c.in-Some.ensures.only c.remove.new.self c.read_ends.new.output c.remove.ensures c.args.sectors.now c.read_ends.new.sectors c.read_ends.ensures.length c.in-Read.form c.in-Read.lba c.in-Read.count c.in-Read.fua c.in-Read.is)
+    c.read_ends.ensures.reads
 
 pub returns-in-Write-clause-ends : goal.returns-in-Write-clause-ends
 returns-in-Write-clause-ends c =
     let old = c.args.steps.now in
     let p : Placed = record { entry = c.entry-entry.result.now; at = c.data_at-at.result } in
     let at = both_at (slice_get old.waiting c.in-Some.place) c.entry-entry.result.now c.data_at-at.result c.entry-entry.ensures c.data_at-at.ensures in
-    if_ok_map c.write_ends.result _ _ (c.write_ends.ensures.writes c.args.input.now)
+    IfOk-weaker c.write_ends.result _ _
     (write_arm c.args.identity.now c.args.input.now old c.in-Some.place p c.requires.tasks at c.in-Some.ensures.eligible c.in-Some.ensures.only c.remove.new.self c.write_ends.new.output c.remove.ensures c.args.sectors.now c.write_ends.new.sectors c.write_ends.ensures.length c.in-Write.form c.in-Write.lba c.in-Write.count c.in-Write.fua c.in-Write.is c.is_cached-cached.result c.is_cached-cached.ensures)
+    (c.write_ends.ensures.writes c.args.input.now)
 
 pub returns-in-Flush-clause-ends : goal.returns-in-Flush-clause-ends
 returns-in-Flush-clause-ends c =

@@ -1,12 +1,12 @@
 use Rattle.std.proofs.Common.{arith, ◌≡◌, sym, ap, ◌∙◌, ℕ, ◌+◌, ◌<◌, length}
 use Rattle.std.specs.Prelude.{Option, Some, None}
+use Rattle.std.proofs.lemmas.Bool.{both_ways}
 use Rattle.satl_line.specs.Eligible.{eligible_at}
 use Rattle.satl_base.specs.declared.request.Tag.{Tag}
 use Rattle.satl_audit.specs.Waiting.{entries_in, has_name}
 use Rattle.satl_audit.proofs.FoundLemmas.{found_by, search_ends}
 use Rattle.satl_audit.proofs.NextLemmas.{found_within}
 use Rattle.satl_audit.proofs.finishing.next_task.Goals as goal
-use Rattle.satl_audit.proofs.Links.{false_not_true}
 
 no_place : {place : ℕ} (o : Option ℕ) → o ≡ None → o ≡ Some place → ⊥
 no_place o e f = cc
@@ -38,7 +38,7 @@ returns-then-not-eligible-clause-only c = λ identity input reply deed new left 
     let name : ℕ × Tag = record { 0 = c.in_ok-nexus.nexus; 1 = c.in_ok-nexus.tag } in
     let s = search_ends identity input steps reply deed new left tasks done said (Some name) c.in_ok-nexus.ensures in
     let same = one_place c.find.result c.in_ok-place.was (c.find.ensures ∙ found_by identity input steps reply deed new left tasks done said c.in_ok-nexus.nexus c.in_ok-nexus.tag s) in
-    absurd (false_not_true (ap (λ n. eligible_at (entries_in steps.waiting) n) same ∙ s.eligible) (sym c.eligible.ensures ∙ c.if-not-eligible.true))
+    absurd (both_ways _ (sym c.eligible.ensures ∙ c.if-not-eligible.true) (ap (λ n. eligible_at (entries_in steps.waiting) n) same ∙ s.eligible))
 
 pub returns-clause-within : goal.returns-clause-within
 returns-clause-within c =

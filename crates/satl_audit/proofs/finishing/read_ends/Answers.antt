@@ -1,7 +1,8 @@
 use Rattle.std.proofs.Common.{◌∙◌, ap, sym, ℕ, ◌*◌, List, ◌++◌}
+use Rattle.std.proofs.lemmas.Result.{IfOk-weaker}
 use Rattle.satl_base.specs.declared.reply.Scsi.TheVariants.{Good}
 use Rattle.satl_audit.specs.Finishing.{head_bytes}
-use Rattle.satl_audit.proofs.FinishingLemmas.{if_ok_map, reads_as}
+use Rattle.satl_audit.proofs.FinishingLemmas.{reads_as}
 use Rattle.satl_audit.proofs.finishing.read_ends.Goals as goal
 
 pub returns-then-not-pass-clause-reads : goal.returns-then-not-pass-clause-reads
@@ -15,10 +16,11 @@ pub returns-clause-reads : goal.returns-clause-reads
 returns-clause-reads c =
     let given = c.in-Some.given.now in
     let left = c.take.new.self in
-    if_ok_map c.show_blocks.result _ _ c.show_blocks.ensures.gives
+    IfOk-weaker c.show_blocks.result _ _
     (reads_as c.args.input.now c.args.nexus c.args.tag.0 c.args.range c.args.output.now left given c.args.sectors.now c.show_blocks.new.sectors (
       c.in-Some.ensures.size ∙ ap (λ n. 512 * n) c.from-len.ensures,
       c.pass.ensures.passed c.if-not-pass.false
           ∙ ap (λ (l : List ℕ). l ++ c.pass.new.self) (c.head.ensures ∙ ap (λ n. head_bytes c.args.nexus c.args.tag.0 Good 0 (512 * n)) c.from-len.ensures)
           ∙ ap (λ (l : List ℕ). head_bytes c.args.nexus c.args.tag.0 Good 0 (512 * c.args.range.count) ++ l) c.in-Some.ensures.taken,
     ))
+    c.show_blocks.ensures.gives

@@ -1,4 +1,4 @@
-use Rattle.satl_audit.proofs.PendingLemmas.{power_on_alone}
+use Rattle.satl_unit.proofs.ConditionsLemmas.{power_on_alone}
 use Rattle.satl_audit.proofs.powering.power_on.Goals as goal
 
 pub returns : goal.returns

@@ -1,10 +1,10 @@
 use Rattle.std.proofs.Common.{refl, ◌∙◌}
+use Rattle.std.proofs.lemmas.Result.{on_ok_weaker}
 use Rattle.satl_barrier.proofs.SettingsLemmas.{both_so, look_tuned, tuned_already}
-use Rattle.satl_barrier.proofs.FlushingLemmas.{ok_then}
 use Rattle.satl_barrier.proofs.settings.set_look.Goals as goal
 
 pub returns-then-is_on-on-clause-tuned : goal.returns-then-is_on-on-clause-tuned
 returns-then-is_on-on-clause-tuned g c = tuned_already _ _ _ c.requires.up c.requires.sound refl (c.requires.is ∙ both_so _ _ c.if-is_on-on.true)
 
 pub returns-clause-tuned : goal.returns-clause-tuned
-returns-clause-tuned g c = ok_then c.turn_feature.result (look_tuned _ _ _) c.turn_feature.ensures.set
+returns-clause-tuned g c = on_ok_weaker c.turn_feature.result (look_tuned _ _ _) c.turn_feature.ensures.set

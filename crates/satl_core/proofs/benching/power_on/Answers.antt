@@ -1,4 +1,4 @@
-use Rattle.satl_core.proofs.BenchingLemmas.{power_on_alone}
+use Rattle.satl_unit.proofs.ConditionsLemmas.{power_on_alone}
 use Rattle.satl_core.proofs.benching.power_on.Goals as goal
 
 pub returns : goal.returns

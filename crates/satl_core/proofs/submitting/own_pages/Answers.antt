@@ -1,13 +1,12 @@
-use Rattle.std.proofs.Common.{ap, subst, sym, ◌∙◌}
-use Rattle.satl_regs.specs.Trim.{IsTrimList}
+use Rattle.std.proofs.Common.{ap, subst}
 use Rattle.satl_asks.specs.Commands.{HasList}
 use Rattle.satl_core.specs.Submitting.{trims}
 use Rattle.satl_core.proofs.UnmapLemmas.{list_trims}
 use Rattle.satl_core.proofs.submitting.own_pages.Goals as goal
 
-pub trim_bytes-entries-requires : goal.trim_bytes-entries-requires
-trim_bytes-entries-requires c =
+pub entry_page-requires-clause-trimmed : goal.entry_page-requires-clause-trimmed
+entry_page-requires-clause-trimmed c =
     let identity = c.args.identity.now in
     let has = c.requires.trim (ap trims c.in-Unmap.is) in
     let list = subst (λ it. HasList it c.args.body identity.capacity) c.in-Unmap.is c.requires.list in
-    subst IsTrimList (sym (c.deref.ensures.0 ∙ c.listed_ranges.ensures)) (list_trims identity c.args.body c.in-Unmap.length c.requires.identity has list).list
+    (list_trims identity c.args.body c.in-Unmap.length c.requires.identity has list).list

@@ -1,7 +1,8 @@
 use Rattle.std.proofs.Common.{◌≡◌, ◌∙◌, refl, subst, sym}
 use Rattle.std.specs.Prelude.{IsSomeAnd}
+use Rattle.satl_base.proofs.OutcomeLemmas.{on_both_err}
 use Rattle.satl_core.specs.Medium.{HasWhole, written_alone}
-use Rattle.satl_core.proofs.AloneLemmas.{both_err, stops_alike}
+use Rattle.satl_core.proofs.AloneLemmas.{stops_alike}
 use Rattle.satl_core.proofs.turning.run_task.Goals as goal
 
 pub returns-clause-lost : goal.returns-clause-lost
@@ -9,7 +10,7 @@ returns-clause-lost g c =
     let task = c.args.task.now in
     let d = g.D.Drive.state c.args.drive.now in
     let is = sym c.of.ensures ∙ c.in-Some.is in
-    both_err c.carry_out.result
+    on_both_err c.carry_out.result _ _ _
     (λ lost whole. record {
       was_up = c.if-down.false;
       ready = stops_alike task.command c.in-Some.alone c.args.started is ∙ (sym c.waits.ensures ∙ c.if-waits.false);

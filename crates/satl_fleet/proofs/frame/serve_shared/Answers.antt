@@ -1,5 +1,5 @@
 use Rattle.std.proofs.Common.{vec_len}
-use Rattle.satl_step.proofs.OutcomeLemmas.{on_ok, on_err}
+use Rattle.std.proofs.lemmas.Result.{on_ok_weaker, on_err_weaker}
 use Rattle.satl_fleet.specs.Rounds.{stage}
 use Rattle.satl_fleet.specs.Shared.{frame_of}
 use Rattle.satl_fleet.specs.Serving.{target}
@@ -8,8 +8,8 @@ use Rattle.satl_fleet.proofs.frame.serve_shared.Goals as goal
 
 pub returns-clause-done : goal.returns-clause-done
 returns-clause-done g c =
-    on_ok c.serve_all.result _ _ (λ all. all_round (vec_len c.args.units.now) (frame_of c.args.event.now) (turn_quiet (vec_len c.args.units.now) (frame_of c.args.event.now) c.requires.plain) (turn_goes_on (frame_of c.args.event.now) c.requires.plain) (frame_of c.args.event.now) (stage (target g.D.Drive.state c.args.units.now c.args.drives.now) (g.K.Sink.written c.args.sink.now)) (stage (target g.D.Drive.state c.serve_all.new.units c.serve_all.new.drives) (g.K.Sink.written c.serve_all.new.sink)) (turn_seen (vec_len c.args.units.now) (frame_of c.args.event.now) c.requires.plain) all) c.serve_all.ensures.done
+    on_ok_weaker c.serve_all.result (λ all. all_round (vec_len c.args.units.now) (frame_of c.args.event.now) (turn_quiet (vec_len c.args.units.now) (frame_of c.args.event.now) c.requires.plain) (turn_goes_on (frame_of c.args.event.now) c.requires.plain) (frame_of c.args.event.now) (stage (target g.D.Drive.state c.args.units.now c.args.drives.now) (g.K.Sink.written c.args.sink.now)) (stage (target g.D.Drive.state c.serve_all.new.units c.serve_all.new.drives) (g.K.Sink.written c.serve_all.new.sink)) (turn_seen (vec_len c.args.units.now) (frame_of c.args.event.now) c.requires.plain) all) c.serve_all.ensures.done
 
 pub returns-clause-part : goal.returns-clause-part
 returns-clause-part g c =
-    on_err c.serve_all.result _ _ (λ all. all_round_part (vec_len c.args.units.now) (frame_of c.args.event.now) (turn_quiet (vec_len c.args.units.now) (frame_of c.args.event.now) c.requires.plain) (turn_goes_on (frame_of c.args.event.now) c.requires.plain) (frame_of c.args.event.now) (stage (target g.D.Drive.state c.args.units.now c.args.drives.now) (g.K.Sink.written c.args.sink.now)) (stage (target g.D.Drive.state c.serve_all.new.units c.serve_all.new.drives) (g.K.Sink.written c.serve_all.new.sink)) (turn_seen (vec_len c.args.units.now) (frame_of c.args.event.now) c.requires.plain) all) c.serve_all.ensures.part
+    on_err_weaker c.serve_all.result (λ all. all_round_part (vec_len c.args.units.now) (frame_of c.args.event.now) (turn_quiet (vec_len c.args.units.now) (frame_of c.args.event.now) c.requires.plain) (turn_goes_on (frame_of c.args.event.now) c.requires.plain) (frame_of c.args.event.now) (stage (target g.D.Drive.state c.args.units.now c.args.drives.now) (g.K.Sink.written c.args.sink.now)) (stage (target g.D.Drive.state c.serve_all.new.units c.serve_all.new.drives) (g.K.Sink.written c.serve_all.new.sink)) (turn_seen (vec_len c.args.units.now) (frame_of c.args.event.now) c.requires.plain) all) c.serve_all.ensures.part

@@ -1,4 +1,4 @@
-use Rattle.satl_core.proofs.TellingLemmas.{padded_is}
+use Rattle.satl_telling.proofs.TellingLemmas.{padded_is}
 use Rattle.satl_fleet.proofs.reporting.padded.Goals as goal
 
 pub returns : goal.returns

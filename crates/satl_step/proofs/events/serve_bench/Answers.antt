@@ -1,10 +1,11 @@
 use Rattle.std.proofs.Common.{arith, subst, sym}
+use Rattle.std.proofs.lemmas.Result.{on_ok_weaker}
 use Rattle.satl_direct.specs.Bench.{Happens}
 use Rattle.satl_direct.specs.Quiet.{Around}
 use Rattle.satl_core.specs.Layer.{view}
 use Rattle.satl_frame.specs.declared.frames.Frame.TheVariants as frames
 use Rattle.satl_step.proofs.EventLemmas.{carried_bench, replies_done, replies_in_part}
-use Rattle.satl_step.proofs.OutcomeLemmas.{on_both_err, on_ok}
+use Rattle.satl_base.proofs.OutcomeLemmas.{on_both_err}
 use Rattle.satl_step.proofs.TallyLemmas.{depth_covered, tallied, tied_same, view_same}
 use Rattle.satl_step.proofs.events.serve_bench.Goals as goal
 
@@ -15,7 +16,7 @@ pub returns-clause-done : goal.returns-clause-done
 returns-clause-done g c =
     let s = view c.args.satl.now (g.D.Drive.state c.args.drive.now) in
     let same = view_same c.bench.new.self c.tell_replies.new.satl (g.D.Drive.state c.bench.new.drive) c.tell_replies.ensures.stays in
-    on_ok c.tell_replies.result _ _ (λ told. replies_done g.T.Teller.told g.T.Teller.behind (frames.Bench c.args.event) _ _ c.bench.new.replies
+    on_ok_weaker c.tell_replies.result (λ told. replies_done g.T.Teller.told g.T.Teller.behind (frames.Bench c.args.event) _ _ c.bench.new.replies
     (carried_bench c.args.event _ _ c.bench.new.replies (subst (λ x. Around (Happens c.args.event) s c.bench.new.replies x) (sym same) c.bench.ensures.happens)
     (depth_covered c.args.satl.now c.bench.new.self c.tell_replies.new.satl (g.D.Drive.state c.args.drive.now) (g.D.Drive.state c.bench.new.drive) c.tell_replies.ensures.stays c.bench.ensures.deep (c.see_queue.ensures.deep (g.D.Drive.state c.bench.new.drive) c.bench.ensures.tied))) told) c.tell_replies.ensures.told
 

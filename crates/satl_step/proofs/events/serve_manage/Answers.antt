@@ -1,10 +1,11 @@
 use Rattle.std.proofs.Common.{arith, subst, sym}
+use Rattle.std.proofs.lemmas.Result.{on_err_weaker}
 use Rattle.satl_direct.specs.Quiet.{Around}
 use Rattle.satl_direct.specs.Run.{Manages, MayLose}
 use Rattle.satl_core.specs.Layer.{view}
 use Rattle.satl_frame.specs.declared.frames.Frame.TheVariants as frames
 use Rattle.satl_step.proofs.EventLemmas.{manage_before, manage_done, manage_in_part}
-use Rattle.satl_step.proofs.OutcomeLemmas.{any_err, on_both, on_err}
+use Rattle.satl_base.proofs.OutcomeLemmas.{any_err, on_both}
 use Rattle.satl_step.proofs.TallyLemmas.{depth_covered, tallied, tied_same, view_same}
 use Rattle.satl_step.proofs.events.serve_manage.Goals as goal
 
@@ -26,7 +27,7 @@ pub returns-clause-part : goal.returns-clause-part
 returns-clause-part g c =
     let s = view c.args.satl.now (g.D.Drive.state c.args.drive.now) in
     let same = view_same c.manage-response.new.self c.tell_replies.new.satl (g.D.Drive.state c.manage-response.new.drive) c.tell_replies.ensures.stays in
-    on_err c.tell_managed.result _ _ (λ part. manage_in_part g.T.Teller.told g.T.Teller.behind c.args.manage c.manage-response.result _ _ _ c.manage-response.new.replies
+    on_err_weaker c.tell_managed.result (λ part. manage_in_part g.T.Teller.told g.T.Teller.behind c.args.manage c.manage-response.result _ _ _ c.manage-response.new.replies
     (subst (λ x. Around (MayLose (Manages c.args.manage c.manage-response.result)) s c.manage-response.new.replies x) (sym same) c.manage-response.ensures.manages)
     (depth_covered c.args.satl.now c.manage-response.new.self c.tell_replies.new.satl (g.D.Drive.state c.args.drive.now) (g.D.Drive.state c.manage-response.new.drive) c.tell_replies.ensures.stays c.manage-response.ensures.kept.deep (c.see_queue.ensures.deep (g.D.Drive.state c.manage-response.new.drive) c.manage-response.ensures.tied)) c.in_ok-tell_replies.ensures.told part) c.tell_managed.ensures.part
 

@@ -1,11 +1,12 @@
 use Rattle.std.proofs.Common.{arith, subst, sym}
+use Rattle.std.proofs.lemmas.Result.{on_ok_weaker}
 use Rattle.satl_direct.specs.Arrival.{Arrives}
 use Rattle.satl_direct.specs.Run.{MayLose}
 use Rattle.satl_direct.specs.Quiet.{Around}
 use Rattle.satl_core.specs.Layer.{view}
 use Rattle.satl_frame.specs.declared.frames.Frame.TheVariants as frames
 use Rattle.satl_step.proofs.EventLemmas.{carried_request, replies_done, replies_in_part}
-use Rattle.satl_step.proofs.OutcomeLemmas.{on_both_err, on_ok}
+use Rattle.satl_base.proofs.OutcomeLemmas.{on_both_err}
 use Rattle.satl_step.proofs.TallyLemmas.{depth_covered, tallied, tied_same, view_same}
 use Rattle.satl_step.proofs.events.serve_request.Goals as goal
 
@@ -16,7 +17,7 @@ pub returns-clause-done : goal.returns-clause-done
 returns-clause-done g c =
     let s = view c.args.satl.now (g.D.Drive.state c.args.drive.now) in
     let same = view_same c.submit.new.self c.tell_replies.new.satl (g.D.Drive.state c.submit.new.drive) c.tell_replies.ensures.stays in
-    on_ok c.tell_replies.result _ _ (λ told. replies_done g.T.Teller.told g.T.Teller.behind (frames.Request c.args.request) _ _ c.submit.new.replies
+    on_ok_weaker c.tell_replies.result (λ told. replies_done g.T.Teller.told g.T.Teller.behind (frames.Request c.args.request) _ _ c.submit.new.replies
     (carried_request c.args.request _ _ c.submit.new.replies (λ w cut. subst (λ x. Around (MayLose (Arrives w)) s c.submit.new.replies x) (sym same) (c.submit.ensures.around w cut))
     (depth_covered c.args.satl.now c.submit.new.self c.tell_replies.new.satl (g.D.Drive.state c.args.drive.now) (g.D.Drive.state c.submit.new.drive) c.tell_replies.ensures.stays c.submit.ensures.kept.deep (c.see_queue.ensures.deep (g.D.Drive.state c.submit.new.drive) c.submit.ensures.tied))) told) c.tell_replies.ensures.told
 

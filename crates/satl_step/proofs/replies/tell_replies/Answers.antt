@@ -3,7 +3,7 @@ use Rattle.std.specs.List.{AllByRecursion}
 use Rattle.satl_frame.specs.Output.{IsWritable}
 use Rattle.satl_core.specs.Layer.{reply_pages}
 use Rattle.satl_step.proofs.TallyLemmas.{stays_on}
-use Rattle.satl_step.proofs.OutcomeLemmas.{any_err}
+use Rattle.satl_base.proofs.OutcomeLemmas.{any_err}
 use Rattle.satl_step.proofs.TellingLemmas.{so_far_more, so_far_stops}
 use Rattle.satl_step.proofs.replies.tell_replies.Goals as goal
 

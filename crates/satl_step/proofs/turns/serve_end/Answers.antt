@@ -1,6 +1,7 @@
 use Rattle.std.proofs.Common.{refl}
+use Rattle.std.proofs.lemmas.Result.{on_err_weaker}
 use Rattle.satl_step.proofs.EventLemmas.{all_ended, end_cut, end_done, end_in_part}
-use Rattle.satl_step.proofs.OutcomeLemmas.{any_err, on_both, on_err}
+use Rattle.satl_base.proofs.OutcomeLemmas.{any_err, on_both}
 use Rattle.satl_step.proofs.TallyLemmas.{end_tallied}
 use Rattle.satl_step.proofs.turns.serve_end.Goals as goal
 
@@ -12,7 +13,7 @@ returns-clause-done g c =
 pub returns-clause-part : goal.returns-clause-part
 returns-clause-part g c =
     let empty = all_ended _ c.args.satl.now c.serve_turns.new.satl c.pending-count.ensures.count c.in_ok-serve_turns.ensures.fewer in
-    on_err c.tell_end.result _ _ (λ part. end_in_part g.T.Teller.told g.T.Teller.behind c.pending-count.result _ _ _ refl empty c.in_ok-serve_turns.ensures.told part) c.tell_end.ensures.part
+    on_err_weaker c.tell_end.result (λ part. end_in_part g.T.Teller.told g.T.Teller.behind c.pending-count.result _ _ _ refl empty c.in_ok-serve_turns.ensures.told part) c.tell_end.ensures.part
 
 pub returns-in_err-serve_turns-clause-part : goal.returns-in_err-serve_turns-clause-part
 returns-in_err-serve_turns-clause-part g c = any_err c.from_residual.result _ (end_cut g.T.Teller.told g.T.Teller.behind c.pending-count.result _ _ c.in_err-serve_turns.ensures.part)

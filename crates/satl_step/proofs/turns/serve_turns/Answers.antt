@@ -2,7 +2,7 @@ use Rattle.std.proofs.Common.{arith}
 use Rattle.satl_step.specs.Events.{scene_of}
 use Rattle.satl_step.specs.Runs.{stand_of}
 use Rattle.satl_step.proofs.EventLemmas.{turns_cut, turns_more, turns_none}
-use Rattle.satl_step.proofs.OutcomeLemmas.{any_err}
+use Rattle.satl_base.proofs.OutcomeLemmas.{any_err}
 use Rattle.satl_step.proofs.TallyLemmas.{turns_on, turns_start}
 use Rattle.satl_step.proofs.turns.serve_turns.Goals as goal
 

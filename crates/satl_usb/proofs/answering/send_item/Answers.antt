@@ -1,6 +1,6 @@
 use Rattle.std.proofs.Common.{None, refl, subst}
 use Rattle.satl_step.specs.Events.{scene_of}
-use Rattle.satl_step.proofs.OutcomeLemmas.{any_err}
+use Rattle.satl_base.proofs.OutcomeLemmas.{any_err}
 use Rattle.satl_usb.specs.Exchanges.{item_behind, item_told}
 use Rattle.satl_usb.specs.Serving.{Exchanged, ExchangedInPart}
 use Rattle.satl_usb.proofs.AnsweringLemmas.{sent_in_part, sent_so}

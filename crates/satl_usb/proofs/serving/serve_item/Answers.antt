@@ -1,8 +1,9 @@
 use Rattle.std.proofs.Common.{ap, arith, map}
+use Rattle.std.proofs.lemmas.Result.{on_ok_weaker, on_err_weaker}
 use Rattle.satl_line.specs.Tasks.{entries_of}
 use Rattle.satl_direct.specs.Tasks.{task_of}
 use Rattle.satl_step.specs.Events.{scene_of}
-use Rattle.satl_step.proofs.OutcomeLemmas.{any_err, on_err, on_ok}
+use Rattle.satl_base.proofs.OutcomeLemmas.{any_err}
 use Rattle.satl_usb.proofs.ServingLemmas.{exchanged, first_fails, no_tasks, second_fails}
 use Rattle.satl_usb.proofs.serving.serve_item.Goals as goal
 
@@ -15,7 +16,7 @@ returns-in_err-serve_event-clause-part g c =
 
 pub returns-clause-exchanged : goal.returns-clause-exchanged
 returns-clause-exchanged g c =
-    on_ok c.serve_event-2.result _ _ (λ turn. exchanged g.T.Teller.told g.T.Teller.behind c.args.request
+    on_ok_weaker c.serve_event-2.result (λ turn. exchanged g.T.Teller.told g.T.Teller.behind c.args.request
     (scene_of c.args.satl.now (g.D.Drive.state c.args.drive.now) c.args.steps.now c.args.teller.now (g.K.Sink.written c.args.sink.now))
     (scene_of c.serve_event.new.satl (g.D.Drive.state c.serve_event.new.drive) c.serve_event.new.steps c.serve_event.new.teller (g.K.Sink.written c.serve_event.new.sink))
     (scene_of c.serve_event-2.new.satl (g.D.Drive.state c.serve_event-2.new.drive) c.serve_event-2.new.steps c.serve_event-2.new.teller (g.K.Sink.written c.serve_event-2.new.sink))
@@ -23,7 +24,7 @@ returns-clause-exchanged g c =
 
 pub returns-clause-part : goal.returns-clause-part
 returns-clause-part g c =
-    on_err c.serve_event-2.result _ _ (λ turn. second_fails g.T.Teller.told g.T.Teller.behind c.args.request
+    on_err_weaker c.serve_event-2.result (λ turn. second_fails g.T.Teller.told g.T.Teller.behind c.args.request
     (scene_of c.args.satl.now (g.D.Drive.state c.args.drive.now) c.args.steps.now c.args.teller.now (g.K.Sink.written c.args.sink.now))
     (scene_of c.serve_event.new.satl (g.D.Drive.state c.serve_event.new.drive) c.serve_event.new.steps c.serve_event.new.teller (g.K.Sink.written c.serve_event.new.sink))
     (scene_of c.serve_event-2.new.satl (g.D.Drive.state c.serve_event-2.new.drive) c.serve_event-2.new.steps c.serve_event-2.new.teller (g.K.Sink.written c.serve_event-2.new.sink))
@@ -31,7 +32,7 @@ returns-clause-part g c =
 
 pub returns-clause-idle : goal.returns-clause-idle
 returns-clause-idle g c =
-    on_ok c.serve_event-2.result _ _ (λ turn. no_tasks c.serve_event-2.new.satl.tasks (exchanged g.T.Teller.told g.T.Teller.behind c.args.request
+    on_ok_weaker c.serve_event-2.result (λ turn. no_tasks c.serve_event-2.new.satl.tasks (exchanged g.T.Teller.told g.T.Teller.behind c.args.request
     (scene_of c.args.satl.now (g.D.Drive.state c.args.drive.now) c.args.steps.now c.args.teller.now (g.K.Sink.written c.args.sink.now))
     (scene_of c.serve_event.new.satl (g.D.Drive.state c.serve_event.new.drive) c.serve_event.new.steps c.serve_event.new.teller (g.K.Sink.written c.serve_event.new.sink))
     (scene_of c.serve_event-2.new.satl (g.D.Drive.state c.serve_event-2.new.drive) c.serve_event-2.new.steps c.serve_event-2.new.teller (g.K.Sink.written c.serve_event-2.new.sink))
@@ -40,5 +41,5 @@ returns-clause-idle g c =
 pub returns-clause-cause : goal.returns-clause-cause
 returns-clause-cause g c = record {
   later = omega (arith, c.serve_event.ensures.cause.later, c.serve_event-2.ensures.cause.later);
-  failed = on_err c.serve_event-2.result _ _ (λ rose. omega (arith, rose, c.serve_event.ensures.cause.later)) c.serve_event-2.ensures.cause.failed;
+  failed = on_err_weaker c.serve_event-2.result (λ rose. omega (arith, rose, c.serve_event.ensures.cause.later)) c.serve_event-2.ensures.cause.failed;
 }

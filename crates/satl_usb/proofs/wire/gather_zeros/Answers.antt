@@ -1,6 +1,6 @@
 use Rattle.std.proofs.Common.{arith}
 use Rattle.std.proofs.lemmas.List.{take-replicate}
-use Rattle.satl_step.proofs.OutcomeLemmas.{any_err}
+use Rattle.satl_base.proofs.OutcomeLemmas.{any_err}
 use Rattle.satl_usb.proofs.WireLemmas.{zeros_failed, zeros_gathered}
 use Rattle.satl_usb.proofs.wire.gather_zeros.Goals as goal
 

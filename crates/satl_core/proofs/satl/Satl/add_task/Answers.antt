@@ -4,7 +4,8 @@ use Rattle.satl_line.specs.declared.entry.Entry.{Entry}
 use Rattle.satl_line.specs.Kinds.{kind_of}
 use Rattle.satl_line.specs.Tasks.{is_too_much}
 use Rattle.satl_direct.specs.Tasks.{asks, held_blocks, needed}
-use Rattle.satl_core.specs.Layer.{CanTrim, IsExpectable, IsTask, Layer, entry_pages, held_pages}
+use Rattle.satl_core.specs.Layer.{CanTrim, IsTask, Layer, entry_pages, held_pages}
+use Rattle.satl_base.specs.Limits.{IsExpectable}
 use Rattle.satl_core.proofs.JudgingLemmas.{list_held, long_enough}
 use Rattle.std.specs.Prelude.{IfSome}
 use Rattle.satl_mode.specs.Changes.{IsChangeOf}

@@ -1,9 +1,10 @@
 use Rattle.std.proofs.Common.{refl, sym, ap, ◌∙◌, arith}
+use Rattle.satl_base.proofs.OutcomeLemmas.{any_err}
 use Rattle.satl_core.specs.Opening.IsUndisturbed.{cut_off, untouched, written_back}
 use Rattle.satl_flight.specs.Queueing.{Waiting}
 use Rattle.satl_core.specs.Layer.{held_pages}
 use Rattle.satl_barrier.proofs.CommandsLemmas.{cut_nows}
-use Rattle.satl_core.proofs.OpeningLemmas.{at_error, judged_as_told, opened, told_nows}
+use Rattle.satl_core.proofs.OpeningLemmas.{judged_as_told, opened, told_nows}
 use Rattle.satl_core.proofs.satl.Satl.open.Goals as goal
 
 pub returns-in-Err-clause-nows : goal.returns-in-Err-clause-nows
@@ -22,10 +23,10 @@ pub returns-clause-nows : goal.returns-clause-nows
 returns-clause-nows g c = told_nows _ _ _ _ c.in-Ok.ensures.told
 
 pub returns-in_err-queue-clause-alone : goal.returns-in_err-queue-clause-alone
-returns-in_err-queue-clause-alone g c = at_error c.from_residual.result (untouched refl)
+returns-in_err-queue-clause-alone g c = any_err c.from_residual.result _ (untouched refl)
 
 pub returns-in_err-pool-clause-alone : goal.returns-in_err-pool-clause-alone
-returns-in_err-pool-clause-alone g c = at_error c.from_residual-in_err-pool.result (untouched refl)
+returns-in_err-pool-clause-alone g c = any_err c.from_residual-in_err-pool.result _ (untouched refl)
 
 pub returns-in-Err-clause-alone : goal.returns-in-Err-clause-alone
 returns-in-Err-clause-alone g c = cut_off c.in-Err.ensures.lost

@@ -101,6 +101,11 @@ returns-then-len-eq0-clause-unasked g c = λ down.
     let becomes = subst (λ (l : Layer). Becomes c.args.request c.in-Ok.command l c.add_task.new.replies c.add_task.new.self) c.in-Ok.ensures.same c.add_task.ensures.becomes in
     c.send_last.ensures.unasked (becomes_down c.args.self.now c.add_task.new.self (g.D.Drive.state c.args.drive.now) c.args.request c.in-Ok.command c.add_task.new.replies becomes ∙ down)
 
+pub returns-then-len-eq0-clause-uncalled : goal.returns-then-len-eq0-clause-uncalled
+returns-then-len-eq0-clause-uncalled g c = λ down.
+    let becomes = subst (λ (l : Layer). Becomes c.args.request c.in-Ok.command l c.add_task.new.replies c.add_task.new.self) c.in-Ok.ensures.same c.add_task.ensures.becomes in
+    c.send_last.ensures.uncalled (becomes_down c.args.self.now c.add_task.new.self (g.D.Drive.state c.args.drive.now) c.args.request c.in-Ok.command c.add_task.new.replies becomes ∙ down)
+
 pub returns-then-len-eq0-clause-calls : goal.returns-then-len-eq0-clause-calls
 returns-then-len-eq0-clause-calls g c =
     let becomes = subst (λ (l : Layer). Becomes c.args.request c.in-Ok.command l c.add_task.new.replies c.add_task.new.self) c.in-Ok.ensures.same c.add_task.ensures.becomes in

@@ -3,11 +3,10 @@ use Rattle.std.specs.Prelude.{slice_get}
 use Rattle.satl_line.specs.Tasks.{slots_of}
 use Rattle.satl_flight.specs.Flown.{holds}
 use Rattle.satl_flight.specs.Queueing.{Waiting}
-use Rattle.satl_flight.proofs.LendingLemmas.{whole-slots}
-use Rattle.satl_flight.proofs.QueueLemmas.{slot_at}
+use Rattle.satl_flight.proofs.LendingLemmas.{whole-slots, slots-get}
 use Rattle.satl_flight.proofs.queue.Queue.is_outstanding.Goals as goal
 
 pub returns : goal.returns
 returns c = λ h stands.
     let in_slot = ap (λ l. slice_get l c.args.place) (ap (λ (w : Waiting). slots_of w.tasks) (sym c.self.view_is) ∙ whole-slots c.self.inside.flight c.self.inside.dma c.self.inside.set) ∙ c.slot_of.ensures.value in
-    c.holds_slot.ensures ∙ (ap (holds c.self.inside.flight) (slot_at c.args.self.now.tasks c.args.place c.slot_of.result h in_slot stands) ∙ ap (λ (w : Waiting). holds w.flying h.slot) c.self.view_is)
+    c.holds_slot.ensures ∙ (ap (holds c.self.inside.flight) (sym (slots-get c.args.self.now.tasks c.args.place h c.slot_of.result stands in_slot)) ∙ ap (λ (w : Waiting). holds w.flying h.slot) c.self.view_is)

@@ -1,7 +1,7 @@
 use Rattle.std.proofs.Common.{arith, take}
 use Rattle.std.proofs.lemmas.List.{length-take}
-use Rattle.satl_core.proofs.TellingLemmas.{pages_hold}
-use Rattle.satl_core.proofs.telling.told.Goals as goal
+use Rattle.satl_telling.proofs.TellingLemmas.{pages_hold}
+use Rattle.satl_telling.proofs.telling.told.Goals as goal
 
 pub returns-clause-writable : goal.returns-clause-writable
 returns-clause-writable c = λ expected. record {

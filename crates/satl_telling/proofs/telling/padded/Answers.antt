@@ -1,5 +1,5 @@
-use Rattle.satl_core.proofs.TellingLemmas.{padded_is}
-use Rattle.satl_core.proofs.telling.padded.Goals as goal
+use Rattle.satl_telling.proofs.TellingLemmas.{padded_is}
+use Rattle.satl_telling.proofs.telling.padded.Goals as goal
 
 pub returns : goal.returns
 returns c = padded_is c.min-count.result c.args.bytes.now c.copy_from_slice.new.self c.min-count.ensures c.copy_from_slice.ensures.after

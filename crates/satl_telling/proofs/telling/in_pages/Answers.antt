@@ -1,6 +1,6 @@
 use Rattle.std.proofs.Common.{arith, refl, ap, ◌∙◌, length}
-use Rattle.satl_core.proofs.TellingLemmas.{all_placed, none_placed, one_placed}
-use Rattle.satl_core.proofs.telling.in_pages.Goals as goal
+use Rattle.satl_telling.proofs.TellingLemmas.{all_placed, none_placed, one_placed}
+use Rattle.satl_telling.proofs.telling.in_pages.Goals as goal
 
 pub loop-left-init : goal.loop-left-init
 loop-left-init c =

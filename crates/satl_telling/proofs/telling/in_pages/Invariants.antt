@@ -1,6 +1,6 @@
 use Rattle.std.proofs.Common.{◌≡◌, ◌≤◌, ◌+◌, ◌-◌, ◌*◌, length, drop}
 use Rattle.satl_frame.specs.DataPages.{page_count, pages_from}
-use Rattle.satl_core.proofs.telling.in_pages.Given as goal
+use Rattle.satl_telling.proofs.telling.in_pages.Given as goal
 
 abbrev pub invariant-loop-left : goal.invariant-loop-left
 invariant-loop-left l = record {

@@ -5,14 +5,13 @@ ghost use Rattle.satl_vpd.specs.Vital.{vpd_page};
 ghost use Rattle.satl_frame.specs.DataPages.{padded_block, pages_of};
 ghost use Rattle.satl_frame.specs.Output.{IsWritable};
 ghost use Rattle.satl_direct.specs.Arrival.{told};
-ghost use Rattle.satl_core.specs.Layer.{IsExpectable};
-ghost use Rattle.satl_core.specs.Telling.{data_text};
+ghost use Rattle.satl_base.specs.Limits.{IsExpectable};
+ghost use Rattle.satl_telling.specs.Telling.{data_text};
 
 use arrayvec::ArrayVec;
 use satl_base::{Block, Modes, Pages, Reply, Request, Scsi};
-use satl_cdb::Command;
 use satl_identify::Identity;
-use satl_mode::mode_sense;
+use satl_mode::{ModeSense, mode_sense};
 use satl_pages::Pool;
 use satl_sense::{Sense, sense_bytes};
 use satl_vpd::{capacity10, capacity16, inquiry, luns, vpd};
@@ -24,23 +23,14 @@ pub enum Data {
     Inquiry(Option<u8>),
     /// The standard INQUIRY data of a LUN at which there is no logical unit.
     NoUnit,
-    /// The fields of a MODE SENSE.
-    Modes {
-        ten: bool,
-        long_lba: bool,
-        no_descriptor: bool,
-        control: u8,
-        page: u8,
-    },
+    /// Mode pages, as a MODE SENSE asks for them.
+    Modes(ModeSense),
     Capacity10,
     Capacity16,
     /// The list of LUNs by SELECT REPORT.
     Luns(u8),
     /// Sense data, in the descriptor form or in the fixed form.
-    Sense {
-        descriptor: bool,
-        sense: Sense,
-    },
+    Sense { descriptor: bool, sense: Sense },
 }
 
 /// Data-in before they are cut, at most 572 bytes.
@@ -85,23 +75,7 @@ pub fn data_text(identity: &Identity, modes: &Modes, what: &Data) -> Text
         Data::Inquiry(None) => text(&inquiry(identity, true)),
         Data::Inquiry(Some(page)) => page_text(identity, page),
         Data::NoUnit => text(&inquiry(identity, false)),
-        Data::Modes {
-            ten,
-            long_lba,
-            no_descriptor,
-            control,
-            page,
-        } => {
-            let command = Command::ModeSense {
-                ten,
-                long_lba,
-                no_descriptor,
-                control,
-                page,
-                alloc: 0,
-            };
-            text(&mode_sense(identity, modes, &command))
-        }
+        Data::Modes(asked) => text(&mode_sense(identity, modes, &asked)),
         Data::Capacity10 => text(&capacity10(identity)),
         Data::Capacity16 => text(&capacity16(identity)),
         Data::Luns(select) => lun_text(select),
@@ -143,8 +117,28 @@ fn in_pages(pool: &mut Pool, bytes: &[u8]) -> Pages
     done
 }
 
+/// GOOD with what the device says of itself, cut to the allocation length (SPC-4 4.3.5.6). A function of its own, so that no
+/// other answer pays for the room of its text.
+pub fn tell(
+    pool: &mut Pool,
+    identity: &Identity,
+    modes: &Modes,
+    request: &Request,
+    what: &Data,
+    alloc: u32,
+) -> Reply
+    requires capacity { 1 ≤ identity.now.capacity }
+    requires room { 2 ≤ pool.old.free }
+    ensures reply { result ≡ told request.now alloc (data_text identity.now modes.now what.now) }
+    ensures free { pool.new.free + length result.body ≡ pool.old.free }
+    ensures out { pool.new.out ≡ pool.old.out + length result.body }
+    ensures writable { IsExpectable request.now.expected → IsWritable result }
+{
+    told(pool, request, alloc, &data_text(identity, modes, what))
+}
+
 /// GOOD with data-in, cut to the allocation length (SPC-4 4.3.5.6).
-pub fn told(pool: &mut Pool, request: &Request, alloc: u32, text: &[u8]) -> Reply
+fn told(pool: &mut Pool, request: &Request, alloc: u32, text: &[u8]) -> Reply
     requires few { length text.now ≤ 576 }
     requires room { 2 ≤ pool.old.free }
     ensures reply { result ≡ told request.now alloc text.now }
