@@ -17,6 +17,9 @@ use satl_io::{Failed, Sink};
 /// At most 8,192 bytes that wait to be written (profile). A reply with 4 KiB of data fits whole.
 pub type Gathered = ArrayVec<u8, 8192>;
 
+/// What stands before the data of a reply: 12 or 16 bytes, and at most 32 of sense.
+type Front = ArrayVec<u8, 48>;
+
 /// Writes all the bytes (profile), in one write call if the sink takes all that it is given. `Failed` comes only where the
 /// sink's count of faults rose, and then some front of the bytes was written.
 pub fn push<K: Sink>(sink: &mut K, bytes: &[u8]) -> Result<(), Failed>
@@ -140,16 +143,51 @@ fn second_head(reply: &Reply, expected: u32) -> [u8; 16]
     ]
 }
 
-/// A reply up to its sense, gathered first.
-fn gather_fields(reply: &Reply, gathered: &mut Gathered)
+/// Puts bytes behind those of a front, where they fit.
+fn extend(front: &mut Front, bytes: &[u8])
+    requires { array_vec_len front.old + length bytes.now ≤ 48 }
+    ensures { front.new.items ≡ front.old.items ++ bytes.now }
+{
+    match front.try_extend_from_slice(bytes) {
+        Ok(()) => {}
+        Err(_) => unreachable!(),
+    }
+}
+
+/// A reply up to its sense.
+fn extend_by_fields(reply: &Reply, front: &mut Front)
     requires writable { IsWritable reply.now }
-    requires empty { gathered.old.items ≡ [] }
-    ensures bytes { gathered.new.items ≡ framed (reply_kind reply.now.expected) (reply_len reply.now) (reply_fields reply.now) }
-    ensures few { array_vec_len gathered.new ≤ 16 }
+    requires empty { front.old.items ≡ [] }
+    ensures bytes { front.new.items ≡ framed (reply_kind reply.now.expected) (reply_len reply.now) (reply_fields reply.now) }
+    ensures few { array_vec_len front.new ≤ 16 }
 {
     match reply.expected {
-        None => append(gathered, &first_head(reply)),
-        Some(expected) => append(gathered, &second_head(reply, expected)),
+        None => extend(front, &first_head(reply)),
+        Some(expected) => extend(front, &second_head(reply, expected)),
+    }
+}
+
+/// Writes what stands before the data of a reply, and the data. Apart from what writes a reply without data: a function
+/// blanks its locals when it begins, and this one has a large one.
+fn write_with_data<K: Sink>(
+    sink: &mut K,
+    front: &Front,
+    pages: &Pages,
+    len: u32,
+) -> Result<(), Failed>
+    requires { len ≤ 512 * length pages.now }
+    ensures all { OnOk result (Wrote (K.written sink.old) (K.written sink.new) (front.now.items ++ first_bytes len pages.now)) }
+    ensures part { OnErr result (WrotePart (K.written sink.old) (K.written sink.new) (front.now.items ++ first_bytes len pages.now)) }
+    ensures cause { HasCause (K.faults sink.old) (K.faults sink.new) result }
+{
+    let mut gathered = Gathered::new();
+    append(&mut gathered, front.as_slice());
+    match gather_data(sink, &mut gathered, pages, len) {
+        Ok(()) => match push(sink, gathered.as_slice()) {
+            Ok(()) => Ok(()),
+            Err(Failed) => Err(Failed),
+        },
+        Err(Failed) => Err(Failed),
     }
 }
 
@@ -159,15 +197,15 @@ fn write_reply<K: Sink>(sink: &mut K, reply: &Reply) -> Result<(), Failed>
     ensures part { OnErr result (WrotePart (K.written sink.old) (K.written sink.new) (reply_bytes reply.now)) }
     ensures cause { HasCause (K.faults sink.old) (K.faults sink.new) result }
 {
-    let mut gathered = Gathered::new();
-    gather_fields(reply, &mut gathered);
-    append(&mut gathered, reply.sense.as_slice());
+    let mut front = Front::new();
+    extend_by_fields(reply, &mut front);
+    extend(&mut front, reply.sense.as_slice());
     let len = sent_len(reply.expected, reply.data_len);
-    match gather_data(sink, &mut gathered, &reply.body, len) {
-        Ok(()) => match push(sink, gathered.as_slice()) {
-            Ok(()) => Ok(()),
-            Err(Failed) => Err(Failed),
-        },
+    if len > 0 {
+        return write_with_data(sink, &front, &reply.body, len);
+    }
+    match push(sink, front.as_slice()) {
+        Ok(()) => Ok(()),
         Err(Failed) => Err(Failed),
     }
 }
