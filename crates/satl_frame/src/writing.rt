@@ -20,6 +20,9 @@ pub type Gathered = ArrayVec<u8, 8192>;
 /// What stands before the data of a reply: 12 or 16 bytes, and at most 32 of sense.
 type Front = ArrayVec<u8, 48>;
 
+/// A whole reply with at most 4 KiB of data.
+type Whole = ArrayVec<u8, 4144>;
+
 /// Writes all the bytes (profile), in one write call if the sink takes all that it is given. `Failed` comes only where the
 /// sink's count of faults rose, and then some front of the bytes was written.
 pub fn push<K: Sink>(sink: &mut K, bytes: &[u8]) -> Result<(), Failed>
@@ -167,14 +170,45 @@ fn extend_by_fields(reply: &Reply, front: &mut Front)
     }
 }
 
-/// Writes what stands before the data of a reply, and the data. Apart from what writes a reply without data: a function
-/// blanks its locals when it begins, and this one has a large one.
-fn write_with_data<K: Sink>(
-    sink: &mut K,
-    front: &Front,
-    pages: &Pages,
-    len: u32,
-) -> Result<(), Failed>
+/// Gathers the first `len` bytes that the pages hold, where all of them fit.
+fn gather_whole(gathered: &mut Whole, pages: &Pages, len: u32)
+    requires held { len ≤ 512 * length pages.now }
+    requires fits { array_vec_len gathered.old + len ≤ 4144 }
+    ensures { gathered.new.items ≡ gathered.old.items ++ first_bytes len pages.now }
+{
+    let mut left = len as usize;
+    for block in pages.iter() {
+        let bytes = block.as_bytes();
+        let count = left.min(512);
+        match gathered.try_extend_from_slice(&bytes[..count]) {
+            Ok(()) => left -= count,
+            Err(_) => unreachable!(),
+        }
+    }
+}
+
+/// Writes what stands before the data of a reply, and at most 4 KiB of data, in one piece.
+fn write_whole<K: Sink>(sink: &mut K, front: &Front, pages: &Pages, len: u32) -> Result<(), Failed>
+    requires held { len ≤ 512 * length pages.now }
+    requires short { len ≤ 4096 }
+    ensures all { OnOk result (Wrote (K.written sink.old) (K.written sink.new) (front.now.items ++ first_bytes len pages.now)) }
+    ensures part { OnErr result (WrotePart (K.written sink.old) (K.written sink.new) (front.now.items ++ first_bytes len pages.now)) }
+    ensures cause { HasCause (K.faults sink.old) (K.faults sink.new) result }
+{
+    let mut gathered = Whole::new();
+    match gathered.try_extend_from_slice(front.as_slice()) {
+        Ok(()) => {}
+        Err(_) => unreachable!(),
+    }
+    gather_whole(&mut gathered, pages, len);
+    match push(sink, gathered.as_slice()) {
+        Ok(()) => Ok(()),
+        Err(Failed) => Err(Failed),
+    }
+}
+
+/// Writes what stands before the data of a reply, and the data, in pieces of at most 8,192 bytes.
+fn write_pieces<K: Sink>(sink: &mut K, front: &Front, pages: &Pages, len: u32) -> Result<(), Failed>
     requires { len ≤ 512 * length pages.now }
     ensures all { OnOk result (Wrote (K.written sink.old) (K.written sink.new) (front.now.items ++ first_bytes len pages.now)) }
     ensures part { OnErr result (WrotePart (K.written sink.old) (K.written sink.new) (front.now.items ++ first_bytes len pages.now)) }
@@ -188,6 +222,26 @@ fn write_with_data<K: Sink>(
             Err(Failed) => Err(Failed),
         },
         Err(Failed) => Err(Failed),
+    }
+}
+
+/// Writes what stands before the data of a reply, and the data. A function blanks its locals when it begins, so each buffer
+/// stands in a function of its own.
+fn write_with_data<K: Sink>(
+    sink: &mut K,
+    front: &Front,
+    pages: &Pages,
+    len: u32,
+) -> Result<(), Failed>
+    requires { len ≤ 512 * length pages.now }
+    ensures all { OnOk result (Wrote (K.written sink.old) (K.written sink.new) (front.now.items ++ first_bytes len pages.now)) }
+    ensures part { OnErr result (WrotePart (K.written sink.old) (K.written sink.new) (front.now.items ++ first_bytes len pages.now)) }
+    ensures cause { HasCause (K.faults sink.old) (K.faults sink.new) result }
+{
+    if len <= 4096 {
+        write_whole(sink, front, pages, len)
+    } else {
+        write_pieces(sink, front, pages, len)
     }
 }
 

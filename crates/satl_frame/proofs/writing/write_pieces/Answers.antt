@@ -1,8 +1,8 @@
 use Rattle.std.proofs.Common.{◌≡◌, ◌++◌, ◌∙◌, ap, subst, List, ℕ}
 use Rattle.satl_base.specs.Blocks.{first_bytes}
 use Rattle.satl_io.specs.Known.{WrotePart}
-use Rattle.satl_frame.proofs.GatheringLemmas.{gathers_end, gathers_end_part}
-use Rattle.satl_frame.proofs.writing.write_with_data.Goals as goal
+use Rattle.satl_frame.proofs.GatheringLemmas.{gathers_end_part}
+use Rattle.satl_frame.proofs.writing.write_pieces.Goals as goal
 
 pub returns-in-Err-push-clause-part : goal.returns-in-Err-push-clause-part
 returns-in-Err-push-clause-part g c =
