@@ -1,5 +1,6 @@
 -- A good input is served whole where all goes well.
 use Rattle.std.proofs.Common.{◌≡◌, ◌≤◌, ◌+◌, inl, inr, refl, ◌∙◌, ap, sym, subst, ℕ, List, [], ◌∷◌, ◌++◌}
+use Rattle.std.proofs.lemmas.Result.{IfErr-weaker}
 use Rattle.std.specs.Prelude.{Option, None, Some, Ok, Err, Result, IfErr, IfOk, MatchResult}
 use Rattle.std.specs.Result.{IsErrAnd}
 use Rattle.satl_identify.specs.declared.identity.IdentityFault.{IdentityFault}
@@ -19,7 +20,6 @@ use Rattle.satl_core.specs.Layer.{Layer, Tied, view}
 use Rattle.satl_core.specs.Opening.{IsCause, IsOpened}
 use Rattle.satl_core.specs.Tie.{TiesQueue}
 use Rattle.satl_step.specs.Runs.{tally_of}
-use Rattle.satl_step.proofs.OutcomeLemmas.{if_err}
 use Rattle.satl_serve.specs.Completeness.{GoesWell, IsGoodInput, MayStop}
 use Rattle.satl_serve.specs.Headline.{IsNotServed, ResultSays}
 use Rattle.satl_serve.specs.Moments.{Moment, Spot, spot_at}
@@ -96,8 +96,8 @@ pub says_opened : {A : Type 0} (form : Form) (limit : ℕ) (before after : Momen
     → IfErr r (RanTo form limit (record { left = before.source.left; written = before.sink.written; stand = record { device = view l mid; tally = tally_of mid opened } }) (spot_at (view l' after.drive) after.calls after))
     → IfErr r (HasStreamCause before.source after.source before.sink after.sink) → ResultSays form limit before after r
 says_opened form limit before after mid opened l l' is one tied ties r whole stopped cause = record {
-  stopped = if_err r _ _ (stops form limit before after mid opened l l' is one tied ties) stopped;
-  causes = if_err r _ _ (cause_of_serving before after) cause;
+  stopped = IfErr-weaker r _ _ (stops form limit before after mid opened l l' is one tied ties) stopped;
+  causes = IfErr-weaker r _ _ (cause_of_serving before after) cause;
   refused = λ refusal refused. let both : Err refusal ≡ Ok l.identity = sym refused.refused ∙ is.identity in cc;
   complete = λ fs rest good well. all_complete form limit _ _ before after fs rest r whole stopped cause good well;
 }
