@@ -19,8 +19,11 @@ use std::alloc::Global;
 /// The device of a record but for its sectors, and how far the output is compared.
 #[derive(Drop)]
 pub struct Steps<'a> {
+    /// The tasks that wait, in order of arrival.
     pub waiting: Waiting,
+    /// The unit attentions of each nexus.
     pub attentions: [Attentions; 4],
+    /// The output that is left to compare.
     pub output: Cursor<'a>,
 }
 

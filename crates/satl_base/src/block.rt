@@ -3,6 +3,7 @@
 /// A logical block of 512 bytes (SBC-3 4.5; the size is fixed by the profile).
 #[derive(Clone, Copy, Debug, PartialEq, Eq)]
 pub struct Block {
+    /// Its 512 bytes.
     pub bytes: [u8; 512],
 }
 
@@ -29,6 +30,8 @@ impl Block {
 /// `count` blocks from the address `lba` on (SBC-3, LBA and NUMBER OF LOGICAL BLOCKS).
 #[derive(Clone, Copy, Debug, Default, PartialEq, Eq)]
 pub struct Range {
+    /// The logical block address of the first block.
     pub lba: u64,
+    /// The number of blocks.
     pub count: u32,
 }

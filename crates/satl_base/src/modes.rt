@@ -14,7 +14,10 @@ pub struct Modes {
 /// What a mode parameter list sets: each value that it has a page for (SPC-4, MODE SELECT(6) and (10)).
 #[derive(Clone, Copy, Debug, Default, PartialEq, Eq)]
 pub struct ModeChange {
+    /// WCE, where the list has it: the write cache is on (SBC-3, Caching mode page).
     pub wce: Option<bool>,
+    /// DRA, where the list has it: read look-ahead is off (SBC-3, Caching mode page).
     pub dra: Option<bool>,
+    /// D_SENSE, where the list has it: sense data in the descriptor form (SPC-4, Control mode page).
     pub d_sense: Option<bool>,
 }

@@ -59,9 +59,13 @@ pub type SenseBytes = ArrayVec<u8, 32>;
 /// The answer to one command (SAM-5 5.1, Execute Command).
 #[derive(Drop)]
 pub struct Reply {
+    /// The nexus of the request.
     pub nexus: Nexus,
+    /// The tag of the request.
     pub tag: Tag,
+    /// The status (SAM-5 5.3).
     pub status: Scsi,
+    /// The sense data, empty with GOOD (SPC-4 4.5).
     pub sense: SenseBytes,
     /// The data-in, in the fewest blocks that have room for it.
     pub body: Pages,

@@ -68,9 +68,13 @@ pub enum Attr {
 /// A SCSI command as it arrives (SAM-5 5.1, Execute Command).
 #[derive(Drop)]
 pub struct Request {
+    /// The nexus that sent it.
     pub nexus: Nexus,
+    /// The task attribute (SAM-5 8.6).
     pub attr: Attr,
+    /// The logical unit number, in 8 bytes (SAM-5 4.6).
     pub lun: [u8; 8],
+    /// The tag that the nexus gave it.
     pub tag: Tag,
     /// A CDB shorter than 16 bytes stands at the front.
     pub cdb: [u8; 16],
@@ -85,8 +89,12 @@ pub struct Request {
 /// A task management function as it arrives (SAM-5 7). The codes are the profile's.
 #[derive(Clone, Copy, Debug, PartialEq, Eq)]
 pub struct Manage {
+    /// The nexus that sent it.
     pub nexus: Nexus,
+    /// The code of the function (profile).
     pub function: u8,
+    /// The logical unit number, in 8 bytes (SAM-5 4.6).
     pub lun: [u8; 8],
+    /// The tag of the task that it is about.
     pub tag: Tag,
 }

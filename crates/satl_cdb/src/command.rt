@@ -89,9 +89,13 @@ pub enum Command {
 /// pointed to, in the CDB or in the parameter list (SPC-4 4.5.2.4.2).
 #[derive(Clone, Copy, Debug, PartialEq, Eq)]
 pub struct Illegal {
+    /// The additional sense code.
     pub asc: u8,
+    /// Its qualifier.
     pub ascq: u8,
+    /// The byte at which the field in error begins.
     pub pointer: Option<u16>,
+    /// Whether that byte is one of the CDB, and not of the data-out.
     pub in_cdb: bool,
 }
 

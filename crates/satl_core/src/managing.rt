@@ -26,8 +26,11 @@ pub enum Posting {
 /// What a function does: which tasks go, what it posts, and its response (SAM-5 7).
 #[derive(Clone, Copy, Debug, PartialEq, Eq)]
 pub struct Effect {
+    /// The tasks that go.
     pub goes: Scope,
+    /// The unit attention that is posted, and to whom.
     pub posts: Option<Posting>,
+    /// The response to the function.
     pub response: Response,
 }
 

@@ -15,8 +15,11 @@ use std::collections::BTreeSet;
 /// The frames so far: the names with which they asked, and the offset of the first that is not covered.
 #[derive(Drop)]
 pub struct Noted {
+    /// Whether the drive has trim, which decides which CDBs are read.
     pub trim: bool,
+    /// The nexus and tag of each request so far, in one number.
     pub names: BTreeSet<u64>,
+    /// The offset in bytes of the first frame that is not covered.
     pub uncovered: Option<u64>,
 }
 

@@ -5,14 +5,23 @@
 /// `tag` is below 32, and `lba` has 48 bits. `key`, `asc` and `ascq` are sense data, 0 where the drive gives none.
 #[derive(Clone, Copy, Debug, PartialEq, Eq)]
 pub struct NcqError {
+    /// The tag of the command that failed, 0 to 31.
     pub tag: u8,
+    /// The STATUS register.
     pub status: u8,
+    /// The ERROR register.
     pub error: u8,
+    /// The address, 48 bits.
     pub lba: u64,
+    /// The DEVICE register.
     pub device: u8,
+    /// The COUNT register.
     pub count: u16,
+    /// The sense key.
     pub key: u8,
+    /// The additional sense code.
     pub asc: u8,
+    /// Its qualifier.
     pub ascq: u8,
 }
 

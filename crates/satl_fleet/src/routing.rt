@@ -11,7 +11,9 @@ pub const LUN_0: [u8; 8] = [0; 8];
 /// Where a frame goes: to this unit, at this LUN there (profile).
 #[derive(Clone, Copy, Debug, PartialEq, Eq)]
 pub struct Route {
+    /// The number of the unit.
     pub unit: u8,
+    /// The LUN under which that unit sees the frame.
     pub lun: [u8; 8],
 }
 

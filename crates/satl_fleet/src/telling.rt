@@ -12,7 +12,9 @@ use satl_step::Teller;
 /// Tells the answers of a unit to one frame: the unit is named before the first (profile).
 #[derive(Clone, Copy, Debug, PartialEq, Eq)]
 pub struct UnitTeller {
+    /// The number of the unit whose answers are told.
     pub unit: u8,
+    /// Whether the output has named it already.
     pub named: bool,
 }
 

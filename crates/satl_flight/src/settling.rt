@@ -19,7 +19,9 @@ use std::sync::ledger::Ledger;
 /// A task that has ended on the drive: where it stands in the set, and why it failed, where it did.
 #[derive(Clone, Copy, Debug, PartialEq, Eq)]
 pub struct Ended {
+    /// The place of the task in the order of arrival.
     pub place: usize,
+    /// The entry of the error log, where it failed.
     pub error: Option<NcqError>,
 }
 

@@ -84,3 +84,8 @@ reply_whole r items len is count =
     ap (λ (xs : List ℕ). xs ++ first_bytes len r.body) is ∙ ap (λ (n : ℕ). (framed (reply_kind r.expected) (reply_len r) (reply_fields r) ++ r.sense.items) ++ first_bytes n r.body) count
     ∙ append_assoc (framed (reply_kind r.expected) (reply_len r) (reply_fields r)) r.sense.items (sent_data r)
     ∙ append_assoc (reply_kind r.expected ∷ big_bytes 4 (reply_len r)) (reply_fields r) (r.sense.items ++ sent_data r)
+
+-- head and sense make a reply of which no data is sent
+pub bare_reply : (r : Reply) (items : List ℕ) (len : ℕ) → items ≡ framed (reply_kind r.expected) (reply_len r) (reply_fields r) ++ r.sense.items → len ≡ sent_len r.expected r.data_len → len ≡ 0 →
+    items ≡ reply_bytes r
+bare_reply r items len is count none = sym (append-nil items) ∙ reply_whole r items 0 is (sym none ∙ count)

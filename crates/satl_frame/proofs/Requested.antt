@@ -9,10 +9,9 @@ use Rattle.satl_io.proofs.Joined.{Took-more}
 use Rattle.satl_frame.specs.DataPages.{pages_of}
 use Rattle.satl_frame.specs.Frames.{head_size, frame_rows, allows, payload_bytes, request_fields, HasFields}
 use Rattle.satl_frame.specs.Faults.{has_bad_field}
-use Rattle.satl_frame.specs.Pulls.{TookPayload, TookRest, TookCount, TookBadField}
+use Rattle.satl_frame.specs.Pulls.{TookRequest, TookRest, TookCount, TookBadField}
 use Rattle.satl_frame.specs.declared.frames.Version.{Version}
 use Rattle.satl_frame.specs.declared.frames.Version.TheVariants.{One, Two}
-use Rattle.satl_frame.specs.declared.frames.Frame.{Frame}
 use Rattle.satl_frame.specs.declared.frames.Frame.TheVariants as frames
 use Rattle.satl_frame.proofs.Paging.{first_bytes-pages_of}
 
@@ -25,10 +24,10 @@ at_most_34 One = omega arith
 at_most_34 Two = omega arith
 
 -- head and data-out make the request
-pub request_taken : {a b c : Option (List ℕ)} {version : Version} {len room size : ℕ} {head : List ℕ} {r : Request} {frame : Frame} → allows (frame_rows version) 1 len ≡ true →
-    size ≡ head_size version → Took a b head → length head ≡ size → (request_fields r ≡ head) × HasFields version r → TookRest b c r (len - size) room frame →
-    TookPayload a c version 1 len room frame
-request_taken {a} {b} {c} {version} {len} {room} {size} {head} {r} {frame} allowed is took counted (spelled_is, fields) rest =
+pub request_taken : {a b c : Option (List ℕ)} {version : Version} {len room size : ℕ} {head : List ℕ} {r filled : Request} → allows (frame_rows version) 1 len ≡ true →
+    size ≡ head_size version → Took a b head → length head ≡ size → (request_fields r ≡ head) × HasFields version r → TookRest b c r (len - size) room filled →
+    TookRequest a c version len room filled
+request_taken {a} {b} {c} {version} {len} {room} {size} {head} {r} {filled} allowed is took counted (spelled_is, fields) rest =
     let sizes = request_lengths version len allowed in
     let whole = record r { body = pages_of rest.taken; data_len = len - size } in
     let out : first_bytes (len - size) (pages_of rest.taken) ≡ rest.taken = first_bytes-pages_of (len - size) rest.taken rest.size in
@@ -40,7 +39,7 @@ request_taken {a} {b} {c} {version} {len} {room} {size} {head} {r} {frame} allow
         fields = record { nexus = fields.nexus; lun = fields.lun; tag = fields.tag; cdb = fields.cdb; expected = fields.expected };
         sent = record { size = ap length out ∙ rest.size; short = omega (arith, sizes.1); pages = ap pages_of (sym out) };
       };
-      cut = rest.frame_is;
+      cut = ap (λ (x : Request). frames.Request x) rest.filled_is;
       took = subst (λ (xs : List ℕ). Took a c xs) (sym payload_is) (Took-more took rest.took);
       kind_is = refl;
       length_is = ap length payload_is ∙ length-append head rest.taken ∙ omega (arith, rest.size, sizes.0);

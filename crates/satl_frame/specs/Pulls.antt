@@ -71,12 +71,16 @@ pub record TookPayload (left left' : Option (List ℕ)) (version : Version) (k l
   pub kind_is : kind whole ≡ k
   pub length_is : length (payload_bytes whole) ≡ len
 
+-- the payload of a whole request of this length was taken, and this is the request with the pages that were free
+abbrev pub TookRequest : Option (List ℕ) → Option (List ℕ) → Version → ℕ → ℕ → Request → Type 0
+TookRequest left left' version len room request = TookPayload left left' version 1 len room (frames.Request request)
+
 -- the data-out of a request was taken, and this is the request with the pages that were free
-pub record TookRest (left left' : Option (List ℕ)) (request : Request) (len room : ℕ) (frame : Frame) : Type 0 where
+pub record TookRest (left left' : Option (List ℕ)) (request : Request) (len room : ℕ) (filled : Request) : Type 0 where
   pub taken : List ℕ
   pub took : Took left left' taken
   pub size : length taken ≡ len
-  pub frame_is : frame ≡ frames.Request (record request { body = take room (pages_of taken); data_len = len })
+  pub filled_is : filled ≡ record request { body = take room (pages_of taken); data_len = len }
 
 -- a payload of this kind and length was taken, and a field of it is bad
 pub record TookBadField (left left' : Option (List ℕ)) (version : Version) (k len : ℕ) : Type 0 where
@@ -96,6 +100,14 @@ frame_pages frames.End = 0
 abbrev pub found_pages : Option Frame → ℕ
 found_pages None = 0
 found_pages (Some f) = frame_pages f
+
+-- the pages of a request
+abbrev pub request_pages : Request → ℕ
+request_pages r = length r.body
+
+abbrev pub asked_pages : Option Request → ℕ
+asked_pages None = 0
+asked_pages (Some r) = request_pages r
 
 -- the pages that a call gives away: none where it fails
 abbrev pub given_pages : {T E : Type 0} → (T → ℕ) → Result T E → ℕ

@@ -66,7 +66,9 @@ pub enum FrameFault {
 /// Where a frame stands behind the magic: the version of the input, and the offset in bytes (profile).
 #[derive(Clone, Copy, Debug, PartialEq, Eq)]
 pub struct Place {
+    /// The version that the magic names.
     pub version: Version,
+    /// How many bytes stand before the frame.
     pub offset: u64,
 }
 

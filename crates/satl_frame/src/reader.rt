@@ -2,7 +2,7 @@
 ghost use Rattle.std.specs.Prelude.{◌≡◌, ◌<◌, ◌≤◌, ◌+◌, ◌^◌, ℕ, true, IfOk, IfErr, IfSome, IfNone, Some, None, Err, length, slice_index};
 ghost use Rattle.satl_frame.specs.Faults.{told_length};
 ghost use Rattle.satl_frame.specs.Frames.{frame_rows, has_code, allows};
-ghost use Rattle.satl_frame.specs.Pulls.{PullCauses, Stopped, TookPayload, TookRest, TookBadField, found_pages, frame_pages, given_pages};
+ghost use Rattle.satl_frame.specs.Pulls.{PullCauses, Stopped, TookPayload, TookRequest, TookRest, TookBadField, asked_pages, found_pages, frame_pages, given_pages, request_pages};
 ghost use Rattle.satl_frame.specs.Reading.{Reading, Gave, Blames, ReadCauses};
 ghost use Rattle.satl_frame.specs.Steps.{Began, BlamesMagic, StoodAt, StoodBehind, BlamesAt, BlamesPayload};
 
@@ -22,20 +22,20 @@ fn pull_rest<S: Source, P: Lender>(
     lender: &mut P,
     request: Request,
     len: u32,
-) -> Result<Frame, PullError>
-    ensures frame { IfOk result (TookRest (S.left source.old) (S.left source.new) request len (P.free lender.old)) }
+) -> Result<Request, PullError>
+    ensures filled { IfOk result (TookRest (S.left source.old) (S.left source.new) request len (P.free lender.old)) }
     ensures stopped { Stopped (S.left source.old) (S.left source.new) len result }
     ensures causes { PullCauses (S.left source.old) (S.left source.new) len (S.faults source.old) (S.faults source.new) result }
-    ensures free { P.free lender.new + given_pages frame_pages result ≡ P.free lender.old }
-    ensures out { P.out lender.new ≡ P.out lender.old + given_pages frame_pages result }
+    ensures free { P.free lender.new + given_pages request_pages result ≡ P.free lender.old }
+    ensures out { P.out lender.new ≡ P.out lender.old + given_pages request_pages result }
     ensures rest { P.rest lender.new ≡ P.rest lender.old }
 {
     match pull_data(source, lender, len) {
-        Ok(body) => Ok(Frame::Request(Request {
+        Ok(body) => Ok(Request {
             body,
             data_len: len,
             ..request
-        })),
+        }),
         Err(error) => Err(error),
     }
 }
@@ -46,14 +46,14 @@ fn pull_request<S: Source, P: Lender>(
     lender: &mut P,
     version: Version,
     len: u32,
-) -> Result<Option<Frame>, PullError>
+) -> Result<Option<Request>, PullError>
     requires { allows (frame_rows version) 1 len ≡ true }
-    ensures frame { IfOk result (λ found. IfSome found (TookPayload (S.left source.old) (S.left source.new) version 1 len (P.free lender.old))) }
+    ensures request { IfOk result (λ found. IfSome found (TookRequest (S.left source.old) (S.left source.new) version len (P.free lender.old))) }
     ensures none { IfOk result (λ found. IfNone found (TookBadField (S.left source.old) (S.left source.new) version 1 len)) }
     ensures stopped { Stopped (S.left source.old) (S.left source.new) len result }
     ensures causes { PullCauses (S.left source.old) (S.left source.new) len (S.faults source.old) (S.faults source.new) result }
-    ensures free { P.free lender.new + given_pages found_pages result ≡ P.free lender.old }
-    ensures out { P.out lender.new ≡ P.out lender.old + given_pages found_pages result }
+    ensures free { P.free lender.new + given_pages asked_pages result ≡ P.free lender.old }
+    ensures out { P.out lender.new ≡ P.out lender.old + given_pages asked_pages result }
     ensures rest { P.rest lender.new ≡ P.rest lender.old }
 {
     let size = head_size(version);
@@ -62,7 +62,7 @@ fn pull_request<S: Source, P: Lender>(
     pull(source, head)?;
     match request_of(version, head) {
         Some(request) => match pull_rest(source, lender, request, len - size) {
-            Ok(frame) => Ok(Some(frame)),
+            Ok(request) => Ok(Some(request)),
             Err(error) => Err(error),
         },
         None => match skip(source, len - size) {
@@ -115,10 +115,14 @@ fn pull_payload<S: Source, P: Lender>(
     ensures out { P.out lender.new ≡ P.out lender.old + given_pages found_pages result }
     ensures rest { P.rest lender.new ≡ P.rest lender.old }
 {
-    if code == 1 {
-        return pull_request(source, lender, version, len);
+    if code > 1 {
+        return pull_small(source, version, code, len);
     }
-    pull_small(source, version, code, len)
+    match pull_request(source, lender, version, len) {
+        Ok(Some(request)) => Ok(Some(Frame::Request(request))),
+        Ok(None) => Ok(None),
+        Err(error) => Err(error),
+    }
 }
 
 /// Reads the payload behind a good head.

@@ -116,6 +116,9 @@ pub fn pull_data<S: Source, P: Lender>(
     ensures out { P.out lender.new ≡ P.out lender.old + given_pages length result }
     ensures rest { P.rest lender.new ≡ P.rest lender.old }
 {
+    if len == 0 {
+        return Ok(Pages::default());
+    }
     let mut todo = lender.lend(len.div_ceil(512).min(lender.room()));
     let mut done = Pages::default();
     match fill_pages(source, len, &mut todo, &mut done) {

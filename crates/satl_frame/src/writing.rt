@@ -17,6 +17,12 @@ use satl_io::{Failed, Sink};
 /// At most 8,192 bytes that wait to be written (profile). A reply with 4 KiB of data fits whole.
 pub type Gathered = ArrayVec<u8, 8192>;
 
+/// What stands before the data of a reply: 12 or 16 bytes, and at most 32 of sense.
+type Front = ArrayVec<u8, 48>;
+
+/// A whole reply with at most 4 KiB of data.
+type Whole = ArrayVec<u8, 4144>;
+
 /// Writes all the bytes (profile), in one write call if the sink takes all that it is given. `Failed` comes only where the
 /// sink's count of faults rose, and then some front of the bytes was written.
 pub fn push<K: Sink>(sink: &mut K, bytes: &[u8]) -> Result<(), Failed>
@@ -140,16 +146,102 @@ fn second_head(reply: &Reply, expected: u32) -> [u8; 16]
     ]
 }
 
-/// A reply up to its sense, gathered first.
-fn gather_fields(reply: &Reply, gathered: &mut Gathered)
+/// Puts bytes behind those of a front, where they fit.
+fn extend(front: &mut Front, bytes: &[u8])
+    requires { array_vec_len front.old + length bytes.now ≤ 48 }
+    ensures { front.new.items ≡ front.old.items ++ bytes.now }
+{
+    match front.try_extend_from_slice(bytes) {
+        Ok(()) => {}
+        Err(_) => unreachable!(),
+    }
+}
+
+/// A reply up to its sense.
+fn extend_by_fields(reply: &Reply, front: &mut Front)
     requires writable { IsWritable reply.now }
-    requires empty { gathered.old.items ≡ [] }
-    ensures bytes { gathered.new.items ≡ framed (reply_kind reply.now.expected) (reply_len reply.now) (reply_fields reply.now) }
-    ensures few { array_vec_len gathered.new ≤ 16 }
+    requires empty { front.old.items ≡ [] }
+    ensures bytes { front.new.items ≡ framed (reply_kind reply.now.expected) (reply_len reply.now) (reply_fields reply.now) }
+    ensures few { array_vec_len front.new ≤ 16 }
 {
     match reply.expected {
-        None => append(gathered, &first_head(reply)),
-        Some(expected) => append(gathered, &second_head(reply, expected)),
+        None => extend(front, &first_head(reply)),
+        Some(expected) => extend(front, &second_head(reply, expected)),
+    }
+}
+
+/// Gathers the first `len` bytes that the pages hold, where all of them fit.
+fn gather_whole(gathered: &mut Whole, pages: &Pages, len: u32)
+    requires held { len ≤ 512 * length pages.now }
+    requires fits { array_vec_len gathered.old + len ≤ 4144 }
+    ensures { gathered.new.items ≡ gathered.old.items ++ first_bytes len pages.now }
+{
+    let mut left = len as usize;
+    for block in pages.iter() {
+        let bytes = block.as_bytes();
+        let count = left.min(512);
+        match gathered.try_extend_from_slice(&bytes[..count]) {
+            Ok(()) => left -= count,
+            Err(_) => unreachable!(),
+        }
+    }
+}
+
+/// Writes what stands before the data of a reply, and at most 4 KiB of data, in one piece.
+fn write_whole<K: Sink>(sink: &mut K, front: &Front, pages: &Pages, len: u32) -> Result<(), Failed>
+    requires held { len ≤ 512 * length pages.now }
+    requires short { len ≤ 4096 }
+    ensures all { OnOk result (Wrote (K.written sink.old) (K.written sink.new) (front.now.items ++ first_bytes len pages.now)) }
+    ensures part { OnErr result (WrotePart (K.written sink.old) (K.written sink.new) (front.now.items ++ first_bytes len pages.now)) }
+    ensures cause { HasCause (K.faults sink.old) (K.faults sink.new) result }
+{
+    let mut gathered = Whole::new();
+    match gathered.try_extend_from_slice(front.as_slice()) {
+        Ok(()) => {}
+        Err(_) => unreachable!(),
+    }
+    gather_whole(&mut gathered, pages, len);
+    match push(sink, gathered.as_slice()) {
+        Ok(()) => Ok(()),
+        Err(Failed) => Err(Failed),
+    }
+}
+
+/// Writes what stands before the data of a reply, and the data, in pieces of at most 8,192 bytes.
+fn write_pieces<K: Sink>(sink: &mut K, front: &Front, pages: &Pages, len: u32) -> Result<(), Failed>
+    requires { len ≤ 512 * length pages.now }
+    ensures all { OnOk result (Wrote (K.written sink.old) (K.written sink.new) (front.now.items ++ first_bytes len pages.now)) }
+    ensures part { OnErr result (WrotePart (K.written sink.old) (K.written sink.new) (front.now.items ++ first_bytes len pages.now)) }
+    ensures cause { HasCause (K.faults sink.old) (K.faults sink.new) result }
+{
+    let mut gathered = Gathered::new();
+    append(&mut gathered, front.as_slice());
+    match gather_data(sink, &mut gathered, pages, len) {
+        Ok(()) => match push(sink, gathered.as_slice()) {
+            Ok(()) => Ok(()),
+            Err(Failed) => Err(Failed),
+        },
+        Err(Failed) => Err(Failed),
+    }
+}
+
+/// Writes what stands before the data of a reply, and the data. A function blanks its locals when it begins, so each buffer
+/// stands in a function of its own.
+fn write_with_data<K: Sink>(
+    sink: &mut K,
+    front: &Front,
+    pages: &Pages,
+    len: u32,
+) -> Result<(), Failed>
+    requires { len ≤ 512 * length pages.now }
+    ensures all { OnOk result (Wrote (K.written sink.old) (K.written sink.new) (front.now.items ++ first_bytes len pages.now)) }
+    ensures part { OnErr result (WrotePart (K.written sink.old) (K.written sink.new) (front.now.items ++ first_bytes len pages.now)) }
+    ensures cause { HasCause (K.faults sink.old) (K.faults sink.new) result }
+{
+    if len <= 4096 {
+        write_whole(sink, front, pages, len)
+    } else {
+        write_pieces(sink, front, pages, len)
     }
 }
 
@@ -159,15 +251,15 @@ fn write_reply<K: Sink>(sink: &mut K, reply: &Reply) -> Result<(), Failed>
     ensures part { OnErr result (WrotePart (K.written sink.old) (K.written sink.new) (reply_bytes reply.now)) }
     ensures cause { HasCause (K.faults sink.old) (K.faults sink.new) result }
 {
-    let mut gathered = Gathered::new();
-    gather_fields(reply, &mut gathered);
-    append(&mut gathered, reply.sense.as_slice());
+    let mut front = Front::new();
+    extend_by_fields(reply, &mut front);
+    extend(&mut front, reply.sense.as_slice());
     let len = sent_len(reply.expected, reply.data_len);
-    match gather_data(sink, &mut gathered, &reply.body, len) {
-        Ok(()) => match push(sink, gathered.as_slice()) {
-            Ok(()) => Ok(()),
-            Err(Failed) => Err(Failed),
-        },
+    if len > 0 {
+        return write_with_data(sink, &front, &reply.body, len);
+    }
+    match push(sink, front.as_slice()) {
+        Ok(()) => Ok(()),
         Err(Failed) => Err(Failed),
     }
 }

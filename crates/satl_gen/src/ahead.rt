@@ -19,6 +19,7 @@ pub struct Ahead {
     pub requests: u32,
     /// The number of the next request.
     pub next: u32,
+    /// The generator of random numbers, as it stands behind what was made.
     pub generator: Pcg32,
     /// Whether END was made.
     pub ended: bool,

@@ -11,8 +11,11 @@ use satl_cdb::{Command, Form};
 /// Three random numbers, in the order in which they were drawn.
 #[derive(Clone, Copy)]
 pub struct Draw {
+    /// The first: for the command, its nexus and its attribute.
     pub a: u32,
+    /// The second, for the address.
     pub b: u32,
+    /// The third, for the count and the bytes of an ORDER.
     pub c: u32,
 }
 

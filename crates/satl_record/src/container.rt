@@ -27,7 +27,9 @@ const PIECE: usize = 4096;
 /// A recorded run: the input, and the output that was seen.
 #[derive(Drop)]
 pub struct Record {
+    /// The bytes of the recorded input.
     pub input: Vec<u8>,
+    /// The bytes of the output that was seen.
     pub output: Vec<u8>,
 }
 

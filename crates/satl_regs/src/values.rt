@@ -3,20 +3,30 @@
 /// What a host writes to start a command (ACS-3, command inputs). LBA has 48 bits.
 #[derive(Clone, Copy, Debug, PartialEq, Eq)]
 pub struct Registers {
+    /// FEATURES, 16 bits.
     pub features: u16,
+    /// COUNT, 16 bits.
     pub count: u16,
+    /// LBA, 48 bits.
     pub lba: u64,
+    /// DEVICE.
     pub device: u8,
+    /// COMMAND.
     pub command: u8,
 }
 
 /// What the drive answers at the end of a command (ACS-3, normal and error outputs). LBA has 48 bits.
 #[derive(Clone, Copy, Debug, PartialEq, Eq)]
 pub struct Taskfile {
+    /// ERROR.
     pub error: u8,
+    /// COUNT, 16 bits.
     pub count: u16,
+    /// LBA, 48 bits.
     pub lba: u64,
+    /// DEVICE.
     pub device: u8,
+    /// STATUS.
     pub status: u8,
 }
 
@@ -33,10 +43,15 @@ pub enum QueuedKind {
 /// address on, with a tag from 0 to 31. A trim has address 0 and one sector, its payload.
 #[derive(Clone, Copy, Debug, PartialEq, Eq)]
 pub struct Queued {
+    /// A read, a write or a trim.
     pub kind: QueuedKind,
+    /// The address of the first sector; 0 of a trim.
     pub lba: u64,
+    /// The number of sectors; of a trim that of its blocks of entries.
     pub sectors: u32,
+    /// The tag, 0 to 31.
     pub tag: u8,
+    /// Force unit access: the write goes past the cache.
     pub fua: bool,
 }
 

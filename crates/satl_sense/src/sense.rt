@@ -3,12 +3,17 @@
 /// The registers that an ATA command ended with (SAT-3 12.2.2.6, ATA Status Return).
 #[derive(Clone, Copy, Debug, PartialEq, Eq)]
 pub struct AtaReturn {
+    /// EXTEND: the command had 48-bit registers.
     pub extend: bool,
+    /// The ERROR register at the end.
     pub error: u8,
+    /// The COUNT register at the end, 16 bits.
     pub count: u16,
     /// 48 bits.
     pub lba: u64,
+    /// The DEVICE register at the end.
     pub device: u8,
+    /// The STATUS register at the end.
     pub status: u8,
 }
 
@@ -26,8 +31,12 @@ pub enum Extra {
 /// Sense data: the sense key (0h to Fh), the additional sense code and its qualifier, and an extra (SPC-4 4.5).
 #[derive(Clone, Copy, Debug, PartialEq, Eq)]
 pub struct Sense {
+    /// The sense key (SPC-4 4.5.6).
     pub key: u8,
+    /// The additional sense code.
     pub asc: u8,
+    /// Its qualifier.
     pub ascq: u8,
+    /// What is told beside these.
     pub extra: Extra,
 }

@@ -2,3 +2,4 @@ mod CompletenessLemmas
 mod PrintingLemmas
 mod RunLemmas
 pub mod ServingLemmas
+mod TellerLemmas

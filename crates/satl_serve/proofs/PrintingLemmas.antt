@@ -1,5 +1,5 @@
--- What a printer tells and counts.
-use Rattle.std.proofs.Common.{◌≡◌, append_assoc, refl, sym, ap, subst, arith, ◌∙◌, ℕ, ◌+◌, List, [], ◌∷◌, ◌++◌}
+-- What a printer tells, and what a counter counts.
+use Rattle.std.proofs.Common.{◌≡◌, append_assoc, refl, sym, ap, arith, ◌∙◌, ℕ, List, [], ◌∷◌, ◌++◌}
 use Rattle.std.proofs.lemmas.List.{append-nil}
 use Rattle.std.specs.Prelude.{sum_by}
 use Rattle.std.proofs.lemmas.List.Sums.{sum_by_push}
@@ -9,9 +9,14 @@ use Rattle.satl_frame.specs.Output.Answer.{replied, managed, ended}
 use Rattle.satl_text.specs.Totals.{data_count, data_sum, one_with, summary_of, total}
 use Rattle.satl_text.specs.declared.summary.Summary.{Summary}
 use Rattle.satl_text.proofs.TotalsLemmas.{totals_grow}
-use Rattle.satl_step.specs.Telling.{all_behind, all_told as all_told_by}
-use Rattle.satl_serve.specs.Forms.{all_told, told}
-use Rattle.satl_serve.specs.Growing.{printer_behind, totals_behind}
+use Rattle.satl_direct.specs.Run.{joined}
+use Rattle.satl_step.specs.Telling.{all_behind}
+use Rattle.satl_serve.specs.Forms.{told}
+use Rattle.satl_serve.specs.Growing.{counter_behind, totals_behind}
+use Rattle.satl_serve.specs.Headline.{IsServedWhole}
+use Rattle.satl_serve.specs.Moments.{Moment}
+use Rattle.satl_serve.specs.Tellers.{IsServedBy, TellsIn}
+use Rattle.satl_serve.specs.declared.printer.Counter.{Counter}
 use Rattle.satl_serve.specs.declared.printer.Printer.{Printer}
 use Rattle.satl_serve.specs.declared.telling.Form.{Form}
 
@@ -35,22 +40,37 @@ totals_more n answers (replied r) = totals_grow n answers (replied r)
 totals_more n answers (managed nexus function response tag) = nothing_more n answers (managed nexus function response tag) refl refl refl refl refl
 totals_more n answers ended = nothing_more n answers ended refl refl refl refl refl
 
--- ---- the printer
+-- ---- who prints, and who counts too
 
-abbrev told_by : Printer → Answer → List ℕ
-told_by printer answer = told printer.form answer
+pub printer_tells : (form : Form) (p : Printer) → p.form ≡ form → TellsIn (λ printer answer. told printer.form answer) (λ printer answer. printer) form p
+printer_tells form p is earlier answer = ap (λ (x : Printer). told x.form answer) (stays p earlier) ∙ ap (λ (f : Form). told f answer) is
+  where
+    stays : (p : Printer) (answers : List Answer) → all_behind (λ printer answer. printer) p answers ≡ p
+    stays p [] = refl
+    stays p (x ∷ answers) = stays p answers
 
-abbrev pub printer_of : Form → List Answer → Printer
-printer_of form answers = record { form = form; totals = summary_of 0 answers }
+-- a counter that has told these answers
+abbrev pub counter_of : Form → List Answer → Counter
+counter_of form answers = record { printer = record { form = form }; totals = summary_of 0 answers }
 
--- a printer has told the answers in its form
-pub all_printed : (p : Printer) (answers : List Answer) → all_told_by (λ printer answer. told printer.form answer) (λ printer answer. printer_behind printer answer) p answers ≡ all_told p.form answers
-all_printed p [] = refl
-all_printed p (x ∷ answers) = ap (λ l. told p.form x ++ l) (all_printed (printer_behind p x) answers)
-
--- and has counted them
-pub all_counted : (form : Form) (before answers : List Answer) → all_behind (λ printer answer. printer_behind printer answer) (printer_of form before) answers ≡ printer_of form (before ++ answers)
-all_counted form before [] = ap (λ l. printer_of form l) (sym (append-nil before))
+-- a counter has counted the answers that it has told
+pub all_counted : (form : Form) (before answers : List Answer) → all_behind (λ counter answer. counter_behind counter answer) (counter_of form before) answers ≡ counter_of form (before ++ answers)
+all_counted form before [] = ap (λ l. counter_of form l) (sym (append-nil before))
 all_counted form before (x ∷ answers) =
-    ap (λ (u : Summary). all_behind (λ printer answer. printer_behind printer answer) (record { form = form; totals = u }) answers) (sym (totals_more 0 before x))
-    ∙ (all_counted form (before ++ x ∷ []) answers ∙ ap (λ l. printer_of form l) (append_assoc before (x ∷ []) answers))
+    ap (λ (u : Summary). all_behind (λ counter answer. counter_behind counter answer) (record { printer = record { form = form }; totals = u }) answers) (sym (totals_more 0 before x))
+    ∙ (all_counted form (before ++ x ∷ []) answers ∙ ap (λ l. counter_of form l) (append_assoc before (x ∷ []) answers))
+
+pub counter_tells : (form : Form) (c : Counter) → c ≡ counter_of form [] → TellsIn (λ counter answer. told counter.printer.form answer) (λ counter answer. counter_behind counter answer) form c
+counter_tells form c is earlier answer =
+    ap (λ (x : Counter). told x.printer.form answer) (ap (λ (x : Counter). all_behind (λ counter answer. counter_behind counter answer) x earlier) is ∙ all_counted form [] earlier)
+
+-- what was served and told by a counter was counted
+pub served_counted : (form : Form) (limit : ℕ) (c c' : Counter) (requests : ℕ) (before after : Moment) (summary : Summary) → c ≡ counter_of form [] → summary ≡ record c'.totals { requests = requests } → IsServedBy (λ counter answer. counter_behind counter answer) form limit c c' requests before after
+    → IsServedWhole form limit summary before after
+served_counted form limit c c' requests before after summary is totals_are served =
+    let answers = joined served.to_end.run.groups in
+    let last = served.told_so.teller ∙ (ap (λ (x : Counter). all_behind (λ counter answer. counter_behind counter answer) x answers) is ∙ all_counted form [] answers) in
+    record {
+      to_end = served.to_end;
+      totals = totals_are ∙ (ap (λ (x : Counter). record x.totals { requests = requests }) last ∙ ap (λ (n : ℕ). record (summary_of 0 answers) { requests = n }) served.told_so.requests_are);
+    }

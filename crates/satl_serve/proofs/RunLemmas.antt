@@ -1,6 +1,6 @@
--- What a run by a printer is.
-use Rattle.std.proofs.Common.{◌≡◌, append_assoc, inl, inr, refl, sym, ap, subst, arith, ◌∙◌, ℕ, ◌+◌, ◌≤◌, List, [], ◌∷◌, ◌++◌, length, map}
-use Rattle.std.proofs.lemmas.List.{append-nil, length-append}
+-- What a run by a teller is.
+use Rattle.std.proofs.Common.{◌≡◌, inl, inr, refl, sym, ap, subst, arith, ◌∙◌, ℕ, ◌≤◌, List, [], ◌∷◌, ◌++◌, length, map}
+use Rattle.std.proofs.lemmas.List.{length-append}
 use Rattle.std.specs.Prelude.{Option, None, Some}
 use Rattle.satl_base.proofs.ListsLemmas.{how_many-push}
 use Rattle.satl_io.specs.Known.{Wrote, WrotePart}
@@ -16,8 +16,7 @@ use Rattle.satl_frame.specs.declared.frames.Version.TheVariants.{Two}
 use Rattle.satl_frame.specs.Output.{Answer}
 use Rattle.satl_frame.specs.Progress.{HasRead, ReadTo, ReadUpTo}
 use Rattle.satl_frame.specs.Reading.{Reading}
-use Rattle.satl_text.specs.Totals.{summary_of, total}
-use Rattle.satl_text.specs.declared.summary.Summary.{Summary}
+use Rattle.satl_text.specs.Totals.{total}
 use Rattle.satl_line.specs.Tasks.{entries_of}
 use Rattle.satl_direct.specs.Run.{RunDeep, joined}
 use Rattle.satl_direct.specs.Tasks.{task_of}
@@ -26,48 +25,24 @@ use Rattle.satl_step.specs.Loop.{Ended, HasStopCause, Refused, Stage, StoppedInA
 use Rattle.satl_step.specs.declared.frames_loop.Stop.{Stop}
 use Rattle.satl_step.specs.declared.frames_loop.Stop.TheVariants as stops
 use Rattle.satl_step.specs.Runs.{AreCounted, IsDeep, RunSoFar, Stand, is_request, requests_in}
-use Rattle.satl_step.specs.Telling.{IsTold, Telling, all_behind}
+use Rattle.satl_step.specs.Telling.{IsTold, Telling}
 use Rattle.satl_step.proofs.RunLemmas.{run_start}
-use Rattle.satl_serve.specs.Forms.{all_told, begun, fault_told, output, told, told_of}
-use Rattle.satl_serve.specs.Growing.{printer_behind}
+use Rattle.satl_serve.specs.Forms.{begun, fault_told, output, told_of}
 use Rattle.satl_serve.specs.Moments.{Reads, Spot, Writes}
-use Rattle.satl_serve.specs.Runs.{BrokeInAnswers, BrokeInFault, BrokeInMagic, RanBefore, RanInPart, RanWhole, ReadBefore, input_limit}
+use Rattle.satl_serve.specs.Runs.{BrokeInAnswers, BrokeInFault, BrokeInMagic, RanBefore, RanWhole, ReadBefore, input_limit}
 use Rattle.satl_serve.specs.Stopping.{HasStreamCause, RanTo, Tells, TellsSo, TellsStop}
-use Rattle.satl_serve.specs.declared.printer.Printer.{Printer}
 use Rattle.satl_serve.specs.declared.serving.ServeFault.{ServeFault}
 use Rattle.satl_serve.specs.declared.serving.ServeFault.TheVariants as faults
 use Rattle.satl_serve.specs.declared.telling.Form.{Form}
-use Rattle.satl_serve.proofs.PrintingLemmas.{all_counted, all_printed, printer_of}
-
-abbrev by : Printer → Answer → List ℕ
-by printer answer = told printer.form answer
-
-abbrev behind : Printer → Answer → Printer
-behind printer answer = printer_behind printer answer
+use Rattle.satl_serve.specs.Tellers.{RanBy, TellsIn}
+use Rattle.satl_serve.proofs.TellerLemmas.{all_told_in, tells_on}
 
 -- where a stage stands that was reached behind what was written
-abbrev pub spot_of : Option (List ℕ) → Stage Printer → Spot
+abbrev pub spot_of : {T : Type 0} → Option (List ℕ) → Stage T → Spot
 spot_of written a = record { left = a.left; written = written; stand = a.scene.stand }
 
-abbrev pub seen : Stage Printer → Spot
+abbrev pub seen : {T : Type 0} → Stage T → Spot
 seen a = spot_of a.scene.telling.written a
-
--- a stage at which serving begins: a new reader, a new printer, and what stands before all answers was written
-pub record Begins (form : Form) (written : Option (List ℕ)) (a : Stage Printer) : Type 0 where
-  pub limit : a.reader.limit ≡ input_limit
-  pub newest : a.reader.newest ≡ Two
-  pub printer : a.scene.telling.teller ≡ printer_of form []
-  pub magic : Wrote written a.scene.telling.written (begun form)
-
--- the output so far
-printed : (form : Form) (written : Option (List ℕ)) (a : Stage Printer) (b : Telling Printer) (answers : List Answer) → Begins form written a → IsTold by behind a.scene.telling b answers → Wrote written b.written (output form answers)
-printed form written a b answers begins told_so =
-    let same = ap (λ (p : Printer). all_told p.form answers) begins.printer in
-    Wrote-more begins.magic (subst (λ l. Wrote a.scene.telling.written b.written l) (all_printed a.scene.telling.teller answers ∙ same) told_so.wrote)
-
--- the printer so far
-printer_so : (form : Form) (written : Option (List ℕ)) (a : Stage Printer) (b : Telling Printer) (answers : List Answer) → Begins form written a → IsTold by behind a.scene.telling b answers → b.teller ≡ printer_of form answers
-printer_so form written a b answers begins told_so = told_so.teller ∙ (ap (λ p. all_behind behind p answers) begins.printer ∙ all_counted form [] answers)
 
 -- what was read up to END
 read_to : (limit : ℕ) (r : Reading) (left left' : Option (List ℕ)) (events earlier : List Frame) → r.limit ≡ limit → r.newest ≡ Two → HasRead r left left' events → events ≡ earlier ++ frames.End ∷ [] → (place : Place) × ReadTo limit Two place left left' (earlier ++ frames.End ∷ [])
@@ -78,12 +53,11 @@ read_to limit r left left' events earlier limit_is newest_is read ends =
     by_place None (nothing, same) = let long = length-append earlier (frames.End ∷ []) in let none = ap length nothing in absurd (omega (arith, long, none))
     by_place (Some place) read = (place, read)
 
--- the totals of the requests and these answers
-totals : (form : Form) (n : ℕ) (p : Printer) (events earlier : List Frame) (answers : List Answer) → p ≡ printer_of form answers → events ≡ earlier ++ frames.End ∷ [] → n ≡ total (requests_in events) → record p.totals { requests = n } ≡ summary_of (requests_in earlier) answers
-totals form n p events earlier answers is ends count =
-    let same : record p.totals { requests = n } ≡ record (summary_of 0 answers) { requests = n } = ap (λ (x : Printer). record x.totals { requests = n }) is in
+-- how many of the events before END are requests
+counted : (n : ℕ) (events earlier : List Frame) → events ≡ earlier ++ frames.End ∷ [] → n ≡ total (requests_in events) → n ≡ total (requests_in earlier)
+counted n events earlier ends count =
     let all : requests_in events ≡ requests_in earlier = let last = how_many-push is_request earlier frames.End in let more = ap requests_in ends in omega (arith, last, more) in
-    same ∙ ap (λ (k : ℕ). record (summary_of 0 answers) { requests = k }) (count ∙ ap total all)
+    count ∙ ap total all
 
 -- a run over frames that are these
 run_to : (a b : Stand) (events all : List Frame) (groups : List (List Answer)) → events ≡ all → RunSoFar a b events groups → RunSoFar a b all groups
@@ -95,98 +69,118 @@ run_to a b events all groups is r = record {
   counted = subst (λ fs. AreCounted fs r.losses a b) is r.counted;
 }
 
-pub whole : (form : Form) (written : Option (List ℕ)) (a b : Stage Printer) (n : ℕ) → IsDeep a.scene.stand.tally → Begins form written a → Ended by behind a b n → RanWhole form input_limit (record b.scene.telling.teller.totals { requests = n }) (spot_of written a) (seen b)
-unfolding run_to
-whole form written a b n deep begins e =
-    let s = e.so_far in
-    let read = read_to input_limit b.reader a.left b.left s.events e.earlier (s.given.limit ∙ begins.limit) (s.given.newest ∙ begins.newest) s.given.read e.ends in
-    record {
-      events = e.earlier;
-      groups = s.groups;
-      place = read.0;
-      read = read.1;
-      wrote = printed form written a b.scene.telling (joined s.groups) begins s.told_so;
-      run = run_to a.scene.stand b.scene.stand s.events (e.earlier ++ frames.End ∷ []) s.groups e.ends s.run;
-      deep = s.run.covered deep;
-      totals = totals form n b.scene.telling.teller s.events e.earlier (joined s.groups) (printer_so form written a b.scene.telling (joined s.groups) begins s.told_so) e.ends s.requests_are;
-    }
+module _ {T : Type 0} (by : T → Answer → List ℕ) (behind : T → Answer → T) where
+  -- a stage at which serving begins: a new reader, a teller that tells in the form, and what stands before all answers
+  pub record Begins (form : Form) (written : Option (List ℕ)) (a : Stage T) : Type 0 where
+    pub limit : a.reader.limit ≡ input_limit
+    pub newest : a.reader.newest ≡ Two
+    pub tells : TellsIn by behind form a.scene.telling.teller
+    pub magic : Wrote written a.scene.telling.written (begun form)
 
-read_before : (form : Form) (written : Option (List ℕ)) (a b : Stage Printer) (why : FrameFault) → Begins form written a → (r : Refused by behind a b why) → ReadBefore input_limit a.left b.left r.going.so_far.events why
-read_before form written a b why begins r =
-    let given = r.going.so_far.given in
-    record {
-      reader = r.reader;
-      mid = r.mid;
-      limit_is = given.limit ∙ begins.limit;
-      newest_is = given.newest ∙ begins.newest;
-      none_ends = r.going.none_ends;
-      read = given.read;
-      blames = r.blames;
-    }
+  -- the output so far
+  printed : (form : Form) (written : Option (List ℕ)) (a : Stage T) (b : Telling T) (answers : List Answer) → Begins form written a → IsTold by behind a.scene.telling b answers → Wrote written b.written (output form answers)
+  printed form written a b answers begins told_so =
+      Wrote-more begins.magic (subst (λ l. Wrote a.scene.telling.written b.written l) (all_told_in by behind form a.scene.telling.teller answers begins.tells) told_so.wrote)
 
--- a refusal, which was told or was not
-before : (form : Form) (written last : Option (List ℕ)) (a b : Stage Printer) (why : FrameFault) → Begins form written a → Refused by behind a b why → Wrote b.scene.telling.written last (told_of form why) → RanBefore form input_limit why (spot_of written a) (spot_of last b)
-before form written last a b why begins r wrote =
-    let s = r.going.so_far in
-    record {
-      events = s.events;
-      groups = s.groups;
-      read = read_before form written a b why begins r;
-      wrote = Wrote-more (printed form written a b.scene.telling (joined s.groups) begins s.told_so) wrote;
-      run = s.run;
-    }
+  ran : (form : Form) (written : Option (List ℕ)) (a b : Stage T) (n : ℕ) → IsDeep a.scene.stand.tally → Begins form written a → (e : Ended by behind a b n) → RanWhole form input_limit (spot_of written a) (seen b)
+  unfolding run_to
+  ran form written a b n deep begins e =
+      let s = e.so_far in
+      let read = read_to input_limit b.reader a.left b.left s.events e.earlier (s.given.limit ∙ begins.limit) (s.given.newest ∙ begins.newest) s.given.read e.ends in
+      record {
+        events = e.earlier;
+        groups = s.groups;
+        place = read.0;
+        read = read.1;
+        wrote = printed form written a b.scene.telling (joined s.groups) begins s.told_so;
+        run = run_to a.scene.stand b.scene.stand s.events (e.earlier ++ frames.End ∷ []) s.groups e.ends s.run;
+        deep = s.run.covered deep;
+      }
 
-broken : (form : Form) (written last : Option (List ℕ)) (a b : Stage Printer) (reason : Reason) (offset : ℕ) → Begins form written a → Refused by behind a b (Bad reason offset) → WrotePart b.scene.telling.written last (fault_told form reason offset) → BrokeInFault form input_limit (spot_of written a) (spot_of last b)
-broken form written last a b reason offset begins r part =
-    let s = r.going.so_far in
-    record {
-      events = s.events;
-      groups = s.groups;
-      reason = reason;
-      offset = offset;
-      behind = b.scene.telling.written;
-      read = read_before form written a b (Bad reason offset) begins r;
-      wrote = printed form written a b.scene.telling (joined s.groups) begins s.told_so;
-      part = part;
-      run = s.run;
-    }
+  pub whole : (form : Form) (written : Option (List ℕ)) (a b : Stage T) (n : ℕ) → IsDeep a.scene.stand.tally → Begins form written a → Ended by behind a b n → RanBy behind form input_limit a.scene.telling.teller b.scene.telling.teller n (spot_of written a) (seen b)
+  unfolding ran
+  whole form written a b n deep begins e = record {
+    to_end = ran form written a b n deep begins e;
+    told_so = record { requests_are = counted n e.so_far.events e.earlier e.ends e.so_far.requests_are; teller = e.so_far.told_so.teller };
+  }
 
-pub refused : (form : Form) (written last : Option (List ℕ)) (a b : Stage Printer) (why : FrameFault) (fault : ServeFault) → Begins form written a → Refused by behind a b why → Tells form why b.scene.telling.written last fault → RanTo form input_limit (spot_of written a) (spot_of last b) fault
-refused form written last a b why (faults.Open opening) begins r tells = absurd tells
-refused form written last a b why (faults.BadInput reason offset) begins r (is, wrote) =
-    before form written last a b (Bad reason offset) begins (subst (λ w. Refused by behind a b w) is r) wrote
-refused form written last a b why faults.Read begins r (is, same) =
-    before form written last a b ReadFault begins (subst (λ w. Refused by behind a b w) is r) (subst (λ w. Wrote b.scene.telling.written w []) (sym same) (Wrote-none b.scene.telling.written))
-refused form written last a b why faults.Write begins r (reason, offset, is, part) =
-    inr (inr (broken form written last a b reason offset begins (subst (λ w. Refused by behind a b w) is r) part))
+  read_before : (form : Form) (written : Option (List ℕ)) (a b : Stage T) (why : FrameFault) → Begins form written a → (r : Refused by behind a b why) → ReadBefore input_limit a.left b.left r.going.so_far.events why
+  read_before form written a b why begins r =
+      let given = r.going.so_far.given in
+      record {
+        reader = r.reader;
+        mid = r.mid;
+        limit_is = given.limit ∙ begins.limit;
+        newest_is = given.newest ∙ begins.newest;
+        none_ends = r.going.none_ends;
+        read = given.read;
+        blames = r.blames;
+      }
 
-pub in_answers : (form : Form) (written : Option (List ℕ)) (a b : Stage Printer) → Begins form written a → StoppedInAnswers by behind a b → BrokeInAnswers form input_limit (spot_of written a) (seen b)
-in_answers form written a b begins t =
-    let s = t.going.so_far in
-    let mid = t.mid.scene.telling in
-    let same = all_printed mid.teller t.answers ∙ ap (λ (p : Printer). all_told p.form t.answers) (printer_so form written a mid (joined s.groups) begins s.told_so) in
-    record {
-      events = s.events;
-      groups = s.groups;
-      event = t.event;
-      answers = t.answers;
-      reader = b.reader;
-      behind = mid.written;
-      limit_is = t.given.limit ∙ begins.limit;
-      newest_is = t.given.newest ∙ begins.newest;
-      none_ends = t.going.none_ends;
-      read = t.given.read;
-      wrote = printed form written a mid (joined s.groups) begins s.told_so;
-      part = subst (λ l. WrotePart mid.written b.scene.telling.written l) same t.told_so.part;
-      run = t.run;
-    }
+  -- a refusal, which was told or was not
+  before : (form : Form) (written last : Option (List ℕ)) (a b : Stage T) (why : FrameFault) → Begins form written a → Refused by behind a b why → Wrote b.scene.telling.written last (told_of form why) → RanBefore form input_limit why (spot_of written a) (spot_of last b)
+  before form written last a b why begins r wrote =
+      let s = r.going.so_far in
+      record {
+        events = s.events;
+        groups = s.groups;
+        read = read_before form written a b why begins r;
+        wrote = Wrote-more (printed form written a b.scene.telling (joined s.groups) begins s.told_so) wrote;
+        run = s.run;
+      }
 
--- where frames are carried out no further
-pub stopped : (form : Form) (written : Option (List ℕ)) (a b : Stage Printer) (before after : Writes) (fault : ServeFault) (stop : Stop) → before.written ≡ b.scene.telling.written → Begins form written a → StoppedSo by behind a b stop → TellsStop form before after fault stop → RanTo form input_limit (spot_of written a) (spot_of after.written b) fault
-stopped form written a b before after fault (stops.Refused why) same begins r told =
-    refused form written after.written a b why fault begins r (subst (λ w. Tells form why w after.written fault) same told.tells)
-stopped form written a b before after fault stops.Write same begins t (is, stays) =
-    subst (RanTo form input_limit (spot_of written a) (spot_of after.written b)) (sym is) (inr (inl (subst (λ w. BrokeInAnswers form input_limit (spot_of written a) (spot_of w b)) (sym same ∙ ap (λ (w : Writes). w.written) (sym stays)) (in_answers form written a b begins t))))
+  broken : (form : Form) (written last : Option (List ℕ)) (a b : Stage T) (reason : Reason) (offset : ℕ) → Begins form written a → Refused by behind a b (Bad reason offset) → WrotePart b.scene.telling.written last (fault_told form reason offset) → BrokeInFault form input_limit (spot_of written a) (spot_of last b)
+  broken form written last a b reason offset begins r part =
+      let s = r.going.so_far in
+      record {
+        events = s.events;
+        groups = s.groups;
+        reason = reason;
+        offset = offset;
+        behind = b.scene.telling.written;
+        read = read_before form written a b (Bad reason offset) begins r;
+        wrote = printed form written a b.scene.telling (joined s.groups) begins s.told_so;
+        part = part;
+        run = s.run;
+      }
+
+  pub refused : (form : Form) (written last : Option (List ℕ)) (a b : Stage T) (why : FrameFault) (fault : ServeFault) → Begins form written a → Refused by behind a b why → Tells form why b.scene.telling.written last fault → RanTo form input_limit (spot_of written a) (spot_of last b) fault
+  refused form written last a b why (faults.Open opening) begins r tells = absurd tells
+  refused form written last a b why (faults.BadInput reason offset) begins r (is, wrote) =
+      before form written last a b (Bad reason offset) begins (subst (λ w. Refused by behind a b w) is r) wrote
+  refused form written last a b why faults.Read begins r (is, same) =
+      before form written last a b ReadFault begins (subst (λ w. Refused by behind a b w) is r) (subst (λ w. Wrote b.scene.telling.written w []) (sym same) (Wrote-none b.scene.telling.written))
+  refused form written last a b why faults.Write begins r (reason, offset, is, part) =
+      inr (inr (broken form written last a b reason offset begins (subst (λ w. Refused by behind a b w) is r) part))
+
+  pub in_answers : (form : Form) (written : Option (List ℕ)) (a b : Stage T) → Begins form written a → StoppedInAnswers by behind a b → BrokeInAnswers form input_limit (spot_of written a) (seen b)
+  in_answers form written a b begins t =
+      let s = t.going.so_far in
+      let mid = t.mid.scene.telling in
+      let tells = subst (λ x. TellsIn by behind form x) (sym s.told_so.teller) (tells_on by behind form a.scene.telling.teller (joined s.groups) begins.tells) in
+      let same = all_told_in by behind form mid.teller t.answers tells in
+      record {
+        events = s.events;
+        groups = s.groups;
+        event = t.event;
+        answers = t.answers;
+        reader = b.reader;
+        behind = mid.written;
+        limit_is = t.given.limit ∙ begins.limit;
+        newest_is = t.given.newest ∙ begins.newest;
+        none_ends = t.going.none_ends;
+        read = t.given.read;
+        wrote = printed form written a mid (joined s.groups) begins s.told_so;
+        part = subst (λ l. WrotePart mid.written b.scene.telling.written l) same t.told_so.part;
+        run = t.run;
+      }
+
+  -- where frames are carried out no further
+  pub stopped : (form : Form) (written : Option (List ℕ)) (a b : Stage T) (before after : Writes) (fault : ServeFault) (stop : Stop) → before.written ≡ b.scene.telling.written → Begins form written a → StoppedSo by behind a b stop → TellsStop form before after fault stop → RanTo form input_limit (spot_of written a) (spot_of after.written b) fault
+  stopped form written a b before after fault (stops.Refused why) same begins r told =
+      refused form written after.written a b why fault begins r (subst (λ w. Tells form why w after.written fault) same told.tells)
+  stopped form written a b before after fault stops.Write same begins t (is, stays) =
+      subst (RanTo form input_limit (spot_of written a) (spot_of after.written b)) (sym is) (inr (inl (subst (λ w. BrokeInAnswers form input_limit (spot_of written a) (spot_of w b)) (sym same ∙ ap (λ (w : Writes). w.written) (sym stays)) (in_answers form written a b begins t))))
 
 -- and why
 pub stop_cause : (form : Form) (read read' : Reads) (first begun_at before after : Writes) (fault : ServeFault) (stop : Stop) → first.faults ≤ begun_at.faults → HasStopCause read.faults read'.faults begun_at.faults before.faults stop → TellsStop form before after fault stop → begun_at.faults ≤ before.faults → HasStreamCause read read' first after fault

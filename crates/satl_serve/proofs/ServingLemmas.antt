@@ -1,5 +1,5 @@
 -- Serving from before the layer was opened.
-use Rattle.std.proofs.Common.{◌≡◌, ◌⊎◌, inl, inr, refl, sym, ap, subst, arith, ◌∙◌, ℕ, ◌+◌, ◌≤◌, List, [], map}
+use Rattle.std.proofs.Common.{◌≡◌, inl, inr, refl, sym, ap, subst, arith, ◌∙◌, ℕ, ◌+◌, ◌≤◌, List, [], map}
 use Rattle.std.specs.Prelude.{Option, Ok, Err, Result, IfErr}
 use Rattle.std.specs.Result.{IsErrAnd}
 use Rattle.satl_io.specs.Causes.{RoseBy}
@@ -8,18 +8,21 @@ use Rattle.satl_frame.specs.declared.frames.FrameFault.{FrameFault}
 use Rattle.satl_frame.specs.declared.frames.FrameFault.TheVariants.{Bad, ReadFault}
 use Rattle.satl_frame.specs.Output.{Answer}
 use Rattle.satl_line.specs.Tasks.{entries_of}
+use Rattle.satl_text.specs.Totals.{summary_of}
 use Rattle.satl_text.specs.declared.summary.Summary.{Summary}
 use Rattle.satl_drive.specs.State.{DriveState}
 use Rattle.satl_direct.specs.Device.{Device}
+use Rattle.satl_direct.specs.Run.{joined}
 use Rattle.satl_direct.specs.Tasks.{task_of}
 use Rattle.satl_core.specs.Layer.{Layer, Tied, view}
 use Rattle.satl_core.specs.Opening.{IsOpened}
 use Rattle.satl_core.specs.Tie.{TiesQueue, given_by}
-use Rattle.satl_step.specs.Runs.{AreCounted, Covers, IsDeep, RunCutSoFar, RunSoFar, Stand, Tally, tally_of, unplugs_in}
-use Rattle.satl_serve.specs.Headline.{IsStopped}
+use Rattle.satl_step.specs.Runs.{AreCounted, Covers, IsDeep, RunCutSoFar, RunSoFar, Stand, Tally, requests_in, tally_of, unplugs_in}
+use Rattle.satl_serve.specs.Headline.{IsServedToEnd, IsServedWhole, IsStopped}
 use Rattle.satl_serve.specs.Moments.{Moment, Spot, spot_at}
-use Rattle.satl_serve.specs.Runs.{BrokeInAnswers, BrokeInFault, BrokeInMagic, IsFirstDevice, IsLeftAs, RanBefore, RanInPart, RanWhole, Serves}
+use Rattle.satl_serve.specs.Runs.{IsFirstDevice, IsLeftAs, RanBefore, RanInPart, RanWhole, Serves}
 use Rattle.satl_serve.specs.Stopping.{RanTo}
+use Rattle.satl_serve.specs.Tellers.{IsServedBy, RanBy}
 use Rattle.satl_serve.specs.declared.serving.ServeFault.{ServeFault}
 use Rattle.satl_serve.specs.declared.serving.ServeFault.TheVariants as faults
 use Rattle.satl_serve.specs.declared.telling.Form.{Form}
@@ -74,9 +77,9 @@ module _ (s : Device) (old new : Tally) (same : new ≡ record old { calls = new
   sooner_cut b events groups r = record { losses = r.losses; run = r.run; counted = sooner_counted events r.losses b r.counted }
 
   module _ (form : Form) (limit : ℕ) (left written : Option (List ℕ)) (b : Spot) where
-    sooner_whole : (summary : Summary) → RanWhole form limit summary (record { left = left; written = written; stand = record { device = s; tally = new } }) b → RanWhole form limit summary (record { left = left; written = written; stand = record { device = s; tally = old } }) b
+    sooner_whole : RanWhole form limit (record { left = left; written = written; stand = record { device = s; tally = new } }) b → RanWhole form limit (record { left = left; written = written; stand = record { device = s; tally = old } }) b
     unfolding sooner
-    sooner_whole summary r = record { events = r.events; groups = r.groups; place = r.place; read = r.read; wrote = r.wrote; run = sooner b.stand _ _ r.run; deep = r.deep; totals = r.totals }
+    sooner_whole r = record { events = r.events; groups = r.groups; place = r.place; read = r.read; wrote = r.wrote; run = sooner b.stand _ _ r.run; deep = r.deep }
 
     sooner_before : (why : FrameFault) → RanBefore form limit why (record { left = left; written = written; stand = record { device = s; tally = new } }) b → RanBefore form limit why (record { left = left; written = written; stand = record { device = s; tally = old } }) b
     sooner_before why r = record { events = r.events; groups = r.groups; read = r.read; wrote = r.wrote; run = sooner b.stand _ _ r.run }
@@ -99,15 +102,19 @@ module _ (form : Form) (limit : ℕ) (before after : Moment) (mid : DriveState) 
   pub tally_same : tally_of mid opened ≡ record (tally_of before.drive (before.calls + 1)) { calls = opened }
   tally_same = ap (λ (d : DriveState). tally_of d opened) is.stays
 
-  pub serves_whole : (summary : Summary) → RanWhole form limit summary a b → Serves (RanWhole form limit summary) before after
-  serves_whole summary r = record {
+  serves_whole : RanWhole form limit a b → IsServedToEnd form limit before after
+  serves_whole r = record {
     first = view l mid;
     last = view l' after.drive;
     begins = first_of before.drive mid l is;
-    run = sooner_whole (view l mid) (tally_of before.drive (before.calls + 1)) (tally_of mid opened) tally_same one form limit before.source.left before.sink.written b summary r;
+    run = sooner_whole (view l mid) (tally_of before.drive (before.calls + 1)) (tally_of mid opened) tally_same one form limit before.source.left before.sink.written b r;
     ends = left_as l' after.drive tied;
     queue = record { given = given_by l'; queue = ties.queue };
   }
+
+  pub serves_by : {T : Type 0} (behind : T → Answer → T) (teller teller' : T) (requests : ℕ) → RanBy behind form limit teller teller' requests a b → IsServedBy behind form limit teller teller' requests before after
+  unfolding serves_whole sooner_whole
+  serves_by behind teller teller' requests r = record { to_end = serves_whole r.to_end; told_so = r.told_so }
 
   serves_before : (why : FrameFault) → RanBefore form limit why a b → Serves (RanBefore form limit why) before after
   serves_before why r = record {
@@ -136,6 +143,10 @@ module _ (form : Form) (limit : ℕ) (before after : Moment) (mid : DriveState) 
   stops faults.Write r = serves_part r
 
 -- a write failed before anything was read
-pub any_write : (form : Form) (limit : ℕ) (before after : Spot) (r : Result Summary ServeFault) (P : ServeFault → Type 0) → IsErrAnd r P → ((e : ServeFault) → P e → e ≡ faults.Write) → RanInPart form limit before after → IfErr r (RanTo form limit before after)
+pub any_write : {A : Type 0} (form : Form) (limit : ℕ) (before after : Spot) (r : Result A ServeFault) (P : ServeFault → Type 0) → IsErrAnd r P → ((e : ServeFault) → P e → e ≡ faults.Write) → RanInPart form limit before after → IfErr r (RanTo form limit before after)
 any_write form limit before after (Ok u) P is same part = tt
 any_write form limit before after (Err e) P is same part = subst (RanTo form limit before after) (sym (same e is)) part
+
+-- what was served up to END has totals, whether they were counted or not
+pub with_totals : (form : Form) (limit : ℕ) (before after : Moment) → IsServedToEnd form limit before after → (summary : Summary) × IsServedWhole form limit summary before after
+with_totals form limit before after served = (summary_of (requests_in served.run.events) (joined served.run.groups), record { to_end = served; totals = refl })

@@ -5,3 +5,4 @@ pub mod Headline
 pub mod Moments
 pub mod Runs
 pub mod Stopping
+pub mod Tellers

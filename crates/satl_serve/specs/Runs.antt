@@ -14,14 +14,12 @@ use Rattle.satl_frame.specs.Inputs.{NoneEnds}
 use Rattle.satl_frame.specs.Output.{Answer}
 use Rattle.satl_frame.specs.Progress.{HasRead, ReadTo}
 use Rattle.satl_frame.specs.Reading.{Blames, Reading}
-use Rattle.satl_text.specs.Totals.{summary_of}
-use Rattle.satl_text.specs.declared.summary.Summary.{Summary}
 use Rattle.satl_drive.specs.State.{DriveState}
 use Rattle.satl_direct.specs.Device.{Device}
 use Rattle.satl_direct.specs.Valid.{IsValid}
 use Rattle.satl_direct.specs.Run.{joined}
 use Rattle.satl_core.specs.Tie.{Given, IsQueue}
-use Rattle.satl_step.specs.Runs.{RunCutSoFar, RunSoFar, requests_in}
+use Rattle.satl_step.specs.Runs.{RunCutSoFar, RunSoFar}
 use Rattle.satl_serve.specs.Forms.{all_told, begun, fault_told, output, told_of}
 use Rattle.satl_serve.specs.Moments.{Moment, Spot, spot_at}
 use Rattle.satl_serve.specs.declared.telling.Form.{Form}
@@ -81,9 +79,9 @@ pub record ReadBefore (limit : ℕ) (left left' : Option (List ℕ)) (events : L
   pub read : HasRead reader left mid events
   pub blames : Blames reader mid left' why
 
--- frames up to END were read and no byte behind them; the output of a run over exactly these was written; the drive had at once as many
--- commands as the device let it have; and the totals are those of the requests and these answers (profile)
-pub record RanWhole (form : Form) (limit : ℕ) (summary : Summary) (before after : Spot) : Type 0 where
+-- frames up to END were read and no byte behind them; the output of a run over exactly these was written; and the drive had at
+-- once as many commands as the device let it have (profile)
+pub record RanWhole (form : Form) (limit : ℕ) (before after : Spot) : Type 0 where
   pub events : List Frame
   pub groups : List (List Answer)
   pub place : Place
@@ -91,7 +89,6 @@ pub record RanWhole (form : Form) (limit : ℕ) (summary : Summary) (before afte
   pub wrote : Wrote before.written after.written (output form (joined groups))
   pub run : RunSoFar before.stand after.stand (events ++ frames.End ∷ []) groups
   pub deep : run.deep ≤ after.stand.tally.deepest
-  pub totals : summary ≡ summary_of (requests_in events) (joined groups)
 
 -- frames were read and carried out, none of which is END; the output of a run over these was written; and what follows was refused or not
 -- read, which was told (profile)

@@ -1,26 +1,23 @@
 // An input is served.
-ghost use Rattle.std.specs.Prelude.{◌≡◌, ◌≤◌, ℕ, List, [], Some, None, IfErr, IfOk, MatchResult};
-ghost use Rattle.std.specs.Result.{IsErrAnd};
+ghost use Rattle.std.specs.Prelude.{◌≡◌, ◌≤◌, [], None, IfErr, IfOk};
 ghost use Rattle.satl_io.specs.Causes.{Rose};
-ghost use Rattle.satl_identify.specs.declared.identity.IdentityFault.{IdentityFault};
-ghost use Rattle.satl_frame.specs.declared.frames.Frame.{Frame};
 ghost use Rattle.satl_drive.specs.State.{IsFit};
 ghost use Rattle.satl_core.specs.Layer.{Tied};
 ghost use Rattle.satl_step.specs.Runs.{IsDeep, stand_of, tally_of};
-ghost use Rattle.satl_serve.specs.Completeness.{GoesWell, IsGoodInput, MayStop};
-ghost use Rattle.satl_serve.specs.Headline.{IsServedWhole, IsStopped};
+ghost use Rattle.satl_serve.specs.Headline.{IsServedToEnd, IsServedWhole, ResultSays};
 ghost use Rattle.satl_serve.specs.Moments.{moment, reads, writes};
-ghost use Rattle.satl_serve.specs.Runs.{RanWhole, input_limit};
-ghost use Rattle.satl_serve.specs.Stopping.{HasServeCause, HasStreamCause, IsRefused, RanTo, Tells, TellsRefusal, TellsStop};
+ghost use Rattle.satl_serve.specs.Runs.{input_limit};
+ghost use Rattle.satl_serve.specs.Stopping.{HasStreamCause, RanTo, Tells, TellsStop};
+ghost use Rattle.satl_serve.specs.Tellers.{IsServedBy, RanBy, TellsIn};
 
-use crate::printer::Printer;
+use crate::printer::{Counter, Printer};
 use crate::telling::{Form, tell_beginning, tell_fault};
 use satl_base::Steps;
 use satl_core::{OpenFault, Satl};
 use satl_drive::Bench;
 use satl_frame::{FrameFault, FrameReader, Reason, WriteFault};
 use satl_io::{Sink, Source};
-use satl_step::{Stop, see_queue, serve_frames};
+use satl_step::{Stop, Teller, see_queue, serve_frames};
 use satl_text::Summary;
 use std::alloc::Global;
 use std::sync::ledger::Ledger;
@@ -65,10 +62,10 @@ impl From<OpenFault> for ServeFault {
 const LIMIT: u64 = 1 << 40;
 
 /// Serves an input of frames: opens the layer on the drive, and carries out one frame after the other up to END, which ends it.
-/// Answers are written in the form, each before the next frame is read; before frames stands the magic of the output. `Open`: the layer was not opened, for
-/// the reason told, and nothing was read or written; refused IDENTIFY DEVICE data are told, but for a lost link and want of memory.
-/// `BadInput` comes after its FAULT frame or line was written, with the reason and the offset of the refused frame in bytes. `Read` and
-/// `Write` come only where the source's or the sink's count of faults rose.
+/// Answers are written in the form, each before the next frame is read; before frames stands the magic of the output.
+/// `Open`: the layer was not opened, for the reason told, and nothing was read or written; refused IDENTIFY DEVICE data are
+/// told, but for a lost link and want of memory. `BadInput` comes after its FAULT frame or line was written, with the reason and
+/// the offset of the refused frame in bytes. `Read` and `Write` come only where the source's or the sink's count of faults rose.
 /// An input that can be read to END ends so, or by want of memory or a lost link before anything is read, where neither the
 /// source's nor the sink's count of faults rises and the drive is not refused. It gives the totals of the whole input. The drive
 /// is called at most once for its identity, 1,089 times for each request and 33 times for each task management function (profile).
@@ -84,53 +81,88 @@ pub fn serve<S: Source, K: Sink, D: Bench, L: Ledger>(
     requires no_error { (D.state drive.old).error ≡ None }
     requires fit { IsFit (D.state drive.old) }
     ensures served { IfOk result (λ summary. IsServedWhole form input_limit summary (moment (reads (S.left source.old) (S.faults source.old)) (writes (K.written sink.old) (K.faults sink.old)) steps.old (D.state drive.old)) (moment (reads (S.left source.new) (S.faults source.new)) (writes (K.written sink.new) (K.faults sink.new)) steps.new (D.state drive.new))) }
-    ensures stopped { IfErr result (IsStopped form input_limit (moment (reads (S.left source.old) (S.faults source.old)) (writes (K.written sink.old) (K.faults sink.old)) steps.old (D.state drive.old)) (moment (reads (S.left source.new) (S.faults source.new)) (writes (K.written sink.new) (K.faults sink.new)) steps.new (D.state drive.new))) }
-    ensures causes { IfErr result (HasServeCause (moment (reads (S.left source.old) (S.faults source.old)) (writes (K.written sink.old) (K.faults sink.old)) steps.old (D.state drive.old)) (moment (reads (S.left source.new) (S.faults source.new)) (writes (K.written sink.new) (K.faults sink.new)) steps.new (D.state drive.new))) }
-    ensures refused { (fault : IdentityFault) → IsRefused fault (D.state drive.old) (D.state drive.new) → IsErrAnd result (TellsRefusal fault) }
-    ensures complete { (fs : List Frame) (rest : List ℕ) → IsGoodInput input_limit (S.left source.old) fs rest → GoesWell (moment (reads (S.left source.old) (S.faults source.old)) (writes (K.written sink.old) (K.faults sink.old)) steps.old (D.state drive.old)) (moment (reads (S.left source.new) (S.faults source.new)) (writes (K.written sink.new) (K.faults sink.new)) steps.new (D.state drive.new)) → MatchResult result (λ _. S.left source.new ≡ Some rest) (MayStop (moment (reads (S.left source.old) (S.faults source.old)) (writes (K.written sink.old) (K.faults sink.old)) steps.old (D.state drive.old)) (moment (reads (S.left source.new) (S.faults source.new)) (writes (K.written sink.new) (K.faults sink.new)) steps.new (D.state drive.new))) }
+    ensures says { ResultSays form input_limit (moment (reads (S.left source.old) (S.faults source.old)) (writes (K.written sink.old) (K.faults sink.old)) steps.old (D.state drive.old)) (moment (reads (S.left source.new) (S.faults source.new)) (writes (K.written sink.new) (K.faults sink.new)) steps.new (D.state drive.new)) result }
+{
+    let mut counter = Counter::new(form);
+    let requests = serve_by(alloc, form, &mut counter, source, sink, drive, steps)?;
+    Ok(counter.totals(requests))
+}
+
+/// The same for who wants no totals (profile): data-in is not summed then, which is a good part of what a READ costs.
+pub fn serve_uncounted<S: Source, K: Sink, D: Bench, L: Ledger>(
+    alloc: Global,
+    form: Form,
+    source: &mut S,
+    sink: &mut K,
+    drive: &mut D,
+    steps: &mut Steps<L>,
+) -> Result<(), ServeFault>
+    requires idle { (D.state drive.old).outstanding ≡ [] }
+    requires no_error { (D.state drive.old).error ≡ None }
+    requires fit { IsFit (D.state drive.old) }
+    ensures served { IfOk result (λ _. IsServedToEnd form input_limit (moment (reads (S.left source.old) (S.faults source.old)) (writes (K.written sink.old) (K.faults sink.old)) steps.old (D.state drive.old)) (moment (reads (S.left source.new) (S.faults source.new)) (writes (K.written sink.new) (K.faults sink.new)) steps.new (D.state drive.new))) }
+    ensures says { ResultSays form input_limit (moment (reads (S.left source.old) (S.faults source.old)) (writes (K.written sink.old) (K.faults sink.old)) steps.old (D.state drive.old)) (moment (reads (S.left source.new) (S.faults source.new)) (writes (K.written sink.new) (K.faults sink.new)) steps.new (D.state drive.new)) result }
+{
+    serve_by(
+        alloc,
+        form,
+        &mut Printer { form },
+        source,
+        sink,
+        drive,
+        steps,
+    )?;
+    Ok(())
+}
+
+/// The same, where a teller tells the answers in the form. Gives the number of requests, which stands still at 2^64 - 1.
+fn serve_by<T: Teller, S: Source, K: Sink, D: Bench, L: Ledger>(
+    alloc: Global,
+    form: Form,
+    teller: &mut T,
+    source: &mut S,
+    sink: &mut K,
+    drive: &mut D,
+    steps: &mut Steps<L>,
+) -> Result<u64, ServeFault>
+    requires tells { TellsIn T.told T.behind form teller.old }
+    requires idle { (D.state drive.old).outstanding ≡ [] }
+    requires no_error { (D.state drive.old).error ≡ None }
+    requires fit { IsFit (D.state drive.old) }
+    ensures served { IfOk result (λ requests. IsServedBy T.behind form input_limit teller.old teller.new requests (moment (reads (S.left source.old) (S.faults source.old)) (writes (K.written sink.old) (K.faults sink.old)) steps.old (D.state drive.old)) (moment (reads (S.left source.new) (S.faults source.new)) (writes (K.written sink.new) (K.faults sink.new)) steps.new (D.state drive.new))) }
+    ensures says { ResultSays form input_limit (moment (reads (S.left source.old) (S.faults source.old)) (writes (K.written sink.old) (K.faults sink.old)) steps.old (D.state drive.old)) (moment (reads (S.left source.new) (S.faults source.new)) (writes (K.written sink.new) (K.faults sink.new)) steps.new (D.state drive.new)) result }
 {
     let mut satl = Satl::open(alloc, drive, steps)?;
-    let served = serve_opened(alloc, form, &mut satl, source, sink, drive, steps);
+    let served = serve_opened(alloc, form, teller, &mut satl, source, sink, drive, steps);
     see_queue(&satl);
     served
 }
 
 /// The same, on a layer that was opened: what stands before all answers is written, and the frames are carried out up to END.
-fn serve_opened<S: Source, K: Sink, D: Bench, L: Ledger>(
+fn serve_opened<T: Teller, S: Source, K: Sink, D: Bench, L: Ledger>(
     alloc: Global,
     form: Form,
+    teller: &mut T,
     satl: &mut Satl,
     source: &mut S,
     sink: &mut K,
     drive: &mut D,
     steps: &mut Steps<L>,
-) -> Result<Summary, ServeFault>
+) -> Result<u64, ServeFault>
+    requires tells { TellsIn T.told T.behind form teller.old }
     requires tied { Tied satl.old (D.state drive.old) }
     requires all_in { satl.old.out ≡ 0 }
     requires idle { satl.old.tasks ≡ [] }
     requires deep { IsDeep (tally_of (D.state drive.old) steps.old) }
     ensures tied { Tied satl.new (D.state drive.new) }
-    ensures whole { IfOk result (λ summary. RanWhole form input_limit summary (record { left = S.left source.old; written = K.written sink.old; stand = stand_of satl.old (D.state drive.old) steps.old }) (record { left = S.left source.new; written = K.written sink.new; stand = stand_of satl.new (D.state drive.new) steps.new })) }
+    ensures whole { IfOk result (λ requests. RanBy T.behind form input_limit teller.old teller.new requests (record { left = S.left source.old; written = K.written sink.old; stand = stand_of satl.old (D.state drive.old) steps.old }) (record { left = S.left source.new; written = K.written sink.new; stand = stand_of satl.new (D.state drive.new) steps.new })) }
     ensures stopped { IfErr result (RanTo form input_limit (record { left = S.left source.old; written = K.written sink.old; stand = stand_of satl.old (D.state drive.old) steps.old }) (record { left = S.left source.new; written = K.written sink.new; stand = stand_of satl.new (D.state drive.new) steps.new })) }
     ensures causes { IfErr result (HasStreamCause (reads (S.left source.old) (S.faults source.old)) (reads (S.left source.new) (S.faults source.new)) (writes (K.written sink.old) (K.faults sink.old)) (writes (K.written sink.new) (K.faults sink.new))) }
 {
     tell_beginning(form, sink)?;
     let mut reader = FrameReader::new(alloc, LIMIT);
-    let mut printer = Printer::new(form);
-    match serve_frames(
-        alloc,
-        &mut reader,
-        satl,
-        source,
-        &mut printer,
-        sink,
-        drive,
-        steps,
-    ) {
-        Ok(requests) => Ok(Summary {
-            requests,
-            ..printer.totals
-        }),
+    match serve_frames(alloc, &mut reader, satl, source, teller, sink, drive, steps) {
+        Ok(requests) => Ok(requests),
         Err(stop) => Err(tell_stop(form, stop, sink)),
     }
 }

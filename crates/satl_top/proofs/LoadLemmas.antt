@@ -59,12 +59,13 @@ module _ (load : Load) (made : List ℕ) (left : Option (List ℕ)) (calls calls
   all_served : load.requests ≤ 100000 → (summary : Summary) → IsServedWhole forms.Count input_limit summary (moment (reads (input_of load) 0) nowhere calls old) ends → (source : Reads) (sink sink' : Writes)
       → IsLoaded input_limit load summary (moment source sink calls old) (moment source sink' calls' new)
   all_served few summary served source sink sink' =
-      let frames_are : served.run.events ≡ generated_frames load.seed load.requests = frames_read load.seed load.requests few served.run.place left served.run.events served.run.read in
+      let run = served.to_end.run in
+      let frames_are : run.events ≡ generated_frames load.seed load.requests = frames_read load.seed load.requests few run.place left run.events run.read in
       record {
         left = left;
         served = served;
         frames_are = frames_are;
-        requests_are = ap (λ (u : Summary). u.requests) served.run.totals ∙ total_is load.seed load.requests served.run.events few frames_are;
+        requests_are = ap (λ (u : Summary). u.requests) served.totals ∙ total_is load.seed load.requests run.events few frames_are;
         unread = refl;
       }
 

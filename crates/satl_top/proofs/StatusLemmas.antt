@@ -1,13 +1,40 @@
 -- The status of a fault.
-use Rattle.std.proofs.Common.{◌≡◌, ℕ, List, sym, subst}
+use Rattle.std.proofs.Common.{◌≡◌, ℕ, List, inl, inr, sym, subst}
 use Rattle.satl_core.specs.declared.satl.OpenFault.TheVariants as opening
 use Rattle.satl_serve.specs.Completeness.{MayStop}
+use Rattle.satl_serve.specs.Headline.{IsStopped}
 use Rattle.satl_serve.specs.Moments.{Moment}
+use Rattle.satl_serve.specs.Stopping.{HasServeCause}
 use Rattle.satl_serve.specs.declared.serving.ServeFault.{ServeFault}
 use Rattle.satl_serve.specs.declared.serving.ServeFault.TheVariants as faults
+use Rattle.satl_serve.specs.declared.telling.Form.{Form}
 use Rattle.satl_top.specs.Faults.{status_of}
-use Rattle.satl_top.specs.Top.{Completes}
+use Rattle.satl_top.specs.Top.{Completes, HasCause, ServeEnds}
 use Rattle.satl_top.specs.declared.status.Status.{Status}
+
+-- a fault has the status that says how far the input was served
+pub fault_ends : (form : Form) (limit : ℕ) (before after : Moment) (fault : ServeFault) (status : Status) → status ≡ status_of fault → IsStopped form limit before after fault → ServeEnds form limit before after status
+fault_ends form limit before after fault status is stopped = subst (λ s. ServeEnds form limit before after s) (sym is) (by_fault fault stopped)
+  where
+    by_fault : (f : ServeFault) → IsStopped form limit before after f → ServeEnds form limit before after (status_of f)
+    by_fault (faults.Open opening.NoMemory) stopped = stopped
+    by_fault (faults.Open opening.LinkDown) stopped = stopped
+    by_fault (faults.Open (opening.Identity fault)) stopped = stopped
+    by_fault (faults.BadInput reason offset) stopped = (reason, offset, stopped)
+    by_fault faults.Read stopped = stopped
+    by_fault faults.Write stopped = stopped
+
+-- and its cause
+pub fault_causes : (before after : Moment) (fault : ServeFault) (status : Status) → status ≡ status_of fault → HasServeCause before after fault → HasCause before after status
+fault_causes before after fault status is cause = subst (HasCause before after) (sym is) (by_fault fault cause)
+  where
+    by_fault : (f : ServeFault) → HasServeCause before after f → HasCause before after (status_of f)
+    by_fault (faults.Open opening.NoMemory) cause = tt
+    by_fault (faults.Open opening.LinkDown) cause = inr cause
+    by_fault (faults.Open (opening.Identity fault)) cause = inl (fault, cause)
+    by_fault (faults.BadInput reason offset) cause = tt
+    by_fault faults.Read cause = cause
+    by_fault faults.Write cause = cause
 
 -- a fault that is left to a good input has its status
 pub fault_completes : (rest : List ℕ) (before after : Moment) (fault : ServeFault) (status : Status) → status ≡ status_of fault → MayStop before after fault → Completes rest before after status

@@ -38,7 +38,7 @@ at_load left m = moment (reads left 0) nowhere m.calls m.drive
 pub record IsLoaded (limit : ℕ) (load : Load) (summary : Summary) (before after : Moment) : Type 0 where
   pub left : Option (List ℕ)
   pub served : IsServedWhole forms.Count limit summary (at_load (input_of load) before) (at_load left after)
-  pub frames_are : served.run.events ≡ generated_frames load.seed load.requests
+  pub frames_are : served.to_end.run.events ≡ generated_frames load.seed load.requests
   pub requests_are : summary.requests ≡ load.requests
   pub unread : after.source ≡ before.source
 

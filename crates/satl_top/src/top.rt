@@ -21,7 +21,7 @@ use crate::status::Status;
 use satl_base::Steps;
 use satl_drive::Bench;
 use satl_io::{Sink, Source};
-use satl_serve::{Form, serve};
+use satl_serve::{Form, serve_uncounted};
 use satl_words::{Mode, WordsFault, mode_asked};
 use std::alloc::Global;
 use std::rc::RcStr;
@@ -98,8 +98,8 @@ fn serve_input<S: Source, K: Sink, D: Bench, L: Ledger>(
     ensures causes { HasCause (moment (reads (S.left source.old) (S.faults source.old)) (writes (K.written sink.old) (K.faults sink.old)) steps.old (D.state drive.old)) (moment (reads (S.left source.new) (S.faults source.new)) (writes (K.written sink.new) (K.faults sink.new)) steps.new (D.state drive.new)) result }
     ensures complete { (fs : List Frame) (rest : List ℕ) → IsGoodInput input_limit (S.left source.old) fs rest → GoesWell (moment (reads (S.left source.old) (S.faults source.old)) (writes (K.written sink.old) (K.faults sink.old)) steps.old (D.state drive.old)) (moment (reads (S.left source.new) (S.faults source.new)) (writes (K.written sink.new) (K.faults sink.new)) steps.new (D.state drive.new)) → Completes rest (moment (reads (S.left source.old) (S.faults source.old)) (writes (K.written sink.old) (K.faults sink.old)) steps.old (D.state drive.old)) (moment (reads (S.left source.new) (S.faults source.new)) (writes (K.written sink.new) (K.faults sink.new)) steps.new (D.state drive.new)) result }
 {
-    match serve(alloc, form, source, sink, drive, steps) {
-        Ok(_) => Status::Done,
+    match serve_uncounted(alloc, form, source, sink, drive, steps) {
+        Ok(()) => Status::Done,
         Err(fault) => Status::from(fault),
     }
 }

@@ -5,7 +5,9 @@ ghost use Rattle.satl_unit.specs.Conditions.{additional_sense_of};
 /// An additional sense code and its qualifier (SPC-4 4.5.6).
 #[derive(Clone, Copy, Debug, PartialEq, Eq)]
 pub struct AdditionalSense {
+    /// The additional sense code.
     pub asc: u8,
+    /// Its qualifier.
     pub ascq: u8,
 }
 

@@ -6,11 +6,11 @@ use Rattle.satl_frame.proofs.Requested.{request_taken, request_bad, request_leng
 use Rattle.satl_frame.proofs.Stopping.{fewer_after}
 use Rattle.satl_frame.proofs.reader.pull_request.Goals as goal
 
-pub returns-in-Ok-clause-frame : goal.returns-in-Ok-clause-frame
-returns-in-Ok-clause-frame g c =
+pub returns-in-Ok-clause-request : goal.returns-in-Ok-clause-request
+returns-in-Ok-clause-request g c =
     let small : c.head_size-size.result ≤ 34 = omega (arith, c.head_size-size.ensures, at_most_34 c.args.version) in
     let counted : length c.pull.new.buf ≡ c.head_size-size.result = c.pull.auto.buf ∙ length-take-le _ _ small in
-    request_taken c.requires c.head_size-size.ensures c.in_ok-pull.ensures.bytes counted c.in-Some.ensures.found c.in-Ok.ensures.frame
+    request_taken c.requires c.head_size-size.ensures c.in_ok-pull.ensures.bytes counted c.in-Some.ensures.found c.in-Ok.ensures.filled
 
 pub returns-in-Ok-skip-clause-none : goal.returns-in-Ok-skip-clause-none
 returns-in-Ok-skip-clause-none g c =

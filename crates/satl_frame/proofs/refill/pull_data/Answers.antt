@@ -1,7 +1,16 @@
-use Rattle.std.proofs.Common.{◌≡◌, ◌≤◌, ◌∙◌, ap, min, length, take, arith}
+use Rattle.std.proofs.Common.{◌≡◌, ◌≤◌, ◌∙◌, [], ap, refl, min, length, take, arith}
 use Rattle.satl_frame.specs.DataPages.{page_count, pages_of}
-use Rattle.satl_frame.proofs.Paging.{pages_free, all_filled}
+use Rattle.satl_frame.proofs.Paging.{pages_free, all_filled, nothing_placed}
+use Rattle.satl_io.proofs.Joined.{Took-none}
 use Rattle.satl_frame.proofs.refill.pull_data.Goals as goal
+
+pub returns-then-len-eq0-clause-filled : goal.returns-then-len-eq0-clause-filled
+returns-then-len-eq0-clause-filled g c = record {
+  taken = [];
+  took = Took-none _;
+  size = omega (arith, c.if-len-eq0.true);
+  pages_are = c.default.ensures ∙ nothing_placed (g.P.Lender.free c.args.lender.now) [] refl;
+}
 
 pub returns-in-Ok-clause-filled : goal.returns-in-Ok-clause-filled
 returns-in-Ok-clause-filled g c =
