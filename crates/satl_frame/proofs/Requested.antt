@@ -1,5 +1,5 @@
 -- Requests from their head and their data-out.
-use Rattle.std.proofs.Common.{◌≡◌, ℕ, ◌+◌, ◌-◌, ◌≤◌, true, List, ◌++◌, length, Option, refl, ◌∙◌, ap, sym, subst, arith}
+use Rattle.std.proofs.Common.{◌≡◌, ℕ, ◌+◌, ◌-◌, ◌≤◌, ◌<◌, true, List, ◌++◌, length, IfNone, Option, Some, None, refl, ◌∙◌, ap, sym, subst, arith}
 use Rattle.std.proofs.lemmas.List.{length-append}
 use Rattle.std.proofs.lemmas.Bool.Decides.{nat_tests}
 use Rattle.satl_base.specs.declared.request.Request.{Request}
@@ -12,6 +12,7 @@ use Rattle.satl_frame.specs.Faults.{has_bad_field}
 use Rattle.satl_frame.specs.Pulls.{TookRequest, TookRest, TookCount, TookBadField}
 use Rattle.satl_frame.specs.declared.frames.Version.{Version}
 use Rattle.satl_frame.specs.declared.frames.Version.TheVariants.{One, Two}
+use Rattle.satl_frame.specs.declared.frames.Frame.{Frame}
 use Rattle.satl_frame.specs.declared.frames.Frame.TheVariants as frames
 use Rattle.satl_frame.proofs.Paging.{first_bytes-pages_of}
 
@@ -57,3 +58,13 @@ request_bad {a} {b} {c} {version} {len} {size} {head} allowed is took counted ba
       length_is = length-append head rest.taken ∙ omega (arith, rest.size, sizes.0);
       bad = bad rest.taken;
     }
+
+-- of another kind: a payload of at most 257 bytes
+pub at_most_257 : (version : Version) (code len : ℕ) → allows (frame_rows version) code len ≡ true → 1 < code → len ≤ 257
+at_most_257 version code len allowed other = grind (arith, nat_tests)
+
+-- a payload of which no frame is made
+pub small_bad : {a b : Option (List ℕ)} (version : Version) (code : ℕ) {len : ℕ} {payload : List ℕ} (found : Option Frame) → Took a b payload → length payload ≡ len →
+    IfNone found (has_bad_field version code payload ≡ true) → IfNone found (TookBadField a b version code len)
+small_bad version code {payload} None took size bad = record { taken = payload; took = took; length_is = size; bad = bad }
+small_bad version code (Some frame) took size bad = bad

@@ -91,10 +91,7 @@ fn pull_small<S: Source>(
     let mut buffer = [0; 257];
     let payload = &mut buffer[..len as usize];
     pull(source, payload)?;
-    match small_frame(version, code, payload) {
-        Some(frame) => Ok(Some(frame)),
-        None => Ok(None),
-    }
+    Ok(small_frame(version, code, payload))
 }
 
 /// Pulls the payload of a frame of this kind and length. None where a field of it is bad.
