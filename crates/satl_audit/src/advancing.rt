@@ -48,9 +48,11 @@ fn bench(steps: &mut Steps<'_>, sectors: &mut Sectors, event: &BenchEvent) -> Re
     requires fit { (size : ℕ) × (size < 2 ^ 63) × AllFit (length sectors.old) size steps.old.waiting }
     requires capacity { length sectors.old < 2 ^ 64 }
     requires known { (trim : Bool) × (is_known_frame trim (frames.Bench event.now) ≡ true) }
-    ensures fit { (capacity size : ℕ) → AllFit capacity size steps.old.waiting → OnOk result (AllFit capacity size steps.new.waiting) }
+    ensures fit { (capacity size : ℕ) → AllFit capacity size steps.old.waiting
+        → OnOk result (AllFit capacity size steps.new.waiting) }
     ensures length { OnOk result (length sectors.new ≡ length sectors.old) }
-    ensures goes { (identity : Identity) → (input : List ℕ) → OnOk result (GoesOn identity input (frames.Bench event.now) steps.old steps.new sectors.old sectors.new) }
+    ensures goes { (identity : Identity) → (input : List ℕ)
+        → OnOk result (GoesOn identity input (frames.Bench event.now) steps.old steps.new sectors.old sectors.new) }
 {
     match event {
         BenchEvent::Power => power(steps, sectors),
@@ -77,7 +79,8 @@ pub fn advance(
     requires good { IsGoodFrame (length input.now) at frame.now }
     ensures fit { OnOk result (AllFit identity.now.capacity (length input.now) steps.new.waiting) }
     ensures length { OnOk result (length sectors.new ≡ length sectors.old) }
-    ensures advances { (whole : Frame) → frame.now ≡ cut_to 0 whole → MayHappen input.now at steps.old.waiting whole → IfOk result (Advances identity.now input.now whole steps.old steps.new sectors.old sectors.new) }
+    ensures advances { (whole : Frame) → frame.now ≡ cut_to 0 whole → MayHappen input.now at steps.old.waiting whole
+        → IfOk result (Advances identity.now input.now whole steps.old steps.new sectors.old sectors.new) }
 {
     match frame {
         Frame::Request(request) => Ok(arrive(steps, identity, request, at)),

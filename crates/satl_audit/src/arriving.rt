@@ -71,7 +71,8 @@ fn place(
     requires waits { MayWait identity.now.capacity request.now.data_len command }
     requires expected { request.now.expected ≡ None }
     requires nexus { request.now.nexus ≤ 3 }
-    ensures fits { (size : ℕ) → at + request.now.data_len ≤ size → AllFit identity.now.capacity size steps.old.waiting → AllFit identity.now.capacity size steps.new.waiting }
+    ensures fits { (size : ℕ) → at + request.now.data_len ≤ size → AllFit identity.now.capacity size steps.old.waiting
+        → AllFit identity.now.capacity size steps.new.waiting }
     ensures goes { result ≡ true → Places identity.now request.now command at steps.old steps.new }
     ensures sticks { result ≡ false → CannotPlace identity.now request.now command steps.old }
 {
@@ -88,7 +89,8 @@ pub fn arrive(steps: &mut Steps<'_>, identity: &Identity, request: &Request, at:
     requires known { is_known (says request.now.cdb identity.now.trim) ≡ true }
     requires expected { request.now.expected ≡ None }
     requires nexus { request.now.nexus ≤ 3 }
-    ensures fits { (size : ℕ) → at + request.now.data_len ≤ size → AllFit identity.now.capacity size steps.old.waiting → AllFit identity.now.capacity size steps.new.waiting }
+    ensures fits { (size : ℕ) → at + request.now.data_len ≤ size → AllFit identity.now.capacity size steps.old.waiting
+        → AllFit identity.now.capacity size steps.new.waiting }
     ensures goes { result ≡ true → Goes identity.now request.now at steps.old steps.new }
     ensures sticks { result ≡ false → Sticks identity.now request.now at steps.old }
 {

@@ -79,7 +79,8 @@ fn write_ends(
     requires small { range.lba + range.count < 2 ^ 64 }
     requires room { at + 512 * range.count < 2 ^ 64 }
     ensures length { length sectors.new ≡ length sectors.old }
-    ensures writes { (input : List ℕ) → IfOk result (Writes input nexus tag.0 range at cached output.old output.new sectors.old sectors.new) }
+    ensures writes { (input : List ℕ) → IfOk result
+        (Writes input nexus tag.0 range at cached output.old output.new sectors.old sectors.new) }
 {
     if !output.pass(&head(nexus, tag, Scsi::Good, 0, 0)) {
         return Ok(false);

@@ -58,7 +58,9 @@ fn judge_command(
 ) -> Result<Command, AtOnce>
     requires { is_known (Ok command) ≡ true }
     ensures waits { IfOk result (MayWait identity.now.capacity request.now.data_len) }
-    ensures judged { (s : Device) → (body : List Block) → IsServing identity.now s → command_arrival s (record request.now { body = body }) command ≡ judged s (record request.now { body = body }) result }
+    ensures judged { (s : Device) → (body : List Block) → IsServing identity.now s
+        → command_arrival s (record request.now { body = body }) command
+        ≡ judged s (record request.now { body = body }) result }
 {
     if is_outside(range_of(&command), identity.capacity) {
         return Err(AtOnce::Check(plain(0x5, 0x21, 0x00)));
@@ -73,7 +75,8 @@ fn judge_command(
 pub fn judge(identity: &Identity, request: &Request) -> Result<Command, AtOnce>
     requires { is_known (says request.now.cdb identity.now.trim) ≡ true }
     ensures waits { IfOk result (MayWait identity.now.capacity request.now.data_len) }
-    ensures judged { (s : Device) → (body : List Block) → IsServing identity.now s → code_arrival s (record request.now { body = body }) ≡ judged s (record request.now { body = body }) result }
+    ensures judged { (s : Device) → (body : List Block) → IsServing identity.now s
+        → code_arrival s (record request.now { body = body }) ≡ judged s (record request.now { body = body }) result }
 {
     match read_cdb(&request.cdb, identity.trim) {
         Ok(command) => judge_command(identity, request, command),

@@ -24,7 +24,8 @@ fn pend_task(waiting: &Waiting, sectors: &mut Sectors, place: usize) -> Result<(
     requires fit { (size : ℕ) × (size < 2 ^ 63) × AllFit (length sectors.old) size waiting.now }
     requires capacity { length sectors.old < 2 ^ 64 }
     ensures length { length sectors.new ≡ length sectors.old }
-    ensures pends { (identity : Identity) → (input : List ℕ) → OnOk result (PendsBetween identity input waiting.now place (place + 1) sectors.old sectors.new) }
+    ensures pends { (identity : Identity) → (input : List ℕ)
+        → OnOk result (PendsBetween identity input waiting.now place (place + 1) sectors.old sectors.new) }
 {
     if !waiting.eligible(place) {
         return Ok(());
@@ -42,7 +43,8 @@ fn pend_tasks(waiting: &Waiting, sectors: &mut Sectors) -> Result<(), NoMemory>
     requires fit { (size : ℕ) × (size < 2 ^ 63) × AllFit (length sectors.old) size waiting.now }
     requires capacity { length sectors.old < 2 ^ 64 }
     ensures length { length sectors.new ≡ length sectors.old }
-    ensures pends { (identity : Identity) → (input : List ℕ) → OnOk result (PendsAll identity input waiting.now sectors.old sectors.new) }
+    ensures pends { (identity : Identity) → (input : List ℕ)
+        → OnOk result (PendsAll identity input waiting.now sectors.old sectors.new) }
 {
     for place in 0..waiting.len() {
         pend_task(waiting, sectors, place)?;
@@ -55,7 +57,8 @@ fn power_sectors(waiting: &Waiting, sectors: &mut Sectors) -> Result<(), NoMemor
     requires fit { (size : ℕ) × (size < 2 ^ 63) × AllFit (length sectors.old) size waiting.now }
     requires capacity { length sectors.old < 2 ^ 64 }
     ensures length { OnOk result (length sectors.new ≡ length sectors.old) }
-    ensures follows { (identity : Identity) → (input : List ℕ) → OnOk result (Follows input (power_deeds (device_of identity input waiting.now [])) sectors.old sectors.new) }
+    ensures follows { (identity : Identity) → (input : List ℕ)
+        → OnOk result (Follows input (power_deeds (device_of identity input waiting.now [])) sectors.old sectors.new) }
 {
     pend_tasks(waiting, sectors)?;
     sectors.power()
@@ -91,7 +94,8 @@ pub fn power(steps: &mut Steps<'_>, sectors: &mut Sectors) -> Result<(), NoMemor
     requires capacity { length sectors.old < 2 ^ 64 }
     ensures none { OnOk result (steps.new.waiting ≡ []) }
     ensures length { OnOk result (length sectors.new ≡ length sectors.old) }
-    ensures goes { (identity : Identity) → (input : List ℕ) → OnOk result (GoesOn identity input (frames.Bench events.Power) steps.old steps.new sectors.old sectors.new) }
+    ensures goes { (identity : Identity) → (input : List ℕ)
+        → OnOk result (GoesOn identity input (frames.Bench events.Power) steps.old steps.new sectors.old sectors.new) }
 {
     power_sectors(&steps.waiting, sectors)?;
     steps.waiting.clear();

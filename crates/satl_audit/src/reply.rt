@@ -37,7 +37,8 @@ pub fn head(nexus: Nexus, tag: Tag, status: Scsi, sense: u8, len: u64) -> [u8; 1
 fn pass_answer(output: &mut Cursor<'_>, request: &Request, status: Scsi, sense: &SenseBytes) -> bool
     requires { request.now.expected ≡ None }
     ensures passed { result ≡ true → output.old ≡ reply_bytes (reply_to request.now status sense.now.items) ++ output.new }
-    ensures other { result ≡ false → (rest : List ℕ) → output.old ≡ reply_bytes (reply_to request.now status sense.now.items) ++ rest → ⊥ }
+    ensures other { result ≡ false → (rest : List ℕ)
+        → output.old ≡ reply_bytes (reply_to request.now status sense.now.items) ++ rest → ⊥ }
 {
     let head = head(request.nexus, request.tag, status, sense.len() as u8, 0);
     output.pass(&head) && output.pass(sense.as_slice())
@@ -46,8 +47,10 @@ fn pass_answer(output: &mut Cursor<'_>, request: &Request, status: Scsi, sense: 
 /// Whether CHECK CONDITION with this sense comes next in the output; then it is passed.
 pub fn pass_check(output: &mut Cursor<'_>, request: &Request, sense: &Sense) -> bool
     requires { request.now.expected ≡ None }
-    ensures passed { result ≡ true → output.old ≡ reply_bytes (reply_to request.now CheckCondition (fixed_form sense.now)) ++ output.new }
-    ensures other { result ≡ false → (rest : List ℕ) → output.old ≡ reply_bytes (reply_to request.now CheckCondition (fixed_form sense.now)) ++ rest → ⊥ }
+    ensures passed { result ≡ true → output.old ≡ reply_bytes (reply_to request.now CheckCondition (fixed_form sense.now))
+        ++ output.new }
+    ensures other { result ≡ false → (rest : List ℕ)
+        → output.old ≡ reply_bytes (reply_to request.now CheckCondition (fixed_form sense.now)) ++ rest → ⊥ }
 {
     let sense = sense_bytes(sense, false);
     pass_answer(output, request, Scsi::CheckCondition, &sense)

@@ -101,7 +101,8 @@ impl Stamped {
         requires size { length given.now ≡ 512 }
         requires seen { self.old.seen ≤ length sweeps.now }
         requires powers { has_power (drop self.old.seen sweeps.now) ≡ nat_lt self.old.seen powers }
-        ensures shows { IfOk result (Shows input.now given.now (caught_up (drop self.old.seen sweeps.now) self.old.kept) self.new.kept) }
+        ensures shows { IfOk result (Shows input.now given.now
+            (caught_up (drop self.old.seen sweeps.now) self.old.kept) self.new.kept) }
         ensures seen { OnOk result (self.new.seen ≡ length sweeps.now) }
         ensures within { self.new.seen ≤ length sweeps.now }
     {
@@ -130,7 +131,8 @@ impl Model for Sectors {
 
     ghost view = { λ s. map (λ t. caught_up (drop t.seen s.sweeps.items) t.kept) s.stamped.items };
 
-    ghost invariant = { λ s. AllByRecursion (λ t. t.seen ≤ length s.sweeps.items) s.stamped.items × ((n : ℕ) → has_power (drop n s.sweeps.items) ≡ nat_lt n s.powers) };
+    ghost invariant = { λ s. AllByRecursion (λ t. t.seen ≤ length s.sweeps.items) s.stamped.items
+        × ((n : ℕ) → has_power (drop n s.sweeps.items) ≡ nat_lt n s.powers) };
 }
 
 impl Sectors {

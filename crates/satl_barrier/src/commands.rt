@@ -24,7 +24,8 @@ pub fn run<D: Drive, L: Ledger>(
     requires fits { CommandFits command.now }
     requires room { own_blocks command.now ≤ length pages.old }
     ensures ok { IfOk result (λ ended. HasRun command.now (D.state drive.old) pages.old ended pages.new (D.state drive.new)) }
-    ensures err { OnErr result (IsCutShort (pairs_of command.now (medium_of (D.state drive.old)) pages.old) (D.state drive.old) (D.state drive.new)) }
+    ensures err { OnErr result (IsCutShort (pairs_of command.now (medium_of (D.state drive.old)) pages.old) (D.state drive.old)
+        (D.state drive.new)) }
     ensures stays { Stays (D.state drive.old) (D.state drive.new) }
     ensures size { length pages.new ≡ length pages.old }
     ensures step { steps.new ≡ steps.old + 1 }
@@ -47,7 +48,8 @@ pub fn run_bare<D: Drive, L: Ledger>(
     requires fits { CommandFits command.now }
     requires bare { own_blocks command.now ≡ 0 }
     ensures ok { OnOk result (HasRunBare command.now (D.state drive.old) (D.state drive.new)) }
-    ensures err { OnErr result (IsCutShort (pairs_of command.now (medium_of (D.state drive.old)) []) (D.state drive.old) (D.state drive.new)) }
+    ensures err { OnErr result (IsCutShort (pairs_of command.now (medium_of (D.state drive.old)) []) (D.state drive.old)
+        (D.state drive.new)) }
     ensures stays { Stays (D.state drive.old) (D.state drive.new) }
     ensures step { steps.new ≡ steps.old + 1 }
 {

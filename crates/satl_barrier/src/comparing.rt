@@ -71,7 +71,8 @@ fn read_piece<D: Drive, L: Ledger>(
     requires reached { IsReached range (D.state drive.old) }
     requires room { range.count ≤ length pages.old }
     ensures finishes { IfOk result (λ it. FinishesAs (verifying range) range.count it (D.state drive.old) (D.state drive.new)) }
-    ensures blocks { IfOk result (λ it. it ≡ finishes.Done → take range.count pages.new ≡ nows (D.state drive.old).cells range.lba range.count) }
+    ensures blocks { IfOk result (λ it. it ≡ finishes.Done
+        → take range.count pages.new ≡ nows (D.state drive.old).cells range.lba range.count) }
     ensures lost { OnErr result (IsCutShort [] (D.state drive.old) (D.state drive.new)) }
     ensures stays { Stays (D.state drive.old) (D.state drive.new) }
     ensures size { length pages.new ≡ length pages.old }

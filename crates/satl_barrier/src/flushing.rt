@@ -14,7 +14,8 @@ use std::sync::ledger::Ledger;
 /// Writes every sector back. `LinkDown`: the link was lost (SAT-3, SYNCHRONIZE CACHE: FLUSH CACHE EXT).
 pub fn flush<D: Drive, L: Ledger>(drive: &mut D, steps: &mut Steps<L>) -> Result<(), LinkDown>
     requires free { IsFree (D.state drive.old) }
-    ensures flushed { OnOk result (IsLeftWith (map settle (D.state drive.old).cells) (D.state drive.old).active (D.state drive.old) (D.state drive.new)) }
+    ensures flushed { OnOk result (IsLeftWith (map settle (D.state drive.old).cells) (D.state drive.old).active
+        (D.state drive.old) (D.state drive.new)) }
     ensures lost { OnErr result (IsCutShort [] (D.state drive.old) (D.state drive.new)) }
     ensures stays { Stays (D.state drive.old) (D.state drive.new) }
     ensures step { steps.new ≡ steps.old + 1 }
@@ -31,7 +32,8 @@ fn flush_unless<D: Drive, L: Ledger>(
     requires free { IsFree (D.state drive.old) }
     requires sound { AreSound (D.state drive.old).cells }
     requires up { (D.state drive.old).down ≡ false }
-    ensures flushed { OnOk result (IsLeftWith (settled_if (not no_flush) (D.state drive.old).cells) (D.state drive.old).active (D.state drive.old) (D.state drive.new)) }
+    ensures flushed { OnOk result (IsLeftWith (settled_if (not no_flush) (D.state drive.old).cells) (D.state drive.old).active
+        (D.state drive.old) (D.state drive.new)) }
     ensures lost { OnErr result (IsCutShort [] (D.state drive.old) (D.state drive.new)) }
     ensures stays { Stays (D.state drive.old) (D.state drive.new) }
     ensures step { steps.new ≤ steps.old + 1 }
@@ -74,7 +76,8 @@ fn stop<D: Drive, L: Ledger>(
     requires free { IsFree (D.state drive.old) }
     requires sound { AreSound (D.state drive.old).cells }
     requires up { (D.state drive.old).down ≡ false }
-    ensures stopped { OnOk result (IsLeftWith (settled_if (not no_flush) (D.state drive.old).cells) false (D.state drive.old) (D.state drive.new)) }
+    ensures stopped { OnOk result (IsLeftWith (settled_if (not no_flush) (D.state drive.old).cells) false (D.state drive.old)
+        (D.state drive.new)) }
     ensures lost { OnErr result (IsLostIn [] (D.state drive.old) (D.state drive.new)) }
     ensures stays { Stays (D.state drive.old) (D.state drive.new) }
     ensures step { steps.new ≤ steps.old + 2 }

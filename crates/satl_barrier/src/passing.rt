@@ -25,7 +25,8 @@ pub fn pass_through<D: Drive, L: Ledger>(
     requires alone { is_in regs.now.command queued_codes ≡ false }
     requires room { own_blocks (command_in regs.now) ≤ length pages.old }
     ensures passed { IfOk result (λ ended. HasPassed regs.now (D.state drive.old) pages.old ended pages.new (D.state drive.new)) }
-    ensures lost { OnErr result (IsLostIn (pairs_of (command_in regs.now) (medium_of (D.state drive.old)) pages.old) (D.state drive.old) (D.state drive.new)) }
+    ensures lost { OnErr result (IsLostIn (pairs_of (command_in regs.now) (medium_of (D.state drive.old)) pages.old)
+        (D.state drive.old) (D.state drive.new)) }
     ensures stays { Stays (D.state drive.old) (D.state drive.new) }
     ensures size { length pages.new ≡ length pages.old }
     ensures given { AreWhole pages.old }

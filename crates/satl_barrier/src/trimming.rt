@@ -27,8 +27,10 @@ pub fn trim<D: Drive, L: Ledger>(
     requires has { has_trim (D.state drive.old).identify ≡ true }
     requires takes { 1 ≤ trim_blocks (D.state drive.old).identify }
     requires room { 1 ≤ length scratch.old }
-    ensures finishes { IfOk result (λ it. FinishesAs (trimming ranges.now (D.state drive.old)) 0 it (D.state drive.old) (D.state drive.new)) }
-    ensures lost { OnErr result (IsLostIn (trimming ranges.now (D.state drive.old)).writes (D.state drive.old) (D.state drive.new)) }
+    ensures finishes { IfOk result (λ it. FinishesAs (trimming ranges.now (D.state drive.old)) 0 it (D.state drive.old)
+        (D.state drive.new)) }
+    ensures lost { OnErr result (IsLostIn (trimming ranges.now (D.state drive.old)).writes (D.state drive.old)
+        (D.state drive.new)) }
     ensures stays { Stays (D.state drive.old) (D.state drive.new) }
     ensures size { length scratch.new ≡ length scratch.old }
     ensures step { steps.new ≡ steps.old + 1 }

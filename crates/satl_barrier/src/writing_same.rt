@@ -37,8 +37,10 @@ fn write_piece<D: Drive, L: Ledger>(
     requires free { IsFree (D.state drive.old) }
     requires reached { IsReached range (D.state drive.old) }
     requires room { range.count ≤ length pages.old }
-    ensures finishes { IfOk result (λ it. FinishesAs (writing range (take range.count pages.old) (D.state drive.old)) range.count it (D.state drive.old) (D.state drive.new)) }
-    ensures lost { OnErr result (IsCutShort (writing range (take range.count pages.old) (D.state drive.old)).writes (D.state drive.old) (D.state drive.new)) }
+    ensures finishes { IfOk result (λ it. FinishesAs
+        (writing range (take range.count pages.old) (D.state drive.old)) range.count it (D.state drive.old) (D.state drive.new)) }
+    ensures lost { OnErr result (IsCutShort (writing range (take range.count pages.old) (D.state drive.old)).writes
+        (D.state drive.old) (D.state drive.new)) }
     ensures stays { Stays (D.state drive.old) (D.state drive.new) }
     ensures same { OnOk result (pages.new ≡ pages.old) }
     ensures size { length pages.new ≡ length pages.old }
@@ -66,8 +68,10 @@ pub fn write_same<D: Drive, L: Ledger>(
     requires free { IsFree (D.state drive.old) }
     requires reached { IsReached range (D.state drive.old) }
     requires room { piece ≤ length scratch.old }
-    ensures finishes { IfOk result (λ it. FinishesAs (writing_same range block.now (D.state drive.old)) (min piece range.count) it (D.state drive.old) (D.state drive.new)) }
-    ensures lost { OnErr result (IsLostIn (writing_same range block.now (D.state drive.old)).writes (D.state drive.old) (D.state drive.new)) }
+    ensures finishes { IfOk result (λ it. FinishesAs (writing_same range block.now (D.state drive.old))
+        (min piece range.count) it (D.state drive.old) (D.state drive.new)) }
+    ensures lost { OnErr result (IsLostIn (writing_same range block.now (D.state drive.old)).writes (D.state drive.old)
+        (D.state drive.new)) }
     ensures stays { Stays (D.state drive.old) (D.state drive.new) }
     ensures size { length scratch.new ≡ length scratch.old }
     ensures steps { steps.new ≤ steps.old + most_pieces }

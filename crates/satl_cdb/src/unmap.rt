@@ -46,7 +46,8 @@ fn ranges_up_to(
 ) -> Result<ArrayVec<Range, MOST_RANGES>, Illegal>
     requires count { count ≤ most_ranges }
     requires room { 8 + 16 * count ≤ 512 * length list.now }
-    ensures ranges { IfOk result (λ ranges. (descriptor_fault capacity 0 0 (descriptors_from 0 count list.now) ≡ None) × (ranges.items ≡ filter is_used (descriptors_from 0 count list.now))) }
+    ensures ranges { IfOk result (λ ranges. (descriptor_fault capacity 0 0 (descriptors_from 0 count list.now) ≡ None)
+        × (ranges.items ≡ filter is_used (descriptors_from 0 count list.now))) }
     ensures refusal { IfErr result (λ refusal. descriptor_fault capacity 0 0 (descriptors_from 0 count list.now) ≡ Some refusal) }
 {
     let mut ranges = ArrayVec::new();
@@ -77,7 +78,8 @@ pub fn read_unmap_list(
 ) -> Result<ArrayVec<Range, MOST_RANGES>, Illegal>
     requires header { 8 ≤ list_length }
     requires whole { list_length ≤ 512 * length list.now }
-    ensures ranges { IfOk result (λ ranges. (list_fault list.now list_length capacity ≡ None) × (ranges.items ≡ ranges_of list.now)) }
+    ensures ranges { IfOk result (λ ranges. (list_fault list.now list_length capacity ≡ None)
+        × (ranges.items ≡ ranges_of list.now)) }
     ensures refusal { IfErr result (λ refusal. list_fault list.now list_length capacity ≡ Some refusal) }
 {
     let descriptors_length = u16_at(list, 2);

@@ -249,7 +249,8 @@ fn bytes_of(command: &Command) -> [u8; 16]
 /// command that `read_cdb` gives is read back as it was (SPC-4, SBC-3, SAT-3).
 pub fn write_cdb(command: &Command) -> [u8; 16]
     ensures written { result ≡ spelled command.now }
-    ensures read_back { (cdb : List ℕ) (trim : Bool) → IsBytes cdb → says cdb trim ≡ Ok command.now → says result true ≡ Ok command.now }
+    ensures read_back { (cdb : List ℕ) (trim : Bool) → IsBytes cdb → says cdb trim ≡ Ok command.now
+        → says result true ≡ Ok command.now }
 {
     bytes_of(command)
 }

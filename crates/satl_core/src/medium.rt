@@ -84,8 +84,10 @@ pub fn write_range<D: Drive, L: Ledger>(
     requires reached { IsReached range (D.state drive.old) }
     requires block { 1 ≤ length body.now }
     requires room { piece ≤ pool.old.free }
-    ensures ends { IfOk result (λ ending. HasFinished (writing_same range (get_or body.now 0 no_block) (D.state drive.old)) (min piece range.count) (D.state drive.old) ending (D.state drive.new)) }
-    ensures lost { OnErr result (IsLostIn (writing_same range (get_or body.now 0 no_block) (D.state drive.old)).writes (D.state drive.old) (D.state drive.new)) }
+    ensures ends { IfOk result (λ ending. HasFinished (writing_same range (get_or body.now 0 no_block) (D.state drive.old))
+        (min piece range.count) (D.state drive.old) ending (D.state drive.new)) }
+    ensures lost { OnErr result (IsLostIn (writing_same range (get_or body.now 0 no_block) (D.state drive.old)).writes
+        (D.state drive.old) (D.state drive.new)) }
     ensures stays { Stays (D.state drive.old) (D.state drive.new) }
     ensures pool { pool.new ≡ pool.old }
     ensures steps { steps.new ≤ steps.old + barrier_calls }
@@ -109,8 +111,10 @@ pub fn trim_ranges<D: Drive, L: Ledger>(
     requires free { IsFree (D.state drive.old) }
     requires takes { TakesTrim ranges.now (D.state drive.old) }
     requires room { piece ≤ pool.old.free }
-    ensures ends { IfOk result (λ ending. HasFinished (trimming ranges.now (D.state drive.old)) 0 (D.state drive.old) ending (D.state drive.new)) }
-    ensures lost { OnErr result (IsLostIn (trimming ranges.now (D.state drive.old)).writes (D.state drive.old) (D.state drive.new)) }
+    ensures ends { IfOk result (λ ending. HasFinished (trimming ranges.now (D.state drive.old)) 0 (D.state drive.old) ending
+        (D.state drive.new)) }
+    ensures lost { OnErr result (IsLostIn (trimming ranges.now (D.state drive.old)).writes (D.state drive.old)
+        (D.state drive.new)) }
     ensures stays { Stays (D.state drive.old) (D.state drive.new) }
     ensures pool { pool.new ≡ pool.old }
     ensures steps { steps.new ≤ steps.old + barrier_calls }

@@ -33,8 +33,10 @@ pub fn run_through<D: Drive, L: Ledger>(
     requires free { IsFree (D.state drive.old) }
     requires can { CanRun (direct.pass_of cdb.now) }
     requires room { length body.old ≡ page_count (direct.pass_of cdb.now).length }
-    ensures ends { IfOk result (λ ending. PassesThrough (direct.pass_of cdb.now) body.old body.new (D.state drive.old) ending (D.state drive.new)) }
-    ensures lost { OnErr result (IsLostIn (pairs_of (command_in (direct.pass_of cdb.now).regs) (medium_of (D.state drive.old)) body.old) (D.state drive.old) (D.state drive.new)) }
+    ensures ends { IfOk result (λ ending. PassesThrough (direct.pass_of cdb.now) body.old body.new (D.state drive.old) ending
+        (D.state drive.new)) }
+    ensures lost { OnErr result (IsLostIn (pairs_of (command_in (direct.pass_of cdb.now).regs)
+        (medium_of (D.state drive.old)) body.old) (D.state drive.old) (D.state drive.new)) }
     ensures stays { Stays (D.state drive.old) (D.state drive.new) }
     ensures whole { AreWhole body.old }
     ensures size { length body.new ≡ length body.old }

@@ -48,11 +48,14 @@ impl Satl {
         requires agrees { Agrees self.old (D.state drive.old) }
         requires still { MatchBool (works self.old) (Unit {0}) (self.old.flying ≡ []) }
         requires room { length replies.old + length self.old.tasks ≤ 65 }
-        ensures refills { Answers (λ more. Refills (view self.old (D.state drive.old)) more (view self.new (D.state drive.new))) replies.old replies.new }
+        ensures refills { Answers (λ more. Refills (view self.old (D.state drive.old)) more (view self.new (D.state drive.new)))
+            replies.old replies.new }
         ensures tied { Tied self.new (D.state drive.new) }
         ensures kept { AreKept self.old (D.state drive.old) self.new (D.state drive.new) }
         ensures rest { KeepsRest self.old replies.old self.new replies.new }
-        ensures settled { AllByRecursion IsSettled (D.state drive.old).cells → (Rose (D.state drive.old).faults (D.state drive.new).faults → ⊥) → AllByRecursion IsSettled (D.state drive.new).cells }
+        ensures settled { AllByRecursion IsSettled (D.state drive.old).cells
+            → (Rose (D.state drive.old).faults (D.state drive.new).faults → ⊥)
+            → AllByRecursion IsSettled (D.state drive.new).cells }
         ensures unasked { self.old.down ≡ true → drive.new ≡ drive.old }
         ensures uncalled { self.old.down ≡ true → steps.new ≡ steps.old }
         ensures unanswered { self.old.down ≡ true → (replies.new ≡ replies.old) × (self.new ≡ self.old) }
@@ -75,9 +78,12 @@ impl Satl {
         steps: &mut Steps<L>,
     )
         requires agrees { Agrees self.old (D.state drive.old) }
-        requires came { (before : List Held) × Comes (D.state drive.old).capacity (has_queued_trim (D.state drive.old).identify) before self.old.tasks × MatchBool (works self.old) (IsFilled self.old.flying before) (self.old.flying ≡ []) }
+        requires came { (before : List Held) × Comes (D.state drive.old).capacity
+            (has_queued_trim (D.state drive.old).identify) before self.old.tasks
+            × MatchBool (works self.old) (IsFilled self.old.flying before) (self.old.flying ≡ []) }
         requires room { length replies.old + length self.old.tasks ≤ 65 }
-        ensures refills { Answers (λ more. Refills (view self.old (D.state drive.old)) more (view self.new (D.state drive.new))) replies.old replies.new }
+        ensures refills { Answers (λ more. Refills (view self.old (D.state drive.old)) more (view self.new (D.state drive.new)))
+            replies.old replies.new }
         ensures tied { Tied self.new (D.state drive.new) }
         ensures kept { AreKept self.old (D.state drive.old) self.new (D.state drive.new) }
         ensures rest { KeepsRest self.old replies.old self.new replies.new }
@@ -105,7 +111,8 @@ impl Satl {
     )
         requires tied { Tied self.old (D.state drive.old) }
         requires room { length replies.old + length self.old.tasks ≤ 65 }
-        ensures removes { Answers (λ more. Around (MayLose (Removes (is_within scope.now))) (view self.old (D.state drive.old)) more (view self.new (D.state drive.new))) replies.old replies.new }
+        ensures removes { Answers (λ more. Around (MayLose (Removes (is_within scope.now)))
+            (view self.old (D.state drive.old)) more (view self.new (D.state drive.new))) replies.old replies.new }
         ensures tied { Tied self.new (D.state drive.new) }
         ensures kept { AreKept self.old (D.state drive.old) self.new (D.state drive.new) }
         ensures rest { KeepsRest self.old replies.old self.new replies.new }
@@ -133,7 +140,8 @@ impl Satl {
         requires tied { Tied self.old (D.state drive.old) }
         requires some { self.old.flying ≢ [] }
         requires room { length replies.old + length self.old.tasks ≤ 65 }
-        ensures removes { Answers (λ more. Around (MayLose (Removes (is_within scope.now))) (view self.old (D.state drive.old)) more (view self.new (D.state drive.new))) replies.old replies.new }
+        ensures removes { Answers (λ more. Around (MayLose (Removes (is_within scope.now)))
+            (view self.old (D.state drive.old)) more (view self.new (D.state drive.new))) replies.old replies.new }
         ensures tied { Tied self.new (D.state drive.new) }
         ensures kept { AreKept self.old (D.state drive.old) self.new (D.state drive.new) }
         ensures rest { KeepsRest self.old replies.old self.new replies.new }
@@ -167,7 +175,9 @@ impl Satl {
         ensures writable { AllByRecursion IsWritable replies.new }
         ensures fewer { length self.new.tasks + 1 ≤ length self.old.tasks }
         ensures room { length replies.new + length self.new.tasks ≤ 65 }
-        ensures flushed { IsFlushed self.old.tasks replies.new → (Rose (D.state drive.old).faults (D.state drive.new).faults → ⊥) → AllByRecursion IsSettled (D.state drive.new).cells }
+        ensures flushed { IsFlushed self.old.tasks replies.new
+            → (Rose (D.state drive.old).faults (D.state drive.new).faults → ⊥)
+            → AllByRecursion IsSettled (D.state drive.new).cells }
         ensures still_down { self.old.down ≡ true → self.new.down ≡ true }
         ensures unasked { self.old.down ≡ true → drive.new ≡ drive.old }
         ensures uncalled { self.old.down ≡ true → steps.new ≡ steps.old }
@@ -202,7 +212,9 @@ impl Satl {
         ensures writable { AllByRecursion IsWritable replies.new }
         ensures fewer { length self.new.tasks + 1 ≤ length self.old.tasks }
         ensures room { length replies.new + length self.new.tasks ≤ 65 }
-        ensures flushed { IsFlushed self.old.tasks replies.new → (Rose (D.state drive.old).faults (D.state drive.new).faults → ⊥) → AllByRecursion IsSettled (D.state drive.new).cells }
+        ensures flushed { IsFlushed self.old.tasks replies.new
+            → (Rose (D.state drive.old).faults (D.state drive.new).faults → ⊥)
+            → AllByRecursion IsSettled (D.state drive.new).cells }
         ensures still_down { self.old.down ≡ true → self.new.down ≡ true }
         ensures unasked { self.old.down ≡ true → drive.new ≡ drive.old }
         ensures uncalled { self.old.down ≡ true → steps.new ≡ steps.old }

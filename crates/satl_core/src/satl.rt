@@ -95,7 +95,18 @@ impl Model for Satl {
 
     ghost Value = { Layer };
 
-    ghost view = { λ s. record { identity = s.identity; modes = s.modes; started = s.started; down = s.down; attentions = s.attentions; tasks = s.queue.tasks; flying = s.queue.flying; slots = s.queue.slots; free = s.pool.free; out = s.pool.out - held_pages s.queue.tasks } };
+    ghost view = { λ s. record {
+      identity = s.identity;
+      modes = s.modes;
+      started = s.started;
+      down = s.down;
+      attentions = s.attentions;
+      tasks = s.queue.tasks;
+      flying = s.queue.flying;
+      slots = s.queue.slots;
+      free = s.pool.free;
+      out = s.pool.out - held_pages s.queue.tasks;
+    } };
 
     ghost invariant = { λ s. IsSoundLayer s.identity s.queue.tasks s.pool };
 }
@@ -165,7 +176,9 @@ impl Satl {
         requires can { CanSubmit request self.old.free self.old.out }
         requires empty { replies.old ≡ [] }
         requires tied { Tied self.old (D.state drive.old) }
-        ensures around { (whole : Request) → IsCutOf whole request → Around (MayLose (Arrives whole)) (view self.old (D.state drive.old)) replies.new (view self.new (D.state drive.new)) }
+        ensures around { (whole : Request) → IsCutOf whole request
+            → Around (MayLose (Arrives whole)) (view self.old (D.state drive.old)) replies.new
+            (view self.new (D.state drive.new)) }
         ensures modes { self.new.modes ≡ self.old.modes }
         ensures more { length self.new.tasks ≤ length self.old.tasks + 1 }
         ensures tied { Tied self.new (D.state drive.new) }
@@ -174,7 +187,8 @@ impl Satl {
         ensures kept { AreKept self.old (D.state drive.old) self.new (D.state drive.new) }
         ensures unasked { self.old.down ≡ true → drive.new ≡ drive.old }
         ensures uncalled { self.old.down ≡ true → steps.new ≡ steps.old }
-        ensures calls { steps.new + turn_calls * length self.new.tasks ≤ steps.old + turn_calls * (length self.old.tasks + 1) + off_calls }
+        ensures calls { steps.new + turn_calls * length self.new.tasks
+            ≤ steps.old + turn_calls * (length self.old.tasks + 1) + off_calls }
         ensures steps { steps.new ≤ steps.old + arrival_calls self.old.tasks request }
     {
         if self.overlaps(&request) {
@@ -203,7 +217,8 @@ impl Satl {
     /// what a parameter list needs of them.
     fn overlaps(&self, request: &Request) -> bool
         ensures value { result ≡ is_overlapping self.now.tasks request.now }
-        ensures holds { CanSubmit request.now self.now.free self.now.out → total_blocks self.now.tasks ≤ most_held → length self.now.tasks ≤ most_tasks → HoldsList request.now }
+        ensures holds { CanSubmit request.now self.now.free self.now.out → total_blocks self.now.tasks ≤ most_held
+            → length self.now.tasks ≤ most_tasks → HoldsList request.now }
     {
         is_for_unit(request) && self.queue.find(request.nexus, request.tag).is_some()
     }
@@ -220,7 +235,9 @@ impl Satl {
         requires overlaps { is_overlapping self.old.tasks request ≡ true }
         requires empty { replies.old ≡ [] }
         requires tied { Tied self.old (D.state drive.old) }
-        ensures around { (whole : Request) → IsCutOf whole request → Around (MayLose (Arrives whole)) (view self.old (D.state drive.old)) replies.new (view self.new (D.state drive.new)) }
+        ensures around { (whole : Request) → IsCutOf whole request
+            → Around (MayLose (Arrives whole)) (view self.old (D.state drive.old)) replies.new
+            (view self.new (D.state drive.new)) }
         ensures tied { Tied self.new (D.state drive.new) }
         ensures kept { AreKept self.old (D.state drive.old) self.new (D.state drive.new) }
         ensures modes { self.new.modes ≡ self.old.modes }
@@ -257,7 +274,8 @@ impl Satl {
         ensures task { IfOk result (λ command. IsTask self.old.identity.capacity command (held_blocks command)) }
         ensures list { IfOk result (λ command. HasList command request.now.body self.old.identity.capacity) }
         ensures trims { IfOk result (λ command. trims command ≡ true → self.old.identity.trim ≡ true) }
-        ensures change { AreModesOf self.old.identity self.old.modes → IfOk result (λ command. IfSome ((asks command).change request.now.body) (IsChangeOf self.old.identity)) }
+        ensures change { AreModesOf self.old.identity self.old.modes
+            → IfOk result (λ command. IfSome ((asks command).change request.now.body) (IsChangeOf self.old.identity)) }
     {
         read_lengths(request);
         if !is_for_unit(request) {
@@ -281,7 +299,8 @@ impl Satl {
         requires task { IsTask self.old.identity.capacity command (held_blocks command) }
         requires empty { replies.old ≡ [] }
         ensures becomes { Becomes request command self.old replies.new self.new }
-        ensures comes { replies.new ≡ [] → Comes self.old.identity.capacity self.old.identity.queued_trim self.old.tasks self.new.tasks }
+        ensures comes { replies.new ≡ [] → Comes self.old.identity.capacity self.old.identity.queued_trim self.old.tasks
+            self.new.tasks }
         ensures long { replies.new ≡ [] → needed command ≤ 512 * length request.body }
     {
         let task = task_without_pages(&request, command, &self.identity);
@@ -314,7 +333,9 @@ impl Satl {
         ensures kept { AreKept self.old (D.state drive.old) self.new (D.state drive.new) }
         ensures unasked { self.old.down ≡ true → drive.new ≡ drive.old }
         ensures uncalled { self.old.down ≡ true → steps.new ≡ steps.old }
-        ensures flushed { IsFlushed self.old.tasks replies.new → (Rose (D.state drive.old).faults (D.state drive.new).faults → ⊥) → AllByRecursion IsSettled (D.state drive.new).cells }
+        ensures flushed { IsFlushed self.old.tasks replies.new
+            → (Rose (D.state drive.old).faults (D.state drive.new).faults → ⊥)
+            → AllByRecursion IsSettled (D.state drive.new).cells }
         ensures queued { self.old.flying ≢ [] → steps.new ≤ steps.old + 34 }
         ensures none { self.old.tasks ≡ [] → steps.new ≡ steps.old }
         ensures steps { steps.new ≤ steps.old + turn_calls }
@@ -339,7 +360,8 @@ impl Satl {
         requires empty { replies.old ≡ [] }
         requires all_in { self.old.out ≡ 0 }
         requires tied { Tied self.old (D.state drive.old) }
-        ensures manages { Around (MayLose (Manages manage.now result)) (view self.old (D.state drive.old)) replies.new (view self.new (D.state drive.new)) }
+        ensures manages { Around (MayLose (Manages manage.now result)) (view self.old (D.state drive.old)) replies.new
+            (view self.new (D.state drive.new)) }
         ensures tied { Tied self.new (D.state drive.new) }
         ensures pages { self.new.out ≡ reply_pages replies.new }
         ensures writable { AllByRecursion IsWritable replies.new }
@@ -348,7 +370,8 @@ impl Satl {
         ensures kept { AreKept self.old (D.state drive.old) self.new (D.state drive.new) }
         ensures unasked { self.old.down ≡ true → drive.new ≡ drive.old }
         ensures uncalled { self.old.down ≡ true → steps.new ≡ steps.old }
-        ensures calls { steps.new + turn_calls * length self.new.tasks ≤ steps.old + turn_calls * length self.old.tasks + off_calls }
+        ensures calls { steps.new + turn_calls * length self.new.tasks
+            ≤ steps.old + turn_calls * length self.old.tasks + off_calls }
         ensures steps { steps.new ≤ steps.old + off_calls }
     {
         let effect = decide(manage, &self.queue);
@@ -369,14 +392,16 @@ impl Satl {
         requires empty { replies.old ≡ [] }
         requires all_in { self.old.out ≡ 0 }
         requires tied { Tied self.old (D.state drive.old) }
-        ensures happens { Around (Happens event.now) (view self.old (D.state drive.old)) replies.new (view self.new (D.state drive.new)) }
+        ensures happens { Around (Happens event.now) (view self.old (D.state drive.old)) replies.new
+            (view self.new (D.state drive.new)) }
         ensures tied { Tied self.new (D.state drive.new) }
         ensures pages { self.new.out ≡ reply_pages replies.new }
         ensures writable { AllByRecursion IsWritable replies.new }
         ensures fewer { length self.new.tasks ≤ length self.old.tasks }
         ensures counted { RoseBy (bench_losses event.now) (D.state drive.old).faults (D.state drive.new).faults }
         ensures unplugs { (D.state drive.new).unplugs ≡ unplugs_after event.now (D.state drive.old).unplugs }
-        ensures powered { event.now ≡ BenchEvent.Power → AllZip IsLeftBehind (D.state drive.old).cells (D.state drive.new).cells }
+        ensures powered { event.now ≡ BenchEvent.Power
+            → AllZip IsLeftBehind (D.state drive.old).cells (D.state drive.new).cells }
         ensures deep { Deepens (D.state drive.old) (D.state drive.new) }
         ensures steps { steps.new ≡ steps.old }
     {

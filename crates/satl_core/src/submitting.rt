@@ -341,8 +341,8 @@ pub fn own_pages(pool: &mut Pool, command: &Command, identity: &Identity, body: 
     }
 }
 
-/// The first page of the data-out of an UNMAP, with the entries that trim what its list of so many bytes names (ACS-3, SEND FPDMA
-/// QUEUED).
+/// The first page of the data-out of an UNMAP, with the entries that trim what its list of so many bytes names (ACS-3, SEND
+/// FPDMA QUEUED).
 fn entry_page(pool: &mut Pool, size: u16, capacity: u64, body: Pages) -> Pages
     requires out { length body ≤ pool.old.out }
     requires some { 1 ≤ length body }

@@ -64,11 +64,14 @@ pub fn run_task<D: Drive, L: Ledger>(
     requires carry { IfSome (alone_of task.old.command) (λ alone. CanCarry alone task.old (D.state drive.old)) }
     requires room { piece ≤ pool.old.free }
     ensures stays { Stays (D.state drive.old) (D.state drive.new) }
-    ensures cache { IfOk result (λ ending. down ≡ false → (D.state drive.new).cache ≡ (modes_after task.old.command ending modes.now wanted.now).wce) }
-    ensures look { IfOk result (λ ending. down ≡ false → (D.state drive.new).look ≡ not (modes_after task.old.command ending modes.now wanted.now).dra) }
+    ensures cache { IfOk result (λ ending. down ≡ false
+        → (D.state drive.new).cache ≡ (modes_after task.old.command ending modes.now wanted.now).wce) }
+    ensures look { IfOk result (λ ending. down ≡ false
+        → (D.state drive.new).look ≡ not (modes_after task.old.command ending modes.now wanted.now).dra) }
     ensures up { OnOk result ((D.state drive.new).down ≡ down) }
     ensures faults { OnOk result ((D.state drive.new).faults ≡ (D.state drive.old).faults) }
-    ensures ends { IfOk result (λ ending. TaskEnds down started wanted.now task.old task.new.body (D.state drive.old) ending (D.state drive.new)) }
+    ensures ends { IfOk result (λ ending. TaskEnds down started wanted.now task.old task.new.body (D.state drive.old) ending
+        (D.state drive.new)) }
     ensures lost { OnErr result (IsLostInTask down started task.old (D.state drive.old) (D.state drive.new)) }
     ensures task { task.new ≡ record task.old { body = task.new.body } }
     ensures size { length task.new.body ≡ length task.old.body }
@@ -117,8 +120,10 @@ fn carry_out<D: Drive, L: Ledger>(
     ensures look { IfOk result (λ ending. (D.state drive.new).look ≡ not (modes_left alone ending modes.now wanted.now).dra) }
     ensures up { OnOk result ((D.state drive.new).down ≡ false) }
     ensures faults { OnOk result ((D.state drive.new).faults ≡ (D.state drive.old).faults) }
-    ensures ends { IfOk result (λ ending. CarriedOut wanted.now alone task.old task.new.body (D.state drive.old) ending (D.state drive.new)) }
-    ensures lost { OnErr result (IsLostIn (written_alone alone task.old (D.state drive.old)) (D.state drive.old) (D.state drive.new)) }
+    ensures ends { IfOk result (λ ending. CarriedOut wanted.now alone task.old task.new.body (D.state drive.old) ending
+        (D.state drive.new)) }
+    ensures lost { OnErr result (IsLostIn (written_alone alone task.old (D.state drive.old)) (D.state drive.old)
+        (D.state drive.new)) }
     ensures whole { OnErr result (HasWhole alone task.old) }
     ensures task { task.new ≡ record task.old { body = task.new.body } }
     ensures size { length task.new.body ≡ length task.old.body }

@@ -33,8 +33,10 @@ fn name_of(nexus: Nexus, tag: Tag) -> u64
 
 /// Adds the name of a request to those that frames before have asked with. False where it is one of them.
 fn add_name(names: &mut BTreeSet<u64>, frame: &Frame) -> Result<bool, NoMemory>
-    ensures fresh { (earlier : List Frame) → AreNames earlier names.old → IfOk result (λ fresh. fresh ≡ not (is_repeated earlier frame.now)) }
-    ensures names { (earlier : List Frame) → AreNames earlier names.old → OnOk result (AreNames (earlier ++ frame.now ∷ []) names.new) }
+    ensures fresh { (earlier : List Frame) → AreNames earlier names.old
+        → IfOk result (λ fresh. fresh ≡ not (is_repeated earlier frame.now)) }
+    ensures names { (earlier : List Frame) → AreNames earlier names.old
+        → OnOk result (AreNames (earlier ++ frame.now ∷ []) names.new) }
 {
     match frame {
         Frame::Request(request) => match names.insert(name_of(request.nexus, request.tag)) {
@@ -47,8 +49,10 @@ fn add_name(names: &mut BTreeSet<u64>, frame: &Frame) -> Result<bool, NoMemory>
 
 /// Whether a frame is covered behind the earlier ones; then its name is added to theirs.
 fn add_covered(names: &mut BTreeSet<u64>, trim: bool, frame: &Frame) -> Result<bool, NoMemory>
-    ensures covered { (earlier : List Frame) → AreNames earlier names.old → IfOk result (λ covered. covered ≡ is_covered trim earlier frame.now) }
-    ensures names { (earlier : List Frame) → AreNames earlier names.old → is_covered trim earlier frame.now ≡ true → OnOk result (AreNames (earlier ++ frame.now ∷ []) names.new) }
+    ensures covered { (earlier : List Frame) → AreNames earlier names.old
+        → IfOk result (λ covered. covered ≡ is_covered trim earlier frame.now) }
+    ensures names { (earlier : List Frame) → AreNames earlier names.old → is_covered trim earlier frame.now ≡ true
+        → OnOk result (AreNames (earlier ++ frame.now ∷ []) names.new) }
 {
     if !is_known_frame(trim, frame) {
         return Ok(false);
@@ -72,7 +76,9 @@ impl Noted {
     /// Takes note of the frame behind the earlier ones, at its offset.
     pub fn note(&mut self, at: u64, frame: &Frame) -> Result<(), NoMemory>
         ensures trim { self.new.trim ≡ self.old.trim }
-        ensures knows { (earlier : List Frame) → (whole : Frame) → frame.now ≡ cut_to 0 whole → at ≡ place_behind earlier → Knows self.old.trim earlier self.old.names self.old.uncovered → OnOk result (Knows self.old.trim (earlier ++ whole ∷ []) self.new.names self.new.uncovered) }
+        ensures knows { (earlier : List Frame) → (whole : Frame) → frame.now ≡ cut_to 0 whole → at ≡ place_behind earlier
+            → Knows self.old.trim earlier self.old.names self.old.uncovered
+            → OnOk result (Knows self.old.trim (earlier ++ whole ∷ []) self.new.names self.new.uncovered) }
     {
         if self.uncovered.is_some() {
             return Ok(());

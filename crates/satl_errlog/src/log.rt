@@ -113,8 +113,10 @@ fn entry_from(bytes: &[u8; 512]) -> NcqError
 /// `BadChecksum` where the 512 bytes do not sum to 0 modulo 256; else `NotQueued` where bit 7 of byte 0 is 1.
 pub fn read_log(log: &Block) -> Result<NcqError, LogFault>
     ensures value { result ≡ log_says log.now.bytes }
-    ensures bad_checksum { (sum : ℕ) → (result ≡ Err (LogFault.BadChecksum sum)) ↔ ((checksum log.now.bytes ≡ sum) × (sum ≢ 0)) }
-    ensures not_queued { (result ≡ Err LogFault.NotQueued) ↔ ((checksum log.now.bytes ≡ 0) × IsTrue (is_not_queued log.now.bytes)) }
+    ensures bad_checksum { (sum : ℕ) → (result ≡ Err (LogFault.BadChecksum sum))
+        ↔ ((checksum log.now.bytes ≡ sum) × (sum ≢ 0)) }
+    ensures not_queued { (result ≡ Err LogFault.NotQueued)
+        ↔ ((checksum log.now.bytes ≡ 0) × IsTrue (is_not_queued log.now.bytes)) }
 {
     let sum = checksum_of(&log.bytes);
     if sum != 0 {

@@ -52,7 +52,8 @@ pub fn serve_frames<S: Source, K: Sink, D: Bench, L: Ledger>(
         (scene reader.old (S.left source.old) (stage (target D.state units.old drives.old) (K.written sink.old)) steps.old)
         (scene reader.new (S.left source.new) (stage (target D.state units.new drives.new) (K.written sink.new)) steps.new)) }
     ensures keeps { KeepsUnits (target D.state units.old drives.old) (target D.state units.new drives.new) }
-    ensures causes { IfErr result (HasStopCause (S.faults source.old) (S.faults source.new) (K.faults sink.old) (K.faults sink.new)) }
+    ensures causes { IfErr result (HasStopCause (S.faults source.old) (S.faults source.new) (K.faults sink.old)
+        (K.faults sink.new)) }
     ensures later { K.faults sink.old ≤ K.faults sink.new }
 {
     let mut replies = Replies::new(alloc);

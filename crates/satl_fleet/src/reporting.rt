@@ -154,7 +154,8 @@ pub fn report<K: Sink>(
     requires pages { pool.old.out ≡ length request.body }
     requires some { 1 ≤ number_of pool.old }
     requires expected { IsExpectable request.expected }
-    ensures all { OnOk result (Wrote (K.written sink.old) (K.written sink.new) (named 0 (replied (target_reply units request) ∷ []))) }
+    ensures all { OnOk result (Wrote (K.written sink.old) (K.written sink.new)
+        (named 0 (replied (target_reply units request) ∷ []))) }
     ensures part { OnErr result (WrotePart (K.written sink.old) (K.written sink.new)
         (named 0 (replied (target_reply units request) ∷ []))) }
     ensures all_in { OnOk result (pool.new.out ≡ 0) }

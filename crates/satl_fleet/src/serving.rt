@@ -118,7 +118,8 @@ fn refuse<K: Sink>(fault: FrameFault, sink: &mut K) -> FleetFault
 
 /// Why serving stops where frames are carried out no further.
 fn tell_stop<K: Sink>(stop: Stop, sink: &mut K) -> FleetFault
-    ensures { TellsStop (writes (K.written sink.old) (K.faults sink.old)) (writes (K.written sink.new) (K.faults sink.new)) result stop }
+    ensures { TellsStop (writes (K.written sink.old) (K.faults sink.old))
+        (writes (K.written sink.new) (K.faults sink.new)) result stop }
 {
     match stop {
         Stop::Refused(fault) => refuse(fault, sink),

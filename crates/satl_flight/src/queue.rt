@@ -59,7 +59,8 @@ impl Queue {
         steps: &mut Steps<L>,
     ) -> Result<(), LinkDown>
         requires queued { IsQueued self.old (D.state drive.old) }
-        ensures ok { OnOk result (IsLaunched self.old.flying (D.state drive.old) self.old.tasks self.new.flying (D.state drive.new)) }
+        ensures ok { OnOk result (IsLaunched self.old.flying (D.state drive.old) self.old.tasks self.new.flying
+            (D.state drive.new)) }
         ensures filled { OnOk result (IsFilled self.new.flying self.new.tasks) }
         ensures err { OnErr result (IsLostQuietly self.old.tasks (D.state drive.old) (D.state drive.new)) }
         ensures emptied { OnErr result (self.new.flying ≡ []) }
@@ -169,7 +170,8 @@ impl Queue {
     ) -> Result<(), LinkDown>
         requires some { 0 < length self.old.tasks }
         requires queued { IsQueued self.old (D.state drive.old) }
-        ensures ok { OnOk result (IsLaunched self.old.flying (D.state drive.old) self.old.tasks self.new.flying (D.state drive.new)) }
+        ensures ok { OnOk result (IsLaunched self.old.flying (D.state drive.old) self.old.tasks self.new.flying
+            (D.state drive.new)) }
         ensures covered { OnOk result (IsCovered self.new.flying self.new.tasks (length self.old.tasks - 1)) }
         ensures err { OnErr result (IsLostQuietly self.old.tasks (D.state drive.old) (D.state drive.new)) }
         ensures emptied { OnErr result (self.new.flying ≡ []) }
@@ -185,7 +187,8 @@ impl Queue {
     /// Puts pages into the last task, which has none and is not outstanding.
     pub fn fill_last(&mut self, body: Pages)
         requires some { 0 < length self.old.tasks }
-        requires waits { (h : Held) → slice_get self.old.tasks (length self.old.tasks - 1) ≡ Some h → (holds self.old.flying h.slot ≡ false) × (h.entry.body ≡ []) }
+        requires waits { (h : Held) → slice_get self.old.tasks (length self.old.tasks - 1) ≡ Some h
+            → (holds self.old.flying h.slot ≡ false) × (h.entry.body ≡ []) }
         ensures filled { self.new.tasks ≡ change_task (with_body body) self.old.tasks (length self.old.tasks - 1) }
         ensures flying { self.new.flying ≡ self.old.flying }
         ensures slots { self.new.slots ≡ self.old.slots }
@@ -208,7 +211,8 @@ impl Queue {
     pub fn add(&mut self, entry: Entry) -> Result<(), Entry>
         ensures full { is_err result ≡ is_too_much self.old.tasks entry }
         ensures ok { OnOk result (Adds self.old.tasks entry self.new.tasks) }
-        ensures waits { OnOk result ((h : Held) → slice_get self.new.tasks (length self.old.tasks) ≡ Some h → holds self.new.flying h.slot ≡ false) }
+        ensures waits { OnOk result ((h : Held) → slice_get self.new.tasks (length self.old.tasks) ≡ Some h
+            → holds self.new.flying h.slot ≡ false) }
         ensures back { IfErr result (λ refused. refused ≡ entry) }
         ensures kept { OnErr result (self.new ≡ self.old) }
         ensures flying { self.new.flying ≡ self.old.flying }

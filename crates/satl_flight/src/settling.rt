@@ -39,8 +39,10 @@ impl Flight {
         requires tie { IsInFlight self.old (whole_tasks self.old dma.old set.old) (D.state drive.old) }
         requires one { self.old ≢ [] }
         requires fit { IsFit (D.state drive.old) }
-        ensures ok { IfOk result (λ ended. Settles self.old dma.old set.old (D.state drive.old) ended.place ended.error self.new dma.new set.new (D.state drive.new)) }
-        ensures err { OnErr result (IsLostInFlight (whole_tasks self.old dma.old set.old) (D.state drive.old) (D.state drive.new)) }
+        ensures ok { IfOk result (λ ended. Settles self.old dma.old set.old
+            (D.state drive.old) ended.place ended.error self.new dma.new set.new (D.state drive.new)) }
+        ensures err { OnErr result (IsLostInFlight (whole_tasks self.old dma.old set.old) (D.state drive.old)
+            (D.state drive.new)) }
         ensures emptied { OnErr result (self.new ≡ []) }
         ensures alike { OnErr result (AreAlike (whole_tasks self.old dma.old set.old) (whole_tasks self.new dma.new set.new)) }
         ensures lending { IsLending self.new dma.new set.new }

@@ -2,7 +2,8 @@
 ghost use Rattle.satl_frame.specs.Inputs.{FrameOrRefusal, NotBoth, OneWay};
 ghost use Rattle.satl_frame.specs.Progress.{NextGiven, NoneRefused, OneEnd, RefusedThere};
 
-/// Of any bytes from an offset behind the magic on, a whole frame stands there or a reason refuses them, and never both (profile).
+/// Of any bytes from an offset behind the magic on, a whole frame stands there or a reason refuses them, and never both
+/// (profile).
 pub fn frame_or_refusal()
     ensures either { FrameOrRefusal }
     ensures not_both { NotBoth }

@@ -42,7 +42,8 @@ pub fn fill<S: Source>(source: &mut S, buf: &mut [u8]) -> Result<usize, Failed>
 pub fn pull<S: Source>(source: &mut S, buf: &mut [u8]) -> Result<(), PullError>
     ensures bytes { OnOk result (Took (S.left source.old) (S.left source.new) buf.new) }
     ensures stopped { Stopped (S.left source.old) (S.left source.new) (length buf.old) result }
-    ensures causes { PullCauses (S.left source.old) (S.left source.new) (length buf.old) (S.faults source.old) (S.faults source.new) result }
+    ensures causes { PullCauses (S.left source.old) (S.left source.new) (length buf.old) (S.faults source.old)
+        (S.faults source.new) result }
 {
     match fill(source, buf) {
         Ok(count) if count == buf.len() => Ok(()),

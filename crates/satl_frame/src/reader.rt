@@ -48,7 +48,8 @@ fn pull_request<S: Source, P: Lender>(
     len: u32,
 ) -> Result<Option<Request>, PullError>
     requires { allows (frame_rows version) 1 len ≡ true }
-    ensures request { IfOk result (λ found. IfSome found (TookRequest (S.left source.old) (S.left source.new) version len (P.free lender.old))) }
+    ensures request { IfOk result (λ found. IfSome found
+        (TookRequest (S.left source.old) (S.left source.new) version len (P.free lender.old))) }
     ensures none { IfOk result (λ found. IfNone found (TookBadField (S.left source.old) (S.left source.new) version 1 len)) }
     ensures stopped { Stopped (S.left source.old) (S.left source.new) len result }
     ensures causes { PullCauses (S.left source.old) (S.left source.new) len (S.faults source.old) (S.faults source.new) result }
@@ -82,7 +83,8 @@ fn pull_small<S: Source>(
     requires known { has_code (frame_rows version) code ≡ true }
     requires allowed { allows (frame_rows version) code len ≡ true }
     requires other { 1 < code }
-    ensures frame { (room : ℕ) → IfOk result (λ found. IfSome found (TookPayload (S.left source.old) (S.left source.new) version code len room)) }
+    ensures frame { (room : ℕ) → IfOk result (λ found. IfSome found
+        (TookPayload (S.left source.old) (S.left source.new) version code len room)) }
     ensures none { IfOk result (λ found. IfNone found (TookBadField (S.left source.old) (S.left source.new) version code len)) }
     ensures stopped { Stopped (S.left source.old) (S.left source.new) len result }
     ensures causes { PullCauses (S.left source.old) (S.left source.new) len (S.faults source.old) (S.faults source.new) result }
@@ -104,7 +106,8 @@ fn pull_payload<S: Source, P: Lender>(
 ) -> Result<Option<Frame>, PullError>
     requires known { has_code (frame_rows version) code ≡ true }
     requires allowed { allows (frame_rows version) code len ≡ true }
-    ensures frame { IfOk result (λ found. IfSome found (TookPayload (S.left source.old) (S.left source.new) version code len (P.free lender.old))) }
+    ensures frame { IfOk result (λ found. IfSome found
+        (TookPayload (S.left source.old) (S.left source.new) version code len (P.free lender.old))) }
     ensures none { IfOk result (λ found. IfNone found (TookBadField (S.left source.old) (S.left source.new) version code len)) }
     ensures stopped { Stopped (S.left source.old) (S.left source.new) len result }
     ensures causes { PullCauses (S.left source.old) (S.left source.new) len (S.faults source.old) (S.faults source.new) result }
@@ -291,10 +294,10 @@ impl FrameReader {
         }
     }
 
-    /// The next frame, and before the first one the magic (profile). Exactly its bytes are taken from the source. Its data-out stands in
-    /// the first pages that the lender has free: bytes that do not fit are taken and dropped, and `data_len` is the
-    /// length of all. `Bad` says why and where the input is refused; `ReadFault` that a read failed. Either is
-    /// answered again from then on, and nothing more is read.
+    /// The next frame, and before the first one the magic (profile). Exactly its bytes are taken from the source. Its data-out
+    /// stands in the first pages that the lender has free: bytes that do not fit are taken and dropped, and `data_len` is the
+    /// length of all. `Bad` says why and where the input is refused; `ReadFault` that a read failed. Either is answered again
+    /// from then on, and nothing more is read.
     pub fn next<S: Source, P: Lender>(
         &mut self,
         source: &mut S,
@@ -303,7 +306,8 @@ impl FrameReader {
         ensures gave { IfOk result (λ f. Gave self.old (P.free lender.old) f self.new (S.left source.old) (S.left source.new)) }
 
         // A refusal is repeated; a first one is that of the bytes left, or a read has failed.
-        ensures repeats { IfSome self.old.refused (λ fault. (result ≡ Err fault) × (self.new ≡ self.old) × (source.new ≡ source.old)) }
+        ensures repeats { IfSome self.old.refused
+            (λ fault. (result ≡ Err fault) × (self.new ≡ self.old) × (source.new ≡ source.old)) }
         ensures blames { self.old.refused ≡ None → IfErr result (Blames self.old (S.left source.old) (S.left source.new)) }
         ensures keeps { IfErr result (λ fault. self.new ≡ record self.old { refused = Some fault }) }
         ensures causes { self.old.refused ≡ None → ReadCauses (S.faults source.old) (S.faults source.new) result }

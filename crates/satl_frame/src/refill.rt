@@ -57,7 +57,8 @@ fn pull_chunk<S: Source>(
     ensures placed { OnOk result (Placed (S.left source.old) (S.left source.new) count (length todo.old) done.old done.new) }
     ensures same { length todo.new + length done.new ≡ length todo.old + length done.old }
     ensures stopped { Stopped (S.left source.old) (S.left source.new) count result }
-    ensures causes { PullCauses (S.left source.old) (S.left source.new) count (S.faults source.old) (S.faults source.new) result }
+    ensures causes { PullCauses (S.left source.old) (S.left source.new) count (S.faults source.old)
+        (S.faults source.new) result }
 {
     let mut buffer = empty_chunk();
     pull(source, &mut buffer[..count])?;
@@ -101,9 +102,9 @@ pub fn skip<S: Source>(source: &mut S, len: u32) -> Result<(), PullError>
     fill_pages(source, len, &mut Pages::default(), &mut Pages::default())
 }
 
-/// Takes `len` bytes into as many pages as they need and as are free, each of 512 bytes, with zeros behind the last byte (profile).
-/// What does not fit is taken too, and dropped. `Short` comes only where the source had fewer bytes, and `Failed` only where its
-/// count of faults rose; then no page is kept.
+/// Takes `len` bytes into as many pages as they need and as are free, each of 512 bytes, with zeros behind the last byte
+/// (profile). What does not fit is taken too, and dropped. `Short` comes only where the source had fewer bytes, and `Failed`
+/// only where its count of faults rose; then no page is kept.
 pub fn pull_data<S: Source, P: Lender>(
     source: &mut S,
     lender: &mut P,

@@ -55,7 +55,8 @@ pub fn append(gathered: &mut Gathered, bytes: &[u8])
 /// comes only where the sink's count of faults rose; then some front of what was gathered and of the bytes was written.
 pub fn gather<K: Sink>(sink: &mut K, gathered: &mut Gathered, bytes: &[u8]) -> Result<(), Failed>
     requires { length bytes.now ≤ 8192 }
-    ensures all { OnOk result (Gathers (K.written sink.old) (K.written sink.new) gathered.old.items gathered.new.items bytes.now) }
+    ensures all { OnOk result (Gathers (K.written sink.old)
+        (K.written sink.new) gathered.old.items gathered.new.items bytes.now) }
     ensures part { OnErr result (WrotePart (K.written sink.old) (K.written sink.new) (gathered.old.items ++ bytes.now)) }
     ensures cause { HasCause (K.faults sink.old) (K.faults sink.new) result }
 {
@@ -71,8 +72,8 @@ pub fn gather<K: Sink>(sink: &mut K, gathered: &mut Gathered, bytes: &[u8]) -> R
     Ok(())
 }
 
-/// Gathers the first `len` bytes that the pages hold, in order (profile). `Failed` comes only where the sink's count of faults rose;
-/// then some front of what was gathered and of these bytes was written.
+/// Gathers the first `len` bytes that the pages hold, in order (profile). `Failed` comes only where the sink's count of faults
+/// rose; then some front of what was gathered and of these bytes was written.
 pub fn gather_data<K: Sink>(
     sink: &mut K,
     gathered: &mut Gathered,
@@ -80,8 +81,10 @@ pub fn gather_data<K: Sink>(
     len: u32,
 ) -> Result<(), Failed>
     requires { len ≤ 512 * length pages.now }
-    ensures all { OnOk result (Gathers (K.written sink.old) (K.written sink.new) gathered.old.items gathered.new.items (first_bytes len pages.now)) }
-    ensures part { OnErr result (WrotePart (K.written sink.old) (K.written sink.new) (gathered.old.items ++ first_bytes len pages.now)) }
+    ensures all { OnOk result (Gathers (K.written sink.old) (K.written sink.new) gathered.old.items gathered.new.items
+        (first_bytes len pages.now)) }
+    ensures part { OnErr result (WrotePart (K.written sink.old) (K.written sink.new)
+        (gathered.old.items ++ first_bytes len pages.now)) }
     ensures cause { HasCause (K.faults sink.old) (K.faults sink.new) result }
 {
     let mut left = len as usize;
@@ -192,7 +195,8 @@ fn write_whole<K: Sink>(sink: &mut K, front: &Front, pages: &Pages, len: u32) ->
     requires held { len ≤ 512 * length pages.now }
     requires short { len ≤ 4096 }
     ensures all { OnOk result (Wrote (K.written sink.old) (K.written sink.new) (front.now.items ++ first_bytes len pages.now)) }
-    ensures part { OnErr result (WrotePart (K.written sink.old) (K.written sink.new) (front.now.items ++ first_bytes len pages.now)) }
+    ensures part { OnErr result (WrotePart (K.written sink.old) (K.written sink.new)
+        (front.now.items ++ first_bytes len pages.now)) }
     ensures cause { HasCause (K.faults sink.old) (K.faults sink.new) result }
 {
     let mut gathered = Whole::new();
@@ -211,7 +215,8 @@ fn write_whole<K: Sink>(sink: &mut K, front: &Front, pages: &Pages, len: u32) ->
 fn write_pieces<K: Sink>(sink: &mut K, front: &Front, pages: &Pages, len: u32) -> Result<(), Failed>
     requires { len ≤ 512 * length pages.now }
     ensures all { OnOk result (Wrote (K.written sink.old) (K.written sink.new) (front.now.items ++ first_bytes len pages.now)) }
-    ensures part { OnErr result (WrotePart (K.written sink.old) (K.written sink.new) (front.now.items ++ first_bytes len pages.now)) }
+    ensures part { OnErr result (WrotePart (K.written sink.old) (K.written sink.new)
+        (front.now.items ++ first_bytes len pages.now)) }
     ensures cause { HasCause (K.faults sink.old) (K.faults sink.new) result }
 {
     let mut gathered = Gathered::new();
@@ -235,7 +240,8 @@ fn write_with_data<K: Sink>(
 ) -> Result<(), Failed>
     requires { len ≤ 512 * length pages.now }
     ensures all { OnOk result (Wrote (K.written sink.old) (K.written sink.new) (front.now.items ++ first_bytes len pages.now)) }
-    ensures part { OnErr result (WrotePart (K.written sink.old) (K.written sink.new) (front.now.items ++ first_bytes len pages.now)) }
+    ensures part { OnErr result (WrotePart (K.written sink.old) (K.written sink.new)
+        (front.now.items ++ first_bytes len pages.now)) }
     ensures cause { HasCause (K.faults sink.old) (K.faults sink.new) result }
 {
     if len <= 4096 {

@@ -39,7 +39,8 @@ pub fn identity_bytes(identity: &Identity, cache_on: bool, look_on: bool) -> [u8
     ensures exact { result ≡ identity_data identity.now.bytes cache_on look_on }
     ensures sum { IsTrue (word_bits 255 7 0 identity.now.bytes == 0xA5) → checksum result ≡ 0 }
     // An identity stays one, with the new settings and all else as it was.
-    ensures passes { IsIdentity identity.now → identity_of result ≡ Ok (record identity.now { bytes = result; cache_on = cache_on; look_on = look_on }) }
+    ensures passes { IsIdentity identity.now → identity_of result
+        ≡ Ok (record identity.now { bytes = result; cache_on = cache_on; look_on = look_on }) }
 {
     let mut bytes = identity.bytes;
     bytes[SETTINGS] = settings_of(bytes[SETTINGS], cache_on, look_on);

@@ -18,7 +18,8 @@ ghost use Rattle.satl_laws.specs.Scenes.{AreApart, AreTurns, at_work, cached, fl
 
 /// Where a WRITE of a sector waits, and then a READ of it, one turn never ends the READ with GOOD (SAM-5 8; profile).
 pub fn no_read_passes_an_earlier_write()
-    ensures { (write read : Request) (a b : Cell) (s last : Device) (losses : ℕ) (answers : List Answer) (reply : Reply) → AreApart write read →
+    ensures { (write read : Request) (a b : Cell) (s last : Device) (losses : ℕ) (answers : List Answer) (reply : Reply)
+        → AreApart write read →
         Run (at_work a b (writes_sector_0 write ∷ reads_sector_0 read ∷ []) s) (frames.Turn 1 ∷ []) losses answers last →
         IsGoodReply read reply answers → ⊥ }
 {}
@@ -26,31 +27,36 @@ pub fn no_read_passes_an_earlier_write()
 /// Where a WRITE of a sector waits, and then another that overlaps it, one turn never ends the second with GOOD (SAM-5 8;
 /// profile).
 pub fn no_write_passes_an_earlier_write()
-    ensures { (first second : Request) (a b : Cell) (s last : Device) (losses : ℕ) (answers : List Answer) (reply : Reply) → AreApart first second →
+    ensures { (first second : Request) (a b : Cell) (s last : Device) (losses : ℕ) (answers : List Answer) (reply : Reply)
+        → AreApart first second →
         Run (at_work a b (writes_sector_0 first ∷ writes_both_sectors second ∷ []) s) (frames.Turn 1 ∷ []) losses answers last →
         IsGoodReply second reply answers → ⊥ }
 {}
 
 /// Where two READs wait, turns never answer one of them twice (SAM-5 5).
 pub fn no_neighbour_is_answered_twice()
-    ensures first { (first second : Request) (a b : Cell) (s last : Device) (turns : Frame) (losses : ℕ) (answers : List Answer) → AreApart first second →
+    ensures first { (first second : Request) (a b : Cell) (s last : Device) (turns : Frame) (losses : ℕ) (answers : List Answer)
+        → AreApart first second →
         AreTurns turns → Run (at_work a b (reads_sector_0 first ∷ reads_sector_0 second ∷ []) s) (turns ∷ []) losses answers last →
         how_many (answers_to first.nexus (first.tag).0) answers ≤ 1 }
-    ensures second { (first second : Request) (a b : Cell) (s last : Device) (turns : Frame) (losses : ℕ) (answers : List Answer) → AreApart first second →
+    ensures second { (first second : Request) (a b : Cell) (s last : Device) (turns : Frame) (losses : ℕ)
+        (answers : List Answer) → AreApart first second →
         AreTurns turns → Run (at_work a b (reads_sector_0 first ∷ reads_sector_0 second ∷ []) s) (turns ∷ []) losses answers last →
         how_many (answers_to second.nexus (second.tag).0) answers ≤ 1 }
 {}
 
 /// Once SYNCHRONIZE CACHE has ended with GOOD, a loss of power never leaves the old block of a sector (SBC-3 4.15).
 pub fn no_flush_leaves_the_old_block()
-    ensures { (flush : Request) (old new : Block) (b : Cell) (s last : Device) (losses : ℕ) (answers : List Answer) (reply : Reply) → old ≢ new →
+    ensures { (flush : Request) (old new : Block) (b : Cell) (s last : Device) (losses : ℕ) (answers : List Answer)
+        (reply : Reply) → old ≢ new →
         Run (at_work (cached old new) b (flushes flush ∷ []) s) (frames.Turn 1 ∷ frames.Bench events.Power ∷ []) losses answers last →
         IsGoodReply flush reply answers → now_at last.cells 0 ≡ Some old → ⊥ }
 {}
 
 /// Where a WRITE of one sector waits, turns never change what is read of another sector (SBC-3).
 pub fn no_other_sector_changes()
-    ensures { (write : Request) (a b : Cell) (s last : Device) (turns : Frame) (losses : ℕ) (answers : List Answer) → AreTurns turns →
+    ensures { (write : Request) (a b : Cell) (s last : Device) (turns : Frame) (losses : ℕ) (answers : List Answer)
+        → AreTurns turns →
         Run (at_work a b (writes_sector_0 write ∷ []) s) (turns ∷ []) losses answers last →
         now_at last.cells 1 ≢ Some b.now → ⊥ }
 {}

@@ -307,7 +307,8 @@ fn swap_body(slots: &mut Vec<Option<Entry>>, slot: u8, body: Pages) -> Pages
     requires room { length slots.old.items ≡ 64 }
     requires filled { IsFilled slots.old.items slot }
     ensures value { result ≡ (entry_or (slice_index_or slots.old.items slot None)).body }
-    ensures items { slots.new.items ≡ slice_set slots.old.items slot (Some (with_body body (held_in slots.old.items slot)).entry) }
+    ensures items { slots.new.items ≡ slice_set slots.old.items slot
+        (Some (with_body body (held_in slots.old.items slot)).entry) }
 {
     match &mut slots[slot as usize] {
         Some(entry) => mem::replace(&mut entry.body, body),

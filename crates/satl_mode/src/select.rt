@@ -168,7 +168,8 @@ fn check_pages(
 ) -> Result<(), Illegal>
     requires first { first < 2 ^ 17 }
     requires whole { list_length ≤ 512 * length list.now }
-    ensures { result ≡ unless_fault (first_broken (pages_rules identity.now modes.now list.now list_length list_length first)) tt }
+    ensures { result ≡ unless_fault (first_broken (pages_rules identity.now modes.now list.now list_length list_length first))
+        tt }
 {
     let mut place = first;
     while place < usize::from(list_length) {
@@ -219,7 +220,8 @@ pub fn read_select(
     ensures applied { IfOk result (λ new. new ≡ applied modes.now (change_in list.now list_length ten)) }
     // A bit that the drive can't change stays as it is, now and when the change is applied to other modes of the drive.
     ensures fixed { IfOk result (λ new. KeepsFixed identity.now modes.now new) }
-    ensures change { AreModesOf identity.now modes.now → IfOk result (λ new. IsChangeOf identity.now (change_in list.now list_length ten)) }
+    ensures change { AreModesOf identity.now modes.now
+        → IfOk result (λ new. IsChangeOf identity.now (change_in list.now list_length ten)) }
 {
     judge(identity, modes, list, list_length, ten)
 }

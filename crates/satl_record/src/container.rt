@@ -123,7 +123,8 @@ fn read_head<S: Source>(source: &mut S) -> Result<usize, RecordFault>
 /// Reads a record, and its source to the end (profile). `NoRecord` where the bytes are none; `Read` only where the source's
 /// count of faults rose; `NoMemory` where there is none for the two parts.
 pub fn read_record<S: Source>(alloc: Global, source: &mut S) -> Result<Record, RecordFault>
-    ensures took { IfOk result (λ found. TookRecord (S.left source.old) (S.left source.new) found.input.items found.output.items) }
+    ensures took { IfOk result (λ found. TookRecord (S.left source.old)
+        (S.left source.new) found.input.items found.output.items) }
     ensures none { IsErrOf result faults.NoRecord → IsNoRecord (S.left source.old) }
     ensures kinds { IfErr result IsReadFault }
     ensures later { S.faults source.old ≤ S.faults source.new }

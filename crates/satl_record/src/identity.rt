@@ -25,7 +25,8 @@ pub fn told_identity<D: Drive, L: Ledger>(
     ensures told { IfOk result (λ identity. identity_of (D.state drive.old).identify ≡ Ok identity) }
     ensures good { IfOk result IsIdentity }
     ensures kinds { IfErr result (λ fault. (fault ≡ faults.Drive) ⊎ (fault ≡ faults.NoMemory)) }
-    ensures cause { IsErrOf result faults.Drive → IsRefusedFor (D.state drive.old).identify (D.state drive.old).faults (D.state drive.new).faults }
+    ensures cause { IsErrOf result faults.Drive
+        → IsRefusedFor (D.state drive.old).identify (D.state drive.old).faults (D.state drive.new).faults }
     ensures nows { map (λ c. c.now) (D.state drive.new).cells ≡ map (λ c. c.now) (D.state drive.old).cells }
     ensures unplugs { (D.state drive.new).unplugs ≡ (D.state drive.old).unplugs }
     ensures steps { steps.new ≤ steps.old + 1 }

@@ -28,14 +28,16 @@ pub fn audit_record<S: Source, K: Sink, D: Drive, L: Ledger>(
     steps: &mut Steps<L>,
 ) -> Result<Verdict, RecordFault>
     requires free { IsFree (D.state drive.old) }
-    ensures ends { RecordEnds (D.state drive.old).identify (S.left source.old) (S.left source.new) (K.written sink.old) (K.written sink.new) result }
+    ensures ends { RecordEnds (D.state drive.old).identify (S.left source.old) (S.left source.new) (K.written sink.old)
+        (K.written sink.new) result }
 
     // Counts of faults do not fall, and each cause is one of these.
     ensures reads { S.faults source.old ≤ S.faults source.new }
     ensures writes { K.faults sink.old ≤ K.faults sink.new }
     ensures read { IsErrOf result faults.Read → Rose (S.faults source.old) (S.faults source.new) }
     ensures write { IsErrOf result faults.Write → Rose (K.faults sink.old) (K.faults sink.new) }
-    ensures refused { IsErrOf result faults.Drive → IsRefusedFor (D.state drive.old).identify (D.state drive.old).faults (D.state drive.new).faults }
+    ensures refused { IsErrOf result faults.Drive
+        → IsRefusedFor (D.state drive.old).identify (D.state drive.old).faults (D.state drive.new).faults }
 
     // Of the drive little changes.
     ensures nows { map (λ c. c.now) (D.state drive.new).cells ≡ map (λ c. c.now) (D.state drive.old).cells }

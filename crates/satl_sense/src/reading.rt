@@ -74,7 +74,8 @@ fn told_by(bytes: &[u8]) -> Sense
 /// The first place where a text differs from a form of at most 32 bytes, or one of them ends.
 fn first_difference(text: &[u8], form: &[u8]) -> Option<u16>
     requires { length form.now ≤ 32 }
-    ensures { MatchOption result (text.now ≡ form.now) (λ place. (take place text.now ≡ take place form.now) × (take (place + 1) text.now ≢ take (place + 1) form.now)) }
+    ensures { MatchOption result (text.now ≡ form.now)
+        (λ place. (take place text.now ≡ take place form.now) × (take (place + 1) text.now ≢ take (place + 1) form.now)) }
 {
     for (place, byte) in form.iter().enumerate() {
         if place >= text.len() {

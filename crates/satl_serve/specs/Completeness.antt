@@ -17,15 +17,16 @@ pub record IsGoodInput (limit : ℕ) (left : Option (List ℕ)) (fs : List Frame
   pub told : left ≡ Some input
   pub whole : ReadsToEnd limit Two input fs rest
 
--- the drive's data are accepted, and neither the source's nor the sink's count of faults rose or stands at its last value (profile)
+-- the drive's data are accepted, and neither the source's nor the sink's count of faults rose or stands at its last value
+-- (profile)
 pub record GoesWell (before after : Moment) : Type 0 where
   pub identity : Identity
   pub accepted : identity_of before.drive.identify ≡ Ok identity
   pub reads : Rose before.source.faults after.source.faults → ⊥
   pub writes : Rose before.sink.faults after.sink.faults → ⊥
 
--- the faults that are left to a good input where all goes well, before anything is read: want of memory, and a link that was lost
--- while the layer was opened, where the drive's count of faults rose (profile)
+-- the faults that are left to a good input where all goes well, before anything is read: want of memory, and a link that was
+-- lost while the layer was opened, where the drive's count of faults rose (profile)
 abbrev pub MayStop : Moment → Moment → ServeFault → Type 0
 MayStop before after (faults.Open opening.NoMemory) = Unit {0}
 MayStop before after (faults.Open opening.LinkDown) = Rose before.drive.faults after.drive.faults

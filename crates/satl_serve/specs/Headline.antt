@@ -35,8 +35,9 @@ IsServedBefore form limit why before after = Serves (RanBefore form limit why) b
 abbrev pub IsServedInPart : Form → ℕ → Moment → Moment → Type 0
 IsServedInPart form limit before after = Serves (RanInPart form limit) before after
 
--- nothing was read or written; the drive stays as it was, but for entries that its sectors may be left with, and, where its link was lost
--- meanwhile, for what that does; each sector reads as before; it was not unplugged, and called once at most (profile)
+-- nothing was read or written; the drive stays as it was, but for entries that its sectors may be left with, and, where its
+-- link was lost meanwhile, for what that does; each sector reads as before; it was not unplugged, and called once at most
+-- (profile)
 pub record IsNotServed (before after : Moment) : Type 0 where
   pub read : after.source.left ≡ before.source.left
   pub wrote : after.sink.written ≡ before.sink.written
@@ -55,8 +56,10 @@ IsStopped form limit before after faults.Write = IsServedInPart form limit befor
 -- what the result of serving says, whatever it gives of an input that was served up to END (profile): what holds by the fault,
 -- and why it is that one; a drive whose data are refused is told so, unless there was no memory; and a good input is served up
 -- to END where all goes well, and no byte behind it is read
-pub record ResultSays {A : Type 0} (form : Form) (limit : ℕ) (before after : Moment) (result : Result A ServeFault) : Type 0 where
+pub record ResultSays {A : Type 0} (form : Form) (limit : ℕ) (before after : Moment)
+    (result : Result A ServeFault) : Type 0 where
   pub stopped : IfErr result (IsStopped form limit before after)
   pub causes : IfErr result (HasServeCause before after)
   pub refused : (fault : IdentityFault) → IsRefused fault before.drive after.drive → IsErrAnd result (TellsRefusal fault)
-  pub complete : (fs : List Frame) (rest : List ℕ) → IsGoodInput limit before.source.left fs rest → GoesWell before after → MatchResult result (λ _. after.source.left ≡ Some rest) (MayStop before after)
+  pub complete : (fs : List Frame) (rest : List ℕ) → IsGoodInput limit before.source.left fs rest → GoesWell before after
+      → MatchResult result (λ _. after.source.left ≡ Some rest) (MayStop before after)

@@ -38,4 +38,9 @@ pub record Spot : Type 0 where
 
 -- how far it has come at a moment with this device, where the drive was called so often (profile)
 abbrev pub spot_at : Device → ℕ → Moment → Spot
-spot_at device calls m = record { left = m.source.left; written = m.sink.written; stand = record { device = device; tally = tally_of m.drive calls } }
+spot_at device calls m =
+    record {
+      left = m.source.left;
+      written = m.sink.written;
+      stand = record { device = device; tally = tally_of m.drive calls };
+    }

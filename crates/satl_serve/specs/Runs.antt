@@ -54,13 +54,14 @@ pub record IsLeftAs (s : Device) (d : DriveState) : Type 0 where
   pub cache : d.down ≡ false → d.cache ≡ s.modes.wce
   pub look : d.down ≡ false → d.look ≡ not s.modes.dra
 
--- a drive has of a device's tasks as many as it can have, each under its tag, and nothing else (ACS-3, native command queuing; profile)
+-- a drive has of a device's tasks as many as it can have, each under its tag, and nothing else (ACS-3, native command queuing;
+-- profile)
 pub record KeepsQueue (s : Device) (d : DriveState) : Type 0 where
   pub given : List Given
   pub queue : IsQueue s given d.outstanding
 
--- a run served from this moment to that: it began with the first device of the drive, of which the layer has asked the identity by one
--- call, and the drive is left as its last device is, with its tasks in the queue (profile)
+-- a run served from this moment to that: it began with the first device of the drive, of which the layer has asked the identity
+-- by one call, and the drive is left as its last device is, with its tasks in the queue (profile)
 pub record Serves (Run : Spot → Spot → Type 0) (before after : Moment) : Type 0 where
   pub first : Device
   pub last : Device
@@ -90,8 +91,8 @@ pub record RanWhole (form : Form) (limit : ℕ) (before after : Spot) : Type 0 w
   pub run : RunSoFar before.stand after.stand (events ++ frames.End ∷ []) groups
   pub deep : run.deep ≤ after.stand.tally.deepest
 
--- frames were read and carried out, none of which is END; the output of a run over these was written; and what follows was refused or not
--- read, which was told (profile)
+-- frames were read and carried out, none of which is END; the output of a run over these was written; and what follows was
+-- refused or not read, which was told (profile)
 pub record RanBefore (form : Form) (limit : ℕ) (why : FrameFault) (before after : Spot) : Type 0 where
   pub events : List Frame
   pub groups : List (List Answer)
@@ -105,8 +106,8 @@ pub record BrokeInMagic (form : Form) (before after : Spot) : Type 0 where
   pub part : WrotePart before.written after.written (begun form)
   pub run : RunSoFar before.stand after.stand [] []
 
--- frames were read, the last one was carried out or cut short between two of its turns, and those before it, none of which is END, were
--- carried out; what is due before it was written whole, and of its answers a front (profile)
+-- frames were read, the last one was carried out or cut short between two of its turns, and those before it, none of which is
+-- END, were carried out; what is due before it was written whole, and of its answers a front (profile)
 pub record BrokeInAnswers (form : Form) (limit : ℕ) (before after : Spot) : Type 0 where
   pub events : List Frame
   pub groups : List (List Answer)
@@ -122,8 +123,8 @@ pub record BrokeInAnswers (form : Form) (limit : ℕ) (before after : Spot) : Ty
   pub part : WrotePart behind after.written (all_told form answers)
   pub run : RunCutSoFar before.stand after.stand (events ++ event ∷ []) (groups ++ answers ∷ [])
 
--- frames were read and carried out, none of which is END; the output of a run over these was written whole; and what follows was refused, of
--- which a front was told (profile)
+-- frames were read and carried out, none of which is END; the output of a run over these was written whole; and what follows
+-- was refused, of which a front was told (profile)
 pub record BrokeInFault (form : Form) (limit : ℕ) (before after : Spot) : Type 0 where
   pub events : List Frame
   pub groups : List (List Answer)
@@ -137,4 +138,5 @@ pub record BrokeInFault (form : Form) (limit : ℕ) (before after : Spot) : Type
 
 -- a write failed: in what stands before all answers, in the answers to the last frame, or in what tells a refusal (profile)
 abbrev pub RanInPart : Form → ℕ → Spot → Spot → Type 0
-RanInPart form limit before after = BrokeInMagic form before after ⊎ (BrokeInAnswers form limit before after ⊎ BrokeInFault form limit before after)
+RanInPart form limit before after =
+    BrokeInMagic form before after ⊎ (BrokeInAnswers form limit before after ⊎ BrokeInFault form limit before after)

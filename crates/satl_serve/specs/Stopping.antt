@@ -52,9 +52,11 @@ TellsRefusal refusal fault = (fault ≡ faults.Open (opening.Identity refusal)) 
 -- a refusal of the reader is told, where a frame is bad (profile)
 abbrev pub Tells : Form → FrameFault → Option (List ℕ) → Option (List ℕ) → ServeFault → Type 0
 Tells form why written written' (faults.Open fault) = ⊥
-Tells form why written written' (faults.BadInput reason offset) = (why ≡ Bad reason offset) × Wrote written written' (fault_told form reason offset)
+Tells form why written written' (faults.BadInput reason offset) =
+    (why ≡ Bad reason offset) × Wrote written written' (fault_told form reason offset)
 Tells form why written written' faults.Read = (why ≡ ReadFault) × (written' ≡ written)
-Tells form why written written' faults.Write = (reason : Reason) × (offset : ℕ) × (why ≡ Bad reason offset) × WrotePart written written' (fault_told form reason offset)
+Tells form why written written' faults.Write =
+    (reason : Reason) × (offset : ℕ) × (why ≡ Bad reason offset) × WrotePart written written' (fault_told form reason offset)
 
 -- the same, which takes no fault of writing back, and has one where a write failed (profile)
 pub record TellsSo (form : Form) (why : FrameFault) (before after : Writes) (fault : ServeFault) : Type 0 where
@@ -62,7 +64,8 @@ pub record TellsSo (form : Form) (why : FrameFault) (before after : Writes) (fau
   pub later : before.faults ≤ after.faults
   pub cause : (fault ≡ faults.Write) → Rose before.faults after.faults
 
--- why serving stops where frames are carried out no further: a refusal is told, and behind a write that failed nothing is (profile)
+-- why serving stops where frames are carried out no further: a refusal is told, and behind a write that failed nothing is
+-- (profile)
 abbrev pub TellsStop : Form → Writes → Writes → ServeFault → Stop → Type 0
 TellsStop form before after fault (stops.Refused why) = TellsSo form why before after fault
 TellsStop form before after fault stops.Write = (fault ≡ faults.Write) × (after ≡ before)

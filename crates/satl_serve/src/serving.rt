@@ -82,8 +82,16 @@ pub fn serve<S: Source, K: Sink, D: Bench, L: Ledger>(
     requires idle { (D.state drive.old).outstanding ≡ [] }
     requires no_error { (D.state drive.old).error ≡ None }
     requires fit { IsFit (D.state drive.old) }
-    ensures served { IfOk result (λ summary. IsServedWhole form input_limit summary (moment (reads (S.left source.old) (S.faults source.old)) (writes (K.written sink.old) (K.faults sink.old)) steps.old (D.state drive.old)) (moment (reads (S.left source.new) (S.faults source.new)) (writes (K.written sink.new) (K.faults sink.new)) steps.new (D.state drive.new))) }
-    ensures says { ResultSays form input_limit (moment (reads (S.left source.old) (S.faults source.old)) (writes (K.written sink.old) (K.faults sink.old)) steps.old (D.state drive.old)) (moment (reads (S.left source.new) (S.faults source.new)) (writes (K.written sink.new) (K.faults sink.new)) steps.new (D.state drive.new)) result }
+    ensures served { IfOk result (λ summary. IsServedWhole form input_limit summary
+        (moment (reads (S.left source.old) (S.faults source.old)) (writes (K.written sink.old) (K.faults sink.old))
+        steps.old (D.state drive.old))
+        (moment (reads (S.left source.new) (S.faults source.new)) (writes (K.written sink.new) (K.faults sink.new))
+        steps.new (D.state drive.new))) }
+    ensures says { ResultSays form input_limit
+        (moment (reads (S.left source.old) (S.faults source.old)) (writes (K.written sink.old) (K.faults sink.old))
+        steps.old (D.state drive.old))
+        (moment (reads (S.left source.new) (S.faults source.new)) (writes (K.written sink.new) (K.faults sink.new))
+        steps.new (D.state drive.new)) result }
 {
     let mut counter = Counter::new(form);
     let requests = serve_by(alloc, form, &mut counter, source, sink, drive, steps)?;
@@ -102,8 +110,16 @@ pub fn serve_uncounted<S: Source, K: Sink, D: Bench, L: Ledger>(
     requires idle { (D.state drive.old).outstanding ≡ [] }
     requires no_error { (D.state drive.old).error ≡ None }
     requires fit { IsFit (D.state drive.old) }
-    ensures served { IfOk result (λ _. IsServedToEnd form input_limit (moment (reads (S.left source.old) (S.faults source.old)) (writes (K.written sink.old) (K.faults sink.old)) steps.old (D.state drive.old)) (moment (reads (S.left source.new) (S.faults source.new)) (writes (K.written sink.new) (K.faults sink.new)) steps.new (D.state drive.new))) }
-    ensures says { ResultSays form input_limit (moment (reads (S.left source.old) (S.faults source.old)) (writes (K.written sink.old) (K.faults sink.old)) steps.old (D.state drive.old)) (moment (reads (S.left source.new) (S.faults source.new)) (writes (K.written sink.new) (K.faults sink.new)) steps.new (D.state drive.new)) result }
+    ensures served { IfOk result (λ _. IsServedToEnd form input_limit
+        (moment (reads (S.left source.old) (S.faults source.old)) (writes (K.written sink.old) (K.faults sink.old))
+        steps.old (D.state drive.old))
+        (moment (reads (S.left source.new) (S.faults source.new)) (writes (K.written sink.new) (K.faults sink.new))
+        steps.new (D.state drive.new))) }
+    ensures says { ResultSays form input_limit
+        (moment (reads (S.left source.old) (S.faults source.old)) (writes (K.written sink.old) (K.faults sink.old))
+        steps.old (D.state drive.old))
+        (moment (reads (S.left source.new) (S.faults source.new)) (writes (K.written sink.new) (K.faults sink.new))
+        steps.new (D.state drive.new)) result }
 {
     serve_by(
         alloc,
@@ -131,8 +147,16 @@ fn serve_by<T: Teller, S: Source, K: Sink, D: Bench, L: Ledger>(
     requires idle { (D.state drive.old).outstanding ≡ [] }
     requires no_error { (D.state drive.old).error ≡ None }
     requires fit { IsFit (D.state drive.old) }
-    ensures served { IfOk result (λ requests. IsServedBy T.behind form input_limit teller.old teller.new requests (moment (reads (S.left source.old) (S.faults source.old)) (writes (K.written sink.old) (K.faults sink.old)) steps.old (D.state drive.old)) (moment (reads (S.left source.new) (S.faults source.new)) (writes (K.written sink.new) (K.faults sink.new)) steps.new (D.state drive.new))) }
-    ensures says { ResultSays form input_limit (moment (reads (S.left source.old) (S.faults source.old)) (writes (K.written sink.old) (K.faults sink.old)) steps.old (D.state drive.old)) (moment (reads (S.left source.new) (S.faults source.new)) (writes (K.written sink.new) (K.faults sink.new)) steps.new (D.state drive.new)) result }
+    ensures served { IfOk result (λ requests. IsServedBy T.behind form input_limit teller.old teller.new requests
+        (moment (reads (S.left source.old) (S.faults source.old)) (writes (K.written sink.old) (K.faults sink.old))
+        steps.old (D.state drive.old))
+        (moment (reads (S.left source.new) (S.faults source.new)) (writes (K.written sink.new) (K.faults sink.new))
+        steps.new (D.state drive.new))) }
+    ensures says { ResultSays form input_limit
+        (moment (reads (S.left source.old) (S.faults source.old)) (writes (K.written sink.old) (K.faults sink.old))
+        steps.old (D.state drive.old))
+        (moment (reads (S.left source.new) (S.faults source.new)) (writes (K.written sink.new) (K.faults sink.new))
+        steps.new (D.state drive.new)) result }
 {
     let mut satl = Satl::open(alloc, drive, steps)?;
     let served = serve_opened(alloc, form, teller, &mut satl, source, sink, drive, steps);
@@ -157,9 +181,31 @@ fn serve_opened<T: Teller, S: Source, K: Sink, D: Bench, L: Ledger>(
     requires idle { satl.old.tasks ≡ [] }
     requires deep { IsDeep (tally_of (D.state drive.old) steps.old) }
     ensures tied { Tied satl.new (D.state drive.new) }
-    ensures whole { IfOk result (λ requests. RanBy T.behind form input_limit teller.old teller.new requests (record { left = S.left source.old; written = K.written sink.old; stand = stand_of satl.old (D.state drive.old) steps.old }) (record { left = S.left source.new; written = K.written sink.new; stand = stand_of satl.new (D.state drive.new) steps.new })) }
-    ensures stopped { IfErr result (RanTo form input_limit (record { left = S.left source.old; written = K.written sink.old; stand = stand_of satl.old (D.state drive.old) steps.old }) (record { left = S.left source.new; written = K.written sink.new; stand = stand_of satl.new (D.state drive.new) steps.new })) }
-    ensures causes { IfErr result (HasStreamCause (reads (S.left source.old) (S.faults source.old)) (reads (S.left source.new) (S.faults source.new)) (writes (K.written sink.old) (K.faults sink.old)) (writes (K.written sink.new) (K.faults sink.new))) }
+    ensures whole { IfOk result (λ requests. RanBy T.behind form input_limit teller.old teller.new requests
+        (record {
+          left = S.left source.old;
+          written = K.written sink.old;
+          stand = stand_of satl.old (D.state drive.old) steps.old;
+        })
+        (record {
+          left = S.left source.new;
+          written = K.written sink.new;
+          stand = stand_of satl.new (D.state drive.new) steps.new;
+        })) }
+    ensures stopped { IfErr result (RanTo form input_limit
+        (record {
+          left = S.left source.old;
+          written = K.written sink.old;
+          stand = stand_of satl.old (D.state drive.old) steps.old;
+        })
+        (record {
+          left = S.left source.new;
+          written = K.written sink.new;
+          stand = stand_of satl.new (D.state drive.new) steps.new;
+        })) }
+    ensures causes { IfErr result (HasStreamCause (reads (S.left source.old) (S.faults source.old))
+        (reads (S.left source.new) (S.faults source.new)) (writes (K.written sink.old) (K.faults sink.old))
+        (writes (K.written sink.new) (K.faults sink.new))) }
 {
     tell_beginning(form, sink)?;
     let mut reader = FrameReader::new(alloc, LIMIT);
@@ -188,7 +234,8 @@ fn refuse<K: Sink>(form: Form, fault: FrameFault, sink: &mut K) -> ServeFault
 
 /// Why serving stops where frames are carried out no further.
 fn tell_stop<K: Sink>(form: Form, stop: Stop, sink: &mut K) -> ServeFault
-    ensures { TellsStop form (writes (K.written sink.old) (K.faults sink.old)) (writes (K.written sink.new) (K.faults sink.new)) result stop }
+    ensures { TellsStop form (writes (K.written sink.old) (K.faults sink.old))
+        (writes (K.written sink.new) (K.faults sink.new)) result stop }
 {
     match stop {
         Stop::Refused(fault) => refuse(form, fault, sink),

@@ -55,8 +55,10 @@ pub fn tell_managed<K: Sink>(
     response: Response,
     sink: &mut K,
 ) -> Result<(), WriteFault>
-    ensures all { OnOk result (Wrote (K.written sink.old) (K.written sink.new) (told form (managed manage.now.nexus manage.now.function response manage.now.tag))) }
-    ensures part { OnErr result (WrotePart (K.written sink.old) (K.written sink.new) (told form (managed manage.now.nexus manage.now.function response manage.now.tag))) }
+    ensures all { OnOk result (Wrote (K.written sink.old) (K.written sink.new)
+        (told form (managed manage.now.nexus manage.now.function response manage.now.tag))) }
+    ensures part { OnErr result (WrotePart (K.written sink.old) (K.written sink.new)
+        (told form (managed manage.now.nexus manage.now.function response manage.now.tag))) }
     ensures cause { HasCause (K.faults sink.old) (K.faults sink.new) result }
 {
     let Manage {

@@ -34,9 +34,14 @@ fn serve_request<T: Teller, K: Sink, D: Drive, L: Ledger>(
     ensures tied { Tied satl.new (D.state drive.new) }
     ensures all_in { OnOk result (satl.new.out ≡ 0) }
     ensures none { OnOk result (replies.new ≡ []) }
-    ensures done { OnOk result (Done T.told T.behind (Frame.Request request) (scene_of satl.old (D.state drive.old) steps.old teller.old (K.written sink.old)) (scene_of satl.new (D.state drive.new) steps.new teller.new (K.written sink.new))) }
-    ensures part { OnErr result (DoneInPart T.told T.behind (Frame.Request request) (scene_of satl.old (D.state drive.old) steps.old teller.old (K.written sink.old)) (scene_of satl.new (D.state drive.new) steps.new teller.new (K.written sink.new))) }
-    ensures tallied { IsTallied (Frame.Request request) (stand_of satl.old (D.state drive.old) steps.old) (stand_of satl.new (D.state drive.new) steps.new) }
+    ensures done { OnOk result (Done T.told T.behind (Frame.Request request)
+        (scene_of satl.old (D.state drive.old) steps.old teller.old (K.written sink.old))
+        (scene_of satl.new (D.state drive.new) steps.new teller.new (K.written sink.new))) }
+    ensures part { OnErr result (DoneInPart T.told T.behind (Frame.Request request)
+        (scene_of satl.old (D.state drive.old) steps.old teller.old (K.written sink.old))
+        (scene_of satl.new (D.state drive.new) steps.new teller.new (K.written sink.new))) }
+    ensures tallied { IsTallied (Frame.Request request) (stand_of satl.old (D.state drive.old) steps.old)
+        (stand_of satl.new (D.state drive.new) steps.new) }
     ensures cause { HasCause (K.faults sink.old) (K.faults sink.new) result }
 {
     satl.submit(request, drive, replies, steps);
@@ -60,9 +65,14 @@ fn serve_manage<T: Teller, K: Sink, D: Drive, L: Ledger>(
     ensures tied { Tied satl.new (D.state drive.new) }
     ensures all_in { OnOk result (satl.new.out ≡ 0) }
     ensures none { OnOk result (replies.new ≡ []) }
-    ensures done { OnOk result (Done T.told T.behind (Frame.Manage manage) (scene_of satl.old (D.state drive.old) steps.old teller.old (K.written sink.old)) (scene_of satl.new (D.state drive.new) steps.new teller.new (K.written sink.new))) }
-    ensures part { OnErr result (DoneInPart T.told T.behind (Frame.Manage manage) (scene_of satl.old (D.state drive.old) steps.old teller.old (K.written sink.old)) (scene_of satl.new (D.state drive.new) steps.new teller.new (K.written sink.new))) }
-    ensures tallied { IsTallied (Frame.Manage manage) (stand_of satl.old (D.state drive.old) steps.old) (stand_of satl.new (D.state drive.new) steps.new) }
+    ensures done { OnOk result (Done T.told T.behind (Frame.Manage manage)
+        (scene_of satl.old (D.state drive.old) steps.old teller.old (K.written sink.old))
+        (scene_of satl.new (D.state drive.new) steps.new teller.new (K.written sink.new))) }
+    ensures part { OnErr result (DoneInPart T.told T.behind (Frame.Manage manage)
+        (scene_of satl.old (D.state drive.old) steps.old teller.old (K.written sink.old))
+        (scene_of satl.new (D.state drive.new) steps.new teller.new (K.written sink.new))) }
+    ensures tallied { IsTallied (Frame.Manage manage) (stand_of satl.old (D.state drive.old) steps.old)
+        (stand_of satl.new (D.state drive.new) steps.new) }
     ensures cause { HasCause (K.faults sink.old) (K.faults sink.new) result }
 {
     let response = satl.manage(&manage, drive, replies, steps);
@@ -87,9 +97,14 @@ fn serve_bench<T: Teller, K: Sink, D: Bench, L: Ledger>(
     ensures tied { Tied satl.new (D.state drive.new) }
     ensures all_in { OnOk result (satl.new.out ≡ 0) }
     ensures none { OnOk result (replies.new ≡ []) }
-    ensures done { OnOk result (Done T.told T.behind (Frame.Bench event) (scene_of satl.old (D.state drive.old) steps.old teller.old (K.written sink.old)) (scene_of satl.new (D.state drive.new) steps.new teller.new (K.written sink.new))) }
-    ensures part { OnErr result (DoneInPart T.told T.behind (Frame.Bench event) (scene_of satl.old (D.state drive.old) steps.old teller.old (K.written sink.old)) (scene_of satl.new (D.state drive.new) steps.new teller.new (K.written sink.new))) }
-    ensures tallied { IsTallied (Frame.Bench event) (stand_of satl.old (D.state drive.old) steps.old) (stand_of satl.new (D.state drive.new) steps.new) }
+    ensures done { OnOk result (Done T.told T.behind (Frame.Bench event)
+        (scene_of satl.old (D.state drive.old) steps.old teller.old (K.written sink.old))
+        (scene_of satl.new (D.state drive.new) steps.new teller.new (K.written sink.new))) }
+    ensures part { OnErr result (DoneInPart T.told T.behind (Frame.Bench event)
+        (scene_of satl.old (D.state drive.old) steps.old teller.old (K.written sink.old))
+        (scene_of satl.new (D.state drive.new) steps.new teller.new (K.written sink.new))) }
+    ensures tallied { IsTallied (Frame.Bench event) (stand_of satl.old (D.state drive.old) steps.old)
+        (stand_of satl.new (D.state drive.new) steps.new) }
     ensures cause { HasCause (K.faults sink.old) (K.faults sink.new) result }
 {
     satl.bench(&event, drive, replies, steps);
@@ -115,9 +130,14 @@ pub fn serve_event<T: Teller, K: Sink, D: Bench, L: Ledger>(
     ensures tied { Tied satl.new (D.state drive.new) }
     ensures all_in { OnOk result (satl.new.out ≡ 0) }
     ensures none { OnOk result (replies.new ≡ []) }
-    ensures done { OnOk result (Done T.told T.behind event (scene_of satl.old (D.state drive.old) steps.old teller.old (K.written sink.old)) (scene_of satl.new (D.state drive.new) steps.new teller.new (K.written sink.new))) }
-    ensures part { OnErr result (DoneInPart T.told T.behind event (scene_of satl.old (D.state drive.old) steps.old teller.old (K.written sink.old)) (scene_of satl.new (D.state drive.new) steps.new teller.new (K.written sink.new))) }
-    ensures tallied { IsTallied event (stand_of satl.old (D.state drive.old) steps.old) (stand_of satl.new (D.state drive.new) steps.new) }
+    ensures done { OnOk result (Done T.told T.behind event
+        (scene_of satl.old (D.state drive.old) steps.old teller.old (K.written sink.old))
+        (scene_of satl.new (D.state drive.new) steps.new teller.new (K.written sink.new))) }
+    ensures part { OnErr result (DoneInPart T.told T.behind event
+        (scene_of satl.old (D.state drive.old) steps.old teller.old (K.written sink.old))
+        (scene_of satl.new (D.state drive.new) steps.new teller.new (K.written sink.new))) }
+    ensures tallied { IsTallied event (stand_of satl.old (D.state drive.old) steps.old)
+        (stand_of satl.new (D.state drive.new) steps.new) }
     ensures cause { HasCause (K.faults sink.old) (K.faults sink.new) result }
 {
     match event {

@@ -43,10 +43,10 @@ fn count_request(requests: u64, frame: &Frame) -> u64
     }
 }
 
-/// Carries out the frames of an input up to END on one unit, and tells the answers of each before it reads the next. Gives the number
-/// of requests, which stands still at 2^64 - 1. The reader has given no frame, and the unit has no task. `Refused`: the next frame is
-/// refused, which is told to nobody, or a read failed, where the source's count of faults rose. `Write` comes only where the sink's
-/// count rose (profile).
+/// Carries out the frames of an input up to END on one unit, and tells the answers of each before it reads the next. Gives the
+/// number of requests, which stands still at 2^64 - 1. The reader has given no frame, and the unit has no task. `Refused`: the
+/// next frame is refused, which is told to nobody, or a read failed, where the source's count of faults rose. `Write` comes
+/// only where the sink's count rose (profile).
 pub fn serve_frames<S: Source, T: Teller, K: Sink, D: Bench, L: Ledger>(
     alloc: Global,
     reader: &mut FrameReader,
@@ -63,9 +63,30 @@ pub fn serve_frames<S: Source, T: Teller, K: Sink, D: Bench, L: Ledger>(
     requires fresh { reader.old.refused ≡ None }
     requires unread { reader.old.place ≡ None }
     ensures tied { Tied satl.new (D.state drive.new) }
-    ensures ended { IfOk result (Ended T.told T.behind (record { reader = reader.old; left = S.left source.old; scene = scene_of satl.old (D.state drive.old) steps.old teller.old (K.written sink.old) }) (record { reader = reader.new; left = S.left source.new; scene = scene_of satl.new (D.state drive.new) steps.new teller.new (K.written sink.new) })) }
-    ensures stopped { IfErr result (StoppedSo T.told T.behind (record { reader = reader.old; left = S.left source.old; scene = scene_of satl.old (D.state drive.old) steps.old teller.old (K.written sink.old) }) (record { reader = reader.new; left = S.left source.new; scene = scene_of satl.new (D.state drive.new) steps.new teller.new (K.written sink.new) })) }
-    ensures causes { IfErr result (HasStopCause (S.faults source.old) (S.faults source.new) (K.faults sink.old) (K.faults sink.new)) }
+    ensures ended { IfOk result (Ended T.told T.behind
+        (record {
+          reader = reader.old;
+          left = S.left source.old;
+          scene = scene_of satl.old (D.state drive.old) steps.old teller.old (K.written sink.old);
+        })
+        (record {
+          reader = reader.new;
+          left = S.left source.new;
+          scene = scene_of satl.new (D.state drive.new) steps.new teller.new (K.written sink.new);
+        })) }
+    ensures stopped { IfErr result (StoppedSo T.told T.behind
+        (record {
+          reader = reader.old;
+          left = S.left source.old;
+          scene = scene_of satl.old (D.state drive.old) steps.old teller.old (K.written sink.old);
+        })
+        (record {
+          reader = reader.new;
+          left = S.left source.new;
+          scene = scene_of satl.new (D.state drive.new) steps.new teller.new (K.written sink.new);
+        })) }
+    ensures causes { IfErr result (HasStopCause (S.faults source.old) (S.faults source.new) (K.faults sink.old)
+        (K.faults sink.new)) }
     ensures later { K.faults sink.old ≤ K.faults sink.new }
 {
     let mut replies = Replies::new(alloc);

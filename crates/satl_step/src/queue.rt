@@ -7,8 +7,8 @@ ghost use Rattle.satl_core.specs.Tie.{TiesQueue};
 
 use satl_core::Satl;
 
-/// Changes nothing, and says of a tied layer what its drive has outstanding: as many commands as the device lets it have, each that of a
-/// task under its tag (ACS-3, native command queuing; profile).
+/// Changes nothing, and says of a tied layer what its drive has outstanding: as many commands as the device lets it have, each
+/// that of a task under its tag (ACS-3, native command queuing; profile).
 pub fn see_queue(satl: &Satl)
     ensures deep { (d : DriveState) → Tied satl.now d → depth (view satl.now d) ≤ length d.outstanding }
     ensures ties { (d : DriveState) → Tied satl.now d → TiesQueue satl.now d }

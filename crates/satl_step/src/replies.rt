@@ -25,8 +25,10 @@ pub fn tell_replies<T: Teller, K: Sink>(
     ensures stays { satl.new ≡ record satl.old { free = satl.new.free; out = satl.new.out } }
     ensures all_in { OnOk result (satl.new.out ≡ 0) }
     ensures none { OnOk result (replies.new ≡ []) }
-    ensures told { OnOk result (IsTold T.told T.behind (record { teller = teller.old; written = K.written sink.old }) (record { teller = teller.new; written = K.written sink.new }) (map replied replies.old)) }
-    ensures part { OnErr result (IsToldInPart T.told T.behind (record { teller = teller.old; written = K.written sink.old }) (record { teller = teller.new; written = K.written sink.new }) (map replied replies.old)) }
+    ensures told { OnOk result (IsTold T.told T.behind (record { teller = teller.old; written = K.written sink.old })
+        (record { teller = teller.new; written = K.written sink.new }) (map replied replies.old)) }
+    ensures part { OnErr result (IsToldInPart T.told T.behind (record { teller = teller.old; written = K.written sink.old })
+        (record { teller = teller.new; written = K.written sink.new }) (map replied replies.old)) }
     ensures some { OnErr result (1 ≤ length replies.old) }
     ensures cause { HasCause (K.faults sink.old) (K.faults sink.new) result }
 {

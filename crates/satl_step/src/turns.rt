@@ -32,10 +32,15 @@ fn serve_turn<T: Teller, K: Sink, D: Drive, L: Ledger>(
     ensures tied { Tied satl.new (D.state drive.new) }
     ensures all_in { OnOk result (satl.new.out ≡ 0) }
     ensures none { OnOk result (replies.new ≡ []) }
-    ensures told { OnOk result (TurnTold T.told T.behind (scene_of satl.old (D.state drive.old) steps.old teller.old (K.written sink.old)) (scene_of satl.new (D.state drive.new) steps.new teller.new (K.written sink.new))) }
-    ensures part { OnErr result (TurnToldInPart T.told T.behind (scene_of satl.old (D.state drive.old) steps.old teller.old (K.written sink.old)) (scene_of satl.new (D.state drive.new) steps.new teller.new (K.written sink.new))) }
+    ensures told { OnOk result (TurnTold T.told T.behind
+        (scene_of satl.old (D.state drive.old) steps.old teller.old (K.written sink.old))
+        (scene_of satl.new (D.state drive.new) steps.new teller.new (K.written sink.new))) }
+    ensures part { OnErr result (TurnToldInPart T.told T.behind
+        (scene_of satl.old (D.state drive.old) steps.old teller.old (K.written sink.old))
+        (scene_of satl.new (D.state drive.new) steps.new teller.new (K.written sink.new))) }
     ensures fewer { length satl.new.tasks ≤ length satl.old.tasks - 1 }
-    ensures tallied { IsTallied (Frame.Turn 1) (stand_of satl.old (D.state drive.old) steps.old) (stand_of satl.new (D.state drive.new) steps.new) }
+    ensures tallied { IsTallied (Frame.Turn 1) (stand_of satl.old (D.state drive.old) steps.old)
+        (stand_of satl.new (D.state drive.new) steps.new) }
     ensures cause { HasCause (K.faults sink.old) (K.faults sink.new) result }
 {
     satl.turn(drive, replies, steps);
@@ -59,11 +64,16 @@ pub fn serve_turns<T: Teller, K: Sink, D: Drive, L: Ledger>(
     ensures tied { Tied satl.new (D.state drive.new) }
     ensures all_in { OnOk result (satl.new.out ≡ 0) }
     ensures none { OnOk result (replies.new ≡ []) }
-    ensures told { OnOk result (TurnsTold T.told T.behind count (scene_of satl.old (D.state drive.old) steps.old teller.old (K.written sink.old)) (scene_of satl.new (D.state drive.new) steps.new teller.new (K.written sink.new))) }
-    ensures part { OnErr result (SomeTurnsTold T.told T.behind count (scene_of satl.old (D.state drive.old) steps.old teller.old (K.written sink.old)) (scene_of satl.new (D.state drive.new) steps.new teller.new (K.written sink.new))) }
+    ensures told { OnOk result (TurnsTold T.told T.behind count
+        (scene_of satl.old (D.state drive.old) steps.old teller.old (K.written sink.old))
+        (scene_of satl.new (D.state drive.new) steps.new teller.new (K.written sink.new))) }
+    ensures part { OnErr result (SomeTurnsTold T.told T.behind count
+        (scene_of satl.old (D.state drive.old) steps.old teller.old (K.written sink.old))
+        (scene_of satl.new (D.state drive.new) steps.new teller.new (K.written sink.new))) }
     ensures fewer { OnOk result (length satl.new.tasks ≤ length satl.old.tasks - count) }
     ensures deep { OnOk result (depth (view satl.new (D.state drive.new)) ≤ length (D.state drive.new).outstanding) }
-    ensures tallied { IsTallied (Frame.Turn count) (stand_of satl.old (D.state drive.old) steps.old) (stand_of satl.new (D.state drive.new) steps.new) }
+    ensures tallied { IsTallied (Frame.Turn count) (stand_of satl.old (D.state drive.old) steps.old)
+        (stand_of satl.new (D.state drive.new) steps.new) }
     ensures cause { HasCause (K.faults sink.old) (K.faults sink.new) result }
 {
     for _ in 0..count {
@@ -88,9 +98,14 @@ pub fn serve_end<T: Teller, K: Sink, D: Drive, L: Ledger>(
     ensures tied { Tied satl.new (D.state drive.new) }
     ensures all_in { OnOk result (satl.new.out ≡ 0) }
     ensures none { OnOk result (replies.new ≡ []) }
-    ensures done { OnOk result (Done T.told T.behind Frame.End (scene_of satl.old (D.state drive.old) steps.old teller.old (K.written sink.old)) (scene_of satl.new (D.state drive.new) steps.new teller.new (K.written sink.new))) }
-    ensures part { OnErr result (DoneInPart T.told T.behind Frame.End (scene_of satl.old (D.state drive.old) steps.old teller.old (K.written sink.old)) (scene_of satl.new (D.state drive.new) steps.new teller.new (K.written sink.new))) }
-    ensures tallied { IsTallied Frame.End (stand_of satl.old (D.state drive.old) steps.old) (stand_of satl.new (D.state drive.new) steps.new) }
+    ensures done { OnOk result (Done T.told T.behind Frame.End
+        (scene_of satl.old (D.state drive.old) steps.old teller.old (K.written sink.old))
+        (scene_of satl.new (D.state drive.new) steps.new teller.new (K.written sink.new))) }
+    ensures part { OnErr result (DoneInPart T.told T.behind Frame.End
+        (scene_of satl.old (D.state drive.old) steps.old teller.old (K.written sink.old))
+        (scene_of satl.new (D.state drive.new) steps.new teller.new (K.written sink.new))) }
+    ensures tallied { IsTallied Frame.End (stand_of satl.old (D.state drive.old) steps.old)
+        (stand_of satl.new (D.state drive.new) steps.new) }
     ensures cause { HasCause (K.faults sink.old) (K.faults sink.new) result }
 {
     // Each turn ends one task at least.

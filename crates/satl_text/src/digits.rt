@@ -14,8 +14,10 @@ use satl_io::{Failed, Sink};
 /// Gathers the digits of at most 512 bytes.
 fn gather_block<K: Sink>(sink: &mut K, gathered: &mut Gathered, bytes: &[u8]) -> Result<(), Failed>
     requires { length bytes.now ≤ 512 }
-    ensures all { OnOk result (Gathers (K.written sink.old) (K.written sink.new) gathered.old.items gathered.new.items (encode_lower bytes.now)) }
-    ensures part { OnErr result (WrotePart (K.written sink.old) (K.written sink.new) (gathered.old.items ++ encode_lower bytes.now)) }
+    ensures all { OnOk result (Gathers (K.written sink.old) (K.written sink.new) gathered.old.items gathered.new.items
+        (encode_lower bytes.now)) }
+    ensures part { OnErr result (WrotePart (K.written sink.old) (K.written sink.new)
+        (gathered.old.items ++ encode_lower bytes.now)) }
     ensures cause { HasCause (K.faults sink.old) (K.faults sink.new) result }
 {
     let mut digits = [0; 1024];
@@ -34,8 +36,10 @@ fn gather_digits<K: Sink>(
     len: u32,
 ) -> Result<(), Failed>
     requires { len ≤ 512 * length pages.now }
-    ensures all { OnOk result (Gathers (K.written sink.old) (K.written sink.new) gathered.old.items gathered.new.items (encode_lower (first_bytes len pages.now))) }
-    ensures part { OnErr result (WrotePart (K.written sink.old) (K.written sink.new) (gathered.old.items ++ encode_lower (first_bytes len pages.now))) }
+    ensures all { OnOk result (Gathers (K.written sink.old) (K.written sink.new) gathered.old.items gathered.new.items
+        (encode_lower (first_bytes len pages.now))) }
+    ensures part { OnErr result (WrotePart (K.written sink.old) (K.written sink.new)
+        (gathered.old.items ++ encode_lower (first_bytes len pages.now))) }
     ensures cause { HasCause (K.faults sink.old) (K.faults sink.new) result }
     ensures size { OnOk result (length (first_bytes len pages.now) ≡ len) }
 {
@@ -59,8 +63,10 @@ pub fn gather_bytes<K: Sink>(
     len: u32,
 ) -> Result<(), Failed>
     requires { len ≤ 512 * length pages.now }
-    ensures all { OnOk result (Gathers (K.written sink.old) (K.written sink.new) gathered.old.items gathered.new.items (hex_bytes (first_bytes len pages.now))) }
-    ensures part { OnErr result (WrotePart (K.written sink.old) (K.written sink.new) (gathered.old.items ++ hex_bytes (first_bytes len pages.now))) }
+    ensures all { OnOk result (Gathers (K.written sink.old) (K.written sink.new) gathered.old.items gathered.new.items
+        (hex_bytes (first_bytes len pages.now))) }
+    ensures part { OnErr result (WrotePart (K.written sink.old) (K.written sink.new)
+        (gathered.old.items ++ hex_bytes (first_bytes len pages.now))) }
     ensures cause { HasCause (K.faults sink.old) (K.faults sink.new) result }
 {
     if len == 0 {

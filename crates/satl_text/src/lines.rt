@@ -160,9 +160,9 @@ pub fn write_line<K: Sink>(frame: OutFrame, sink: &mut K) -> Result<(), WriteFau
     }
 }
 
-/// Appends exactly seven lines to the bytes of the sink (profile): the seed of the input and the totals of the run, in one write
-/// call if the sink takes all that it is given. `WriteFault` comes only where the sink's count of faults rose; then some front of
-/// the lines was appended.
+/// Appends exactly seven lines to the bytes of the sink (profile): the seed of the input and the totals of the run, in one
+/// write call if the sink takes all that it is given. `WriteFault` comes only where the sink's count of faults rose; then some
+/// front of the lines was appended.
 pub fn write_summary<K: Sink>(seed: u64, summary: &Summary, sink: &mut K) -> Result<(), WriteFault>
     ensures all { OnOk result (Wrote (K.written sink.old) (K.written sink.new) (summary_lines seed summary.now)) }
     ensures part { OnErr result (WrotePart (K.written sink.old) (K.written sink.new) (summary_lines seed summary.now)) }

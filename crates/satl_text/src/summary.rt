@@ -71,7 +71,8 @@ impl Summary {
     /// Counts a request (profile).
     pub fn add_request(&mut self)
         ensures grown { self.new ≡ with_request self.old }
-        ensures counted { (requests : ℕ) (answers : List Answer) → self.old ≡ summary_of requests answers → self.new ≡ summary_of (requests + 1) answers }
+        ensures counted { (requests : ℕ) (answers : List Answer) → self.old ≡ summary_of requests answers
+            → self.new ≡ summary_of (requests + 1) answers }
     {
         self.requests = self.requests.saturating_add(1);
     }
@@ -80,7 +81,8 @@ impl Summary {
     pub fn add_reply(&mut self, reply: &Reply)
         requires { reply.now.data_len ≤ 512 * length reply.now.body }
         ensures grown { self.new ≡ with_answer self.old (replied reply.now) }
-        ensures counted { (requests : ℕ) (answers : List Answer) → self.old ≡ summary_of requests answers → self.new ≡ summary_of requests (answers ++ replied reply.now ∷ []) }
+        ensures counted { (requests : ℕ) (answers : List Answer) → self.old ≡ summary_of requests answers
+            → self.new ≡ summary_of requests (answers ++ replied reply.now ∷ []) }
     {
         self.good = count(self.good, Scsi::Good, reply.status);
         self.check = count(self.check, Scsi::CheckCondition, reply.status);

@@ -21,8 +21,8 @@ status_of_record (Err faults.Read) = statuses.ReadFault
 status_of_record (Err faults.Write) = statuses.WriteFault
 status_of_record (Err faults.NoMemory) = statuses.NoMemory
 
--- a record was judged, or was not, as the status tells (profile): it was read and told as that says; the drive was called once at most, each of its
--- sectors reads as before, and it was not unplugged
+-- a record was judged, or was not, as the status tells (profile): it was read and told as that says; the drive was called once
+-- at most, each of its sectors reads as before, and it was not unplugged
 pub record AuditEnds (before after : Moment) (status : Status) : Type 0 where
   pub ended : Result Verdict RecordFault
   pub status_is : status ≡ status_of_record ended

@@ -31,12 +31,13 @@ status_of_fleet faults.Read = statuses.ReadFault
 status_of_fleet faults.Write = statuses.WriteFault
 status_of_fleet faults.NoMemory = statuses.NoMemory
 
--- what holds of the input, the output and the drives, by the status (profile): a whole input was served; or it was served up to a frame that
--- was refused or not read, or up to a write that failed; or it was not served; or nothing at all was done
+-- what holds of the input, the output and the drives, by the status (profile): a whole input was served; or it was served up to
+-- a frame that was refused or not read, or up to a write that failed; or it was not served; or nothing at all was done
 abbrev pub FleetEnds : ℕ → FleetMoment → FleetMoment → Status → Type 0
 FleetEnds limit before after statuses.Done = IsFleetWhole limit before after
 FleetEnds limit before after statuses.Usage = after ≡ before
-FleetEnds limit before after statuses.BadInput = (reason : Reason) × (offset : ℕ) × IsFleetBefore limit (Bad reason offset) before after
+FleetEnds limit before after statuses.BadInput =
+    (reason : Reason) × (offset : ℕ) × IsFleetBefore limit (Bad reason offset) before after
 FleetEnds limit before after statuses.ReadFault = IsFleetBefore limit ReadFault before after
 FleetEnds limit before after statuses.WriteFault = IsFleetInPart limit before after
 FleetEnds limit before after statuses.NoMemory = IsFleetNotServed before after
@@ -44,8 +45,8 @@ FleetEnds limit before after statuses.DriveRefused = IsFleetNotServed before aft
 FleetEnds limit before after statuses.No = ⊥
 FleetEnds limit before after statuses.NotCovered = ⊥
 
--- a read or a write fault comes only where the source's or the sink's count of faults rose, and a drive is refused only for a cause of one of
--- them (profile)
+-- a read or a write fault comes only where the source's or the sink's count of faults rose, and a drive is refused only for a
+-- cause of one of them (profile)
 abbrev pub HasFleetStatusCause : FleetMoment → FleetMoment → Status → Type 0
 HasFleetStatusCause before after statuses.Done = Unit {0}
 HasFleetStatusCause before after statuses.Usage = Unit {0}
@@ -53,7 +54,8 @@ HasFleetStatusCause before after statuses.BadInput = Unit {0}
 HasFleetStatusCause before after statuses.ReadFault = Rose before.source.faults after.source.faults
 HasFleetStatusCause before after statuses.WriteFault = Rose before.sink.faults after.sink.faults
 HasFleetStatusCause before after statuses.NoMemory = Unit {0}
-HasFleetStatusCause before after statuses.DriveRefused = (fault : OpenFault) × (status_of_open fault ≡ statuses.DriveRefused) × IsCauseOfOne fault before.drives after.drives
+HasFleetStatusCause before after statuses.DriveRefused =
+    (fault : OpenFault) × (status_of_open fault ≡ statuses.DriveRefused) × IsCauseOfOne fault before.drives after.drives
 HasFleetStatusCause before after statuses.No = Unit {0}
 HasFleetStatusCause before after statuses.NotCovered = Unit {0}
 
@@ -64,4 +66,5 @@ pub record OnFirst (words : List Text) (limit : ℕ) (before after : FleetMoment
   pub others : List DriveState
   pub olds : before.drives ≡ first ∷ others
   pub news : after.drives ≡ last ∷ others
-  pub outcome : Outcome words limit (moment before.source before.sink before.calls first) (moment after.source after.sink after.calls last) status
+  pub outcome : Outcome words limit (moment before.source before.sink before.calls first)
+      (moment after.source after.sink after.calls last) status

@@ -33,8 +33,8 @@ nowhere = writes None 0
 abbrev pub at_load : Option (List ℕ) → Moment → Moment
 at_load left m = moment (reads left 0) nowhere m.calls m.drive
 
--- a generated input was served whole within this limit: the run was one over the generated frames and END, with these totals, which say as
--- many requests as were asked for; and the source that was handed in was not read (profile)
+-- a generated input was served whole within this limit: the run was one over the generated frames and END, with these totals,
+-- which say as many requests as were asked for; and the source that was handed in was not read (profile)
 pub record IsLoaded (limit : ℕ) (load : Load) (summary : Summary) (before after : Moment) : Type 0 where
   pub left : Option (List ℕ)
   pub served : IsServedWhole forms.Count limit summary (at_load (input_of load) before) (at_load left after)
@@ -42,22 +42,26 @@ pub record IsLoaded (limit : ℕ) (load : Load) (summary : Summary) (before afte
   pub requests_are : summary.requests ≡ load.requests
   pub unread : after.source ≡ before.source
 
--- why a load stops before it is served whole: the layer was not opened, and nothing was served. A generated input is never refused, no
--- read of it fails, and its answers go nowhere (profile)
+-- why a load stops before it is served whole: the layer was not opened, and nothing was served. A generated input is never
+-- refused, no read of it fails, and its answers go nowhere (profile)
 abbrev pub LoadStops : Moment → Moment → ServeFault → Type 0
 LoadStops before after (faults.Open fault) = IsNotServed before after × IsCause before.drive after.drive fault
 LoadStops before after (faults.BadInput reason offset) = ⊥
 LoadStops before after faults.Read = ⊥
 LoadStops before after faults.Write = ⊥
 
--- by the status: the totals were written, or a front of them; or nothing was served. A generated input is never refused, and no read of
--- it fails (profile)
+-- by the status: the totals were written, or a front of them; or nothing was served. A generated input is never refused, and no
+-- read of it fails (profile)
 abbrev pub LoadEnds : ℕ → Load → Moment → Moment → Status → Type 0
-LoadEnds limit load before after statuses.Done = (summary : Summary) × IsLoaded limit load summary before after × Wrote before.sink.written after.sink.written (summary_lines load.seed summary)
+LoadEnds limit load before after statuses.Done =
+    (summary : Summary) × IsLoaded limit load summary before after
+    × Wrote before.sink.written after.sink.written (summary_lines load.seed summary)
 LoadEnds limit load before after statuses.Usage = ⊥
 LoadEnds limit load before after statuses.BadInput = ⊥
 LoadEnds limit load before after statuses.ReadFault = ⊥
-LoadEnds limit load before after statuses.WriteFault = (summary : Summary) × IsLoaded limit load summary before after × WrotePart before.sink.written after.sink.written (summary_lines load.seed summary)
+LoadEnds limit load before after statuses.WriteFault =
+    (summary : Summary) × IsLoaded limit load summary before after
+    × WrotePart before.sink.written after.sink.written (summary_lines load.seed summary)
 LoadEnds limit load before after statuses.NoMemory = IsNotServed before after
 LoadEnds limit load before after statuses.DriveRefused = IsNotServed before after
 LoadEnds limit load before after statuses.No = ⊥

@@ -46,16 +46,18 @@ HasCause before after statuses.BadInput = Unit {0}
 HasCause before after statuses.ReadFault = Rose before.source.faults after.source.faults
 HasCause before after statuses.WriteFault = Rose before.sink.faults after.sink.faults
 HasCause before after statuses.NoMemory = Unit {0}
-HasCause before after statuses.DriveRefused = ((fault : IdentityFault) × (identity_of before.drive.identify ≡ Err fault)) ⊎ Rose before.drive.faults after.drive.faults
+HasCause before after statuses.DriveRefused =
+    ((fault : IdentityFault) × (identity_of before.drive.identify ≡ Err fault)) ⊎ Rose before.drive.faults after.drive.faults
 HasCause before after statuses.No = Unit {0}
 HasCause before after statuses.NotCovered = Unit {0}
 
--- what holds of the input, the output in a form and the drive, by the status (profile): a whole input was served; or it was served up to a
--- frame that was refused or not read, or up to a write that failed; or it was not served
+-- what holds of the input, the output in a form and the drive, by the status (profile): a whole input was served; or it was
+-- served up to a frame that was refused or not read, or up to a write that failed; or it was not served
 abbrev pub ServeEnds : Form → ℕ → Moment → Moment → Status → Type 0
 ServeEnds form limit before after statuses.Done = (summary : Summary) × IsServedWhole form limit summary before after
 ServeEnds form limit before after statuses.Usage = ⊥
-ServeEnds form limit before after statuses.BadInput = (reason : Reason) × (offset : ℕ) × IsServedBefore form limit (Bad reason offset) before after
+ServeEnds form limit before after statuses.BadInput =
+    (reason : Reason) × (offset : ℕ) × IsServedBefore form limit (Bad reason offset) before after
 ServeEnds form limit before after statuses.ReadFault = IsServedBefore form limit ReadFault before after
 ServeEnds form limit before after statuses.WriteFault = IsServedInPart form limit before after
 ServeEnds form limit before after statuses.NoMemory = IsNotServed before after
@@ -79,8 +81,8 @@ serves_input modes.Usb = false
 serves_input modes.Audit = false
 serves_input (modes.Generate seed requests) = false
 
--- a good input is served whole where all goes well, up to END and no byte further (profile): but there may be no memory to begin, or
--- the link was lost before the layer was open, where the drive's count of faults rose
+-- a good input is served whole where all goes well, up to END and no byte further (profile): but there may be no memory to
+-- begin, or the link was lost before the layer was open, where the drive's count of faults rose
 abbrev pub Completes : List ℕ → Moment → Moment → Status → Type 0
 Completes rest before after statuses.Done = after.source.left ≡ Some rest
 Completes rest before after statuses.Usage = ⊥
@@ -92,14 +94,17 @@ Completes rest before after statuses.DriveRefused = Rose before.drive.faults aft
 Completes rest before after statuses.No = ⊥
 Completes rest before after statuses.NotCovered = ⊥
 
--- a mode was carried out (profile): what holds by the status, and why it is that one; a drive whose data are refused is told so, unless there was no
--- memory; and a good input, or one that is items to its end, is served whole where all goes well
+-- a mode was carried out (profile): what holds by the status, and why it is that one; a drive whose data are refused is told
+-- so, unless there was no memory; and a good input, or one that is items to its end, is served whole where all goes well
 pub record IsCarriedOut (mode : Mode) (limit : ℕ) (before after : Moment) (status : Status) : Type 0 where
   pub ends : EndsSo mode limit before after status
   pub causes : HasCause before after status
-  pub refused : (fault : IdentityFault) → IsRefused fault before.drive after.drive → (status ≡ statuses.DriveRefused) ⊎ (status ≡ statuses.NoMemory)
-  pub complete_items : mode ≡ modes.Usb → (items : List Item) → IsItemInput limit before.source.left items → GoesWell before after → Completes [] before after status
-  pub complete : serves_input mode ≡ true → (fs : List Frame) (rest : List ℕ) → IsGoodInput limit before.source.left fs rest → GoesWell before after → Completes rest before after status
+  pub refused : (fault : IdentityFault) → IsRefused fault before.drive after.drive → (status ≡ statuses.DriveRefused)
+      ⊎ (status ≡ statuses.NoMemory)
+  pub complete_items : mode ≡ modes.Usb → (items : List Item) → IsItemInput limit before.source.left items
+      → GoesWell before after → Completes [] before after status
+  pub complete : serves_input mode ≡ true → (fs : List Frame) (rest : List ℕ) → IsGoodInput limit before.source.left fs rest
+      → GoesWell before after → Completes rest before after status
 
 -- nothing was done: the words ask for nothing, or there was not the memory to read them (profile)
 pub record IsUnused (words : List Text) (before after : Moment) (status : Status) : Type 0 where
@@ -108,4 +113,5 @@ pub record IsUnused (words : List Text) (before after : Moment) (status : Status
 
 -- the outcome by the words (profile): nothing was done, or the words ask for a mode, which was carried out
 abbrev pub Outcome : List Text → ℕ → Moment → Moment → Status → Type 0
-Outcome words limit before after status = IsUnused words before after status ⊎ ((mode : Mode) × AskFor words mode × IsCarriedOut mode limit before after status)
+Outcome words limit before after status =
+    IsUnused words before after status ⊎ ((mode : Mode) × AskFor words mode × IsCarriedOut mode limit before after status)

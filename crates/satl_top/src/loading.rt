@@ -33,8 +33,8 @@ impl Sink for Nowhere {
     }
 }
 
-/// Serves a generated input, and counts its answers alone. It stops before the end of the input only where the layer is not opened,
-/// and then nothing was served.
+/// Serves a generated input, and counts its answers alone. It stops before the end of the input only where the layer is not
+/// opened, and then nothing was served.
 fn serve_generated<D: Bench, L: Ledger>(
     alloc: Global,
     seed: u64,
@@ -46,19 +46,23 @@ fn serve_generated<D: Bench, L: Ledger>(
     requires idle { (D.state drive.old).outstanding ≡ [] }
     requires no_error { (D.state drive.old).error ≡ None }
     requires fit { IsFit (D.state drive.old) }
-    ensures loaded { IfOk result (λ summary. (source : Reads) (sink sink' : Writes) → IsLoaded input_limit (load_of seed requests) summary (moment source sink steps.old (D.state drive.old)) (moment source sink' steps.new (D.state drive.new))) }
-    ensures stopped { IfErr result (λ fault. (source : Reads) (sink : Writes) → LoadStops (moment source sink steps.old (D.state drive.old)) (moment source sink steps.new (D.state drive.new)) fault) }
-    ensures refused { (fault : IdentityFault) → IsRefused fault (D.state drive.old) (D.state drive.new) → IsErrAnd result (TellsRefusal fault) }
+    ensures loaded { IfOk result (λ summary. (source : Reads) (sink sink' : Writes)
+        → IsLoaded input_limit (load_of seed requests) summary (moment source sink steps.old (D.state drive.old))
+        (moment source sink' steps.new (D.state drive.new))) }
+    ensures stopped { IfErr result (λ fault. (source : Reads) (sink : Writes)
+        → LoadStops (moment source sink steps.old (D.state drive.old)) (moment source sink steps.new (D.state drive.new)) fault) }
+    ensures refused { (fault : IdentityFault) → IsRefused fault (D.state drive.old) (D.state drive.new)
+        → IsErrAnd result (TellsRefusal fault) }
 {
     let mut source = GenSource::new(seed, requests);
     serve(alloc, Form::Count, &mut source, &mut Nowhere, drive, steps)
 }
 
-/// Serves the generated input of a seed, of at most 100,000 requests, on the drive, counts its answers, and writes the seed and the
-/// totals to the sink as seven lines of text. The drive has nothing outstanding and is in no error state, and its IDENTIFY DEVICE
-/// data fit it. `Done`: all that was done. `WriteFault`: the input was served whole, but of the lines only a front was written.
-/// `NoMemory` and `DriveRefused`: nothing was served or written. No other status comes. The drive is called at most once for its
-/// identity, and 1,089 times for each request (profile).
+/// Serves the generated input of a seed, of at most 100,000 requests, on the drive, counts its answers, and writes the seed and
+/// the totals to the sink as seven lines of text. The drive has nothing outstanding and is in no error state, and its IDENTIFY
+/// DEVICE data fit it. `Done`: all that was done. `WriteFault`: the input was served whole, but of the lines only a front was
+/// written. `NoMemory` and `DriveRefused`: nothing was served or written. No other status comes. The drive is called at most
+/// once for its identity, and 1,089 times for each request (profile).
 pub fn load<K: Sink, D: Bench, L: Ledger>(
     alloc: Global,
     seed: u64,
@@ -71,9 +75,14 @@ pub fn load<K: Sink, D: Bench, L: Ledger>(
     requires idle { (D.state drive.old).outstanding ≡ [] }
     requires no_error { (D.state drive.old).error ≡ None }
     requires fit { IsFit (D.state drive.old) }
-    ensures ends { (source : Reads) → LoadEnds input_limit (load_of seed requests) (moment source (writes (K.written sink.old) (K.faults sink.old)) steps.old (D.state drive.old)) (moment source (writes (K.written sink.new) (K.faults sink.new)) steps.new (D.state drive.new)) result }
-    ensures refused { (fault : IdentityFault) → IsRefused fault (D.state drive.old) (D.state drive.new) → (result ≡ Status.DriveRefused) ⊎ (result ≡ Status.NoMemory) }
-    ensures causes { (source : Reads) → HasCause (moment source (writes (K.written sink.old) (K.faults sink.old)) steps.old (D.state drive.old)) (moment source (writes (K.written sink.new) (K.faults sink.new)) steps.new (D.state drive.new)) result }
+    ensures ends { (source : Reads) → LoadEnds input_limit (load_of seed requests)
+        (moment source (writes (K.written sink.old) (K.faults sink.old)) steps.old (D.state drive.old))
+        (moment source (writes (K.written sink.new) (K.faults sink.new)) steps.new (D.state drive.new)) result }
+    ensures refused { (fault : IdentityFault) → IsRefused fault (D.state drive.old) (D.state drive.new)
+        → (result ≡ Status.DriveRefused) ⊎ (result ≡ Status.NoMemory) }
+    ensures causes { (source : Reads) → HasCause
+        (moment source (writes (K.written sink.old) (K.faults sink.old)) steps.old (D.state drive.old))
+        (moment source (writes (K.written sink.new) (K.faults sink.new)) steps.new (D.state drive.new)) result }
 {
     match serve_generated(alloc, seed, requests, drive, steps) {
         Ok(summary) => match write_summary(seed, &summary, sink) {

@@ -53,9 +53,9 @@ pub fn is_fleet(words: &[RcStr]) -> bool
     is_word(&words[1], "fleet")
 }
 
-/// Serves the frames of the source on one to four drives as the logical units of one target, and writes the answers to the sink (profile).
-/// `Usage` comes exactly where the words are not those of the fleet, and then nothing was done. The status says how it ended. Each drive
-/// has nothing outstanding and is in no error state, and its IDENTIFY DEVICE data fit it.
+/// Serves the frames of the source on one to four drives as the logical units of one target, and writes the answers to the sink
+/// (profile). `Usage` comes exactly where the words are not those of the fleet, and then nothing was done. The status says how
+/// it ended. Each drive has nothing outstanding and is in no error state, and its IDENTIFY DEVICE data fit it.
 pub fn fleet<S: Source, K: Sink, D: Bench, L: Ledger>(
     alloc: Global,
     words: &[RcStr],
@@ -68,8 +68,14 @@ pub fn fleet<S: Source, K: Sink, D: Bench, L: Ledger>(
     requires few { vec_len drives.old ≤ 4 }
     requires servable { AllByRecursion IsServable (map D.state drives.old.items) }
     ensures usage { (result ≡ Status.Usage) ↔ (AskForFleet (map rc_str_bytes words.now) → ⊥) }
-    ensures ends { FleetEnds input_limit (fleet_moment (reads (S.left source.old) (S.faults source.old)) (writes (K.written sink.old) (K.faults sink.old)) steps.old (map D.state drives.old.items)) (fleet_moment (reads (S.left source.new) (S.faults source.new)) (writes (K.written sink.new) (K.faults sink.new)) steps.new (map D.state drives.new.items)) result }
-    ensures causes { HasFleetStatusCause (fleet_moment (reads (S.left source.old) (S.faults source.old)) (writes (K.written sink.old) (K.faults sink.old)) steps.old (map D.state drives.old.items)) (fleet_moment (reads (S.left source.new) (S.faults source.new)) (writes (K.written sink.new) (K.faults sink.new)) steps.new (map D.state drives.new.items)) result }
+    ensures ends { FleetEnds input_limit (fleet_moment (reads (S.left source.old) (S.faults source.old))
+        (writes (K.written sink.old) (K.faults sink.old)) steps.old (map D.state drives.old.items))
+        (fleet_moment (reads (S.left source.new) (S.faults source.new))
+        (writes (K.written sink.new) (K.faults sink.new)) steps.new (map D.state drives.new.items)) result }
+    ensures causes { HasFleetStatusCause (fleet_moment (reads (S.left source.old) (S.faults source.old))
+        (writes (K.written sink.old) (K.faults sink.old)) steps.old (map D.state drives.old.items))
+        (fleet_moment (reads (S.left source.new) (S.faults source.new))
+        (writes (K.written sink.new) (K.faults sink.new)) steps.new (map D.state drives.new.items)) result }
 {
     if !is_fleet(words) {
         return Status::Usage;
@@ -80,9 +86,9 @@ pub fn fleet<S: Source, K: Sink, D: Bench, L: Ledger>(
     }
 }
 
-/// Does all that the program does (profile): the words of the fleet serve all drives, and all others what `satl` does with the first drive,
-/// where the other drives stay as they are. The status says how it ended. Each drive has nothing outstanding and is in no error state, and
-/// its IDENTIFY DEVICE data fit it.
+/// Does all that the program does (profile): the words of the fleet serve all drives, and all others what `satl` does with the
+/// first drive, where the other drives stay as they are. The status says how it ended. Each drive has nothing outstanding and
+/// is in no error state, and its IDENTIFY DEVICE data fit it.
 pub fn program<S: Source, K: Sink, D: Bench, L: Ledger>(
     alloc: Global,
     words: &[RcStr],
@@ -94,10 +100,23 @@ pub fn program<S: Source, K: Sink, D: Bench, L: Ledger>(
     requires some { 1 ≤ vec_len drives.old }
     requires few { vec_len drives.old ≤ 4 }
     requires servable { AllByRecursion IsServable (map D.state drives.old.items) }
-    ensures fleet { AskForFleet (map rc_str_bytes words.now) → FleetEnds input_limit (fleet_moment (reads (S.left source.old) (S.faults source.old)) (writes (K.written sink.old) (K.faults sink.old)) steps.old (map D.state drives.old.items)) (fleet_moment (reads (S.left source.new) (S.faults source.new)) (writes (K.written sink.new) (K.faults sink.new)) steps.new (map D.state drives.new.items)) result }
+    ensures fleet { AskForFleet (map rc_str_bytes words.now)
+        → FleetEnds input_limit (fleet_moment (reads (S.left source.old) (S.faults source.old))
+        (writes (K.written sink.old) (K.faults sink.old)) steps.old (map D.state drives.old.items))
+        (fleet_moment (reads (S.left source.new) (S.faults source.new))
+        (writes (K.written sink.new) (K.faults sink.new)) steps.new (map D.state drives.new.items)) result }
     ensures understood { AskForFleet (map rc_str_bytes words.now) → (result ≡ Status.Usage) → ⊥ }
-    ensures causes { AskForFleet (map rc_str_bytes words.now) → HasFleetStatusCause (fleet_moment (reads (S.left source.old) (S.faults source.old)) (writes (K.written sink.old) (K.faults sink.old)) steps.old (map D.state drives.old.items)) (fleet_moment (reads (S.left source.new) (S.faults source.new)) (writes (K.written sink.new) (K.faults sink.new)) steps.new (map D.state drives.new.items)) result }
-    ensures first { (AskForFleet (map rc_str_bytes words.now) → ⊥) → OnFirst (map rc_str_bytes words.now) input_limit (fleet_moment (reads (S.left source.old) (S.faults source.old)) (writes (K.written sink.old) (K.faults sink.old)) steps.old (map D.state drives.old.items)) (fleet_moment (reads (S.left source.new) (S.faults source.new)) (writes (K.written sink.new) (K.faults sink.new)) steps.new (map D.state drives.new.items)) result }
+    ensures causes { AskForFleet (map rc_str_bytes words.now)
+        → HasFleetStatusCause (fleet_moment (reads (S.left source.old) (S.faults source.old))
+        (writes (K.written sink.old) (K.faults sink.old)) steps.old (map D.state drives.old.items))
+        (fleet_moment (reads (S.left source.new) (S.faults source.new))
+        (writes (K.written sink.new) (K.faults sink.new)) steps.new (map D.state drives.new.items)) result }
+    ensures first { (AskForFleet (map rc_str_bytes words.now) → ⊥)
+        → OnFirst (map rc_str_bytes words.now) input_limit
+        (fleet_moment (reads (S.left source.old) (S.faults source.old))
+        (writes (K.written sink.old) (K.faults sink.old)) steps.old (map D.state drives.old.items))
+        (fleet_moment (reads (S.left source.new) (S.faults source.new))
+        (writes (K.written sink.new) (K.faults sink.new)) steps.new (map D.state drives.new.items)) result }
 {
     if is_fleet(words) {
         return fleet(alloc, words, source, sink, drives, steps);

@@ -27,12 +27,12 @@ use std::alloc::Global;
 use std::rc::RcStr;
 use std::sync::ledger::Ledger;
 
-/// Does all that the program does (profile): `replay` and `show` serve the frames of the source on the drive and write the answers to
-/// the sink, as frames or as lines of text; `usb` carries out the items of the source, and answers them on the wire of USB Bulk-Only
-/// Transport; `audit` judges a record and says so in a line; `gen` serves a generated input and writes its totals, and reads nothing.
-/// Plain words mean what they spell, and all others what clap makes of them. The drive has nothing outstanding and is in no error state, and its
-/// IDENTIFY DEVICE data fit it. The status says how that ended. The drive is called at most once for its identity, 1,089 times for
-/// each request and 33 times for each task management function.
+/// Does all that the program does (profile): `replay` and `show` serve the frames of the source on the drive and write the
+/// answers to the sink, as frames or as lines of text; `usb` carries out the items of the source, and answers them on the wire
+/// of USB Bulk-Only Transport; `audit` judges a record and says so in a line; `gen` serves a generated input and writes its
+/// totals, and reads nothing. Plain words mean what they spell, and all others what clap makes of them. The drive has nothing
+/// outstanding and is in no error state, and its IDENTIFY DEVICE data fit it. The status says how that ended. The drive is
+/// called at most once for its identity, 1,089 times for each request and 33 times for each task management function.
 pub fn satl<S: Source, K: Sink, D: Bench, L: Ledger>(
     alloc: Global,
     words: &[RcStr],
@@ -44,11 +44,20 @@ pub fn satl<S: Source, K: Sink, D: Bench, L: Ledger>(
     requires idle { (D.state drive.old).outstanding ≡ [] }
     requires no_error { (D.state drive.old).error ≡ None }
     requires fit { IsFit (D.state drive.old) }
-    ensures plain { (mode : Mode) → IsInRange mode → ArePlain (map rc_str_bytes words.now) mode → IsCarriedOut mode input_limit (moment (reads (S.left source.old) (S.faults source.old)) (writes (K.written sink.old) (K.faults sink.old)) steps.old (D.state drive.old)) (moment (reads (S.left source.new) (S.faults source.new)) (writes (K.written sink.new) (K.faults sink.new)) steps.new (D.state drive.new)) result }
+    ensures plain { (mode : Mode) → IsInRange mode → ArePlain (map rc_str_bytes words.now) mode
+        → IsCarriedOut mode input_limit
+        (moment (reads (S.left source.old) (S.faults source.old)) (writes (K.written sink.old) (K.faults sink.old))
+        steps.old (D.state drive.old))
+        (moment (reads (S.left source.new) (S.faults source.new)) (writes (K.written sink.new) (K.faults sink.new))
+        steps.new (D.state drive.new)) result }
     ensures usage { (result ≡ Status.Usage) → AreRefused (map rc_str_bytes words.now) }
     ensures refused { AreRefused (map rc_str_bytes words.now) → (result ≡ Status.Usage) ⊎ (result ≡ Status.NoMemory) }
     ensures takes { (result ≡ Status.Usage) → (takes command_line (map rc_str_bytes words.now) ≡ true) → ⊥ }
-    ensures outcome { Outcome (map rc_str_bytes words.now) input_limit (moment (reads (S.left source.old) (S.faults source.old)) (writes (K.written sink.old) (K.faults sink.old)) steps.old (D.state drive.old)) (moment (reads (S.left source.new) (S.faults source.new)) (writes (K.written sink.new) (K.faults sink.new)) steps.new (D.state drive.new)) result }
+    ensures outcome { Outcome (map rc_str_bytes words.now) input_limit
+        (moment (reads (S.left source.old) (S.faults source.old)) (writes (K.written sink.old) (K.faults sink.old))
+        steps.old (D.state drive.old))
+        (moment (reads (S.left source.new) (S.faults source.new)) (writes (K.written sink.new) (K.faults sink.new))
+        steps.new (D.state drive.new)) result }
 {
     match mode_asked(alloc, words) {
         Ok(mode) => carry_out(alloc, mode, source, sink, drive, steps),
@@ -70,7 +79,11 @@ fn carry_out<S: Source, K: Sink, D: Bench, L: Ledger>(
     requires idle { (D.state drive.old).outstanding ≡ [] }
     requires no_error { (D.state drive.old).error ≡ None }
     requires fit { IsFit (D.state drive.old) }
-    ensures { IsCarriedOut mode input_limit (moment (reads (S.left source.old) (S.faults source.old)) (writes (K.written sink.old) (K.faults sink.old)) steps.old (D.state drive.old)) (moment (reads (S.left source.new) (S.faults source.new)) (writes (K.written sink.new) (K.faults sink.new)) steps.new (D.state drive.new)) result }
+    ensures { IsCarriedOut mode input_limit
+        (moment (reads (S.left source.old) (S.faults source.old)) (writes (K.written sink.old) (K.faults sink.old))
+        steps.old (D.state drive.old))
+        (moment (reads (S.left source.new) (S.faults source.new)) (writes (K.written sink.new) (K.faults sink.new))
+        steps.new (D.state drive.new)) result }
 {
     match mode {
         Mode::Replay => serve_input(alloc, Form::Frames, source, sink, drive, steps),
@@ -93,10 +106,28 @@ fn serve_input<S: Source, K: Sink, D: Bench, L: Ledger>(
     requires idle { (D.state drive.old).outstanding ≡ [] }
     requires no_error { (D.state drive.old).error ≡ None }
     requires fit { IsFit (D.state drive.old) }
-    ensures ends { ServeEnds form input_limit (moment (reads (S.left source.old) (S.faults source.old)) (writes (K.written sink.old) (K.faults sink.old)) steps.old (D.state drive.old)) (moment (reads (S.left source.new) (S.faults source.new)) (writes (K.written sink.new) (K.faults sink.new)) steps.new (D.state drive.new)) result }
-    ensures refused { (fault : IdentityFault) → IsRefused fault (D.state drive.old) (D.state drive.new) → (result ≡ Status.DriveRefused) ⊎ (result ≡ Status.NoMemory) }
-    ensures causes { HasCause (moment (reads (S.left source.old) (S.faults source.old)) (writes (K.written sink.old) (K.faults sink.old)) steps.old (D.state drive.old)) (moment (reads (S.left source.new) (S.faults source.new)) (writes (K.written sink.new) (K.faults sink.new)) steps.new (D.state drive.new)) result }
-    ensures complete { (fs : List Frame) (rest : List ℕ) → IsGoodInput input_limit (S.left source.old) fs rest → GoesWell (moment (reads (S.left source.old) (S.faults source.old)) (writes (K.written sink.old) (K.faults sink.old)) steps.old (D.state drive.old)) (moment (reads (S.left source.new) (S.faults source.new)) (writes (K.written sink.new) (K.faults sink.new)) steps.new (D.state drive.new)) → Completes rest (moment (reads (S.left source.old) (S.faults source.old)) (writes (K.written sink.old) (K.faults sink.old)) steps.old (D.state drive.old)) (moment (reads (S.left source.new) (S.faults source.new)) (writes (K.written sink.new) (K.faults sink.new)) steps.new (D.state drive.new)) result }
+    ensures ends { ServeEnds form input_limit
+        (moment (reads (S.left source.old) (S.faults source.old)) (writes (K.written sink.old) (K.faults sink.old))
+        steps.old (D.state drive.old))
+        (moment (reads (S.left source.new) (S.faults source.new)) (writes (K.written sink.new) (K.faults sink.new))
+        steps.new (D.state drive.new)) result }
+    ensures refused { (fault : IdentityFault) → IsRefused fault (D.state drive.old) (D.state drive.new)
+        → (result ≡ Status.DriveRefused) ⊎ (result ≡ Status.NoMemory) }
+    ensures causes { HasCause
+        (moment (reads (S.left source.old) (S.faults source.old)) (writes (K.written sink.old) (K.faults sink.old))
+        steps.old (D.state drive.old))
+        (moment (reads (S.left source.new) (S.faults source.new)) (writes (K.written sink.new) (K.faults sink.new))
+        steps.new (D.state drive.new)) result }
+    ensures complete { (fs : List Frame) (rest : List ℕ) → IsGoodInput input_limit (S.left source.old) fs rest
+        → GoesWell
+        (moment (reads (S.left source.old) (S.faults source.old)) (writes (K.written sink.old) (K.faults sink.old))
+        steps.old (D.state drive.old))
+        (moment (reads (S.left source.new) (S.faults source.new)) (writes (K.written sink.new) (K.faults sink.new))
+        steps.new (D.state drive.new)) → Completes rest
+        (moment (reads (S.left source.old) (S.faults source.old)) (writes (K.written sink.old) (K.faults sink.old))
+        steps.old (D.state drive.old))
+        (moment (reads (S.left source.new) (S.faults source.new)) (writes (K.written sink.new) (K.faults sink.new))
+        steps.new (D.state drive.new)) result }
 {
     match serve_uncounted(alloc, form, source, sink, drive, steps) {
         Ok(()) => Status::Done,

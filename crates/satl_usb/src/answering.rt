@@ -80,8 +80,10 @@ fn send_item<K: Sink, D: Bench, L: Ledger>(
     ensures all_in { OnOk result (satl.new.out ≡ 0) }
     ensures none { OnOk result (replies.new ≡ []) }
     ensures idle { OnOk result (satl.new.tasks ≡ []) }
-    ensures sent { IfOk result (Sent item (stand_of satl.old (D.state drive.old) steps.old) (stand_of satl.new (D.state drive.new) steps.new) (K.written sink.old) (K.written sink.new)) }
-    ensures part { OnErr result (SentInPart item (stand_of satl.old (D.state drive.old) steps.old) (stand_of satl.new (D.state drive.new) steps.new) (K.written sink.old) (K.written sink.new)) }
+    ensures sent { IfOk result (Sent item (stand_of satl.old (D.state drive.old) steps.old)
+        (stand_of satl.new (D.state drive.new) steps.new) (K.written sink.old) (K.written sink.new)) }
+    ensures part { OnErr result (SentInPart item (stand_of satl.old (D.state drive.old) steps.old)
+        (stand_of satl.new (D.state drive.new) steps.new) (K.written sink.old) (K.written sink.new)) }
     ensures cause { HasCause (K.faults sink.old) (K.faults sink.new) result }
 {
     let mut teller = ItemTeller {
@@ -120,8 +122,12 @@ pub fn answer_item<K: Sink, D: Bench, L: Ledger>(
     ensures all_in { OnOk result (satl.new.out ≡ 0) }
     ensures none { OnOk result (replies.new ≡ []) }
     ensures idle { OnOk result (satl.new.tasks ≡ []) }
-    ensures answered { IfOk result (λ after. Answered item (desk (stand_of satl.old (D.state drive.old) steps.old) (K.written sink.old) kept) (desk (stand_of satl.new (D.state drive.new) steps.new) (K.written sink.new) after)) }
-    ensures part { OnErr result (AnsweredInPart item (desk (stand_of satl.old (D.state drive.old) steps.old) (K.written sink.old) kept) (desk (stand_of satl.new (D.state drive.new) steps.new) (K.written sink.new) None)) }
+    ensures answered { IfOk result (λ after. Answered item
+        (desk (stand_of satl.old (D.state drive.old) steps.old) (K.written sink.old) kept)
+        (desk (stand_of satl.new (D.state drive.new) steps.new) (K.written sink.new) after)) }
+    ensures part { OnErr result (AnsweredInPart item
+        (desk (stand_of satl.old (D.state drive.old) steps.old) (K.written sink.old) kept)
+        (desk (stand_of satl.new (D.state drive.new) steps.new) (K.written sink.new) None)) }
     ensures cause { HasCause (K.faults sink.old) (K.faults sink.new) result }
 {
     if let Some(sense) = &kept {

@@ -44,12 +44,31 @@ pub fn serve_usb<S: Source, K: Sink, D: Bench, L: Ledger>(
     requires idle { (D.state drive.old).outstanding ≡ [] }
     requires no_error { (D.state drive.old).error ≡ None }
     requires fit { IsFit (D.state drive.old) }
-    ensures bridged { OnOk result (IsBridgedWhole item_limit (moment (reads (S.left source.old) (S.faults source.old)) (writes (K.written sink.old) (K.faults sink.old)) steps.old (D.state drive.old)) (moment (reads (S.left source.new) (S.faults source.new)) (writes (K.written sink.new) (K.faults sink.new)) steps.new (D.state drive.new))) }
-    ensures stopped { IfErr result (IsStopped item_limit (moment (reads (S.left source.old) (S.faults source.old)) (writes (K.written sink.old) (K.faults sink.old)) steps.old (D.state drive.old)) (moment (reads (S.left source.new) (S.faults source.new)) (writes (K.written sink.new) (K.faults sink.new)) steps.new (D.state drive.new))) }
-    ensures causes { IfErr result (HasUsbCause (moment (reads (S.left source.old) (S.faults source.old)) (writes (K.written sink.old) (K.faults sink.old)) steps.old (D.state drive.old)) (moment (reads (S.left source.new) (S.faults source.new)) (writes (K.written sink.new) (K.faults sink.new)) steps.new (D.state drive.new))) }
+    ensures bridged { OnOk result (IsBridgedWhole item_limit
+        (moment (reads (S.left source.old) (S.faults source.old)) (writes (K.written sink.old) (K.faults sink.old))
+        steps.old (D.state drive.old))
+        (moment (reads (S.left source.new) (S.faults source.new)) (writes (K.written sink.new) (K.faults sink.new))
+        steps.new (D.state drive.new))) }
+    ensures stopped { IfErr result (IsStopped item_limit
+        (moment (reads (S.left source.old) (S.faults source.old)) (writes (K.written sink.old) (K.faults sink.old))
+        steps.old (D.state drive.old))
+        (moment (reads (S.left source.new) (S.faults source.new)) (writes (K.written sink.new) (K.faults sink.new))
+        steps.new (D.state drive.new))) }
+    ensures causes { IfErr result (HasUsbCause
+        (moment (reads (S.left source.old) (S.faults source.old)) (writes (K.written sink.old) (K.faults sink.old))
+        steps.old (D.state drive.old))
+        (moment (reads (S.left source.new) (S.faults source.new)) (writes (K.written sink.new) (K.faults sink.new))
+        steps.new (D.state drive.new))) }
     ensures unplugs { (D.state drive.new).unplugs ≡ (D.state drive.old).unplugs }
-    ensures refused { (fault : IdentityFault) → IsRefused fault (D.state drive.old) (D.state drive.new) → IsErrAnd result (TellsRefusal fault) }
-    ensures complete { (items : List Item) → IsItemInput item_limit (S.left source.old) items → GoesWell (moment (reads (S.left source.old) (S.faults source.old)) (writes (K.written sink.old) (K.faults sink.old)) steps.old (D.state drive.old)) (moment (reads (S.left source.new) (S.faults source.new)) (writes (K.written sink.new) (K.faults sink.new)) steps.new (D.state drive.new)) → MatchResult result (λ _. S.left source.new ≡ Some []) (MayStop (D.state drive.old) (D.state drive.new)) }
+    ensures refused { (fault : IdentityFault) → IsRefused fault (D.state drive.old) (D.state drive.new)
+        → IsErrAnd result (TellsRefusal fault) }
+    ensures complete { (items : List Item) → IsItemInput item_limit (S.left source.old) items
+        → GoesWell
+        (moment (reads (S.left source.old) (S.faults source.old)) (writes (K.written sink.old) (K.faults sink.old))
+        steps.old (D.state drive.old))
+        (moment (reads (S.left source.new) (S.faults source.new)) (writes (K.written sink.new) (K.faults sink.new))
+        steps.new (D.state drive.new)) → MatchResult result (λ _. S.left source.new ≡ Some [])
+        (MayStop (D.state drive.old) (D.state drive.new)) }
 {
     let mut satl = Satl::open(alloc, drive, steps)?;
     let served = serve_items(alloc, &mut satl, source, sink, drive, steps);
@@ -71,9 +90,31 @@ fn serve_items<S: Source, K: Sink, D: Bench, L: Ledger>(
     requires idle { satl.old.tasks ≡ [] }
     requires deep { IsDeep (tally_of (D.state drive.old) steps.old) }
     ensures tied { Tied satl.new (D.state drive.new) }
-    ensures whole { OnOk result (BridgedWhole item_limit (record { left = S.left source.old; written = K.written sink.old; stand = stand_of satl.old (D.state drive.old) steps.old }) (record { left = S.left source.new; written = K.written sink.new; stand = stand_of satl.new (D.state drive.new) steps.new })) }
-    ensures stopped { IfErr result (RanTo item_limit (record { left = S.left source.old; written = K.written sink.old; stand = stand_of satl.old (D.state drive.old) steps.old }) (record { left = S.left source.new; written = K.written sink.new; stand = stand_of satl.new (D.state drive.new) steps.new })) }
-    ensures causes { IfErr result (HasStreamCause (reads (S.left source.old) (S.faults source.old)) (reads (S.left source.new) (S.faults source.new)) (writes (K.written sink.old) (K.faults sink.old)) (writes (K.written sink.new) (K.faults sink.new))) }
+    ensures whole { OnOk result (BridgedWhole item_limit
+        (record {
+          left = S.left source.old;
+          written = K.written sink.old;
+          stand = stand_of satl.old (D.state drive.old) steps.old;
+        })
+        (record {
+          left = S.left source.new;
+          written = K.written sink.new;
+          stand = stand_of satl.new (D.state drive.new) steps.new;
+        })) }
+    ensures stopped { IfErr result (RanTo item_limit
+        (record {
+          left = S.left source.old;
+          written = K.written sink.old;
+          stand = stand_of satl.old (D.state drive.old) steps.old;
+        })
+        (record {
+          left = S.left source.new;
+          written = K.written sink.new;
+          stand = stand_of satl.new (D.state drive.new) steps.new;
+        })) }
+    ensures causes { IfErr result (HasStreamCause (reads (S.left source.old) (S.faults source.old))
+        (reads (S.left source.new) (S.faults source.new)) (writes (K.written sink.old) (K.faults sink.old))
+        (writes (K.written sink.new) (K.faults sink.new))) }
     ensures unplugs { (D.state drive.new).unplugs ≡ (D.state drive.old).unplugs }
 {
     let mut replies = Replies::new(alloc);

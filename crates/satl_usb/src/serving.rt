@@ -33,8 +33,12 @@ pub fn serve_item<T: Teller, K: Sink, D: Bench, L: Ledger>(
     ensures all_in { OnOk result (satl.new.out ≡ 0) }
     ensures none { OnOk result (replies.new ≡ []) }
     ensures idle { OnOk result (satl.new.tasks ≡ []) }
-    ensures exchanged { OnOk result (Exchanged T.told T.behind request (scene_of satl.old (D.state drive.old) steps.old teller.old (K.written sink.old)) (scene_of satl.new (D.state drive.new) steps.new teller.new (K.written sink.new))) }
-    ensures part { OnErr result (ExchangedInPart T.told T.behind request (scene_of satl.old (D.state drive.old) steps.old teller.old (K.written sink.old)) (scene_of satl.new (D.state drive.new) steps.new teller.new (K.written sink.new))) }
+    ensures exchanged { OnOk result (Exchanged T.told T.behind request
+        (scene_of satl.old (D.state drive.old) steps.old teller.old (K.written sink.old))
+        (scene_of satl.new (D.state drive.new) steps.new teller.new (K.written sink.new))) }
+    ensures part { OnErr result (ExchangedInPart T.told T.behind request
+        (scene_of satl.old (D.state drive.old) steps.old teller.old (K.written sink.old))
+        (scene_of satl.new (D.state drive.new) steps.new teller.new (K.written sink.new))) }
     ensures cause { HasCause (K.faults sink.old) (K.faults sink.new) result }
 {
     serve_event(

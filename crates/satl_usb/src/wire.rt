@@ -41,7 +41,8 @@ fn csw_status(command: &Cbw, status: Scsi, size: u32) -> u8
 
 /// Gathers so many zeros.
 fn gather_zeros<K: Sink>(sink: &mut K, gathered: &mut Gathered, count: u32) -> Result<(), Failed>
-    ensures all { OnOk result (Gathers (K.written sink.old) (K.written sink.new) gathered.old.items gathered.new.items (replicate count 0)) }
+    ensures all { OnOk result (Gathers (K.written sink.old) (K.written sink.new) gathered.old.items gathered.new.items
+        (replicate count 0)) }
     ensures part { OnErr result (WrotePart (K.written sink.old) (K.written sink.new) (gathered.old.items ++ replicate count 0)) }
     ensures cause { HasCause (K.faults sink.old) (K.faults sink.new) result }
 {
@@ -63,8 +64,10 @@ fn tell_status<K: Sink>(
     gathered: &mut Gathered,
     sink: &mut K,
 ) -> Result<(), Failed>
-    ensures all { OnOk result (Wrote (K.written sink.old) (K.written sink.new) (gathered.old.items ++ status_on_wire command.now status size)) }
-    ensures part { OnErr result (WrotePart (K.written sink.old) (K.written sink.new) (gathered.old.items ++ status_on_wire command.now status size)) }
+    ensures all { OnOk result (Wrote (K.written sink.old) (K.written sink.new)
+        (gathered.old.items ++ status_on_wire command.now status size)) }
+    ensures part { OnErr result (WrotePart (K.written sink.old) (K.written sink.new)
+        (gathered.old.items ++ status_on_wire command.now status size)) }
     ensures cause { HasCause (K.faults sink.old) (K.faults sink.new) result }
 {
     let missing = taken_length(command).saturating_sub(size);

@@ -41,7 +41,8 @@ pub fn mode_asked(alloc: Global, words: &[RcStr]) -> Result<Mode, WordsFault>
 
 /// What words ask for by clap.
 fn parsed_mode(alloc: Global, words: &[RcStr]) -> Result<Mode, WordsFault>
-    ensures mode { IfOk result (λ mode. IsInRange mode × IsModeOf (subcommand_of command_line (map rc_str_bytes words.now)) mode) }
+    ensures mode { IfOk result (λ mode. IsInRange mode
+        × IsModeOf (subcommand_of command_line (map rc_str_bytes words.now)) mode) }
     ensures taken { OnOk result (AreTaken (map rc_str_bytes words.now)) }
     ensures refused { (result ≡ Err WordsFault.Refused) → AreTaken (map rc_str_bytes words.now) → ⊥ }
     ensures takes { (result ≡ Err WordsFault.Refused) → (takes command_line (map rc_str_bytes words.now) ≡ true) → ⊥ }

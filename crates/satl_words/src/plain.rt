@@ -57,8 +57,12 @@ fn load_asked(
     second: &RcStr,
     requests: &RcStr,
 ) -> Option<Mode>
-    ensures spelled { IfSome result (λ mode. IsInRange mode × (plain_words mode ≡ rc_str_bytes name.now ∷ rc_str_bytes first.now ∷ rc_str_bytes seed.now ∷ rc_str_bytes second.now ∷ rc_str_bytes requests.now ∷ [])) }
-    ensures plain { (mode : Mode) → IsInRange mode → plain_words mode ≡ rc_str_bytes name.now ∷ rc_str_bytes first.now ∷ rc_str_bytes seed.now ∷ rc_str_bytes second.now ∷ rc_str_bytes requests.now ∷ [] → result ≡ Some mode }
+    ensures spelled { IfSome result (λ mode. IsInRange mode
+        × (plain_words mode ≡ rc_str_bytes name.now ∷ rc_str_bytes first.now ∷ rc_str_bytes seed.now ∷ rc_str_bytes second.now
+        ∷ rc_str_bytes requests.now ∷ [])) }
+    ensures plain { (mode : Mode) → IsInRange mode
+        → plain_words mode ≡ rc_str_bytes name.now ∷ rc_str_bytes first.now ∷ rc_str_bytes seed.now ∷ rc_str_bytes second.now
+        ∷ rc_str_bytes requests.now ∷ [] → result ≡ Some mode }
 {
     if !is_word(name, "gen") {
         return None;
@@ -74,8 +78,10 @@ fn load_asked(
 
 /// The load with these numbers, where they are plain.
 fn load_of(seed: &RcStr, requests: &RcStr) -> Option<Mode>
-    ensures spelled { IfSome result (λ mode. IsInRange mode × (plain_words mode ≡ load_words (rc_str_bytes seed.now) (rc_str_bytes requests.now))) }
-    ensures plain { (mode : Mode) → IsInRange mode → plain_words mode ≡ load_words (rc_str_bytes seed.now) (rc_str_bytes requests.now) → result ≡ Some mode }
+    ensures spelled { IfSome result (λ mode. IsInRange mode
+        × (plain_words mode ≡ load_words (rc_str_bytes seed.now) (rc_str_bytes requests.now))) }
+    ensures plain { (mode : Mode) → IsInRange mode
+        → plain_words mode ≡ load_words (rc_str_bytes seed.now) (rc_str_bytes requests.now) → result ≡ Some mode }
 {
     let seed = plain_number(seed, u64::MAX)?;
     let requests = plain_number(requests, MOST_REQUESTS as u64)?;
