@@ -23,6 +23,7 @@ use Rattle.satl_direct.specs.Quiet.{Around}
 use Rattle.satl_direct.specs.Run.{Manages, MayLose}
 use Rattle.satl_direct.specs.Tasks.{task_of}
 use Rattle.satl_direct.specs.Valid.{IsValid}
+use Rattle.satl_direct.proofs.Conditions.{valid_attended}
 use Rattle.satl_core.specs.declared.leaving.Scope.{Scope}
 use Rattle.satl_core.specs.declared.leaving.Scope.TheVariants as scopes
 use Rattle.satl_core.specs.declared.managing.Effect.{Effect}
@@ -139,18 +140,7 @@ manages m s new tasks tasks' lists lists' own is ts cs left posts same =
     these = ap (λ l. record s { tasks = l; attentions = lists }) (sym ts) ∙ ap (λ l. record s { attentions = l }) (sym cs)
 
 valid_posted : (posts : Option Posting) (tasks : List Held) (s : Device) → IsValid s → IsValid (record s { attentions = once_posted posts tasks s.attentions })
-valid_posted posts tasks s v = record {
-  identity = v.identity;
-  cells = v.cells;
-  sound = v.sound;
-  few = v.few;
-  blocks = v.blocks;
-  own = v.own;
-  come = v.come;
-  modes = v.modes;
-  nexuses = once_length posts tasks s.attentions ∙ v.nexuses;
-  attentions = once_kept posts tasks s.attentions v.attentions;
-}
+valid_posted posts tasks s v = valid_attended s _ (once_length posts tasks s.attentions ∙ v.nexuses) (once_kept posts tasks s.attentions v.attentions) v
 
 -- ---- the layer
 

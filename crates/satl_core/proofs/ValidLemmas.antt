@@ -25,6 +25,7 @@ use Rattle.satl_direct.specs.Arrival.{waits}
 use Rattle.satl_direct.specs.Device.{Device, is_called, is_of, once_told}
 use Rattle.satl_direct.specs.Tasks.{held_blocks, held_by, is_full, task_for, task_of}
 use Rattle.satl_direct.specs.Valid.{HasCome, IsValid}
+use Rattle.satl_direct.proofs.Conditions.{valid_attended}
 use Rattle.satl_direct.proofs.Naming.{own_filtered, own_pushed}
 use Rattle.satl_flight.specs.Flown.{IsInFlight}
 use Rattle.satl_flight.specs.Settled.{IsFilled}
@@ -107,18 +108,7 @@ told_kept zero (conditions ∷ lists) all = (without_first report_order conditio
 told_kept (suc nexus) (conditions ∷ lists) all = (all.0, told_kept nexus lists all.1)
 
 valid_told : (nexus : ℕ) (s : Device) → IsValid s → IsValid (once_told nexus s)
-valid_told nexus s v = record {
-  identity = v.identity;
-  cells = v.cells;
-  sound = v.sound;
-  few = v.few;
-  blocks = v.blocks;
-  own = v.own;
-  come = v.come;
-  modes = v.modes;
-  nexuses = length-set s.attentions nexus (drop 1 (get_or s.attentions nexus [])) ∙ v.nexuses;
-  attentions = told_kept nexus s.attentions v.attentions;
-}
+valid_told nexus s v = valid_attended s _ (length-set s.attentions nexus (drop 1 (get_or s.attentions nexus [])) ∙ v.nexuses) (told_kept nexus s.attentions v.attentions) v
 
 valid_untold : (what : Option Attention) (l : Layer) (d : DriveState) (nexus : ℕ) → IsValid (view l d) → IsValid (view (record l { attentions = untold what nexus l.attentions }) d)
 valid_untold None l d nexus v = v

@@ -8,6 +8,7 @@ use Rattle.satl_unit.specs.Conditions.{IsInReportOrder}
 use Rattle.satl_frame.specs.declared.frames.Frame.TheVariants.{Request}
 use Rattle.satl_direct.specs.Run.TurnsOf.{none}
 use Rattle.satl_direct.specs.Valid.{IsValid}
+use Rattle.satl_direct.proofs.Conditions.{valid_attended}
 use Rattle.satl_scenarios.specs.Orders.{IsOfArrivalOrder, IsOfOrderUnderErrors, torn_out_of_order, written_out_of_order}
 use Rattle.satl_scenarios.specs.Devices.{aa, bb, device}
 use Rattle.satl_scenarios.specs.Requests.{cdb_10, read, request, write}
@@ -52,20 +53,7 @@ power_told = inr (refl, tt)
 
 -- the device is valid with its conditions too
 powered_valid : IsValid written_out_of_order.first
-powered_valid =
-    let v = blank_valid 3 (omega arith) (omega arith) in
-    record {
-      identity = v.identity;
-      cells = v.cells;
-      sound = v.sound;
-      few = v.few;
-      blocks = v.blocks;
-      own = v.own;
-      come = v.come;
-      modes = v.modes;
-      nexuses = refl;
-      attentions = (power_told, (power_told, (power_told, (power_told, tt))));
-    }
+powered_valid = valid_attended _ _ refl (power_told, (power_told, (power_told, (power_told, tt)))) (blank_valid 3 (omega arith) (omega arith))
 
 pub of_arrival_order : IsOfArrivalOrder written_out_of_order
 unfolding says
