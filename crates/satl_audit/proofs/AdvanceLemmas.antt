@@ -1,6 +1,5 @@
 -- Events of a record, as steps of the device.
 use Rattle.std.proofs.Common.{◌≡◌, refl, sym, ap, ◌∙◌, subst, ℕ, Bool, true, false, List, [], ◌∷◌, ◌++◌, map}
-use Rattle.satl_base.specs.declared.bench.BenchEvent.{BenchEvent}
 use Rattle.satl_base.specs.declared.bench.BenchEvent.TheVariants as events
 use Rattle.satl_base.specs.declared.block.Block.{Block}
 use Rattle.satl_base.specs.declared.request.Request.{Request}
@@ -10,7 +9,6 @@ use Rattle.satl_frame.specs.declared.frames.Frame.TheVariants as frames
 use Rattle.satl_frame.specs.Output.{all_answered}
 use Rattle.satl_frame.specs.Output.Answer.{replied}
 use Rattle.satl_frame.specs.Pulls.{cut_to}
-use Rattle.satl_cover.specs.Known.{is_known_frame}
 use Rattle.satl_audit.specs.Advancing.{Advances, CannotGoOn, GoesOn, MayHappen}
 use Rattle.satl_audit.specs.Arriving.{ArrivesOn, CannotArrive, Goes, IsSent, Sticks, device_at}
 use Rattle.satl_audit.specs.Deeds.Deed.{shows}
@@ -61,12 +59,3 @@ module _ (identity : Identity) (input : List ℕ) (old new : Steps) (sectors aft
       by : (b : Bool) → Turns identity input count old new sectors after b → Advances identity input (frames.Turn count) old new sectors after b
       by true t = turns_go identity input old sectors count new after t
       by false t = turns_stick identity input old sectors count t
-
--- of the other events of the bench ORDER alone is known
-pub order_advances : (identity : Identity) (input : List ℕ) (old : Steps) (sectors : List Keeping) (trim : Bool) (event : BenchEvent) → is_known_frame trim (frames.Bench event) ≡ true → (event ≡ events.Power → ⊥) → GoesOn identity input (frames.Bench event) old old sectors sectors
-order_advances identity input old sectors trim (events.Strike which lba) known other = absurd cc
-order_advances identity input old sectors trim (events.Mend lba) known other = absurd cc
-order_advances identity input old sectors trim (events.Glitch count) known other = absurd cc
-order_advances identity input old sectors trim (events.Order order) known other = order_goes identity input old sectors order
-order_advances identity input old sectors trim events.Power known other = absurd (other refl)
-order_advances identity input old sectors trim events.Unplug known other = absurd cc

@@ -1,6 +1,5 @@
 -- Frames without their pages, and the whole ones.
 use Rattle.std.proofs.Common.{◌≡◌, refl, sym, ap, ℕ, take}
-use Rattle.satl_base.specs.declared.bench.BenchEvent.{BenchEvent}
 use Rattle.satl_base.specs.declared.request.Request.{Request}
 use Rattle.satl_frame.specs.declared.frames.Frame.{Frame}
 use Rattle.satl_frame.specs.declared.frames.Frame.TheVariants as frames
@@ -27,10 +26,3 @@ cut_turn n (frames.Manage m) e = absurd cc
 cut_turn n (frames.Turn k) e = sym e
 cut_turn n (frames.Bench event) e = absurd cc
 cut_turn n frames.End e = absurd cc
-
-pub cut_bench : (event : BenchEvent) (whole : Frame) → frames.Bench event ≡ cut_to 0 whole → whole ≡ frames.Bench event
-cut_bench event (frames.Request r) e = absurd cc
-cut_bench event (frames.Manage m) e = absurd cc
-cut_bench event (frames.Turn k) e = absurd cc
-cut_bench event (frames.Bench other) e = sym e
-cut_bench event frames.End e = absurd cc

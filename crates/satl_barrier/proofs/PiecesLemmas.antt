@@ -1,5 +1,5 @@
 -- One piece of a range after the other.
-use Rattle.std.proofs.Common.{◌≡◌, ⊎_elim, inl, inr, refl, sym, ap, subst, arith, ◌∙◌, ℕ, zero, suc, ◌+◌, ◌≤◌, Bool, true, false, List, [], ◌++◌, length, map, Some, None}
+use Rattle.std.proofs.Common.{◌≡◌, ⊎_elim, inl, inr, refl, sym, ap, subst, arith, ◌∙◌, ℕ, zero, suc, ◌+◌, ◌≤◌, Bool, true, false, List, [], ◌++◌, map, Some, None}
 use Rattle.std.specs.Prelude.{Option, slice_index_or, if◌then◌else◌, ◌⊎◌, ◌-◌}
 use Rattle.satl_base.specs.declared.block.Range.{Range}
 use Rattle.satl_base.specs.declared.bench.Which.{Which}
@@ -8,9 +8,9 @@ use Rattle.satl_base.specs.Lists.{IsIn}
 use Rattle.satl_base.specs.Cells.{Cell, Pair, Part, first_flaw, first_set, has_flaw, whole}
 use Rattle.satl_base.specs.Losses.{Loses}
 use Rattle.satl_base.specs.Moves.{Moves}
-use Rattle.satl_base.proofs.CellsLemmas.{part-write_flaws, part_append, part_none, part_whole, whole-append, whole-length}
+use Rattle.satl_base.proofs.CellsLemmas.{part-write_flaws, part_append, part_none, part_whole, whole-append}
 use Rattle.satl_base.proofs.ListsLemmas.{All-in, in_left, in_right}
-use Rattle.satl_base.proofs.LossesLemmas.{PartLossy, loses-flaws, loses-length, loses-nows, loses_on, part_after, whole_loses}
+use Rattle.satl_base.proofs.LossesLemmas.{PartLossy, loses-flaws, loses-nows, loses_on, part_after, whole_loses}
 use Rattle.satl_base.proofs.MovesLemmas.{lose_once, moves_of_whole, moves_on}
 use Rattle.satl_regs.specs.Effects.{Transfer}
 use Rattle.satl_drive.specs.State.{DriveState}
@@ -97,9 +97,6 @@ begun t old mid (inr x) = record {
   stays = x.is_done.stays ∙ ap (λ b. record old { cells = mid.cells; active = b }) (sym (ap (λ (d : DriveState). d.active) x.is_done.stays));
   active = inr (ap (λ (d : DriveState). d.active) x.is_done.stays);
 }
-
-pub begun-length : (t : Transfer) (old mid : DriveState) → IsBegun t old mid → length mid.cells ≡ length old.cells
-begun-length t old mid b = ⊎_elim (λ e. ap length e) (λ l. loses-length (whole old.cells t.writes) mid.cells l) b.cells ∙ whole-length old.cells t.writes
 
 pub begun-write_flaws : (t : Transfer) (old mid : DriveState) → IsBegun t old mid → map (has_flaw flaws.Write) mid.cells ≡ map (has_flaw flaws.Write) old.cells
 begun-write_flaws t old mid b =

@@ -1,10 +1,10 @@
 -- What puts do to cells, one at a time and in a row.
-use Rattle.std.proofs.Common.{◌≡◌, ⊎_elim, inl, inr, ℕ, zero, suc, ◌+◌, List, [], ◌∷◌, ◌++◌, Bool, true, false, map, length, refl, ap, sym, ◌∙◌, subst, arith, add-zero}
+use Rattle.std.proofs.Common.{◌≡◌, ⊎_elim, inl, inr, ℕ, zero, suc, ◌+◌, List, [], ◌∷◌, ◌++◌, Bool, true, false, map, length, refl, ap, sym, ◌∙◌, subst, arith}
 use Rattle.std.specs.Prelude.{◌≤◌, ◌-◌, drop, slice_range}
 use Rattle.std.proofs.lemmas.List.{length-drop, length-map, length-take}
 use Rattle.satl_base.specs.declared.block.Block.{Block}
 use Rattle.satl_base.specs.declared.bench.Which.TheVariants.{Write}
-use Rattle.satl_base.specs.Cells.{Cell, Pair, IsSound, AreSound, put, put_at, change_at, whole, Part, pairs_from, has_flaw, nows}
+use Rattle.satl_base.specs.Cells.{Cell, Pair, IsSound, AreSound, put, put_at, change_at, whole, Part, has_flaw, nows}
 use Rattle.satl_base.proofs.ListsLemmas.{in_right}
 
 -- pairs after pairs
@@ -34,14 +34,6 @@ part_whole cells (p ∷ ps) = inr (part_whole (put_at cells p) ps)
 pub part_none : (cells : List Cell) (ps : List Pair) → Part cells ps cells
 part_none cells [] = refl
 part_none cells (p ∷ ps) = inl (part_none cells ps)
-
--- one more block in a row
-pub pairs_from-append : (lba : ℕ) (vs : List Block) (w : Block) (cached : Bool) →
-    pairs_from lba (vs ++ w ∷ []) cached ≡ pairs_from lba vs cached ++ record { lba = lba + length vs; block = w; cached = cached } ∷ []
-pairs_from-append lba [] w cached = simp add-zero
-pairs_from-append lba (v ∷ vs) w cached =
-    let further : (lba + 1) + length vs ≡ lba + suc (length vs) = omega arith in
-    rw (pairs_from-append (lba + 1) vs w cached, further) refl
 
 -- no write changes how many cells there are
 pub change_at-length : (cells : List Cell) (lba : ℕ) (f : Cell → Cell) → length (change_at cells lba f) ≡ length cells
@@ -78,10 +70,6 @@ pub change_at-sound : (cells : List Cell) (lba : ℕ) (f : Cell → Cell) → ((
 change_at-sound [] lba f h s = s
 change_at-sound (c ∷ cs) zero f h s = (h c, s.1)
 change_at-sound (c ∷ cs) (suc lba) f h s = (s.0, change_at-sound cs lba f h s.1)
-
-pub whole-sound : (cells : List Cell) (ps : List Pair) → AreSound cells → AreSound (whole cells ps)
-whole-sound cells [] s = s
-whole-sound cells (p ∷ ps) s = whole-sound (put_at cells p) ps (change_at-sound cells p.lba (λ c. put c p.block p.cached) (λ c. put-sound c p.block p.cached) s)
 
 pub part-sound : (cells new : List Cell) (ps : List Pair) → AreSound cells → Part cells ps new → AreSound new
 part-sound cells new [] s h = subst AreSound (sym h) s

@@ -1,5 +1,5 @@
 -- Numbers as bytes, there and back.
-use Rattle.std.proofs.Common.{◌≡◌, ℕ, zero, suc, ◌+◌, ◌-◌, ◌^◌, ◌<◌, ◌≤◌, List, [], ◌∷◌, length, drop, take, get_or, refl, ap, ◌∙◌, arith, take_all}
+use Rattle.std.proofs.Common.{◌≡◌, ℕ, zero, suc, ◌+◌, ◌-◌, ◌^◌, ◌<◌, ◌≤◌, List, [], ◌∷◌, length, get_or, ap, ◌∙◌, arith}
 use Rattle.std.specs.Int.{byte_at, w64, from_be_bytes}
 use Rattle.byteorder.specs.Endian.{big_from, big_bytes}
 use Rattle.byteorder.specs.Numbers.{big_number-reads_back, length-bytes_high_first}
@@ -19,19 +19,6 @@ back_8 n h = big_number-reads_back 8 n [] h
 
 pub length_big : (w n : ℕ) → length (big_bytes w n) ≡ w
 length_big w n = length-bytes_high_first w n
-
--- the lowest bytes stand at the end
-pub drop_high : (k m w n : ℕ) → m ≡ k + w → drop k (big_bytes m n) ≡ big_bytes w n
-drop_high zero m w n e = let f : m ≡ w = omega (arith, e) in rw f refl
-drop_high (suc k) zero w n e = absurd (omega (arith, e))
-drop_high (suc k) (suc m) w n e = drop_high k m w n (omega (arith, e))
-
--- the last w bytes of a number of 8, as a buffer holds them
-pub low_part : (w n : ℕ) (buffer part : List ℕ) → w ≤ 8 → buffer ≡ big_bytes 8 n → part ≡ take (8 - (8 - w)) (drop (8 - w) buffer) → part ≡ big_bytes w n
-low_part w n buffer part h b s =
-    let k : 8 - (8 - w) ≡ w = omega arith in
-    let d : drop (8 - w) buffer ≡ big_bytes w n = ap (drop (8 - w)) b ∙ drop_high (8 - w) 8 w n (omega arith) in
-    s ∙ ap (λ (x : ℕ). take x (drop (8 - w) buffer)) k ∙ ap (take w) d ∙ take_all w (big_bytes w n) (omega (arith, length_big w n))
 
 -- what stands at a place of equal lists is equal
 pub head_at : (i : ℕ) (xs ys : List ℕ) → xs ≡ ys → get_or xs i 0 ≡ get_or ys i 0

@@ -12,12 +12,6 @@ find-map f p (x ∷ xs) =
     elim (p (f x)) as (λ b. cond b (Some (f x)) (find p (map f xs)) ≡ option_map f (cond b (Some x) (find (λ y. p (f y)) xs)))
     [ true ↦ refl | false ↦ find-map f p xs ]
 
-pub remove_first-map : {X Y : Type 0} (f : X → Y) (p : Y → Bool) (xs : List X) → remove_first p (map f xs) ≡ map f (remove_first (λ x. p (f x)) xs)
-remove_first-map f p [] = refl
-remove_first-map f p (x ∷ xs) =
-    elim (p (f x)) as (λ b. (if b then map f xs else f x ∷ remove_first p (map f xs)) ≡ map f (if b then xs else x ∷ remove_first (λ y. p (f y)) xs))
-    [ true ↦ refl | false ↦ ap (λ r. f x ∷ r) (remove_first-map f p xs) ]
-
 -- what holds of each holds of the one that is found
 pub All-find : {X : Type 0} (P : X → Type 0) (p : X → Bool) (xs : List X) (y : X) → AllByRecursion P xs → find p xs ≡ Some y → P y
 All-find P p [] y all h = cc
@@ -47,10 +41,6 @@ pub All-push_end : {X : Type 0} (P : X → Type 0) (xs : List X) (y : X) → All
 All-push_end P [] y all h = (h, tt)
 All-push_end P (x ∷ xs) y all h = (all.0, All-push_end P xs y all.1 h)
 
-pub All-mapped : {X Y : Type 0} (P : Y → Type 0) (f : X → Y) (xs : List X) → AllByRecursion (λ x. P (f x)) xs → AllByRecursion P (map f xs)
-All-mapped P f [] all = all
-All-mapped P f (x ∷ xs) all = (all.0, All-mapped P f xs all.1)
-
 -- to remove at the first place that passes is to remove the first that passes
 pub position_removes : {X : Type 0} (p : X → Bool) (xs : List X) (i k : ℕ) → position_from p i xs ≡ Some k → (j : ℕ) × (k ≡ i + j) × (j < length xs) × (remove xs j ≡ remove_first p xs)
 position_removes p [] i k h = absurd cc
@@ -59,13 +49,6 @@ position_removes p (x ∷ xs) i k h =
       | true ↦ λ e. let same : i ≡ k = cc in (0, omega arith, omega arith, refl)
       | false ↦ λ e. let r = position_removes p xs (i + 1) k e in (suc r.0, omega (arith, r.1), omega (arith, r.2), ap (λ l. x ∷ l) r.3)
     ]) h
-
--- where there is no such place, none passes
-pub position_none : {X : Type 0} (p : X → Bool) (xs : List X) (i : ℕ) → position_from p i xs ≡ None → remove_first p xs ≡ xs
-position_none p [] i h = refl
-position_none p (x ∷ xs) i h =
-    (elim (p x) as (λ b. cond b (Some i) (position_from p (i + 1) xs) ≡ None → (if b then xs else x ∷ remove_first p xs) ≡ x ∷ xs)
-    [ true ↦ λ e. absurd cc | false ↦ λ e. ap (λ l. x ∷ l) (position_none p xs (i + 1) e) ]) h
 
 -- the first place that passes has the first that passes
 pub position_finds : {X : Type 0} (p : X → Bool) (xs : List X) (i k : ℕ) → position_from p i xs ≡ Some k → (j : ℕ) × (k ≡ i + j) × (j < length xs) × ((d : X) → find p xs ≡ Some (slice_index_or xs j d))

@@ -17,7 +17,7 @@ use Rattle.satl_line.specs.declared.entry.Entry.{Entry}
 use Rattle.satl_line.specs.Kinds.{kind_of}
 use Rattle.satl_mode.specs.Changes.{IsChangeOf}
 use Rattle.satl_line.specs.Tasks.{Adds, Held, change_task, entries_of, is_too_much, total_blocks, with_body}
-use Rattle.satl_line.proofs.SlotsLemmas.{All-append, total-append}
+use Rattle.satl_line.proofs.SlotsLemmas.{All-append}
 use Rattle.satl_direct.specs.Tasks.{asks, data_out, held_blocks, needed, pass_of, task_for, task_of}
 use Rattle.satl_core.specs.Layer.{CanTrim, IsCovered, IsKept, IsTask, Layer, entry_pages, held_pages}
 use Rattle.satl_base.specs.Limits.{IsExpectable}
@@ -31,13 +31,6 @@ use Rattle.satl_core.proofs.SelectLemmas.{change_same, taken_agrees}
 use Rattle.satl_core.proofs.Transfers.{of_task}
 use Rattle.satl_core.proofs.UnmapLemmas.{list_trims, range_trims, ranges_same}
 use Rattle.satl_core.proofs.HeldLemmas.{held-append, last_at, last_changed, length-push}
-
--- the blocks of all tasks with one more
-pub total_with : (old new : List Held) (entry : Entry) → Adds old entry new → total_blocks new ≡ total_blocks old + entry.blocks
-total_with old new entry a =
-    let both = total-append old (record { slot = a.slot; entry = entry } ∷ []) in
-    let same = ap total_blocks a.last in
-    omega (arith, both, same)
 
 pub count_with : (old new : List Held) (entry : Entry) → Adds old entry new → length new ≡ suc (length old)
 count_with old new entry a = ap length a.last ∙ length-push old (record { slot = a.slot; entry = entry })

@@ -266,15 +266,8 @@ agrees_settled l new d d' place outcome s same fit agrees =
 
 -- ---- the queue is used
 
--- where the unit does not work nothing is outstanding
-pub used_idle : (l : Layer) → works l ≡ false → l.flying ≡ [] → IsUsed l
-used_idle l off idle = subst (λ b. MatchBool b (IsFilled l.flying l.tasks) (l.flying ≡ [])) (sym off) idle
-
 pub used_filled : (l : Layer) → works l ≡ true → IsFilled l.flying l.tasks → IsUsed l
 used_filled l on filled = subst (λ b. MatchBool b (IsFilled l.flying l.tasks) (l.flying ≡ [])) (sym on) filled
-
-pub idle_unless_works : (l : Layer) → IsUsed l → MatchBool (works l) (Unit {0}) (l.flying ≡ [])
-idle_unless_works l used = (elim (works l) as (λ b. MatchBool b (IsFilled l.flying l.tasks) (l.flying ≡ []) → MatchBool b (Unit {0}) (l.flying ≡ [])) [ true ↦ λ u. tt | false ↦ λ u. u ]) used
 
 -- what is outstanding is so at a unit that works
 pub works_flying : (l : Layer) → IsUsed l → (l.flying ≡ [] → ⊥) → works l ≡ true

@@ -1,5 +1,5 @@
 -- What is counted: losses of the link, and tasks.
-use Rattle.std.proofs.Common.{◌≡◌, refl, sym, ap, subst, ◌∙◌, arith, ℕ, ◌+◌, ◌≤◌, Bool, true, false, List, [], ◌∷◌, length, map, cond}
+use Rattle.std.proofs.Common.{◌≡◌, refl, sym, ap, subst, ◌∙◌, arith, ℕ, ◌+◌, ◌≤◌, Bool, true, false, List, [], ◌∷◌, length, map}
 use Rattle.std.proofs.lemmas.List.{length-append, length-map}
 use Rattle.std.specs.Prelude.{if◌then◌else◌, not, MatchBool}
 use Rattle.satl_base.specs.declared.reply.Reply.{Reply}
@@ -8,7 +8,7 @@ use Rattle.satl_io.specs.Causes.{Rose, RoseBy}
 use Rattle.satl_io.proofs.Counting.{RoseBy-fewer, RoseBy-more, RoseBy-none}
 use Rattle.satl_cdb.specs.declared.command.Command.{Command}
 use Rattle.satl_line.specs.Tasks.{Held, entries_of, is_too_much}
-use Rattle.satl_direct.specs.Device.{Device, is_of}
+use Rattle.satl_direct.specs.Device.{Device}
 use Rattle.satl_direct.specs.Tasks.{task_for, task_of}
 use Rattle.satl_direct.specs.Run.{losses_of}
 use Rattle.satl_drive.specs.State.{DriveState}
@@ -16,10 +16,7 @@ use Rattle.satl_flight.specs.Settled.{Deepens}
 use Rattle.satl_flight.proofs.LaunchedLemmas.{deepens_on, deepens_same}
 use Rattle.satl_core.specs.Layer.{Layer, view}
 use Rattle.satl_core.specs.Refilling.{AreKept}
-use Rattle.satl_core.specs.Leaving.{left_by}
-use Rattle.satl_asks.specs.Requests.{is_for_unit}
-use Rattle.satl_core.specs.Submitting.{Becomes, IsAdded, IsRefused, attention_of, once_judged, overlaps, task_without_pages, untold}
-use Rattle.satl_core.proofs.LeavingLemmas.{left_fewer}
+use Rattle.satl_core.specs.Submitting.{Becomes, IsAdded, IsRefused, task_without_pages}
 
 -- ---- losses
 
@@ -113,14 +110,3 @@ becomes_more r c old replies new b =
       | true ↦ λ a. let same = ap (λ (l : Layer). length l.tasks) a.stays in (omega (arith, same), ap (λ (l : Layer). l.modes) a.stays)
       | false ↦ λ a. (added_more r c old replies new a, ap (λ (l : Layer). l.modes) a.stays)
     ]) b
-
--- judging a request adds no task
-pub judged_more : (l : Layer) (r : Request) → length (once_judged l r).tasks ≤ length l.tasks
-judged_more l r =
-    elim (is_for_unit r) as (λ b. length (cond (not b) l (cond (overlaps l.tasks r) (record l { tasks = left_by (is_of r.nexus) l.tasks }) (record l { attentions = untold (attention_of l.attentions r) r.nexus l.attentions }))).tasks ≤ length l.tasks) [
-      | false ↦ omega arith
-      | true ↦ (elim (overlaps l.tasks r) as (λ b. length (cond b (record l { tasks = left_by (is_of r.nexus) l.tasks }) (record l { attentions = untold (attention_of l.attentions r) r.nexus l.attentions })).tasks ≤ length l.tasks) [
-        | true ↦ left_fewer (is_of r.nexus) l.tasks
-        | false ↦ omega arith
-      ])
-    ]

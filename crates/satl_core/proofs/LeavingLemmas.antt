@@ -153,9 +153,6 @@ wait_next goes bare flying tasks place next entry out e at told none all =
     seen_one : (h : Held) → slice_get tasks place ≡ Some h → without_pages h.entry ≡ without_pages entry
     seen_one h stands = let same : Some (without_pages h.entry) ≡ Some (without_pages entry) = sym (ap (λ o. option_map without_pages (option_map (λ (k : Held). k.entry) o)) stands) ∙ at in cc
 
-pub all_wait : (goes : Entry → Bool) (flying : List Flying) (tasks : List Held) (place : ℕ) → length tasks ≤ place → WaitBefore goes flying place tasks → AreWaiting goes flying tasks
-all_wait goes flying tasks place whole all = subst (AreWaiting goes flying) (take_all place tasks whole) all
-
 -- where a task is outstanding something is
 pub some_held : (flying : List Flying) (slot : ℕ) → holds flying slot ≡ true → flying ≢ []
 some_held [] slot held = absurd cc

@@ -1,6 +1,6 @@
 -- What a task management function does to the layer is what it does to the device.
 use Rattle.std.proofs.Common.{◌≡◌, refl, sym, ap, subst, ◌∙◌, arith, cond, ℕ, zero, suc, ◌+◌, ◌≤◌, Bool, true, false, List, [], ◌∷◌, length, map, Option, Some, None}
-use Rattle.std.specs.Prelude.{if◌then◌else◌, not, ◌&&◌, ◌==◌, filter, slice_index_or, slice_set}
+use Rattle.std.specs.Prelude.{if◌then◌else◌, not, ◌&&◌, ◌==◌, filter}
 use Rattle.std.specs.List.{list_any}
 use Rattle.satl_base.specs.declared.request.Manage.{Manage}
 use Rattle.satl_base.specs.declared.reply.Reply.{Reply}
@@ -46,24 +46,6 @@ abbrev pub rest_posted : (ℕ → Bool) → Attention → ℕ → ℕ → List (
 rest_posted for what zero nexus lists = posted_for for what nexus lists
 rest_posted for what (suc place) nexus [] = []
 rest_posted for what (suc place) nexus (conditions ∷ lists) = conditions ∷ rest_posted for what place (nexus + 1) lists
-
--- those of one more are posted
-rest_step : (for : ℕ → Bool) (what : Attention) (place nexus number : ℕ) (lists : List (List Attention)) → number ≡ nexus + place
-    → rest_posted for what (suc place) nexus (if for number then slice_set lists place (posted what (slice_index_or lists place [])) else lists) ≡ rest_posted for what place nexus lists
-rest_step for what zero nexus number [] e = elim (for number) as (λ b. rest_posted for what 1 nexus (cond b (slice_set [] 0 (posted what [])) []) ≡ []) [ true ↦ refl | false ↦ refl ]
-rest_step for what zero nexus number (conditions ∷ lists) e =
-    let same : nexus ≡ number = omega (arith, e) in
-    rw same (elim (for number) as (λ b. rest_posted for what 1 number (cond b (posted what conditions ∷ lists) (conditions ∷ lists)) ≡ cond b (posted what conditions) conditions ∷ posted_for for what (number + 1) lists) [ true ↦ refl | false ↦ refl ])
-rest_step for what (suc place) nexus number [] e = elim (for number) as (λ b. rest_posted for what (suc (suc place)) nexus (cond b (slice_set [] (suc place) (posted what [])) []) ≡ []) [ true ↦ refl | false ↦ refl ]
-rest_step for what (suc place) nexus number (conditions ∷ lists) e = pushed (for number) ∙ ap (λ l. conditions ∷ l) (rest_step for what place (nexus + 1) number lists (omega (arith, e)))
-  where
-    pushed : (b : Bool) → rest_posted for what (suc (suc place)) nexus (cond b (slice_set (conditions ∷ lists) (suc place) (posted what (slice_index_or lists place []))) (conditions ∷ lists)) ≡ conditions ∷ rest_posted for what (suc place) (nexus + 1) (cond b (slice_set lists place (posted what (slice_index_or lists place []))) lists)
-    pushed true = refl
-    pushed false = refl
-
-pub rest_next : (for : ℕ → Bool) (what : Attention) (number : ℕ) (lists : List (List Attention))
-    → rest_posted for what (suc number) 0 (if for number then slice_set lists number (posted what (slice_index_or lists number [])) else lists) ≡ rest_posted for what number 0 lists
-rest_next for what number lists = rest_step for what number 0 number lists (omega arith)
 
 -- all are posted
 pub rest_none : (for : ℕ → Bool) (what : Attention) (place nexus : ℕ) (lists : List (List Attention)) → length lists ≤ place → rest_posted for what place nexus lists ≡ lists

@@ -49,12 +49,6 @@ ended_writable entry ending descriptor few expected =
     let most = data_few ending entry.command entry.body in
     record { holds = omega arith; short = omega (arith, most, few); expected = expected }
 
-pub kept_few : (identity : Identity) (tasks : List Held) → AllByRecursion (IsKept identity) tasks → AllByRecursion (λ h. length h.entry.body ≤ 4096) tasks
-kept_few identity [] all = tt
-kept_few identity (h ∷ tasks) all =
-    let few = task_few identity.capacity h.entry.blocks identity.queued_trim h.entry.command all.0.task in
-    (omega (arith, all.0.pages, few), kept_few identity tasks all.1)
-
 -- a reply that was pushed and those behind it can be written
 all_writable : (given pushed all more : List Reply) (r : Reply) → given ≡ [] → pushed ≡ given ++ r ∷ [] → all ≡ pushed ++ more → IsWritable r → AllByRecursion IsWritable more → AllByRecursion IsWritable all
 all_writable given pushed all more r none push is one rest = rw (is, push, none) (one, rest)

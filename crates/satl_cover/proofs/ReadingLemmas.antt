@@ -8,12 +8,11 @@ use Rattle.satl_frame.specs.declared.frames.Frame.TheVariants as frames
 use Rattle.satl_frame.specs.declared.frames.Place.{Place}
 use Rattle.satl_frame.specs.declared.frames.Reason.TheVariants.{TooLong}
 use Rattle.satl_frame.specs.declared.frames.Version.{Version}
-use Rattle.satl_frame.specs.Frames.{spelled}
 use Rattle.satl_frame.specs.Inputs.{NoneEnds, Reads, all_spelled}
 use Rattle.satl_frame.specs.Magic.{magic}
 use Rattle.satl_frame.specs.Progress.{HasRead, ReadUpTo}
 use Rattle.satl_frame.specs.Pulls.{cut_to}
-use Rattle.satl_frame.specs.Reading.{Gave, Reading, opening}
+use Rattle.satl_frame.specs.Reading.{Reading}
 use Rattle.satl_frame.proofs.ProgressLemmas.{has_read_all}
 use Rattle.satl_frame.proofs.Refusals.{length-magic}
 use Rattle.satl_cover.specs.Covered.{IsBadInput, limit, place_behind}
@@ -31,12 +30,6 @@ next_place r input left given read = by_place r.limit r.newest r.place read
     by_place limit newest None (nothing, same) = omega (arith, ap length (same_Some left input same), ap (λ (fs : List Frame). length (all_spelled fs)) nothing)
     by_place limit newest (Some p) read =
         omega (arith, ap length read.took.known, length-append (magic p.version ++ all_spelled given) left, length-append (magic p.version) (all_spelled given), length-magic p.version)
-
--- a frame more leaves less
-pub less_left : {old new : Reading} {room : ℕ} {frame : Frame} (left left' : List ℕ) → Gave old room frame new (Some left) (Some left') → length left' < length left
-less_left {old} left left' gave =
-    let some : 0 < length (spelled gave.whole) = omega arith in
-    omega (arith, ap length gave.took.known, length-append (opening old.place gave.place.version ++ spelled gave.whole) left', length-append (opening old.place gave.place.version) (spelled gave.whole), some)
 
 -- a whole input was read
 pub read_whole : (trim : Bool) (r : Reading) (input left : List ℕ) (given : List Frame) (names : BTreeSet ℕ) (o : Option ℕ) → r.limit ≡ limit → HasRead r (Some input) (Some left) (given ++ frames.End ∷ []) →

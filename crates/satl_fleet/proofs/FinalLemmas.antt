@@ -36,18 +36,8 @@ module _ (limit : ℕ) (before after : FleetMoment) (read : after.source.left �
   not_opened faults.Write stops = absurd stops
   not_opened faults.NoMemory stops = not_served
 
-pub not_opened_cause : (before after : FleetMoment) (fault : FleetFault) → StopsOpening before.drives after.drives fault → HasFleetCause before after fault
-not_opened_cause before after (faults.Open fault) stops = stops
-not_opened_cause before after (faults.BadInput reason offset) stops = absurd stops
-not_opened_cause before after faults.Read stops = absurd stops
-not_opened_cause before after faults.Write stops = absurd stops
-not_opened_cause before after faults.NoMemory stops = tt
-
 pub no_memory : (limit : ℕ) (a : FleetMoment) (fault : FleetFault) → fault ≡ faults.NoMemory → IsFleetStopped limit a a fault
 no_memory limit a fault is = subst (IsFleetStopped limit a a) (sym is) (record { read = refl; wrote = refl; alone = all_same a.drives; few_calls = omega arith })
-
-pub no_memory_cause : (a : FleetMoment) (fault : FleetFault) → fault ≡ faults.NoMemory → HasFleetCause a a fault
-no_memory_cause a fault is = subst (HasFleetCause a a) (sym is) tt
 
 -- ---- all units were opened
 

@@ -1,5 +1,5 @@
 -- The list of LUNs.
-use Rattle.std.proofs.Common.{◌≡◌, append_assoc, refl, sym, ap, subst, false, ◌∙◌, arith, ℕ, zero, suc, ◌+◌, ◌*◌, List, [], ◌∷◌, ◌++◌, length}
+use Rattle.std.proofs.Common.{◌≡◌, append_assoc, sym, ap, subst, false, ◌∙◌, arith, ℕ, zero, suc, ◌+◌, ◌*◌, List, [], ◌∷◌, ◌++◌}
 use Rattle.std.proofs.lemmas.List.{append-nil}
 use Rattle.std.specs.Prelude.{Option}
 use Rattle.satl_base.specs.declared.reply.Reply.{Reply}
@@ -15,10 +15,6 @@ pub luns_push : (k n : ℕ) → luns_from k (suc n) ≡ luns_from k n ++ lun_of 
 luns_push k zero = append-nil (lun_of k) ∙ ap lun_of (omega arith)
 luns_push k (suc n) =
     ap (λ l. lun_of k ++ l) (luns_push (suc k) n ∙ ap (λ m. luns_from (suc k) n ++ lun_of m) (omega arith))
-
-pub length_luns : (k n : ℕ) → length (luns_from k n) ≡ 8 * n
-length_luns k zero = refl
-length_luns k (suc n) = let others = length_luns (suc k) n in omega (arith, others)
 
 -- the list behind its header, one LUN further
 pub luns_more : (header : List ℕ) (k : ℕ) (luns new : List ℕ) → luns ≡ header ++ luns_from 0 k → new ≡ luns ++ lun_of k → new ≡ header ++ luns_from 0 (k + 1)

@@ -13,10 +13,6 @@ use Rattle.satl_pages.specs.Slots.{pages_at}
 use Rattle.satl_flight.specs.declared.flight.Flying.{Flying}
 use Rattle.satl_flight.specs.Lending.{AreAlike, IsLending, IsLent, is_of_slot, lent, whole_tasks}
 
-pub alike_same : (tasks : List Held) → AreAlike tasks tasks
-alike_same [] = tt
-alike_same (h ∷ hs) = (record { size = refl; stays = refl }, alike_same hs)
-
 -- each slot has as many pages as before
 abbrev pub HaveRoom : Slots → Slots → Type 0
 HaveRoom slots taken = map (option_map length) taken ≡ map (option_map length) slots

@@ -8,11 +8,10 @@ use Rattle.satl_base.specs.Fields.{bytes}
 use Rattle.satl_base.specs.declared.request.Request.{Request}
 use Rattle.satl_base.specs.declared.request.Attr.{Attr}
 use Rattle.satl_base.specs.declared.request.Attr.TheVariants.{Simple, Ordered}
-use Rattle.satl_base.specs.declared.bench.Which.{Which}
 use Rattle.satl_base.specs.declared.bench.Which.TheVariants.{Read, Write}
 use Rattle.satl_base.specs.declared.bench.BenchEvent.{BenchEvent}
 use Rattle.satl_base.specs.declared.bench.BenchEvent.TheVariants.{Strike, Mend, Glitch, Order, Power, Unplug}
-use Rattle.satl_frame.specs.Frames.{head_size, frame_rows, has_code, allows, attr_code, which_code, expected_field, request_fields, data_out, manage_fields, event_fields, kind, payload_bytes, HasExpected, HasFields, IsFrame, IsEvent}
+use Rattle.satl_frame.specs.Frames.{head_size, frame_rows, has_code, allows, attr_code, expected_field, request_fields, data_out, manage_fields, event_fields, kind, payload_bytes, HasExpected, HasFields, IsFrame, IsEvent}
 use Rattle.satl_frame.specs.Faults.{has_bad_field, has_bad_request, has_bad_event}
 use Rattle.satl_frame.specs.declared.frames.Version.{Version}
 use Rattle.satl_frame.specs.declared.frames.Version.TheVariants.{One, Two}
@@ -63,10 +62,6 @@ request_good Two r rest fields = by_expected r.expected refl fields.expected
     by_expected (Some count) is has =
         let told : bytes 30 33 (request_fields r ++ rest) ≡ count = expected_stands r Two count rest fields is (omega arith) in
         rw (le-ltb 3 r.nexus fields.nexus, attr_good r.attr) (ap (λ (n : ℕ). nat_lt 2097152 n) told ∙ le-ltb 2097152 count has)
-
-which_good : (w : Which) → ((which_code w == 1) || (which_code w == 2)) ≡ true
-which_good Read = refl
-which_good Write = refl
 
 -- an event has its length and no bad field
 event_good : (e : BenchEvent) → IsEvent e → has_bad_event (event_fields e) ≡ false

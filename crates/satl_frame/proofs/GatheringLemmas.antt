@@ -16,14 +16,6 @@ use Rattle.satl_frame.specs.Output.{framed, sent_len, sent_data, reply_kind, rep
 pub gathers_nothing : (a : Option (List ℕ)) (g : List ℕ) → Gathers a a g g []
 gathers_nothing a g = record { gone = []; wrote = Wrote-none a; split = sym (append-nil g) }
 
--- the bytes fit
-pub gathers_fitting : (a : Option (List ℕ)) (g g' bytes : List ℕ) → g' ≡ g ++ bytes → Gathers a a g g' bytes
-gathers_fitting a g g' bytes is = record { gone = []; wrote = Wrote-none a; split = is }
-
--- what was gathered is written first
-pub gathers_behind : (a b : Option (List ℕ)) (g g' bytes : List ℕ) → Wrote a b g → g' ≡ bytes → Gathers a b g g' bytes
-gathers_behind a b g g' bytes wrote is = record { gone = g; wrote = wrote; split = ap (λ xs. g ++ xs) is }
-
 -- bytes after bytes
 pub Gathers-more : {a b c : Option (List ℕ)} {g g' g'' xs ys : List ℕ} → Gathers a b g g' xs → Gathers b c g' g'' ys → Gathers a c g g'' (xs ++ ys)
 Gathers-more {a} {b} {c} {g} {g'} {g''} {xs} {ys} p q = record {

@@ -15,7 +15,7 @@ use Rattle.satl_base.specs.declared.bench.BenchEvent.{BenchEvent}
 use Rattle.satl_base.specs.declared.bench.BenchEvent.TheVariants.{Strike, Mend, Glitch, Order, Power, Unplug}
 use Rattle.satl_base.proofs.FieldsLemmas.{back_2, back_8, back_4}
 use Rattle.satl_frame.specs.DataPages.{pages_of}
-use Rattle.satl_frame.specs.Frames.{head_size, attr_code, which_code, expected_in, expected_field, request_fields, data_out, manage_fields, event_fields, kind, payload_bytes, spelled, HasExpected, HasFields, IsRequest, IsManage, IsFrame, IsEvent}
+use Rattle.satl_frame.specs.Frames.{head_size, attr_code, expected_in, expected_field, request_fields, data_out, manage_fields, event_fields, kind, payload_bytes, spelled, HasExpected, HasFields, IsRequest, IsManage, IsFrame, IsEvent}
 use Rattle.satl_frame.specs.Faults.{told_length}
 use Rattle.satl_frame.specs.Magic.{magic}
 use Rattle.satl_frame.specs.Inputs.{all_spelled, AreFrames, Reads}
@@ -36,10 +36,6 @@ attr_again Ordered = refl
 
 abbrev which_from : ℕ → Which
 which_from n = if n == 1 then Read else Write
-
-which_again : (w : Which) → which_from (which_code w) ≡ w
-which_again Read = refl
-which_again Write = refl
 
 abbrev request_from : ℕ → Attr → List ℕ → ℕ → List ℕ → List Block → ℕ → Option ℕ → Request
 request_from nexus attr lun tag cdb body data_len expected =

@@ -1,20 +1,9 @@
 -- Reads that fail before all was taken.
 use Rattle.std.proofs.Common.{◌≡◌, ℕ, ◌+◌, ◌<◌, ◌≤◌, List, ◌++◌, length, take, Option, Some, None, ◌∙◌, ap, sym, subst, arith}
-use Rattle.std.proofs.lemmas.List.{length-take-le, take_at}
 use Rattle.std.proofs.Math.Seq.{take-append-add}
-use Rattle.std.specs.Io.KnownBytes.{Keeps}
 use Rattle.satl_io.specs.Known.{Took}
 use Rattle.satl_io.proofs.Joined.{Took-more}
 use Rattle.satl_frame.specs.Pulls.{FewerThan}
-
--- in the midst of a buffer
-pub fewer_in_buffer : (a b c : Option (List ℕ)) (buf : List ℕ) (at n : ℕ) → Took a b (take at buf) → at ≤ length buf → at < n → Keeps b c → FewerThan a c (λ _. n)
-fewer_in_buffer None b c buf at n took within less keeps = record { known = tt }
-fewer_in_buffer (Some input) None c buf at n took within less keeps = absurd took.known
-fewer_in_buffer (Some input) (Some rest) None buf at n took within less keeps = absurd keeps
-fewer_in_buffer (Some input) (Some rest) (Some rest') buf at n took within less keeps =
-    let front : take at input ≡ take at buf = ap (λ (xs : List ℕ). take at xs) took.known ∙ take_at (take at buf) rest at (length-take-le at buf within) in
-    record { known = (at, less, record { known = took.known ∙ ap (λ (xs : List ℕ). xs ++ rest) (sym front) ∙ ap (λ (r : List ℕ). take at input ++ r) (sym keeps) }) }
 
 -- after bytes that were taken
 pub fewer_after : {a b c : Option (List ℕ)} {taken : List ℕ} {n : List ℕ → ℕ} (total : List ℕ → ℕ) → Took a b taken →

@@ -1,17 +1,14 @@
 -- What the end of a ranged task leaves of the cells.
-use Rattle.std.proofs.Common.{◌≡◌, sym, subst, ℕ, Bool, List, ◌++◌, map, length}
+use Rattle.std.proofs.Common.{◌≡◌, sym, subst, ℕ, Bool, List, ◌++◌, length}
 use Rattle.std.specs.List.{AllByRecursion}
-use Rattle.satl_base.specs.declared.bench.Which.TheVariants.{Write}
-use Rattle.satl_base.specs.Cells.{Cell, Pair, AreSound, has_flaw}
+use Rattle.satl_base.specs.Cells.{Cell, Pair, AreSound}
 use Rattle.satl_base.specs.Moves.{Moves}
 use Rattle.satl_base.proofs.ListsLemmas.{All-in}
-use Rattle.satl_base.proofs.CellsLemmas.{part_whole, part-length, part-sound, part-write_flaws}
+use Rattle.satl_base.proofs.CellsLemmas.{part_whole, part-length, part-sound}
 use Rattle.satl_base.proofs.MovesLemmas.{moves_of_part}
 use Rattle.satl_base.specs.Cells.{Part}
 use Rattle.satl_line.specs.declared.entry.Entry.{Entry}
-use Rattle.satl_line.specs.Conflict.{conflicts}
 use Rattle.satl_line.specs.Eligible.{IsEligible}
-use Rattle.satl_line.proofs.EligibleLemmas.{eligible_come}
 use Rattle.satl_line.specs.Ranged.{MayPut, RangedTask, written_pairs, ranged_of}
 use Rattle.satl_line.specs.Ending.{EndsAs, Outcome}
 use Rattle.satl_line.specs.Ending.Outcome.{ends_done, ends_flawed, ends_glitched}
@@ -31,10 +28,6 @@ ends_by_moves P cache_on task outcome old glitches new left may e = moves_of_par
 pub may_put : (cache_on : Bool) (tasks : List Entry) (task : Entry) (ranged : RangedTask) → IsEligible tasks task → ranged_of task ≡ Some ranged → AllByRecursion (MayPut cache_on tasks) (written_pairs cache_on ranged)
 may_put cache_on tasks task ranged e is = All-in (MayPut cache_on tasks) (written_pairs cache_on ranged) (λ pair among. record { task = task; eligible = e; ranged = ranged; of_task = is; among = among })
 
--- and more may be put as others arrive
-pub may_put_come : (cache_on : Bool) (tasks more : List Entry) (pair : Pair) → MayPut cache_on tasks pair → MayPut cache_on (tasks ++ more) pair
-may_put_come cache_on tasks more pair m = record { task = m.task; eligible = eligible_come conflicts tasks more m.task m.eligible; ranged = m.ranged; of_task = m.of_task; among = m.among }
-
 -- no cell comes or goes
 pub ends-length : (cache_on : Bool) (task : RangedTask) (outcome : Outcome) (old : List Cell) (glitches : ℕ) (new : List Cell) (left : ℕ) → EndsAs cache_on task outcome old glitches new left → length new ≡ length old
 ends-length cache_on task outcome old glitches new left e = part-length old new (written_pairs cache_on task) (ends_in_part cache_on task outcome old glitches new left e)
@@ -42,7 +35,3 @@ ends-length cache_on task outcome old glitches new left e = part-length old new 
 -- sound cells stay sound
 pub ends-sound : (cache_on : Bool) (task : RangedTask) (outcome : Outcome) (old : List Cell) (glitches : ℕ) (new : List Cell) (left : ℕ) → AreSound old → EndsAs cache_on task outcome old glitches new left → AreSound new
 ends-sound cache_on task outcome old glitches new left sound e = part-sound old new (written_pairs cache_on task) sound (ends_in_part cache_on task outcome old glitches new left e)
-
--- write flaws stay
-pub ends-write_flaws : (cache_on : Bool) (task : RangedTask) (outcome : Outcome) (old : List Cell) (glitches : ℕ) (new : List Cell) (left : ℕ) → EndsAs cache_on task outcome old glitches new left → map (has_flaw Write) new ≡ map (has_flaw Write) old
-ends-write_flaws cache_on task outcome old glitches new left e = part-write_flaws old new (written_pairs cache_on task) (ends_in_part cache_on task outcome old glitches new left e)

@@ -97,8 +97,5 @@ module _ (n : ℕ) (small : n ≤ longest_part) where
           ∙ append_assoc record_magic (big_bytes 8 n) (input ++ output)
           ∙ ap (λ k. record_magic ++ (big_bytes 8 k ++ (input ++ output))) (sym size)
 
-pub no_input : (n : ℕ) → n ≤ longest_part → {a b c : Option (List ℕ)} (input : List ℕ) → Took a b (record_magic ++ big_bytes 8 n) → Took b c input → length input < n → IsAtEnd c → IsNoRecord a
-no_input n small {a} {b} {c} input first second less ends = no_input_by n small a b c input first second less ends
-
 pub no_output : (n : ℕ) → n ≤ longest_part → {a b c d : Option (List ℕ)} (input output : List ℕ) → Took a b (record_magic ++ big_bytes 8 n) → Took b c input → Took c d output → length input ≡ n → longest_part < length output → IsNoRecord a
 no_output n small {a} {b} {c} {d} input output first second third size long = no_output_by n small a b c d input output first second third size long

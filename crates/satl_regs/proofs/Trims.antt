@@ -51,10 +51,6 @@ put_next xs at w len room =
     sym (drop-drop 8 at (block_of xs)) ∙ ap (drop 8) (drop_at xs (zeros (512 - length xs)) at len) ∙ drop-replicate 8 (512 - length xs) 0 ∙ ap (λ (n : ℕ). zeros n) (omega (arith, len, len')) in
     rw (t, d) (sym (append_assoc xs (little_bytes 8 w) (zeros (512 - length (xs ++ little_bytes 8 w)))))
 
-payload-append : (es fs : List Range) → payload (es ++ fs) ≡ payload es ++ payload fs
-payload-append [] fs = refl
-payload-append (e ∷ es) fs = ap (λ (x : List ℕ). little_bytes 8 (entry_number e) ++ x) (payload-append es fs)
-
 -- ---- what is put is read
 
 words_zero : (n : ℕ) → numbers n (zeros (8 * n)) ≡ zeros n

@@ -37,11 +37,6 @@ pub piece_counted : (front bytes : List ℕ) (n left count : ℕ) → length byt
 piece_counted front bytes n left count size some few before =
     omega (arith, length-append front (take count bytes), length-take-le count bytes (omega arith))
 
--- some digits
-pub some_digits : {a b : Option (List ℕ)} {g g' : List ℕ} (bytes : List ℕ) (n : ℕ) → length bytes ≡ n → 0 < n → Gathers a b g g' (encode_lower bytes) → Gathers a b g g' (hex_bytes bytes)
-some_digits [] n size some p = absurd (omega arith)
-some_digits (x ∷ bytes) n size some p = p
-
 -- a failure at digits
 pub digits_part : {a b : Option (List ℕ)} (g bytes : List ℕ) → WrotePart a b (g ++ encode_lower bytes) → WrotePart a b (g ++ hex_bytes bytes)
 digits_part g [] part =

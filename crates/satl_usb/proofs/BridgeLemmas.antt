@@ -19,12 +19,10 @@ use Rattle.satl_usb.specs.Answering.{Answered, AnsweredInPart, desk, request_tak
 use Rattle.satl_usb.specs.Bridge.{Bridged, BridgedInPart, BridgedWhole, HasTaken}
 use Rattle.satl_usb.specs.Exchanges.{Exchange, is_told_kept, request_of}
 use Rattle.satl_usb.specs.Exchanges.Exchange.{start, asked, sent}
-use Rattle.satl_usb.specs.Headline.{RanTo, stop_at}
-use Rattle.satl_usb.specs.Items.{AreItems, IsCutOff, IsItem, Item, all_spelled, sent_length, spelled}
-use Rattle.satl_usb.specs.Reading.{ItemMissed, TookItem, WasAtEnd}
+use Rattle.satl_usb.specs.Items.{AreItems, IsItem, Item, all_spelled, sent_length, spelled}
+use Rattle.satl_usb.specs.Reading.{TookItem, WasAtEnd}
 use Rattle.satl_usb.specs.Serving.{BothCarried}
 use Rattle.satl_usb.specs.Wire.{kept_of, kept_on_wire, reply_on_wire}
-use Rattle.satl_usb.specs.declared.items.ItemFault.{ItemFault}
 use Rattle.satl_usb.specs.declared.items.ItemFault.TheVariants as missed
 use Rattle.satl_usb.specs.declared.items.Taken.{Taken}
 
@@ -191,8 +189,3 @@ bridged_whole limit offset a b left kept deep g e = record {
   wrote = g.wrote;
   deep = g.bridged.run.covered deep;
 }
-
--- where no item was read
-pub no_item : (limit offset : ℕ) (a b : Spot) (left : Option (List ℕ)) (kept : Option (ArrayVec ℕ)) (fault : ItemFault) → Going limit a b kept offset → ItemMissed limit offset b.left left fault → RanTo limit a (record b { left = left }) (stop_at offset fault)
-no_item limit offset a b left kept missed.Bad g (refused, front) = record { items = g.items; wire = g.wire; kept = kept; mid = b.left; bridged = g.bridged; offset_is = g.at; refused = refused; front = front; wrote = g.wrote }
-no_item limit offset a b left kept missed.Failed g cut = record { items = g.items; wire = g.wire; kept = kept; mid = b.left; bridged = g.bridged; cut_off = subst (λ n. IsCutOff limit n b.left left) g.at cut; wrote = g.wrote }

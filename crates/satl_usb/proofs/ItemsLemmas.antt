@@ -94,11 +94,6 @@ cut_body limit offset (Some bytes) (Some behind) left' command t fewer =
     let few = fewer.known.1 in
     (length t.head + fewer.known.0, front_more (Some bytes) (Some behind) left' bytes t.head behind fewer.known.0 refl is t.took fewer.known.2, λ s. let size = same_length limit offset bytes t.head behind t.size is command t.says s in let long = t.size in omega (arith, size, few, long))
 
--- a read failed within a wrapper
-pub cut_head : (limit offset : ℕ) (left left' : Option (List ℕ)) → FewerThan left left' (λ _. 31) → IsCutOff limit offset left left'
-cut_head limit offset None left' fewer = tt
-cut_head limit offset (Some bytes) left' fewer = (fewer.known.0, fewer.known.2, λ s. let size = spelled_length limit offset bytes s in let few = fewer.known.1 in omega (arith, size, few))
-
 -- a wrapper was taken, and the data that it tells
 pub took_item : (limit offset room : ℕ) (left mid left' : Option (List ℕ)) (command : Cbw) (body : List Block) → TookHead left mid command → TookPages mid left' (sent_length command) room body → offset ≤ limit → 31 + sent_length command ≤ limit - offset → TookItem limit offset room left left' (record { command = command; body = body })
 took_item limit offset room left mid left' command body t pages near fits = record {
