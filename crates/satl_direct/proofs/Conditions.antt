@@ -2,8 +2,9 @@
 use Rattle.std.proofs.Common.{◌≡◌, List, length}
 use Rattle.std.specs.List.{AllByRecursion}
 use Rattle.satl_unit.specs.declared.attention.Attention.{Attention}
+use Rattle.satl_unit.specs.Conditions.{IsInReportOrder}
 use Rattle.satl_direct.specs.Device.{Device}
-use Rattle.satl_direct.specs.Valid.{IsInReportOrder, IsValid}
+use Rattle.satl_direct.specs.Valid.{IsValid}
 
 -- a valid device is so too with others for its four nexuses, each in order of report
 pub valid_attended : (s : Device) (lists : List (List Attention)) → length lists ≡ 4 → AllByRecursion IsInReportOrder lists → IsValid s → IsValid (record s { attentions = lists })
