@@ -56,7 +56,7 @@ module _ (first : List Cell) (ds : List Deed) (s new : Device) (now : List Answe
 
   not_lost_arrival : (r : Request) (replies : List Reply) (u v : Device) → is_known (says r.cdb s.identity.trim) ≡ true → now ≡ map replied replies → Quiet s u → MayLose (Arrives r) u replies v → Quiet v new → new.down ≡ false → EventSplit first ds (frames.Request r) s now new
   not_lost_arrival r replies u v k is q (MayLose.keeps m) q' up = arrived r replies u v k is q m q'
-  not_lost_arrival r _ u v k is q (MayLose.loses m q'' l) q' up = absurd (both_ways _ up (quiet_down v new q' (ap (λ (d : Device). d.down) l.stays)))
+  not_lost_arrival r _ u v k is q (MayLose.keeps_and_loses m q'' l) q' up = absurd (both_ways _ up (quiet_down v new q' (ap (λ (d : Device). d.down) l.stays)))
 
   -- a loss of power
   power_split : (replies : List Reply) → now ≡ map replied replies → Around (Happens events.Power) s replies new → EventSplit first ds (frames.Bench events.Power) s now new
