@@ -4,6 +4,7 @@
 
 mod bench;
 mod block;
+mod bytes;
 mod chain;
 pub mod laws;
 mod lender;
@@ -16,6 +17,7 @@ mod steps;
 
 pub use bench::{BenchEvent, OrderBytes, Which};
 pub use block::{Block, Range};
+pub use bytes::{append, checksum_of};
 pub use lender::Lender;
 pub use limits::{LONGEST_DATA, MOST_COVERED, MOST_HELD, MOST_MOVED, MOST_RANGES, MOST_TASKS};
 pub use modes::{ModeChange, Modes};

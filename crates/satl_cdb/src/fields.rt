@@ -30,6 +30,7 @@ pub fn u64_at(cdb: &[u8; 16], at: usize) -> u64
     BigEndian::read_u64(&cdb[at..])
 }
 
+/// Whether a bit is 1: bit 0 to 7 of a byte of the CDB (SPC-4 4.2).
 pub fn flag(cdb: &[u8; 16], place: usize, low: u8) -> bool
     requires place { place < 16 }
     requires low { low < 8 }

@@ -13,6 +13,7 @@ mod unmap;
 mod writing;
 
 pub use command::{Command, Form, Illegal};
+pub use fields::flag;
 pub use reading::read_cdb;
 pub use unmap::read_unmap_list;
 pub use writing::write_cdb;

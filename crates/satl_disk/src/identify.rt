@@ -4,7 +4,7 @@ ghost use Rattle.satl_base.specs.Identify.{has_cache, has_look, trim_blocks};
 ghost use Rattle.satl_identify.specs.Data.{with_settings};
 ghost use Rattle.satl_disk.specs.Data.{fixed_words, identify_data, integrity_kept, retold, set_word, set_words};
 
-use satl_identify::{bit_at, mend, settings_of, word_at};
+use satl_identify::{balance, bit_at, settings_of, word_at};
 
 /// A word of IDENTIFY DEVICE data: its place from 0 to 255, and its value.
 type Word = (u8, u16);
@@ -109,7 +109,7 @@ pub fn keep_integrity(data_bytes: &mut [u8; 512], place: u8)
     ensures { data_bytes.new ≡ integrity_kept place data_bytes.old }
 {
     if place != 255 {
-        mend(data_bytes);
+        balance(data_bytes);
     }
 }
 
@@ -153,7 +153,7 @@ pub fn identify_bytes(sectors: u32) -> [u8; 512]
         &mut data_bytes,
         &[(60, low), (61, high), (100, low), (101, high)],
     );
-    mend(&mut data_bytes);
+    balance(&mut data_bytes);
     data_bytes
 }
 

@@ -6,22 +6,10 @@ ghost use Rattle.satl_base.specs.Places.{laid};
 ghost use Rattle.satl_errlog.specs.Log.{entry_in, fields, is_not_queued, log_of, log_says, without_checksum};
 
 use crate::entry::{LogFault, NcqError};
-use satl_base::Block;
+use satl_base::{Block, checksum_of};
 
 // The place of the byte that makes the sum of all bytes 0.
 const CHECKSUM: usize = 511;
-
-// The sum of all bytes modulo 256.
-#[tactic(auto, unfolding(satl_base::specs::Identify::checksum))]
-fn checksum_of(bytes: &[u8; 512]) -> u8
-    ensures { result ≡ checksum bytes.now }
-{
-    let mut sum = 0u8;
-    for byte in bytes {
-        sum = sum.wrapping_add(*byte);
-    }
-    sum
-}
 
 fn low_first(count: u16) -> [u8; 2]
     ensures bytes { result ≡ byte_at 0 count ∷ byte_at 1 count ∷ [] }

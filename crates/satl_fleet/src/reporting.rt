@@ -1,11 +1,10 @@
 // What a target answers itself: REPORT LUNS.
-ghost use Rattle.std.specs.Prelude.{◌≡◌, ◌≤◌, ◌+◌, ◌++◌, ◌∷◌, [], OnErr, OnOk, length};
+ghost use Rattle.std.specs.Prelude.{◌≡◌, ◌≤◌, ◌+◌, ◌∷◌, [], OnErr, OnOk, length};
 ghost use Rattle.satl_base.specs.declared.reply.Scsi.TheVariants.{CheckCondition};
 ghost use Rattle.satl_cdb.specs.Refusals.{invalid_field};
 ghost use Rattle.satl_sense.specs.Fixed.{fixed_form};
 ghost use Rattle.satl_direct.specs.Arrival.{reply_to};
 ghost use Rattle.satl_direct.specs.Senses.{refusal};
-ghost use Rattle.satl_frame.specs.DataPages.{padded_block};
 ghost use Rattle.satl_frame.specs.Output.{IsWritable};
 ghost use Rattle.satl_frame.specs.Output.Answer.{replied};
 ghost use Rattle.satl_base.specs.Limits.{IsExpectable};
@@ -18,25 +17,17 @@ ghost use Rattle.satl_pages.specs.Counts.{number_of};
 use crate::telling::UnitTeller;
 use arrayvec::ArrayVec;
 use byteorder::{BigEndian, ByteOrder};
-use satl_base::{Block, Pages, Reply, Request, Scsi};
+use satl_base::{Pages, Reply, Request, Scsi, append};
 use satl_frame::WriteFault;
 use satl_io::Sink;
 use satl_pages::Pool;
 use satl_sense::{Extra, Sense, sense_bytes};
 use satl_step::Teller;
+use satl_telling::padded;
 use std::mem;
 
 /// The list of the LUNs of four units.
 type Luns = ArrayVec<u8, 40>;
-
-fn append(luns: &mut Luns, bytes: &[u8])
-    requires { length luns.old.items + length bytes.now ≤ 40 }
-    ensures { luns.new.items ≡ luns.old.items ++ bytes.now }
-{
-    let Ok(()) = luns.try_extend_from_slice(bytes) else {
-        unreachable!();
-    };
-}
 
 /// The LUNs of at most four units, behind the number of their bytes (SPC-4 6.33).
 fn all_luns(units: u8) -> Luns
@@ -62,16 +53,6 @@ fn lun_list(units: u8, select: u8) -> Luns
     let mut none = Luns::new();
     append(&mut none, &[0; 8]);
     none
-}
-
-/// The first 512 bytes, and zeros for those that are missing.
-fn padded(bytes: &[u8]) -> Block
-    ensures { result ≡ padded_block bytes.now }
-{
-    let count = bytes.len().min(512);
-    let mut block = [0; 512];
-    block[..count].copy_from_slice(&bytes[..count]);
-    Block { bytes: block }
 }
 
 /// GOOD with the list of LUNs in a page, cut to the allocation length (SPC-4 6.33).

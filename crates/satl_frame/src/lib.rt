@@ -16,4 +16,4 @@ pub use frames::{Frame, FrameFault, OutFrame, Place, Reason, Version, WriteFault
 pub use pulling::{PullError, fill, pull};
 pub use reader::FrameReader;
 pub use refill::pull_data;
-pub use writing::{Gathered, append, gather, gather_data, push, sent_len, write_frame};
+pub use writing::{Gathered, gather, gather_data, push, sent_len, write_frame};

@@ -1,7 +1,7 @@
 // Bytes of frames into a sink, gathered into few writes.
 ghost use Rattle.std.specs.Prelude.{◌≡◌, ◌≤◌, ◌+◌, ◌*◌, ◌++◌, [], None, Some, OnOk, OnErr, is_ok, length};
-ghost use Rattle.arrayvec.specs.ArrayVec.{array_vec_len};
 ghost use Rattle.byteorder.specs.Endian.{big_bytes};
+ghost use Rattle.arrayvec.specs.ArrayVec.{array_vec_len};
 ghost use Rattle.satl_base.specs.Blocks.{first_bytes};
 ghost use Rattle.satl_base.specs.Limits.{longest_data};
 ghost use Rattle.satl_io.specs.Causes.{HasCause};
@@ -11,7 +11,7 @@ ghost use Rattle.satl_frame.specs.Output.{sent_len, residual, reply_kind, reply_
 
 use crate::frames::{OutFrame, WriteFault};
 use arrayvec::ArrayVec;
-use satl_base::{Pages, Reply};
+use satl_base::{Pages, Reply, append};
 use satl_io::{Failed, Sink};
 
 /// At most 8,192 bytes that wait to be written (profile). A reply with 4 KiB of data fits whole.
@@ -38,17 +38,6 @@ pub fn push<K: Sink>(sink: &mut K, bytes: &[u8]) -> Result<(), Failed>
         }
     }
     Ok(())
-}
-
-/// Gathers bytes that fit (profile).
-pub fn append(gathered: &mut Gathered, bytes: &[u8])
-    requires { array_vec_len gathered.old + length bytes.now ≤ 8192 }
-    ensures { gathered.new.items ≡ gathered.old.items ++ bytes.now }
-{
-    match gathered.try_extend_from_slice(bytes) {
-        Ok(()) => {}
-        Err(_) => unreachable!(),
-    }
 }
 
 /// Gathers at most 8,192 bytes (profile). Where they do not fit, those that were gathered before are written first. `Failed`

@@ -1,6 +1,5 @@
 // Pieces of a generated input.
-ghost use Rattle.std.specs.Prelude.{◌≡◌, ◌≤◌, ◌+◌, ◌++◌, ◌%◌, length, replicate};
-ghost use Rattle.arrayvec.specs.ArrayVec.{array_vec_len};
+ghost use Rattle.std.specs.Prelude.{◌≡◌, ◌≤◌, ◌+◌, ◌%◌, length, replicate};
 ghost use Rattle.satl_frame.specs.Frames.{attr_code, spelled};
 ghost use Rattle.satl_frame.specs.Inputs.{all_spelled};
 ghost use Rattle.satl_frame.specs.declared.frames.Frame.TheVariants as frames;
@@ -9,20 +8,11 @@ ghost use Rattle.satl_gen.specs.Generated.{block_of, burst};
 
 use crate::draw::Draw;
 use arrayvec::ArrayVec;
+use satl_base::append;
 use satl_cdb::write_cdb;
 
 /// At most 512 bytes.
 pub type Piece = ArrayVec<u8, 512>;
-
-fn append(piece: &mut Piece, bytes: &[u8])
-    requires { array_vec_len piece.old + length bytes.now ≤ 512 }
-    ensures { piece.new.items ≡ piece.old.items ++ bytes.now }
-{
-    match piece.try_extend_from_slice(bytes) {
-        Ok(()) => {}
-        Err(_) => unreachable!(),
-    }
-}
 
 /// A piece of these bytes.
 pub fn piece_of(bytes: &[u8]) -> Piece

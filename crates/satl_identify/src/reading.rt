@@ -4,7 +4,8 @@ ghost use Rattle.satl_base.specs.Identify.{exponent, has_bad_sum, has_capacity, 
 ghost use Rattle.satl_identify.specs.Refusals.{IsIdentity, identity_in, identity_of};
 
 use crate::identity::{Identity, IdentityFault};
-use crate::words::{bit_at, checksum_of, number_at, word_at};
+use crate::words::{bit_at, number_at, word_at};
+use satl_base::checksum_of;
 
 // The integrity word is there, and the bytes do not sum to 0.
 fn has_bad_sum(bytes: &[u8; 512]) -> bool

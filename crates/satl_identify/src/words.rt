@@ -1,6 +1,6 @@
 // The words of the data.
 ghost use Rattle.std.specs.Prelude.{◌≡◌, ◌<◌};
-ghost use Rattle.satl_base.specs.Identify.{checksum, four_words, word, word_bit};
+ghost use Rattle.satl_base.specs.Identify.{four_words, word, word_bit};
 
 use byteorder::{ByteOrder, LittleEndian};
 
@@ -27,16 +27,4 @@ pub fn number_at(bytes: &[u8; 512], place: usize) -> u64
     ensures { result ≡ four_words place bytes.now }
 {
     LittleEndian::read_u64(&bytes[2 * place..])
-}
-
-// The sum of all bytes modulo 256.
-#[tactic(auto, unfolding(satl_base::specs::Identify::checksum))]
-pub fn checksum_of(bytes: &[u8; 512]) -> u8
-    ensures { result ≡ checksum bytes.now }
-{
-    let mut sum = 0u8;
-    for byte in bytes {
-        sum = sum.wrapping_add(*byte);
-    }
-    sum
 }

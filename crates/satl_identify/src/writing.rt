@@ -5,7 +5,7 @@ ghost use Rattle.satl_identify.specs.Data.{identity_data, settings_byte, with_in
 ghost use Rattle.satl_identify.specs.Refusals.{IsIdentity, identity_of};
 
 use crate::identity::Identity;
-use crate::words::checksum_of;
+use satl_base::checksum_of;
 
 // The place of the low byte of word 85, which has the settings.
 const SETTINGS: usize = 2 * 85;
@@ -24,7 +24,7 @@ pub fn settings_of(byte: u8, cache_on: bool, look_on: bool) -> u8
 
 /// Brings the integrity byte up to date: where bits 7:0 of word 255 are A5h, its high byte makes the 512 bytes sum to 0
 /// modulo 256 (ACS-3 7.12.7).
-pub fn mend(bytes: &mut [u8; 512])
+pub fn balance(bytes: &mut [u8; 512])
     ensures { bytes.new ≡ with_integrity bytes.old }
 {
     if bytes[510] == 0xA5 {
@@ -44,6 +44,6 @@ pub fn identity_bytes(identity: &Identity, cache_on: bool, look_on: bool) -> [u8
 {
     let mut bytes = identity.bytes;
     bytes[SETTINGS] = settings_of(bytes[SETTINGS], cache_on, look_on);
-    mend(&mut bytes);
+    balance(&mut bytes);
     bytes
 }

@@ -10,7 +10,7 @@ use Rattle.satl_cdb.specs.declared.command.Illegal.{Illegal}
 use Rattle.satl_cdb.specs.Refusals.{list_length_error, invalid_list_field}
 use Rattle.satl_identify.specs.declared.identity.Identity.{Identity}
 use Rattle.satl_mode.specs.declared.page.ModePage.{ModePage}
-use Rattle.satl_mode.specs.declared.page.ModePage.TheVariants.{ErrorRecovery, Caching, Control, Exceptions}
+use Rattle.satl_mode.specs.declared.page.ModePage.TheVariants.{ErrorRecovery, Caching, Control, InformationalExceptions}
 use Rattle.satl_mode.specs.ModePages.{row_of, size_of}
 use Rattle.satl_mode.specs.Changes.{AreModesOf, IsChangeOf, KeepsFixed, applied, change_from, change_in, first_page, header_size, no_change, page_at, with_page}
 use Rattle.satl_mode.specs.SelectList.{agrees, select_fault, select_says, unless_fault, difference}
@@ -65,7 +65,7 @@ module _ (i : Identity) (m : Modes) (list : List Block) where
     look = λ c. dra_bit i.look m.dra _ c (agreed 18 Caching place 2 none 10 (omega arith));
   }
   keeps_page Control place change none keeps = record { cache = keeps.cache; look = keeps.look }
-  keeps_page Exceptions place change none keeps = keeps
+  keeps_page InformationalExceptions place change none keeps = keeps
 
   -- the pages from a place on keep what they must where none of them is at fault
   abbrev KeepsFrom : ℕ → ℕ → Type 0

@@ -10,7 +10,7 @@ use Rattle.satl_cdb.specs.Refusals.{list_length_error, invalid_list_field}
 use Rattle.satl_cdb.specs.Unmap.{number_at}
 use Rattle.satl_identify.specs.declared.identity.Identity.{Identity}
 use Rattle.satl_mode.specs.declared.page.ModePage.{ModePage}
-use Rattle.satl_mode.specs.declared.page.ModePage.TheVariants.{ErrorRecovery, Caching, Control, Exceptions}
+use Rattle.satl_mode.specs.declared.page.ModePage.TheVariants.{ErrorRecovery, Caching, Control, InformationalExceptions}
 use Rattle.satl_mode.specs.ModePages.{page_coded, row_of, size_of}
 
 -- modes with a change: each value that it sets
@@ -66,7 +66,7 @@ with_page ErrorRecovery list place change = change
 with_page Caching list place change =
     record change { wce = Some (bit_at list (place + 2) 2); dra = Some (bit_at list (place + 12) 5) }
 with_page Control list place change = record change { d_sense = Some (bit_at list (place + 2) 2) }
-with_page Exceptions list place change = change
+with_page InformationalExceptions list place change = change
 
 -- the change with the pages from a place on, at most n, up to the end or to what is no page; of two pages that set a value
 -- the later one counts

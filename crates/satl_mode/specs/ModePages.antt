@@ -6,7 +6,7 @@ use Rattle.satl_base.specs.declared.modes.Modes.{Modes}
 use Rattle.satl_base.specs.Places.{Line, byte, at_place, laid}
 use Rattle.satl_identify.specs.declared.identity.Identity.{Identity}
 use Rattle.satl_mode.specs.declared.page.ModePage.{ModePage}
-use Rattle.satl_mode.specs.declared.page.ModePage.TheVariants.{ErrorRecovery, Caching, Control, Exceptions}
+use Rattle.satl_mode.specs.declared.page.ModePage.TheVariants.{ErrorRecovery, Caching, Control, InformationalExceptions}
 use Rattle.satl_mode.specs.declared.page.Shown.{Shown}
 
 -- a page: PAGE CODE, PAGE LENGTH, which counts the bytes from byte 2 on, the bytes that never change, and those with the
@@ -30,11 +30,11 @@ row_of Caching = record {
 -- SPC-4, Control mode page: D_SENSE byte 2 bit 2
 row_of Control = record { code = 0x0A; length = 0x0A; fixed = []; settings = λ m. byte 2 (if m.d_sense then 0x04 else 0) ∷ [] }
 -- SPC-4, Informational Exceptions Control mode page
-row_of Exceptions = record { code = 0x1C; length = 0x0A; fixed = []; settings = λ m. [] }
+row_of InformationalExceptions = record { code = 0x1C; length = 0x0A; fixed = []; settings = λ m. [] }
 
 -- the pages in their order
 abbrev pub all_pages : List ModePage
-all_pages = ErrorRecovery ∷ Caching ∷ Control ∷ Exceptions ∷ []
+all_pages = ErrorRecovery ∷ Caching ∷ Control ∷ InformationalExceptions ∷ []
 
 -- the page of a code
 abbrev pub page_coded : ℕ → Option ModePage

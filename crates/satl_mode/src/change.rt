@@ -1,8 +1,8 @@
 // What a MODE SELECT parameter list sets.
 
 ghost use Rattle.std.specs.Prelude.{◌≡◌, ◌==◌, ◌≤◌, ◌<◌, ◌+◌, ◌*◌, ◌/◌, ◌%◌, ◌^◌, IfOk, length};
-ghost use Rattle.satl_base.specs.Blocks.{byte_at};
 ghost use Rattle.satl_base.specs.Fields.{bits_of};
+ghost use Rattle.satl_base.specs.Blocks.{byte_at};
 ghost use Rattle.satl_identify.specs.declared.identity.Identity.{Identity as Drive};
 ghost use Rattle.satl_mode.specs.ModePages.{page_coded, size_of};
 ghost use Rattle.satl_mode.specs.Changes.{bit_at, applied, change_from, change_in, descriptor_length, first_page, header_size, no_change, page_at, whole_page, with_page, AreModesOf, IsChangeOf};
@@ -102,7 +102,7 @@ fn with_page(page: ModePage, list: &Pages, place: usize, change: ModeChange) -> 
     ensures { result ≡ with_page page list.now place change }
 {
     match page {
-        ModePage::ErrorRecovery | ModePage::Exceptions => change,
+        ModePage::ErrorRecovery | ModePage::InformationalExceptions => change,
         ModePage::Caching => ModeChange {
             wce: Some(flag(list, place + 2, 2)),
             dra: Some(flag(list, place + 12, 5)),

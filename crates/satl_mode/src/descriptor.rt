@@ -3,8 +3,8 @@
 ghost use Rattle.std.specs.Prelude.{◌≡◌, ◌≤◌};
 ghost use Rattle.satl_mode.specs.Descriptors.{descriptor_bytes, descriptor_shown, descriptor_size, short_capacity};
 
-use crate::bytes::append;
 use arrayvec::ArrayVec;
+use satl_base::append;
 
 /// Which block descriptor stands behind the header (SBC-3, mode parameter block descriptors).
 #[derive(Clone, Copy, Debug, PartialEq, Eq)]

@@ -2,7 +2,6 @@
 //! leave open, and the refusals, are the profile's).
 #![tactic(auto)]
 
-mod bytes;
 mod change;
 mod descriptor;
 pub mod laws;

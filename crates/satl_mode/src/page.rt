@@ -12,7 +12,7 @@ pub enum ModePage {
     ErrorRecovery,
     Caching,
     Control,
-    Exceptions,
+    InformationalExceptions,
 }
 
 /// What mode pages show.
@@ -73,7 +73,7 @@ pub fn page_coded(code: u8) -> Option<ModePage>
         0x01 => Some(ModePage::ErrorRecovery),
         0x08 => Some(ModePage::Caching),
         0x0A => Some(ModePage::Control),
-        0x1C => Some(ModePage::Exceptions),
+        0x1C => Some(ModePage::InformationalExceptions),
         _ => None,
     }
 }
@@ -87,7 +87,7 @@ impl ModePage {
             ModePage::ErrorRecovery => 0x01,
             ModePage::Caching => 0x08,
             ModePage::Control => 0x0A,
-            ModePage::Exceptions => 0x1C,
+            ModePage::InformationalExceptions => 0x1C,
         }
     }
 
@@ -97,7 +97,7 @@ impl ModePage {
         ensures most { result ≤ 18 }
     {
         match self {
-            ModePage::ErrorRecovery | ModePage::Control | ModePage::Exceptions => 0x0A,
+            ModePage::ErrorRecovery | ModePage::Control | ModePage::InformationalExceptions => 0x0A,
             ModePage::Caching => 0x12,
         }
     }

@@ -6,11 +6,10 @@ ghost use Rattle.satl_mode.specs.Descriptors.{descriptor_bytes};
 ghost use Rattle.satl_mode.specs.ModePages.{page_bytes, pages_bytes, size_of};
 ghost use Rattle.satl_mode.specs.ModeData.{header, long_lba_bit, mode_data, pages_asked, with_header};
 
-use crate::bytes::append;
 use crate::descriptor::Descriptor;
 use crate::page::{ModePage, Shown, page_coded, shown_by};
 use arrayvec::ArrayVec;
-use satl_base::Modes;
+use satl_base::{Modes, append};
 use satl_identify::Identity;
 
 /// DPOFUA: DPO and FUA are allowed (SBC-3, mode parameter header).
@@ -34,7 +33,7 @@ fn pages_of(code: u8, shown: &Shown) -> ArrayVec<u8, 64>
         append_page(&mut text, ModePage::ErrorRecovery, shown);
         append_page(&mut text, ModePage::Caching, shown);
         append_page(&mut text, ModePage::Control, shown);
-        append_page(&mut text, ModePage::Exceptions, shown);
+        append_page(&mut text, ModePage::InformationalExceptions, shown);
     } else if let Some(page) = page_coded(code) {
         append_page(&mut text, page, shown);
     }

@@ -1,23 +1,15 @@
 // The fields of the command descriptor block.
 
 ghost use Rattle.std.specs.Prelude.{◌≡◌, ◌<◌, ◌^◌};
-ghost use Rattle.satl_base.specs.Fields.{bit};
 ghost use Rattle.satl_pass.specs.Fields.{blocks_counted, count_length, features_length, form_of, high, pass_in, registers_12, registers_16, t_length, transfer_length};
 
 use crate::pass::Pass;
 use byteorder::{BigEndian, ByteOrder};
+use satl_cdb::flag;
 use satl_regs::Registers;
 
 /// The operation code of the form of 16 bytes; the other is that of 12.
 const CODE_16: u8 = 0x85;
-
-fn flag(cdb: &[u8; 16], place: usize, low: u8) -> bool
-    requires place { place < 16 }
-    requires low { low < 8 }
-    ensures { result ≡ bit place low cdb.now }
-{
-    cdb[place] >> low & 1 == 1
-}
 
 /// A high byte of the form of 16 bytes, which counts where EXTEND is 1.
 fn high(cdb: &[u8; 16], place: usize) -> u8

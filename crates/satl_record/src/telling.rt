@@ -9,7 +9,8 @@ ghost use Rattle.satl_record.specs.declared.fault.RecordFault.TheVariants as fau
 use crate::fault::RecordFault;
 use itoa::Buffer;
 use satl_audit::Verdict;
-use satl_frame::{Gathered, OutFrame, Reason, WriteFault, append, push};
+use satl_base::append;
+use satl_frame::{Gathered, OutFrame, Reason, WriteFault, push};
 use satl_io::{Failed, Sink};
 use satl_text::write_line;
 

@@ -1,22 +1,12 @@
 // Writing sense data.
 
-ghost use Rattle.std.specs.Prelude.{◌≡◌, ◌+◌, ◌≤◌, ◌++◌, length, IsTrue, IsFalse};
-ghost use Rattle.arrayvec.specs.ArrayVec.{array_vec_len};
+ghost use Rattle.std.specs.Prelude.{◌≡◌, ◌+◌, length, IsTrue, IsFalse};
 ghost use Rattle.satl_sense.specs.Descriptor.{FitsForm, additional_length, descriptor_form, pointer_flags};
 ghost use Rattle.satl_sense.specs.Reading.{Reads};
 ghost use Rattle.satl_sense.specs.Fixed.{fixed_form, ata_flags};
 
 use crate::sense::{AtaReturn, Extra, Sense};
-use satl_base::SenseBytes;
-
-fn append(text: &mut SenseBytes, bytes: &[u8])
-    requires { array_vec_len text.old + length bytes.now ≤ 32 }
-    ensures { text.new.items ≡ text.old.items ++ bytes.now }
-{
-    let Ok(()) = text.try_extend_from_slice(bytes) else {
-        unreachable!();
-    };
-}
+use satl_base::{SenseBytes, append};
 
 fn pointer_flags(in_cdb: bool) -> u8
     ensures { result ≡ pointer_flags in_cdb }

@@ -4,7 +4,7 @@
 
 mod telling;
 
-pub use telling::{Data, tell};
+pub use telling::{Data, padded, tell};
 
 #[cfg(test)]
 mod tests;

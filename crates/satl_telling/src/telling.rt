@@ -9,7 +9,7 @@ ghost use Rattle.satl_base.specs.Limits.{IsExpectable};
 ghost use Rattle.satl_telling.specs.Telling.{data_text};
 
 use arrayvec::ArrayVec;
-use satl_base::{Block, Modes, Pages, Reply, Request, Scsi};
+use satl_base::{Block, Modes, Pages, Reply, Request, Scsi, append};
 use satl_identify::Identity;
 use satl_mode::{ModeSense, mode_sense};
 use satl_pages::Pool;
@@ -41,9 +41,7 @@ fn text(bytes: &[u8]) -> Text
     ensures { result.items ≡ bytes.now }
 {
     let mut text = Text::new();
-    let Ok(()) = text.try_extend_from_slice(bytes) else {
-        unreachable!();
-    };
+    append(&mut text, bytes);
     text
 }
 
@@ -83,8 +81,8 @@ pub fn data_text(identity: &Identity, modes: &Modes, what: &Data) -> Text
     }
 }
 
-/// The first 512 bytes, and zeros for those that are missing.
-fn padded(bytes: &[u8]) -> Block
+/// A block of the first 512 bytes, with zeros for those that are missing.
+pub fn padded(bytes: &[u8]) -> Block
     ensures { result ≡ padded_block bytes.now }
 {
     let count = bytes.len().min(512);

@@ -10,8 +10,8 @@ ghost use Rattle.satl_text.specs.Parts.{reply_front, reply_end};
 use crate::digits::gather_bytes;
 use crate::summary::Summary;
 use crate::words::{add_bytes, add_decimal, add_digits, add_word};
-use satl_base::{Nexus, Reply, Response, Tag};
-use satl_frame::{Gathered, OutFrame, Reason, WriteFault, append, gather, push, sent_len};
+use satl_base::{Nexus, Reply, Response, Tag, append};
+use satl_frame::{Gathered, OutFrame, Reason, WriteFault, gather, push, sent_len};
 use satl_io::{Failed, Sink};
 
 /// The line of a reply up to its data.

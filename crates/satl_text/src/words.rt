@@ -5,7 +5,8 @@ ghost use Rattle.hex.specs.Hex.{encode_lower};
 ghost use Rattle.satl_text.specs.Lines.{hex_bytes};
 
 use itoa::{Buffer, Integer};
-use satl_frame::{Gathered, append};
+use satl_base::append;
+use satl_frame::Gathered;
 
 /// A space and a word.
 pub fn add_word(text: &mut Gathered, word: &[u8])

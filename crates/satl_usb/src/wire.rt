@@ -7,9 +7,9 @@ ghost use Rattle.satl_io.specs.Causes.{HasCause};
 ghost use Rattle.satl_io.specs.Known.{Wrote, WrotePart};
 ghost use Rattle.satl_usb.specs.Wire.{csw_status, kept_on_wire, reply_on_wire, status_on_wire, taken_length};
 
-use satl_base::{Reply, Scsi, SenseBytes};
+use satl_base::{Reply, Scsi, SenseBytes, append};
 use satl_bot::{Cbw, csw_bytes};
-use satl_frame::{Gathered, append, gather, gather_data, push};
+use satl_frame::{Gathered, gather, gather_data, push};
 use satl_io::{Failed, Sink};
 
 /// The number of bytes of data that the host takes (USB Mass Storage Class, Bulk-Only Transport 1.0, 5.3).

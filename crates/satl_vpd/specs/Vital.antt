@@ -23,8 +23,8 @@ abbrev pub serial_number : Page
 serial_number = record { code = 0x80; rest = λ i. characters 10 19 i.bytes }
 
 -- word 87 says something, and that there is a world wide name (ACS-3 7.12.7)
-abbrev pub has_name : List ℕ → Bool
-has_name d = (word_bits 87 15 14 d == 1) && word_bit 87 8 d
+abbrev pub has_world_wide_name : List ℕ → Bool
+has_world_wide_name d = (word_bits 87 15 14 d == 1) && word_bit 87 8 d
 
 -- a designation descriptor of the ASCII code set, T10 vendor identification, from byte 4 on: vendor, model and serial number;
 -- and from byte 76 on one of the binary code set, NAA: the world wide name in words 108 to 111 (SAT-3, Device Identification)
@@ -38,7 +38,7 @@ abbrev pub identification : Page
 identification =
     record {
       code = 0x83;
-      rest = λ i. if has_name i.bytes then from_byte_4 84 (designators i.bytes)
+      rest = λ i. if has_world_wide_name i.bytes then from_byte_4 84 (designators i.bytes)
           else from_byte_4 72 (designators i.bytes);
     }
 
@@ -87,12 +87,12 @@ abbrev pub provisioning : Page
 provisioning = record { code = 0xB2; rest = λ i. from_byte_4 4 (byte 5 (if i.trim then 0xE4 else 0x00) ∷ []) }
 
 -- the pages but for the list of them (profile)
-abbrev described_pages : List Page
-described_pages = serial_number ∷ identification ∷ ata_information ∷ block_limits ∷ block_characteristics ∷ provisioning ∷ []
+abbrev vpd_pages : List Page
+vpd_pages = serial_number ∷ identification ∷ ata_information ∷ block_limits ∷ block_characteristics ∷ provisioning ∷ []
 
 -- the codes of all pages, in ascending order
 abbrev pub page_codes : List ℕ
-page_codes = 0x00 ∷ map (λ (p : Page). p.code) described_pages
+page_codes = 0x00 ∷ map (λ (p : Page). p.code) vpd_pages
 
 -- SPC-4, Supported VPD Pages
 abbrev pub supported_pages : Page
@@ -105,4 +105,4 @@ page_bytes p i = 0x00 ∷ p.code ∷ (bytes_high_first 2 (length (p.rest i)) ++ 
 -- the page of a code
 unfoldable pub vpd_page : ℕ → Identity → Option (List ℕ)
 vpd_page code i =
-    option_map (λ (p : Page). page_bytes p i) (find (λ (p : Page). p.code == code) (supported_pages ∷ described_pages))
+    option_map (λ (p : Page). page_bytes p i) (find (λ (p : Page). p.code == code) (supported_pages ∷ vpd_pages))

@@ -2,8 +2,8 @@
 ghost use Rattle.std.specs.Prelude.{◌≡◌, ◌≤◌};
 ghost use Rattle.satl_vpd.specs.Luns.{lun_list};
 
-use crate::text::append;
 use arrayvec::ArrayVec;
+use satl_base::append;
 
 /// The list of LUNs by SELECT REPORT: 0 and 2 list LUN 0, and 1, the well known units alone, lists none (SPC-4, REPORT LUNS
 /// command).

@@ -1,22 +1,12 @@
-// Texts of IDENTIFY DEVICE data, and bytes that are appended.
-ghost use Rattle.std.specs.Prelude.{◌≡◌, ◌≤◌, ◌<◌, ◌+◌, ◌++◌, ◌==◌, length};
+// Texts of IDENTIFY DEVICE data.
+ghost use Rattle.std.specs.Prelude.{◌≡◌, ◌≤◌, ◌<◌, ◌+◌, ◌==◌};
 ghost use Rattle.std.specs.List.{list_all};
-ghost use Rattle.arrayvec.specs.ArrayVec.{array_vec_len};
 ghost use Rattle.satl_vpd.specs.Texts.{characters, is_blank};
 
 use arrayvec::ArrayVec;
 
 /// A text of at most 20 words.
 pub type Text = ArrayVec<u8, 40>;
-
-pub fn append<const CAP: usize>(list: &mut ArrayVec<u8, CAP>, bytes: &[u8])
-    requires { array_vec_len list.old + length bytes.now ≤ CAP }
-    ensures { list.new.items ≡ list.old.items ++ bytes.now }
-{
-    let Ok(()) = list.try_extend_from_slice(bytes) else {
-        unreachable!();
-    };
-}
 
 /// The text in the words first to last, the high byte of each word first.
 pub fn characters(bytes: &[u8; 512], first: usize, last: usize) -> Text

@@ -3,12 +3,12 @@ ghost use Rattle.std.specs.Prelude.{◌≡◌, ◌↔◌, ◌≤◌, ◌∷◌, 
 ghost use Rattle.std.specs.Int.{bytes_high_first};
 ghost use Rattle.std.specs.Option.{option_map};
 ghost use Rattle.satl_base.specs.Lists.{is_in};
-ghost use Rattle.satl_vpd.specs.Vital.{ata_information, block_characteristics, block_limits, has_name, identification, page_bytes, page_codes, provisioning, serial_number, vpd_page};
+ghost use Rattle.satl_vpd.specs.Vital.{ata_information, block_characteristics, block_limits, has_world_wide_name, identification, page_bytes, page_codes, provisioning, serial_number, vpd_page};
 
-use crate::text::{append, characters};
+use crate::text::characters;
 use arrayvec::ArrayVec;
 use byteorder::{BigEndian, ByteOrder, LittleEndian};
-use satl_base::{MOST_COVERED, MOST_MOVED, MOST_RANGES};
+use satl_base::{MOST_COVERED, MOST_MOVED, MOST_RANGES, append};
 use satl_identify::Identity;
 
 /// A page of vital product data, at most 572 bytes (SPC-4, Vital product data).
@@ -43,8 +43,8 @@ fn serial_number(identity: &Identity) -> VitalPage
 }
 
 /// Whether the drive has a world wide name.
-fn has_name(bytes: &[u8; 512]) -> bool
-    ensures { result ≡ has_name bytes.now }
+fn has_world_wide_name(bytes: &[u8; 512]) -> bool
+    ensures { result ≡ has_world_wide_name bytes.now }
 {
     let word = LittleEndian::read_u16(&bytes[2 * 87..]);
     word >> 14 == 1 && word >> 8 & 1 == 1
@@ -53,7 +53,7 @@ fn has_name(bytes: &[u8; 512]) -> bool
 fn identification_length(identity: &Identity) -> u16
     ensures { result ≡ length (identification.rest identity.now) }
 {
-    if has_name(&identity.bytes) {
+    if has_world_wide_name(&identity.bytes) {
         0x54
     } else {
         0x48
@@ -69,7 +69,7 @@ fn identification(identity: &Identity) -> VitalPage
     append(&mut page, b"ATA     ");
     append(&mut page, &characters(&identity.bytes, 27, 46));
     append(&mut page, &characters(&identity.bytes, 10, 19));
-    if has_name(&identity.bytes) {
+    if has_world_wide_name(&identity.bytes) {
         append(&mut page, &[0x01, 0x03, 0x00, 0x08]);
         append(&mut page, &characters(&identity.bytes, 108, 111));
     }

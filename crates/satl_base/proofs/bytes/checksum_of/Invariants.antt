@@ -1,6 +1,6 @@
 use Rattle.std.proofs.Common.{◌≡◌, ◌%◌, take}
 use Rattle.std.specs.Prelude.{sum}
-use Rattle.satl_errlog.proofs.log.checksum_of.Given as goal
+use Rattle.satl_base.proofs.bytes.checksum_of.Given as goal
 
 abbrev pub invariant-loop-byte : goal.invariant-loop-byte
 invariant-loop-byte l = l.sum ≡ sum (take l.byte-index l.bytes) % 256

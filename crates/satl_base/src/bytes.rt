@@ -1,0 +1,29 @@
+// Bytes that are put together, and their sum.
+ghost use Rattle.std.specs.Prelude.{◌≡◌, ◌≤◌, ◌+◌, ◌++◌, length};
+ghost use Rattle.arrayvec.specs.ArrayVec.{array_vec_len};
+ghost use Rattle.satl_base.specs.Identify.{checksum};
+
+use arrayvec::ArrayVec;
+
+/// Appends bytes for which there is room.
+pub fn append<const N: usize>(bytes: &mut ArrayVec<u8, N>, more: &[u8])
+    requires { array_vec_len bytes.old + length more.now ≤ N }
+    ensures items { bytes.new.items ≡ bytes.old.items ++ more.now }
+    ensures len { array_vec_len bytes.new ≡ array_vec_len bytes.old + length more.now }
+{
+    let Ok(()) = bytes.try_extend_from_slice(more) else {
+        unreachable!();
+    };
+}
+
+/// The sum of 512 bytes modulo 256, which is 0 in IDENTIFY DEVICE data with an integrity word and in a log (ACS-3 7.12.7).
+#[tactic(auto, unfolding(crate::specs::Identify::checksum))]
+pub fn checksum_of(bytes: &[u8; 512]) -> u8
+    ensures { result ≡ checksum bytes.now }
+{
+    let mut sum = 0u8;
+    for byte in bytes {
+        sum = sum.wrapping_add(*byte);
+    }
+    sum
+}
