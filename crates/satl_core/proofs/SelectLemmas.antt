@@ -18,7 +18,7 @@ use Rattle.satl_identify.specs.declared.identity.Identity.{Identity}
 use Rattle.satl_mode.specs.declared.descriptor.Descriptor.{Descriptor}
 use Rattle.satl_mode.specs.declared.descriptor.Descriptor.TheVariants.{Absent, Short, Long}
 use Rattle.satl_mode.specs.declared.page.ModePage.{ModePage}
-use Rattle.satl_mode.specs.declared.page.ModePage.TheVariants.{ErrorRecovery, Caching, Control, Exceptions}
+use Rattle.satl_mode.specs.declared.page.ModePage.TheVariants.{ErrorRecovery, Caching, Control, InformationalExceptions}
 use Rattle.satl_mode.specs.ModePages.{page_coded, row_of, size_of}
 use Rattle.satl_mode.specs.Descriptors.{BlockField, block_fields, descriptor_size}
 use Rattle.satl_mode.specs.Changes.{change_from, change_in, descriptor_length, first_page, header_size, no_change, on_page, page_at, whole_page, with_page, applied}
@@ -108,7 +108,7 @@ size_is : (page : ModePage) → 2 + (row_of page).length ≡ size_of page
 size_is ErrorRecovery = refl
 size_is Caching = refl
 size_is Control = refl
-size_is Exceptions = refl
+size_is InformationalExceptions = refl
 
 bits_same : (i : Identity) (m : Modes) (a b : List Block) (page : ModePage) (place limit : ℕ) → Agree limit a b → place + size_of page ≤ limit → bits_fault i m a page place ≡ bits_fault i m b page place
 bits_same i m a b page place limit agree room = ap (option_map invalid_list_field) (difference_same i m a b page place 2 (row_of page).length limit agree (omega (arith, room, size_is page)))
@@ -150,7 +150,7 @@ with_same : (page : ModePage) (a b : List Block) (place limit : ℕ) (change : M
 with_same ErrorRecovery a b place limit change agree room = refl
 with_same Caching a b place limit change agree room = rw (agree (place + 2) (omega (arith, room)), agree (place + 12) (omega (arith, room))) refl
 with_same Control a b place limit change agree room = rw (agree (place + 2) (omega (arith, room))) refl
-with_same Exceptions a b place limit change agree room = refl
+with_same InformationalExceptions a b place limit change agree room = refl
 
 changes_same : (a b : List Block) (n length place : ℕ) (change : ModeChange) → Agree length a b → change_from n a length place change ≡ change_from n b length place change
 unfolding change_from
