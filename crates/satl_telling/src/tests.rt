@@ -1,4 +1,5 @@
 // What is told of a drive whose IDENTIFY DEVICE data are zeros, but for its capacity.
+ghost use Rattle.std.specs.Prelude.{◌≡◌};
 
 use super::*;
 use satl_base::{Attr, Modes, Nexus, Pages, Reply, Request, Scsi, Tag};
