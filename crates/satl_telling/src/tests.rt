@@ -48,12 +48,11 @@ fn says(reply: &Reply, bytes: &[u8]) -> bool {
     if reply.body.blocks() != 1 {
         return false;
     }
-    let page = reply.body.block(0).bytes;
-    let (data, rest) = page.split_at(bytes.len().min(512));
+    let page = reply.body.block(0).as_bytes();
     reply.status == Scsi::Good
         && reply.data_len as usize == bytes.len()
-        && data == bytes
-        && rest.iter().all(|byte| *byte == 0)
+        && page.starts_with(bytes)
+        && page.iter().skip(bytes.len()).all(|byte| *byte == 0)
 }
 
 #[test]
