@@ -7,12 +7,11 @@ use Rattle.satl_base.specs.Identify.{has_cache, has_look}
 use Rattle.satl_base.specs.Losses.{Loses}
 use Rattle.satl_io.specs.Causes.{Rose}
 use Rattle.satl_regs.specs.declared.values.Registers.{Registers}
-use Rattle.satl_regs.specs.declared.values.Taskfile.{Taskfile}
 use Rattle.satl_regs.specs.declared.values.AtaCommand.{AtaCommand}
 use Rattle.satl_regs.specs.declared.values.AtaCommand.TheVariants.{ReadLog}
 use Rattle.satl_regs.specs.Commands.{command_in}
 use Rattle.satl_regs.specs.QueuedCommands.{queued_codes}
-use Rattle.satl_regs.specs.Effects.{Medium, Ata, IsTelling, good_end, own_blocks, pairs_of}
+use Rattle.satl_regs.specs.Effects.{Medium, Traffic, Ata, IsTelling, good_end, own_blocks, pairs_of}
 use Rattle.satl_errlog.specs.declared.entry.NcqError.{NcqError}
 use Rattle.satl_errlog.specs.Log.{log_of}
 use Rattle.satl_drive.specs.State.{DriveState, medium_of, with_medium}
@@ -31,31 +30,29 @@ pub record CanRun (d : DriveState) (r : Registers) (pages : List Block) : Type 0
   pub room : own_blocks (command_in r) ≤ length pages
 
 -- the command was carried out: the effect is that of the command, and sectors may have been written back (ACS-3 section 7)
-pub record IsCarriedOut (old : DriveState) (r : Registers) (given : List Block) (ended : Taskfile) (taken : List Block)
-    (new : DriveState) : Type 0 where
+pub record IsCarriedOut (x : Traffic) (old new : DriveState) : Type 0 where
   pub was_up : old.down ≡ false
   pub after : Medium
-  pub does : Ata r (medium_of old) given ended taken after
+  pub does : Ata x (medium_of old) after
   pub lost : Loses after.cells new.cells
   pub stays : new ≡ record (with_medium old after) { cells = new.cells }
 
 -- the error log was read, which ends the error state (ACS-3 annex A, log 10h)
-pub record IsLogRead (e : NcqError) (old : DriveState) (r : Registers) (given : List Block) (ended : Taskfile)
-    (taken : List Block) (new : DriveState) : Type 0 where
+pub record IsLogRead (e : NcqError) (x : Traffic) (old new : DriveState) : Type 0 where
   pub was_up : old.down ≡ false
-  pub ends : ended ≡ good_end r 0 0
-  pub data_in : taken ≡ record { bytes = log_of e } ∷ drop 1 given
+  pub ends : x.ended ≡ good_end x.registers 0 0
+  pub data_in : x.taken ≡ record { bytes = log_of e } ∷ drop 1 x.given
   pub lost : Loses old.cells new.cells
   pub stays : new ≡ record old { cells = new.cells; error = None }
 
 -- what `run` did, in the error state or not (ACS-3)
-abbrev pub IsRunBy : Option NcqError → DriveState → Registers → List Block → Taskfile → List Block → DriveState → Type 0
-IsRunBy None old r given ended taken new = IsCarriedOut old r given ended taken new
-IsRunBy (Some e) old r given ended taken new = IsLogRead e old r given ended taken new
+abbrev pub IsRunBy : Option NcqError → Traffic → DriveState → DriveState → Type 0
+IsRunBy None x old new = IsCarriedOut x old new
+IsRunBy (Some e) x old new = IsLogRead e x old new
 
 -- what `run` did, by the error state before it (ACS-3)
-abbrev pub IsRun : DriveState → Registers → List Block → Taskfile → List Block → DriveState → Type 0
-IsRun old r given ended taken new = IsRunBy old.error old r given ended taken new
+abbrev pub IsRun : Traffic → DriveState → DriveState → Type 0
+IsRun x old new = IsRunBy old.error x old new
 
 -- the link was lost while these pairs were under way: each is written or not, nothing is outstanding, and the count rose
 -- (profile)

@@ -28,6 +28,14 @@ pub record Medium : Type 0 where
   pub glitches : ℕ
   pub identify : List ℕ
 
+-- what goes to a drive with one command, and what comes back: its registers and the pages handed in, the registers at its end
+-- and the pages after it (ACS-3, inputs and outputs of a command)
+pub record Traffic : Type 0 where
+  pub registers : Registers
+  pub given : List Block
+  pub ended : Taskfile
+  pub taken : List Block
+
 -- STATUS: DRDY, and with it ERR (ACS-3, STATUS field)
 abbrev pub good_status : ℕ
 good_status = 0x40
@@ -117,59 +125,53 @@ writing how lba sectors given m =
     }
 
 -- it ends bad with this error, and nothing changes (ACS-3, error outputs)
-pub record IsRefused (r : Registers) (error lba : ℕ) (old : Medium) (given : List Block) (ended : Taskfile) (taken : List Block)
-    (new : Medium) : Type 0 where
-  pub ends : ended ≡ bad_end r error lba
-  pub data_in : taken ≡ given
+pub record IsRefused (error lba : ℕ) (x : Traffic) (old new : Medium) : Type 0 where
+  pub ends : x.ended ≡ bad_end x.registers error lba
+  pub data_in : x.taken ≡ x.given
   pub medium : new ≡ old
 
 -- it is carried out: the blocks that it reads stand in front in the pages, and the drive is active (ACS-3, normal outputs)
-pub record IsCarriedOut (r : Registers) (t : Transfer) (old : Medium) (given : List Block) (ended : Taskfile)
-    (taken : List Block) (new : Medium) : Type 0 where
-  pub ends : ended ≡ good_end r 0 0
-  pub data_in : taken ≡ t.reads ++ drop (length t.reads) given
+pub record IsCarriedOut (t : Transfer) (x : Traffic) (old new : Medium) : Type 0 where
+  pub ends : x.ended ≡ good_end x.registers 0 0
+  pub data_in : x.taken ≡ t.reads ++ drop (length t.reads) x.given
   pub medium : new ≡ record old { cells = whole old.cells t.writes; active = true }
 
 -- a CRC error stops it: what it writes is written in part (ACS-3, ICRC; profile)
-pub record IsGarbled (r : Registers) (t : Transfer) (old : Medium) (given : List Block) (ended : Taskfile) (taken : List Block)
-    (new : Medium) : Type 0 where
+pub record IsGarbled (t : Transfer) (x : Traffic) (old new : Medium) : Type 0 where
   pub by_dma : t.dma ≡ true
   pub some : 0 < old.glitches
-  pub ends : ended ≡ bad_end r icrc 0
-  pub data_in : taken ≡ given
+  pub ends : x.ended ≡ bad_end x.registers icrc 0
+  pub data_in : x.taken ≡ x.given
   pub part : Part old.cells t.writes new.cells
   pub medium : new ≡ record old { cells = new.cells; glitches = old.glitches - 1 }
 
 -- the flaw at an address stops it: what it writes is written in part (ACS-3, UNC)
-pub record IsFlawed (r : Registers) (t : Transfer) (at : ℕ) (old : Medium) (given : List Block) (ended : Taskfile)
-    (taken : List Block) (new : Medium) : Type 0 where
-  pub ends : ended ≡ flawed_end r t.ext at
-  pub data_in : taken ≡ given
+pub record IsFlawed (t : Transfer) (at : ℕ) (x : Traffic) (old new : Medium) : Type 0 where
+  pub ends : x.ended ≡ flawed_end x.registers t.ext at
+  pub data_in : x.taken ≡ x.given
   pub part : Part old.cells t.writes new.cells
   pub medium : new ≡ record old { cells = new.cells }
 
 -- how it ends: outside the capacity IDNF, at a flaw UNC with the lowest flawed address, and else it is carried out, or a CRC
 -- error stops it (ACS-3, error outputs; profile)
-abbrev pub Carries : Registers → Transfer → Medium → List Block → Taskfile → List Block → Medium → Type 0
-Carries r t old given ended taken new =
+abbrev pub Carries : Transfer → Traffic → Medium → Medium → Type 0
+Carries t x old new =
     MatchBool (nat_lt (length old.cells) (t.lba + t.sectors))
-    (IsRefused r idnf r.lba old given ended taken new)
+    (IsRefused idnf x.registers.lba x old new)
     (MatchOption (first_flaw t.stopped_by old.cells t.lba t.sectors)
-    (IsCarriedOut r t old given ended taken new ⊎ IsGarbled r t old given ended taken new)
-    (λ at. IsFlawed r t at old given ended taken new))
+    (IsCarriedOut t x old new ⊎ IsGarbled t x old new)
+    (λ at. IsFlawed t at x old new))
 
 -- IDENTIFY DEVICE: the data stand in the first page (ACS-3, IDENTIFY DEVICE)
-pub record IsIdentified (r : Registers) (old : Medium) (given : List Block) (ended : Taskfile) (taken : List Block)
-    (new : Medium) : Type 0 where
-  pub ends : ended ≡ good_end r 0 0
-  pub data_in : taken ≡ record { bytes = old.identify } ∷ drop 1 given
+pub record IsIdentified (x : Traffic) (old new : Medium) : Type 0 where
+  pub ends : x.ended ≡ good_end x.registers 0 0
+  pub data_in : x.taken ≡ record { bytes = old.identify } ∷ drop 1 x.given
   pub medium : new ≡ old
 
 -- it ends good with what COUNT and LBA tell, moves no data, and leaves the medium so (ACS-3, normal outputs)
-pub record EndsGood (r : Registers) (count lba : ℕ) (after : Medium) (given : List Block) (ended : Taskfile)
-    (taken : List Block) (new : Medium) : Type 0 where
-  pub ends : ended ≡ good_end r count lba
-  pub data_in : taken ≡ given
+pub record EndsGood (count lba : ℕ) (x : Traffic) (after new : Medium) : Type 0 where
+  pub ends : x.ended ≡ good_end x.registers count lba
+  pub data_in : x.taken ≡ x.given
   pub medium : new ≡ after
 
 -- READ VERIFY SECTOR(S) and its EXT form: only flaws of reads are looked for (ACS-3, commands of these names)
@@ -224,10 +226,9 @@ pub record IsTelling (cache look : Bool) (old new : List ℕ) : Type 0 where
       (slice_index new 511 ≡ slice_index old 511)
 
 -- a setting is made (ACS-3, SET FEATURES)
-pub record IsSet (setting : Setting) (r : Registers) (old : Medium) (given : List Block) (ended : Taskfile) (taken : List Block)
-    (new : Medium) : Type 0 where
-  pub ends : ended ≡ good_end r 0 0
-  pub data_in : taken ≡ given
+pub record IsSet (setting : Setting) (x : Traffic) (old new : Medium) : Type 0 where
+  pub ends : x.ended ≡ good_end x.registers 0 0
+  pub data_in : x.taken ≡ x.given
   pub tells : IsTelling new.cache new.look old.identify new.identify
   pub medium : new ≡ record (with_setting setting old) { identify = new.identify }
 
@@ -244,10 +245,9 @@ abbrev pub no_error_log : Block
 no_error_log = record { bytes = 0x80 ∷ (replicate 510 0x00 ++ 0x80 ∷ []) }
 
 -- a log stands in the first page (ACS-3, READ LOG EXT)
-pub record IsLogged (r : Registers) (log : Block) (old : Medium) (given : List Block) (ended : Taskfile) (taken : List Block)
-    (new : Medium) : Type 0 where
-  pub ends : ended ≡ good_end r 0 0
-  pub data_in : taken ≡ log ∷ drop 1 given
+pub record IsLogged (log : Block) (x : Traffic) (old new : Medium) : Type 0 where
+  pub ends : x.ended ≡ good_end x.registers 0 0
+  pub data_in : x.taken ≡ log ∷ drop 1 x.given
   pub medium : new ≡ old
 
 -- the ranges that the payload of DATA SET MANAGEMENT trims (ACS-3, DATA SET MANAGEMENT)
@@ -297,38 +297,29 @@ own_blocks (commands.Trim blocks) = blocks
 own_blocks commands.SmartStatus = 0
 own_blocks (commands.Other code) = 0
 
--- the effect of a command: from a medium and the pages handed in to its end, the pages after it and the medium after it
--- (ACS-3 section 7)
-abbrev pub HasEffect : AtaCommand → Registers → Medium → List Block → Taskfile → List Block → Medium → Type 0
-HasEffect (commands.Read how lba sectors) r old given ended taken new =
-    Carries r (reading how lba sectors old) old given ended taken new
-HasEffect (commands.Write how lba sectors) r old given ended taken new =
-    Carries r (writing how lba sectors given old) old given ended taken new
-HasEffect (commands.Verify ext lba sectors) r old given ended taken new =
-    Carries r (verifying ext lba sectors) old given ended taken new
-HasEffect (commands.Flush ext) r old given ended taken new = EndsGood r 0 0 (all_settled old) given ended taken new
-HasEffect commands.Identify r old given ended taken new = IsIdentified r old given ended taken new
-HasEffect (commands.SetFeatures what) r old given ended taken new =
-    MatchOption (settable old.identify (setting_of what))
-    (IsRefused r abrt 0 old given ended taken new)
-    (λ setting. IsSet setting r old given ended taken new)
-HasEffect commands.Standby r old given ended taken new = EndsGood r 0 0 (record old { active = false }) given ended taken new
-HasEffect commands.Idle r old given ended taken new = EndsGood r 0 0 (record old { active = true }) given ended taken new
-HasEffect commands.CheckPower r old given ended taken new = EndsGood r (power_count old.active) 0 old given ended taken new
-HasEffect (commands.ReadLog log page blocks) r old given ended taken new =
-    MatchBool (is_error_log log page blocks)
-    (IsLogged r no_error_log old given ended taken new)
-    (IsRefused r abrt 0 old given ended taken new)
-HasEffect (commands.Trim blocks) r old given ended taken new =
-    MatchBool (is_no_trim blocks given old)
-    (IsRefused r abrt 0 old given ended taken new)
-    (Carries r (trimming blocks given old) old given ended taken new)
-HasEffect commands.SmartStatus r old given ended taken new = EndsGood r 0 (0xC24F * 2 ^ 8) old given ended taken new
-HasEffect (commands.Other code) r old given ended taken new = IsRefused r abrt 0 old given ended taken new
+-- the effect of a command: what goes to the drive with it and comes back, and the medium before it and after it (ACS-3 section
+-- 7)
+abbrev pub HasEffect : AtaCommand → Traffic → Medium → Medium → Type 0
+HasEffect (commands.Read how lba sectors) x old new = Carries (reading how lba sectors old) x old new
+HasEffect (commands.Write how lba sectors) x old new = Carries (writing how lba sectors x.given old) x old new
+HasEffect (commands.Verify ext lba sectors) x old new = Carries (verifying ext lba sectors) x old new
+HasEffect (commands.Flush ext) x old new = EndsGood 0 0 x (all_settled old) new
+HasEffect commands.Identify x old new = IsIdentified x old new
+HasEffect (commands.SetFeatures what) x old new =
+    MatchOption (settable old.identify (setting_of what)) (IsRefused abrt 0 x old new) (λ setting. IsSet setting x old new)
+HasEffect commands.Standby x old new = EndsGood 0 0 x (record old { active = false }) new
+HasEffect commands.Idle x old new = EndsGood 0 0 x (record old { active = true }) new
+HasEffect commands.CheckPower x old new = EndsGood (power_count old.active) 0 x old new
+HasEffect (commands.ReadLog log page blocks) x old new =
+    MatchBool (is_error_log log page blocks) (IsLogged no_error_log x old new) (IsRefused abrt 0 x old new)
+HasEffect (commands.Trim blocks) x old new =
+    MatchBool (is_no_trim blocks x.given old) (IsRefused abrt 0 x old new) (Carries (trimming blocks x.given old) x old new)
+HasEffect commands.SmartStatus x old new = EndsGood 0 (0xC24F * 2 ^ 8) x old new
+HasEffect (commands.Other code) x old new = IsRefused abrt 0 x old new
 
 -- the effect of the command in the registers (ACS-3 section 7)
-abbrev pub Ata : Registers → Medium → List Block → Taskfile → List Block → Medium → Type 0
-Ata r old given ended taken new = HasEffect (command_in r) r old given ended taken new
+abbrev pub Ata : Traffic → Medium → Medium → Type 0
+Ata x old new = HasEffect (command_in x.registers) x old new
 
 -- the pairs that a command may write, also where it is cut short: none where its range or its entries are refused (ACS-3;
 -- profile)
