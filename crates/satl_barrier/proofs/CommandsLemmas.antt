@@ -14,19 +14,18 @@ use Rattle.satl_base.proofs.LossesLemmas.{loses-nows, loses-sound}
 use Rattle.satl_base.proofs.MovesLemmas.{lose_once, moves_of_part, moves_on}
 use Rattle.satl_io.specs.Causes.{Rose}
 use Rattle.satl_regs.specs.declared.values.Registers.{Registers}
-use Rattle.satl_regs.specs.declared.values.Taskfile.{Taskfile}
 use Rattle.satl_regs.specs.declared.values.How.TheVariants.{Pio, PioExt, Dma, DmaExt}
 use Rattle.satl_regs.specs.declared.values.AtaCommand.{AtaCommand}
 use Rattle.satl_regs.specs.declared.values.AtaCommand.TheVariants as commands
 use Rattle.satl_regs.specs.Commands.{command_in}
 use Rattle.satl_regs.specs.Spelling.{command_registers}
 use Rattle.satl_regs.specs.QueuedCommands.{queued_codes}
-use Rattle.satl_regs.specs.Effects.{Carries, HasEffect, IsCarriedOut, IsFlawed, IsGarbled, IsLogged, IsRefused, IsSet, IsTelling, Medium, Setting, Transfer, abrt, has_setting, idnf, is_error_log, is_no_trim, no_error_log, own_blocks, pairs_of, reading, setting_of, settable, trimming, verifying, with_setting, writing}
+use Rattle.satl_regs.specs.Effects.{Carries, HasEffect, IsCarriedOut, IsFlawed, IsGarbled, IsLogged, IsRefused, IsSet, IsTelling, Medium, Setting, Traffic, Transfer, abrt, has_setting, idnf, is_error_log, is_no_trim, no_error_log, own_blocks, pairs_of, reading, setting_of, settable, trimming, verifying, with_setting, writing}
 use Rattle.satl_identify.specs.Data.{identity_data}
 use Rattle.satl_drive.specs.State.{DriveState, IsFit, medium_of, with_medium}
 use Rattle.satl_drive.specs.Rules.{CanRun, IsCarriedOut as IsRunOut, IsCutOff, IsRun, IsRunBy, IsRunCutOff, MayRun}
 use Rattle.satl_barrier.specs.Commands.{IsTold}
-use Rattle.satl_barrier.specs.Commands.{HasRun, IsCutShort, IsNamed}
+use Rattle.satl_barrier.specs.Commands.{HasRun, IsCutShort, IsNamed, traffic}
 use Rattle.satl_barrier.specs.Leaving.{IsFree, IsLostIn, OneGlitchAtMost, SaysSo, Stays, TellsOf}
 use Rattle.satl_barrier.proofs.ToldLemmas.{all_bytes, retold}
 use Rattle.satl_barrier.specs.Settings.{IsSetOn}
@@ -67,13 +66,13 @@ can_run d command r pages idle no_error named room is again = record {
 
 -- ---- what it did
 
-pub has_run : (old : DriveState) (command : AtaCommand) (r : Registers) (given taken : List Block) (ended : Taskfile) (new : DriveState) → old.error ≡ None → r ≡ command_registers command → command_in r ≡ command → IsRun old r given ended taken new → HasRun command old given ended taken new
-has_run old command r given taken ended new no_error is again run =
-    let out : IsRunOut old r given ended taken new = subst (λ e. IsRunBy e old r given ended taken new) no_error run in
+pub has_run : (command : AtaCommand) (x : Traffic) (old new : DriveState) → old.error ≡ None → x.registers ≡ command_registers command → command_in x.registers ≡ command → IsRun x old new → HasRun command (traffic command x.given x.ended x.taken) old new
+has_run command x old new no_error is again run =
+    let out : IsRunOut x old new = subst (λ e. IsRunBy e x old new) no_error run in
     record {
       was_up = out.was_up;
       after = out.after;
-      does = subst (λ x. HasEffect command x (medium_of old) given ended taken out.after) is (subst (λ c. HasEffect c r (medium_of old) given ended taken out.after) again out.does);
+      does = subst (λ r. HasEffect command (record x { registers = r }) (medium_of old) out.after) is (subst (λ c. HasEffect c x (medium_of old) out.after) again out.does);
       lost = out.lost;
       stays = out.stays;
     }
@@ -114,14 +113,14 @@ IsRetold old new = IsAsSet old new ⊎ IsTelling new.cache new.look old.identify
 as_set : (old new : Medium) (cells : List Cell) (active : Bool) (glitches : ℕ) → new ≡ record old { cells = cells; active = active; glitches = glitches } → IsAsSet old new
 as_set old new cells active glitches is = record { cache = ap (λ (m : Medium). m.cache) is; look = ap (λ (m : Medium). m.look) is; identify = ap (λ (m : Medium). m.identify) is }
 
-pub carries_set : (r : Registers) (t : Transfer) (old : Medium) (given : List Block) (ended : Taskfile) (taken : List Block) (new : Medium) → Carries r t old given ended taken new → IsAsSet old new
-carries_set r t old given ended taken new =
-    elim (nat_lt (length old.cells) (t.lba + t.sectors)) as (λ b. MatchBool b (IsRefused r idnf r.lba old given ended taken new) (MatchOption (first_flaw t.stopped_by old.cells t.lba t.sectors) (IsCarriedOut r t old given ended taken new ⊎ IsGarbled r t old given ended taken new) (λ at. IsFlawed r t at old given ended taken new)) → IsAsSet old new) [
-      | true ↦ λ x. as_set old new _ _ _ x.medium
+pub carries_set : (t : Transfer) (x : Traffic) (old new : Medium) → Carries t x old new → IsAsSet old new
+carries_set t x old new =
+    elim (nat_lt (length old.cells) (t.lba + t.sectors)) as (λ b. MatchBool b (IsRefused idnf x.registers.lba x old new) (MatchOption (first_flaw t.stopped_by old.cells t.lba t.sectors) (IsCarriedOut t x old new ⊎ IsGarbled t x old new) (λ at. IsFlawed t at x old new)) → IsAsSet old new) [
+      | true ↦ λ does. as_set old new _ _ _ does.medium
       | false ↦
-          elim (first_flaw t.stopped_by old.cells t.lba t.sectors) as (λ o. MatchOption o (IsCarriedOut r t old given ended taken new ⊎ IsGarbled r t old given ended taken new) (λ at. IsFlawed r t at old given ended taken new) → IsAsSet old new) [
-            | None ↦ λ h. ⊎_elim (λ x. as_set old new _ _ _ x.medium) (λ x. as_set old new _ _ _ x.medium) h
-            | Some at ↦ λ x. as_set old new _ _ _ x.medium
+          elim (first_flaw t.stopped_by old.cells t.lba t.sectors) as (λ o. MatchOption o (IsCarriedOut t x old new ⊎ IsGarbled t x old new) (λ at. IsFlawed t at x old new) → IsAsSet old new) [
+            | None ↦ λ h. ⊎_elim (λ does. as_set old new _ _ _ does.medium) (λ does. as_set old new _ _ _ does.medium) h
+            | Some at ↦ λ does. as_set old new _ _ _ does.medium
           ]
     ]
 
@@ -134,32 +133,32 @@ tells_retold : (bytes : List ℕ) (old new : DriveState) → length bytes ≡ 51
 tells_retold bytes old new long fit (inl set) was = set.identify ∙ (was ∙ (ap (λ b. identity_data bytes b old.look) (sym set.cache) ∙ ap (λ b. identity_data bytes new.cache b) (sym set.look)))
 tells_retold bytes old new long fit (inr tells) was = retold bytes old.identify new.identify old.cache old.look new.cache new.look long (all_bytes new.identify fit.bytes) was tells
 
-set_retold : (found : Option Setting) (r : Registers) (old : Medium) (given : List Block) (ended : Taskfile) (taken : List Block) (new : Medium) → MatchOption found (IsRefused r abrt 0 old given ended taken new) (λ s. IsSet s r old given ended taken new) → IsRetold old new
-set_retold None r old given ended taken new x = inl (as_set old new _ _ _ x.medium)
-set_retold (Some s) r old given ended taken new x = inr x.tells
+set_retold : (found : Option Setting) (x : Traffic) (old new : Medium) → MatchOption found (IsRefused abrt 0 x old new) (λ s. IsSet s x old new) → IsRetold old new
+set_retold None x old new does = inl (as_set old new _ _ _ does.medium)
+set_retold (Some s) x old new does = inr does.tells
 
-log_set : (found : Bool) (r : Registers) (old : Medium) (given : List Block) (ended : Taskfile) (taken : List Block) (new : Medium) → MatchBool found (IsLogged r no_error_log old given ended taken new) (IsRefused r abrt 0 old given ended taken new) → IsAsSet old new
-log_set true r old given ended taken new x = as_set old new _ _ _ x.medium
-log_set false r old given ended taken new x = as_set old new _ _ _ x.medium
+log_set : (found : Bool) (x : Traffic) (old new : Medium) → MatchBool found (IsLogged no_error_log x old new) (IsRefused abrt 0 x old new) → IsAsSet old new
+log_set true x old new does = as_set old new _ _ _ does.medium
+log_set false x old new does = as_set old new _ _ _ does.medium
 
-trim_set : (none : Bool) (blocks : ℕ) (r : Registers) (old : Medium) (given : List Block) (ended : Taskfile) (taken : List Block) (new : Medium) → MatchBool none (IsRefused r abrt 0 old given ended taken new) (Carries r (trimming blocks given old) old given ended taken new) → IsAsSet old new
-trim_set true blocks r old given ended taken new x = as_set old new _ _ _ x.medium
-trim_set false blocks r old given ended taken new x = carries_set r (trimming blocks given old) old given ended taken new x
+trim_set : (none : Bool) (blocks : ℕ) (x : Traffic) (old new : Medium) → MatchBool none (IsRefused abrt 0 x old new) (Carries (trimming blocks x.given old) x old new) → IsAsSet old new
+trim_set true blocks x old new does = as_set old new _ _ _ does.medium
+trim_set false blocks x old new does = carries_set (trimming blocks x.given old) x old new does
 
-does_retell : (c : AtaCommand) (r : Registers) (old : Medium) (given : List Block) (ended : Taskfile) (taken : List Block) (new : Medium) → HasEffect c r old given ended taken new → IsRetold old new
-does_retell (commands.Read how lba sectors) r old given ended taken new x = inl (carries_set r (reading how lba sectors old) old given ended taken new x)
-does_retell (commands.Write how lba sectors) r old given ended taken new x = inl (carries_set r (writing how lba sectors given old) old given ended taken new x)
-does_retell (commands.Verify ext lba sectors) r old given ended taken new x = inl (carries_set r (verifying ext lba sectors) old given ended taken new x)
-does_retell (commands.Flush ext) r old given ended taken new x = inl (as_set old new _ _ _ x.medium)
-does_retell commands.Identify r old given ended taken new x = inl (as_set old new _ _ _ x.medium)
-does_retell (commands.SetFeatures what) r old given ended taken new x = set_retold (settable old.identify (setting_of what)) r old given ended taken new x
-does_retell commands.Standby r old given ended taken new x = inl (as_set old new _ _ _ x.medium)
-does_retell commands.Idle r old given ended taken new x = inl (as_set old new _ _ _ x.medium)
-does_retell commands.CheckPower r old given ended taken new x = inl (as_set old new _ _ _ x.medium)
-does_retell (commands.ReadLog log page blocks) r old given ended taken new x = inl (log_set (is_error_log log page blocks) r old given ended taken new x)
-does_retell (commands.Trim blocks) r old given ended taken new x = inl (trim_set (is_no_trim blocks given old) blocks r old given ended taken new x)
-does_retell commands.SmartStatus r old given ended taken new x = inl (as_set old new _ _ _ x.medium)
-does_retell (commands.Other code) r old given ended taken new x = inl (as_set old new _ _ _ x.medium)
+does_retell : (c : AtaCommand) (x : Traffic) (old new : Medium) → HasEffect c x old new → IsRetold old new
+does_retell (commands.Read how lba sectors) x old new does = inl (carries_set (reading how lba sectors old) x old new does)
+does_retell (commands.Write how lba sectors) x old new does = inl (carries_set (writing how lba sectors x.given old) x old new does)
+does_retell (commands.Verify ext lba sectors) x old new does = inl (carries_set (verifying ext lba sectors) x old new does)
+does_retell (commands.Flush ext) x old new does = inl (as_set old new _ _ _ does.medium)
+does_retell commands.Identify x old new does = inl (as_set old new _ _ _ does.medium)
+does_retell (commands.SetFeatures what) x old new does = set_retold (settable old.identify (setting_of what)) x old new does
+does_retell commands.Standby x old new does = inl (as_set old new _ _ _ does.medium)
+does_retell commands.Idle x old new does = inl (as_set old new _ _ _ does.medium)
+does_retell commands.CheckPower x old new does = inl (as_set old new _ _ _ does.medium)
+does_retell (commands.ReadLog log page blocks) x old new does = inl (log_set (is_error_log log page blocks) x old new does)
+does_retell (commands.Trim blocks) x old new does = inl (trim_set (is_no_trim blocks x.given old) blocks x old new does)
+does_retell commands.SmartStatus x old new does = inl (as_set old new _ _ _ does.medium)
+does_retell (commands.Other code) x old new does = inl (as_set old new _ _ _ does.medium)
 
 stays_after : (old new : DriveState) (after : Medium) → IsFree old → IsFit new → Loses after.cells new.cells → new ≡ record (with_medium old after) { cells = new.cells } → IsRetold (medium_of old) after → Stays old new
 stays_after old new after free fit lost stays retells = record {
@@ -179,13 +178,13 @@ stays_after old new after free fit lost stays retells = record {
         by (inl x) = inl (record { cache = x.cache; look = x.look; identify = x.identify })
         by (inr x) = inr x
 
-pub run_stays : (old new : DriveState) (c : AtaCommand) (given taken : List Block) (ended : Taskfile) → IsFree old → IsFit new → HasRun c old given ended taken new → Stays old new
-run_stays old new c given taken ended free fit run = stays_after old new run.after free fit run.lost run.stays (does_retell c (command_registers c) (medium_of old) given ended taken run.after run.does)
+pub run_stays : (c : AtaCommand) (x : Traffic) (old new : DriveState) → IsFree old → IsFit new → HasRun c x old new → Stays old new
+run_stays c x old new free fit run = stays_after old new run.after free fit run.lost run.stays (does_retell c x (medium_of old) run.after run.does)
 
-pub passed_stays : (old new : DriveState) (r : Registers) (given taken : List Block) (ended : Taskfile) → IsFree old → IsFit new → IsRun old r given ended taken new → Stays old new
-passed_stays old new r given taken ended free fit run =
-    let out : IsRunOut old r given ended taken new = subst (λ e. IsRunBy e old r given ended taken new) free.no_error run in
-    stays_after old new out.after free fit out.lost out.stays (does_retell (command_in r) r (medium_of old) given ended taken out.after out.does)
+pub passed_stays : (x : Traffic) (old new : DriveState) → IsFree old → IsFit new → IsRun x old new → Stays old new
+passed_stays x old new free fit run =
+    let out : IsRunOut x old new = subst (λ e. IsRunBy e x old new) free.no_error run in
+    stays_after old new out.after free fit out.lost out.stays (does_retell (command_in x.registers) x (medium_of old) out.after out.does)
 
 pub cut_stays : (old new : DriveState) (pairs : List Pair) → IsFit new → IsCutShort pairs old new → Stays old new
 cut_stays old new pairs fit run = record {
@@ -212,8 +211,8 @@ stays_on old mid new first rest = record {
 
 -- ---- IDENTIFY DEVICE
 
-pub told : (old new : DriveState) (given taken : List Block) (ended : Taskfile) → HasRun commands.Identify old given ended taken new → IsTold old given taken new
-told old new given taken ended run = record {
+pub told : (x : Traffic) (old new : DriveState) → HasRun commands.Identify x old new → IsTold old x.given x.taken new
+told x old new run = record {
   was_up = run.was_up;
   pages = run.does.data_in;
   lost = subst (λ (m : Medium). Loses m.cells new.cells) run.does.medium run.lost;
@@ -248,10 +247,10 @@ among pairs under_way same = All-in (λ p. IsIn p pairs) under_way (λ p i. subs
 -- ---- settings
 
 -- a setting that the drive has is made
-pub set_on : (old new : DriveState) (what : ℕ) (s : Setting) (given taken : List Block) (ended : Taskfile) → setting_of what ≡ Some s → has_setting old.identify s ≡ true → HasRun (commands.SetFeatures what) old given ended taken new → IsSetOn s old new
-set_on old new what s given taken ended is has run =
-    let set : IsSet s (command_registers (commands.SetFeatures what)) (medium_of old) given ended taken run.after =
-    subst (λ o. MatchOption o (IsRefused (command_registers (commands.SetFeatures what)) abrt 0 (medium_of old) given ended taken run.after) (λ s. IsSet s (command_registers (commands.SetFeatures what)) (medium_of old) given ended taken run.after)) settable_is run.does in
+pub set_on : (what : ℕ) (s : Setting) (x : Traffic) (old new : DriveState) → setting_of what ≡ Some s → has_setting old.identify s ≡ true → HasRun (commands.SetFeatures what) x old new → IsSetOn s old new
+set_on what s x old new is has run =
+    let set : IsSet s x (medium_of old) run.after =
+    subst (λ o. MatchOption o (IsRefused abrt 0 x (medium_of old) run.after) (λ s. IsSet s x (medium_of old) run.after)) settable_is run.does in
     let told : new.identify ≡ run.after.identify = ap (λ (d : DriveState). d.identify) run.stays in
     let cache : new.cache ≡ run.after.cache = ap (λ (d : DriveState). d.cache) run.stays in
     let look : new.look ≡ run.after.look = ap (λ (d : DriveState). d.look) run.stays in

@@ -1,18 +1,15 @@
 -- What commands that move no data do to a drive.
 use Rattle.std.proofs.Common.{◌≡◌, ⊎_elim, inl, refl, ap, subst, ◌∙◌, ℕ, ◌+◌, Bool, true, false, List, [], length, map, Some, None}
 use Rattle.std.specs.Prelude.{MatchBool, MatchOption, nat_lt, not, ◌⊎◌}
-use Rattle.satl_base.specs.declared.block.Block.{Block}
 use Rattle.satl_base.specs.Cells.{AreSound, Cell, first_flaw, settle}
 use Rattle.satl_base.specs.Losses.{Loses}
 use Rattle.satl_base.proofs.LossesLemmas.{loses_none, loses_on}
 use Rattle.satl_base.proofs.MovesLemmas.{lose_once}
-use Rattle.satl_regs.specs.declared.values.Registers.{Registers}
-use Rattle.satl_regs.specs.declared.values.Taskfile.{Taskfile}
 use Rattle.satl_regs.specs.declared.values.AtaCommand.{AtaCommand}
 use Rattle.satl_regs.specs.declared.values.AtaCommand.TheVariants as commands
-use Rattle.satl_regs.specs.Effects.{Carries, IsCarriedOut, IsFlawed, IsGarbled, IsRefused, Medium, idnf, verifying}
+use Rattle.satl_regs.specs.Effects.{Carries, IsCarriedOut, IsFlawed, IsGarbled, IsRefused, Medium, Traffic, Transfer, idnf, verifying}
 use Rattle.satl_drive.specs.State.{DriveState, medium_of, with_medium}
-use Rattle.satl_barrier.specs.Commands.{HasRunBare, IsCutShort}
+use Rattle.satl_barrier.specs.Commands.{HasRunBare, IsCutShort, traffic}
 use Rattle.satl_barrier.specs.Leaving.{IsLostIn}
 use Rattle.satl_barrier.specs.Flushing.{IsLeftWith, settled_if}
 use Rattle.satl_barrier.proofs.CommandsLemmas.{lost_after, settled_loses}
@@ -38,16 +35,20 @@ record HasLooked (old new : Medium) : Type 0 where
   active : Bool
   is : new ≡ record old { active = active }
 
-looked : (r : Registers) (lba count : ℕ) (old : Medium) (given : List Block) (ended : Taskfile) (taken : List Block) (new : Medium) → Carries r (verifying true lba count) old given ended taken new → HasLooked old new
-looked r lba count old given ended taken new =
-    elim (nat_lt (length old.cells) (lba + count)) as (λ b. MatchBool b (IsRefused r idnf r.lba old given ended taken new) (MatchOption (first_flaw (verifying true lba count).stopped_by old.cells lba count) (IsCarriedOut r (verifying true lba count) old given ended taken new ⊎ IsGarbled r (verifying true lba count) old given ended taken new) (λ at. IsFlawed r (verifying true lba count) at old given ended taken new)) → HasLooked old new) [
-      | true ↦ λ x. record { active = old.active; is = x.medium }
-      | false ↦
-          elim (first_flaw (verifying true lba count).stopped_by old.cells lba count) as (λ o. MatchOption o (IsCarriedOut r (verifying true lba count) old given ended taken new ⊎ IsGarbled r (verifying true lba count) old given ended taken new) (λ at. IsFlawed r (verifying true lba count) at old given ended taken new) → HasLooked old new) [
-            | None ↦ λ h. ⊎_elim (λ x. record { active = true; is = x.medium }) (λ x. let dma : false ≡ true = x.by_dma in absurd cc) h
-            | Some at ↦ λ x. record { active = old.active; is = x.medium ∙ ap (λ cells. record old { cells = cells }) x.part }
-          ]
-    ]
+module _ (lba count : ℕ) (x : Traffic) (old new : Medium) where
+  abbrev verify : Transfer
+  verify = verifying true lba count
+
+  looked : Carries verify x old new → HasLooked old new
+  looked =
+      elim (nat_lt (length old.cells) (lba + count)) as (λ b. MatchBool b (IsRefused idnf x.registers.lba x old new) (MatchOption (first_flaw verify.stopped_by old.cells lba count) (IsCarriedOut verify x old new ⊎ IsGarbled verify x old new) (λ at. IsFlawed verify at x old new)) → HasLooked old new) [
+        | true ↦ λ does. record { active = old.active; is = does.medium }
+        | false ↦
+            elim (first_flaw verify.stopped_by old.cells lba count) as (λ o. MatchOption o (IsCarriedOut verify x old new ⊎ IsGarbled verify x old new) (λ at. IsFlawed verify at x old new) → HasLooked old new) [
+              | None ↦ λ h. ⊎_elim (λ does. record { active = true; is = does.medium }) (λ does. let dma : false ≡ true = does.by_dma in absurd cc) h
+              | Some at ↦ λ does. record { active = old.active; is = does.medium ∙ ap (λ cells. record old { cells = cells }) does.part }
+            ]
+      ]
 
 -- a drive that was read is left as it was, active or not
 pub record IsWoken (old new : DriveState) : Type 0 where
@@ -56,7 +57,7 @@ pub record IsWoken (old new : DriveState) : Type 0 where
 
 pub woken : (old new : DriveState) → HasRunBare (commands.Verify true 0 1) old new → IsWoken old new
 woken old new bare =
-    let seen = looked _ 0 1 (medium_of old) [] bare.ended bare.taken bare.run.after bare.run.does in
+    let seen = looked 0 1 (traffic (commands.Verify true 0 1) [] bare.ended bare.taken) (medium_of old) bare.run.after bare.run.does in
     record { active = seen.active; left = left_with (commands.Verify true 0 1) old new old.cells seen.active bare seen.is }
 
 -- nothing was to be written back, or all was

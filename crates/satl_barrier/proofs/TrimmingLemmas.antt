@@ -10,9 +10,7 @@ use Rattle.satl_base.specs.declared.block.Block.{Block}
 use Rattle.satl_base.specs.declared.block.Range.{Range}
 use Rattle.satl_base.specs.Identify.{has_trim, trim_blocks}
 use Rattle.satl_regs.specs.declared.values.AtaCommand.TheVariants as commands
-use Rattle.satl_regs.specs.declared.values.Taskfile.{Taskfile}
-use Rattle.satl_regs.specs.Effects.{Carries, IsRefused, Medium, abrt, is_no_trim, is_outside, pairs_of, payload_ranges, trimming as carried, zeros_at}
-use Rattle.satl_regs.specs.Spelling.{command_registers}
+use Rattle.satl_regs.specs.Effects.{Carries, IsRefused, Medium, Traffic, abrt, is_no_trim, is_outside, pairs_of, payload_ranges, trimming as carried, zeros_at}
 use Rattle.satl_regs.specs.Trim.{addresses, entries, is_used, split, trimmed}
 use Rattle.satl_drive.specs.State.{DriveState, medium_of}
 use Rattle.satl_barrier.specs.Commands.{HasRun}
@@ -71,17 +69,17 @@ module _ (ranges : List Range) (block : Block) (pages given : List Block) (m : M
       ∙ ap (zeros_at m.cache) addresses_are
 
 -- how it ended
-pub trim_finishes : (ranges : List Range) (block : Block) (pages given : List Block) (old : DriveState) (ended : Taskfile) (taken : List Block) (new : DriveState) →
-    trimmed block.bytes ≡ filter is_used (entries ranges) → addresses (trimmed block.bytes) ≡ addresses ranges → 1 ≤ length pages → given ≡ slice_set pages 0 block →
+pub trim_finishes : (ranges : List Range) (block : Block) (pages : List Block) (x : Traffic) (old new : DriveState) →
+    trimmed block.bytes ≡ filter is_used (entries ranges) → addresses (trimmed block.bytes) ≡ addresses ranges → 1 ≤ length pages → x.given ≡ slice_set pages 0 block →
     AllByRecursion (λ range. range.lba + range.count ≤ length old.cells) ranges → has_trim old.identify ≡ true → 1 ≤ trim_blocks old.identify →
-    HasRun (commands.Trim 1) old given ended taken new → FinishesAs (trimming ranges old) 0 (finish_of ended) old new
-trim_finishes ranges block pages given old ended taken new again same room set inside has takes run =
-    subst (λ lbas. FinishesAs (over true flaws.Write 0 0 (zeros_at old.cache lbas) []) 0 (finish_of ended) old new)
-    (addresses_are ranges block pages given (medium_of old) again same room set)
-    (finishes_as true flaws.Write 0 0 (zeros_at old.cache (addresses (payload_ranges 1 given))) [] (command_registers (commands.Trim 1)) old given ended taken new gone)
+    HasRun (commands.Trim 1) x old new → FinishesAs (trimming ranges old) 0 (finish_of x.ended) old new
+trim_finishes ranges block pages x old new again same room set inside has takes run =
+    subst (λ lbas. FinishesAs (over true flaws.Write 0 0 (zeros_at old.cache lbas) []) 0 (finish_of x.ended) old new)
+    (addresses_are ranges block pages x.given (medium_of old) again same room set)
+    (finishes_as true flaws.Write 0 0 (zeros_at old.cache (addresses (payload_ranges 1 x.given))) [] x old new gone)
   where
-    carries : Carries (command_registers (commands.Trim 1)) (carried 1 given (medium_of old)) (medium_of old) given ended taken run.after
-    carries = subst (λ b. MatchBool b (IsRefused (command_registers (commands.Trim 1)) abrt 0 (medium_of old) given ended taken run.after) (Carries (command_registers (commands.Trim 1)) (carried 1 given (medium_of old)) (medium_of old) given ended taken run.after)) (trims ranges block pages given (medium_of old) again same room set inside has takes) run.does
+    carries : Carries (carried 1 x.given (medium_of old)) x (medium_of old) run.after
+    carries = subst (λ b. MatchBool b (IsRefused abrt 0 x (medium_of old) run.after) (Carries (carried 1 x.given (medium_of old)) x (medium_of old) run.after)) (trims ranges block pages x.given (medium_of old) again same room set inside has takes) run.does
 
-    gone : HasGone (over true flaws.Write 0 0 (zeros_at old.cache (addresses (payload_ranges 1 given))) []) (command_registers (commands.Trim 1)) old given ended taken new
+    gone : HasGone (over true flaws.Write 0 0 (zeros_at old.cache (addresses (payload_ranges 1 x.given))) []) x old new
     gone = record { was_up = run.was_up; within = omega arith; after = run.after; carries = carries; lost = run.lost; stays = run.stays }

@@ -6,10 +6,9 @@ use Rattle.satl_base.specs.Cells.{Pair}
 use Rattle.satl_base.specs.Losses.{Loses}
 use Rattle.satl_regs.specs.declared.values.AtaCommand.{AtaCommand}
 use Rattle.satl_regs.specs.declared.values.AtaCommand.TheVariants as commands
-use Rattle.satl_regs.specs.declared.values.Registers.{Registers}
 use Rattle.satl_regs.specs.declared.values.Taskfile.{Taskfile}
 use Rattle.satl_regs.specs.Spelling.{command_registers}
-use Rattle.satl_regs.specs.Effects.{Ata, HasEffect, Medium}
+use Rattle.satl_regs.specs.Effects.{HasEffect, Medium, Traffic}
 use Rattle.satl_drive.specs.State.{DriveState, medium_of, with_medium}
 use Rattle.satl_drive.specs.Rules.{IsCutOff, MaySet}
 
@@ -29,21 +28,17 @@ IsNamed (commands.Trim blocks) = Unit {0}
 IsNamed commands.SmartStatus = Unit {0}
 IsNamed (commands.Other code) = ⊥
 
--- a command was carried out: its effect, and sectors may have been written back (ACS-3 section 7)
-pub record HasRun (command : AtaCommand) (old : DriveState) (given : List Block) (ended : Taskfile) (taken : List Block)
-    (new : DriveState) : Type 0 where
-  pub was_up : old.down ≡ false
-  pub after : Medium
-  pub does : HasEffect command (command_registers command) (medium_of old) given ended taken after
-  pub lost : Loses after.cells new.cells
-  pub stays : new ≡ record (with_medium old after) { cells = new.cells }
+-- what goes to a drive with this command and comes back: the command is spelled in its registers (ACS-3, inputs and outputs of
+-- a command)
+abbrev pub traffic : AtaCommand → List Block → Taskfile → List Block → Traffic
+traffic command given ended taken =
+    record { registers = command_registers command; given = given; ended = ended; taken = taken }
 
--- the command in these registers was carried out: its effect, and sectors may have been written back (ACS-3 section 7)
-pub record HasPassed (regs : Registers) (old : DriveState) (given : List Block) (ended : Taskfile) (taken : List Block)
-    (new : DriveState) : Type 0 where
+-- a command was carried out: its effect, and sectors may have been written back (ACS-3 section 7)
+pub record HasRun (command : AtaCommand) (x : Traffic) (old new : DriveState) : Type 0 where
   pub was_up : old.down ≡ false
   pub after : Medium
-  pub does : Ata regs (medium_of old) given ended taken after
+  pub does : HasEffect command x (medium_of old) after
   pub lost : Loses after.cells new.cells
   pub stays : new ≡ record (with_medium old after) { cells = new.cells }
 
@@ -60,7 +55,7 @@ AreWhole blocks = AllByRecursion (λ (b : Block). length b.bytes ≡ 512) blocks
 pub record HasRunBare (command : AtaCommand) (old new : DriveState) : Type 0 where
   pub ended : Taskfile
   pub taken : List Block
-  pub run : HasRun command old [] ended taken new
+  pub run : HasRun command (traffic command [] ended taken) old new
 
 -- the drive's data stand in the first page, and sectors were written back at most (ACS-3, IDENTIFY DEVICE)
 pub record IsTold (old : DriveState) (given taken : List Block) (new : DriveState) : Type 0 where

@@ -3,7 +3,7 @@ ghost use Rattle.std.specs.Prelude.{◌≡◌, ◌≤◌, ◌+◌, [], IfOk, OnO
 ghost use Rattle.satl_drive.specs.State.{medium_of};
 ghost use Rattle.satl_regs.specs.Effects.{own_blocks, pairs_of};
 ghost use Rattle.satl_regs.specs.Spelling.{CommandFits};
-ghost use Rattle.satl_barrier.specs.Commands.{HasRun, HasRunBare, IsCutShort, IsNamed, IsTold};
+ghost use Rattle.satl_barrier.specs.Commands.{HasRun, HasRunBare, IsCutShort, IsNamed, IsTold, traffic};
 ghost use Rattle.satl_barrier.specs.Leaving.{IsFree, Stays};
 
 use satl_base::{Pages, Steps};
@@ -23,7 +23,8 @@ pub fn run<D: Drive, L: Ledger>(
     requires named { IsNamed command.now }
     requires fits { CommandFits command.now }
     requires room { own_blocks command.now ≤ length pages.old }
-    ensures ok { IfOk result (λ ended. HasRun command.now (D.state drive.old) pages.old ended pages.new (D.state drive.new)) }
+    ensures ok { IfOk result (λ ended. HasRun command.now (traffic command.now pages.old ended pages.new) (D.state drive.old)
+        (D.state drive.new)) }
     ensures err { OnErr result (IsCutShort (pairs_of command.now (medium_of (D.state drive.old)) pages.old) (D.state drive.old)
         (D.state drive.new)) }
     ensures stays { Stays (D.state drive.old) (D.state drive.new) }

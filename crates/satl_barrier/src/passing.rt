@@ -4,8 +4,9 @@ ghost use Rattle.satl_base.specs.Lists.{is_in};
 ghost use Rattle.satl_regs.specs.Commands.{command_in};
 ghost use Rattle.satl_regs.specs.Effects.{own_blocks, pairs_of};
 ghost use Rattle.satl_regs.specs.QueuedCommands.{queued_codes};
+ghost use Rattle.satl_drive.specs.Rules.{IsCarriedOut};
 ghost use Rattle.satl_drive.specs.State.{medium_of};
-ghost use Rattle.satl_barrier.specs.Commands.{AreWhole, HasPassed};
+ghost use Rattle.satl_barrier.specs.Commands.{AreWhole};
 ghost use Rattle.satl_barrier.specs.Leaving.{IsFree, IsLostIn, Stays};
 
 use satl_base::{Pages, Steps};
@@ -24,7 +25,9 @@ pub fn pass_through<D: Drive, L: Ledger>(
     requires free { IsFree (D.state drive.old) }
     requires alone { is_in regs.now.command queued_codes ≡ false }
     requires room { own_blocks (command_in regs.now) ≤ length pages.old }
-    ensures passed { IfOk result (λ ended. HasPassed regs.now (D.state drive.old) pages.old ended pages.new (D.state drive.new)) }
+    ensures passed { IfOk result (λ ended.
+        IsCarriedOut (record { registers = regs.now; given = pages.old; ended = ended; taken = pages.new })
+        (D.state drive.old) (D.state drive.new)) }
     ensures lost { OnErr result (IsLostIn (pairs_of (command_in regs.now) (medium_of (D.state drive.old)) pages.old)
         (D.state drive.old) (D.state drive.new)) }
     ensures stays { Stays (D.state drive.old) (D.state drive.new) }

@@ -9,11 +9,11 @@ returns-clause-finishes g c =
     let old = g.D.Drive.state c.args.drive.now in
     let new = g.D.Drive.state c.run.new.drive in
     subst (λ it. FinishesAs (verifying c.args.range) c.args.range.count it old new) (sym c.from.ensures)
-    (read_in c.args.range old c.args.pages.now c.in_ok-ended.ended _ new c.requires.reached c.in_ok-ended.ensures.ok)
+    (read_in c.args.range _ old new c.requires.reached c.in_ok-ended.ensures.ok)
 
 pub returns-clause-blocks : goal.returns-clause-blocks
 returns-clause-blocks g c = λ is.
     let old = g.D.Drive.state c.args.drive.now in
     let new = g.D.Drive.state c.run.new.drive in
     first_read old.cells c.args.range.lba c.args.range.count c.args.pages.now c.run.new.pages c.requires.reached.within
-    (blocks_read c.args.range old c.args.pages.now c.in_ok-ended.ended c.run.new.pages new c.requires.reached c.in_ok-ended.ensures.ok (sym c.from.ensures ∙ is))
+    (blocks_read c.args.range _ old new c.requires.reached c.in_ok-ended.ensures.ok (sym c.from.ensures ∙ is))

@@ -17,4 +17,4 @@ returns-clause-finishes g c =
     let old = g.D.Drive.state c.args.drive.now in
     let new = g.D.Drive.state c.run.new.drive in
     subst (λ it. FinishesAs (trimming c.args.ranges.now old) 0 it old new) (sym c.from.ensures)
-    (trim_finishes c.args.ranges.now c.trim_bytes.result c.args.scratch.now c.set_block.new.self old c.in_ok-ended.ended _ new c.trim_bytes.ensures.again c.trim_bytes.ensures.same c.requires.room c.set_block.ensures c.requires.within c.requires.has c.requires.takes c.in_ok-ended.ensures.ok)
+    (trim_finishes c.args.ranges.now c.trim_bytes.result c.args.scratch.now _ old new c.trim_bytes.ensures.again c.trim_bytes.ensures.same c.requires.room c.set_block.ensures c.requires.within c.requires.has c.requires.takes c.in_ok-ended.ensures.ok)

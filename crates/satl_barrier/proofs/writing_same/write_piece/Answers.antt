@@ -16,7 +16,7 @@ returns-clause-finishes g c =
     let old = g.D.Drive.state c.args.drive.now in
     let new = g.D.Drive.state c.run.new.drive in
     subst (λ it. FinishesAs (writing c.args.range (take c.args.range.count c.args.pages.now) old) c.args.range.count it old new) (sym c.from.ensures)
-    (written c.args.range old c.args.pages.now c.in_ok-ended.ended _ new c.requires.reached c.in_ok-ended.ensures.ok)
+    (written c.args.range _ old new c.requires.reached c.in_ok-ended.ensures.ok)
 
 pub returns-clause-same : goal.returns-clause-same
-returns-clause-same g c = write_keeps c.args.range _ c.args.pages.now c.in_ok-ended.ended _ _ c.requires.reached c.in_ok-ended.ensures.ok
+returns-clause-same g c = write_keeps c.args.range _ _ _ c.requires.reached c.in_ok-ended.ensures.ok
