@@ -4,6 +4,7 @@ use Rattle.std.proofs.lemmas.Bool.{cases_lt, eq-eqb, or_left}
 use Rattle.std.proofs.lemmas.List.{length-append}
 use Rattle.std.specs.Prelude.{◌==◌, ◌||◌, not, MatchBool, MatchOption, filter, min, nat_lt}
 use Rattle.satl_base.specs.declared.bench.Which.TheVariants as flaws
+use Rattle.satl_base.specs.declared.block.Range.{Range}
 use Rattle.satl_base.specs.declared.reply.Reply.{Reply}
 use Rattle.satl_base.specs.declared.reply.Scsi.TheVariants.{Good, TaskSetFull}
 use Rattle.satl_base.specs.declared.request.Request.{Request}
@@ -17,7 +18,7 @@ use Rattle.satl_line.specs.Ranged.RangedTask.{ranged_read}
 use Rattle.satl_direct.specs.Arrival.{placed, reply_to}
 use Rattle.satl_direct.specs.Arrival.Arrival.{answered, waits}
 use Rattle.satl_direct.specs.Device.{Device}
-use Rattle.satl_direct.specs.Ending.{EndsInPieces, EndsTorn, IsTaskDone, outcome_reply, task_check}
+use Rattle.satl_direct.specs.Ending.{EndsInPieces, EndsTorn, IsTaskDone, outcome_reply, same_pairs, task_check}
 use Rattle.satl_direct.specs.Senses.{read_error}
 use Rattle.satl_direct.specs.Tasks.{held_blocks, held_by, is_full, over}
 use Rattle.satl_direct.specs.Turn.{IsFirst, OneEnds, Turn}
@@ -73,11 +74,12 @@ no_glitch None after writes s t reply new same h = ap (λ d. d.glitches) h.stays
 no_glitch (Some at) after writes s t reply new same h = ap (λ d. d.glitches) h.stays
 
 -- with a flaw in its first piece there is no CRC error
-pub flaw_first : (lba count at : ℕ) (writes : List Pair) (s : Device) (t : Entry) (reply : Reply) (new : Device)
-    → EndsInPieces lba count writes s t reply new → first_flaw flaws.Write s.cells lba (min 64 count) ≡ Some at → new.glitches ≡ s.glitches
-flaw_first lba count at writes s t reply new (inl crc) flaw = absurd cc (sym flaw ∙ crc.0)
-flaw_first lba count at writes s t reply new (inr other) flaw =
-    no_glitch (first_flaw flaws.Write s.cells lba count) (record s { cells = whole s.cells writes; active = true }) writes s t reply new refl other
+pub flaw_first : (range : Range) (at : ℕ) (s : Device) (t : Entry) (reply : Reply) (new : Device)
+    → EndsInPieces range s t reply new → first_flaw flaws.Write s.cells range.lba (min 64 range.count) ≡ Some at → new.glitches ≡ s.glitches
+flaw_first range at s t reply new (inl crc) flaw = absurd cc (sym flaw ∙ crc.0)
+flaw_first range at s t reply new (inr other) flaw =
+    let writes : List Pair = same_pairs range.lba range.count t.body s.modes.wce in
+    no_glitch (first_flaw flaws.Write s.cells range.lba range.count) (record s { cells = whole s.cells writes; active = true }) writes s t reply new refl other
 
 -- a filter that keeps all
 pub filter_all : {X : Type 0} (xs : List X) → filter (λ x. not false) xs ≡ xs

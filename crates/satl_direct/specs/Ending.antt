@@ -2,6 +2,7 @@
 use Rattle.std.specs.Prelude.{◌≡◌, ◌⊎◌, ℕ, ◌+◌, ◌*◌, ◌&&◌, ◌||◌, not, min, Bool, true, false, if◌then◌else◌, List, [], ◌∷◌, Option, Some, None, MatchBool, MatchOption, length, map, replicate, unwrap_or}
 use Rattle.satl_base.specs.Limits.{piece}
 use Rattle.satl_base.specs.declared.block.Block.{Block}
+use Rattle.satl_base.specs.declared.block.Range.{Range}
 use Rattle.satl_base.specs.declared.bench.Which.TheVariants as flaws
 use Rattle.satl_base.specs.declared.modes.Modes.{Modes}
 use Rattle.satl_base.specs.declared.reply.Reply.{Reply}
@@ -101,31 +102,32 @@ same_pairs lba count (block ∷ blocks) cached = pairs_from lba (replicate count
 
 -- a WRITE SAME goes over pieces of 64 blocks upwards, so a CRC error may come where the first piece has no flaw; else the
 -- lowest flaw of all decides (SBC-3 5.42; the pieces: profile)
-abbrev pub EndsInPieces : ℕ → ℕ → List Pair → Device → Entry → Reply → Device → Type 0
-EndsInPieces lba count writes s t reply new =
-    ((first_flaw flaws.Write s.cells lba (min piece count) ≡ None) × EndsGarbled writes s t reply new)
-    ⊎ MatchOption (first_flaw flaws.Write s.cells lba count)
+abbrev pub EndsInPieces : Range → Device → Entry → Reply → Device → Type 0
+EndsInPieces range s t reply new =
+    let writes : List Pair = same_pairs range.lba range.count t.body s.modes.wce in
+    ((first_flaw flaws.Write s.cells range.lba (min piece range.count) ≡ None) × EndsGarbled writes s t reply new)
+    ⊎ MatchOption (first_flaw flaws.Write s.cells range.lba range.count)
     (IsTaskDone (record s { cells = whole s.cells writes; active = true }) t reply new)
     (λ at. EndsTorn writes at s t reply new)
 
 -- VERIFY: a read flaw in its range, or it is done (SBC-3 5.33)
-abbrev pub EndsVerified : ℕ → ℕ → Device → Entry → Reply → Device → Type 0
-EndsVerified lba count s t reply new =
-    MatchOption (first_flaw flaws.Read s.cells lba count)
+abbrev pub EndsVerified : Range → Device → Entry → Reply → Device → Type 0
+EndsVerified range s t reply new =
+    MatchOption (first_flaw flaws.Read s.cells range.lba range.count)
     (IsTaskDone (record s { active = true }) t reply new)
     (λ at. IsChecked (read_error at) s t reply new)
 
 -- the data-out are what reads give, and it is done; or they differ (SBC-3 5.33, BYTCHK)
-abbrev pub IsCompared : ℕ → ℕ → Device → Entry → Reply → Device → Type 0
-IsCompared lba count s t reply new =
-    ((t.body ≡ nows s.cells lba count) × IsTaskDone (record s { active = true }) t reply new)
-    ⊎ ((t.body ≡ nows s.cells lba count → ⊥) × IsChecked miscompare s t reply new)
+abbrev pub IsCompared : Range → Device → Entry → Reply → Device → Type 0
+IsCompared range s t reply new =
+    ((t.body ≡ nows s.cells range.lba range.count) × IsTaskDone (record s { active = true }) t reply new)
+    ⊎ ((t.body ≡ nows s.cells range.lba range.count → ⊥) × IsChecked miscompare s t reply new)
 
 -- VERIFY with comparison: a read flaw in its range; a CRC error; or it is compared (SBC-3 5.33; of CRC errors: profile)
-abbrev pub EndsCompared : ℕ → ℕ → Device → Entry → Reply → Device → Type 0
-EndsCompared lba count s t reply new =
-    MatchOption (first_flaw flaws.Read s.cells lba count)
-    (EndsGarbled [] s t reply new ⊎ IsCompared lba count s t reply new)
+abbrev pub EndsCompared : Range → Device → Entry → Reply → Device → Type 0
+EndsCompared range s t reply new =
+    MatchOption (first_flaw flaws.Read s.cells range.lba range.count)
+    (EndsGarbled [] s t reply new ⊎ IsCompared range s t reply new)
     (λ at. IsChecked (read_error at) s t reply new)
 
 -- every sector is written back (SBC-3, SYNCHRONIZE CACHE)
@@ -201,7 +203,7 @@ pub record EndsPassed (pass : Pass) (s : Device) (t : Entry) (reply : Reply) (ne
   pub ended : Taskfile
   pub taken : List Block
   pub after : Medium
-  pub does : Ata pass.regs (medium_of s) given ended taken after
+  pub does : Ata (record { registers = pass.regs; given = given; ended = ended; taken = taken }) (medium_of s) after
   pub answer : reply ≡ pass_reply s t pass ended taken
   pub stays : new ≡ record s {
     cells = after.cells;
@@ -218,11 +220,10 @@ EndsBy (commands.ModeSelect ten size) s t reply new = IsTaskDone (after_select s
 EndsBy (commands.StartStop start no_flush) s t reply new = IsTaskDone (after_start_stop start no_flush s) t reply new
 EndsBy (commands.Read form lba count fua) s t reply new = EndsOnMedium (ranged_read fua (over lba count)) s t reply new
 EndsBy (commands.Write form lba count fua) s t reply new = EndsOnMedium (ranged_write fua (over lba count) t.body) s t reply new
-EndsBy (commands.Verify form lba count false) s t reply new = EndsVerified lba count s t reply new
-EndsBy (commands.Verify form lba count true) s t reply new = EndsCompared lba count s t reply new
+EndsBy (commands.Verify form lba count false) s t reply new = EndsVerified (over lba count) s t reply new
+EndsBy (commands.Verify form lba count true) s t reply new = EndsCompared (over lba count) s t reply new
 EndsBy (commands.Flush form lba count) s t reply new = IsTaskDone (settled s) t reply new
-EndsBy (commands.WriteSame form lba count false) s t reply new =
-    EndsInPieces lba count (same_pairs lba count t.body s.modes.wce) s t reply new
+EndsBy (commands.WriteSame form lba count false) s t reply new = EndsInPieces (over lba count) s t reply new
 EndsBy (commands.WriteSame form lba count true) s t reply new = EndsOnMedium (ranged_trim (over lba count ∷ [])) s t reply new
 EndsBy (commands.Unmap size) s t reply new = EndsOnMedium (ranged_trim t.ranges.items) s t reply new
 EndsBy (commands.Pass cdb) s t reply new = EndsPassed (pass_of cdb) s t reply new

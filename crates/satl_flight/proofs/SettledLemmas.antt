@@ -13,9 +13,7 @@ use Rattle.satl_base.specs.Moves.{stay}
 use Rattle.satl_base.proofs.ListsLemmas.{All-find, All-remove_first, find_passes, length-remove_first}
 use Rattle.satl_base.proofs.CellsLemmas.{part_split, part-write_flaws}
 use Rattle.satl_base.proofs.MovesLemmas.{moves_on, moves_of_part, lose_once}
-use Rattle.satl_regs.specs.declared.values.Registers.{Registers}
-use Rattle.satl_regs.specs.declared.values.Taskfile.{Taskfile}
-use Rattle.satl_regs.specs.Effects.{unc}
+use Rattle.satl_regs.specs.Effects.{Traffic, unc}
 use Rattle.satl_errlog.specs.declared.entry.NcqError.{NcqError}
 use Rattle.satl_errlog.specs.Log.{log_of, log_says}
 use Rattle.satl_errlog.proofs.Logs.{log_back}
@@ -271,9 +269,9 @@ module _ (flying : List Flying) (tasks : List Held) (old : DriveState) (tie : Is
       (t.0, (t.1.0, (flown.small, log_back failed.entry fits.tag fits.lba fits.count)))
 
   -- all that the error took away, but for the one that failed
-  pub settled_failed : (place : ℕ) (f : Flying) (held : Held) (slots taken : Slots) (body : List Block) (mid new : DriveState) (failed : IsFailed old slots taken mid) (r : Registers) (given : List Block) (ended : Taskfile) (got : List Block) → IsLogRead failed.entry mid r given ended got new
+  pub settled_failed : (place : ℕ) (f : Flying) (held : Held) (slots taken : Slots) (body : List Block) (mid new : DriveState) (failed : IsFailed old slots taken mid) (x : Traffic) → IsLogRead failed.entry x mid new
       → find (has_tag failed.entry.tag) flying ≡ Some f → IsAt tasks place f.slot held → (ranged : RangedTask) × ((ranged_of held.entry ≡ Some ranged) × IsSettled tasks old place (outcome_of (Some failed.entry) ranged body) [] new)
-  settled_failed place f held slots taken body mid new failed r given ended got read found at = (flown.ranged, (of_held, go flown.ranged refl))
+  settled_failed place f held slots taken body mid new failed x read found at = (flown.ranged, (of_held, go flown.ranged refl))
     where
       e : NcqError
       e = failed.entry

@@ -7,10 +7,9 @@ use Rattle.satl_base.specs.Losses.{Loses}
 use Rattle.satl_base.specs.Moves.{Moves}
 use Rattle.satl_io.specs.Causes.{Rose}
 use Rattle.satl_regs.specs.declared.values.Registers.{Registers}
-use Rattle.satl_regs.specs.declared.values.Taskfile.{Taskfile}
 use Rattle.satl_regs.specs.declared.values.AtaCommand.TheVariants.{ReadLog}
 use Rattle.satl_regs.specs.Commands.{command_in}
-use Rattle.satl_regs.specs.Effects.{icrc, unc}
+use Rattle.satl_regs.specs.Effects.{Traffic, icrc, unc}
 use Rattle.satl_errlog.specs.declared.entry.NcqError.{NcqError}
 use Rattle.satl_line.specs.Eligible.{IsEligibleBy, eligible_by}
 use Rattle.satl_line.specs.Ending.{EndsAs, Outcome, active_after}
@@ -135,11 +134,8 @@ pub record Settles (flying : List Flying) (slots : Slots) (tasks : List Held) (o
 
 -- the error log was read (ACS-3 annex A, log 10h)
 pub record HasReadLog (e : NcqError) (old new : DriveState) : Type 0 where
-  pub registers : Registers
-  pub given : List Block
-  pub ended : Taskfile
-  pub taken : List Block
-  pub read : IsLogRead e old registers given ended taken new
+  pub traffic : Traffic
+  pub read : IsLogRead e traffic old new
 
 -- the link was lost while it was read (profile)
 pub record IsLogCutOff (old new : DriveState) : Type 0 where

@@ -4,6 +4,7 @@ use Rattle.std.specs.Prelude.{◌&&◌, not, Ok}
 use Rattle.std.specs.List.{AllByRecursion}
 use Rattle.std.proofs.lemmas.Bool.{MatchBool-at_false}
 use Rattle.satl_base.specs.declared.bench.Which.TheVariants as flaws
+use Rattle.satl_base.specs.declared.block.Range.{Range}
 use Rattle.satl_base.specs.declared.reply.Reply.{Reply}
 use Rattle.satl_base.specs.Cells.{Cell, Pair, first_flaw, settle}
 use Rattle.satl_base.specs.Moves.{Moves, stay, lose, write}
@@ -88,12 +89,12 @@ module _ (s new : Device) (t : Entry) (reply : Reply) (calm : IsCalm s) where
       go (ends_flawed lba) f is = absurd (let no : Some lba ≡ None = sym f.flaw ∙ none in cc)
       go ends_glitched g is = absurd (omega (arith, g.one_glitch, calm.no_glitches))
 
-  verified : (lba count : ℕ) → EndsVerified lba count s t reply new → IsCalm new
-  verified lba count = by_option (first_flaw flaws.Read s.cells lba count) (active_done true) (λ at e. checked_calm e)
+  verified : (range : Range) → EndsVerified range s t reply new → IsCalm new
+  verified range = by_option (first_flaw flaws.Read s.cells range.lba range.count) (active_done true) (λ at e. checked_calm e)
 
-  compared : (lba count : ℕ) → EndsCompared lba count s t reply new → IsCalm new
-  compared lba count =
-      by_option (first_flaw flaws.Read s.cells lba count)
+  compared : (range : Range) → EndsCompared range s t reply new → IsCalm new
+  compared range =
+      by_option (first_flaw flaws.Read s.cells range.lba range.count)
       (⊎_elim (λ e. absurd (omega (arith, e.one_glitch, calm.no_glitches))) (⊎_elim (λ e. active_done true e.1) (λ e. checked_calm e.1)))
       (λ at e. checked_calm e)
 
@@ -118,8 +119,8 @@ module _ (s new : Device) (t : Entry) (reply : Reply) (calm : IsCalm s) where
   command_calm (commands.Write form lba count fua) plain steady e =
       let m = on_medium (ranged_write fua (over lba count) t.body) (no_flaw flaws.Write s.cells lba count calm.clean) e in
       record { calm_still = m.after; whole_write = λ b. m.good }
-  command_calm (commands.Verify form lba count false) plain steady e = record { calm_still = verified lba count e; whole_write = λ b. absurd cc }
-  command_calm (commands.Verify form lba count true) plain steady e = record { calm_still = compared lba count e; whole_write = λ b. absurd cc }
+  command_calm (commands.Verify form lba count false) plain steady e = record { calm_still = verified (over lba count) e; whole_write = λ b. absurd cc }
+  command_calm (commands.Verify form lba count true) plain steady e = record { calm_still = compared (over lba count) e; whole_write = λ b. absurd cc }
   command_calm (commands.Flush form lba count) plain steady e = record { calm_still = done_calm (settled s) (settled_calm true s calm) e; whole_write = λ b. absurd cc }
   command_calm (commands.WriteSame form lba count unmap) plain steady e = absurd cc
   command_calm (commands.Unmap size) plain steady e = absurd cc

@@ -5,9 +5,7 @@ use Rattle.satl_base.specs.declared.block.Block.{Block}
 use Rattle.satl_base.specs.Cells.{Pair, first_flaw}
 use Rattle.satl_regs.specs.declared.values.AtaCommand.{AtaCommand}
 use Rattle.satl_regs.specs.declared.values.AtaCommand.TheVariants as ata
-use Rattle.satl_regs.specs.declared.values.Registers.{Registers}
-use Rattle.satl_regs.specs.declared.values.Taskfile.{Taskfile}
-use Rattle.satl_regs.specs.Effects.{Carries, HasEffect, IsSet, Medium, Setting, Transfer, is_error_log, is_no_trim, pairs_of, reading, setting_of, settable, trimming, verifying, writing}
+use Rattle.satl_regs.specs.Effects.{Carries, HasEffect, IsSet, Medium, Setting, Traffic, Transfer, is_error_log, is_no_trim, pairs_of, reading, setting_of, settable, trimming, verifying, writing}
 use Rattle.satl_regs.specs.Effects.Setting.{sets_cache, sets_look}
 use Rattle.satl_laws.specs.Untouched.{Spares}
 use Rattle.satl_laws.proofs.Cases.{by_bool, by_option}
@@ -25,13 +23,13 @@ pub record Carried (a : AtaCommand) (given : List Block) (old new : Medium) : Ty
   pub spared : (x : ℕ) → Spares x (pairs_of a old given) → Spares x pairs
   pub cells : Steps pairs old.cells new.cells
 
-module _ (r : Registers) (old new : Medium) (given taken : List Block) (ended : Taskfile) where
+module _ (x : Traffic) (old new : Medium) where
   -- a command that leaves the sectors
-  as_before : (a : AtaCommand) → new.cells ≡ old.cells → Carried a given old new
-  as_before a same = record { pairs = []; spared = λ x h. refl; cells = stays old.cells new.cells same }
+  as_before : (a : AtaCommand) → new.cells ≡ old.cells → Carried a x.given old new
+  as_before a same = record { pairs = []; spared = λ y h. refl; cells = stays old.cells new.cells same }
 
   -- a command that goes over a range
-  transfer : (a : AtaCommand) (t : Transfer) → (nat_lt (length old.cells) (t.lba + t.sectors) ≡ false → pairs_of a old given ≡ t.writes) → Carries r t old given ended taken new → Carried a given old new
+  transfer : (a : AtaCommand) (t : Transfer) → (nat_lt (length old.cells) (t.lba + t.sectors) ≡ false → pairs_of a old x.given ≡ t.writes) → Carries t x old new → Carried a x.given old new
   transfer a t is =
       by_bool_is (nat_lt (length old.cells) (t.lba + t.sectors)) (λ h. as_before a (ap (λ m. m.cells) h.medium))
       (λ fits. by_option (first_flaw t.stopped_by old.cells t.lba t.sectors)
@@ -40,23 +38,23 @@ module _ (r : Registers) (old new : Medium) (given taken : List Block) (ended : 
       (λ h. carried (is fits) (parts h.part)))
       (λ at h. carried (is fits) (parts h.part)))
     where
-      carried : pairs_of a old given ≡ t.writes → Steps t.writes old.cells new.cells → Carried a given old new
-      carried same steps = record { pairs = t.writes; spared = λ x h. subst (Spares x) same h; cells = steps }
+      carried : pairs_of a old x.given ≡ t.writes → Steps t.writes old.cells new.cells → Carried a x.given old new
+      carried same steps = record { pairs = t.writes; spared = λ y h. subst (Spares y) same h; cells = steps }
 
   -- a setting
-  set_carried : (a : AtaCommand) (setting : Setting) → IsSet setting r old given ended taken new → Carried a given old new
+  set_carried : (a : AtaCommand) (setting : Setting) → IsSet setting x old new → Carried a x.given old new
   set_carried a (sets_cache true) h = as_before a (ap (λ m. m.cells) h.medium)
-  set_carried a (sets_cache false) h = record { pairs = []; spared = λ x k. refl; cells = settles (ap (λ m. m.cells) h.medium) }
+  set_carried a (sets_cache false) h = record { pairs = []; spared = λ y k. refl; cells = settles (ap (λ m. m.cells) h.medium) }
   set_carried a (sets_look on) h = as_before a (ap (λ m. m.cells) h.medium)
 
   -- each command
-  pub carried_out : (a : AtaCommand) → HasEffect a r old given ended taken new → Carried a given old new
+  pub carried_out : (a : AtaCommand) → HasEffect a x old new → Carried a x.given old new
   carried_out (ata.Read how lba sectors) h = transfer (ata.Read how lba sectors) (reading how lba sectors old) (λ fits. refl) h
   carried_out (ata.Write how lba sectors) h =
-      transfer (ata.Write how lba sectors) (writing how lba sectors given old)
-      (λ fits. ap (λ b. if b then [] else (writing how lba sectors given old).writes) fits) h
+      transfer (ata.Write how lba sectors) (writing how lba sectors x.given old)
+      (λ fits. ap (λ b. if b then [] else (writing how lba sectors x.given old).writes) fits) h
   carried_out (ata.Verify ext lba sectors) h = transfer (ata.Verify ext lba sectors) (verifying ext lba sectors) (λ fits. refl) h
-  carried_out (ata.Flush ext) h = record { pairs = []; spared = λ x k. refl; cells = settles (ap (λ m. m.cells) h.medium) }
+  carried_out (ata.Flush ext) h = record { pairs = []; spared = λ y k. refl; cells = settles (ap (λ m. m.cells) h.medium) }
   carried_out ata.Identify h = as_before ata.Identify (ap (λ m. m.cells) h.medium)
   carried_out (ata.SetFeatures what) h =
       by_option (settable old.identify (setting_of what)) (λ k. as_before (ata.SetFeatures what) (ap (λ m. m.cells) k.medium)) (λ setting k. set_carried (ata.SetFeatures what) setting k) h
@@ -66,7 +64,7 @@ module _ (r : Registers) (old new : Medium) (given taken : List Block) (ended : 
   carried_out (ata.ReadLog log page blocks) h =
       by_bool (is_error_log log page blocks) (λ k. as_before (ata.ReadLog log page blocks) (ap (λ m. m.cells) k.medium)) (λ k. as_before (ata.ReadLog log page blocks) (ap (λ m. m.cells) k.medium)) h
   carried_out (ata.Trim blocks) h =
-      by_bool_is (is_no_trim blocks given old) (λ k. as_before (ata.Trim blocks) (ap (λ m. m.cells) k.medium))
-      (λ trims k. transfer (ata.Trim blocks) (trimming blocks given old) (λ fits. ap (λ b. if b then [] else (trimming blocks given old).writes) trims) k) h
+      by_bool_is (is_no_trim blocks x.given old) (λ k. as_before (ata.Trim blocks) (ap (λ m. m.cells) k.medium))
+      (λ trims k. transfer (ata.Trim blocks) (trimming blocks x.given old) (λ fits. ap (λ b. if b then [] else (trimming blocks x.given old).writes) trims) k) h
   carried_out ata.SmartStatus h = as_before ata.SmartStatus (ap (λ m. m.cells) h.medium)
   carried_out (ata.Other code) h = as_before (ata.Other code) (ap (λ m. m.cells) h.medium)

@@ -3,6 +3,7 @@ use Rattle.std.proofs.Common.{◌≡◌, ⊎_elim, inl, inr, refl, sym, ap, ◌�
 use Rattle.std.specs.Prelude.{not, ◌&&◌, ◌||◌}
 use Rattle.satl_base.specs.declared.reply.Reply.{Reply}
 use Rattle.satl_base.specs.declared.bench.Which.TheVariants as flaws
+use Rattle.satl_base.specs.declared.block.Range.{Range}
 use Rattle.satl_base.specs.Cells.{Pair, first_flaw}
 use Rattle.satl_base.specs.Lists.{IsIn}
 use Rattle.satl_cdb.specs.declared.command.Command.{Command}
@@ -15,7 +16,7 @@ use Rattle.satl_line.specs.Ranged.{RangedTask}
 use Rattle.satl_line.specs.Ending.{Outcome}
 use Rattle.satl_line.specs.Ending.Outcome.{ends_done, ends_flawed, ends_glitched}
 use Rattle.satl_direct.specs.Device.{Device, without}
-use Rattle.satl_direct.specs.Tasks.{asks}
+use Rattle.satl_direct.specs.Tasks.{asks, over}
 use Rattle.satl_direct.specs.Ending.{Ends, EndsBy, EndsCompared, EndsGarbled, EndsInPieces, EndsOnMedium, EndsPassed, EndsTorn, EndsVerified, IsChecked, IsTaskDone, after_select, after_start_stop, outcome_reply, settled, settled_if, selected}
 use Rattle.satl_direct.specs.Turn.{IsFirst, MayEnd}
 use Rattle.satl_laws.proofs.Cases.{by_bool, by_option}
@@ -71,18 +72,18 @@ module _ (s new : Device) (t : Entry) (reply : Reply) where
   torn_leaves : (writes : List Pair) (lba : ℕ) → EndsTorn writes lba s t reply new → Leaves s t reply new
   torn_leaves writes lba e = record { tasks = ap (λ d. d.tasks) e.stays; nexus = ap (λ r. r.nexus) e.answer; tag = ap (λ r. r.tag) e.answer }
 
-  pieces_leave : (lba count : ℕ) (writes : List Pair) → EndsInPieces lba count writes s t reply new → Leaves s t reply new
-  pieces_leave lba count writes =
+  pieces_leave : (range : Range) → EndsInPieces range s t reply new → Leaves s t reply new
+  pieces_leave range =
       ⊎_elim
-      (λ g. garbled_leaves writes g.1)
-      (by_option (first_flaw flaws.Write s.cells lba count) (done_leaves _ refl) (λ at e. torn_leaves writes at e))
+      (λ g. garbled_leaves _ g.1)
+      (by_option (first_flaw flaws.Write s.cells range.lba range.count) (done_leaves _ refl) (λ at e. torn_leaves _ at e))
 
-  verified_leaves : (lba count : ℕ) → EndsVerified lba count s t reply new → Leaves s t reply new
-  verified_leaves lba count = by_option (first_flaw flaws.Read s.cells lba count) (done_leaves _ refl) (λ at e. checked_leaves _ e)
+  verified_leaves : (range : Range) → EndsVerified range s t reply new → Leaves s t reply new
+  verified_leaves range = by_option (first_flaw flaws.Read s.cells range.lba range.count) (done_leaves _ refl) (λ at e. checked_leaves _ e)
 
-  compared_leaves : (lba count : ℕ) → EndsCompared lba count s t reply new → Leaves s t reply new
-  compared_leaves lba count =
-      by_option (first_flaw flaws.Read s.cells lba count)
+  compared_leaves : (range : Range) → EndsCompared range s t reply new → Leaves s t reply new
+  compared_leaves range =
+      by_option (first_flaw flaws.Read s.cells range.lba range.count)
       (⊎_elim (garbled_leaves []) (⊎_elim (λ e. done_leaves _ refl e.1) (λ e. checked_leaves _ e.1)))
       (λ at e. checked_leaves _ e)
 
@@ -102,10 +103,10 @@ module _ (s new : Device) (t : Entry) (reply : Reply) where
   command_leaves (commands.ReportLuns select alloc) e = absurd e
   command_leaves (commands.Read form lba count fua) e = medium_leaves _ e
   command_leaves (commands.Write form lba count fua) e = medium_leaves _ e
-  command_leaves (commands.Verify form lba count false) e = verified_leaves lba count e
-  command_leaves (commands.Verify form lba count true) e = compared_leaves lba count e
+  command_leaves (commands.Verify form lba count false) e = verified_leaves (over lba count) e
+  command_leaves (commands.Verify form lba count true) e = compared_leaves (over lba count) e
   command_leaves (commands.Flush form lba count) e = done_leaves (settled s) refl e
-  command_leaves (commands.WriteSame form lba count false) e = pieces_leave lba count _ e
+  command_leaves (commands.WriteSame form lba count false) e = pieces_leave (over lba count) e
   command_leaves (commands.WriteSame form lba count true) e = medium_leaves _ e
   command_leaves (commands.Unmap size) e = medium_leaves _ e
   command_leaves (commands.Pass cdb) e = passed_leaves _ e

@@ -3,10 +3,12 @@ use Rattle.std.proofs.Common.{◌≡◌, ⊎_elim, refl, sym, ap, ◌∙◌, sub
 use Rattle.std.specs.Prelude.{not, ◌==◌, ◌&&◌}
 use Rattle.std.specs.List.{list_any}
 use Rattle.satl_base.specs.declared.bench.Which.TheVariants as flaws
+use Rattle.satl_base.specs.declared.block.Range.{Range}
 use Rattle.satl_base.specs.declared.reply.Reply.{Reply}
 use Rattle.satl_base.specs.Cells.{Pair, first_flaw}
 use Rattle.satl_cdb.specs.declared.command.Command.{Command}
 use Rattle.satl_cdb.specs.declared.command.Command.TheVariants as commands
+use Rattle.satl_cdb.specs.declared.command.Form.{Form}
 use Rattle.satl_sense.specs.declared.sense.Sense.{Sense}
 use Rattle.satl_regs.specs.Commands.{command_in}
 use Rattle.satl_regs.specs.Effects.{pairs_of}
@@ -15,7 +17,7 @@ use Rattle.satl_line.specs.Ranged.{RangedTask, written_pairs}
 use Rattle.satl_line.specs.Ending.{EndsAs, Outcome}
 use Rattle.satl_line.specs.Ending.Outcome.{ends_done, ends_flawed, ends_glitched}
 use Rattle.satl_direct.specs.Device.{Device}
-use Rattle.satl_direct.specs.Tasks.{asks, pass_of}
+use Rattle.satl_direct.specs.Tasks.{asks, over, pass_of}
 use Rattle.satl_direct.specs.Ending.{Ends, EndsBy, EndsCompared, EndsInPieces, EndsOnMedium, EndsPassed, EndsVerified, IsChecked, IsTaskDone, after_select, after_start_stop, medium_of, selected, settled, settled_if}
 use Rattle.satl_direct.specs.Quiet.{written_by}
 use Rattle.satl_laws.specs.Untouched.{Spares}
@@ -74,26 +76,29 @@ module _ (s new : Device) (t : Entry) (reply : Reply) where
     identity = ap (λ d. d.identity) e.stays;
   }
 
-  in_pieces : (c : Command) (lba count : ℕ) → EndsInPieces lba count (written_by c s t) s t reply new → Reaches c s t new
-  in_pieces c lba count =
+  in_pieces : (form : Form) (lba count : ℕ) → EndsInPieces (over lba count) s t reply new → Reaches (commands.WriteSame form lba count false) s t new
+  in_pieces form lba count =
       ⊎_elim
       (λ e. reached (parts (e.1).part) (ap (λ d. d.identity) (e.1).stays))
       (by_option (first_flaw flaws.Write s.cells lba count)
-      (λ e. reached (all_of (written_by c s t) s.cells new.cells (ap (λ d. d.cells) e.stays)) (ap (λ d. d.identity) e.stays))
+      (λ e. reached (all_of writes s.cells new.cells (ap (λ d. d.cells) e.stays)) (ap (λ d. d.identity) e.stays))
       (λ at e. reached (parts e.part) (ap (λ d. d.identity) e.stays)))
     where
-      reached : Steps (written_by c s t) s.cells new.cells → new.identity ≡ s.identity → Reaches c s t new
-      reached steps same = record { pairs = written_by c s t; spared = λ x own h. h; cells = steps; identity = same }
+      writes : List Pair
+      writes = written_by (commands.WriteSame form lba count false) s t
+
+      reached : Steps writes s.cells new.cells → new.identity ≡ s.identity → Reaches (commands.WriteSame form lba count false) s t new
+      reached steps same = record { pairs = writes; spared = λ x own h. h; cells = steps; identity = same }
 
   same_done : (c : Command) (active : Bool) → IsTaskDone (record s { active = active }) t reply new → Reaches c s t new
   same_done c active = done c (record s { active = active }) (stays s.cells s.cells refl) refl
 
-  verified : (c : Command) (lba count : ℕ) → EndsVerified lba count s t reply new → Reaches c s t new
-  verified c lba count = by_option (first_flaw flaws.Read s.cells lba count) (same_done c true) (λ at e. checked c _ e)
+  verified : (c : Command) (range : Range) → EndsVerified range s t reply new → Reaches c s t new
+  verified c range = by_option (first_flaw flaws.Read s.cells range.lba range.count) (same_done c true) (λ at e. checked c _ e)
 
-  compared : (c : Command) (lba count : ℕ) → EndsCompared lba count s t reply new → Reaches c s t new
-  compared c lba count =
-      by_option (first_flaw flaws.Read s.cells lba count)
+  compared : (c : Command) (range : Range) → EndsCompared range s t reply new → Reaches c s t new
+  compared c range =
+      by_option (first_flaw flaws.Read s.cells range.lba range.count)
       (⊎_elim (λ e. nothing_put c (parts e.part) (ap (λ d. d.identity) e.stays)) (⊎_elim (λ e. same_done c true e.1) (λ e. checked c _ e.1)))
       (λ at e. checked c _ e)
 
@@ -106,7 +111,7 @@ module _ (s new : Device) (t : Entry) (reply : Reply) where
   }
     where
       effect : Carried (command_in (pass_of cdb).regs) e.given (medium_of s) e.after
-      effect = carried_out (pass_of cdb).regs (medium_of s) e.after e.given e.taken e.ended (command_in (pass_of cdb).regs) e.does
+      effect = carried_out (record { registers = (pass_of cdb).regs; given = e.given; ended = e.ended; taken = e.taken }) (medium_of s) e.after (command_in (pass_of cdb).regs) e.does
 
       handed_in : (x : ℕ) → WritesItsOwn (commands.Pass cdb) → Spares x (pairs_of (command_in (pass_of cdb).regs) (medium_of s) t.body) → (b : Bool) → (pass_of cdb).out ≡ b
           → Spares x (pairs_of (command_in (pass_of cdb).regs) (medium_of s) e.given)
@@ -126,10 +131,10 @@ module _ (s new : Device) (t : Entry) (reply : Reply) where
   by_command (commands.ReportLuns select alloc) e = absurd e
   by_command (commands.Read form lba count fua) e = on_medium (commands.Read form lba count fua) _ refl e
   by_command (commands.Write form lba count fua) e = on_medium (commands.Write form lba count fua) _ refl e
-  by_command (commands.Verify form lba count false) e = verified (commands.Verify form lba count false) lba count e
-  by_command (commands.Verify form lba count true) e = compared (commands.Verify form lba count true) lba count e
+  by_command (commands.Verify form lba count false) e = verified (commands.Verify form lba count false) (over lba count) e
+  by_command (commands.Verify form lba count true) e = compared (commands.Verify form lba count true) (over lba count) e
   by_command (commands.Flush form lba count) e = done (commands.Flush form lba count) (settled s) (settles refl) refl e
-  by_command (commands.WriteSame form lba count false) e = in_pieces (commands.WriteSame form lba count false) lba count e
+  by_command (commands.WriteSame form lba count false) e = in_pieces form lba count e
   by_command (commands.WriteSame form lba count true) e = on_medium (commands.WriteSame form lba count true) _ refl e
   by_command (commands.Unmap size) e = on_medium (commands.Unmap size) _ refl e
   by_command (commands.Pass cdb) e = passed cdb e
