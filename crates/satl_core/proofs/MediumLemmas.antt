@@ -116,17 +116,21 @@ module _ (identity : Identity) (modes : Modes) (started : Bool) (attentions : Li
 
 -- ---- the cases of the device
 
-verified_by : (s : Device) (t : Entry) (reply : Reply) (new : Device) (lba count : ℕ) (o : Option ℕ) → first_flaw flaws.Read s.cells lba count ≡ o
-    → MatchOption o (IsTaskDone (record s { active = true }) t reply new) (λ at. IsChecked (read_error at) s t reply new) → EndsVerified lba count s t reply new
-verified_by s t reply new lba count o is x = subst (λ o. MatchOption o (IsTaskDone (record s { active = true }) t reply new) (λ at. IsChecked (read_error at) s t reply new)) (sym is) x
+verified_by : (s : Device) (t : Entry) (reply : Reply) (new : Device) (range : Range) (o : Option ℕ) → first_flaw flaws.Read s.cells range.lba range.count ≡ o
+    → MatchOption o (IsTaskDone (record s { active = true }) t reply new) (λ at. IsChecked (read_error at) s t reply new) → EndsVerified range s t reply new
+verified_by s t reply new range o is x = subst (λ o. MatchOption o (IsTaskDone (record s { active = true }) t reply new) (λ at. IsChecked (read_error at) s t reply new)) (sym is) x
 
-compared_by : (s : Device) (t : Entry) (reply : Reply) (new : Device) (lba count : ℕ) (o : Option ℕ) → first_flaw flaws.Read s.cells lba count ≡ o
-    → MatchOption o (EndsGarbled [] s t reply new ⊎ IsCompared lba count s t reply new) (λ at. IsChecked (read_error at) s t reply new) → EndsCompared lba count s t reply new
-compared_by s t reply new lba count o is x = subst (λ o. MatchOption o (EndsGarbled [] s t reply new ⊎ IsCompared lba count s t reply new) (λ at. IsChecked (read_error at) s t reply new)) (sym is) x
+compared_by : (s : Device) (t : Entry) (reply : Reply) (new : Device) (range : Range) (o : Option ℕ) → first_flaw flaws.Read s.cells range.lba range.count ≡ o
+    → MatchOption o (EndsGarbled [] s t reply new ⊎ IsCompared range s t reply new) (λ at. IsChecked (read_error at) s t reply new) → EndsCompared range s t reply new
+compared_by s t reply new range o is x = subst (λ o. MatchOption o (EndsGarbled [] s t reply new ⊎ IsCompared range s t reply new) (λ at. IsChecked (read_error at) s t reply new)) (sym is) x
 
-pieces_by : (s : Device) (t : Entry) (reply : Reply) (new : Device) (lba count : ℕ) (writes : List Pair) (o : Option ℕ) → first_flaw flaws.Write s.cells lba count ≡ o
-    → MatchOption o (IsTaskDone (record s { cells = whole s.cells writes; active = true }) t reply new) (λ at. EndsTorn writes at s t reply new) → EndsInPieces lba count writes s t reply new
-pieces_by s t reply new lba count writes o is x = inr (subst (λ o. MatchOption o (IsTaskDone (record s { cells = whole s.cells writes; active = true }) t reply new) (λ at. EndsTorn writes at s t reply new)) (sym is) x)
+-- what a WRITE SAME writes
+abbrev same_writes : Range → Device → Entry → List Pair
+same_writes range s t = same_pairs range.lba range.count t.body s.modes.wce
+
+pieces_by : (s : Device) (t : Entry) (reply : Reply) (new : Device) (range : Range) (o : Option ℕ) → first_flaw flaws.Write s.cells range.lba range.count ≡ o
+    → MatchOption o (IsTaskDone (record s { cells = whole s.cells (same_writes range s t); active = true }) t reply new) (λ at. EndsTorn (same_writes range s t) at s t reply new) → EndsInPieces range s t reply new
+pieces_by s t reply new range o is x = inr (subst (λ o. MatchOption o (IsTaskDone (record s { cells = whole s.cells (same_writes range s t); active = true }) t reply new) (λ at. EndsTorn (same_writes range s t) at s t reply new)) (sym is) x)
 
 -- the device with the sectors that it had
 stays_so : (s new : Device) (cells : List Cell) (tasks : List Entry) (glitches : ℕ) → new ≡ record s { cells = cells; tasks = tasks; glitches = glitches } → cells ≡ s.cells → glitches ≡ s.glitches → new ≡ record s { tasks = tasks }
@@ -194,10 +198,10 @@ module _ (identity : Identity) (modes : Modes) (started : Bool) (attentions : Li
       by : (flaw : Option ℕ) → IsVerified (over lba count) flaw d d' → EndsSo (cdbs.Verify form lba count false) (medium.verified flaw)
       by None x =
           done_turn identity modes started attentions (asking (cdbs.Verify form lba count false)) others d d' ready refl (verifying (over lba count)) x refl
-          (λ reply new e. verified_by (with_it (cdbs.Verify form lba count false)) (task_of (asking (cdbs.Verify form lba count false))) reply new lba count None x.no_flaw e)
+          (λ reply new e. verified_by (with_it (cdbs.Verify form lba count false)) (task_of (asking (cdbs.Verify form lba count false))) reply new (over lba count) None x.no_flaw e)
       by (Some at) x =
           flawed_turn (cdbs.Verify form lba count false) (verifying (over lba count)) at ready refl refl x
-          (λ reply new e. verified_by (roused (cdbs.Verify form lba count false)) (task_of (asking (cdbs.Verify form lba count false))) reply new lba count (Some at) x.flaw e)
+          (λ reply new e. verified_by (roused (cdbs.Verify form lba count false)) (task_of (asking (cdbs.Verify form lba count false))) reply new (over lba count) (Some at) x.flaw e)
 
   pub compare_turn : (form : Form) (lba count : ℕ) (ending : Ending) → (not started && true) ≡ false → HasCompared (over lba count) entry.body d ending d' → EndsSo (cdbs.Verify form lba count true) ending
   compare_turn form lba count ending ready h = subst (EndsSo (cdbs.Verify form lba count true)) (sym h.told) (by h.comparison h.is)
@@ -205,11 +209,11 @@ module _ (identity : Identity) (modes : Modes) (started : Bool) (attentions : Li
       by : (it : Comparison) → ComparesAs (over lba count) entry.body it d d' → EndsSo (cdbs.Verify form lba count true) (medium.compared it)
       by comparisons.Same x =
           done_turn identity modes started attentions (asking (cdbs.Verify form lba count true)) others d d' ready refl (verifying (over lba count)) x.1 refl
-          (λ reply new e. compared_by (with_it (cdbs.Verify form lba count true)) (task_of (asking (cdbs.Verify form lba count true))) reply new lba count None x.1.no_flaw (inr (inl (sym x.0, e))))
+          (λ reply new e. compared_by (with_it (cdbs.Verify form lba count true)) (task_of (asking (cdbs.Verify form lba count true))) reply new (over lba count) None x.1.no_flaw (inr (inl (sym x.0, e))))
       by comparisons.Differs x =
           torn_turn identity modes started attentions (asking (cdbs.Verify form lba count true)) others d d' ready refl (verifying (over lba count)) miscompare
           (record { was_up = x.1.was_up; torn = d.cells; part = refl; lost = x.1.lost; active = inr (ap (λ (y : DriveState). y.active) x.1.stays) }) (ap (λ (y : DriveState). y.down) x.1.stays)
-          (λ reply new answer same. compared_by (roused (cdbs.Verify form lba count true)) (task_of (asking (cdbs.Verify form lba count true))) reply new lba count None x.1.no_flaw (inr (inr (
+          (λ reply new answer same. compared_by (roused (cdbs.Verify form lba count true)) (task_of (asking (cdbs.Verify form lba count true))) reply new (over lba count) None x.1.no_flaw (inr (inr (
             (λ is. x.0 (sym is)),
             record {
               answer = answer;
@@ -218,10 +222,10 @@ module _ (identity : Identity) (modes : Modes) (started : Bool) (attentions : Li
           ))))
       by (comparisons.Flawed at) x =
           flawed_turn (cdbs.Verify form lba count true) (verifying (over lba count)) at ready refl refl x
-          (λ reply new e. compared_by (roused (cdbs.Verify form lba count true)) (task_of (asking (cdbs.Verify form lba count true))) reply new lba count (Some at) x.flaw e)
+          (λ reply new e. compared_by (roused (cdbs.Verify form lba count true)) (task_of (asking (cdbs.Verify form lba count true))) reply new (over lba count) (Some at) x.flaw e)
       by comparisons.Garbled x =
           torn_turn identity modes started attentions (asking (cdbs.Verify form lba count true)) others d d' ready refl (verifying (over lba count)) crc_error x.torn (ap (λ (y : DriveState). y.down) x.stays)
-          (λ reply new answer same. compared_by (roused (cdbs.Verify form lba count true)) (task_of (asking (cdbs.Verify form lba count true))) reply new lba count None x.no_flaw (inl (garbled (roused (cdbs.Verify form lba count true)) (task_of (asking (cdbs.Verify form lba count true))) reply new x.torn.torn [] d'.glitches answer same x.torn.part x.one)))
+          (λ reply new answer same. compared_by (roused (cdbs.Verify form lba count true)) (task_of (asking (cdbs.Verify form lba count true))) reply new (over lba count) None x.no_flaw (inl (garbled (roused (cdbs.Verify form lba count true)) (task_of (asking (cdbs.Verify form lba count true))) reply new x.torn.torn [] d'.glitches answer same x.torn.part x.one)))
 
   module _ (cache : d.cache ≡ modes.wce) where
     pub same_turn : (form : Form) (lba count : ℕ) (ending : Ending) → (not started && true) ≡ false → 1 ≤ length entry.body → HasFinished (writing_same (over lba count) (get_or entry.body 0 no_block) d) (min 64 count) d ending d' → EndsSo (cdbs.WriteSame form lba count false) ending
@@ -233,11 +237,11 @@ module _ (identity : Identity) (modes : Modes) (started : Bool) (attentions : Li
         by : (it : Finish) → FinishesAs (writing_same (over lba count) (get_or entry.body 0 no_block) d) (min 64 count) it d d' → EndsSo (cdbs.WriteSame form lba count false) (medium.finished it)
         by finishes.Done x =
             done_turn identity modes started attentions (asking (cdbs.WriteSame form lba count false)) others d d' ready refl (writing_same (over lba count) (get_or entry.body 0 no_block) d) x refl
-            (λ reply new e. pieces_by (with_it (cdbs.WriteSame form lba count false)) (task_of (asking (cdbs.WriteSame form lba count false))) reply new lba count (same_pairs lba count entry.body modes.wce) None x.no_flaw
+            (λ reply new e. pieces_by (with_it (cdbs.WriteSame form lba count false)) (task_of (asking (cdbs.WriteSame form lba count false))) reply new (over lba count) None x.no_flaw
             (subst (λ ps. IsTaskDone (record (with_it (cdbs.WriteSame form lba count false)) { cells = whole d.cells ps; active = true }) (task_of (asking (cdbs.WriteSame form lba count false))) reply new) pairs e))
         by (finishes.Flawed at) x =
             torn_turn identity modes started attentions (asking (cdbs.WriteSame form lba count false)) others d d' ready refl (writing_same (over lba count) (get_or entry.body 0 no_block) d) (write_error at) x.torn (ap (λ (y : DriveState). y.down) x.stays)
-            (λ reply new answer same. pieces_by (roused (cdbs.WriteSame form lba count false)) (task_of (asking (cdbs.WriteSame form lba count false))) reply new lba count (same_pairs lba count entry.body modes.wce) (Some at) x.flaw
+            (λ reply new answer same. pieces_by (roused (cdbs.WriteSame form lba count false)) (task_of (asking (cdbs.WriteSame form lba count false))) reply new (over lba count) (Some at) x.flaw
             (torn_by (roused (cdbs.WriteSame form lba count false)) (task_of (asking (cdbs.WriteSame form lba count false))) reply new x.torn.torn (same_pairs lba count entry.body modes.wce) at d'.glitches answer same (subst (λ ps. Part d.cells ps x.torn.torn) pairs x.torn.part) (ap (λ (y : DriveState). y.glitches) x.stays)))
         by finishes.Garbled x =
             torn_turn identity modes started attentions (asking (cdbs.WriteSame form lba count false)) others d d' ready refl (writing_same (over lba count) (get_or entry.body 0 no_block) d) crc_error x.torn (ap (λ (y : DriveState). y.down) x.stays)

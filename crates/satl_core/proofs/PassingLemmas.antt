@@ -18,11 +18,10 @@ use Rattle.satl_identify.specs.Data.{identity_data}
 use Rattle.satl_sense.specs.declared.sense.Sense.{Sense}
 use Rattle.satl_regs.specs.declared.values.AtaCommand.{AtaCommand}
 use Rattle.satl_regs.specs.declared.values.AtaCommand.TheVariants as ata
-use Rattle.satl_regs.specs.declared.values.Registers.{Registers}
 use Rattle.satl_regs.specs.declared.values.Taskfile.{Taskfile}
 use Rattle.satl_regs.specs.Commands.{command_in}
 use Rattle.satl_regs.specs.Effects as effects
-use Rattle.satl_regs.specs.Effects.{Carries, HasEffect, IsRefused, Medium, Setting, Transfer, abrt, has_setting, own_blocks, pairs_of, reading, setting_of, settable, trimming, verifying, writing}
+use Rattle.satl_regs.specs.Effects.{Carries, HasEffect, IsRefused, Medium, Setting, Traffic, Transfer, abrt, has_setting, own_blocks, pairs_of, reading, setting_of, settable, trimming, verifying, writing}
 use Rattle.satl_regs.specs.Effects.Setting.{sets_cache, sets_look}
 use Rattle.satl_pass.specs.declared.pass.Pass.{Pass}
 use Rattle.satl_pass.specs.Reading.{CanRun}
@@ -98,62 +97,62 @@ same_so : (old new after : Medium) → new ≡ after → after.cache ≡ old.cac
 same_so old new after is cache look = (ap (λ (m : Medium). m.cache) is ∙ cache, ap (λ (m : Medium). m.look) is ∙ look)
 
 -- a command that goes over a range sets nothing
-carries_keep : (r : Registers) (t : Transfer) (old : Medium) (given : List Block) (ended : Taskfile) (taken : List Block) (new : Medium) → Carries r t old given ended taken new → (new.cache ≡ old.cache) × (new.look ≡ old.look)
-carries_keep r t old given ended taken new = by (nat_lt (length old.cells) (t.lba + t.sectors)) (first_flaw t.stopped_by old.cells t.lba t.sectors)
+carries_keep : (t : Transfer) (x : Traffic) (old new : Medium) → Carries t x old new → (new.cache ≡ old.cache) × (new.look ≡ old.look)
+carries_keep t x old new = by (nat_lt (length old.cells) (t.lba + t.sectors)) (first_flaw t.stopped_by old.cells t.lba t.sectors)
   where
     by : (outside : Bool) (flaw : Option ℕ)
-        → MatchBool outside (IsRefused r effects.idnf r.lba old given ended taken new)
-        (MatchOption flaw (effects.IsCarriedOut r t old given ended taken new ⊎ effects.IsGarbled r t old given ended taken new) (λ at. effects.IsFlawed r t at old given ended taken new))
+        → MatchBool outside (IsRefused effects.idnf x.registers.lba x old new)
+        (MatchOption flaw (effects.IsCarriedOut t x old new ⊎ effects.IsGarbled t x old new) (λ at. effects.IsFlawed t at x old new))
         → (new.cache ≡ old.cache) × (new.look ≡ old.look)
-    by true flaw x = same_so old new _ x.medium refl refl
-    by false None x = ⊎_elim (λ y. same_so old new _ y.medium refl refl) (λ y. same_so old new _ y.medium refl refl) x
-    by false (Some at) x = same_so old new _ x.medium refl refl
+    by true flaw does = same_so old new _ does.medium refl refl
+    by false None does = ⊎_elim (λ y. same_so old new _ y.medium refl refl) (λ y. same_so old new _ y.medium refl refl) does
+    by false (Some at) does = same_so old new _ does.medium refl refl
 
-module _ (r : Registers) (modes : Modes) (old : Medium) (given : List Block) (ended : Taskfile) (taken : List Block) (new : Medium) (set : AreSet modes old) where
-  refused_keeps : IsRefused r abrt 0 old given ended taken new → (bad_modes : Bool → Modes) → bad_modes true ≡ modes → AreSet (bad_modes (is_bad ended)) new
-  refused_keeps x bad_modes is =
-      subst (λ (e : Taskfile). AreSet (bad_modes (is_bad e)) new) (sym x.ends)
-      (subst (λ (m : Modes). AreSet m new) (sym is) (keeps modes old new true set (same_so old new _ x.medium refl refl)))
+module _ (x : Traffic) (modes : Modes) (old new : Medium) (set : AreSet modes old) where
+  refused_keeps : IsRefused abrt 0 x old new → (bad_modes : Bool → Modes) → bad_modes true ≡ modes → AreSet (bad_modes (is_bad x.ended)) new
+  refused_keeps does bad_modes is =
+      subst (λ (e : Taskfile). AreSet (bad_modes (is_bad e)) new) (sym does.ends)
+      (subst (λ (m : Modes). AreSet m new) (sym is) (keeps modes old new true set (same_so old new _ does.medium refl refl)))
 
-  made : (s : Setting) → effects.IsSet s r old given ended taken new → AreSet (with_setting (Some s) modes) new
-  made (sets_cache true) x = record { cache = ap (λ (m : Medium). m.cache) x.medium; look = ap (λ (m : Medium). m.look) x.medium ∙ set.look }
-  made (sets_cache false) x = record { cache = ap (λ (m : Medium). m.cache) x.medium; look = ap (λ (m : Medium). m.look) x.medium ∙ set.look }
-  made (sets_look true) x = record { cache = ap (λ (m : Medium). m.cache) x.medium ∙ set.cache; look = ap (λ (m : Medium). m.look) x.medium }
-  made (sets_look false) x = record { cache = ap (λ (m : Medium). m.cache) x.medium ∙ set.cache; look = ap (λ (m : Medium). m.look) x.medium }
+  made : (s : Setting) → effects.IsSet s x old new → AreSet (with_setting (Some s) modes) new
+  made (sets_cache true) does = record { cache = ap (λ (m : Medium). m.cache) does.medium; look = ap (λ (m : Medium). m.look) does.medium ∙ set.look }
+  made (sets_cache false) does = record { cache = ap (λ (m : Medium). m.cache) does.medium; look = ap (λ (m : Medium). m.look) does.medium ∙ set.look }
+  made (sets_look true) does = record { cache = ap (λ (m : Medium). m.cache) does.medium ∙ set.cache; look = ap (λ (m : Medium). m.look) does.medium }
+  made (sets_look false) does = record { cache = ap (λ (m : Medium). m.cache) does.medium ∙ set.cache; look = ap (λ (m : Medium). m.look) does.medium }
 
   -- SET FEATURES: a setting that the drive has, or it is refused
-  features : (o : Option Setting) → MatchOption (settable old.identify o) (IsRefused r abrt 0 old given ended taken new) (λ s. effects.IsSet s r old given ended taken new)
-      → AreSet (if is_bad ended then modes else with_setting o modes) new
-  features None x = refused_keeps x (λ b. if b then modes else modes) refl
-  features (Some s) x = by (has_setting old.identify s) x
+  features : (o : Option Setting) → MatchOption (settable old.identify o) (IsRefused abrt 0 x old new) (λ s. effects.IsSet s x old new)
+      → AreSet (if is_bad x.ended then modes else with_setting o modes) new
+  features None does = refused_keeps does (λ b. if b then modes else modes) refl
+  features (Some s) does = by (has_setting old.identify s) does
     where
-      by : (has : Bool) → MatchOption (if has then Some s else None) (IsRefused r abrt 0 old given ended taken new) (λ s. effects.IsSet s r old given ended taken new) → AreSet (if is_bad ended then modes else with_setting (Some s) modes) new
-      by true x = subst (λ (e : Taskfile). AreSet (if is_bad e then modes else with_setting (Some s) modes) new) (sym x.ends) (made s x)
-      by false x = refused_keeps x (λ b. if b then modes else with_setting (Some s) modes) refl
+      by : (has : Bool) → MatchOption (if has then Some s else None) (IsRefused abrt 0 x old new) (λ s. effects.IsSet s x old new) → AreSet (if is_bad x.ended then modes else with_setting (Some s) modes) new
+      by true does = subst (λ (e : Taskfile). AreSet (if is_bad e then modes else with_setting (Some s) modes) new) (sym does.ends) (made s does)
+      by false does = refused_keeps does (λ b. if b then modes else with_setting (Some s) modes) refl
 
   -- what an ATA command leaves is set as the mode values behind it say
-  pub set_after : (c : AtaCommand) → HasEffect c r old given ended taken new → AreSet (modes_by c (is_bad ended) modes) new
-  set_after (ata.Read how lba sectors) x = keeps modes old new (is_bad ended) set (carries_keep r (reading how lba sectors old) old given ended taken new x)
-  set_after (ata.Write how lba sectors) x = keeps modes old new (is_bad ended) set (carries_keep r (writing how lba sectors given old) old given ended taken new x)
-  set_after (ata.Verify ext lba sectors) x = keeps modes old new (is_bad ended) set (carries_keep r (verifying ext lba sectors) old given ended taken new x)
-  set_after (ata.Flush ext) x = keeps modes old new (is_bad ended) set (same_so old new _ x.medium refl refl)
-  set_after ata.Identify x = keeps modes old new (is_bad ended) set (same_so old new _ x.medium refl refl)
-  set_after (ata.SetFeatures what) x = features (setting_of what) x
-  set_after ata.Standby x = keeps modes old new (is_bad ended) set (same_so old new _ x.medium refl refl)
-  set_after ata.Idle x = keeps modes old new (is_bad ended) set (same_so old new _ x.medium refl refl)
-  set_after ata.CheckPower x = keeps modes old new (is_bad ended) set (same_so old new _ x.medium refl refl)
-  set_after (ata.ReadLog log page blocks) x = logged (effects.is_error_log log page blocks) x
+  pub set_after : (c : AtaCommand) → HasEffect c x old new → AreSet (modes_by c (is_bad x.ended) modes) new
+  set_after (ata.Read how lba sectors) does = keeps modes old new (is_bad x.ended) set (carries_keep (reading how lba sectors old) x old new does)
+  set_after (ata.Write how lba sectors) does = keeps modes old new (is_bad x.ended) set (carries_keep (writing how lba sectors x.given old) x old new does)
+  set_after (ata.Verify ext lba sectors) does = keeps modes old new (is_bad x.ended) set (carries_keep (verifying ext lba sectors) x old new does)
+  set_after (ata.Flush ext) does = keeps modes old new (is_bad x.ended) set (same_so old new _ does.medium refl refl)
+  set_after ata.Identify does = keeps modes old new (is_bad x.ended) set (same_so old new _ does.medium refl refl)
+  set_after (ata.SetFeatures what) does = features (setting_of what) does
+  set_after ata.Standby does = keeps modes old new (is_bad x.ended) set (same_so old new _ does.medium refl refl)
+  set_after ata.Idle does = keeps modes old new (is_bad x.ended) set (same_so old new _ does.medium refl refl)
+  set_after ata.CheckPower does = keeps modes old new (is_bad x.ended) set (same_so old new _ does.medium refl refl)
+  set_after (ata.ReadLog log page blocks) does = logged (effects.is_error_log log page blocks) does
     where
-      logged : (b : Bool) → MatchBool b (effects.IsLogged r effects.no_error_log old given ended taken new) (IsRefused r abrt 0 old given ended taken new) → AreSet (if is_bad ended then modes else modes) new
-      logged true x = keeps modes old new (is_bad ended) set (same_so old new _ x.medium refl refl)
-      logged false x = keeps modes old new (is_bad ended) set (same_so old new _ x.medium refl refl)
-  set_after (ata.Trim blocks) x = trimmed (effects.is_no_trim blocks given old) x
+      logged : (b : Bool) → MatchBool b (effects.IsLogged effects.no_error_log x old new) (IsRefused abrt 0 x old new) → AreSet (if is_bad x.ended then modes else modes) new
+      logged true does = keeps modes old new (is_bad x.ended) set (same_so old new _ does.medium refl refl)
+      logged false does = keeps modes old new (is_bad x.ended) set (same_so old new _ does.medium refl refl)
+  set_after (ata.Trim blocks) does = trimmed (effects.is_no_trim blocks x.given old) does
     where
-      trimmed : (b : Bool) → MatchBool b (IsRefused r abrt 0 old given ended taken new) (Carries r (trimming blocks given old) old given ended taken new) → AreSet (if is_bad ended then modes else modes) new
-      trimmed true x = keeps modes old new (is_bad ended) set (same_so old new _ x.medium refl refl)
-      trimmed false x = keeps modes old new (is_bad ended) set (carries_keep r (trimming blocks given old) old given ended taken new x)
-  set_after ata.SmartStatus x = keeps modes old new (is_bad ended) set (same_so old new _ x.medium refl refl)
-  set_after (ata.Other code) x = keeps modes old new (is_bad ended) set (same_so old new _ x.medium refl refl)
+      trimmed : (b : Bool) → MatchBool b (IsRefused abrt 0 x old new) (Carries (trimming blocks x.given old) x old new) → AreSet (if is_bad x.ended then modes else modes) new
+      trimmed true does = keeps modes old new (is_bad x.ended) set (same_so old new _ does.medium refl refl)
+      trimmed false does = keeps modes old new (is_bad x.ended) set (carries_keep (trimming blocks x.given old) x old new does)
+  set_after ata.SmartStatus does = keeps modes old new (is_bad x.ended) set (same_so old new _ does.medium refl refl)
+  set_after (ata.Other code) does = keeps modes old new (is_bad x.ended) set (same_so old new _ does.medium refl refl)
 
 -- the form of sense data stays
 same_form : (c : AtaCommand) (bad : Bool) (modes : Modes) → (modes_by c bad modes).d_sense ≡ modes.d_sense
@@ -205,19 +204,19 @@ reply_is s entry cdb ended taken read same = by (is_bad ended) refl (pass_of cdb
 -- the drive is set as the mode values behind it say
 pub pass_sets : (cdb : List ℕ) (modes wanted : Modes) (given taken : List Block) (d d' : DriveState) (ending : Ending) → IsSetBy modes d → PassesThrough (pass_of cdb) given taken d ending d'
     → (d'.cache ≡ (modes_after (cdbs.Pass cdb) ending modes wanted).wce) × (d'.look ≡ not (modes_after (cdbs.Pass cdb) ending modes wanted).dra)
-pass_sets cdb modes wanted given taken d d' ending set x =
+pass_sets cdb modes wanted given taken d d' ending set through =
     let c = command_in (pass_of cdb).regs in
-    let are = set_after (pass_of cdb).regs modes (drive.medium_of d) given x.ended taken x.is.after (record { cache = set.cache; look = set.look }) c x.is.does in
-    let same = sym (ap (λ e. where_done e (set_by c modes) modes) x.told ∙ modes_behind (pass_of cdb) x.ended c modes) in
-    (ap (λ (y : DriveState). y.cache) x.is.stays ∙ (are.cache ∙ ap (λ (m : Modes). m.wce) same), ap (λ (y : DriveState). y.look) x.is.stays ∙ (are.look ∙ ap (λ (m : Modes). not m.dra) same))
+    let are = set_after (record { registers = (pass_of cdb).regs; given = given; ended = through.ended; taken = taken }) modes (drive.medium_of d) through.is.after (record { cache = set.cache; look = set.look }) c through.is.does in
+    let same = sym (ap (λ e. where_done e (set_by c modes) modes) through.told ∙ modes_behind (pass_of cdb) through.ended c modes) in
+    (ap (λ (y : DriveState). y.cache) through.is.stays ∙ (are.cache ∙ ap (λ (m : Modes). m.wce) same), ap (λ (y : DriveState). y.look) through.is.stays ∙ (are.look ∙ ap (λ (m : Modes). not m.dra) same))
 
 -- ---- the data that the device sees
 
 -- a command that the profile does not have is refused whatever is handed in
-refused_all : (c : AtaCommand) (r : Registers) (m : Medium) (given : List Block) (ended : Taskfile) (taken : List Block) (new : Medium) → HasEffect c r m given ended taken new
-    → (is_other c ≡ false) ⊎ ((other : List Block) → HasEffect c r m other ended other new × (is_bad ended ≡ true))
-refused_all (ata.Other code) r m given ended taken new x = inr (λ other. (record { ends = x.ends; data_in = refl; medium = x.medium }, ap is_bad x.ends))
-refused_all c r m given ended taken new x = inl refl
+refused_all : (c : AtaCommand) (x : Traffic) (m new : Medium) → HasEffect c x m new
+    → (is_other c ≡ false) ⊎ ((other : List Block) → HasEffect c (record x { given = other; taken = other }) m new × (is_bad x.ended ≡ true))
+refused_all (ata.Other code) x m new does = inr (λ other. (record { ends = does.ends; data_in = refl; medium = does.medium }, ap is_bad does.ends))
+refused_all c x m new does = inl refl
 
 -- the pages that the device is given: those of the data-out, and else any
 abbrev seen_pages : Pass → List Block → List Block
@@ -264,50 +263,53 @@ module _ (identity : Identity) (modes : Modes) (started : Bool) (attentions : Li
       by named true out = subst (λ g. IsIn pair (pairs_of command (medium_of before) g)) (sym (out_is can named count whole out)) (subst (λ m. IsIn pair (pairs_of command m entry.body)) (same_medium set told) among)
       by named false out = absurd (subst (IsIn pair) (writes_none command pass can.own_length can.own_direction out (drive.medium_of d) entry.body) among)
 
-  module _ (d' : DriveState) (ending : Ending) (taken : List Block) (set : IsSetBy modes d) (told : TellsOf identity.bytes d) (can : CanRun pass) (count : length entry.body ≡ page_count pass.length) (x : PassesThrough pass entry.body taken d ending d') where
+  module _ (d' : DriveState) (ending : Ending) (taken : List Block) (set : IsSetBy modes d) (told : TellsOf identity.bytes d) (can : CanRun pass) (count : length entry.body ≡ page_count pass.length) (through : PassesThrough pass entry.body taken d ending d') where
+    abbrev x : Traffic
+    x = record { registers = pass.regs; given = entry.body; ended = through.ended; taken = taken }
+
     abbrev left : Modes
-    left = record modes { wce = x.is.after.cache; dra = not x.is.after.look }
+    left = record modes { wce = through.is.after.cache; dra = not through.is.after.look }
 
     abbrev mid : Device
-    mid = seen identity left started attentions others (with_medium d x.is.after)
+    mid = seen identity left started attentions others (with_medium d through.is.after)
 
     abbrev reply : Reply
-    reply = ended_reply (record task { body = taken }) (passed pass x.ended) modes.d_sense
+    reply = ended_reply (record task { body = taken }) (passed pass through.ended) modes.d_sense
 
-    does : HasEffect command pass.regs (medium_of before) entry.body x.ended taken x.is.after
-    does = subst (λ m. HasEffect command pass.regs m entry.body x.ended taken x.is.after) (same_medium set told) x.is.does
+    does : HasEffect command x (medium_of before) through.is.after
+    does = subst (λ m. HasEffect command x m through.is.after) (same_medium set told) through.is.does
 
-    left_is : left ≡ where_done (passed pass x.ended) (set_by command modes) modes
+    left_is : left ≡ where_done (passed pass through.ended) (set_by command modes) modes
     left_is =
-        modes_of modes (modes_by command (is_bad x.ended) modes) x.is.after (set_after pass.regs modes (medium_of before) entry.body x.ended taken x.is.after (record { cache = refl; look = refl }) command does) (same_form command (is_bad x.ended) modes)
-        ∙ sym (modes_behind pass x.ended command modes)
+        modes_of modes (modes_by command (is_bad through.ended) modes) through.is.after (set_after x modes (medium_of before) through.is.after (record { cache = refl; look = refl }) command does) (same_form command (is_bad through.ended) modes)
+        ∙ sym (modes_behind pass through.ended command modes)
 
-    goes : mid ≡ record before { cells = x.is.after.cells; tasks = Rattle.satl_direct.specs.Device.without (task_of task) before.tasks; modes = left; active = x.is.after.active; glitches = x.is.after.glitches }
-    goes = first_gone identity left started attentions (task_of task) others (with_medium d x.is.after)
+    goes : mid ≡ record before { cells = through.is.after.cells; tasks = Rattle.satl_direct.specs.Device.without (task_of task) before.tasks; modes = left; active = through.is.after.active; glitches = through.is.after.glitches }
+    goes = first_gone identity left started attentions (task_of task) others (with_medium d through.is.after)
 
-    passes : (is_other command ≡ false) ⊎ ((other : List Block) → HasEffect command pass.regs (medium_of before) other x.ended other x.is.after × (is_bad x.ended ≡ true)) → EndsPassed pass before (task_of task) reply mid
+    passes : (is_other command ≡ false) ⊎ ((other : List Block) → HasEffect command (record x { given = other; taken = other }) (medium_of before) through.is.after × (is_bad through.ended ≡ true)) → EndsPassed pass before (task_of task) reply mid
     passes (inl named) =
         let size = own_length pass named can in
         record {
           given = entry.body;
-          data_out = λ out. sym (out_is can named count x.whole out);
+          data_out = λ out. sym (out_is can named count through.whole out);
           size = count;
-          ended = x.ended;
+          ended = through.ended;
           taken = taken;
-          after = x.is.after;
+          after = through.is.after;
           does = does;
-          answer = reply_is before entry cdb x.ended taken taken (λ good. (own_pages pass.length taken x.left_whole (omega (arith, size, count, x.size)), own_size pass.length taken x.left_whole (omega (arith, size, count, x.size))));
+          answer = reply_is before entry cdb through.ended taken taken (λ good. (own_pages pass.length taken through.left_whole (omega (arith, size, count, through.size)), own_size pass.length taken through.left_whole (omega (arith, size, count, through.size))));
           stays = goes;
         }
     passes (inr any) = record {
       given = seen_pages pass entry.body;
       data_out = λ out. ap (λ b. if b then pages_of (first_bytes pass.length entry.body) else entry.body) out ∙ sym (ap (λ b. if b then pages_of (first_bytes pass.length entry.body) else []) out);
-      size = seen_size pass entry.body x.whole count;
-      ended = x.ended;
+      size = seen_size pass entry.body through.whole count;
+      ended = through.ended;
       taken = seen_pages pass entry.body;
-      after = x.is.after;
+      after = through.is.after;
       does = (any (seen_pages pass entry.body)).0;
-      answer = reply_is before entry cdb x.ended taken (seen_pages pass entry.body) (λ good. absurd (no (is_bad x.ended) (any []).1 good));
+      answer = reply_is before entry cdb through.ended taken (seen_pages pass entry.body) (λ good. absurd (no (is_bad through.ended) (any []).1 good));
       stays = goes;
     }
       where
@@ -318,12 +320,12 @@ module _ (identity : Identity) (modes : Modes) (started : Bool) (attentions : Li
     -- it ends as the device says
     pub pass_turn : EndsOne before (ended_reply (record task { body = taken }) ending modes.d_sense) (seen identity (where_done ending (set_by command modes) modes) started attentions others d')
     pass_turn =
-        subst (λ e. EndsOne before (ended_reply (record task { body = taken }) e modes.d_sense) (seen identity (where_done e (set_by command modes) modes) started attentions others d')) (sym x.told)
+        subst (λ e. EndsOne before (ended_reply (record task { body = taken }) e modes.d_sense) (seen identity (where_done e (set_by command modes) modes) started attentions others d')) (sym through.told)
         (subst (λ m. EndsOne before reply (seen identity m started attentions others d')) left_is
         (ends_around before before mid (seen identity left started attentions others d') (task_of task) others reply (quiet_none before) refl
-        (ends_by before (task_of task) reply mid set.up (and_right (not started) false refl) (passes (refused_all command pass.regs (medium_of before) entry.body x.ended taken x.is.after does)))
+        (ends_by before (task_of task) reply mid set.up (and_right (not started) false refl) (passes (refused_all command x (medium_of before) through.is.after does)))
         (record {
-          cells = lose_once x.is.lost;
-          active = inl (ap (λ (y : DriveState). y.active) x.is.stays);
-          stays = ap (λ (y : DriveState). record mid { cells = d'.cells; active = d'.active; down = y.down; glitches = y.glitches }) x.is.stays;
+          cells = lose_once through.is.lost;
+          active = inl (ap (λ (y : DriveState). y.active) through.is.stays);
+          stays = ap (λ (y : DriveState). record mid { cells = d'.cells; active = d'.active; down = y.down; glitches = y.glitches }) through.is.stays;
         })))

@@ -17,12 +17,13 @@ use Rattle.satl_regs.specs.declared.values.Taskfile.{Taskfile}
 use Rattle.satl_regs.specs.Commands.{command_in}
 use Rattle.satl_regs.specs.Effects.{Transfer, pairs_of}
 use Rattle.satl_regs.specs.Trim.{IsTrimList}
+use Rattle.satl_drive.specs.Rules.{IsCarriedOut}
 use Rattle.satl_drive.specs.State.{DriveState, medium_of}
 use Rattle.satl_barrier.specs.declared.finishing.Finish.{Finish}
 use Rattle.satl_barrier.specs.declared.finishing.Finish.TheVariants as finishes
 use Rattle.satl_barrier.specs.declared.comparing.Comparison.{Comparison}
 use Rattle.satl_barrier.specs.declared.comparing.Comparison.TheVariants as comparisons
-use Rattle.satl_barrier.specs.Commands.{AreWhole, HasPassed}
+use Rattle.satl_barrier.specs.Commands.{AreWhole}
 use Rattle.satl_barrier.specs.Finishing.{ComparesAs, FinishesAs, IsVerified, trimming, writing_same}
 use Rattle.satl_direct.specs.Senses.{crc_error, miscompare, read_error, write_error}
 use Rattle.satl_direct.specs.Tasks.{pass_of}
@@ -87,7 +88,7 @@ passed pass ended = ending_with (status_sense pass ended) (is_bad ended)
 pub record PassesThrough (pass : Pass) (given taken : List Block) (old : DriveState) (ending : Ending)
     (new : DriveState) : Type 0 where
   pub ended : Taskfile
-  pub is : HasPassed pass.regs old given ended taken new
+  pub is : IsCarriedOut (record { registers = pass.regs; given = given; ended = ended; taken = taken }) old new
   pub whole : AreWhole given
   pub left_whole : AreWhole taken
   pub size : length taken ≡ length given
