@@ -33,11 +33,13 @@ use Rattle.satl_audit.specs.Sectors.{sector_gives, sector_puts}
 use Rattle.satl_audit.specs.Skeleton.{DoneAs, TaskDone}
 use Rattle.satl_audit.specs.Waiting.{Placed, device_tasks, entries_in, task_in}
 use Rattle.satl_audit.specs.declared.arriving.Steps.{Steps}
+use Rattle.satl_audit.specs.declared.reply.Name.{Name}
+use Rattle.satl_audit.specs.Progress.{compared, progress, recorded}
 use Rattle.satl_audit.proofs.Frames.{pages_whole}
 use Rattle.satl_audit.proofs.NextLemmas.{device_at_place, eligible_same, removed_at}
 use Rattle.satl_audit.proofs.ReplyLemmas.{good_is}
 use Rattle.satl_audit.proofs.FinishingLemmas.{all_bytes, refusing, settle_sector}
-use Rattle.satl_audit.proofs.EndWithin.{fits_at, write_body}
+use Rattle.satl_audit.proofs.EndWithin.{fits_at, no_other, write_body}
 use Rattle.satl_laws.proofs.Ends.{eligible_in as eligible_there}
 use Rattle.satl_laws.proofs.Rows.{in_all as all_of}
 
@@ -48,6 +50,9 @@ module _ (identity : Identity) (input : List ℕ) (old : Steps) (place : ℕ) (p
 
   abbrev t : Entry
   t = task_in input p
+
+  abbrev name : Name
+  name = record { nexus = p.entry.nexus; tag = p.entry.tag }
 
   abbrev new : Steps
   new = record { waiting = waiting; attentions = old.attentions; output = left }
@@ -79,7 +84,7 @@ module _ (identity : Identity) (input : List ℕ) (old : Steps) (place : ℕ) (p
 
   -- ---- a READ
 
-  pub read_arm : (form : Form) (lba count : ℕ) (fua : Bool) → p.entry.command ≡ commands.Read form lba count fua → (b : Bool) → Reads input p.entry.nexus (p.entry.tag).0 (over lba count) old.output left sectors after b → Ends identity input old new sectors after b
+  pub read_arm : (form : Form) (lba count : ℕ) (fua : Bool) → p.entry.command ≡ commands.Read form lba count fua → (b : Bool) → Reads input name (over lba count) (compared old.output sectors) (compared left after) b → Ends (recorded identity input) (progress old sectors) (progress new after) b
   read_arm form lba count fua c true r =
       let given = r.0 in
       let blocks = pages_of given in
@@ -115,14 +120,14 @@ module _ (identity : Identity) (input : List ℕ) (old : Steps) (place : ℕ) (p
 
   -- ---- GOOD without data
 
-  cannot : ((reply : Reply) (deed : Deed) (other : Device) → (d : TaskDone s reply deed other) → d.task ≡ t → d.blocks ≡ []) → Passes p.entry.nexus (p.entry.tag).0 old.output left false → CannotEnd identity input old sectors
+  cannot : ((reply : Reply) (deed : Deed) (other : Device) → (d : TaskDone s reply deed other) → d.task ≡ t → d.blocks ≡ []) → Passes name old.output left false → CannotEnd (recorded identity input) (progress old sectors)
   cannot none refuses = λ reply deed other rest d whole said.
       let it = is_it reply deed other rest d said in
       let answer : reply ≡ task_reply t Good [] [] = d.answer ∙ ap (λ u. task_reply u Good [] d.blocks) it ∙ ap (task_reply t Good []) (none reply deed other d it) in
       absurd (refuses rest (said ∙ ap (λ (q : Reply). reply_bytes q ++ rest) answer ∙ good_is t [] rest expected))
 
-  pub write_arm : (form : Form) (lba count : ℕ) (fua : Bool) → p.entry.command ≡ commands.Write form lba count fua → (cached : Bool) → cached ≡ (identity.cache && not fua) → (b : Bool) → Writes input p.entry.nexus (p.entry.tag).0 (over lba count) p.at cached old.output left sectors after b →
-      Ends identity input old new sectors after b
+  pub write_arm : (form : Form) (lba count : ℕ) (fua : Bool) → p.entry.command ≡ commands.Write form lba count fua → (cached : Bool) → cached ≡ (identity.cache && not fua) → (b : Bool) → Writes input name (record { range = over lba count; at = p.at; cached = cached }) (compared old.output sectors) (compared left after) b →
+      Ends (recorded identity input) (progress old sectors) (progress new after) b
   write_arm form lba count fua c cached through true r =
       let deed = puts (pairs_in input (over lba count) p.at (identity.cache && not fua)) in
       record {
@@ -138,7 +143,7 @@ module _ (identity : Identity) (input : List ℕ) (old : Steps) (place : ℕ) (p
       pairs = ap (λ (l : List Block). pairs_from lba l (identity.cache && not fua)) (sym (write_body input p form lba count fua c (fits_at identity input old.waiting place p tasks at).held))
   write_arm form lba count fua c cached through false r = cannot (λ reply deed other d it. (subst (λ x. DoneAs x s t d.blocks deed) c (subst (λ u. DoneAs u.command s u d.blocks deed) it d.done)).0) r.0
 
-  pub flush_arm : (form : Form) (lba count : ℕ) → p.entry.command ≡ commands.Flush form lba count → (b : Bool) → Flushes p.entry.nexus (p.entry.tag).0 old.output left sectors after b → Ends identity input old new sectors after b
+  pub flush_arm : (form : Form) (lba count : ℕ) → p.entry.command ≡ commands.Flush form lba count → (b : Bool) → Flushes name (compared old.output sectors) (compared left after) b → Ends (recorded identity input) (progress old sectors) (progress new after) b
   flush_arm form lba count c true r = record {
     reply = task_reply t Good [] [];
     deed = settles;
@@ -148,3 +153,10 @@ module _ (identity : Identity) (input : List ℕ) (old : Steps) (place : ℕ) (p
     follows = (same, λ x less. ap Some (settle_sector input sectors x less ∙ ap (λ (l : List Keeping). sector_at input l x) (sym (r.1 refl))));
   }
   flush_arm form lba count c false r = cannot (λ reply deed other d it. (subst (λ x. DoneAs x s t d.blocks deed) c (subst (λ u. DoneAs u.command s u d.blocks deed) it d.done)).0) r.0
+
+  -- ---- any other command
+
+  pub other_arm : ((form : Form) (lba count : ℕ) (fua : Bool) → p.entry.command ≡ commands.Read form lba count fua → ⊥) → ((form : Form) (lba count : ℕ) (fua : Bool) → p.entry.command ≡ commands.Write form lba count fua → ⊥) →
+      ((form : Form) (lba count : ℕ) → p.entry.command ≡ commands.Flush form lba count → ⊥) → CannotEnd (recorded identity input) (progress old sectors)
+  other_arm read write flush = λ reply deed other rest d whole said.
+      absurd (no_other p.entry.command s t d.blocks deed (subst (λ u. DoneAs u.command s u d.blocks deed) (is_it reply deed other rest d said) d.done) read write flush)

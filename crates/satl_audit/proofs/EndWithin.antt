@@ -2,14 +2,18 @@
 use Rattle.std.proofs.Common.{arith, ◌≡◌, refl, ap, ◌∙◌, subst, ℕ, ◌+◌, ◌*◌, Bool, List, length}
 use Rattle.std.specs.Prelude.{◌≤◌, Option, Some, None, slice_get}
 use Rattle.std.specs.Option.{option_map}
+use Rattle.satl_base.specs.declared.block.Block.{Block}
 use Rattle.satl_cdb.specs.declared.command.Command.{Command}
 use Rattle.satl_cdb.specs.declared.command.Command.TheVariants as commands
 use Rattle.satl_cdb.specs.declared.command.Form.{Form}
 use Rattle.satl_identify.specs.declared.identity.Identity.{Identity}
 use Rattle.satl_line.specs.declared.entry.Entry.{Entry}
+use Rattle.satl_audit.specs.Deeds.{Deed}
 use Rattle.satl_audit.specs.Finishing.{AreTasks}
+use Rattle.satl_audit.specs.Skeleton.{DoneAs}
 use Rattle.satl_audit.specs.Waiting.{Fits, MayWait, Placed, task_in}
 use Rattle.satl_audit.specs.Following.{blocks_from}
+use Rattle.satl_direct.specs.Device.{Device}
 use Rattle.satl_direct.specs.Tasks.{data_out, held_blocks}
 use Rattle.std.proofs.lemmas.Option.{same_Some}
 use Rattle.satl_audit.proofs.NextLemmas.{all_at}
@@ -36,22 +40,22 @@ both_at (Some q) entry at e f =
     let h : q.at ≡ at = same_Some _ _ f in
     ap (λ (x : Entry). Some (record { entry = x; at = q.at })) g ∙ ap (λ n. Some (record { entry = entry; at = n })) h
 
--- no other command waits
-pub no_other : (capacity bytes : ℕ) (c : Command) → MayWait capacity bytes c → ((form : Form) (lba count : ℕ) (fua : Bool) → c ≡ commands.Read form lba count fua → ⊥) →
+-- no other command ends so that it is known what it did
+pub no_other : (c : Command) (s : Device) (t : Entry) (blocks : List Block) (deed : Deed) → DoneAs c s t blocks deed → ((form : Form) (lba count : ℕ) (fua : Bool) → c ≡ commands.Read form lba count fua → ⊥) →
     ((form : Form) (lba count : ℕ) (fua : Bool) → c ≡ commands.Write form lba count fua → ⊥) → ((form : Form) (lba count : ℕ) → c ≡ commands.Flush form lba count → ⊥) → ⊥
-no_other capacity bytes commands.TestUnitReady w r v f = absurd w
-no_other capacity bytes (commands.RequestSense descriptor alloc) w r v f = absurd w
-no_other capacity bytes (commands.Inquiry page alloc) w r v f = absurd w
-no_other capacity bytes (commands.ModeSense ten long_lba no_descriptor control page alloc) w r v f = absurd w
-no_other capacity bytes (commands.ModeSelect ten size) w r v f = absurd w
-no_other capacity bytes (commands.StartStop start no_flush) w r v f = absurd w
-no_other capacity bytes commands.ReadCapacity10 w r v f = absurd w
-no_other capacity bytes (commands.ReadCapacity16 alloc) w r v f = absurd w
-no_other capacity bytes (commands.ReportLuns select alloc) w r v f = absurd w
-no_other capacity bytes (commands.Read form lba count fua) w r v f = r form lba count fua refl
-no_other capacity bytes (commands.Write form lba count fua) w r v f = v form lba count fua refl
-no_other capacity bytes (commands.Verify form lba count compare) w r v f = absurd w
-no_other capacity bytes (commands.Flush form lba count) w r v f = f form lba count refl
-no_other capacity bytes (commands.WriteSame form lba count unmap) w r v f = absurd w
-no_other capacity bytes (commands.Unmap size) w r v f = absurd w
-no_other capacity bytes (commands.Pass cdb) w r v f = absurd w
+no_other commands.TestUnitReady s t blocks deed d r w f = absurd d
+no_other (commands.RequestSense descriptor alloc) s t blocks deed d r w f = absurd d
+no_other (commands.Inquiry page alloc) s t blocks deed d r w f = absurd d
+no_other (commands.ModeSense ten long_lba no_descriptor control page alloc) s t blocks deed d r w f = absurd d
+no_other (commands.ModeSelect ten size) s t blocks deed d r w f = absurd d
+no_other (commands.StartStop start no_flush) s t blocks deed d r w f = absurd d
+no_other commands.ReadCapacity10 s t blocks deed d r w f = absurd d
+no_other (commands.ReadCapacity16 alloc) s t blocks deed d r w f = absurd d
+no_other (commands.ReportLuns select alloc) s t blocks deed d r w f = absurd d
+no_other (commands.Read form lba count fua) s t blocks deed d r w f = r form lba count fua refl
+no_other (commands.Write form lba count fua) s t blocks deed d r w f = w form lba count fua refl
+no_other (commands.Verify form lba count compare) s t blocks deed d r w f = absurd d
+no_other (commands.Flush form lba count) s t blocks deed d r w f = f form lba count refl
+no_other (commands.WriteSame form lba count unmap) s t blocks deed d r w f = absurd d
+no_other (commands.Unmap size) s t blocks deed d r w f = absurd d
+no_other (commands.Pass cdb) s t blocks deed d r w f = absurd d

@@ -26,10 +26,9 @@ use Rattle.satl_cover.specs.Known.{is_known, is_known_frame}
 use Rattle.satl_audit.specs.Skeleton.{Stepped, bare, powered, shown}
 use Rattle.satl_audit.proofs.Coming.{arrival_comes}
 use Rattle.satl_audit.proofs.Keeping.{IsSane, sane_on}
-use Rattle.satl_audit.proofs.Stepping.{Behind, behind_now, quiet_bare, quiet_behind, quiet_down, quiet_sane, walks_on}
+use Rattle.satl_audit.proofs.Stepping.{Behind, behind_now, not_lost, quiet_bare, quiet_behind, quiet_down, quiet_sane, walks_on}
 use Rattle.satl_audit.proofs.ArrivalSplit.{arrival_bare, arrives_split}
 use Rattle.satl_audit.proofs.Turning.{turns_split}
-use Rattle.satl_audit.proofs.Links.{not_lost}
 
 pub record EventSplit (first : List Cell) (ds : List Deed) (event : Frame) (s : Device) (now : List Answer) (new : Device) : Type 0 where
   pub deeds : List Deed

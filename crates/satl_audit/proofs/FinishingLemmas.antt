@@ -8,8 +8,10 @@ use Rattle.satl_base.specs.Blocks.{bytes_of, first_bytes}
 use Rattle.satl_audit.specs.Deciding.{AreWhole}
 use Rattle.satl_audit.specs.Finishing.{IsReadBy, Reads, end_deeds, head_bytes}
 use Rattle.satl_audit.specs.Kept.{Keeping, blank_keeping, kept_settle, sector_at, sector_of}
+use Rattle.satl_audit.specs.Progress.{Compared}
 use Rattle.satl_audit.specs.Sectors.{Sector, sector_gives, settled_in}
 use Rattle.satl_audit.specs.declared.content.Content.{Content}
+use Rattle.satl_audit.specs.declared.reply.Name.{Name}
 use Rattle.satl_audit.proofs.ReplyLemmas.{fronts, take_own}
 use Rattle.satl_base.specs.declared.block.Range.{Range}
 use Rattle.satl_base.proofs.BlocksLemmas.{length-bytes_of}
@@ -20,14 +22,14 @@ use Rattle.satl_direct.specs.Device.{Device}
 use Rattle.satl_audit.proofs.FixingEvents.{after_same}
 
 -- the data of a READ are fixed by the output
-pub reads_as : (input : List ℕ) (nexus tag : ℕ) (range : Range) (output left given : List ℕ) (old new : List Keeping) → IsReadBy nexus tag range output given left → (b : Bool) → GivesBlocks input range.lba given old new b →
-    Reads input nexus tag range output left old new b
-reads_as input nexus tag range output left given old new read true h = (given, read, h)
-reads_as input nexus tag range output left given old new read false h =
+pub reads_as : (input : List ℕ) (name : Name) (range : Range) (given : List ℕ) (old new : Compared) → IsReadBy name range old.output given new.output → (b : Bool) → GivesBlocks input range.lba given old.sectors new.sectors b →
+    Reads input name range old new b
+reads_as input name range given old new read true h = (given, read, h)
+reads_as input name range given old new read false h =
     λ other rest also.
-    let head = head_bytes nexus tag Good 0 (512 * range.count) in
-    let same = fronts given other left rest (read.0 ∙ sym also.0) (after_same head head (given ++ left) (other ++ rest) refl (sym read.1 ∙ also.1)) in
-    subst (λ l. GivesBlocks input range.lba l old new false) same.front h
+    let head = head_bytes name.nexus (name.tag).0 Good 0 (512 * range.count) in
+    let same = fronts given other new.output rest (read.0 ∙ sym also.0) (after_same head head (given ++ new.output) (other ++ rest) refl (sym read.1 ∙ also.1)) in
+    subst (λ l. GivesBlocks input range.lba l old.sectors new.sectors false) same.front h
 
 pub all_bytes : (vs : List Block) → AreWhole vs → first_bytes (512 * length vs) vs ≡ bytes_of vs
 all_bytes vs whole = ap (λ n. take n (bytes_of vs)) (sym (length-bytes_of vs whole)) ∙ take_own (bytes_of vs)

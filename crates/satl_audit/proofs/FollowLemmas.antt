@@ -25,6 +25,7 @@ use Rattle.satl_audit.specs.Kept.{Keeping}
 use Rattle.satl_audit.specs.Waiting.{AllFit}
 use Rattle.satl_audit.specs.declared.arriving.Steps.{Steps}
 use Rattle.satl_audit.specs.declared.verdict.Verdict.TheVariants as says
+use Rattle.satl_audit.specs.Progress.{recorded, progress}
 use Rattle.satl_cover.specs.Known.{is_known_frame}
 use Rattle.satl_audit.proofs.ReachBegins.{Reached}
 use Rattle.satl_audit.proofs.ReachLemmas.{good_here, known_here, may_here, reached_more, tasks_here}
@@ -75,10 +76,10 @@ module _ (identity : Identity) (is : IsIdentity identity) (input output : List �
     may_next at same = may_here identity is input output all taken going.so_far ahead.0 gave.whole ahead.1 steps sectors going.reached at (place at same)
 
     -- it cannot happen
-    pub says_no : CannotGoOn identity input gave.whole steps sectors → Judged identity input output (Ok says.No)
+    pub says_no : CannotGoOn (recorded identity input) gave.whole (progress steps sectors) → Judged identity input output (Ok says.No)
     says_no cannot = (all, taken, stuck_here identity is input output all taken going.so_far ahead.0 gave.whole ahead.1 steps sectors going.reached cannot)
 
-    module _ (next : Steps) (after : List Keeping) (goes : GoesOn identity input gave.whole steps next sectors after) (fit : AllFit identity.capacity (length input) next.waiting) where
+    module _ (next : Steps) (after : List Keeping) (goes : GoesOn (recorded identity input) gave.whole (progress steps sectors) (progress next after)) (fit : AllFit identity.capacity (length input) next.waiting) where
       more : Reached identity input output (going.so_far ++ gave.whole ∷ []) next after
       more = reached_more identity is input output all taken going.so_far ahead.0 gave.whole ahead.1 steps sectors going.reached next after goes fit
 
@@ -112,12 +113,12 @@ module _ (identity : Identity) (is : IsIdentity identity) (input output : List �
 
     -- what is found of it
     module _ (at : ℕ) (place_is : at ≡ max (length input - length left) 8) (next : Steps) (after : List Keeping) (b : Bool)
-        (advances : (whole : Frame) → frame ≡ cut_to 0 whole → MayHappen input (at + 35) steps.waiting whole → Advances identity input whole steps next sectors after b) where
-      here : Advances identity input gave.whole steps next sectors after b
+        (advances : (whole : Frame) → frame ≡ cut_to 0 whole → MayHappen input (at + 35) steps.waiting whole → Advances (recorded identity input) whole (progress steps sectors) (progress next after) b) where
+      here : Advances (recorded identity input) gave.whole (progress steps sectors) (progress next after) b
       here = advances gave.whole gave.cut (may_next at place_is)
 
       pub stops : b ≡ false → Judged identity input output (Ok says.No)
-      stops e = says_no (subst (Advances identity input gave.whole steps next sectors after) e here)
+      stops e = says_no (subst (Advances (recorded identity input) gave.whole (progress steps sectors) (progress next after)) e here)
 
-      pub goes : b ≡ true → GoesOn identity input gave.whole steps next sectors after
-      goes e = subst (Advances identity input gave.whole steps next sectors after) e here
+      pub goes : b ≡ true → GoesOn (recorded identity input) gave.whole (progress steps sectors) (progress next after)
+      goes e = subst (Advances (recorded identity input) gave.whole (progress steps sectors) (progress next after)) e here

@@ -20,6 +20,7 @@ use Rattle.satl_audit.specs.Kept.{Keeping}
 use Rattle.satl_audit.specs.Skeleton.{TaskDone, TurnsDone}
 use Rattle.satl_audit.specs.Waiting.{task_in}
 use Rattle.satl_audit.specs.declared.arriving.Steps.{Steps}
+use Rattle.satl_audit.specs.Progress.{recorded, progress}
 use Rattle.satl_audit.proofs.FixingEvents.{ended_push}
 use Rattle.satl_audit.proofs.FixingTurns.{drains_same, none_ends, said}
 use Rattle.satl_audit.proofs.TurnLemmas.{kept_of}
@@ -72,7 +73,7 @@ module _ (identity : Identity) (input : List ℕ) (old mid : Steps) (sectors aft
   as_many : count ≡ length (device_at identity input old).tasks
   as_many = all ∙ sym (length-map old.waiting (task_in input))
 
-  pub end_goes : (new : Steps) → device_at identity input new ≡ device_at identity input mid → TurnsOn identity input count old mid sectors after → mid.output ≡ end_bytes ++ new.output → GoesOn identity input frames.End old new sectors after
+  pub end_goes : (new : Steps) → device_at identity input new ≡ device_at identity input mid → TurnsOn (recorded identity input) count (progress old sectors) (progress mid after) → mid.output ≡ end_bytes ++ new.output → GoesOn (recorded identity input) frames.End (progress old sectors) (progress new after)
   end_goes new same t passed = record {
     answers = map replied t.replies ++ ended ∷ [];
     deeds = t.deeds;
@@ -82,20 +83,20 @@ module _ (identity : Identity) (input : List ℕ) (old mid : Steps) (sectors aft
     follows = t.follows;
   }
 
-  pub end_stops : CannotTurn identity input count old sectors → CannotGoOn identity input frames.End old sectors
+  pub end_stops : CannotTurn (recorded identity input) count (progress old sectors) → CannotGoOn (recorded identity input) frames.End (progress old sectors)
   end_stops cannot answers deeds new left e whole h =
       let b = busy (device_at identity input old) e.3 in
       let same : b.count ≡ count = omega (arith, b.sum, ap (λ (l : List Entry). length l) e.4, as_many) in
       cannot e.0 deeds new (end_bytes ++ left) (subst (λ n. TurnsDone (device_at identity input old) n e.0 deeds new) same b.done) whole (h ∙ ap (λ l. all_answered l ++ left) e.1 ∙ ended_push e.0 left)
 
-  pub end_lacks : AreTasks identity input old.waiting → TurnsOn identity input count old mid sectors after → ((rest : List ℕ) → mid.output ≡ end_bytes ++ rest → ⊥) → CannotGoOn identity input frames.End old sectors
+  pub end_lacks : AreTasks identity input old.waiting → TurnsOn (recorded identity input) count (progress old sectors) (progress mid after) → ((rest : List ℕ) → mid.output ≡ end_bytes ++ rest → ⊥) → CannotGoOn (recorded identity input) frames.End (progress old sectors)
   end_lacks tasks t other answers deeds new left e whole h =
       let same = drains_same (device_at identity input old) (kept_of identity input old tasks) count e.2 t.replies e.0 t.deeds deeds (device_at identity input mid) new t.done (all_done (device_at identity input old) as_many t.done) e.3 e.4
       mid.output (end_bytes ++ left) t.whole whole (sym t.said ∙ h ∙ ap (λ l. all_answered l ++ left) e.1 ∙ ended_push e.0 left) in
       absurd (other left same.rest_same)
 
 -- the output ends, or it does not
-pub end_passes : (identity : Identity) (input : List ℕ) (old mid new : Steps) (sectors after : List Keeping) (count : ℕ) → count ≡ length old.waiting → AreTasks identity input old.waiting → TurnsOn identity input count old mid sectors after → device_at identity input new ≡ device_at identity input mid →
-    (passed : Bool) → (passed ≡ true → mid.output ≡ end_bytes ++ new.output) → (passed ≡ false → (rest : List ℕ) → mid.output ≡ end_bytes ++ rest → ⊥) → Advances identity input frames.End old new sectors after passed
+pub end_passes : (identity : Identity) (input : List ℕ) (old mid new : Steps) (sectors after : List Keeping) (count : ℕ) → count ≡ length old.waiting → AreTasks identity input old.waiting → TurnsOn (recorded identity input) count (progress old sectors) (progress mid after) → device_at identity input new ≡ device_at identity input mid →
+    (passed : Bool) → (passed ≡ true → mid.output ≡ end_bytes ++ new.output) → (passed ≡ false → (rest : List ℕ) → mid.output ≡ end_bytes ++ rest → ⊥) → Advances (recorded identity input) frames.End (progress old sectors) (progress new after) passed
 end_passes identity input old mid new sectors after count all tasks t same true passes lacks = end_goes identity input old mid sectors after count all new same t (passes refl)
 end_passes identity input old mid new sectors after count all tasks t same false passes lacks = end_lacks identity input old mid sectors after count all tasks t (lacks refl)

@@ -20,6 +20,7 @@ use Rattle.satl_audit.specs.Powering.{power_deeds}
 use Rattle.satl_audit.specs.Skeleton.{pairs_by, powered, shown}
 use Rattle.satl_audit.specs.Waiting.{Placed, device_tasks}
 use Rattle.satl_audit.specs.declared.arriving.Steps.{Steps}
+use Rattle.satl_audit.specs.Progress.{recorded, progress}
 
 -- what tasks write does not depend on what nexuses are to be told
 written_same : (identity : Identity) (before after : List (List Attention)) (input : List ℕ) (waiting : List Placed) (c : Command) (t : Entry) →
@@ -53,7 +54,7 @@ pub shown_same : (identity : Identity) (before after : List (List Attention)) (i
 shown_same identity before after input waiting = pairs_same identity before after input waiting (eligibles (device_tasks input waiting))
 
 pub power_goes : (identity : Identity) (input : List ℕ) (old new : Steps) (sectors after : List Keeping) → new.waiting ≡ [] → new.attentions ≡ map (λ (conditions : List Attention). PowerOn ∷ []) old.attentions → new.output ≡ old.output →
-    Follows input (power_deeds (device_of identity input old.waiting [])) sectors after → GoesOn identity input (frames.Bench events.Power) old new sectors after
+    Follows input (power_deeds (device_of identity input old.waiting [])) sectors after → GoesOn (recorded identity input) (frames.Bench events.Power) (progress old sectors) (progress new after)
 power_goes identity input old new sectors after none told output follows = record {
   answers = [];
   deeds = power_deeds (device_at identity input old);

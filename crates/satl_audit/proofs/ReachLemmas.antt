@@ -27,6 +27,7 @@ use Rattle.satl_audit.specs.Kept.{Keeping, blank_keeping}
 use Rattle.satl_audit.specs.Skeleton.Skeleton.{further}
 use Rattle.satl_audit.specs.Waiting.{AllFit, device_tasks}
 use Rattle.satl_audit.specs.declared.arriving.Steps.{Steps}
+use Rattle.satl_audit.specs.Progress.{recorded, progress}
 use Rattle.satl_audit.proofs.JoinedDeeds.{begins_stepped, follows_join}
 use Rattle.satl_audit.proofs.Fixing.{answered_push, steps_fixed}
 use Rattle.satl_audit.proofs.FixingTurns.{Kept}
@@ -117,7 +118,7 @@ module _ (identity : Identity) (is : IsIdentity identity) (input output : List �
       by (frames.Bench event) e = tt
       by frames.End e = tt
 
-  pub reached_more : (new : Steps) (after : List Keeping) → GoesOn identity input event steps new sectors after → AllFit identity.capacity (length input) new.waiting → Reached identity input output (so_far ++ event ∷ []) new after
+  pub reached_more : (new : Steps) (after : List Keeping) → GoesOn (recorded identity input) event (progress steps sectors) (progress new after) → AllFit identity.capacity (length input) new.waiting → Reached identity input output (so_far ++ event ∷ []) new after
   reached_more new after g fit = record {
     answers = reached.answers ++ g.answers;
     deeds = reached.deeds ++ g.deeds;

@@ -26,9 +26,8 @@ use Rattle.satl_audit.specs.Skeleton.{Benched, Stepped, bare, powered, shown}
 use Rattle.satl_audit.proofs.Coming.{arrival_comes}
 use Rattle.satl_audit.proofs.Keeping.{IsSane, sane_on}
 use Rattle.satl_audit.proofs.ArrivalSplit.{arrival_bare, arrives_made}
-use Rattle.satl_audit.proofs.Stepping.{quiet_made, quiet_sane}
+use Rattle.satl_audit.proofs.Stepping.{quiet_made, quiet_sane, still_up}
 use Rattle.satl_audit.proofs.Turning.{turns_made}
-use Rattle.satl_audit.proofs.Links.{still_up}
 
 pub record EventMade (event : Frame) (s : Device) (now : List Answer) (cells : List Cell) (bared : Device) : Type 0 where
   pub new : Device

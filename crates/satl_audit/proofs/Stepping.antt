@@ -1,5 +1,6 @@
 -- Steps of a sane device without a loss are steps of its bare device, and a deed of its sectors.
-use Rattle.std.proofs.Common.{◌≡◌, ◌⊎◌, inl, inr, refl, sym, ap, ◌∙◌, subst, ℕ, suc, true, List, [], ◌∷◌, ◌++◌, append_assoc}
+use Rattle.std.proofs.Common.{◌≡◌, ◌⊎◌, inl, inr, refl, sym, ap, ◌∙◌, subst, ℕ, suc, Bool, true, false, List, [], ◌∷◌, ◌++◌, append_assoc}
+use Rattle.std.specs.Prelude.{if◌then◌else◌}
 use Rattle.std.proofs.lemmas.List.{append-nil}
 use Rattle.std.specs.List.{AllByRecursion}
 use Rattle.satl_base.specs.declared.reply.Reply.{Reply}
@@ -10,6 +11,7 @@ use Rattle.satl_base.specs.Moves.{stay}
 use Rattle.satl_base.proofs.MovesLemmas.{moves_on}
 use Rattle.satl_direct.specs.Device.{Device}
 use Rattle.satl_direct.specs.Quiet.{Quiet}
+use Rattle.satl_direct.specs.Run.{losses_of}
 use Rattle.satl_direct.specs.Turn.{Turn}
 use Rattle.satl_direct.specs.Turn.Turn.{idle, ends, loses, ends_and_loses}
 use Rattle.satl_audit.specs.Deeds.{Deed, DoneBy, Walks}
@@ -95,3 +97,26 @@ module _ (first : List Cell) (ds so_far : List Deed) (s before : Device) (n : �
       })
   turn_went _ after t h b (loses some l) = inl (ap (λ (x : Device). x.down) l.stays)
   turn_went _ after t h b (ends_and_loses reply e q l) = inl (ap (λ (x : Device). x.down) l.stays)
+
+-- ---- losses
+
+-- losses by whether the link was lost before and after
+abbrev lost_by : Bool → Bool → ℕ
+lost_by a b = if a then 0 else (if b then 1 else 0)
+
+-- no loss: the link is still up
+pub not_lost : (s new : Device) → s.down ≡ false → losses_of s new ≡ 0 → new.down ≡ false
+not_lost s new up e = cases s.down new.down up e
+  where
+    cases : (a b : Bool) → a ≡ false → lost_by a b ≡ 0 → b ≡ false
+    cases true b p q = absurd cc
+    cases false true p q = absurd cc
+    cases false false p q = refl
+
+pub still_up : (s new : Device) → new.down ≡ false → losses_of s new ≡ 0
+still_up s new up = cases s.down new.down up
+  where
+    cases : (a b : Bool) → b ≡ false → lost_by a b ≡ 0
+    cases true b p = refl
+    cases false true p = absurd cc
+    cases false false p = refl

@@ -20,6 +20,7 @@ use Rattle.satl_audit.specs.Kept.{Keeping}
 use Rattle.satl_audit.specs.Skeleton.{TaskDone, TurnsDone, shown}
 use Rattle.satl_audit.specs.Waiting.{Fits, Placed, device_tasks}
 use Rattle.satl_audit.specs.declared.arriving.Steps.{Steps}
+use Rattle.satl_audit.specs.Progress.{recorded, progress}
 use Rattle.satl_audit.proofs.AlongLemmas.{follows_push, refuses_more, refuses_push}
 use Rattle.satl_audit.proofs.FixingTurns.{Kept, idles, said, said-push, turns_same}
 use Rattle.satl_audit.proofs.Naming.{own_removed}
@@ -50,7 +51,7 @@ tasks_left identity input ps place p tasks at =
 -- ---- one turn more
 
 module _ (identity : Identity) (input : List ℕ) (old mid new : Steps) (before between after : List Keeping) where
-  pub one_more : (i : ℕ) → TurnsOn identity input i old mid before between → EndsOn identity input mid new between after → TurnsOn identity input (i + 1) old new before after
+  pub one_more : (i : ℕ) → TurnsOn (recorded identity input) i (progress old before) (progress mid between) → EndsOn (recorded identity input) (progress mid between) (progress new after) → TurnsOn (recorded identity input) (i + 1) (progress old before) (progress new after)
   one_more i t e =
       let next : suc i ≡ i + 1 = omega arith in
       record {
@@ -64,7 +65,7 @@ module _ (identity : Identity) (input : List ℕ) (old mid new : Steps) (before 
       }
 
 -- where no task is left more turns do nothing
-pub idle_turns : (identity : Identity) (input : List ℕ) (old new : Steps) (before after : List Keeping) (i count : ℕ) → i ≤ count → new.waiting ≡ [] → TurnsOn identity input i old new before after → TurnsOn identity input count old new before after
+pub idle_turns : (identity : Identity) (input : List ℕ) (old new : Steps) (before after : List Keeping) (i count : ℕ) → i ≤ count → new.waiting ≡ [] → TurnsOn (recorded identity input) i (progress old before) (progress new after) → TurnsOn (recorded identity input) count (progress old before) (progress new after)
 idle_turns identity input old new before after i count le none t =
     let all : (count - i) + i ≡ count = omega (arith, le) in
     record {
@@ -88,7 +89,7 @@ some_tasks input [] h = refl
 some_tasks input (p ∷ ps) h = absurd cc
 
 -- where no turn can follow, no more turns can be done
-module _ (identity : Identity) (input : List ℕ) (old mid : Steps) (before between : List Keeping) (i : ℕ) (tasks : AreTasks identity input old.waiting) (t : TurnsOn identity input i old mid before between) (cannot : CannotEnd identity input mid between) where
+module _ (identity : Identity) (input : List ℕ) (old mid : Steps) (before between : List Keeping) (i : ℕ) (tasks : AreTasks identity input old.waiting) (t : TurnsOn (recorded identity input) i (progress old before) (progress mid between)) (cannot : CannotEnd (recorded identity input) (progress mid between)) where
   by_last : {replies : List Reply} {deeds : List Deed} {u : Device} → TurnsDone (device_at identity input old) (suc i) replies deeds u → (mid.waiting ≡ [] → ⊥) → (others : List Reply) (late : List Deed) (left : List ℕ) → AllWhole deeds → old.output ≡ said replies ++ (said others ++ left) → SomeRefuses input (deeds ++ late) before
   by_last {replies = replies} {deeds = deeds} (TurnsDone.idle t' e) some others late left whole h =
       let same = turns_same (device_at identity input old) (kept_of identity input old tasks) t.done t' mid.output (said others ++ left) t.whole whole (sym t.said ∙ h) in
@@ -102,7 +103,7 @@ module _ (identity : Identity) (input : List ℕ) (old mid : Steps) (before betw
       refuses_more input (deeds ++ shows (shown m) ∷ deed ∷ []) late before
       (subst (λ l. SomeRefuses input l before) (ap (λ l. l ++ shows (shown (device_at identity input mid)) ∷ deed ∷ []) same.deeds_same ∙ ap (λ x. deeds ++ shows (shown x) ∷ deed ∷ []) same.new_same) p)
 
-  pub stuck_turns : (count : ℕ) → i < count → (mid.waiting ≡ [] → ⊥) → CannotTurn identity input count old before
+  pub stuck_turns : (count : ℕ) → i < count → (mid.waiting ≡ [] → ⊥) → CannotTurn (recorded identity input) count (progress old before)
   stuck_turns count less some replies deeds new left done whole h =
       let all : count ≡ (count - suc i) + suc i = omega (arith, less) in
       let f = first_turns (device_at identity input old) (suc i) (count - suc i) replies deeds new (subst (λ n. TurnsDone (device_at identity input old) n replies deeds new) all done) in
@@ -110,7 +111,7 @@ module _ (identity : Identity) (input : List ℕ) (old mid : Steps) (before betw
       subst (λ l. SomeRefuses input l before) (sym f.deeds_are)
       (by_last f.done some f.others f.late left w (h ∙ ap (λ l. said l ++ left) f.replies_are ∙ said-append f.some f.others left))
 
-pub no_turns : (identity : Identity) (input : List ℕ) (steps : Steps) (sectors : List Keeping) → TurnsOn identity input 0 steps steps sectors sectors
+pub no_turns : (identity : Identity) (input : List ℕ) (steps : Steps) (sectors : List Keeping) → TurnsOn (recorded identity input) 0 (progress steps sectors) (progress steps sectors)
 no_turns identity input steps sectors = record { replies = []; deeds = []; done = TurnsDone.none; whole = tt; said = refl; follows = (refl, λ x less. refl) }
 
 pub none_waits : (ps : List Placed) → (length ps == 0) ≡ true → ps ≡ []

@@ -20,6 +20,7 @@ use Rattle.satl_audit.specs.Kept.{Keeping, blank_keeping, sector_at, sector_of}
 use Rattle.satl_audit.specs.Sectors.{Sector, sector_gives, sector_power, sector_puts, sectored, settled_in}
 use Rattle.satl_audit.specs.Skeleton.{IsExplained}
 use Rattle.satl_audit.specs.declared.arriving.Steps.{Steps}
+use Rattle.satl_audit.specs.Progress.{recorded, progress}
 use Rattle.satl_audit.proofs.JoinedDeeds.{begins_stepped, refuses_join}
 use Rattle.satl_audit.proofs.AlongLemmas.{refuses_more}
 use Rattle.satl_audit.proofs.Deciding.{explained_has_steps, explained_is_sectored, sectored_is_explained}
@@ -85,7 +86,7 @@ module _ (input : List ℕ) (n : ℕ) (ds : List Deed) where
 
 module _ (identity : Identity) (is : IsIdentity identity) (input output : List ℕ) (all : List Frame) (taken : IsTaken identity input all) where
   -- nothing goes on from here
-  pub stuck_here : (so_far later : List Frame) (event : Frame) → all ≡ so_far ++ event ∷ later → (steps : Steps) (sectors : List Keeping) → Reached identity input output so_far steps sectors → CannotGoOn identity input event steps sectors →
+  pub stuck_here : (so_far later : List Frame) (event : Frame) → all ≡ so_far ++ event ∷ later → (steps : Steps) (sectors : List Keeping) → Reached identity input output so_far steps sectors → CannotGoOn (recorded identity input) event (progress steps sectors) →
       IsExplained (blank identity) all output → ⊥
   stuck_here so_far later event all_are steps sectors reached cannot explained =
       let h : IsInput (blank identity) (so_far ++ event ∷ later) = decided identity is input output all taken so_far later event all_are steps sectors reached in

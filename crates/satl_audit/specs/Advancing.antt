@@ -4,39 +4,35 @@ use Rattle.satl_base.specs.declared.request.Request.{Request}
 use Rattle.satl_frame.specs.declared.frames.Frame.{Frame}
 use Rattle.satl_frame.specs.declared.frames.Frame.TheVariants as frames
 use Rattle.satl_frame.specs.Output.{Answer, all_answered}
-use Rattle.satl_identify.specs.declared.identity.Identity.{Identity}
 use Rattle.satl_direct.specs.Device.{Device}
-use Rattle.satl_audit.specs.Arriving.{IsSent, device_at}
+use Rattle.satl_audit.specs.Arriving.{IsSent}
 use Rattle.satl_audit.specs.Deciding.{AllWhole}
 use Rattle.satl_audit.specs.Deeds.{Deed}
 use Rattle.satl_audit.specs.Following.{Follows, SomeRefuses}
-use Rattle.satl_audit.specs.Kept.{Keeping}
+use Rattle.satl_audit.specs.Progress.{Progress, Recorded, device_in}
 use Rattle.satl_audit.specs.Skeleton.{Stepped}
 use Rattle.satl_audit.specs.Waiting.{Placed}
-use Rattle.satl_audit.specs.declared.arriving.Steps.{Steps}
 
 -- an event happens with the answers that come first in the output, and each sector goes along with it (SAM-5 5, 8; profile)
-pub record GoesOn (identity : Identity) (input : List ℕ) (event : Frame) (old new : Steps)
-    (sectors after : List Keeping) : Type 0 where
+pub record GoesOn (r : Recorded) (event : Frame) (old new : Progress) : Type 0 where
   pub answers : List Answer
   pub deeds : List Deed
-  pub stepped : Stepped event (device_at identity input old) answers deeds (device_at identity input new)
+  pub stepped : Stepped event (device_in r old) answers deeds (device_in r new)
   pub whole : AllWhole deeds
-  pub said : old.output ≡ all_answered answers ++ new.output
-  pub follows : Follows input deeds sectors after
+  pub said : old.steps.output ≡ all_answered answers ++ new.steps.output
+  pub follows : Follows r.input deeds old.sectors new.sectors
 
 -- it cannot happen so: in each way that has the answers that come first in the output, some sector does not go along with it
 -- (SAM-5 5, 8; profile)
-abbrev pub CannotGoOn : Identity → List ℕ → Frame → Steps → List Keeping → Type 0
-CannotGoOn identity input event old sectors = (answers : List Answer) (deeds : List Deed) (new : Device) (left : List ℕ) →
-    Stepped event (device_at identity input old) answers deeds new → AllWhole deeds →
-    old.output ≡ all_answered answers ++ left →
-    SomeRefuses input deeds sectors
+abbrev pub CannotGoOn : Recorded → Frame → Progress → Type 0
+CannotGoOn r event old = (answers : List Answer) (deeds : List Deed) (new : Device) (left : List ℕ) →
+    Stepped event (device_in r old) answers deeds new → AllWhole deeds → old.steps.output ≡ all_answered answers ++ left →
+    SomeRefuses r.input deeds old.sectors
 
 -- it happens so, or it cannot (SAM-5 5, 8; profile)
-abbrev pub Advances : Identity → List ℕ → Frame → Steps → Steps → List Keeping → List Keeping → Bool → Type 0
-Advances identity input event old new sectors after true = GoesOn identity input event old new sectors after
-Advances identity input event old new sectors after false = CannotGoOn identity input event old sectors
+abbrev pub Advances : Recorded → Frame → Progress → Progress → Bool → Type 0
+Advances r event old new true = GoesOn r event old new
+Advances r event old new false = CannotGoOn r event old
 
 -- a request may arrive: its data-out stands at a place of the input (SAM-5 5; profile)
 abbrev pub MayHappen : List ℕ → ℕ → List Placed → Frame → Type 0

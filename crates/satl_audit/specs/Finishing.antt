@@ -19,64 +19,67 @@ use Rattle.satl_audit.specs.Deciding.{AllWhole, GivesWhole}
 use Rattle.satl_audit.specs.Deeds.{Deed}
 use Rattle.satl_audit.specs.Deeds.Deed.{shows}
 use Rattle.satl_audit.specs.Following.{Follows, GivesBlocks, PutsBlocks, SomeRefuses}
-use Rattle.satl_audit.specs.Kept.{Keeping, kept_settle}
+use Rattle.satl_audit.specs.Kept.{kept_settle}
+use Rattle.satl_audit.specs.Progress.{Compared, Progress, Recorded, device_in}
 use Rattle.satl_audit.specs.Skeleton.{TaskDone, TurnsDone, shown}
 use Rattle.satl_audit.specs.declared.arriving.Steps.{Steps}
+use Rattle.satl_audit.specs.declared.effects.Put.{Put}
+use Rattle.satl_audit.specs.declared.reply.Name.{Name}
 
 -- a reply of version 1 up to its sense, with so many bytes of sense and of data (profile)
 abbrev pub head_bytes : ℕ → ℕ → Scsi → ℕ → ℕ → List ℕ
 head_bytes nexus tag status sense len = framed 0x81 (7 + sense + len) (nexus ∷ scsi_code status ∷ big_bytes 4 tag ++ sense ∷ [])
 
 -- the answer of a READ with these bytes of data comes first in the output (SBC-3, READ commands)
-abbrev pub IsReadBy : ℕ → ℕ → Range → List ℕ → List ℕ → List ℕ → Type 0
-IsReadBy nexus tag range output given left = (length given ≡ 512 * range.count)
-    × (output ≡ head_bytes nexus tag Good 0 (512 * range.count) ++ (given ++ left))
+abbrev pub IsReadBy : Name → Range → List ℕ → List ℕ → List ℕ → Type 0
+IsReadBy name range output given left = (length given ≡ 512 * range.count)
+    × (output ≡ head_bytes name.nexus (name.tag).0 Good 0 (512 * range.count) ++ (given ++ left))
 
 -- the answer of a READ comes first in the output, with what each sector may have; or with what some sector cannot have, or it
 -- does not come first (SBC-3, READ commands)
-abbrev pub Reads : List ℕ → ℕ → ℕ → Range → List ℕ → List ℕ → List Keeping → List Keeping → Bool → Type 0
-Reads input nexus tag range output left old new true = (given : List ℕ) × IsReadBy nexus tag range output given left
-    × GivesBlocks input range.lba given old new true
-Reads input nexus tag range output left old new false = (given rest : List ℕ) → IsReadBy nexus tag range output given rest →
-    GivesBlocks input range.lba given old new false
+abbrev pub Reads : List ℕ → Name → Range → Compared → Compared → Bool → Type 0
+Reads input name range old new true = (given : List ℕ) × IsReadBy name range old.output given new.output
+    × GivesBlocks input range.lba given old.sectors new.sectors true
+Reads input name range old new false = (given rest : List ℕ) → IsReadBy name range old.output given rest →
+    GivesBlocks input range.lba given old.sectors new.sectors false
 
 -- GOOD without data comes first in the output; or it does not (SAM-5 5.3.1)
-abbrev pub Passes : ℕ → ℕ → List ℕ → List ℕ → Bool → Type 0
-Passes nexus tag output left true = output ≡ head_bytes nexus tag Good 0 0 ++ left
-Passes nexus tag output left false = (rest : List ℕ) → output ≡ head_bytes nexus tag Good 0 0 ++ rest → ⊥
+abbrev pub Passes : Name → List ℕ → List ℕ → Bool → Type 0
+Passes name output left true = output ≡ head_bytes name.nexus (name.tag).0 Good 0 0 ++ left
+Passes name output left false = (rest : List ℕ) → output ≡ head_bytes name.nexus (name.tag).0 Good 0 0 ++ rest → ⊥
 
 -- so a WRITE ends, and its blocks were put (SBC-3, WRITE commands)
-abbrev pub Writes : List ℕ → ℕ → ℕ → Range → ℕ → Bool → List ℕ → List ℕ → List Keeping → List Keeping → Bool → Type 0
-Writes input nexus tag range at cached output left old new done = Passes nexus tag output left done
-    × (done ≡ true → PutsBlocks input range at cached old new)
+abbrev pub Writes : List ℕ → Name → Put → Compared → Compared → Bool → Type 0
+Writes input name put old new done = Passes name old.output new.output done
+    × (done ≡ true → PutsBlocks input put old.sectors new.sectors)
 
 -- so a SYNCHRONIZE CACHE ends, and all is written back (SBC-3, SYNCHRONIZE CACHE)
-abbrev pub Flushes : ℕ → ℕ → List ℕ → List ℕ → List Keeping → List Keeping → Bool → Type 0
-Flushes nexus tag output left old new done = Passes nexus tag output left done × (done ≡ true → new ≡ map kept_settle old)
+abbrev pub Flushes : Name → Compared → Compared → Bool → Type 0
+Flushes name old new done = Passes name old.output new.output done × (done ≡ true → new.sectors ≡ map kept_settle old.sectors)
 
 -- what a task does that ends, where its pairs might show before (profile)
 abbrev pub end_deeds : Device → Deed → List Deed
 end_deeds s deed = shows (shown s) ∷ deed ∷ []
 
 -- a task ends with the answer that comes first in the output, and each sector goes along with it (SAM-5 8)
-pub record EndsOn (identity : Identity) (input : List ℕ) (old new : Steps) (sectors after : List Keeping) : Type 0 where
+pub record EndsOn (r : Recorded) (old new : Progress) : Type 0 where
   pub reply : Reply
   pub deed : Deed
-  pub done : TaskDone (device_at identity input old) reply deed (device_at identity input new)
+  pub done : TaskDone (device_in r old) reply deed (device_in r new)
   pub whole : GivesWhole deed
-  pub said : old.output ≡ reply_bytes reply ++ new.output
-  pub follows : Follows input (end_deeds (device_at identity input old) deed) sectors after
+  pub said : old.steps.output ≡ reply_bytes reply ++ new.steps.output
+  pub follows : Follows r.input (end_deeds (device_in r old) deed) old.sectors new.sectors
 
 -- no task can end so: of each whose answer comes first in the output some sector does not go along with it (SAM-5 8)
-abbrev pub CannotEnd : Identity → List ℕ → Steps → List Keeping → Type 0
-CannotEnd identity input old sectors = (reply : Reply) (deed : Deed) (new : Device) (left : List ℕ) →
-    TaskDone (device_at identity input old) reply deed new → GivesWhole deed → old.output ≡ reply_bytes reply ++ left →
-    SomeRefuses input (end_deeds (device_at identity input old) deed) sectors
+abbrev pub CannotEnd : Recorded → Progress → Type 0
+CannotEnd r old = (reply : Reply) (deed : Deed) (new : Device) (left : List ℕ) →
+    TaskDone (device_in r old) reply deed new → GivesWhole deed → old.steps.output ≡ reply_bytes reply ++ left →
+    SomeRefuses r.input (end_deeds (device_in r old) deed) old.sectors
 
 -- a task ends so, or none can (SAM-5 8)
-abbrev pub Ends : Identity → List ℕ → Steps → Steps → List Keeping → List Keeping → Bool → Type 0
-Ends identity input old new sectors after true = EndsOn identity input old new sectors after
-Ends identity input old new sectors after false = CannotEnd identity input old sectors
+abbrev pub Ends : Recorded → Progress → Progress → Bool → Type 0
+Ends r old new true = EndsOn r old new
+Ends r old new false = CannotEnd r old
 
 -- nexus and tag of the answer that comes first in the output (profile)
 abbrev pub NamesNext : List ℕ → Option (ℕ × Tag) → Type 0
@@ -99,23 +102,22 @@ OnlyEnds steps found = (identity : Identity) (input : List ℕ) (reply : Reply) 
 
 -- so many turns are done, with the answers that come first in the output, and each sector goes along with them (SAM-5 8;
 -- profile)
-pub record TurnsOn (identity : Identity) (input : List ℕ) (count : ℕ) (old new : Steps)
-    (sectors after : List Keeping) : Type 0 where
+pub record TurnsOn (r : Recorded) (count : ℕ) (old new : Progress) : Type 0 where
   pub replies : List Reply
   pub deeds : List Deed
-  pub done : TurnsDone (device_at identity input old) count replies deeds (device_at identity input new)
+  pub done : TurnsDone (device_in r old) count replies deeds (device_in r new)
   pub whole : AllWhole deeds
-  pub said : old.output ≡ all_answered (map replied replies) ++ new.output
-  pub follows : Follows input deeds sectors after
+  pub said : old.steps.output ≡ all_answered (map replied replies) ++ new.steps.output
+  pub follows : Follows r.input deeds old.sectors new.sectors
 
 -- no turns can be done so: of all whose answers come first in the output some sector does not go along with them (SAM-5 8;
 -- profile)
-abbrev pub CannotTurn : Identity → List ℕ → ℕ → Steps → List Keeping → Type 0
-CannotTurn identity input count old sectors = (replies : List Reply) (deeds : List Deed) (new : Device) (left : List ℕ) →
-    TurnsDone (device_at identity input old) count replies deeds new → AllWhole deeds →
-    old.output ≡ all_answered (map replied replies) ++ left → SomeRefuses input deeds sectors
+abbrev pub CannotTurn : Recorded → ℕ → Progress → Type 0
+CannotTurn r count old = (replies : List Reply) (deeds : List Deed) (new : Device) (left : List ℕ) →
+    TurnsDone (device_in r old) count replies deeds new → AllWhole deeds →
+    old.steps.output ≡ all_answered (map replied replies) ++ left → SomeRefuses r.input deeds old.sectors
 
 -- turns are done so, or none can (SAM-5 8)
-abbrev pub Turns : Identity → List ℕ → ℕ → Steps → Steps → List Keeping → List Keeping → Bool → Type 0
-Turns identity input count old new sectors after true = TurnsOn identity input count old new sectors after
-Turns identity input count old new sectors after false = CannotTurn identity input count old sectors
+abbrev pub Turns : Recorded → ℕ → Progress → Progress → Bool → Type 0
+Turns r count old new true = TurnsOn r count old new
+Turns r count old new false = CannotTurn r count old

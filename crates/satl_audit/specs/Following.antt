@@ -5,6 +5,7 @@ use Rattle.satl_base.specs.declared.block.Range.{Range}
 use Rattle.satl_base.specs.Cells.{Pair, pairs_from}
 use Rattle.satl_frame.specs.DataPages.{pages_of}
 use Rattle.satl_audit.specs.declared.content.Content.TheVariants.{Input}
+use Rattle.satl_audit.specs.declared.effects.Put.{Put}
 use Rattle.satl_audit.specs.Deeds.{Deed}
 use Rattle.satl_audit.specs.Deeds.Deed.{shows, puts, gives, settles, powers}
 use Rattle.satl_audit.specs.Guesses.{blocks_at}
@@ -21,9 +22,9 @@ abbrev pub pairs_in : List ℕ → Range → ℕ → Bool → List Pair
 pairs_in input range at cached = pairs_from range.lba (blocks_from input at range.count) cached
 
 -- the blocks of a WRITE were put (SBC-3, WRITE commands)
-abbrev pub PutsBlocks : List ℕ → Range → ℕ → Bool → List Keeping → List Keeping → Type 0
-PutsBlocks input range at cached old new = (x : ℕ) → x < length old →
-    sector_at input new x ≡ sector_puts x (pairs_in input range at cached) (sector_at input old x)
+abbrev pub PutsBlocks : List ℕ → Put → List Keeping → List Keeping → Type 0
+PutsBlocks input put old new = (x : ℕ) → x < length old →
+    sector_at input new x ≡ sector_puts x (pairs_in input put.range put.at put.cached) (sector_at input old x)
 
 -- what a loss of power may leave has the blocks of a WRITE too (SBC-3 4.15)
 abbrev pub PendsBlocks : List ℕ → Range → ℕ → List Keeping → List Keeping → Type 0

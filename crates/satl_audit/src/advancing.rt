@@ -1,13 +1,14 @@
 // Events of a record.
-ghost use Rattle.std.specs.Prelude.{◌≡◌, ◌<◌, ◌^◌, ℕ, Bool, List, IfOk, OnOk, true, length};
+ghost use Rattle.std.specs.Prelude.{◌≡◌, ◌<◌, ◌^◌, ℕ, List, IfOk, OnOk, true, length};
 ghost use Rattle.satl_identify.specs.declared.identity.Identity.{Identity};
 ghost use Rattle.satl_frame.specs.declared.frames.Frame.{Frame};
 ghost use Rattle.satl_frame.specs.declared.frames.Frame.TheVariants as frames;
 ghost use Rattle.satl_frame.specs.Pulls.{cut_to};
 ghost use Rattle.satl_cover.specs.Known.{is_known_frame};
-ghost use Rattle.satl_audit.specs.Advancing.{Advances, GoesOn, IsGoodFrame, MayHappen};
+ghost use Rattle.satl_audit.specs.Advancing.{Advances, IsGoodFrame, MayHappen};
 ghost use Rattle.satl_audit.specs.Finishing.{AreTasks};
 ghost use Rattle.satl_audit.specs.Waiting.{AllFit};
+ghost use Rattle.satl_audit.specs.Progress.{progress, recorded};
 
 use crate::arriving::{Steps, arrive};
 use crate::finishing::turn;
@@ -34,7 +35,8 @@ fn end(
     requires capacity { identity.now.capacity < 2 ^ 64 }
     ensures tasks { AreTasks identity.now input.now steps.new.waiting }
     ensures length { OnOk result (length sectors.new ≡ length sectors.old) }
-    ensures advances { IfOk result (Advances identity.now input.now frames.End steps.old steps.new sectors.old sectors.new) }
+    ensures advances { IfOk result (Advances (recorded identity.now input.now) frames.End
+        (progress steps.old sectors.old) (progress steps.new sectors.new)) }
 {
     let count = steps.waiting.len() as u16;
     if !turn(steps, sectors, identity, input, count)? {
@@ -43,26 +45,31 @@ fn end(
     Ok(steps.output.pass(&END))
 }
 
-/// An event of the bench happens: the power is lost, or the drive is told an order, which changes nothing (profile).
-fn bench(steps: &mut Steps<'_>, sectors: &mut Sectors, event: &BenchEvent) -> Result<(), NoMemory>
+/// An event of the bench happens: the power is lost, or the drive is told an order, which changes nothing. No run without losses
+/// that can be audited has another (profile).
+fn bench(steps: &mut Steps<'_>, sectors: &mut Sectors, event: &BenchEvent) -> Result<bool, NoMemory>
     requires fit { (size : ℕ) × (size < 2 ^ 63) × AllFit (length sectors.old) size steps.old.waiting }
     requires capacity { length sectors.old < 2 ^ 64 }
-    requires known { (trim : Bool) × (is_known_frame trim (frames.Bench event.now) ≡ true) }
     ensures fit { (capacity size : ℕ) → AllFit capacity size steps.old.waiting
         → OnOk result (AllFit capacity size steps.new.waiting) }
     ensures length { OnOk result (length sectors.new ≡ length sectors.old) }
-    ensures goes { (identity : Identity) → (input : List ℕ)
-        → OnOk result (GoesOn identity input (frames.Bench event.now) steps.old steps.new sectors.old sectors.new) }
+    ensures advances { (identity : Identity) → (input : List ℕ)
+        → IfOk result (Advances (recorded identity input) (frames.Bench event.now)
+        (progress steps.old sectors.old) (progress steps.new sectors.new)) }
 {
     match event {
-        BenchEvent::Power => power(steps, sectors),
-        BenchEvent::Order { .. } => Ok(()),
-        _ => unreachable!(),
+        BenchEvent::Power => {
+            power(steps, sectors)?;
+            Ok(true)
+        }
+        BenchEvent::Order { .. } => Ok(true),
+        _ => Ok(false),
     }
 }
 
 /// An event happens: whether it can with the answers that come next in the output, and each sector goes along with it (SAM-5 5,
-/// 8; profile). The data-out of a request stands in the input from a place on.
+/// 8; profile). The data-out of a request stands in the input from a place on. No run that can be audited has a task management
+/// function.
 pub fn advance(
     steps: &mut Steps<'_>,
     sectors: &mut Sectors,
@@ -80,16 +87,14 @@ pub fn advance(
     ensures fit { OnOk result (AllFit identity.now.capacity (length input.now) steps.new.waiting) }
     ensures length { OnOk result (length sectors.new ≡ length sectors.old) }
     ensures advances { (whole : Frame) → frame.now ≡ cut_to 0 whole → MayHappen input.now at steps.old.waiting whole
-        → IfOk result (Advances identity.now input.now whole steps.old steps.new sectors.old sectors.new) }
+        → IfOk result (Advances (recorded identity.now input.now) whole
+        (progress steps.old sectors.old) (progress steps.new sectors.new)) }
 {
     match frame {
         Frame::Request(request) => Ok(arrive(steps, identity, request, at)),
         Frame::Turn(count) => turn(steps, sectors, identity, input, *count),
-        Frame::Bench(event) => {
-            bench(steps, sectors, event)?;
-            Ok(true)
-        }
-        Frame::Manage(_) => unreachable!(),
+        Frame::Bench(event) => bench(steps, sectors, event),
+        Frame::Manage(_) => Ok(false),
         Frame::End => end(steps, sectors, identity, input),
     }
 }

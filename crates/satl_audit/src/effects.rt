@@ -6,21 +6,28 @@ use crate::content::Content;
 use crate::sectors::Sectors;
 use satl_base::{NoMemory, Range};
 
-/// The blocks of a WRITE are put; they stand in the input from a place on (SBC-3, WRITE commands).
-pub fn put_blocks(
-    sectors: &mut Sectors,
-    range: Range,
-    at: usize,
-    cached: bool,
-) -> Result<(), NoMemory>
-    requires within { range.lba + range.count ≤ length sectors.old }
-    requires small { range.lba + range.count < 2 ^ 64 }
-    requires room { at + 512 * range.count < 2 ^ 64 }
+/// What a WRITE puts (SBC-3, WRITE commands).
+#[derive(Clone, Copy, Debug, PartialEq, Eq)]
+pub struct Put {
+    /// The sectors that it goes over.
+    pub range: Range,
+    /// Where its blocks stand in the input, in bytes.
+    pub at: usize,
+    /// Whether it goes through the write cache.
+    pub cached: bool,
+}
+
+/// The blocks of a WRITE are put (SBC-3, WRITE commands).
+pub fn put_blocks(sectors: &mut Sectors, put: &Put) -> Result<(), NoMemory>
+    requires within { put.now.range.lba + put.now.range.count ≤ length sectors.old }
+    requires small { put.now.range.lba + put.now.range.count < 2 ^ 64 }
+    requires room { put.now.at + 512 * put.now.range.count < 2 ^ 64 }
     ensures length { length sectors.new ≡ length sectors.old }
-    ensures puts { (input : List ℕ) → OnOk result (PutsBlocks input range at cached sectors.old sectors.new) }
+    ensures puts { (input : List ℕ) → OnOk result (PutsBlocks input put.now sectors.old sectors.new) }
 {
-    for i in 0..range.count as usize {
-        sectors.put(range.lba as usize + i, Content::Input(at + 512 * i), cached)?;
+    for i in 0..put.range.count as usize {
+        let content = Content::Input(put.at + 512 * i);
+        sectors.put(put.range.lba as usize + i, content, put.cached)?;
     }
     Ok(())
 }

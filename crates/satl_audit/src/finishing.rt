@@ -3,11 +3,12 @@ ghost use Rattle.std.specs.Prelude.{◌≡◌, ◌≤◌, ◌<◌, ◌+◌, ◌*
 ghost use Rattle.satl_line.specs.Eligible.{eligible_at};
 ghost use Rattle.satl_audit.specs.Finishing.{AreTasks, Ends, Flushes, NamesNext, OnlyEnds, Reads, Turns, Writes};
 ghost use Rattle.satl_audit.specs.Waiting.{entries_in};
+ghost use Rattle.satl_audit.specs.Progress.{compared, progress, recorded};
 
 use crate::arriving::Steps;
 use crate::cursor::Cursor;
-use crate::effects::{put_blocks, show_blocks};
-use crate::reply::head;
+use crate::effects::{Put, put_blocks, show_blocks};
+use crate::reply::{Name, head};
 use crate::sectors::Sectors;
 use satl_base::{Nexus, NoMemory, Range, Scsi, Tag};
 use satl_cdb::Command;
@@ -45,17 +46,17 @@ fn read_ends(
     output: &mut Cursor<'_>,
     sectors: &mut Sectors,
     input: &[u8],
-    nexus: Nexus,
-    tag: Tag,
+    name: Name,
     range: Range,
 ) -> Result<bool, NoMemory>
     requires within { range.lba + range.count ≤ length sectors.old }
     requires small { range.lba + range.count < 2 ^ 64 }
     ensures length { length sectors.new ≡ length sectors.old }
-    ensures reads { IfOk result (Reads input.now nexus tag.0 range output.old output.new sectors.old sectors.new) }
+    ensures reads { IfOk result
+        (Reads input.now name range (compared output.old sectors.old) (compared output.new sectors.new)) }
 {
     let len = 512 * u64::from(range.count);
-    if !output.pass(&head(nexus, tag, Scsi::Good, 0, len)) {
+    if !output.pass(&head(name, Scsi::Good, 0, len)) {
         return Ok(false);
     }
     let Some(given) = output.take(len as usize) else {
@@ -64,42 +65,34 @@ fn read_ends(
     show_blocks(sectors, range, input, given)
 }
 
-/// A WRITE ends: whether GOOD comes next in the output; then its blocks are put, which stand in the input from a place on
-/// (SBC-3, WRITE commands).
+/// A WRITE ends: whether GOOD comes next in the output; then its blocks are put (SBC-3, WRITE commands).
 fn write_ends(
     output: &mut Cursor<'_>,
     sectors: &mut Sectors,
-    nexus: Nexus,
-    tag: Tag,
-    range: Range,
-    at: usize,
-    cached: bool,
+    name: Name,
+    put: &Put,
 ) -> Result<bool, NoMemory>
-    requires within { range.lba + range.count ≤ length sectors.old }
-    requires small { range.lba + range.count < 2 ^ 64 }
-    requires room { at + 512 * range.count < 2 ^ 64 }
+    requires within { put.now.range.lba + put.now.range.count ≤ length sectors.old }
+    requires small { put.now.range.lba + put.now.range.count < 2 ^ 64 }
+    requires room { put.now.at + 512 * put.now.range.count < 2 ^ 64 }
     ensures length { length sectors.new ≡ length sectors.old }
     ensures writes { (input : List ℕ) → IfOk result
-        (Writes input nexus tag.0 range at cached output.old output.new sectors.old sectors.new) }
+        (Writes input name put.now (compared output.old sectors.old) (compared output.new sectors.new)) }
 {
-    if !output.pass(&head(nexus, tag, Scsi::Good, 0, 0)) {
+    if !output.pass(&head(name, Scsi::Good, 0, 0)) {
         return Ok(false);
     }
-    put_blocks(sectors, range, at, cached)?;
+    put_blocks(sectors, put)?;
     Ok(true)
 }
 
 /// A SYNCHRONIZE CACHE ends: whether GOOD comes next in the output; then all is written back (SBC-3, SYNCHRONIZE CACHE).
-fn flush_ends(
-    output: &mut Cursor<'_>,
-    sectors: &mut Sectors,
-    nexus: Nexus,
-    tag: Tag,
-) -> Result<bool, NoMemory>
+fn flush_ends(output: &mut Cursor<'_>, sectors: &mut Sectors, name: Name) -> Result<bool, NoMemory>
     ensures length { OnOk result (length sectors.new ≡ length sectors.old) }
-    ensures flushes { IfOk result (Flushes nexus tag.0 output.old output.new sectors.old sectors.new) }
+    ensures flushes { IfOk result
+        (Flushes name (compared output.old sectors.old) (compared output.new sectors.new)) }
 {
-    if !output.pass(&head(nexus, tag, Scsi::Good, 0, 0)) {
+    if !output.pass(&head(name, Scsi::Good, 0, 0)) {
         return Ok(false);
     }
     sectors.settle()?;
@@ -113,7 +106,8 @@ fn is_cached(identity: &Identity, fua: bool) -> bool
     identity.cache && !fua
 }
 
-/// A task ends: whether there is one whose answer comes next in the output, with which each sector goes along (SAM-5 8).
+/// A task ends: whether there is one whose answer comes next in the output, with which each sector goes along. In a run that can
+/// be audited READs, WRITEs and SYNCHRONIZE CACHEs end (SAM-5 8).
 pub fn end_task(
     steps: &mut Steps<'_>,
     sectors: &mut Sectors,
@@ -126,19 +120,24 @@ pub fn end_task(
     requires capacity { identity.now.capacity < 2 ^ 64 }
     ensures tasks { AreTasks identity.now input.now steps.new.waiting }
     ensures length { OnOk result (length sectors.new ≡ length sectors.old) }
-    ensures ends { IfOk result (Ends identity.now input.now steps.old steps.new sectors.old sectors.new) }
+    ensures ends { IfOk result (Ends (recorded identity.now input.now)
+        (progress steps.old sectors.old) (progress steps.new sectors.new)) }
 {
     let Some(place) = next_task(steps) else {
         return Ok(false);
     };
     let entry = steps.waiting.entry(place);
-    let (nexus, tag, command) = (entry.nexus, entry.tag, entry.command);
+    let name = Name {
+        nexus: entry.nexus,
+        tag: entry.tag,
+    };
+    let command = entry.command;
     let at = steps.waiting.data_at(place);
     steps.waiting.remove(place);
     let output = &mut steps.output;
     match command {
         Command::Read { lba, count, .. } => {
-            read_ends(output, sectors, input, nexus, tag, Range { lba, count })
+            read_ends(output, sectors, input, name, Range { lba, count })
         }
         Command::Write {
             lba,
@@ -146,19 +145,15 @@ pub fn end_task(
             fua,
             ..
         } => {
-            let cached = is_cached(identity, fua);
-            write_ends(
-                output,
-                sectors,
-                nexus,
-                tag,
-                Range { lba, count },
+            let put = Put {
+                range: Range { lba, count },
                 at,
-                cached,
-            )
+                cached: is_cached(identity, fua),
+            };
+            write_ends(output, sectors, name, &put)
         }
-        Command::Flush { .. } => flush_ends(output, sectors, nexus, tag),
-        _ => unreachable!(),
+        Command::Flush { .. } => flush_ends(output, sectors, name),
+        _ => Ok(false),
     }
 }
 
@@ -177,7 +172,8 @@ pub fn turn(
     requires capacity { identity.now.capacity < 2 ^ 64 }
     ensures tasks { AreTasks identity.now input.now steps.new.waiting }
     ensures length { OnOk result (length sectors.new ≡ length sectors.old) }
-    ensures turns { IfOk result (Turns identity.now input.now count steps.old steps.new sectors.old sectors.new) }
+    ensures turns { IfOk result (Turns (recorded identity.now input.now) count
+        (progress steps.old sectors.old) (progress steps.new sectors.new)) }
 {
     for _done in 0..count {
         if steps.waiting.is_empty() {

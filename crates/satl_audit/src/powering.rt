@@ -9,6 +9,7 @@ ghost use Rattle.satl_audit.specs.Arriving.{device_of};
 ghost use Rattle.satl_audit.specs.Following.{Follows};
 ghost use Rattle.satl_audit.specs.Powering.{PendsAll, PendsBetween, power_deeds};
 ghost use Rattle.satl_audit.specs.Waiting.{AllFit};
+ghost use Rattle.satl_audit.specs.Progress.{progress, recorded};
 
 use crate::arriving::Steps;
 use crate::effects::pend_blocks;
@@ -95,7 +96,8 @@ pub fn power(steps: &mut Steps<'_>, sectors: &mut Sectors) -> Result<(), NoMemor
     ensures none { OnOk result (steps.new.waiting ≡ []) }
     ensures length { OnOk result (length sectors.new ≡ length sectors.old) }
     ensures goes { (identity : Identity) → (input : List ℕ)
-        → OnOk result (GoesOn identity input (frames.Bench events.Power) steps.old steps.new sectors.old sectors.new) }
+        → OnOk result (GoesOn (recorded identity input) (frames.Bench events.Power)
+        (progress steps.old sectors.old) (progress steps.new sectors.new)) }
 {
     power_sectors(&steps.waiting, sectors)?;
     steps.waiting.clear();

@@ -10,20 +10,29 @@ use crate::cursor::Cursor;
 use satl_base::{Nexus, Request, Scsi, SenseBytes, Tag};
 use satl_sense::{Sense, sense_bytes};
 
+/// The name of a task (SAM-5 4.7, I_T_L_Q nexus).
+#[derive(Clone, Copy, Debug, PartialEq, Eq)]
+pub struct Name {
+    /// The nexus that asked.
+    pub nexus: Nexus,
+    /// The tag that it gave.
+    pub tag: Tag,
+}
+
 /// A reply of version 1 up to its sense: with so many bytes of sense and so many of data behind it.
-pub fn head(nexus: Nexus, tag: Tag, status: Scsi, sense: u8, len: u64) -> [u8; 12]
+pub fn head(name: Name, status: Scsi, sense: u8, len: u64) -> [u8; 12]
     requires { len < 2 ^ 63 }
-    ensures { result ≡ head_bytes nexus tag.0 status sense len }
+    ensures { result ≡ head_bytes name.nexus name.tag.0 status sense len }
 {
     let [_, _, _, _, a, b, c, d] = (7 + u64::from(sense) + len).to_be_bytes();
-    let [e, f, g, h] = tag.0.to_be_bytes();
+    let [e, f, g, h] = name.tag.0.to_be_bytes();
     [
         0x81,
         a,
         b,
         c,
         d,
-        nexus.number(),
+        name.nexus.number(),
         status.code(),
         e,
         f,
@@ -40,7 +49,11 @@ fn pass_answer(output: &mut Cursor<'_>, request: &Request, status: Scsi, sense: 
     ensures other { result ≡ false → (rest : List ℕ)
         → output.old ≡ reply_bytes (reply_to request.now status sense.now.items) ++ rest → ⊥ }
 {
-    let head = head(request.nexus, request.tag, status, sense.len() as u8, 0);
+    let name = Name {
+        nexus: request.nexus,
+        tag: request.tag,
+    };
+    let head = head(name, status, sense.len() as u8, 0);
     output.pass(&head) && output.pass(sense.as_slice())
 }
 

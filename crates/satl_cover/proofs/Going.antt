@@ -16,7 +16,7 @@ use Rattle.satl_cover.specs.Reading.{ReadWhole}
 use Rattle.satl_cover.proofs.ReadingLemmas.{end_whole, next_place, none_ends, read_whole}
 
 -- it has given frames of an input, and none was END
-pub record Going (trim : Bool) (r : Reading) (input left : List ℕ) (names : BTreeSet ℕ) (o : Option ℕ) : Type 0 where
+pub record Going (trim : Bool) (r : Reading) (input left : List ℕ) (names : BTreeSet (ℕ × ℕ)) (o : Option ℕ) : Type 0 where
   pub fresh : r.refused ≡ None
   pub newest : r.newest ≡ Two
   pub limit_is : r.limit ≡ limit
@@ -26,11 +26,11 @@ pub record Going (trim : Bool) (r : Reading) (input left : List ℕ) (names : BT
   pub knows : Knows trim given names o
 
 -- one frame more is noted
-abbrev pub Notes : Bool → ℕ → Frame → BTreeSet ℕ → Option ℕ → BTreeSet ℕ → Option ℕ → Type 0
+abbrev pub Notes : Bool → ℕ → Frame → BTreeSet (ℕ × ℕ) → Option ℕ → BTreeSet (ℕ × ℕ) → Option ℕ → Type 0
 Notes trim at frame names o names' o' =
     (earlier : List Frame) → (whole : Frame) → frame ≡ cut_to 0 whole → at ≡ place_behind earlier → Knows trim earlier names o → Knows trim (earlier ++ whole ∷ []) names' o'
 
-module _ {trim other : Bool} {old new : Reading} {input left left' : List ℕ} {names : BTreeSet ℕ} {o : Option ℕ} {frame : Frame} (names' : BTreeSet ℕ) (o' : Option ℕ) (at : ℕ) (going : Going trim old input left names o)
+module _ {trim other : Bool} {old new : Reading} {input left left' : List ℕ} {names : BTreeSet (ℕ × ℕ)} {o : Option ℕ} {frame : Frame} (names' : BTreeSet (ℕ × ℕ)) (o' : Option ℕ) (at : ℕ) (going : Going trim old input left names o)
     (gave : Gave old 0 frame new (Some left) (Some left')) (same : other ≡ trim) (place : at ≡ max (length input - length left) 8) (notes : Notes other at frame names o names' o') where
   read_more : HasRead new (Some input) (Some left') (going.given ++ gave.whole ∷ [])
   read_more = has_read_more old new (Some input) (Some left) (Some left') going.given 0 frame going.read going.none gave

@@ -32,7 +32,7 @@ next_place r input left given read = by_place r.limit r.newest r.place read
         omega (arith, ap length read.took.known, length-append (magic p.version ++ all_spelled given) left, length-append (magic p.version) (all_spelled given), length-magic p.version)
 
 -- a whole input was read
-pub read_whole : (trim : Bool) (r : Reading) (input left : List ℕ) (given : List Frame) (names : BTreeSet ℕ) (o : Option ℕ) → r.limit ≡ limit → HasRead r (Some input) (Some left) (given ++ frames.End ∷ []) →
+pub read_whole : (trim : Bool) (r : Reading) (input left : List ℕ) (given : List Frame) (names : BTreeSet (ℕ × ℕ)) (o : Option ℕ) → r.limit ≡ limit → HasRead r (Some input) (Some left) (given ++ frames.End ∷ []) →
     Knows trim (given ++ frames.End ∷ []) names o → ReadWhole trim input left names o
 read_whole trim r input left given names o is_limit read knows = by_place r.limit r.newest r.place is_limit read
   where
@@ -59,7 +59,7 @@ none_ends [] frame whole none cut not_end = (λ e. not_end (cut ∙ ap (cut_to 0
 none_ends (f ∷ fs) frame whole none cut not_end = (none.0, none_ends fs frame whole none.1 cut not_end)
 
 -- what is left behind END is refused there
-pub rest_is_bad : (trim : Bool) (input left : List ℕ) (names : BTreeSet ℕ) (o : Option ℕ) → ReadWhole trim input left names o → 0 < length left → IsBadInput input TooLong (length input - length left)
+pub rest_is_bad : (trim : Bool) (input left : List ℕ) (names : BTreeSet (ℕ × ℕ)) (o : Option ℕ) → ReadWhole trim input left names o → 0 < length left → IsBadInput input TooLong (length input - length left)
 rest_is_bad trim input left names o w some =
     bad_rest w.before w.reads (λ e. absurd (omega (arith, ap length e, some))) refl
     (omega (arith, ap length w.reads.split, length-append (magic w.version) (all_spelled (w.before ++ frames.End ∷ []) ++ left), length-append (all_spelled (w.before ++ frames.End ∷ [])) left, length-magic w.version))

@@ -12,7 +12,7 @@ use Rattle.satl_cover.specs.Covered.{AreCovered, FirstUncovered, IsBadInput, IsW
 use Rattle.satl_cover.specs.Noting.{Knows}
 
 -- frames up to END were read from an input, and this is left of it (profile)
-pub record ReadWhole (trim : Bool) (input left : List ℕ) (names : BTreeSet ℕ) (uncovered : Option ℕ) : Type 0 where
+pub record ReadWhole (trim : Bool) (input left : List ℕ) (names : BTreeSet (ℕ × ℕ)) (uncovered : Option ℕ) : Type 0 where
   pub version : Version
   pub before : List Frame
   pub reads : Reads limit input version (before ++ frames.End ∷ []) left

@@ -7,7 +7,7 @@ ghost use Rattle.satl_cover.specs.Covered.{is_covered, is_repeated, place_behind
 ghost use Rattle.satl_cover.specs.Noting.{AreNames, Knows};
 
 use crate::known::is_known_frame;
-use satl_base::{Nexus, NoMemory, Tag};
+use satl_base::NoMemory;
 use satl_frame::Frame;
 use std::alloc::Global;
 use std::collections::BTreeSet;
@@ -17,38 +17,33 @@ use std::collections::BTreeSet;
 pub struct Noted {
     /// Whether the drive has trim, which decides which CDBs are read.
     pub trim: bool,
-    /// The nexus and tag of each request so far, in one number.
-    pub names: BTreeSet<u64>,
+    /// The nexus and tag of each request so far.
+    pub names: BTreeSet<(u8, u32)>,
     /// The offset in bytes of the first frame that is not covered.
     pub uncovered: Option<u64>,
 }
 
-/// Nexus and tag in one number.
-fn name_of(nexus: Nexus, tag: Tag) -> u64
-    ensures name { result ≡ nexus * 4294967296 + tag.0 }
-    ensures small { tag.0 < 4294967296 }
-{
-    u64::from(nexus.number()) * 0x1_0000_0000 + u64::from(tag.0)
-}
-
 /// Adds the name of a request to those that frames before have asked with. False where it is one of them.
-fn add_name(names: &mut BTreeSet<u64>, frame: &Frame) -> Result<bool, NoMemory>
+fn add_name(names: &mut BTreeSet<(u8, u32)>, frame: &Frame) -> Result<bool, NoMemory>
     ensures fresh { (earlier : List Frame) → AreNames earlier names.old
         → IfOk result (λ fresh. fresh ≡ not (is_repeated earlier frame.now)) }
     ensures names { (earlier : List Frame) → AreNames earlier names.old
         → OnOk result (AreNames (earlier ++ frame.now ∷ []) names.new) }
 {
     match frame {
-        Frame::Request(request) => match names.insert(name_of(request.nexus, request.tag)) {
-            Ok(fresh) => Ok(fresh),
-            Err(_) => Err(NoMemory),
-        },
+        Frame::Request(request) => {
+            let name = (request.nexus.number(), request.tag.0);
+            match names.insert(name) {
+                Ok(fresh) => Ok(fresh),
+                Err(_) => Err(NoMemory),
+            }
+        }
         Frame::Manage(_) | Frame::Turn(_) | Frame::Bench(_) | Frame::End => Ok(true),
     }
 }
 
 /// Whether a frame is covered behind the earlier ones; then its name is added to theirs.
-fn add_covered(names: &mut BTreeSet<u64>, trim: bool, frame: &Frame) -> Result<bool, NoMemory>
+fn add_covered(names: &mut BTreeSet<(u8, u32)>, trim: bool, frame: &Frame) -> Result<bool, NoMemory>
     ensures covered { (earlier : List Frame) → AreNames earlier names.old
         → IfOk result (λ covered. covered ≡ is_covered trim earlier frame.now) }
     ensures names { (earlier : List Frame) → AreNames earlier names.old → is_covered trim earlier frame.now ≡ true

@@ -1,7 +1,8 @@
 use Rattle.std.proofs.Common.{sym, ◌∙◌, subst, length}
+use Rattle.std.proofs.lemmas.Result.{IfOk-weaker}
 use Rattle.satl_audit.specs.Advancing.{IsGoodFrame}
 use Rattle.satl_audit.specs.Waiting.{AllFit}
-use Rattle.satl_audit.proofs.AdvanceLemmas.{request_advances}
+use Rattle.satl_audit.proofs.AdvanceLemmas.{bench_advances, request_advances}
 use Rattle.satl_audit.proofs.advancing.advance.Goals as goal
 
 pub bench-requires-clause-fit : goal.bench-requires-clause-fit
@@ -16,5 +17,11 @@ pub returns-in-Request-clause-advances : goal.returns-in-Request-clause-advances
 returns-in-Request-clause-advances c = λ whole cut may.
     request_advances c.args.identity.now c.args.input.now c.args.steps.now c.arrive.new.steps c.args.sectors.now c.args.sectors.now c.args.at c.in-Request.request c.arrive.result c.arrive.ensures.goes c.arrive.ensures.sticks whole (sym c.in-Request.is ∙ cut) may
 
-pub returns-in_ok-bench-in-Bench-clause-fit : goal.returns-in_ok-bench-in-Bench-clause-fit
-returns-in_ok-bench-in-Bench-clause-fit c = c.in_ok-bench-in-Bench.ensures.fit c.args.identity.now.capacity (length c.args.input.now) c.requires.tasks.fit
+pub returns-in-Bench-clause-fit : goal.returns-in-Bench-clause-fit
+returns-in-Bench-clause-fit c = c.bench.ensures.fit c.args.identity.now.capacity (length c.args.input.now) c.requires.tasks.fit
+
+pub returns-in-Bench-clause-advances : goal.returns-in-Bench-clause-advances
+returns-in-Bench-clause-advances c = λ whole cut may.
+    IfOk-weaker c.bench.result _ _
+    (λ result advances. bench_advances c.args.identity.now c.args.input.now c.args.steps.now c.bench.new.steps c.args.sectors.now c.bench.new.sectors c.in-Bench.event result advances whole (sym c.in-Bench.is ∙ cut))
+    (c.bench.ensures.advances c.args.identity.now c.args.input.now)

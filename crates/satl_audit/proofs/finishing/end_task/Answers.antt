@@ -1,10 +1,10 @@
-use Rattle.std.proofs.Common.{arith, sym, subst}
+use Rattle.std.proofs.Common.{arith, refl, sym, subst}
 use Rattle.std.specs.Prelude.{slice_get}
 use Rattle.std.proofs.lemmas.Result.{IfOk-weaker}
 use Rattle.satl_audit.specs.Finishing.{AreTasks}
 use Rattle.satl_audit.specs.Waiting.{Placed}
-use Rattle.satl_audit.proofs.EndWithin.{both_at, fits_at, no_other, read_within, write_within}
-use Rattle.satl_audit.proofs.EndLemmas.{flush_arm, read_arm, write_arm}
+use Rattle.satl_audit.proofs.EndWithin.{both_at, fits_at, read_within, write_within}
+use Rattle.satl_audit.proofs.EndLemmas.{flush_arm, other_arm, read_arm, write_arm}
 use Rattle.satl_audit.proofs.SweptSectors.{if_both}
 use Rattle.satl_audit.proofs.TurnLemmas.{tasks_left}
 use Rattle.satl_audit.proofs.finishing.end_task.Goals as goal
@@ -55,13 +55,20 @@ write_ends-requires-clause-room c =
     let w = write_within _ _ p (fits_at c.args.identity.now c.args.input.now old.waiting c.in-Some.place p c.requires.tasks at) c.in-Write.form c.in-Write.lba c.in-Write.count c.in-Write.fua c.in-Write.is in
     (omega (arith, w.1, c.requires.small))
 
-pub unreachable-requires : goal.unreachable-requires
-unreachable-requires c =
+pub returns-in_default-command-clause-ends : goal.returns-in_default-command-clause-ends
+returns-in_default-command-clause-ends c =
     let old = c.args.steps.now in
     let p : Placed = record { entry = c.entry-entry.result.now; at = c.data_at-at.result } in
     let at = both_at (slice_get old.waiting c.in-Some.place) c.entry-entry.result.now c.data_at-at.result c.entry-entry.ensures c.data_at-at.ensures in
-    let f = (fits_at c.args.identity.now c.args.input.now old.waiting c.in-Some.place p c.requires.tasks at) in
-    no_other _ f.bytes c.entry-entry.result.now.command f.waits c.in_default-command.not-Read c.in_default-command.not-Write c.in_default-command.not-Flush
+    other_arm c.args.identity.now c.args.input.now old c.in-Some.place p c.requires.tasks at c.in-Some.ensures.eligible c.in-Some.ensures.only c.remove.new.self old.output c.remove.ensures c.args.sectors.now c.args.sectors.now refl
+    c.in_default-command.not-Read c.in_default-command.not-Write c.in_default-command.not-Flush
+
+pub returns-in_default-command-clause-tasks : goal.returns-in_default-command-clause-tasks
+returns-in_default-command-clause-tasks c =
+    let old = c.args.steps.now in
+    let p : Placed = record { entry = c.entry-entry.result.now; at = c.data_at-at.result } in
+    let at = both_at (slice_get old.waiting c.in-Some.place) c.entry-entry.result.now c.data_at-at.result c.entry-entry.ensures c.data_at-at.ensures in
+    subst (AreTasks c.args.identity.now c.args.input.now) (sym c.remove.ensures) (tasks_left c.args.identity.now c.args.input.now old.waiting c.in-Some.place p c.requires.tasks at)
 
 pub returns-in-Read-clause-ends : goal.returns-in-Read-clause-ends
 returns-in-Read-clause-ends c =
@@ -78,7 +85,7 @@ returns-in-Write-clause-ends c =
     let p : Placed = record { entry = c.entry-entry.result.now; at = c.data_at-at.result } in
     let at = both_at (slice_get old.waiting c.in-Some.place) c.entry-entry.result.now c.data_at-at.result c.entry-entry.ensures c.data_at-at.ensures in
     IfOk-weaker c.write_ends.result _ _
-    (write_arm c.args.identity.now c.args.input.now old c.in-Some.place p c.requires.tasks at c.in-Some.ensures.eligible c.in-Some.ensures.only c.remove.new.self c.write_ends.new.output c.remove.ensures c.args.sectors.now c.write_ends.new.sectors c.write_ends.ensures.length c.in-Write.form c.in-Write.lba c.in-Write.count c.in-Write.fua c.in-Write.is c.is_cached-cached.result c.is_cached-cached.ensures)
+    (write_arm c.args.identity.now c.args.input.now old c.in-Some.place p c.requires.tasks at c.in-Some.ensures.eligible c.in-Some.ensures.only c.remove.new.self c.write_ends.new.output c.remove.ensures c.args.sectors.now c.write_ends.new.sectors c.write_ends.ensures.length c.in-Write.form c.in-Write.lba c.in-Write.count c.in-Write.fua c.in-Write.is c.is_cached.result c.is_cached.ensures)
     (c.write_ends.ensures.writes c.args.input.now)
 
 pub returns-in-Flush-clause-ends : goal.returns-in-Flush-clause-ends
