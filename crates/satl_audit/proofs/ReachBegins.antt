@@ -1,7 +1,6 @@
 -- How far a record was gone through: its beginning, and what is known of frames and tasks by themselves.
-use Rattle.std.proofs.Common.{◌≡◌, refl, sym, ap, ◌∙◌, subst, ℕ, Bool, true, List, [], ◌∷◌, ◌++◌, length, append_assoc}
+use Rattle.std.proofs.Common.{◌≡◌, refl, sym, ap, ◌∙◌, subst, ℕ, Bool, true, List, [], ◌∷◌, ◌++◌, length}
 use Rattle.std.specs.Prelude.{◌<◌, ◌^◌, None, replicate}
-use Rattle.std.proofs.lemmas.List.{append-nil}
 use Rattle.std.specs.List.{AllByRecursion}
 use Rattle.satl_identify.specs.declared.identity.Identity.{Identity}
 use Rattle.satl_line.specs.declared.entry.Entry.{Entry}
@@ -9,7 +8,7 @@ use Rattle.satl_frame.specs.declared.frames.Frame.{Frame}
 use Rattle.satl_frame.specs.declared.frames.Frame.TheVariants as frames
 use Rattle.satl_frame.specs.Output.{Answer, out, out_magic}
 use Rattle.satl_frame.specs.Pulls.{cut_to}
-use Rattle.satl_cover.specs.Covered.{AreCovered, is_covered}
+use Rattle.satl_cover.specs.Covered.{AreCovered}
 use Rattle.satl_cover.specs.Known.{is_known_frame}
 use Rattle.satl_audit.specs.Advancing.{IsGoodFrame}
 use Rattle.satl_audit.specs.Arriving.{device_at}

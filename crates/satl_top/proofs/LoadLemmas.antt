@@ -102,7 +102,3 @@ stop_causes before after fault status is stops = subst (HasCause before after) (
 pub refusal_ends : (refusal : IdentityFault) (fault : ServeFault) (status : Status) → status ≡ status_of fault → TellsRefusal refusal fault → (status ≡ statuses.DriveRefused) ⊎ (status ≡ statuses.NoMemory)
 refusal_ends refusal fault status is (inl told) = inl (is ∙ ap status_of told)
 refusal_ends refusal fault status is (inr told) = inr (is ∙ ap status_of told)
-
--- a load that ended so was carried out: it serves no input, and bridges none
-pub load_carried : (seed requests limit : ℕ) (before after : Moment) (status : Status) → LoadEnds limit (load_of seed requests) before after status → ((fault : IdentityFault) → IsRefused fault before.drive after.drive → (status ≡ statuses.DriveRefused) ⊎ (status ≡ statuses.NoMemory)) → HasCause before after status → IsCarriedOut (modes.Generate seed requests) limit before after status
-load_carried seed requests limit before after status ends refused causes = record { ends = ends; causes = causes; refused = refused; complete_items = λ bridges. absurd cc; complete = λ serves. absurd cc }

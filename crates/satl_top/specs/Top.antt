@@ -1,5 +1,5 @@
 -- The words of the program, how it ends, and why (profile).
-use Rattle.std.specs.Prelude.{◌≡◌, ◌⊎◌, ℕ, Bool, true, false, List, [], Some, Err}
+use Rattle.std.specs.Prelude.{◌≡◌, ◌⊎◌, ℕ, List, [], Some, Err}
 use Rattle.clap.specs.Words.{Text}
 use Rattle.satl_io.specs.Causes.{Rose}
 use Rattle.satl_identify.specs.declared.identity.IdentityFault.{IdentityFault}
@@ -21,7 +21,7 @@ use Rattle.satl_usb.specs.Headline.{IsItemInput}
 use Rattle.satl_usb.specs.Items.{Item}
 use Rattle.satl_top.specs.Bridging.{BridgeEnds}
 use Rattle.satl_top.specs.Auditing.{AuditEnds}
-use Rattle.satl_top.specs.Load.{LoadEnds, load_of}
+use Rattle.satl_top.specs.Load.{Load, LoadEnds, load_of}
 use Rattle.satl_top.specs.declared.status.Status.{Status}
 use Rattle.satl_top.specs.declared.status.Status.TheVariants as statuses
 
@@ -65,22 +65,6 @@ ServeEnds form limit before after statuses.DriveRefused = IsNotServed before aft
 ServeEnds form limit before after statuses.No = ⊥
 ServeEnds form limit before after statuses.NotCovered = ⊥
 
--- the same by the mode (profile)
-abbrev pub EndsSo : Mode → ℕ → Moment → Moment → Status → Type 0
-EndsSo modes.Replay limit before after status = ServeEnds forms.Frames limit before after status
-EndsSo modes.Show limit before after status = ServeEnds forms.Text limit before after status
-EndsSo modes.Usb limit before after status = BridgeEnds limit before after status
-EndsSo modes.Audit limit before after status = AuditEnds before after status
-EndsSo (modes.Generate seed requests) limit before after status = LoadEnds limit (load_of seed requests) before after status
-
--- whether a mode serves the frames that were handed in (profile)
-abbrev pub serves_input : Mode → Bool
-serves_input modes.Replay = true
-serves_input modes.Show = true
-serves_input modes.Usb = false
-serves_input modes.Audit = false
-serves_input (modes.Generate seed requests) = false
-
 -- a good input is served whole where all goes well, up to END and no byte further (profile): but there may be no memory to
 -- begin, or the link was lost before the layer was open, where the drive's count of faults rose
 abbrev pub Completes : List ℕ → Moment → Moment → Status → Type 0
@@ -94,17 +78,50 @@ Completes rest before after statuses.DriveRefused = Rose before.drive.faults aft
 Completes rest before after statuses.No = ⊥
 Completes rest before after statuses.NotCovered = ⊥
 
--- a mode was carried out (profile): what holds by the status, and why it is that one; a drive whose data are refused is told
--- so, unless there was no memory; and a good input, or one that is items to its end, is served whole where all goes well
-pub record IsCarriedOut (mode : Mode) (limit : ℕ) (before after : Moment) (status : Status) : Type 0 where
-  pub ends : EndsSo mode limit before after status
+-- a drive whose IDENTIFY DEVICE data are refused is told so, unless there was no memory (profile)
+abbrev pub TellsRefused : Moment → Moment → Status → Type 0
+TellsRefused before after status = (fault : IdentityFault) → IsRefused fault before.drive after.drive →
+    (status ≡ statuses.DriveRefused) ⊎ (status ≡ statuses.NoMemory)
+
+-- the frames that were handed in were served, and answered in a form: what holds by the status, and why it is that one; a good
+-- input is served whole where all goes well (profile)
+pub record HasServed (form : Form) (limit : ℕ) (before after : Moment) (status : Status) : Type 0 where
+  pub ends : ServeEnds form limit before after status
   pub causes : HasCause before after status
-  pub refused : (fault : IdentityFault) → IsRefused fault before.drive after.drive → (status ≡ statuses.DriveRefused)
-      ⊎ (status ≡ statuses.NoMemory)
-  pub complete_items : mode ≡ modes.Usb → (items : List Item) → IsItemInput limit before.source.left items
-      → GoesWell before after → Completes [] before after status
-  pub complete : serves_input mode ≡ true → (fs : List Frame) (rest : List ℕ) → IsGoodInput limit before.source.left fs rest
-      → GoesWell before after → Completes rest before after status
+  pub refused : TellsRefused before after status
+  pub complete : (fs : List Frame) (rest : List ℕ) → IsGoodInput limit before.source.left fs rest → GoesWell before after
+      → Completes rest before after status
+
+-- the items that were handed in were bridged: what holds by the status, and why it is that one; what is items to its end is
+-- bridged whole where all goes well; the drive was not unplugged (profile)
+pub record HasBridged (limit : ℕ) (before after : Moment) (status : Status) : Type 0 where
+  pub ends : BridgeEnds limit before after status
+  pub causes : HasCause before after status
+  pub refused : TellsRefused before after status
+  pub complete : (items : List Item) → IsItemInput limit before.source.left items → GoesWell before after
+      → Completes [] before after status
+  pub unplugs : after.drive.unplugs ≡ before.drive.unplugs
+
+-- the record that was handed in was judged: what holds by the status, and why it is that one (profile)
+pub record HasJudged (before after : Moment) (status : Status) : Type 0 where
+  pub ends : AuditEnds before after status
+  pub causes : HasCause before after status
+  pub refused : TellsRefused before after status
+
+-- a generated input was served, and its totals told: what holds by the status, and why it is that one (profile)
+pub record HasLoaded (limit : ℕ) (load : Load) (before after : Moment) (status : Status) : Type 0 where
+  pub ends : LoadEnds limit load before after status
+  pub causes : HasCause before after status
+  pub refused : TellsRefused before after status
+
+-- a mode was carried out (profile)
+abbrev pub IsCarriedOut : Mode → ℕ → Moment → Moment → Status → Type 0
+IsCarriedOut modes.Replay limit before after status = HasServed forms.Frames limit before after status
+IsCarriedOut modes.Show limit before after status = HasServed forms.Text limit before after status
+IsCarriedOut modes.Usb limit before after status = HasBridged limit before after status
+IsCarriedOut modes.Audit limit before after status = HasJudged before after status
+IsCarriedOut (modes.Generate seed requests) limit before after status =
+    HasLoaded limit (load_of seed requests) before after status
 
 -- nothing was done: the words ask for nothing, or there was not the memory to read them (profile)
 pub record IsUnused (words : List Text) (before after : Moment) (status : Status) : Type 0 where

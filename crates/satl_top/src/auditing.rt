@@ -1,11 +1,9 @@
 // A record that is handed in.
-ghost use Rattle.std.specs.Prelude.{◌≡◌, ◌⊎◌, [], None};
-ghost use Rattle.satl_identify.specs.declared.identity.IdentityFault.{IdentityFault};
+ghost use Rattle.std.specs.Prelude.{◌≡◌, [], None};
 ghost use Rattle.satl_drive.specs.State.{IsFit};
 ghost use Rattle.satl_serve.specs.Moments.{moment, reads, writes};
-ghost use Rattle.satl_serve.specs.Stopping.{IsRefused};
-ghost use Rattle.satl_top.specs.Auditing.{AuditEnds, status_of_record};
-ghost use Rattle.satl_top.specs.Top.{HasCause};
+ghost use Rattle.satl_top.specs.Auditing.{status_of_record};
+ghost use Rattle.satl_top.specs.Top.{HasJudged};
 
 use crate::status::Status;
 use satl_audit::Verdict;
@@ -43,14 +41,7 @@ pub fn judge_record<S: Source, K: Sink, D: Drive, L: Ledger>(
     requires idle { (D.state drive.old).outstanding ≡ [] }
     requires no_error { (D.state drive.old).error ≡ None }
     requires fit { IsFit (D.state drive.old) }
-    ensures ends { AuditEnds
-        (moment (reads (S.left source.old) (S.faults source.old)) (writes (K.written sink.old) (K.faults sink.old))
-        steps.old (D.state drive.old))
-        (moment (reads (S.left source.new) (S.faults source.new)) (writes (K.written sink.new) (K.faults sink.new))
-        steps.new (D.state drive.new)) result }
-    ensures refused { (fault : IdentityFault) → IsRefused fault (D.state drive.old) (D.state drive.new)
-        → (result ≡ Status.DriveRefused) ⊎ (result ≡ Status.NoMemory) }
-    ensures causes { HasCause
+    ensures { HasJudged
         (moment (reads (S.left source.old) (S.faults source.old)) (writes (K.written sink.old) (K.faults sink.old))
         steps.old (D.state drive.old))
         (moment (reads (S.left source.new) (S.faults source.new)) (writes (K.written sink.new) (K.faults sink.new))

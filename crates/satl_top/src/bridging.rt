@@ -1,15 +1,9 @@
 // A USB disk bridge.
-ghost use Rattle.std.specs.Prelude.{◌≡◌, ◌⊎◌, List, [], None};
-ghost use Rattle.satl_identify.specs.declared.identity.IdentityFault.{IdentityFault};
+ghost use Rattle.std.specs.Prelude.{◌≡◌, [], None};
 ghost use Rattle.satl_drive.specs.State.{IsFit};
-ghost use Rattle.satl_serve.specs.Completeness.{GoesWell};
 ghost use Rattle.satl_serve.specs.Moments.{moment, reads, writes};
 ghost use Rattle.satl_serve.specs.Runs.{input_limit};
-ghost use Rattle.satl_serve.specs.Stopping.{IsRefused};
-ghost use Rattle.satl_usb.specs.Headline.{IsItemInput};
-ghost use Rattle.satl_usb.specs.Items.{Item};
-ghost use Rattle.satl_top.specs.Bridging.{BridgeEnds};
-ghost use Rattle.satl_top.specs.Top.{Completes, HasCause};
+ghost use Rattle.satl_top.specs.Top.{HasBridged};
 
 use crate::status::Status;
 use satl_base::Steps;
@@ -33,25 +27,7 @@ pub fn bridge<S: Source, K: Sink, D: Bench, L: Ledger>(
     requires idle { (D.state drive.old).outstanding ≡ [] }
     requires no_error { (D.state drive.old).error ≡ None }
     requires fit { IsFit (D.state drive.old) }
-    ensures ends { BridgeEnds input_limit
-        (moment (reads (S.left source.old) (S.faults source.old)) (writes (K.written sink.old) (K.faults sink.old))
-        steps.old (D.state drive.old))
-        (moment (reads (S.left source.new) (S.faults source.new)) (writes (K.written sink.new) (K.faults sink.new))
-        steps.new (D.state drive.new)) result }
-    ensures unplugs { (D.state drive.new).unplugs ≡ (D.state drive.old).unplugs }
-    ensures refused { (fault : IdentityFault) → IsRefused fault (D.state drive.old) (D.state drive.new)
-        → (result ≡ Status.DriveRefused) ⊎ (result ≡ Status.NoMemory) }
-    ensures causes { HasCause
-        (moment (reads (S.left source.old) (S.faults source.old)) (writes (K.written sink.old) (K.faults sink.old))
-        steps.old (D.state drive.old))
-        (moment (reads (S.left source.new) (S.faults source.new)) (writes (K.written sink.new) (K.faults sink.new))
-        steps.new (D.state drive.new)) result }
-    ensures complete { (items : List Item) → IsItemInput input_limit (S.left source.old) items
-        → GoesWell
-        (moment (reads (S.left source.old) (S.faults source.old)) (writes (K.written sink.old) (K.faults sink.old))
-        steps.old (D.state drive.old))
-        (moment (reads (S.left source.new) (S.faults source.new)) (writes (K.written sink.new) (K.faults sink.new))
-        steps.new (D.state drive.new)) → Completes []
+    ensures { HasBridged input_limit
         (moment (reads (S.left source.old) (S.faults source.old)) (writes (K.written sink.old) (K.faults sink.old))
         steps.old (D.state drive.old))
         (moment (reads (S.left source.new) (S.faults source.new)) (writes (K.written sink.new) (K.faults sink.new))

@@ -1,13 +1,13 @@
 // A load: a generated input is served, and its totals are written.
-ghost use Rattle.std.specs.Prelude.{◌≡◌, ◌≤◌, ◌⊎◌, [], IfErr, IfOk, None};
+ghost use Rattle.std.specs.Prelude.{◌≡◌, ◌≤◌, [], IfErr, IfOk, None};
 ghost use Rattle.std.specs.Result.{IsErrAnd};
 ghost use Rattle.satl_identify.specs.declared.identity.IdentityFault.{IdentityFault};
 ghost use Rattle.satl_drive.specs.State.{IsFit};
 ghost use Rattle.satl_serve.specs.Moments.{Reads, Writes, moment, writes};
 ghost use Rattle.satl_serve.specs.Runs.{input_limit};
 ghost use Rattle.satl_serve.specs.Stopping.{IsRefused, TellsRefusal};
-ghost use Rattle.satl_top.specs.Load.{IsLoaded, LoadEnds, LoadStops, load_of};
-ghost use Rattle.satl_top.specs.Top.{HasCause};
+ghost use Rattle.satl_top.specs.Load.{IsLoaded, LoadStops, load_of};
+ghost use Rattle.satl_top.specs.Top.{HasLoaded};
 
 use crate::status::Status;
 use satl_base::Steps;
@@ -75,12 +75,7 @@ pub fn load<K: Sink, D: Bench, L: Ledger>(
     requires idle { (D.state drive.old).outstanding ≡ [] }
     requires no_error { (D.state drive.old).error ≡ None }
     requires fit { IsFit (D.state drive.old) }
-    ensures ends { (source : Reads) → LoadEnds input_limit (load_of seed requests)
-        (moment source (writes (K.written sink.old) (K.faults sink.old)) steps.old (D.state drive.old))
-        (moment source (writes (K.written sink.new) (K.faults sink.new)) steps.new (D.state drive.new)) result }
-    ensures refused { (fault : IdentityFault) → IsRefused fault (D.state drive.old) (D.state drive.new)
-        → (result ≡ Status.DriveRefused) ⊎ (result ≡ Status.NoMemory) }
-    ensures causes { (source : Reads) → HasCause
+    ensures { (source : Reads) → HasLoaded input_limit (load_of seed requests)
         (moment source (writes (K.written sink.old) (K.faults sink.old)) steps.old (D.state drive.old))
         (moment source (writes (K.written sink.new) (K.faults sink.new)) steps.new (D.state drive.new)) result }
 {

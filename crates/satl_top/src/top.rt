@@ -1,15 +1,11 @@
 // The top call.
-ghost use Rattle.std.specs.Prelude.{◌≡◌, ◌⊎◌, ℕ, List, [], None, map, true};
+ghost use Rattle.std.specs.Prelude.{◌≡◌, ◌⊎◌, [], None, map, true};
 ghost use Rattle.std.specs.Rc.{rc_str_bytes};
 ghost use Rattle.clap.specs.Words.{takes};
-ghost use Rattle.satl_identify.specs.declared.identity.IdentityFault.{IdentityFault};
-ghost use Rattle.satl_frame.specs.declared.frames.Frame.{Frame};
 ghost use Rattle.satl_drive.specs.State.{IsFit};
-ghost use Rattle.satl_serve.specs.Completeness.{GoesWell, IsGoodInput};
 ghost use Rattle.satl_serve.specs.Moments.{moment, reads, writes};
 ghost use Rattle.satl_serve.specs.Runs.{input_limit};
-ghost use Rattle.satl_serve.specs.Stopping.{IsRefused};
-ghost use Rattle.satl_top.specs.Top.{Completes, HasCause, IsCarriedOut, Outcome, ServeEnds};
+ghost use Rattle.satl_top.specs.Top.{HasServed, IsCarriedOut, Outcome};
 ghost use Rattle.satl_words.specs.Asked.{AreRefused};
 ghost use Rattle.satl_words.specs.CommandLine.{command_line};
 ghost use Rattle.satl_words.specs.Plain.{ArePlain, IsInRange};
@@ -106,24 +102,7 @@ fn serve_input<S: Source, K: Sink, D: Bench, L: Ledger>(
     requires idle { (D.state drive.old).outstanding ≡ [] }
     requires no_error { (D.state drive.old).error ≡ None }
     requires fit { IsFit (D.state drive.old) }
-    ensures ends { ServeEnds form input_limit
-        (moment (reads (S.left source.old) (S.faults source.old)) (writes (K.written sink.old) (K.faults sink.old))
-        steps.old (D.state drive.old))
-        (moment (reads (S.left source.new) (S.faults source.new)) (writes (K.written sink.new) (K.faults sink.new))
-        steps.new (D.state drive.new)) result }
-    ensures refused { (fault : IdentityFault) → IsRefused fault (D.state drive.old) (D.state drive.new)
-        → (result ≡ Status.DriveRefused) ⊎ (result ≡ Status.NoMemory) }
-    ensures causes { HasCause
-        (moment (reads (S.left source.old) (S.faults source.old)) (writes (K.written sink.old) (K.faults sink.old))
-        steps.old (D.state drive.old))
-        (moment (reads (S.left source.new) (S.faults source.new)) (writes (K.written sink.new) (K.faults sink.new))
-        steps.new (D.state drive.new)) result }
-    ensures complete { (fs : List Frame) (rest : List ℕ) → IsGoodInput input_limit (S.left source.old) fs rest
-        → GoesWell
-        (moment (reads (S.left source.old) (S.faults source.old)) (writes (K.written sink.old) (K.faults sink.old))
-        steps.old (D.state drive.old))
-        (moment (reads (S.left source.new) (S.faults source.new)) (writes (K.written sink.new) (K.faults sink.new))
-        steps.new (D.state drive.new)) → Completes rest
+    ensures { HasServed form input_limit
         (moment (reads (S.left source.old) (S.faults source.old)) (writes (K.written sink.old) (K.faults sink.old))
         steps.old (D.state drive.old))
         (moment (reads (S.left source.new) (S.faults source.new)) (writes (K.written sink.new) (K.faults sink.new))
