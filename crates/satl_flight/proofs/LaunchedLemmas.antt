@@ -35,7 +35,8 @@ use Rattle.satl_drive.specs.Rules.{IsCutOff, IsRunCutOff}
 use Rattle.satl_pages.specs.Slots.{pages_at}
 use Rattle.satl_flight.specs.declared.flight.Flying.{Flying}
 use Rattle.satl_flight.specs.Flown.{IsFlown, IsInFlight, RangedFits, clash, holds, is_in_slot, outstanding_for, queued_for}
-use Rattle.satl_flight.specs.Settled.{Deepens, IsCut, IsLaunched, IsLostInFlight, IsLostQuietly}
+use Rattle.satl_flight.specs.Lending.{Waiting, waiting}
+use Rattle.satl_flight.specs.Settled.{Deepens, IsCut, IsLaunched, IsLostInFlight, IsLostQuietly, OnDrive, on_drive}
 use Rattle.satl_line.proofs.SlotsLemmas.{All-append}
 use Rattle.satl_flight.proofs.ZipLemmas.{zip-any, zip-push}
 use Rattle.satl_flight.proofs.FlownLemmas.{FitsOn, all_may_put, apart_push, fits_on, flown_puts, moves_of_each}
@@ -142,11 +143,11 @@ follows_of e task h = go e.kind refl
     go Barrier is = let none : ranged_of (record e { kind = Barrier }) ≡ Some task = subst (λ k. ranged_of (record e { kind = k }) ≡ Some task) is h in absurd cc
 
 module _ (flying : List Flying) (tasks : List Held) (old : DriveState) (tie : IsInFlight flying tasks old) where
-  pub launched_one : (tag slot : ℕ) (held : Held) (task : RangedTask) (new : DriveState) → tag < 32 → find (is_in_slot slot) tasks ≡ Some held → IsEligibleBy clash tasks held → ranged_of held.entry ≡ Some task
+  pub launched_one : (slots : Slots) (tag slot : ℕ) (held : Held) (task : RangedTask) (flown : Waiting) (new : DriveState) → flown.flying ≡ flying ++ record { tag = tag; slot = slot } ∷ [] → tag < 32 → find (is_in_slot slot) tasks ≡ Some held → IsEligibleBy clash tasks held → ranged_of held.entry ≡ Some task
       → holds flying slot ≡ false → list_any (λ (f : Flying). f.tag == tag) flying ≡ false → length flying < 32 → IsIssued old (queued_for tag task) held.entry.body new
-      → IsLaunched flying old tasks (flying ++ record { tag = tag; slot = slot } ∷ []) new
-  launched_one tag slot held task new small found eligible is fresh free room done = record {
-    tie = record {
+      → IsLaunched (on_drive (waiting flying slots tasks) old) (on_drive flown new)
+  launched_one slots tag slot held task flown new more small found eligible is fresh free room done = record {
+    tie = subst (λ fs. IsInFlight fs tasks new) (sym more) (record {
       each = subst (λ qs. AllZip (IsFlown tasks) (flying ++ record { tag = tag; slot = slot } ∷ []) qs) (sym outstanding)
           (zip-push (IsFlown tasks) flying old.outstanding (record { tag = tag; slot = slot }) (outstanding_for tag task) tie.each
           (record { held = held; found = found; eligible = eligible; ranged = task; ranged_is = is; small = small; command = refl }));
@@ -155,9 +156,9 @@ module _ (flying : List Flying) (tasks : List Held) (old : DriveState) (tie : Is
       fits = fits_on tasks old new capacity (ap has_queued_trim identify) tie.fits;
       small = omega (arith, tie.small, capacity);
       no_error = ap (λ (d : DriveState). d.error) done.stays ∙ tie.no_error;
-    };
+    });
     rest = record { tag = tag; slot = slot } ∷ [];
-    more = refl;
+    more = more;
     lost = inr done.lost;
     stays = done.stays ∙ ap (λ x. record old { cells = new.cells; outstanding = x; deepest = max old.deepest (length old.outstanding + 1) }) (sym raw)
         ∙ ap (λ n. record old { cells = new.cells; outstanding = new.outstanding; deepest = n }) (sym deepest);
@@ -303,27 +304,29 @@ module _ (flying : List Flying) (tasks : List Held) (old : DriveState) (tie : Is
 -- ---- one launch after another
 
 -- what is lost meanwhile are moves of the queue
-pub launched_moves : (tasks : List Held) (flying flown : List Flying) (old new : DriveState) → IsLaunched flying old tasks flown new → Moves (MayPut old.cache (entries_of tasks)) old.cells new.cells
-launched_moves tasks flying flown old new step = ⊎_elim (λ same. subst (Moves (MayPut old.cache (entries_of tasks)) old.cells) (sym same) stay) lose_once step.lost
+pub launched_moves : (old new : OnDrive) → IsLaunched old new → Moves (MayPut old.drive.cache (entries_of old.queue.tasks)) old.drive.cells new.drive.cells
+launched_moves old new step = ⊎_elim (λ same. subst (Moves (MayPut old.drive.cache (entries_of old.queue.tasks)) old.drive.cells) (sym same) stay) lose_once step.lost
 
-module _ (tasks : List Held) (first_flying : List Flying) (first : DriveState) (mid_flying : List Flying) (mid : DriveState) (so_far : IsLaunched first_flying first tasks mid_flying mid) where
-  same_cache : mid.cache ≡ first.cache
+module _ (first mid : OnDrive) (so_far : IsLaunched first mid) (same_tasks : mid.queue.tasks ≡ first.queue.tasks) where
+  same_cache : mid.drive.cache ≡ first.drive.cache
   same_cache = ap (λ (d : DriveState). d.cache) so_far.stays
 
-  pub launched_on : (flying : List Flying) (new : DriveState) → IsLaunched mid_flying mid tasks flying new → IsLaunched first_flying first tasks flying new
-  launched_on flying new step = record {
-    tie = step.tie;
+  pub launched_on : (new : OnDrive) → IsLaunched mid new → IsLaunched first new
+  launched_on new step = record {
+    tie = subst (λ ts. IsInFlight new.queue.flying ts new.drive) same_tasks step.tie;
     rest = so_far.rest ++ step.rest;
-    more = step.more ∙ ap (λ fs. fs ++ step.rest) so_far.more ∙ append_assoc first_flying so_far.rest step.rest;
-    lost = ⊎_elim (λ same. subst (λ cs. (cs ≡ first.cells) ⊎ Loses first.cells cs) (sym same) so_far.lost) (λ more. inr (⊎_elim (λ same. subst (λ cs. Loses cs new.cells) same more) (λ lost. loses_on first.cells mid.cells new.cells lost more) so_far.lost)) step.lost;
-    stays = step.stays ∙ ap (λ (d : DriveState). record d { cells = new.cells; outstanding = new.outstanding; deepest = new.deepest }) so_far.stays;
-    deep = deepens_on first mid new so_far.deep step.deep;
+    more = step.more ∙ ap (λ fs. fs ++ step.rest) so_far.more ∙ append_assoc first.queue.flying so_far.rest step.rest;
+    lost = ⊎_elim (λ same. subst (λ cs. (cs ≡ first.drive.cells) ⊎ Loses first.drive.cells cs) (sym same) so_far.lost)
+        (λ more. inr (⊎_elim (λ same. subst (λ cs. Loses cs new.drive.cells) same more) (λ lost. loses_on first.drive.cells mid.drive.cells new.drive.cells lost more) so_far.lost)) step.lost;
+    stays = step.stays ∙ ap (λ (d : DriveState). record d { cells = new.drive.cells; outstanding = new.drive.outstanding; deepest = new.drive.deepest }) so_far.stays;
+    deep = deepens_on first.drive mid.drive new.drive so_far.deep step.deep;
   }
 
-  pub lost_on : (new : DriveState) → IsLostQuietly tasks mid new → IsLostQuietly tasks first new
+  pub lost_on : (new : DriveState) → IsLostQuietly mid.queue.tasks mid.drive new → IsLostQuietly first.queue.tasks first.drive new
   lost_on new lost = record {
-    moves = moves_on (launched_moves tasks first_flying mid_flying first mid so_far) (subst (λ c. Moves (MayPut c (entries_of tasks)) mid.cells new.cells) same_cache lost.moves);
+    moves = moves_on (launched_moves first mid so_far)
+        (subst (λ ts. Moves (MayPut first.drive.cache (entries_of ts)) mid.drive.cells new.cells) same_tasks (subst (λ c. Moves (MayPut c (entries_of mid.queue.tasks)) mid.drive.cells new.cells) same_cache lost.moves));
     rose = subst (λ n. Rose n new.faults) (ap (λ (d : DriveState). d.faults) so_far.stays) lost.rose;
     stays = lost.stays ∙ ap (λ (d : DriveState). record d { cells = new.cells; outstanding = []; error = None; down = true; faults = new.faults; deepest = new.deepest }) so_far.stays;
-    deep = deepens_on first mid new so_far.deep lost.deep;
+    deep = deepens_on first.drive mid.drive new so_far.deep lost.deep;
   }

@@ -22,8 +22,8 @@ use Rattle.satl_drive.specs.Queue.{CanIssue, IsIssueCutOff, IsIssued, Slots}
 use Rattle.satl_pages.specs.Slots.{pages_at}
 use Rattle.satl_flight.specs.declared.flight.Flying.{Flying}
 use Rattle.satl_flight.specs.Flown.{IsInFlight, clash, holds, is_in_slot, queued_for}
-use Rattle.satl_flight.specs.Lending.{IsLending, has_tag, is_of_slot, whole_task, whole_tasks}
-use Rattle.satl_flight.specs.Settled.{IsCovered, IsFilled, IsLaunched, IsLostQuietly}
+use Rattle.satl_flight.specs.Lending.{IsLending, Waiting, has_tag, is_of_slot, waiting, whole, whole_task, whole_tasks}
+use Rattle.satl_flight.specs.Settled.{IsCovered, IsFilled, IsLaunched, IsLostQuietly, OnDrive, on_drive}
 use Rattle.satl_flight.proofs.FlownLemmas.{FitsOn}
 use Rattle.satl_flight.proofs.TagsLemmas.{weigh}
 use Rattle.satl_flight.proofs.LendingLemmas.{at_found, find-none, get-set, lend_lending, lend_same, whole_get, whole-slots, slots-get}
@@ -60,8 +60,8 @@ pub length-whole : (flying : List Flying) (slots : Slots) (tasks : List Held) �
 length-whole flying slots [] = refl
 length-whole flying slots (k ∷ ks) = ap suc (length-whole flying slots ks)
 
-pub launched_none : (flying : List Flying) (tasks : List Held) (old : DriveState) → IsInFlight flying tasks old → IsLaunched flying old tasks flying old
-launched_none flying tasks old tie = record { tie = tie; rest = []; more = append_nil flying; lost = inl refl; stays = refl; deep = deepens_same old }
+pub launched_none : (queue : Waiting) (old : DriveState) → IsInFlight queue.flying queue.tasks old → IsLaunched (on_drive queue old) (on_drive queue old)
+launched_none queue old tie = record { tie = tie; rest = []; more = append_nil queue.flying; lost = inl refl; stays = refl; deep = deepens_same old }
   where
     append_nil : (xs : List Flying) → xs ≡ xs ++ []
     append_nil [] = refl
@@ -140,10 +140,9 @@ module _ (flying : List Flying) (slots : Slots) (tasks : List Held) (lending : I
           ap (λ x. whole_tasks x slots' tasks') is_flown ∙ ap (λ x. whole_tasks (flying ++ record { tag = tag; slot = slot } ∷ []) x tasks') slots_is ∙ ap (λ x. whole_tasks (flying ++ record { tag = tag; slot = slot } ∷ []) (slice_set slots tag (Some entry.body)) x) tasks_are
           ∙ lend_same flying slots tasks lending place (record { slot = slot; entry = entry }) stands alone tag small fresh free
 
-    pub launched : (flown : List Flying) (new : DriveState) → length flying < 32 → flown ≡ flying ++ record { tag = tag; slot = slot } ∷ [] → IsIssued old (queued_for tag task) entry.body new → IsLaunched flying old (whole_tasks flying slots tasks) flown new
-    launched flown new room is_flown issued =
-        subst (λ fs. IsLaunched flying old (whole_tasks flying slots tasks) fs new) (sym is_flown)
-        (launched_one flying (whole_tasks flying slots tasks) old tie tag slot (record { slot = slot; entry = entry }) task new small found eligible ranged fresh free room issued)
+    pub launched : (flown : Waiting) (new : DriveState) → length flying < 32 → flown.flying ≡ flying ++ record { tag = tag; slot = slot } ∷ [] → IsIssued old (queued_for tag task) entry.body new
+        → IsLaunched (on_drive (whole (waiting flying slots tasks)) old) (on_drive (whole flown) new)
+    launched flown new room is_flown issued = launched_one flying (whole_tasks flying slots tasks) old tie slots tag slot (record { slot = slot; entry = entry }) task (whole flown) new is_flown small found eligible ranged fresh free room issued
 
     pub lost : (new : DriveState) → IsIssueCutOff old (queued_for tag task) entry.body new → IsLostQuietly (whole_tasks flying slots tasks) old new
     lost new cut = lost_issue flying (whole_tasks flying slots tasks) old tie tag slot (record { slot = slot; entry = entry }) task new small found eligible ranged cut
@@ -164,11 +163,11 @@ holds_append (f ∷ fs) more slot h =
     [ true ↦ λ e. refl | false ↦ λ e. holds_append fs more slot e ]) h
 
 -- a place that is covered stays so
-pub covered_still : (tasks : List Held) (flying flown : List Flying) (old new : DriveState) (place : ℕ) → IsLaunched flying old tasks flown new → IsCovered flying tasks place → IsCovered flown tasks place
-covered_still tasks flying flown old new place step covered =
+pub covered_still : (tasks : List Held) (old new : OnDrive) (place : ℕ) → IsLaunched old new → IsCovered old.queue.flying tasks place → IsCovered new.queue.flying tasks place
+covered_still tasks old new place step covered =
     ⊎_elim
-    (λ full. inl (omega (arith, full, step.tie.few, ap length step.more, length-append flying step.rest)))
-    (λ each. inr (λ h task at passes ranged. ap (λ fs. holds fs h.slot) step.more ∙ holds_append flying step.rest h.slot (each h task at passes ranged)))
+    (λ full. inl (omega (arith, full, step.tie.few, ap length step.more, length-append old.queue.flying step.rest)))
+    (λ each. inr (λ h task at passes ranged. ap (λ fs. holds fs h.slot) step.more ∙ holds_append old.queue.flying step.rest h.slot (each h task at passes ranged)))
     covered
 
 -- one that is outstanding is covered
@@ -177,8 +176,8 @@ covered_held flying slots tasks place slot is held =
     inr (λ h task at passes ranged. ap (holds flying) (slots-get (whole_tasks flying slots tasks) place h slot at (ap (λ l. slice_get l place) (whole-slots flying slots tasks) ∙ is)) ∙ held)
 
 -- what was outstanding stays so, as tasks are issued
-pub still_held : (tasks : List Held) (flying flown : List Flying) (old new : DriveState) (slot : ℕ) → IsLaunched flying old tasks flown new → holds flying slot ≡ true → holds flown slot ≡ true
-still_held tasks flying flown old new slot step held = ap (λ fs. holds fs slot) step.more ∙ holds_append flying step.rest slot held
+pub still_held : (old new : OnDrive) (slot : ℕ) → IsLaunched old new → holds old.queue.flying slot ≡ true → holds new.queue.flying slot ≡ true
+still_held old new slot step held = ap (λ fs. holds fs slot) step.more ∙ holds_append old.queue.flying step.rest slot held
 
 -- a bit that is found 1 is that of a task which is outstanding
 pub held_by_bit : (bit : ℕ) (held seen : Bool) → bit ≡ weigh held → bit ≡ weigh seen → seen ≡ true → held ≡ true
@@ -217,22 +216,22 @@ get-come (t ∷ ts) h k zero at = at
 get-come (t ∷ ts) h k (suc p) at = get-come ts h k p at
 
 -- where the queue was used, and the new task is covered, it is used
-pub filled_come : (flying flown : List Flying) (tasks : List Held) (h : Held) (old new : DriveState) → IsFilled flying tasks → IsLaunched flying old (tasks ++ h ∷ []) flown new → IsCovered flown (tasks ++ h ∷ []) (length tasks) → IsFilled flown (tasks ++ h ∷ [])
-filled_come flying flown tasks h old new was step covered =
+pub filled_come : (tasks : List Held) (h : Held) (old new : OnDrive) → IsFilled old.queue.flying tasks → IsLaunched old new → IsCovered new.queue.flying (tasks ++ h ∷ []) (length tasks) → IsFilled new.queue.flying (tasks ++ h ∷ [])
+filled_come tasks h old new was step covered =
     ⊎_elim
-    (λ full. inl (omega (arith, full, step.tie.few, ap length step.more, length-append flying step.rest)))
+    (λ full. inl (omega (arith, full, step.tie.few, ap length step.more, length-append old.queue.flying step.rest)))
     (λ each. ⊎_elim inl (λ last. inr (λ k task e ranged. all each last k task ranged (eligible_stands clash (tasks ++ h ∷ []) k e))) covered)
     was
   where
-    all : ((k : Held) (task : RangedTask) → IsEligibleBy clash tasks k → ranged_of k.entry ≡ Some task → holds flying k.slot ≡ true)
-        → ((k : Held) (task : RangedTask) → slice_get (tasks ++ h ∷ []) (length tasks) ≡ Some k → eligible_by clash (tasks ++ h ∷ []) (length tasks) ≡ true → ranged_of k.entry ≡ Some task → holds flown k.slot ≡ true)
-        → (k : Held) (task : RangedTask) → ranged_of k.entry ≡ Some task → (p : ℕ) × (slice_get (tasks ++ h ∷ []) p ≡ Some k) × (eligible_by clash (tasks ++ h ∷ []) p ≡ true) → holds flown k.slot ≡ true
+    all : ((k : Held) (task : RangedTask) → IsEligibleBy clash tasks k → ranged_of k.entry ≡ Some task → holds old.queue.flying k.slot ≡ true)
+        → ((k : Held) (task : RangedTask) → slice_get (tasks ++ h ∷ []) (length tasks) ≡ Some k → eligible_by clash (tasks ++ h ∷ []) (length tasks) ≡ true → ranged_of k.entry ≡ Some task → holds new.queue.flying k.slot ≡ true)
+        → (k : Held) (task : RangedTask) → ranged_of k.entry ≡ Some task → (p : ℕ) × (slice_get (tasks ++ h ∷ []) p ≡ Some k) × (eligible_by clash (tasks ++ h ∷ []) p ≡ true) → holds new.queue.flying k.slot ≡ true
     all each last k task ranged r =
         ⊎_elim
         (λ front.
         let same : eligible_by clash (tasks ++ h ∷ []) r.0 ≡ eligible_by clash tasks r.0 =
         ap (λ o. unwrap_or (option_map (is_clear_by clash (take r.0 (tasks ++ h ∷ []))) o) false) (get-come tasks h k r.0 front ∙ sym front)
         ∙ ap (λ ts. unwrap_or (option_map (is_clear_by clash ts) (slice_get tasks r.0)) false) (take-front tasks h k r.0 front) in
-        ap (λ fs. holds fs k.slot) step.more ∙ holds_append flying step.rest k.slot (each k task (eligible_passes clash tasks r.0 k front (sym same ∙ r.2)) ranged))
+        ap (λ fs. holds fs k.slot) step.more ∙ holds_append old.queue.flying step.rest k.slot (each k task (eligible_passes clash tasks r.0 k front (sym same ∙ r.2)) ranged))
         (λ here. last k task (ap (slice_get (tasks ++ h ∷ [])) (sym here) ∙ r.1) (ap (eligible_by clash (tasks ++ h ∷ [])) (sym here) ∙ r.2) ranged)
         (get-front tasks h k r.0 r.1)

@@ -29,8 +29,8 @@ use Rattle.satl_drive.specs.Rules.{IsLogRead}
 use Rattle.satl_pages.specs.Slots.{pages_at}
 use Rattle.satl_flight.specs.declared.flight.Flying.{Flying}
 use Rattle.satl_flight.specs.Flown.{IsFlown, IsInFlight, RangedFits, clash, is_in_slot, queued_for}
-use Rattle.satl_flight.specs.Lending.{IsAt, has_tag}
-use Rattle.satl_flight.specs.Settled.{Deepens, IsFlawOrCrc, IsSettled, outcome_of, read_into}
+use Rattle.satl_flight.specs.Lending.{IsAt, Waiting, has_tag, waiting}
+use Rattle.satl_flight.specs.Settled.{Deepens, IsFlawOrCrc, IsSettled, on_drive, outcome_of, read_into}
 use Rattle.satl_flight.proofs.ZipLemmas.{All-remove, zip-find, zip-remove_first, zip-with}
 use Rattle.satl_flight.proofs.FlownLemmas.{FitsOn, all_may_put, fits_on, flown_still, moves_of_each, others_differ, apart_removed, pairs_of_task}
 
@@ -96,10 +96,10 @@ module _ (flying : List Flying) (tasks : List Held) (old : DriveState) (tie : Is
   held_is : (f : Flying) (q : Outstanding) (place : ℕ) (held : Held) (flown : IsFlown tasks f q) → IsAt tasks place f.slot held → flown.held ≡ held
   held_is f q place held flown at = let same : Some flown.held ≡ Some held = sym flown.found ∙ at.found in cc
 
-  pub settled_done : (tag place : ℕ) (f : Flying) (held : Held) (slots taken : Slots) (pages body : List Block) (new : DriveState) → find (has_tag tag) flying ≡ Some f → IsAt tasks place f.slot held
+  pub settled_done : (tag place : ℕ) (f : Flying) (held : Held) (slots taken : Slots) (pages body : List Block) (left : Waiting) (new : DriveState) → left.flying ≡ remove_first (has_tag tag) flying → find (has_tag tag) flying ≡ Some f → IsAt tasks place f.slot held
       → pages_at slots tag ≡ Some pages → pages_at taken tag ≡ Some body → IsQueuedDone tag old slots taken new
-      → (ranged : RangedTask) × ((ranged_of held.entry ≡ Some ranged) × IsSettled tasks old place (outcome_of None ranged body) (remove_first (has_tag tag) flying) new)
-  settled_done tag place f held slots taken pages body new found at filled gave done =
+      → (ranged : RangedTask) × ((ranged_of held.entry ≡ Some ranged) × IsSettled place (outcome_of None ranged body) (on_drive (waiting flying slots tasks) old) (on_drive left new))
+  settled_done tag place f held slots taken pages body left new left_is found at filled gave done =
       let flown = flown_found flying tasks old tag f done.done tie found done.found in
       let same = held_is f done.done place held flown at in
       let of_held : ranged_of held.entry ≡ Some flown.ranged = subst (λ (h : Held). ranged_of h.entry ≡ Some flown.ranged) same flown.ranged_is in
@@ -125,7 +125,8 @@ module _ (flying : List Flying) (tasks : List Held) (old : DriveState) (tie : Is
               glitches_stay = glitches;
             };
             moves_after = lose_once (subst (λ ps. Loses (whole old.cells ps) new.cells) (ap (queued_pairs old.cache) flown.command ∙ pairs_of_task old.cache f.tag old.capacity (has_queued_trim old.identify) held.entry.body flown.ranged (fits flown.ranged of_held)) done.lost);
-            tie = tie_removed tag place f held new found at outstanding (ap (λ (d : DriveState). d.capacity) done.stays) (ap (λ (d : DriveState). d.identify) done.stays) (ap (λ (d : DriveState). d.error) done.stays ∙ tie.no_error);
+            tie = subst (λ fs. IsInFlight fs (remove tasks place) new) (sym left_is)
+                (tie_removed tag place f held new found at outstanding (ap (λ (d : DriveState). d.capacity) done.stays) (ap (λ (d : DriveState). d.identify) done.stays) (ap (λ (d : DriveState). d.error) done.stays ∙ tie.no_error));
             stays = done.stays ∙ ap (λ x. record old { cells = new.cells; outstanding = x; active = true }) (sym outstanding) ∙ ap (λ n. record old { cells = new.cells; outstanding = new.outstanding; active = true; glitches = n }) (sym glitches);
             deep = deepens_shorter old new (ap (λ (d : DriveState). d.deepest) done.stays) (omega (arith, ap length outstanding, length-remove_first (is_tagged tag) old.outstanding done.done done.found));
           },
@@ -269,9 +270,9 @@ module _ (flying : List Flying) (tasks : List Held) (old : DriveState) (tie : Is
       (t.0, (t.1.0, (flown.small, log_back failed.entry fits.tag fits.lba fits.count)))
 
   -- all that the error took away, but for the one that failed
-  pub settled_failed : (place : ℕ) (f : Flying) (held : Held) (slots taken : Slots) (body : List Block) (mid new : DriveState) (failed : IsFailed old slots taken mid) (x : Traffic) → IsLogRead failed.entry x mid new
-      → find (has_tag failed.entry.tag) flying ≡ Some f → IsAt tasks place f.slot held → (ranged : RangedTask) × ((ranged_of held.entry ≡ Some ranged) × IsSettled tasks old place (outcome_of (Some failed.entry) ranged body) [] new)
-  settled_failed place f held slots taken body mid new failed x read found at = (flown.ranged, (of_held, go flown.ranged refl))
+  pub settled_failed : (place : ℕ) (f : Flying) (held : Held) (slots taken : Slots) (body : List Block) (left : Waiting) (mid new : DriveState) → left.flying ≡ [] → (failed : IsFailed old slots taken mid) (x : Traffic) → IsLogRead failed.entry x mid new
+      → find (has_tag failed.entry.tag) flying ≡ Some f → IsAt tasks place f.slot held → (ranged : RangedTask) × ((ranged_of held.entry ≡ Some ranged) × IsSettled place (outcome_of (Some failed.entry) ranged body) (on_drive (waiting flying slots tasks) old) (on_drive left new))
+  settled_failed place f held slots taken body left mid new none failed x read found at = (flown.ranged, (of_held, go flown.ranged refl))
     where
       e : NcqError
       e = failed.entry
@@ -322,15 +323,15 @@ module _ (flying : List Flying) (tasks : List Held) (old : DriveState) (tie : Is
       lost : Moves (MayPut old.cache (entries_of (remove tasks place))) failed.mid new.cells
       lost = moves_on (lose_once failed.lost) (lose_once read.lost)
 
-      empty : IsInFlight [] (remove tasks place) new
-      empty = record {
+      empty : IsInFlight left.flying (remove tasks place) new
+      empty = subst (λ fs. IsInFlight fs (remove tasks place) new) (sym none) (record {
         each = subst (λ qs. AllZip (IsFlown (remove tasks place)) [] qs) (sym outstanding) tt;
         apart = tt;
         few = omega arith;
         fits = fits_on (remove tasks place) old new capacity (ap has_queued_trim identify) (All-remove (FitsOn old) tasks place tie.fits);
         small = omega (arith, tie.small, capacity);
         no_error = ap (λ (d : DriveState). d.error) read.stays;
-      }
+      })
 
       -- mid is the old drive but for these, and so is new
       stays : new ≡ record old { cells = new.cells; outstanding = new.outstanding; active = active_after (outcome_of (Some e) flown.ranged body) old.active; glitches = new.glitches }
@@ -346,7 +347,7 @@ module _ (flying : List Flying) (tasks : List Held) (old : DriveState) (tie : Is
       deep = deepens_shorter old new (ap (λ (d : DriveState). d.deepest) read.stays ∙ ap (λ (d : DriveState). d.deepest) failed.stays) (omega (arith, ap length outstanding))
 
       with : (before after : List Cell) → Moves (MayPut old.cache (entries_of tasks)) old.cells before → EndsAs old.cache flown.ranged (outcome_of (Some e) flown.ranged body) before old.glitches after new.glitches
-          → Moves (MayPut old.cache (entries_of (remove tasks place))) after failed.mid → IsSettled tasks old place (outcome_of (Some e) flown.ranged body) [] new
+          → Moves (MayPut old.cache (entries_of (remove tasks place))) after failed.mid → IsSettled place (outcome_of (Some e) flown.ranged body) (on_drive (waiting flying slots tasks) old) (on_drive left new)
       with before after first ends later = record {
         held = held;
         stands = at.stands;
@@ -364,14 +365,14 @@ module _ (flying : List Flying) (tasks : List Held) (old : DriveState) (tie : Is
       }
 
       -- a write or a trim ends amid the others
-      amid : (ranged : RangedTask) → flown.ranged ≡ ranged → IsNoRead ranged → IsSettled tasks old place (outcome_of (Some e) flown.ranged body) [] new
+      amid : (ranged : RangedTask) → flown.ranged ≡ ranged → IsNoRead ranged → IsSettled place (outcome_of (Some e) flown.ranged body) (on_drive (waiting flying slots tasks) old) (on_drive left new)
       amid ranged is writes =
           let s = split_at old.cache (MayPut old.cache (entries_of tasks)) (MayPut old.cache (entries_of (remove tasks place))) (is_tagged e.tag) old.outstanding failed.failed old.cells failed.mid failed.found all still failed.part in
           with s.before s.after s.moves_before
           (ends_failed old.cache flown.ranged body old.cells s.before s.after old.glitches new.glitches e (flaw_met old.cells flown.ranged) (same_flaw s.before old.cells flown.ranged s.same_flaws (subst IsNoRead (sym is) writes)) (subst (λ ps. Part s.before ps s.after) pairs s.part) cause)
           s.moves_after
 
-      go : (ranged : RangedTask) → flown.ranged ≡ ranged → IsSettled tasks old place (outcome_of (Some e) flown.ranged body) [] new
+      go : (ranged : RangedTask) → flown.ranged ≡ ranged → IsSettled place (outcome_of (Some e) flown.ranged body) (on_drive (waiting flying slots tasks) old) (on_drive left new)
       -- a read ends before the others do anything
       go (ranged_read fua range) is =
           let nothing : queued_pairs old.cache failed.failed ≡ [] = pairs ∙ ap (written_pairs old.cache) is in

@@ -30,6 +30,22 @@ whole_task flying slots h = with_body (unwrap_or (lent flying slots h.slot) h.en
 abbrev pub whole_tasks : List Flying → Slots → List Held → List Held
 whole_tasks flying slots tasks = map (whole_task flying slots) tasks
 
+-- tasks in order of arrival; those that are outstanding, in order of issue; and the slots of the tags. In clauses of `Queue` the
+-- tasks have their pages; in those of the flight they are as they stand in the set, without the pages that they have lent
+-- (profile)
+pub record Waiting : Type 0 where
+  pub tasks : List Held
+  pub flying : List Flying
+  pub slots : Slots
+
+-- what is outstanding, the slots and the tasks, as one value (profile)
+abbrev pub waiting : List Flying → Slots → List Held → Waiting
+waiting flying slots tasks = record { tasks = tasks; flying = flying; slots = slots }
+
+-- the same, each task with its pages (profile)
+abbrev pub whole : Waiting → Waiting
+whole w = record w { tasks = whole_tasks w.flying w.slots w.tasks }
+
 -- a task that is outstanding has no pages of its own: they lie in the slot of its tag (profile)
 pub record IsLent (slots : Slots) (tasks : List Held) (f : Flying) : Type 0 where
   pub small : f.tag < 32
@@ -54,23 +70,22 @@ pub record IsAt (tasks : List Held) (place slot : ℕ) (held : Held) : Type 0 wh
   pub removes : remove tasks place ≡ remove_first (is_in_slot slot) tasks
 
 -- the task with a tag, which stands at this place, has its pages back, and the tag is free (profile)
-pub record Lands (tag : ℕ) (flying : List Flying) (slots : Slots) (tasks : List Held) (place : ℕ) (left : List Flying)
-    (slots' : Slots) (tasks' : List Held) : Type 0 where
+pub record Lands (tag place : ℕ) (old new : Waiting) : Type 0 where
   pub landed : Flying
-  pub found : find (has_tag tag) flying ≡ Some landed
-  pub left_is : left ≡ remove_first (has_tag tag) flying
+  pub found : find (has_tag tag) old.flying ≡ Some landed
+  pub left_is : new.flying ≡ remove_first (has_tag tag) old.flying
   pub bare : Held
-  pub stands : slice_get tasks place ≡ Some bare
+  pub stands : slice_get old.tasks place ≡ Some bare
   pub in_slot : bare.slot ≡ landed.slot
-  pub alone : count_of landed.slot (slots_of tasks) ≡ 1
+  pub alone : count_of landed.slot (slots_of old.tasks) ≡ 1
   pub held : Held
-  pub at : IsAt (whole_tasks flying slots tasks) place landed.slot held
-  pub pages : pages_at slots tag ≡ Some held.entry.body
-  pub same : whole_tasks left slots' tasks' ≡ whole_tasks flying slots tasks
-  pub back : slice_get tasks' place ≡ Some held
-  pub lending : IsLending left slots' tasks'
-  pub still_alone : count_of landed.slot (slots_of tasks') ≡ 1
-  pub gone : list_any (is_of_slot landed.slot) left ≡ false
+  pub at : IsAt (whole old).tasks place landed.slot held
+  pub pages : pages_at old.slots tag ≡ Some held.entry.body
+  pub same : (whole new).tasks ≡ (whole old).tasks
+  pub back : slice_get new.tasks place ≡ Some held
+  pub lending : IsLending new.flying new.slots new.tasks
+  pub still_alone : count_of landed.slot (slots_of new.tasks) ≡ 1
+  pub gone : list_any (is_of_slot landed.slot) new.flying ≡ false
 
 -- the tag that was given out first, where one is (profile)
 abbrev pub first_tag : List Flying → Option ℕ

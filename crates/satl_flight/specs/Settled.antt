@@ -17,12 +17,20 @@ use Rattle.satl_line.specs.Ending.Outcome.{ends_done, ends_flawed, ends_glitched
 use Rattle.satl_line.specs.Ranged.{MayPut, RangedTask, ranged_of}
 use Rattle.satl_line.specs.Ranged.RangedTask.{ranged_read, ranged_write, ranged_trim}
 use Rattle.satl_line.specs.Tasks.{Held, entries_of, with_body}
-use Rattle.satl_drive.specs.Queue.{Slots}
 use Rattle.satl_drive.specs.State.{DriveState}
 use Rattle.satl_drive.specs.Rules.{IsLogRead, IsRunCutOff, MaySet}
 use Rattle.satl_flight.specs.declared.flight.Flying.{Flying}
 use Rattle.satl_flight.specs.Flown.{IsInFlight, clash, holds}
-use Rattle.satl_flight.specs.Lending.{IsLending, whole_tasks}
+use Rattle.satl_flight.specs.Lending.{IsLending, Waiting, whole}
+
+-- a queue, and the drive that it is on, at a moment (profile)
+pub record OnDrive : Type 0 where
+  pub queue : Waiting
+  pub drive : DriveState
+
+-- the queue on the drive (profile)
+abbrev pub on_drive : Waiting → DriveState → OnDrive
+on_drive queue drive = record { queue = queue; drive = drive }
 
 -- the deepest queue never falls, and stays at least the queue where it was (profile)
 pub record Deepens (old new : DriveState) : Type 0 where
@@ -64,15 +72,19 @@ pub record IsLostQuietly (tasks : List Held) (old new : DriveState) : Type 0 whe
   }
   pub deep : Deepens old new
 
--- more is outstanding, and nothing else changes but entries of sectors that are lost, if anything was issued (profile)
-pub record IsLaunched (flying : List Flying) (old : DriveState) (tasks : List Held) (flown : List Flying)
-    (new : DriveState) : Type 0 where
-  pub tie : IsInFlight flown tasks new
+-- more of the tasks is outstanding, and nothing else of the drive changes but entries of sectors that are lost, if anything was
+-- issued (profile)
+pub record IsLaunched (old new : OnDrive) : Type 0 where
+  pub tie : IsInFlight new.queue.flying old.queue.tasks new.drive
   pub rest : List Flying
-  pub more : flown ≡ flying ++ rest
-  pub lost : (new.cells ≡ old.cells) ⊎ Loses old.cells new.cells
-  pub stays : new ≡ record old { cells = new.cells; outstanding = new.outstanding; deepest = new.deepest }
-  pub deep : Deepens old new
+  pub more : new.queue.flying ≡ old.queue.flying ++ rest
+  pub lost : (new.drive.cells ≡ old.drive.cells) ⊎ Loses old.drive.cells new.drive.cells
+  pub stays : new.drive ≡ record old.drive {
+    cells = new.drive.cells;
+    outstanding = new.drive.outstanding;
+    deepest = new.drive.deepest;
+  }
+  pub deep : Deepens old.drive new.drive
 
 -- the blocks that a task has read, once it is done (profile)
 abbrev pub read_into : RangedTask → List Block → List Block
@@ -90,27 +102,27 @@ abbrev pub IsFlawOrCrc : Option NcqError → Type 0
 IsFlawOrCrc None = Unit {0}
 IsFlawOrCrc (Some e) = (e.error ≡ unc) ⊎ (e.error ≡ icrc)
 
--- one task has ended: what the others put before it, its own end, and what they put after it (profile)
-pub record IsSettled (tasks : List Held) (old : DriveState) (place : ℕ) (outcome : Outcome) (flown : List Flying)
-    (new : DriveState) : Type 0 where
+-- the task at this place has ended: what the others put before it, its own end, and what they put after it; whether it has left
+-- the queue is not said (profile)
+pub record IsSettled (place : ℕ) (outcome : Outcome) (old new : OnDrive) : Type 0 where
   pub held : Held
-  pub stands : slice_get tasks place ≡ Some held
-  pub eligible : IsEligibleBy clash tasks held
+  pub stands : slice_get old.queue.tasks place ≡ Some held
+  pub eligible : IsEligibleBy clash old.queue.tasks held
   pub ranged : RangedTask
   pub ranged_is : ranged_of held.entry ≡ Some ranged
   pub before : List Cell
   pub after : List Cell
-  pub moves_before : Moves (MayPut old.cache (entries_of tasks)) old.cells before
-  pub ends : EndsAs old.cache ranged outcome before old.glitches after new.glitches
-  pub moves_after : Moves (MayPut old.cache (entries_of (remove tasks place))) after new.cells
-  pub tie : IsInFlight flown (remove tasks place) new
-  pub stays : new ≡ record old {
-    cells = new.cells;
-    outstanding = new.outstanding;
-    active = active_after outcome old.active;
-    glitches = new.glitches;
+  pub moves_before : Moves (MayPut old.drive.cache (entries_of old.queue.tasks)) old.drive.cells before
+  pub ends : EndsAs old.drive.cache ranged outcome before old.drive.glitches after new.drive.glitches
+  pub moves_after : Moves (MayPut old.drive.cache (entries_of (remove old.queue.tasks place))) after new.drive.cells
+  pub tie : IsInFlight new.queue.flying (remove old.queue.tasks place) new.drive
+  pub stays : new.drive ≡ record old.drive {
+    cells = new.drive.cells;
+    outstanding = new.drive.outstanding;
+    active = active_after outcome old.drive.active;
+    glitches = new.drive.glitches;
   }
-  pub deep : Deepens old new
+  pub deep : Deepens old.drive new.drive
 
 -- the drive was reset: nothing is outstanding, and each task waits on (profile)
 pub record IsCut (tasks : List Held) (old new : DriveState) : Type 0 where
@@ -120,17 +132,17 @@ pub record IsCut (tasks : List Held) (old new : DriveState) : Type 0 where
   pub deep : Deepens old new
 
 -- the task at this place, with the pages that it has now, is the one that has ended; those that it read stand in them (profile)
-pub record Settles (flying : List Flying) (slots : Slots) (tasks : List Held) (old : DriveState) (place : ℕ)
-    (error : Option NcqError) (flown : List Flying) (slots' : Slots) (tasks' : List Held) (new : DriveState) : Type 0 where
+pub record Settles (place : ℕ) (error : Option NcqError) (old new : OnDrive) : Type 0 where
   pub ranged : RangedTask
   pub body : List Block
-  pub settled : IsSettled (whole_tasks flying slots tasks) old place (outcome_of error ranged body) flown new
+  pub settled : IsSettled place (outcome_of error ranged body) (on_drive (whole old.queue) old.drive)
+      (on_drive (whole new.queue) new.drive)
   pub error_is : IsFlawOrCrc error
   pub ranged_is : ranged_of settled.held.entry ≡ Some ranged
-  pub ended : slice_get tasks' place ≡ Some (with_body body settled.held)
+  pub ended : slice_get new.queue.tasks place ≡ Some (with_body body settled.held)
   pub size : length body ≡ length settled.held.entry.body
-  pub leaves : IsLending flown slots' (remove tasks' place)
-  pub others : remove (whole_tasks flown slots' tasks') place ≡ remove (whole_tasks flying slots tasks) place
+  pub leaves : IsLending new.queue.flying new.queue.slots (remove new.queue.tasks place)
+  pub others : remove (whole new.queue).tasks place ≡ remove (whole old.queue).tasks place
 
 -- the error log was read (ACS-3 annex A, log 10h)
 pub record HasReadLog (e : NcqError) (old new : DriveState) : Type 0 where

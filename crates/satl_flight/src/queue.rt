@@ -8,7 +8,7 @@ ghost use Rattle.satl_flight.specs.Flown.{holds};
 ghost use Rattle.satl_drive.specs.State.{DriveState, IsFit};
 ghost use Rattle.satl_flight.specs.Lending.{AreAlike};
 ghost use Rattle.satl_flight.specs.Queueing.{Ends, IsQueued, IsSlotted, empty, without_pages};
-ghost use Rattle.satl_flight.specs.Settled.{IsCovered, IsCut, IsFilled, IsLaunched, IsLostInFlight, IsLostQuietly};
+ghost use Rattle.satl_flight.specs.Settled.{IsCovered, IsCut, IsFilled, IsLaunched, IsLostInFlight, IsLostQuietly, on_drive};
 
 use crate::flight::Flight;
 use satl_base::{Nexus, NoMemory, Pages, Steps, Tag};
@@ -30,12 +30,11 @@ pub struct Queue {
 }
 
 impl Model for Queue {
-    ghost use Rattle.satl_flight.specs.Queueing.{Waiting};
-    ghost use Rattle.satl_flight.specs.Lending.{IsLending, whole_tasks};
+    ghost use Rattle.satl_flight.specs.Lending.{IsLending, Waiting, waiting, whole};
 
     ghost Value = { Waiting };
 
-    ghost view = { λ q. record { tasks = whole_tasks q.flight q.dma q.set; flying = q.flight; slots = q.dma } };
+    ghost view = { λ q. whole (waiting q.flight q.dma q.set) };
 
     ghost invariant = { λ q. IsLending q.flight q.dma q.set };
 }
@@ -59,8 +58,7 @@ impl Queue {
         steps: &mut Steps<L>,
     ) -> Result<(), LinkDown>
         requires queued { IsQueued self.old (D.state drive.old) }
-        ensures ok { OnOk result (IsLaunched self.old.flying (D.state drive.old) self.old.tasks self.new.flying
-            (D.state drive.new)) }
+        ensures ok { OnOk result (IsLaunched (on_drive self.old (D.state drive.old)) (on_drive self.new (D.state drive.new))) }
         ensures filled { OnOk result (IsFilled self.new.flying self.new.tasks) }
         ensures err { OnErr result (IsLostQuietly self.old.tasks (D.state drive.old) (D.state drive.new)) }
         ensures emptied { OnErr result (self.new.flying ≡ []) }
@@ -86,7 +84,8 @@ impl Queue {
         requires queued { IsQueued self.old (D.state drive.old) }
         requires one { self.old.flying ≢ [] }
         requires fit { IsFit (D.state drive.old) }
-        ensures ok { IfOk result (λ ended. Ends self.old (D.state drive.old) ended.1 ended.0 self.new (D.state drive.new)) }
+        ensures ok { IfOk result (λ ended. Ends ended.1 ended.0 (on_drive self.old (D.state drive.old))
+            (on_drive self.new (D.state drive.new))) }
         ensures err { OnErr result (IsLostInFlight self.old.tasks (D.state drive.old) (D.state drive.new)) }
         ensures emptied { OnErr result (self.new.flying ≡ []) }
         ensures alike { OnErr result (AreAlike self.old.tasks self.new.tasks) }
@@ -170,8 +169,7 @@ impl Queue {
     ) -> Result<(), LinkDown>
         requires some { 0 < length self.old.tasks }
         requires queued { IsQueued self.old (D.state drive.old) }
-        ensures ok { OnOk result (IsLaunched self.old.flying (D.state drive.old) self.old.tasks self.new.flying
-            (D.state drive.new)) }
+        ensures ok { OnOk result (IsLaunched (on_drive self.old (D.state drive.old)) (on_drive self.new (D.state drive.new))) }
         ensures covered { OnOk result (IsCovered self.new.flying self.new.tasks (length self.old.tasks - 1)) }
         ensures err { OnErr result (IsLostQuietly self.old.tasks (D.state drive.old) (D.state drive.new)) }
         ensures emptied { OnErr result (self.new.flying ≡ []) }

@@ -4,8 +4,8 @@ ghost use Rattle.satl_errlog.specs.declared.entry.NcqError.{NcqError};
 ghost use Rattle.satl_errlog.specs.Log.{log_of, log_says};
 ghost use Rattle.satl_drive.specs.State.{IsFit};
 ghost use Rattle.satl_flight.specs.Flown.{IsInFlight};
-ghost use Rattle.satl_flight.specs.Lending.{AreAlike, IsLending, whole_tasks};
-ghost use Rattle.satl_flight.specs.Settled.{HasReadLog, IsLogCutOff, IsLostInFlight, Settles};
+ghost use Rattle.satl_flight.specs.Lending.{AreAlike, IsLending, waiting, whole_tasks};
+ghost use Rattle.satl_flight.specs.Settled.{HasReadLog, IsLogCutOff, IsLostInFlight, Settles, on_drive};
 
 use crate::flight::Flight;
 use satl_base::{Pages, Steps};
@@ -39,8 +39,8 @@ impl Flight {
         requires tie { IsInFlight self.old (whole_tasks self.old dma.old set.old) (D.state drive.old) }
         requires one { self.old ≢ [] }
         requires fit { IsFit (D.state drive.old) }
-        ensures ok { IfOk result (λ ended. Settles self.old dma.old set.old
-            (D.state drive.old) ended.place ended.error self.new dma.new set.new (D.state drive.new)) }
+        ensures ok { IfOk result (λ ended. Settles ended.place ended.error (on_drive (waiting self.old dma.old set.old)
+            (D.state drive.old)) (on_drive (waiting self.new dma.new set.new) (D.state drive.new))) }
         ensures err { OnErr result (IsLostInFlight (whole_tasks self.old dma.old set.old) (D.state drive.old)
             (D.state drive.new)) }
         ensures emptied { OnErr result (self.new ≡ []) }

@@ -2,7 +2,7 @@ use Rattle.std.proofs.Common.{sym, ap, subst}
 use Rattle.std.specs.Prelude.{length, map}
 use Rattle.std.specs.Option.{option_map}
 use Rattle.satl_drive.specs.Queue.{IsPolled}
-use Rattle.satl_flight.specs.Lending.{AreAlike, IsLending, whole_tasks}
+use Rattle.satl_flight.specs.Lending.{AreAlike, Lands, waiting, whole_tasks}
 use Rattle.satl_flight.proofs.AlikeLemmas.{alike_lending, alike_tasks}
 use Rattle.satl_flight.proofs.LaunchedLemmas.{lost_poll}
 use Rattle.satl_flight.proofs.SettlingLemmas.{can_poll, done_lending, done_there, error_there, not_idle, read_there, settles_done, settles_failed, settles_lost_log}
@@ -29,7 +29,7 @@ land-place-requires-clause-there g c =
 pub returns-in-Ok-Done-clause-ok : goal.returns-in-Ok-Done-clause-ok
 returns-in-Ok-Done-clause-ok g c =
     let polled = subst (λ r. IsPolled (g.D.Drive.state c.args.drive.now) c.args.dma.now r c.poll.new.dma (g.D.Drive.state c.poll.new.self)) c.in-Ok-Done.field-0-is c.in-Ok-Done.ensures.ok in
-    settles_done _ _ _ c.requires.lending _ c.requires.tie c.requires.fit c.in-Ok-Done.tag c.land-place.result _ _ _ _ _ polled.reports c.land-place.ensures
+    settles_done _ _ _ c.requires.lending _ c.requires.tie c.requires.fit c.in-Ok-Done.tag c.land-place.result _ _ _ polled.reports c.land-place.ensures
 
 pub read_error-requires-clause-error : goal.read_error-requires-clause-error
 read_error-requires-clause-error g c =
@@ -44,8 +44,8 @@ land-place-requires-in-Ok-clause-there g c =
 pub returns-in-Ok-clause-ok : goal.returns-in-Ok-clause-ok
 returns-in-Ok-clause-ok g c =
     let polled = subst (λ r. IsPolled (g.D.Drive.state c.args.drive.now) c.args.dma.now r c.poll.new.dma (g.D.Drive.state c.poll.new.self)) c.in-Ok-Error.field-0-is c.in-Ok-Error.ensures.ok in
-    settles_failed _ _ _ c.requires.lending _ c.requires.tie c.requires.fit c.land-place-in-Ok.result _ _ _ c.in-Ok.error _ _ _ _ _ _ polled.reports c.in-Ok.ensures.same c.in-Ok.ensures.ok
-    (subst (λ fs. Rattle.satl_flight.specs.Lending.Lands c.in-Ok.error.tag fs c.poll.new.dma c.args.set.now c.land-place-in-Ok.result c.land-place-in-Ok.new.self c.land-place-in-Ok.new.dma c.land-place-in-Ok.new.set) c.self.view_is c.land-place-in-Ok.ensures) c.land_all.ensures.none c.land_all.ensures.same c.land_all.ensures.lending
+    settles_failed _ _ _ c.requires.lending _ c.requires.tie c.requires.fit c.land-place-in-Ok.result _ _ _ c.in-Ok.error _ _ polled.reports c.in-Ok.ensures.same c.in-Ok.ensures.ok
+    (subst (λ fs. Lands c.in-Ok.error.tag c.land-place-in-Ok.result (waiting fs c.poll.new.dma c.args.set.now) (waiting c.land-place-in-Ok.new.self c.land-place-in-Ok.new.dma c.land-place-in-Ok.new.set)) c.self.view_is c.land-place-in-Ok.ensures) c.land_all.ensures.none c.land_all.ensures.same c.land_all.ensures.lending
 
 pub returns-in-Err-read_error-clause-err : goal.returns-in-Err-read_error-clause-err
 returns-in-Err-read_error-clause-err g c =

@@ -2,8 +2,7 @@ use Rattle.std.proofs.Common.{ap, subst, sym, ◌∙◌, ◌-◌, ◌≡◌, ℕ
 use Rattle.std.specs.Prelude.{slice_get}
 use Rattle.satl_line.specs.Tasks.{Held, change_task, with_body}
 use Rattle.satl_flight.specs.Flown.{holds}
-use Rattle.satl_flight.specs.Lending.{whole_tasks}
-use Rattle.satl_flight.specs.Queueing.{Waiting}
+use Rattle.satl_flight.specs.Lending.{Waiting, whole_tasks}
 use Rattle.satl_flight.proofs.LaunchingLemmas.{length-whole}
 use Rattle.satl_flight.proofs.QueueLemmas.{fill_lending, fill_whole, last, last_bare, last_fresh}
 use Rattle.satl_flight.proofs.queue.Queue.fill_last.Goals as goal

@@ -2,8 +2,7 @@ use Rattle.std.proofs.Common.{sym, ap, ◌∙◌}
 use Rattle.std.specs.List.{position_from}
 use Rattle.satl_line.specs.Tasks.{is_named}
 use Rattle.satl_line.proofs.SlotsLemmas.{position_from-map}
-use Rattle.satl_flight.specs.Lending.{whole_task}
-use Rattle.satl_flight.specs.Queueing.{Waiting}
+use Rattle.satl_flight.specs.Lending.{Waiting, whole_task}
 use Rattle.satl_flight.proofs.queue.Queue.find.Goals as goal
 
 pub returns : goal.returns

@@ -2,7 +2,7 @@ use Rattle.std.proofs.Common.{ap, sym, ◌∙◌}
 use Rattle.std.specs.Prelude.{slice_get}
 use Rattle.satl_line.specs.Tasks.{slots_of}
 use Rattle.satl_flight.specs.Flown.{holds}
-use Rattle.satl_flight.specs.Queueing.{Waiting}
+use Rattle.satl_flight.specs.Lending.{Waiting}
 use Rattle.satl_flight.proofs.LendingLemmas.{whole-slots, slots-get}
 use Rattle.satl_flight.proofs.queue.Queue.is_outstanding.Goals as goal
 

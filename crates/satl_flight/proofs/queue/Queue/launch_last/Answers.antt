@@ -1,7 +1,6 @@
 use Rattle.std.proofs.Common.{ap, subst, sym, ◌∙◌, ◌-◌, ℕ, length}
 use Rattle.std.specs.Prelude.{OnOk}
-use Rattle.satl_flight.specs.Lending.{whole_tasks}
-use Rattle.satl_flight.specs.Queueing.{Waiting}
+use Rattle.satl_flight.specs.Lending.{Waiting, whole_tasks}
 use Rattle.satl_flight.specs.Settled.{IsCovered}
 use Rattle.satl_flight.proofs.LaunchingLemmas.{length-whole}
 use Rattle.satl_flight.proofs.queue.Queue.launch_last.Goals as goal

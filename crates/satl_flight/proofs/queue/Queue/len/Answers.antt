@@ -1,7 +1,8 @@
 use Rattle.std.proofs.Common.{ap, arith, subst}
 use Rattle.satl_line.specs.Tasks.{AreOwnSlots, total_blocks}
 use Rattle.satl_drive.specs.State.{DriveState}
-use Rattle.satl_flight.specs.Queueing.{IsQueued, IsSlotted, Waiting}
+use Rattle.satl_flight.specs.Lending.{Waiting}
+use Rattle.satl_flight.specs.Queueing.{IsQueued, IsSlotted}
 use Rattle.satl_flight.proofs.QueueLemmas.{own-whole, slotted, total-whole}
 use Rattle.satl_flight.proofs.queue.Queue.len.Goals as goal
 
