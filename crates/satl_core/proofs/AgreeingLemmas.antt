@@ -33,7 +33,7 @@ use Rattle.satl_direct.specs.Device.{Device}
 use Rattle.satl_direct.specs.Tasks.{held_by, task_of}
 use Rattle.satl_direct.specs.Valid.{AreOwn, HasCome, IsValid}
 use Rattle.satl_core.specs.Layer.{Agrees, CanTrim, IsKept, IsUsed, Layer, Tied, entry_pages, view, works}
-use Rattle.satl_core.proofs.QueuedLemmas.{by_command}
+use Rattle.satl_core.proofs.QueuedLemmas.{by_command, queue_on}
 use Rattle.satl_core.proofs.TieLemmas.{bytes_long}
 use Rattle.satl_core.proofs.Transfers.{of_task}
 use Rattle.satl_core.proofs.UnmapLemmas.{entries_suit}
@@ -132,7 +132,7 @@ capacity_is l d agrees = sym agrees.fit.sectors ∙ agrees.valid.cells
 
 -- ---- what is issued
 
-pub agrees_launched : (l new : Layer) (d d' : DriveState) → IsLaunched l.flying d l.tasks new.flying d' → new ≡ record l { flying = new.flying; slots = new.slots } → IsFit d' → Agrees l d → Agrees new d'
+pub agrees_launched : (l new : Layer) (d d' : DriveState) → IsLaunched (queue_on l d) (queue_on new d') → new ≡ record l { flying = new.flying; slots = new.slots } → IsFit d' → Agrees l d → Agrees new d'
 agrees_launched l new d d' step same fit agrees =
     agrees_by l new d d' (ap (λ (x : Layer). x.down) same) (ap (λ (x : Layer). x.modes) same) (ap (λ (x : Layer). x.identity) same)
     (record { down = ap (λ (x : DriveState). x.down) step.stays; cache = ap (λ (x : DriveState). x.cache) step.stays; look = ap (λ (x : DriveState). x.look) step.stays; identify = ap (λ (x : DriveState). x.identify) step.stays })
@@ -247,7 +247,7 @@ tied_lost l new d d' left same agrees =
 
 -- ---- a task that has ended
 
-pub agrees_settled : (l new : Layer) (d d' : DriveState) (place : ℕ) (outcome : Outcome) → IsSettled l.tasks d place outcome new.flying d' → new ≡ record l { tasks = remove l.tasks place; flying = new.flying; slots = new.slots; free = new.free; out = new.out } → IsFit d' → Agrees l d → Agrees new d'
+pub agrees_settled : (l new : Layer) (d d' : DriveState) (place : ℕ) (outcome : Outcome) → IsSettled place outcome (queue_on l d) (queue_on new d') → new ≡ record l { tasks = remove l.tasks place; flying = new.flying; slots = new.slots; free = new.free; out = new.out } → IsFit d' → Agrees l d → Agrees new d'
 agrees_settled l new d d' place outcome s same fit agrees =
     agrees_by l new d d' (ap (λ (x : Layer). x.down) same) (ap (λ (x : Layer). x.modes) same) (ap (λ (x : Layer). x.identity) same)
     (record { down = ap (λ (x : DriveState). x.down) s.stays; cache = ap (λ (x : DriveState). x.cache) s.stays; look = ap (λ (x : DriveState). x.look) s.stays; identify = ap (λ (x : DriveState). x.identify) s.stays })

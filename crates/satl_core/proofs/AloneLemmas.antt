@@ -1,5 +1,5 @@
 -- A task whose command runs alone, or waits for a started unit.
-use Rattle.std.proofs.Common.{◌≡◌, refl, ap, subst, ℕ, Bool, true, false, Some}
+use Rattle.std.proofs.Common.{◌≡◌, refl, ap, subst, Bool, true, false, Some}
 use Rattle.std.specs.Prelude.{Option, not, ◌&&◌}
 use Rattle.satl_cdb.specs.declared.command.Command.{Command}
 use Rattle.satl_cdb.specs.declared.command.Command.TheVariants as cdbs

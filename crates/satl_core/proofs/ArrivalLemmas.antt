@@ -1,5 +1,5 @@
 -- What the layer judges of a request is what the device does with it.
-use Rattle.std.proofs.Common.{◌≡◌, refl, sym, ap, subst, ◌∙◌, arith, cond, ℕ, ◌+◌, Bool, true, false, List, [], ◌∷◌, length, map}
+use Rattle.std.proofs.Common.{◌≡◌, refl, sym, ap, subst, ◌∙◌, arith, cond, ℕ, ◌+◌, Bool, true, false, List, [], ◌∷◌, map}
 use Rattle.std.specs.Prelude.{Option, Some, None, Result, Ok, Err, not, ◌==◌, ◌&&◌, nat_lt, slice_get, slice_index, slice_index_or, MatchBool}
 use Rattle.std.proofs.lemmas.Bool.{eqb-true, le-ltb}
 use Rattle.satl_base.specs.declared.reply.Reply.{Reply}
@@ -14,8 +14,6 @@ use Rattle.satl_cdb.specs.Rows.{found_says, format_of}
 use Rattle.satl_cdb.specs.BlockCommands.{ten}
 use Rattle.satl_cdb.specs.PrimaryCommands.{inquiry}
 use Rattle.satl_cdb.specs.Table.{says, table}
-use Rattle.satl_base.specs.declared.modes.Modes.{Modes}
-use Rattle.satl_identify.specs.declared.identity.Identity.{Identity}
 use Rattle.satl_vpd.specs.Standard.{standard_data}
 use Rattle.satl_line.specs.Tasks.{Held, entries_of, is_too_much, total_blocks}
 use Rattle.satl_drive.specs.State.{DriveState}

@@ -49,7 +49,7 @@ use Rattle.satl_flight.proofs.LaunchedLemmas.{lost_reset}
 use Rattle.satl_barrier.proofs.ToldLemmas.{all_bytes, retold}
 use Rattle.satl_pages.specs.Counts.{Counts}
 use Rattle.satl_flight.specs.declared.flight.Flying.{Flying}
-use Rattle.satl_flight.specs.Queueing.{Waiting}
+use Rattle.satl_flight.specs.Lending.{Waiting}
 use Rattle.satl_flight.proofs.SettledLemmas.{deepens_shorter}
 use Rattle.satl_core.proofs.TieLemmas.{bytes_long, has_as_noted, layer_of}
 use Rattle.satl_core.proofs.DeviceLemmas.{rest_lost}

@@ -1,7 +1,7 @@
 -- What is counted: losses of the link, and tasks.
 use Rattle.std.proofs.Common.{◌≡◌, refl, sym, ap, subst, ◌∙◌, arith, ℕ, ◌+◌, ◌≤◌, Bool, true, false, List, [], ◌∷◌, length, map}
 use Rattle.std.proofs.lemmas.List.{length-append, length-map}
-use Rattle.std.specs.Prelude.{if◌then◌else◌, not, MatchBool}
+use Rattle.std.specs.Prelude.{if◌then◌else◌, MatchBool}
 use Rattle.satl_base.specs.declared.reply.Reply.{Reply}
 use Rattle.satl_base.specs.declared.request.Request.{Request}
 use Rattle.satl_io.specs.Causes.{Rose, RoseBy}

@@ -18,8 +18,8 @@ use Rattle.satl_direct.specs.Turn.{Turn}
 use Rattle.satl_flight.specs.declared.flight.Flying.{Flying}
 use Rattle.satl_flight.specs.Flown.{IsFlown}
 use Rattle.satl_flight.specs.Lending.{AreAlike}
-use Rattle.satl_flight.specs.Queueing.{Ends, Waiting}
-use Rattle.satl_flight.specs.Settled.{Deepens, IsFilled, IsLostInFlight, outcome_of}
+use Rattle.satl_flight.specs.Queueing.{Ends}
+use Rattle.satl_flight.specs.Settled.{Deepens, IsFilled, IsLostInFlight, OnDrive, outcome_of}
 use Rattle.satl_flight.proofs.ZipLemmas.{All-remove}
 use Rattle.satl_barrier.specs.Leaving.{Stays}
 use Rattle.satl_direct.specs.Senses.{link_lost}
@@ -34,7 +34,7 @@ use Rattle.satl_core.proofs.AgreeingLemmas.{agrees_settled, in_flight_down, tied
 use Rattle.satl_core.proofs.FlushedLemmas.{queued_no_flush}
 use Rattle.satl_core.proofs.HeldLemmas.{IsFirst, IsKeptEntry, alike_lost}
 use Rattle.satl_core.proofs.LeavingLemmas.{count_removed, pages_removed}
-use Rattle.satl_core.proofs.QueuedLemmas.{first_is_barrier, loses_in_flight, settled_reply, settles_one}
+use Rattle.satl_core.proofs.QueuedLemmas.{first_is_barrier, loses_in_flight, queue_on, settled_reply, settles_one}
 use Rattle.satl_core.proofs.RefillLemmas.{works_by}
 use Rattle.satl_core.proofs.ServedLemmas.{first_loses}
 use Rattle.satl_core.proofs.Transfers.{of_task}
@@ -85,39 +85,39 @@ at_place P [] place h all at = absurd cc
 at_place P (k ∷ tasks) zero h all at = let one : k ≡ h = cc in subst P one all.0
 at_place P (k ∷ tasks) (suc place) h all at = at_place P tasks place h all.1 at
 
-module _ (q q' : Waiting) (d d' : DriveState) (error : Option NcqError) (task : Entry) (e : Ends q d error task q' d') where
-  entry_is : entry_at q.tasks e.place ≡ Some e.settled.held.entry
+module _ (error : Option NcqError) (task : Entry) (old new : OnDrive) (e : Ends error task old new) where
+  entry_is : entry_at old.queue.tasks e.place ≡ Some e.settled.held.entry
   entry_is = ap (option_map (λ (h : Held). h.entry)) e.settled.stands
 
-  pub ended_pages : held_pages q.tasks ≡ length task.body + held_pages q'.tasks
+  pub ended_pages : held_pages old.queue.tasks ≡ length task.body + held_pages new.queue.tasks
   ended_pages =
-      let all = pages_removed q.tasks e.place e.settled.held.entry entry_is in
+      let all = pages_removed old.queue.tasks e.place e.settled.held.entry entry_is in
       let left = ap held_pages e.left in
       omega (arith, all, left, e.size)
 
-  pub ended_count : length q.tasks ≡ suc (length q'.tasks)
-  ended_count = count_removed q.tasks e.place e.settled.held.entry entry_is ∙ ap (λ ts. suc (length ts)) (sym e.left)
+  pub ended_count : length old.queue.tasks ≡ suc (length new.queue.tasks)
+  ended_count = count_removed old.queue.tasks e.place e.settled.held.entry entry_is ∙ ap (λ ts. suc (length ts)) (sym e.left)
 
-  module _ (identity : Identity) (kept : AllByRecursion (IsKept identity) q.tasks) where
+  module _ (identity : Identity) (kept : AllByRecursion (IsKept identity) old.queue.tasks) where
     held_kept : IsKept identity e.settled.held
-    held_kept = at_place (IsKept identity) q.tasks e.place e.settled.held kept e.settled.stands
+    held_kept = at_place (IsKept identity) old.queue.tasks e.place e.settled.held kept e.settled.stands
 
     pub ended_kept : IsKeptEntry identity task
     ended_kept = subst (IsKeptEntry identity) (sym e.task_is) (record { pages = e.size ∙ held_kept.pages; trims = held_kept.trims; task = held_kept.task; kind = held_kept.kind; change = held_kept.change; expected = held_kept.expected })
 
-    pub others_kept : AllByRecursion (IsKept identity) q'.tasks
-    others_kept = subst (AllByRecursion (IsKept identity)) (sym e.left) (All-remove (IsKept identity) q.tasks e.place kept)
+    pub others_kept : AllByRecursion (IsKept identity) new.queue.tasks
+    others_kept = subst (AllByRecursion (IsKept identity)) (sym e.left) (All-remove (IsKept identity) old.queue.tasks e.place kept)
 
   -- no SYNCHRONIZE CACHE has ended
-  pub ended_unflushed : (l : Layer) (ending : Ending) (given replies : List Reply) (r : Reply) → l.tasks ≡ q.tasks → Agrees l d → given ≡ [] → replies ≡ given ++ r ∷ [] → r ≡ ended_reply task ending l.modes.d_sense → IsFlushed l.tasks replies → ⊥
+  pub ended_unflushed : (l : Layer) (ending : Ending) (given replies : List Reply) (r : Reply) → l.tasks ≡ old.queue.tasks → Agrees l old.drive → given ≡ [] → replies ≡ given ++ r ∷ [] → r ≡ ended_reply task ending l.modes.d_sense → IsFlushed l.tasks replies → ⊥
   ended_unflushed l ending given replies r same agrees none push is flushed =
-      queued_no_flush q.tasks e.place e.settled.held e.ranged ending l.modes.d_sense task.body given replies r
+      queued_no_flush old.queue.tasks e.place e.settled.held e.ranged ending l.modes.d_sense task.body given replies r
       (subst (λ ts. Rattle.satl_direct.specs.Valid.AreOwn (map task_of (entries_of ts))) same agrees.valid.own) e.settled.stands e.ranged_is none push
       (is ∙ ap (λ t. ended_reply t ending l.modes.d_sense) e.task_is) (subst (λ ts. IsFlushed ts replies) same flushed)
 
 -- it ends as the device says
 module _ (l now new : Layer) (d d' : DriveState) (error : Option NcqError) (task : Entry) (is : l ≡ now) (w : works l ≡ true) (agrees : Agrees now d)
-    (e : Ends (record { tasks = l.tasks; flying = l.flying; slots = l.slots }) d error task (record { tasks = new.tasks; flying = new.flying; slots = new.slots }) d')
+    (e : Ends error task (queue_on l d) (queue_on new d'))
     (same : new ≡ record l { tasks = new.tasks; flying = new.flying; slots = new.slots; free = new.free; out = new.out }) where
   was : Agrees l d
   was = subst (λ x. Agrees x d) (sym is) agrees

@@ -1,6 +1,6 @@
 -- What a task management function does to the layer is what it does to the device.
 use Rattle.std.proofs.Common.{◌≡◌, refl, sym, ap, subst, ◌∙◌, arith, cond, ℕ, zero, suc, ◌+◌, ◌≤◌, Bool, true, false, List, [], ◌∷◌, length, map, Option, Some, None}
-use Rattle.std.specs.Prelude.{if◌then◌else◌, not, ◌&&◌, ◌==◌, filter}
+use Rattle.std.specs.Prelude.{not, ◌&&◌, ◌==◌, filter}
 use Rattle.std.specs.List.{list_any}
 use Rattle.satl_base.specs.declared.request.Manage.{Manage}
 use Rattle.satl_base.specs.declared.reply.Reply.{Reply}

@@ -17,7 +17,8 @@ use Rattle.satl_barrier.specs.Leaving.{TellsOf}
 use Rattle.satl_barrier.proofs.ToldLemmas.{all_bytes, own_data, right_sum}
 use Rattle.satl_pages.specs.Counts.{Counts}
 use Rattle.satl_drive.specs.Queue.{Slots}
-use Rattle.satl_flight.specs.Queueing.{Waiting, empty}
+use Rattle.satl_flight.specs.Lending.{Waiting}
+use Rattle.satl_flight.specs.Queueing.{empty}
 use Rattle.satl_flight.specs.Settled.{IsFilled}
 use Rattle.satl_core.specs.Layer.{Agrees, held_pages}
 use Rattle.satl_core.proofs.AgreeingLemmas.{idle_in_flight}

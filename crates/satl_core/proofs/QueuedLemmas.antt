@@ -44,7 +44,8 @@ use Rattle.satl_direct.specs.Valid.{AreOwn}
 use Rattle.satl_direct.proofs.Quieting.{quiet_none}
 use Rattle.satl_direct.proofs.Naming.{called_same}
 use Rattle.satl_flight.specs.Flown.{clash}
-use Rattle.satl_flight.specs.Settled.{IsFilled, IsFlawOrCrc, IsLostInFlight, IsLostQuietly, IsSettled, outcome_of, read_into}
+use Rattle.satl_flight.specs.Lending.{waiting}
+use Rattle.satl_flight.specs.Settled.{IsFilled, IsFlawOrCrc, IsLostInFlight, IsLostQuietly, IsSettled, OnDrive, on_drive, outcome_of, read_into}
 use Rattle.satl_core.specs.Layer.{Agrees, Layer, view, works}
 use Rattle.satl_core.specs.Refilling.{EndsOne}
 use Rattle.satl_core.specs.Turning as core
@@ -188,6 +189,10 @@ without_place (u ∷ us) (suc place) t own at = ap (λ b. if b then us else u �
 
 -- ---- a unit that works
 
+-- the queue of the layer, and the drive that it is on
+abbrev pub queue_on : Layer → DriveState → OnDrive
+queue_on l d = on_drive (waiting l.flying l.slots l.tasks) d
+
 pub works_so : (l : Layer) → works l ≡ true → (l.down ≡ false) × (l.started ≡ true)
 works_so l w = by l.down l.started w
   where
@@ -251,7 +256,7 @@ module _ (l : Layer) (d : DriveState) (agrees : Agrees l d) (w : works l ≡ tru
 
   -- ---- one ends
 
-  module _ (l' : Layer) (d' : DriveState) (place : ℕ) (outcome : Outcome) (own : AreOwn (map task_of (entries_of l.tasks))) (s : IsSettled l.tasks d place outcome l'.flying d')
+  module _ (l' : Layer) (d' : DriveState) (place : ℕ) (outcome : Outcome) (own : AreOwn (map task_of (entries_of l.tasks))) (s : IsSettled place outcome (queue_on l d) (queue_on l' d'))
       (same : l' ≡ record l { tasks = remove l.tasks place; flying = l'.flying; slots = l'.slots; free = l'.free; out = l'.out }) where
     abbrev task : Entry
     task = task_of s.held.entry

@@ -24,7 +24,7 @@ use Rattle.satl_core.specs.Turning.{lost_replies}
 use Rattle.satl_core.proofs.AgreeingLemmas.{agrees_launched, quietly_down, tied_lost, used_filled}
 use Rattle.satl_core.proofs.FlushedLemmas.{still_settled}
 use Rattle.satl_core.proofs.HeldLemmas.{reply_pages-append}
-use Rattle.satl_core.proofs.QueuedLemmas.{loses_quietly, moves_quietly}
+use Rattle.satl_core.proofs.QueuedLemmas.{loses_quietly, moves_quietly, queue_on}
 use Rattle.satl_core.proofs.TurningLemmas.{lost_pages}
 
 pub no_answers : (s : Device) (given : List Reply) → Answers (λ more. Refills s more s) given given
@@ -36,14 +36,14 @@ works_by down started up on = ap (λ b. not b && started) up ∙ on
 -- ---- what is issued
 
 -- the layer before, as it was told and as it is by its parts, and after
-module _ (l now new : Layer) (d d' : DriveState) (is : l ≡ now) (w : works l ≡ true) (agrees : Agrees now d) (same : new ≡ record l { flying = new.flying; slots = new.slots }) (step : IsLaunched l.flying d l.tasks new.flying d') where
+module _ (l now new : Layer) (d d' : DriveState) (is : l ≡ now) (w : works l ≡ true) (agrees : Agrees now d) (same : new ≡ record l { flying = new.flying; slots = new.slots }) (step : IsLaunched (queue_on l d) (queue_on new d')) where
   was : Agrees l d
   was = subst (λ x. Agrees x d) (sym is) agrees
 
   pub launched_quietly : Quiet (view now d) (view new d')
   launched_quietly =
       subst (λ x. Quiet (view x d) (view new d')) is
-      (moves_quietly l d was w new d' same (launched_moves l.tasks l.flying new.flying d d' step) (ap (λ (x : DriveState). x.active) step.stays) (ap (λ (x : DriveState). x.glitches) step.stays) (ap (λ (x : DriveState). x.down) step.stays))
+      (moves_quietly l d was w new d' same (launched_moves (queue_on l d) (queue_on new d') step) (ap (λ (x : DriveState). x.active) step.stays) (ap (λ (x : DriveState). x.glitches) step.stays) (ap (λ (x : DriveState). x.down) step.stays))
 
   pub launched_answers : (given : List Reply) → Answers (λ more. Refills (view now d) more (view new d')) given given
   launched_answers given = record { more = []; behind = sym (append-nil given); step = inl (refl, launched_quietly) }
@@ -59,13 +59,12 @@ module _ (l now new : Layer) (d d' : DriveState) (is : l ≡ now) (w : works l �
 
 -- the task that came last is covered, so the queue is used
 pub filled_last : (l new : Layer) (capacity : Rattle.std.proofs.Common.ℕ) (trims : Bool) (d d' : DriveState) → works l ≡ true → new.tasks ≡ l.tasks → (before : List Held) → Comes capacity trims before l.tasks → MatchBool (works l) (IsFilled l.flying before) (l.flying ≡ [])
-    → IsLaunched l.flying d l.tasks new.flying d' → IsCovered new.flying new.tasks (length l.tasks - 1) → IsFilled new.flying new.tasks
+    → IsLaunched (queue_on l d) (queue_on new d') → IsCovered new.flying new.tasks (length l.tasks - 1) → IsFilled new.flying new.tasks
 filled_last l new capacity trims d d' w same before comes used step covered =
     let filled : IsFilled l.flying before = subst (λ b. MatchBool b (IsFilled l.flying before) (l.flying ≡ [])) w used in
     let count : length l.tasks - 1 ≡ length before = ap (λ ts. length ts - 1) comes.last ∙ one_less before comes.held in
     subst (IsFilled new.flying) (sym (same ∙ comes.last))
-    (filled_come l.flying new.flying before comes.held d d' filled
-    (subst (λ ts. IsLaunched l.flying d ts new.flying d') comes.last step)
+    (filled_come before comes.held (queue_on l d) (queue_on new d') filled step
     (subst (λ n. IsCovered new.flying (before ++ comes.held ∷ []) n) count (subst (λ ts. IsCovered new.flying ts (length l.tasks - 1)) (same ∙ comes.last) covered)))
   where
     one_less : (ts : List Held) (h : Held) → length (ts ++ h ∷ []) - 1 ≡ length ts

@@ -20,7 +20,7 @@ use Rattle.satl_direct.specs.Valid.{IsValid}
 use Rattle.satl_direct.proofs.Quieting.{quiet_none}
 use Rattle.satl_flight.specs.declared.flight.Flying.{Flying}
 use Rattle.satl_flight.specs.Flown.{IsInFlight, holds, is_in_slot}
-use Rattle.satl_flight.specs.Queueing.{Waiting}
+use Rattle.satl_flight.specs.Lending.{Waiting}
 use Rattle.satl_flight.specs.Settled.{IsCut, IsFilled, IsLostQuietly}
 use Rattle.satl_flight.proofs.ComingLemmas.{tie_kept}
 use Rattle.satl_core.specs.declared.leaving.Scope.{Scope}

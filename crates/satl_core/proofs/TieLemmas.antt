@@ -9,7 +9,7 @@ use Rattle.satl_barrier.specs.Leaving.{TellsOf}
 use Rattle.satl_barrier.proofs.ToldLemmas.{data_queued_trims, data_says, data_trims, length-data}
 use Rattle.satl_unit.specs.declared.attention.Attention.{Attention}
 use Rattle.satl_pages.specs.Counts.{Counts}
-use Rattle.satl_flight.specs.Queueing.{Waiting}
+use Rattle.satl_flight.specs.Lending.{Waiting}
 use Rattle.satl_core.specs.Layer.{Agrees, Layer, held_pages}
 
 -- the data of the identity are as long as the drive's

@@ -16,19 +16,19 @@ use Rattle.satl_core.proofs.satl.Satl.end_queued.Goals as goal
 
 pub end_task-requires-clause-held : goal.end_task-requires-clause-held
 end_task-requires-clause-held g c =
-    let pages = ended_pages _ _ _ _ _ _ c.in-Ok.ensures.ok in
+    let pages = ended_pages _ _ _ _ c.in-Ok.ensures.ok in
     omega (arith, pages, c.self.invariant.held)
 
 pub end_task-requires-clause-few : goal.end_task-requires-clause-few
-end_task-requires-clause-few g c = entry_few c.self.inside.identity c.in-Ok.task (ended_kept _ _ _ _ _ _ c.in-Ok.ensures.ok c.self.inside.identity c.self.invariant.kept)
+end_task-requires-clause-few g c = entry_few c.self.inside.identity c.in-Ok.task (ended_kept _ _ _ _ c.in-Ok.ensures.ok c.self.inside.identity c.self.invariant.kept)
 
 pub invariant_of-self : goal.invariant_of-self
 invariant_of-self g c =
-    let pages = ended_pages _ _ _ _ _ _ c.in-Ok.ensures.ok in
+    let pages = ended_pages _ _ _ _ c.in-Ok.ensures.ok in
     record {
       held = omega (arith, pages, c.self.invariant.held, c.end_task.ensures.out);
       all = omega (arith, c.self.invariant.all, c.end_task.ensures.out, c.end_task.ensures.free);
-      kept = others_kept _ _ _ _ _ _ c.in-Ok.ensures.ok c.self.inside.identity c.self.invariant.kept;
+      kept = others_kept _ _ _ _ c.in-Ok.ensures.ok c.self.inside.identity c.self.invariant.kept;
       identity_is = c.self.invariant.identity_is;
     }
 
@@ -65,24 +65,24 @@ returns-in-Ok-clause-agrees g c =
 
 pub returns-in-Ok-clause-pages : goal.returns-in-Ok-clause-pages
 returns-in-Ok-clause-pages g c =
-    let held = ended_pages _ _ _ _ _ _ c.in-Ok.ensures.ok in
+    let held = ended_pages _ _ _ _ c.in-Ok.ensures.ok in
     let pages = one_pages c.args.replies.now c.push.new.self c.end_task.result c.requires.empty c.push.ensures in
     let view = ap (λ (l : Layer). l.out) c.self.view_is in
     omega (arith, held, pages, view, c.requires.all_in, c.self.invariant.held, c.end_task.ensures.out)
 
 pub returns-in-Ok-clause-writable : goal.returns-in-Ok-clause-writable
 returns-in-Ok-clause-writable g c =
-    let kept = ended_kept _ _ _ _ _ _ c.in-Ok.ensures.ok c.self.inside.identity c.self.invariant.kept in
+    let kept = ended_kept _ _ _ _ c.in-Ok.ensures.ok c.self.inside.identity c.self.invariant.kept in
     one_writable c.args.replies.now c.push.new.self c.end_task.result c.in-Ok.task c.ending_by-ending.result c.self.inside.modes.d_sense c.requires.empty c.push.ensures c.end_task.ensures.reply (entry_few c.self.inside.identity c.in-Ok.task kept) kept.expected
 
 pub returns-in-Ok-clause-fewer : goal.returns-in-Ok-clause-fewer
 returns-in-Ok-clause-fewer g c =
-    let count = ended_count _ _ _ _ _ _ c.in-Ok.ensures.ok in
+    let count = ended_count _ _ _ _ c.in-Ok.ensures.ok in
     omega (arith, count, ap (λ (l : Layer). length l.tasks) c.self.view_is)
 
 pub returns-in-Ok-clause-room : goal.returns-in-Ok-clause-room
 returns-in-Ok-clause-room g c =
-    let count = ended_count _ _ _ _ _ _ c.in-Ok.ensures.ok in
+    let count = ended_count _ _ _ _ c.in-Ok.ensures.ok in
     let more = pushed c.args.replies.now c.push.new.self c.end_task.result c.push.ensures in
     omega (arith, count, more, ap length c.requires.empty, ap (λ (l : Layer). length l.tasks) c.self.view_is, c.requires.few)
 
@@ -90,7 +90,7 @@ pub returns-in-Ok-clause-unflushed : goal.returns-in-Ok-clause-unflushed
 returns-in-Ok-clause-unflushed g c = λ flushed.
     let i = c.self.inside in
     let tied = subst (λ l. Tied l (g.D.Drive.state c.args.drive.now)) (sym c.self.view_is) c.requires.tied in
-    absurd (ended_unflushed _ _ _ _ _ _ c.in-Ok.ensures.ok (layer_of i.identity i.modes i.started i.down i.attentions i.queue i.pool) c.ending_by-ending.result c.args.replies.now c.push.new.self c.end_task.result refl tied.agrees c.requires.empty c.push.ensures c.end_task.ensures.reply
+    absurd (ended_unflushed _ _ _ _ c.in-Ok.ensures.ok (layer_of i.identity i.modes i.started i.down i.attentions i.queue i.pool) c.ending_by-ending.result c.args.replies.now c.push.new.self c.end_task.result refl tied.agrees c.requires.empty c.push.ensures c.end_task.ensures.reply
     (subst (λ (l : Layer). Rattle.satl_core.specs.Flushed.IsFlushed l.tasks c.push.new.self) (sym c.self.view_is) flushed))
 
 pub returns-in-Err-clause-ends : goal.returns-in-Err-clause-ends
