@@ -1,6 +1,9 @@
 -- What each event does, from what the layer did, and how it is told.
 use Rattle.std.proofs.Common.{◌≡◌, refl, sym, ap, subst, arith, ℕ, suc, ◌+◌, ◌-◌, ◌≤◌, max, inl, inr, List, [], ◌∷◌, ◌++◌, length, map, take}
+use Rattle.std.specs.Prelude.{Result, OnErr, OnOk}
 use Rattle.std.proofs.lemmas.List.{length-append, length-map}
+use Rattle.std.proofs.lemmas.Result.{on_err_weaker, on_ok_weaker}
+use Rattle.satl_base.proofs.OutcomeLemmas.{on_both, on_both_err}
 use Rattle.satl_base.specs.declared.bench.BenchEvent.{BenchEvent}
 use Rattle.satl_base.specs.declared.reply.Reply.{Reply}
 use Rattle.satl_base.specs.declared.reply.Response.{Response}
@@ -17,18 +20,42 @@ use Rattle.satl_direct.specs.Arrival.{Arrives}
 use Rattle.satl_direct.specs.Bench.{Happens}
 use Rattle.satl_direct.specs.Quiet.{Around}
 use Rattle.satl_direct.specs.Tasks.{task_of}
+use Rattle.satl_direct.specs.Device.{Device}
+use Rattle.satl_direct.specs.Turn.{Turn}
 use Rattle.satl_direct.specs.Run.{Does, Manages, MayLose, TurnsOf, depth}
 use Rattle.satl_direct.specs.Run.TurnsOf.{none, more}
 use Rattle.satl_core.specs.Layer.{Layer}
 use Rattle.satl_core.specs.Submitting.{IsCutOf}
 use Rattle.satl_step.specs.Telling.{IsTold, IsToldInPart, Telling}
-use Rattle.satl_step.specs.Events.{Carried, Done, DoneInPart, IsTallied, Scene, SomeTurnsTold, TurnTold, TurnToldInPart, TurnsTold}
+use Rattle.satl_step.specs.Events.{Carried, Done, DoneInPart, IsTallied, Scene, SomeTurnsTold, TurnsTold}
 use Rattle.satl_step.specs.Runs.{IsDeep, Stand}
+use Rattle.satl_step.specs.Serving.{Ends}
+use Rattle.satl_step.proofs.TallyLemmas.{end_tallied, turns_on, turns_start}
 use Rattle.satl_step.proofs.TellingLemmas.{part_before, part_one, told_more, told_none, told_one, told_part}
 
 pub map-append : (xs ys : List Reply) → map replied (xs ++ ys) ≡ map replied xs ++ map replied ys
 map-append [] ys = refl
 map-append (x ∷ xs) ys = ap (λ l. replied x ∷ l) (map-append xs ys)
+
+-- ---- one turn
+
+zero_turns : (n : ℕ) (s new : Device) (replies : List Reply) (deep : ℕ) → n ≡ 0 → TurnsOf n s replies new deep → (new ≡ s) × (replies ≡ []) × (deep ≡ 0)
+zero_turns n s new replies deep is none = (refl, refl, refl)
+zero_turns n s new replies deep is (more a step) = absurd (omega (arith, is))
+
+-- one turn, and the depth after it
+pub record OneTurn (s : Device) (replies : List Reply) (new : Device) (deep : ℕ) : Type 0 where
+  pub step : Around Turn s replies new
+  pub deep_is : deep ≡ max 0 (depth new)
+
+pub one_turn : (n : ℕ) (s new : Device) (replies : List Reply) (deep : ℕ) → n ≡ 1 → TurnsOf n s replies new deep → OneTurn s replies new deep
+one_turn n s new replies deep is none = absurd (omega (arith, is))
+one_turn n s new replies deep is (more {n = m} {mid = mid} {first = first} {rest = rest} a step) =
+    let z = zero_turns m s mid first _ (omega (arith, is)) a in
+    record {
+      step = subst (λ l. Around Turn s (l ++ rest) new) (sym z.1) (subst (λ x. Around Turn x rest new) z.0 step);
+      deep_is = ap (λ n. max n (depth new)) z.2;
+    }
 
 -- ---- whole events
 
@@ -127,55 +154,88 @@ module _ {T : Type 0} (told : T → Answer → List ℕ) (behind : T → Answer 
   -- ---- turns
 
   pub turns_none : (a : Scene T) → TurnsTold told behind 0 a a
-  turns_none a = record { replies = []; deep = 0; turns = none; covered = λ deep. omega arith; told_so = told_none told behind a.telling }
+  turns_none a = record { replies = []; deep = 0; turns = none; covered = λ deep. omega arith; tallied = turns_start a.stand; told_so = told_none told behind a.telling }
 
-  pub turns_more : (n : ℕ) (a b c : Scene T) → TurnsTold told behind n a b → TurnTold told behind b c → IsTallied (frames.Turn n) a.stand b.stand → IsTallied (frames.Turn 1) b.stand c.stand → TurnsTold told behind (n + 1) a c
-  turns_more n a b c first rest counted more_counted =
+  -- a turn that ended
+  pub turn_end : {X E : Type 0} (a c : Scene T) (replies : List Reply) (r : Result X E) → Around Turn a.stand.device replies c.stand.device → (IsDeep a.stand.tally → depth c.stand.device ≤ c.stand.tally.deepest) → IsTallied (frames.Turn 1) a.stand c.stand → OnOk r (IsTold told behind a.telling c.telling (map replied replies)) → OnErr r (1 ≤ length replies) → OnErr r (IsToldInPart told behind a.telling c.telling (map replied replies)) → Ends (TurnsTold told behind 1) (SomeTurnsTold told behind 1) a c r
+  turn_end a c replies r step covered tallied all some part = record {
+    whole = on_ok_weaker r (λ told_so. record {
+      replies = replies;
+      deep = max 0 (depth c.stand.device);
+      turns = more none step;
+      covered = λ deep. omega (arith, covered deep);
+      tallied = tallied;
+      told_so = told_so;
+    }) all;
+    part = on_both_err r _ _ _ (λ some told_so. record {
+      taken = 1;
+      some = omega arith;
+      most = omega arith;
+      replies = replies;
+      told_some = some;
+      deep = max 0 (depth c.stand.device);
+      turns = more none step;
+      tallied = tallied;
+      told_so = told_so;
+    }) some part;
+  }
+
+  pub turns_more : (n : ℕ) (a b c : Scene T) → TurnsTold told behind n a b → TurnsTold told behind 1 b c → TurnsTold told behind (n + 1) a c
+  turns_more n a b c first rest =
       let new = c.stand.device in
+      let turn = one_turn 1 b.stand.device new rest.replies rest.deep refl rest.turns in
       record {
         replies = first.replies ++ rest.replies;
         deep = max first.deep (depth new);
-        turns = subst (λ m. TurnsOf m a.stand.device (first.replies ++ rest.replies) new (max first.deep (depth new))) (omega arith) (more first.turns rest.step);
-        covered = λ deep. omega (arith, first.covered deep, rest.covered (counted.queue.covers deep), more_counted.queue.rises);
+        turns = subst (λ m. TurnsOf m a.stand.device (first.replies ++ rest.replies) new (max first.deep (depth new))) (omega arith) (more first.turns turn.step);
+        covered = λ deep. omega (arith, first.covered deep, rest.covered (first.tallied.queue.covers deep), turn.deep_is, rest.tallied.queue.rises);
+        tallied = turns_on n 1 (n + 1) a.stand b.stand c.stand first.tallied rest.tallied;
         told_so = subst (λ l. IsTold told behind a.telling c.telling l) (sym (map-append first.replies rest.replies)) (told_more told behind a.telling b.telling c.telling (map replied first.replies) (map replied rest.replies) first.told_so rest.told_so);
       }
 
-  pub turns_cut : (n count : ℕ) (a b c : Scene T) → n + 1 ≤ count → TurnsTold told behind n a b → TurnToldInPart told behind b c → SomeTurnsTold told behind count a c
+  pub turns_cut : (n count : ℕ) (a b c : Scene T) → n + 1 ≤ count → TurnsTold told behind n a b → SomeTurnsTold told behind 1 b c → SomeTurnsTold told behind count a c
   turns_cut n count a b c few first rest = record {
     taken = suc n;
     some = omega arith;
     most = omega (arith, few);
     replies = first.replies ++ rest.replies;
-    told_some = omega (arith, length-append first.replies rest.replies, rest.some);
+    told_some = omega (arith, length-append first.replies rest.replies, rest.told_some);
     deep = max first.deep (depth c.stand.device);
-    turns = more first.turns rest.step;
+    turns = more first.turns (one_turn rest.taken b.stand.device c.stand.device rest.replies rest.deep (omega (arith, rest.some, rest.most)) rest.turns).step;
+    tallied = turns_on n 1 count a.stand b.stand c.stand first.tallied rest.tallied;
     told_so = subst (λ l. IsToldInPart told behind a.telling c.telling l) (sym (map-append first.replies rest.replies)) (told_part told behind a.telling b.telling c.telling (map replied first.replies) (map replied rest.replies) first.told_so rest.told_so);
   }
 
   -- ---- whole events
 
   -- an event that is known
-  pub done_is : (event known : Frame) (a c : Scene T) → event ≡ known → Done told behind known a c → Done told behind event a c
-  done_is event known a c is done = subst (λ e. Done told behind e a c) (sym is) done
+  pub ends_is : {X E : Type 0} (event known : Frame) (a c : Scene T) (r : Result X E) → event ≡ known → Ends (Done told behind known) (DoneInPart told behind known) a c r → Ends (Done told behind event) (DoneInPart told behind event) a c r
+  ends_is event known a c r is ends = subst (λ e. Ends (Done told behind e) (DoneInPart told behind e) a c r) (sym is) ends
 
-  pub part_is : (event known : Frame) (a c : Scene T) → event ≡ known → DoneInPart told behind known a c → DoneInPart told behind event a c
-  part_is event known a c is done = subst (λ e. DoneInPart told behind e a c) (sym is) done
+  turns_done : (n : ℕ) (a c : Scene T) → TurnsTold told behind n a c → (IsDeep a.stand.tally → depth c.stand.device ≤ c.stand.tally.deepest) → Done told behind (frames.Turn n) a c
+  turns_done n a c turns last = record { answers = map replied turns.replies; carried = carried_turns n a.stand c.stand turns.replies turns.deep turns.turns turns.covered last; tallied = turns.tallied; told_so = turns.told_so }
 
-  pub turns_done : (n : ℕ) (a c : Scene T) → TurnsTold told behind n a c → (IsDeep a.stand.tally → depth c.stand.device ≤ c.stand.tally.deepest) → Done told behind (frames.Turn n) a c
-  turns_done n a c turns last = record { answers = map replied turns.replies; carried = carried_turns n a.stand c.stand turns.replies turns.deep turns.turns turns.covered last; told_so = turns.told_so }
-
-  pub turns_in_part : (n : ℕ) (a c : Scene T) → SomeTurnsTold told behind n a c → DoneInPart told behind (frames.Turn n) a c
+  turns_in_part : (n : ℕ) (a c : Scene T) → SomeTurnsTold told behind n a c → DoneInPart told behind (frames.Turn n) a c
   turns_in_part n a c turns = record {
     answers = map replied turns.replies;
     some = omega (arith, length-map turns.replies replied, turns.told_some);
     carried = inr (record { count = turns.taken; some = turns.some; asked = turns.most; replies = turns.replies; deep = turns.deep; turns = turns.turns; answer = refl });
+    tallied = turns.tallied;
     told_so = turns.told_so;
+  }
+
+  -- turns that ended, which were an event
+  pub turns_end : {X E : Type 0} (n : ℕ) (a c : Scene T) (r : Result X E) → Ends (TurnsTold told behind n) (SomeTurnsTold told behind n) a c r → OnOk r (depth c.stand.device ≤ c.stand.tally.outstanding) → Ends (Done told behind (frames.Turn n)) (DoneInPart told behind (frames.Turn n)) a c r
+  turns_end n a c r turns deep = record {
+    whole = on_both r _ _ _ (λ turns deep. turns_done n a c turns (λ before. omega (arith, deep, turns.tallied.queue.covers before))) turns.whole deep;
+    part = on_err_weaker r (turns_in_part n a c) turns.part;
   }
 
   pub end_done : (n : ℕ) (a b c : Scene T) → b.stand ≡ c.stand → c.stand.device.tasks ≡ [] → TurnsTold told behind n a b → Wrote b.telling.written c.telling.written (told b.telling.teller ended) → c.telling.teller ≡ behind b.telling.teller ended → Done told behind frames.End a c
   end_done n a b c same empty turns wrote next = record {
     answers = map replied turns.replies ++ ended ∷ [];
     carried = carried_end n a.stand c.stand turns.replies turns.deep (subst (λ s. TurnsOf n a.stand.device turns.replies s.device turns.deep) same turns.turns) (subst (λ s. IsDeep a.stand.tally → turns.deep ≤ s.tally.deepest) same turns.covered) empty;
+    tallied = end_tallied n a.stand c.stand (subst (λ s. IsTallied (frames.Turn n) a.stand s) same turns.tallied);
     told_so = told_more told behind a.telling b.telling c.telling (map replied turns.replies) (ended ∷ []) turns.told_so (told_one told behind b.telling c.telling ended wrote next);
   }
 
@@ -184,6 +244,7 @@ module _ {T : Type 0} (told : T → Answer → List ℕ) (behind : T → Answer 
     answers = map replied turns.replies ++ ended ∷ [];
     some = omega (arith, length-append (map replied turns.replies) (ended ∷ []));
     carried = inl (carried_end n a.stand c.stand turns.replies turns.deep (subst (λ s. TurnsOf n a.stand.device turns.replies s.device turns.deep) same turns.turns) (subst (λ s. IsDeep a.stand.tally → turns.deep ≤ s.tally.deepest) same turns.covered) empty);
+    tallied = end_tallied n a.stand c.stand (subst (λ s. IsTallied (frames.Turn n) a.stand s) same turns.tallied);
     told_so = told_part told behind a.telling b.telling c.telling (map replied turns.replies) (ended ∷ []) turns.told_so (part_one told behind b.telling c.telling ended part);
   }
 
@@ -192,45 +253,49 @@ module _ {T : Type 0} (told : T → Answer → List ℕ) (behind : T → Answer 
     answers = map replied turns.replies;
     some = omega (arith, length-map turns.replies replied, turns.told_some);
     carried = inr (record { count = turns.taken; some = turns.some; asked = tt; replies = turns.replies; deep = turns.deep; turns = turns.turns; answer = refl });
+    tallied = end_tallied n a.stand c.stand turns.tallied;
     told_so = turns.told_so;
   }
 
   -- an event whose answers are replies
-  pub replies_done : (event : Frame) (a c : Scene T) (replies : List Reply) → Carried event a.stand (map replied replies) c.stand → IsTold told behind a.telling c.telling (map replied replies) → Done told behind event a c
-  replies_done event a c replies carried told_so = record { answers = map replied replies; carried = carried; told_so = told_so }
-
-  pub replies_in_part : (event : Frame) (a c : Scene T) (replies : List Reply) → Carried event a.stand (map replied replies) c.stand → 1 ≤ length replies → IsToldInPart told behind a.telling c.telling (map replied replies) → DoneInPart told behind event a c
-  replies_in_part event a c replies carried some told_so = record { answers = map replied replies; some = omega (arith, length-map replies replied, some); carried = inl carried; told_so = told_so }
+  pub replies_end : {X E : Type 0} (event : Frame) (a c : Scene T) (replies : List Reply) (r : Result X E) → Carried event a.stand (map replied replies) c.stand → IsTallied event a.stand c.stand → OnOk r (IsTold told behind a.telling c.telling (map replied replies)) → OnErr r (1 ≤ length replies) → OnErr r (IsToldInPart told behind a.telling c.telling (map replied replies)) → Ends (Done told behind event) (DoneInPart told behind event) a c r
+  replies_end event a c replies r carried tallied all some part = record {
+    whole = on_ok_weaker r (λ told_so. record { answers = map replied replies; carried = carried; tallied = tallied; told_so = told_so }) all;
+    part = on_both_err r _ _ _ (λ some told_so. record { answers = map replied replies; some = omega (arith, length-map replies replied, some); carried = inl carried; tallied = tallied; told_so = told_so }) some part;
+  }
 
   -- a task management function, whose response is told behind replies
-  pub manage_done : (m : Manage) (response : Response) (a c : Scene T) (b : Telling T) (replies : List Reply) → Around (MayLose (Manages m response)) a.stand.device replies c.stand.device → (IsDeep a.stand.tally → depth c.stand.device ≤ c.stand.tally.deepest) → IsTold told behind a.telling b (map replied replies) → Wrote b.written c.telling.written (told b.teller (managed m.nexus m.function response m.tag)) → c.telling.teller ≡ behind b.teller (managed m.nexus m.function response m.tag) →
+  pub manage_done : (m : Manage) (response : Response) (a c : Scene T) (b : Telling T) (replies : List Reply) → Around (MayLose (Manages m response)) a.stand.device replies c.stand.device → (IsDeep a.stand.tally → depth c.stand.device ≤ c.stand.tally.deepest) → IsTallied (frames.Manage m) a.stand c.stand → IsTold told behind a.telling b (map replied replies) → Wrote b.written c.telling.written (told b.teller (managed m.nexus m.function response m.tag)) → c.telling.teller ≡ behind b.teller (managed m.nexus m.function response m.tag) →
       Done told behind (frames.Manage m) a c
-  manage_done m response a c b replies step covered told_so wrote next =
+  manage_done m response a c b replies step covered tallied told_so wrote next =
       let last = managed m.nexus m.function response m.tag in
       record {
         answers = map replied replies ++ last ∷ [];
         carried = carried_manage m response a.stand c.stand replies step covered;
+        tallied = tallied;
         told_so = told_more told behind a.telling b c.telling (map replied replies) (last ∷ []) told_so (told_one told behind b c.telling last wrote next);
       }
 
-  pub manage_in_part : (m : Manage) (response : Response) (a c : Scene T) (b : Telling T) (replies : List Reply) → Around (MayLose (Manages m response)) a.stand.device replies c.stand.device → (IsDeep a.stand.tally → depth c.stand.device ≤ c.stand.tally.deepest) → IsTold told behind a.telling b (map replied replies) → WrotePart b.written c.telling.written (told b.teller (managed m.nexus m.function response m.tag)) →
+  pub manage_in_part : (m : Manage) (response : Response) (a c : Scene T) (b : Telling T) (replies : List Reply) → Around (MayLose (Manages m response)) a.stand.device replies c.stand.device → (IsDeep a.stand.tally → depth c.stand.device ≤ c.stand.tally.deepest) → IsTallied (frames.Manage m) a.stand c.stand → IsTold told behind a.telling b (map replied replies) → WrotePart b.written c.telling.written (told b.teller (managed m.nexus m.function response m.tag)) →
       DoneInPart told behind (frames.Manage m) a c
-  manage_in_part m response a c b replies step covered told_so part =
+  manage_in_part m response a c b replies step covered tallied told_so part =
       let last = managed m.nexus m.function response m.tag in
       record {
         answers = map replied replies ++ last ∷ [];
         some = omega (arith, length-append (map replied replies) (last ∷ []));
         carried = inl (carried_manage m response a.stand c.stand replies step covered);
+        tallied = tallied;
         told_so = told_part told behind a.telling b c.telling (map replied replies) (last ∷ []) told_so (part_one told behind b c.telling last part);
       }
 
   -- a write failed before the response
-  pub manage_before : (m : Manage) (response : Response) (a c : Scene T) (replies : List Reply) → Around (MayLose (Manages m response)) a.stand.device replies c.stand.device → (IsDeep a.stand.tally → depth c.stand.device ≤ c.stand.tally.deepest) → IsToldInPart told behind a.telling c.telling (map replied replies) → DoneInPart told behind (frames.Manage m) a c
-  manage_before m response a c replies step covered part =
+  pub manage_before : (m : Manage) (response : Response) (a c : Scene T) (replies : List Reply) → Around (MayLose (Manages m response)) a.stand.device replies c.stand.device → (IsDeep a.stand.tally → depth c.stand.device ≤ c.stand.tally.deepest) → IsTallied (frames.Manage m) a.stand c.stand → IsToldInPart told behind a.telling c.telling (map replied replies) → DoneInPart told behind (frames.Manage m) a c
+  manage_before m response a c replies step covered tallied part =
       let last = managed m.nexus m.function response m.tag in
       record {
         answers = map replied replies ++ last ∷ [];
         some = omega (arith, length-append (map replied replies) (last ∷ []));
         carried = inl (carried_manage m response a.stand c.stand replies step covered);
+        tallied = tallied;
         told_so = part_before told behind a.telling c.telling (map replied replies) (last ∷ []) part;
       }

@@ -22,7 +22,7 @@ use Rattle.satl_direct.specs.Run.{joined}
 use Rattle.satl_direct.proofs.Quieting.{joined-push}
 use Rattle.satl_base.specs.Limits.{IsExpectable}
 use Rattle.satl_core.specs.Submitting.{CanSubmit}
-use Rattle.satl_step.specs.Events.{CanTake, Done, DoneInPart, IsTallied}
+use Rattle.satl_step.specs.Events.{CanTake, Done, DoneInPart}
 use Rattle.satl_step.specs.Loop.{Ended, Going, HasGiven, SoFar, Stage, StoppedInAnswers, is_end, place_offset}
 use Rattle.satl_step.specs.Runs.{is_request, requests_in}
 use Rattle.satl_step.specs.Telling.{IsTold}
@@ -139,37 +139,37 @@ module _ {T : Type 0} (told : T → Answer → List ℕ) (behind : T → Answer 
 
   -- one frame more
   module _ (a b c : Stage T) (n m room : ℕ) (frame : Frame) where
-    so_far_more : Going told behind a b n → (gave : Gave b.reader room frame c.reader b.left c.left) → Done told behind frame b.scene c.scene → IsTallied frame b.scene.stand c.scene.stand → m ≡ min (n + requests_in (frame ∷ [])) (2 ^ 64 - 1) → SoFar told behind a c m
-    so_far_more going gave done tallied count =
+    so_far_more : Going told behind a b n → (gave : Gave b.reader room frame c.reader b.left c.left) → Done told behind frame b.scene c.scene → m ≡ min (n + requests_in (frame ∷ [])) (2 ^ 64 - 1) → SoFar told behind a c m
+    so_far_more going gave done count =
         let so_far = going.so_far in
         record {
           events = so_far.events ++ gave.whole ∷ [];
           groups = so_far.groups ++ done.answers ∷ [];
           given = given_more a b c n room frame going gave;
           told_so = subst (λ l. IsTold told behind a.scene.telling c.scene.telling l) (sym (joined-push so_far.groups done.answers)) (told_more told behind a.scene.telling b.scene.telling c.scene.telling (joined so_far.groups) done.answers so_far.told_so done.told_so);
-          run = run_more a.scene.stand b.scene.stand c.scene.stand so_far.events so_far.groups frame gave.whole done.answers so_far.run (record { room = room; cut = gave.cut }) done.carried tallied;
+          run = run_more a.scene.stand b.scene.stand c.scene.stand so_far.events so_far.groups frame gave.whole done.answers so_far.run (record { room = room; cut = gave.cut }) done.carried done.tallied;
           requests_are = omega (arith, count, so_far.requests_are, how_many-push is_request so_far.events gave.whole, request_whole room frame gave.whole gave.cut);
         }
 
-    pub going_more : is_end frame ≡ false → Going told behind a b n → (gave : Gave b.reader room frame c.reader b.left c.left) → Done told behind frame b.scene c.scene → IsTallied frame b.scene.stand c.scene.stand → m ≡ min (n + requests_in (frame ∷ [])) (2 ^ 64 - 1) → Going told behind a c m
+    pub going_more : is_end frame ≡ false → Going told behind a b n → (gave : Gave b.reader room frame c.reader b.left c.left) → Done told behind frame b.scene c.scene → m ≡ min (n + requests_in (frame ∷ [])) (2 ^ 64 - 1) → Going told behind a c m
     unfolding so_far_more
-    going_more other going gave done tallied count = record {
-      so_far = so_far_more going gave done tallied count;
+    going_more other going gave done count = record {
+      so_far = so_far_more going gave done count;
       none_ends = All-append (λ f. f ≡ frames.End → ⊥) going.so_far.events (gave.whole ∷ []) going.none_ends (not_end room frame gave.whole gave.cut other, tt);
     }
 
     -- the last one is END
-    pub ended : is_end frame ≡ true → Going told behind a b n → (gave : Gave b.reader room frame c.reader b.left c.left) → Done told behind frame b.scene c.scene → IsTallied frame b.scene.stand c.scene.stand → m ≡ min (n + requests_in (frame ∷ [])) (2 ^ 64 - 1) → Ended told behind a c m
+    pub ended : is_end frame ≡ true → Going told behind a b n → (gave : Gave b.reader room frame c.reader b.left c.left) → Done told behind frame b.scene c.scene → m ≡ min (n + requests_in (frame ∷ [])) (2 ^ 64 - 1) → Ended told behind a c m
     unfolding so_far_more
-    ended last going gave done tallied count = record {
-      so_far = so_far_more going gave done tallied count;
+    ended last going gave done count = record {
+      so_far = so_far_more going gave done count;
       earlier = going.so_far.events;
       ends = ap (λ f. going.so_far.events ++ f ∷ []) (is_the_end room frame gave.whole gave.cut last);
     }
 
     -- the last one was told in part
-    pub part_more : Going told behind a b n → (gave : Gave b.reader room frame c.reader b.left c.left) → DoneInPart told behind frame b.scene c.scene → IsTallied frame b.scene.stand c.scene.stand → StoppedInAnswers told behind a c
-    part_more going gave done tallied = record {
+    pub part_more : Going told behind a b n → (gave : Gave b.reader room frame c.reader b.left c.left) → DoneInPart told behind frame b.scene c.scene → StoppedInAnswers told behind a c
+    part_more going gave done = record {
       mid = b;
       requests = n;
       going = going;
@@ -177,5 +177,5 @@ module _ {T : Type 0} (told : T → Answer → List ℕ) (behind : T → Answer 
       answers = done.answers;
       given = given_more a b c n room frame going gave;
       told_so = done.told_so;
-      run = run_cut a.scene.stand b.scene.stand c.scene.stand going.so_far.events going.so_far.groups frame gave.whole done.answers going.so_far.run (record { room = room; cut = gave.cut }) done.carried tallied;
+      run = run_cut a.scene.stand b.scene.stand c.scene.stand going.so_far.events going.so_far.groups frame gave.whole done.answers going.so_far.run (record { room = room; cut = gave.cut }) done.carried done.tallied;
     }

@@ -8,9 +8,7 @@ use Rattle.satl_frame.specs.Output.{Answer}
 use Rattle.satl_frame.specs.Output.Answer.{replied}
 use Rattle.satl_frame.specs.Pulls.{cut_to}
 use Rattle.satl_drive.specs.State.{DriveState}
-use Rattle.satl_direct.specs.Quiet.{Around}
-use Rattle.satl_direct.specs.Turn.{Turn}
-use Rattle.satl_direct.specs.Run.{Does, TurnsOf, depth, losses_in}
+use Rattle.satl_direct.specs.Run.{Does, TurnsOf, losses_in}
 use Rattle.satl_core.specs.Benching.{unplugs_after}
 use Rattle.satl_core.specs.Layer.{Layer}
 use Rattle.satl_core.specs.Submitting.{CanSubmit}
@@ -48,21 +46,6 @@ pub record Carried (event : Frame) (before : Stand) (answers : List Answer) (aft
   pub does : (whole : Frame) → IsWholeOf event whole → Does whole before.device answers after.device deep
   pub covered : IsDeep before.tally → deep ≤ after.tally.deepest
 
--- an event was carried out, and its answers were told (profile)
-pub record Done {T : Type 0} (told : T → Answer → List ℕ) (behind : T → Answer → T) (event : Frame)
-    (before after : Scene T) : Type 0 where
-  pub answers : List Answer
-  pub carried : Carried event before.stand answers after.stand
-  pub told_so : IsTold told behind before.telling after.telling answers
-
--- an event was carried out or cut short, and of its answers, one at least, a front was told (profile)
-pub record DoneInPart {T : Type 0} (told : T → Answer → List ℕ) (behind : T → Answer → T) (event : Frame)
-    (before after : Scene T) : Type 0 where
-  pub answers : List Answer
-  pub some : 1 ≤ length answers
-  pub carried : Carried event before.stand answers after.stand ⊎ DoesShort event before.stand.device answers after.stand.device
-  pub told_so : IsToldInPart told behind before.telling after.telling answers
-
 -- how often the drive was unplugged behind an event (profile)
 abbrev pub unplugs_behind : Frame → ℕ → ℕ
 unplugs_behind (frames.Request r) before = before
@@ -80,33 +63,36 @@ pub record IsTallied (event : Frame) (before after : Stand) : Type 0 where
       ≤ before.tally.calls + turn_calls * length before.device.tasks + calls_allowed (event ∷ [])
   pub queue : Covers before.tally after.tally
 
+-- an event was carried out and counted, and its answers were told (profile)
+pub record Done {T : Type 0} (told : T → Answer → List ℕ) (behind : T → Answer → T) (event : Frame)
+    (before after : Scene T) : Type 0 where
+  pub answers : List Answer
+  pub carried : Carried event before.stand answers after.stand
+  pub tallied : IsTallied event before.stand after.stand
+  pub told_so : IsTold told behind before.telling after.telling answers
+
+-- an event was carried out or cut short, and counted, and of its answers, one at least, a front was told (profile)
+pub record DoneInPart {T : Type 0} (told : T → Answer → List ℕ) (behind : T → Answer → T) (event : Frame)
+    (before after : Scene T) : Type 0 where
+  pub answers : List Answer
+  pub some : 1 ≤ length answers
+  pub carried : Carried event before.stand answers after.stand ⊎ DoesShort event before.stand.device answers after.stand.device
+  pub tallied : IsTallied event before.stand after.stand
+  pub told_so : IsToldInPart told behind before.telling after.telling answers
+
 -- ---- turns
 
--- a turn was taken and told (profile)
-pub record TurnTold {T : Type 0} (told : T → Answer → List ℕ) (behind : T → Answer → T) (before after : Scene T) : Type 0 where
-  pub replies : List Reply
-  pub step : Around Turn before.stand.device replies after.stand.device
-  pub covered : IsDeep before.stand.tally → depth after.stand.device ≤ after.stand.tally.deepest
-  pub told_so : IsTold told behind before.telling after.telling (map replied replies)
-
--- a turn was taken, and told in part (profile)
-pub record TurnToldInPart {T : Type 0} (told : T → Answer → List ℕ) (behind : T → Answer → T)
-    (before after : Scene T) : Type 0 where
-  pub replies : List Reply
-  pub some : 1 ≤ length replies
-  pub step : Around Turn before.stand.device replies after.stand.device
-  pub told_so : IsToldInPart told behind before.telling after.telling (map replied replies)
-
--- so many turns were taken and told (profile)
+-- so many turns were taken, counted and told (profile)
 pub record TurnsTold {T : Type 0} (told : T → Answer → List ℕ) (behind : T → Answer → T) (count : ℕ)
     (before after : Scene T) : Type 0 where
   pub replies : List Reply
   pub deep : ℕ
   pub turns : TurnsOf count before.stand.device replies after.stand.device deep
   pub covered : IsDeep before.stand.tally → deep ≤ after.stand.tally.deepest
+  pub tallied : IsTallied (frames.Turn count) before.stand after.stand
   pub told_so : IsTold told behind before.telling after.telling (map replied replies)
 
--- some of so many turns were taken, and told in part (profile)
+-- some of so many turns were taken and counted, and told in part (profile)
 pub record SomeTurnsTold {T : Type 0} (told : T → Answer → List ℕ) (behind : T → Answer → T) (count : ℕ)
     (before after : Scene T) : Type 0 where
   pub taken : ℕ
@@ -116,4 +102,5 @@ pub record SomeTurnsTold {T : Type 0} (told : T → Answer → List ℕ) (behind
   pub told_some : 1 ≤ length replies
   pub deep : ℕ
   pub turns : TurnsOf taken before.stand.device replies after.stand.device deep
+  pub tallied : IsTallied (frames.Turn count) before.stand after.stand
   pub told_so : IsToldInPart told behind before.telling after.telling (map replied replies)

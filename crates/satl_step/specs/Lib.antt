@@ -1,4 +1,5 @@
 pub mod Events
 pub mod Loop
 pub mod Runs
+pub mod Serving
 pub mod Telling

@@ -1,5 +1,5 @@
 -- The frames of an input, carried out on one unit (profile).
-use Rattle.std.specs.Prelude.{◌≡◌, ℕ, ◌-◌, ◌^◌, min, Bool, true, false, List, [], ◌∷◌, ◌++◌, Option, None, Some}
+use Rattle.std.specs.Prelude.{◌≡◌, ℕ, ◌-◌, ◌^◌, min, Bool, true, false, List, [], ◌∷◌, ◌++◌, Option, None, Some, Result, IfErr, IfOk}
 use Rattle.satl_io.specs.Causes.{Rose}
 use Rattle.satl_frame.specs.declared.frames.Frame.{Frame}
 use Rattle.satl_frame.specs.declared.frames.Frame.TheVariants as frames
@@ -35,6 +35,9 @@ pub record Stage (T : Type 0) : Type 0 where
   pub reader : Reading
   pub left : Option (List ℕ)
   pub scene : Scene T
+
+abbrev pub stage_of : {T : Type 0} → Reading → Option (List ℕ) → Scene T → Stage T
+stage_of reader left scene = record { reader = reader; left = left; scene = scene }
 
 -- the number of requests, which stands still at 2^64 - 1 (profile)
 abbrev pub counted_requests : List Frame → ℕ
@@ -96,6 +99,13 @@ pub record StoppedInAnswers {T : Type 0} (told : T → Answer → List ℕ) (beh
 abbrev pub StoppedSo : {T : Type 0} → (T → Answer → List ℕ) → (T → Answer → T) → Stage T → Stage T → Stop → Type 0
 StoppedSo told behind before after (stops.Refused why) = Refused told behind before after why
 StoppedSo told behind before after stops.Write = StoppedInAnswers told behind before after
+
+-- frames were carried out, by the result: up to END, so many of them requests, or up to where they are carried out no further
+-- (profile)
+pub record Ran {T : Type 0} (told : T → Answer → List ℕ) (behind : T → Answer → T) (before after : Stage T)
+    (result : Result ℕ Stop) : Type 0 where
+  pub ended : IfOk result (Ended told behind before after)
+  pub stopped : IfErr result (StoppedSo told behind before after)
 
 -- a read fault comes only where the source's count rose, and a write fault only where the sink's did (profile)
 abbrev pub HasStopCause : ℕ → ℕ → ℕ → ℕ → Stop → Type 0

@@ -1,11 +1,8 @@
 // One event on one unit.
-ghost use Rattle.std.specs.Prelude.{◌≡◌, [], OnErr, OnOk};
 ghost use Rattle.satl_io.specs.Causes.{HasCause};
 ghost use Rattle.satl_frame.specs.declared.frames.Frame.{Frame};
-ghost use Rattle.satl_core.specs.Layer.{Tied};
-ghost use Rattle.satl_core.specs.Submitting.{CanSubmit};
-ghost use Rattle.satl_step.specs.Runs.{stand_of};
-ghost use Rattle.satl_step.specs.Events.{CanTake, Done, DoneInPart, IsTallied, scene_of};
+ghost use Rattle.satl_step.specs.Events.{Done, DoneInPart, scene_of};
+ghost use Rattle.satl_step.specs.Serving.{CanServe, Ends, Leaves};
 
 use crate::queue::see_queue;
 use crate::replies::tell_replies;
@@ -28,20 +25,11 @@ fn serve_request<T: Teller, K: Sink, D: Drive, L: Ledger>(
     replies: &mut Replies,
     steps: &mut Steps<L>,
 ) -> Result<(), WriteFault>
-    requires tied { Tied satl.old (D.state drive.old) }
-    requires can { CanSubmit request satl.old.free satl.old.out }
-    requires none { replies.old ≡ [] }
-    ensures tied { Tied satl.new (D.state drive.new) }
-    ensures all_in { OnOk result (satl.new.out ≡ 0) }
-    ensures none { OnOk result (replies.new ≡ []) }
-    ensures done { OnOk result (Done T.told T.behind (Frame.Request request)
+    requires can { CanServe (Frame.Request request) satl.old (D.state drive.old) replies.old }
+    ensures done { Ends (Done T.told T.behind (Frame.Request request)) (DoneInPart T.told T.behind (Frame.Request request))
         (scene_of satl.old (D.state drive.old) steps.old teller.old (K.written sink.old))
-        (scene_of satl.new (D.state drive.new) steps.new teller.new (K.written sink.new))) }
-    ensures part { OnErr result (DoneInPart T.told T.behind (Frame.Request request)
-        (scene_of satl.old (D.state drive.old) steps.old teller.old (K.written sink.old))
-        (scene_of satl.new (D.state drive.new) steps.new teller.new (K.written sink.new))) }
-    ensures tallied { IsTallied (Frame.Request request) (stand_of satl.old (D.state drive.old) steps.old)
-        (stand_of satl.new (D.state drive.new) steps.new) }
+        (scene_of satl.new (D.state drive.new) steps.new teller.new (K.written sink.new)) result }
+    ensures leaves { Leaves satl.new (D.state drive.new) replies.new result }
     ensures cause { HasCause (K.faults sink.old) (K.faults sink.new) result }
 {
     satl.submit(request, drive, replies, steps);
@@ -59,20 +47,11 @@ fn serve_manage<T: Teller, K: Sink, D: Drive, L: Ledger>(
     replies: &mut Replies,
     steps: &mut Steps<L>,
 ) -> Result<(), WriteFault>
-    requires tied { Tied satl.old (D.state drive.old) }
-    requires all_in { satl.old.out ≡ 0 }
-    requires none { replies.old ≡ [] }
-    ensures tied { Tied satl.new (D.state drive.new) }
-    ensures all_in { OnOk result (satl.new.out ≡ 0) }
-    ensures none { OnOk result (replies.new ≡ []) }
-    ensures done { OnOk result (Done T.told T.behind (Frame.Manage manage)
+    requires can { CanServe (Frame.Manage manage) satl.old (D.state drive.old) replies.old }
+    ensures done { Ends (Done T.told T.behind (Frame.Manage manage)) (DoneInPart T.told T.behind (Frame.Manage manage))
         (scene_of satl.old (D.state drive.old) steps.old teller.old (K.written sink.old))
-        (scene_of satl.new (D.state drive.new) steps.new teller.new (K.written sink.new))) }
-    ensures part { OnErr result (DoneInPart T.told T.behind (Frame.Manage manage)
-        (scene_of satl.old (D.state drive.old) steps.old teller.old (K.written sink.old))
-        (scene_of satl.new (D.state drive.new) steps.new teller.new (K.written sink.new))) }
-    ensures tallied { IsTallied (Frame.Manage manage) (stand_of satl.old (D.state drive.old) steps.old)
-        (stand_of satl.new (D.state drive.new) steps.new) }
+        (scene_of satl.new (D.state drive.new) steps.new teller.new (K.written sink.new)) result }
+    ensures leaves { Leaves satl.new (D.state drive.new) replies.new result }
     ensures cause { HasCause (K.faults sink.old) (K.faults sink.new) result }
 {
     let response = satl.manage(&manage, drive, replies, steps);
@@ -91,20 +70,11 @@ fn serve_bench<T: Teller, K: Sink, D: Bench, L: Ledger>(
     replies: &mut Replies,
     steps: &mut Steps<L>,
 ) -> Result<(), WriteFault>
-    requires tied { Tied satl.old (D.state drive.old) }
-    requires all_in { satl.old.out ≡ 0 }
-    requires none { replies.old ≡ [] }
-    ensures tied { Tied satl.new (D.state drive.new) }
-    ensures all_in { OnOk result (satl.new.out ≡ 0) }
-    ensures none { OnOk result (replies.new ≡ []) }
-    ensures done { OnOk result (Done T.told T.behind (Frame.Bench event)
+    requires can { CanServe (Frame.Bench event) satl.old (D.state drive.old) replies.old }
+    ensures done { Ends (Done T.told T.behind (Frame.Bench event)) (DoneInPart T.told T.behind (Frame.Bench event))
         (scene_of satl.old (D.state drive.old) steps.old teller.old (K.written sink.old))
-        (scene_of satl.new (D.state drive.new) steps.new teller.new (K.written sink.new))) }
-    ensures part { OnErr result (DoneInPart T.told T.behind (Frame.Bench event)
-        (scene_of satl.old (D.state drive.old) steps.old teller.old (K.written sink.old))
-        (scene_of satl.new (D.state drive.new) steps.new teller.new (K.written sink.new))) }
-    ensures tallied { IsTallied (Frame.Bench event) (stand_of satl.old (D.state drive.old) steps.old)
-        (stand_of satl.new (D.state drive.new) steps.new) }
+        (scene_of satl.new (D.state drive.new) steps.new teller.new (K.written sink.new)) result }
+    ensures leaves { Leaves satl.new (D.state drive.new) replies.new result }
     ensures cause { HasCause (K.faults sink.old) (K.faults sink.new) result }
 {
     satl.bench(&event, drive, replies, steps);
@@ -124,20 +94,11 @@ pub fn serve_event<T: Teller, K: Sink, D: Bench, L: Ledger>(
     replies: &mut Replies,
     steps: &mut Steps<L>,
 ) -> Result<(), WriteFault>
-    requires tied { Tied satl.old (D.state drive.old) }
-    requires can { CanTake event satl.old.free satl.old.out }
-    requires none { replies.old ≡ [] }
-    ensures tied { Tied satl.new (D.state drive.new) }
-    ensures all_in { OnOk result (satl.new.out ≡ 0) }
-    ensures none { OnOk result (replies.new ≡ []) }
-    ensures done { OnOk result (Done T.told T.behind event
+    requires can { CanServe event satl.old (D.state drive.old) replies.old }
+    ensures done { Ends (Done T.told T.behind event) (DoneInPart T.told T.behind event)
         (scene_of satl.old (D.state drive.old) steps.old teller.old (K.written sink.old))
-        (scene_of satl.new (D.state drive.new) steps.new teller.new (K.written sink.new))) }
-    ensures part { OnErr result (DoneInPart T.told T.behind event
-        (scene_of satl.old (D.state drive.old) steps.old teller.old (K.written sink.old))
-        (scene_of satl.new (D.state drive.new) steps.new teller.new (K.written sink.new))) }
-    ensures tallied { IsTallied event (stand_of satl.old (D.state drive.old) steps.old)
-        (stand_of satl.new (D.state drive.new) steps.new) }
+        (scene_of satl.new (D.state drive.new) steps.new teller.new (K.written sink.new)) result }
+    ensures leaves { Leaves satl.new (D.state drive.new) replies.new result }
     ensures cause { HasCause (K.faults sink.old) (K.faults sink.new) result }
 {
     match event {

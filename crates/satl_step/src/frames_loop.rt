@@ -1,8 +1,8 @@
 // The loop over the frames of an input, for one unit.
-ghost use Rattle.std.specs.Prelude.{◌≡◌, ◌≤◌, ◌+◌, ◌-◌, ◌^◌, min, [], ◌∷◌, None, IfErr, IfOk};
+ghost use Rattle.std.specs.Prelude.{◌≡◌, ◌≤◌, ◌+◌, ◌-◌, ◌^◌, min, [], ◌∷◌, None, IfErr};
 ghost use Rattle.satl_core.specs.Layer.{Tied};
 ghost use Rattle.satl_step.specs.Events.{scene_of};
-ghost use Rattle.satl_step.specs.Loop.{Ended, HasStopCause, StoppedSo, is_end};
+ghost use Rattle.satl_step.specs.Loop.{HasStopCause, Ran, is_end, stage_of};
 ghost use Rattle.satl_step.specs.Runs.{requests_in};
 
 use crate::events::serve_event;
@@ -63,28 +63,11 @@ pub fn serve_frames<S: Source, T: Teller, K: Sink, D: Bench, L: Ledger>(
     requires fresh { reader.old.refused ≡ None }
     requires unread { reader.old.place ≡ None }
     ensures tied { Tied satl.new (D.state drive.new) }
-    ensures ended { IfOk result (Ended T.told T.behind
-        (record {
-          reader = reader.old;
-          left = S.left source.old;
-          scene = scene_of satl.old (D.state drive.old) steps.old teller.old (K.written sink.old);
-        })
-        (record {
-          reader = reader.new;
-          left = S.left source.new;
-          scene = scene_of satl.new (D.state drive.new) steps.new teller.new (K.written sink.new);
-        })) }
-    ensures stopped { IfErr result (StoppedSo T.told T.behind
-        (record {
-          reader = reader.old;
-          left = S.left source.old;
-          scene = scene_of satl.old (D.state drive.old) steps.old teller.old (K.written sink.old);
-        })
-        (record {
-          reader = reader.new;
-          left = S.left source.new;
-          scene = scene_of satl.new (D.state drive.new) steps.new teller.new (K.written sink.new);
-        })) }
+    ensures ran { Ran T.told T.behind
+        (stage_of reader.old (S.left source.old)
+        (scene_of satl.old (D.state drive.old) steps.old teller.old (K.written sink.old)))
+        (stage_of reader.new (S.left source.new)
+        (scene_of satl.new (D.state drive.new) steps.new teller.new (K.written sink.new))) result }
     ensures causes { IfErr result (HasStopCause (S.faults source.old) (S.faults source.new) (K.faults sink.old)
         (K.faults sink.new)) }
     ensures later { K.faults sink.old ≤ K.faults sink.new }

@@ -1,11 +1,11 @@
 // Turns, and the end of an input.
-ghost use Rattle.std.specs.Prelude.{◌≡◌, ◌≤◌, ◌-◌, [], OnErr, OnOk, length};
+ghost use Rattle.std.specs.Prelude.{◌≤◌, ◌-◌, OnOk, length};
 ghost use Rattle.satl_io.specs.Causes.{HasCause};
 ghost use Rattle.satl_frame.specs.declared.frames.Frame.{Frame};
 ghost use Rattle.satl_direct.specs.Run.{depth};
-ghost use Rattle.satl_core.specs.Layer.{Tied, view};
-ghost use Rattle.satl_step.specs.Runs.{stand_of};
-ghost use Rattle.satl_step.specs.Events.{Done, DoneInPart, IsTallied, SomeTurnsTold, TurnTold, TurnToldInPart, TurnsTold, scene_of};
+ghost use Rattle.satl_core.specs.Layer.{view};
+ghost use Rattle.satl_step.specs.Events.{Done, DoneInPart, SomeTurnsTold, TurnsTold, scene_of};
+ghost use Rattle.satl_step.specs.Serving.{CanServe, Ends, Leaves};
 
 use crate::queue::see_queue;
 use crate::replies::tell_replies;
@@ -26,21 +26,12 @@ fn serve_turn<T: Teller, K: Sink, D: Drive, L: Ledger>(
     replies: &mut Replies,
     steps: &mut Steps<L>,
 ) -> Result<(), WriteFault>
-    requires tied { Tied satl.old (D.state drive.old) }
-    requires all_in { satl.old.out ≡ 0 }
-    requires none { replies.old ≡ [] }
-    ensures tied { Tied satl.new (D.state drive.new) }
-    ensures all_in { OnOk result (satl.new.out ≡ 0) }
-    ensures none { OnOk result (replies.new ≡ []) }
-    ensures told { OnOk result (TurnTold T.told T.behind
+    requires can { CanServe (Frame.Turn 1) satl.old (D.state drive.old) replies.old }
+    ensures turns { Ends (TurnsTold T.told T.behind 1) (SomeTurnsTold T.told T.behind 1)
         (scene_of satl.old (D.state drive.old) steps.old teller.old (K.written sink.old))
-        (scene_of satl.new (D.state drive.new) steps.new teller.new (K.written sink.new))) }
-    ensures part { OnErr result (TurnToldInPart T.told T.behind
-        (scene_of satl.old (D.state drive.old) steps.old teller.old (K.written sink.old))
-        (scene_of satl.new (D.state drive.new) steps.new teller.new (K.written sink.new))) }
+        (scene_of satl.new (D.state drive.new) steps.new teller.new (K.written sink.new)) result }
+    ensures leaves { Leaves satl.new (D.state drive.new) replies.new result }
     ensures fewer { length satl.new.tasks ≤ length satl.old.tasks - 1 }
-    ensures tallied { IsTallied (Frame.Turn 1) (stand_of satl.old (D.state drive.old) steps.old)
-        (stand_of satl.new (D.state drive.new) steps.new) }
     ensures cause { HasCause (K.faults sink.old) (K.faults sink.new) result }
 {
     satl.turn(drive, replies, steps);
@@ -58,22 +49,13 @@ pub fn serve_turns<T: Teller, K: Sink, D: Drive, L: Ledger>(
     replies: &mut Replies,
     steps: &mut Steps<L>,
 ) -> Result<(), WriteFault>
-    requires tied { Tied satl.old (D.state drive.old) }
-    requires all_in { satl.old.out ≡ 0 }
-    requires none { replies.old ≡ [] }
-    ensures tied { Tied satl.new (D.state drive.new) }
-    ensures all_in { OnOk result (satl.new.out ≡ 0) }
-    ensures none { OnOk result (replies.new ≡ []) }
-    ensures told { OnOk result (TurnsTold T.told T.behind count
+    requires can { CanServe (Frame.Turn count) satl.old (D.state drive.old) replies.old }
+    ensures turns { Ends (TurnsTold T.told T.behind count) (SomeTurnsTold T.told T.behind count)
         (scene_of satl.old (D.state drive.old) steps.old teller.old (K.written sink.old))
-        (scene_of satl.new (D.state drive.new) steps.new teller.new (K.written sink.new))) }
-    ensures part { OnErr result (SomeTurnsTold T.told T.behind count
-        (scene_of satl.old (D.state drive.old) steps.old teller.old (K.written sink.old))
-        (scene_of satl.new (D.state drive.new) steps.new teller.new (K.written sink.new))) }
+        (scene_of satl.new (D.state drive.new) steps.new teller.new (K.written sink.new)) result }
+    ensures leaves { Leaves satl.new (D.state drive.new) replies.new result }
     ensures fewer { OnOk result (length satl.new.tasks ≤ length satl.old.tasks - count) }
     ensures deep { OnOk result (depth (view satl.new (D.state drive.new)) ≤ length (D.state drive.new).outstanding) }
-    ensures tallied { IsTallied (Frame.Turn count) (stand_of satl.old (D.state drive.old) steps.old)
-        (stand_of satl.new (D.state drive.new) steps.new) }
     ensures cause { HasCause (K.faults sink.old) (K.faults sink.new) result }
 {
     for _ in 0..count {
@@ -92,20 +74,11 @@ pub fn serve_end<T: Teller, K: Sink, D: Drive, L: Ledger>(
     replies: &mut Replies,
     steps: &mut Steps<L>,
 ) -> Result<(), WriteFault>
-    requires tied { Tied satl.old (D.state drive.old) }
-    requires all_in { satl.old.out ≡ 0 }
-    requires none { replies.old ≡ [] }
-    ensures tied { Tied satl.new (D.state drive.new) }
-    ensures all_in { OnOk result (satl.new.out ≡ 0) }
-    ensures none { OnOk result (replies.new ≡ []) }
-    ensures done { OnOk result (Done T.told T.behind Frame.End
+    requires can { CanServe Frame.End satl.old (D.state drive.old) replies.old }
+    ensures done { Ends (Done T.told T.behind Frame.End) (DoneInPart T.told T.behind Frame.End)
         (scene_of satl.old (D.state drive.old) steps.old teller.old (K.written sink.old))
-        (scene_of satl.new (D.state drive.new) steps.new teller.new (K.written sink.new))) }
-    ensures part { OnErr result (DoneInPart T.told T.behind Frame.End
-        (scene_of satl.old (D.state drive.old) steps.old teller.old (K.written sink.old))
-        (scene_of satl.new (D.state drive.new) steps.new teller.new (K.written sink.new))) }
-    ensures tallied { IsTallied Frame.End (stand_of satl.old (D.state drive.old) steps.old)
-        (stand_of satl.new (D.state drive.new) steps.new) }
+        (scene_of satl.new (D.state drive.new) steps.new teller.new (K.written sink.new)) result }
+    ensures leaves { Leaves satl.new (D.state drive.new) replies.new result }
     ensures cause { HasCause (K.faults sink.old) (K.faults sink.new) result }
 {
     // Each turn ends one task at least.

@@ -1,34 +1,26 @@
 use Rattle.std.proofs.Common.{arith, subst, sym}
-use Rattle.std.proofs.lemmas.Result.{on_ok_weaker}
 use Rattle.satl_direct.specs.Arrival.{Arrives}
 use Rattle.satl_direct.specs.Run.{MayLose}
 use Rattle.satl_direct.specs.Quiet.{Around}
 use Rattle.satl_core.specs.Layer.{view}
 use Rattle.satl_frame.specs.declared.frames.Frame.TheVariants as frames
-use Rattle.satl_step.proofs.EventLemmas.{carried_request, replies_done, replies_in_part}
-use Rattle.satl_base.proofs.OutcomeLemmas.{on_both_err}
+use Rattle.satl_step.proofs.EventLemmas.{carried_request, replies_end}
 use Rattle.satl_step.proofs.TallyLemmas.{depth_covered, tallied, tied_same, view_same}
 use Rattle.satl_step.proofs.events.serve_request.Goals as goal
-
-pub returns-clause-tied : goal.returns-clause-tied
-returns-clause-tied g c = tied_same c.submit.new.self c.tell_replies.new.satl (g.D.Drive.state c.submit.new.drive) c.tell_replies.ensures.stays c.submit.ensures.tied
 
 pub returns-clause-done : goal.returns-clause-done
 returns-clause-done g c =
     let s = view c.args.satl.now (g.D.Drive.state c.args.drive.now) in
     let same = view_same c.submit.new.self c.tell_replies.new.satl (g.D.Drive.state c.submit.new.drive) c.tell_replies.ensures.stays in
-    on_ok_weaker c.tell_replies.result (λ told. replies_done g.T.Teller.told g.T.Teller.behind (frames.Request c.args.request) _ _ c.submit.new.replies
+    replies_end g.T.Teller.told g.T.Teller.behind (frames.Request c.args.request) _ _ c.submit.new.replies c.tell_replies.result
     (carried_request c.args.request _ _ c.submit.new.replies (λ w cut. subst (λ x. Around (MayLose (Arrives w)) s c.submit.new.replies x) (sym same) (c.submit.ensures.around w cut))
-    (depth_covered c.args.satl.now c.submit.new.self c.tell_replies.new.satl (g.D.Drive.state c.args.drive.now) (g.D.Drive.state c.submit.new.drive) c.tell_replies.ensures.stays c.submit.ensures.kept.deep (c.see_queue.ensures.deep (g.D.Drive.state c.submit.new.drive) c.submit.ensures.tied))) told) c.tell_replies.ensures.told
+    (depth_covered c.args.satl.now c.submit.new.self c.tell_replies.new.satl (g.D.Drive.state c.args.drive.now) (g.D.Drive.state c.submit.new.drive) c.tell_replies.ensures.stays c.submit.ensures.kept.deep (c.see_queue.ensures.deep (g.D.Drive.state c.submit.new.drive) c.submit.ensures.tied)))
+    (tallied (frames.Request c.args.request) c.args.satl.now c.submit.new.self c.tell_replies.new.satl (g.D.Drive.state c.args.drive.now) (g.D.Drive.state c.submit.new.drive) c.args.steps.now c.submit.new.steps c.tell_replies.ensures.stays c.submit.ensures.kept.losses c.submit.ensures.kept.unplugs (omega (arith, c.submit.ensures.calls)) c.submit.ensures.kept.deep)
+    c.tell_replies.ensures.told c.tell_replies.ensures.some c.tell_replies.ensures.part
 
-pub returns-clause-part : goal.returns-clause-part
-returns-clause-part g c =
-    let s = view c.args.satl.now (g.D.Drive.state c.args.drive.now) in
-    let same = view_same c.submit.new.self c.tell_replies.new.satl (g.D.Drive.state c.submit.new.drive) c.tell_replies.ensures.stays in
-    on_both_err c.tell_replies.result _ _ _ (λ some part. replies_in_part g.T.Teller.told g.T.Teller.behind (frames.Request c.args.request) _ _ c.submit.new.replies
-    (carried_request c.args.request _ _ c.submit.new.replies (λ w cut. subst (λ x. Around (MayLose (Arrives w)) s c.submit.new.replies x) (sym same) (c.submit.ensures.around w cut))
-    (depth_covered c.args.satl.now c.submit.new.self c.tell_replies.new.satl (g.D.Drive.state c.args.drive.now) (g.D.Drive.state c.submit.new.drive) c.tell_replies.ensures.stays c.submit.ensures.kept.deep (c.see_queue.ensures.deep (g.D.Drive.state c.submit.new.drive) c.submit.ensures.tied))) some part) c.tell_replies.ensures.some c.tell_replies.ensures.part
-
-pub returns-clause-tallied : goal.returns-clause-tallied
-returns-clause-tallied g c =
-    tallied (frames.Request c.args.request) c.args.satl.now c.submit.new.self c.tell_replies.new.satl (g.D.Drive.state c.args.drive.now) (g.D.Drive.state c.submit.new.drive) c.args.steps.now c.submit.new.steps c.tell_replies.ensures.stays c.submit.ensures.kept.losses c.submit.ensures.kept.unplugs (omega (arith, c.submit.ensures.calls)) c.submit.ensures.kept.deep
+pub returns-clause-leaves : goal.returns-clause-leaves
+returns-clause-leaves g c = record {
+  tied = tied_same c.submit.new.self c.tell_replies.new.satl (g.D.Drive.state c.submit.new.drive) c.tell_replies.ensures.stays c.submit.ensures.tied;
+  all_in = c.tell_replies.ensures.all_in;
+  none = c.tell_replies.ensures.none;
+}
