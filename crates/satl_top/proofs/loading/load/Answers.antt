@@ -14,7 +14,7 @@ returns-in-Ok-write_summary g c = λ source. record {
 pub returns-in-Err-write_summary : goal.returns-in-Err-write_summary
 returns-in-Err-write_summary g c = λ source. record {
   ends = (c.in-Ok.summary, c.in-Ok.ensures.loaded source _ _, c.in-Err-write_summary.ensures.part);
-  causes = c.in-Err-write_summary.ensures.cause;
+  causes = c.in-Err-write_summary.ensures.cause.failed;
   refused = λ fault is. absurd (c.in-Ok.ensures.refused fault is);
 }
 
