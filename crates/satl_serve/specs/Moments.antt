@@ -36,6 +36,9 @@ pub record Spot : Type 0 where
   pub written : Option (List ℕ)
   pub stand : Stand
 
+abbrev pub spot : Option (List ℕ) → Option (List ℕ) → Stand → Spot
+spot left written stand = record { left = left; written = written; stand = stand }
+
 -- how far it has come at a moment with this device, where the drive was called so often (profile)
 abbrev pub spot_at : Device → ℕ → Moment → Spot
 spot_at device calls m =

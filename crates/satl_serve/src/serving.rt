@@ -5,7 +5,7 @@ ghost use Rattle.satl_drive.specs.State.{IsFit};
 ghost use Rattle.satl_core.specs.Layer.{Tied};
 ghost use Rattle.satl_step.specs.Runs.{IsDeep, stand_of, tally_of};
 ghost use Rattle.satl_serve.specs.Headline.{IsServedToEnd, IsServedWhole, ResultSays};
-ghost use Rattle.satl_serve.specs.Moments.{moment, reads, writes};
+ghost use Rattle.satl_serve.specs.Moments.{moment, reads, spot, writes};
 ghost use Rattle.satl_serve.specs.Runs.{input_limit};
 ghost use Rattle.satl_serve.specs.Stopping.{HasStreamCause, RanTo, Tells, TellsStop};
 ghost use Rattle.satl_serve.specs.Tellers.{IsServedBy, RanBy, TellsIn};
@@ -182,27 +182,11 @@ fn serve_opened<T: Teller, S: Source, K: Sink, D: Bench, L: Ledger>(
     requires deep { IsDeep (tally_of (D.state drive.old) steps.old) }
     ensures tied { Tied satl.new (D.state drive.new) }
     ensures whole { IfOk result (λ requests. RanBy T.behind form input_limit teller.old teller.new requests
-        (record {
-          left = S.left source.old;
-          written = K.written sink.old;
-          stand = stand_of satl.old (D.state drive.old) steps.old;
-        })
-        (record {
-          left = S.left source.new;
-          written = K.written sink.new;
-          stand = stand_of satl.new (D.state drive.new) steps.new;
-        })) }
+        (spot (S.left source.old) (K.written sink.old) (stand_of satl.old (D.state drive.old) steps.old))
+        (spot (S.left source.new) (K.written sink.new) (stand_of satl.new (D.state drive.new) steps.new))) }
     ensures stopped { IfErr result (RanTo form input_limit
-        (record {
-          left = S.left source.old;
-          written = K.written sink.old;
-          stand = stand_of satl.old (D.state drive.old) steps.old;
-        })
-        (record {
-          left = S.left source.new;
-          written = K.written sink.new;
-          stand = stand_of satl.new (D.state drive.new) steps.new;
-        })) }
+        (spot (S.left source.old) (K.written sink.old) (stand_of satl.old (D.state drive.old) steps.old))
+        (spot (S.left source.new) (K.written sink.new) (stand_of satl.new (D.state drive.new) steps.new))) }
     ensures causes { IfErr result (HasStreamCause (reads (S.left source.old) (S.faults source.old))
         (reads (S.left source.new) (S.faults source.new)) (writes (K.written sink.old) (K.faults sink.old))
         (writes (K.written sink.new) (K.faults sink.new))) }

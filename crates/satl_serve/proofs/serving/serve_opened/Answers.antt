@@ -13,12 +13,12 @@ returns-in_err-tell_beginning-clause-stopped g c =
     (inl (in_magic c.args.form (g.S.Source.left c.args.source.now) _ _ c.args.satl.now (stand_of c.args.satl.now (g.D.Drive.state c.args.drive.now) c.args.steps.now) c.requires.idle refl c.in_err-tell_beginning.ensures.part))
 
 pub returns-in-Ok-clause-whole : goal.returns-in-Ok-clause-whole
-returns-in-Ok-clause-whole g c = whole g.T.Teller.told g.T.Teller.behind c.args.form (g.K.Sink.written c.args.sink.now) (record { reader = c.new-reader.result; left = g.S.Source.left c.args.source.now; scene = scene_of c.args.satl.now (g.D.Drive.state c.args.drive.now) c.args.steps.now c.args.teller.now (g.K.Sink.written c.tell_beginning.new.sink) }) (record { reader = c.serve_frames.new.reader; left = g.S.Source.left c.serve_frames.new.source; scene = scene_of c.serve_frames.new.satl (g.D.Drive.state c.serve_frames.new.drive) c.serve_frames.new.steps c.serve_frames.new.teller (g.K.Sink.written c.serve_frames.new.sink) }) c.in-Ok.requests c.requires.deep (record { limit = ap (λ (r : Reading). r.limit) c.new-reader.ensures; newest = ap (λ (r : Reading). r.newest) c.new-reader.ensures; tells = c.requires.tells; magic = c.in_ok-tell_beginning.ensures.all }) c.in-Ok.ensures.ended
+returns-in-Ok-clause-whole g c = whole g.T.Teller.told g.T.Teller.behind c.args.form (g.K.Sink.written c.args.sink.now) (record { reader = c.new-reader.result; left = g.S.Source.left c.args.source.now; scene = scene_of c.args.satl.now (g.D.Drive.state c.args.drive.now) c.args.steps.now c.args.teller.now (g.K.Sink.written c.tell_beginning.new.sink) }) (record { reader = c.serve_frames.new.reader; left = g.S.Source.left c.serve_frames.new.source; scene = scene_of c.serve_frames.new.satl (g.D.Drive.state c.serve_frames.new.drive) c.serve_frames.new.steps c.serve_frames.new.teller (g.K.Sink.written c.serve_frames.new.sink) }) c.in-Ok.requests c.requires.deep (record { limit = ap (λ (r : Reading). r.limit) c.new-reader.ensures; newest = ap (λ (r : Reading). r.newest) c.new-reader.ensures; tells = c.requires.tells; magic = c.in_ok-tell_beginning.ensures.all }) c.in-Ok.ensures.ran.ended
 
 pub returns-in-Err-clause-stopped : goal.returns-in-Err-clause-stopped
 returns-in-Err-clause-stopped g c =
     stopped g.T.Teller.told g.T.Teller.behind c.args.form (g.K.Sink.written c.args.sink.now) (record { reader = c.new-reader.result; left = g.S.Source.left c.args.source.now; scene = scene_of c.args.satl.now (g.D.Drive.state c.args.drive.now) c.args.steps.now c.args.teller.now (g.K.Sink.written c.tell_beginning.new.sink) }) (record { reader = c.serve_frames.new.reader; left = g.S.Source.left c.serve_frames.new.source; scene = scene_of c.serve_frames.new.satl (g.D.Drive.state c.serve_frames.new.drive) c.serve_frames.new.steps c.serve_frames.new.teller (g.K.Sink.written c.serve_frames.new.sink) })
-    (writes (g.K.Sink.written c.serve_frames.new.sink) (g.K.Sink.faults c.serve_frames.new.sink)) (writes (g.K.Sink.written c.tell_stop.new.sink) (g.K.Sink.faults c.tell_stop.new.sink)) c.tell_stop.result c.in-Err.stop refl (record { limit = ap (λ (r : Reading). r.limit) c.new-reader.ensures; newest = ap (λ (r : Reading). r.newest) c.new-reader.ensures; tells = c.requires.tells; magic = c.in_ok-tell_beginning.ensures.all }) c.in-Err.ensures.stopped c.tell_stop.ensures
+    (writes (g.K.Sink.written c.serve_frames.new.sink) (g.K.Sink.faults c.serve_frames.new.sink)) (writes (g.K.Sink.written c.tell_stop.new.sink) (g.K.Sink.faults c.tell_stop.new.sink)) c.tell_stop.result c.in-Err.stop refl (record { limit = ap (λ (r : Reading). r.limit) c.new-reader.ensures; newest = ap (λ (r : Reading). r.newest) c.new-reader.ensures; tells = c.requires.tells; magic = c.in_ok-tell_beginning.ensures.all }) c.in-Err.ensures.ran.stopped c.tell_stop.ensures
 
 pub returns-in-Err-clause-causes : goal.returns-in-Err-clause-causes
 returns-in-Err-clause-causes g c =
