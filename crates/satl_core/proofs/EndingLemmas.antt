@@ -1,6 +1,6 @@
 -- Tasks end: the first one, or one that was outstanding.
 use Rattle.std.proofs.Common.{◌≡◌, inl, inr, refl, sym, ap, subst, ◌∙◌, arith, ℕ, zero, suc, ◌+◌, ◌≤◌, true, false, Bool, List, [], ◌∷◌, ◌++◌, length, map, Some, None}
-use Rattle.std.specs.Prelude.{IsSome, MatchBool, Option, slice_get}
+use Rattle.std.specs.Prelude.{IsSome, MatchBool, Option, not, slice_get}
 use Rattle.std.specs.Option.{option_map}
 use Rattle.std.specs.List.{AllByRecursion, AllZip, remove}
 use Rattle.satl_base.specs.declared.reply.Reply.{Reply}
@@ -29,7 +29,7 @@ use Rattle.satl_core.specs.Alone.{alone_of}
 use Rattle.satl_core.specs.Flushed.{IsFlushed}
 use Rattle.satl_core.specs.Layer.{Agrees, IsKept, IsTask, IsUsed, Layer, Tied, held_pages, view, works}
 use Rattle.satl_core.specs.Refilling.{EndsOne, EndsOrLoses}
-use Rattle.satl_core.specs.Turning.{IsLostInTask, ended_reply, ending_by, lost_replies}
+use Rattle.satl_core.specs.Turning.{IsLostInTask, ended_reply, ending_by, is_read, lost_replies}
 use Rattle.satl_core.proofs.AgreeingLemmas.{agrees_settled, in_flight_down, tied_lost}
 use Rattle.satl_core.proofs.FlushedLemmas.{queued_no_flush}
 use Rattle.satl_core.proofs.HeldLemmas.{IsFirst, IsKeptEntry, alike_lost}
@@ -128,7 +128,7 @@ module _ (l now new : Layer) (d d' : DriveState) (error : Option NcqError) (task
   ranged_same : e.ranged ≡ e.settled.ranged
   ranged_same = let both : Some e.ranged ≡ Some e.settled.ranged = sym e.ranged_is ∙ e.settled.ranged_is in cc
 
-  pub queued_ends : (given replies : List Reply) (r : Reply) (ending : Ending) → given ≡ [] → replies ≡ given ++ r ∷ [] → r ≡ ended_reply task ending l.modes.d_sense → ending ≡ ending_by task.command error → EndsOrLoses (view now d) replies (view new d')
+  pub queued_ends : (given replies : List Reply) (r : Reply) (ending : Ending) → given ≡ [] → replies ≡ given ++ r ∷ [] → r ≡ ended_reply task ending l.modes.d_sense → ending ≡ ending_by (not (is_read task.command)) error → EndsOrLoses (view now d) replies (view new d')
   queued_ends given replies r ending none push answer by =
       inl (
         r,
@@ -140,7 +140,7 @@ module _ (l now new : Layer) (d d' : DriveState) (error : Option NcqError) (task
       told : r ≡ Rattle.satl_direct.specs.Ending.outcome_reply (view l d) (task_of e.settled.held.entry) e.settled.ranged (outcome_of error e.ranged task.body)
       told =
           answer ∙ (ap (λ x. ended_reply task x l.modes.d_sense) by
-          ∙ (ap (λ (t : Entry). ended_reply t (ending_by t.command error) l.modes.d_sense) e.task_is
+          ∙ (ap (λ (t : Entry). ended_reply t (ending_by (not (is_read t.command)) error) l.modes.d_sense) e.task_is
           ∙ (settled_reply (view l d) e.settled.held.entry e.ranged task.body error e.ranged_is e.error_is
           ∙ ap (λ x. Rattle.satl_direct.specs.Ending.outcome_reply (view l d) (task_of e.settled.held.entry) x (outcome_of error e.ranged task.body)) ranged_same)))
 

@@ -146,7 +146,7 @@ tells (commands.WriteSame a b c d) ranges body ranged h = absurd cc
 tells (commands.Pass a) ranges body ranged h = absurd cc
 
 pub settled_reply : (s : Device) (e : Entry) (ranged : RangedTask) (body : List Block) (error : Option NcqError) → ranged_of e ≡ Some ranged → IsFlawOrCrc error
-    → ended_reply (record e { body = body }) (ending_by e.command error) s.modes.d_sense ≡ outcome_reply s (task_of e) ranged (outcome_of error ranged body)
+    → ended_reply (record e { body = body }) (ending_by (not (is_read e.command)) error) s.modes.d_sense ≡ outcome_reply s (task_of e) ranged (outcome_of error ranged body)
 settled_reply s e ranged body None is kind = ap (task_reply (task_of e) Good []) ((tells e.command e.ranges.items e.body ranged (by_command e ranged is)).data_in body)
 settled_reply s e ranged body (Some x) is kind =
     ⊎_elim

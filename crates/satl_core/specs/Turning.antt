@@ -103,10 +103,11 @@ abbrev pub is_read : Command → Bool
 is_read (Read form lba count fua) = true
 is_read _ = false
 
--- how a queued command ends a task: with GOOD, or by the error log with the sense data of the table of errors (SAT-3 11)
-abbrev pub ending_by : Command → Option NcqError → Ending
-ending_by command None = endings.Good
-ending_by command (Some e) = endings.Check (error_sense_at (not (is_read command)) e.error e.lba)
+-- how a queued command, which writes or reads, ends a task: with GOOD, or by the error log with the sense data of the table of
+-- errors (SAT-3 11)
+abbrev pub ending_by : Bool → Option NcqError → Ending
+ending_by writes None = endings.Good
+ending_by writes (Some e) = endings.Check (error_sense_at writes e.error e.lba)
 
 -- a task ends with this sense, and the drive is not asked (profile)
 pub record IsUnasked (sense : Sense) (old : DriveState) (ending : Ending) (new : DriveState) : Type 0 where

@@ -19,7 +19,9 @@ use crate::leaving::{Scope, drop_tasks, has_outstanding};
 use crate::managing::post;
 use crate::satl::Satl;
 use crate::selecting::{change_posting, modes_after, wanted_by};
-use crate::turning::{end_task, ending_by, link_lost, lose_tasks, run_task, started_after};
+use crate::turning::{
+    end_task, ending_by, is_read, link_lost, lose_tasks, run_task, started_after,
+};
 use satl_base::{Replies, Steps};
 use satl_drive::{Drive, LinkDown};
 use std::sync::ledger::Ledger;
@@ -276,7 +278,7 @@ impl Satl {
         let descriptor = self.modes.d_sense;
         match self.queue.settle_one(drive, steps) {
             Ok((task, error)) => {
-                let ending = ending_by(&task.command, &error);
+                let ending = ending_by(!is_read(&task.command), &error);
                 replies.push(end_task(&mut self.pool, task, ending, descriptor));
             }
             Err(LinkDown) => self.lose(replies),

@@ -180,19 +180,19 @@ pub fn lose_tasks(queue: &mut Queue, pool: &mut Pool, descriptor: bool, replies:
     }
 }
 
-/// How a task ends whose queued command has ended: GOOD, or by the entry of the error log and the table of errors, a CRC error
-/// or a medium error at the address (SAT-3 11; for the address and a WRITE: profile).
-pub fn ending_by(command: &Command, error: &Option<NcqError>) -> Ending
-    ensures { result ≡ Turning.ending_by command.now error.now }
+/// How a task ends whose queued command has ended, which wrote or read: GOOD, or by the entry of the error log and the table of
+/// errors, a CRC error or a medium error at the address (SAT-3 11; for the address and a WRITE: profile).
+pub fn ending_by(writes: bool, error: &Option<NcqError>) -> Ending
+    ensures { result ≡ Turning.ending_by writes error.now }
 {
     match error {
         None => Ending::Good,
-        Some(e) => Ending::Check(error_sense_at(!is_read(command), e.error, e.lba)),
+        Some(e) => Ending::Check(error_sense_at(writes, e.error, e.lba)),
     }
 }
 
 /// Whether a command is a READ; each other command that is queued writes, or trims (SBC-3 5).
-fn is_read(command: &Command) -> bool
+pub fn is_read(command: &Command) -> bool
     ensures { result ≡ Turning.is_read command.now }
 {
     matches!(*command, Command::Read { .. })

@@ -4,7 +4,8 @@ use Rattle.satl_core.specs.Layer.{Layer, Tied, reply_pages}
 use Rattle.std.proofs.lemmas.List.{length-map}
 use Rattle.satl_direct.specs.Senses.{link_lost}
 use Rattle.satl_core.specs.declared.turning.Ending.TheVariants as endings
-use Rattle.satl_core.specs.Turning.{ended_reply, lost_replies}
+use Rattle.std.specs.Prelude.{not}
+use Rattle.satl_core.specs.Turning.{ended_reply, ending_by, lost_replies}
 use Rattle.satl_core.proofs.AgreeingLemmas.{works_flying}
 use Rattle.satl_core.proofs.CountedLemmas.{kept_rose}
 use Rattle.satl_core.proofs.EndingLemmas.{some_count, some_tasks, ended_count, ended_kept, ended_pages, ended_unflushed, flight_loses, flight_tied, others_kept, queued_agrees, queued_ends}
@@ -53,7 +54,7 @@ returns-in-Ok-clause-ends g c =
     let tied = subst (λ l. Tied l (g.D.Drive.state c.args.drive.now)) (sym c.self.view_is) c.requires.tied in
     queued_ends was c.args.self.now (layer_of i.identity i.modes i.started i.down i.attentions c.settle_one.new.self c.end_task.new.pool) (g.D.Drive.state c.args.drive.now) (g.D.Drive.state c.settle_one.new.drive) c.in-Ok.error c.in-Ok.task c.self.view_is
     (works_flying was tied.used (subst (λ (l : Layer). l.flying ≢ []) (sym c.self.view_is) c.requires.one)) c.requires.tied.agrees c.in-Ok.ensures.ok refl
-    c.args.replies.now c.push.new.self c.end_task.result c.ending_by-ending.result c.requires.empty c.push.ensures c.end_task.ensures.reply c.ending_by-ending.ensures
+    c.args.replies.now c.push.new.self c.end_task.result c.ending_by-ending.result c.requires.empty c.push.ensures c.end_task.ensures.reply (c.ending_by-ending.ensures ∙ ap (λ b. ending_by (not b) c.in-Ok.error) c.is_read.ensures)
 
 pub returns-in-Ok-clause-agrees : goal.returns-in-Ok-clause-agrees
 returns-in-Ok-clause-agrees g c =
