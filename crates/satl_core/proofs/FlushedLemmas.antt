@@ -25,7 +25,7 @@ use Rattle.satl_direct.specs.Tasks.{asks, task_of}
 use Rattle.satl_core.specs.declared.turning.Ending.{Ending}
 use Rattle.satl_core.specs.declared.turning.Ending.TheVariants as endings
 use Rattle.satl_core.specs.Flushed.{IsFlush, IsFlushed, IsSettled}
-use Rattle.satl_core.specs.Turning.{DoneAlone, IsUnasked, TaskEnds, ended_reply, ending_status}
+use Rattle.satl_core.specs.Turning.{DoneAlone, IsUnasked, TaskEnds, TaskOnDrive, ended_reply, ending_status, task_on}
 use Rattle.satl_direct.specs.Valid.{AreOwn}
 use Rattle.satl_core.proofs.HeldLemmas.{IsFirst}
 use Rattle.satl_core.proofs.QueuedLemmas.{by_command}
@@ -55,16 +55,16 @@ still_settled (c ∷ cells) [] all loses = absurd loses
 
 -- ---- a task that is done was carried out
 
-pub flush_done : (down started : Bool) (wanted : Modes) (t : Entry) (taken : List Block) (old new : DriveState) (ending : Ending) → IsFlush t.command → ending ≡ endings.Good → TaskEnds down started wanted t taken old ending new → AllByRecursion IsSettled new.cells
-flush_done true started wanted t taken old new ending flush good = λ ends. let sensed = ends.sensed in absurd cc
-flush_done false started wanted t taken old new ending flush good =
-    elim (not started && (asks t.command).starts) as (λ b. MatchBool b (IsUnasked not_ready old ending new) (DoneAlone wanted t.command t taken old ending new) → AllByRecursion IsSettled new.cells) [
+pub flush_done : (down started : Bool) (wanted : Modes) (old new : TaskOnDrive) (ending : Ending) → IsFlush old.task.command → ending ≡ endings.Good → TaskEnds (record { down = down; started = started; wanted = wanted }) ending old new → AllByRecursion IsSettled new.drive.cells
+flush_done true started wanted old new ending flush good = λ ends. let sensed = ends.sensed in absurd cc
+flush_done false started wanted old new ending flush good =
+    elim (not started && (asks old.task.command).starts) as (λ b. MatchBool b (IsUnasked not_ready old.drive ending new.drive) (DoneAlone wanted ending old new) → AllByRecursion IsSettled new.drive.cells) [
       | true ↦ λ x. let sensed = x.sensed in absurd cc
-      | false ↦ λ x. carried t.command flush x
+      | false ↦ λ x. carried old.task.command flush x
     ]
   where
-    carried : (c : Command) → IsFlush c → DoneAlone wanted c t taken old ending new → AllByRecursion IsSettled new.cells
-    carried (commands.Flush form lba count) flush done = all_settled old.cells new.cells done.1.lost
+    carried : (c : Command) → IsFlush c → DoneAlone wanted ending (task_on (record old.task { command = c }) old.drive) new → AllByRecursion IsSettled new.drive.cells
+    carried (commands.Flush form lba count) flush done = all_settled old.drive.cells new.drive.cells done.1.lost
     carried commands.TestUnitReady flush done = absurd flush
     carried (commands.RequestSense descriptor alloc) flush done = absurd flush
     carried (commands.Inquiry page alloc) flush done = absurd flush

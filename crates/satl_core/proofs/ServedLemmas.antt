@@ -42,7 +42,7 @@ use Rattle.satl_core.specs.Managing.{once_posted}
 use Rattle.satl_core.specs.Layer.{Agrees, IsCovered, IsKept, IsTask, Layer}
 use Rattle.satl_core.specs.Refilling.{EndsOne}
 use Rattle.satl_core.specs.Turning as core
-use Rattle.satl_core.specs.Turning.{DoneAlone, IsLostInTask, IsUnasked, TaskEnds, change_posting, ended_reply, modes_after, read_pages, started_after, wanted_by, where_done}
+use Rattle.satl_core.specs.Turning.{DoneAlone, IsLostInTask, IsUnasked, TaskEnds, TaskOnDrive, change_posting, ended_reply, modes_after, read_pages, started_after, task_on, wanted_by, where_done}
 use Rattle.satl_core.proofs.DeviceLemmas.{all_lost, ends_around, ends_by, ends_down, ends_stopped, first_checked, first_gone, first_tasks, quiet_same, seen}
 use Rattle.satl_core.proofs.HeldLemmas.{IsFirst, IsKeptEntry, first_kept}
 use Rattle.satl_core.specs.Medium.{CanCarry, HasWhole, written_alone}
@@ -143,11 +143,11 @@ ended_seen identity modes wanted started attentions entry ending others d =
     seen identity (modes_after entry.command ending modes wanted) (started_after entry.command ending started) (told_after entry.command modes (modes_after entry.command ending modes wanted) entry.nexus attentions) others d
 
 -- what the drive did for a task ends it
-task_turn : (identity : Identity) (modes : Modes) (started : Bool) (attentions : List (List Attention)) (entry : Entry) (taken : List Block) (others : List Entry) (d d' : DriveState) (ending : Ending) → IsKeptEntry identity entry → IsSetBy modes d → TellsOf identity.bytes d
-    → (not started && (asks entry.command).starts) ≡ false → IfSome (alone_of entry.command) (λ alone. CanCarry alone entry d) → DoneAlone (wanted_by modes entry.modes) entry.command entry taken d ending d'
-    → EndsOne (seen identity modes started attentions (task_of entry ∷ others) d) (ended_reply (record entry { body = taken }) ending modes.d_sense) (ended_seen identity modes (wanted_by modes entry.modes) started attentions entry ending others d')
-task_turn identity modes started attentions entry taken others d d' ending kept set told ready has x =
-    of_task (λ c. (not started && (asks c).starts) ≡ false → IfSome (alone_of c) (λ alone. CanCarry alone entry d) → DoneAlone (wanted_by modes entry.modes) c entry taken d ending d' → Ends c) identity.capacity entry.blocks entry.command
+task_turn : (identity : Identity) (modes : Modes) (started : Bool) (attentions : List (List Attention)) (entry : Entry) (left : Entry) (others : List Entry) (d d' : DriveState) (ending : Ending) → IsKeptEntry identity entry → IsSetBy modes d → TellsOf identity.bytes d
+    → (not started && (asks entry.command).starts) ≡ false → IfSome (alone_of entry.command) (λ alone. CanCarry alone entry d) → DoneAlone (wanted_by modes entry.modes) ending (task_on entry d) (task_on left d')
+    → EndsOne (seen identity modes started attentions (task_of entry ∷ others) d) (ended_reply (record entry { body = left.body }) ending modes.d_sense) (ended_seen identity modes (wanted_by modes entry.modes) started attentions entry ending others d')
+task_turn identity modes started attentions entry left others d d' ending kept set told ready has x =
+    of_task (λ c. (not started && (asks c).starts) ≡ false → IfSome (alone_of c) (λ alone. CanCarry alone entry d) → DoneAlone (wanted_by modes entry.modes) ending (task_on (record entry { command = c }) d) (task_on left d') → Ends c) identity.capacity entry.blocks entry.command
     (λ form lba count fua t ready has x. absurd x)
     (λ form lba count fua t ready has x. absurd x)
     (λ form lba count none ready has x. bare (cdbs.Flush form lba count) refl refl (bare_turn identity modes started started attentions (record entry { command = cdbs.Flush form lba count }) others d d' (map settle d.cells) d.active ending ready (λ reply new e. e) x.1 x.0 refl))
@@ -160,12 +160,12 @@ task_turn identity modes started attentions entry taken others d d' ending kept 
     (selected_turn identity modes started ten size attentions entry others d d' ending set.cache x.1 x.0)))
     (λ form lba count t ready has x. bare (cdbs.Verify form lba count false) refl refl (check_turn identity modes started attentions entry others d d' form lba count ending ready x))
     (λ form lba count t ready has x. bare (cdbs.Verify form lba count true) refl refl (compare_turn identity modes started attentions entry others d d' form lba count ending ready x))
-    (λ form lba count unmap. elim unmap as (λ b. (entry.blocks ≡ 1) × IsCovered identity.capacity lba count → (not started && (asks (cdbs.WriteSame form lba count b)).starts) ≡ false → IfSome (alone_of (cdbs.WriteSame form lba count b)) (λ alone. CanCarry alone entry d) → DoneAlone (wanted_by modes entry.modes) (cdbs.WriteSame form lba count b) entry taken d ending d' → Ends (cdbs.WriteSame form lba count b)) [
+    (λ form lba count unmap. elim unmap as (λ b. (entry.blocks ≡ 1) × IsCovered identity.capacity lba count → (not started && (asks (cdbs.WriteSame form lba count b)).starts) ≡ false → IfSome (alone_of (cdbs.WriteSame form lba count b)) (λ alone. CanCarry alone entry d) → DoneAlone (wanted_by modes entry.modes) ending (task_on (record entry { command = cdbs.WriteSame form lba count b }) d) (task_on left d') → Ends (cdbs.WriteSame form lba count b)) [
       | true ↦ λ t ready has x. bare (cdbs.WriteSame form lba count true) refl refl (zero_turn identity modes started attentions entry others d d' set.cache form lba count ending ready x)
       | false ↦ λ t ready has x. bare (cdbs.WriteSame form lba count false) refl refl (same_turn identity modes started attentions entry others d d' set.cache form lba count ending ready has.0 x)
     ])
     (λ size t ready has x. bare (cdbs.Unmap size) refl refl (unmap_turn identity modes started attentions entry others d d' set.cache size ending ready x))
-    (λ cdb t ready has x. pass_turn identity modes started attentions entry others d cdb d' ending taken set told t.1 has.0 x)
+    (λ cdb t ready has x. pass_turn identity modes started attentions entry others d cdb d' ending left.body set told t.1 has.0 x)
     kept.task ready has x
   where
     -- the device with the task as its first one, with another command
@@ -176,11 +176,11 @@ task_turn identity modes started attentions entry taken others d d' ending kept 
     after c = ended_seen identity modes (wanted_by modes entry.modes) started attentions (record entry { command = c }) ending others d'
 
     Ends : Command → Type 0
-    Ends c = EndsOne (first c) (ended_reply (record entry { command = c; body = taken }) ending modes.d_sense) (after c)
+    Ends c = EndsOne (first c) (ended_reply (record entry { command = c; body = left.body }) ending modes.d_sense) (after c)
 
     -- a command that gives no data-in
-    bare : (c : Command) → read_pages c entry.body ≡ [] → read_pages c taken ≡ [] → EndsOne (first c) (ended_reply (record entry { command = c }) ending modes.d_sense) (after c) → Ends c
-    bare c none nothing turn = subst (λ r. EndsOne (first c) r (after c)) (same_reply (record entry { command = c }) taken ending modes.d_sense none nothing) turn
+    bare : (c : Command) → read_pages c entry.body ≡ [] → read_pages c left.body ≡ [] → EndsOne (first c) (ended_reply (record entry { command = c }) ending modes.d_sense) (after c) → Ends c
+    bare c none nothing turn = subst (λ r. EndsOne (first c) r (after c)) (same_reply (record entry { command = c }) left.body ending modes.d_sense none nothing) turn
 
 -- the pairs of the first task may show
 lost_turn : (identity : Identity) (modes : Modes) (started : Bool) (attentions : List (List Attention)) (entry : Entry) (others : List Entry) (d d' : DriveState) (pairs : List Pair) (answers : List Reply) → IsSetBy modes d → TellsOf identity.bytes d
@@ -235,28 +235,28 @@ unasked_turn identity modes wanted started attentions entry taken others d d' se
     (quiet_same _ _ (ap (seen identity modes started attentions others) x.stays))))
 
 -- a unit that is stopped, or the drive
-up_turn : (stopped : Bool) (identity : Identity) (modes : Modes) (started : Bool) (attentions : List (List Attention)) (entry : Entry) (taken : List Block) (others : List Entry) (d d' : DriveState) (ending : Ending)
+up_turn : (stopped : Bool) (identity : Identity) (modes : Modes) (started : Bool) (attentions : List (List Attention)) (entry : Entry) (left : Entry) (others : List Entry) (d d' : DriveState) (ending : Ending)
     → IsKeptEntry identity entry → IsSetBy modes d → TellsOf identity.bytes d → IfSome (alone_of entry.command) (λ alone. CanCarry alone entry d) → (not started && (asks entry.command).starts) ≡ stopped
-    → MatchBool stopped (IsUnasked not_ready d ending d') (DoneAlone (wanted_by modes entry.modes) entry.command entry taken d ending d')
-    → EndsOne (seen identity modes started attentions (task_of entry ∷ others) d) (ended_reply (record entry { body = taken }) ending modes.d_sense) (ended_seen identity modes (wanted_by modes entry.modes) started attentions entry ending others d')
-up_turn true identity modes started attentions entry taken others d d' ending kept set told has stopped x =
-    unasked_turn identity modes (wanted_by modes entry.modes) started attentions entry taken others d d' not_ready ending (λ reply mid e. ends_stopped _ _ _ _ set.up stopped e) x kept
-up_turn false identity modes started attentions entry taken others d d' ending kept set told has ready x = task_turn identity modes started attentions entry taken others d d' ending kept set told ready has x
+    → MatchBool stopped (IsUnasked not_ready d ending d') (DoneAlone (wanted_by modes entry.modes) ending (task_on entry d) (task_on left d'))
+    → EndsOne (seen identity modes started attentions (task_of entry ∷ others) d) (ended_reply (record entry { body = left.body }) ending modes.d_sense) (ended_seen identity modes (wanted_by modes entry.modes) started attentions entry ending others d')
+up_turn true identity modes started attentions entry left others d d' ending kept set told has stopped x =
+    unasked_turn identity modes (wanted_by modes entry.modes) started attentions entry left.body others d d' not_ready ending (λ reply mid e. ends_stopped _ _ _ _ set.up stopped e) x kept
+up_turn false identity modes started attentions entry left others d d' ending kept set told has ready x = task_turn identity modes started attentions entry left others d d' ending kept set told ready has x
 
 -- whichever decides, a lost link, a unit that is stopped, or the drive
-ended_turn : (identity : Identity) (modes : Modes) (down started : Bool) (attentions : List (List Attention)) (entry : Entry) (taken : List Block) (others : List Entry) (d d' : DriveState) (ending : Ending) → down ≡ d.down
+ended_turn : (identity : Identity) (modes : Modes) (down started : Bool) (attentions : List (List Attention)) (entry : Entry) (left : Entry) (others : List Entry) (d d' : DriveState) (ending : Ending) → down ≡ d.down
     → IsKeptEntry identity entry → (down ≡ false → IsSetBy modes d) → TellsOf identity.bytes d
-    → IfSome (alone_of entry.command) (λ alone. CanCarry alone entry d) → TaskEnds down started (wanted_by modes entry.modes) entry taken d ending d'
-    → EndsOne (seen identity modes started attentions (task_of entry ∷ others) d) (ended_reply (record entry { body = taken }) ending modes.d_sense) (ended_seen identity modes (wanted_by modes entry.modes) started attentions entry ending others d')
-ended_turn identity modes true started attentions entry taken others d d' ending mark kept set told has x =
-    unasked_turn identity modes (wanted_by modes entry.modes) started attentions entry taken others d d' link_lost ending (λ reply mid e. ends_down _ _ _ _ (sym mark) e) x kept
-ended_turn identity modes false started attentions entry taken others d d' ending mark kept set told has x =
-    up_turn (not started && (asks entry.command).starts) identity modes started attentions entry taken others d d' ending kept (set refl) told has refl x
+    → IfSome (alone_of entry.command) (λ alone. CanCarry alone entry d) → TaskEnds (record { down = down; started = started; wanted = wanted_by modes entry.modes }) ending (task_on entry d) (task_on left d')
+    → EndsOne (seen identity modes started attentions (task_of entry ∷ others) d) (ended_reply (record entry { body = left.body }) ending modes.d_sense) (ended_seen identity modes (wanted_by modes entry.modes) started attentions entry ending others d')
+ended_turn identity modes true started attentions entry left others d d' ending mark kept set told has x =
+    unasked_turn identity modes (wanted_by modes entry.modes) started attentions entry left.body others d d' link_lost ending (λ reply mid e. ends_down _ _ _ _ (sym mark) e) x kept
+ended_turn identity modes false started attentions entry left others d d' ending mark kept set told has x =
+    up_turn (not started && (asks entry.command).starts) identity modes started attentions entry left others d d' ending kept (set refl) told has refl x
 
 -- where the link is lost it ends with sense data, and the drive is not asked
-pub task_unasked : (down started : Bool) (wanted : Modes) (t : Entry) (taken : List Block) (d d' : DriveState) (ending : Ending) → TaskEnds down started wanted t taken d ending d' → down ≡ true → (sense : Sense) × (ending ≡ endings.Check sense)
-task_unasked true started wanted t taken d d' ending x lost = (link_lost, x.sensed)
-task_unasked false started wanted t taken d d' ending x lost = absurd cc
+pub task_unasked : (down started : Bool) (wanted : Modes) (old new : TaskOnDrive) (ending : Ending) → TaskEnds (record { down = down; started = started; wanted = wanted }) ending old new → down ≡ true → (sense : Sense) × (ending ≡ endings.Check sense)
+task_unasked true started wanted old new ending x lost = (link_lost, x.sensed)
+task_unasked false started wanted old new ending x lost = absurd cc
 
 -- what is posted is what the device posts
 posted_changes : (command : Command) (old new : Modes) (nexus : ℕ) (tasks : List Held) (attentions : List (List Attention)) → once_posted (change_posting command old new nexus) tasks attentions ≡ told_after command old new nexus attentions
@@ -276,13 +276,13 @@ module _ (l : Layer) (rest : List Held) (entry : Entry) (d d' : DriveState) (kep
   set_by_modes : l.down ≡ false → IsSetBy l.modes d
   set_by_modes up = record { up = sym agrees.mark ∙ up; cache = agrees.cache up; look = agrees.look up }
 
-  pub first_ends : IfSome (alone_of entry.command) (λ alone. CanCarry alone entry d) → (ending : Ending) (taken : List Block) (started' : Bool) (wanted modes' : Modes) (posting : Option Posting) (attentions' : List (List Attention)) → wanted ≡ wanted_by l.modes entry.modes → TaskEnds l.down l.started wanted entry taken d ending d'
+  pub first_ends : IfSome (alone_of entry.command) (λ alone. CanCarry alone entry d) → (ending : Ending) (left : Entry) (started' : Bool) (wanted modes' : Modes) (posting : Option Posting) (attentions' : List (List Attention)) → wanted ≡ wanted_by l.modes entry.modes → TaskEnds (record { down = l.down; started = l.started; wanted = wanted }) ending (task_on entry d) (task_on left d')
       → started' ≡ started_after entry.command ending l.started → modes' ≡ modes_after entry.command ending l.modes wanted → posting ≡ change_posting entry.command l.modes modes' entry.nexus → attentions' ≡ once_posted posting rest l.attentions
-      → EndsOne (seen l.identity l.modes l.started l.attentions (map task_of (entries_of l.tasks)) d) (ended_reply (record entry { body = taken }) ending l.modes.d_sense) (seen l.identity modes' started' attentions' (map task_of (entries_of rest)) d')
-  first_ends carry ending taken started' wanted modes' posting attentions' wants ends after changed posts told =
-      subst (EndsOne (seen l.identity l.modes l.started l.attentions (map task_of (entries_of l.tasks)) d) (ended_reply (record entry { body = taken }) ending l.modes.d_sense)) (sym same)
-      (subst (λ ts. EndsOne (seen l.identity l.modes l.started l.attentions ts d) (ended_reply (record entry { body = taken }) ending l.modes.d_sense) (ended_seen l.identity l.modes (wanted_by l.modes entry.modes) l.started l.attentions entry ending (map task_of (entries_of rest)) d')) (sym all)
-      (ended_turn l.identity l.modes l.down l.started l.attentions entry taken (map task_of (entries_of rest)) d d' ending agrees.mark here set_by_modes agrees.told carry (subst (λ w. TaskEnds l.down l.started w entry taken d ending d') wants ends)))
+      → EndsOne (seen l.identity l.modes l.started l.attentions (map task_of (entries_of l.tasks)) d) (ended_reply (record entry { body = left.body }) ending l.modes.d_sense) (seen l.identity modes' started' attentions' (map task_of (entries_of rest)) d')
+  first_ends carry ending left started' wanted modes' posting attentions' wants ends after changed posts told =
+      subst (EndsOne (seen l.identity l.modes l.started l.attentions (map task_of (entries_of l.tasks)) d) (ended_reply (record entry { body = left.body }) ending l.modes.d_sense)) (sym same)
+      (subst (λ ts. EndsOne (seen l.identity l.modes l.started l.attentions ts d) (ended_reply (record entry { body = left.body }) ending l.modes.d_sense) (ended_seen l.identity l.modes (wanted_by l.modes entry.modes) l.started l.attentions entry ending (map task_of (entries_of rest)) d')) (sym all)
+      (ended_turn l.identity l.modes l.down l.started l.attentions entry left (map task_of (entries_of rest)) d d' ending agrees.mark here set_by_modes agrees.told carry (subst (λ w. TaskEnds (record { down = l.down; started = l.started; wanted = w }) ending (task_on entry d) (task_on left d')) wants ends)))
     where
       set : modes' ≡ modes_after entry.command ending l.modes (wanted_by l.modes entry.modes)
       set = changed ∙ ap (modes_after entry.command ending l.modes) wants

@@ -109,38 +109,59 @@ abbrev pub ending_by : Bool → Option NcqError → Ending
 ending_by writes None = endings.Good
 ending_by writes (Some e) = endings.Check (error_sense_at writes e.error e.lba)
 
+-- a task, and the drive that carries it out, at a moment (profile)
+pub record TaskOnDrive : Type 0 where
+  pub task : Entry
+  pub drive : DriveState
+
+-- the task on the drive (profile)
+abbrev pub task_on : Entry → DriveState → TaskOnDrive
+task_on task drive = record { task = task; drive = drive }
+
+-- what a task finds whose turn comes: the mark of a lost link, whether the unit is started, and the mode values that the task
+-- wants (profile)
+pub record Circumstances : Type 0 where
+  pub down : Bool
+  pub started : Bool
+  pub wanted : Modes
+
 -- a task ends with this sense, and the drive is not asked (profile)
 pub record IsUnasked (sense : Sense) (old : DriveState) (ending : Ending) (new : DriveState) : Type 0 where
   pub sensed : ending ≡ endings.Check sense
   pub stays : new ≡ old
 
--- what the drive did for a task that wants these mode values and runs alone, which leaves these blocks in its pages (SAT-3 8)
-abbrev pub CarriedOut : Modes → Alone → Entry → List Block → DriveState → Ending → DriveState → Type 0
-CarriedOut wanted alones.Flush t taken old ending new =
-    (ending ≡ endings.Good) × IsLeftWith (map settle old.cells) old.active old new
-CarriedOut wanted alones.Select t taken old ending new = (ending ≡ endings.Good) × IsTuned wanted.wce (not wanted.dra) old new
-CarriedOut wanted (alones.Switch start no_flush) t taken old ending new =
-    (ending ≡ endings.Good) × IsSwitched start no_flush old new
-CarriedOut wanted (alones.Verify range) t taken old ending new = HasVerified range old ending new
-CarriedOut wanted (alones.Compare range) t taken old ending new = HasCompared range t.body old ending new
-CarriedOut wanted (alones.WriteSame range) t taken old ending new =
-    HasFinished (writing_same range (get_or t.body 0 no_block) old) (min piece range.count) old ending new
-CarriedOut wanted (alones.TrimRange range) t taken old ending new = HasFinished (trimming (range ∷ []) old) 0 old ending new
-CarriedOut wanted alones.TrimList t taken old ending new = HasFinished (trimming t.ranges.items old) 0 old ending new
-CarriedOut wanted (alones.Through cdb) t taken old ending new = PassesThrough (pass_of cdb) t.body taken old ending new
+-- what the drive did for a task that wants these mode values and runs alone; its pages hold afterwards what was left in them
+-- (SAT-3 8)
+abbrev pub CarriedOut : Modes → Alone → Ending → TaskOnDrive → TaskOnDrive → Type 0
+CarriedOut wanted alones.Flush ending old new =
+    (ending ≡ endings.Good) × IsLeftWith (map settle old.drive.cells) old.drive.active old.drive new.drive
+CarriedOut wanted alones.Select ending old new =
+    (ending ≡ endings.Good) × IsTuned wanted.wce (not wanted.dra) old.drive new.drive
+CarriedOut wanted (alones.Switch start no_flush) ending old new =
+    (ending ≡ endings.Good) × IsSwitched start no_flush old.drive new.drive
+CarriedOut wanted (alones.Verify range) ending old new = HasVerified range old.drive ending new.drive
+CarriedOut wanted (alones.Compare range) ending old new = HasCompared range old.task.body old.drive ending new.drive
+CarriedOut wanted (alones.WriteSame range) ending old new =
+    HasFinished (writing_same range (get_or old.task.body 0 no_block) old.drive) (min piece range.count) old.drive ending
+        new.drive
+CarriedOut wanted (alones.TrimRange range) ending old new =
+    HasFinished (trimming (range ∷ []) old.drive) 0 old.drive ending new.drive
+CarriedOut wanted alones.TrimList ending old new =
+    HasFinished (trimming old.task.ranges.items old.drive) 0 old.drive ending new.drive
+CarriedOut wanted (alones.Through cdb) ending old new =
+    PassesThrough (pass_of cdb) old.task.body new.task.body old.drive ending new.drive
 
--- what the drive did for a command that runs alone (SAT-3 8)
-abbrev pub DoneAlone : Modes → Command → Entry → List Block → DriveState → Ending → DriveState → Type 0
-DoneAlone wanted command t taken old ending new =
-    IsSomeAnd (alone_of command) (λ alone. CarriedOut wanted alone t taken old ending new)
+-- what the drive did for a task whose command runs alone (SAT-3 8)
+abbrev pub DoneAlone : Modes → Ending → TaskOnDrive → TaskOnDrive → Type 0
+DoneAlone wanted ending old new = IsSomeAnd (alone_of old.task.command) (λ alone. CarriedOut wanted alone ending old new)
 
 -- how the task ends whose turn it is: the first that holds decides, a lost link, a unit that is stopped where the command needs
 -- it started, and the drive (SAT-3 11; profile)
-abbrev pub TaskEnds : Bool → Bool → Modes → Entry → List Block → DriveState → Ending → DriveState → Type 0
-TaskEnds down started wanted t taken old ending new =
-    MatchBool down (IsUnasked link_lost old ending new)
-    (MatchBool (not started && (asks t.command).starts) (IsUnasked not_ready old ending new)
-    (DoneAlone wanted t.command t taken old ending new))
+abbrev pub TaskEnds : Circumstances → Ending → TaskOnDrive → TaskOnDrive → Type 0
+TaskEnds found ending old new =
+    MatchBool found.down (IsUnasked link_lost old.drive ending new.drive)
+    (MatchBool (not found.started && (asks old.task.command).starts) (IsUnasked not_ready old.drive ending new.drive)
+    (DoneAlone found.wanted ending old new))
 
 -- the link was lost while a task was carried out that writes these pairs, at a unit that is started where the command needs it
 -- (profile)

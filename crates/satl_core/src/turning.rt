@@ -12,7 +12,7 @@ ghost use Rattle.satl_base.specs.declared.modes.Modes.{Modes};
 ghost use Rattle.satl_core.specs.Turning;
 ghost use Rattle.satl_barrier.specs.Leaving.{IsFree, IsLostIn, Stays};
 ghost use Rattle.satl_barrier.specs.Settings.{CanSet, IsSetBy};
-ghost use Rattle.satl_core.specs.Turning.{CarriedOut, IsLostInTask, TaskEnds, barrier_calls, ended_reply, lost_replies, modes_after, modes_left, started_after};
+ghost use Rattle.satl_core.specs.Turning.{CarriedOut, IsLostInTask, TaskEnds, barrier_calls, ended_reply, lost_replies, modes_after, modes_left, started_after, task_on};
 
 use crate::alone::Alone;
 use crate::medium::{compare_range, trim_ranges, verify_range, write_range};
@@ -70,8 +70,8 @@ pub fn run_task<D: Drive, L: Ledger>(
         → (D.state drive.new).look ≡ not (modes_after task.old.command ending modes.now wanted.now).dra) }
     ensures up { OnOk result ((D.state drive.new).down ≡ down) }
     ensures faults { OnOk result ((D.state drive.new).faults ≡ (D.state drive.old).faults) }
-    ensures ends { IfOk result (λ ending. TaskEnds down started wanted.now task.old task.new.body (D.state drive.old) ending
-        (D.state drive.new)) }
+    ensures ends { IfOk result (λ ending. TaskEnds (record { down = down; started = started; wanted = wanted.now }) ending
+        (task_on task.old (D.state drive.old)) (task_on task.new (D.state drive.new))) }
     ensures lost { OnErr result (IsLostInTask down started task.old (D.state drive.old) (D.state drive.new)) }
     ensures task { task.new ≡ record task.old { body = task.new.body } }
     ensures size { length task.new.body ≡ length task.old.body }
@@ -120,8 +120,8 @@ fn carry_out<D: Drive, L: Ledger>(
     ensures look { IfOk result (λ ending. (D.state drive.new).look ≡ not (modes_left alone ending modes.now wanted.now).dra) }
     ensures up { OnOk result ((D.state drive.new).down ≡ false) }
     ensures faults { OnOk result ((D.state drive.new).faults ≡ (D.state drive.old).faults) }
-    ensures ends { IfOk result (λ ending. CarriedOut wanted.now alone task.old task.new.body (D.state drive.old) ending
-        (D.state drive.new)) }
+    ensures ends { IfOk result (λ ending. CarriedOut wanted.now alone ending (task_on task.old (D.state drive.old))
+        (task_on task.new (D.state drive.new))) }
     ensures lost { OnErr result (IsLostIn (written_alone alone task.old (D.state drive.old)) (D.state drive.old)
         (D.state drive.new)) }
     ensures whole { OnErr result (HasWhole alone task.old) }

@@ -30,8 +30,8 @@ whole_task flying slots h = with_body (unwrap_or (lent flying slots h.slot) h.en
 abbrev pub whole_tasks : List Flying → Slots → List Held → List Held
 whole_tasks flying slots tasks = map (whole_task flying slots) tasks
 
--- tasks in order of arrival; those that are outstanding, in order of issue; and the slots of the tags. In clauses of `Queue` the
--- tasks have their pages; in those of the flight they are as they stand in the set, without the pages that they have lent
+-- tasks in order of arrival; those that are outstanding, in order of issue; and the slots of the tags. In clauses of `Queue`
+-- the tasks have their pages; in those of the flight they are as they stand in the set, without the pages that they have lent
 -- (profile)
 pub record Waiting : Type 0 where
   pub tasks : List Held

@@ -1,9 +1,20 @@
 use Rattle.std.proofs.Common.{◌≡◌, ◌∙◌, refl, subst, sym}
 use Rattle.std.specs.Prelude.{IsSomeAnd}
+use Rattle.std.proofs.lemmas.Result.{IfOk-weaker}
 use Rattle.satl_base.proofs.OutcomeLemmas.{on_both_err}
 use Rattle.satl_core.specs.Medium.{HasWhole, written_alone}
-use Rattle.satl_core.proofs.AloneLemmas.{stops_alike}
+use Rattle.satl_core.specs.Turning.{task_on}
+use Rattle.satl_core.proofs.AloneLemmas.{ends_carried, stops_alike}
 use Rattle.satl_core.proofs.turning.run_task.Goals as goal
+
+pub returns-clause-ends : goal.returns-clause-ends
+returns-clause-ends g c =
+    let task = c.args.task.now in
+    let is = sym c.of.ensures ∙ c.in-Some.is in
+    IfOk-weaker c.carry_out.result _ _
+    (λ ending carried. ends_carried c.args.down c.args.started c.args.wanted.now c.in-Some.alone ending (task_on task (g.D.Drive.state c.args.drive.now)) (task_on c.carry_out.new.task (g.D.Drive.state c.carry_out.new.drive)) c.if-down.false
+    (stops_alike task.command c.in-Some.alone c.args.started is ∙ (sym c.waits.ensures ∙ c.if-waits.false)) is carried)
+    c.carry_out.ensures.ends
 
 pub returns-clause-lost : goal.returns-clause-lost
 returns-clause-lost g c =

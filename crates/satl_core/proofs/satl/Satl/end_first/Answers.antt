@@ -9,7 +9,7 @@ use Rattle.satl_core.specs.declared.turning.Ending.TheVariants as endings
 use Rattle.satl_core.specs.Flushed.{IsFlushed}
 use Rattle.satl_core.specs.Layer.{IsTask, Layer, Tied, view}
 use Rattle.satl_core.specs.Refilling.{EndsOne}
-use Rattle.satl_core.specs.Turning.{data_in, ended_reply, lost_replies}
+use Rattle.satl_core.specs.Turning.{data_in, ended_reply, lost_replies, task_on}
 use Rattle.satl_core.proofs.AgreeingLemmas.{alone_down, capacity_is, tied_lost}
 use Rattle.satl_core.proofs.ArrivalLemmas.{held_by_is}
 use Rattle.satl_core.proofs.MediumLemmas.{can_carry}
@@ -123,7 +123,7 @@ returns-in-Ok-clause-ends g c =
       c.push.ensures ∙ ap (λ l. l ++ c.end_task.result ∷ []) c.requires.empty,
       subst (λ r. EndsOne (view c.args.self.now d) r new) (sym (c.end_task.ensures.reply ∙ ap (λ t. ended_reply t c.in-Ok.ending i.modes.d_sense) c.run_task.ensures.task))
           (subst (λ l. EndsOne (view l d) (ended_reply (record c.remove-task.result { body = c.run_task.new.task.body }) c.in-Ok.ending i.modes.d_sense) new) c.self.view_is
-          (first_ends was c.remove-task.new.self.tasks c.remove-task.result d d' c.self.invariant.kept first tied.agrees carry c.in-Ok.ending c.run_task.new.task.body c.started_after-self-inside.result c.wanted_by-wanted.result c.modes_after-modes.result c.change_posting-posting.result c.post.new.attentions
+          (first_ends was c.remove-task.new.self.tasks c.remove-task.result d d' c.self.invariant.kept first tied.agrees carry c.in-Ok.ending c.run_task.new.task c.started_after-self-inside.result c.wanted_by-wanted.result c.modes_after-modes.result c.change_posting-posting.result c.post.new.attentions
           c.wanted_by-wanted.ensures c.in-Ok.ensures.ends c.started_after-self-inside.ensures c.modes_after-modes.ensures c.change_posting-posting.ensures c.post.ensures)),
     )
 
@@ -136,7 +136,7 @@ returns-in-Ok-clause-agrees g c =
     let first = first_of i.queue.tasks c.remove-task.new.self.tasks c.remove-task.result c.remove-task.ensures.value c.remove-task.ensures.others in
     let kept = first_kept i.identity i.queue.tasks c.remove-task.new.self.tasks c.remove-task.result c.self.invariant.kept first in
     let new = layer_of i.identity c.modes_after-modes.result c.started_after-self-inside.result i.down c.post.new.attentions c.remove-task.new.self c.end_task.new.pool in
-    agrees_rest was new c.wanted_by-wanted.result c.change_posting-posting.result c.remove-task.new.self.tasks c.remove-task.result c.in-Ok.ending d (g.D.Drive.state c.run_task.new.drive) first kept.0 (task_unasked i.down i.started c.wanted_by-wanted.result c.remove-task.result c.run_task.new.task.body d (g.D.Drive.state c.run_task.new.drive) c.in-Ok.ending c.in-Ok.ensures.ends) c.modes_after-modes.ensures c.post.ensures
+    agrees_rest was new c.wanted_by-wanted.result c.change_posting-posting.result c.remove-task.new.self.tasks c.remove-task.result c.in-Ok.ending d (g.D.Drive.state c.run_task.new.drive) first kept.0 (task_unasked i.down i.started c.wanted_by-wanted.result _ _ c.in-Ok.ending c.in-Ok.ensures.ends) c.modes_after-modes.ensures c.post.ensures
     c.in-Ok.ensures.up c.in-Ok.ensures.cache c.in-Ok.ensures.look c.run_task.ensures.stays
     (ap (λ fs. record new { flying = fs }) (c.remove-task.ensures.flying ∙ subst (λ (l : Layer). l.flying ≡ []) (sym c.self.view_is) c.requires.idle)) tied.agrees
 
@@ -167,7 +167,7 @@ returns-in-Ok-clause-flushed g c = λ flushed quiet.
     let own = (subst (λ ts. AreOwn ts) (first_tasks i.queue.tasks c.remove-task.new.self.tasks c.remove-task.result first) tied.agrees.valid.own).0 in
     let done = first_flush i.queue.tasks c.remove-task.new.self.tasks c.remove-task.result (record c.remove-task.result { body = c.run_task.new.task.body }) c.in-Ok.ending i.modes.d_sense c.args.replies.now c.push.new.self c.end_task.result first refl refl own c.requires.empty c.push.ensures (c.end_task.ensures.reply ∙ ap (λ t. ended_reply t c.in-Ok.ending c.self.inside.modes.d_sense) c.run_task.ensures.task)
     (subst (λ (l : Layer). IsFlushed l.tasks c.push.new.self) (sym c.self.view_is) flushed) in
-    flush_done i.down i.started c.wanted_by-wanted.result c.remove-task.result c.run_task.new.task.body (g.D.Drive.state c.args.drive.now) (g.D.Drive.state c.run_task.new.drive) c.in-Ok.ending done.flush done.good c.in-Ok.ensures.ends
+    flush_done i.down i.started c.wanted_by-wanted.result (task_on c.remove-task.result (g.D.Drive.state c.args.drive.now)) (task_on c.run_task.new.task (g.D.Drive.state c.run_task.new.drive)) c.in-Ok.ending done.flush done.good c.in-Ok.ensures.ends
 
 pub returns-in-Err-clause-ends : goal.returns-in-Err-clause-ends
 returns-in-Err-clause-ends g c =
