@@ -1,14 +1,15 @@
 -- What a unit did, of what its step says.
 use Rattle.std.proofs.Common.{◌≡◌, ◌⊎◌, inl, inr, append_assoc, refl, ap, subst, ◌∙◌, ℕ, Bool, true, false, List, [], ◌∷◌, ◌++◌, not}
-use Rattle.std.specs.Prelude.{Option, if◌then◌else◌}
+use Rattle.std.specs.Prelude.{Option, Result, Ok, Err, if◌then◌else◌}
 use Rattle.satl_io.specs.Known.{Wrote, WrotePart}
 use Rattle.satl_frame.specs.Output.{Answer, all_answered, answer_bytes}
 use Rattle.satl_frame.specs.declared.frames.Frame.{Frame}
 use Rattle.satl_drive.specs.State.{DriveState}
 use Rattle.satl_core.specs.Layer.{Layer}
-use Rattle.satl_step.specs.Events.{Carried, Done, DoneInPart, IsTallied, IsWholeOf, scene_of}
+use Rattle.satl_step.specs.Events.{Carried, Done, DoneInPart, IsTallied, IsWholeOf, Scene, scene_of}
 use Rattle.satl_step.specs.Runs.{DoesInPart, DoesShort, stand_of}
 use Rattle.satl_step.specs.Runs.DoesInPart.{does_all, does_some}
+use Rattle.satl_step.specs.Serving.{Ends}
 use Rattle.satl_step.specs.Telling.{all_told}
 use Rattle.satl_step.proofs.RunLemmas.{asked_whole, tallied_whole}
 use Rattle.satl_fleet.specs.Output.{is_left_out, kept, named, named_behind, told_one, told_under, unit_bytes}
@@ -46,9 +47,14 @@ unnamed_told k (answer ∷ answers) =
 
 -- ---- doing
 
-module _ (l l' : Layer) (d d' : DriveState) (calls calls' : ℕ) (event whole : Frame) (is : IsWholeOf event whole) (tallied : IsTallied event (stand_of l d calls) (stand_of l' d' calls')) where
-  did : (answers : List Answer) → Carried event (stand_of l d calls) answers (stand_of l' d' calls') → Did whole (spot l d) answers (spot l' d')
-  did answers carried =
+-- what was counted, however an event ended
+pub counted_so : {E : Type 0} (event : Frame) (a c : Scene UnitTeller) (r : Result (Unit {0}) E) → Ends (Done by behind event) (DoneInPart by behind event) a c r → IsTallied event a.stand c.stand
+counted_so event a c (Ok u) ends = ends.whole.tallied
+counted_so event a c (Err e) ends = ends.part.tallied
+
+module _ (l l' : Layer) (d d' : DriveState) (calls calls' : ℕ) (event whole : Frame) (is : IsWholeOf event whole) where
+  did : (answers : List Answer) → IsTallied event (stand_of l d calls) (stand_of l' d' calls') → Carried event (stand_of l d calls) answers (stand_of l' d' calls') → Did whole (spot l d) answers (spot l' d')
+  did answers tallied carried =
       let t = tallied_whole is.room (stand_of l d calls) (stand_of l' d' calls') event whole is.cut tallied in
       record { deep = carried.deep; does = carried.does whole is; covered = carried.covered; faults = t.faults; unplugs = t.unplugs; queue = record { rises = t.queue.rises; covers = t.queue.covers } }
 
@@ -56,8 +62,8 @@ module _ (l l' : Layer) (d d' : DriveState) (calls calls' : ℕ) (event whole : 
   does_part answers (inl carried) = does_all carried.deep (carried.does whole is)
   does_part answers (inr short) = does_some (record { count = short.count; some = short.some; asked = asked_whole is.room short.count event whole is.cut short.asked; replies = short.replies; deep = short.deep; turns = short.turns; answer = short.answer })
 
-  did_in_part : (answers : List Answer) → Carried event (stand_of l d calls) answers (stand_of l' d' calls') ⊎ DoesShort event (device_of (spot l d)) answers (device_of (spot l' d')) → DidInPart whole (spot l d) answers (spot l' d')
-  did_in_part answers done =
+  did_in_part : (answers : List Answer) → IsTallied event (stand_of l d calls) (stand_of l' d' calls') → Carried event (stand_of l d calls) answers (stand_of l' d' calls') ⊎ DoesShort event (device_of (spot l d)) answers (device_of (spot l' d')) → DidInPart whole (spot l d) answers (spot l' d')
+  did_in_part answers tallied done =
       let t = tallied_whole is.room (stand_of l d calls) (stand_of l' d' calls') event whole is.cut tallied in
       record { does = does_part answers done; faults = t.faults; unplugs = t.unplugs; queue = record { rises = t.queue.rises; covers = t.queue.covers } }
 
@@ -65,13 +71,13 @@ module _ (l l' : Layer) (d d' : DriveState) (calls calls' : ℕ) (event whole : 
     pub unit_did : Done by behind event (scene_of l d calls first written) (scene_of l' d' calls' last written') → UnitDid k whole (spot l d) (spot l' d') written written'
     unit_did done = record {
       answers = done.answers;
-      did = did done.answers done.carried;
+      did = did done.answers done.tallied done.carried;
       wrote = subst (Wrote written written') (ap (λ t. all_told by behind t done.answers) fresh ∙ unnamed_told k done.answers) done.told_so.wrote;
     }
 
     pub unit_did_in_part : DoneInPart by behind event (scene_of l d calls first written) (scene_of l' d' calls' last written') → UnitDidInPart k whole (spot l d) (spot l' d') written written'
     unit_did_in_part done = record {
       answers = done.answers;
-      did = did_in_part done.answers done.carried;
+      did = did_in_part done.answers done.tallied done.carried;
       part = subst (WrotePart written written') (ap (λ t. all_told by behind t done.answers) fresh ∙ unnamed_told k done.answers) done.told_so.part;
     }

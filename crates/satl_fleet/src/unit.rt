@@ -2,12 +2,12 @@
 ghost use Rattle.std.specs.Prelude.{◌≡◌, ◌≤◌, ◌+◌, ◌*◌, ◌∷◌, [], OnErr, OnOk, length};
 ghost use Rattle.satl_io.specs.Causes.{HasCause};
 ghost use Rattle.satl_frame.specs.declared.frames.Frame.{Frame};
-ghost use Rattle.satl_core.specs.Layer.{Tied};
 ghost use Rattle.satl_base.specs.Limits.{IsExpectable};
 ghost use Rattle.satl_core.specs.Submitting.{CanSubmit};
 ghost use Rattle.satl_core.specs.Turning.{turn_calls};
-ghost use Rattle.satl_step.specs.Events.{CanTake, IsWholeOf};
+ghost use Rattle.satl_step.specs.Events.{IsWholeOf};
 ghost use Rattle.satl_step.specs.Runs.{calls_allowed};
+ghost use Rattle.satl_step.specs.Serving.{CanServe};
 ghost use Rattle.satl_pages.specs.Counts.{number_of};
 ghost use Rattle.satl_fleet.specs.Units.{IsTiedSpot, UnitDid, UnitDidInPart, spot};
 
@@ -56,9 +56,7 @@ pub fn serve_unit<K: Sink, D: Bench, L: Ledger>(
     replies: &mut Replies,
     steps: &mut Steps<L>,
 ) -> Result<(), WriteFault>
-    requires tied { Tied satl.old (D.state drive.old) }
-    requires can { CanTake event satl.old.free satl.old.out }
-    requires none { replies.old ≡ [] }
+    requires can { CanServe event satl.old (D.state drive.old) replies.old }
     ensures tied { IsTiedSpot (spot satl.new (D.state drive.new)) }
     ensures all_in { OnOk result (satl.new.out ≡ 0) }
     ensures none { OnOk result (replies.new ≡ []) }

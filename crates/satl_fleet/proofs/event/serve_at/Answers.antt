@@ -8,11 +8,14 @@ use Rattle.satl_base.proofs.OutcomeLemmas.{on_both}
 use Rattle.satl_fleet.proofs.EventLemmas.{calls_there, did_at, did_at_in_part, ready_here, serves_there, keeps_there}
 use Rattle.satl_fleet.proofs.event.serve_at.Goals as goal
 
-pub serve_unit-requires-clause-tied : goal.serve_unit-requires-clause-tied
-serve_unit-requires-clause-tied g c = (ready_here g.D.Drive.state c.args.units.now.items c.args.drives.now.items c.args.k c.index_mut-satl.result.now c.index_mut-drive.result.now (omega (arith, c.requires.within, c.args.units.now.ok.0)) (omega (arith, c.requires.within, c.requires.serve.has.same, c.args.drives.now.ok.0)) c.index_mut-satl.ensures.value c.index_mut-drive.ensures.value c.requires.serve.has.ready).tied.tied
-
-pub serve_unit-requires-clause-can : goal.serve_unit-requires-clause-can
-serve_unit-requires-clause-can g c = subst (CanTake c.args.event c.index_mut-satl.result.now.free) (sym (ready_here g.D.Drive.state c.args.units.now.items c.args.drives.now.items c.args.k c.index_mut-satl.result.now c.index_mut-drive.result.now (omega (arith, c.requires.within, c.args.units.now.ok.0)) (omega (arith, c.requires.within, c.requires.serve.has.same, c.args.drives.now.ok.0)) c.index_mut-satl.ensures.value c.index_mut-drive.ensures.value c.requires.serve.has.ready).all_in) (c.requires.can c.index_mut-satl.result.now.free)
+pub serve_unit-requires : goal.serve_unit-requires
+serve_unit-requires g c = record {
+  can = record {
+    tied = (ready_here g.D.Drive.state c.args.units.now.items c.args.drives.now.items c.args.k c.index_mut-satl.result.now c.index_mut-drive.result.now (omega (arith, c.requires.within, c.args.units.now.ok.0)) (omega (arith, c.requires.within, c.requires.serve.has.same, c.args.drives.now.ok.0)) c.index_mut-satl.ensures.value c.index_mut-drive.ensures.value c.requires.serve.has.ready).tied.tied;
+    can = subst (CanTake c.args.event c.index_mut-satl.result.now.free) (sym (ready_here g.D.Drive.state c.args.units.now.items c.args.drives.now.items c.args.k c.index_mut-satl.result.now c.index_mut-drive.result.now (omega (arith, c.requires.within, c.args.units.now.ok.0)) (omega (arith, c.requires.within, c.requires.serve.has.same, c.args.drives.now.ok.0)) c.index_mut-satl.ensures.value c.index_mut-drive.ensures.value c.requires.serve.has.ready).all_in) (c.requires.can c.index_mut-satl.result.now.free);
+    none = c.requires.serve.none;
+  };
+}
 
 pub returns-clause-done : goal.returns-clause-done
 returns-clause-done g c = on_ok_weaker c.serve_unit.result (λ u. did_at g.D.Drive.state c.args.units.now.items c.args.drives.now.items c.args.k c.index_mut-satl.result.now c.index_mut-drive.result.now (omega (arith, c.requires.within, c.args.units.now.ok.0)) (omega (arith, c.requires.within, c.requires.serve.has.same, c.args.drives.now.ok.0)) c.index_mut-satl.ensures.value c.index_mut-drive.ensures.value c.serve_unit.new.satl c.serve_unit.new.drive (vec_len c.args.units.now) (vec_len c.args.drives.now) c.args.event (g.K.Sink.written c.args.sink.now) (g.K.Sink.written c.serve_unit.new.sink) u) (c.serve_unit.ensures.done c.args.event c.requires.whole)

@@ -14,8 +14,14 @@ use Rattle.satl_fleet.proofs.event.serve_request_at.Goals as goal
 pub lend-lent-requires-clause-all_in : goal.lend-lent-requires-clause-all_in
 lend-lent-requires-clause-all_in g c = (ready_here g.D.Drive.state c.args.units.now.items c.args.drives.now.items c.args.k c.index_mut-satl.result.now c.index_mut-drive.result.now (omega (arith, c.requires.within, c.args.units.now.ok.0)) (omega (arith, c.requires.within, c.requires.serve.has.same, c.args.drives.now.ok.0)) c.index_mut-satl.ensures.value c.index_mut-drive.ensures.value c.requires.serve.has.ready).all_in
 
-pub serve_unit-requires-clause-tied : goal.serve_unit-requires-clause-tied
-serve_unit-requires-clause-tied g c = tied_lent c.index_mut-satl.result.now c.lend-lent.new.satl (g.D.Drive.state c.index_mut-drive.result.now) c.lend-lent.ensures.rest (ready_here g.D.Drive.state c.args.units.now.items c.args.drives.now.items c.args.k c.index_mut-satl.result.now c.index_mut-drive.result.now (omega (arith, c.requires.within, c.args.units.now.ok.0)) (omega (arith, c.requires.within, c.requires.serve.has.same, c.args.drives.now.ok.0)) c.index_mut-satl.ensures.value c.index_mut-drive.ensures.value c.requires.serve.has.ready).tied.tied
+pub serve_unit-requires : goal.serve_unit-requires
+serve_unit-requires g c = record {
+  can = record {
+    tied = tied_lent c.index_mut-satl.result.now c.lend-lent.new.satl (g.D.Drive.state c.index_mut-drive.result.now) c.lend-lent.ensures.rest (ready_here g.D.Drive.state c.args.units.now.items c.args.drives.now.items c.args.k c.index_mut-satl.result.now c.index_mut-drive.result.now (omega (arith, c.requires.within, c.args.units.now.ok.0)) (omega (arith, c.requires.within, c.requires.serve.has.same, c.args.drives.now.ok.0)) c.index_mut-satl.ensures.value c.index_mut-drive.ensures.value c.requires.serve.has.ready).tied.tied;
+    can = c.lend-lent.ensures.can;
+    none = c.requires.serve.none;
+  };
+}
 
 pub returns-clause-done : goal.returns-clause-done
 returns-clause-done g c = on_ok_weaker c.serve_unit.result (λ u. did_at g.D.Drive.state c.args.units.now.items c.args.drives.now.items c.args.k c.index_mut-satl.result.now c.index_mut-drive.result.now (omega (arith, c.requires.within, c.args.units.now.ok.0)) (omega (arith, c.requires.within, c.requires.serve.has.same, c.args.drives.now.ok.0)) c.index_mut-satl.ensures.value c.index_mut-drive.ensures.value c.serve_unit.new.satl c.serve_unit.new.drive (vec_len c.args.units.now) (vec_len c.args.drives.now) (frames.Request c.args.request) (g.K.Sink.written c.args.sink.now) (g.K.Sink.written c.serve_unit.new.sink) (unit_did_lent c.index_mut-satl.result.now c.lend-lent.new.satl (g.D.Drive.state c.index_mut-drive.result.now) c.lend-lent.ensures.rest c.args.k (frames.Request c.args.request) (spot c.serve_unit.new.satl (g.D.Drive.state c.serve_unit.new.drive)) (g.K.Sink.written c.args.sink.now) (g.K.Sink.written c.serve_unit.new.sink) u)) (c.serve_unit.ensures.done (frames.Request c.args.request) c.lend-lent.ensures.cut)
