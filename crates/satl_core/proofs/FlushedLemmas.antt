@@ -17,7 +17,6 @@ use Rattle.satl_cdb.specs.declared.command.Command.TheVariants as commands
 use Rattle.satl_line.specs.declared.entry.Entry.{Entry}
 use Rattle.satl_line.specs.Ranged.{RangedTask, ranged_by, ranged_of}
 use Rattle.satl_line.specs.Tasks.{Held, entries_of}
-use Rattle.satl_drive.specs.State.{DriveState}
 use Rattle.satl_direct.specs.Device.{is_called}
 use Rattle.satl_direct.specs.Ending.{task_reply}
 use Rattle.satl_direct.specs.Senses.{not_ready}

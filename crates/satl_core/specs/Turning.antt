@@ -143,7 +143,7 @@ CarriedOut wanted (alones.Verify range) ending old new = HasVerified range old.d
 CarriedOut wanted (alones.Compare range) ending old new = HasCompared range old.task.body old.drive ending new.drive
 CarriedOut wanted (alones.WriteSame range) ending old new =
     HasFinished (writing_same range (get_or old.task.body 0 no_block) old.drive) (min piece range.count) old.drive ending
-        new.drive
+    new.drive
 CarriedOut wanted (alones.TrimRange range) ending old new =
     HasFinished (trimming (range ∷ []) old.drive) 0 old.drive ending new.drive
 CarriedOut wanted alones.TrimList ending old new =
