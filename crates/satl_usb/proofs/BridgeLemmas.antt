@@ -15,15 +15,14 @@ use Rattle.satl_serve.specs.Moments.{Spot}
 use Rattle.satl_step.specs.Events.{IsWholeOf}
 use Rattle.satl_step.specs.Runs.{IsDeep, RunSoFar, Stand}
 use Rattle.satl_step.proofs.RunLemmas.{run_more, run_start}
-use Rattle.satl_usb.specs.Answering.{Answered, AnsweredInPart, desk, request_taken}
-use Rattle.satl_usb.specs.Bridge.{Bridged, BridgedInPart, BridgedWhole, HasTaken}
+use Rattle.satl_usb.specs.Answering.{Answered, AnsweredInPart, desk, point, request_taken}
+use Rattle.satl_usb.specs.Bridge.{Bridged, BridgedInPart, BridgedWhole, HasTaken, Talk, talk_of}
 use Rattle.satl_usb.specs.Exchanges.{Exchange, is_told_kept, request_of}
 use Rattle.satl_usb.specs.Exchanges.Exchange.{start, asked, sent}
 use Rattle.satl_usb.specs.Items.{AreItems, IsItem, Item, all_spelled, sent_length, spelled}
 use Rattle.satl_usb.specs.Reading.{TookItem, WasAtEnd}
 use Rattle.satl_usb.specs.Serving.{BothCarried}
 use Rattle.satl_usb.specs.Wire.{kept_of, kept_on_wire, reply_on_wire}
-use Rattle.satl_usb.specs.declared.items.ItemFault.TheVariants as missed
 use Rattle.satl_usb.specs.declared.items.Taken.{Taken}
 
 -- ---- items that were taken
@@ -64,26 +63,30 @@ run_both a b c events groups r w run whole both =
 
 -- ---- one item more
 
-bridged_asked : (limit : ℕ) (a b c : Stand) (left mid left' : Option (List ℕ)) (items : List Item) (wire : List ℕ) (kept : Option (ArrayVec ℕ)) (i : Item) (sense : ArrayVec ℕ) → Bridged limit a b left mid items wire kept → HasTaken limit left left' (items ++ i ∷ []) → kept ≡ Some sense → is_told_kept kept i.command ≡ true → c ≡ b
-    → Bridged limit a c left left' (items ++ i ∷ []) (wire ++ kept_on_wire i.command sense) None
-bridged_asked limit a b c left mid left' items wire kept i sense so taken was asks same = record {
+-- what became of items, and of one more
+abbrev said : Talk → Item → List ℕ → Option (ArrayVec ℕ) → Talk
+said t i more kept = talk_of (t.items ++ i ∷ []) (t.wire ++ more) kept
+
+bridged_asked : (limit : ℕ) (a b c : Spot) (t : Talk) (i : Item) (sense : ArrayVec ℕ) → Bridged limit a b t → HasTaken limit a.left c.left (t.items ++ i ∷ []) → t.kept ≡ Some sense → is_told_kept t.kept i.command ≡ true → c.stand ≡ b.stand
+    → Bridged limit a c (said t i (kept_on_wire i.command sense) None)
+bridged_asked limit a b c t i sense so taken was asks same = record {
   events = so.events;
   groups = so.groups;
   taken = taken;
-  exchange = asked i sense (subst (Exchange items so.events so.groups wire) was so.exchange) (ap (λ k. is_told_kept k i.command) (sym was) ∙ asks);
-  run = subst (λ s. RunSoFar a s so.events so.groups) (sym same) so.run;
+  exchange = asked i sense (subst (Exchange t.items so.events so.groups t.wire) was so.exchange) (ap (λ k. is_told_kept k i.command) (sym was) ∙ asks);
+  run = subst (λ s. RunSoFar a.stand s so.events so.groups) (sym same) so.run;
   idle = ap (λ (s : Stand). s.device.tasks) same ∙ so.idle;
   unplugs = ap (λ (s : Stand). s.tally.unplugs) same ∙ so.unplugs;
 }
 
-bridged_sent : (limit : ℕ) (a b c : Stand) (left mid left' : Option (List ℕ)) (items : List Item) (wire : List ℕ) (kept : Option (ArrayVec ℕ)) (i : Item) (r : Request) → Bridged limit a b left mid items wire kept → HasTaken limit left left' (items ++ i ∷ []) → is_told_kept kept i.command ≡ false → IsWholeOf (frames.Request r) (frames.Request (request_of i)) → (both : BothCarried r b c)
-    → Bridged limit a c left left' (items ++ i ∷ []) (wire ++ reply_on_wire i.command both.reply) (kept_of both.reply)
-bridged_sent limit a b c left mid left' items wire kept i r so taken other whole both = record {
+bridged_sent : (limit : ℕ) (a b c : Spot) (t : Talk) (i : Item) (r : Request) → Bridged limit a b t → HasTaken limit a.left c.left (t.items ++ i ∷ []) → is_told_kept t.kept i.command ≡ false → IsWholeOf (frames.Request r) (frames.Request (request_of i)) → (both : BothCarried r b.stand c.stand)
+    → Bridged limit a c (said t i (reply_on_wire i.command both.reply) (kept_of both.reply))
+bridged_sent limit a b c t i r so taken other whole both = record {
   events = so.events ++ frames.Request (request_of i) ∷ frames.Turn 1 ∷ [];
   groups = so.groups ++ both.first ∷ both.second ∷ [];
   taken = taken;
   exchange = sent i both.reply both.first both.second so.exchange other both.one;
-  run = run_both a b c so.events so.groups r (request_of i) so.run whole both;
+  run = run_both a.stand b.stand c.stand so.events so.groups r (request_of i) so.run whole both;
   idle = both.none;
   unplugs = both.turn_tallied.unplugs ∙ (both.arrival_tallied.unplugs ∙ so.unplugs);
 }
@@ -93,7 +96,7 @@ bridged_sent limit a b c left mid left' items wire kept i r so taken other whole
 pub record Going (limit : ℕ) (before now : Spot) (kept : Option (ArrayVec ℕ)) (offset : ℕ) : Type 0 where
   pub items : List Item
   pub wire : List ℕ
-  pub bridged : Bridged limit before.stand now.stand before.left now.left items wire kept
+  pub bridged : Bridged limit before now (talk_of items wire kept)
   pub at : offset ≡ length (all_spelled items)
   pub wrote : Wrote before.written now.written wire
 
@@ -111,6 +114,9 @@ pub going_same : (limit : ℕ) (a b : Spot) (s : Stand) (kept : Option (ArrayVec
 going_same limit a b s kept offset same g = subst (λ (x : Stand). Going limit a (record b { stand = x }) kept offset) (sym same) g
 
 module _ (limit offset room : ℕ) (a b c : Spot) (kept : Option (ArrayVec ℕ)) (taken : Taken) (g : Going limit a b kept offset) (t : TookItem limit offset room b.left c.left taken) where
+  abbrev talk : Talk
+  talk = talk_of g.items g.wire kept
+
   all_taken : HasTaken limit a.left c.left (g.items ++ t.item ∷ [])
   all_taken = taken_more limit offset room a.left b.left c.left g.items taken g.at g.bridged.taken t
 
@@ -123,47 +129,43 @@ module _ (limit offset room : ℕ) (a b c : Spot) (kept : Option (ArrayVec ℕ))
       let at = g.at in
       omega (arith, is, all, one, size, sent, at)
 
-  asked_bridged : (s : Stand) (sense : ArrayVec ℕ) → kept ≡ Some sense → is_told_kept kept taken.command ≡ true → s ≡ b.stand → Bridged limit a.stand s a.left c.left (g.items ++ t.item ∷ []) (g.wire ++ kept_on_wire taken.command sense) None
-  asked_bridged s sense was asks same =
-      subst (λ l. Bridged limit a.stand s a.left c.left (g.items ++ t.item ∷ []) (g.wire ++ l) None) (ap (λ x. kept_on_wire x sense) (sym t.command))
-      (bridged_asked limit a.stand b.stand s a.left b.left c.left g.items g.wire kept t.item sense g.bridged all_taken was (ap (is_told_kept kept) (sym t.command) ∙ asks) same)
+  asked_bridged : (sense : ArrayVec ℕ) → kept ≡ Some sense → is_told_kept kept taken.command ≡ true → c.stand ≡ b.stand → Bridged limit a c (said talk t.item (kept_on_wire taken.command sense) None)
+  asked_bridged sense was asks same =
+      subst (λ l. Bridged limit a c (said talk t.item l None)) (ap (λ x. kept_on_wire x sense) (sym t.command))
+      (bridged_asked limit a b c talk t.item sense g.bridged all_taken was (ap (is_told_kept kept) (sym t.command) ∙ asks) same)
 
-  sent_bridged : (s : Stand) → is_told_kept kept taken.command ≡ false → (both : BothCarried (request_taken taken) b.stand s) → Bridged limit a.stand s a.left c.left (g.items ++ t.item ∷ []) (g.wire ++ reply_on_wire taken.command both.reply) (kept_of both.reply)
-  sent_bridged s other both =
-      subst (λ l. Bridged limit a.stand s a.left c.left (g.items ++ t.item ∷ []) (g.wire ++ l) (kept_of both.reply)) (ap (λ x. reply_on_wire x both.reply) (sym t.command))
-      (bridged_sent limit a.stand b.stand s a.left b.left c.left g.items g.wire kept t.item (request_taken taken) g.bridged all_taken (ap (is_told_kept kept) (sym t.command) ∙ other) (is_whole limit offset room b.left c.left taken t) both)
+  sent_bridged : is_told_kept kept taken.command ≡ false → (both : BothCarried (request_taken taken) b.stand c.stand) → Bridged limit a c (said talk t.item (reply_on_wire taken.command both.reply) (kept_of both.reply))
+  sent_bridged other both =
+      subst (λ l. Bridged limit a c (said talk t.item l (kept_of both.reply))) (ap (λ x. reply_on_wire x both.reply) (sym t.command))
+      (bridged_sent limit a b c talk t.item (request_taken taken) g.bridged all_taken (ap (is_told_kept kept) (sym t.command) ∙ other) (is_whole limit offset room b.left c.left taken t) both)
 
   -- an item was answered
-  pub going_more : (kept' : Option (ArrayVec ℕ)) (end : ℕ) → Answered taken (desk b.stand b.written kept) (desk c.stand c.written kept') → end ≡ offset + 31 + sent_length taken.command → Going limit a c kept' end
+  pub going_more : (kept' : Option (ArrayVec ℕ)) (end : ℕ) → Answered taken (desk (point b.stand b.written) kept) (desk (point c.stand c.written) kept') → end ≡ offset + 31 + sent_length taken.command → Going limit a c kept' end
   going_more kept' end (inl r) is = record {
     items = g.items ++ t.item ∷ [];
     wire = g.wire ++ kept_on_wire taken.command r.sense;
-    bridged = subst (Bridged limit a.stand c.stand a.left c.left (g.items ++ t.item ∷ []) (g.wire ++ kept_on_wire taken.command r.sense)) (sym r.kept_is) (asked_bridged c.stand r.sense r.was_kept r.asks r.stays);
+    bridged = subst (λ k. Bridged limit a c (said talk t.item (kept_on_wire taken.command r.sense) k)) (sym r.kept_is) (asked_bridged r.sense r.was_kept r.asks r.stays);
     at = further end is;
     wrote = Wrote-more g.wrote r.wrote;
   }
   going_more kept' end (inr (other, r)) is = record {
     items = g.items ++ t.item ∷ [];
     wire = g.wire ++ reply_on_wire taken.command r.both.reply;
-    bridged = subst (Bridged limit a.stand c.stand a.left c.left (g.items ++ t.item ∷ []) (g.wire ++ reply_on_wire taken.command r.both.reply)) (sym r.kept_is) (sent_bridged c.stand other r.both);
+    bridged = subst (λ k. Bridged limit a c (said talk t.item (reply_on_wire taken.command r.both.reply) k)) (sym r.kept_is) (sent_bridged other r.both);
     at = further end is;
     wrote = Wrote-more g.wrote r.wrote;
   }
 
   -- or in part
-  pub stopped_in_part : AnsweredInPart taken (desk b.stand b.written kept) (desk c.stand c.written None) → BridgedInPart limit a c
+  pub stopped_in_part : AnsweredInPart taken (desk (point b.stand b.written) kept) (point c.stand c.written) → BridgedInPart limit a c
   stopped_in_part (inl r) = record {
-    items = g.items ++ t.item ∷ [];
-    wire = g.wire ++ kept_on_wire taken.command r.sense;
-    kept = None;
-    bridged = asked_bridged c.stand r.sense r.was_kept r.asks r.stays;
+    talk = said talk t.item (kept_on_wire taken.command r.sense) None;
+    bridged = asked_bridged r.sense r.was_kept r.asks r.stays;
     part = WrotePart-more g.wrote r.part;
   }
   stopped_in_part (inr (other, r)) = record {
-    items = g.items ++ t.item ∷ [];
-    wire = g.wire ++ reply_on_wire taken.command r.both.reply;
-    kept = kept_of r.both.reply;
-    bridged = sent_bridged c.stand other r.both;
+    talk = said talk t.item (reply_on_wire taken.command r.both.reply) (kept_of r.both.reply);
+    bridged = sent_bridged other r.both;
     part = WrotePart-more g.wrote r.part;
   }
 
@@ -181,9 +183,7 @@ within_limit limit offset room end left left' taken t is =
 -- at the end of the source
 pub bridged_whole : (limit offset : ℕ) (a b : Spot) (left : Option (List ℕ)) (kept : Option (ArrayVec ℕ)) → IsDeep a.stand.tally → Going limit a b kept offset → WasAtEnd b.left left → BridgedWhole limit a (record b { left = left })
 bridged_whole limit offset a b left kept deep g e = record {
-  items = g.items;
-  wire = g.wire;
-  kept = kept;
+  talk = talk_of g.items g.wire kept;
   bridged = record { events = g.bridged.events; groups = g.bridged.groups; taken = taken_none limit a.left b.left left g.items g.bridged.taken e.took; exchange = g.bridged.exchange; run = g.bridged.run; idle = g.bridged.idle; unplugs = g.bridged.unplugs };
   at_end = e.end;
   wrote = g.wrote;

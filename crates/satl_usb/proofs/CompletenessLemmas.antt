@@ -90,10 +90,10 @@ at_end (Some l) (Some rest) bytes taken told took end = ap Some end
 module _ (limit : ℕ) (a b : Spot) (before after : Moment) (items : List Item) (input : IsItemInput limit a.left items) (well : GoesWell before after) where
   stops_complete : (fault : UsbFault) → HasStreamCause before.source after.source before.sink after.sink fault → RanTo limit a b fault → MayStop before.drive after.drive fault
   stops_complete (faults.Open opening) cause r = absurd r
-  stops_complete (faults.BadInput offset) cause r = never_refused limit offset a.left r.mid items r.items input r.bridged.taken r.offset_is r.refused
+  stops_complete (faults.BadInput offset) cause r = never_refused limit offset a.left r.mid items r.talk.items input r.bridged.taken r.offset_is r.refused
   stops_complete faults.Read cause r = well.reads cause
   stops_complete faults.Write cause r = well.writes cause
 
   pub all_complete : (r : Result (Unit {0}) UsbFault) → OnOk r (BridgedWhole limit a b) → IfErr r (RanTo limit a b) → IfErr r (HasStreamCause before.source after.source before.sink after.sink) → MatchResult r (λ _. b.left ≡ Some []) (MayStop before.drive after.drive)
-  all_complete (Ok u) whole stopped cause = at_end a.left b.left (all_spelled items) (all_spelled whole.items) input.told whole.bridged.taken.took whole.at_end
+  all_complete (Ok u) whole stopped cause = at_end a.left b.left (all_spelled items) (all_spelled whole.talk.items) input.told whole.bridged.taken.took whole.at_end
   all_complete (Err fault) whole stopped cause = stops_complete fault cause stopped

@@ -1,6 +1,8 @@
 -- A request and one turn, from what each of them did.
 use Rattle.std.proofs.Common.{rules, ◌≡◌, ◌⊎◌, inl, inr, refl, sym, ap, subst, ◌∙◌, arith, ℕ, ◌≤◌, max, List, [], ◌∷◌, ◌++◌, length, map}
+use Rattle.std.specs.Prelude.{Result}
 use Rattle.std.proofs.lemmas.List.{append-nil, take_all}
+use Rattle.std.proofs.lemmas.Result.{on_err_weaker, on_ok_weaker}
 use Rattle.satl_base.specs.declared.reply.Reply.{Reply}
 use Rattle.satl_base.specs.declared.request.Request.{Request}
 use Rattle.satl_frame.specs.declared.frames.Frame.TheVariants as frames
@@ -22,7 +24,8 @@ use Rattle.satl_core.proofs.CountedLemmas.{counted_same}
 use Rattle.satl_step.specs.Events.{Carried, Done, DoneInPart, IsTallied, Scene}
 use Rattle.satl_step.specs.Runs.{DoesShort, Stand}
 use Rattle.satl_step.specs.Telling.{IsTold, IsToldInPart}
-use Rattle.satl_step.proofs.EventLemmas.{carried_turns, map-append}
+use Rattle.satl_step.specs.Serving.{Ends}
+use Rattle.satl_step.proofs.EventLemmas.{carried_turns, map-append, one_turn}
 use Rattle.satl_step.proofs.RunLemmas.{covers_same}
 use Rattle.satl_step.proofs.TellingLemmas.{told_more, told_part}
 use Rattle.satl_usb.specs.Serving.{BothCarried, Exchanged, ExchangedInPart}
@@ -45,24 +48,6 @@ arrived : (r : Request) (a b : Stand) (first : List Answer) → Carried (frames.
 arrived r a b first c =
     let does = c.does (frames.Request r) (record { room = length r.body; cut = ap (λ l. frames.Request (record r { body = l })) (sym (take_all (length r.body) r.body (omega arith))) }) in
     record { replies = does.0; answers = does.1; step = does.2 }
-
-zero_turns : (n : ℕ) (s new : Device) (replies : List Reply) (deep : ℕ) → n ≡ 0 → TurnsOf n s replies new deep → (new ≡ s) × (replies ≡ []) × (deep ≡ 0)
-zero_turns n s new replies deep is none = (refl, refl, refl)
-zero_turns n s new replies deep is (more a step) = absurd (omega (arith, is))
-
--- one turn, and the depth after it
-pub record OneTurn (s : Device) (replies : List Reply) (new : Device) (deep : ℕ) : Type 0 where
-  pub step : Around Turn s replies new
-  pub deep_is : deep ≡ max 0 (depth new)
-
-one_turn : (n : ℕ) (s new : Device) (replies : List Reply) (deep : ℕ) → n ≡ 1 → TurnsOf n s replies new deep → OneTurn s replies new deep
-one_turn n s new replies deep is none = absurd (omega (arith, is))
-one_turn n s new replies deep is (more {n = m} {mid = mid} {first = first} {rest = rest} a step) =
-    let z = zero_turns m s mid first _ (omega (arith, is)) a in
-    record {
-      step = subst (λ l. Around Turn s (l ++ rest) new) (sym z.1) (subst (λ x. Around Turn x rest new) z.0 step);
-      deep_is = ap (λ n. max n (depth new)) z.2;
-    }
 
 turned : (a b : Stand) (second : List Answer) → Carried (frames.Turn 1) a second b → Turned a.device second b.device
 turned a b second c =
@@ -130,20 +115,20 @@ no_tasks (h ∷ tasks) is = absurd cc
 -- ---- and how they are told
 
 module _ {T : Type 0} (told : T → Answer → List ℕ) (behind : T → Answer → T) where
-  pub exchanged : (r : Request) (a b c : Scene T) → a.stand.device.tasks ≡ [] → Done told behind (frames.Request r) a b → IsTallied (frames.Request r) a.stand b.stand → Done told behind (frames.Turn 1) b c → IsTallied (frames.Turn 1) b.stand c.stand → Exchanged told behind r a c
+  pub exchanged : (r : Request) (a b c : Scene T) → a.stand.device.tasks ≡ [] → Done told behind (frames.Request r) a b → Done told behind (frames.Turn 1) b c → Exchanged told behind r a c
   unfolding both
-  exchanged r a b c empty first first_tallied second second_tallied =
-      let x = both r a.stand b.stand c.stand first.answers second.answers empty first.carried first_tallied second.carried second_tallied in
+  exchanged r a b c empty first second =
+      let x = both r a.stand b.stand c.stand first.answers second.answers empty first.carried first.tallied second.carried second.tallied in
       record {
         both = x;
         told_so = subst (λ l. IsTold told behind a.telling c.telling l) x.one (told_more told behind a.telling b.telling c.telling first.answers second.answers first.told_so second.told_so);
       }
 
   -- the write failed in the turn
-  pub second_fails : (r : Request) (a b c : Scene T) → a.stand.device.tasks ≡ [] → Done told behind (frames.Request r) a b → IsTallied (frames.Request r) a.stand b.stand → DoneInPart told behind (frames.Turn 1) b c → IsTallied (frames.Turn 1) b.stand c.stand → ExchangedInPart told behind r a c
+  second_fails : (r : Request) (a b c : Scene T) → a.stand.device.tasks ≡ [] → Done told behind (frames.Request r) a b → DoneInPart told behind (frames.Turn 1) b c → ExchangedInPart told behind r a c
   unfolding both
-  second_fails r a b c empty first first_tallied second second_tallied =
-      let x = both r a.stand b.stand c.stand first.answers second.answers empty first.carried first_tallied (whole second.carried) second_tallied in
+  second_fails r a b c empty first second =
+      let x = both r a.stand b.stand c.stand first.answers second.answers empty first.carried first.tallied (whole second.carried) second.tallied in
       record {
         both = x;
         told_so = subst (λ l. IsToldInPart told behind a.telling c.telling l) x.one (told_part told behind a.telling b.telling c.telling first.answers second.answers first.told_so second.told_so);
@@ -153,13 +138,20 @@ module _ {T : Type 0} (told : T → Answer → List ℕ) (behind : T → Answer 
       whole (inl all) = all
       whole (inr short) = short_turn r a.stand b.stand c.stand first.answers second.answers empty first.carried short
 
+  -- a turn behind it ended
+  pub turn_ends : {X E : Type 0} (r : Request) (a b c : Scene T) (result : Result X E) → a.stand.device.tasks ≡ [] → Done told behind (frames.Request r) a b → Ends (Done told behind (frames.Turn 1)) (DoneInPart told behind (frames.Turn 1)) b c result → Ends (Exchanged told behind r) (ExchangedInPart told behind r) a c result
+  turn_ends r a b c result empty first turn = record {
+    whole = on_ok_weaker result (exchanged r a b c empty first) turn.whole;
+    part = on_err_weaker result (second_fails r a b c empty first) turn.part;
+  }
+
   -- the write failed as the request arrived
-  pub first_fails : (r : Request) (a b : Scene T) → a.stand.device.tasks ≡ [] → DoneInPart told behind (frames.Request r) a b → IsTallied (frames.Request r) a.stand b.stand → ExchangedInPart told behind r a b
+  pub first_fails : (r : Request) (a b : Scene T) → a.stand.device.tasks ≡ [] → DoneInPart told behind (frames.Request r) a b → ExchangedInPart told behind r a b
   unfolding both
-  first_fails r a b empty first first_tallied =
+  first_fails r a b empty first =
       let arrives = whole first.carried in
       let left = given_at_once r a.stand b.stand first.answers empty arrives first.some in
-      let x = both r a.stand b.stand b.stand first.answers [] empty arrives first_tallied (idle_turn b.stand left) (idle_tallied b.stand) in
+      let x = both r a.stand b.stand b.stand first.answers [] empty arrives first.tallied (idle_turn b.stand left) (idle_tallied b.stand) in
       record { both = x; told_so = subst (λ l. IsToldInPart told behind a.telling b.telling l) (sym (append-nil first.answers) ∙ x.one) first.told_so }
     where
       whole : Carried (frames.Request r) a.stand first.answers b.stand ⊎ DoesShort (frames.Request r) a.stand.device first.answers b.stand.device → Carried (frames.Request r) a.stand first.answers b.stand

@@ -5,7 +5,7 @@ use Rattle.arrayvec.specs.ArrayVec.{ArrayVec}
 use Rattle.satl_io.specs.Known.{Took, Wrote, WrotePart}
 use Rattle.satl_frame.specs.declared.frames.Frame.{Frame}
 use Rattle.satl_frame.specs.Output.{Answer}
-use Rattle.satl_step.specs.Runs.{RunSoFar, Stand}
+use Rattle.satl_step.specs.Runs.{RunSoFar}
 use Rattle.satl_serve.specs.Moments.{Spot}
 use Rattle.satl_usb.specs.Items.{AreItems, IsCutOff, IsRefused, Item, TookFront, all_spelled}
 use Rattle.satl_usb.specs.Exchanges.{Exchange}
@@ -15,56 +15,56 @@ pub record HasTaken (limit : ℕ) (left left' : Option (List ℕ)) (items : List
   pub took : Took left left' (all_spelled items)
   pub each : AreItems limit 0 items
 
+-- what became of items: which they are, what they are on the wire, and the sense data that is then kept (profile)
+pub record Talk : Type 0 where
+  pub items : List Item
+  pub wire : List ℕ
+  pub kept : Option (ArrayVec ℕ)
+
+abbrev pub talk_of : List Item → List ℕ → Option (ArrayVec ℕ) → Talk
+talk_of items wire kept = record { items = items; wire = wire; kept = kept }
+
 -- items were taken and carried out: a run of the device over their requests and turns, each of which has exactly one reply; no
 -- task is left, and the drive was not unplugged (profile)
-pub record Bridged (limit : ℕ) (before after : Stand) (left left' : Option (List ℕ)) (items : List Item) (wire : List ℕ)
-    (kept : Option (ArrayVec ℕ)) : Type 0 where
+pub record Bridged (limit : ℕ) (before after : Spot) (talk : Talk) : Type 0 where
   pub events : List Frame
   pub groups : List (List Answer)
-  pub taken : HasTaken limit left left' items
-  pub exchange : Exchange items events groups wire kept
-  pub run : RunSoFar before after events groups
-  pub idle : after.device.tasks ≡ []
-  pub unplugs : after.tally.unplugs ≡ before.tally.unplugs
+  pub taken : HasTaken limit before.left after.left talk.items
+  pub exchange : Exchange talk.items events groups talk.wire talk.kept
+  pub run : RunSoFar before.stand after.stand events groups
+  pub idle : after.stand.device.tasks ≡ []
+  pub unplugs : after.stand.tally.unplugs ≡ before.stand.tally.unplugs
 
 -- all of the input was items, and what these are on the wire was written; the drive had at once as many commands as the device
 -- let it have (profile)
 pub record BridgedWhole (limit : ℕ) (before after : Spot) : Type 0 where
-  pub items : List Item
-  pub wire : List ℕ
-  pub kept : Option (ArrayVec ℕ)
-  pub bridged : Bridged limit before.stand after.stand before.left after.left items wire kept
+  pub talk : Talk
+  pub bridged : Bridged limit before after talk
   pub at_end : IsAtEnd after.left
-  pub wrote : Wrote before.written after.written wire
+  pub wrote : Wrote before.written after.written talk.wire
   pub deep : bridged.run.deep ≤ after.stand.tally.deepest
 
 -- the items before an offset were taken and carried out, and what they are on the wire was written; what stands at the offset
 -- is refused, and nothing is written for it (profile)
 pub record BridgedBefore (limit offset : ℕ) (before after : Spot) : Type 0 where
-  pub items : List Item
-  pub wire : List ℕ
-  pub kept : Option (ArrayVec ℕ)
+  pub talk : Talk
   pub mid : Option (List ℕ)
-  pub bridged : Bridged limit before.stand after.stand before.left mid items wire kept
-  pub offset_is : offset ≡ length (all_spelled items)
+  pub bridged : Bridged limit before (record after { left = mid }) talk
+  pub offset_is : offset ≡ length (all_spelled talk.items)
   pub refused : IsRefused limit offset mid
   pub front : TookFront mid after.left
-  pub wrote : Wrote before.written after.written wire
+  pub wrote : Wrote before.written after.written talk.wire
 
 -- the same, and a read failed before the next whole item was taken (profile)
 pub record BridgedUpTo (limit : ℕ) (before after : Spot) : Type 0 where
-  pub items : List Item
-  pub wire : List ℕ
-  pub kept : Option (ArrayVec ℕ)
+  pub talk : Talk
   pub mid : Option (List ℕ)
-  pub bridged : Bridged limit before.stand after.stand before.left mid items wire kept
-  pub cut_off : IsCutOff limit (length (all_spelled items)) mid after.left
-  pub wrote : Wrote before.written after.written wire
+  pub bridged : Bridged limit before (record after { left = mid }) talk
+  pub cut_off : IsCutOff limit (length (all_spelled talk.items)) mid after.left
+  pub wrote : Wrote before.written after.written talk.wire
 
 -- items were taken and carried out, and a front of what they are on the wire was written (profile)
 pub record BridgedInPart (limit : ℕ) (before after : Spot) : Type 0 where
-  pub items : List Item
-  pub wire : List ℕ
-  pub kept : Option (ArrayVec ℕ)
-  pub bridged : Bridged limit before.stand after.stand before.left after.left items wire kept
-  pub part : WrotePart before.written after.written wire
+  pub talk : Talk
+  pub bridged : Bridged limit before after talk
+  pub part : WrotePart before.written after.written talk.wire

@@ -1,5 +1,5 @@
 -- What holds of the input, the output and the drive, by how the bridge ended (profile).
-use Rattle.std.specs.Prelude.{◌≡◌, ◌⊎◌, ℕ, List, Option, Some}
+use Rattle.std.specs.Prelude.{◌≡◌, ◌⊎◌, ℕ, List, Option, Some, Result, IfErr, OnOk}
 use Rattle.satl_io.specs.Causes.{Rose}
 use Rattle.satl_identify.specs.declared.identity.IdentityFault.{IdentityFault}
 use Rattle.satl_drive.specs.State.{DriveState}
@@ -37,6 +37,11 @@ RanTo limit before after (faults.Open fault) = ⊥
 RanTo limit before after (faults.BadInput offset) = BridgedBefore limit offset before after
 RanTo limit before after faults.Read = BridgedUpTo limit before after
 RanTo limit before after faults.Write = BridgedInPart limit before after
+
+-- items were bridged, by the result (profile)
+pub record Bridges (limit : ℕ) (before after : Spot) (result : Result (Unit {0}) UsbFault) : Type 0 where
+  pub whole : OnOk result (BridgedWhole limit before after)
+  pub stopped : IfErr result (RanTo limit before after)
 
 -- the same by the fault, from before the layer was opened; or nothing was served (profile)
 abbrev pub IsStopped : ℕ → Moment → Moment → UsbFault → Type 0

@@ -1,10 +1,12 @@
 // One item is answered.
-ghost use Rattle.std.specs.Prelude.{◌≡◌, ◌==◌, [], None, IfOk, OnErr, OnOk, slice_index};
+ghost use Rattle.std.specs.Prelude.{◌≡◌, ◌==◌, [], OnErr, OnOk, slice_index};
 ghost use Rattle.satl_io.specs.Causes.{HasCause};
 ghost use Rattle.satl_io.specs.Known.{Wrote, WrotePart};
-ghost use Rattle.satl_core.specs.Layer.{Tied};
+ghost use Rattle.satl_frame.specs.declared.frames.Frame.{Frame};
+ghost use Rattle.satl_core.specs.Submitting.{CanSubmit};
 ghost use Rattle.satl_step.specs.Runs.{stand_of};
-ghost use Rattle.satl_usb.specs.Answering.{Answered, AnsweredInPart, IsHeld, Sent, SentInPart, desk, request_taken};
+ghost use Rattle.satl_step.specs.Serving.{CanServe, Leaves};
+ghost use Rattle.satl_usb.specs.Answering.{AnswersItem, SendsItem, desk, point, request_taken};
 ghost use Rattle.satl_usb.specs.Wire.{kept_on_wire};
 
 use crate::items::{Taken, sent_length};
@@ -49,7 +51,7 @@ fn repeat_sense<K: Sink>(
     sense: &SenseBytes,
     sink: &mut K,
 ) -> Result<(), WriteFault>
-    requires held { IsHeld item satl.old.free satl.old.out }
+    requires can { CanSubmit (request_taken item) satl.old.free satl.old.out }
     ensures stays { satl.new ≡ record satl.old { free = satl.new.free; out = satl.new.out } }
     ensures all_in { satl.new.out ≡ 0 }
     ensures all { OnOk result (Wrote (K.written sink.old) (K.written sink.new) (kept_on_wire item.command sense.now)) }
@@ -72,18 +74,13 @@ fn send_item<K: Sink, D: Bench, L: Ledger>(
     replies: &mut Replies,
     steps: &mut Steps<L>,
 ) -> Result<Option<SenseBytes>, WriteFault>
-    requires tied { Tied satl.old (D.state drive.old) }
-    requires held { IsHeld item satl.old.free satl.old.out }
-    requires none { replies.old ≡ [] }
+    requires can { CanServe (Frame.Request (request_taken item)) satl.old (D.state drive.old) replies.old }
     requires idle { satl.old.tasks ≡ [] }
-    ensures tied { Tied satl.new (D.state drive.new) }
-    ensures all_in { OnOk result (satl.new.out ≡ 0) }
-    ensures none { OnOk result (replies.new ≡ []) }
+    ensures sent { SendsItem item
+        (point (stand_of satl.old (D.state drive.old) steps.old) (K.written sink.old))
+        (point (stand_of satl.new (D.state drive.new) steps.new) (K.written sink.new)) result }
+    ensures leaves { Leaves satl.new (D.state drive.new) replies.new result }
     ensures idle { OnOk result (satl.new.tasks ≡ []) }
-    ensures sent { IfOk result (Sent item (stand_of satl.old (D.state drive.old) steps.old)
-        (stand_of satl.new (D.state drive.new) steps.new) (K.written sink.old) (K.written sink.new)) }
-    ensures part { OnErr result (SentInPart item (stand_of satl.old (D.state drive.old) steps.old)
-        (stand_of satl.new (D.state drive.new) steps.new) (K.written sink.old) (K.written sink.new)) }
     ensures cause { HasCause (K.faults sink.old) (K.faults sink.new) result }
 {
     let mut teller = ItemTeller {
@@ -114,20 +111,13 @@ pub fn answer_item<K: Sink, D: Bench, L: Ledger>(
     replies: &mut Replies,
     steps: &mut Steps<L>,
 ) -> Result<Option<SenseBytes>, WriteFault>
-    requires tied { Tied satl.old (D.state drive.old) }
-    requires held { IsHeld item satl.old.free satl.old.out }
-    requires none { replies.old ≡ [] }
+    requires can { CanServe (Frame.Request (request_taken item)) satl.old (D.state drive.old) replies.old }
     requires idle { satl.old.tasks ≡ [] }
-    ensures tied { Tied satl.new (D.state drive.new) }
-    ensures all_in { OnOk result (satl.new.out ≡ 0) }
-    ensures none { OnOk result (replies.new ≡ []) }
+    ensures answered { AnswersItem item
+        (desk (point (stand_of satl.old (D.state drive.old) steps.old) (K.written sink.old)) kept)
+        (point (stand_of satl.new (D.state drive.new) steps.new) (K.written sink.new)) result }
+    ensures leaves { Leaves satl.new (D.state drive.new) replies.new result }
     ensures idle { OnOk result (satl.new.tasks ≡ []) }
-    ensures answered { IfOk result (λ after. Answered item
-        (desk (stand_of satl.old (D.state drive.old) steps.old) (K.written sink.old) kept)
-        (desk (stand_of satl.new (D.state drive.new) steps.new) (K.written sink.new) after)) }
-    ensures part { OnErr result (AnsweredInPart item
-        (desk (stand_of satl.old (D.state drive.old) steps.old) (K.written sink.old) kept)
-        (desk (stand_of satl.new (D.state drive.new) steps.new) (K.written sink.new) None)) }
     ensures cause { HasCause (K.faults sink.old) (K.faults sink.new) result }
 {
     if let Some(sense) = &kept {

@@ -7,10 +7,9 @@ ghost use Rattle.satl_drive.specs.State.{IsFit};
 ghost use Rattle.satl_core.specs.Layer.{Tied};
 ghost use Rattle.satl_step.specs.Runs.{IsDeep, stand_of, tally_of};
 ghost use Rattle.satl_serve.specs.Completeness.{GoesWell};
-ghost use Rattle.satl_serve.specs.Moments.{moment, reads, writes};
+ghost use Rattle.satl_serve.specs.Moments.{moment, reads, spot, writes};
 ghost use Rattle.satl_serve.specs.Stopping.{IsRefused};
-ghost use Rattle.satl_usb.specs.Bridge.{BridgedWhole};
-ghost use Rattle.satl_usb.specs.Headline.{HasStreamCause, HasUsbCause, IsBridgedWhole, IsItemInput, IsStopped, MayStop, RanTo, TellsRefusal, stop_at};
+ghost use Rattle.satl_usb.specs.Headline.{Bridges, HasStreamCause, HasUsbCause, IsBridgedWhole, IsItemInput, IsStopped, MayStop, TellsRefusal, stop_at};
 ghost use Rattle.satl_usb.specs.Items.{Item, item_limit};
 
 use crate::answering::answer_item;
@@ -90,28 +89,9 @@ fn serve_items<S: Source, K: Sink, D: Bench, L: Ledger>(
     requires idle { satl.old.tasks ≡ [] }
     requires deep { IsDeep (tally_of (D.state drive.old) steps.old) }
     ensures tied { Tied satl.new (D.state drive.new) }
-    ensures whole { OnOk result (BridgedWhole item_limit
-        (record {
-          left = S.left source.old;
-          written = K.written sink.old;
-          stand = stand_of satl.old (D.state drive.old) steps.old;
-        })
-        (record {
-          left = S.left source.new;
-          written = K.written sink.new;
-          stand = stand_of satl.new (D.state drive.new) steps.new;
-        })) }
-    ensures stopped { IfErr result (RanTo item_limit
-        (record {
-          left = S.left source.old;
-          written = K.written sink.old;
-          stand = stand_of satl.old (D.state drive.old) steps.old;
-        })
-        (record {
-          left = S.left source.new;
-          written = K.written sink.new;
-          stand = stand_of satl.new (D.state drive.new) steps.new;
-        })) }
+    ensures bridges { Bridges item_limit
+        (spot (S.left source.old) (K.written sink.old) (stand_of satl.old (D.state drive.old) steps.old))
+        (spot (S.left source.new) (K.written sink.new) (stand_of satl.new (D.state drive.new) steps.new)) result }
     ensures causes { IfErr result (HasStreamCause (reads (S.left source.old) (S.faults source.old))
         (reads (S.left source.new) (S.faults source.new)) (writes (K.written sink.old) (K.faults sink.old))
         (writes (K.written sink.new) (K.faults sink.new))) }

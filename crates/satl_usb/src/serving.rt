@@ -1,9 +1,9 @@
 // A request and one turn on the unit.
-ghost use Rattle.std.specs.Prelude.{◌≡◌, [], OnErr, OnOk};
+ghost use Rattle.std.specs.Prelude.{◌≡◌, [], OnOk};
 ghost use Rattle.satl_io.specs.Causes.{HasCause};
-ghost use Rattle.satl_core.specs.Layer.{Tied};
-ghost use Rattle.satl_core.specs.Submitting.{CanSubmit};
+ghost use Rattle.satl_frame.specs.declared.frames.Frame.{Frame};
 ghost use Rattle.satl_step.specs.Events.{scene_of};
+ghost use Rattle.satl_step.specs.Serving.{CanServe, Ends, Leaves};
 ghost use Rattle.satl_usb.specs.Serving.{Exchanged, ExchangedInPart};
 
 use satl_base::{Replies, Request, Steps};
@@ -25,20 +25,13 @@ pub fn serve_item<T: Teller, K: Sink, D: Bench, L: Ledger>(
     replies: &mut Replies,
     steps: &mut Steps<L>,
 ) -> Result<(), WriteFault>
-    requires tied { Tied satl.old (D.state drive.old) }
-    requires can { CanSubmit request satl.old.free satl.old.out }
-    requires none { replies.old ≡ [] }
+    requires can { CanServe (Frame.Request request) satl.old (D.state drive.old) replies.old }
     requires idle { satl.old.tasks ≡ [] }
-    ensures tied { Tied satl.new (D.state drive.new) }
-    ensures all_in { OnOk result (satl.new.out ≡ 0) }
-    ensures none { OnOk result (replies.new ≡ []) }
+    ensures exchanged { Ends (Exchanged T.told T.behind request) (ExchangedInPart T.told T.behind request)
+        (scene_of satl.old (D.state drive.old) steps.old teller.old (K.written sink.old))
+        (scene_of satl.new (D.state drive.new) steps.new teller.new (K.written sink.new)) result }
+    ensures leaves { Leaves satl.new (D.state drive.new) replies.new result }
     ensures idle { OnOk result (satl.new.tasks ≡ []) }
-    ensures exchanged { OnOk result (Exchanged T.told T.behind request
-        (scene_of satl.old (D.state drive.old) steps.old teller.old (K.written sink.old))
-        (scene_of satl.new (D.state drive.new) steps.new teller.new (K.written sink.new))) }
-    ensures part { OnErr result (ExchangedInPart T.told T.behind request
-        (scene_of satl.old (D.state drive.old) steps.old teller.old (K.written sink.old))
-        (scene_of satl.new (D.state drive.new) steps.new teller.new (K.written sink.new))) }
     ensures cause { HasCause (K.faults sink.old) (K.faults sink.new) result }
 {
     serve_event(
