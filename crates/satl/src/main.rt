@@ -17,7 +17,7 @@ use satl_io::{Sink, Source, StdSink, StdSource};
 use satl_top::{Status, program};
 use std::alloc::Global;
 use std::env;
-use std::io::BufReader;
+use std::io::{BufReader, ErrorKind};
 use std::marker::Brand;
 use std::process::ExitCode;
 use std::rc::RcStr;
@@ -55,8 +55,10 @@ fn counted<S: Source, K: Sink, D: Bench, L: Ledger>(
 /// The words of the program. None where one is not UTF-8.
 fn words_of(rt: &HostRuntime) -> Result<Option<Vec<RcStr>>, NoMemory> {
     let mut words = Vec::new(rt.alloc());
-    let Ok(given) = env::args(rt) else {
-        return Ok(None);
+    let given = match env::args(rt) {
+        Ok(given) => given,
+        Err(error) if error.kind() == ErrorKind::OutOfMemory => return Err(NoMemory),
+        Err(_) => return Ok(None),
     };
     for word in given {
         words.push(RcStr::from_string(word)?)?;
