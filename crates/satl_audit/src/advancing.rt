@@ -45,8 +45,8 @@ fn end(
     Ok(steps.output.pass(&END))
 }
 
-/// An event of the bench happens: the power is lost, or the drive is told an order, which changes nothing. No run without losses
-/// that can be audited has another (profile).
+/// An event of the bench happens: the power is lost, or the drive is told an order, which changes nothing. No run that can be
+/// audited has another (profile).
 fn bench(steps: &mut Steps<'_>, sectors: &mut Sectors, event: &BenchEvent) -> Result<bool, NoMemory>
     requires fit { (size : ℕ) × (size < 2 ^ 63) × AllFit (length sectors.old) size steps.old.waiting }
     requires capacity { length sectors.old < 2 ^ 64 }

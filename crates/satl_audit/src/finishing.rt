@@ -106,8 +106,8 @@ fn is_cached(identity: &Identity, fua: bool) -> bool
     identity.cache && !fua
 }
 
-/// A task ends: whether there is one whose answer comes next in the output, with which each sector goes along. In a run that can
-/// be audited READs, WRITEs and SYNCHRONIZE CACHEs end (SAM-5 8).
+/// A task ends: whether there is one whose answer comes next in the output, with which each sector goes along. In a run that
+/// can be audited READs, WRITEs and SYNCHRONIZE CACHEs end (SAM-5 8).
 pub fn end_task(
     steps: &mut Steps<'_>,
     sectors: &mut Sectors,

@@ -70,7 +70,8 @@ impl Stamped {
     ) -> Result<(), NoMemory>
         requires seen { self.old.seen ≤ length sweeps.now }
         requires powers { has_power (drop self.old.seen sweeps.now) ≡ nat_lt self.old.seen powers }
-        ensures kept { OnOk result (self.new.kept ≡ kept_put v cached (caught_up (drop self.old.seen sweeps.now) self.old.kept)) }
+        ensures kept { OnOk result (self.new.kept
+            ≡ kept_put v cached (caught_up (drop self.old.seen sweeps.now) self.old.kept)) }
         ensures seen { OnOk result (self.new.seen ≡ length sweeps.now) }
         ensures within { self.new.seen ≤ length sweeps.now }
     {

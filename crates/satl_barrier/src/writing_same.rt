@@ -38,7 +38,8 @@ fn write_piece<D: Drive, L: Ledger>(
     requires reached { IsReached range (D.state drive.old) }
     requires room { range.count ≤ length pages.old }
     ensures finishes { IfOk result (λ it. FinishesAs
-        (writing range (take range.count pages.old) (D.state drive.old)) range.count it (D.state drive.old) (D.state drive.new)) }
+        (writing range (take range.count pages.old) (D.state drive.old)) range.count it
+        (D.state drive.old) (D.state drive.new)) }
     ensures lost { OnErr result (IsCutShort (writing range (take range.count pages.old) (D.state drive.old)).writes
         (D.state drive.old) (D.state drive.new)) }
     ensures stays { Stays (D.state drive.old) (D.state drive.new) }

@@ -48,7 +48,8 @@ fn ranges_up_to(
     requires room { 8 + 16 * count ≤ 512 * length list.now }
     ensures ranges { IfOk result (λ ranges. (descriptor_fault capacity 0 0 (descriptors_from 0 count list.now) ≡ None)
         × (ranges.items ≡ filter is_used (descriptors_from 0 count list.now))) }
-    ensures refusal { IfErr result (λ refusal. descriptor_fault capacity 0 0 (descriptors_from 0 count list.now) ≡ Some refusal) }
+    ensures refusal { IfErr result (λ refusal.
+        descriptor_fault capacity 0 0 (descriptors_from 0 count list.now) ≡ Some refusal) }
 {
     let mut ranges = ArrayVec::new();
     let mut sum = 0;

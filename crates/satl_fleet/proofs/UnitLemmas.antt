@@ -9,7 +9,7 @@ use Rattle.satl_core.specs.Layer.{Layer}
 use Rattle.satl_step.specs.Events.{Carried, Done, DoneInPart, IsTallied, IsWholeOf, Scene, scene_of}
 use Rattle.satl_step.specs.Runs.{DoesInPart, DoesShort, stand_of}
 use Rattle.satl_step.specs.Runs.DoesInPart.{does_all, does_some}
-use Rattle.satl_step.specs.Serving.{Ends}
+use Rattle.satl_step.specs.Serving.{WholeOrInPart}
 use Rattle.satl_step.specs.Telling.{all_told}
 use Rattle.satl_step.proofs.RunLemmas.{asked_whole, tallied_whole}
 use Rattle.satl_fleet.specs.Output.{is_left_out, kept, named, named_behind, told_one, told_under, unit_bytes}
@@ -48,7 +48,7 @@ unnamed_told k (answer ∷ answers) =
 -- ---- doing
 
 -- what was counted, however an event ended
-pub counted_so : {E : Type 0} (event : Frame) (a c : Scene UnitTeller) (r : Result (Unit {0}) E) → Ends (Done by behind event) (DoneInPart by behind event) a c r → IsTallied event a.stand c.stand
+pub counted_so : {E : Type 0} (event : Frame) (a c : Scene UnitTeller) (r : Result (Unit {0}) E) → WholeOrInPart (Done by behind event) (DoneInPart by behind event) a c r → IsTallied event a.stand c.stand
 counted_so event a c (Ok u) ends = ends.whole.tallied
 counted_so event a c (Err e) ends = ends.part.tallied
 

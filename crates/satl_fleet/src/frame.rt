@@ -41,7 +41,8 @@ fn serve_all<K: Sink, D: Bench, L: Ledger>(
     ensures ready { OnOk result (CanServe (target D.state units.new drives.new) replies.new) }
     ensures keeps { KeepsUnits (target D.state units.old drives.old) (target D.state units.new drives.new) }
     ensures calls { calls_due (target D.state units.new drives.new) steps.new
-        ≤ calls_due (target D.state units.old drives.old) steps.old + vec_len units.old * calls_allowed (frame_of event.now ∷ []) }
+        ≤ calls_due (target D.state units.old drives.old) steps.old
+        + vec_len units.old * calls_allowed (frame_of event.now ∷ []) }
     ensures cause { HasCause (K.faults sink.old) (K.faults sink.new) result }
 {
     for k in 0..units.len() as u8 {

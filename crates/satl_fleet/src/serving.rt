@@ -52,14 +52,20 @@ pub fn serve_fleet<S: Source, K: Sink, D: Bench, L: Ledger>(
     requires few { vec_len drives.old ≤ 4 }
     requires servable { AllByRecursion IsServable (map D.state drives.old.items) }
     ensures served { OnOk result (IsFleetWhole input_limit
-        (fleet_moment (reads (S.left source.old) (S.faults source.old)) (writes (K.written sink.old) (K.faults sink.old)) steps.old (map D.state drives.old.items))
-        (fleet_moment (reads (S.left source.new) (S.faults source.new)) (writes (K.written sink.new) (K.faults sink.new)) steps.new (map D.state drives.new.items))) }
+        (fleet_moment (reads (S.left source.old) (S.faults source.old)) (writes (K.written sink.old) (K.faults sink.old))
+        steps.old (map D.state drives.old.items))
+        (fleet_moment (reads (S.left source.new) (S.faults source.new)) (writes (K.written sink.new) (K.faults sink.new))
+        steps.new (map D.state drives.new.items))) }
     ensures stopped { IfErr result (IsFleetStopped input_limit
-        (fleet_moment (reads (S.left source.old) (S.faults source.old)) (writes (K.written sink.old) (K.faults sink.old)) steps.old (map D.state drives.old.items))
-        (fleet_moment (reads (S.left source.new) (S.faults source.new)) (writes (K.written sink.new) (K.faults sink.new)) steps.new (map D.state drives.new.items))) }
+        (fleet_moment (reads (S.left source.old) (S.faults source.old)) (writes (K.written sink.old) (K.faults sink.old))
+        steps.old (map D.state drives.old.items))
+        (fleet_moment (reads (S.left source.new) (S.faults source.new)) (writes (K.written sink.new) (K.faults sink.new))
+        steps.new (map D.state drives.new.items))) }
     ensures causes { IfErr result (HasFleetCause
-        (fleet_moment (reads (S.left source.old) (S.faults source.old)) (writes (K.written sink.old) (K.faults sink.old)) steps.old (map D.state drives.old.items))
-        (fleet_moment (reads (S.left source.new) (S.faults source.new)) (writes (K.written sink.new) (K.faults sink.new)) steps.new (map D.state drives.new.items))) }
+        (fleet_moment (reads (S.left source.old) (S.faults source.old)) (writes (K.written sink.old) (K.faults sink.old))
+        steps.old (map D.state drives.old.items))
+        (fleet_moment (reads (S.left source.new) (S.faults source.new)) (writes (K.written sink.new) (K.faults sink.new))
+        steps.new (map D.state drives.new.items))) }
     ensures drives { vec_len drives.new ≡ vec_len drives.old }
 {
     let mut pool = Pool::new(alloc, POOL_PAGES)?;

@@ -7,7 +7,7 @@ ghost use Rattle.satl_core.specs.Submitting.{CanSubmit};
 ghost use Rattle.satl_core.specs.Turning.{turn_calls};
 ghost use Rattle.satl_step.specs.Events.{IsWholeOf};
 ghost use Rattle.satl_step.specs.Runs.{calls_allowed};
-ghost use Rattle.satl_step.specs.Serving.{CanServe};
+ghost use Rattle.satl_step.specs.Serving.{CanServeEvent};
 ghost use Rattle.satl_pages.specs.Counts.{number_of};
 ghost use Rattle.satl_fleet.specs.Units.{IsTiedSpot, UnitDid, UnitDidInPart, spot};
 
@@ -56,7 +56,7 @@ pub fn serve_unit<K: Sink, D: Bench, L: Ledger>(
     replies: &mut Replies,
     steps: &mut Steps<L>,
 ) -> Result<(), WriteFault>
-    requires can { CanServe event satl.old (D.state drive.old) replies.old }
+    requires can { CanServeEvent event satl.old (D.state drive.old) replies.old }
     ensures tied { IsTiedSpot (spot satl.new (D.state drive.new)) }
     ensures all_in { OnOk result (satl.new.out ≡ 0) }
     ensures none { OnOk result (replies.new ≡ []) }

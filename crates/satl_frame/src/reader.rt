@@ -135,7 +135,8 @@ fn read_payload<S: Source, P: Lender>(
     requires long { length head.now ≡ 5 }
     requires known { has_code (frame_rows place.version) (slice_index head.now 0) ≡ true }
     requires allowed { allows (frame_rows place.version) (slice_index head.now 0) (told_length head.now) ≡ true }
-    ensures frame { IfOk result (StoodBehind place.version head.now (S.left source.old) (S.left source.new) (P.free lender.old)) }
+    ensures frame { IfOk result
+        (StoodBehind place.version head.now (S.left source.old) (S.left source.new) (P.free lender.old)) }
     ensures fault { IfErr result (BlamesPayload place.version head.now place.offset (S.left source.old) (S.left source.new)) }
     ensures causes { ReadCauses (S.faults source.old) (S.faults source.new) result }
     ensures free { P.free lender.new + given_pages frame_pages result ≡ P.free lender.old }

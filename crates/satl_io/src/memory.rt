@@ -226,7 +226,11 @@ impl Sink for MemorySink {
         ensures fails { IsErr result ↔ ((self.old.room ≡ 0) ⊎ Contains self.old.failing self.old.calls) }
         ensures count { IfOk result (λ n. n ≡ min (min (length piece.now) self.old.room) self.old.piece) }
         ensures after { MatchResult result
-            (λ n. self.new ≡ record self.old { written = self.old.written ++ take n piece.now; room = self.old.room - n; calls = next_count self.old.calls })
+            (λ n. self.new ≡ record self.old {
+              written = self.old.written ++ take n piece.now;
+              room = self.old.room - n;
+              calls = next_count self.old.calls;
+            })
             (λ _. self.new ≡ record self.old { calls = next_count self.old.calls; faults = next_count self.old.faults }) }
     {
         let call = self.calls;

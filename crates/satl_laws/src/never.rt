@@ -37,11 +37,13 @@ pub fn no_write_passes_an_earlier_write()
 pub fn no_neighbour_is_answered_twice()
     ensures first { (first second : Request) (a b : Cell) (s last : Device) (turns : Frame) (losses : ℕ) (answers : List Answer)
         → AreApart first second →
-        AreTurns turns → Run (at_work a b (reads_sector_0 first ∷ reads_sector_0 second ∷ []) s) (turns ∷ []) losses answers last →
+        AreTurns turns →
+        Run (at_work a b (reads_sector_0 first ∷ reads_sector_0 second ∷ []) s) (turns ∷ []) losses answers last →
         how_many (answers_to first.nexus (first.tag).0) answers ≤ 1 }
     ensures second { (first second : Request) (a b : Cell) (s last : Device) (turns : Frame) (losses : ℕ)
         (answers : List Answer) → AreApart first second →
-        AreTurns turns → Run (at_work a b (reads_sector_0 first ∷ reads_sector_0 second ∷ []) s) (turns ∷ []) losses answers last →
+        AreTurns turns →
+        Run (at_work a b (reads_sector_0 first ∷ reads_sector_0 second ∷ []) s) (turns ∷ []) losses answers last →
         how_many (answers_to second.nexus (second.tag).0) answers ≤ 1 }
 {}
 
@@ -49,7 +51,8 @@ pub fn no_neighbour_is_answered_twice()
 pub fn no_flush_leaves_the_old_block()
     ensures { (flush : Request) (old new : Block) (b : Cell) (s last : Device) (losses : ℕ) (answers : List Answer)
         (reply : Reply) → old ≢ new →
-        Run (at_work (cached old new) b (flushes flush ∷ []) s) (frames.Turn 1 ∷ frames.Bench events.Power ∷ []) losses answers last →
+        Run (at_work (cached old new) b (flushes flush ∷ []) s) (frames.Turn 1 ∷ frames.Bench events.Power ∷ []) losses
+        answers last →
         IsGoodReply flush reply answers → now_at last.cells 0 ≡ Some old → ⊥ }
 {}
 

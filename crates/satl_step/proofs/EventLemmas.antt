@@ -29,7 +29,7 @@ use Rattle.satl_core.specs.Submitting.{IsCutOf}
 use Rattle.satl_step.specs.Telling.{IsTold, IsToldInPart, Telling}
 use Rattle.satl_step.specs.Events.{Carried, Done, DoneInPart, IsTallied, Scene, SomeTurnsTold, TurnsTold}
 use Rattle.satl_step.specs.Runs.{IsDeep, Stand}
-use Rattle.satl_step.specs.Serving.{Ends}
+use Rattle.satl_step.specs.Serving.{WholeOrInPart}
 use Rattle.satl_step.proofs.TallyLemmas.{end_tallied, turns_on, turns_start}
 use Rattle.satl_step.proofs.TellingLemmas.{part_before, part_one, told_more, told_none, told_one, told_part}
 
@@ -157,7 +157,7 @@ module _ {T : Type 0} (told : T → Answer → List ℕ) (behind : T → Answer 
   turns_none a = record { replies = []; deep = 0; turns = none; covered = λ deep. omega arith; tallied = turns_start a.stand; told_so = told_none told behind a.telling }
 
   -- a turn that ended
-  pub turn_end : {X E : Type 0} (a c : Scene T) (replies : List Reply) (r : Result X E) → Around Turn a.stand.device replies c.stand.device → (IsDeep a.stand.tally → depth c.stand.device ≤ c.stand.tally.deepest) → IsTallied (frames.Turn 1) a.stand c.stand → OnOk r (IsTold told behind a.telling c.telling (map replied replies)) → OnErr r (1 ≤ length replies) → OnErr r (IsToldInPart told behind a.telling c.telling (map replied replies)) → Ends (TurnsTold told behind 1) (SomeTurnsTold told behind 1) a c r
+  pub turn_end : {X E : Type 0} (a c : Scene T) (replies : List Reply) (r : Result X E) → Around Turn a.stand.device replies c.stand.device → (IsDeep a.stand.tally → depth c.stand.device ≤ c.stand.tally.deepest) → IsTallied (frames.Turn 1) a.stand c.stand → OnOk r (IsTold told behind a.telling c.telling (map replied replies)) → OnErr r (1 ≤ length replies) → OnErr r (IsToldInPart told behind a.telling c.telling (map replied replies)) → WholeOrInPart (TurnsTold told behind 1) (SomeTurnsTold told behind 1) a c r
   turn_end a c replies r step covered tallied all some part = record {
     whole = on_ok_weaker r (λ told_so. record {
       replies = replies;
@@ -209,8 +209,8 @@ module _ {T : Type 0} (told : T → Answer → List ℕ) (behind : T → Answer 
   -- ---- whole events
 
   -- an event that is known
-  pub ends_is : {X E : Type 0} (event known : Frame) (a c : Scene T) (r : Result X E) → event ≡ known → Ends (Done told behind known) (DoneInPart told behind known) a c r → Ends (Done told behind event) (DoneInPart told behind event) a c r
-  ends_is event known a c r is ends = subst (λ e. Ends (Done told behind e) (DoneInPart told behind e) a c r) (sym is) ends
+  pub ends_is : {X E : Type 0} (event known : Frame) (a c : Scene T) (r : Result X E) → event ≡ known → WholeOrInPart (Done told behind known) (DoneInPart told behind known) a c r → WholeOrInPart (Done told behind event) (DoneInPart told behind event) a c r
+  ends_is event known a c r is ends = subst (λ e. WholeOrInPart (Done told behind e) (DoneInPart told behind e) a c r) (sym is) ends
 
   turns_done : (n : ℕ) (a c : Scene T) → TurnsTold told behind n a c → (IsDeep a.stand.tally → depth c.stand.device ≤ c.stand.tally.deepest) → Done told behind (frames.Turn n) a c
   turns_done n a c turns last = record { answers = map replied turns.replies; carried = carried_turns n a.stand c.stand turns.replies turns.deep turns.turns turns.covered last; tallied = turns.tallied; told_so = turns.told_so }
@@ -225,7 +225,7 @@ module _ {T : Type 0} (told : T → Answer → List ℕ) (behind : T → Answer 
   }
 
   -- turns that ended, which were an event
-  pub turns_end : {X E : Type 0} (n : ℕ) (a c : Scene T) (r : Result X E) → Ends (TurnsTold told behind n) (SomeTurnsTold told behind n) a c r → OnOk r (depth c.stand.device ≤ c.stand.tally.outstanding) → Ends (Done told behind (frames.Turn n)) (DoneInPart told behind (frames.Turn n)) a c r
+  pub turns_end : {X E : Type 0} (n : ℕ) (a c : Scene T) (r : Result X E) → WholeOrInPart (TurnsTold told behind n) (SomeTurnsTold told behind n) a c r → OnOk r (depth c.stand.device ≤ c.stand.tally.outstanding) → WholeOrInPart (Done told behind (frames.Turn n)) (DoneInPart told behind (frames.Turn n)) a c r
   turns_end n a c r turns deep = record {
     whole = on_both r _ _ _ (λ turns deep. turns_done n a c turns (λ before. omega (arith, deep, turns.tallied.queue.covers before))) turns.whole deep;
     part = on_err_weaker r (turns_in_part n a c) turns.part;
@@ -258,7 +258,7 @@ module _ {T : Type 0} (told : T → Answer → List ℕ) (behind : T → Answer 
   }
 
   -- an event whose answers are replies
-  pub replies_end : {X E : Type 0} (event : Frame) (a c : Scene T) (replies : List Reply) (r : Result X E) → Carried event a.stand (map replied replies) c.stand → IsTallied event a.stand c.stand → OnOk r (IsTold told behind a.telling c.telling (map replied replies)) → OnErr r (1 ≤ length replies) → OnErr r (IsToldInPart told behind a.telling c.telling (map replied replies)) → Ends (Done told behind event) (DoneInPart told behind event) a c r
+  pub replies_end : {X E : Type 0} (event : Frame) (a c : Scene T) (replies : List Reply) (r : Result X E) → Carried event a.stand (map replied replies) c.stand → IsTallied event a.stand c.stand → OnOk r (IsTold told behind a.telling c.telling (map replied replies)) → OnErr r (1 ≤ length replies) → OnErr r (IsToldInPart told behind a.telling c.telling (map replied replies)) → WholeOrInPart (Done told behind event) (DoneInPart told behind event) a c r
   replies_end event a c replies r carried tallied all some part = record {
     whole = on_ok_weaker r (λ told_so. record { answers = map replied replies; carried = carried; tallied = tallied; told_so = told_so }) all;
     part = on_both_err r _ _ _ (λ some told_so. record { answers = map replied replies; some = omega (arith, length-map replies replied, some); carried = inl carried; tallied = tallied; told_so = told_so }) some part;

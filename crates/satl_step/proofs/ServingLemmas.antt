@@ -4,9 +4,9 @@ use Rattle.std.specs.Result.{IsErrAnd}
 use Rattle.satl_base.specs.declared.reply.Reply.{Reply}
 use Rattle.satl_drive.specs.State.{DriveState}
 use Rattle.satl_core.specs.Layer.{Layer, Tied}
-use Rattle.satl_step.specs.Serving.{Ends, Leaves}
+use Rattle.satl_step.specs.Serving.{WholeOrInPart, Leaves}
 
-pub ends_in_part : {S X E : Type 0} (Whole InPart : S → S → Type 0) (a c : S) (r : Result X E) (P : E → Type 0) → IsErrAnd r P → InPart a c → Ends Whole InPart a c r
+pub ends_in_part : {S X E : Type 0} (Whole InPart : S → S → Type 0) (a c : S) (r : Result X E) (P : E → Type 0) → IsErrAnd r P → InPart a c → WholeOrInPart Whole InPart a c r
 ends_in_part Whole InPart a c (Ok x) P failed part = absurd failed
 ends_in_part Whole InPart a c (Err e) P failed part = record { whole = tt; part = part }
 

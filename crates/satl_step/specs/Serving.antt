@@ -7,7 +7,7 @@ use Rattle.satl_core.specs.Layer.{Layer, Tied}
 use Rattle.satl_step.specs.Events.{CanTake}
 
 -- a layer can serve an event on its drive, with the replies that wait to be told (profile)
-pub record CanServe (event : Frame) (l : Layer) (d : DriveState) (waiting : List Reply) : Type 0 where
+pub record CanServeEvent (event : Frame) (l : Layer) (d : DriveState) (waiting : List Reply) : Type 0 where
   -- the layer is tied to its drive
   pub tied : Tied l d
   -- the pages that are out are those of a request, or none
@@ -26,6 +26,7 @@ pub record Leaves {X E : Type 0} (l : Layer) (d : DriveState) (waiting : List Re
 
 -- a call took what was before to what is behind it: as the first relation says where it succeeded, and as the second says where
 -- a write failed (profile)
-pub record Ends {S X E : Type 0} (Whole InPart : S → S → Type 0) (before after : S) (result : Result X E) : Type 0 where
+pub record WholeOrInPart {S X E : Type 0} (Whole InPart : S → S → Type 0) (before after : S)
+    (result : Result X E) : Type 0 where
   pub whole : OnOk result (Whole before after)
   pub part : OnErr result (InPart before after)

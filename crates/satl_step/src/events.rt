@@ -2,7 +2,7 @@
 ghost use Rattle.satl_io.specs.Causes.{HasCause};
 ghost use Rattle.satl_frame.specs.declared.frames.Frame.{Frame};
 ghost use Rattle.satl_step.specs.Events.{Done, DoneInPart, scene_of};
-ghost use Rattle.satl_step.specs.Serving.{CanServe, Ends, Leaves};
+ghost use Rattle.satl_step.specs.Serving.{CanServeEvent, WholeOrInPart, Leaves};
 
 use crate::queue::see_queue;
 use crate::replies::tell_replies;
@@ -25,8 +25,9 @@ fn serve_request<T: Teller, K: Sink, D: Drive, L: Ledger>(
     replies: &mut Replies,
     steps: &mut Steps<L>,
 ) -> Result<(), WriteFault>
-    requires can { CanServe (Frame.Request request) satl.old (D.state drive.old) replies.old }
-    ensures done { Ends (Done T.told T.behind (Frame.Request request)) (DoneInPart T.told T.behind (Frame.Request request))
+    requires can { CanServeEvent (Frame.Request request) satl.old (D.state drive.old) replies.old }
+    ensures done { WholeOrInPart
+        (Done T.told T.behind (Frame.Request request)) (DoneInPart T.told T.behind (Frame.Request request))
         (scene_of satl.old (D.state drive.old) steps.old teller.old (K.written sink.old))
         (scene_of satl.new (D.state drive.new) steps.new teller.new (K.written sink.new)) result }
     ensures leaves { Leaves satl.new (D.state drive.new) replies.new result }
@@ -47,8 +48,8 @@ fn serve_manage<T: Teller, K: Sink, D: Drive, L: Ledger>(
     replies: &mut Replies,
     steps: &mut Steps<L>,
 ) -> Result<(), WriteFault>
-    requires can { CanServe (Frame.Manage manage) satl.old (D.state drive.old) replies.old }
-    ensures done { Ends (Done T.told T.behind (Frame.Manage manage)) (DoneInPart T.told T.behind (Frame.Manage manage))
+    requires can { CanServeEvent (Frame.Manage manage) satl.old (D.state drive.old) replies.old }
+    ensures done { WholeOrInPart (Done T.told T.behind (Frame.Manage manage)) (DoneInPart T.told T.behind (Frame.Manage manage))
         (scene_of satl.old (D.state drive.old) steps.old teller.old (K.written sink.old))
         (scene_of satl.new (D.state drive.new) steps.new teller.new (K.written sink.new)) result }
     ensures leaves { Leaves satl.new (D.state drive.new) replies.new result }
@@ -70,8 +71,8 @@ fn serve_bench<T: Teller, K: Sink, D: Bench, L: Ledger>(
     replies: &mut Replies,
     steps: &mut Steps<L>,
 ) -> Result<(), WriteFault>
-    requires can { CanServe (Frame.Bench event) satl.old (D.state drive.old) replies.old }
-    ensures done { Ends (Done T.told T.behind (Frame.Bench event)) (DoneInPart T.told T.behind (Frame.Bench event))
+    requires can { CanServeEvent (Frame.Bench event) satl.old (D.state drive.old) replies.old }
+    ensures done { WholeOrInPart (Done T.told T.behind (Frame.Bench event)) (DoneInPart T.told T.behind (Frame.Bench event))
         (scene_of satl.old (D.state drive.old) steps.old teller.old (K.written sink.old))
         (scene_of satl.new (D.state drive.new) steps.new teller.new (K.written sink.new)) result }
     ensures leaves { Leaves satl.new (D.state drive.new) replies.new result }
@@ -94,8 +95,8 @@ pub fn serve_event<T: Teller, K: Sink, D: Bench, L: Ledger>(
     replies: &mut Replies,
     steps: &mut Steps<L>,
 ) -> Result<(), WriteFault>
-    requires can { CanServe event satl.old (D.state drive.old) replies.old }
-    ensures done { Ends (Done T.told T.behind event) (DoneInPart T.told T.behind event)
+    requires can { CanServeEvent event satl.old (D.state drive.old) replies.old }
+    ensures done { WholeOrInPart (Done T.told T.behind event) (DoneInPart T.told T.behind event)
         (scene_of satl.old (D.state drive.old) steps.old teller.old (K.written sink.old))
         (scene_of satl.new (D.state drive.new) steps.new teller.new (K.written sink.new)) result }
     ensures leaves { Leaves satl.new (D.state drive.new) replies.new result }

@@ -5,7 +5,7 @@ ghost use Rattle.satl_frame.specs.declared.frames.Frame.{Frame};
 ghost use Rattle.satl_direct.specs.Run.{depth};
 ghost use Rattle.satl_core.specs.Layer.{view};
 ghost use Rattle.satl_step.specs.Events.{Done, DoneInPart, SomeTurnsTold, TurnsTold, scene_of};
-ghost use Rattle.satl_step.specs.Serving.{CanServe, Ends, Leaves};
+ghost use Rattle.satl_step.specs.Serving.{CanServeEvent, WholeOrInPart, Leaves};
 
 use crate::queue::see_queue;
 use crate::replies::tell_replies;
@@ -26,8 +26,8 @@ fn serve_turn<T: Teller, K: Sink, D: Drive, L: Ledger>(
     replies: &mut Replies,
     steps: &mut Steps<L>,
 ) -> Result<(), WriteFault>
-    requires can { CanServe (Frame.Turn 1) satl.old (D.state drive.old) replies.old }
-    ensures turns { Ends (TurnsTold T.told T.behind 1) (SomeTurnsTold T.told T.behind 1)
+    requires can { CanServeEvent (Frame.Turn 1) satl.old (D.state drive.old) replies.old }
+    ensures turns { WholeOrInPart (TurnsTold T.told T.behind 1) (SomeTurnsTold T.told T.behind 1)
         (scene_of satl.old (D.state drive.old) steps.old teller.old (K.written sink.old))
         (scene_of satl.new (D.state drive.new) steps.new teller.new (K.written sink.new)) result }
     ensures leaves { Leaves satl.new (D.state drive.new) replies.new result }
@@ -49,8 +49,8 @@ pub fn serve_turns<T: Teller, K: Sink, D: Drive, L: Ledger>(
     replies: &mut Replies,
     steps: &mut Steps<L>,
 ) -> Result<(), WriteFault>
-    requires can { CanServe (Frame.Turn count) satl.old (D.state drive.old) replies.old }
-    ensures turns { Ends (TurnsTold T.told T.behind count) (SomeTurnsTold T.told T.behind count)
+    requires can { CanServeEvent (Frame.Turn count) satl.old (D.state drive.old) replies.old }
+    ensures turns { WholeOrInPart (TurnsTold T.told T.behind count) (SomeTurnsTold T.told T.behind count)
         (scene_of satl.old (D.state drive.old) steps.old teller.old (K.written sink.old))
         (scene_of satl.new (D.state drive.new) steps.new teller.new (K.written sink.new)) result }
     ensures leaves { Leaves satl.new (D.state drive.new) replies.new result }
@@ -74,8 +74,8 @@ pub fn serve_end<T: Teller, K: Sink, D: Drive, L: Ledger>(
     replies: &mut Replies,
     steps: &mut Steps<L>,
 ) -> Result<(), WriteFault>
-    requires can { CanServe Frame.End satl.old (D.state drive.old) replies.old }
-    ensures done { Ends (Done T.told T.behind Frame.End) (DoneInPart T.told T.behind Frame.End)
+    requires can { CanServeEvent Frame.End satl.old (D.state drive.old) replies.old }
+    ensures done { WholeOrInPart (Done T.told T.behind Frame.End) (DoneInPart T.told T.behind Frame.End)
         (scene_of satl.old (D.state drive.old) steps.old teller.old (K.written sink.old))
         (scene_of satl.new (D.state drive.new) steps.new teller.new (K.written sink.new)) result }
     ensures leaves { Leaves satl.new (D.state drive.new) replies.new result }

@@ -50,7 +50,8 @@ fn serve_generated<D: Bench, L: Ledger>(
         → IsLoaded input_limit (load_of seed requests) summary (moment source sink steps.old (D.state drive.old))
         (moment source sink' steps.new (D.state drive.new))) }
     ensures stopped { IfErr result (λ fault. (source : Reads) (sink : Writes)
-        → LoadStops (moment source sink steps.old (D.state drive.old)) (moment source sink steps.new (D.state drive.new)) fault) }
+        → LoadStops (moment source sink steps.old (D.state drive.old)) (moment source sink steps.new (D.state drive.new))
+        fault) }
     ensures refused { (fault : IdentityFault) → IsRefused fault (D.state drive.old) (D.state drive.new)
         → IsErrAnd result (TellsRefusal fault) }
 {

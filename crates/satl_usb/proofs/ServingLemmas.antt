@@ -24,7 +24,7 @@ use Rattle.satl_core.proofs.CountedLemmas.{counted_same}
 use Rattle.satl_step.specs.Events.{Carried, Done, DoneInPart, IsTallied, Scene}
 use Rattle.satl_step.specs.Runs.{DoesShort, Stand}
 use Rattle.satl_step.specs.Telling.{IsTold, IsToldInPart}
-use Rattle.satl_step.specs.Serving.{Ends}
+use Rattle.satl_step.specs.Serving.{WholeOrInPart}
 use Rattle.satl_step.proofs.EventLemmas.{carried_turns, map-append, one_turn}
 use Rattle.satl_step.proofs.RunLemmas.{covers_same}
 use Rattle.satl_step.proofs.TellingLemmas.{told_more, told_part}
@@ -139,7 +139,7 @@ module _ {T : Type 0} (told : T → Answer → List ℕ) (behind : T → Answer 
       whole (inr short) = short_turn r a.stand b.stand c.stand first.answers second.answers empty first.carried short
 
   -- a turn behind it ended
-  pub turn_ends : {X E : Type 0} (r : Request) (a b c : Scene T) (result : Result X E) → a.stand.device.tasks ≡ [] → Done told behind (frames.Request r) a b → Ends (Done told behind (frames.Turn 1)) (DoneInPart told behind (frames.Turn 1)) b c result → Ends (Exchanged told behind r) (ExchangedInPart told behind r) a c result
+  pub turn_ends : {X E : Type 0} (r : Request) (a b c : Scene T) (result : Result X E) → a.stand.device.tasks ≡ [] → Done told behind (frames.Request r) a b → WholeOrInPart (Done told behind (frames.Turn 1)) (DoneInPart told behind (frames.Turn 1)) b c result → WholeOrInPart (Exchanged told behind r) (ExchangedInPart told behind r) a c result
   turn_ends r a b c result empty first turn = record {
     whole = on_ok_weaker result (exchanged r a b c empty first) turn.whole;
     part = on_err_weaker result (second_fails r a b c empty first) turn.part;

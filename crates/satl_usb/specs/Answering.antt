@@ -80,7 +80,8 @@ AnsweredInPart taken before after =
 
 -- ---- by how it ended, where the sense data that is then kept is given
 
-pub record SendsItem {E : Type 0} (taken : Taken) (before after : Point) (result : Result (Option (ArrayVec ℕ)) E) : Type 0 where
+pub record SendsItem {E : Type 0} (taken : Taken) (before after : Point)
+    (result : Result (Option (ArrayVec ℕ)) E) : Type 0 where
   pub sent : IfOk result (Sent taken before after)
   pub part : OnErr result (SentInPart taken before after)
 

@@ -5,7 +5,7 @@ ghost use Rattle.satl_io.specs.Known.{Wrote, WrotePart};
 ghost use Rattle.satl_frame.specs.declared.frames.Frame.{Frame};
 ghost use Rattle.satl_core.specs.Submitting.{CanSubmit};
 ghost use Rattle.satl_step.specs.Runs.{stand_of};
-ghost use Rattle.satl_step.specs.Serving.{CanServe, Leaves};
+ghost use Rattle.satl_step.specs.Serving.{CanServeEvent, Leaves};
 ghost use Rattle.satl_usb.specs.Answering.{AnswersItem, SendsItem, desk, point, request_taken};
 ghost use Rattle.satl_usb.specs.Wire.{kept_on_wire};
 
@@ -74,7 +74,7 @@ fn send_item<K: Sink, D: Bench, L: Ledger>(
     replies: &mut Replies,
     steps: &mut Steps<L>,
 ) -> Result<Option<SenseBytes>, WriteFault>
-    requires can { CanServe (Frame.Request (request_taken item)) satl.old (D.state drive.old) replies.old }
+    requires can { CanServeEvent (Frame.Request (request_taken item)) satl.old (D.state drive.old) replies.old }
     requires idle { satl.old.tasks ≡ [] }
     ensures sent { SendsItem item
         (point (stand_of satl.old (D.state drive.old) steps.old) (K.written sink.old))
@@ -111,7 +111,7 @@ pub fn answer_item<K: Sink, D: Bench, L: Ledger>(
     replies: &mut Replies,
     steps: &mut Steps<L>,
 ) -> Result<Option<SenseBytes>, WriteFault>
-    requires can { CanServe (Frame.Request (request_taken item)) satl.old (D.state drive.old) replies.old }
+    requires can { CanServeEvent (Frame.Request (request_taken item)) satl.old (D.state drive.old) replies.old }
     requires idle { satl.old.tasks ≡ [] }
     ensures answered { AnswersItem item
         (desk (point (stand_of satl.old (D.state drive.old) steps.old) (K.written sink.old)) kept)

@@ -3,7 +3,7 @@ ghost use Rattle.std.specs.Prelude.{◌≡◌, [], OnOk};
 ghost use Rattle.satl_io.specs.Causes.{HasCause};
 ghost use Rattle.satl_frame.specs.declared.frames.Frame.{Frame};
 ghost use Rattle.satl_step.specs.Events.{scene_of};
-ghost use Rattle.satl_step.specs.Serving.{CanServe, Ends, Leaves};
+ghost use Rattle.satl_step.specs.Serving.{CanServeEvent, WholeOrInPart, Leaves};
 ghost use Rattle.satl_usb.specs.Serving.{Exchanged, ExchangedInPart};
 
 use satl_base::{Replies, Request, Steps};
@@ -25,9 +25,9 @@ pub fn serve_item<T: Teller, K: Sink, D: Bench, L: Ledger>(
     replies: &mut Replies,
     steps: &mut Steps<L>,
 ) -> Result<(), WriteFault>
-    requires can { CanServe (Frame.Request request) satl.old (D.state drive.old) replies.old }
+    requires can { CanServeEvent (Frame.Request request) satl.old (D.state drive.old) replies.old }
     requires idle { satl.old.tasks ≡ [] }
-    ensures exchanged { Ends (Exchanged T.told T.behind request) (ExchangedInPart T.told T.behind request)
+    ensures exchanged { WholeOrInPart (Exchanged T.told T.behind request) (ExchangedInPart T.told T.behind request)
         (scene_of satl.old (D.state drive.old) steps.old teller.old (K.written sink.old))
         (scene_of satl.new (D.state drive.new) steps.new teller.new (K.written sink.new)) result }
     ensures leaves { Leaves satl.new (D.state drive.new) replies.new result }

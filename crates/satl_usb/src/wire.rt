@@ -43,7 +43,8 @@ fn csw_status(command: &Cbw, status: Scsi, size: u32) -> u8
 fn gather_zeros<K: Sink>(sink: &mut K, gathered: &mut Gathered, count: u32) -> Result<(), Failed>
     ensures all { OnOk result (Gathers (K.written sink.old) (K.written sink.new) gathered.old.items gathered.new.items
         (replicate count 0)) }
-    ensures part { OnErr result (WrotePart (K.written sink.old) (K.written sink.new) (gathered.old.items ++ replicate count 0)) }
+    ensures part { OnErr result (WrotePart (K.written sink.old) (K.written sink.new)
+        (gathered.old.items ++ replicate count 0)) }
     ensures cause { HasCause (K.faults sink.old) (K.faults sink.new) result }
 {
     let zeros = [0; 512];

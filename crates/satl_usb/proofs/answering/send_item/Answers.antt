@@ -1,7 +1,7 @@
 use Rattle.std.proofs.Common.{None, refl, subst, sym}
 use Rattle.satl_frame.specs.declared.frames.Frame.TheVariants as frames
 use Rattle.satl_step.specs.Events.{scene_of}
-use Rattle.satl_step.specs.Serving.{CanServe}
+use Rattle.satl_step.specs.Serving.{CanServeEvent}
 use Rattle.satl_step.proofs.ServingLemmas.{leaves_tied}
 use Rattle.satl_usb.specs.Exchanges.{item_behind, item_told}
 use Rattle.satl_usb.specs.Serving.{Exchanged, ExchangedInPart}
@@ -9,7 +9,7 @@ use Rattle.satl_usb.proofs.AnsweringLemmas.{sends_in_part, sent_in_part, sent_so
 use Rattle.satl_usb.proofs.answering.send_item.Goals as goal
 
 pub serve_item-requires-clause-can : goal.serve_item-requires-clause-can
-serve_item-requires-clause-can g c = subst (λ r. CanServe (frames.Request r) c.args.satl.now (g.D.Drive.state c.args.drive.now) c.args.replies.now) (sym c.request_of.ensures) c.requires.can
+serve_item-requires-clause-can g c = subst (λ r. CanServeEvent (frames.Request r) c.args.satl.now (g.D.Drive.state c.args.drive.now) c.args.replies.now) (sym c.request_of.ensures) c.requires.can
 
 pub returns-in_err-serve_item-clause-sent : goal.returns-in_err-serve_item-clause-sent
 returns-in_err-serve_item-clause-sent g c =
