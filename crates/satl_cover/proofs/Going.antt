@@ -10,8 +10,7 @@ use Rattle.satl_frame.specs.Progress.{HasRead}
 use Rattle.satl_frame.specs.Pulls.{cut_to}
 use Rattle.satl_frame.specs.Reading.{Gave, Reading}
 use Rattle.satl_frame.proofs.ProgressLemmas.{has_read_more}
-use Rattle.satl_cover.specs.Covered.{limit, place_behind}
-use Rattle.satl_cover.specs.Noting.{Knows}
+use Rattle.satl_cover.specs.Covered.{Knows, limit, place_behind}
 use Rattle.satl_cover.specs.Reading.{ReadWhole}
 use Rattle.satl_cover.proofs.ReadingLemmas.{end_whole, next_place, none_ends, read_whole}
 

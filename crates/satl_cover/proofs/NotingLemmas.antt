@@ -12,8 +12,7 @@ use Rattle.satl_frame.specs.declared.frames.Frame.{Frame}
 use Rattle.satl_frame.specs.declared.frames.Frame.TheVariants as frames
 use Rattle.satl_frame.specs.Pulls.{cut_to}
 use Rattle.satl_laws.specs.OnceEach.{asks_by}
-use Rattle.satl_cover.specs.Covered.{AreCovered, FirstUncovered, is_covered, place_behind}
-use Rattle.satl_cover.specs.Noting.{AreNames, Knows, name_cmp}
+use Rattle.satl_cover.specs.Covered.{AreCovered, AreNames, FirstUncovered, Knows, is_covered, name_cmp, place_behind}
 
 -- a frame without its pages is covered as the whole one is, and asks as that does
 covered_cut : (trim : Bool) (earlier : List Frame) (whole : Frame) → is_covered trim earlier (cut_to 0 whole) ≡ is_covered trim earlier whole

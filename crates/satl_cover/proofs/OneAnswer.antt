@@ -14,8 +14,7 @@ use Rattle.satl_frame.specs.Inputs.{NoneEnds}
 use Rattle.satl_cover.specs.declared.fault.AuditFault.TheVariants as faults
 use Rattle.satl_cover.specs.Covered.{AreCovered, FirstUncovered, IsBadInput, IsWholeInput, is_covered, limit, place_behind}
 use Rattle.satl_cover.specs.Covered.IsBadInput.{bad_magic, bad_frame, bad_rest}
-use Rattle.satl_cover.specs.Laws.{OneAnswer}
-use Rattle.satl_cover.specs.Reading.{IsNotCovered}
+use Rattle.satl_cover.specs.Reading.{IsNotCovered, OneAnswer}
 use Rattle.satl_cover.proofs.Stopping.{SameStop, Stopped, good_magic, stopped_once, stops_end, stops_refused}
 
 -- END is among these

@@ -15,9 +15,8 @@ use Rattle.satl_frame.specs.Pulls.{cut_to}
 use Rattle.satl_frame.specs.Reading.{Reading}
 use Rattle.satl_frame.proofs.ProgressLemmas.{has_read_all}
 use Rattle.satl_frame.proofs.Refusals.{length-magic}
-use Rattle.satl_cover.specs.Covered.{IsBadInput, limit, place_behind}
+use Rattle.satl_cover.specs.Covered.{IsBadInput, Knows, limit, place_behind}
 use Rattle.satl_cover.specs.Covered.IsBadInput.{bad_rest}
-use Rattle.satl_cover.specs.Noting.{Knows}
 use Rattle.satl_cover.specs.Reading.{ReadWhole}
 use Rattle.std.proofs.lemmas.Option.{same_Some}
 use Rattle.satl_base.proofs.ListsLemmas.{push_not_empty}

@@ -1,5 +1,5 @@
 -- What reading an input to its END shows.
-use Rattle.std.specs.Prelude.{◌≡◌, ◌⊎◌, ℕ, Bool, List, [], ◌∷◌, ◌++◌, Option, Some, None, Result, Ok, Err}
+use Rattle.std.specs.Prelude.{◌≡◌, ◌≢◌, ◌⊎◌, ℕ, Bool, List, [], ◌∷◌, ◌++◌, Option, Some, None, Result, Ok, Err}
 use Rattle.std.specs.BTreeSet.{BTreeSet}
 use Rattle.satl_frame.specs.declared.frames.Frame.{Frame}
 use Rattle.satl_frame.specs.declared.frames.Frame.TheVariants as frames
@@ -8,8 +8,7 @@ use Rattle.satl_frame.specs.declared.frames.Version.TheVariants.{One, Two}
 use Rattle.satl_frame.specs.Inputs.{Reads}
 use Rattle.satl_cover.specs.declared.fault.AuditFault.{AuditFault}
 use Rattle.satl_cover.specs.declared.fault.AuditFault.TheVariants as faults
-use Rattle.satl_cover.specs.Covered.{AreCovered, FirstUncovered, IsBadInput, IsWholeInput, limit}
-use Rattle.satl_cover.specs.Noting.{Knows}
+use Rattle.satl_cover.specs.Covered.{AreCovered, FirstUncovered, IsBadInput, IsWholeInput, Knows, limit}
 
 -- frames up to END were read from an input, and this is left of it (profile)
 pub record ReadWhole (trim : Bool) (input left : List ℕ) (names : BTreeSet (ℕ × ℕ)) (uncovered : Option ℕ) : Type 0 where
@@ -34,3 +33,8 @@ abbrev pub Covers : Bool → List ℕ → Result (Option ℕ) AuditFault → Typ
 Covers trim input (Ok None) = (all : List Frame) × IsWholeInput input One all × AreCovered trim [] all
 Covers trim input (Ok (Some offset)) = IsNotCovered trim input offset
 Covers trim input (Err fault) = Refuses input fault
+
+-- two answers that hold of one input, neither of which is want of memory, are the same (profile)
+abbrev pub OneAnswer : Type 0
+OneAnswer = (trim : Bool) (input : List ℕ) (a b : Result (Option ℕ) AuditFault) → Covers trim input a →
+    Covers trim input b → a ≢ Err faults.NoMemory → b ≢ Err faults.NoMemory → a ≡ b

@@ -3,8 +3,7 @@ ghost use Rattle.std.specs.Prelude.{◌≡◌, ◌<◌, ◌+◌, ◌*◌, ◌++�
 ghost use Rattle.std.specs.BTreeSet.{BTreeSet};
 ghost use Rattle.satl_frame.specs.declared.frames.Frame.{Frame};
 ghost use Rattle.satl_frame.specs.Pulls.{cut_to};
-ghost use Rattle.satl_cover.specs.Covered.{is_covered, is_repeated, place_behind};
-ghost use Rattle.satl_cover.specs.Noting.{AreNames, Knows};
+ghost use Rattle.satl_cover.specs.Covered.{AreNames, Knows, is_covered, is_repeated, place_behind};
 
 use crate::known::is_known_frame;
 use satl_base::NoMemory;

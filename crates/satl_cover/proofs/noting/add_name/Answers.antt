@@ -3,8 +3,7 @@ use Rattle.std.specs.Prelude.{cond, not}
 use Rattle.std.specs.BTreeSet.{contains}
 use Rattle.std.specs.Ordering.{is_eq}
 use Rattle.satl_frame.specs.declared.frames.Frame.{Frame}
-use Rattle.satl_cover.specs.Covered.{is_repeated}
-use Rattle.satl_cover.specs.Noting.{AreNames, name_cmp}
+use Rattle.satl_cover.specs.Covered.{AreNames, is_repeated, name_cmp}
 use Rattle.satl_cover.proofs.NotingLemmas.{names_more}
 use Rattle.satl_cover.proofs.noting.add_name.Goals as goal
 
