@@ -61,7 +61,7 @@ Answered taken before after =
     Repeated taken before after
     ⊎ ((is_told_kept before.kept taken.command ≡ false) × Sent taken before.at after.at after.kept)
 
--- the same, where a front of the answer was written (profile)
+-- an item was answered with the sense data that was kept, of which a front was written (profile)
 pub record RepeatedInPart (taken : Taken) (before : Desk) (after : Point) : Type 0 where
   pub sense : ArrayVec ℕ
   pub was_kept : before.kept ≡ Some sense
@@ -69,22 +69,24 @@ pub record RepeatedInPart (taken : Taken) (before : Desk) (after : Point) : Type
   pub stays : after.stand ≡ before.at.stand
   pub part : WrotePart before.at.written after.written (kept_on_wire taken.command sense)
 
+-- its request and a turn were carried out, and a front of the reply was written (profile)
 pub record SentInPart (taken : Taken) (before after : Point) : Type 0 where
   pub both : BothCarried (request_taken taken) before.stand after.stand
   pub part : WrotePart before.written after.written (reply_on_wire taken.command both.reply)
 
+-- an item was answered in part (profile)
 abbrev pub AnsweredInPart : Taken → Desk → Point → Type 0
 AnsweredInPart taken before after =
     RepeatedInPart taken before after
     ⊎ ((is_told_kept before.kept taken.command ≡ false) × SentInPart taken before.at after)
 
--- ---- by how it ended, where the sense data that is then kept is given
-
+-- its request was carried out, by the result, which gives the sense data that is then kept (profile)
 pub record SendsItem {E : Type 0} (taken : Taken) (before after : Point)
     (result : Result (Option (ArrayVec ℕ)) E) : Type 0 where
   pub sent : IfOk result (Sent taken before after)
   pub part : OnErr result (SentInPart taken before after)
 
+-- an item was answered, by the result, which gives the sense data that is then kept (profile)
 pub record AnswersItem {E : Type 0} (taken : Taken) (before : Desk) (after : Point)
     (result : Result (Option (ArrayVec ℕ)) E) : Type 0 where
   pub answered : IfOk result (λ kept. Answered taken before (desk after kept))
