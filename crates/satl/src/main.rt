@@ -5,23 +5,22 @@
 //! standard output.
 #![tactic(auto)]
 
-ghost use Rattle.std.specs.Prelude.{◌≡◌, ◌<◌, ◌≤◌, IfOk, map, vec_len};
+ghost use Rattle.std.specs.Prelude.{◌≡◌, IfOk, map, vec_len};
 ghost use Rattle.std.specs.List.{AllByRecursion};
 ghost use Rattle.satl_disk.specs.Disk.{state_of};
 ghost use Rattle.satl_fleet.specs.Opening.{IsServable};
 
-use satl_base::{NoMemory, Steps};
+use satl_base::NoMemory;
 use satl_disk::ModelDrive;
-use satl_drive::Bench;
-use satl_io::{Sink, Source, StdSink, StdSource};
-use satl_top::{Status, program};
+use satl_io::{StdSink, StdSource};
+use satl_top::{Status, counted_program};
 use std::alloc::Global;
 use std::env;
 use std::io::{BufReader, ErrorKind};
 use std::marker::Brand;
 use std::process::ExitCode;
 use std::rc::RcStr;
-use std::sync::ledger::{Blank, Ledger};
+use std::sync::ledger::Blank;
 
 /// The modelled drives: one for each LUN of `fleet`; the other modes have the first.
 const DRIVES: u32 = 4;
@@ -31,26 +30,6 @@ const SECTORS: u32 = 8192;
 
 /// How many bytes of standard input are read at once, at most.
 const INPUT_BUFFER: usize = 65536;
-
-/// Counts the drive calls, and forgets their number.
-fn counted<S: Source, K: Sink, D: Bench, L: Ledger>(
-    alloc: Global,
-    words: &[RcStr],
-    source: &mut S,
-    sink: &mut K,
-    drives: &mut Vec<D>,
-    blank: Blank,
-) -> Status
-    requires some { 1 ≤ vec_len drives.old }
-    requires few { vec_len drives.old ≤ 4 }
-    requires servable { AllByRecursion IsServable (map D.state drives.old.items) }
-    requires name { blank.name ≡ L.name }
-    requires parts { blank.parts ≡ L.parts }
-    requires enough { 0 < blank.parts }
-{
-    let mut steps = Steps::<L>::new(blank);
-    program(alloc, words, source, sink, drives, &mut steps)
-}
 
 /// The words of the program. None where one is not UTF-8.
 fn words_of(rt: &HostRuntime) -> Result<Option<Vec<RcStr>>, NoMemory> {
@@ -90,7 +69,7 @@ fn run(rt: &HostRuntime) -> Result<Status, NoMemory> {
     let mut source = StdSource::new(input);
     let mut sink = StdSink::new(rt.stdout());
     let mut drives = modelled(alloc)?;
-    Ok(counted::<_, _, _, Brand>(
+    Ok(counted_program::<_, _, _, Brand>(
         alloc,
         &words,
         &mut source,

@@ -1,5 +1,5 @@
 -- The words of the fleet, and what the program does with several drives (profile).
-use Rattle.std.specs.Prelude.{◌≡◌, ◌⊎◌, ℕ, Bool, true, false, List, [], ◌∷◌, codes}
+use Rattle.std.specs.Prelude.{◌≡◌, ◌↔◌, ℕ, List, [], ◌∷◌, codes}
 use Rattle.clap.specs.Words.{Text}
 use Rattle.satl_io.specs.Causes.{Rose}
 use Rattle.satl_identify.specs.declared.identity.IdentityFault.{IdentityFault}
@@ -68,3 +68,14 @@ pub record OnFirst (words : List Text) (limit : ℕ) (before after : FleetMoment
   pub news : after.drives ≡ last ∷ others
   pub outcome : Outcome words limit (moment before.source before.sink before.calls first)
       (moment after.source after.sink after.calls last) status
+
+-- all drives were served as one target, where the words ask for it: what holds by the status, and why it is that one (profile)
+pub record HasServedFleet (words : List Text) (limit : ℕ) (before after : FleetMoment) (status : Status) : Type 0 where
+  pub usage : (status ≡ statuses.Usage) ↔ (AskForFleet words → ⊥)
+  pub ends : FleetEnds limit before after status
+  pub causes : HasFleetStatusCause before after status
+
+-- what the program has done by its words: all drives were served as one target, or the first was by itself (profile)
+pub record HasDone (words : List Text) (limit : ℕ) (before after : FleetMoment) (status : Status) : Type 0 where
+  pub fleet : AskForFleet words → HasServedFleet words limit before after status
+  pub first : (AskForFleet words → ⊥) → OnFirst words limit before after status

@@ -1,12 +1,12 @@
 // Several drives behind one target, and the program.
-ghost use Rattle.std.specs.Prelude.{◌≡◌, ◌≤◌, ◌↔◌, map, true, vec_len};
+ghost use Rattle.std.specs.Prelude.{◌≡◌, ◌≤◌, ◌<◌, ◌↔◌, ℕ, map, true, vec_len};
 ghost use Rattle.std.specs.List.{AllByRecursion};
 ghost use Rattle.std.specs.Rc.{rc_str_bytes};
 ghost use Rattle.satl_fleet.specs.Moments.{fleet_moment};
 ghost use Rattle.satl_fleet.specs.Opening.{IsServable};
 ghost use Rattle.satl_serve.specs.Moments.{reads, writes};
 ghost use Rattle.satl_serve.specs.Runs.{input_limit};
-ghost use Rattle.satl_top.specs.Fleet.{AskForFleet, FleetEnds, HasFleetStatusCause, OnFirst};
+ghost use Rattle.satl_top.specs.Fleet.{AskForFleet, HasDone, HasServedFleet};
 
 use crate::status::Status;
 use crate::top::satl;
@@ -17,7 +17,7 @@ use satl_fleet::{FleetFault, serve_fleet};
 use satl_io::{Sink, Source};
 use std::alloc::Global;
 use std::rc::RcStr;
-use std::sync::ledger::Ledger;
+use std::sync::ledger::{Blank, Ledger};
 
 impl From<FleetFault> for Status {
     ghost use Rattle.std.specs.Prelude.{◌≡◌};
@@ -67,15 +67,11 @@ pub fn fleet<S: Source, K: Sink, D: Bench, L: Ledger>(
     requires some { 1 ≤ vec_len drives.old }
     requires few { vec_len drives.old ≤ 4 }
     requires servable { AllByRecursion IsServable (map D.state drives.old.items) }
-    ensures usage { (result ≡ Status.Usage) ↔ (AskForFleet (map rc_str_bytes words.now) → ⊥) }
-    ensures ends { FleetEnds input_limit (fleet_moment (reads (S.left source.old) (S.faults source.old))
-        (writes (K.written sink.old) (K.faults sink.old)) steps.old (map D.state drives.old.items))
-        (fleet_moment (reads (S.left source.new) (S.faults source.new))
-        (writes (K.written sink.new) (K.faults sink.new)) steps.new (map D.state drives.new.items)) result }
-    ensures causes { HasFleetStatusCause (fleet_moment (reads (S.left source.old) (S.faults source.old))
-        (writes (K.written sink.old) (K.faults sink.old)) steps.old (map D.state drives.old.items))
-        (fleet_moment (reads (S.left source.new) (S.faults source.new))
-        (writes (K.written sink.new) (K.faults sink.new)) steps.new (map D.state drives.new.items)) result }
+    ensures { HasServedFleet (map rc_str_bytes words.now) input_limit
+        (fleet_moment (reads (S.left source.old) (S.faults source.old)) (writes (K.written sink.old) (K.faults sink.old))
+        steps.old (map D.state drives.old.items))
+        (fleet_moment (reads (S.left source.new) (S.faults source.new)) (writes (K.written sink.new) (K.faults sink.new))
+        steps.new (map D.state drives.new.items)) result }
 {
     if !is_fleet(words) {
         return Status::Usage;
@@ -100,27 +96,41 @@ pub fn program<S: Source, K: Sink, D: Bench, L: Ledger>(
     requires some { 1 ≤ vec_len drives.old }
     requires few { vec_len drives.old ≤ 4 }
     requires servable { AllByRecursion IsServable (map D.state drives.old.items) }
-    ensures fleet { AskForFleet (map rc_str_bytes words.now)
-        → FleetEnds input_limit (fleet_moment (reads (S.left source.old) (S.faults source.old))
-        (writes (K.written sink.old) (K.faults sink.old)) steps.old (map D.state drives.old.items))
-        (fleet_moment (reads (S.left source.new) (S.faults source.new))
-        (writes (K.written sink.new) (K.faults sink.new)) steps.new (map D.state drives.new.items)) result }
-    ensures understood { AskForFleet (map rc_str_bytes words.now) → (result ≡ Status.Usage) → ⊥ }
-    ensures causes { AskForFleet (map rc_str_bytes words.now)
-        → HasFleetStatusCause (fleet_moment (reads (S.left source.old) (S.faults source.old))
-        (writes (K.written sink.old) (K.faults sink.old)) steps.old (map D.state drives.old.items))
-        (fleet_moment (reads (S.left source.new) (S.faults source.new))
-        (writes (K.written sink.new) (K.faults sink.new)) steps.new (map D.state drives.new.items)) result }
-    ensures first { (AskForFleet (map rc_str_bytes words.now) → ⊥)
-        → OnFirst (map rc_str_bytes words.now) input_limit
-        (fleet_moment (reads (S.left source.old) (S.faults source.old))
-        (writes (K.written sink.old) (K.faults sink.old)) steps.old (map D.state drives.old.items))
-        (fleet_moment (reads (S.left source.new) (S.faults source.new))
-        (writes (K.written sink.new) (K.faults sink.new)) steps.new (map D.state drives.new.items)) result }
+    ensures { HasDone (map rc_str_bytes words.now) input_limit
+        (fleet_moment (reads (S.left source.old) (S.faults source.old)) (writes (K.written sink.old) (K.faults sink.old))
+        steps.old (map D.state drives.old.items))
+        (fleet_moment (reads (S.left source.new) (S.faults source.new)) (writes (K.written sink.new) (K.faults sink.new))
+        steps.new (map D.state drives.new.items)) result }
 {
     if is_fleet(words) {
         return fleet(alloc, words, source, sink, drives, steps);
     }
     let first = &mut drives[0];
     satl(alloc, words, source, sink, first, steps)
+}
+
+/// The same, and the drive calls are counted from none on a blank page of a ledger, which is given up: how many there were is not
+/// told (profile).
+pub fn counted_program<S: Source, K: Sink, D: Bench, L: Ledger>(
+    alloc: Global,
+    words: &[RcStr],
+    source: &mut S,
+    sink: &mut K,
+    drives: &mut Vec<D>,
+    blank: Blank,
+) -> Status
+    requires some { 1 ≤ vec_len drives.old }
+    requires few { vec_len drives.old ≤ 4 }
+    requires servable { AllByRecursion IsServable (map D.state drives.old.items) }
+    requires name { blank.name ≡ L.name }
+    requires parts { blank.parts ≡ L.parts }
+    requires enough { 0 < blank.parts }
+    ensures { (calls : ℕ) × HasDone (map rc_str_bytes words.now) input_limit
+        (fleet_moment (reads (S.left source.old) (S.faults source.old)) (writes (K.written sink.old) (K.faults sink.old))
+        0 (map D.state drives.old.items))
+        (fleet_moment (reads (S.left source.new) (S.faults source.new)) (writes (K.written sink.new) (K.faults sink.new))
+        calls (map D.state drives.new.items)) result }
+{
+    let mut steps = Steps::<L>::new(blank);
+    program(alloc, words, source, sink, drives, &mut steps)
 }

@@ -1,20 +1,19 @@
 // Two drives behind one target.
-ghost use Rattle.std.specs.Prelude.{◌≡◌, ◌<◌, ◌≤◌, IfOk, map, vec_len};
+ghost use Rattle.std.specs.Prelude.{◌≡◌, IfOk, map, vec_len};
 ghost use Rattle.std.specs.List.{AllByRecursion};
 ghost use Rattle.satl_disk.specs.Disk.{state_of};
 ghost use Rattle.satl_fleet.specs.Opening.{IsServable};
 
 use crate::replaying::words;
-use satl_base::{NoMemory, Steps, Which};
+use satl_base::{NoMemory, Which};
 use satl_disk::ModelDrive;
 use satl_drive::Bench;
-use satl_io::{MemorySink, MemorySource, Sink, Source};
-use satl_top::{Status, program};
+use satl_io::{MemorySink, MemorySource};
+use satl_top::{Status, counted_program};
 use std::alloc::Global;
 use std::marker::Brand;
 use std::process::Abort;
-use std::rc::RcStr;
-use std::sync::ledger::{Blank, Ledger};
+use std::sync::ledger::Blank;
 use std::test::Fail;
 
 /// REPORT LUNS of nexus 0, tag 1, and END.
@@ -42,25 +41,6 @@ const FLAW_TOLD: &[u8] = b"\x84\0\0\0\x01\x01\
     \x81\0\0\0\x19\0\x02\0\0\0\x01\x12\
     \xf0\0\x03\0\0\0\0\x0a\0\0\0\0\x11\0\0\0\0\0\
     \x85\0\0\0\0";
-
-fn counted<S: Source, K: Sink, D: Bench, L: Ledger>(
-    alloc: Global,
-    words: &[RcStr],
-    source: &mut S,
-    sink: &mut K,
-    drives: &mut Vec<D>,
-    blank: Blank,
-) -> Status
-    requires some { 1 ≤ vec_len drives.old }
-    requires few { vec_len drives.old ≤ 4 }
-    requires servable { AllByRecursion IsServable (map D.state drives.old.items) }
-    requires name { blank.name ≡ L.name }
-    requires parts { blank.parts ≡ L.parts }
-    requires enough { 0 < blank.parts }
-{
-    let mut steps = Steps::<L>::new(blank);
-    program(alloc, words, source, sink, drives, &mut steps)
-}
 
 /// A fresh drive.
 fn fresh(alloc: Global) -> Result<ModelDrive, NoMemory>
@@ -96,7 +76,7 @@ fn serve(alloc: Global, input: &[u8], piece: usize) -> Result<(Status, Vec<u8>),
     let mut source = MemorySource::new(input.to_vec(alloc)?, piece, Vec::new(alloc));
     let mut sink = MemorySink::new(alloc, 65536, piece, Vec::new(alloc))?;
     let mut drives = modelled(alloc)?;
-    let status = counted::<_, _, _, Brand>(
+    let status = counted_program::<_, _, _, Brand>(
         alloc,
         &words,
         &mut source,

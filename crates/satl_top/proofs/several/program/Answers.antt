@@ -3,12 +3,15 @@ use Rattle.std.specs.Prelude.{drop}
 use Rattle.satl_top.proofs.FleetLemmas.{first_new, first_old}
 use Rattle.satl_top.proofs.several.program.Goals as goal
 
-pub returns-clause-first : goal.returns-clause-first
-returns-clause-first g c = λ other. record {
-  first = g.D.Drive.state c.index_mut-first.result.now;
-  last = g.D.Drive.state c.satl.new.drive;
-  others = map g.D.Drive.state (drop 1 c.args.drives.now.items);
-  olds = first_old g.D.Drive.state c.args.drives.now.items c.index_mut-first.result.now (omega (arith, c.requires.some, c.args.drives.now.ok.0)) c.index_mut-first.ensures.value;
-  news = first_new g.D.Drive.state c.args.drives.now.items c.satl.new.drive (omega (arith, c.requires.some, c.args.drives.now.ok.0));
-  outcome = c.satl.ensures.outcome;
+pub returns : goal.returns
+returns g c = record {
+  fleet = λ asks. absurd (c.if-is_fleet.false asks);
+  first = λ other. record {
+    first = g.D.Drive.state c.index_mut-first.result.now;
+    last = g.D.Drive.state c.satl.new.drive;
+    others = map g.D.Drive.state (drop 1 c.args.drives.now.items);
+    olds = first_old g.D.Drive.state c.args.drives.now.items c.index_mut-first.result.now (omega (arith, c.requires.some, c.args.drives.now.ok.0)) c.index_mut-first.ensures.value;
+    news = first_new g.D.Drive.state c.args.drives.now.items c.satl.new.drive (omega (arith, c.requires.some, c.args.drives.now.ok.0));
+    outcome = c.satl.ensures.outcome;
+  };
 }
