@@ -1,11 +1,14 @@
-use Rattle.std.proofs.Common.{arith, map}
+use Rattle.std.proofs.Common.{◌≡◌, arith, map, true, false}
 use Rattle.std.specs.Prelude.{drop}
 use Rattle.satl_top.proofs.FleetLemmas.{first_new, first_old}
 use Rattle.satl_top.proofs.several.program.Goals as goal
 
 pub returns : goal.returns
 returns g c = record {
-  fleet = λ asks. absurd (c.if-is_fleet.false asks);
+  fleet = λ asks.
+      let yes : c.is_fleet.result ≡ true = c.is_fleet.ensures.1 asks in
+      let no : c.is_fleet.result ≡ false = c.if-is_fleet.false in
+      absurd cc;
   first = λ other. record {
     first = g.D.Drive.state c.index_mut-first.result.now;
     last = g.D.Drive.state c.satl.new.drive;
