@@ -201,12 +201,27 @@ impl Pages {
         self.first = done;
     }
 
+    /// Moves the first n pages before the others' first, one by one, so that their order turns round (profile).
+    pub fn move_first(&mut self, n: u32, others: &mut Pages)
+        requires enough { n ≤ length self.old }
+        requires few { length others.old + n < 2 ^ 32 }
+        ensures moved { others.new ≡ reverse (take n self.old) ++ others.old }
+        ensures rest { self.new ≡ drop n self.old }
+    {
+        shift_many(&mut self.first, &mut others.first, n);
+        self.count -= n;
+        others.count += n;
+    }
+
     /// Keeps the first n pages, and gives the others (profile). It takes no memory.
     pub fn split(&mut self, n: u32) -> Pages
         requires { n ≤ length self.old }
         ensures kept { self.new ≡ take n self.old }
         ensures rest { result ≡ drop n self.old }
     {
+        if n == self.count {
+            return Pages::default();
+        }
         let mut front = Chain::End;
         shift_many(&mut self.first, &mut front, n);
         let first = mem::replace(&mut self.first, Chain::End);
