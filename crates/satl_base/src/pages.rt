@@ -208,6 +208,9 @@ impl Pages {
         ensures moved { others.new ≡ reverse (take n self.old) ++ others.old }
         ensures rest { self.new ≡ drop n self.old }
     {
+        if n == 0 {
+            return;
+        }
         shift_many(&mut self.first, &mut others.first, n);
         self.count -= n;
         others.count += n;
