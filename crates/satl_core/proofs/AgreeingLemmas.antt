@@ -167,33 +167,32 @@ pub record IsLeftDown (d d' : DriveState) : Type 0 where
   pub fit : IsFit d'
   pub told : (bytes : List ℕ) → length bytes ≡ 512 → TellsOf bytes d → TellsOf bytes d'
 
-pub quietly_down : (tasks : List Held) (d d' : DriveState) → IsLostQuietly tasks d d' → IsFit d' → IsLeftDown d d'
-quietly_down tasks d d' lost fit = record {
-  down = ap (λ (x : DriveState). x.down) lost.stays;
-  idle = ap (λ (x : DriveState). x.outstanding) lost.stays;
-  no_error = ap (λ (x : DriveState). x.error) lost.stays;
-  capacity = ap (λ (x : DriveState). x.capacity) lost.stays;
-  size = moves-length lost.moves;
-  sound = moves-sound lost.moves;
+-- a drive that is this one, which is down with nothing outstanding
+pub down_by : (d d' g : DriveState) → d' ≡ g → g.down ≡ true → g.outstanding ≡ [] → g.error ≡ None → g.capacity ≡ d.capacity → length d'.cells ≡ length d.cells → (AreSound d.cells → AreSound d'.cells) → IsFit d' → ((bytes : List ℕ) → length bytes ≡ 512 → TellsOf bytes d → TellsOf bytes d') → IsLeftDown d d'
+down_by d d' g stays down idle no_error capacity size sound fit told = record {
+  down = ap (λ (x : DriveState). x.down) stays ∙ down;
+  idle = ap (λ (x : DriveState). x.outstanding) stays ∙ idle;
+  no_error = ap (λ (x : DriveState). x.error) stays ∙ no_error;
+  capacity = ap (λ (x : DriveState). x.capacity) stays ∙ capacity;
+  size = size;
+  sound = sound;
   fit = fit;
-  told = λ bytes long told. still_told bytes d d' (ap (λ (x : DriveState). x.identify) lost.stays) (ap (λ (x : DriveState). x.cache) lost.stays) (ap (λ (x : DriveState). x.look) lost.stays) told;
+  told = told;
 }
 
+pub quietly_down : (tasks : List Held) (d d' : DriveState) → IsLostQuietly tasks d d' → IsFit d' → IsLeftDown d d'
+quietly_down tasks d d' lost fit =
+    down_by d d' _ lost.stays refl refl refl refl (moves-length lost.moves) (moves-sound lost.moves) fit
+    (λ bytes long told. still_told bytes d d' (ap (λ (x : DriveState). x.identify) lost.stays) (ap (λ (x : DriveState). x.cache) lost.stays) (ap (λ (x : DriveState). x.look) lost.stays) told)
+
 pub in_flight_down : (tasks : List Held) (d d' : DriveState) → IsLostInFlight tasks d d' → IsFit d' → IsLeftDown d d'
-in_flight_down tasks d d' lost fit = record {
-  down = ap (λ (x : DriveState). x.down) lost.stays;
-  idle = ap (λ (x : DriveState). x.outstanding) lost.stays;
-  no_error = ap (λ (x : DriveState). x.error) lost.stays;
-  capacity = ap (λ (x : DriveState). x.capacity) lost.stays;
-  size = moves-length lost.moves;
-  sound = moves-sound lost.moves;
-  fit = fit;
-  told = λ bytes long told.
+in_flight_down tasks d d' lost fit =
+    down_by d d' _ lost.stays refl refl refl refl (moves-length lost.moves) (moves-sound lost.moves) fit
+    (λ bytes long told.
       ⊎_elim
       (λ (set : MaySet d d'). retold bytes d.identify d'.identify d.cache d.look d'.cache d'.look long (all_bytes d'.identify fit.bytes) told set.tells)
       (λ same. still_told bytes d d' same.2 same.0 same.1 told)
-      lost.settings;
-}
+      lost.settings)
 
 pub alone_down : (d d' : DriveState) → Stays d d' → d'.down ≡ true → IsFit d → IsLeftDown d d'
 alone_down d d' stays down fit = record {
