@@ -85,6 +85,10 @@ at_place P [] place h all at = absurd cc
 at_place P (k ∷ tasks) zero h all at = let one : k ≡ h = cc in subst P one all.0
 at_place P (k ∷ tasks) (suc place) h all at = at_place P tasks place h all.1 at
 
+-- the task that ended, as it is read
+pub ended_as : (error : Option NcqError) (task read : Entry) (old new : OnDrive) → read ≡ task → Ends error task old new → Ends error read old new
+ended_as error task read old new is e = subst (λ t. Ends error t old new) (sym is) e
+
 module _ (error : Option NcqError) (task : Entry) (old new : OnDrive) (e : Ends error task old new) where
   entry_is : entry_at old.queue.tasks e.place ≡ Some e.settled.held.entry
   entry_is = ap (option_map (λ (h : Held). h.entry)) e.settled.stands

@@ -16,7 +16,7 @@ use Rattle.satl_line.specs.declared.entry.Kind.TheVariants.{Ranged, Barrier}
 use Rattle.satl_line.specs.Conflict.{conflicts}
 use Rattle.satl_line.specs.Eligible.{IsEligible, IsEligibleBy}
 use Rattle.satl_line.specs.Kinds.{is_ranged, kind_of}
-use Rattle.satl_line.specs.Layout.{no_entry}
+use Rattle.satl_line.specs.Blank.{no_entry}
 use Rattle.satl_line.specs.Ranged.{RangedTask, ranged_by, ranged_of}
 use Rattle.satl_line.specs.Ranged.RangedTask.{ranged_read, ranged_write, ranged_trim}
 use Rattle.satl_line.specs.Tasks.{Held, entries_of}

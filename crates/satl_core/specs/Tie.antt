@@ -6,7 +6,7 @@ use Rattle.std.specs.List.{AllZip, find, list_any}
 use Rattle.satl_line.specs.declared.entry.Entry.{Entry}
 use Rattle.satl_line.specs.Eligible.{IsEligible}
 use Rattle.satl_line.specs.Kinds.{is_ranged}
-use Rattle.satl_line.specs.Layout.{no_entry}
+use Rattle.satl_line.specs.Blank.{no_entry}
 use Rattle.satl_line.specs.Ranged.{RangedTask, ranged_of}
 use Rattle.satl_line.specs.Tasks.{Held}
 use Rattle.satl_drive.specs.State.{DriveState, Outstanding}
