@@ -25,7 +25,7 @@ use Rattle.satl_line.proofs.EndingLemmas.{ends-sound}
 use Rattle.satl_drive.specs.State.{DriveState, IsFit}
 use Rattle.satl_drive.specs.Rules.{MaySet}
 use Rattle.satl_flight.specs.Flown.{FitsDrive, IsFlown, IsInFlight, RangedFits}
-use Rattle.satl_flight.specs.Settled.{IsCut, IsFilled, IsLaunched, IsLostInFlight, IsLostQuietly, IsSettled}
+use Rattle.satl_flight.specs.Settled.{HasEndedAt, IsCut, IsFilled, IsLaunched, IsLostInFlight, IsLostQuietly}
 use Rattle.satl_flight.proofs.FlownLemmas.{FitsOn}
 use Rattle.satl_barrier.specs.Leaving.{Stays, TellsOf}
 use Rattle.satl_barrier.proofs.ToldLemmas.{all_bytes, retold}
@@ -246,7 +246,7 @@ tied_lost l new d d' left same agrees =
 
 -- ---- a task that has ended
 
-pub agrees_settled : (l new : Layer) (d d' : DriveState) (place : ℕ) (outcome : Outcome) → IsSettled place outcome (queue_on l d) (queue_on new d') → new ≡ record l { tasks = remove l.tasks place; flying = new.flying; slots = new.slots; free = new.free; out = new.out } → IsFit d' → Agrees l d → Agrees new d'
+pub agrees_settled : (l new : Layer) (d d' : DriveState) (place : ℕ) (outcome : Outcome) → HasEndedAt place outcome (queue_on l d) (queue_on new d') → new ≡ record l { tasks = remove l.tasks place; flying = new.flying; slots = new.slots; free = new.free; out = new.out } → IsFit d' → Agrees l d → Agrees new d'
 agrees_settled l new d d' place outcome s same fit agrees =
     agrees_by l new d d' (ap (λ (x : Layer). x.down) same) (ap (λ (x : Layer). x.modes) same) (ap (λ (x : Layer). x.identity) same)
     (record { down = ap (λ (x : DriveState). x.down) s.stays; cache = ap (λ (x : DriveState). x.cache) s.stays; look = ap (λ (x : DriveState). x.look) s.stays; identify = ap (λ (x : DriveState). x.identify) s.stays })

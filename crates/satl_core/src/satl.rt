@@ -12,7 +12,7 @@ ghost use Rattle.satl_direct.specs.Quiet.{Around};
 ghost use Rattle.satl_direct.specs.Run.{Manages, MayLose, bench_losses, depth};
 ghost use Rattle.satl_core.specs.Tie.{TiesQueue};
 ghost use Rattle.satl_direct.specs.Bench.{Happens};
-ghost use Rattle.satl_core.specs.Benching.{Follows, StartsAnew, unplugs_after};
+ghost use Rattle.satl_core.specs.Benching.{FollowsEvent, StartsAnew, unplugs_after};
 ghost use Rattle.satl_direct.specs.Turn.{Turn};
 ghost use Rattle.satl_core.specs.Layer.{IsTask, Tied, reply_pages, view};
 ghost use Rattle.satl_core.specs.Opening.{IsCause, IsOpened, IsUndisturbed};
@@ -419,7 +419,7 @@ impl Satl {
         requires empty { replies.old ≡ [] }
         requires all_in { self.old.out ≡ 0 }
         requires few { length self.old.tasks ≤ most_tasks }
-        ensures follows { Follows event.now self.old replies.new self.new }
+        ensures follows { FollowsEvent event.now self.old replies.new self.new }
         ensures pages { self.new.out ≡ reply_pages replies.new }
         ensures writable { AllByRecursion IsWritable replies.new }
     {

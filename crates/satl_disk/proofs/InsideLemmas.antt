@@ -10,7 +10,7 @@ use Rattle.satl_disk.specs.declared.sectors.Flaws.{Flaws}
 use Rattle.satl_disk.specs.declared.twins.Places.{Places}
 use Rattle.satl_disk.specs.Disk.{blank_sector}
 use Rattle.satl_disk.specs.Layout.{Twin, blank_twin, block_at, flaw_of, left_twin, no_flaws, sector_at, sector_of, struck_flaws, twin_at, twin_of, written_flaws, written_places, written_twin, zipped}
-use Rattle.satl_disk.specs.Sectors.{Sector, cells_of, changed_at, is_stuck, left_by, mended_sector, rest_by, struck_sector, write_at, written}
+use Rattle.satl_disk.specs.Sectors.{Sector, after_power_loss, cells_of, changed_at, is_stuck, mended_sector, rest_by, struck_sector, write_at, written}
 use Rattle.satl_disk.proofs.LayoutLemmas.{first_of, flawed_of, left_clean, left_dirty, rest_clean, rest_dirty, second_of, struck_of, zipped-at, zipped-length, zipped-set}
 use Rattle.satl_disk.proofs.SectorsLemmas.{changed_same, changed_set, flag_at, stuck_at}
 
@@ -128,17 +128,17 @@ module _ (ts : List Twin) (ds : List Bool) (fs : List Flaws) (olds : List Sector
         ∙ changed_is (λ x. written x v cached) (written_twin cached d v t) cached z (ap (sector_of (written_twin cached d v t) cached) (is ∙ ap written_flaws (flaws_are n e)))
 
     module _ (dirty : Bool) (was : dirty ≡ slice_index_or ds place dirty) where
-      pub left_is : (byte : ℕ) (ts2 : List Twin) → dirty ≡ true → ts2 ≡ slice_set ts place (left_twin byte t) → zipped sector_of ts2 (slice_set ds place false) fs ≡ changed_at (left_by byte) olds place
+      pub left_is : (byte : ℕ) (ts2 : List Twin) → dirty ≡ true → ts2 ≡ slice_set ts place (left_twin byte t) → zipped sector_of ts2 (slice_set ds place false) fs ≡ changed_at (after_power_loss byte) olds place
       left_is byte ts2 is twins =
           ap (λ xs. zipped sector_of xs (slice_set ds place false) fs) twins
           ∙ ap (λ xs. zipped sector_of (slice_set ts place (left_twin byte t)) (slice_set ds place false) xs) (sym (set-get_or fs place no_flaws))
-          ∙ changed_is (left_by byte) (left_twin byte t) false f (left_dirty byte t d f (sym (dirty_is dirty was) ∙ is))
+          ∙ changed_is (after_power_loss byte) (left_twin byte t) false f (left_dirty byte t d f (sym (dirty_is dirty was) ∙ is))
 
       pub dirty_rest : (bytes : List ℕ) → dirty ≡ true → drop 1 bytes ≡ rest_by (sector_at olds place) bytes
       dirty_rest bytes is = rest_dirty s bytes (sym (dirty_is dirty was) ∙ is) ∙ ap (λ x. rest_by x bytes) (at_place blank_sector)
 
-      pub clean_is : (byte : ℕ) → dirty ≡ false → olds ≡ changed_at (left_by byte) olds place
-      clean_is byte clean = changed_same (left_by byte) olds place s within (at_place s) (left_clean byte s (sym (dirty_is dirty was) ∙ clean))
+      pub clean_is : (byte : ℕ) → dirty ≡ false → olds ≡ changed_at (after_power_loss byte) olds place
+      clean_is byte clean = changed_same (after_power_loss byte) olds place s within (at_place s) (left_clean byte s (sym (dirty_is dirty was) ∙ clean))
 
       pub clean_rest : (bytes : List ℕ) → dirty ≡ false → bytes ≡ rest_by (sector_at olds place) bytes
       clean_rest bytes clean = rest_clean s bytes (sym (dirty_is dirty was) ∙ clean) ∙ ap (λ x. rest_by x bytes) (at_place blank_sector)

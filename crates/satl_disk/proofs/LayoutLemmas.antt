@@ -9,19 +9,19 @@ use Rattle.satl_base.specs.Blocks.{zero_block}
 use Rattle.satl_base.specs.Cells.{has_flaw}
 use Rattle.satl_disk.specs.declared.sectors.Flaws.{Flaws}
 use Rattle.satl_disk.specs.declared.twins.Places.{Places}
-use Rattle.satl_disk.specs.Layout.{Twin, block_at, filled, flaw_of, left_twin, sector_of, struck_flaws, twin_of, written_places, written_twin, zipped}
-use Rattle.satl_disk.specs.Sectors.{Sector, cell_of, left_by, rest_by, settled, struck_sector}
+use Rattle.satl_disk.specs.Layout.{Twin, block_at, flaw_of, front_blocks, left_twin, sector_of, struck_flaws, twin_of, written_places, written_twin, zipped}
+use Rattle.satl_disk.specs.Sectors.{Sector, after_power_loss, cell_of, rest_by, settled, struck_sector}
 
-pub filled-length : (n : ℕ) (bs : List Block) → length (filled n bs) ≡ n
+pub filled-length : (n : ℕ) (bs : List Block) → length (front_blocks n bs) ≡ n
 filled-length zero bs = refl
 filled-length (suc n) [] = ap suc (filled-length n [])
 filled-length (suc n) (b ∷ bs) = ap suc (filled-length n bs)
 
-pub filled_none : (n : ℕ) → filled n [] ≡ replicate n zero_block
+pub filled_none : (n : ℕ) → front_blocks n [] ≡ replicate n zero_block
 filled_none zero = refl
 filled_none (suc n) = ap (λ bs. zero_block ∷ bs) (filled_none n)
 
-pub filled_at : (n place : ℕ) (bs : List Block) → place < n → block_at bs place ≡ block_at (filled n bs) place
+pub filled_at : (n place : ℕ) (bs : List Block) → place < n → block_at bs place ≡ block_at (front_blocks n bs) place
 filled_at zero place bs h = absurd (omega arith)
 filled_at (suc n) zero [] h = refl
 filled_at (suc n) (suc place) [] h = filled_at n place [] (omega arith)
@@ -29,20 +29,20 @@ filled_at (suc n) zero (b ∷ bs) h = refl
 filled_at (suc n) (suc place) (b ∷ bs) h = filled_at n place bs (omega arith)
 
 -- a block before the end is set
-pub filled_set : (n place : ℕ) (bs : List Block) (b : Block) → place < length bs → filled n (slice_set bs place b) ≡ slice_set (filled n bs) place b
+pub filled_set : (n place : ℕ) (bs : List Block) (b : Block) → place < length bs → front_blocks n (slice_set bs place b) ≡ slice_set (front_blocks n bs) place b
 filled_set zero place bs b h = refl
 filled_set (suc n) place [] b h = absurd (omega arith)
 filled_set (suc n) zero (x ∷ bs) b h = refl
 filled_set (suc n) (suc place) (x ∷ bs) b h = ap (λ xs. x ∷ xs) (filled_set n place bs b (omega arith))
 
 -- zeros at the end make no difference
-filled_zeros : (n g : ℕ) (bs : List Block) → filled n (bs ++ replicate g zero_block) ≡ filled n bs
+filled_zeros : (n g : ℕ) (bs : List Block) → front_blocks n (bs ++ replicate g zero_block) ≡ front_blocks n bs
 filled_zeros zero g bs = refl
 filled_zeros (suc n) zero [] = refl
 filled_zeros (suc n) (suc g) [] = ap (λ xs. zero_block ∷ xs) (filled_zeros n g [])
 filled_zeros (suc n) g (x ∷ bs) = ap (λ xs. x ∷ xs) (filled_zeros n g bs)
 
-filled_last : (n place : ℕ) (bs : List Block) (b : Block) → length bs ≡ place → filled n (bs ++ b ∷ []) ≡ slice_set (filled n bs) place b
+filled_last : (n place : ℕ) (bs : List Block) (b : Block) → length bs ≡ place → front_blocks n (bs ++ b ∷ []) ≡ slice_set (front_blocks n bs) place b
 filled_last zero place bs b h = refl
 filled_last (suc n) zero [] b h = refl
 filled_last (suc n) (suc place) [] b h = absurd (omega arith)
@@ -50,11 +50,11 @@ filled_last (suc n) zero (x ∷ bs) b h = absurd (omega arith)
 filled_last (suc n) (suc place) (x ∷ bs) b h = ap (λ xs. x ∷ xs) (filled_last n place bs b (omega arith))
 
 -- a block behind the end is pushed, with zeros up to it
-pub filled_push : (n g place : ℕ) (bs : List Block) (b : Block) → length (bs ++ replicate g zero_block) ≡ place → filled n ((bs ++ replicate g zero_block) ++ b ∷ []) ≡ slice_set (filled n bs) place b
+pub filled_push : (n g place : ℕ) (bs : List Block) (b : Block) → length (bs ++ replicate g zero_block) ≡ place → front_blocks n ((bs ++ replicate g zero_block) ++ b ∷ []) ≡ slice_set (front_blocks n bs) place b
 filled_push n g place bs b h = filled_last n place (bs ++ replicate g zero_block) b h ∙ ap (λ xs. slice_set xs place b) (filled_zeros n g bs)
 
 -- the blocks of which a list is the front
-module _ (n : ℕ) (bs olds : List Block) (view : filled n bs ≡ olds) where
+module _ (n : ℕ) (bs olds : List Block) (view : front_blocks n bs ≡ olds) where
   pub number_is : length olds ≡ n
   number_is = sym (ap length view) ∙ filled-length n bs
 
@@ -65,11 +65,11 @@ module _ (n : ℕ) (bs olds : List Block) (view : filled n bs ≡ olds) where
     pub zeros_are : place < length olds → length bs ≤ place → zero_block ≡ block_at olds place
     zeros_are within h = sym (get_or_past bs place zero_block h) ∙ filled_at n place bs (omega (arith, number_is, within)) ∙ ap (λ xs. block_at xs place) view
 
-    pub set_is : (b : Block) → place < length bs → filled n (slice_set bs place b) ≡ slice_set olds place b
+    pub set_is : (b : Block) → place < length bs → front_blocks n (slice_set bs place b) ≡ slice_set olds place b
     set_is b h = filled_set n place bs b h ∙ ap (λ xs. slice_set xs place b) view
 
-    pub push_is : (b : Block) (g : ℕ) (new : List Block) → length (bs ++ replicate g zero_block) ≡ place → new ≡ (bs ++ replicate g zero_block) ++ b ∷ [] → filled n new ≡ slice_set olds place b
-    push_is b g new h is = ap (filled n) is ∙ filled_push n g place bs b h ∙ ap (λ xs. slice_set xs place b) view
+    pub push_is : (b : Block) (g : ℕ) (new : List Block) → length (bs ++ replicate g zero_block) ≡ place → new ≡ (bs ++ replicate g zero_block) ++ b ∷ [] → front_blocks n new ≡ slice_set olds place b
+    push_is b g new h is = ap (front_blocks n) is ∙ filled_push n g place bs b h ∙ ap (λ xs. slice_set xs place b) view
 
 -- zeros that are pushed one by one
 last_zero : (g : ℕ) → replicate g zero_block ++ zero_block ∷ [] ≡ zero_block ∷ replicate g zero_block
@@ -161,12 +161,12 @@ module _ (a b v : Block) where
       by false dirty false stable h = refl
 
 -- a loss of power at a dirty sector, and at a clean one
-pub left_dirty : (byte : ℕ) (t : Twin) (dirty : Bool) (f : Flaws) → dirty ≡ true → sector_of (left_twin byte t) false f ≡ left_by byte (sector_of t dirty f)
+pub left_dirty : (byte : ℕ) (t : Twin) (dirty : Bool) (f : Flaws) → dirty ≡ true → sector_of (left_twin byte t) false f ≡ after_power_loss byte (sector_of t dirty f)
 left_dirty byte t dirty f is =
     let s = sector_of t dirty f in
     sym (ap (λ b. if b then record s { now = (if byte % 2 == 0 then t.stable else t.now); dirty = false } else s) is)
 
-pub left_clean : (byte : ℕ) (s : Sector) → s.dirty ≡ false → left_by byte s ≡ s
+pub left_clean : (byte : ℕ) (s : Sector) → s.dirty ≡ false → after_power_loss byte s ≡ s
 left_clean byte s is = ap (λ b. if b then record s { now = (if byte % 2 == 0 then s.stable else s.now); dirty = false } else s) is
 
 pub rest_dirty : (s : Sector) (bytes : List ℕ) → s.dirty ≡ true → drop 1 bytes ≡ rest_by s bytes

@@ -10,10 +10,10 @@ use Rattle.satl_disk.specs.Sectors.{Sector}
 use Rattle.satl_disk.specs.Disk.{blank_sector}
 
 -- the first n blocks of a list; behind its end they are zeros
-abbrev pub filled : ℕ → List Block → List Block
-filled zero bs = []
-filled (suc n) [] = zero_block ∷ filled n []
-filled (suc n) (b ∷ bs) = b ∷ filled n bs
+abbrev pub front_blocks : ℕ → List Block → List Block
+front_blocks zero bs = []
+front_blocks (suc n) [] = zero_block ∷ front_blocks n []
+front_blocks (suc n) (b ∷ bs) = b ∷ front_blocks n bs
 
 -- the block at a place, zeros behind the end
 abbrev pub block_at : List Block → ℕ → Block

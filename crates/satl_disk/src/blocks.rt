@@ -19,11 +19,11 @@ pub struct Blocks {
 impl Model for Blocks {
     ghost use Rattle.std.specs.Prelude.{List, ◌≤◌, vec_capacity};
     ghost use Rattle.satl_base.specs.declared.block.Block.{Block};
-    ghost use Rattle.satl_disk.specs.Layout.{filled};
+    ghost use Rattle.satl_disk.specs.Layout.{front_blocks};
 
     ghost Value = { List Block };
 
-    ghost view = { λ b. filled b.number b.kept.items };
+    ghost view = { λ b. front_blocks b.number b.kept.items };
 
     ghost invariant = { λ b. b.number ≤ vec_capacity b.kept };
 }

@@ -7,8 +7,8 @@ ghost use Rattle.satl_line.specs.Tasks.{Adds, AreOwnSlots, Held, change_task, en
 ghost use Rattle.satl_flight.specs.Flown.{holds};
 ghost use Rattle.satl_drive.specs.State.{DriveState, IsFit};
 ghost use Rattle.satl_flight.specs.Lending.{AreAlike};
-ghost use Rattle.satl_flight.specs.Queueing.{Ends, IsQueued, IsSlotted, empty, without_pages};
-ghost use Rattle.satl_flight.specs.Settled.{IsCovered, IsCut, IsFilled, IsLaunched, IsLostInFlight, IsLostQuietly, on_drive};
+ghost use Rattle.satl_flight.specs.Queueing.{EndsAndLeaves, IsQueued, IsSlotted, empty, without_pages};
+ghost use Rattle.satl_flight.specs.Settled.{IsCut, IsFilled, IsIssuedIfItMay, IsLaunched, IsLostInFlight, IsLostQuietly, on_drive};
 
 use crate::flight::Flight;
 use satl_base::{Nexus, NoMemory, Pages, Steps, Tag};
@@ -30,11 +30,11 @@ pub struct Queue {
 }
 
 impl Model for Queue {
-    ghost use Rattle.satl_flight.specs.Lending.{IsLending, Waiting, waiting, whole};
+    ghost use Rattle.satl_flight.specs.Lending.{IsLending, Waiting, waiting, with_own_pages};
 
     ghost Value = { Waiting };
 
-    ghost view = { λ q. whole (waiting q.flight q.dma q.set) };
+    ghost view = { λ q. with_own_pages (waiting q.flight q.dma q.set) };
 
     ghost invariant = { λ q. IsLending q.flight q.dma q.set };
 }
@@ -86,7 +86,7 @@ impl Queue {
         requires queued { IsQueued self.old (D.state drive.old) }
         requires one { self.old.flying ≢ [] }
         requires fit { IsFit (D.state drive.old) }
-        ensures ok { IfOk result (λ error. Ends error task.new (on_drive self.old (D.state drive.old))
+        ensures ok { IfOk result (λ error. EndsAndLeaves error task.new (on_drive self.old (D.state drive.old))
             (on_drive self.new (D.state drive.new))) }
         ensures back { OnErr result (task.new ≡ task.old) }
         ensures err { OnErr result (IsLostInFlight self.old.tasks (D.state drive.old) (D.state drive.new)) }
@@ -173,7 +173,7 @@ impl Queue {
         requires some { 0 < length self.old.tasks }
         requires queued { IsQueued self.old (D.state drive.old) }
         ensures ok { OnOk result (IsLaunched (on_drive self.old (D.state drive.old)) (on_drive self.new (D.state drive.new))) }
-        ensures covered { OnOk result (IsCovered self.new.flying self.new.tasks (length self.old.tasks - 1)) }
+        ensures covered { OnOk result (IsIssuedIfItMay self.new.flying self.new.tasks (length self.old.tasks - 1)) }
         ensures err { OnErr result (IsLostQuietly self.old.tasks (D.state drive.old) (D.state drive.new)) }
         ensures emptied { OnErr result (self.new.flying ≡ []) }
         ensures same { self.new.tasks ≡ self.old.tasks }

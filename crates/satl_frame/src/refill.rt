@@ -1,8 +1,8 @@
 // Data-out from the source into pages, in large reads.
 ghost use Rattle.std.specs.Prelude.{◌≡◌, ◌<◌, ◌≤◌, ◌+◌, ◌-◌, ◌*◌, ◌^◌, ◌++◌, [], IfOk, OnOk, length, take, drop, reverse};
 ghost use Rattle.satl_base.specs.Blocks.{zero_block};
-ghost use Rattle.satl_frame.specs.DataPages.{page_count, padded_block, pages_from, zeros};
-ghost use Rattle.satl_frame.specs.Pulls.{PullCauses, Stopped, TookCount, TookPages, Placed, given_pages};
+ghost use Rattle.satl_frame.specs.DataPages.{page_count, padded_block, pages_from, zero_bytes};
+ghost use Rattle.satl_frame.specs.Pulls.{PullCauses, Stopped, TookCount, TookPages, FilledInReverse, given_pages};
 
 use crate::pulling::{PullError, pull};
 use satl_base::{Block, Lender, Pages};
@@ -42,7 +42,7 @@ fn place_blocks(buffer: &[u8], n: u32, todo: &mut Pages, done: &mut Pages)
 /// Blanks what stands behind so many bytes, up to the end of their last page.
 fn blank_rest(buffer: &mut [u8; CHUNK], count: usize)
     requires { count ≤ 4096 }
-    ensures { buffer.new ≡ (take count buffer.old ++ zeros (512 * page_count count - count))
+    ensures { buffer.new ≡ (take count buffer.old ++ zero_bytes (512 * page_count count - count))
         ++ drop (512 * page_count count) buffer.old }
 {
     buffer[count..512 * count.div_ceil(512)].fill(0);
@@ -58,7 +58,8 @@ fn pull_chunk<S: Source>(
 ) -> Result<(), PullError>
     requires short { count ≤ 4096 }
     requires few { length todo.old + length done.old < 2 ^ 32 }
-    ensures placed { OnOk result (Placed (S.left source.old) (S.left source.new) count (length todo.old) done.old done.new) }
+    ensures placed { OnOk result (FilledInReverse (S.left source.old) (S.left source.new) count (length todo.old)
+        done.old done.new) }
     ensures same { length todo.new + length done.new ≡ length todo.old + length done.old }
     ensures stopped { Stopped (S.left source.old) (S.left source.new) count result }
     ensures causes { PullCauses (S.left source.old) (S.left source.new) count (S.faults source.old)

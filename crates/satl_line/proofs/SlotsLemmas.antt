@@ -18,7 +18,7 @@ use Rattle.satl_line.specs.Blank.{no_entry}
 use Rattle.satl_line.specs.Conflict.{access_of, accesses_conflict, conflicts}
 use Rattle.satl_line.specs.Eligible.{eligible_at, is_clear_by}
 use Rattle.satl_line.specs.Tasks.{AreOwnSlots, AreMasks, is_barred_from, entries_of, Held, count_of, slots_of, total_blocks, entry_at, Adds, with_body, change_task}
-use Rattle.satl_line.specs.Layout.{Mark, mark_of, is_marked, IsMask, HaveMasks, IsMasked, clear_bit, cleared, held_in, tasks_in, IsSound, is_unbarred_at}
+use Rattle.satl_line.specs.Layout.{SlotAccess, mark_of, is_marked, IsMask, HaveMasks, IsMasked, clear_bit, cleared, held_in, tasks_in, FitTogether, is_unbarred_at}
 use Rattle.satl_line.proofs.MasksLemmas.{bit, HasNot, AreSmall, is_struck, zero_mask, are_removed, are_added, get_or-cleared, mask_more_yes, mask_more_no}
 
 -- ---- counts
@@ -110,7 +110,7 @@ pub struck_map : (held : List Held) (e : Entry) → is_struck (map mark_of held)
 struck_map [] e = refl
 struck_map (h ∷ hs) e = ap (λ b. conflicts h.entry e || b) (struck_map hs e)
 
-small-append : (xs ys : List Mark) → AreSmall xs → AreSmall ys → AreSmall (xs ++ ys)
+small-append : (xs ys : List SlotAccess) → AreSmall xs → AreSmall ys → AreSmall (xs ++ ys)
 small-append xs ys h k = All-append (λ u. u.slot < 64) xs ys h k
 
 eligible_from : (earlier tasks : List Held) (masks : List ℕ) (k : ℕ) → AreSmall (map mark_of earlier) → AreSmall (map mark_of tasks) → HaveMasks (map mark_of earlier) (map mark_of tasks) masks → get_or masks (get_or (slots_of tasks) k 0) 0 < 2 ^ 64 → k < length tasks →
@@ -138,15 +138,15 @@ eligible_is slots order seen masks tasks k same is taken are fits lt =
 -- ---- a task leaves
 
 -- the counts of the slot of a task
-alone : (slots : List Entry) (front : List ℕ) (s : ℕ) (back free masks : List ℕ) (blocks : ℕ) → IsSound slots (front ++ s ∷ back) free masks blocks → s < 64 → (count_of s front ≡ 0) × (count_of s back ≡ 0)
+alone : (slots : List Entry) (front : List ℕ) (s : ℕ) (back free masks : List ℕ) (blocks : ℕ) → FitTogether slots (front ++ s ∷ back) free masks blocks → s < 64 → (count_of s front ≡ 0) × (count_of s back ≡ 0)
 alone slots front s back free masks blocks h small =
     let e = count-append s front (s ∷ back) in
     let o = h.once s small in
     let one : count_of s (s ∷ back) ≡ 1 + count_of s back = rw (eq-eqb s s refl) (omega arith) in
     (omega (arith, e, o, one), omega (arith, e, o, one))
 
-pub sound_without : (slots : List Entry) (front : List ℕ) (s : ℕ) (back free masks : List ℕ) (blocks : ℕ) (e other : Entry) → IsSound slots (front ++ s ∷ back) free masks blocks → get_or slots s no_entry ≡ e →
-    IsSound (set slots s other) (front ++ back) (free ++ s ∷ []) (cleared masks s) (blocks - e.blocks)
+pub sound_without : (slots : List Entry) (front : List ℕ) (s : ℕ) (back free masks : List ℕ) (blocks : ℕ) (e other : Entry) → FitTogether slots (front ++ s ∷ back) free masks blocks → get_or slots s no_entry ≡ e →
+    FitTogether (set slots s other) (front ++ back) (free ++ s ∷ []) (cleared masks s) (blocks - e.blocks)
     × (tasks_in (set slots s other) (front ++ back) ≡ tasks_in slots (front ++ back)) × (e.blocks ≤ blocks)
 sound_without slots front s back free masks blocks e other h is =
     let at : s < 64 = (All-right (λ q. q < 64) front (s ∷ back) h.taken).0 in
@@ -201,8 +201,8 @@ sound_without slots front s back free masks blocks e other h is =
 
 -- ---- a task comes
 
-pub sound_with : (slots : List Entry) (order free : List ℕ) (s : ℕ) (masks : List ℕ) (blocks mask : ℕ) (e : Entry) → IsSound slots order (free ++ s ∷ []) masks blocks → blocks + e.blocks ≤ 32768 → IsMask (map mark_of (tasks_in slots order)) (access_of e) mask →
-    IsSound (set slots s e) (order ++ s ∷ []) free (set masks s mask) (blocks + e.blocks)
+pub sound_with : (slots : List Entry) (order free : List ℕ) (s : ℕ) (masks : List ℕ) (blocks mask : ℕ) (e : Entry) → FitTogether slots order (free ++ s ∷ []) masks blocks → blocks + e.blocks ≤ 32768 → IsMask (map mark_of (tasks_in slots order)) (access_of e) mask →
+    FitTogether (set slots s e) (order ++ s ∷ []) free (set masks s mask) (blocks + e.blocks)
     × (tasks_in (set slots s e) (order ++ s ∷ []) ≡ tasks_in slots order ++ record { slot = s; entry = e } ∷ []) × (s < 64) × (count_of s order ≡ 0)
 sound_with slots order free s masks blocks mask e h fits is =
     let small : s < 64 = (All-right (λ q. q < 64) free (s ∷ []) h.small).0 in
@@ -244,7 +244,7 @@ sound_with slots order free s masks blocks mask e h fits is =
 -- ---- the steps as the code takes them
 
 pub record Leaves (tasks : List Held) (place : ℕ) (e : Entry) (slots' : List Entry) (order' free' masks' : List ℕ) (blocks : ℕ) : Type 0 where
-  pub sound : IsSound slots' order' free' masks' (blocks - e.blocks)
+  pub sound : FitTogether slots' order' free' masks' (blocks - e.blocks)
   pub rest : tasks_in slots' order' ≡ remove tasks place
   pub value : entry_at tasks place ≡ Some e
   pub less : e.blocks ≤ blocks
@@ -258,37 +258,37 @@ entry_at_is slots order place s e lt at is =
     ∙ ap Some is
 
 pub leaves : (slots : List Entry) (order free masks : List ℕ) (blocks : ℕ) (tasks : List Held) (place s : ℕ) (seen other e : Entry) (order' free' masks' : List ℕ) →
-    IsSound slots order free masks blocks → tasks_in slots order ≡ tasks → place < length tasks → s ≡ get_or order place s → seen ≡ get_or slots s seen → e ≡ seen →
+    FitTogether slots order free masks blocks → tasks_in slots order ≡ tasks → place < length tasks → s ≡ get_or order place s → seen ≡ get_or slots s seen → e ≡ seen →
     order' ≡ remove order place → free' ≡ free ++ s ∷ [] → masks' ≡ cleared masks s → Leaves tasks place e (set slots s other) order' free' masks' blocks
 leaves slots order free masks blocks tasks place s seen other e order' free' masks' sound is lt at seen_is e_is order_is free_is masks_is =
     let within : place < length order = omega (arith, length-map order (held_in slots), ap length is) in
     let small : s < 64 = subst (λ q. q < 64) (sym at) (All-at (λ q. q < 64) order place s within sound.taken) in
     let here : get_or slots s no_entry ≡ e = get_or_default slots s no_entry seen (omega (arith, small, sound.room)) ∙ sym seen_is ∙ sym e_is in
     let order_parts : order ≡ take place order ++ s ∷ drop (suc place) order = parted order place s within ∙ ap (λ q. take place order ++ q ∷ drop (suc place) order) (sym at) in
-    let r = sound_without slots (take place order) s (drop (suc place) order) free masks blocks e other (subst (λ l. IsSound slots l free masks blocks) order_parts sound) here in
+    let r = sound_without slots (take place order) s (drop (suc place) order) free masks blocks e other (subst (λ l. FitTogether slots l free masks blocks) order_parts sound) here in
     let tasks_is : tasks_in (set slots s other) (remove order place) ≡ remove tasks place = r.1 ∙ remove-map (held_in slots) order place ∙ ap (λ l. remove l place) is in
     record {
-      sound = subst (λ l. IsSound (set slots s other) l free' masks' (blocks - e.blocks)) (sym order_is)
-          (subst (λ l. IsSound (set slots s other) (remove order place) l masks' (blocks - e.blocks)) (sym free_is)
-          (subst (λ l. IsSound (set slots s other) (remove order place) (free ++ s ∷ []) l (blocks - e.blocks)) (sym masks_is) r.0));
+      sound = subst (λ l. FitTogether (set slots s other) l free' masks' (blocks - e.blocks)) (sym order_is)
+          (subst (λ l. FitTogether (set slots s other) (remove order place) l masks' (blocks - e.blocks)) (sym free_is)
+          (subst (λ l. FitTogether (set slots s other) (remove order place) (free ++ s ∷ []) l (blocks - e.blocks)) (sym masks_is) r.0));
       rest = ap (tasks_in (set slots s other)) order_is ∙ tasks_is;
       value = ap (λ l. entry_at l place) (sym is) ∙ entry_at_is slots order place s e within at here;
       less = r.2;
     }
 
 pub record Comes (old : List Held) (e : Entry) (slots' : List Entry) (order' free' masks' : List ℕ) (blocks : ℕ) : Type 0 where
-  pub sound : IsSound slots' order' free' masks' blocks
+  pub sound : FitTogether slots' order' free' masks' blocks
   pub adds : Adds old e (tasks_in slots' order')
 
 comes : (slots seen : List Entry) (order seen_order free freed : List ℕ) (s : ℕ) (masks : List ℕ) (blocks mask : ℕ) (e : Entry) (old : List Held) (order' : List ℕ) →
-    IsSound slots order free masks blocks → tasks_in slots order ≡ old → free ≡ freed ++ s ∷ [] → seen ≡ slots → seen_order ≡ order → IsMask (map mark_of (tasks_in seen seen_order)) (access_of e) mask → order' ≡ order ++ s ∷ [] → blocks + e.blocks ≤ 32768 →
+    FitTogether slots order free masks blocks → tasks_in slots order ≡ old → free ≡ freed ++ s ∷ [] → seen ≡ slots → seen_order ≡ order → IsMask (map mark_of (tasks_in seen seen_order)) (access_of e) mask → order' ≡ order ++ s ∷ [] → blocks + e.blocks ≤ 32768 →
     Comes old e (set slots s e) order' freed (set masks s mask) (blocks + e.blocks)
 comes slots seen order seen_order free freed s masks blocks mask e old order' sound is free_is seen_is seen_order_is mask_is order_is fits =
     let masked : IsMask (map mark_of (tasks_in slots order)) (access_of e) mask
     = subst (λ l. IsMask (map mark_of (tasks_in slots l)) (access_of e) mask) seen_order_is (subst (λ l. IsMask (map mark_of (tasks_in l seen_order)) (access_of e) mask) seen_is mask_is) in
-    let r = sound_with slots order freed s masks blocks mask e (subst (λ l. IsSound slots order l masks blocks) free_is sound) fits masked in
+    let r = sound_with slots order freed s masks blocks mask e (subst (λ l. FitTogether slots order l masks blocks) free_is sound) fits masked in
     record {
-      sound = subst (λ l. IsSound (set slots s e) l freed (set masks s mask) (blocks + e.blocks)) (sym order_is) r.0;
+      sound = subst (λ l. FitTogether (set slots s e) l freed (set masks s mask) (blocks + e.blocks)) (sym order_is) r.0;
       adds = record {
         slot = s;
         small = r.2;
@@ -302,7 +302,7 @@ comes slots seen order seen_order free freed s masks blocks mask e old order' so
 
 -- the same where the task is read from one place, and lies in another
 pub comes_from : (slots seen : List Entry) (order seen_order free freed : List ℕ) (s : ℕ) (masks : List ℕ) (blocks mask : ℕ) (e read put : Entry) (old : List Held) (order' : List ℕ) →
-    IsSound slots order free masks blocks → tasks_in slots order ≡ old → free ≡ freed ++ s ∷ [] → seen ≡ slots → seen_order ≡ order → IsMask (map mark_of (tasks_in seen seen_order)) (access_of read) mask → order' ≡ order ++ s ∷ [] → blocks + read.blocks ≤ 32768 → read ≡ e → put ≡ e →
+    FitTogether slots order free masks blocks → tasks_in slots order ≡ old → free ≡ freed ++ s ∷ [] → seen ≡ slots → seen_order ≡ order → IsMask (map mark_of (tasks_in seen seen_order)) (access_of read) mask → order' ≡ order ++ s ∷ [] → blocks + read.blocks ≤ 32768 → read ≡ e → put ≡ e →
     Comes old e (set slots s put) order' freed (set masks s mask) (blocks + read.blocks)
 comes_from slots seen order seen_order free freed s masks blocks mask e read put old order' sound is free_is seen_is seen_order_is mask_is order_is fits read_is put_is =
     subst (λ x. Comes old e (set slots s x) order' freed (set masks s mask) (blocks + read.blocks)) (sym put_is)
@@ -342,9 +342,9 @@ walk_step f xs init i d is lt =
     go (x ∷ xs) (suc i) lt = ap (λ l. f x ∷ l) (go xs i (omega arith))
 
 -- slots with nothing in them
-pub sound_new : (slots : List Entry) (free masks order : List ℕ) → length slots ≡ 64 → order ≡ [] → masks ≡ replicate 64 0 → length free ≡ 64 → AllByRecursion (λ q. q < 64) free → ((q : ℕ) → q < 64 → count_of q free ≡ 1) → IsSound slots order free masks 0
+pub sound_new : (slots : List Entry) (free masks order : List ℕ) → length slots ≡ 64 → order ≡ [] → masks ≡ replicate 64 0 → length free ≡ 64 → AllByRecursion (λ q. q < 64) free → ((q : ℕ) → q < 64 → count_of q free ≡ 1) → FitTogether slots order free masks 0
 sound_new slots free masks order room none zeros long small once =
-    subst (λ l. IsSound slots l free masks 0) (sym none) (record {
+    subst (λ l. FitTogether slots l free masks 0) (sym none) (record {
       room = room;
       wide = ap length zeros;
       taken = tt;
@@ -444,7 +444,7 @@ count_at (q ∷ qs) zero s lt is = let e = eq-eqb q s is in rw e (omega arith)
 count_at (q ∷ qs) (suc k) s lt is = let r = count_at qs k s (omega arith) is in omega arith
 
 pub record Changes (tasks : List Held) (place : ℕ) (body : List Block) (slots' : List Entry) (order free masks : List ℕ) (blocks : ℕ) : Type 0 where
-  pub sound : IsSound slots' order free masks blocks
+  pub sound : FitTogether slots' order free masks blocks
   pub rest : tasks_in slots' order ≡ change_task (with_body body) tasks place
 
 module _ (slots : List Entry) (s : ℕ) (body : List Block) (within : s < length slots) where
@@ -489,7 +489,7 @@ module _ (slots : List Entry) (s : ℕ) (body : List Block) (within : s < length
       apart : (q n : ℕ) → (if q == s then 1 else 0) + n ≤ 1 → 1 ≤ n → ((q == s) ≡ false) × (n ≤ 1)
       apart q n h some = (elim (q == s) as (λ b. (if b then 1 else 0) + n ≤ 1 → (b ≡ false) × (n ≤ 1)) [ true ↦ λ e. absurd (omega arith) | false ↦ λ e. (refl, omega arith) ]) h
 
-pub changes : (slots : List Entry) (order free masks : List ℕ) (blocks : ℕ) (tasks : List Held) (place : ℕ) (seen : List ℕ) (body : List Block) (slots' : List Entry) → IsSound slots order free masks blocks → tasks_in slots order ≡ tasks → place < length tasks → seen ≡ order →
+pub changes : (slots : List Entry) (order free masks : List ℕ) (blocks : ℕ) (tasks : List Held) (place : ℕ) (seen : List ℕ) (body : List Block) (slots' : List Entry) → FitTogether slots order free masks blocks → tasks_in slots order ≡ tasks → place < length tasks → seen ≡ order →
     slots' ≡ set slots (get_or seen place 0) (with_body body (held_in slots (get_or seen place 0))).entry → Changes tasks place body slots' order free masks blocks
 changes slots order free masks blocks tasks place seen body slots' sound is lt same slots_is =
     let s : ℕ = get_or order place 0 in
@@ -497,7 +497,7 @@ changes slots order free masks blocks tasks place seen body slots' sound is lt s
     let small : s < 64 = All-at (λ q. q < 64) order place 0 within sound.taken in
     let room : s < length slots = omega (arith, small, sound.room) in
     let slots_are : slots' ≡ changed slots s body room = slots_is ∙ ap (λ l. set slots (get_or l place 0) (with_body body (held_in slots (get_or l place 0))).entry) same in
-    let new_sound : IsSound (changed slots s body room) order free masks blocks = record {
+    let new_sound : FitTogether (changed slots s body room) order free masks blocks = record {
       room = length-set slots s (with_body body (held_in slots s)).entry ∙ sound.room;
       wide = sound.wide;
       taken = sound.taken;
@@ -513,7 +513,7 @@ changes slots order free masks blocks tasks place seen body slots' sound is lt s
     } in
     let once : count_of s order ≤ 1 = omega (arith, sound.once s small) in
     record {
-      sound = subst (λ l. IsSound l order free masks blocks) (sym slots_are) new_sound;
+      sound = subst (λ l. FitTogether l order free masks blocks) (sym slots_are) new_sound;
       rest = ap (λ l. tasks_in l order) slots_are ∙ change_is slots s body room order place within once refl ∙ ap (λ l. change_task (with_body body) l place) is;
     }
 
@@ -526,7 +526,7 @@ body_is slots order tasks place seen taken is lt same taken_is =
     ∙ ap Some (sym taken_is)
 
 -- no other task lies in the slot of a task
-pub slot_alone : (slots : List Entry) (order free masks : List ℕ) (blocks : ℕ) (tasks : List Held) (place : ℕ) (seen : List ℕ) → IsSound slots order free masks blocks → tasks_in slots order ≡ tasks → place < length tasks → seen ≡ order →
+pub slot_alone : (slots : List Entry) (order free masks : List ℕ) (blocks : ℕ) (tasks : List Held) (place : ℕ) (seen : List ℕ) → FitTogether slots order free masks blocks → tasks_in slots order ≡ tasks → place < length tasks → seen ≡ order →
     (get_or seen place 0 < 64) × (count_of (get_or seen place 0) (slots_of tasks) ≡ 1)
 slot_alone slots order free masks blocks tasks place seen sound is lt same =
     let within : place < length order = omega (arith, length-map order (held_in slots), ap length is) in
@@ -554,7 +554,7 @@ own_slots slots (q ∷ qs) once =
     fewer : (s : ℕ) (b : Bool) → (if q == s then 1 else 0) + count_of s qs ≤ 1 → count_of s qs ≤ 1
     fewer s b few = omega (arith, few)
 
-pub own_of : (slots : List Entry) (order free masks : List ℕ) (blocks : ℕ) (tasks : List Held) → IsSound slots order free masks blocks → tasks_in slots order ≡ tasks → AreOwnSlots tasks
+pub own_of : (slots : List Entry) (order free masks : List ℕ) (blocks : ℕ) (tasks : List Held) → FitTogether slots order free masks blocks → tasks_in slots order ≡ tasks → AreOwnSlots tasks
 own_of slots order free masks blocks tasks sound is =
     subst AreOwnSlots is (own_slots slots order (All-weaken (λ s. s < 64) (λ s. count_of s order ≤ 1) (λ s small. omega (arith, sound.once s small)) order sound.taken))
 

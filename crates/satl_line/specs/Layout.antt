@@ -17,24 +17,24 @@ abbrev pub tasks_in : List Entry → List ℕ → List Held
 tasks_in slots order = map (held_in slots) order
 
 -- a slot, and the access of its task
-pub record Mark : Type 0 where
+pub record SlotAccess : Type 0 where
   pub slot : ℕ
   pub access : Access
 
 -- the mark of a task in its slot
-abbrev pub mark_of : Held → Mark
+abbrev pub mark_of : Held → SlotAccess
 mark_of held = record { slot = held.slot; access = access_of held.entry }
 
 -- whether an earlier task in this slot conflicts
-abbrev pub is_marked : List Mark → Access → ℕ → Bool
+abbrev pub is_marked : List SlotAccess → Access → ℕ → Bool
 is_marked earlier access slot = list_any (λ mark. mark.slot == slot && accesses_conflict mark.access access) earlier
 
 -- the mask has the slots of the earlier tasks that conflict
-abbrev pub IsMask : List Mark → Access → ℕ → Type 0
+abbrev pub IsMask : List SlotAccess → Access → ℕ → Type 0
 IsMask earlier access mask = (q : ℕ) → q < 64 → bit_at mask q ≡ (if is_marked earlier access q then 1 else 0)
 
 -- each task after these has its mask in its slot
-abbrev pub HaveMasks : List Mark → List Mark → List ℕ → Type 0
+abbrev pub HaveMasks : List SlotAccess → List SlotAccess → List ℕ → Type 0
 HaveMasks earlier [] masks = Unit {0}
 HaveMasks earlier (mark ∷ rest) masks =
     IsMask earlier mark.access (slice_index_or masks mark.slot 0) × HaveMasks (earlier ++ mark ∷ []) rest masks
@@ -57,7 +57,7 @@ abbrev pub is_unbarred_at : List ℕ → List ℕ → ℕ → Bool
 is_unbarred_at masks order place = nat_lt place (length order) && (slice_index_or masks (slice_index_or order place 0) 0 == 0)
 
 -- the slots, those that are taken in order of arrival, those that are free, the masks and the number of blocks fit together
-pub record IsSound (slots : List Entry) (order free masks : List ℕ) (blocks : ℕ) : Type 0 where
+pub record FitTogether (slots : List Entry) (order free masks : List ℕ) (blocks : ℕ) : Type 0 where
   pub room : length slots ≡ 64
   pub wide : length masks ≡ 64
   pub taken : AllByRecursion (λ slot. slot < 64) order

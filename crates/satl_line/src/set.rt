@@ -6,7 +6,7 @@ ghost use Rattle.std.specs.List.{AllByRecursion, position_from};
 ghost use Rattle.satl_base.specs.Limits.{most_held, most_tasks};
 ghost use Rattle.satl_line.specs.Conflict.{access_of};
 ghost use Rattle.satl_line.specs.Eligible.{eligible_at};
-ghost use Rattle.satl_line.specs.Tasks.{Adds, AreMasks, AreOwnSlots, IsReady, change_task, count_of, entries_of, entry_at, is_named, is_too_much, slots_of, total_blocks, with_body};
+ghost use Rattle.satl_line.specs.Tasks.{Adds, AreMasks, AreOwnSlots, IsReadyMask, change_task, count_of, entries_of, entry_at, is_named, is_too_much, slots_of, total_blocks, with_body};
 ghost use Rattle.satl_line.specs.Layout.{IsMask, cleared, held_in, is_unbarred_at, mark_of, tasks_in};
 
 use crate::boxed::TaskBox;
@@ -38,13 +38,13 @@ pub struct TaskSet {
 impl Model for TaskSet {
     ghost use Rattle.std.specs.Prelude.{List};
     ghost use Rattle.satl_line.specs.Tasks.{Held};
-    ghost use Rattle.satl_line.specs.Layout.{IsSound, tasks_in};
+    ghost use Rattle.satl_line.specs.Layout.{FitTogether, tasks_in};
 
     ghost Value = { List Held };
 
     ghost view = { λ s. tasks_in s.slots.items s.order.items };
 
-    ghost invariant = { λ s. IsSound s.slots.items s.order.items s.free.items s.masks s.blocks };
+    ghost invariant = { λ s. FitTogether s.slots.items s.order.items s.free.items s.masks s.blocks };
 }
 
 impl TaskSet {
@@ -135,7 +135,7 @@ impl TaskSet {
 
     /// The places with an eligible task, as the bits of a number, the lowest for place 0 (profile).
     pub fn ready(&self) -> u64
-        ensures { IsReady self.now result }
+        ensures { IsReadyMask self.now result }
     {
         ready_places(&self.masks, &self.order)
     }

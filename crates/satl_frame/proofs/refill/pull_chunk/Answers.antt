@@ -1,6 +1,6 @@
 use Rattle.std.proofs.Common.{◌≡◌, ◌-◌, ◌*◌, ◌++◌, ◌∙◌, ap, min, length, drop, reverse, arith}
 use Rattle.std.proofs.lemmas.List.{length-reverse, length-append, length-take-le, take_at}
-use Rattle.satl_frame.specs.DataPages.{page_count, pages_from, zeros}
+use Rattle.satl_frame.specs.DataPages.{page_count, pages_from, zero_bytes}
 use Rattle.satl_frame.proofs.Paging.{chunk_placed, length-pages_from}
 use Rattle.satl_frame.proofs.refill.pull_chunk.Goals as goal
 
@@ -18,7 +18,7 @@ returns-clause-placed g c =
       size = size;
       placed = c.place_blocks.ensures.placed ∙ ap (λ bs. reverse c.args.done.now ++ bs) (ap (λ n. pages_from n c.blank_rest.new.buffer) pages
           ∙ chunk_placed count (length c.args.todo.now) taken behind c.blank_rest.new.buffer size
-          (c.blank_rest.ensures ∙ ap (λ bs. (bs ++ zeros (512 * page_count count - count)) ++ behind) (take_at taken (drop count old) count size)));
+          (c.blank_rest.ensures ∙ ap (λ bs. (bs ++ zero_bytes (512 * page_count count - count)) ++ behind) (take_at taken (drop count old) count size)));
     }
 
 pub returns-clause-same : goal.returns-clause-same

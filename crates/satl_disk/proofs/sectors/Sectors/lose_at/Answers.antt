@@ -1,6 +1,6 @@
 use Rattle.std.proofs.Common.{arith, ap, ◌∙◌, ℕ, List, length}
 use Rattle.circular_buffer.specs.Buffer.{buffer}
-use Rattle.satl_disk.specs.Sectors.{byte_of, changed_at, left_by}
+use Rattle.satl_disk.specs.Sectors.{after_power_loss, byte_of, changed_at}
 use Rattle.satl_disk.proofs.InsideLemmas.{clean_is, clean_rest, dirty_rest, left_is, size_is}
 use Rattle.satl_disk.proofs.SectorsLemmas.{changed_at-length}
 use Rattle.satl_disk.proofs.sectors.Sectors.lose_at.Goals as goal
@@ -37,10 +37,10 @@ returns-clause-sector c =
     let i = c.self.inside in
     let size = size_is i.blocks i.dirty.items i.flaws.items c.args.self.now c.self.view_is c.self.invariant in
     left_is i.blocks i.dirty.items i.flaws.items c.args.self.now c.self.view_is c.self.invariant c.args.place (omega (arith, size, c.requires)) c.index.result.now c.index.ensures c.draw.result c.fall_back.new.self c.if-not-index.false c.fall_back.ensures
-    ∙ ap (λ (byte : ℕ). changed_at (left_by byte) c.args.self.now c.args.place) c.draw.ensures.byte
+    ∙ ap (λ (byte : ℕ). changed_at (after_power_loss byte) c.args.self.now c.args.place) c.draw.ensures.byte
 
 pub returns-clause-size : goal.returns-clause-size
-returns-clause-size c = ap length (returns-clause-sector c) ∙ changed_at-length (left_by (byte_of c.args.ring.now.items)) c.args.self.now c.args.place
+returns-clause-size c = ap length (returns-clause-sector c) ∙ changed_at-length (after_power_loss (byte_of c.args.ring.now.items)) c.args.self.now c.args.place
 
 pub returns-clause-ring : goal.returns-clause-ring
 returns-clause-ring c =
