@@ -79,6 +79,14 @@ impl Page {
     {
         self.node.block = *block;
     }
+
+    /// Writes 512 bytes as the block in the page, with one copy (profile).
+    pub fn set_bytes(&mut self, bytes: &[u8])
+        requires { length bytes.now ≡ 512 }
+        ensures { self.new.bytes ≡ bytes.now }
+    {
+        self.node.block.bytes.copy_from_slice(bytes);
+    }
 }
 
 /// A list of blocks of 512 bytes, each in a page of its own: a chain of boxed pages (profile). A clause sees the blocks.
@@ -187,7 +195,7 @@ impl Pages {
         ensures len { length self.new + length (option_to_list result) ≡ length self.old }
     {
         let mut node = mem::replace(&mut self.first, Chain::End).into_node()?;
-        self.first = mem::replace(&mut node.next, Chain::End);
+        mem::swap(&mut self.first, &mut node.next);
         self.count -= 1;
         Some(Page { node })
     }

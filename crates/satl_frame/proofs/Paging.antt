@@ -113,12 +113,11 @@ pages_of-append q xs ys l =
     rw (all, front) (pages_from-append q (page_count (length ys)) xs ys l)
 
 -- one block more in the pages that are done
-pub placed_block : (n : ℕ) (buffer : List ℕ) (start done done' : List Block) (b c : Block) → reverse done ≡ reverse start ++ pages_from n buffer →
-    done' ≡ c ∷ done → c ≡ b → b ≡ padded_block (drop (512 * n) buffer) → reverse done' ≡ reverse start ++ pages_from (n + 1) buffer
-placed_block n buffer start done done' b c before put same is =
+pub placed_block : (n : ℕ) (buffer : List ℕ) (start done done' : List Block) (b : Block) → reverse done ≡ reverse start ++ pages_from n buffer →
+    done' ≡ b ∷ done → b ≡ padded_block (drop (512 * n) buffer) → reverse done' ≡ reverse start ++ pages_from (n + 1) buffer
+placed_block n buffer start done done' b before put is =
     let next : n + 1 ≡ suc n = omega arith in
-    let block : c ≡ padded_block (drop (512 * n) buffer) = same ∙ is in
-    rw (put, next, pages_from-more n buffer, block)
+    rw (put, next, pages_from-more n buffer, is)
     (reverse-append (padded_block (drop (512 * n) buffer) ∷ []) done
     ∙ ap (λ bs. bs ++ padded_block (drop (512 * n) buffer) ∷ []) before ∙ append_assoc (reverse start) (pages_from n buffer) (padded_block (drop (512 * n) buffer) ∷ []))
 

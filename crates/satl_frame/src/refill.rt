@@ -5,21 +5,19 @@ ghost use Rattle.satl_frame.specs.DataPages.{page_count, padded_block, pages_fro
 ghost use Rattle.satl_frame.specs.Pulls.{PullCauses, Stopped, TookCount, TookPages, FilledInReverse, given_pages};
 
 use crate::pulling::{PullError, pull};
-use satl_base::{Block, Lender, Pages};
+use satl_base::{Lender, Page, Pages};
 use satl_io::Source;
 
 /// The most bytes that one pull asks for: eight pages.
 pub const CHUNK: usize = 4096;
 
-/// The block at a place of a buffer.
-fn block_at(buffer: &[u8], i: u32) -> Block
+/// Fills a page with the block at a place of a buffer.
+fn fill_page(page: &mut Page, buffer: &[u8], i: u32)
     requires { 512 * i + 512 ≤ length buffer.now }
-    ensures { result ≡ padded_block (drop (512 * i) buffer.now) }
+    ensures { page.new ≡ padded_block (drop (512 * i) buffer.now) }
 {
     let first = 512 * i as usize;
-    let mut bytes = [0; 512];
-    bytes.copy_from_slice(&buffer[first..first + 512]);
-    Block { bytes }
+    page.set_bytes(&buffer[first..first + 512]);
 }
 
 /// Fills n pages from a buffer, and moves them from the front of `todo` to that of `done`.
@@ -34,7 +32,7 @@ fn place_blocks(buffer: &[u8], n: u32, todo: &mut Pages, done: &mut Pages)
         let Some(mut page) = todo.pop_first() else {
             unreachable!();
         };
-        page.set(&block_at(buffer, i));
+        fill_page(&mut page, buffer, i);
         done.push_first(page);
     }
 }
