@@ -189,10 +189,10 @@ pub in_flight_down : (tasks : List Held) (d d' : DriveState) → IsLostInFlight 
 in_flight_down tasks d d' lost fit =
     down_by d d' _ lost.stays refl refl refl refl (moves-length lost.moves) (moves-sound lost.moves) fit
     (λ bytes long told.
-      ⊎_elim
-      (λ (set : MaySet d d'). retold bytes d.identify d'.identify d.cache d.look d'.cache d'.look long (all_bytes d'.identify fit.bytes) told set.tells)
-      (λ same. still_told bytes d d' same.2 same.0 same.1 told)
-      lost.settings)
+    ⊎_elim
+    (λ (set : MaySet d d'). retold bytes d.identify d'.identify d.cache d.look d'.cache d'.look long (all_bytes d'.identify fit.bytes) told set.tells)
+    (λ same. still_told bytes d d' same.2 same.0 same.1 told)
+    lost.settings)
 
 pub alone_down : (d d' : DriveState) → Stays d d' → d'.down ≡ true → IsFit d → IsLeftDown d d'
 alone_down d d' stays down fit = record {
