@@ -74,6 +74,6 @@ module _ {T : Type 0} (told : T → Answer → List ℕ) (behind : T → Answer 
   so_far_all a b left all p is = subst (λ l. IsTold told behind a b l) (sym (append-nil p.done) ∙ (ap (λ l. p.done ++ map replied l) (sym is) ∙ p.whole)) p.told_so
 
 -- the data-in of the first reply of a list
-pub data_of_first : (replies rest : List Reply) (first : Reply) (data : List Block) → replies ≡ first ∷ rest → option_map (λ reply. reply.body) (slice_get replies 0) ≡ Some data → length data ≡ length first.body
-data_of_first replies rest first data is here =
+pub data_of_first : (replies rest : List Reply) (first : Reply) (body : List Block) → replies ≡ first ∷ rest → option_map (λ reply. reply.body) (slice_get replies 0) ≡ Some body → length body ≡ length first.body
+data_of_first replies rest first body is here =
     ap (λ o. length (unwrap_or o [])) (sym here ∙ ap (λ l. option_map (λ reply. reply.body) (slice_get l 0)) is)

@@ -13,19 +13,23 @@ tell_reply-requires g c = (subst (AllByRecursion IsWritable) c.first.ensures c.l
 
 pub recycle-requires : goal.recycle-requires
 recycle-requires g c =
-    omega (arith, data_of_first c.loop.replies (drop 1 c.loop.replies) c.first.result.now c.remove_first.result c.first.ensures c.remove_first.ensures.data,
-      ap reply_pages c.first.ensures, c.loop.invariant.pages)
+    omega (
+      arith,
+      data_of_first c.loop.replies (drop 1 c.loop.replies) c.first.result.now c.remove_first.result c.first.ensures c.remove_first.ensures.data,
+      ap reply_pages c.first.ensures,
+      c.loop.invariant.pages,
+    )
 
 pub loop-preserved : goal.loop-preserved
 loop-preserved g c =
     let is : c.loop.replies ≡ c.first.result.now ∷ c.remove_first.new.self = c.first.ensures ∙ ap (λ l. c.first.result.now ∷ l) (sym c.remove_first.ensures.rest) in
     let count = ap length is in
     let pages = ap reply_pages is in
-    let data = data_of_first c.loop.replies (drop 1 c.loop.replies) c.first.result.now c.remove_first.result c.first.ensures c.remove_first.ensures.data in
+    let size = data_of_first c.loop.replies (drop 1 c.loop.replies) c.first.result.now c.remove_first.result c.first.ensures c.remove_first.ensures.data in
     record {
       count = omega (arith, count, c.loop.invariant.count);
       writable = (subst (AllByRecursion IsWritable) is c.loop.invariant.writable).1;
-      pages = omega (arith, pages, data, c.loop.invariant.pages, c.recycle.ensures.out);
+      pages = omega (arith, pages, size, c.loop.invariant.pages, c.recycle.ensures.out);
       stays = stays_on c.args.satl.now c.loop.satl c.recycle.new.self _ _ c.loop.invariant.stays c.recycle.ensures.given;
       told = so_far_more g.T.Teller.told g.T.Teller.behind _ _ _ c.loop.replies c.remove_first.new.self _ c.first.result.now c.loop.invariant.told is c.in_ok-tell_reply.ensures.all c.in_ok-tell_reply.ensures.next;
       later = omega (arith, c.loop.invariant.later, c.in_ok-tell_reply.ensures.cause.later);
