@@ -1,5 +1,4 @@
 use Rattle.std.proofs.Common.{arith, ap, drop, length, subst, sym, ◌≡◌, ◌∙◌, ◌∷◌}
-use Rattle.std.specs.Prelude.{unwrap_or, []}
 use Rattle.std.specs.List.{AllByRecursion}
 use Rattle.satl_frame.specs.Output.{IsWritable}
 use Rattle.satl_core.specs.Layer.{reply_pages}
