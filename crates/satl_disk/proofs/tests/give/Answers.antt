@@ -12,9 +12,9 @@ run-requires c =
     let can = λ (x : ℕ × ℕ × ℕ). CanRun (state_of c.args.drive.now) (record { features = 0; count = x.1; lba = x.2; device = 0x40; command = x.0 }) c.args.pages.now in
     record {
       can =
-          elim c.match-command.branch
-          [ in-Identify w ↦ subst can (sym w.code-is) (quiet_can_run c.args.drive.now _ c.args.pages.now c.requires.quiet refl c.requires.page)
-          | in-Write w ↦ subst can (sym w.code-is) (quiet_can_run c.args.drive.now _ c.args.pages.now c.requires.quiet refl c.requires.page)
-          | in-Read w ↦ subst can (sym w.code-is) (quiet_can_run c.args.drive.now _ c.args.pages.now c.requires.quiet refl c.requires.page)
+          elim c.match-command.branch [
+            | in-Identify w ↦ subst can (sym w.code-is) (quiet_can_run c.args.drive.now _ c.args.pages.now c.requires.quiet refl c.requires.page)
+            | in-Write w ↦ subst can (sym w.code-is) (quiet_can_run c.args.drive.now _ c.args.pages.now c.requires.quiet refl c.requires.page)
+            | in-Read w ↦ subst can (sym w.code-is) (quiet_can_run c.args.drive.now _ c.args.pages.now c.requires.quiet refl c.requires.page)
           ];
     }
