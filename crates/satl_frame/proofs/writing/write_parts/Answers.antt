@@ -2,7 +2,7 @@ use Rattle.std.proofs.Common.{◌≡◌, ◌++◌, ◌∙◌, ap, subst, arith, 
 use Rattle.satl_io.specs.Known.{Wrote, WrotePart}
 use Rattle.satl_frame.specs.Output.{framed, reply_kind, reply_len, reply_fields}
 use Rattle.satl_frame.proofs.GatheringLemmas.{bare_reply}
-use Rattle.satl_frame.proofs.writing.write_reply.Goals as goal
+use Rattle.satl_frame.proofs.writing.write_parts.Goals as goal
 
 pub returns-in-Ok-clause-all : goal.returns-in-Ok-clause-all
 returns-in-Ok-clause-all g c =
