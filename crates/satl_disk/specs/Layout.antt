@@ -1,4 +1,5 @@
--- How the modelled drive keeps its sectors: their blocks, the stable blocks of the dirty ones in slots, and their flaws (profile).
+-- How the modelled drive keeps its sectors: their blocks, the stable blocks of the dirty ones, in slots, and their flaws
+-- (profile).
 use Rattle.std.specs.Prelude.{◌≡◌, ℕ, zero, suc, ◌^◌, ◌<◌, Bool, true, false, if◌then◌else◌, List, [], ◌∷◌, Option, Some, None, option_map, unwrap_or, length, slice_index_or}
 use Rattle.satl_base.specs.declared.block.Block.{Block}
 use Rattle.satl_base.specs.declared.bench.Which.{Which}
