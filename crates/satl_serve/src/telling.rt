@@ -72,25 +72,15 @@ pub fn tell_managed<K: Sink>(
         tag,
         ..
     } = *manage;
+    let frame = OutFrame::Managed {
+        nexus,
+        function,
+        response,
+        tag,
+    };
     match form {
-        Form::Frames => write_frame(
-            OutFrame::Managed {
-                nexus,
-                function,
-                response,
-                tag,
-            },
-            sink,
-        ),
-        Form::Text => write_line(
-            OutFrame::Managed {
-                nexus,
-                function,
-                response,
-                tag,
-            },
-            sink,
-        ),
+        Form::Frames => write_frame(frame, sink),
+        Form::Text => write_line(frame, sink),
         Form::Count => Ok(()),
     }
 }
