@@ -3,7 +3,7 @@ ghost use Rattle.std.specs.Prelude.{◌≡◌, ◌≤◌, ◌<◌, ◌-◌, ◌+
 ghost use Rattle.satl_base.specs.Blocks.{zero_block};
 ghost use Rattle.satl_disk.specs.Layout.{block_at};
 
-use satl_base::{Block, NoMemory};
+use satl_base::{Block, NoMemory, Page};
 use std::alloc::Global;
 use std::marker::Model;
 
@@ -14,13 +14,10 @@ pub struct Blocks {
     // Made with room for all blocks, so that it never grows. Blocks behind its end are zeros.
     kept: Vec<Block>,
     number: usize,
-    // What a block reads as until it is set.
-    zeros: Block,
 }
 
 impl Model for Blocks {
-    ghost use Rattle.std.specs.Prelude.{List, ◌≡◌, ◌≤◌, vec_capacity};
-    ghost use Rattle.satl_base.specs.Blocks.{zero_block};
+    ghost use Rattle.std.specs.Prelude.{List, ◌≤◌, vec_capacity};
     ghost use Rattle.satl_base.specs.declared.block.Block.{Block};
     ghost use Rattle.satl_disk.specs.Layout.{front_blocks};
 
@@ -28,7 +25,7 @@ impl Model for Blocks {
 
     ghost view = { λ b. front_blocks b.number b.kept.items };
 
-    ghost invariant = { λ b. (b.number ≤ vec_capacity b.kept) × (b.zeros ≡ zero_block) };
+    ghost invariant = { λ b. b.number ≤ vec_capacity b.kept };
 }
 
 impl Blocks {
@@ -39,19 +36,18 @@ impl Blocks {
         Ok(Blocks {
             kept: Vec::with_capacity(alloc, number)?,
             number,
-            zeros: Block::zero(),
         })
     }
 
-    /// The block at a place.
-    pub fn at(&self, place: usize) -> &Block
+    /// Writes the block at a place into a page.
+    pub fn load(&self, place: usize, page: &mut Page)
         requires { place < length self.now }
-        ensures { result.now ≡ block_at self.now place }
+        ensures { page.new ≡ block_at self.now place }
     {
         if place < self.kept.len() {
-            &self.kept[place]
+            page.set(&self.kept[place]);
         } else {
-            &self.zeros
+            clear_page(page);
         }
     }
 
@@ -66,6 +62,13 @@ impl Blocks {
             push_at(&mut self.kept, place, block);
         }
     }
+}
+
+/// Writes zeros into a page. Apart from `load`, which would clear a block of its own at each call.
+fn clear_page(page: &mut Page)
+    ensures { page.new ≡ zero_block }
+{
+    page.set(&Block::zero());
 }
 
 /// Pushes a block at a place behind the end, which has the room, and zeros up to there. Apart from `set`, which is short

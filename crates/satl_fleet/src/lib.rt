@@ -3,6 +3,7 @@
 #![tactic(auto)]
 
 mod event;
+mod fault;
 mod frame;
 mod frames_loop;
 mod opening;
@@ -13,4 +14,5 @@ mod shared;
 mod telling;
 mod unit;
 
+pub use fault::FleetFault;
 pub use serving::serve_fleet;

@@ -11,4 +11,3 @@ mod words;
 
 pub use lines::{write_line, write_summary};
 pub use summary::Summary;
-pub use words::Text;
