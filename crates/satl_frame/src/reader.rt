@@ -10,7 +10,7 @@ use crate::frames::{Frame, FrameFault, Place, Reason, Version};
 use crate::judge::{head_fault, head_size, magic_fault, told_length, version_of};
 use crate::payloads::{request_of, small_frame};
 use crate::pulling::{PullError, fill, pull};
-use crate::refill::{CHUNK, pull_by, skip};
+use crate::refill::{pull_data, skip};
 use satl_base::{Lender, Request};
 use satl_io::{Failed, Source};
 use std::alloc::Global;
@@ -19,7 +19,6 @@ use std::marker::Model;
 /// Pulls the data-out of a request.
 fn pull_rest<S: Source, P: Lender>(
     source: &mut S,
-    buffer: &mut [u8; CHUNK],
     lender: &mut P,
     request: Request,
     len: u32,
@@ -31,7 +30,7 @@ fn pull_rest<S: Source, P: Lender>(
     ensures out { P.out lender.new ≡ P.out lender.old + given_pages request_pages result }
     ensures rest { P.rest lender.new ≡ P.rest lender.old }
 {
-    match pull_by(source, buffer, lender, len) {
+    match pull_data(source, lender, len) {
         Ok(body) => Ok(Request {
             body,
             data_len: len,
@@ -44,7 +43,6 @@ fn pull_rest<S: Source, P: Lender>(
 /// Pulls the payload of a request. None where a field of it is bad.
 fn pull_request<S: Source, P: Lender>(
     source: &mut S,
-    buffer: &mut [u8; CHUNK],
     lender: &mut P,
     version: Version,
     len: u32,
@@ -60,15 +58,15 @@ fn pull_request<S: Source, P: Lender>(
     ensures rest { P.rest lender.new ≡ P.rest lender.old }
 {
     let size = head_size(version);
-    let mut room = [0; 34];
-    let head = &mut room[..size as usize];
+    let mut buffer = [0; 34];
+    let head = &mut buffer[..size as usize];
     pull(source, head)?;
     match request_of(version, head) {
-        Some(request) => match pull_rest(source, buffer, lender, request, len - size) {
+        Some(request) => match pull_rest(source, lender, request, len - size) {
             Ok(request) => Ok(Some(request)),
             Err(error) => Err(error),
         },
-        None => match skip(source, buffer, len - size) {
+        None => match skip(source, len - size) {
             Ok(()) => Ok(None),
             Err(error) => Err(error),
         },
@@ -101,7 +99,6 @@ fn pull_small<S: Source>(
 /// Pulls the payload of a frame of this kind and length. None where a field of it is bad.
 fn pull_payload<S: Source, P: Lender>(
     source: &mut S,
-    buffer: &mut [u8; CHUNK],
     lender: &mut P,
     version: Version,
     code: u8,
@@ -121,7 +118,7 @@ fn pull_payload<S: Source, P: Lender>(
     if code > 1 {
         return pull_small(source, version, code, len);
     }
-    match pull_request(source, buffer, lender, version, len) {
+    match pull_request(source, lender, version, len) {
         Ok(Some(request)) => Ok(Some(Frame::Request(request))),
         Ok(None) => Ok(None),
         Err(error) => Err(error),
@@ -131,7 +128,6 @@ fn pull_payload<S: Source, P: Lender>(
 /// Reads the payload behind a good head.
 fn read_payload<S: Source, P: Lender>(
     source: &mut S,
-    buffer: &mut [u8; CHUNK],
     lender: &mut P,
     head: &[u8],
     place: Place,
@@ -148,14 +144,7 @@ fn read_payload<S: Source, P: Lender>(
     ensures rest { P.rest lender.new ≡ P.rest lender.old }
 {
     let offset = place.offset;
-    match pull_payload(
-        source,
-        buffer,
-        lender,
-        place.version,
-        head[0],
-        told_length(head),
-    ) {
+    match pull_payload(source, lender, place.version, head[0], told_length(head)) {
         Ok(Some(frame)) => Ok(frame),
         Ok(None) => Err(FrameFault::Bad {
             reason: Reason::BadField,
@@ -172,7 +161,6 @@ fn read_payload<S: Source, P: Lender>(
 /// Reads the frame at a place, and gives the offset behind it too.
 fn read_frame<S: Source, P: Lender>(
     source: &mut S,
-    buffer: &mut [u8; CHUNK],
     lender: &mut P,
     limit: u64,
     place: Place,
@@ -192,7 +180,7 @@ fn read_frame<S: Source, P: Lender>(
     let offset = place.offset;
     match head_fault(place.version, limit, offset, &head, count) {
         Some(reason) => Err(FrameFault::Bad { reason, offset }),
-        None => match read_payload(source, buffer, lender, &head, place) {
+        None => match read_payload(source, lender, &head, place) {
             Ok(frame) => Ok((frame, offset + 5 + u64::from(told_length(&head)))),
             Err(fault) => Err(fault),
         },
@@ -243,8 +231,6 @@ pub struct FrameReader {
     newest: Version,
     place: Option<Place>,
     refused: Option<FrameFault>,
-    // Data-out goes through it. As a local it would be blanked at each call.
-    buffer: [u8; CHUNK],
 }
 
 impl Model for FrameReader {
@@ -267,7 +253,6 @@ impl FrameReader {
             newest: Version::Two,
             place: None,
             refused: None,
-            buffer: [0; CHUNK],
         }
     }
 
@@ -281,7 +266,6 @@ impl FrameReader {
             newest: Version::One,
             place: None,
             refused: None,
-            buffer: [0; CHUNK],
         }
     }
 
@@ -302,7 +286,7 @@ impl FrameReader {
             Ok(place) => place,
             Err(fault) => return Err(fault),
         };
-        match read_frame(source, &mut self.buffer, lender, self.limit, place) {
+        match read_frame(source, lender, self.limit, place) {
             Ok((frame, offset)) => {
                 self.place = Some(Place { offset, ..place });
                 Ok(frame)
