@@ -5,7 +5,7 @@ use Rattle.satl_cdb.specs.declared.command.Illegal.{Illegal}
 use Rattle.satl_cdb.specs.Rows.{Rule, unless_broken}
 use Rattle.satl_pass.specs.declared.pass.Pass.{Pass}
 use Rattle.satl_pass.specs.Fields.{form_of, pass_in}
-use Rattle.satl_pass.specs.Reading.{CanRun, pass_says, rules}
+use Rattle.satl_pass.specs.Reading.{CanGoToDrive, pass_says, rules}
 use Rattle.satl_direct.specs.Tasks.{pass_of}
 
 -- what is said where no rule is broken
@@ -23,5 +23,5 @@ unfolding pass_says
 says_fields cdb pass e = unbroken (rules (form_of cdb)) cdb (pass_in (form_of cdb) cdb) pass e
 
 -- so it can be run
-pub can_run : (cdb : List ℕ) (pass : Pass) (found : Result Pass Illegal) → found ≡ Ok pass → found ≡ pass_says cdb → IfOk found CanRun → CanRun (pass_of cdb)
-can_run cdb pass found is says can = subst CanRun (sym (says_fields cdb pass (sym says ∙ is))) (subst (λ f. IfOk f CanRun) is can)
+pub can_run : (cdb : List ℕ) (pass : Pass) (found : Result Pass Illegal) → found ≡ Ok pass → found ≡ pass_says cdb → IfOk found CanGoToDrive → CanGoToDrive (pass_of cdb)
+can_run cdb pass found is says can = subst CanGoToDrive (sym (says_fields cdb pass (sym says ∙ is))) (subst (λ f. IfOk f CanGoToDrive) is can)

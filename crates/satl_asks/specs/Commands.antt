@@ -4,7 +4,7 @@ use Rattle.satl_base.specs.declared.block.Block.{Block}
 use Rattle.satl_cdb.specs.declared.command.Command.{Command}
 use Rattle.satl_cdb.specs.declared.command.Command.TheVariants as commands
 use Rattle.satl_cdb.specs.Unmap as unmap
-use Rattle.satl_pass.specs.Reading.{CanRun}
+use Rattle.satl_pass.specs.Reading.{CanGoToDrive}
 use Rattle.satl_direct.specs.Tasks.{pass_of}
 
 -- a list of an UNMAP that has no fault: its header, its bytes in the pages, and its descriptors (SBC-3 5.28)
@@ -20,5 +20,5 @@ HasList _ body capacity = Unit {0}
 
 -- an ATA PASS-THROUGH can be run as it stands (SAT-3 12.2)
 abbrev pub CanPass : Command → Type 0
-CanPass (commands.Pass cdb) = CanRun (pass_of cdb)
+CanPass (commands.Pass cdb) = CanGoToDrive (pass_of cdb)
 CanPass _ = Unit {0}

@@ -50,27 +50,29 @@ fn page_count(length: u32) -> u32
     length.div_ceil(512)
 }
 
-/// The ranges that the task of a command reads, writes or trims: that of a READ or a WRITE, and those of the list of an UNMAP,
-/// which has no fault on a medium of this capacity (SBC-3 5.28).
-pub fn ranges_of(command: &Command, body: &Pages, capacity: u64) -> ArrayVec<Range, 64>
+/// Puts the ranges that the task of a command reads, writes or trims in place of others: that of a READ or a WRITE, and those
+/// of the list of an UNMAP, which has no fault on a medium of this capacity (SBC-3 5.28).
+pub fn put_ranges(command: &Command, body: &Pages, capacity: u64, ranges: &mut ArrayVec<Range, 64>)
     requires list { HasList command.now body.now capacity }
-    ensures { result.items ≡ (asks command.now).ranges body.now }
+    ensures { ranges.new.items ≡ (asks command.now).ranges body.now }
 {
+    ranges.clear();
     match *command {
         Command::Read { lba, count, .. } | Command::Write { lba, count, .. } => {
-            one_range(Range { lba, count })
+            ranges.push(Range { lba, count });
         }
-        Command::Unmap { length } => listed_ranges(body, length, capacity),
-        _ => ArrayVec::new(),
+        Command::Unmap { length } => put_list(body, length, capacity, ranges),
+        _ => {}
     }
 }
 
-fn one_range(range: Range) -> ArrayVec<Range, 64>
-    ensures { result.items ≡ range ∷ [] }
+/// Puts the ranges of a list in place of others. A function of its own, as only an UNMAP has to pay for room for a list.
+#[inline(never)]
+fn put_list(list: &Pages, length: u16, capacity: u64, ranges: &mut ArrayVec<Range, 64>)
+    requires { IsList list.now length capacity }
+    ensures { ranges.new.items ≡ unmap.ranges_of list.now }
 {
-    let mut ranges = ArrayVec::new();
-    ranges.push(range);
-    ranges
+    *ranges = listed_ranges(list, length, capacity);
 }
 
 /// The ranges of the list of an UNMAP that has no fault on a medium of this capacity (SBC-3 5.28).

@@ -8,7 +8,7 @@ mod senses;
 mod tests;
 
 pub use commands::{
-    change_of, fields_fault, held_blocks, length_fault, listed_ranges, needed, range_of, ranges_of,
+    change_of, fields_fault, held_blocks, length_fault, listed_ranges, needed, put_ranges, range_of,
 };
 pub use requests::{is_for_unit, is_ordered, is_outside, is_unit_0, is_untold};
 pub use senses::{attention_sense, plain, refusal};

@@ -15,7 +15,7 @@ use Rattle.satl_audit.specs.Arriving.{ArrivesOn, CannotArrive, Goes, IsSent, Sti
 use Rattle.satl_audit.specs.Deeds.Deed.{shows}
 use Rattle.satl_audit.specs.Finishing.{CannotTurn, Turns, TurnsOn}
 use Rattle.satl_audit.specs.Kept.{Keeping}
-use Rattle.satl_audit.specs.Skeleton.{shown}
+use Rattle.satl_audit.specs.Skeleton.{pairs_shown}
 use Rattle.satl_audit.specs.declared.arriving.Steps.{Steps}
 use Rattle.satl_audit.specs.Progress.{recorded, progress}
 
@@ -56,7 +56,7 @@ module _ (identity : Identity) (input : List ℕ) (old : Steps) (sectors : List 
   pub request_goes : (r : Request) (new : Steps) → ArrivesOn r (device_at identity input old) (device_at identity input new) old.output new.output → GoesOn (recorded identity input) (frames.Request r) (progress old sectors) (progress new sectors)
   request_goes r new a = record {
     answers = map replied a.replies;
-    deeds = shows (shown (device_at identity input old)) ∷ [];
+    deeds = shows (pairs_shown (device_at identity input old)) ∷ [];
     stepped = (a.replies, refl, a.arrives, refl);
     whole = (tt, tt);
     said = a.said;

@@ -17,7 +17,7 @@ use Rattle.satl_laws.specs.OnceEach.{asks_by}
 use Rattle.satl_direct.specs.Valid.{AreOwn}
 use Rattle.satl_audit.specs.Deeds.{Deed}
 use Rattle.satl_audit.specs.Deeds.Deed.{shows}
-use Rattle.satl_audit.specs.Skeleton.{TurnsDone, shown}
+use Rattle.satl_audit.specs.Skeleton.{TurnsDone, pairs_shown}
 use Rattle.satl_audit.proofs.Each.{is_same}
 use Rattle.satl_audit.proofs.Forming.{IsFormed}
 use Rattle.satl_audit.proofs.Naming.{own_removed}
@@ -66,7 +66,7 @@ module _ (x : ℕ) where
       let f = follow_done x first (ds ++ deeds) mid u r.formed reply deed r.own d r.follows in
       let p : Entry → Bool = is_called (d.task).nexus ((d.task).tag).0 in
       record {
-        follows = subst (λ l. Follows x first l u) (append_assoc ds deeds (shows (shown mid) ∷ deed ∷ [])) f;
+        follows = subst (λ l. Follows x first l u) (append_assoc ds deeds (shows (pairs_shown mid) ∷ deed ∷ [])) f;
         formed = subst (λ (y : Device). AllByRecursion IsFormed y.tasks) (sym d.stays) (All-remove_first IsFormed p mid.tasks r.formed);
         own = subst (λ (y : Device). AreOwn y.tasks) (sym d.stays) (own_removed p mid.tasks r.own);
         asked = subst (λ (y : Device). AllByRecursion (Asked all) y.tasks) (sym d.stays) (All-remove_first (Asked all) p mid.tasks r.asked);

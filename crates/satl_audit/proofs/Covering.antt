@@ -5,7 +5,7 @@ use Rattle.satl_base.specs.declared.block.Block.{Block}
 use Rattle.satl_base.specs.Cells.{Cell}
 use Rattle.satl_base.specs.Lists.{IsIn}
 use Rattle.satl_audit.specs.Guesses.{Guess, all_may, sure}
-use Rattle.satl_audit.specs.Sectors.{Sector, guesses_in, guesses_of}
+use Rattle.satl_audit.specs.Sectors.{KnownSector, guesses_in, guesses_of}
 use Rattle.satl_audit.proofs.Fitting.{Fits}
 use Rattle.satl_audit.proofs.GuessLists.{in_map, map_in}
 
@@ -48,6 +48,6 @@ pub sure_own : (vs : List Block) (g : Guess) → IsIn g (map sure vs) → IsIn g
 sure_own vs g i = let t = in_map sure vs g i in subst (λ y. IsIn y.now y.may) (sym t.same) (inl refl)
 
 -- a sector that fits, and that may be left with something
-pub record Stands (K : Cell → Type 0) (s : Sector) : Type 0 where
+pub record Stands (K : Cell → Type 0) (s : KnownSector) : Type 0 where
   pub fits : Fits K (guesses_of s)
   pub some : (w : Block) × IsIn w s.may

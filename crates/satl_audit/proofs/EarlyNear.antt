@@ -11,7 +11,7 @@ use Rattle.satl_regs.specs.Sectors.{IsLeftBehind}
 use Rattle.satl_direct.specs.Device.{Device}
 use Rattle.satl_audit.specs.Deeds.{MovesAt}
 use Rattle.satl_audit.specs.Deeds.MovesAt.{still, fewer, gets}
-use Rattle.satl_audit.specs.Skeleton.{shown}
+use Rattle.satl_audit.specs.Skeleton.{pairs_shown}
 use Rattle.satl_audit.proofs.Forming.{IsFormed}
 use Rattle.satl_audit.proofs.EarlyShown.{ShownAt, one_shown}
 
@@ -51,7 +51,7 @@ module _ (x : ℕ) where
     near_lost a c b e f (same g m) = same (e ∙ g) (λ w h. m w (f w h))
     near_lost a c b e f (early p i g m) = early p i (e ∙ g) (λ w h. m w (f w h))
 
-    pub near_moves : (a c b : Cell) → MovesAt (λ p. IsIn p (shown s)) x a c → Near s a b → Near s c b
+    pub near_moves : (a c b : Cell) → MovesAt (λ p. IsIn p (pairs_shown s)) x a c → Near s a b → Near s c b
     near_moves a c b still n = n
     near_moves a c b (fewer {b = mid} l m) n = near_moves mid c b m (near_lost a mid b l.now (λ w h. leaves_in w a.may mid.may l.fewer h) n)
     near_moves a c b (gets p i e m) n = near_moves (put a p.block p.cached) c b m (near_put p a b (record { among = i; here = e }) n)
@@ -67,11 +67,11 @@ module _ (x : ℕ) where
   pub record Powered (s u : Device) (b c : Cell) : Type 0 where
     pub mid : Cell
     pub last : Cell
-    pub moves : MovesAt (λ p. IsIn p (shown s)) x b mid
+    pub moves : MovesAt (λ p. IsIn p (pairs_shown s)) x b mid
     pub left : IsLeftBehind mid last
     pub near : Near u c last
 
-  left_of : (s u : Device) (b mid c : Cell) → MovesAt (λ p. IsIn p (shown s)) x b mid → IsIn c.now mid.may → c.may ≡ c.now ∷ [] → Powered s u b c
+  left_of : (s u : Device) (b mid c : Cell) → MovesAt (λ p. IsIn p (pairs_shown s)) x b mid → IsIn c.now mid.may → c.may ≡ c.now ∷ [] → Powered s u b c
   left_of s u b mid c m i alone = record {
     mid = mid;
     last = record { now = c.now; may = c.now ∷ []; read_flaw = mid.read_flaw; write_flaw = mid.write_flaw };

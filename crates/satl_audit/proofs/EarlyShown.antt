@@ -13,7 +13,7 @@ use Rattle.satl_line.proofs.EligibleLemmas.{eligible_do_not_conflict}
 use Rattle.satl_direct.specs.Device.{Device, is_called}
 use Rattle.satl_direct.specs.Quiet.{writes, written_by}
 use Rattle.satl_direct.specs.Run.{eligibles}
-use Rattle.satl_audit.specs.Skeleton.{shown}
+use Rattle.satl_audit.specs.Skeleton.{pairs_shown}
 use Rattle.satl_audit.proofs.Forming.{FormedBy, IsFormed}
 use Rattle.satl_audit.proofs.Showing.{eligible_in, in_eligible, in_pairs, of_pairs}
 use Rattle.satl_audit.proofs.EarlyPairs.{from_one}
@@ -70,7 +70,7 @@ eligible_without (v ∷ ts) t w h e =
 
 module _ (x : ℕ) where
   pub record ShownAt (s : Device) (p : Pair) : Type 0 where
-    pub among : IsIn p (shown s)
+    pub among : IsIn p (pairs_shown s)
     pub here : p.lba ≡ x
 
   -- so what may show there is of each eligible task that goes over it

@@ -27,8 +27,8 @@ use Rattle.satl_audit.specs.Deciding.{AreWhole, GivesWhole}
 use Rattle.satl_audit.specs.Deeds.{Deed}
 use Rattle.satl_audit.specs.Deeds.Deed.{gives, puts, settles}
 use Rattle.satl_audit.specs.Following.{along, pairs_in}
-use Rattle.satl_audit.specs.Finishing.{AreTasks, CannotEnd, Ends, Flushes, OnlyEnds, Passes, Reads, Writes, head_bytes}
-use Rattle.satl_audit.specs.Kept.{Keeping, sector_at}
+use Rattle.satl_audit.specs.Finishing.{AreTasks, CannotEnd, EndsOrCannot, Flushes, GoodComesFirst, OnlyEnds, ReadAnswered, WriteAnswered, head_bytes}
+use Rattle.satl_audit.specs.Kept.{Keeping, known_sector_at}
 use Rattle.satl_audit.specs.Sectors.{sector_gives, sector_puts}
 use Rattle.satl_audit.specs.Skeleton.{DoneAs, TaskDone}
 use Rattle.satl_audit.specs.Waiting.{Placed, device_tasks, entries_in, task_in}
@@ -84,7 +84,7 @@ module _ (identity : Identity) (input : List ℕ) (old : Steps) (place : ℕ) (p
 
   -- ---- a READ
 
-  pub read_arm : (form : Form) (lba count : ℕ) (fua : Bool) → p.entry.command ≡ commands.Read form lba count fua → (b : Bool) → Reads input name (over lba count) (compared old.output sectors) (compared left after) b → Ends (recorded identity input) (progress old sectors) (progress new after) b
+  pub read_arm : (form : Form) (lba count : ℕ) (fua : Bool) → p.entry.command ≡ commands.Read form lba count fua → (b : Bool) → ReadAnswered input name (over lba count) (compared old.output sectors) (compared left after) b → EndsOrCannot (recorded identity input) (progress old sectors) (progress new after) b
   read_arm form lba count fua c true r =
       let given = r.0 in
       let blocks = pages_of given in
@@ -116,18 +116,18 @@ module _ (identity : Identity) (input : List ℕ) (old : Steps) (place : ℕ) (p
             ∙ ap (λ (l : List ℕ). head_bytes t.nexus (t.tag).0 Good 0 (512 * length blocks) ++ (l ++ rest)) (all_bytes blocks w)
             ∙ ap (λ n. head_bytes t.nexus (t.tag).0 Good 0 (512 * n) ++ (bytes_of blocks ++ rest)) k.0,
       ) in
-      (f.0, f.1, refusing f.0 s (sector_at input sectors f.0) deed lba blocks k.1 (ap (λ l. sector_gives f.0 lba l (Some (sector_at input sectors f.0))) (sym (pages_of-bytes_of blocks w)) ∙ f.2))
+      (f.0, f.1, refusing f.0 s (known_sector_at input sectors f.0) deed lba blocks k.1 (ap (λ l. sector_gives f.0 lba l (Some (known_sector_at input sectors f.0))) (sym (pages_of-bytes_of blocks w)) ∙ f.2))
 
   -- ---- GOOD without data
 
-  cannot : ((reply : Reply) (deed : Deed) (other : Device) → (d : TaskDone s reply deed other) → d.task ≡ t → d.blocks ≡ []) → Passes name old.output left false → CannotEnd (recorded identity input) (progress old sectors)
+  cannot : ((reply : Reply) (deed : Deed) (other : Device) → (d : TaskDone s reply deed other) → d.task ≡ t → d.blocks ≡ []) → GoodComesFirst name old.output left false → CannotEnd (recorded identity input) (progress old sectors)
   cannot none refuses = λ reply deed other rest d whole said.
       let it = is_it reply deed other rest d said in
       let answer : reply ≡ task_reply t Good [] [] = d.answer ∙ ap (λ u. task_reply u Good [] d.blocks) it ∙ ap (task_reply t Good []) (none reply deed other d it) in
       absurd (refuses rest (said ∙ ap (λ (q : Reply). reply_bytes q ++ rest) answer ∙ good_is t [] rest expected))
 
-  pub write_arm : (form : Form) (lba count : ℕ) (fua : Bool) → p.entry.command ≡ commands.Write form lba count fua → (cached : Bool) → cached ≡ (identity.cache && not fua) → (b : Bool) → Writes input name (record { range = over lba count; at = p.at; cached = cached }) (compared old.output sectors) (compared left after) b →
-      Ends (recorded identity input) (progress old sectors) (progress new after) b
+  pub write_arm : (form : Form) (lba count : ℕ) (fua : Bool) → p.entry.command ≡ commands.Write form lba count fua → (cached : Bool) → cached ≡ (identity.cache && not fua) → (b : Bool) → WriteAnswered input name (record { range = over lba count; at = p.at; cached = cached }) (compared old.output sectors) (compared left after) b →
+      EndsOrCannot (recorded identity input) (progress old sectors) (progress new after) b
   write_arm form lba count fua c cached through true r =
       let deed = puts (pairs_in input (over lba count) p.at (identity.cache && not fua)) in
       record {
@@ -136,21 +136,21 @@ module _ (identity : Identity) (input : List ℕ) (old : Steps) (place : ℕ) (p
         done = ends_by [] deed (subst (λ k. DoneAs k s t [] deed) (sym c) (refl, ap puts pairs));
         whole = tt;
         said = r.0 ∙ sym (good_is t [] left expected);
-        follows = (same, λ x less. ap Some (ap (λ q. sector_puts x (pairs_in input (over lba count) p.at q) (sector_at input sectors x)) (sym through) ∙ sym (r.1 refl x less)));
+        follows = (same, λ x less. ap Some (ap (λ q. sector_puts x (pairs_in input (over lba count) p.at q) (known_sector_at input sectors x)) (sym through) ∙ sym (r.1 refl x less)));
       }
     where
       pairs : pairs_in input (over lba count) p.at (identity.cache && not fua) ≡ written_by (commands.Write form lba count fua) s t
       pairs = ap (λ (l : List Block). pairs_from lba l (identity.cache && not fua)) (sym (write_body input p form lba count fua c (fits_at identity input old.waiting place p tasks at).held))
   write_arm form lba count fua c cached through false r = cannot (λ reply deed other d it. (subst (λ x. DoneAs x s t d.blocks deed) c (subst (λ u. DoneAs u.command s u d.blocks deed) it d.done)).0) r.0
 
-  pub flush_arm : (form : Form) (lba count : ℕ) → p.entry.command ≡ commands.Flush form lba count → (b : Bool) → Flushes name (compared old.output sectors) (compared left after) b → Ends (recorded identity input) (progress old sectors) (progress new after) b
+  pub flush_arm : (form : Form) (lba count : ℕ) → p.entry.command ≡ commands.Flush form lba count → (b : Bool) → Flushes name (compared old.output sectors) (compared left after) b → EndsOrCannot (recorded identity input) (progress old sectors) (progress new after) b
   flush_arm form lba count c true r = record {
     reply = task_reply t Good [] [];
     deed = settles;
     done = ends_by [] settles (subst (λ k. DoneAs k s t [] settles) (sym c) (refl, refl));
     whole = tt;
     said = r.0 ∙ sym (good_is t [] left expected);
-    follows = (same, λ x less. ap Some (settle_sector input sectors x less ∙ ap (λ (l : List Keeping). sector_at input l x) (sym (r.1 refl))));
+    follows = (same, λ x less. ap Some (settle_sector input sectors x less ∙ ap (λ (l : List Keeping). known_sector_at input l x) (sym (r.1 refl))));
   }
   flush_arm form lba count c false r = cannot (λ reply deed other d it. (subst (λ x. DoneAs x s t d.blocks deed) c (subst (λ u. DoneAs u.command s u d.blocks deed) it d.done)).0) r.0
 

@@ -23,7 +23,7 @@ use Rattle.satl_direct.specs.Run.{Does, MayLose, TurnsOf, losses_in}
 use Rattle.satl_audit.specs.Deeds.{Deed, DoneBy, Walks}
 use Rattle.satl_audit.specs.Deeds.Deed.{shows, powers}
 use Rattle.satl_cover.specs.Known.{is_known, is_known_frame}
-use Rattle.satl_audit.specs.Skeleton.{Stepped, bare, powered, shown}
+use Rattle.satl_audit.specs.Skeleton.{Stepped, bare, pairs_shown, powered}
 use Rattle.satl_audit.proofs.Coming.{arrival_comes}
 use Rattle.satl_audit.proofs.Keeping.{IsSane, sane_on}
 use Rattle.satl_audit.proofs.Stepping.{Behind, behind_now, not_lost, quiet_bare, quiet_behind, quiet_down, quiet_sane, walks_on}
@@ -44,12 +44,12 @@ module _ (first : List Cell) (ds : List Deed) (s new : Device) (now : List Answe
       let behind_u : Behind first ds u = quiet_behind first ds s u h q b in
       let x = arrives_split (arrival u r) r u v replies (arrival_comes u r (ap (λ (d : Device). is_known (says r.cdb d.identity.trim)) same ∙ k)) (quiet_sane s u h q) m in
       let stepped : Arrives r (bare u) replies (bare v) = subst (λ w. ArrivesAs w r (bare u) replies (bare v)) (sym (arrival_bare u r)) x.bared in
-      let w : Walks DoneBy (ds ++ shows (shown (bare s)) ∷ []) first v.cells =
-      walks_on ds (shows (shown (bare s)) ∷ []) first behind_u.mid v.cells behind_u.walk (u.cells, subst (λ d. Moves (λ p. IsIn p (shown d)) behind_u.mid u.cells) same behind_u.moves, x.cells) in
+      let w : Walks DoneBy (ds ++ shows (pairs_shown (bare s)) ∷ []) first v.cells =
+      walks_on ds (shows (pairs_shown (bare s)) ∷ []) first behind_u.mid v.cells behind_u.walk (u.cells, subst (λ d. Moves (λ p. IsIn p (pairs_shown d)) behind_u.mid u.cells) same behind_u.moves, x.cells) in
       record {
-        deeds = shows (shown (bare s)) ∷ [];
+        deeds = shows (pairs_shown (bare s)) ∷ [];
         stepped = (replies, is, subst (λ d. Arrives r d replies (bare new)) same (subst (Arrives r (bare u) replies) (sym (quiet_bare v new q')) stepped), refl);
-        behind = quiet_behind first (ds ++ shows (shown (bare s)) ∷ []) v new x.sane q' (behind_now first (ds ++ shows (shown (bare s)) ∷ []) v w);
+        behind = quiet_behind first (ds ++ shows (pairs_shown (bare s)) ∷ []) v new x.sane q' (behind_now first (ds ++ shows (pairs_shown (bare s)) ∷ []) v w);
         sane = quiet_sane v new x.sane q';
       }
 
@@ -69,9 +69,9 @@ module _ (first : List Cell) (ds : List Deed) (s new : Device) (now : List Answe
       let sane_v : IsSane v =
       sane_on powers u v p.cells (ap (λ (d : Device). d.down) p.stays) (ap (λ (d : Device). d.started) p.stays) (ap (λ (d : Device). d.glitches) p.stays ∙ sane_u.glitches) (ap (λ (d : Device). d.identity) p.stays)
       (subst (AllByRecursion _) (sym (ap (λ (d : Device). d.tasks) p.stays)) tt) sane_u in
-      let more : List Deed = shows (shown (bare s)) ∷ powers ∷ [] in
+      let more : List Deed = shows (pairs_shown (bare s)) ∷ powers ∷ [] in
       let w : Walks DoneBy (ds ++ more) first v.cells =
-      walks_on ds more first behind_u.mid v.cells behind_u.walk (u.cells, subst (λ d. Moves (λ p. IsIn p (shown d)) behind_u.mid u.cells) same behind_u.moves, (v.cells, p.cells, refl)) in
+      walks_on ds more first behind_u.mid v.cells behind_u.walk (u.cells, subst (λ d. Moves (λ p. IsIn p (pairs_shown d)) behind_u.mid u.cells) same behind_u.moves, (v.cells, p.cells, refl)) in
       record {
         deeds = more;
         stepped = (is ∙ ap (map replied) p.none, (refl, quiet_bare v new a.quiet_after ∙ ap bare p.stays ∙ ap powered same));

@@ -6,10 +6,10 @@ use Rattle.satl_base.specs.declared.block.Block.{Block}
 use Rattle.satl_base.specs.declared.reply.Scsi.TheVariants.{Good}
 use Rattle.satl_base.specs.Blocks.{bytes_of, first_bytes}
 use Rattle.satl_audit.specs.Deciding.{AreWhole}
-use Rattle.satl_audit.specs.Finishing.{IsReadBy, Reads, end_deeds, head_bytes}
-use Rattle.satl_audit.specs.Kept.{Keeping, blank_keeping, kept_settle, sector_at, sector_of}
+use Rattle.satl_audit.specs.Finishing.{IsReadBy, ReadAnswered, end_deeds, head_bytes}
+use Rattle.satl_audit.specs.Kept.{Keeping, blank_keeping, kept_settle, known_sector, known_sector_at}
 use Rattle.satl_audit.specs.Progress.{Compared}
-use Rattle.satl_audit.specs.Sectors.{Sector, sector_gives, settled_in}
+use Rattle.satl_audit.specs.Sectors.{KnownSector, sector_gives, settled_in}
 use Rattle.satl_audit.specs.declared.content.Content.{Content}
 use Rattle.satl_audit.specs.declared.reply.Name.{Name}
 use Rattle.satl_audit.proofs.ReplyLemmas.{fronts, take_own}
@@ -23,7 +23,7 @@ use Rattle.satl_audit.proofs.FixingEvents.{after_same}
 
 -- the data of a READ are fixed by the output
 pub reads_as : (input : List ℕ) (name : Name) (range : Range) (given : List ℕ) (old new : Compared) → IsReadBy name range old.output given new.output → (b : Bool) → GivesBlocks input range.lba given old.sectors new.sectors b →
-    Reads input name range old new b
+    ReadAnswered input name range old new b
 reads_as input name range given old new read true h = (given, read, h)
 reads_as input name range given old new read false h =
     λ other rest also.
@@ -35,13 +35,13 @@ pub all_bytes : (vs : List Block) → AreWhole vs → first_bytes (512 * length 
 all_bytes vs whole = ap (λ n. take n (bytes_of vs)) (sym (length-bytes_of vs whole)) ∙ take_own (bytes_of vs)
 
 -- blocks that a sector refuses
-pub refusing : (x : ℕ) (s : Device) (k : Sector) (deed : Deed) (lba : ℕ) (blocks : List Block) → deed ≡ gives lba blocks → sector_gives x lba blocks (Some k) ≡ None → along x None (end_deeds s deed) (Some k) ≡ None
+pub refusing : (x : ℕ) (s : Device) (k : KnownSector) (deed : Deed) (lba : ℕ) (blocks : List Block) → deed ≡ gives lba blocks → sector_gives x lba blocks (Some k) ≡ None → along x None (end_deeds s deed) (Some k) ≡ None
 refusing x s k deed lba blocks is none = ap (λ d. along x None (end_deeds s d) (Some k)) is ∙ ap (along x None []) none
 
 -- all is written back
-settled_at : (input : List ℕ) (now : Option Content) (may : List Content) → sector_of input (kept_settle (record { now = now; may = may })) ≡ settled_in (sector_of input (record { now = now; may = may })).now (sector_of input (record { now = now; may = may })).may
+settled_at : (input : List ℕ) (now : Option Content) (may : List Content) → known_sector input (kept_settle (record { now = now; may = may })) ≡ settled_in (known_sector input (record { now = now; may = may })).now (known_sector input (record { now = now; may = may })).may
 settled_at input None may = refl
 settled_at input (Some v) may = refl
 
-pub settle_sector : (input : List ℕ) (ks : List Keeping) (x : ℕ) → x < length ks → settled_in (sector_at input ks x).now (sector_at input ks x).may ≡ sector_at input (map kept_settle ks) x
-settle_sector input ks x less = sym (ap (sector_of input) (get_or-map kept_settle ks x blank_keeping blank_keeping less) ∙ settled_at input _ _)
+pub settle_sector : (input : List ℕ) (ks : List Keeping) (x : ℕ) → x < length ks → settled_in (known_sector_at input ks x).now (known_sector_at input ks x).may ≡ known_sector_at input (map kept_settle ks) x
+settle_sector input ks x less = sym (ap (known_sector input) (get_or-map kept_settle ks x blank_keeping blank_keeping less) ∙ settled_at input _ _)

@@ -6,7 +6,7 @@ use Rattle.satl_frame.specs.Output.{reply_bytes}
 use Rattle.satl_direct.specs.Device.{Device}
 use Rattle.satl_audit.specs.Deeds.{Deed}
 use Rattle.satl_audit.specs.Deeds.Deed.{shows}
-use Rattle.satl_audit.specs.Skeleton.{TurnsDone, shown}
+use Rattle.satl_audit.specs.Skeleton.{TurnsDone, pairs_shown}
 use Rattle.satl_audit.proofs.FixingTurns.{said}
 
 pub record FirstTurns (s : Device) (n : ℕ) (replies : List Reply) (deeds : List Deed) : Type 0 where
@@ -28,11 +28,11 @@ peel_turn s n k _ _ u (TurnsDone.more {replies = some} {deeds = early} {mid = mi
       some = f.some;
       others = f.others ++ reply ∷ [];
       early = f.early;
-      late = f.late ++ shows (shown mid) ∷ deed ∷ [];
+      late = f.late ++ shows (pairs_shown mid) ∷ deed ∷ [];
       mid = f.mid;
       done = f.done;
       replies_are = ap (λ l. l ++ reply ∷ []) f.replies_are ∙ append_assoc f.some f.others (reply ∷ []);
-      deeds_are = ap (λ l. l ++ shows (shown mid) ∷ deed ∷ []) f.deeds_are ∙ append_assoc f.early f.late (shows (shown mid) ∷ deed ∷ []);
+      deeds_are = ap (λ l. l ++ shows (pairs_shown mid) ∷ deed ∷ []) f.deeds_are ∙ append_assoc f.early f.late (shows (pairs_shown mid) ∷ deed ∷ []);
     }
 
 pub first_turns : (s : Device) (n j : ℕ) (replies : List Reply) (deeds : List Deed) (u : Device) → TurnsDone s (j + n) replies deeds u → FirstTurns s n replies deeds

@@ -11,7 +11,7 @@ use Rattle.satl_direct.specs.Device.{Device, is_called}
 use Rattle.satl_direct.specs.Valid.{AreOwn}
 use Rattle.satl_audit.specs.Deeds.{Deed}
 use Rattle.satl_audit.specs.Deeds.Deed.{shows}
-use Rattle.satl_audit.specs.Skeleton.{TaskDone, TurnsDone, shown}
+use Rattle.satl_audit.specs.Skeleton.{TaskDone, TurnsDone, pairs_shown}
 use Rattle.satl_audit.proofs.Naming.{own_removed}
 use Rattle.satl_audit.specs.Deciding.{AllWhole, GivesWhole}
 use Rattle.satl_audit.proofs.Telling.{IsFine, ends_same}
@@ -51,11 +51,11 @@ none_ends s u r d e t = subst (λ l. IsEligible l (t.task)) e t.eligible
 
 -- one turn more on both sides
 more_same : (s mid mid' u v : Device) (replies others : List Reply) (r q : Reply) (ds es : List Deed) (d e : Deed) (rest rest' : List ℕ) → Kept mid → GivesWhole d → GivesWhole e → TaskDone mid r d u → TaskDone mid' q e v →
-    SameTurns ds es mid mid' (reply_bytes r ++ rest) (reply_bytes q ++ rest') → SameTurns (ds ++ shows (shown mid) ∷ d ∷ []) (es ++ shows (shown mid') ∷ e ∷ []) u v rest rest'
+    SameTurns ds es mid mid' (reply_bytes r ++ rest) (reply_bytes q ++ rest') → SameTurns (ds ++ shows (pairs_shown mid) ∷ d ∷ []) (es ++ shows (pairs_shown mid') ∷ e ∷ []) u v rest rest'
 more_same s mid mid' u v replies others r q ds es d e rest rest' k w z a b same =
     let x = ends_same mid u v r q d e rest rest' k.own k.fine w z a (subst (λ y. TaskDone y q e v) (sym same.new_same) b) same.rest_same in
     record {
-      deeds_same = ap (λ l. l ++ shows (shown mid) ∷ d ∷ []) same.deeds_same ∙ ap (λ y. es ++ shows (shown y) ∷ d ∷ []) same.new_same ∙ ap (λ y. es ++ shows (shown mid') ∷ y ∷ []) x.deed_same;
+      deeds_same = ap (λ l. l ++ shows (pairs_shown mid) ∷ d ∷ []) same.deeds_same ∙ ap (λ y. es ++ shows (pairs_shown y) ∷ d ∷ []) same.new_same ∙ ap (λ y. es ++ shows (pairs_shown mid') ∷ y ∷ []) x.deed_same;
       new_same = x.new_same;
       rest_same = x.rest_same;
     }
@@ -66,14 +66,14 @@ pub turns_same : (s : Device) → Kept s → {n : ℕ} {replies : List Reply} {d
 turns_same s k TurnsDone.none TurnsDone.none rest rest' w z h = record { deeds_same = refl; new_same = refl; rest_same = h }
 turns_same s k (TurnsDone.idle t e) (TurnsDone.idle t' e') rest rest' w z h = turns_same s k t t' rest rest' w z h
 turns_same s k {u = u} (TurnsDone.idle {mid = mid} t e) {others = _} {v = v} (TurnsDone.more {replies = others} {deeds = es} {mid = mid'} q d t' b) rest rest' w z h =
-    let r = turns_same s k t t' rest (reply_bytes q ++ rest') w (All-left GivesWhole es (shows (shown mid') ∷ d ∷ []) z) (h ∙ said-push others q rest') in
+    let r = turns_same s k t t' rest (reply_bytes q ++ rest') w (All-left GivesWhole es (shows (pairs_shown mid') ∷ d ∷ []) z) (h ∙ said-push others q rest') in
     absurd (none_ends mid' v q d (ap (λ (y : Device). y.tasks) (sym r.new_same) ∙ e) b)
 turns_same s k {u = u} (TurnsDone.more {replies = replies} {deeds = ds} {mid = mid} r d t a) {v = v} (TurnsDone.idle {mid = mid'} t' e) rest rest' w z h =
-    let x = turns_same s k t t' (reply_bytes r ++ rest) rest' (All-left GivesWhole ds (shows (shown mid) ∷ d ∷ []) w) z (sym (said-push replies r rest) ∙ h) in
+    let x = turns_same s k t t' (reply_bytes r ++ rest) rest' (All-left GivesWhole ds (shows (pairs_shown mid) ∷ d ∷ []) w) z (sym (said-push replies r rest) ∙ h) in
     absurd (none_ends mid u r d (ap (λ (y : Device). y.tasks) x.new_same ∙ e) a)
 turns_same s k {u = u} (TurnsDone.more {replies = replies} {deeds = ds} {mid = mid} r d t a) {v = v} (TurnsDone.more {replies = others} {deeds = es} {mid = mid'} q e t' b) rest rest' w z h =
-    let x = turns_same s k t t' (reply_bytes r ++ rest) (reply_bytes q ++ rest') (All-left GivesWhole ds (shows (shown mid) ∷ d ∷ []) w) (All-left GivesWhole es (shows (shown mid') ∷ e ∷ []) z) (sym (said-push replies r rest) ∙ h ∙ said-push others q rest') in
-    more_same s mid mid' u v replies others r q ds es d e rest rest' (turns_keep s k t) ((All-right GivesWhole ds (shows (shown mid) ∷ d ∷ []) w).1).0 ((All-right GivesWhole es (shows (shown mid') ∷ e ∷ []) z).1).0 a b x
+    let x = turns_same s k t t' (reply_bytes r ++ rest) (reply_bytes q ++ rest') (All-left GivesWhole ds (shows (pairs_shown mid) ∷ d ∷ []) w) (All-left GivesWhole es (shows (pairs_shown mid') ∷ e ∷ []) z) (sym (said-push replies r rest) ∙ h ∙ said-push others q rest') in
+    more_same s mid mid' u v replies others r q ds es d e rest rest' (turns_keep s k t) ((All-right GivesWhole ds (shows (pairs_shown mid) ∷ d ∷ []) w).1).0 ((All-right GivesWhole es (shows (pairs_shown mid') ∷ e ∷ []) z).1).0 a b x
 
 -- where no task is left more turns do nothing
 pub idles : (s : Device) (j : ℕ) {n : ℕ} {replies : List Reply} {ds : List Deed} {u : Device} → TurnsDone s n replies ds u → u.tasks ≡ [] → TurnsDone s (j + n) replies ds u

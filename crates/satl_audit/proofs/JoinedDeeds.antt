@@ -12,8 +12,8 @@ use Rattle.satl_direct.specs.Device.{Device}
 use Rattle.satl_audit.specs.Deeds.{Deed}
 use Rattle.satl_audit.specs.Deeds.Deed.{shows, powers}
 use Rattle.satl_audit.specs.Following.{Follows, SomeRefuses, along}
-use Rattle.satl_audit.specs.Kept.{Keeping, sector_at}
-use Rattle.satl_audit.specs.Skeleton.{Benched, Stepped, TurnsDone, shown}
+use Rattle.satl_audit.specs.Kept.{Keeping, known_sector_at}
+use Rattle.satl_audit.specs.Skeleton.{Benched, Stepped, TurnsDone, pairs_shown}
 use Rattle.satl_audit.proofs.AlongLemmas.{follows_push, refuses_push}
 
 -- deeds that begin with pairs that show, or none
@@ -28,18 +28,18 @@ begins_more _ pairs es (showing qs ds) = showing qs (ds ++ shows pairs ∷ es)
 begins_turns : (s : Device) {n : ℕ} {replies : List Reply} {deeds : List Deed} {u : Device} → TurnsDone s n replies deeds u → Begins deeds
 begins_turns s TurnsDone.none = nothing
 begins_turns s (TurnsDone.idle t e) = begins_turns s t
-begins_turns s (TurnsDone.more {deeds = deeds} {mid = mid} reply deed t d) = begins_more deeds (shown mid) (deed ∷ []) (begins_turns s t)
+begins_turns s (TurnsDone.more {deeds = deeds} {mid = mid} reply deed t d) = begins_more deeds (pairs_shown mid) (deed ∷ []) (begins_turns s t)
 
 begins_benched : (event : BenchEvent) (s u : Device) (ds : List Deed) → Benched event s ds u → Begins ds
 begins_benched (events.Strike which lba) s u ds e = absurd e
 begins_benched (events.Mend lba) s u ds e = absurd e
 begins_benched (events.Glitch count) s u ds e = absurd e
 begins_benched (events.Order order) s u ds e = subst Begins (sym e.0) nothing
-begins_benched events.Power s u ds e = subst Begins (sym e.0) (showing (shown s) (powers ∷ []))
+begins_benched events.Power s u ds e = subst Begins (sym e.0) (showing (pairs_shown s) (powers ∷ []))
 begins_benched events.Unplug s u ds e = absurd e
 
 pub begins_stepped : (event : Frame) (s u : Device) (now : List Answer) (ds : List Deed) → Stepped event s now ds u → Begins ds
-begins_stepped (frames.Request r) s u now ds e = subst Begins (sym e.3) (showing (shown s) [])
+begins_stepped (frames.Request r) s u now ds e = subst Begins (sym e.3) (showing (pairs_shown s) [])
 begins_stepped (frames.Manage m) s u now ds e = absurd e
 begins_stepped (frames.Turn n) s u now ds e = begins_turns s e.2
 begins_stepped (frames.Bench event) s u now ds e = begins_benched event s u ds e.1
@@ -48,7 +48,7 @@ begins_stepped frames.End s u now ds e = begins_turns s e.3
 pub follows_join : (input : List ℕ) (ds es : List Deed) (old mid new : List Keeping) → Begins es → Follows input ds old mid → Follows input es mid new → Follows input (ds ++ es) old new
 follows_join input ds _ old mid new nothing f g = (
   g.0 ∙ f.0,
-  λ x less. ap (λ (l : List Deed). along x None l (Some (sector_at input old x))) (append-nil ds) ∙ f.1 x less ∙ g.1 x (subst (λ n. x < n) (sym f.0) less),
+  λ x less. ap (λ (l : List Deed). along x None l (Some (known_sector_at input old x))) (append-nil ds) ∙ f.1 x less ∙ g.1 x (subst (λ n. x < n) (sym f.0) less),
 )
 follows_join input ds _ old mid new (showing pairs es) f g = follows_push input ds pairs es old mid new f g
 

@@ -5,8 +5,8 @@ use Rattle.std.specs.Cmp.Lexicographic.{pointwise}
 use Rattle.std.specs.List.{list_any}
 use Rattle.satl_base.specs.declared.block.Block.{Block}
 use Rattle.satl_audit.specs.declared.content.Content.{Content}
-use Rattle.satl_audit.specs.Kept.{Keeping, block_of, or_alone, sector_of}
-use Rattle.satl_audit.specs.Sectors.{Sector, sector_show}
+use Rattle.satl_audit.specs.Kept.{Keeping, block_of, known_sector, or_alone}
+use Rattle.satl_audit.specs.Sectors.{KnownSector, sector_show}
 use Rattle.satl_audit.proofs.GuessLists.{bytes_same}
 
 -- whether bytes are those of a content
@@ -26,17 +26,17 @@ unknown k now items is none = is ∙ ap (λ (n : Option Content). record { now =
     listed (c ∷ cs) = refl
 
 shown : (input given : List ℕ) (k : Keeping) (now : Option Content) (items : List Content) (b : Bool) → k ≡ record { now = now; may = or_alone now items } → now ≡ None → list_any (shows_as input given) items ≡ b →
-    sector_show (record { bytes = given }) (sector_of input k) ≡ (if b then Some (record { now = Some (record { bytes = given }); may = record { bytes = given } ∷ [] }) else None)
+    sector_show (record { bytes = given }) (known_sector input k) ≡ (if b then Some (record { now = Some (record { bytes = given }); may = record { bytes = given } ∷ [] }) else None)
 shown input given k now items b is none any =
-    ap (λ (x : Keeping). sector_show (record { bytes = given }) (sector_of input x)) (unknown k now items is none)
+    ap (λ (x : Keeping). sector_show (record { bytes = given }) (known_sector input x)) (unknown k now items is none)
     ∙ ap (λ (t : Bool). if t then Some (record { now = Some (record { bytes = given }); may = record { bytes = given } ∷ [] }) else None) (any_block input given items ∙ any)
 
 pub shows_none : (input given : List ℕ) (k : Keeping) (now : Option Content) (items : List Content) → k ≡ record { now = now; may = or_alone now items } → now ≡ None → list_any (shows_as input given) items ≡ false →
-    is_some (sector_show (record { bytes = given }) (sector_of input k)) ≡ false
-shows_none input given k now items is none any = ap (λ (o : Option Sector). is_some o) (shown input given k now items false is none any)
+    is_some (sector_show (record { bytes = given }) (known_sector input k)) ≡ false
+shows_none input given k now items is none any = ap (λ (o : Option KnownSector). is_some o) (shown input given k now items false is none any)
 
 pub shows_some : (input given : List ℕ) (k : Keeping) (now : Option Content) (items : List Content) (c : Content) → k ≡ record { now = now; may = or_alone now items } → now ≡ None →
-    list_any (shows_as input given) items ≡ true → shows_as input given c ≡ true → sector_show (record { bytes = given }) (sector_of input k) ≡ Some (sector_of input (record { now = Some c; may = c ∷ [] }))
+    list_any (shows_as input given) items ≡ true → shows_as input given c ≡ true → sector_show (record { bytes = given }) (known_sector input k) ≡ Some (known_sector input (record { now = Some c; may = c ∷ [] }))
 shows_some input given k now items c is none any same =
     let block : ◌≡◌ {A = Block} (record { bytes = given }) (block_of input c) = ap (λ (bs : List ℕ). record { bytes = bs }) (sym (bytes_same (block_of input c).bytes given same)) in
     shown input given k now items true is none any ∙ ap (λ (v : Block). Some (record { now = Some v; may = v ∷ [] })) block

@@ -22,7 +22,7 @@ use Rattle.satl_direct.specs.Arrival.Arrival.{answered, attended, overlaps, wait
 use Rattle.satl_audit.specs.Deeds.{Deed}
 use Rattle.satl_audit.specs.Deeds.Deed.{shows}
 use Rattle.satl_cover.specs.Known.{is_known, is_known_frame}
-use Rattle.satl_audit.specs.Skeleton.{Benched, DoneAs, Skeleton, Stepped, TurnsDone, shown}
+use Rattle.satl_audit.specs.Skeleton.{Benched, DoneAs, Skeleton, Stepped, TurnsDone, pairs_shown}
 use Rattle.satl_audit.specs.Skeleton.Skeleton.{begin, further}
 use Rattle.satl_audit.proofs.Coming.{Comes, IsKnown, KnownBy, arrival_comes}
 use Rattle.satl_audit.proofs.Splitting.{Lies}
@@ -69,7 +69,7 @@ turns_within s size k (TurnsDone.more {deeds = deeds} {mid = mid} reply deed t d
     let task = d.task in
     let known = all_of (IsKnown size) mid.tasks task r.known (eligible_there mid.tasks task d.eligible) in
     record {
-      lie = All-append (λ x. Lies x size) deeds (shows (shown mid) ∷ deed ∷ []) r.lie (tt, (done_lies size task.command mid task d.blocks deed known d.done, tt));
+      lie = All-append (λ x. Lies x size) deeds (shows (pairs_shown mid) ∷ deed ∷ []) r.lie (tt, (done_lies size task.command mid task d.blocks deed known d.done, tt));
       known = subst (λ (x : Device). AllByRecursion (IsKnown size) x.tasks) (sym d.stays) (All-remove_first (IsKnown size) (is_called task.nexus (task.tag).0) mid.tasks r.known);
     }
 

@@ -17,7 +17,7 @@ use Rattle.satl_direct.specs.Quiet.{writes, written_by}
 use Rattle.satl_direct.specs.Tasks.{held_blocks, over}
 use Rattle.satl_audit.specs.Arriving.{device_of}
 use Rattle.satl_audit.specs.Following.{Follows, pairs_in}
-use Rattle.satl_audit.specs.Kept.{Keeping, blank_keeping, kept_power, sector_at, sector_of}
+use Rattle.satl_audit.specs.Kept.{Keeping, blank_keeping, kept_power, known_sector, known_sector_at}
 use Rattle.satl_audit.specs.Powering.{PendsAll, power_deeds}
 use Rattle.satl_audit.specs.Waiting.{MayWait, Placed, task_in}
 use Rattle.satl_audit.proofs.EndWithin.{write_body}
@@ -76,8 +76,8 @@ power_follows identity input waiting old mid new size pends is = (
   ap (λ (l : List Keeping). length l) is ∙ length-map mid kept_power ∙ size,
   λ x less.
       ap (λ (l : List Block). Some (record { now = None; may = l })) (sym (pends x less))
-      ∙ ap (λ (k : Keeping). Some (sector_of input k)) (sym (get_or-map kept_power mid x blank_keeping blank_keeping (subst (λ n. x < n) (sym size) less)))
-      ∙ ap (λ (l : List Keeping). Some (sector_at input l x)) (sym is),
+      ∙ ap (λ (k : Keeping). Some (known_sector input k)) (sym (get_or-map kept_power mid x blank_keeping blank_keeping (subst (λ n. x < n) (sym size) less)))
+      ∙ ap (λ (l : List Keeping). Some (known_sector_at input l x)) (sym is),
 )
 
 pub told_all : (before : List (List Attention)) → length before ≡ 4 → (PowerOn ∷ []) ∷ (PowerOn ∷ []) ∷ (PowerOn ∷ []) ∷ (PowerOn ∷ []) ∷ [] ≡ map (λ (conditions : List Attention). PowerOn ∷ []) before

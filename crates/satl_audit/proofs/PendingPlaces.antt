@@ -15,9 +15,9 @@ use Rattle.satl_direct.specs.Quiet.{writes}
 use Rattle.satl_direct.specs.Run.{eligibles}
 use Rattle.satl_audit.specs.Arriving.{device_of}
 use Rattle.satl_audit.specs.Guesses.{blocks_at}
-use Rattle.satl_audit.specs.Kept.{Keeping, sector_at}
+use Rattle.satl_audit.specs.Kept.{Keeping, known_sector_at}
 use Rattle.satl_audit.specs.Powering.{PendsBetween, picks, shown_from}
-use Rattle.satl_audit.specs.Skeleton.{pairs_by, shown}
+use Rattle.satl_audit.specs.Skeleton.{pairs_by, pairs_shown}
 use Rattle.satl_audit.specs.Waiting.{Placed, device_tasks, entries_in, task_in}
 use Rattle.satl_audit.proofs.NextLemmas.{eligible_same}
 
@@ -68,7 +68,7 @@ picks_same f g same n [] = refl
 picks_same f g same n (t ∷ ts) = ap (λ (b : Bool). if b then t ∷ picks f (suc n) ts else picks f (suc n) ts) (same n) ∙ ap (λ (l : List Entry). if g n then t ∷ l else l) (picks_same f g same (suc n) ts)
 
 module _ (identity : Identity) (input : List ℕ) (waiting : List Placed) where
-  pub shown_all : shown (device_of identity input waiting []) ≡ shown_from identity input waiting 0
+  pub shown_all : pairs_shown (device_of identity input waiting []) ≡ shown_from identity input waiting 0
   shown_all =
       ap (pairs_by (device_of identity input waiting []))
       (eligibles_are (device_tasks input waiting) ∙ picks_same (eligible_at (device_tasks input waiting)) (eligible_at (entries_in waiting)) (eligible_same input waiting) 0 (device_tasks input waiting))
@@ -105,14 +105,14 @@ module _ (identity : Identity) (input : List ℕ) (waiting : List Placed) where
 
   -- a task that is not eligible, or writes nothing
   pub still : (n : ℕ) (p : Placed) (b : Bool) (ks : List Keeping) → slice_get waiting n ≡ Some p → eligible_at (entries_in waiting) n ≡ b → (b ≡ true → writes (device_of identity input waiting []) (task_in input p) ≡ []) → PendsBetween identity input waiting n (n + 1) ks ks
-  still n p false ks at is none = λ x less. ap (λ l. (sector_at input ks x).may ++ blocks_at x l) (step_of false n p at is)
-  still n p true ks at is none = λ x less. ap (λ l. (sector_at input ks x).may ++ blocks_at x l) (step_of true n p at is ∙ ap (λ l. l ++ shown_from identity input waiting (n + 1)) (none refl))
+  still n p false ks at is none = λ x less. ap (λ l. (known_sector_at input ks x).may ++ blocks_at x l) (step_of false n p at is)
+  still n p true ks at is none = λ x less. ap (λ l. (known_sector_at input ks x).may ++ blocks_at x l) (step_of true n p at is ∙ ap (λ l. l ++ shown_from identity input waiting (n + 1)) (none refl))
 
   -- a WRITE that is eligible
   pub moved : (n : ℕ) (p : Placed) (ks ms : List Keeping) → slice_get waiting n ≡ Some p → eligible_at (entries_in waiting) n ≡ true →
-      ((x : ℕ) → x < length ks → (sector_at input ms x).may ≡ (sector_at input ks x).may ++ blocks_at x (writes (device_of identity input waiting []) (task_in input p))) → PendsBetween identity input waiting n (n + 1) ks ms
+      ((x : ℕ) → x < length ks → (known_sector_at input ms x).may ≡ (known_sector_at input ks x).may ++ blocks_at x (writes (device_of identity input waiting []) (task_in input p))) → PendsBetween identity input waiting n (n + 1) ks ms
   moved n p ks ms at is h = λ x less.
-      ap (λ l. (sector_at input ks x).may ++ blocks_at x l) (step_of true n p at is)
-      ∙ ap (λ l. (sector_at input ks x).may ++ l) (blocks-append x (writes (device_of identity input waiting []) (task_in input p)) (shown_from identity input waiting (n + 1)))
-      ∙ sym (append_assoc (sector_at input ks x).may (blocks_at x (writes (device_of identity input waiting []) (task_in input p))) (blocks_at x (shown_from identity input waiting (n + 1))))
+      ap (λ l. (known_sector_at input ks x).may ++ blocks_at x l) (step_of true n p at is)
+      ∙ ap (λ l. (known_sector_at input ks x).may ++ l) (blocks-append x (writes (device_of identity input waiting []) (task_in input p)) (shown_from identity input waiting (n + 1)))
+      ∙ sym (append_assoc (known_sector_at input ks x).may (blocks_at x (writes (device_of identity input waiting []) (task_in input p))) (blocks_at x (shown_from identity input waiting (n + 1))))
       ∙ ap (λ l. l ++ blocks_at x (shown_from identity input waiting (n + 1))) (sym (h x less))

@@ -17,7 +17,7 @@ use Rattle.satl_audit.specs.Deeds.Deed.{shows, powers}
 use Rattle.satl_audit.specs.Following.{Follows}
 use Rattle.satl_audit.specs.Kept.{Keeping}
 use Rattle.satl_audit.specs.Powering.{power_deeds}
-use Rattle.satl_audit.specs.Skeleton.{pairs_by, powered, shown}
+use Rattle.satl_audit.specs.Skeleton.{pairs_by, pairs_shown, powered}
 use Rattle.satl_audit.specs.Waiting.{Placed, device_tasks}
 use Rattle.satl_audit.specs.declared.arriving.Steps.{Steps}
 use Rattle.satl_audit.specs.Progress.{recorded, progress}
@@ -50,7 +50,7 @@ pairs_same identity before after input waiting (t ∷ ts) =
     ap (λ (l : List Pair). l ++ pairs_by (device_of identity input waiting before) ts) (written_same identity before after input waiting t.command t)
     ∙ ap (λ (l : List Pair). written_by t.command (device_of identity input waiting after) t ++ l) (pairs_same identity before after input waiting ts)
 
-pub shown_same : (identity : Identity) (before after : List (List Attention)) (input : List ℕ) (waiting : List Placed) → shown (device_of identity input waiting before) ≡ shown (device_of identity input waiting after)
+pub shown_same : (identity : Identity) (before after : List (List Attention)) (input : List ℕ) (waiting : List Placed) → pairs_shown (device_of identity input waiting before) ≡ pairs_shown (device_of identity input waiting after)
 shown_same identity before after input waiting = pairs_same identity before after input waiting (eligibles (device_tasks input waiting))
 
 pub power_goes : (identity : Identity) (input : List ℕ) (old new : Steps) (sectors after : List Keeping) → new.waiting ≡ [] → new.attentions ≡ map (λ (conditions : List Attention). PowerOn ∷ []) old.attentions → new.output ≡ old.output →

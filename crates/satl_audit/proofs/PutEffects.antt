@@ -8,33 +8,33 @@ use Rattle.satl_base.specs.Cells.{pairs_from}
 use Rattle.satl_audit.specs.declared.content.Content.{Content}
 use Rattle.satl_audit.specs.declared.content.Content.TheVariants.{Input}
 use Rattle.satl_audit.specs.Following.{blocks_from}
-use Rattle.satl_audit.specs.Kept.{Keeping, block_of, blank_keeping, kept_at, kept_put, sector_at, sector_of}
-use Rattle.satl_audit.specs.Sectors.{Sector, sector_put, sector_puts}
+use Rattle.satl_audit.specs.Kept.{Keeping, block_of, blank_keeping, kept_at, kept_put, known_sector_at, known_sector}
+use Rattle.satl_audit.specs.Sectors.{KnownSector, sector_put, sector_puts}
 
 -- the sector at an address once one is changed
 pub at_set : (b : Bool) (ks : List Keeping) (lba x : ℕ) (k : Keeping) → lba < length ks → (lba == x) ≡ b → kept_at (slice_set ks lba k) x ≡ (if b then k else kept_at ks x)
 at_set true ks lba x k less e = ap (λ n. kept_at (slice_set ks lba k) n) (sym (eqb-true lba x e)) ∙ get_or-set_same ks lba k blank_keeping less
 at_set false ks lba x k less e = get_or-set_other ks lba x k blank_keeping (λ h. eqb-false lba x e (sym h))
 
-put_sector : (input : List ℕ) (v : Content) (cached : Bool) (k : Keeping) → sector_of input (kept_put v cached k) ≡ sector_put (block_of input v) cached (sector_of input k)
+put_sector : (input : List ℕ) (v : Content) (cached : Bool) (k : Keeping) → known_sector input (kept_put v cached k) ≡ sector_put (block_of input v) cached (known_sector input k)
 put_sector input v true k = ap (λ (l : List Block). record { now = Some (block_of input v); may = l }) (map-append (block_of input) k.may (v ∷ []))
 put_sector input v false k = refl
 
 -- what is left to put
-abbrev pub left_puts : List ℕ → Bool → ℕ → ℕ → ℕ → ℕ → ℕ → List Keeping → Sector
-left_puts input cached x lba at i count ks = sector_puts x (pairs_from (lba + i) (blocks_from input (at + 512 * i) (count - i)) cached) (sector_at input ks x)
+abbrev pub left_puts : List ℕ → Bool → ℕ → ℕ → ℕ → ℕ → ℕ → List Keeping → KnownSector
+left_puts input cached x lba at i count ks = sector_puts x (pairs_from (lba + i) (blocks_from input (at + 512 * i) (count - i)) cached) (known_sector_at input ks x)
 
 puts_one : (input : List ℕ) (cached : Bool) (x lba at n : ℕ) (ks ms : List Keeping) → lba < length ks → ms ≡ slice_set ks lba (kept_put (Input at) cached (kept_at ks lba)) →
-    sector_puts x (pairs_from lba (blocks_from input at (suc n)) cached) (sector_at input ks x) ≡ sector_puts x (pairs_from (lba + 1) (blocks_from input (at + 512) n) cached) (sector_at input ms x)
+    sector_puts x (pairs_from lba (blocks_from input at (suc n)) cached) (known_sector_at input ks x) ≡ sector_puts x (pairs_from (lba + 1) (blocks_from input (at + 512) n) cached) (known_sector_at input ms x)
 puts_one input cached x lba at n ks ms less e = ap (sector_puts x (pairs_from (lba + 1) (blocks_from input (at + 512) n) cached)) (one (lba == x) refl)
   where
-    one : (b : Bool) → (lba == x) ≡ b → (if b then sector_put (block_of input (Input at)) cached (sector_at input ks x) else sector_at input ks x) ≡ sector_at input ms x
+    one : (b : Bool) → (lba == x) ≡ b → (if b then sector_put (block_of input (Input at)) cached (known_sector_at input ks x) else known_sector_at input ks x) ≡ known_sector_at input ms x
     one true h =
-        ap (λ n. sector_put (block_of input (Input at)) cached (sector_at input ks n)) (sym (eqb-true lba x h))
+        ap (λ n. sector_put (block_of input (Input at)) cached (known_sector_at input ks n)) (sym (eqb-true lba x h))
         ∙ sym (put_sector input (Input at) cached (kept_at ks lba))
-        ∙ ap (sector_of input) (sym (at_set true ks lba x (kept_put (Input at) cached (kept_at ks lba)) less h))
-        ∙ ap (λ (l : List Keeping). sector_at input l x) (sym e)
-    one false h = ap (sector_of input) (sym (at_set false ks lba x (kept_put (Input at) cached (kept_at ks lba)) less h)) ∙ ap (λ (l : List Keeping). sector_at input l x) (sym e)
+        ∙ ap (known_sector input) (sym (at_set true ks lba x (kept_put (Input at) cached (kept_at ks lba)) less h))
+        ∙ ap (λ (l : List Keeping). known_sector_at input l x) (sym e)
+    one false h = ap (known_sector input) (sym (at_set false ks lba x (kept_put (Input at) cached (kept_at ks lba)) less h)) ∙ ap (λ (l : List Keeping). known_sector_at input l x) (sym e)
 
 -- places further on
 pub further : {X : Type 0} (f : ℕ → ℕ → ℕ → X) (lba at i count : ℕ) → f ((lba + i) + 1) ((at + 512 * i) + 512) (count - (i + 1)) ≡ f (lba + (i + 1)) (at + 512 * (i + 1)) (count - (i + 1))
@@ -51,13 +51,13 @@ pub puts_turn : (input : List ℕ) (cached : Bool) (x lba at i count : ℕ) (ks 
     left_puts input cached x lba at i count ks ≡ left_puts input cached x lba at (i + 1) count ms
 puts_turn input cached x lba at i count ks ms less within e =
     let size : count - i ≡ suc (count - (i + 1)) = omega (arith, less) in
-    ap (λ n. sector_puts x (pairs_from (lba + i) (blocks_from input (at + 512 * i) n) cached) (sector_at input ks x)) size
+    ap (λ n. sector_puts x (pairs_from (lba + i) (blocks_from input (at + 512 * i) n) cached) (known_sector_at input ks x)) size
     ∙ puts_one input cached x (lba + i) (at + 512 * i) (count - (i + 1)) ks ms within e
-    ∙ further (λ a b n. sector_puts x (pairs_from a (blocks_from input b n) cached) (sector_at input ms x)) lba at i count
+    ∙ further (λ a b n. sector_puts x (pairs_from a (blocks_from input b n) cached) (known_sector_at input ms x)) lba at i count
 
-pub puts_begin : (input : List ℕ) (cached : Bool) (x lba at count : ℕ) (ks : List Keeping) → sector_puts x (pairs_from lba (blocks_from input at count) cached) (sector_at input ks x) ≡ left_puts input cached x lba at 0 count ks
+pub puts_begin : (input : List ℕ) (cached : Bool) (x lba at count : ℕ) (ks : List Keeping) → sector_puts x (pairs_from lba (blocks_from input at count) cached) (known_sector_at input ks x) ≡ left_puts input cached x lba at 0 count ks
 puts_begin input cached x lba at count ks =
-    from_none (λ a b n. sector_puts x (pairs_from a (blocks_from input b n) cached) (sector_at input ks x)) lba at count
+    from_none (λ a b n. sector_puts x (pairs_from a (blocks_from input b n) cached) (known_sector_at input ks x)) lba at count
 
-pub puts_end : (input : List ℕ) (cached : Bool) (x lba at i count : ℕ) (ks : List Keeping) → count ≤ i → left_puts input cached x lba at i count ks ≡ sector_at input ks x
-puts_end input cached x lba at i count ks le = let none : count - i ≡ 0 = omega (arith, le) in ap (λ n. sector_puts x (pairs_from (lba + i) (blocks_from input (at + 512 * i) n) cached) (sector_at input ks x)) none
+pub puts_end : (input : List ℕ) (cached : Bool) (x lba at i count : ℕ) (ks : List Keeping) → count ≤ i → left_puts input cached x lba at i count ks ≡ known_sector_at input ks x
+puts_end input cached x lba at i count ks le = let none : count - i ≡ 0 = omega (arith, le) in ap (λ n. sector_puts x (pairs_from (lba + i) (blocks_from input (at + 512 * i) n) cached) (known_sector_at input ks x)) none

@@ -22,7 +22,7 @@ use Rattle.satl_direct.proofs.Quieting.{quiet_none}
 use Rattle.satl_audit.specs.Deeds.{Deed, DoneBy, Walks}
 use Rattle.satl_audit.specs.Deeds.Deed.{shows, powers}
 use Rattle.satl_cover.specs.Known.{is_known, is_known_frame}
-use Rattle.satl_audit.specs.Skeleton.{Benched, Stepped, bare, powered, shown}
+use Rattle.satl_audit.specs.Skeleton.{Benched, Stepped, bare, pairs_shown, powered}
 use Rattle.satl_audit.proofs.Coming.{arrival_comes}
 use Rattle.satl_audit.proofs.Keeping.{IsSane, sane_on}
 use Rattle.satl_audit.proofs.ArrivalSplit.{arrival_bare, arrives_made}
@@ -39,7 +39,7 @@ pub record EventMade (event : Frame) (s : Device) (now : List Answer) (cells : L
   pub sane : IsSane new
 
 module _ (s bared : Device) (now : List Answer) (cells : List Cell) (h : IsSane s) where
-  request_made : (r : Request) (replies : List Reply) → is_known (says r.cdb s.identity.trim) ≡ true → now ≡ map replied replies → Arrives r (bare s) replies bared → Moves (λ p. IsIn p (shown (bare s))) s.cells cells → EventMade (frames.Request r) s now cells bared
+  request_made : (r : Request) (replies : List Reply) → is_known (says r.cdb s.identity.trim) ≡ true → now ≡ map replied replies → Arrives r (bare s) replies bared → Moves (λ p. IsIn p (pairs_shown (bare s))) s.cells cells → EventMade (frames.Request r) s now cells bared
   request_made r replies k is e m =
       let u : Device = record s { cells = cells } in
       let q : Quiet s u = quiet_made s cells h m in
@@ -66,7 +66,7 @@ module _ (s bared : Device) (now : List Answer) (cells : List Cell) (h : IsSane 
     sane = h;
   }
 
-  power_made : now ≡ [] → bared ≡ powered (bare s) → Walks DoneBy (shows (shown (bare s)) ∷ powers ∷ []) s.cells cells → EventMade (frames.Bench events.Power) s now cells bared
+  power_made : now ≡ [] → bared ≡ powered (bare s) → Walks DoneBy (shows (pairs_shown (bare s)) ∷ powers ∷ []) s.cells cells → EventMade (frames.Bench events.Power) s now cells bared
   power_made is e w =
       let u : Device = record s { cells = w.0 } in
       let q : Quiet s u = quiet_made s w.0 h w.1 in
@@ -93,8 +93,8 @@ module _ (s bared : Device) (now : List Answer) (cells : List Cell) (h : IsSane 
 
   pub event_made : (event : Frame) (deeds : List Deed) → is_known_frame s.identity.trim event ≡ true → Stepped event (bare s) now deeds bared → Walks DoneBy deeds s.cells cells → EventMade event s now cells bared
   event_made (frames.Request r) deeds k e w =
-      let v : Walks DoneBy (shows (shown (bare s)) ∷ []) s.cells cells = subst (λ l. Walks DoneBy l s.cells cells) e.3 w in
-      request_made r e.0 (and_parts (is_unit_0 r.lun) (is_known (says r.cdb s.identity.trim)) k).1 e.1 e.2 (subst (Moves (λ p. IsIn p (shown (bare s))) s.cells) (sym v.2) v.1)
+      let v : Walks DoneBy (shows (pairs_shown (bare s)) ∷ []) s.cells cells = subst (λ l. Walks DoneBy l s.cells cells) e.3 w in
+      request_made r e.0 (and_parts (is_unit_0 r.lun) (is_known (says r.cdb s.identity.trim)) k).1 e.1 e.2 (subst (Moves (λ p. IsIn p (pairs_shown (bare s))) s.cells) (sym v.2) v.1)
   event_made (frames.Manage m) deeds k e w = absurd cc
   event_made (frames.Turn n) deeds k e w =
       let t = turns_made s h e.2 cells w in

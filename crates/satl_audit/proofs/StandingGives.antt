@@ -10,7 +10,7 @@ use Rattle.satl_base.specs.Lists.{IsIn}
 use Rattle.satl_laws.proofs.Meeting.{any_passes}
 use Rattle.satl_audit.specs.Deeds.{GivesAt}
 use Rattle.satl_audit.specs.Guesses.{Guess, has_now, sure}
-use Rattle.satl_audit.specs.Sectors.{Sector, sector_gives, sector_show, shown_in}
+use Rattle.satl_audit.specs.Sectors.{KnownSector, sector_gives, sector_show, shown_in}
 use Rattle.satl_audit.proofs.Fitting.{Fits}
 use Rattle.satl_audit.proofs.GuessGives.{Only, filter_fits}
 use Rattle.satl_audit.proofs.GuessLists.{filter_in, in_filter, in_map, map_in, now_same}
@@ -18,7 +18,7 @@ use Rattle.satl_audit.proofs.Covering.{Covers, fits_as, Stands}
 use Rattle.satl_audit.proofs.StandingPuts.{stands_same}
 
 -- a sector that fits, or no cell
-abbrev pub StandsOr : (Cell → Type 0) → Option Sector → Type 0
+abbrev pub StandsOr : (Cell → Type 0) → Option KnownSector → Type 0
 StandsOr K None = (c : Cell) → K c → ⊥
 StandsOr K (Some s) = Stands K s
 
@@ -94,11 +94,11 @@ module _ (v : Block) (K : Cell → Type 0) where
   show_stands None may h = one_stands may h
   show_stands (Some w) may h = known_stands w may h
 
-pub stands_or_same : (K Q : Cell → Type 0) (o : Option Sector) → ((c : Cell) → K c → Q c) → ((c : Cell) → Q c → K c) → StandsOr K o → StandsOr Q o
+pub stands_or_same : (K Q : Cell → Type 0) (o : Option KnownSector) → ((c : Cell) → K c → Q c) → ((c : Cell) → Q c → K c) → StandsOr K o → StandsOr Q o
 stands_or_same K Q None f g h = λ c q. h c (g c q)
 stands_or_same K Q (Some s) f g h = stands_same K Q s f g h
 
-pub gives_stand : (x lba : ℕ) (vs : List Block) (K : Cell → Type 0) (o : Option Sector) → StandsOr K o → StandsOr (Only K (GivesAt x lba vs)) (sector_gives x lba vs o)
+pub gives_stand : (x lba : ℕ) (vs : List Block) (K : Cell → Type 0) (o : Option KnownSector) → StandsOr K o → StandsOr (Only K (GivesAt x lba vs)) (sector_gives x lba vs o)
 gives_stand x lba [] K None h = λ c q. h c q.0
 gives_stand x lba (v ∷ vs) K None h = λ c q. h c q.0
 gives_stand x lba [] K (Some s) h = stands_same K (Only K (GivesAt x lba [])) s (λ c k. (k, tt)) (λ c q. q.0) h

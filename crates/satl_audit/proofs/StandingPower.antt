@@ -7,7 +7,7 @@ use Rattle.satl_base.proofs.ListsLemmas.{in_either, in_left, in_right}
 use Rattle.satl_regs.specs.Sectors.{IsLeftBehind}
 use Rattle.satl_audit.specs.Deeds.{MovesAt}
 use Rattle.satl_audit.specs.Guesses.{Guess, after_shows, all_may, blocks_at, shown_of, sure}
-use Rattle.satl_audit.specs.Sectors.{Sector, guesses_of, sector_power, settled_in}
+use Rattle.satl_audit.specs.Sectors.{KnownSector, guesses_of, sector_power, settled_in}
 use Rattle.satl_audit.proofs.Fitting.{After, Fits}
 use Rattle.satl_audit.proofs.GuessPairs.{guess_of, in_blocks}
 use Rattle.satl_audit.proofs.GuessShows.{in_before, own_shown, shows_fit}
@@ -20,7 +20,7 @@ pub settle_stands : (K : Cell → Type 0) (o : Option Block) (may : List Block) 
 settle_stands K None may h = record { fits = subst (Fits (After K (λ a b. b ≡ settle a))) (sure_now may) (settles_fit K (map sure may) h.fits); some = h.some }
 settle_stands K (Some v) may h = record { fits = settles_fit K (record { now = v; may = may } ∷ []) h.fits; some = (v, inl refl) }
 
-pub power_stands : (x : ℕ) (K : Cell → Type 0) (s : Sector) → Stands K s → Stands (After K IsLeftBehind) (sector_power x None s)
+pub power_stands : (x : ℕ) (K : Cell → Type 0) (s : KnownSector) → Stands K s → Stands (After K IsLeftBehind) (sector_power x None s)
 power_stands x K s h = record { fits = subst (λ l. Fits (After K IsLeftBehind) (map sure l)) (all_in s.now s.may) (powers_fit K (guesses_of s) h.fits); some = h.some }
 
 module _ (x : ℕ) (pairs : List Pair) (K : Cell → Type 0) where
@@ -49,7 +49,7 @@ module _ (x : ℕ) (pairs : List Pair) (K : Cell → Type 0) where
   all_shown_any [] some h w i = absurd some.1
   all_shown_any (g ∷ gs) some h w i = all_shown g gs h w i
 
-  pub power_shown : (s : Sector) → Stands K s → Stands (After Moved IsLeftBehind) (sector_power x (Some pairs) s)
+  pub power_shown : (s : KnownSector) → Stands K s → Stands (After Moved IsLeftBehind) (sector_power x (Some pairs) s)
   power_shown s h =
       let gs = guesses_of s in
       let all : all_may gs ≡ s.may = all_in s.now s.may in

@@ -16,7 +16,7 @@ use Rattle.satl_direct.specs.Turn.{Turn}
 use Rattle.satl_direct.specs.Turn.Turn.{idle, ends, loses, ends_and_loses}
 use Rattle.satl_audit.specs.Deeds.{Deed, DoneBy, Walks}
 use Rattle.satl_audit.specs.Deeds.Deed.{shows}
-use Rattle.satl_audit.specs.Skeleton.{TurnsDone, bare, shown}
+use Rattle.satl_audit.specs.Skeleton.{TurnsDone, bare, pairs_shown}
 use Rattle.satl_audit.proofs.Coming.{IsKnown}
 use Rattle.satl_audit.proofs.Ending.{turn_split}
 use Rattle.satl_audit.proofs.Keeping.{IsSane, sane_on}
@@ -43,7 +43,7 @@ walks_split (d ∷ ds) es a c p = let r = walks_split ds es p.0 c p.2 in record 
 pub record Behind (first : List Cell) (ds : List Deed) (s : Device) : Type 0 where
   pub mid : List Cell
   pub walk : Walks DoneBy ds first mid
-  pub moves : Moves (λ p. IsIn p (shown (bare s))) mid s.cells
+  pub moves : Moves (λ p. IsIn p (pairs_shown (bare s))) mid s.cells
 
 -- no moves
 pub behind_now : (first : List Cell) (ds : List Deed) (s : Device) → Walks DoneBy ds first s.cells → Behind first ds s
@@ -54,7 +54,7 @@ quiet_bare s u q = ap bare q.stays
 
 pub quiet_sane : (s u : Device) → IsSane s → Quiet s u → IsSane u
 quiet_sane s u h q =
-    sane_on (shows (shown (bare s))) s u (moves_of_may s.identity.capacity s h.known q.cells)
+    sane_on (shows (pairs_shown (bare s))) s u (moves_of_may s.identity.capacity s h.known q.cells)
     (ap (λ (x : Device). x.down) q.stays ∙ h.up) (ap (λ (x : Device). x.started) q.stays ∙ h.started) (ap (λ (x : Device). x.glitches) q.stays ∙ h.glitches) (ap (λ (x : Device). x.identity) q.stays)
     (subst (AllByRecursion (IsKnown s.identity.capacity)) (sym (ap (λ (x : Device). x.tasks) q.stays)) h.known) h
 
@@ -62,11 +62,11 @@ pub quiet_behind : (first : List Cell) (ds : List Deed) (s u : Device) → IsSan
 quiet_behind first ds s u h q b = record {
   mid = b.mid;
   walk = b.walk;
-  moves = subst (λ x. Moves (λ p. IsIn p (shown x)) b.mid u.cells) (sym (quiet_bare s u q)) (moves_on b.moves (moves_of_may s.identity.capacity s h.known q.cells));
+  moves = subst (λ x. Moves (λ p. IsIn p (pairs_shown x)) b.mid u.cells) (sym (quiet_bare s u q)) (moves_on b.moves (moves_of_may s.identity.capacity s h.known q.cells));
 }
 
 -- moves that may show are quiet
-pub quiet_made : (s : Device) (cells : List Cell) → IsSane s → Moves (λ p. IsIn p (shown (bare s))) s.cells cells → Quiet s (record s { cells = cells })
+pub quiet_made : (s : Device) (cells : List Cell) → IsSane s → Moves (λ p. IsIn p (pairs_shown (bare s))) s.cells cells → Quiet s (record s { cells = cells })
 quiet_made s cells h m = record { cells = may_of_moves s.identity.capacity s h.known h.up h.started m; active = inl refl; stays = refl }
 
 pub quiet_down : (s u : Device) → Quiet s u → s.down ≡ true → u.down ≡ true
@@ -87,7 +87,7 @@ module _ (first : List Cell) (ds so_far : List Deed) (s before : Device) (n : �
   turn_went _ _ t h b (idle e) = inr (record { deeds = so_far; turns = subst (λ l. TurnsDone (bare s) (suc n) l so_far (bare before)) (sym (append-nil earlier)) (TurnsDone.idle t e); behind = b; sane = h })
   turn_went _ after t h b (ends reply e) =
       let r = turn_split before reply after h e in
-      let more : List Deed = shows (shown (bare before)) ∷ r.deed ∷ [] in
+      let more : List Deed = shows (pairs_shown (bare before)) ∷ r.deed ∷ [] in
       let w : Walks DoneBy ((ds ++ so_far) ++ more) first after.cells = walks_on (ds ++ so_far) more first b.mid after.cells b.walk (before.cells, b.moves, (after.cells, r.does, refl)) in
       inr (record {
         deeds = so_far ++ more;

@@ -3,7 +3,7 @@ use Rattle.std.proofs.Common.{arith, ◌≡◌, sym, ap, ◌∙◌, ℕ, Bool, t
 use Rattle.std.specs.Prelude.{Result, Ok, Err, OnOk, IfOk, slice_set}
 use Rattle.std.proofs.Math.ListN.{get_or, set}
 use Rattle.std.proofs.lemmas.List.{length-map, get_or-map, map-set, drop_all}
-use Rattle.satl_audit.specs.Kept.{Keeping, ShowsAt, blank_keeping, kept_at, sector_of}
+use Rattle.satl_audit.specs.Kept.{Keeping, ShowsAt, blank_keeping, kept_at, known_sector}
 use Rattle.satl_audit.specs.Sectors.{sector_show}
 use Rattle.satl_audit.specs.Sweeps.{Shows, caught_up}
 use Rattle.satl_audit.specs.declared.sectors.Stamped.{Stamped}
@@ -27,5 +27,5 @@ if_both (Err e) P Q R p q f = tt
 
 -- a sector that has shown a block or not
 pub shows_there : (input given : List ℕ) (lba : ℕ) (ks new : List Keeping) (old k : Keeping) → old ≡ kept_at ks lba → new ≡ slice_set ks lba k → (b : Bool) → Shows input given old k b → ShowsAt input lba given ks new b
-shows_there input given lba ks new old k is set false h = ap (λ (x : Keeping). sector_show (record { bytes = given }) (sector_of input x)) (sym is) ∙ h
-shows_there input given lba ks new old k is set true h = (k, set, ap (λ (x : Keeping). sector_show (record { bytes = given }) (sector_of input x)) (sym is) ∙ h)
+shows_there input given lba ks new old k is set false h = ap (λ (x : Keeping). sector_show (record { bytes = given }) (known_sector input x)) (sym is) ∙ h
+shows_there input given lba ks new old k is set true h = (k, set, ap (λ (x : Keeping). sector_show (record { bytes = given }) (known_sector input x)) (sym is) ∙ h)

@@ -17,7 +17,7 @@ use Rattle.satl_audit.specs.Deeds.Deed.{shows}
 use Rattle.satl_audit.specs.Finishing.{AreTasks, CannotEnd, CannotTurn, EndsOn, TurnsOn}
 use Rattle.satl_audit.specs.Following.{SomeRefuses}
 use Rattle.satl_audit.specs.Kept.{Keeping}
-use Rattle.satl_audit.specs.Skeleton.{TaskDone, TurnsDone, shown}
+use Rattle.satl_audit.specs.Skeleton.{TaskDone, TurnsDone, pairs_shown}
 use Rattle.satl_audit.specs.Waiting.{Fits, Placed, device_tasks}
 use Rattle.satl_audit.specs.declared.arriving.Steps.{Steps}
 use Rattle.satl_audit.specs.Progress.{recorded, progress}
@@ -56,12 +56,12 @@ module _ (identity : Identity) (input : List ℕ) (old mid new : Steps) (before 
       let next : suc i ≡ i + 1 = omega arith in
       record {
         replies = t.replies ++ e.reply ∷ [];
-        deeds = t.deeds ++ shows (shown (device_at identity input mid)) ∷ e.deed ∷ [];
-        done = subst (λ n. TurnsDone (device_at identity input old) n (t.replies ++ e.reply ∷ []) (t.deeds ++ shows (shown (device_at identity input mid)) ∷ e.deed ∷ []) (device_at identity input new)) next
+        deeds = t.deeds ++ shows (pairs_shown (device_at identity input mid)) ∷ e.deed ∷ [];
+        done = subst (λ n. TurnsDone (device_at identity input old) n (t.replies ++ e.reply ∷ []) (t.deeds ++ shows (pairs_shown (device_at identity input mid)) ∷ e.deed ∷ []) (device_at identity input new)) next
             (TurnsDone.more e.reply e.deed t.done e.done);
-        whole = All-append GivesWhole t.deeds (shows (shown (device_at identity input mid)) ∷ e.deed ∷ []) t.whole (tt, (e.whole, tt));
+        whole = All-append GivesWhole t.deeds (shows (pairs_shown (device_at identity input mid)) ∷ e.deed ∷ []) t.whole (tt, (e.whole, tt));
         said = t.said ∙ ap (λ l. said t.replies ++ l) e.said ∙ sym (said-push t.replies e.reply new.output);
-        follows = follows_push input t.deeds (shown (device_at identity input mid)) (e.deed ∷ []) before between after t.follows e.follows;
+        follows = follows_push input t.deeds (pairs_shown (device_at identity input mid)) (e.deed ∷ []) before between after t.follows e.follows;
       }
 
 -- where no task is left more turns do nothing
@@ -96,12 +96,12 @@ module _ (identity : Identity) (input : List ℕ) (old mid : Steps) (before betw
       absurd (some (some_tasks input mid.waiting (ap (λ (d : Device). d.tasks) same.new_same ∙ e)))
   by_last (TurnsDone.more {replies = replies} {deeds = deeds} {mid = m} {new = u} reply deed t' d) some others late left whole h =
       let rest = reply_bytes reply ++ (said others ++ left) in
-      let w = All-left GivesWhole deeds (shows (shown m) ∷ deed ∷ []) whole in
+      let w = All-left GivesWhole deeds (shows (pairs_shown m) ∷ deed ∷ []) whole in
       let same = turns_same (device_at identity input old) (kept_of identity input old tasks) t.done t' mid.output rest t.whole w (sym t.said ∙ h ∙ said-push replies reply (said others ++ left)) in
-      let r = cannot reply deed u (said others ++ left) (subst (λ x. TaskDone x reply deed u) (sym same.new_same) d) ((All-right GivesWhole deeds (shows (shown m) ∷ deed ∷ []) whole).1).0 same.rest_same in
-      let p = refuses_push input t.deeds (shown (device_at identity input mid)) (deed ∷ []) before between t.follows r in
-      refuses_more input (deeds ++ shows (shown m) ∷ deed ∷ []) late before
-      (subst (λ l. SomeRefuses input l before) (ap (λ l. l ++ shows (shown (device_at identity input mid)) ∷ deed ∷ []) same.deeds_same ∙ ap (λ x. deeds ++ shows (shown x) ∷ deed ∷ []) same.new_same) p)
+      let r = cannot reply deed u (said others ++ left) (subst (λ x. TaskDone x reply deed u) (sym same.new_same) d) ((All-right GivesWhole deeds (shows (pairs_shown m) ∷ deed ∷ []) whole).1).0 same.rest_same in
+      let p = refuses_push input t.deeds (pairs_shown (device_at identity input mid)) (deed ∷ []) before between t.follows r in
+      refuses_more input (deeds ++ shows (pairs_shown m) ∷ deed ∷ []) late before
+      (subst (λ l. SomeRefuses input l before) (ap (λ l. l ++ shows (pairs_shown (device_at identity input mid)) ∷ deed ∷ []) same.deeds_same ∙ ap (λ x. deeds ++ shows (pairs_shown x) ∷ deed ∷ []) same.new_same) p)
 
   pub stuck_turns : (count : ℕ) → i < count → (mid.waiting ≡ [] → ⊥) → CannotTurn (recorded identity input) count (progress old before)
   stuck_turns count less some replies deeds new left done whole h =

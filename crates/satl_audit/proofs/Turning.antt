@@ -12,7 +12,7 @@ use Rattle.satl_direct.specs.Turn.Turn.{idle, ends, loses, ends_and_loses}
 use Rattle.satl_direct.proofs.Quieting.{quiet_none}
 use Rattle.satl_audit.specs.Deeds.{Deed, DoneBy, Walks}
 use Rattle.satl_audit.specs.Deeds.Deed.{shows}
-use Rattle.satl_audit.specs.Skeleton.{TaskDone, TurnsDone, bare, shown}
+use Rattle.satl_audit.specs.Skeleton.{TaskDone, TurnsDone, bare, pairs_shown}
 use Rattle.satl_audit.proofs.Ended.{turn_made}
 use Rattle.satl_audit.proofs.Keeping.{IsSane}
 use Rattle.satl_audit.proofs.Stepping.{Behind, quiet_bare, quiet_behind, quiet_down, quiet_made, quiet_sane, turn_went, walks_split}
@@ -80,11 +80,11 @@ turns_idle n s replies cells bared e m = record {
 }
 
 turns_more : (n : ℕ) (s : Device) (replies : List Reply) (cells : List Cell) (mid bared : Device) (reply : Reply) (deed : Deed) (new_cells : List Cell) →
-    TaskDone mid reply deed bared → Walks DoneBy (shows (shown mid) ∷ deed ∷ []) cells new_cells → TurnsMade n s replies cells mid → TurnsMade (suc n) s (replies ++ reply ∷ []) new_cells bared
+    TaskDone mid reply deed bared → Walks DoneBy (shows (pairs_shown mid) ∷ deed ∷ []) cells new_cells → TurnsMade n s replies cells mid → TurnsMade (suc n) s (replies ++ reply ∷ []) new_cells bared
 turns_more n s replies cells mid bared reply deed new_cells d w m =
     let rest = w.2 in
     let q : Quiet m.new (record m.new { cells = w.0 }) =
-    quiet_made m.new w.0 m.sane (subst (λ l. DoneBy (shows (shown (bare m.new))) l w.0) (sym m.cells_are) (subst (λ x. DoneBy (shows (shown x)) cells w.0) (sym m.bared_is) w.1)) in
+    quiet_made m.new w.0 m.sane (subst (λ l. DoneBy (shows (pairs_shown (bare m.new))) l w.0) (sym m.cells_are) (subst (λ x. DoneBy (shows (pairs_shown x)) cells w.0) (sym m.bared_is) w.1)) in
     let before : Device = record m.new { cells = w.0 } in
     let t = turn_made before reply deed bared rest.0 (quiet_sane m.new before m.sane q) (subst (λ x. TaskDone x reply deed bared) (sym m.bared_is) d) rest.1 in
     record {
@@ -100,5 +100,5 @@ pub turns_made : (s : Device) → IsSane s → {n : ℕ} {replies : List Reply} 
 turns_made s h TurnsDone.none cells w = record { new = s; deep = 0; turns = TurnsOf.none; bared_is = refl; cells_are = sym w; sane = h }
 turns_made s h {bared = bared} (TurnsDone.idle {n = n} {replies = replies} t e) cells w = turns_idle n s replies cells bared e (turns_made s h t cells w)
 turns_made s h {bared = bared} (TurnsDone.more {n = n} {replies = replies} {deeds = deeds} {mid = mid} reply deed t d) cells w =
-    let r = walks_split deeds (shows (shown mid) ∷ deed ∷ []) s.cells cells w in
+    let r = walks_split deeds (shows (pairs_shown mid) ∷ deed ∷ []) s.cells cells w in
     turns_more n s replies r.mid mid bared reply deed cells d r.after (turns_made s h t r.mid r.before)

@@ -16,8 +16,8 @@ use Rattle.satl_audit.specs.Deeds.{Deed}
 use Rattle.satl_audit.specs.Deeds.Deed.{shows, puts, gives, settles, powers}
 use Rattle.satl_audit.specs.Following.{Follows, SomeRefuses, along}
 use Rattle.satl_audit.specs.Judged.{IsTaken, blank, blank_cell}
-use Rattle.satl_audit.specs.Kept.{Keeping, blank_keeping, sector_at, sector_of}
-use Rattle.satl_audit.specs.Sectors.{Sector, sector_gives, sector_power, sector_puts, sectored, settled_in}
+use Rattle.satl_audit.specs.Kept.{Keeping, blank_keeping, known_sector, known_sector_at}
+use Rattle.satl_audit.specs.Sectors.{KnownSector, sector_gives, sector_power, sector_puts, sectored, settled_in}
 use Rattle.satl_audit.specs.Skeleton.{IsExplained}
 use Rattle.satl_audit.specs.declared.arriving.Steps.{Steps}
 use Rattle.satl_audit.specs.Progress.{recorded, progress}
@@ -34,7 +34,7 @@ use Rattle.satl_audit.proofs.Taking.{taken_is_input}
 -- ---- sectors of zeros
 
 -- a sector goes along with deeds exactly where they leave something of it
-sectored_along : (x : ℕ) (o : Option (List Pair)) (ds : List Deed) (m : Option Sector) → sectored x o ds m ≡ is_some (along x o ds m)
+sectored_along : (x : ℕ) (o : Option (List Pair)) (ds : List Deed) (m : Option KnownSector) → sectored x o ds m ≡ is_some (along x o ds m)
 sectored_along x o [] None = refl
 sectored_along x o (d ∷ ds) None = refl
 sectored_along x o [] (Some s) = refl
@@ -44,7 +44,7 @@ sectored_along x o (gives lba blocks ∷ ds) (Some s) = sectored_along x None ds
 sectored_along x o (settles ∷ ds) (Some s) = sectored_along x None ds (Some (settled_in s.now s.may))
 sectored_along x o (powers ∷ ds) (Some s) = sectored_along x None ds (Some (sector_power x o s))
 
-abbrev blank_sector : Sector
+abbrev blank_sector : KnownSector
 blank_sector = record { now = Some zero_block; may = zero_block ∷ [] }
 
 all_blank : (n x : ℕ) → slice_index_or (replicate n blank_keeping) x blank_keeping ≡ blank_keeping
@@ -52,8 +52,8 @@ all_blank zero x = refl
 all_blank (suc n) zero = refl
 all_blank (suc n) (suc x) = all_blank n x
 
-blank_at : (input : List ℕ) (n x : ℕ) → sector_at input (replicate n blank_keeping) x ≡ blank_sector
-blank_at input n x = ap (sector_of input) (all_blank n x)
+blank_at : (input : List ℕ) (n x : ℕ) → known_sector_at input (replicate n blank_keeping) x ≡ blank_sector
+blank_at input n x = ap (known_sector input) (all_blank n x)
 
 pub size_blank : (n : ℕ) → length (replicate n blank_keeping) ≡ n
 size_blank zero = refl
@@ -72,14 +72,14 @@ module _ (input : List ℕ) (n : ℕ) (ds : List Deed) where
   each_follows : (after : List Keeping) → Follows input ds (replicate n blank_keeping) after → EachSectored 0 (replicate n blank_cell) ds
   each_follows after f = each_of ds n 0 (λ y le less.
       sectored_along y None ds (Some blank_sector)
-      ∙ ap (λ (s : Sector). is_some (along y None ds (Some s))) (sym (blank_at input n y))
-      ∙ ap (λ (o : Option Sector). is_some o) (f.1 y (omega (arith, less, size_blank n))))
+      ∙ ap (λ (s : KnownSector). is_some (along y None ds (Some s))) (sym (blank_at input n y))
+      ∙ ap (λ (o : Option KnownSector). is_some o) (f.1 y (omega (arith, less, size_blank n))))
 
   one_refuses : SomeRefuses input ds (replicate n blank_keeping) → EachSectored 0 (replicate n blank_cell) ds → ⊥
   one_refuses r e =
       let here : r.0 ≡ 0 + r.0 = omega arith in
       both_ways _
-      (ap (λ (s : Sector). is_some (along r.0 None ds (Some s))) (sym (blank_at input n r.0)) ∙ ap (λ (o : Option Sector). is_some o) r.2)
+      (ap (λ (s : KnownSector). is_some (along r.0 None ds (Some s))) (sym (blank_at input n r.0)) ∙ ap (λ (o : Option KnownSector). is_some o) r.2)
       (sym (sectored_along r.0 None ds (Some blank_sector)) ∙ ap (λ y. sectored y None ds (Some blank_sector)) here ∙ of_each ds n 0 e r.0 (omega (arith, r.1, size_blank n)))
 
 -- ---- verdicts

@@ -14,7 +14,7 @@ use Rattle.satl_mode.specs.ModePages.{defaults}
 use Rattle.satl_frame.specs.Output.{all_answered}
 use Rattle.satl_frame.specs.Output.Answer.{replied}
 use Rattle.satl_direct.specs.Device.{Device, is_called}
-use Rattle.satl_direct.specs.Arrival.{Arrival, Arrives, arrival, becomes, check, code_of, is_unit_0, placed, reply_to, untold_codes}
+use Rattle.satl_direct.specs.Arrival.{Arrival, Arrives, arrival, becomes, check, is_unit_0, operation_code, placed, reply_to, untold_codes}
 use Rattle.satl_direct.specs.Arrival.Arrival.{answered}
 use Rattle.satl_direct.specs.Tasks.{task_for}
 use Rattle.satl_audit.specs.Following.{blocks_from}
@@ -50,11 +50,12 @@ bare_task queued_trim r command = record (task_for queued_trim r command) { body
 
 -- the unit attention condition that a request is answered with, and the conditions once that was told (SAM-5 5.14)
 abbrev pub attention_of : List (List Attention) → Request → Option Attention
-attention_of attentions r = if is_in (code_of r) untold_codes then None else slice_get (slice_index_or attentions r.nexus []) 0
+attention_of attentions r =
+    if is_in (operation_code r) untold_codes then None else slice_get (slice_index_or attentions r.nexus []) 0
 
-abbrev pub told_of : Option Attention → ℕ → List (List Attention) → List (List Attention)
-told_of None nexus attentions = attentions
-told_of (Some what) nexus attentions = slice_set attentions nexus (drop 1 (slice_index_or attentions nexus []))
+abbrev pub attentions_after : Option Attention → ℕ → List (List Attention) → List (List Attention)
+attentions_after None nexus attentions = attentions
+attentions_after (Some what) nexus attentions = slice_set attentions nexus (drop 1 (slice_index_or attentions nexus []))
 
 -- the device of a record but for its sectors (profile)
 abbrev pub device_of : Identity → List ℕ → List Placed → List (List Attention) → Device

@@ -21,7 +21,7 @@ use Rattle.satl_audit.specs.Deeds.Deed.{shows}
 use Rattle.satl_audit.specs.Following.{Follows, GivesBlocks, PutsBlocks, SomeRefuses}
 use Rattle.satl_audit.specs.Kept.{kept_settle}
 use Rattle.satl_audit.specs.Progress.{Compared, Progress, Recorded, device_in}
-use Rattle.satl_audit.specs.Skeleton.{TaskDone, TurnsDone, shown}
+use Rattle.satl_audit.specs.Skeleton.{TaskDone, TurnsDone, pairs_shown}
 use Rattle.satl_audit.specs.declared.arriving.Steps.{Steps}
 use Rattle.satl_audit.specs.declared.effects.Put.{Put}
 use Rattle.satl_audit.specs.declared.reply.Name.{Name}
@@ -37,29 +37,30 @@ IsReadBy name range output given left = (length given ≡ 512 * range.count)
 
 -- the answer of a READ comes first in the output, with what each sector may have; or with what some sector cannot have, or it
 -- does not come first (SBC-3, READ commands)
-abbrev pub Reads : List ℕ → Name → Range → Compared → Compared → Bool → Type 0
-Reads input name range old new true = (given : List ℕ) × IsReadBy name range old.output given new.output
+abbrev pub ReadAnswered : List ℕ → Name → Range → Compared → Compared → Bool → Type 0
+ReadAnswered input name range old new true = (given : List ℕ) × IsReadBy name range old.output given new.output
     × GivesBlocks input range.lba given old.sectors new.sectors true
-Reads input name range old new false = (given rest : List ℕ) → IsReadBy name range old.output given rest →
+ReadAnswered input name range old new false = (given rest : List ℕ) → IsReadBy name range old.output given rest →
     GivesBlocks input range.lba given old.sectors new.sectors false
 
 -- GOOD without data comes first in the output; or it does not (SAM-5 5.3.1)
-abbrev pub Passes : Name → List ℕ → List ℕ → Bool → Type 0
-Passes name output left true = output ≡ head_bytes name.nexus (name.tag).0 Good 0 0 ++ left
-Passes name output left false = (rest : List ℕ) → output ≡ head_bytes name.nexus (name.tag).0 Good 0 0 ++ rest → ⊥
+abbrev pub GoodComesFirst : Name → List ℕ → List ℕ → Bool → Type 0
+GoodComesFirst name output left true = output ≡ head_bytes name.nexus (name.tag).0 Good 0 0 ++ left
+GoodComesFirst name output left false = (rest : List ℕ) → output ≡ head_bytes name.nexus (name.tag).0 Good 0 0 ++ rest → ⊥
 
 -- so a WRITE ends, and its blocks were put (SBC-3, WRITE commands)
-abbrev pub Writes : List ℕ → Name → Put → Compared → Compared → Bool → Type 0
-Writes input name put old new done = Passes name old.output new.output done
+abbrev pub WriteAnswered : List ℕ → Name → Put → Compared → Compared → Bool → Type 0
+WriteAnswered input name put old new done = GoodComesFirst name old.output new.output done
     × (done ≡ true → PutsBlocks input put old.sectors new.sectors)
 
 -- so a SYNCHRONIZE CACHE ends, and all is written back (SBC-3, SYNCHRONIZE CACHE)
 abbrev pub Flushes : Name → Compared → Compared → Bool → Type 0
-Flushes name old new done = Passes name old.output new.output done × (done ≡ true → new.sectors ≡ map kept_settle old.sectors)
+Flushes name old new done = GoodComesFirst name old.output new.output done
+    × (done ≡ true → new.sectors ≡ map kept_settle old.sectors)
 
 -- what a task does that ends, where its pairs might show before (profile)
 abbrev pub end_deeds : Device → Deed → List Deed
-end_deeds s deed = shows (shown s) ∷ deed ∷ []
+end_deeds s deed = shows (pairs_shown s) ∷ deed ∷ []
 
 -- a task ends with the answer that comes first in the output, and each sector goes along with it (SAM-5 8)
 pub record EndsOn (r : Recorded) (old new : Progress) : Type 0 where
@@ -77,9 +78,9 @@ CannotEnd r old = (reply : Reply) (deed : Deed) (new : Device) (left : List ℕ)
     SomeRefuses r.input (end_deeds (device_in r old) deed) old.sectors
 
 -- a task ends so, or none can (SAM-5 8)
-abbrev pub Ends : Recorded → Progress → Progress → Bool → Type 0
-Ends r old new true = EndsOn r old new
-Ends r old new false = CannotEnd r old
+abbrev pub EndsOrCannot : Recorded → Progress → Progress → Bool → Type 0
+EndsOrCannot r old new true = EndsOn r old new
+EndsOrCannot r old new false = CannotEnd r old
 
 -- nexus and tag of the answer that comes first in the output (profile)
 abbrev pub NamesNext : List ℕ → Option (ℕ × Tag) → Type 0

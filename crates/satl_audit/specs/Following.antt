@@ -9,8 +9,8 @@ use Rattle.satl_audit.specs.declared.effects.Put.{Put}
 use Rattle.satl_audit.specs.Deeds.{Deed}
 use Rattle.satl_audit.specs.Deeds.Deed.{shows, puts, gives, settles, powers}
 use Rattle.satl_audit.specs.Guesses.{blocks_at}
-use Rattle.satl_audit.specs.Kept.{Keeping, block_of, sector_at}
-use Rattle.satl_audit.specs.Sectors.{Sector, sector_gives, sector_power, sector_puts, settled_in}
+use Rattle.satl_audit.specs.Kept.{Keeping, block_of, known_sector_at}
+use Rattle.satl_audit.specs.Sectors.{KnownSector, sector_gives, sector_power, sector_puts, settled_in}
 
 -- so many blocks of the input from a place on (profile)
 abbrev pub blocks_from : List ℕ → ℕ → ℕ → List Block
@@ -24,23 +24,23 @@ pairs_in input range at cached = pairs_from range.lba (blocks_from input at rang
 -- the blocks of a WRITE were put (SBC-3, WRITE commands)
 abbrev pub PutsBlocks : List ℕ → Put → List Keeping → List Keeping → Type 0
 PutsBlocks input put old new = (x : ℕ) → x < length old →
-    sector_at input new x ≡ sector_puts x (pairs_in input put.range put.at put.cached) (sector_at input old x)
+    known_sector_at input new x ≡ sector_puts x (pairs_in input put.range put.at put.cached) (known_sector_at input old x)
 
 -- what a loss of power may leave has the blocks of a WRITE too (SBC-3 4.15)
 abbrev pub PendsBlocks : List ℕ → Range → ℕ → List Keeping → List Keeping → Type 0
 PendsBlocks input range at old new = (cached : Bool) → (x : ℕ) → x < length old →
-    (sector_at input new x).may ≡ (sector_at input old x).may ++ blocks_at x (pairs_in input range at cached)
+    (known_sector_at input new x).may ≡ (known_sector_at input old x).may ++ blocks_at x (pairs_in input range at cached)
 
 -- a READ from an address gave these bytes: some sector cannot have them; or each can, and has them from then on (SBC-3, READ
 -- commands)
 abbrev pub GivesBlocks : List ℕ → ℕ → List ℕ → List Keeping → List Keeping → Bool → Type 0
 GivesBlocks input lba given old new false = (x : ℕ) × (x < length old)
-    × (sector_gives x lba (pages_of given) (Some (sector_at input old x)) ≡ None)
+    × (sector_gives x lba (pages_of given) (Some (known_sector_at input old x)) ≡ None)
 GivesBlocks input lba given old new true = (x : ℕ) → x < length old →
-    sector_gives x lba (pages_of given) (Some (sector_at input old x)) ≡ Some (sector_at input new x)
+    sector_gives x lba (pages_of given) (Some (known_sector_at input old x)) ≡ Some (known_sector_at input new x)
 
 -- what deeds leave of a sector, where these pairs have shown last; None where it does not go along with them (profile)
-abbrev pub along : ℕ → Option (List Pair) → List Deed → Option Sector → Option Sector
+abbrev pub along : ℕ → Option (List Pair) → List Deed → Option KnownSector → Option KnownSector
 along x o ds None = None
 along x o [] (Some s) = Some s
 along x o (shows pairs ∷ ds) (Some s) = along x (Some pairs) ds (Some s)
@@ -52,8 +52,8 @@ along x o (powers ∷ ds) (Some s) = along x None ds (Some (sector_power x o s))
 -- each sector goes along with deeds (profile)
 abbrev pub Follows : List ℕ → List Deed → List Keeping → List Keeping → Type 0
 Follows input deeds old new = (length new ≡ length old)
-    × ((x : ℕ) → x < length old → along x None deeds (Some (sector_at input old x)) ≡ Some (sector_at input new x))
+    × ((x : ℕ) → x < length old → along x None deeds (Some (known_sector_at input old x)) ≡ Some (known_sector_at input new x))
 
 -- some sector does not go along with deeds (profile)
 abbrev pub SomeRefuses : List ℕ → List Deed → List Keeping → Type 0
-SomeRefuses input deeds old = (x : ℕ) × (x < length old) × (along x None deeds (Some (sector_at input old x)) ≡ None)
+SomeRefuses input deeds old = (x : ℕ) × (x < length old) × (along x None deeds (Some (known_sector_at input old x)) ≡ None)

@@ -9,8 +9,8 @@ use Rattle.satl_audit.specs.Arriving.{device_of}
 use Rattle.satl_audit.specs.Deeds.{Deed}
 use Rattle.satl_audit.specs.Deeds.Deed.{shows, powers}
 use Rattle.satl_audit.specs.Guesses.{blocks_at}
-use Rattle.satl_audit.specs.Kept.{Keeping, sector_at}
-use Rattle.satl_audit.specs.Skeleton.{pairs_by, shown}
+use Rattle.satl_audit.specs.Kept.{Keeping, known_sector_at}
+use Rattle.satl_audit.specs.Skeleton.{pairs_by, pairs_shown}
 use Rattle.satl_audit.specs.Waiting.{Placed, device_tasks, entries_in}
 
 -- the tasks whose places, from this one on, pass (profile)
@@ -26,14 +26,15 @@ shown_from identity input waiting place = pairs_by (device_of identity input wai
 -- what a loss of power may leave has the blocks of the eligible tasks between two places too (SBC-3 4.15)
 abbrev pub PendsBetween : Identity → List ℕ → List Placed → ℕ → ℕ → List Keeping → List Keeping → Type 0
 PendsBetween identity input waiting place next old new = (x : ℕ) → x < length old →
-    (sector_at input old x).may ++ blocks_at x (shown_from identity input waiting place)
-    ≡ (sector_at input new x).may ++ blocks_at x (shown_from identity input waiting next)
+    (known_sector_at input old x).may ++ blocks_at x (shown_from identity input waiting place)
+    ≡ (known_sector_at input new x).may ++ blocks_at x (shown_from identity input waiting next)
 
 -- what a loss of power may leave has the blocks of all eligible tasks too (SBC-3 4.15)
 abbrev pub PendsAll : Identity → List ℕ → List Placed → List Keeping → List Keeping → Type 0
 PendsAll identity input waiting old new = (x : ℕ) → x < length old →
-    (sector_at input new x).may ≡ (sector_at input old x).may ++ blocks_at x (shown (device_of identity input waiting []))
+    (known_sector_at input new x).may
+    ≡ (known_sector_at input old x).may ++ blocks_at x (pairs_shown (device_of identity input waiting []))
 
 -- what a loss of power does: the pairs of the eligible tasks might show before it (SBC-3 4.15)
 abbrev pub power_deeds : Device → List Deed
-power_deeds s = shows (shown s) ∷ powers ∷ []
+power_deeds s = shows (pairs_shown s) ∷ powers ∷ []

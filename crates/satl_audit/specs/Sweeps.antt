@@ -1,6 +1,6 @@
 -- What is done to all sectors at once.
 use Rattle.std.specs.Prelude.{◌≡◌, ℕ, Bool, true, false, List, [], ◌∷◌, Option, Some, None}
-use Rattle.satl_audit.specs.Kept.{Keeping, kept_power, kept_settle, sector_of}
+use Rattle.satl_audit.specs.Kept.{Keeping, kept_power, kept_settle, known_sector}
 use Rattle.satl_audit.specs.Sectors.{sector_show}
 use Rattle.satl_audit.specs.declared.sectors.Sweep.{Sweep}
 use Rattle.satl_audit.specs.declared.sectors.Sweep.TheVariants.{Settled, Powered}
@@ -30,5 +30,5 @@ after_first (Some Powered) k = k
 -- a READ gave these 512 bytes: the sector cannot have them; or it can, and they are its block from then on (SBC-3, READ
 -- commands)
 abbrev pub Shows : List ℕ → List ℕ → Keeping → Keeping → Bool → Type 0
-Shows input given old new false = sector_show (record { bytes = given }) (sector_of input old) ≡ None
-Shows input given old new true = sector_show (record { bytes = given }) (sector_of input old) ≡ Some (sector_of input new)
+Shows input given old new false = sector_show (record { bytes = given }) (known_sector input old) ≡ None
+Shows input given old new true = sector_show (record { bytes = given }) (known_sector input old) ≡ Some (known_sector input new)

@@ -1,7 +1,7 @@
 // Tasks of a record end.
 ghost use Rattle.std.specs.Prelude.{◌≡◌, ◌≤◌, ◌<◌, ◌+◌, ◌*◌, ◌^◌, IfOk, IfSome, OnOk, List, ℕ, true, not, ◌&&◌, length};
 ghost use Rattle.satl_line.specs.Eligible.{eligible_at};
-ghost use Rattle.satl_audit.specs.Finishing.{AreTasks, Ends, Flushes, NamesNext, OnlyEnds, Reads, Turns, Writes};
+ghost use Rattle.satl_audit.specs.Finishing.{AreTasks, EndsOrCannot, Flushes, NamesNext, OnlyEnds, ReadAnswered, Turns, WriteAnswered};
 ghost use Rattle.satl_audit.specs.Waiting.{entries_in};
 ghost use Rattle.satl_audit.specs.Progress.{compared, progress, recorded};
 
@@ -53,7 +53,7 @@ fn read_ends(
     requires small { range.lba + range.count < 2 ^ 64 }
     ensures length { length sectors.new ≡ length sectors.old }
     ensures reads { IfOk result
-        (Reads input.now name range (compared output.old sectors.old) (compared output.new sectors.new)) }
+        (ReadAnswered input.now name range (compared output.old sectors.old) (compared output.new sectors.new)) }
 {
     let len = 512 * u64::from(range.count);
     if !output.pass(&head(name, Scsi::Good, 0, len)) {
@@ -77,7 +77,7 @@ fn write_ends(
     requires room { put.now.at + 512 * put.now.range.count < 2 ^ 64 }
     ensures length { length sectors.new ≡ length sectors.old }
     ensures writes { (input : List ℕ) → IfOk result
-        (Writes input name put.now (compared output.old sectors.old) (compared output.new sectors.new)) }
+        (WriteAnswered input name put.now (compared output.old sectors.old) (compared output.new sectors.new)) }
 {
     if !output.pass(&head(name, Scsi::Good, 0, 0)) {
         return Ok(false);
@@ -120,7 +120,7 @@ pub fn end_task(
     requires capacity { identity.now.capacity < 2 ^ 64 }
     ensures tasks { AreTasks identity.now input.now steps.new.waiting }
     ensures length { OnOk result (length sectors.new ≡ length sectors.old) }
-    ensures ends { IfOk result (Ends (recorded identity.now input.now)
+    ensures ends { IfOk result (EndsOrCannot (recorded identity.now input.now)
         (progress steps.old sectors.old) (progress steps.new sectors.new)) }
 {
     let Some(place) = next_task(steps) else {

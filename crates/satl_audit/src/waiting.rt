@@ -6,7 +6,7 @@ ghost use Rattle.satl_line.specs.Eligible.{eligible_at};
 ghost use Rattle.satl_audit.specs.Waiting.{entries_in, has_name, has_no_room};
 
 use satl_base::{Nexus, NoMemory, Tag};
-use satl_line::{Entry, TaskSet};
+use satl_line::{Entry, TaskBox, TaskSet};
 use std::alloc::Global;
 use std::marker::Model;
 
@@ -16,6 +16,8 @@ pub struct Waiting {
     tasks: TaskSet,
     // the place of the data-out of the task in each slot
     places: [usize; 64],
+    // where a task comes from
+    desk: TaskBox,
 }
 
 impl Model for Waiting {
@@ -33,9 +35,11 @@ impl Waiting {
         ensures { IfOk result (λ waiting. waiting ≡ []) }
     {
         let tasks = TaskSet::new(alloc)?;
+        let desk = TaskBox::new(alloc)?;
         Ok(Waiting {
             tasks,
             places: [0; 64],
+            desk,
         })
     }
 
@@ -61,7 +65,8 @@ impl Waiting {
         ensures kept { result ≡ false → self.new ≡ self.old }
     {
         let place = self.tasks.len();
-        let Ok(()) = self.tasks.add(entry) else {
+        *self.desk.entry_mut() = entry;
+        let Ok(()) = self.tasks.add(&mut self.desk) else {
             return false;
         };
         let slot = self.tasks.slot_of(place);
@@ -105,7 +110,7 @@ impl Waiting {
         requires { place < length self.old }
         ensures { self.new ≡ remove self.old place }
     {
-        drop(self.tasks.remove(place));
+        self.tasks.remove(place, &mut self.desk);
     }
 
     /// Takes all tasks out.

@@ -20,11 +20,11 @@ use Rattle.satl_regs.specs.declared.values.AtaCommand.TheVariants as commands
 use Rattle.satl_regs.specs.Commands.{command_in}
 use Rattle.satl_regs.specs.Spelling.{command_registers}
 use Rattle.satl_regs.specs.QueuedCommands.{queued_codes}
-use Rattle.satl_regs.specs.Effects.{Carries, HasEffect, IsCarriedOut, IsFlawed, IsGarbled, IsLogged, IsRefused, IsSet, IsTelling, Medium, Setting, Traffic, Transfer, abrt, has_setting, idnf, is_error_log, is_no_trim, no_error_log, own_blocks, pairs_of, reading, setting_of, settable, trimming, verifying, with_setting, writing}
+use Rattle.satl_regs.specs.Effects.{Carries, HasEffect, EndsInFull, IsFlawed, IsGarbled, IsLogged, EndsBad, IsSet, IsTelling, Medium, Setting, Traffic, Transfer, abrt, has_setting, idnf, is_error_log, is_no_trim, no_error_log, own_blocks, pairs_of, reading, setting_of, settable, trimming, verifying, with_setting, writing}
 use Rattle.satl_identify.specs.Data.{identity_data}
 use Rattle.satl_drive.specs.State.{DriveState, IsFit, medium_of, with_medium}
 use Rattle.satl_drive.specs.Rules.{CanRun, IsCarriedOut as IsRunOut, IsCutOff, IsRun, IsRunBy, IsRunCutOff, MayRun}
-use Rattle.satl_barrier.specs.Commands.{IsTold}
+use Rattle.satl_barrier.specs.Commands.{GivesIdentifyData}
 use Rattle.satl_barrier.specs.Commands.{HasRun, IsCutShort, IsNamed, traffic}
 use Rattle.satl_barrier.specs.Leaving.{IsFree, IsLostIn, OneGlitchAtMost, SaysSo, Stays, TellsOf}
 use Rattle.satl_barrier.proofs.ToldLemmas.{all_bytes, retold}
@@ -115,10 +115,10 @@ as_set old new cells active glitches is = record { cache = ap (λ (m : Medium). 
 
 pub carries_set : (t : Transfer) (x : Traffic) (old new : Medium) → Carries t x old new → IsAsSet old new
 carries_set t x old new =
-    elim (nat_lt (length old.cells) (t.lba + t.sectors)) as (λ b. MatchBool b (IsRefused idnf x.registers.lba x old new) (MatchOption (first_flaw t.stopped_by old.cells t.lba t.sectors) (IsCarriedOut t x old new ⊎ IsGarbled t x old new) (λ at. IsFlawed t at x old new)) → IsAsSet old new) [
+    elim (nat_lt (length old.cells) (t.lba + t.sectors)) as (λ b. MatchBool b (EndsBad idnf x.registers.lba x old new) (MatchOption (first_flaw t.stopped_by old.cells t.lba t.sectors) (EndsInFull t x old new ⊎ IsGarbled t x old new) (λ at. IsFlawed t at x old new)) → IsAsSet old new) [
       | true ↦ λ does. as_set old new _ _ _ does.medium
       | false ↦
-          elim (first_flaw t.stopped_by old.cells t.lba t.sectors) as (λ o. MatchOption o (IsCarriedOut t x old new ⊎ IsGarbled t x old new) (λ at. IsFlawed t at x old new) → IsAsSet old new) [
+          elim (first_flaw t.stopped_by old.cells t.lba t.sectors) as (λ o. MatchOption o (EndsInFull t x old new ⊎ IsGarbled t x old new) (λ at. IsFlawed t at x old new) → IsAsSet old new) [
             | None ↦ λ h. ⊎_elim (λ does. as_set old new _ _ _ does.medium) (λ does. as_set old new _ _ _ does.medium) h
             | Some at ↦ λ does. as_set old new _ _ _ does.medium
           ]
@@ -133,15 +133,15 @@ tells_retold : (bytes : List ℕ) (old new : DriveState) → length bytes ≡ 51
 tells_retold bytes old new long fit (inl set) was = set.identify ∙ (was ∙ (ap (λ b. identity_data bytes b old.look) (sym set.cache) ∙ ap (λ b. identity_data bytes new.cache b) (sym set.look)))
 tells_retold bytes old new long fit (inr tells) was = retold bytes old.identify new.identify old.cache old.look new.cache new.look long (all_bytes new.identify fit.bytes) was tells
 
-set_retold : (found : Option Setting) (x : Traffic) (old new : Medium) → MatchOption found (IsRefused abrt 0 x old new) (λ s. IsSet s x old new) → IsRetold old new
+set_retold : (found : Option Setting) (x : Traffic) (old new : Medium) → MatchOption found (EndsBad abrt 0 x old new) (λ s. IsSet s x old new) → IsRetold old new
 set_retold None x old new does = inl (as_set old new _ _ _ does.medium)
 set_retold (Some s) x old new does = inr does.tells
 
-log_set : (found : Bool) (x : Traffic) (old new : Medium) → MatchBool found (IsLogged no_error_log x old new) (IsRefused abrt 0 x old new) → IsAsSet old new
+log_set : (found : Bool) (x : Traffic) (old new : Medium) → MatchBool found (IsLogged no_error_log x old new) (EndsBad abrt 0 x old new) → IsAsSet old new
 log_set true x old new does = as_set old new _ _ _ does.medium
 log_set false x old new does = as_set old new _ _ _ does.medium
 
-trim_set : (none : Bool) (blocks : ℕ) (x : Traffic) (old new : Medium) → MatchBool none (IsRefused abrt 0 x old new) (Carries (trimming blocks x.given old) x old new) → IsAsSet old new
+trim_set : (none : Bool) (blocks : ℕ) (x : Traffic) (old new : Medium) → MatchBool none (EndsBad abrt 0 x old new) (Carries (trimming blocks x.given old) x old new) → IsAsSet old new
 trim_set true blocks x old new does = as_set old new _ _ _ does.medium
 trim_set false blocks x old new does = carries_set (trimming blocks x.given old) x old new does
 
@@ -211,7 +211,7 @@ stays_on old mid new first rest = record {
 
 -- ---- IDENTIFY DEVICE
 
-pub told : (x : Traffic) (old new : DriveState) → HasRun commands.Identify x old new → IsTold old x.given x.taken new
+pub told : (x : Traffic) (old new : DriveState) → HasRun commands.Identify x old new → GivesIdentifyData old x.given x.taken new
 told x old new run = record {
   was_up = run.was_up;
   pages = run.does.data_in;
@@ -250,7 +250,7 @@ among pairs under_way same = All-in (λ p. IsIn p pairs) under_way (λ p i. subs
 pub set_on : (what : ℕ) (s : Setting) (x : Traffic) (old new : DriveState) → setting_of what ≡ Some s → has_setting old.identify s ≡ true → HasRun (commands.SetFeatures what) x old new → IsSetOn s old new
 set_on what s x old new is has run =
     let set : IsSet s x (medium_of old) run.after =
-    subst (λ o. MatchOption o (IsRefused abrt 0 x (medium_of old) run.after) (λ s. IsSet s x (medium_of old) run.after)) settable_is run.does in
+    subst (λ o. MatchOption o (EndsBad abrt 0 x (medium_of old) run.after) (λ s. IsSet s x (medium_of old) run.after)) settable_is run.does in
     let told : new.identify ≡ run.after.identify = ap (λ (d : DriveState). d.identify) run.stays in
     let cache : new.cache ≡ run.after.cache = ap (λ (d : DriveState). d.cache) run.stays in
     let look : new.look ≡ run.after.look = ap (λ (d : DriveState). d.look) run.stays in

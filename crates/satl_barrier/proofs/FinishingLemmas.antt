@@ -11,7 +11,7 @@ use Rattle.satl_base.specs.declared.block.Range.{Range}
 use Rattle.satl_regs.specs.declared.values.How.TheVariants.{DmaExt}
 use Rattle.satl_regs.specs.declared.values.AtaCommand.TheVariants as commands
 use Rattle.satl_barrier.specs.Commands.{HasRun}
-use Rattle.satl_regs.specs.Effects.{Carries, pairs_of, IsCarriedOut, IsFlawed as IsStopped, IsGarbled as IsSpoilt, Medium, Traffic, Transfer, idnf, IsRefused}
+use Rattle.satl_regs.specs.Effects.{Carries, pairs_of, EndsInFull, IsFlawed as IsStopped, IsGarbled as IsSpoilt, Medium, Traffic, Transfer, idnf, EndsBad}
 use Rattle.satl_drive.specs.State.{DriveState, medium_of, with_medium}
 use Rattle.satl_barrier.specs.declared.finishing.Finish.{Finish}
 use Rattle.satl_barrier.specs.declared.finishing.Finish.TheVariants as finishes
@@ -39,16 +39,16 @@ pub record HasGone (t : Transfer) (x : Traffic) (old new : DriveState) : Type 0 
 
 -- how it ended, without the case of a range that is refused
 pub record Ways (t : Transfer) (x : Traffic) (old after : Medium) : Type 0 where
-  pub way : (first_flaw t.stopped_by old.cells t.lba t.sectors ≡ None) × (IsCarriedOut t x old after ⊎ IsSpoilt t x old after)
+  pub way : (first_flaw t.stopped_by old.cells t.lba t.sectors ≡ None) × (EndsInFull t x old after ⊎ IsSpoilt t x old after)
       ⊎ (at : ℕ) × (first_flaw t.stopped_by old.cells t.lba t.sectors ≡ Some at) × IsStopped t at x old after
 
 pub ways : (t : Transfer) (x : Traffic) (old after : Medium) → t.lba + t.sectors ≤ length old.cells → Carries t x old after → Ways t x old after
 ways t x old after within carries =
     let inside : nat_lt (length old.cells) (t.lba + t.sectors) ≡ false = le-ltb (length old.cells) (t.lba + t.sectors) within in
-    by (first_flaw t.stopped_by old.cells t.lba t.sectors) refl (subst (λ b. MatchBool b (IsRefused idnf x.registers.lba x old after) (judged (first_flaw t.stopped_by old.cells t.lba t.sectors))) inside carries)
+    by (first_flaw t.stopped_by old.cells t.lba t.sectors) refl (subst (λ b. MatchBool b (EndsBad idnf x.registers.lba x old after) (judged (first_flaw t.stopped_by old.cells t.lba t.sectors))) inside carries)
   where
     judged : Option ℕ → Type 0
-    judged o = MatchOption o (IsCarriedOut t x old after ⊎ IsSpoilt t x old after) (λ at. IsStopped t at x old after)
+    judged o = MatchOption o (EndsInFull t x old after ⊎ IsSpoilt t x old after) (λ at. IsStopped t at x old after)
 
     by : (o : Option ℕ) → first_flaw t.stopped_by old.cells t.lba t.sectors ≡ o → judged o → Ways t x old after
     by None is way = record { way = inl (is, way) }
@@ -56,7 +56,7 @@ ways t x old after within carries =
 
 -- how it ended, by its taskfile; the clauses leave out what moves
 module _ (dma : Bool) (which : Which) (lba count : ℕ) (writes : List Pair) (reads : List Block) (x : Traffic) (old new : DriveState) (gone : HasGone (over dma which lba count writes reads) x old new) where
-  done_so : first_flaw which old.cells lba count ≡ None → IsCarriedOut (over dma which lba count writes reads) x (medium_of old) gone.after → IsDone (over true which lba count writes []) old new
+  done_so : first_flaw which old.cells lba count ≡ None → EndsInFull (over dma which lba count writes reads) x (medium_of old) gone.after → IsDone (over true which lba count writes []) old new
   done_so none does = record {
     was_up = gone.was_up;
     no_flaw = none;

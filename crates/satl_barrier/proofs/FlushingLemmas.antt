@@ -7,7 +7,7 @@ use Rattle.satl_base.proofs.LossesLemmas.{loses_none, loses_on}
 use Rattle.satl_base.proofs.MovesLemmas.{lose_once}
 use Rattle.satl_regs.specs.declared.values.AtaCommand.{AtaCommand}
 use Rattle.satl_regs.specs.declared.values.AtaCommand.TheVariants as commands
-use Rattle.satl_regs.specs.Effects.{Carries, IsCarriedOut, IsFlawed, IsGarbled, IsRefused, Medium, Traffic, Transfer, idnf, verifying}
+use Rattle.satl_regs.specs.Effects.{Carries, EndsBad, EndsInFull, IsFlawed, IsGarbled, Medium, Traffic, Transfer, idnf, verifying}
 use Rattle.satl_drive.specs.State.{DriveState, medium_of, with_medium}
 use Rattle.satl_barrier.specs.Commands.{HasRunBare, IsCutShort, traffic}
 use Rattle.satl_barrier.specs.Leaving.{IsLostIn}
@@ -41,10 +41,10 @@ module _ (lba count : ℕ) (x : Traffic) (old new : Medium) where
 
   looked : Carries verify x old new → HasLooked old new
   looked =
-      elim (nat_lt (length old.cells) (lba + count)) as (λ b. MatchBool b (IsRefused idnf x.registers.lba x old new) (MatchOption (first_flaw verify.stopped_by old.cells lba count) (IsCarriedOut verify x old new ⊎ IsGarbled verify x old new) (λ at. IsFlawed verify at x old new)) → HasLooked old new) [
+      elim (nat_lt (length old.cells) (lba + count)) as (λ b. MatchBool b (EndsBad idnf x.registers.lba x old new) (MatchOption (first_flaw verify.stopped_by old.cells lba count) (EndsInFull verify x old new ⊎ IsGarbled verify x old new) (λ at. IsFlawed verify at x old new)) → HasLooked old new) [
         | true ↦ λ does. record { active = old.active; is = does.medium }
         | false ↦
-            elim (first_flaw verify.stopped_by old.cells lba count) as (λ o. MatchOption o (IsCarriedOut verify x old new ⊎ IsGarbled verify x old new) (λ at. IsFlawed verify at x old new) → HasLooked old new) [
+            elim (first_flaw verify.stopped_by old.cells lba count) as (λ o. MatchOption o (EndsInFull verify x old new ⊎ IsGarbled verify x old new) (λ at. IsFlawed verify at x old new) → HasLooked old new) [
               | None ↦ λ h. ⊎_elim (λ does. record { active = true; is = does.medium }) (λ does. let dma : false ≡ true = does.by_dma in absurd cc) h
               | Some at ↦ λ does. record { active = old.active; is = does.medium ∙ ap (λ cells. record old { cells = cells }) does.part }
             ]

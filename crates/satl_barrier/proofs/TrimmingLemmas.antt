@@ -10,7 +10,7 @@ use Rattle.satl_base.specs.declared.block.Block.{Block}
 use Rattle.satl_base.specs.declared.block.Range.{Range}
 use Rattle.satl_base.specs.Identify.{has_trim, trim_blocks}
 use Rattle.satl_regs.specs.declared.values.AtaCommand.TheVariants as commands
-use Rattle.satl_regs.specs.Effects.{Carries, IsRefused, Medium, Traffic, abrt, is_no_trim, is_outside, pairs_of, payload_ranges, trimming as carried, zeros_at}
+use Rattle.satl_regs.specs.Effects.{Carries, EndsBad, Medium, Traffic, abrt, is_no_trim, is_outside, pairs_of, payload_ranges, trimming as carried, zeros_at}
 use Rattle.satl_regs.specs.Trim.{addresses, entries, is_used, split, trimmed}
 use Rattle.satl_drive.specs.State.{DriveState, medium_of}
 use Rattle.satl_barrier.specs.Commands.{HasRun}
@@ -79,7 +79,7 @@ trim_finishes ranges block pages x old new again same room set inside has takes 
     (finishes_as true flaws.Write 0 0 (zeros_at old.cache (addresses (payload_ranges 1 x.given))) [] x old new gone)
   where
     carries : Carries (carried 1 x.given (medium_of old)) x (medium_of old) run.after
-    carries = subst (λ b. MatchBool b (IsRefused abrt 0 x (medium_of old) run.after) (Carries (carried 1 x.given (medium_of old)) x (medium_of old) run.after)) (trims ranges block pages x.given (medium_of old) again same room set inside has takes) run.does
+    carries = subst (λ b. MatchBool b (EndsBad abrt 0 x (medium_of old) run.after) (Carries (carried 1 x.given (medium_of old)) x (medium_of old) run.after)) (trims ranges block pages x.given (medium_of old) again same room set inside has takes) run.does
 
     gone : HasGone (over true flaws.Write 0 0 (zeros_at old.cache (addresses (payload_ranges 1 x.given))) []) x old new
     gone = record { was_up = run.was_up; within = omega arith; after = run.after; carries = carries; lost = run.lost; stays = run.stays }

@@ -58,7 +58,7 @@ pub record HasRunBare (command : AtaCommand) (old new : DriveState) : Type 0 whe
   pub run : HasRun command (traffic command [] ended taken) old new
 
 -- the drive's data stand in the first page, and sectors were written back at most (ACS-3, IDENTIFY DEVICE)
-pub record IsTold (old : DriveState) (given taken : List Block) (new : DriveState) : Type 0 where
+pub record GivesIdentifyData (old : DriveState) (given taken : List Block) (new : DriveState) : Type 0 where
   pub was_up : old.down ≡ false
   pub pages : taken ≡ record { bytes = old.identify } ∷ drop 1 given
   pub lost : Loses old.cells new.cells

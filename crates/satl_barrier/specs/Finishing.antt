@@ -44,16 +44,7 @@ writing range blocks d =
 
 -- the same block at each address of a range, through the cache where it is on (SBC-3 5.42)
 abbrev pub writing_same : Range → Block → DriveState → Transfer
-writing_same range block d =
-    record {
-      ext = true;
-      dma = true;
-      stopped_by = flaws.Write;
-      lba = range.lba;
-      sectors = range.count;
-      writes = pairs_from range.lba (replicate range.count block) d.cache;
-      reads = [];
-    }
+writing_same range block d = writing range (replicate range.count block) d
 
 -- zeros at each address of some ranges, through the cache where it is on; no flaw stops it (SBC-3 5.28; of flaws: profile)
 abbrev pub trimming : List Range → DriveState → Transfer

@@ -3,7 +3,7 @@ ghost use Rattle.std.specs.Prelude.{◌≡◌, ◌≤◌, ◌+◌, [], IfOk, OnO
 ghost use Rattle.satl_drive.specs.State.{medium_of};
 ghost use Rattle.satl_regs.specs.Effects.{own_blocks, pairs_of};
 ghost use Rattle.satl_regs.specs.Spelling.{CommandFits};
-ghost use Rattle.satl_barrier.specs.Commands.{HasRun, HasRunBare, IsCutShort, IsNamed, IsTold, traffic};
+ghost use Rattle.satl_barrier.specs.Commands.{GivesIdentifyData, HasRun, HasRunBare, IsCutShort, IsNamed, traffic};
 ghost use Rattle.satl_barrier.specs.Leaving.{IsFree, Stays};
 
 use satl_base::{Pages, Steps};
@@ -68,7 +68,7 @@ pub fn tell_identity<D: Drive, L: Ledger>(
 ) -> Result<(), LinkDown>
     requires free { IsFree (D.state drive.old) }
     requires room { 1 ≤ length pages.old }
-    ensures told { OnOk result (IsTold (D.state drive.old) pages.old pages.new (D.state drive.new)) }
+    ensures told { OnOk result (GivesIdentifyData (D.state drive.old) pages.old pages.new (D.state drive.new)) }
     ensures lost { OnErr result (IsCutShort [] (D.state drive.old) (D.state drive.new)) }
     ensures stays { Stays (D.state drive.old) (D.state drive.new) }
     ensures size { length pages.new ≡ length pages.old }

@@ -75,29 +75,24 @@ impl Chain {
     }
 }
 
-/// Moves the first node of one chain before the first of the other.
-fn shift(from: &mut Chain, onto: &mut Chain)
-    requires { 0 < length (blocks_of from.old) }
-    ensures same { reverse (blocks_of onto.new) ++ blocks_of from.new ≡ reverse (blocks_of onto.old) ++ blocks_of from.old }
-    ensures count { length (blocks_of onto.new) ≡ length (blocks_of onto.old) + 1 }
-    ensures left { length (blocks_of from.new) + 1 ≡ length (blocks_of from.old) }
-{
-    let Some(mut node) = mem::replace(from, Chain::End).into_node() else {
-        unreachable!();
-    };
-    *from = mem::replace(&mut node.next, mem::replace(onto, Chain::End));
-    *onto = Chain::More(node);
-}
-
 /// Moves the first n nodes of one chain before the first of the other, one by one, so that their order turns round.
 pub(crate) fn shift_many(from: &mut Chain, onto: &mut Chain, n: u32)
     requires { n ≤ length (blocks_of from.old) }
     ensures same { reverse (blocks_of onto.new) ++ blocks_of from.new ≡ reverse (blocks_of onto.old) ++ blocks_of from.old }
     ensures count { length (blocks_of onto.new) ≡ length (blocks_of onto.old) + n }
 {
+    // Both are walked as values, so that no link is written and read again behind a reference.
+    let mut rest = mem::replace(from, Chain::End);
+    let mut done = mem::replace(onto, Chain::End);
     for _ in 0..n {
-        shift(from, onto);
+        let Some(mut node) = rest.into_node() else {
+            unreachable!();
+        };
+        rest = mem::replace(&mut node.next, done);
+        done = Chain::More(node);
     }
+    *from = rest;
+    *onto = done;
 }
 
 // A loop, so that a long chain does not run out of stack.

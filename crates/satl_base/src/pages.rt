@@ -79,6 +79,14 @@ impl Page {
     {
         self.node.block = *block;
     }
+
+    /// Writes 512 bytes as the block in the page, with one copy (profile).
+    pub fn set_bytes(&mut self, bytes: &[u8])
+        requires { length bytes.now ≡ 512 }
+        ensures { self.new.bytes ≡ bytes.now }
+    {
+        self.node.block.bytes.copy_from_slice(bytes);
+    }
 }
 
 /// A list of blocks of 512 bytes, each in a page of its own: a chain of boxed pages (profile). A clause sees the blocks.
@@ -187,7 +195,7 @@ impl Pages {
         ensures len { length self.new + length (option_to_list result) ≡ length self.old }
     {
         let mut node = mem::replace(&mut self.first, Chain::End).into_node()?;
-        self.first = mem::replace(&mut node.next, Chain::End);
+        mem::swap(&mut self.first, &mut node.next);
         self.count -= 1;
         Some(Page { node })
     }
@@ -201,12 +209,30 @@ impl Pages {
         self.first = done;
     }
 
+    /// Moves the first n pages before the others' first, one by one, so that their order turns round (profile).
+    pub fn move_first(&mut self, n: u32, others: &mut Pages)
+        requires enough { n ≤ length self.old }
+        requires few { length others.old + n < 2 ^ 32 }
+        ensures moved { others.new ≡ reverse (take n self.old) ++ others.old }
+        ensures rest { self.new ≡ drop n self.old }
+    {
+        if n == 0 {
+            return;
+        }
+        shift_many(&mut self.first, &mut others.first, n);
+        self.count -= n;
+        others.count += n;
+    }
+
     /// Keeps the first n pages, and gives the others (profile). It takes no memory.
     pub fn split(&mut self, n: u32) -> Pages
         requires { n ≤ length self.old }
         ensures kept { self.new ≡ take n self.old }
         ensures rest { result ≡ drop n self.old }
     {
+        if n == self.count {
+            return Pages::default();
+        }
         let mut front = Chain::End;
         shift_many(&mut self.first, &mut front, n);
         let first = mem::replace(&mut self.first, Chain::End);

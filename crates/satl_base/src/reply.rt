@@ -1,5 +1,6 @@
 // What a host is answered.
-ghost use Rattle.std.specs.Prelude.{◌≡◌, ◌<◌, ◌≤◌, ◌++◌, ◌∷◌, [], ◌↔◌, IsSome, length, option_to_list};
+ghost use Rattle.std.specs.Prelude.{◌≡◌, ◌<◌, ◌≤◌, ◌++◌, ◌∷◌, [], Some, drop, length, slice_get};
+ghost use Rattle.std.specs.Option.{option_map};
 ghost use Rattle.satl_base.specs.Codes.{response_code, scsi_code};
 
 use crate::pages::Pages;
@@ -123,16 +124,22 @@ impl Replies {
         self.replies.push(reply);
     }
 
-    /// Takes the first reply (profile). None exactly where there is none.
-    pub fn pop_first(&mut self) -> Option<Reply>
-        ensures items { self.old ≡ option_to_list result ++ self.new }
-        ensures variant { IsSome result ↔ (0 < length self.old) }
+    /// The first reply (profile).
+    pub fn first(&self) -> &Reply
+        requires { 0 < length self.now }
+        ensures { self.now ≡ result.now ∷ drop 1 self.now }
     {
-        if self.replies.is_empty() {
-            None
-        } else {
-            Some(self.replies.remove(0))
-        }
+        &self.replies[0]
+    }
+
+    /// Takes the first reply off, and gives its data-in (profile).
+    pub fn remove_first(&mut self) -> Pages
+        requires { 0 < length self.old }
+        ensures data { option_map (λ reply. reply.body) (slice_get self.old 0) ≡ Some result }
+        ensures rest { self.new ≡ drop 1 self.old }
+    {
+        let Reply { body, .. } = self.replies.remove(0);
+        body
     }
 
     /// The number of replies, at most 65 (profile).

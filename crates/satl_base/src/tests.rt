@@ -44,5 +44,7 @@ fn replies_come_in_order(rt: HostRuntime) {
     replies.push(reply(rt.alloc(), 7));
     replies.push(reply(rt.alloc(), 8));
     assert_eq!(rt; replies.len(), 2);
-    assert!(rt; replies.pop_first().is_some_and(|reply| reply.tag == Tag(7)));
+    assert_eq!(rt; replies.first().tag, Tag(7));
+    assert_eq!(rt; replies.remove_first().blocks(), 0);
+    assert_eq!(rt; replies.first().tag, Tag(8));
 }

@@ -25,8 +25,8 @@ abbrev pub sixteen : ℕ → ℕ → ℕ → ℕ → List Line
 sixteen code one lba count = byte 0 code ∷ byte 1 one ∷ number 2 9 lba ∷ number 10 13 count ∷ []
 
 -- PC and PAGE CODE of MODE SENSE
-abbrev pub page_byte : ℕ → ℕ → ℕ
-page_byte control page = control % 4 * 64 + page % 64
+abbrev pub page_code_byte : ℕ → ℕ → ℕ
+page_code_byte control page = control % 4 * 64 + page % 64
 
 -- the lines of each command; a form that a command does not have is written as that of 16 bytes
 abbrev pub lines_of : Command → List Line
@@ -35,9 +35,10 @@ lines_of (commands.RequestSense descriptor alloc) = byte 0 0x03 ∷ byte 1 (bit_
 lines_of (commands.Inquiry None alloc) = byte 0 0x12 ∷ number 3 4 alloc ∷ []
 lines_of (commands.Inquiry (Some page) alloc) = byte 0 0x12 ∷ byte 1 0x01 ∷ byte 2 page ∷ number 3 4 alloc ∷ []
 lines_of (commands.ModeSense false long_lba no_descriptor control page alloc) =
-    byte 0 0x1A ∷ byte 1 (bit_of 3 no_descriptor) ∷ byte 2 (page_byte control page) ∷ byte 4 (alloc % 256) ∷ []
+    byte 0 0x1A ∷ byte 1 (bit_of 3 no_descriptor) ∷ byte 2 (page_code_byte control page) ∷ byte 4 (alloc % 256) ∷ []
 lines_of (commands.ModeSense true long_lba no_descriptor control page alloc) =
-    byte 0 0x5A ∷ byte 1 (bit_of 4 long_lba + bit_of 3 no_descriptor) ∷ byte 2 (page_byte control page) ∷ number 7 8 alloc ∷ []
+    byte 0 0x5A ∷ byte 1 (bit_of 4 long_lba + bit_of 3 no_descriptor) ∷ byte 2 (page_code_byte control page)
+    ∷ number 7 8 alloc ∷ []
 lines_of (commands.ModeSelect false length) = byte 0 0x15 ∷ byte 1 0x10 ∷ byte 4 (length % 256) ∷ []
 lines_of (commands.ModeSelect true length) = byte 0 0x55 ∷ byte 1 0x10 ∷ number 7 8 length ∷ []
 lines_of (commands.StartStop start no_flush) = byte 0 0x1B ∷ byte 4 (bit_of 2 no_flush + bit_of 0 start) ∷ []

@@ -4,7 +4,7 @@ ghost use Rattle.std.specs.Prelude.{◌≡◌, ◌<◌, ℕ, Bool, true, false, 
 ghost use Rattle.satl_base.specs.Fields.{IsBytes};
 ghost use Rattle.satl_base.specs.Places.{laid, text};
 ghost use Rattle.satl_cdb.specs.Table.{says};
-ghost use Rattle.satl_cdb.specs.Spelling.{bit_of, page_byte, short, sixteen, spelled, ten, twelve};
+ghost use Rattle.satl_cdb.specs.Spelling.{bit_of, page_code_byte, short, sixteen, spelled, ten, twelve};
 
 use crate::command::{Command, Form};
 use byteorder::{BigEndian, ByteOrder};
@@ -75,7 +75,7 @@ fn inquiry_bytes(page: Option<u8>, alloc: u16) -> [u8; 16]
 }
 
 fn page_byte(control: u8, page: u8) -> u8
-    ensures { result ≡ page_byte control page }
+    ensures { result ≡ page_code_byte control page }
 {
     (control & 3) << 6 | page & 0x3F
 }

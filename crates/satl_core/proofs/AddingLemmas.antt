@@ -19,11 +19,11 @@ use Rattle.satl_mode.specs.Changes.{IsChangeOf}
 use Rattle.satl_line.specs.Tasks.{Adds, Held, change_task, entries_of, is_too_much, total_blocks, with_body}
 use Rattle.satl_line.proofs.SlotsLemmas.{All-append}
 use Rattle.satl_direct.specs.Tasks.{asks, data_out, held_blocks, needed, pass_of, task_for, task_of}
-use Rattle.satl_core.specs.Layer.{CanTrim, IsCovered, IsKept, IsTask, Layer, entry_pages, held_pages}
+use Rattle.satl_core.specs.Layer.{CanTrim, FitsCapacity, IsKept, IsTask, Layer, entry_pages, held_pages}
 use Rattle.satl_base.specs.Limits.{IsExpectable}
 use Rattle.satl_core.specs.Refilling.{Comes}
 use Rattle.satl_asks.specs.Commands.{HasList}
-use Rattle.satl_core.specs.Submitting.{Becomes, HasEntries, IsAdded, IsRefused, task_without_pages, trims}
+use Rattle.satl_core.specs.Submitting.{Becomes, FindsSetFull, HasEntries, IsAdded, task_without_pages, trims}
 use Rattle.satl_identify.specs.Refusals.{IsIdentity}
 use Rattle.satl_core.proofs.AgreeingLemmas.{HasOwnEntries, fits_kept}
 use Rattle.std.proofs.lemmas.List.{length-take}
@@ -85,7 +85,7 @@ pub can_trim : (identity : Identity) (r : Request) (c : Command) (n : ℕ) → I
 can_trim identity r c n is t list has =
     of_task (λ c. HasList c r.body identity.capacity → (trims c ≡ true → identity.trim ≡ true) → CanTrim identity c ((asks c).ranges r.body)) identity.capacity n c
     (λ form lba count fua t list has. tt) (λ form lba count fua t list has. tt) (λ form lba count none list has. tt) (λ start no_flush none list has. tt) (λ ten size none list has. tt) (λ form lba count t list has. tt) (λ form lba count t list has. tt)
-    (λ form lba count unmap. elim unmap as (λ b. (n ≡ 1) × IsCovered identity.capacity lba count → Unit {0} → (b ≡ true → identity.trim ≡ true) → CanTrim identity (cdbs.WriteSame form lba count b) ((asks (cdbs.WriteSame form lba count b)).ranges r.body)) [
+    (λ form lba count unmap. elim unmap as (λ b. (n ≡ 1) × FitsCapacity identity.capacity lba count → Unit {0} → (b ≡ true → identity.trim ≡ true) → CanTrim identity (cdbs.WriteSame form lba count b) ((asks (cdbs.WriteSame form lba count b)).ranges r.body)) [
       | true ↦ λ t list has. range_trims identity (record { lba = lba; count = count }) is (has refl) t.1.most t.1.some t.1.within
       | false ↦ λ t list has. tt
     ])
@@ -141,7 +141,7 @@ whole_data capacity n count c body t long =
     of_task (λ c. needed c ≤ 512 * length (take count body) → data_out c (take (held_blocks c) (take count body)) ≡ data_out c (take (held_blocks c) body)) capacity n c (λ form lba blocks fua t long. refl)
     (λ form lba blocks fua t long. take_take blocks count body (omega (arith, long))) (λ form lba blocks none long. refl) (λ start no_flush none long. refl) (λ ten size none long. refl)
     (λ form lba blocks t long. refl) (λ form lba blocks t long. take_take blocks count body (omega (arith, long)))
-    (λ form lba blocks unmap. elim unmap as (λ b. (n ≡ 1) × IsCovered capacity lba blocks → needed (cdbs.WriteSame form lba blocks b) ≤ 512 * length (take count body) → data_out (cdbs.WriteSame form lba blocks b) (take (held_blocks (cdbs.WriteSame form lba blocks b)) (take count body)) ≡ data_out (cdbs.WriteSame form lba blocks b) (take (held_blocks (cdbs.WriteSame form lba blocks b)) body)) [ true ↦ λ t long. take_take 1 count body (omega (arith, long)) | false ↦ λ t long. take_take 1 count body (omega (arith, long)) ])
+    (λ form lba blocks unmap. elim unmap as (λ b. (n ≡ 1) × FitsCapacity capacity lba blocks → needed (cdbs.WriteSame form lba blocks b) ≤ 512 * length (take count body) → data_out (cdbs.WriteSame form lba blocks b) (take (held_blocks (cdbs.WriteSame form lba blocks b)) (take count body)) ≡ data_out (cdbs.WriteSame form lba blocks b) (take (held_blocks (cdbs.WriteSame form lba blocks b)) body)) [ true ↦ λ t long. take_take 1 count body (omega (arith, long)) | false ↦ λ t long. take_take 1 count body (omega (arith, long)) ])
     (λ size t long. refl) (λ cdb t long. through (pass_of cdb).out (pass_of cdb).length long) t long
   where
     through : (out : Bool) (n : ℕ) → (if out then n else 0) ≤ 512 * length (take count body)
@@ -160,14 +160,14 @@ same_kept capacity n c count body long list t =
     (λ form lba blocks fua t long list. (refl, refl)) (λ form lba blocks fua t long list. (refl, refl)) (λ form lba blocks none long list. (refl, refl)) (λ start no_flush none long list. (refl, refl))
     (λ ten size none long list. (refl, ap Some (change_same (take count body) body size ten (taken_agrees size count body (omega (arith, long, length-take count body))))))
     (λ form lba blocks t long list. (refl, refl)) (λ form lba blocks t long list. (refl, refl))
-    (λ form lba blocks unmap. elim unmap as (λ b. (n ≡ 1) × IsCovered capacity lba blocks → needed (cdbs.WriteSame form lba blocks b) ≤ 512 * length (take count body) → Unit {0} → ((asks (cdbs.WriteSame form lba blocks b)).ranges (take count body) ≡ (asks (cdbs.WriteSame form lba blocks b)).ranges body) × ((asks (cdbs.WriteSame form lba blocks b)).change (take count body) ≡ (asks (cdbs.WriteSame form lba blocks b)).change body)) [ true ↦ λ t long list. (refl, refl) | false ↦ λ t long list. (refl, refl) ])
+    (λ form lba blocks unmap. elim unmap as (λ b. (n ≡ 1) × FitsCapacity capacity lba blocks → needed (cdbs.WriteSame form lba blocks b) ≤ 512 * length (take count body) → Unit {0} → ((asks (cdbs.WriteSame form lba blocks b)).ranges (take count body) ≡ (asks (cdbs.WriteSame form lba blocks b)).ranges body) × ((asks (cdbs.WriteSame form lba blocks b)).change (take count body) ≡ (asks (cdbs.WriteSame form lba blocks b)).change body)) [ true ↦ λ t long list. (refl, refl) | false ↦ λ t long list. (refl, refl) ])
     (λ size t long list. (ranges_same (take count body) body size capacity (taken_agrees size count body (omega (arith, long, length-take count body))) list.header list.sound, refl)) (λ cdb t long list. (refl, refl)) t long list
 
 -- what becomes of a request is what becomes of the whole one
 pub becomes_whole : (w r : Request) (count capacity : ℕ) (c : Command) (old : Layer) (replies : List Reply) (new : Layer) → r ≡ record w { body = take count w.body } → IsTask capacity c (held_blocks c) → HasList c r.body capacity → (replies ≡ [] → needed c ≤ 512 * length r.body)
     → Becomes r c old replies new → Becomes w c old replies new
 becomes_whole w r count capacity c old replies new is t list long b =
-    (elim (is_too_much old.tasks (task_without_pages w c old.identity.queued_trim)) as (λ f. MatchBool f (IsRefused cut old replies new) (IsAdded cut c old replies new) → MatchBool f (IsRefused w old replies new) (IsAdded w c old replies new)) [
+    (elim (is_too_much old.tasks (task_without_pages w c old.identity.queued_trim)) as (λ f. MatchBool f (FindsSetFull cut old replies new) (IsAdded cut c old replies new) → MatchBool f (FindsSetFull w old replies new) (IsAdded w c old replies new)) [
       | true ↦ λ a. record { reply = a.reply; stays = a.stays }
       | false ↦ λ a. record {
         none = a.none;

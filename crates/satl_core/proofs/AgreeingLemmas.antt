@@ -25,7 +25,7 @@ use Rattle.satl_line.proofs.EndingLemmas.{ends-sound}
 use Rattle.satl_drive.specs.State.{DriveState, IsFit}
 use Rattle.satl_drive.specs.Rules.{MaySet}
 use Rattle.satl_flight.specs.Flown.{FitsDrive, IsFlown, IsInFlight, RangedFits}
-use Rattle.satl_flight.specs.Settled.{IsCut, IsFilled, IsLaunched, IsLostInFlight, IsLostQuietly, IsSettled}
+use Rattle.satl_flight.specs.Settled.{HasEndedAt, IsCut, IsFilled, IsLaunched, IsLostInFlight, IsLostQuietly}
 use Rattle.satl_flight.proofs.FlownLemmas.{FitsOn}
 use Rattle.satl_barrier.specs.Leaving.{Stays, TellsOf}
 use Rattle.satl_barrier.proofs.ToldLemmas.{all_bytes, retold}
@@ -167,33 +167,32 @@ pub record IsLeftDown (d d' : DriveState) : Type 0 where
   pub fit : IsFit d'
   pub told : (bytes : List ℕ) → length bytes ≡ 512 → TellsOf bytes d → TellsOf bytes d'
 
-pub quietly_down : (tasks : List Held) (d d' : DriveState) → IsLostQuietly tasks d d' → IsFit d' → IsLeftDown d d'
-quietly_down tasks d d' lost fit = record {
-  down = ap (λ (x : DriveState). x.down) lost.stays;
-  idle = ap (λ (x : DriveState). x.outstanding) lost.stays;
-  no_error = ap (λ (x : DriveState). x.error) lost.stays;
-  capacity = ap (λ (x : DriveState). x.capacity) lost.stays;
-  size = moves-length lost.moves;
-  sound = moves-sound lost.moves;
+-- a drive that is this one, which is down with nothing outstanding
+pub down_by : (d d' g : DriveState) → d' ≡ g → g.down ≡ true → g.outstanding ≡ [] → g.error ≡ None → g.capacity ≡ d.capacity → length d'.cells ≡ length d.cells → (AreSound d.cells → AreSound d'.cells) → IsFit d' → ((bytes : List ℕ) → length bytes ≡ 512 → TellsOf bytes d → TellsOf bytes d') → IsLeftDown d d'
+down_by d d' g stays down idle no_error capacity size sound fit told = record {
+  down = ap (λ (x : DriveState). x.down) stays ∙ down;
+  idle = ap (λ (x : DriveState). x.outstanding) stays ∙ idle;
+  no_error = ap (λ (x : DriveState). x.error) stays ∙ no_error;
+  capacity = ap (λ (x : DriveState). x.capacity) stays ∙ capacity;
+  size = size;
+  sound = sound;
   fit = fit;
-  told = λ bytes long told. still_told bytes d d' (ap (λ (x : DriveState). x.identify) lost.stays) (ap (λ (x : DriveState). x.cache) lost.stays) (ap (λ (x : DriveState). x.look) lost.stays) told;
+  told = told;
 }
 
+pub quietly_down : (tasks : List Held) (d d' : DriveState) → IsLostQuietly tasks d d' → IsFit d' → IsLeftDown d d'
+quietly_down tasks d d' lost fit =
+    down_by d d' _ lost.stays refl refl refl refl (moves-length lost.moves) (moves-sound lost.moves) fit
+    (λ bytes long told. still_told bytes d d' (ap (λ (x : DriveState). x.identify) lost.stays) (ap (λ (x : DriveState). x.cache) lost.stays) (ap (λ (x : DriveState). x.look) lost.stays) told)
+
 pub in_flight_down : (tasks : List Held) (d d' : DriveState) → IsLostInFlight tasks d d' → IsFit d' → IsLeftDown d d'
-in_flight_down tasks d d' lost fit = record {
-  down = ap (λ (x : DriveState). x.down) lost.stays;
-  idle = ap (λ (x : DriveState). x.outstanding) lost.stays;
-  no_error = ap (λ (x : DriveState). x.error) lost.stays;
-  capacity = ap (λ (x : DriveState). x.capacity) lost.stays;
-  size = moves-length lost.moves;
-  sound = moves-sound lost.moves;
-  fit = fit;
-  told = λ bytes long told.
-      ⊎_elim
-      (λ (set : MaySet d d'). retold bytes d.identify d'.identify d.cache d.look d'.cache d'.look long (all_bytes d'.identify fit.bytes) told set.tells)
-      (λ same. still_told bytes d d' same.2 same.0 same.1 told)
-      lost.settings;
-}
+in_flight_down tasks d d' lost fit =
+    down_by d d' _ lost.stays refl refl refl refl (moves-length lost.moves) (moves-sound lost.moves) fit
+    (λ bytes long told.
+    ⊎_elim
+    (λ (set : MaySet d d'). retold bytes d.identify d'.identify d.cache d.look d'.cache d'.look long (all_bytes d'.identify fit.bytes) told set.tells)
+    (λ same. still_told bytes d d' same.2 same.0 same.1 told)
+    lost.settings)
 
 pub alone_down : (d d' : DriveState) → Stays d d' → d'.down ≡ true → IsFit d → IsLeftDown d d'
 alone_down d d' stays down fit = record {
@@ -247,7 +246,7 @@ tied_lost l new d d' left same agrees =
 
 -- ---- a task that has ended
 
-pub agrees_settled : (l new : Layer) (d d' : DriveState) (place : ℕ) (outcome : Outcome) → IsSettled place outcome (queue_on l d) (queue_on new d') → new ≡ record l { tasks = remove l.tasks place; flying = new.flying; slots = new.slots; free = new.free; out = new.out } → IsFit d' → Agrees l d → Agrees new d'
+pub agrees_settled : (l new : Layer) (d d' : DriveState) (place : ℕ) (outcome : Outcome) → HasEndedAt place outcome (queue_on l d) (queue_on new d') → new ≡ record l { tasks = remove l.tasks place; flying = new.flying; slots = new.slots; free = new.free; out = new.out } → IsFit d' → Agrees l d → Agrees new d'
 agrees_settled l new d d' place outcome s same fit agrees =
     agrees_by l new d d' (ap (λ (x : Layer). x.down) same) (ap (λ (x : Layer). x.modes) same) (ap (λ (x : Layer). x.identity) same)
     (record { down = ap (λ (x : DriveState). x.down) s.stays; cache = ap (λ (x : DriveState). x.cache) s.stays; look = ap (λ (x : DriveState). x.look) s.stays; identify = ap (λ (x : DriveState). x.identify) s.stays })

@@ -19,16 +19,16 @@ use Rattle.satl_line.specs.Tasks.{Held, entries_of, is_too_much, total_blocks}
 use Rattle.satl_drive.specs.State.{DriveState}
 use Rattle.satl_unit.specs.declared.attention.Attention.{Attention}
 use Rattle.satl_direct.specs.Device.{Device, is_of}
-use Rattle.satl_direct.specs.Senses.{attention_sense, no_sense, out_of_range, overlapped, refusal, sense_in, short_data, unknown_unit}
+use Rattle.satl_direct.specs.Senses.{attention_sense, no_sense, out_of_range, overlapped, refusal, sense_spelled, short_data, unknown_unit}
 use Rattle.satl_direct.specs.Arrival as direct
-use Rattle.satl_direct.specs.Arrival.{untold_codes, attended, Arrival, ArrivesAs, Arrives, answered, waits, arrival, asks_for, attention_arrival, cdb_arrival, check, code_arrival, code_of, is_unit_0, other_arrival, unit_arrival}
+use Rattle.satl_direct.specs.Arrival.{untold_codes, attended, Arrival, ArrivesAs, Arrives, answered, waits, arrival, asks_for, attention_arrival, cdb_arrival, check, code_arrival, operation_code, is_unit_0, other_arrival, unit_arrival}
 use Rattle.satl_direct.specs.Tasks.{asks, held_by, is_full, needed, range_of, task_for, task_of}
 use Rattle.satl_core.specs.declared.submitting.AtOnce.{AtOnce}
 use Rattle.satl_core.specs.declared.submitting.AtOnce.TheVariants as at_once
 use Rattle.satl_core.specs.Layer.{Layer, view}
 use Rattle.satl_core.specs.Leaving.{left_by}
 use Rattle.satl_asks.specs.Requests.{is_for_unit}
-use Rattle.satl_core.specs.Submitting.{sense_data, tell_attention, answer_to, other_answer, Becomes, IsAdded, IsRefused, attention_of, cdb_answer, code_answer, judged, once_judged, overlaps, readiness, reply_at_once, task_without_pages, untold, is_idle}
+use Rattle.satl_core.specs.Submitting.{sense_data, tell_attention, answer_to, other_answer, Becomes, IsAdded, FindsSetFull, attention_of, cdb_answer, code_answer, judged, once_judged, overlaps, readiness, reply_at_once, task_without_pages, untold, is_idle}
 use Rattle.satl_telling.specs.declared.telling.Data.TheVariants as datas
 use Rattle.satl_core.proofs.LeavingLemmas.{found_is, left_tasks}
 use Rattle.satl_core.proofs.SayingLemmas.{IsSaid, said_of}
@@ -69,7 +69,7 @@ same_answer l d r x a reply is e = ap answered is ∙ ap (λ y. answered (reply_
 abbrev pub full_or_waits : Layer → DriveState → Request → Command → Arrival
 full_or_waits l d r c = cond (is_full (map task_of (entries_of l.tasks)) c) (answered (direct.reply_to r statuses.TaskSetFull [])) (waits (task_for l.identity.queued_trim r c))
 
-inquiry_is : (l : Layer) (d : DriveState) (r : Request) (page : Option ℕ) (alloc : ℕ) → answered (direct.told r alloc (direct.inquiry_text (view l d) page)) ≡ answered (reply_at_once l.identity l.modes r (at_once.Tell (datas.Inquiry page) alloc))
+inquiry_is : (l : Layer) (d : DriveState) (r : Request) (page : Option ℕ) (alloc : ℕ) → answered (direct.good_with_data r alloc (direct.inquiry_text (view l d) page)) ≡ answered (reply_at_once l.identity l.modes r (at_once.Tell (datas.Inquiry page) alloc))
 inquiry_is l d r None alloc = refl
 inquiry_is l d r (Some page) alloc = refl
 
@@ -134,7 +134,7 @@ code_at_once l d r a none mark e = cdb_at_once l d r a (says r.cdb l.identity.tr
 abbrev attended_arrival : Option Attention → Device → Request → Arrival
 attended_arrival None s r = code_arrival s r
 attended_arrival (Some what) s r =
-    attended (cond (code_of r == 0x03) (direct.told r (bytes 4 4 r.cdb) (sense_in (bit 1 0 r.cdb) (attention_sense what))) (check s r (attention_sense what)))
+    attended (cond (operation_code r == 0x03) (direct.good_with_data r (bytes 4 4 r.cdb) (sense_spelled (bit 1 0 r.cdb) (attention_sense what))) (check s r (attention_sense what)))
 
 -- what the device does by these tests
 abbrev arrival_by : Bool → Bool → Option Attention → Device → Request → Arrival
@@ -147,9 +147,9 @@ once_judged_by unit over what l r =
 
 other_is : (l : Layer) (d : DriveState) (r : Request) → other_arrival (view l d) r ≡ answered (reply_at_once l.identity l.modes r (other_answer r))
 other_is l d r =
-    elim (asks_for 0x12 r && not (bit 1 0 r.cdb)) as (λ b. cond b (answered (direct.told r (bytes 3 4 r.cdb) (standard_data l.identity false))) (cond (asks_for 0x03 r) (answered (direct.told r (bytes 4 4 r.cdb) (sense_in (bit 1 0 r.cdb) unknown_unit))) (answered (check (view l d) r unknown_unit))) ≡ answered (reply_at_once l.identity l.modes r (cond b (at_once.Tell datas.NoUnit (bytes 3 4 r.cdb)) (cond (asks_for 0x03 r) (sense_data r.cdb unknown_unit) (at_once.Check unknown_unit))))) [
+    elim (asks_for 0x12 r && not (bit 1 0 r.cdb)) as (λ b. cond b (answered (direct.good_with_data r (bytes 3 4 r.cdb) (standard_data l.identity false))) (cond (asks_for 0x03 r) (answered (direct.good_with_data r (bytes 4 4 r.cdb) (sense_spelled (bit 1 0 r.cdb) unknown_unit))) (answered (check (view l d) r unknown_unit))) ≡ answered (reply_at_once l.identity l.modes r (cond b (at_once.Tell datas.NoUnit (bytes 3 4 r.cdb)) (cond (asks_for 0x03 r) (sense_data r.cdb unknown_unit) (at_once.Check unknown_unit))))) [
       | true ↦ refl
-      | false ↦ (elim (asks_for 0x03 r) as (λ b. cond b (answered (direct.told r (bytes 4 4 r.cdb) (sense_in (bit 1 0 r.cdb) unknown_unit))) (answered (check (view l d) r unknown_unit)) ≡ answered (reply_at_once l.identity l.modes r (cond b (sense_data r.cdb unknown_unit) (at_once.Check unknown_unit)))) [
+      | false ↦ (elim (asks_for 0x03 r) as (λ b. cond b (answered (direct.good_with_data r (bytes 4 4 r.cdb) (sense_spelled (bit 1 0 r.cdb) unknown_unit))) (answered (check (view l d) r unknown_unit)) ≡ answered (reply_at_once l.identity l.modes r (cond b (sense_data r.cdb unknown_unit) (at_once.Check unknown_unit)))) [
         | true ↦ refl
         | false ↦ refl
       ])
@@ -157,10 +157,10 @@ other_is l d r =
 
 -- REQUEST SENSE tells the first condition
 sense_arrival : (s : Device) (r : Request) (what : Attention) → slice_index r.cdb 0 ≡ 0x03 → slice_get (slice_index_or s.attentions r.nexus []) 0 ≡ Some what
-    → code_arrival s r ≡ attended (direct.told r (bytes 4 4 r.cdb) (sense_in (bit 1 0 r.cdb) (attention_sense what)))
+    → code_arrival s r ≡ attended (direct.good_with_data r (bytes 4 4 r.cdb) (sense_spelled (bit 1 0 r.cdb) (attention_sense what)))
 unfolding says
 sense_arrival s r what code first =
-    subst (λ code. cdb_arrival s r (found_says (format_of (table s.identity.trim) code) r.cdb) ≡ attended (direct.told r (bytes 4 4 r.cdb) (sense_in (bit 1 0 r.cdb) (attention_sense what)))) (sym code)
+    subst (λ code. cdb_arrival s r (found_says (format_of (table s.identity.trim) code) r.cdb) ≡ attended (direct.good_with_data r (bytes 4 4 r.cdb) (sense_spelled (bit 1 0 r.cdb) (attention_sense what)))) (sym code)
     (ap (λ b. cond b (answered (check s r out_of_range)) (cond (nat_lt r.data_len 0) (answered (check s r short_data)) (direct.sense_told (slice_get (slice_index_or s.attentions r.nexus []) 0) r (bit 1 0 r.cdb) (bytes 4 4 r.cdb)))) (le-ltb s.identity.capacity (0 + 0) (omega arith))
     ∙ (ap (λ b. cond b (answered (check s r short_data)) (direct.sense_told (slice_get (slice_index_or s.attentions r.nexus []) 0) r (bit 1 0 r.cdb) (bytes 4 4 r.cdb))) (le-ltb r.data_len 0 (omega arith))
     ∙ ap (λ o. direct.sense_told o r (bit 1 0 r.cdb) (bytes 4 4 r.cdb)) first))
@@ -170,30 +170,30 @@ abbrev untold_by : Bool → Bool → Bool → Bool
 untold_by inquiry luns sense = cond inquiry true (cond luns true (cond sense true false))
 
 -- the condition of another command
-attended_other : (inquiry luns : Bool) (first : Option Attention) (s : Device) (r : Request) → (code_of r == 0x03) ≡ false
+attended_other : (inquiry luns : Bool) (first : Option Attention) (s : Device) (r : Request) → (operation_code r == 0x03) ≡ false
     → attention_arrival (cond (untold_by inquiry luns false) None first) s r ≡ attended_arrival (cond (untold_by inquiry luns false && true) None first) s r
 attended_other true luns first s r is = refl
 attended_other false true first s r is = refl
 attended_other false false None s r is = refl
 attended_other false false (Some what) s r is = rw is refl
 
-attended_first : (first : Option Attention) (s : Device) (r : Request) → (code_of r == 0x03) ≡ true → slice_get (slice_index_or s.attentions r.nexus []) 0 ≡ first → code_arrival s r ≡ attended_arrival first s r
+attended_first : (first : Option Attention) (s : Device) (r : Request) → (operation_code r == 0x03) ≡ true → slice_get (slice_index_or s.attentions r.nexus []) 0 ≡ first → code_arrival s r ≡ attended_arrival first s r
 attended_first None s r is first_is = refl
-attended_first (Some what) s r is first_is = sense_arrival s r what (eqb-true (code_of r) 0x03 is) first_is ∙ rw is refl
+attended_first (Some what) s r is first_is = sense_arrival s r what (eqb-true (operation_code r) 0x03 is) first_is ∙ rw is refl
 
 -- the condition of a REQUEST SENSE
-attended_sense : (inquiry luns : Bool) (first : Option Attention) (s : Device) (r : Request) → (code_of r == 0x03) ≡ true → slice_get (slice_index_or s.attentions r.nexus []) 0 ≡ first
+attended_sense : (inquiry luns : Bool) (first : Option Attention) (s : Device) (r : Request) → (operation_code r == 0x03) ≡ true → slice_get (slice_index_or s.attentions r.nexus []) 0 ≡ first
     → attention_arrival (cond (untold_by inquiry luns true) None first) s r ≡ attended_arrival (cond (untold_by inquiry luns true && false) None first) s r
 attended_sense true luns first s r is first_is = attended_first first s r is first_is
 attended_sense false true first s r is first_is = attended_first first s r is first_is
 attended_sense false false first s r is first_is = attended_first first s r is first_is
 
 attended_is : (first : Option Attention) (s : Device) (r : Request) → slice_get (slice_index_or s.attentions r.nexus []) 0 ≡ first
-    → attention_arrival (cond (is_in (code_of r) untold_codes) None first) s r ≡ attended_arrival (cond (is_in (code_of r) untold_codes && not (code_of r == 0x03)) None first) s r
+    → attention_arrival (cond (is_in (operation_code r) untold_codes) None first) s r ≡ attended_arrival (cond (is_in (operation_code r) untold_codes && not (operation_code r == 0x03)) None first) s r
 attended_is first s r first_is =
-    (elim (code_of r == 0x03) as (λ b. (code_of r == 0x03) ≡ b → attention_arrival (cond (untold_by (code_of r == 0x12) (code_of r == 0xA0) b) None first) s r ≡ attended_arrival (cond (untold_by (code_of r == 0x12) (code_of r == 0xA0) b && not b) None first) s r) [
-      | true ↦ λ is. attended_sense (code_of r == 0x12) (code_of r == 0xA0) first s r is first_is
-      | false ↦ λ is. attended_other (code_of r == 0x12) (code_of r == 0xA0) first s r is
+    (elim (operation_code r == 0x03) as (λ b. (operation_code r == 0x03) ≡ b → attention_arrival (cond (untold_by (operation_code r == 0x12) (operation_code r == 0xA0) b) None first) s r ≡ attended_arrival (cond (untold_by (operation_code r == 0x12) (operation_code r == 0xA0) b && not b) None first) s r) [
+      | true ↦ λ is. attended_sense (operation_code r == 0x12) (operation_code r == 0xA0) first s r is first_is
+      | false ↦ λ is. attended_other (operation_code r == 0x12) (operation_code r == 0xA0) first s r is
     ]) refl
 
 unit_is : (l : Layer) (d : DriveState) (r : Request) → unit_arrival (view l d) r ≡ cond (overlaps l.tasks r) (direct.overlaps (check (view l d) r overlapped)) (attended_arrival (attention_of l.attentions r) (view l d) r)
@@ -213,8 +213,8 @@ sensed : (l : Layer) (d : DriveState) (r : Request) (x a : AtOnce) (reply : Repl
 sensed l d r x a reply is e = sym (ap (λ q. q ∷ []) is ∙ ap (λ y. reply_at_once l.identity l.modes r y ∷ []) (err_is x a e))
 
 -- the reply that tells a condition
-told_is : (l : Layer) (d : DriveState) (r : Request) (what : Attention) → cond (code_of r == 0x03) (direct.told r (bytes 4 4 r.cdb) (sense_in (bit 1 0 r.cdb) (attention_sense what))) (check (view l d) r (attention_sense what)) ≡ reply_at_once l.identity l.modes r (tell_attention what r.cdb)
-told_is l d r what = elim (code_of r == 0x03) as (λ b. cond b (direct.told r (bytes 4 4 r.cdb) (sense_in (bit 1 0 r.cdb) (attention_sense what))) (check (view l d) r (attention_sense what)) ≡ reply_at_once l.identity l.modes r (cond b (sense_data r.cdb (attention_sense what)) (at_once.Check (attention_sense what)))) [ true ↦ refl | false ↦ refl ]
+told_is : (l : Layer) (d : DriveState) (r : Request) (what : Attention) → cond (operation_code r == 0x03) (direct.good_with_data r (bytes 4 4 r.cdb) (sense_spelled (bit 1 0 r.cdb) (attention_sense what))) (check (view l d) r (attention_sense what)) ≡ reply_at_once l.identity l.modes r (tell_attention what r.cdb)
+told_is l d r what = elim (operation_code r == 0x03) as (λ b. cond b (direct.good_with_data r (bytes 4 4 r.cdb) (sense_spelled (bit 1 0 r.cdb) (attention_sense what))) (check (view l d) r (attention_sense what)) ≡ reply_at_once l.identity l.modes r (cond b (sense_data r.cdb (attention_sense what)) (at_once.Check (attention_sense what)))) [ true ↦ refl | false ↦ refl ]
 
 answers_by : (unit over : Bool) (what : Option Attention) (l : Layer) (d : DriveState) (r : Request) (a : AtOnce) → (slice_index r.cdb 0 ≡ 0x03 → first_of l r ≡ what) → l.down ≡ d.down → judged_by unit over what l r ≡ Err a → Answers (arrival_by unit over what (view l d) r) l d r a (once_judged_by unit over what l r)
 answers_by false over what l d r a first mark e = subst (λ x. Answers x l d r a l) (sym (other_is l d r)) (sensed l d r (other_answer r) a _ refl e, refl)
@@ -291,7 +291,7 @@ full_is tasks r c queued_trim = rw (tasks_seen tasks, held_by_is tasks) refl
 pub becomes_arrives : (l new : Layer) (d : DriveState) (r : Request) (c : Command) (replies : List Reply) → judged l r ≡ Ok c → Becomes r c l replies new → Arrives r (view l d) replies (view new d)
 becomes_arrives l new d r c replies e b =
     subst (λ x. ArrivesAs x r (view l d) replies (view new d)) (sym (waits_arrival l d r c e))
-    ((elim (is_too_much l.tasks (task_without_pages r c l.identity.queued_trim)) as (λ t. is_full (map task_of (entries_of l.tasks)) c ≡ t → MatchBool t (IsRefused r l replies new) (IsAdded r c l replies new) → ArrivesAs (full_or_waits l d r c) r (view l d) replies (view new d)) [
+    ((elim (is_too_much l.tasks (task_without_pages r c l.identity.queued_trim)) as (λ t. is_full (map task_of (entries_of l.tasks)) c ≡ t → MatchBool t (FindsSetFull r l replies new) (IsAdded r c l replies new) → ArrivesAs (full_or_waits l d r c) r (view l d) replies (view new d)) [
       | true ↦ λ is a. rw is (a.reply, ap (λ x. view x d) a.stays)
       | false ↦ λ is a. rw is (a.none, ap (λ x. view x d) a.stays ∙ ap (λ t. record (view l d) { tasks = t }) a.last)
     ]) (full_is l.tasks r c l.identity.queued_trim) b)

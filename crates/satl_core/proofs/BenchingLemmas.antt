@@ -33,7 +33,7 @@ use Rattle.satl_direct.specs.Device.{Device}
 use Rattle.satl_direct.specs.Quiet.{Around}
 use Rattle.satl_direct.specs.Run.{bench_losses}
 use Rattle.satl_direct.specs.Valid.{IsValid}
-use Rattle.satl_core.specs.Benching.{Follows, IsActedOn, LosesLink, StartsAnew, StaysSame}
+use Rattle.satl_core.specs.Benching.{FollowsEvent, IsActedOn, LosesLink, StartsAnew, StaysSame}
 use Rattle.satl_base.specs.Moves.{Moves}
 use Rattle.satl_base.proofs.Booleans.{not-not}
 use Rattle.satl_direct.specs.Quiet.{MayShow}
@@ -162,7 +162,7 @@ unplugged l new d d' replies tied u r = record {
         ∙ ap (λ n. record before { tasks = []; down = true; glitches = n }) glitches)
 
 -- what follows for the layer from what happens to its drive is what happens to the device
-pub happens : (event : BenchEvent) (l new : Layer) (d d' : DriveState) (replies : List Reply) → Tied l d → IsActedOn event d d' → Follows event l replies new → Around (Happens event) (view l d) replies (view new d')
+pub happens : (event : BenchEvent) (l new : Layer) (d d' : DriveState) (replies : List Reply) → Tied l d → IsActedOn event d d' → FollowsEvent event l replies new → Around (Happens event) (view l d) replies (view new d')
 happens (Strike which lba) l new d d' replies tied acted r = around_alone (Happens (Strike which lba)) (view l d) (view new d') replies (unanswered l new d d' replies (record d { cells = change_at d.cells lba (with_flaw which) }) acted r)
 happens (Mend lba) l new d d' replies tied acted r = around_alone (Happens (Mend lba)) (view l d) (view new d') replies (unanswered l new d d' replies (record d { cells = change_at d.cells lba without_flaws }) acted r)
 happens (Glitch count) l new d d' replies tied acted r = around_alone (Happens (Glitch count)) (view l d) (view new d') replies (unanswered l new d d' replies (record d { glitches = count }) acted r)
@@ -237,7 +237,7 @@ tied_unplugged : (l new : Layer) (d d' : DriveState) (replies : List Reply) → 
 tied_unplugged l new d d' replies u r fit tied = tied_lost l new d d' (unplugged_down d d' u tied.agrees.fit fit) r.stays tied.agrees
 
 -- an event leaves the layer tied to its drive
-pub still_tied : (event : BenchEvent) (l new : Layer) (d d' : DriveState) (replies : List Reply) → IsActedOn event d d' → Follows event l replies new → IsFit d' → Tied l d → Tied new d'
+pub still_tied : (event : BenchEvent) (l new : Layer) (d d' : DriveState) (replies : List Reply) → IsActedOn event d d' → FollowsEvent event l replies new → IsFit d' → Tied l d → Tied new d'
 still_tied (Strike which lba) l new d d' replies acted r fit tied = tied_changed l new d d' (changes_at (with_flaw which) (flaw-sound which) lba d d' acted) r.stays fit tied
 still_tied (Mend lba) l new d d' replies acted r fit tied = tied_changed l new d d' (changes_at without_flaws (λ c sound. sound) lba d d' acted) r.stays fit tied
 still_tied (Glitch count) l new d d' replies acted r fit tied = tied_changed l new d d' (changes_glitches count d d' acted) r.stays fit tied
@@ -275,7 +275,7 @@ no_tasks : (l new : Layer) → new.tasks ≡ [] → length new.tasks ≤ length 
 no_tasks l new none = let count = ap length none in omega (arith, count)
 
 -- no event adds a task
-pub follows_fewer : (event : BenchEvent) (l new : Layer) (replies : List Reply) → Follows event l replies new → length new.tasks ≤ length l.tasks
+pub follows_fewer : (event : BenchEvent) (l new : Layer) (replies : List Reply) → FollowsEvent event l replies new → length new.tasks ≤ length l.tasks
 follows_fewer (Strike which lba) l new replies r = same_tasks l new r.stays
 follows_fewer (Mend lba) l new replies r = same_tasks l new r.stays
 follows_fewer (Glitch count) l new replies r = same_tasks l new r.stays

@@ -18,7 +18,7 @@ use Rattle.satl_direct.specs.Turn.{Turn}
 use Rattle.satl_flight.specs.declared.flight.Flying.{Flying}
 use Rattle.satl_flight.specs.Flown.{IsFlown}
 use Rattle.satl_flight.specs.Lending.{AreAlike}
-use Rattle.satl_flight.specs.Queueing.{Ends}
+use Rattle.satl_flight.specs.Queueing.{EndsAndLeaves}
 use Rattle.satl_flight.specs.Settled.{Deepens, IsFilled, IsLostInFlight, OnDrive, outcome_of}
 use Rattle.satl_flight.proofs.ZipLemmas.{All-remove}
 use Rattle.satl_barrier.specs.Leaving.{Stays}
@@ -85,7 +85,11 @@ at_place P [] place h all at = absurd cc
 at_place P (k ∷ tasks) zero h all at = let one : k ≡ h = cc in subst P one all.0
 at_place P (k ∷ tasks) (suc place) h all at = at_place P tasks place h all.1 at
 
-module _ (error : Option NcqError) (task : Entry) (old new : OnDrive) (e : Ends error task old new) where
+-- the task that ended, as it is read
+pub ended_as : (error : Option NcqError) (task read : Entry) (old new : OnDrive) → read ≡ task → EndsAndLeaves error task old new → EndsAndLeaves error read old new
+ended_as error task read old new is e = subst (λ t. EndsAndLeaves error t old new) (sym is) e
+
+module _ (error : Option NcqError) (task : Entry) (old new : OnDrive) (e : EndsAndLeaves error task old new) where
   entry_is : entry_at old.queue.tasks e.place ≡ Some e.settled.held.entry
   entry_is = ap (option_map (λ (h : Held). h.entry)) e.settled.stands
 
@@ -117,7 +121,7 @@ module _ (error : Option NcqError) (task : Entry) (old new : OnDrive) (e : Ends 
 
 -- it ends as the device says
 module _ (l now new : Layer) (d d' : DriveState) (error : Option NcqError) (task : Entry) (is : l ≡ now) (w : works l ≡ true) (agrees : Agrees now d)
-    (e : Ends error task (queue_on l d) (queue_on new d'))
+    (e : EndsAndLeaves error task (queue_on l d) (queue_on new d'))
     (same : new ≡ record l { tasks = new.tasks; flying = new.flying; slots = new.slots; free = new.free; out = new.out }) where
   was : Agrees l d
   was = subst (λ x. Agrees x d) (sym is) agrees

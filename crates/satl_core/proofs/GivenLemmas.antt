@@ -16,7 +16,7 @@ use Rattle.satl_line.specs.declared.entry.Kind.TheVariants.{Ranged, Barrier}
 use Rattle.satl_line.specs.Conflict.{conflicts}
 use Rattle.satl_line.specs.Eligible.{IsEligible, IsEligibleBy}
 use Rattle.satl_line.specs.Kinds.{is_ranged, kind_of}
-use Rattle.satl_line.specs.Layout.{no_entry}
+use Rattle.satl_line.specs.Blank.{no_entry}
 use Rattle.satl_line.specs.Ranged.{RangedTask, ranged_by, ranged_of}
 use Rattle.satl_line.specs.Ranged.RangedTask.{ranged_read, ranged_write, ranged_trim}
 use Rattle.satl_line.specs.Tasks.{Held, entries_of}
@@ -32,7 +32,7 @@ use Rattle.satl_flight.specs.Settled.{IsFilled}
 use Rattle.satl_flight.specs.Queueing.{IsSlotted}
 use Rattle.satl_line.specs.Tasks.{AreOwnSlots}
 use Rattle.satl_core.specs.Layer.{IsKept, Layer, Tied}
-use Rattle.satl_core.specs.Tie.{AreApart, Given, IsFilledQueue, IsGiven, IsQueue, TiesQueue, given_of, holds}
+use Rattle.satl_core.specs.Tie.{AreApart, Given, IsFilledQueue, IsGiven, IsTiedQueue, TiesQueue, given_of, holds}
 use Rattle.satl_core.proofs.DeviceLemmas.{seen}
 use Rattle.satl_core.proofs.QueuedLemmas.{eligible_seen}
 
@@ -217,7 +217,7 @@ given_apart tasks (f ∷ fs) own apart found = (tags fs apart.0, names fs apart.
 -- points 2 and 3 of the tie, in its words
 pub queue_is : (tasks : List Held) (modes : Modes) (started : Bool) (attentions : List (List Attention)) (identity : Identity) (d : DriveState) (flying : List Flying) → IsInFlight flying tasks d → AreOwn (map task_of (entries_of tasks))
     → AllByRecursion (λ (h : Held). (h.entry.kind ≡ kind_of h.entry.command identity.queued_trim) × (find (is_in_slot h.slot) tasks ≡ Some h)) tasks → MatchBool (not d.down && started) (IsFilled flying tasks) (flying ≡ [])
-    → IsQueue (seen identity modes started attentions (map task_of (entries_of tasks)) d) (map (given_of tasks) flying) d.outstanding
+    → IsTiedQueue (seen identity modes started attentions (map task_of (entries_of tasks)) d) (map (given_of tasks) flying) d.outstanding
 queue_is tasks modes started attentions identity d flying tie own kept used = record {
   each = each_given tasks modes started attentions identity d flying tie;
   apart = given_apart tasks flying own tie.apart (zip-left (IsFlown tasks) (IsFound tasks) flying d.outstanding (λ f q o. (o.held, o.found)) tie.each);

@@ -26,7 +26,7 @@ use Rattle.satl_base.specs.declared.block.Block.{Block}
 use Rattle.satl_direct.specs.Tasks.{asks, held_blocks, needed, range_of}
 use Rattle.satl_core.specs.declared.submitting.AtOnce.{AtOnce}
 use Rattle.satl_core.specs.declared.submitting.AtOnce.TheVariants as at_once
-use Rattle.satl_core.specs.Layer.{IsCovered, IsTask, IsWithin, Layer}
+use Rattle.satl_core.specs.Layer.{FitsCapacity, IsTask, IsWithin, Layer}
 use Rattle.satl_asks.specs.Commands.{CanPass, HasList}
 use Rattle.satl_asks.specs.Requests.{is_for_unit}
 use Rattle.satl_core.specs.Submitting.{answer_to, other_answer, attention_answer, attention_of, cdb_answer, code_answer, command_answer, judged, overlaps, readiness, untold, HasLengths, HoldsList, is_idle, trims, unless_idle, unless_refused, unmap_list_fault}
@@ -190,7 +190,7 @@ makes_task capacity cdb trim body c bytes can said some small within untold =
         let one = eqb-false count 0 some in
         (refl, omega (arith, in_it, small, one), omega (arith, one), few, omega (arith, in_it))
 
-    covered : (lba count : ℕ) → 1 ≤ count → count ≤ 65536 → nat_lt capacity (lba + count) ≡ false → IsCovered capacity lba count
+    covered : (lba count : ℕ) → 1 ≤ count → count ≤ 65536 → nat_lt capacity (lba + count) ≡ false → FitsCapacity capacity lba count
     covered lba count some most within =
         let in_it = ltb-false capacity (lba + count) within in
         record { some = some; most = most; address = omega (arith, in_it, small); within = omega (arith, in_it) }

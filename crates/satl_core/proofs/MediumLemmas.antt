@@ -43,7 +43,7 @@ use Rattle.satl_core.specs.declared.turning.Ending.{Ending}
 use Rattle.satl_core.specs.declared.turning.Ending.TheVariants as endings
 use Rattle.satl_core.specs.Alone.{alone_of}
 use Rattle.satl_core.specs.Medium as medium
-use Rattle.satl_core.specs.Layer.{AreTrimmed, CanTrim, IsCovered, entry_pages}
+use Rattle.satl_core.specs.Layer.{AreTrimmed, CanTrim, FitsCapacity, entry_pages}
 use Rattle.satl_barrier.specs.Leaving.{TellsOf}
 use Rattle.satl_barrier.specs.Settings.{IsSetBy}
 use Rattle.satl_core.specs.Medium.{CanCarry, HasCompared, HasFinished, HasVerified, HasWhole, TakesTrim, written_alone}
@@ -195,7 +195,7 @@ module _ (identity : Identity) (modes : Modes) (started : Bool) (attentions : Li
   pub check_turn : (form : Form) (lba count : ℕ) (ending : Ending) → (not started && true) ≡ false → HasVerified (over lba count) d ending d' → EndsSo (cdbs.Verify form lba count false) ending
   check_turn form lba count ending ready h = subst (EndsSo (cdbs.Verify form lba count false)) (sym h.told) (by h.flaw h.is)
     where
-      by : (flaw : Option ℕ) → IsVerified (over lba count) flaw d d' → EndsSo (cdbs.Verify form lba count false) (medium.verified flaw)
+      by : (flaw : Option ℕ) → IsVerified (over lba count) flaw d d' → EndsSo (cdbs.Verify form lba count false) (medium.ending_of_verify flaw)
       by None x =
           done_turn identity modes started attentions (asking (cdbs.Verify form lba count false)) others d d' ready refl (verifying (over lba count)) x refl
           (λ reply new e. verified_by (with_it (cdbs.Verify form lba count false)) (task_of (asking (cdbs.Verify form lba count false))) reply new (over lba count) None x.no_flaw e)
@@ -206,7 +206,7 @@ module _ (identity : Identity) (modes : Modes) (started : Bool) (attentions : Li
   pub compare_turn : (form : Form) (lba count : ℕ) (ending : Ending) → (not started && true) ≡ false → HasCompared (over lba count) entry.body d ending d' → EndsSo (cdbs.Verify form lba count true) ending
   compare_turn form lba count ending ready h = subst (EndsSo (cdbs.Verify form lba count true)) (sym h.told) (by h.comparison h.is)
     where
-      by : (it : Comparison) → ComparesAs (over lba count) entry.body it d d' → EndsSo (cdbs.Verify form lba count true) (medium.compared it)
+      by : (it : Comparison) → ComparesAs (over lba count) entry.body it d d' → EndsSo (cdbs.Verify form lba count true) (medium.ending_of_comparison it)
       by comparisons.Same x =
           done_turn identity modes started attentions (asking (cdbs.Verify form lba count true)) others d d' ready refl (verifying (over lba count)) x.1 refl
           (λ reply new e. compared_by (with_it (cdbs.Verify form lba count true)) (task_of (asking (cdbs.Verify form lba count true))) reply new (over lba count) None x.1.no_flaw (inr (inl (sym x.0, e))))
@@ -234,7 +234,7 @@ module _ (identity : Identity) (modes : Modes) (started : Bool) (attentions : Li
         pairs : (writing_same (over lba count) (get_or entry.body 0 no_block) d).writes ≡ same_pairs lba count entry.body modes.wce
         pairs = same_is lba count entry.body d.cache some ∙ ap (same_pairs lba count entry.body) cache
 
-        by : (it : Finish) → FinishesAs (writing_same (over lba count) (get_or entry.body 0 no_block) d) (min 64 count) it d d' → EndsSo (cdbs.WriteSame form lba count false) (medium.finished it)
+        by : (it : Finish) → FinishesAs (writing_same (over lba count) (get_or entry.body 0 no_block) d) (min 64 count) it d d' → EndsSo (cdbs.WriteSame form lba count false) (medium.ending_of_finish it)
         by finishes.Done x =
             done_turn identity modes started attentions (asking (cdbs.WriteSame form lba count false)) others d d' ready refl (writing_same (over lba count) (get_or entry.body 0 no_block) d) x refl
             (λ reply new e. pieces_by (with_it (cdbs.WriteSame form lba count false)) (task_of (asking (cdbs.WriteSame form lba count false))) reply new (over lba count) None x.no_flaw
@@ -255,7 +255,7 @@ module _ (identity : Identity) (modes : Modes) (started : Bool) (attentions : Li
         pairs : (trimming ranges d).writes ≡ zeros_over ranges modes.wce
         pairs = zeros_of_ranges d.cache ranges ∙ ap (zeros_over ranges) cache
 
-        by : (it : Finish) → FinishesAs (trimming ranges d) 0 it d d' → EndsSo c (medium.finished it)
+        by : (it : Finish) → FinishesAs (trimming ranges d) 0 it d d' → EndsSo c (medium.ending_of_finish it)
         by finishes.Done x =
             done_turn identity modes started attentions (asking c) others d d' ready wake (trimming ranges d) x none
             (λ reply new e. how (with_it c) reply new (trim_done (with_it c) (task_of (asking c)) reply new ranges (trimming ranges d).writes pairs e))
@@ -281,14 +281,14 @@ can_carry identity entry d kept capacity size has =
     of_task (λ c. length entry.body ≡ entry.blocks + entry_pages c identity.queued_trim → CanTrim identity c entry.ranges.items → IfSome (alone_of c) (λ alone. CanCarry alone entry d)) identity.capacity entry.blocks entry.command
     (λ form lba count fua t pages can. tt) (λ form lba count fua t pages can. tt) (λ form lba count none pages can. tt) (λ start no_flush none pages can. tt) (λ ten size none pages can. tt)
     (λ form lba count t pages can. reached lba count t.1) (λ form lba count t pages can. (omega (arith, t.0, pages), t.1, reached lba count t.2))
-    (λ form lba count unmap. elim unmap as (λ b. (entry.blocks ≡ 1) × IsCovered identity.capacity lba count → length entry.body ≡ entry.blocks + 0 → CanTrim identity (cdbs.WriteSame form lba count b) entry.ranges.items → IfSome (alone_of (cdbs.WriteSame form lba count b)) (λ alone. CanCarry alone entry d)) [
+    (λ form lba count unmap. elim unmap as (λ b. (entry.blocks ≡ 1) × FitsCapacity identity.capacity lba count → length entry.body ≡ entry.blocks + 0 → CanTrim identity (cdbs.WriteSame form lba count b) entry.ranges.items → IfSome (alone_of (cdbs.WriteSame form lba count b)) (λ alone. CanCarry alone entry d)) [
       | true ↦ λ t pages can. takes (over lba count ∷ []) can
       | false ↦ λ t pages can. (omega (arith, t.0, pages), reached lba count t.1)
     ])
     (λ size t pages can. takes entry.ranges.items can) (λ cdb t pages can. (omega (arith, t.0, pages), t.1)) kept.task kept.pages kept.trims
   where
-    reached : (lba count : ℕ) → IsCovered identity.capacity lba count → IsCovered d.capacity lba count
-    reached lba count = subst (λ n. IsCovered n lba count) capacity
+    reached : (lba count : ℕ) → FitsCapacity identity.capacity lba count → FitsCapacity d.capacity lba count
+    reached lba count = subst (λ n. FitsCapacity n lba count) capacity
 
     takes : (ranges : List Range) → AreTrimmed identity ranges → TakesTrim ranges d
     takes ranges can = record { has = has ∙ can.has; list = can.list; within = subst (λ n. AllByRecursion (λ (r : Range). r.lba + r.count ≤ n) ranges) size can.within }
@@ -300,7 +300,7 @@ written_is identity modes started attentions entry others d pairs pair set told 
     of_task (λ c. Written c → length entry.body ≡ entry.blocks + entry_pages c identity.queued_trim → IsIn pair pairs → Shown c) identity.capacity entry.blocks entry.command
     (λ form lba count fua t is size i. absurd is) (λ form lba count fua t is size i. absurd is) (λ form lba count none is size i. absurd (subst (IsIn pair) is.1 i)) (λ start no_flush none is size i. absurd (subst (IsIn pair) is.1 i))
     (λ ten size none is pages i. absurd (subst (IsIn pair) is.1 i)) (λ form lba count t is size i. absurd (subst (IsIn pair) is.1 i)) (λ form lba count t is size i. absurd (subst (IsIn pair) is.1 i))
-    (λ form lba count unmap. elim unmap as (λ b. (entry.blocks ≡ 1) × IsCovered identity.capacity lba count → Written (cdbs.WriteSame form lba count b) → length entry.body ≡ entry.blocks + 0 → IsIn pair pairs → Shown (cdbs.WriteSame form lba count b)) [
+    (λ form lba count unmap. elim unmap as (λ b. (entry.blocks ≡ 1) × FitsCapacity identity.capacity lba count → Written (cdbs.WriteSame form lba count b) → length entry.body ≡ entry.blocks + 0 → IsIn pair pairs → Shown (cdbs.WriteSame form lba count b)) [
       | true ↦ λ t is size i. subst (IsIn pair) (is.1 ∙ (zeros_of_ranges d.cache (over lba count ∷ []) ∙ ap (zeros_over (over lba count ∷ [])) set.cache)) i
       | false ↦ λ t is size i. subst (IsIn pair) (is.1 ∙ (same_is lba count entry.body d.cache (omega (arith, t.0, size)) ∙ ap (same_pairs lba count entry.body) set.cache)) i
     ])

@@ -23,14 +23,14 @@ use Rattle.satl_flight.specs.Settled.{IsFilled}
 use Rattle.satl_core.specs.Layer.{Agrees, held_pages}
 use Rattle.satl_core.proofs.AgreeingLemmas.{idle_in_flight}
 use Rattle.satl_core.proofs.TieLemmas.{layer_of}
-use Rattle.satl_barrier.specs.Commands.{IsTold}
+use Rattle.satl_barrier.specs.Commands.{GivesIdentifyData}
 use Rattle.satl_core.specs.Opening.{IsOpened}
 
-pub told_nows : (old new : DriveState) (given taken : List Block) → IsTold old given taken new → map (λ c. c.now) new.cells ≡ map (λ c. c.now) old.cells
+pub told_nows : (old new : DriveState) (given taken : List Block) → GivesIdentifyData old given taken new → map (λ c. c.now) new.cells ≡ map (λ c. c.now) old.cells
 told_nows old new given taken told = loses-nows old.cells new.cells told.lost
 
 -- what is read in the first page is what the drive says
-pub judged_as_told : (old new : DriveState) (given taken : List Block) (block : Block) (found : Result Identity IdentityFault) → IsTold old given taken new → block ≡ slice_index_or taken 0 block → found ≡ identity_of block.bytes
+pub judged_as_told : (old new : DriveState) (given taken : List Block) (block : Block) (found : Result Identity IdentityFault) → GivesIdentifyData old given taken new → block ≡ slice_index_or taken 0 block → found ≡ identity_of block.bytes
     → found ≡ identity_of old.identify
 judged_as_told old new given taken block found told is judged = judged ∙ ap (λ (b : Block). identity_of b.bytes) (is ∙ ap (λ pages. slice_index_or pages 0 block) told.pages)
 
@@ -47,7 +47,7 @@ own old new stays fit right =
     ∙ (ap (λ b. identity_data old.identify b (look_is_on old.identify)) (fit.cache_told ∙ sym (ap (λ (d : DriveState). d.cache) stays))
     ∙ ap (λ b. identity_data old.identify new.cache b) (fit.look_told ∙ sym (ap (λ (d : DriveState). d.look) stays))))
 
-agrees : (old new : DriveState) (given taken : List Block) (i : Identity) (modes : Modes) (slots : Slots) (free : ℕ) → old.outstanding ≡ [] → old.error ≡ None → IsTold old given taken new → IsFit old → IsFit new → identity_of old.identify ≡ Ok i → modes.wce ≡ i.cache_on → modes.dra ≡ not i.look_on
+agrees : (old new : DriveState) (given taken : List Block) (i : Identity) (modes : Modes) (slots : Slots) (free : ℕ) → old.outstanding ≡ [] → old.error ≡ None → GivesIdentifyData old given taken new → IsFit old → IsFit new → identity_of old.identify ≡ Ok i → modes.wce ≡ i.cache_on → modes.dra ≡ not i.look_on
     → Agrees (record { identity = i; modes = modes; started = true; down = false; attentions = replicate 4 []; tasks = []; flying = []; slots = slots; free = free; out = 0 }) new
 agrees old new given taken i modes slots free idle no_error told fit fit' judged wce dra =
     let say = (unbroken old.identify i judged).1 in
@@ -75,7 +75,7 @@ agrees old new given taken i modes slots free idle no_error told fit fit' judged
       };
     }
 
-pub opened : (old new : DriveState) (given taken : List Block) (i : Identity) (modes : Modes) (q : Waiting) (attentions : List (List Attention)) (pool : Counts) → old.outstanding ≡ [] → old.error ≡ None → IsTold old given taken new → IsFit old → IsFit new → identity_of old.identify ≡ Ok i
+pub opened : (old new : DriveState) (given taken : List Block) (i : Identity) (modes : Modes) (q : Waiting) (attentions : List (List Attention)) (pool : Counts) → old.outstanding ≡ [] → old.error ≡ None → GivesIdentifyData old given taken new → IsFit old → IsFit new → identity_of old.identify ≡ Ok i
     → modes.wce ≡ i.cache_on → modes.dra ≡ not i.look_on → modes.d_sense ≡ false → q ≡ empty → attentions ≡ replicate 4 [] → pool.out - held_pages q.tasks ≡ 0 → IsOpened old (layer_of i modes true false attentions q pool) new
 opened old new given taken i modes q attentions pool idle no_error told fit fit' judged wce dra d_sense none untold in_all = record {
   identity = judged;

@@ -21,10 +21,10 @@ use Rattle.satl_regs.specs.declared.values.AtaCommand.TheVariants as ata
 use Rattle.satl_regs.specs.declared.values.Taskfile.{Taskfile}
 use Rattle.satl_regs.specs.Commands.{command_in}
 use Rattle.satl_regs.specs.Effects as effects
-use Rattle.satl_regs.specs.Effects.{Carries, HasEffect, IsRefused, Medium, Setting, Traffic, Transfer, abrt, has_setting, own_blocks, pairs_of, reading, setting_of, settable, trimming, verifying, writing}
+use Rattle.satl_regs.specs.Effects.{Carries, HasEffect, EndsBad, Medium, Setting, Traffic, Transfer, abrt, has_setting, own_blocks, pairs_of, reading, setting_of, settable, trimming, verifying, writing}
 use Rattle.satl_regs.specs.Effects.Setting.{sets_cache, sets_look}
 use Rattle.satl_pass.specs.declared.pass.Pass.{Pass}
-use Rattle.satl_pass.specs.Reading.{CanRun}
+use Rattle.satl_pass.specs.Reading.{CanGoToDrive}
 use Rattle.satl_pass.specs.Status.{is_bad}
 use Rattle.satl_pass.specs.Transfers.{is_other}
 use Rattle.satl_frame.specs.DataPages.{page_count, pages_from, pages_of}
@@ -48,13 +48,13 @@ use Rattle.satl_core.specs.Turning.{ended_reply, modes_after, set_by, where_done
 use Rattle.satl_core.proofs.DeviceLemmas.{ends_around, ends_by, first_gone, seen}
 
 -- the length of a command of the profile is its own
-own_length : (pass : Pass) → is_other (command_in pass.regs) ≡ false → CanRun pass → pass.length ≡ 512 * own_blocks (command_in pass.regs)
+own_length : (pass : Pass) → is_other (command_in pass.regs) ≡ false → CanGoToDrive pass → pass.length ≡ 512 * own_blocks (command_in pass.regs)
 own_length pass named can =
     eqb-true pass.length (512 * own_blocks (command_in pass.regs))
     (not-false (pass.length == 512 * own_blocks (command_in pass.regs)) (subst (λ b. (not b && not (pass.length == 512 * own_blocks (command_in pass.regs))) ≡ false) named can.own_length))
 
 -- its data have room in its pages
-pub own_room : (pass : Pass) (n : ℕ) → CanRun pass → n ≡ page_count pass.length → own_blocks (command_in pass.regs) ≤ n
+pub own_room : (pass : Pass) (n : ℕ) → CanGoToDrive pass → n ≡ page_count pass.length → own_blocks (command_in pass.regs) ≤ n
 own_room pass n can count = by (command_in pass.regs) refl
   where
     by : (c : AtaCommand) → command_in pass.regs ≡ c → own_blocks (command_in pass.regs) ≤ n
@@ -101,15 +101,15 @@ carries_keep : (t : Transfer) (x : Traffic) (old new : Medium) → Carries t x o
 carries_keep t x old new = by (nat_lt (length old.cells) (t.lba + t.sectors)) (first_flaw t.stopped_by old.cells t.lba t.sectors)
   where
     by : (outside : Bool) (flaw : Option ℕ)
-        → MatchBool outside (IsRefused effects.idnf x.registers.lba x old new)
-        (MatchOption flaw (effects.IsCarriedOut t x old new ⊎ effects.IsGarbled t x old new) (λ at. effects.IsFlawed t at x old new))
+        → MatchBool outside (EndsBad effects.idnf x.registers.lba x old new)
+        (MatchOption flaw (effects.EndsInFull t x old new ⊎ effects.IsGarbled t x old new) (λ at. effects.IsFlawed t at x old new))
         → (new.cache ≡ old.cache) × (new.look ≡ old.look)
     by true flaw does = same_so old new _ does.medium refl refl
     by false None does = ⊎_elim (λ y. same_so old new _ y.medium refl refl) (λ y. same_so old new _ y.medium refl refl) does
     by false (Some at) does = same_so old new _ does.medium refl refl
 
 module _ (x : Traffic) (modes : Modes) (old new : Medium) (set : AreSet modes old) where
-  refused_keeps : IsRefused abrt 0 x old new → (bad_modes : Bool → Modes) → bad_modes true ≡ modes → AreSet (bad_modes (is_bad x.ended)) new
+  refused_keeps : EndsBad abrt 0 x old new → (bad_modes : Bool → Modes) → bad_modes true ≡ modes → AreSet (bad_modes (is_bad x.ended)) new
   refused_keeps does bad_modes is =
       subst (λ (e : Taskfile). AreSet (bad_modes (is_bad e)) new) (sym does.ends)
       (subst (λ (m : Modes). AreSet m new) (sym is) (keeps modes old new true set (same_so old new _ does.medium refl refl)))
@@ -121,12 +121,12 @@ module _ (x : Traffic) (modes : Modes) (old new : Medium) (set : AreSet modes ol
   made (sets_look false) does = record { cache = ap (λ (m : Medium). m.cache) does.medium ∙ set.cache; look = ap (λ (m : Medium). m.look) does.medium }
 
   -- SET FEATURES: a setting that the drive has, or it is refused
-  features : (o : Option Setting) → MatchOption (settable old.identify o) (IsRefused abrt 0 x old new) (λ s. effects.IsSet s x old new)
+  features : (o : Option Setting) → MatchOption (settable old.identify o) (EndsBad abrt 0 x old new) (λ s. effects.IsSet s x old new)
       → AreSet (if is_bad x.ended then modes else with_setting o modes) new
   features None does = refused_keeps does (λ b. if b then modes else modes) refl
   features (Some s) does = by (has_setting old.identify s) does
     where
-      by : (has : Bool) → MatchOption (if has then Some s else None) (IsRefused abrt 0 x old new) (λ s. effects.IsSet s x old new) → AreSet (if is_bad x.ended then modes else with_setting (Some s) modes) new
+      by : (has : Bool) → MatchOption (if has then Some s else None) (EndsBad abrt 0 x old new) (λ s. effects.IsSet s x old new) → AreSet (if is_bad x.ended then modes else with_setting (Some s) modes) new
       by true does = subst (λ (e : Taskfile). AreSet (if is_bad e then modes else with_setting (Some s) modes) new) (sym does.ends) (made s does)
       by false does = refused_keeps does (λ b. if b then modes else with_setting (Some s) modes) refl
 
@@ -143,12 +143,12 @@ module _ (x : Traffic) (modes : Modes) (old new : Medium) (set : AreSet modes ol
   set_after ata.CheckPower does = keeps modes old new (is_bad x.ended) set (same_so old new _ does.medium refl refl)
   set_after (ata.ReadLog log page blocks) does = logged (effects.is_error_log log page blocks) does
     where
-      logged : (b : Bool) → MatchBool b (effects.IsLogged effects.no_error_log x old new) (IsRefused abrt 0 x old new) → AreSet (if is_bad x.ended then modes else modes) new
+      logged : (b : Bool) → MatchBool b (effects.IsLogged effects.no_error_log x old new) (EndsBad abrt 0 x old new) → AreSet (if is_bad x.ended then modes else modes) new
       logged true does = keeps modes old new (is_bad x.ended) set (same_so old new _ does.medium refl refl)
       logged false does = keeps modes old new (is_bad x.ended) set (same_so old new _ does.medium refl refl)
   set_after (ata.Trim blocks) does = trimmed (effects.is_no_trim blocks x.given old) does
     where
-      trimmed : (b : Bool) → MatchBool b (IsRefused abrt 0 x old new) (Carries (trimming blocks x.given old) x old new) → AreSet (if is_bad x.ended then modes else modes) new
+      trimmed : (b : Bool) → MatchBool b (EndsBad abrt 0 x old new) (Carries (trimming blocks x.given old) x old new) → AreSet (if is_bad x.ended then modes else modes) new
       trimmed true does = keeps modes old new (is_bad x.ended) set (same_so old new _ does.medium refl refl)
       trimmed false does = keeps modes old new (is_bad x.ended) set (carries_keep (trimming blocks x.given old) x old new does)
   set_after ata.SmartStatus does = keeps modes old new (is_bad x.ended) set (same_so old new _ does.medium refl refl)
@@ -245,13 +245,13 @@ module _ (identity : Identity) (modes : Modes) (started : Bool) (attentions : Li
       ∙ ap (λ b. record { cells = d.cells; cache = modes.wce; look = b; active = d.active; glitches = d.glitches; identify = identity_data identity.bytes modes.wce b }) set.look)
 
   -- the data-out of a command of the profile are its pages
-  out_is : CanRun pass → is_other command ≡ false → length entry.body ≡ page_count pass.length → AreWhole entry.body → pass.out ≡ true → (task_of task).body ≡ entry.body
+  out_is : CanGoToDrive pass → is_other command ≡ false → length entry.body ≡ page_count pass.length → AreWhole entry.body → pass.out ≡ true → (task_of task).body ≡ entry.body
   out_is can named count whole out =
       let size = own_length pass named can in
       ap (λ b. if b then pages_of (first_bytes pass.length entry.body) else []) out ∙ own_pages pass.length entry.body whole (omega (arith, size, count))
 
   -- what it writes is what the device says that it writes
-  pub pass_pairs : (pair : Pair) → IsSetBy modes d → TellsOf identity.bytes d → CanRun pass → length entry.body ≡ page_count pass.length → AreWhole entry.body → IsIn pair (pairs_of command (drive.medium_of d) entry.body)
+  pub pass_pairs : (pair : Pair) → IsSetBy modes d → TellsOf identity.bytes d → CanGoToDrive pass → length entry.body ≡ page_count pass.length → AreWhole entry.body → IsIn pair (pairs_of command (drive.medium_of d) entry.body)
       → IsIn pair (pairs_of command (medium_of before) (task_of task).body)
   pass_pairs pair set told can count whole among = ⊎_elim (λ named. by named pass.out refl) (λ none. absurd (subst (IsIn pair) (none (drive.medium_of d) entry.body) among)) (named_or_none command)
     where
@@ -263,7 +263,7 @@ module _ (identity : Identity) (modes : Modes) (started : Bool) (attentions : Li
       by named true out = subst (λ g. IsIn pair (pairs_of command (medium_of before) g)) (sym (out_is can named count whole out)) (subst (λ m. IsIn pair (pairs_of command m entry.body)) (same_medium set told) among)
       by named false out = absurd (subst (IsIn pair) (writes_none command pass can.own_length can.own_direction out (drive.medium_of d) entry.body) among)
 
-  module _ (d' : DriveState) (ending : Ending) (taken : List Block) (set : IsSetBy modes d) (told : TellsOf identity.bytes d) (can : CanRun pass) (count : length entry.body ≡ page_count pass.length) (through : PassesThrough pass entry.body taken d ending d') where
+  module _ (d' : DriveState) (ending : Ending) (taken : List Block) (set : IsSetBy modes d) (told : TellsOf identity.bytes d) (can : CanGoToDrive pass) (count : length entry.body ≡ page_count pass.length) (through : PassesThrough pass entry.body taken d ending d') where
     abbrev x : Traffic
     x = record { registers = pass.regs; given = entry.body; ended = through.ended; taken = taken }
 

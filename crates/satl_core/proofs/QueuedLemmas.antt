@@ -45,7 +45,7 @@ use Rattle.satl_direct.proofs.Quieting.{quiet_none}
 use Rattle.satl_direct.proofs.Naming.{called_same}
 use Rattle.satl_flight.specs.Flown.{clash}
 use Rattle.satl_flight.specs.Lending.{waiting}
-use Rattle.satl_flight.specs.Settled.{IsFilled, IsFlawOrCrc, IsLostInFlight, IsLostQuietly, IsSettled, OnDrive, on_drive, outcome_of, read_into}
+use Rattle.satl_flight.specs.Settled.{HasEndedAt, IsFilled, IsFlawOrCrc, IsLostInFlight, IsLostQuietly, OnDrive, on_drive, outcome_of, read_into}
 use Rattle.satl_core.specs.Layer.{Agrees, Layer, view, works}
 use Rattle.satl_core.specs.Refilling.{EndsOne}
 use Rattle.satl_core.specs.Turning as core
@@ -256,7 +256,7 @@ module _ (l : Layer) (d : DriveState) (agrees : Agrees l d) (w : works l ≡ tru
 
   -- ---- one ends
 
-  module _ (l' : Layer) (d' : DriveState) (place : ℕ) (outcome : Outcome) (own : AreOwn (map task_of (entries_of l.tasks))) (s : IsSettled place outcome (queue_on l d) (queue_on l' d'))
+  module _ (l' : Layer) (d' : DriveState) (place : ℕ) (outcome : Outcome) (own : AreOwn (map task_of (entries_of l.tasks))) (s : HasEndedAt place outcome (queue_on l d) (queue_on l' d'))
       (same : l' ≡ record l { tasks = remove l.tasks place; flying = l'.flying; slots = l'.slots; free = l'.free; out = l'.out }) where
     abbrev task : Entry
     task = task_of s.held.entry

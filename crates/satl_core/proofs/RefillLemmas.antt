@@ -14,7 +14,7 @@ use Rattle.satl_direct.specs.Device.{Device}
 use Rattle.satl_direct.specs.Quiet.{Quiet}
 use Rattle.satl_direct.specs.Turn.{Loss}
 use Rattle.satl_direct.proofs.Quieting.{quiet_none}
-use Rattle.satl_flight.specs.Settled.{IsCovered, IsFilled, IsLaunched, IsLostQuietly}
+use Rattle.satl_flight.specs.Settled.{IsFilled, IsIssuedIfItMay, IsLaunched, IsLostQuietly}
 use Rattle.satl_flight.proofs.LaunchedLemmas.{launched_moves}
 use Rattle.satl_flight.proofs.LaunchingLemmas.{filled_come}
 use Rattle.satl_core.specs.Flushed.{IsSettled}
@@ -59,13 +59,13 @@ module _ (l now new : Layer) (d d' : DriveState) (is : l ≡ now) (w : works l �
 
 -- the task that came last is covered, so the queue is used
 pub filled_last : (l new : Layer) (capacity : Rattle.std.proofs.Common.ℕ) (trims : Bool) (d d' : DriveState) → works l ≡ true → new.tasks ≡ l.tasks → (before : List Held) → Comes capacity trims before l.tasks → MatchBool (works l) (IsFilled l.flying before) (l.flying ≡ [])
-    → IsLaunched (queue_on l d) (queue_on new d') → IsCovered new.flying new.tasks (length l.tasks - 1) → IsFilled new.flying new.tasks
+    → IsLaunched (queue_on l d) (queue_on new d') → IsIssuedIfItMay new.flying new.tasks (length l.tasks - 1) → IsFilled new.flying new.tasks
 filled_last l new capacity trims d d' w same before comes used step covered =
     let filled : IsFilled l.flying before = subst (λ b. MatchBool b (IsFilled l.flying before) (l.flying ≡ [])) w used in
     let count : length l.tasks - 1 ≡ length before = ap (λ ts. length ts - 1) comes.last ∙ one_less before comes.held in
     subst (IsFilled new.flying) (sym (same ∙ comes.last))
     (filled_come before comes.held (queue_on l d) (queue_on new d') filled step
-    (subst (λ n. IsCovered new.flying (before ++ comes.held ∷ []) n) count (subst (λ ts. IsCovered new.flying ts (length l.tasks - 1)) (same ∙ comes.last) covered)))
+    (subst (λ n. IsIssuedIfItMay new.flying (before ++ comes.held ∷ []) n) count (subst (λ ts. IsIssuedIfItMay new.flying ts (length l.tasks - 1)) (same ∙ comes.last) covered)))
   where
     one_less : (ts : List Held) (h : Held) → length (ts ++ h ∷ []) - 1 ≡ length ts
     one_less ts h = let n = Rattle.std.proofs.Common.length-append ts (h ∷ []) in omega (arith, n)

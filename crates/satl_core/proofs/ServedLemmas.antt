@@ -39,7 +39,7 @@ use Rattle.satl_core.specs.declared.turning.Ending.{Ending}
 use Rattle.satl_core.specs.declared.turning.Ending.TheVariants as endings
 use Rattle.satl_core.specs.Alone.{alone_of}
 use Rattle.satl_core.specs.Managing.{once_posted}
-use Rattle.satl_core.specs.Layer.{Agrees, IsCovered, IsKept, IsTask, Layer}
+use Rattle.satl_core.specs.Layer.{Agrees, FitsCapacity, IsKept, IsTask, Layer}
 use Rattle.satl_core.specs.Refilling.{EndsOne}
 use Rattle.satl_core.specs.Turning as core
 use Rattle.satl_core.specs.Turning.{DoneAlone, IsLostInTask, IsUnasked, TaskEnds, TaskOnDrive, change_posting, ended_reply, modes_after, read_pages, started_after, task_on, wanted_by, where_done}
@@ -160,7 +160,7 @@ task_turn identity modes started attentions entry left others d d' ending kept s
     (selected_turn identity modes started ten size attentions entry others d d' ending set.cache x.1 x.0)))
     (λ form lba count t ready has x. bare (cdbs.Verify form lba count false) refl refl (check_turn identity modes started attentions entry others d d' form lba count ending ready x))
     (λ form lba count t ready has x. bare (cdbs.Verify form lba count true) refl refl (compare_turn identity modes started attentions entry others d d' form lba count ending ready x))
-    (λ form lba count unmap. elim unmap as (λ b. (entry.blocks ≡ 1) × IsCovered identity.capacity lba count → (not started && (asks (cdbs.WriteSame form lba count b)).starts) ≡ false → IfSome (alone_of (cdbs.WriteSame form lba count b)) (λ alone. CanCarry alone entry d) → DoneAlone (wanted_by modes entry.modes) ending (task_on (record entry { command = cdbs.WriteSame form lba count b }) d) (task_on left d') → Ends (cdbs.WriteSame form lba count b)) [
+    (λ form lba count unmap. elim unmap as (λ b. (entry.blocks ≡ 1) × FitsCapacity identity.capacity lba count → (not started && (asks (cdbs.WriteSame form lba count b)).starts) ≡ false → IfSome (alone_of (cdbs.WriteSame form lba count b)) (λ alone. CanCarry alone entry d) → DoneAlone (wanted_by modes entry.modes) ending (task_on (record entry { command = cdbs.WriteSame form lba count b }) d) (task_on left d') → Ends (cdbs.WriteSame form lba count b)) [
       | true ↦ λ t ready has x. bare (cdbs.WriteSame form lba count true) refl refl (zero_turn identity modes started attentions entry others d d' set.cache form lba count ending ready x)
       | false ↦ λ t ready has x. bare (cdbs.WriteSame form lba count false) refl refl (same_turn identity modes started attentions entry others d d' set.cache form lba count ending ready has.0 x)
     ])

@@ -5,9 +5,9 @@ use Rattle.satl_cdb.specs.declared.command.Form.{Form}
 use Rattle.satl_cdb.specs.declared.command.Command.{Command}
 use Rattle.satl_cdb.specs.declared.command.Command.TheVariants as cdbs
 use Rattle.satl_frame.specs.DataPages.{page_count}
-use Rattle.satl_pass.specs.Reading.{CanRun}
+use Rattle.satl_pass.specs.Reading.{CanGoToDrive}
 use Rattle.satl_direct.specs.Tasks.{held_blocks, needed, pass_of}
-use Rattle.satl_core.specs.Layer.{IsCovered, IsTask, IsWithin, entry_pages}
+use Rattle.satl_core.specs.Layer.{FitsCapacity, IsTask, IsWithin, entry_pages}
 
 -- what holds of each READ, WRITE, SYNCHRONIZE CACHE, START STOP UNIT, MODE SELECT, VERIFY without and with comparison, WRITE SAME, UNMAP and
 -- ATA PASS-THROUGH holds of a command that makes a task
@@ -17,11 +17,11 @@ pub of_task : (P : Command → Type 0) (capacity n : ℕ) (command : Command)
     → ((form : Form) (lba count : ℕ) → n ≡ 0 → P (cdbs.Flush form lba count))
     → ((start no_flush : Bool) → n ≡ 0 → P (cdbs.StartStop start no_flush))
     → ((ten : Bool) (size : ℕ) → (n ≡ 0) × (size < 65536) → P (cdbs.ModeSelect ten size))
-    → ((form : Form) (lba count : ℕ) → (n ≡ 0) × IsCovered capacity lba count → P (cdbs.Verify form lba count false))
-    → ((form : Form) (lba count : ℕ) → (n ≡ count) × (count ≤ 4096) × IsCovered capacity lba count → P (cdbs.Verify form lba count true))
-    → ((form : Form) (lba count : ℕ) (unmap : Bool) → (n ≡ 1) × IsCovered capacity lba count → P (cdbs.WriteSame form lba count unmap))
+    → ((form : Form) (lba count : ℕ) → (n ≡ 0) × FitsCapacity capacity lba count → P (cdbs.Verify form lba count false))
+    → ((form : Form) (lba count : ℕ) → (n ≡ count) × (count ≤ 4096) × FitsCapacity capacity lba count → P (cdbs.Verify form lba count true))
+    → ((form : Form) (lba count : ℕ) (unmap : Bool) → (n ≡ 1) × FitsCapacity capacity lba count → P (cdbs.WriteSame form lba count unmap))
     → ((size : ℕ) → (n ≡ 0) × (size < 65536) → P (cdbs.Unmap size))
-    → ((cdb : List ℕ) → (n ≡ page_count (pass_of cdb).length) × CanRun (pass_of cdb) → P (cdbs.Pass cdb)) → IsTask capacity command n → P command
+    → ((cdb : List ℕ) → (n ≡ page_count (pass_of cdb).length) × CanGoToDrive (pass_of cdb) → P (cdbs.Pass cdb)) → IsTask capacity command n → P command
 of_task P capacity n (cdbs.Read form lba count fua) read write flush switch select check compare same trim through t = read form lba count fua t
 of_task P capacity n (cdbs.Write form lba count fua) read write flush switch select check compare same trim through t = write form lba count fua t
 of_task P capacity n (cdbs.Flush form lba count) read write flush switch select check compare same trim through t = flush form lba count t

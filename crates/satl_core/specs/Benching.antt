@@ -47,13 +47,13 @@ pub record LosesLink (old : Layer) (replies : List Reply) (new : Layer) : Type 0
   pub stays : new ≡ record old { down = true; tasks = []; flying = []; slots = new.slots; free = new.free; out = new.out }
 
 -- what follows from an event for the layer, and what it answers (profile)
-abbrev pub Follows : BenchEvent → Layer → List Reply → Layer → Type 0
-Follows (Strike which lba) old replies new = StaysSame old replies new
-Follows (Mend lba) old replies new = StaysSame old replies new
-Follows (Glitch count) old replies new = StaysSame old replies new
-Follows (Order order) old replies new = StaysSame old replies new
-Follows Power old replies new = StartsAnew old replies new
-Follows Unplug old replies new = LosesLink old replies new
+abbrev pub FollowsEvent : BenchEvent → Layer → List Reply → Layer → Type 0
+FollowsEvent (Strike which lba) old replies new = StaysSame old replies new
+FollowsEvent (Mend lba) old replies new = StaysSame old replies new
+FollowsEvent (Glitch count) old replies new = StaysSame old replies new
+FollowsEvent (Order order) old replies new = StaysSame old replies new
+FollowsEvent Power old replies new = StartsAnew old replies new
+FollowsEvent Unplug old replies new = LosesLink old replies new
 
 -- how often the drive was unplugged after an event: once more at UNPLUG, or still so often where the number is at its last
 -- value (profile)

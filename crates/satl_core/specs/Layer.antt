@@ -11,7 +11,7 @@ use Rattle.satl_identify.specs.declared.identity.Identity.{Identity}
 use Rattle.satl_identify.specs.Refusals.{IsIdentity}
 use Rattle.satl_mode.specs.Changes.{IsChangeOf}
 use Rattle.satl_regs.specs.Trim.{IsTrimList}
-use Rattle.satl_pass.specs.Reading.{CanRun}
+use Rattle.satl_pass.specs.Reading.{CanGoToDrive}
 use Rattle.satl_frame.specs.DataPages.{page_count}
 use Rattle.satl_line.specs.Kinds.{kind_of}
 use Rattle.satl_line.specs.Tasks.{Held, entries_of}
@@ -54,7 +54,7 @@ IsWithin capacity lba count blocks =
     (blocks ≡ count) × (lba < 2 ^ 48) × (1 ≤ count) × (count ≤ most_moved) × (lba + count ≤ capacity)
 
 -- 1 to 65,536 blocks within the capacity and the 48 bits of an address (profile)
-pub record IsCovered (capacity lba count : ℕ) : Type 0 where
+pub record FitsCapacity (capacity lba count : ℕ) : Type 0 where
   pub some : 1 ≤ count
   pub most : count ≤ most_covered
   pub address : lba + count ≤ 2 ^ 48
@@ -67,12 +67,12 @@ IsTask capacity (ModeSelect ten size) blocks = (blocks ≡ 0) × (size < 65536)
 IsTask capacity (StartStop start no_flush) blocks = blocks ≡ 0
 IsTask capacity (Read form lba count fua) blocks = IsWithin capacity lba count blocks
 IsTask capacity (Write form lba count fua) blocks = IsWithin capacity lba count blocks
-IsTask capacity (Verify form lba count false) blocks = (blocks ≡ 0) × IsCovered capacity lba count
-IsTask capacity (Verify form lba count true) blocks = (blocks ≡ count) × (count ≤ most_moved) × IsCovered capacity lba count
+IsTask capacity (Verify form lba count false) blocks = (blocks ≡ 0) × FitsCapacity capacity lba count
+IsTask capacity (Verify form lba count true) blocks = (blocks ≡ count) × (count ≤ most_moved) × FitsCapacity capacity lba count
 IsTask capacity (Flush form lba count) blocks = blocks ≡ 0
-IsTask capacity (WriteSame form lba count unmap) blocks = (blocks ≡ 1) × IsCovered capacity lba count
+IsTask capacity (WriteSame form lba count unmap) blocks = (blocks ≡ 1) × FitsCapacity capacity lba count
 IsTask capacity (Unmap size) blocks = (blocks ≡ 0) × (size < 65536)
-IsTask capacity (Pass cdb) blocks = (blocks ≡ page_count (pass_of cdb).length) × CanRun (pass_of cdb)
+IsTask capacity (Pass cdb) blocks = (blocks ≡ page_count (pass_of cdb).length) × CanGoToDrive (pass_of cdb)
 IsTask capacity _ blocks = ⊥
 
 -- the pages that a task holds beside those of its blocks: one for the entries of an UNMAP whose trim is queued (profile)

@@ -11,7 +11,7 @@ use Rattle.satl_line.specs.declared.entry.Entry.{Entry}
 use Rattle.satl_sense.specs.declared.sense.Sense.{Sense}
 use Rattle.satl_frame.specs.DataPages.{page_count}
 use Rattle.satl_pass.specs.declared.pass.Pass.{Pass}
-use Rattle.satl_pass.specs.Reading.{CanRun}
+use Rattle.satl_pass.specs.Reading.{CanGoToDrive}
 use Rattle.satl_pass.specs.Status.{is_bad, status_sense}
 use Rattle.satl_regs.specs.declared.values.Taskfile.{Taskfile}
 use Rattle.satl_regs.specs.Commands.{command_in}
@@ -27,7 +27,7 @@ use Rattle.satl_barrier.specs.Commands.{AreWhole}
 use Rattle.satl_barrier.specs.Finishing.{ComparesAs, FinishesAs, IsVerified, trimming, writing_same}
 use Rattle.satl_direct.specs.Senses.{crc_error, miscompare, read_error, write_error}
 use Rattle.satl_direct.specs.Tasks.{pass_of}
-use Rattle.satl_core.specs.Layer.{IsCovered}
+use Rattle.satl_core.specs.Layer.{FitsCapacity}
 use Rattle.satl_core.specs.declared.alone.Alone.{Alone}
 use Rattle.satl_core.specs.declared.alone.Alone.TheVariants as alones
 use Rattle.satl_core.specs.declared.turning.Ending.{Ending}
@@ -38,41 +38,41 @@ abbrev pub flawed : Bool → ℕ → Ending
 flawed writes lba = endings.Check (if writes then write_error lba else read_error lba)
 
 -- how a VERIFY without comparison ends (SBC-3 5.33)
-abbrev pub verified : Option ℕ → Ending
-verified None = endings.Good
-verified (Some lba) = flawed false lba
+abbrev pub ending_of_verify : Option ℕ → Ending
+ending_of_verify None = endings.Good
+ending_of_verify (Some lba) = flawed false lba
 
 -- how a VERIFY with comparison ends (SBC-3 5.33, BYTCHK)
-abbrev pub compared : Comparison → Ending
-compared comparisons.Same = endings.Good
-compared comparisons.Differs = endings.Check miscompare
-compared (comparisons.Flawed lba) = flawed false lba
-compared comparisons.Garbled = endings.Check crc_error
+abbrev pub ending_of_comparison : Comparison → Ending
+ending_of_comparison comparisons.Same = endings.Good
+ending_of_comparison comparisons.Differs = endings.Check miscompare
+ending_of_comparison (comparisons.Flawed lba) = flawed false lba
+ending_of_comparison comparisons.Garbled = endings.Check crc_error
 
 -- how a WRITE SAME or a trim ends (SAT-3 11)
-abbrev pub finished : Finish → Ending
-finished finishes.Done = endings.Good
-finished (finishes.Flawed lba) = flawed true lba
-finished finishes.Garbled = endings.Check crc_error
+abbrev pub ending_of_finish : Finish → Ending
+ending_of_finish finishes.Done = endings.Good
+ending_of_finish (finishes.Flawed lba) = flawed true lba
+ending_of_finish finishes.Garbled = endings.Check crc_error
 
 -- a range was verified, and the task ends so (SBC-3 5.33)
 pub record HasVerified (range : Range) (old : DriveState) (ending : Ending) (new : DriveState) : Type 0 where
   pub flaw : Option ℕ
   pub is : IsVerified range flaw old new
-  pub told : ending ≡ verified flaw
+  pub told : ending ≡ ending_of_verify flaw
 
 -- a range was compared with these blocks, and the task ends so (SBC-3 5.33, BYTCHK)
 pub record HasCompared (range : Range) (blocks : List Block) (old : DriveState) (ending : Ending)
     (new : DriveState) : Type 0 where
   pub comparison : Comparison
   pub is : ComparesAs range blocks comparison old new
-  pub told : ending ≡ compared comparison
+  pub told : ending ≡ ending_of_comparison comparison
 
 -- a WRITE SAME or a trim was carried out, whose first piece has so many blocks, and the task ends so (SBC-3 5.28, 5.42)
 pub record HasFinished (t : Transfer) (first : ℕ) (old : DriveState) (ending : Ending) (new : DriveState) : Type 0 where
   pub finish : Finish
   pub is : FinishesAs t first finish old new
-  pub told : ending ≡ finished finish
+  pub told : ending ≡ ending_of_finish finish
 
 -- how a task ends by the sense data of its command and whether that ended bad (SAT-3 12.2)
 abbrev pub ending_with : Option Sense → Bool → Ending
@@ -104,13 +104,13 @@ pub record TakesTrim (ranges : List Range) (d : DriveState) : Type 0 where
 -- what a command that runs alone needs of its task and of the drive: a range within the capacity, its data-out in the pages,
 -- and that the drive takes what it trims (SBC-3 5; SAT-3 12.2)
 abbrev pub CanCarry : Alone → Entry → DriveState → Type 0
-CanCarry (alones.Verify range) t d = IsCovered d.capacity range.lba range.count
+CanCarry (alones.Verify range) t d = FitsCapacity d.capacity range.lba range.count
 CanCarry (alones.Compare range) t d =
-    (length t.body ≡ range.count) × (range.count ≤ most_moved) × IsCovered d.capacity range.lba range.count
-CanCarry (alones.WriteSame range) t d = (1 ≤ length t.body) × IsCovered d.capacity range.lba range.count
+    (length t.body ≡ range.count) × (range.count ≤ most_moved) × FitsCapacity d.capacity range.lba range.count
+CanCarry (alones.WriteSame range) t d = (1 ≤ length t.body) × FitsCapacity d.capacity range.lba range.count
 CanCarry (alones.TrimRange range) t d = TakesTrim (range ∷ []) d
 CanCarry alones.TrimList t d = TakesTrim t.ranges.items d
-CanCarry (alones.Through cdb) t d = (length t.body ≡ page_count (pass_of cdb).length) × CanRun (pass_of cdb)
+CanCarry (alones.Through cdb) t d = (length t.body ≡ page_count (pass_of cdb).length) × CanGoToDrive (pass_of cdb)
 CanCarry _ t d = Unit {0}
 
 -- the pages of an ATA PASS-THROUGH are whole (profile)

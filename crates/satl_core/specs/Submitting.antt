@@ -19,7 +19,7 @@ use Rattle.satl_sense.specs.declared.sense.Sense.{Sense}
 use Rattle.satl_regs.specs.Trim.{trim_block}
 use Rattle.satl_line.specs.declared.entry.Entry.{Entry}
 use Rattle.satl_unit.specs.declared.attention.Attention.{Attention}
-use Rattle.satl_direct.specs.Arrival.{asks_for, code_of, reply_to, sense_asked, told, untold_codes}
+use Rattle.satl_direct.specs.Arrival.{asks_for, good_with_data, operation_code, reply_to, sense_asked, untold_codes}
 use Rattle.satl_direct.specs.Device.{is_of}
 use Rattle.satl_direct.specs.Senses.{attention_sense, link_lost, no_sense, not_ready, out_of_range, overlapped, refusal, sense_text, short_data, unknown_unit}
 use Rattle.satl_direct.specs.Tasks.{asks, needed, range_of, task_for, task_of}
@@ -53,7 +53,7 @@ task_without_pages r command queued_trim = record (task_for queued_trim r comman
 -- the answer to a request that is answered at once (profile)
 abbrev pub reply_at_once : Identity → Modes → Request → AtOnce → Reply
 reply_at_once i m r at_once.Good = reply_to r statuses.Good []
-reply_at_once i m r (at_once.Tell what alloc) = told r alloc (data_text i m what)
+reply_at_once i m r (at_once.Tell what alloc) = good_with_data r alloc (data_text i m what)
 reply_at_once i m r (at_once.Check sense) = reply_to r statuses.CheckCondition (sense_text m sense)
 
 -- TEST UNIT READY, and commands that go over no block (profile)
@@ -165,7 +165,7 @@ arrival_calls tasks r = if is_overlapping tasks r then off_calls else 1
 -- the unit attention condition that a request is answered with; REQUEST SENSE tells it as data (SAM-5 5.14, SPC-4 6.39)
 abbrev pub attention_of : List (List Attention) → Request → Option Attention
 attention_of attentions r =
-    if is_in (code_of r) untold_codes && not (code_of r == 0x03) then None
+    if is_in (operation_code r) untold_codes && not (operation_code r == 0x03) then None
     else slice_get (slice_index_or attentions r.nexus []) 0
 
 -- the answer to a REQUEST SENSE with this sense data (SPC-4 6.39)
@@ -210,7 +210,7 @@ once_judged l r =
     else record l { attentions = untold (attention_of l.attentions r) r.nexus l.attentions }
 
 -- a request finds a full task set: nothing else changes, and no page is out (SAM-5 5.3.1)
-pub record IsRefused (r : Request) (old : Layer) (replies : List Reply) (new : Layer) : Type 0 where
+pub record FindsSetFull (r : Request) (old : Layer) (replies : List Reply) (new : Layer) : Type 0 where
   pub reply : replies ≡ reply_to r statuses.TaskSetFull [] ∷ []
   pub stays : new ≡ record old { free = new.free; out = 0 }
 
@@ -225,5 +225,5 @@ pub record IsAdded (r : Request) (command : Command) (old : Layer) (replies : Li
 abbrev pub Becomes : Request → Command → Layer → List Reply → Layer → Type 0
 Becomes r command old replies new =
     MatchBool (is_too_much old.tasks (task_without_pages r command old.identity.queued_trim))
-    (IsRefused r old replies new)
+    (FindsSetFull r old replies new)
     (IsAdded r command old replies new)

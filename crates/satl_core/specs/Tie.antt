@@ -6,7 +6,7 @@ use Rattle.std.specs.List.{AllZip, find, list_any}
 use Rattle.satl_line.specs.declared.entry.Entry.{Entry}
 use Rattle.satl_line.specs.Eligible.{IsEligible}
 use Rattle.satl_line.specs.Kinds.{is_ranged}
-use Rattle.satl_line.specs.Layout.{no_entry}
+use Rattle.satl_line.specs.Blank.{no_entry}
 use Rattle.satl_line.specs.Ranged.{RangedTask, ranged_of}
 use Rattle.satl_line.specs.Tasks.{Held}
 use Rattle.satl_drive.specs.State.{DriveState, Outstanding}
@@ -45,7 +45,7 @@ abbrev pub IsFilledQueue : Device → List Given → Type 0
 IsFilledQueue s given = (length given ≡ 32) ⊎ ((t : Entry) → IsEligible s.tasks t → is_ranged t ≡ true → holds given t ≡ true)
 
 -- the drive has what was given to it, and as much as can be while the unit is up and started, and else nothing (profile)
-pub record IsQueue (s : Device) (given : List Given) (outstanding : List Outstanding) : Type 0 where
+pub record IsTiedQueue (s : Device) (given : List Given) (outstanding : List Outstanding) : Type 0 where
   pub each : AllZip (IsGiven s) given outstanding
   pub apart : AreApart given
   pub used : MatchBool (not s.down && s.started) (IsFilledQueue s given) (given ≡ [])
@@ -66,5 +66,5 @@ given_by l = map (given_of l.tasks) l.flying
 -- what the tie says of the queue: what was given is outstanding under its tags, as much as can be is given, and the slots hold
 -- its pages (ACS-3, native command queuing; profile)
 pub record TiesQueue (l : Layer) (d : DriveState) : Type 0 where
-  pub queue : IsQueue (view l d) (given_by l) d.outstanding
+  pub queue : IsTiedQueue (view l d) (given_by l) d.outstanding
   pub slotted : IsSlotted d.outstanding l.slots

@@ -7,7 +7,7 @@ ghost use Rattle.satl_core.specs.Leaving.{AreWaiting, is_within, left_by};
 
 use satl_base::{Nexus, Tag};
 use satl_flight::Queue;
-use satl_line::Entry;
+use satl_line::{Entry, TaskBox};
 use satl_pages::Pool;
 
 /// Some of the tasks: one by its name, those of a nexus, all, or none (SAM-5 7).
@@ -57,8 +57,8 @@ pub fn has_outstanding(queue: &Queue, scope: &Scope) -> bool
 }
 
 /// Takes these tasks out, of which none is outstanding, and gives their pages back. They have no answer (SAM-5 5.1, overlapped
-/// commands, and 7).
-pub fn drop_tasks(queue: &mut Queue, pool: &mut Pool, scope: &Scope)
+/// commands, and 7). The desk is where each lies meanwhile.
+pub fn drop_tasks(queue: &mut Queue, pool: &mut Pool, desk: &mut TaskBox, scope: &Scope)
     requires waiting { AreWaiting (is_within scope.now) queue.old.flying queue.old.tasks }
     requires held { held_pages queue.old.tasks ≤ pool.old.out }
     ensures others { queue.new.tasks ≡ left_by (is_within scope.now) queue.old.tasks }
@@ -73,7 +73,7 @@ pub fn drop_tasks(queue: &mut Queue, pool: &mut Pool, scope: &Scope)
             place += 1;
             continue;
         }
-        let Entry { body, .. } = queue.remove(place);
-        pool.give(body);
+        queue.remove(place, desk);
+        pool.give(desk.take_body());
     }
 }

@@ -143,7 +143,7 @@ fn scratch_pages(pool: &mut Pool) -> Pages
 
 /// How a VERIFY without comparison ends: with GOOD, or at the lowest flawed address (SBC-3 5.33).
 fn verified(flaw: Option<u64>) -> Ending
-    ensures { result ≡ medium.verified flaw }
+    ensures { result ≡ medium.ending_of_verify flaw }
 {
     match flaw {
         None => Ending::Good,
@@ -153,7 +153,7 @@ fn verified(flaw: Option<u64>) -> Ending
 
 /// How a VERIFY with comparison ends; MISCOMPARE DURING VERIFY OPERATION where the blocks differ (SBC-3 5.33; SPC-4 4.5.6).
 fn compared(comparison: Comparison) -> Ending
-    ensures { result ≡ medium.compared comparison }
+    ensures { result ≡ medium.ending_of_comparison comparison }
 {
     match comparison {
         Comparison::Same => Ending::Good,
@@ -165,7 +165,7 @@ fn compared(comparison: Comparison) -> Ending
 
 /// How a WRITE SAME or a trim ends: with GOOD, at the lowest flawed address, or by a CRC error (SAT-3 11).
 fn finished(finish: Finish) -> Ending
-    ensures { result ≡ medium.finished finish }
+    ensures { result ≡ medium.ending_of_finish finish }
 {
     match finish {
         Finish::Done => Ending::Good,

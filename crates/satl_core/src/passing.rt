@@ -3,7 +3,7 @@ ghost use Rattle.std.specs.Prelude.{◌≡◌, ◌≤◌, ◌+◌, IfOk, OnErr, 
 ghost use Rattle.satl_frame.specs.DataPages.{page_count};
 ghost use Rattle.satl_regs.specs.Commands.{command_in};
 ghost use Rattle.satl_regs.specs.Effects.{pairs_of};
-ghost use Rattle.satl_pass.specs.Reading.{CanRun};
+ghost use Rattle.satl_pass.specs.Reading.{CanGoToDrive};
 ghost use Rattle.satl_drive.specs.State.{medium_of};
 ghost use Rattle.satl_barrier.specs.Commands.{AreWhole};
 ghost use Rattle.satl_barrier.specs.Leaving.{IsFree, IsLostIn, Stays};
@@ -31,7 +31,7 @@ pub fn run_through<D: Drive, L: Ledger>(
     steps: &mut Steps<L>,
 ) -> Result<Ending, LinkDown>
     requires free { IsFree (D.state drive.old) }
-    requires can { CanRun (direct.pass_of cdb.now) }
+    requires can { CanGoToDrive (direct.pass_of cdb.now) }
     requires room { length body.old ≡ page_count (direct.pass_of cdb.now).length }
     ensures ends { IfOk result (λ ending. PassesThrough (direct.pass_of cdb.now) body.old body.new (D.state drive.old) ending
         (D.state drive.new)) }

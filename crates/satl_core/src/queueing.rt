@@ -37,7 +37,13 @@ impl Satl {
     {
         self.down = true;
         let descriptor = self.modes.d_sense;
-        lose_tasks(&mut self.queue, &mut self.pool, descriptor, replies);
+        lose_tasks(
+            &mut self.queue,
+            &mut self.pool,
+            &mut self.desk,
+            descriptor,
+            replies,
+        );
     }
 
     /// Issues what may be issued, where the unit is up and started. Where the link is lost in it, all tasks are answered.
@@ -126,7 +132,7 @@ impl Satl {
             self.cut_off(scope, drive, replies, steps);
             return;
         }
-        drop_tasks(&mut self.queue, &mut self.pool, scope);
+        drop_tasks(&mut self.queue, &mut self.pool, &mut self.desk, scope);
         self.refill(drive, replies, steps);
     }
 
@@ -150,7 +156,7 @@ impl Satl {
         ensures steps { steps.new ≤ steps.old + off_calls }
     {
         let cut = self.queue.cut(drive, steps);
-        drop_tasks(&mut self.queue, &mut self.pool, scope);
+        drop_tasks(&mut self.queue, &mut self.pool, &mut self.desk, scope);
         match cut {
             Ok(()) => self.refill(drive, replies, steps),
             Err(LinkDown) => self.lose(replies),
@@ -222,7 +228,8 @@ impl Satl {
         ensures uncalled { self.old.down ≡ true → steps.new ≡ steps.old }
         ensures steps { steps.new ≤ steps.old + barrier_calls }
     {
-        let mut task = self.queue.remove(0);
+        self.queue.remove(0, &mut self.desk);
+        let task = self.desk.entry_mut();
         let command = task.command;
         let nexus = task.nexus;
         let descriptor = self.modes.d_sense;
@@ -232,7 +239,7 @@ impl Satl {
             self.started,
             &self.modes,
             &wanted,
-            &mut task,
+            task,
             &mut self.pool,
             drive,
             steps,
@@ -276,8 +283,9 @@ impl Satl {
         ensures steps { steps.new ≤ steps.old + 2 }
     {
         let descriptor = self.modes.d_sense;
-        match self.queue.settle_one(drive, steps) {
-            Ok((task, error)) => {
+        match self.queue.settle_one(&mut self.desk, drive, steps) {
+            Ok(error) => {
+                let task = self.desk.entry_mut();
                 let ending = ending_by(!is_read(&task.command), &error);
                 replies.push(end_task(&mut self.pool, task, ending, descriptor));
             }

@@ -12,7 +12,7 @@ ghost use Rattle.satl_direct.specs.Quiet.{Around};
 ghost use Rattle.satl_direct.specs.Run.{Manages, MayLose, bench_losses, depth};
 ghost use Rattle.satl_core.specs.Tie.{TiesQueue};
 ghost use Rattle.satl_direct.specs.Bench.{Happens};
-ghost use Rattle.satl_core.specs.Benching.{Follows, StartsAnew, unplugs_after};
+ghost use Rattle.satl_core.specs.Benching.{FollowsEvent, StartsAnew, unplugs_after};
 ghost use Rattle.satl_direct.specs.Turn.{Turn};
 ghost use Rattle.satl_core.specs.Layer.{IsTask, Tied, reply_pages, view};
 ghost use Rattle.satl_core.specs.Opening.{IsCause, IsOpened, IsUndisturbed};
@@ -30,8 +30,8 @@ use crate::benching::{act_on, powered_on};
 use crate::leaving::{Scope, drop_tasks};
 use crate::managing::{decide, post};
 use crate::submitting::{
-    AtOnce, answer_at_once, judge_code, next_attention, other_answer, own_pages, read_lengths,
-    reply_to, task_without_pages, tell_attention,
+    AtOnce, answer_at_once, judge_code, next_attention, other_answer, own_pages, put_task,
+    read_lengths, reply_to, tell_attention,
 };
 use satl_asks::{is_for_unit, plain};
 use satl_barrier::tell_identity;
@@ -43,6 +43,7 @@ use satl_cdb::Command;
 use satl_drive::{Bench, Drive, LinkDown};
 use satl_flight::Queue;
 use satl_identify::{Identity, IdentityFault, read_identity};
+use satl_line::TaskBox;
 use satl_mode::defaults;
 use satl_pages::Pool;
 use satl_unit::Attentions;
@@ -87,6 +88,8 @@ pub struct Satl {
     pub(crate) attentions: [Attentions; 4],
     pub(crate) queue: Queue,
     pub(crate) pool: Pool,
+    // Where a task comes from, and where one that left lies until it is answered.
+    pub(crate) desk: TaskBox,
 }
 
 impl Model for Satl {
@@ -131,6 +134,7 @@ impl Satl {
         ensures steps { steps.new ≤ steps.old + 1 }
     {
         let queue = Queue::new(alloc)?;
+        let desk = TaskBox::new(alloc)?;
         let mut pool = Pool::new(alloc, POOL_PAGES)?;
         let Some(mut pages) = pool.take(1) else {
             unreachable!();
@@ -152,6 +156,7 @@ impl Satl {
             attentions: no_attentions(),
             queue,
             pool,
+            desk,
         })
     }
 
@@ -303,8 +308,8 @@ impl Satl {
             self.new.tasks }
         ensures long { replies.new ≡ [] → needed command ≤ 512 * length request.body }
     {
-        let task = task_without_pages(&request, command, &self.identity);
-        if self.queue.add(task).is_err() {
+        put_task(&request, command, &self.identity, self.desk.entry_mut());
+        if self.queue.add(&mut self.desk).is_err() {
             replies.push(reply_to(&request, Scsi::TaskSetFull, SenseBytes::new()));
             self.pool.give(request.body);
             return;
@@ -414,7 +419,7 @@ impl Satl {
         requires empty { replies.old ≡ [] }
         requires all_in { self.old.out ≡ 0 }
         requires few { length self.old.tasks ≤ most_tasks }
-        ensures follows { Follows event.now self.old replies.new self.new }
+        ensures follows { FollowsEvent event.now self.old replies.new self.new }
         ensures pages { self.new.out ≡ reply_pages replies.new }
         ensures writable { AllByRecursion IsWritable replies.new }
     {
@@ -438,7 +443,7 @@ impl Satl {
         ensures out { self.new.out ≡ 0 }
     {
         self.queue.forget();
-        drop_tasks(&mut self.queue, &mut self.pool, &Scope::All);
+        drop_tasks(&mut self.queue, &mut self.pool, &mut self.desk, &Scope::All);
         self.modes = defaults(&self.identity);
         self.started = true;
         self.down = false;

@@ -17,7 +17,7 @@ use crate::satl::Satl;
 use arrayvec::ArrayVec;
 use satl_asks::{
     attention_sense, change_of, fields_fault, held_blocks, is_ordered, is_outside, is_untold,
-    length_fault, listed_ranges, needed, plain, range_of, ranges_of, refusal,
+    length_fault, listed_ranges, needed, plain, put_ranges, range_of, refusal,
 };
 use satl_base::{Block, Modes, Pages, Replies, Reply, Request, Scsi, SenseBytes};
 use satl_cdb::{Command, Illegal, read_cdb, read_unmap_list};
@@ -294,24 +294,22 @@ fn readiness(satl: &Satl) -> AtOnce
     AtOnce::Good
 }
 
-/// The task that a request becomes, still without its pages.
-pub fn task_without_pages(request: &Request, command: Command, identity: &Identity) -> Entry
+/// Writes the task that a request becomes, still without its pages, over another one.
+pub fn put_task(request: &Request, command: Command, identity: &Identity, task: &mut Entry)
     requires list { HasList command request.now.body identity.now.capacity }
     requires holds { needed command ≤ 512 * length request.now.body ⊎ needed command ≤ 512 * held_blocks command }
-    ensures { result ≡ task_without_pages request.now command identity.now.queued_trim }
+    ensures { task.new ≡ task_without_pages request.now command identity.now.queued_trim }
 {
-    Entry {
-        nexus: request.nexus,
-        tag: request.tag,
-        kind: Kind::of(&command, identity.queued_trim),
-        ordered: is_ordered(request.attr),
-        blocks: held_blocks(&command),
-        ranges: ranges_of(&command, &request.body, identity.capacity),
-        command,
-        body: Pages::default(),
-        modes: change_of(&command, &request.body),
-        expected: request.expected,
-    }
+    task.nexus = request.nexus;
+    task.tag = request.tag;
+    task.kind = Kind::of(&command, identity.queued_trim);
+    task.ordered = is_ordered(request.attr);
+    task.blocks = held_blocks(&command);
+    task.command = command;
+    task.body = Pages::default();
+    put_ranges(&command, &request.body, identity.capacity, &mut task.ranges);
+    task.modes = change_of(&command, &request.body);
+    task.expected = request.expected;
 }
 
 /// The pages of a task: a READ and an ATA PASS-THROUGH take pages for their data-in, an UNMAP whose trim is queued keeps its

@@ -25,10 +25,11 @@ use satl_cdb::Command;
 use satl_drive::{Drive, LinkDown};
 use satl_errlog::NcqError;
 use satl_flight::Queue;
-use satl_line::Entry;
+use satl_line::{Entry, TaskBox};
 use satl_pages::Pool;
 use satl_pass::{error_sense_at, pass_of};
 use satl_sense::{Sense, sense_bytes};
+use std::mem;
 use std::sync::ledger::Ledger;
 
 /// How a task ends: with GOOD; done, and told with sense data beside its data-in, which is CHECK CONDITION as well (SAT-3
@@ -162,8 +163,14 @@ pub fn link_lost() -> Ending
     Ending::Check(plain(0x4, 0x08, 0x00))
 }
 
-/// Answers all tasks in order of arrival: the link is lost, and nothing is outstanding.
-pub fn lose_tasks(queue: &mut Queue, pool: &mut Pool, descriptor: bool, replies: &mut Replies)
+/// Answers all tasks in order of arrival: the link is lost, and nothing is outstanding. The desk is where each lies meanwhile.
+pub fn lose_tasks(
+    queue: &mut Queue,
+    pool: &mut Pool,
+    desk: &mut TaskBox,
+    descriptor: bool,
+    replies: &mut Replies,
+)
     requires idle { queue.old.flying ≡ [] }
     requires held { held_pages queue.old.tasks ≤ pool.old.out }
     requires few { AllByRecursion (λ h. length h.entry.body ≤ most_moved) queue.old.tasks }
@@ -175,8 +182,8 @@ pub fn lose_tasks(queue: &mut Queue, pool: &mut Pool, descriptor: bool, replies:
     ensures out { pool.new.out + held_pages queue.old.tasks ≡ pool.old.out }
 {
     for _ in 0..queue.len() {
-        let task = queue.remove(0);
-        replies.push(end_task(pool, task, link_lost(), descriptor));
+        queue.remove(0, desk);
+        replies.push(end_task(pool, desk.entry_mut(), link_lost(), descriptor));
     }
 }
 
@@ -199,37 +206,30 @@ pub fn is_read(command: &Command) -> bool
 }
 
 /// Answers a task. A READ that is done gives its pages as data-in, and so does an ATA PASS-THROUGH whose data came from the
-/// drive; all other pages are given back.
-pub fn end_task(pool: &mut Pool, task: Entry, ending: Ending, descriptor: bool) -> Reply
-    requires held { length task.body ≤ pool.old.out }
-    requires few { length task.body ≤ most_moved }
-    ensures reply { result ≡ ended_reply task ending descriptor }
-    ensures free { pool.new.free + length result.body ≡ pool.old.free + length task.body }
-    ensures out { pool.new.out + length task.body ≡ pool.old.out + length result.body }
+/// drive; all other pages are given back. The task has none then.
+pub fn end_task(pool: &mut Pool, task: &mut Entry, ending: Ending, descriptor: bool) -> Reply
+    requires held { length task.old.body ≤ pool.old.out }
+    requires few { length task.old.body ≤ most_moved }
+    ensures reply { result ≡ ended_reply task.old ending descriptor }
+    ensures bare { task.new ≡ record task.old { body = [] } }
+    ensures free { pool.new.free + length result.body ≡ pool.old.free + length task.old.body }
+    ensures out { pool.new.out + length task.old.body ≡ pool.old.out + length result.body }
 {
-    let Entry {
-        nexus,
-        tag,
-        command,
-        body,
-        expected,
-        ..
-    } = task;
     let (status, sense) = match ending {
         Ending::Good => (Scsi::Good, ArrayVec::new()),
         Ending::Informed(sense) | Ending::Check(sense) => {
             (Scsi::CheckCondition, sense_bytes(&sense, descriptor))
         }
     };
-    let body = data_in(pool, &command, ending, body);
+    let body = data_in(pool, &task.command, ending, mem::take(&mut task.body));
     Reply {
-        nexus,
-        tag,
+        nexus: task.nexus,
+        tag: task.tag,
         status,
         sense,
         data_len: 512 * body.blocks(),
         body,
-        expected,
+        expected: task.expected,
     }
 }
 

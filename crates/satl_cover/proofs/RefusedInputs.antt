@@ -18,7 +18,7 @@ use Rattle.satl_frame.specs.Faults.{frame_fault}
 use Rattle.satl_frame.specs.Inputs.{NoneEnds, Reads}
 use Rattle.satl_frame.specs.Magic.{magic, magic_fault, magic_name, names_version, version_code, version_of}
 use Rattle.satl_frame.specs.Progress.{HasRead, ReadUpTo}
-use Rattle.satl_frame.specs.Reading.{Blames, Reading, at_offset, first_refusal, refusal}
+use Rattle.satl_frame.specs.Reading.{Blames, Reading, at_offset, first_refusal, where_refused}
 use Rattle.satl_frame.proofs.ProgressLemmas.{has_read_all}
 use Rattle.satl_cover.specs.Covered.{IsBadInput, limit}
 use Rattle.satl_cover.specs.Covered.IsBadInput.{bad_magic, bad_frame}
@@ -74,11 +74,11 @@ refused_is_bad r input left left' given reason offset is_limit is_newest read no
         bad_frame [] (record { split = begins input e; each = tt }) tt x.0 x.1
     by_magic (Some w) e refused = let x = at_offset_is (Some w) 0 refused in bad_magic (e ∙ x.0) x.1
 
-    by_place : (l : ℕ) (newest : Version) (at : Option Place) → l ≡ limit → newest ≡ Two → ReadUpTo l newest at (Some input) (Some left) given → refusal l newest at left ≡ Some (reason, offset) → IsBadInput input reason offset
+    by_place : (l : ℕ) (newest : Version) (at : Option Place) → l ≡ limit → newest ≡ Two → ReadUpTo l newest at (Some input) (Some left) given → where_refused l newest at left ≡ Some (reason, offset) → IsBadInput input reason offset
     by_place l newest None is_limit is_newest (nothing, same) refused =
         by_magic (magic_fault Two (take 8 input)) refl
-        (subst (λ (i : List ℕ). refusal limit Two None i ≡ Some (reason, offset)) (same_Some left input same)
-        (subst (λ (v : Version). refusal limit v None left ≡ Some (reason, offset)) is_newest (subst (λ (n : ℕ). refusal n newest None left ≡ Some (reason, offset)) is_limit refused)))
+        (subst (λ (i : List ℕ). where_refused limit Two None i ≡ Some (reason, offset)) (same_Some left input same)
+        (subst (λ (v : Version). where_refused limit v None left ≡ Some (reason, offset)) is_newest (subst (λ (n : ℕ). where_refused n newest None left ≡ Some (reason, offset)) is_limit refused)))
     by_place l newest (Some p) is_limit is_newest read refused =
         let x = at_offset_is (frame_fault p.version l p.offset left) p.offset refused in
         let reads : Reads limit input p.version given left = subst (λ (n : ℕ). Reads n input p.version given left) is_limit (has_read_all l newest p input left given read) in

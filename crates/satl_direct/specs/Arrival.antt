@@ -24,15 +24,15 @@ use Rattle.satl_frame.specs.DataPages.{pages_of}
 use Rattle.satl_line.specs.declared.entry.Entry.{Entry}
 use Rattle.satl_direct.specs.Device.{Device, attentions_of, is_called, of_others, once_told}
 use Rattle.satl_direct.specs.Tasks.{asks, is_full, needed, range_of, task_for}
-use Rattle.satl_direct.specs.Senses.{attention_sense, link_lost, no_sense, not_ready, out_of_range, overlapped, refusal, sense_in, sense_text, short_data, unknown_unit}
+use Rattle.satl_direct.specs.Senses.{attention_sense, link_lost, no_sense, not_ready, out_of_range, overlapped, refusal, sense_spelled, sense_text, short_data, unknown_unit}
 
 -- the operation code (SPC-4 4.3)
-abbrev pub code_of : Request → ℕ
-code_of r = slice_index r.cdb 0
+abbrev pub operation_code : Request → ℕ
+operation_code r = slice_index r.cdb 0
 
 -- whether a request has this operation code (SPC-4 4.3)
 abbrev pub asks_for : ℕ → Request → Bool
-asks_for code r = code_of r == code
+asks_for code r = operation_code r == code
 
 -- an answer without data (SAM-5 5.1)
 abbrev pub reply_to : Request → Scsi → List ℕ → Reply
@@ -52,8 +52,8 @@ abbrev pub check : Device → Request → Sense → Reply
 check s r sense = reply_to r CheckCondition (sense_text s.modes sense)
 
 -- GOOD with data-in, cut to the allocation length (SPC-4 4.3.5.6)
-abbrev pub told : Request → ℕ → List ℕ → Reply
-told r alloc text =
+abbrev pub good_with_data : Request → ℕ → List ℕ → Reply
+good_with_data r alloc text =
     record {
       nexus = r.nexus;
       tag = r.tag;
@@ -94,8 +94,8 @@ placed_unless idle s r command = if idle then answered (readiness s r) else plac
 
 -- REQUEST SENSE: the first condition of the nexus as data, which is told by that, or NO SENSE (SPC-4 6.39)
 abbrev pub sense_told : Option Attention → Request → Bool → ℕ → Arrival
-sense_told None r descriptor alloc = answered (told r alloc (sense_in descriptor no_sense))
-sense_told (Some what) r descriptor alloc = attended (told r alloc (sense_in descriptor (attention_sense what)))
+sense_told None r descriptor alloc = answered (good_with_data r alloc (sense_spelled descriptor no_sense))
+sense_told (Some what) r descriptor alloc = attended (good_with_data r alloc (sense_spelled descriptor (attention_sense what)))
 
 -- INQUIRY: the standard data or a page (SPC-4 6.6)
 abbrev pub inquiry_text : Device → Option ℕ → List ℕ
@@ -116,14 +116,14 @@ sense_asked ten long_lba no_descriptor control page = record {
 abbrev pub becomes : Device → Request → Command → Arrival
 becomes s r commands.TestUnitReady = answered (readiness s r)
 becomes s r (commands.RequestSense descriptor alloc) = sense_told (slice_get (attentions_of r.nexus s) 0) r descriptor alloc
-becomes s r (commands.Inquiry page alloc) = answered (told r alloc (inquiry_text s page))
+becomes s r (commands.Inquiry page alloc) = answered (good_with_data r alloc (inquiry_text s page))
 becomes s r (commands.ModeSense ten long_lba no_descriptor control page alloc) =
-    answered (told r alloc (mode_data s.identity s.modes (sense_asked ten long_lba no_descriptor control page)))
+    answered (good_with_data r alloc (mode_data s.identity s.modes (sense_asked ten long_lba no_descriptor control page)))
 becomes s r (commands.ModeSelect ten size) = placed_unless (size == 0) s r (commands.ModeSelect ten size)
 becomes s r (commands.StartStop start no_flush) = placed s r (commands.StartStop start no_flush)
-becomes s r commands.ReadCapacity10 = answered (told r 8 (capacity_10 s.identity))
-becomes s r (commands.ReadCapacity16 alloc) = answered (told r alloc (capacity_16 s.identity))
-becomes s r (commands.ReportLuns select alloc) = answered (told r alloc (lun_list select))
+becomes s r commands.ReadCapacity10 = answered (good_with_data r 8 (capacity_10 s.identity))
+becomes s r (commands.ReadCapacity16 alloc) = answered (good_with_data r alloc (capacity_16 s.identity))
+becomes s r (commands.ReportLuns select alloc) = answered (good_with_data r alloc (lun_list select))
 becomes s r (commands.Read form lba count fua) = placed_unless (count == 0) s r (commands.Read form lba count fua)
 becomes s r (commands.Write form lba count fua) = placed_unless (count == 0) s r (commands.Write form lba count fua)
 becomes s r (commands.Verify form lba count compare) = placed_unless (count == 0) s r (commands.Verify form lba count compare)
@@ -163,7 +163,7 @@ untold_codes = 0x12 ∷ 0xA0 ∷ 0x03 ∷ []
 
 -- the unit attention condition that a request is answered with (SAM-5 5.14)
 abbrev pub attention_for : Device → Request → Option Attention
-attention_for s r = if is_in (code_of r) untold_codes then None else slice_get (attentions_of r.nexus s) 0
+attention_for s r = if is_in (operation_code r) untold_codes then None else slice_get (attentions_of r.nexus s) 0
 
 -- what the CDB says, or that its operation code is unknown (SPC-4 4.3)
 abbrev pub code_arrival : Device → Request → Arrival
@@ -184,8 +184,9 @@ unit_arrival s r =
 -- (SPC-4 6.6, 6.39; SAM-5 5.3; profile)
 abbrev pub other_arrival : Device → Request → Arrival
 other_arrival s r =
-    if asks_for 0x12 r && not (bit 1 0 r.cdb) then answered (told r (bytes 3 4 r.cdb) (standard_data s.identity false))
-    else if asks_for 0x03 r then answered (told r (bytes 4 4 r.cdb) (sense_in (bit 1 0 r.cdb) unknown_unit))
+    if asks_for 0x12 r && not (bit 1 0 r.cdb)
+    then answered (good_with_data r (bytes 3 4 r.cdb) (standard_data s.identity false))
+    else if asks_for 0x03 r then answered (good_with_data r (bytes 4 4 r.cdb) (sense_spelled (bit 1 0 r.cdb) unknown_unit))
     else answered (check s r unknown_unit)
 
 -- the first that holds: another logical unit, unless LUNs are asked for; a task of that nexus and tag; a unit attention; an

@@ -76,9 +76,9 @@ abbrev pub refusal : Illegal → Sense
 refusal why = record { key = 0x5; asc = why.asc; ascq = why.ascq; extra = pointer_to why.in_cdb why.pointer }
 
 -- sense data in the descriptor form or in the fixed form (SPC-4 4.5)
-abbrev pub sense_in : Bool → Sense → List ℕ
-sense_in descriptor sense = if descriptor then descriptor_form sense else fixed_form sense
+abbrev pub sense_spelled : Bool → Sense → List ℕ
+sense_spelled descriptor sense = if descriptor then descriptor_form sense else fixed_form sense
 
 -- sense data in the form that D_SENSE chooses (SPC-4 7.5.8)
 abbrev pub sense_text : Modes → Sense → List ℕ
-sense_text modes sense = sense_in modes.d_sense sense
+sense_text modes sense = sense_spelled modes.d_sense sense

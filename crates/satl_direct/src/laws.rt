@@ -19,7 +19,7 @@ ghost use Rattle.satl_unit.specs.declared.attention.Attention.{Attention};
 ghost use Rattle.satl_unit.specs.declared.attention.Attention.TheVariants.{PowerOn};
 ghost use Rattle.satl_unit.specs.declared.function.Function.TheVariants as functions;
 ghost use Rattle.satl_unit.specs.Functions.{function_of};
-ghost use Rattle.satl_direct.specs.Arrival.{Arrives, attention_for, becomes, check, code_arrival, code_of, is_unit_0, placed, readiness, reply_to};
+ghost use Rattle.satl_direct.specs.Arrival.{Arrives, attention_for, becomes, check, code_arrival, is_unit_0, operation_code, placed, readiness, reply_to};
 ghost use Rattle.satl_direct.specs.Arrival.Arrival.{answered, waits};
 ghost use Rattle.satl_direct.specs.Bench.{Happens};
 ghost use Rattle.satl_direct.specs.Device.{Device, attentions_of, is_called, of_others};
@@ -36,7 +36,7 @@ pub fn a_turn_without_a_task_does_nothing()
 
 /// Law of operation codes: one that is not in the table is refused with INVALID COMMAND OPERATION CODE (SPC-4 4.3, 4.5.6).
 pub fn an_unknown_operation_code_is_refused()
-    ensures { (s : Device) (r : Request) → format_of (table s.identity.trim) (code_of r) ≡ None →
+    ensures { (s : Device) (r : Request) → format_of (table s.identity.trim) (operation_code r) ≡ None →
         code_arrival s r ≡ answered (check s r (plain 0x5 0x20 0x00)) }
 {}
 
@@ -62,10 +62,10 @@ pub fn an_overlap_takes_all_tasks_of_its_nexus()
 /// Law of unit attentions: INQUIRY, REPORT LUNS and REQUEST SENSE are carried out before a condition is told; TEST UNIT READY
 /// is answered with the first one (SAM-5 5.14).
 pub fn three_commands_come_before_a_unit_attention()
-    ensures inquiry { (s : Device) (r : Request) → code_of r ≡ 0x12 → attention_for s r ≡ None }
-    ensures report_luns { (s : Device) (r : Request) → code_of r ≡ 0xA0 → attention_for s r ≡ None }
-    ensures request_sense { (s : Device) (r : Request) → code_of r ≡ 0x03 → attention_for s r ≡ None }
-    ensures others { (s : Device) (r : Request) (what : Attention) (rest : List Attention) → code_of r ≡ 0x00 →
+    ensures inquiry { (s : Device) (r : Request) → operation_code r ≡ 0x12 → attention_for s r ≡ None }
+    ensures report_luns { (s : Device) (r : Request) → operation_code r ≡ 0xA0 → attention_for s r ≡ None }
+    ensures request_sense { (s : Device) (r : Request) → operation_code r ≡ 0x03 → attention_for s r ≡ None }
+    ensures others { (s : Device) (r : Request) (what : Attention) (rest : List Attention) → operation_code r ≡ 0x00 →
         attentions_of r.nexus s ≡ what ∷ rest → attention_for s r ≡ Some what }
 {}
 

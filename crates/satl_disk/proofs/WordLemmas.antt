@@ -9,7 +9,7 @@ use Rattle.satl_identify.specs.Data.{settings_byte, with_integrity, with_setting
 use Rattle.satl_drive.specs.State.{IsFit}
 use Rattle.satl_disk.specs.Bench.{MayReword, with_word}
 use Rattle.satl_disk.specs.Data.{at, integrity_kept, set_word}
-use Rattle.satl_disk.specs.Disk.{Disk, IsTold, state_of}
+use Rattle.satl_disk.specs.Disk.{Disk, TellsSettings, state_of}
 use Rattle.satl_disk.proofs.BytesLemmas.{IsByte, all_set, set_word_bytes, integrity_bytes}
 use Rattle.satl_disk.proofs.IdentifyLemmas.{set_word-length, word-set_word, word-with_integrity}
 use Rattle.satl_disk.proofs.SettingsLemmas.{byte_small, reworded_told}
@@ -51,7 +51,7 @@ not_in place x xs none =
       | false ↦ λ is e. (λ same. let no : (place == x) ≡ true = eq-eqb place x (sym same) in absurd cc, e)
     ]) refl none
 
-module _ (place value : ℕ) (d : Disk) (small : place < 256) (wide : value < 2 ^ 16) (told : IsTold d.cache d.look d.identify) (may : MayReword place value d) (f : IsFit (state_of d)) where
+module _ (place value : ℕ) (d : Disk) (small : place < 256) (wide : value < 2 ^ 16) (told : TellsSettings d.cache d.look d.identify) (may : MayReword place value d) (f : IsFit (state_of d)) where
   abbrev set_so : List ℕ
   set_so = set_word (at place value) d.identify
 
@@ -67,7 +67,7 @@ module _ (place value : ℕ) (d : Disk) (small : place < 256) (wide : value < 2 
   abbrev others : (i : ℕ) → (i ≡ place → ⊥) → (i ≡ 85 → ⊥) → i < 255 → word i new ≡ word i d.identify
   others i other not_85 low = word-kept place i (with_settings set_so cache_on look_on) low ∙ (word-settings set_so cache_on look_on i not_85 ∙ word-set_word_other place value i d.identify told.size small other)
 
-  told_now : IsTold cache_on look_on new
+  told_now : TellsSettings cache_on look_on new
   told_now = reworded_told place d.cache d.look set_so (set_word-length (at place value) d.identify ∙ told.size)
 
   queued_by : (b : Bool) → (place == 77) ≡ b → word_bit 77 6 new ≡ true → has_trim d.identify ≡ true

@@ -19,11 +19,11 @@ pub struct Blocks {
 impl Model for Blocks {
     ghost use Rattle.std.specs.Prelude.{List, ◌≤◌, vec_capacity};
     ghost use Rattle.satl_base.specs.declared.block.Block.{Block};
-    ghost use Rattle.satl_disk.specs.Layout.{filled};
+    ghost use Rattle.satl_disk.specs.Layout.{front_blocks};
 
     ghost Value = { List Block };
 
-    ghost view = { λ b. filled b.number b.kept.items };
+    ghost view = { λ b. front_blocks b.number b.kept.items };
 
     ghost invariant = { λ b. b.number ≤ vec_capacity b.kept };
 }
@@ -62,29 +62,6 @@ impl Blocks {
             push_at(&mut self.kept, place, block);
         }
     }
-
-    /// Sets the block at a place to that of other blocks.
-    pub fn copy_from(&mut self, place: usize, other: &Blocks)
-        requires here { place < length self.old }
-        requires there { place < length other.now }
-        ensures { self.new ≡ slice_set self.old place (block_at other.now place) }
-    {
-        if place < other.kept.len() {
-            self.set(place, &other.kept[place]);
-        } else {
-            self.clear(place);
-        }
-    }
-
-    /// Sets the block at a place to zeros.
-    fn clear(&mut self, place: usize)
-        requires { place < length self.old }
-        ensures { self.new ≡ slice_set self.old place zero_block }
-    {
-        if place < self.kept.len() {
-            self.kept[place] = Block::zero();
-        }
-    }
 }
 
 /// Writes zeros into a page. Apart from `load`, which would clear a block of its own at each call.
@@ -94,7 +71,9 @@ fn clear_page(page: &mut Page)
     page.set(&Block::zero());
 }
 
-/// Pushes a block at a place behind the end, which has the room, and zeros up to there.
+/// Pushes a block at a place behind the end, which has the room, and zeros up to there. Apart from `set`, which is short
+/// without it.
+#[inline(never)]
 fn push_at(kept: &mut Vec<Block>, place: usize, block: &Block)
     requires behind { vec_len kept.old ≤ place }
     requires room { place < vec_capacity kept.old }

@@ -12,8 +12,8 @@ use Rattle.satl_fleet.specs.Moments.{FleetMoment}
 use Rattle.satl_fleet.specs.Opening.{IsLeftAlone, OpensTo, StopsOpening}
 use Rattle.satl_fleet.specs.Output.{Round}
 use Rattle.satl_fleet.specs.Runs.{AreServed, AreServedInPart, HaveRun, HaveRunInPart}
-use Rattle.satl_fleet.specs.Stopping.{HasFleetCause, HasStreamCause, Place, RanBefore, RanInPart, RanTo, RanWhole, StoppedInAnswers, StoppedInFault, StoppedInMagic}
-use Rattle.satl_fleet.specs.Units.{IsTiedSpot, spots_of}
+use Rattle.satl_fleet.specs.Stopping.{HasFleetCause, HasStreamCause, RanBefore, RanInPart, RanTo, RanWhole, Spot, StoppedInAnswers, StoppedInFault, StoppedInMagic}
+use Rattle.satl_fleet.specs.Units.{IsTiedUnit, unit_states}
 use Rattle.satl_fleet.specs.declared.fault.FleetFault.{FleetFault}
 use Rattle.satl_fleet.specs.declared.fault.FleetFault.TheVariants as faults
 use Rattle.satl_fleet.proofs.OpeningLemmas.{all_same}
@@ -48,14 +48,14 @@ stream_cause before after faults.Read cause = cause
 stream_cause before after faults.Write cause = cause
 stream_cause before after faults.NoMemory cause = absurd cause
 
-module _ (limit units : ℕ) (before after : FleetMoment) (mids : List DriveState) (opened : ℕ) (ls ls' : List Layer) (mid_drives last_units last_drives : ℕ) (o : OpensTo before.drives ls mids) (few : opened ≤ before.calls + length before.drives) (each : length ls ≡ length before.drives) (long : length ls' ≡ length after.drives) (is : units ≡ length before.drives) (tied : AllByRecursion IsTiedSpot (spots_of ls' after.drives)) where
-  abbrev a : Place
-  a = record { left = before.source.left; stage = record { target = record { units = spots_of ls mids; layers = units; drives = mid_drives }; written = before.sink.written }; calls = opened }
+module _ (limit units : ℕ) (before after : FleetMoment) (mids : List DriveState) (opened : ℕ) (ls ls' : List Layer) (mid_drives last_units last_drives : ℕ) (o : OpensTo before.drives ls mids) (few : opened ≤ before.calls + length before.drives) (each : length ls ≡ length before.drives) (long : length ls' ≡ length after.drives) (is : units ≡ length before.drives) (tied : AllByRecursion IsTiedUnit (unit_states ls' after.drives)) where
+  abbrev a : Spot
+  a = record { left = before.source.left; stage = record { target = record { units = unit_states ls mids; layers = units; drives = mid_drives }; written = before.sink.written }; calls = opened }
 
-  abbrev b : Place
-  b = record { left = after.source.left; stage = record { target = record { units = spots_of ls' after.drives; layers = last_units; drives = last_drives }; written = after.sink.written }; calls = after.calls }
+  abbrev b : Spot
+  b = record { left = after.source.left; stage = record { target = record { units = unit_states ls' after.drives; layers = last_units; drives = last_drives }; written = after.sink.written }; calls = after.calls }
 
-  served : (rounds : List Round) → HaveRun (length before.drives) 0 rounds (spots_of ls mids) (spots_of ls' after.drives) → AreServed (length before.drives) 0 rounds before.drives after.drives
+  served : (rounds : List Round) → HaveRun (length before.drives) 0 rounds (unit_states ls mids) (unit_states ls' after.drives) → AreServed (length before.drives) 0 rounds before.drives after.drives
   served rounds run = are_served (length before.drives) 0 rounds ls' after.drives o each long run tied
 
   whole : RanWhole limit (length before.drives) a b → IsFleetWhole limit before after
@@ -86,7 +86,7 @@ module _ (limit units : ℕ) (before after : FleetMoment) (mids : List DriveStat
     calls = omega (arith, few, r.calls);
   }
     where
-      by_run : HaveRun (length before.drives) 0 (r.rounds ++ r.round ∷ []) (spots_of ls mids) (spots_of ls' after.drives) ⊎ HaveRunInPart (length before.drives) r.rounds r.round 0 (spots_of ls mids) (spots_of ls' after.drives)
+      by_run : HaveRun (length before.drives) 0 (r.rounds ++ r.round ∷ []) (unit_states ls mids) (unit_states ls' after.drives) ⊎ HaveRunInPart (length before.drives) r.rounds r.round 0 (unit_states ls mids) (unit_states ls' after.drives)
           → AreServed (length before.drives) 0 (r.rounds ++ r.round ∷ []) before.drives after.drives ⊎ AreServedInPart (length before.drives) r.rounds r.round 0 before.drives after.drives
       by_run (inl run) = inl (served (r.rounds ++ r.round ∷ []) run)
       by_run (inr run) = inr (are_served_part (length before.drives) 0 r.rounds r.round ls' after.drives o each long run tied)

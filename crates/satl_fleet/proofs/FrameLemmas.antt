@@ -12,7 +12,7 @@ use Rattle.satl_frame.specs.Output.Answer.{replied}
 use Rattle.satl_frame.specs.declared.frames.Frame.{Frame}
 use Rattle.satl_frame.specs.declared.frames.Frame.TheVariants as frames
 use Rattle.satl_fleet.specs.Output.{end_told, named, round_told, target_told, told_from, told_under}
-use Rattle.satl_fleet.specs.Rounds.{AllDid, AllDidInPart, DidAt, DidAtInPart, IsTurnOrBench, RoundDone, RoundInPart, Serves, Stage, Stops, round_of, stage}
+use Rattle.satl_fleet.specs.Rounds.{AllDid, AllDidInPart, DidAt, DidAtInPart, EachDid, IsTurnOrBench, RoundDone, RoundInPart, Stage, Stops, round_of, stage}
 use Rattle.satl_fleet.specs.Routing.{is_for_all, is_report, lun_0, route_to, seen}
 use Rattle.satl_fleet.specs.declared.routing.Route.{Route}
 use Rattle.satl_fleet.specs.Target.{target_reply}
@@ -84,7 +84,7 @@ module _ (units : ℕ) (frame : Frame) (quiet : target_told units frame ≡ []) 
       pub one_round : DidAt at event a b → RoundDone units frame a b
       one_round d = record {
         groups = alone at d.answers a.target.units;
-        each = subst (Serves units frame 0 (alone at d.answers a.target.units) a.target.units) (sym d.set) (one_serves units frame event at here others d.answers d.old d.new 0 at a.target.units (omega arith) d.here d.did);
+        each = subst (EachDid units frame 0 (alone at d.answers a.target.units) a.target.units) (sym d.set) (one_serves units frame event at here others d.answers d.old d.new 0 at a.target.units (omega arith) d.here d.did);
         wrote = subst (Wrote a.written b.written) (ap (λ n. told_under n d.answers) (omega arith) ∙ (sym (told_alone 0 at d.answers a.target.units d.old d.here) ∙ plain_told (alone at d.answers a.target.units))) d.wrote;
       }
 

@@ -20,12 +20,12 @@ use Rattle.satl_line.proofs.SlotsLemmas.{All-append}
 use Rattle.satl_core.specs.Turning.{turn_calls}
 use Rattle.satl_step.specs.Loop.{is_end}
 use Rattle.satl_step.proofs.LoopLemmas.{expectable, holds}
-use Rattle.satl_fleet.specs.Loop.{Ended, Going, HasGiven, Scene, SoFar, StoppedInRound}
+use Rattle.satl_fleet.specs.Loop.{Going, HasGiven, LoopState, ReachedEnd, SoFar, StoppedInRound}
 use Rattle.satl_fleet.specs.Output.{Round, all_told, frames_of, round_told}
-use Rattle.satl_fleet.specs.Rounds.{CanRoute, RoundDone, RoundInPart, Serves, Stops, calls_for, frame_calls, round_of}
-use Rattle.satl_fleet.specs.Runs.{HaveRun, HaveRunInPart, IsIdle}
+use Rattle.satl_fleet.specs.Rounds.{CanRoute, EachDid, RoundDone, RoundInPart, Stops, calls_for, frame_calls, round_of}
+use Rattle.satl_fleet.specs.Runs.{HasNoTask, HaveRun, HaveRunInPart}
 use Rattle.satl_fleet.specs.Serving.{calls_due}
-use Rattle.satl_fleet.specs.Units.{Spot, pending}
+use Rattle.satl_fleet.specs.Units.{UnitState, pending}
 use Rattle.satl_fleet.proofs.RunLemmas.{run_none, run_round, run_round_part}
 
 -- ---- whole frames
@@ -73,7 +73,7 @@ calls_push : (units : ℕ) (fs : List Frame) (frame : Frame) → calls_for units
 calls_push units [] frame = omega arith
 calls_push units (f ∷ fs) frame = let more = calls_push units fs frame in omega (arith, more)
 
-none_pending : (ss : List Spot) → AllByRecursion IsIdle ss → pending ss ≡ 0
+none_pending : (ss : List UnitState) → AllByRecursion HasNoTask ss → pending ss ≡ 0
 none_pending [] idle = refl
 none_pending (s ∷ ss) idle = let none = ap length idle.0.tasks in let others = none_pending ss idle.1 in omega (arith, none, others)
 
@@ -90,7 +90,7 @@ not_end : (frame : Frame) → is_end frame ≡ false → frame ≡ frames.End �
 not_end frame other is = let bad : true ≡ false = sym (ap is_end is) ∙ other in absurd cc
 
 module _ (units : ℕ) where
-  pub going_start : (a : Scene) → a.reader.place ≡ None → AllByRecursion IsIdle a.stage.target.units → Going units a a
+  pub going_start : (a : LoopState) → a.reader.place ≡ None → AllByRecursion HasNoTask a.stage.target.units → Going units a a
   going_start a unread idle = record {
     rounds = [];
     so_far = record {
@@ -101,7 +101,7 @@ module _ (units : ℕ) where
     none_ends = tt;
   }
 
-  module _ (a b c : Scene) (room : ℕ) (frame : Frame) (going : Going units a b) (gave : Gave b.reader room frame c.reader b.left c.left) (whole : gave.whole ≡ frame) (calls : calls_due c.stage.target c.calls ≤ calls_due b.stage.target b.calls + frame_calls units frame) where
+  module _ (a b c : LoopState) (room : ℕ) (frame : Frame) (going : Going units a b) (gave : Gave b.reader room frame c.reader b.left c.left) (whole : gave.whole ≡ frame) (calls : calls_due c.stage.target c.calls ≤ calls_due b.stage.target b.calls + frame_calls units frame) where
     given_more : HasGiven units a c (frames_of going.rounds ++ frame ∷ [])
     given_more = record {
       limit = ap (λ (r : Reading). r.limit) gave.new_is ∙ going.so_far.given.limit;
@@ -128,7 +128,7 @@ module _ (units : ℕ) where
         none_ends = subst NoneEnds (sym (frames_push going.rounds round)) (All-append (λ f. f ≡ frames.End → ⊥) (frames_of going.rounds) (frame ∷ []) going.none_ends (not_end frame other, tt));
       }
 
-      pub ended : is_end frame ≡ true → Ended units a c
+      pub ended : is_end frame ≡ true → ReachedEnd units a c
       ended last = record {
         rounds = going.rounds ++ round ∷ [];
         so_far = so_far_more;
@@ -146,7 +146,7 @@ module _ (units : ℕ) where
       run = by_each done.each;
     }
       where
-        by_each : Serves units frame 0 done.groups b.stage.target.units c.stage.target.units ⊎ Stops units frame 0 done.groups b.stage.target.units c.stage.target.units
+        by_each : EachDid units frame 0 done.groups b.stage.target.units c.stage.target.units ⊎ Stops units frame 0 done.groups b.stage.target.units c.stage.target.units
             → HaveRun units 0 (going.rounds ++ round_of frame done.groups ∷ []) a.stage.target.units c.stage.target.units ⊎ HaveRunInPart units going.rounds (round_of frame done.groups) 0 a.stage.target.units c.stage.target.units
         by_each (inl each) = inl (run_round units going.rounds frame done.groups 0 [] a.stage.target.units refl refl going.so_far.run each)
         by_each (inr each) = inr (run_round_part units going.rounds frame done.groups 0 [] a.stage.target.units refl refl going.so_far.run each)

@@ -11,8 +11,8 @@ use Rattle.satl_core.specs.Opening.IsUndisturbed.{untouched, written_back}
 use Rattle.satl_core.specs.declared.satl.OpenFault.{OpenFault}
 use Rattle.satl_fleet.specs.Opening.{IsCauseOfOne, IsLeftAlone, IsServable, Opens, OpensTo}
 use Rattle.satl_fleet.specs.Opening.OpensTo.{rest, more}
-use Rattle.satl_fleet.specs.Runs.{IsIdle}
-use Rattle.satl_fleet.specs.Units.{IsReady, spots_of}
+use Rattle.satl_fleet.specs.Runs.{HasNoTask}
+use Rattle.satl_fleet.specs.Units.{IsReady, unit_states}
 use Rattle.satl_fleet.proofs.SpotLemmas.{all_at, some_at}
 
 -- ---- one drive
@@ -85,11 +85,11 @@ module _ {D : Type 0} (f : D → DriveState) (olds : List DriveState) (ls : List
 
 -- ---- all drives
 
-pub all_ready : {olds news : List DriveState} {ls : List Layer} → OpensTo olds ls news → AllByRecursion IsReady (spots_of ls news)
+pub all_ready : {olds news : List DriveState} {ls : List Layer} → OpensTo olds ls news → AllByRecursion IsReady (unit_states ls news)
 all_ready rest = tt
 all_ready (more o os) = (record { tied = record { tied = o.opened.tied; queue = o.queue }; all_in = o.opened.out }, all_ready os)
 
-pub all_idle : {olds news : List DriveState} {ls : List Layer} → AllByRecursion IsServable olds → OpensTo olds ls news → AllByRecursion IsIdle (spots_of ls news)
+pub all_idle : {olds news : List DriveState} {ls : List Layer} → AllByRecursion IsServable olds → OpensTo olds ls news → AllByRecursion HasNoTask (unit_states ls news)
 all_idle able rest = tt
 all_idle {olds = d ∷ ds} {news = w ∷ ws} able (more o os) =
     (record { tasks = o.opened.tasks; covers = let none = ap length (ap (λ (x : DriveState). x.outstanding) o.opened.stays ∙ able.0.idle) in omega (arith, none) }, all_idle able.1 os)

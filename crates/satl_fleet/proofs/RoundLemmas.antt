@@ -7,13 +7,13 @@ use Rattle.satl_io.proofs.Joined.{Wrote-more, Wrote-none, WrotePart-more}
 use Rattle.satl_frame.specs.Output.{Answer}
 use Rattle.satl_frame.specs.declared.frames.Frame.{Frame}
 use Rattle.satl_fleet.specs.Output.{told_from, told_under}
-use Rattle.satl_fleet.specs.Rounds.{AllDid, AllDidInPart, DidAt, DidAtInPart, DidTo, DidToInPart, Serves, Stage, Stops}
+use Rattle.satl_fleet.specs.Rounds.{AllDid, AllDidInPart, DidAt, DidAtInPart, DidTo, DidToInPart, EachDid, Stage, Stops}
 use Rattle.satl_fleet.specs.Rounds.DidTo.{rest, more}
 use Rattle.satl_fleet.specs.Rounds.DidToInPart.{here as part_here, later as part_later}
-use Rattle.satl_fleet.specs.Rounds.Serves.{none as no_unit, passes as unit_passes, serves as unit_serves}
+use Rattle.satl_fleet.specs.Rounds.EachDid.{none as no_unit, passes as unit_passes, serves as unit_serves}
 use Rattle.satl_fleet.specs.Rounds.Stops.{here as stop_here, passes as stop_passes, serves as stop_serves}
 use Rattle.satl_fleet.specs.Routing.{seen}
-use Rattle.satl_fleet.specs.Units.{Did, DidInPart, Spot}
+use Rattle.satl_fleet.specs.Units.{Did, DidInPart, UnitState}
 
 -- ---- telling
 
@@ -25,21 +25,21 @@ told_from-push k (g ∷ groups) answers =
     ∙ ap (λ n. (told_under k g ++ told_from (suc k) groups) ++ told_under n answers) (omega arith))
 
 -- nobody answers
-pub silence : List Spot → List (List Answer)
+pub silence : List UnitState → List (List Answer)
 silence ss = map (λ _. []) ss
 
-pub told_silence : (k : ℕ) (ss : List Spot) → told_from k (silence ss) ≡ []
+pub told_silence : (k : ℕ) (ss : List UnitState) → told_from k (silence ss) ≡ []
 unfolding silence
 told_silence k [] = refl
 told_silence k (s ∷ ss) = told_silence (suc k) ss
 
 -- the unit of this number alone answers
-pub alone : ℕ → List Answer → List Spot → List (List Answer)
+pub alone : ℕ → List Answer → List UnitState → List (List Answer)
 alone k answers [] = []
 alone zero answers (s ∷ ss) = answers ∷ silence ss
 alone (suc k) answers (s ∷ ss) = [] ∷ alone k answers ss
 
-pub told_alone : (k j : ℕ) (answers : List Answer) (ss : List Spot) (old : Spot) → slice_get ss j ≡ Some old → told_from k (alone j answers ss) ≡ told_under (k + j) answers
+pub told_alone : (k j : ℕ) (answers : List Answer) (ss : List UnitState) (old : UnitState) → slice_get ss j ≡ Some old → told_from k (alone j answers ss) ≡ told_under (k + j) answers
 unfolding alone
 told_alone k j answers [] old is = absurd cc
 told_alone k zero answers (s ∷ ss) old is = ap (λ l. told_under k answers ++ l) (told_silence (suc k) ss) ∙ (append-nil (told_under k answers) ∙ ap (λ n. told_under n answers) (omega arith))
@@ -57,23 +57,23 @@ told_up_to k (suc j) answers = told_up_to (suc k) j answers ∙ ap (λ n. told_u
 
 -- ---- so many units
 
-did_length : {event : Frame} {n : ℕ} {groups : List (List Answer)} {olds news : List Spot} → DidTo event n groups olds news → length groups ≡ n
+did_length : {event : Frame} {n : ℕ} {groups : List (List Answer)} {olds news : List UnitState} → DidTo event n groups olds news → length groups ≡ n
 did_length rest = refl
 did_length (more did to) = ap suc (did_length to)
 
-first_did : {event : Frame} {answers : List Answer} {old new : Spot} (ss : List Spot) → slice_get ss 0 ≡ Some old → Did event old answers new → DidTo event 1 (answers ∷ []) ss (slice_set ss 0 new)
+first_did : {event : Frame} {answers : List Answer} {old new : UnitState} (ss : List UnitState) → slice_get ss 0 ≡ Some old → Did event old answers new → DidTo event 1 (answers ∷ []) ss (slice_set ss 0 new)
 first_did [] is did = absurd cc
 first_did {event} {answers} {old} {new} (s ∷ ss) is did = let same : old ≡ s = cc in subst (λ x. DidTo event 1 (answers ∷ []) (x ∷ ss) (new ∷ ss)) same (more did rest)
 
-did_push : {event : Frame} {n : ℕ} {groups : List (List Answer)} {answers : List Answer} {olds news : List Spot} {old new : Spot} → DidTo event n groups olds news → slice_get news n ≡ Some old → Did event old answers new → DidTo event (suc n) (groups ++ answers ∷ []) olds (slice_set news n new)
+did_push : {event : Frame} {n : ℕ} {groups : List (List Answer)} {answers : List Answer} {olds news : List UnitState} {old new : UnitState} → DidTo event n groups olds news → slice_get news n ≡ Some old → Did event old answers new → DidTo event (suc n) (groups ++ answers ∷ []) olds (slice_set news n new)
 did_push {olds = ss} rest is did = first_did ss is did
 did_push (more d to) is did = more d (did_push to is did)
 
-first_part : {event : Frame} {answers : List Answer} {old new : Spot} (ss : List Spot) → slice_get ss 0 ≡ Some old → DidInPart event old answers new → DidToInPart event (answers ∷ []) ss (slice_set ss 0 new)
+first_part : {event : Frame} {answers : List Answer} {old new : UnitState} (ss : List UnitState) → slice_get ss 0 ≡ Some old → DidInPart event old answers new → DidToInPart event (answers ∷ []) ss (slice_set ss 0 new)
 first_part [] is did = absurd cc
 first_part {event} {answers} {old} {new} (s ∷ ss) is did = let same : old ≡ s = cc in subst (λ x. DidToInPart event (answers ∷ []) (x ∷ ss) (new ∷ ss)) same (part_here did)
 
-part_push : {event : Frame} {n : ℕ} {groups : List (List Answer)} {answers : List Answer} {olds news : List Spot} {old new : Spot} → DidTo event n groups olds news → slice_get news n ≡ Some old → DidInPart event old answers new → DidToInPart event (groups ++ answers ∷ []) olds (slice_set news n new)
+part_push : {event : Frame} {n : ℕ} {groups : List (List Answer)} {answers : List Answer} {olds news : List UnitState} {old new : UnitState} → DidTo event n groups olds news → slice_get news n ≡ Some old → DidInPart event old answers new → DidToInPart event (groups ++ answers ∷ []) olds (slice_set news n new)
 part_push {olds = ss} rest is did = first_part ss is did
 part_push (more d to) is did = part_later d (part_push to is did)
 
@@ -86,7 +86,7 @@ pub record DoneTo (event : Frame) (n : ℕ) (before after : Stage) : Type 0 wher
 pub done_none : (event : Frame) (a : Stage) → DoneTo event 0 a a
 done_none event a = record { groups = []; did = rest; wrote = Wrote-none a.written }
 
-place : {event : Frame} {n : ℕ} {groups : List (List Answer)} {olds news : List Spot} (answers : List Answer) → DidTo event n groups olds news → told_from 0 groups ++ told_under n answers ≡ told_from 0 (groups ++ answers ∷ [])
+place : {event : Frame} {n : ℕ} {groups : List (List Answer)} {olds news : List UnitState} (answers : List Answer) → DidTo event n groups olds news → told_from 0 groups ++ told_under n answers ≡ told_from 0 (groups ++ answers ∷ [])
 place {event} {n} {groups} answers to = sym (told_from-push 0 groups answers ∙ ap (λ m. told_from 0 groups ++ told_under m answers) (let long = did_length to in omega (arith, long)))
 
 pub done_more : (event : Frame) (n : ℕ) (a b c : Stage) → DoneTo event n a b → DidAt n event b c → DoneTo event (suc n) a c
@@ -112,32 +112,32 @@ done_part event n a b c done at = record {
 -- ---- a frame
 
 module _ (units : ℕ) (frame event : Frame) where
-  pub serves_all : ((k : ℕ) → seen units k frame ≡ event ∷ []) → (k : ℕ) {n : ℕ} {groups : List (List Answer)} {olds news : List Spot} → DidTo event n groups olds news → n ≡ length olds → Serves units frame k groups olds news
+  pub serves_all : ((k : ℕ) → seen units k frame ≡ event ∷ []) → (k : ℕ) {n : ℕ} {groups : List (List Answer)} {olds news : List UnitState} → DidTo event n groups olds news → n ≡ length olds → EachDid units frame k groups olds news
   serves_all each k {olds = []} rest all = no_unit
   serves_all each k {olds = s ∷ ss} rest all = absurd (omega (arith, all))
   serves_all each k (more did to) all = unit_serves event (each k) did (serves_all each (suc k) to (omega (arith, all)))
 
-  pub stops_all : ((k : ℕ) → seen units k frame ≡ event ∷ []) → (k : ℕ) {groups : List (List Answer)} {olds news : List Spot} → DidToInPart event groups olds news → Stops units frame k groups olds news
+  pub stops_all : ((k : ℕ) → seen units k frame ≡ event ∷ []) → (k : ℕ) {groups : List (List Answer)} {olds news : List UnitState} → DidToInPart event groups olds news → Stops units frame k groups olds news
   stops_all each k (part_here did) = stop_here event (each k) did
   stops_all each k (part_later did to) = stop_serves event (each k) did (stops_all each (suc k) to)
 
-  pub all_pass : (k : ℕ) (ss : List Spot) → ((i : ℕ) → k ≤ i → seen units i frame ≡ []) → Serves units frame k (silence ss) ss ss
+  pub all_pass : (k : ℕ) (ss : List UnitState) → ((i : ℕ) → k ≤ i → seen units i frame ≡ []) → EachDid units frame k (silence ss) ss ss
   unfolding silence
   all_pass k [] none = no_unit
   all_pass k (s ∷ ss) none = unit_passes (none k (omega arith)) (all_pass (suc k) ss (λ i le. none i (omega (arith, le))))
 
-  module _ (at : ℕ) (here : seen units at frame ≡ event ∷ []) (others : (i : ℕ) → (i ≡ at → ⊥) → seen units i frame ≡ []) (answers : List Answer) (old new : Spot) where
-    pub one_serves : (k j : ℕ) (ss : List Spot) → at ≡ k + j → slice_get ss j ≡ Some old → Did event old answers new → Serves units frame k (alone j answers ss) ss (slice_set ss j new)
+  module _ (at : ℕ) (here : seen units at frame ≡ event ∷ []) (others : (i : ℕ) → (i ≡ at → ⊥) → seen units i frame ≡ []) (answers : List Answer) (old new : UnitState) where
+    pub one_serves : (k j : ℕ) (ss : List UnitState) → at ≡ k + j → slice_get ss j ≡ Some old → Did event old answers new → EachDid units frame k (alone j answers ss) ss (slice_set ss j new)
     unfolding alone
     one_serves k j [] is there did = absurd cc
     one_serves k zero (s ∷ ss) is there did =
         let same : old ≡ s = cc in
         let now : at ≡ k = omega (arith, is) in
-        subst (λ x. Serves units frame k (answers ∷ silence ss) (x ∷ ss) (new ∷ ss)) same
+        subst (λ x. EachDid units frame k (answers ∷ silence ss) (x ∷ ss) (new ∷ ss)) same
         (unit_serves event (subst (λ n. seen units n frame ≡ event ∷ []) now here) did (all_pass (suc k) ss (λ i le. others i (λ e. omega (arith, le, e, is)))))
     one_serves k (suc j) (s ∷ ss) is there did = unit_passes (others k (λ e. omega (arith, e, is))) (one_serves (suc k) j ss (omega (arith, is)) there did)
 
-    pub one_stops : (k j : ℕ) (ss : List Spot) → at ≡ k + j → slice_get ss j ≡ Some old → DidInPart event old answers new → Stops units frame k (up_to j answers) ss (slice_set ss j new)
+    pub one_stops : (k j : ℕ) (ss : List UnitState) → at ≡ k + j → slice_get ss j ≡ Some old → DidInPart event old answers new → Stops units frame k (up_to j answers) ss (slice_set ss j new)
     unfolding up_to
     one_stops k j [] is there did = absurd cc
     one_stops k zero (s ∷ ss) is there did =

@@ -13,21 +13,21 @@ use Rattle.satl_direct.specs.Run.{losses_in}
 use Rattle.satl_direct.specs.Run.RunDeep.{start, step}
 use Rattle.satl_direct.proofs.Quieting.{quiet_none}
 use Rattle.satl_step.specs.Events.{unplugs_behind}
-use Rattle.satl_step.specs.Runs.{Covers, tally_of, unplugs_in}
+use Rattle.satl_step.specs.Runs.{KeepsDeepest, tally_of, unplugs_in}
 use Rattle.satl_step.specs.Runs.RunInPart.{last}
 use Rattle.satl_step.proofs.RunLemmas.{Unplugs, unplugs_one, unplugs_pushed}
 use Rattle.satl_fleet.specs.Output.{Round, frames_of, group_of, groups_for}
-use Rattle.satl_fleet.specs.Rounds.{Serves, Stops, round_of}
-use Rattle.satl_fleet.specs.Rounds.Serves.{none as no_unit, passes as unit_passes, serves as unit_serves}
+use Rattle.satl_fleet.specs.Rounds.{EachDid, Stops, round_of}
+use Rattle.satl_fleet.specs.Rounds.EachDid.{none as no_unit, passes as unit_passes, serves as unit_serves}
 use Rattle.satl_fleet.specs.Rounds.Stops.{here as stop_here, passes as stop_passes, serves as stop_serves}
 use Rattle.satl_fleet.specs.Routing.{project, seen}
-use Rattle.satl_fleet.specs.Runs.{HaveRun, HaveRunInPart, IsIdle, Ran, RanInPart, RanRounds, RanRoundsInPart, UnitCounted}
+use Rattle.satl_fleet.specs.Runs.{HasNoTask, HaveRun, HaveRunInPart, RanRounds, RanRoundsInPart, UnitCounted, UnitRan, UnitRanInPart}
 use Rattle.satl_fleet.specs.Runs.HaveRunInPart.{here as run_here, later as run_later}
-use Rattle.satl_fleet.specs.Units.{Did, DidInPart, Spot, device_of}
+use Rattle.satl_fleet.specs.Units.{Did, DidInPart, UnitState, device_of}
 
 -- ---- one unit
 
-counted_more : (events : List Frame) (losses lost : ℕ) (old mid new : DriveState) (event : Frame) → UnitCounted events losses old mid → RoseBy lost mid.faults new.faults → new.unplugs ≡ unplugs_behind event mid.unplugs → Covers (tally_of mid 0) (tally_of new 0) → UnitCounted (events ++ event ∷ []) (losses + lost) old new
+counted_more : (events : List Frame) (losses lost : ℕ) (old mid new : DriveState) (event : Frame) → UnitCounted events losses old mid → RoseBy lost mid.faults new.faults → new.unplugs ≡ unplugs_behind event mid.unplugs → KeepsDeepest (tally_of mid 0) (tally_of new 0) → UnitCounted (events ++ event ∷ []) (losses + lost) old new
 counted_more events losses lost old mid new event counted faults unplugged queue =
     let u = subst (Unplugs event mid.unplugs) (sym unplugged) (unplugs_one event mid.unplugs) in
     let pushed = unplugs_pushed events event in
@@ -39,8 +39,8 @@ counted_more events losses lost old mid new event counted faults unplugged queue
       covers = queue.covers counted.covers;
     }
 
-module _ (first : Device) (old : DriveState) (events : List Frame) (groups : List (List Answer)) (s new : Spot) (event : Frame) (answers : List Answer) (r : Ran first old events groups (device_of s) s.drive) where
-  ran_more : Did event s answers new → Ran first old (events ++ event ∷ []) (groups ++ answers ∷ []) (device_of new) new.drive
+module _ (first : Device) (old : DriveState) (events : List Frame) (groups : List (List Answer)) (s new : UnitState) (event : Frame) (answers : List Answer) (r : UnitRan first old events groups (device_of s) s.drive) where
+  ran_more : Did event s answers new → UnitRan first old (events ++ event ∷ []) (groups ++ answers ∷ []) (device_of new) new.drive
   ran_more did = record {
     losses = r.losses + losses_in event (device_of s) (device_of new);
     deep = max r.deep did.deep;
@@ -49,7 +49,7 @@ module _ (first : Device) (old : DriveState) (events : List Frame) (groups : Lis
     counted = counted_more events r.losses (losses_in event (device_of s) (device_of new)) old s.drive new.drive event r.counted did.faults did.unplugs did.queue;
   }
 
-  ran_in_part : DidInPart event s answers new → RanInPart first old (events ++ event ∷ []) (groups ++ answers ∷ []) (device_of new) new.drive
+  ran_in_part : DidInPart event s answers new → UnitRanInPart first old (events ++ event ∷ []) (groups ++ answers ∷ []) (device_of new) new.drive
   ran_in_part did = record {
     losses = r.losses + losses_in event (device_of s) (device_of new);
     run = last event answers r.run did.does;
@@ -91,16 +91,16 @@ module _ (units k : ℕ) (rounds : List Round) (round : Round) where
   groups_one : (event : Frame) (answers : List Answer) → seen units k round.frame ≡ event ∷ [] → slice_index_or round.groups k [] ≡ answers → old_groups ++ answers ∷ [] ≡ groups_for units k (rounds ++ round ∷ [])
   groups_one event answers sees here = sym (groups_push units k rounds round ∙ (ap (λ l. old_groups ++ group_of k round l) sees ∙ ap (λ g. old_groups ++ g ∷ []) here))
 
-  module _ (first : Device) (old : DriveState) (s : Spot) (r : RanRounds units k rounds first old (device_of s) s.drive) where
+  module _ (first : Device) (old : DriveState) (s : UnitState) (r : RanRounds units k rounds first old (device_of s) s.drive) where
     ran_past : seen units k round.frame ≡ [] → RanRounds units k (rounds ++ round ∷ []) first old (device_of s) s.drive
-    ran_past unseen = subst (λ gs. Ran first old (project units k (frames_of (rounds ++ round ∷ []))) gs (device_of s) s.drive) (groups_same unseen) (subst (λ es. Ran first old es old_groups (device_of s) s.drive) (events_same unseen) r)
+    ran_past unseen = subst (λ gs. UnitRan first old (project units k (frames_of (rounds ++ round ∷ []))) gs (device_of s) s.drive) (groups_same unseen) (subst (λ es. UnitRan first old es old_groups (device_of s) s.drive) (events_same unseen) r)
 
-    module _ (event : Frame) (answers : List Answer) (new : Spot) (sees : seen units k round.frame ≡ event ∷ []) (here : slice_index_or round.groups k [] ≡ answers) where
+    module _ (event : Frame) (answers : List Answer) (new : UnitState) (sees : seen units k round.frame ≡ event ∷ []) (here : slice_index_or round.groups k [] ≡ answers) where
       ran_on : Did event s answers new → RanRounds units k (rounds ++ round ∷ []) first old (device_of new) new.drive
-      ran_on did = subst (λ gs. Ran first old (project units k (frames_of (rounds ++ round ∷ []))) gs (device_of new) new.drive) (groups_one event answers sees here) (subst (λ es. Ran first old es (old_groups ++ answers ∷ []) (device_of new) new.drive) (events_one event sees) (ran_more first old old_events old_groups s new event answers r did))
+      ran_on did = subst (λ gs. UnitRan first old (project units k (frames_of (rounds ++ round ∷ []))) gs (device_of new) new.drive) (groups_one event answers sees here) (subst (λ es. UnitRan first old es (old_groups ++ answers ∷ []) (device_of new) new.drive) (events_one event sees) (ran_more first old old_events old_groups s new event answers r did))
 
       ran_cut : DidInPart event s answers new → RanRoundsInPart units k (rounds ++ round ∷ []) first old (device_of new) new.drive
-      ran_cut did = subst (λ gs. RanInPart first old (project units k (frames_of (rounds ++ round ∷ []))) gs (device_of new) new.drive) (groups_one event answers sees here) (subst (λ es. RanInPart first old es (old_groups ++ answers ∷ []) (device_of new) new.drive) (events_one event sees) (ran_in_part first old old_events old_groups s new event answers r did))
+      ran_cut did = subst (λ gs. UnitRanInPart first old (project units k (frames_of (rounds ++ round ∷ []))) gs (device_of new) new.drive) (groups_one event answers sees here) (subst (λ es. UnitRanInPart first old es (old_groups ++ answers ∷ []) (device_of new) new.drive) (events_one event sees) (ran_in_part first old old_events old_groups s new event answers r did))
 
 -- the group of a unit
 group_at : (before : List (List Answer)) (answers : List Answer) (behind : List (List Answer)) (k : ℕ) → length before ≡ k → slice_index_or (before ++ answers ∷ behind) k [] ≡ answers
@@ -120,7 +120,7 @@ module _ (units : ℕ) (rounds : List Round) (frame : Frame) (groups : List (Lis
   here_is : (before : List (List Answer)) (answers : List Answer) (behind : List (List Answer)) (k : ℕ) → groups ≡ before ++ answers ∷ behind → length before ≡ k → slice_index_or groups k [] ≡ answers
   here_is before answers behind k is long = ap (λ gs. slice_index_or gs k []) is ∙ group_at before answers behind k long
 
-  pub run_round : (k : ℕ) (before : List (List Answer)) {behind : List (List Answer)} (starts : List Spot) {olds news : List Spot} → groups ≡ before ++ behind → length before ≡ k → HaveRun units k rounds starts olds → Serves units frame k behind olds news → HaveRun units k (rounds ++ whole ∷ []) starts news
+  pub run_round : (k : ℕ) (before : List (List Answer)) {behind : List (List Answer)} (starts : List UnitState) {olds news : List UnitState} → groups ≡ before ++ behind → length before ≡ k → HaveRun units k rounds starts olds → EachDid units frame k behind olds news → HaveRun units k (rounds ++ whole ∷ []) starts news
   run_round k before [] is long run no_unit = tt
   run_round k before (a ∷ starts) is long run no_unit = absurd run
   run_round k before [] is long run (unit_passes unseen others) = absurd run
@@ -130,7 +130,7 @@ module _ (units : ℕ) (rounds : List Round) (frame : Frame) (groups : List (Lis
   run_round k before {behind = g ∷ gs} (a ∷ starts) {olds = s ∷ ss} {news = w ∷ ws} is long run (unit_serves event sees did others) =
       (ran_on units k rounds whole (device_of a) a.drive s run.0 event g w sees (here_is before g gs k is long) did, run_round (suc k) (before ++ g ∷ []) starts (next_split before g gs is) (next_length before g k long) run.1 others)
 
-  pub run_round_part : (k : ℕ) (before : List (List Answer)) {behind : List (List Answer)} (starts : List Spot) {olds news : List Spot} → groups ≡ before ++ behind → length before ≡ k → HaveRun units k rounds starts olds → Stops units frame k behind olds news → HaveRunInPart units rounds whole k starts news
+  pub run_round_part : (k : ℕ) (before : List (List Answer)) {behind : List (List Answer)} (starts : List UnitState) {olds news : List UnitState} → groups ≡ before ++ behind → length before ≡ k → HaveRun units k rounds starts olds → Stops units frame k behind olds news → HaveRunInPart units rounds whole k starts news
   run_round_part k before [] is long run (stop_here event sees did) = absurd run
   run_round_part k before {behind = g ∷ gs} (a ∷ starts) {olds = s ∷ ss} {news = w ∷ ws} is long run (stop_here event sees did) =
       run_here (ran_cut units k rounds whole (device_of a) a.drive s run.0 event g w sees (here_is before g gs k is long) did) run.1
@@ -144,7 +144,7 @@ module _ (units : ℕ) (rounds : List Round) (frame : Frame) (groups : List (Lis
   run_round_part k before {behind = g ∷ gs} (a ∷ starts) {olds = []} {news = news} is long run each = absurd run
 
 -- no round
-pub run_none : (units k : ℕ) (ss : List Spot) → AllByRecursion IsIdle ss → HaveRun units k [] ss ss
+pub run_none : (units k : ℕ) (ss : List UnitState) → AllByRecursion HasNoTask ss → HaveRun units k [] ss ss
 run_none units k [] idle = tt
 run_none units k (s ∷ ss) idle = (
   record {

@@ -14,10 +14,10 @@ use Rattle.satl_fleet.specs.Opening.{Opens, OpensTo}
 use Rattle.satl_fleet.specs.Opening.OpensTo.{rest, more}
 use Rattle.satl_fleet.specs.Output.{Round, frames_of, groups_for}
 use Rattle.satl_fleet.specs.Routing.{project}
-use Rattle.satl_fleet.specs.Runs.{AreServed, AreServedInPart, HaveRun, HaveRunInPart, Ran, RanInPart, RanRounds, RanRoundsInPart, UnitCounted, UnitServed}
+use Rattle.satl_fleet.specs.Runs.{AreServed, AreServedInPart, HaveRun, HaveRunInPart, RanRounds, RanRoundsInPart, UnitCounted, UnitRan, UnitRanInPart, UnitServed}
 use Rattle.satl_fleet.specs.Runs.AreServedInPart.{here as served_here, later as served_later}
 use Rattle.satl_fleet.specs.Runs.HaveRunInPart.{here as run_here, later as run_later}
-use Rattle.satl_fleet.specs.Units.{IsTiedSpot, spot, spots_of}
+use Rattle.satl_fleet.specs.Units.{IsTiedUnit, unit_state, unit_states}
 
 -- ---- a run is counted from before the layer was opened
 
@@ -34,15 +34,15 @@ module _ (old mid new : DriveState) (stays : mid ≡ record old { cells = mid.ce
         covers = c.covers;
       }
 
-  sooner : (first last : Device) (events : List Frame) (groups : List (List Answer)) → Ran first mid events groups last new → Ran first old events groups last new
+  sooner : (first last : Device) (events : List Frame) (groups : List (List Answer)) → UnitRan first mid events groups last new → UnitRan first old events groups last new
   sooner first last events groups r = record { losses = r.losses; deep = r.deep; run = r.run; deepest = r.deepest; counted = sooner_counted events r.losses r.counted }
 
-  sooner_part : (first last : Device) (events : List Frame) (groups : List (List Answer)) → RanInPart first mid events groups last new → RanInPart first old events groups last new
+  sooner_part : (first last : Device) (events : List Frame) (groups : List (List Answer)) → UnitRanInPart first mid events groups last new → UnitRanInPart first old events groups last new
   sooner_part first last events groups r = record { losses = r.losses; run = r.run; counted = sooner_counted events r.losses r.counted }
 
 -- ---- one unit
 
-module _ (units k : ℕ) (rounds : List Round) (old mid new : DriveState) (l l' : Layer) (o : Opens old l mid) (tied : IsTiedSpot (spot l' new)) where
+module _ (units k : ℕ) (rounds : List Round) (old mid new : DriveState) (l l' : Layer) (o : Opens old l mid) (tied : IsTiedUnit (unit_state l' new)) where
   unit_served : RanRounds units k rounds (view l mid) mid (view l' new) new → UnitServed (λ first last. RanRounds units k rounds first old last new) old new
   unit_served r = record {
     first = view l mid;
@@ -66,13 +66,13 @@ module _ (units k : ℕ) (rounds : List Round) (old mid new : DriveState) (l l' 
 -- ---- all units
 
 module _ (units : ℕ) where
-  no_more : (k : ℕ) (rounds : List Round) (ls : List Layer) (news : List DriveState) → length ls ≡ length news → HaveRun units k rounds [] (spots_of ls news) → AreServed units k rounds [] news
+  no_more : (k : ℕ) (rounds : List Round) (ls : List Layer) (news : List DriveState) → length ls ≡ length news → HaveRun units k rounds [] (unit_states ls news) → AreServed units k rounds [] news
   no_more k rounds [] [] long run = tt
   no_more k rounds [] (w ∷ ws) long run = absurd (omega (arith, long))
   no_more k rounds (x ∷ xs) [] long run = absurd (omega (arith, long))
   no_more k rounds (x ∷ xs) (w ∷ ws) long run = absurd run
 
-  pub are_served : (k : ℕ) (rounds : List Round) {olds mids : List DriveState} {ls : List Layer} (ls' : List Layer) (news : List DriveState) → OpensTo olds ls mids → length ls ≡ length olds → length ls' ≡ length news → HaveRun units k rounds (spots_of ls mids) (spots_of ls' news) → AllByRecursion IsTiedSpot (spots_of ls' news) → AreServed units k rounds olds news
+  pub are_served : (k : ℕ) (rounds : List Round) {olds mids : List DriveState} {ls : List Layer} (ls' : List Layer) (news : List DriveState) → OpensTo olds ls mids → length ls ≡ length olds → length ls' ≡ length news → HaveRun units k rounds (unit_states ls mids) (unit_states ls' news) → AllByRecursion IsTiedUnit (unit_states ls' news) → AreServed units k rounds olds news
   are_served k rounds {olds = []} ls' news rest each long run tied = no_more k rounds ls' news long run
   are_served k rounds {olds = d ∷ ds} ls' news rest each long run tied = absurd (omega (arith, each))
   are_served k rounds [] [] (more o os) each long run tied = absurd run
@@ -81,7 +81,7 @@ module _ (units : ℕ) where
   are_served k rounds {olds = d ∷ ds} {mids = m ∷ ms} {ls = l ∷ ls} (x ∷ xs) (w ∷ ws) (more o os) each long run tied =
       (unit_served units k rounds d m w l x o tied.0 run.0, are_served (suc k) rounds xs ws os (omega (arith, each)) (omega (arith, long)) run.1 tied.1)
 
-  pub are_served_part : (k : ℕ) (rounds : List Round) (round : Round) {olds mids : List DriveState} {ls : List Layer} (ls' : List Layer) (news : List DriveState) → OpensTo olds ls mids → length ls ≡ length olds → length ls' ≡ length news → HaveRunInPart units rounds round k (spots_of ls mids) (spots_of ls' news) → AllByRecursion IsTiedSpot (spots_of ls' news) → AreServedInPart units rounds round k olds news
+  pub are_served_part : (k : ℕ) (rounds : List Round) (round : Round) {olds mids : List DriveState} {ls : List Layer} (ls' : List Layer) (news : List DriveState) → OpensTo olds ls mids → length ls ≡ length olds → length ls' ≡ length news → HaveRunInPart units rounds round k (unit_states ls mids) (unit_states ls' news) → AllByRecursion IsTiedUnit (unit_states ls' news) → AreServedInPart units rounds round k olds news
   are_served_part k rounds round {olds = d ∷ ds} {mids = m ∷ ms} {ls = l ∷ ls} (x ∷ xs) (w ∷ ws) (more o os) each long (run_here r others) tied =
       served_here (unit_served_part units k (rounds ++ round ∷ []) d m w l x o tied.0 r) (are_served (suc k) rounds xs ws os (omega (arith, each)) (omega (arith, long)) others tied.1)
   are_served_part k rounds round {olds = d ∷ ds} {mids = m ∷ ms} {ls = l ∷ ls} (x ∷ xs) (w ∷ ws) (more o os) each long (run_later r others) tied =

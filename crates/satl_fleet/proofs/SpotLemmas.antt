@@ -5,7 +5,7 @@ use Rattle.std.proofs.lemmas.List.{length-map}
 use Rattle.std.specs.List.{AllByRecursion}
 use Rattle.satl_drive.specs.State.{DriveState}
 use Rattle.satl_core.specs.Layer.{Layer}
-use Rattle.satl_fleet.specs.Units.{Spot, pending, spot, spots_of}
+use Rattle.satl_fleet.specs.Units.{UnitState, pending, unit_state, unit_states}
 
 -- the element of an index
 pub some_at : {X : Type 0} (xs : List X) (k : ℕ) (x : X) → k < length xs → x ≡ slice_index_or xs k x → slice_get xs k ≡ Some x
@@ -13,23 +13,23 @@ some_at [] k x less is = absurd (omega (arith, less))
 some_at (y ∷ ys) zero x less is = ap Some (sym is)
 some_at (y ∷ ys) (suc k) x less is = some_at ys k x (omega (arith, less)) is
 
-pub spots_at : (ls : List Layer) (ds : List DriveState) (k : ℕ) (l : Layer) (d : DriveState) → slice_get ls k ≡ Some l → slice_get ds k ≡ Some d → slice_get (spots_of ls ds) k ≡ Some (spot l d)
+pub spots_at : (ls : List Layer) (ds : List DriveState) (k : ℕ) (l : Layer) (d : DriveState) → slice_get ls k ≡ Some l → slice_get ds k ≡ Some d → slice_get (unit_states ls ds) k ≡ Some (unit_state l d)
 spots_at [] ds k l d is there = absurd cc
 spots_at (x ∷ xs) [] k l d is there = absurd cc
 spots_at (x ∷ xs) (y ∷ ys) zero l d is there =
     let same : x ≡ l = cc in
     let drive : y ≡ d = cc in
-    ap (λ z. Some (spot z y)) same ∙ ap (λ z. Some (spot l z)) drive
+    ap (λ z. Some (unit_state z y)) same ∙ ap (λ z. Some (unit_state l z)) drive
 spots_at (x ∷ xs) (y ∷ ys) (suc k) l d is there = spots_at xs ys k l d is there
 
-pub spots_set : (ls : List Layer) (ds : List DriveState) (k : ℕ) (l : Layer) (d : DriveState) → spots_of (slice_set ls k l) (slice_set ds k d) ≡ slice_set (spots_of ls ds) k (spot l d)
+pub spots_set : (ls : List Layer) (ds : List DriveState) (k : ℕ) (l : Layer) (d : DriveState) → unit_states (slice_set ls k l) (slice_set ds k d) ≡ slice_set (unit_states ls ds) k (unit_state l d)
 spots_set [] ds k l d = refl
 spots_set (x ∷ xs) [] zero l d = refl
 spots_set (x ∷ xs) [] (suc k) l d = refl
 spots_set (x ∷ xs) (y ∷ ys) zero l d = refl
-spots_set (x ∷ xs) (y ∷ ys) (suc k) l d = ap (λ (ss : List Spot). spot x y ∷ ss) (spots_set xs ys k l d)
+spots_set (x ∷ xs) (y ∷ ys) (suc k) l d = ap (λ (ss : List UnitState). unit_state x y ∷ ss) (spots_set xs ys k l d)
 
-pub length_spots : (ls : List Layer) (ds : List DriveState) → length ds ≡ length ls → length (spots_of ls ds) ≡ length ls
+pub length_spots : (ls : List Layer) (ds : List DriveState) → length ds ≡ length ls → length (unit_states ls ds) ≡ length ls
 length_spots [] ds same = refl
 length_spots (x ∷ xs) [] same = same
 length_spots (x ∷ xs) (y ∷ ys) same = ap suc (length_spots xs ys (omega (arith, same)))
@@ -45,13 +45,13 @@ all_set P (y ∷ ys) zero x all p = (p, all.1)
 all_set P (y ∷ ys) (suc k) x all p = (all.0, all_set P ys k x all.1 p)
 
 -- the tasks that wait, once those of one unit are others
-pub pending_set : (ss : List Spot) (k : ℕ) (old new : Spot) → slice_get ss k ≡ Some old → pending (slice_set ss k new) + length old.layer.tasks ≡ pending ss + length new.layer.tasks
+pub pending_set : (ss : List UnitState) (k : ℕ) (old new : UnitState) → slice_get ss k ≡ Some old → pending (slice_set ss k new) + length old.layer.tasks ≡ pending ss + length new.layer.tasks
 pending_set [] k old new is = absurd cc
 pending_set (s ∷ ss) zero old new is =
     let same : s ≡ old = cc in
-    let tasks = ap (λ (x : Spot). length x.layer.tasks) same in
+    let tasks = ap (λ (x : UnitState). length x.layer.tasks) same in
     omega (arith, tasks)
 pending_set (s ∷ ss) (suc k) old new is = let more = pending_set ss k old new is in omega (arith, more)
 
-pub length_states : {D : Type 0} (f : D → DriveState) (ls : List Layer) (ds : List D) → length ds ≡ length ls → length (spots_of ls (map f ds)) ≡ length ls
+pub length_states : {D : Type 0} (f : D → DriveState) (ls : List Layer) (ds : List D) → length ds ≡ length ls → length (unit_states ls (map f ds)) ≡ length ls
 length_states f ls ds same = length_spots ls (map f ds) (length-map ds f ∙ same)

@@ -17,27 +17,27 @@ use Rattle.satl_frame.specs.declared.frames.Version.TheVariants.{One}
 use Rattle.satl_frame.specs.Output.{fault_bytes, out_magic}
 use Rattle.satl_frame.specs.Progress.{HasRead, ReadTo, ReadUpTo}
 use Rattle.satl_frame.specs.Reading.{Reading}
-use Rattle.satl_serve.specs.Moments.{Reads, Writes}
+use Rattle.satl_serve.specs.Moments.{SinkState, SourceState}
 use Rattle.satl_serve.specs.Runs.{input_limit}
 use Rattle.satl_step.specs.Loop.{HasStopCause}
 use Rattle.satl_step.specs.declared.frames_loop.Stop.{Stop}
 use Rattle.satl_step.specs.declared.frames_loop.Stop.TheVariants as stops
 use Rattle.satl_fleet.specs.Headline.{ReadBefore, told_of}
-use Rattle.satl_fleet.specs.Loop.{Ended, Refused, Scene, StoppedInRound, StoppedSo}
+use Rattle.satl_fleet.specs.Loop.{LoopState, ReachedEnd, Refused, StoppedInRound, StoppedSo}
 use Rattle.satl_fleet.specs.Output.{Round, all_told, frames_of, output}
-use Rattle.satl_fleet.specs.Runs.{IsIdle}
+use Rattle.satl_fleet.specs.Runs.{HasNoTask}
 use Rattle.satl_fleet.specs.Serving.{Target}
-use Rattle.satl_fleet.specs.Stopping.{HasStreamCause, Place, RanBefore, RanInPart, RanTo, RanWhole, StoppedInAnswers, StoppedInFault, StoppedInMagic, Tells, TellsSo, TellsStop}
+use Rattle.satl_fleet.specs.Stopping.{HasStreamCause, RanBefore, RanInPart, RanTo, RanWhole, Spot, StoppedInAnswers, StoppedInFault, StoppedInMagic, Tells, TellsSo, TellsStop}
 use Rattle.satl_fleet.specs.declared.fault.FleetFault.{FleetFault}
 use Rattle.satl_fleet.specs.declared.fault.FleetFault.TheVariants as faults
 use Rattle.satl_fleet.proofs.RunLemmas.{run_none}
 
 -- where a scene stands that was reached behind what was written
-abbrev pub place_of : Option (List ℕ) → Scene → Place
+abbrev pub place_of : Option (List ℕ) → LoopState → Spot
 place_of written a = record { left = a.left; stage = record a.stage { written = written }; calls = a.calls }
 
 -- a scene at which serving begins: a new reader, and the magic was written
-pub record Begins (written : Option (List ℕ)) (a : Scene) : Type 0 where
+pub record Begins (written : Option (List ℕ)) (a : LoopState) : Type 0 where
   pub limit : a.reader.limit ≡ input_limit
   pub newest : a.reader.newest ≡ One
   pub magic : Wrote written a.stage.written out_magic
@@ -51,11 +51,11 @@ read_to limit r left left' events earlier limit_is newest_is read ends =
     by_place None (nothing, same) = let long = length-append earlier (frames.End ∷ []) in let none = ap length (sym ends ∙ nothing) in absurd (omega (arith, long, none))
     by_place (Some place) read = (place, read)
 
-module _ (units : ℕ) (written : Option (List ℕ)) (a : Scene) (begins : Begins written a) where
+module _ (units : ℕ) (written : Option (List ℕ)) (a : LoopState) (begins : Begins written a) where
   printed : (rounds : List Round) (now : Option (List ℕ)) → Wrote a.stage.written now (all_told units rounds) → Wrote written now (output units rounds)
   printed rounds now wrote = Wrote-more begins.magic wrote
 
-  pub whole : (b : Scene) → Ended units a b → RanWhole input_limit units (place_of written a) (place_of b.stage.written b)
+  pub whole : (b : LoopState) → ReachedEnd units a b → RanWhole input_limit units (place_of written a) (place_of b.stage.written b)
   whole b e =
       let s = e.so_far in
       let read = read_to input_limit b.reader a.left b.left (frames_of e.rounds) e.earlier (s.given.limit ∙ begins.limit) (s.given.newest ∙ begins.newest) s.given.read e.ends in
@@ -70,7 +70,7 @@ module _ (units : ℕ) (written : Option (List ℕ)) (a : Scene) (begins : Begin
         calls = omega (arith, s.given.calls);
       }
 
-  module _ (b : Scene) where
+  module _ (b : LoopState) where
     read_before : (why : FrameFault) → (r : Refused units why a b) → ReadBefore input_limit a.left b.left (frames_of r.going.rounds) why
     read_before why r = record {
       reader = r.reader;
@@ -128,14 +128,14 @@ module _ (units : ℕ) (written : Option (List ℕ)) (a : Scene) (begins : Begin
     }
 
     -- where frames are carried out no further
-    pub stopped : (now after : Writes) (fault : FleetFault) (stop : Stop) → now.written ≡ b.stage.written → StoppedSo units a b stop → TellsStop now after fault stop → RanTo input_limit units (place_of written a) (place_of after.written b) fault
+    pub stopped : (now after : SinkState) (fault : FleetFault) (stop : Stop) → now.written ≡ b.stage.written → StoppedSo units a b stop → TellsStop now after fault stop → RanTo input_limit units (place_of written a) (place_of after.written b) fault
     stopped now after fault (stops.Refused why) same r told = refused why after.written fault r (subst (λ w. Tells why w after.written fault) same told.tells)
     stopped now after fault stops.Write same t (is, stays) =
         subst (RanTo input_limit units (place_of written a) (place_of after.written b)) (sym is)
-        (inr (inl (subst (λ w. StoppedInAnswers input_limit units (place_of written a) (place_of w b)) (sym same ∙ ap (λ (w : Writes). w.written) (sym stays)) (in_round t))))
+        (inr (inl (subst (λ w. StoppedInAnswers input_limit units (place_of written a) (place_of w b)) (sym same ∙ ap (λ (w : SinkState). w.written) (sym stays)) (in_round t))))
 
 -- and why
-pub stop_cause : (read read' : Reads) (first begun_at now after : Writes) (fault : FleetFault) (stop : Stop) → first.faults ≤ begun_at.faults → HasStopCause read.faults read'.faults begun_at.faults now.faults stop → TellsStop now after fault stop → begun_at.faults ≤ now.faults → HasStreamCause read read' first after fault
+pub stop_cause : (read read' : SourceState) (first begun_at now after : SinkState) (fault : FleetFault) (stop : Stop) → first.faults ≤ begun_at.faults → HasStopCause read.faults read'.faults begun_at.faults now.faults stop → TellsStop now after fault stop → begun_at.faults ≤ now.faults → HasStreamCause read read' first after fault
 stop_cause read read' first begun_at now after fault (stops.Refused why) earlier cause told later = by_fault fault why cause told
   where
     by_fault : (fault : FleetFault) (why : FrameFault) → HasStopCause read.faults read'.faults begun_at.faults now.faults (stops.Refused why) → TellsSo why now after fault → HasStreamCause read read' first after fault
@@ -145,13 +145,13 @@ stop_cause read read' first begun_at now after fault (stops.Refused why) earlier
     by_fault faults.Write why cause told = let rose = told.cause refl in omega (arith, rose, earlier, later)
     by_fault faults.NoMemory why cause told = absurd told.tells
 stop_cause read read' first begun_at now after fault stops.Write earlier cause (is, stays) later =
-    let same = ap (λ (w : Writes). w.faults) stays in subst (HasStreamCause read read' first after) (sym is) (omega (arith, cause, earlier, same))
+    let same = ap (λ (w : SinkState). w.faults) stays in subst (HasStreamCause read read' first after) (sym is) (omega (arith, cause, earlier, same))
 
 -- nothing was read, and the magic was written in part
-pub in_magic : (units : ℕ) (left written written' : Option (List ℕ)) (t : Target) (calls : ℕ) → AllByRecursion IsIdle t.units → WrotePart written written' out_magic → StoppedInMagic units (record { left = left; stage = record { target = t; written = written }; calls = calls }) (record { left = left; stage = record { target = t; written = written' }; calls = calls })
+pub in_magic : (units : ℕ) (left written written' : Option (List ℕ)) (t : Target) (calls : ℕ) → AllByRecursion HasNoTask t.units → WrotePart written written' out_magic → StoppedInMagic units (record { left = left; stage = record { target = t; written = written }; calls = calls }) (record { left = left; stage = record { target = t; written = written' }; calls = calls })
 in_magic units left written written' t calls idle part = record { read = refl; part = part; run = run_none units 0 t.units idle; calls = omega arith }
 
 -- a write failed before anything was read
-pub any_write : (limit units : ℕ) (before after : Place) (r : Result (Unit {0}) FleetFault) (P : FleetFault → Type 0) → IsErrAnd r P → ((e : FleetFault) → P e → e ≡ faults.Write) → RanInPart limit units before after → IfErr r (RanTo limit units before after)
+pub any_write : (limit units : ℕ) (before after : Spot) (r : Result (Unit {0}) FleetFault) (P : FleetFault → Type 0) → IsErrAnd r P → ((e : FleetFault) → P e → e ≡ faults.Write) → RanInPart limit units before after → IfErr r (RanTo limit units before after)
 any_write limit units before after (Ok u) P is same part = tt
 any_write limit units before after (Err e) P is same part = subst (RanTo limit units before after) (sym (same e is)) part

@@ -4,11 +4,11 @@ use Rattle.std.specs.List.{AllByRecursion}
 use Rattle.satl_base.specs.declared.reply.Reply.{Reply}
 use Rattle.satl_base.proofs.ListsLemmas.{All-weaken}
 use Rattle.satl_fleet.specs.Serving.{CanServe, HasUnits, KeepsUnits, Target}
-use Rattle.satl_fleet.specs.Units.{IsReady, IsTiedSpot, Spot}
+use Rattle.satl_fleet.specs.Units.{IsReady, IsTiedUnit, UnitState}
 
 -- units that are ready are tied to their drives
-pub all_tied : (ss : List Spot) → AllByRecursion IsReady ss → AllByRecursion IsTiedSpot ss
-all_tied ss ready = All-weaken IsReady IsTiedSpot (λ s r. r.tied) ss ready
+pub all_tied : (ss : List UnitState) → AllByRecursion IsReady ss → AllByRecursion IsTiedUnit ss
+all_tied ss ready = All-weaken IsReady IsTiedUnit (λ s r. r.tied) ss ready
 
 -- a target that is as it was
 pub keeps_same : (t : Target) → HasUnits t → KeepsUnits t t

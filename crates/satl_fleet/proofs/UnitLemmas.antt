@@ -13,7 +13,7 @@ use Rattle.satl_step.specs.Serving.{WholeOrInPart}
 use Rattle.satl_step.specs.Telling.{all_told}
 use Rattle.satl_step.proofs.RunLemmas.{asked_whole, tallied_whole}
 use Rattle.satl_fleet.specs.Output.{is_left_out, kept, named, named_behind, told_one, told_under, unit_bytes}
-use Rattle.satl_fleet.specs.Units.{Did, DidInPart, UnitDid, UnitDidInPart, device_of, spot}
+use Rattle.satl_fleet.specs.Units.{Did, DidInPart, UnitDid, UnitDidInPart, device_of, unit_state}
 use Rattle.satl_fleet.specs.declared.telling.UnitTeller.{UnitTeller}
 
 -- ---- telling
@@ -53,29 +53,29 @@ counted_so event a c (Ok u) ends = ends.whole.tallied
 counted_so event a c (Err e) ends = ends.part.tallied
 
 module _ (l l' : Layer) (d d' : DriveState) (calls calls' : ℕ) (event whole : Frame) (is : IsWholeOf event whole) where
-  did : (answers : List Answer) → IsTallied event (stand_of l d calls) (stand_of l' d' calls') → Carried event (stand_of l d calls) answers (stand_of l' d' calls') → Did whole (spot l d) answers (spot l' d')
+  did : (answers : List Answer) → IsTallied event (stand_of l d calls) (stand_of l' d' calls') → Carried event (stand_of l d calls) answers (stand_of l' d' calls') → Did whole (unit_state l d) answers (unit_state l' d')
   did answers tallied carried =
       let t = tallied_whole is.room (stand_of l d calls) (stand_of l' d' calls') event whole is.cut tallied in
       record { deep = carried.deep; does = carried.does whole is; covered = carried.covered; faults = t.faults; unplugs = t.unplugs; queue = record { rises = t.queue.rises; covers = t.queue.covers } }
 
-  does_part : (answers : List Answer) → Carried event (stand_of l d calls) answers (stand_of l' d' calls') ⊎ DoesShort event (device_of (spot l d)) answers (device_of (spot l' d')) → DoesInPart whole (device_of (spot l d)) answers (device_of (spot l' d'))
+  does_part : (answers : List Answer) → Carried event (stand_of l d calls) answers (stand_of l' d' calls') ⊎ DoesShort event (device_of (unit_state l d)) answers (device_of (unit_state l' d')) → DoesInPart whole (device_of (unit_state l d)) answers (device_of (unit_state l' d'))
   does_part answers (inl carried) = does_all carried.deep (carried.does whole is)
   does_part answers (inr short) = does_some (record { count = short.count; some = short.some; asked = asked_whole is.room short.count event whole is.cut short.asked; replies = short.replies; deep = short.deep; turns = short.turns; answer = short.answer })
 
-  did_in_part : (answers : List Answer) → IsTallied event (stand_of l d calls) (stand_of l' d' calls') → Carried event (stand_of l d calls) answers (stand_of l' d' calls') ⊎ DoesShort event (device_of (spot l d)) answers (device_of (spot l' d')) → DidInPart whole (spot l d) answers (spot l' d')
+  did_in_part : (answers : List Answer) → IsTallied event (stand_of l d calls) (stand_of l' d' calls') → Carried event (stand_of l d calls) answers (stand_of l' d' calls') ⊎ DoesShort event (device_of (unit_state l d)) answers (device_of (unit_state l' d')) → DidInPart whole (unit_state l d) answers (unit_state l' d')
   did_in_part answers tallied done =
       let t = tallied_whole is.room (stand_of l d calls) (stand_of l' d' calls') event whole is.cut tallied in
       record { does = does_part answers done; faults = t.faults; unplugs = t.unplugs; queue = record { rises = t.queue.rises; covers = t.queue.covers } }
 
   module _ (k : ℕ) (first last : UnitTeller) (fresh : first ≡ record { unit = k; named = false }) (written written' : Option (List ℕ)) where
-    pub unit_did : Done by behind event (scene_of l d calls first written) (scene_of l' d' calls' last written') → UnitDid k whole (spot l d) (spot l' d') written written'
+    pub unit_did : Done by behind event (scene_of l d calls first written) (scene_of l' d' calls' last written') → UnitDid k whole (unit_state l d) (unit_state l' d') written written'
     unit_did done = record {
       answers = done.answers;
       did = did done.answers done.tallied done.carried;
       wrote = subst (Wrote written written') (ap (λ t. all_told by behind t done.answers) fresh ∙ unnamed_told k done.answers) done.told_so.wrote;
     }
 
-    pub unit_did_in_part : DoneInPart by behind event (scene_of l d calls first written) (scene_of l' d' calls' last written') → UnitDidInPart k whole (spot l d) (spot l' d') written written'
+    pub unit_did_in_part : DoneInPart by behind event (scene_of l d calls first written) (scene_of l' d' calls' last written') → UnitDidInPart k whole (unit_state l d) (unit_state l' d') written written'
     unit_did_in_part done = record {
       answers = done.answers;
       did = did_in_part done.answers done.tallied done.carried;

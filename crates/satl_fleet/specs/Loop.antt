@@ -15,44 +15,44 @@ use Rattle.satl_fleet.specs.Runs.{HaveRun, HaveRunInPart}
 use Rattle.satl_fleet.specs.Serving.{calls_due}
 
 -- a reader, what is left to read, the units and what was written, and how often the drives were called (profile)
-pub record Scene : Type 0 where
+pub record LoopState : Type 0 where
   pub reader : Reading
   pub left : Option (List ℕ)
   pub stage : Stage
   pub calls : ℕ
 
-abbrev pub scene : Reading → Option (List ℕ) → Stage → ℕ → Scene
-scene reader left stage calls = record { reader = reader; left = left; stage = stage; calls = calls }
+abbrev pub loop_state : Reading → Option (List ℕ) → Stage → ℕ → LoopState
+loop_state reader left stage calls = record { reader = reader; left = left; stage = stage; calls = calls }
 
 -- the reader is the same but for where it stands, and has given these frames; the drives were called as often at most as they
 -- allow, but for the turns of the tasks that are left (profile)
-pub record HasGiven (units : ℕ) (before after : Scene) (fs : List Frame) : Type 0 where
+pub record HasGiven (units : ℕ) (before after : LoopState) (fs : List Frame) : Type 0 where
   pub limit : after.reader.limit ≡ before.reader.limit
   pub newest : after.reader.newest ≡ before.reader.newest
   pub read : HasRead after.reader before.left after.left fs
   pub calls : calls_due after.stage.target after.calls ≤ before.calls + calls_for units fs
 
 -- rounds were served, and their answers told (profile)
-pub record SoFar (units : ℕ) (before after : Scene) (rounds : List Round) : Type 0 where
+pub record SoFar (units : ℕ) (before after : LoopState) (rounds : List Round) : Type 0 where
   pub given : HasGiven units before after (frames_of rounds)
   pub wrote : Wrote before.stage.written after.stage.written (all_told units rounds)
   pub run : HaveRun units 0 rounds before.stage.target.units after.stage.target.units
 
 -- the same, and none of the frames is END (profile)
-pub record Going (units : ℕ) (before after : Scene) : Type 0 where
+pub record Going (units : ℕ) (before after : LoopState) : Type 0 where
   pub rounds : List Round
   pub so_far : SoFar units before after rounds
   pub none_ends : NoneEnds (frames_of rounds)
 
 -- the same, and the last one is END (profile)
-pub record Ended (units : ℕ) (before after : Scene) : Type 0 where
+pub record ReachedEnd (units : ℕ) (before after : LoopState) : Type 0 where
   pub rounds : List Round
   pub so_far : SoFar units before after rounds
   pub earlier : List Frame
   pub ends : frames_of rounds ≡ earlier ++ frames.End ∷ []
 
 -- rounds were served, and what follows them was refused or not read (profile)
-pub record Refused (units : ℕ) (why : FrameFault) (before after : Scene) : Type 0 where
+pub record Refused (units : ℕ) (why : FrameFault) (before after : LoopState) : Type 0 where
   pub reader : Reading
   pub mid : Option (List ℕ)
   pub going : Going units before (record after { reader = reader; left = mid })
@@ -60,8 +60,8 @@ pub record Refused (units : ℕ) (why : FrameFault) (before after : Scene) : Typ
 
 -- rounds were served and told; then one frame more was read, and a front of what is due to it was written: all units did it, or
 -- units up to one that did it in whole or in part (profile)
-pub record StoppedInRound (units : ℕ) (before after : Scene) : Type 0 where
-  pub mid : Scene
+pub record StoppedInRound (units : ℕ) (before after : LoopState) : Type 0 where
+  pub mid : LoopState
   pub going : Going units before mid
   pub round : Round
   pub given : HasGiven units before after (frames_of going.rounds ++ round.frame ∷ [])
@@ -70,6 +70,6 @@ pub record StoppedInRound (units : ℕ) (before after : Scene) : Type 0 where
       ⊎ HaveRunInPart units going.rounds round 0 before.stage.target.units after.stage.target.units
 
 -- by why frames are carried out no further (profile)
-abbrev pub StoppedSo : ℕ → Scene → Scene → Stop → Type 0
+abbrev pub StoppedSo : ℕ → LoopState → LoopState → Stop → Type 0
 StoppedSo units before after (stops.Refused why) = Refused units why before after
 StoppedSo units before after stops.Write = StoppedInRound units before after

@@ -10,7 +10,7 @@ use Rattle.satl_core.specs.Turning.{off_calls, turn_calls}
 use Rattle.satl_fleet.specs.Output.{Round, round_told, told_from, told_under}
 use Rattle.satl_fleet.specs.Routing.{is_for_all, is_report, seen}
 use Rattle.satl_fleet.specs.Serving.{Target}
-use Rattle.satl_fleet.specs.Units.{Did, DidInPart, Spot}
+use Rattle.satl_fleet.specs.Units.{Did, DidInPart, UnitState}
 
 -- a target, and what was written (profile)
 pub record Stage : Type 0 where
@@ -24,8 +24,8 @@ stage target written = record { target = target; written = written }
 
 -- the unit of this number did an event, all others stay, and its answers were told (profile)
 pub record DidAt (k : ℕ) (event : Frame) (before after : Stage) : Type 0 where
-  pub old : Spot
-  pub new : Spot
+  pub old : UnitState
+  pub new : UnitState
   pub answers : List Answer
   pub here : slice_get before.target.units k ≡ Some old
   pub set : after.target.units ≡ slice_set before.target.units k new
@@ -34,8 +34,8 @@ pub record DidAt (k : ℕ) (event : Frame) (before after : Stage) : Type 0 where
 
 -- it did the event or a part of it, all others stay, and a front of its answers was told (profile)
 pub record DidAtInPart (k : ℕ) (event : Frame) (before after : Stage) : Type 0 where
-  pub old : Spot
-  pub new : Spot
+  pub old : UnitState
+  pub new : UnitState
   pub answers : List Answer
   pub here : slice_get before.target.units k ≡ Some old
   pub set : after.target.units ≡ slice_set before.target.units k new
@@ -45,17 +45,17 @@ pub record DidAtInPart (k : ℕ) (event : Frame) (before after : Stage) : Type 0
 -- ---- all units
 
 -- so many units from the first on did an event, with these answers, and those behind them stay (profile)
-pub data DidTo (event : Frame) : ℕ → List (List Answer) → List Spot → List Spot → Type 0 where
-  rest : {ss : List Spot} → DidTo event zero [] ss ss
-  more : {count : ℕ} {groups : List (List Answer)} {olds news : List Spot} {old new : Spot} {answers : List Answer}
+pub data DidTo (event : Frame) : ℕ → List (List Answer) → List UnitState → List UnitState → Type 0 where
+  rest : {ss : List UnitState} → DidTo event zero [] ss ss
+  more : {count : ℕ} {groups : List (List Answer)} {olds news : List UnitState} {old new : UnitState} {answers : List Answer}
       → Did event old answers new → DidTo event count groups olds news
       → DidTo event (suc count) (answers ∷ groups) (old ∷ olds) (new ∷ news)
 
 -- units from the first on did it, the next one in whole or in part, and those behind it stay (profile)
-pub data DidToInPart (event : Frame) : List (List Answer) → List Spot → List Spot → Type 0 where
-  here : {ss : List Spot} {old new : Spot} {answers : List Answer}
+pub data DidToInPart (event : Frame) : List (List Answer) → List UnitState → List UnitState → Type 0 where
+  here : {ss : List UnitState} {old new : UnitState} {answers : List Answer}
       → DidInPart event old answers new → DidToInPart event (answers ∷ []) (old ∷ ss) (new ∷ ss)
-  later : {groups : List (List Answer)} {olds news : List Spot} {old new : Spot} {answers : List Answer}
+  later : {groups : List (List Answer)} {olds news : List UnitState} {old new : UnitState} {answers : List Answer}
       → Did event old answers new → DidToInPart event groups olds news
       → DidToInPart event (answers ∷ groups) (old ∷ olds) (new ∷ news)
 
@@ -74,25 +74,25 @@ pub record AllDidInPart (event : Frame) (before after : Stage) : Type 0 where
 -- ---- a frame
 
 -- each unit from this one on did what the frame is to it, and stays where it is nothing to it (profile)
-pub data Serves (units : ℕ) (frame : Frame) : ℕ → List (List Answer) → List Spot → List Spot → Type 0 where
-  none : {k : ℕ} → Serves units frame k [] [] []
-  passes : {k : ℕ} {groups : List (List Answer)} {olds news : List Spot} {old : Spot}
-      → seen units k frame ≡ [] → Serves units frame (suc k) groups olds news
-      → Serves units frame k ([] ∷ groups) (old ∷ olds) (old ∷ news)
-  serves : {k : ℕ} {groups : List (List Answer)} {olds news : List Spot} {old new : Spot} {answers : List Answer}
+pub data EachDid (units : ℕ) (frame : Frame) : ℕ → List (List Answer) → List UnitState → List UnitState → Type 0 where
+  none : {k : ℕ} → EachDid units frame k [] [] []
+  passes : {k : ℕ} {groups : List (List Answer)} {olds news : List UnitState} {old : UnitState}
+      → seen units k frame ≡ [] → EachDid units frame (suc k) groups olds news
+      → EachDid units frame k ([] ∷ groups) (old ∷ olds) (old ∷ news)
+  serves : {k : ℕ} {groups : List (List Answer)} {olds news : List UnitState} {old new : UnitState} {answers : List Answer}
       (event : Frame)
-      → seen units k frame ≡ event ∷ [] → Did event old answers new → Serves units frame (suc k) groups olds news
-      → Serves units frame k (answers ∷ groups) (old ∷ olds) (new ∷ news)
+      → seen units k frame ≡ event ∷ [] → Did event old answers new → EachDid units frame (suc k) groups olds news
+      → EachDid units frame k (answers ∷ groups) (old ∷ olds) (new ∷ news)
 
 -- the same up to a unit that did it in whole or in part; those behind it stay (profile)
-pub data Stops (units : ℕ) (frame : Frame) : ℕ → List (List Answer) → List Spot → List Spot → Type 0 where
-  here : {k : ℕ} {ss : List Spot} {old new : Spot} {answers : List Answer} (event : Frame)
+pub data Stops (units : ℕ) (frame : Frame) : ℕ → List (List Answer) → List UnitState → List UnitState → Type 0 where
+  here : {k : ℕ} {ss : List UnitState} {old new : UnitState} {answers : List Answer} (event : Frame)
       → seen units k frame ≡ event ∷ [] → DidInPart event old answers new
       → Stops units frame k (answers ∷ []) (old ∷ ss) (new ∷ ss)
-  passes : {k : ℕ} {groups : List (List Answer)} {olds news : List Spot} {old : Spot}
+  passes : {k : ℕ} {groups : List (List Answer)} {olds news : List UnitState} {old : UnitState}
       → seen units k frame ≡ [] → Stops units frame (suc k) groups olds news
       → Stops units frame k ([] ∷ groups) (old ∷ olds) (old ∷ news)
-  serves : {k : ℕ} {groups : List (List Answer)} {olds news : List Spot} {old new : Spot} {answers : List Answer}
+  serves : {k : ℕ} {groups : List (List Answer)} {olds news : List UnitState} {old new : UnitState} {answers : List Answer}
       (event : Frame)
       → seen units k frame ≡ event ∷ [] → Did event old answers new → Stops units frame (suc k) groups olds news
       → Stops units frame k (answers ∷ groups) (old ∷ olds) (new ∷ news)
@@ -103,13 +103,13 @@ round_of frame groups = record { frame = frame; groups = groups }
 -- a frame was served by all units, and told (profile)
 pub record RoundDone (units : ℕ) (frame : Frame) (before after : Stage) : Type 0 where
   pub groups : List (List Answer)
-  pub each : Serves units frame 0 groups before.target.units after.target.units
+  pub each : EachDid units frame 0 groups before.target.units after.target.units
   pub wrote : Wrote before.written after.written (round_told units (round_of frame groups))
 
 -- a frame was served by all units, or up to one that did it in whole or in part, and a front of what is due was told (profile)
 pub record RoundInPart (units : ℕ) (frame : Frame) (before after : Stage) : Type 0 where
   pub groups : List (List Answer)
-  pub each : Serves units frame 0 groups before.target.units after.target.units
+  pub each : EachDid units frame 0 groups before.target.units after.target.units
       ⊎ Stops units frame 0 groups before.target.units after.target.units
   pub part : WrotePart before.written after.written (round_told units (round_of frame groups))
 

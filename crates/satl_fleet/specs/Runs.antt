@@ -10,7 +10,7 @@ use Rattle.satl_serve.specs.Runs.{IsFirstDevice, IsLeftAs, KeepsQueue}
 use Rattle.satl_step.specs.Runs.{RunInPart, unplugs_in}
 use Rattle.satl_fleet.specs.Output.{Round, frames_of, groups_for}
 use Rattle.satl_fleet.specs.Routing.{project}
-use Rattle.satl_fleet.specs.Units.{Spot, device_of}
+use Rattle.satl_fleet.specs.Units.{UnitState, device_of}
 
 -- events with so many losses were counted: the drive's count of faults rose by the losses at least, or stands at its last
 -- value; its number of unplugs rose by the events that unplug it, or stands at its last value; its deepest queue did not fall
@@ -24,7 +24,7 @@ pub record UnitCounted (events : List Frame) (losses : ℕ) (old new : DriveStat
 
 -- events were carried out one after the other, from a device without tasks on, with a group of answers for each; the drive had
 -- at once as many commands as the device let it have (profile)
-pub record Ran (first : Device) (old : DriveState) (events : List Frame) (groups : List (List Answer))
+pub record UnitRan (first : Device) (old : DriveState) (events : List Frame) (groups : List (List Answer))
     (last : Device) (new : DriveState) : Type 0 where
   pub losses : ℕ
   pub deep : ℕ
@@ -33,7 +33,7 @@ pub record Ran (first : Device) (old : DriveState) (events : List Frame) (groups
   pub counted : UnitCounted events losses old new
 
 -- the same, and the last event was carried out or cut short between two of its turns (profile)
-pub record RanInPart (first : Device) (old : DriveState) (events : List Frame) (groups : List (List Answer))
+pub record UnitRanInPart (first : Device) (old : DriveState) (events : List Frame) (groups : List (List Answer))
     (last : Device) (new : DriveState) : Type 0 where
   pub losses : ℕ
   pub run : RunInPart first events groups losses last
@@ -42,11 +42,11 @@ pub record RanInPart (first : Device) (old : DriveState) (events : List Frame) (
 -- so did a unit in rounds (profile)
 abbrev pub RanRounds : ℕ → ℕ → List Round → Device → DriveState → Device → DriveState → Type 0
 RanRounds units k rounds first old last new =
-    Ran first old (project units k (frames_of rounds)) (groups_for units k rounds) last new
+    UnitRan first old (project units k (frames_of rounds)) (groups_for units k rounds) last new
 
 abbrev pub RanRoundsInPart : ℕ → ℕ → List Round → Device → DriveState → Device → DriveState → Type 0
 RanRoundsInPart units k rounds first old last new =
-    RanInPart first old (project units k (frames_of rounds)) (groups_for units k rounds) last new
+    UnitRanInPart first old (project units k (frames_of rounds)) (groups_for units k rounds) last new
 
 -- a unit was served: it began with the first device of its drive, and the drive is left as its last device is, with its tasks
 -- in the queue (profile)
@@ -80,7 +80,7 @@ pub data AreServedInPart (units : ℕ) (rounds : List Round) (round : Round)
 -- ---- so far
 
 -- units from this one on have run in rounds since they stood there (profile)
-abbrev pub HaveRun : ℕ → ℕ → List Round → List Spot → List Spot → Type 0
+abbrev pub HaveRun : ℕ → ℕ → List Round → List UnitState → List UnitState → Type 0
 HaveRun units k rounds [] [] = Unit {0}
 HaveRun units k rounds [] (s ∷ ss) = ⊥
 HaveRun units k rounds (a ∷ starts) [] = ⊥
@@ -88,15 +88,15 @@ HaveRun units k rounds (a ∷ starts) (s ∷ ss) =
     RanRounds units k rounds (device_of a) a.drive (device_of s) s.drive × HaveRun units (suc k) rounds starts ss
 
 -- the same, and in one round more, up to a unit that did it in whole or in part (profile)
-pub data HaveRunInPart (units : ℕ) (rounds : List Round) (round : Round) : ℕ → List Spot → List Spot → Type 0 where
-  here : {k : ℕ} {a s : Spot} {starts ss : List Spot}
+pub data HaveRunInPart (units : ℕ) (rounds : List Round) (round : Round) : ℕ → List UnitState → List UnitState → Type 0 where
+  here : {k : ℕ} {a s : UnitState} {starts ss : List UnitState}
       → RanRoundsInPart units k (rounds ++ round ∷ []) (device_of a) a.drive (device_of s) s.drive
       → HaveRun units (suc k) rounds starts ss → HaveRunInPart units rounds round k (a ∷ starts) (s ∷ ss)
-  later : {k : ℕ} {a s : Spot} {starts ss : List Spot}
+  later : {k : ℕ} {a s : UnitState} {starts ss : List UnitState}
       → RanRounds units k (rounds ++ round ∷ []) (device_of a) a.drive (device_of s) s.drive
       → HaveRunInPart units rounds round (suc k) starts ss → HaveRunInPart units rounds round k (a ∷ starts) (s ∷ ss)
 
 -- a unit has no task, and its deepest queue is what its drive has at least (profile)
-pub record IsIdle (s : Spot) : Type 0 where
+pub record HasNoTask (s : UnitState) : Type 0 where
   pub tasks : s.layer.tasks ≡ []
   pub covers : length s.drive.outstanding ≤ s.drive.deepest

@@ -5,20 +5,20 @@ use Rattle.satl_base.specs.declared.reply.Reply.{Reply}
 use Rattle.satl_drive.specs.State.{DriveState}
 use Rattle.satl_core.specs.Layer.{Layer}
 use Rattle.satl_core.specs.Turning.{turn_calls}
-use Rattle.satl_fleet.specs.Runs.{IsIdle}
-use Rattle.satl_fleet.specs.Units.{IsReady, IsTiedSpot, Spot, pending, spots_of}
+use Rattle.satl_fleet.specs.Runs.{HasNoTask}
+use Rattle.satl_fleet.specs.Units.{IsReady, IsTiedUnit, UnitState, pending, unit_states}
 
 -- a target, of which it is told what its units are, and how many layers and drives make them up (profile)
 pub record Target : Type 0 where
   -- the units in order, each a layer with its drive
-  pub units : List Spot
+  pub units : List UnitState
   pub layers : ℕ
   pub drives : ℕ
 
 -- the target of these layers and drives, where each drive has the state that the function gives (profile)
 abbrev pub target : {D X Z : Type 0} → (D → DriveState) → Vec Layer X → Vec D Z → Target
 target state layers drives = record {
-  units = spots_of layers.items (map state drives.items);
+  units = unit_states layers.items (map state drives.items);
   layers = vec_len layers;
   drives = vec_len drives;
 }
@@ -37,7 +37,7 @@ pub record HasUnits (t : Target) : Type 0 where
 pub record CanBegin (t : Target) : Type 0 where
   pub has : HasUnits t
   -- no unit has a task
-  pub idle : AllByRecursion IsIdle t.units
+  pub idle : AllByRecursion HasNoTask t.units
 
 -- the next frame can be served (profile)
 pub record CanServe (t : Target) (replies : List Reply) : Type 0 where
@@ -48,7 +48,7 @@ pub record CanServe (t : Target) (replies : List Reply) : Type 0 where
 -- what stays, also where a write failed (profile)
 pub record KeepsUnits (before after : Target) : Type 0 where
   -- each unit is tied to its drive
-  pub tied : AllByRecursion IsTiedSpot after.units
+  pub tied : AllByRecursion IsTiedUnit after.units
   -- there are as many layers and drives as before
   pub layers : after.layers ≡ before.layers
   pub drives : after.drives ≡ before.drives

@@ -15,7 +15,7 @@ use Rattle.satl_frame.specs.Progress.{HasRead, ReadTo}
 use Rattle.satl_frame.specs.Reading.{Reading}
 use Rattle.satl_step.specs.declared.frames_loop.Stop.{Stop}
 use Rattle.satl_step.specs.declared.frames_loop.Stop.TheVariants as stops
-use Rattle.satl_serve.specs.Moments.{Reads, Writes}
+use Rattle.satl_serve.specs.Moments.{SinkState, SourceState}
 use Rattle.satl_fleet.specs.Headline.{ReadBefore, told_of}
 use Rattle.satl_fleet.specs.Moments.{FleetMoment}
 use Rattle.satl_fleet.specs.Opening.{IsCauseOfOne}
@@ -37,20 +37,20 @@ HasFleetCause before after faults.NoMemory = Unit {0}
 -- ---- on units that were opened
 
 -- what is left to read, the units and what was written, and how often the drives were called (profile)
-pub record Place : Type 0 where
+pub record Spot : Type 0 where
   pub left : Option (List ℕ)
   pub stage : Stage
   pub calls : ℕ
 
-abbrev pub place : Option (List ℕ) → Stage → ℕ → Place
-place left stage calls = record { left = left; stage = stage; calls = calls }
+abbrev pub spot : Option (List ℕ) → Stage → ℕ → Spot
+spot left stage calls = record { left = left; stage = stage; calls = calls }
 
 -- what a run leaves at its end: how often the drives were called (profile)
-abbrev pub HasFewCallsOn : ℕ → List Frame → Place → Place → Type 0
+abbrev pub HasFewCallsOn : ℕ → List Frame → Spot → Spot → Type 0
 HasFewCallsOn units fs before after = after.calls ≤ before.calls + calls_for units fs
 
 -- frames up to END were read and no byte behind them, and served (profile)
-pub record RanWhole (limit units : ℕ) (before after : Place) : Type 0 where
+pub record RanWhole (limit units : ℕ) (before after : Spot) : Type 0 where
   pub rounds : List Round
   pub earlier : List Frame
   pub at : FramePlace
@@ -61,7 +61,7 @@ pub record RanWhole (limit units : ℕ) (before after : Place) : Type 0 where
   pub calls : HasFewCallsOn units (frames_of rounds) before after
 
 -- frames none of which is END were read and served, and what follows was refused or not read, which was told (profile)
-pub record RanBefore (limit units : ℕ) (why : FrameFault) (before after : Place) : Type 0 where
+pub record RanBefore (limit units : ℕ) (why : FrameFault) (before after : Spot) : Type 0 where
   pub rounds : List Round
   pub read : ReadBefore limit before.left after.left (frames_of rounds) why
   pub wrote : Wrote before.stage.written after.stage.written (output units rounds ++ told_of why)
@@ -69,14 +69,14 @@ pub record RanBefore (limit units : ℕ) (why : FrameFault) (before after : Plac
   pub calls : HasFewCallsOn units (frames_of rounds) before after
 
 -- nothing was read, and a front of the magic was written (profile)
-pub record StoppedInMagic (units : ℕ) (before after : Place) : Type 0 where
+pub record StoppedInMagic (units : ℕ) (before after : Spot) : Type 0 where
   pub read : after.left ≡ before.left
   pub part : WrotePart before.stage.written after.stage.written out_magic
   pub run : HaveRun units 0 [] before.stage.target.units after.stage.target.units
   pub calls : HasFewCallsOn units [] before after
 
 -- a write failed in what is due to the last frame (profile)
-pub record StoppedInAnswers (limit units : ℕ) (before after : Place) : Type 0 where
+pub record StoppedInAnswers (limit units : ℕ) (before after : Spot) : Type 0 where
   pub rounds : List Round
   pub round : Round
   pub reader : Reading
@@ -92,7 +92,7 @@ pub record StoppedInAnswers (limit units : ℕ) (before after : Place) : Type 0 
   pub calls : HasFewCallsOn units (frames_of rounds ++ round.frame ∷ []) before after
 
 -- a write failed in what tells a refusal (profile)
-pub record StoppedInFault (limit units : ℕ) (before after : Place) : Type 0 where
+pub record StoppedInFault (limit units : ℕ) (before after : Spot) : Type 0 where
   pub rounds : List Round
   pub reason : Reason
   pub offset : ℕ
@@ -103,12 +103,12 @@ pub record StoppedInFault (limit units : ℕ) (before after : Place) : Type 0 wh
   pub run : HaveRun units 0 rounds before.stage.target.units after.stage.target.units
   pub calls : HasFewCallsOn units (frames_of rounds) before after
 
-abbrev pub RanInPart : ℕ → ℕ → Place → Place → Type 0
+abbrev pub RanInPart : ℕ → ℕ → Spot → Spot → Type 0
 RanInPart limit units before after =
     StoppedInMagic units before after ⊎ (StoppedInAnswers limit units before after ⊎ StoppedInFault limit units before after)
 
 -- how far a run came where it stopped with a fault (profile)
-abbrev pub RanTo : ℕ → ℕ → Place → Place → FleetFault → Type 0
+abbrev pub RanTo : ℕ → ℕ → Spot → Spot → FleetFault → Type 0
 RanTo limit units before after (faults.Open fault) = ⊥
 RanTo limit units before after (faults.BadInput reason offset) = RanBefore limit units (Bad reason offset) before after
 RanTo limit units before after faults.Read = RanBefore limit units ReadFault before after
@@ -116,7 +116,7 @@ RanTo limit units before after faults.Write = RanInPart limit units before after
 RanTo limit units before after faults.NoMemory = ⊥
 
 -- and why (profile)
-abbrev pub HasStreamCause : Reads → Reads → Writes → Writes → FleetFault → Type 0
+abbrev pub HasStreamCause : SourceState → SourceState → SinkState → SinkState → FleetFault → Type 0
 HasStreamCause read read' write write' (faults.Open fault) = ⊥
 HasStreamCause read read' write write' (faults.BadInput reason offset) = Unit {0}
 HasStreamCause read read' write write' faults.Read = Rose read.faults read'.faults
@@ -134,13 +134,13 @@ Tells why written written' faults.Write =
 Tells why written written' faults.NoMemory = ⊥
 
 -- the same, which takes no fault of writing back, and has one where a write failed (profile)
-pub record TellsSo (why : FrameFault) (before after : Writes) (fault : FleetFault) : Type 0 where
+pub record TellsSo (why : FrameFault) (before after : SinkState) (fault : FleetFault) : Type 0 where
   pub tells : Tells why before.written after.written fault
   pub later : before.faults ≤ after.faults
   pub cause : (fault ≡ faults.Write) → Rose before.faults after.faults
 
 -- why serving stops where frames are carried out no further: a refusal is told, and behind a write that failed nothing is
 -- (profile)
-abbrev pub TellsStop : Writes → Writes → FleetFault → Stop → Type 0
+abbrev pub TellsStop : SinkState → SinkState → FleetFault → Stop → Type 0
 TellsStop before after fault (stops.Refused why) = TellsSo why before after fault
 TellsStop before after fault stops.Write = (fault ≡ faults.Write) × (after ≡ before)

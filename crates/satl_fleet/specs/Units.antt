@@ -10,67 +10,67 @@ use Rattle.satl_direct.specs.Run.{Does, losses_in}
 use Rattle.satl_core.specs.Layer.{Layer, Tied, view}
 use Rattle.satl_core.specs.Tie.{TiesQueue}
 use Rattle.satl_step.specs.Events.{unplugs_behind}
-use Rattle.satl_step.specs.Runs.{Covers, DoesInPart, IsDeep, tally_of}
+use Rattle.satl_step.specs.Runs.{DoesInPart, IsDeep, KeepsDeepest, tally_of}
 use Rattle.satl_fleet.specs.Output.{told_under}
 
 -- a unit: a layer and its drive (profile)
-pub record Spot : Type 0 where
+pub record UnitState : Type 0 where
   pub layer : Layer
   pub drive : DriveState
 
-abbrev pub spot : Layer → DriveState → Spot
-spot l d = record { layer = l; drive = d }
+abbrev pub unit_state : Layer → DriveState → UnitState
+unit_state l d = record { layer = l; drive = d }
 
 -- layers and their drives, in order (profile)
-abbrev pub spots_of : List Layer → List DriveState → List Spot
-spots_of [] ds = []
-spots_of (l ∷ ls) [] = []
-spots_of (l ∷ ls) (d ∷ ds) = spot l d ∷ spots_of ls ds
+abbrev pub unit_states : List Layer → List DriveState → List UnitState
+unit_states [] ds = []
+unit_states (l ∷ ls) [] = []
+unit_states (l ∷ ls) (d ∷ ds) = unit_state l d ∷ unit_states ls ds
 
 -- the direct device that a unit is (profile)
-abbrev pub device_of : Spot → Device
+abbrev pub device_of : UnitState → Device
 device_of s = view s.layer s.drive
 
 -- a unit and its drive are tied, and so is what the drive has outstanding (profile)
-pub record IsTiedSpot (s : Spot) : Type 0 where
+pub record IsTiedUnit (s : UnitState) : Type 0 where
   pub tied : Tied s.layer s.drive
   pub queue : TiesQueue s.layer s.drive
 
 -- the same, and no page of the unit is out (profile)
-pub record IsReady (s : Spot) : Type 0 where
-  pub tied : IsTiedSpot s
+pub record IsReady (s : UnitState) : Type 0 where
+  pub tied : IsTiedUnit s
   pub all_in : s.layer.out ≡ 0
 
 -- how many tasks wait in all units (profile)
-abbrev pub pending : List Spot → ℕ
+abbrev pub pending : List UnitState → ℕ
 pending [] = 0
 pending (s ∷ ss) = length s.layer.tasks + pending ss
 
 -- a unit did an event, with these answers, and its drive was counted: the drive had at once as many commands as the device let
 -- it have, its faults rose by the losses, it was unplugged by the event alone, and its deepest queue did not fall (profile)
-pub record Did (event : Frame) (old : Spot) (answers : List Answer) (new : Spot) : Type 0 where
+pub record Did (event : Frame) (old : UnitState) (answers : List Answer) (new : UnitState) : Type 0 where
   pub deep : ℕ
   pub does : Does event (device_of old) answers (device_of new) deep
   pub covered : IsDeep (tally_of old.drive 0) → deep ≤ new.drive.deepest
   pub faults : RoseBy (losses_in event (device_of old) (device_of new)) old.drive.faults new.drive.faults
   pub unplugs : new.drive.unplugs ≡ unplugs_behind event old.drive.unplugs
-  pub queue : Covers (tally_of old.drive 0) (tally_of new.drive 0)
+  pub queue : KeepsDeepest (tally_of old.drive 0) (tally_of new.drive 0)
 
 -- a unit did an event, or it was cut short between two of its turns (profile)
-pub record DidInPart (event : Frame) (old : Spot) (answers : List Answer) (new : Spot) : Type 0 where
+pub record DidInPart (event : Frame) (old : UnitState) (answers : List Answer) (new : UnitState) : Type 0 where
   pub does : DoesInPart event (device_of old) answers (device_of new)
   pub faults : RoseBy (losses_in event (device_of old) (device_of new)) old.drive.faults new.drive.faults
   pub unplugs : new.drive.unplugs ≡ unplugs_behind event old.drive.unplugs
-  pub queue : Covers (tally_of old.drive 0) (tally_of new.drive 0)
+  pub queue : KeepsDeepest (tally_of old.drive 0) (tally_of new.drive 0)
 
 -- a unit of this number did an event, and its answers were told (profile)
-pub record UnitDid (k : ℕ) (event : Frame) (old new : Spot) (written written' : Option (List ℕ)) : Type 0 where
+pub record UnitDid (k : ℕ) (event : Frame) (old new : UnitState) (written written' : Option (List ℕ)) : Type 0 where
   pub answers : List Answer
   pub did : Did event old answers new
   pub wrote : Wrote written written' (told_under k answers)
 
 -- it did it in whole or in part, and a front of its answers was told (profile)
-pub record UnitDidInPart (k : ℕ) (event : Frame) (old new : Spot) (written written' : Option (List ℕ)) : Type 0 where
+pub record UnitDidInPart (k : ℕ) (event : Frame) (old new : UnitState) (written written' : Option (List ℕ)) : Type 0 where
   pub answers : List Answer
   pub did : DidInPart event old answers new
   pub part : WrotePart written written' (told_under k answers)

@@ -2,7 +2,7 @@
 ghost use Rattle.std.specs.Prelude.{◌≡◌, ◌≤◌, ◌<◌, ◌+◌, ◌-◌, ◌^◌, None, IfErr, OnOk, vec_len};
 ghost use Rattle.satl_pages.specs.Counts.{number_of};
 ghost use Rattle.satl_step.specs.Loop.{HasStopCause, is_end};
-ghost use Rattle.satl_fleet.specs.Loop.{Ended, StoppedSo, scene};
+ghost use Rattle.satl_fleet.specs.Loop.{ReachedEnd, StoppedSo, loop_state};
 ghost use Rattle.satl_fleet.specs.Rounds.{stage};
 ghost use Rattle.satl_fleet.specs.Serving.{CanBegin, KeepsUnits, target};
 
@@ -45,12 +45,14 @@ pub fn serve_frames<S: Source, K: Sink, D: Bench, L: Ledger>(
     requires all_in { pool.old.out ≡ 0 }
     requires fresh { reader.old.refused ≡ None }
     requires unread { reader.old.place ≡ None }
-    ensures ended { OnOk result (Ended (vec_len units.old)
-        (scene reader.old (S.left source.old) (stage (target D.state units.old drives.old) (K.written sink.old)) steps.old)
-        (scene reader.new (S.left source.new) (stage (target D.state units.new drives.new) (K.written sink.new)) steps.new)) }
+    ensures ended { OnOk result (ReachedEnd (vec_len units.old)
+        (loop_state reader.old (S.left source.old) (stage (target D.state units.old drives.old) (K.written sink.old)) steps.old)
+        (loop_state reader.new (S.left source.new) (stage (target D.state units.new drives.new) (K.written sink.new))
+        steps.new)) }
     ensures stopped { IfErr result (StoppedSo (vec_len units.old)
-        (scene reader.old (S.left source.old) (stage (target D.state units.old drives.old) (K.written sink.old)) steps.old)
-        (scene reader.new (S.left source.new) (stage (target D.state units.new drives.new) (K.written sink.new)) steps.new)) }
+        (loop_state reader.old (S.left source.old) (stage (target D.state units.old drives.old) (K.written sink.old)) steps.old)
+        (loop_state reader.new (S.left source.new) (stage (target D.state units.new drives.new) (K.written sink.new))
+        steps.new)) }
     ensures keeps { KeepsUnits (target D.state units.old drives.old) (target D.state units.new drives.new) }
     ensures causes { IfErr result (HasStopCause (S.faults source.old) (S.faults source.new) (K.faults sink.old)
         (K.faults sink.new)) }

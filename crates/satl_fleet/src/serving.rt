@@ -3,14 +3,14 @@ ghost use Rattle.std.specs.Prelude.{◌≡◌, ◌≤◌, ◌+◌, IfErr, OnOk, 
 ghost use Rattle.std.specs.List.{AllByRecursion};
 ghost use Rattle.satl_io.specs.Causes.{Rose};
 ghost use Rattle.satl_pages.specs.Counts.{number_of};
-ghost use Rattle.satl_serve.specs.Moments.{reads, writes};
+ghost use Rattle.satl_serve.specs.Moments.{sink_state, source_state};
 ghost use Rattle.satl_serve.specs.Runs.{input_limit};
 ghost use Rattle.satl_fleet.specs.Headline.{IsFleetStopped, IsFleetWhole};
 ghost use Rattle.satl_fleet.specs.Moments.{fleet_moment};
 ghost use Rattle.satl_fleet.specs.Opening.{IsServable};
 ghost use Rattle.satl_fleet.specs.Rounds.{stage};
 ghost use Rattle.satl_fleet.specs.Serving.{CanBegin, KeepsUnits, target};
-ghost use Rattle.satl_fleet.specs.Stopping.{HasFleetCause, HasStreamCause, RanTo, RanWhole, Tells, TellsStop, place};
+ghost use Rattle.satl_fleet.specs.Stopping.{HasFleetCause, HasStreamCause, RanTo, RanWhole, Tells, TellsStop, spot};
 
 use crate::fault::FleetFault;
 use crate::frames_loop::serve_frames;
@@ -52,19 +52,25 @@ pub fn serve_fleet<S: Source, K: Sink, D: Bench, L: Ledger>(
     requires few { vec_len drives.old ≤ 4 }
     requires servable { AllByRecursion IsServable (map D.state drives.old.items) }
     ensures served { OnOk result (IsFleetWhole input_limit
-        (fleet_moment (reads (S.left source.old) (S.faults source.old)) (writes (K.written sink.old) (K.faults sink.old))
+        (fleet_moment (source_state (S.left source.old) (S.faults source.old))
+        (sink_state (K.written sink.old) (K.faults sink.old))
         steps.old (map D.state drives.old.items))
-        (fleet_moment (reads (S.left source.new) (S.faults source.new)) (writes (K.written sink.new) (K.faults sink.new))
+        (fleet_moment (source_state (S.left source.new) (S.faults source.new))
+        (sink_state (K.written sink.new) (K.faults sink.new))
         steps.new (map D.state drives.new.items))) }
     ensures stopped { IfErr result (IsFleetStopped input_limit
-        (fleet_moment (reads (S.left source.old) (S.faults source.old)) (writes (K.written sink.old) (K.faults sink.old))
+        (fleet_moment (source_state (S.left source.old) (S.faults source.old))
+        (sink_state (K.written sink.old) (K.faults sink.old))
         steps.old (map D.state drives.old.items))
-        (fleet_moment (reads (S.left source.new) (S.faults source.new)) (writes (K.written sink.new) (K.faults sink.new))
+        (fleet_moment (source_state (S.left source.new) (S.faults source.new))
+        (sink_state (K.written sink.new) (K.faults sink.new))
         steps.new (map D.state drives.new.items))) }
     ensures causes { IfErr result (HasFleetCause
-        (fleet_moment (reads (S.left source.old) (S.faults source.old)) (writes (K.written sink.old) (K.faults sink.old))
+        (fleet_moment (source_state (S.left source.old) (S.faults source.old))
+        (sink_state (K.written sink.old) (K.faults sink.old))
         steps.old (map D.state drives.old.items))
-        (fleet_moment (reads (S.left source.new) (S.faults source.new)) (writes (K.written sink.new) (K.faults sink.new))
+        (fleet_moment (source_state (S.left source.new) (S.faults source.new))
+        (sink_state (K.written sink.new) (K.faults sink.new))
         steps.new (map D.state drives.new.items))) }
     ensures drives { vec_len drives.new ≡ vec_len drives.old }
 {
@@ -87,15 +93,15 @@ fn serve_opened<S: Source, K: Sink, D: Bench, L: Ledger>(
     requires pool { number_of pool.old ≡ 4096 }
     requires all_in { pool.old.out ≡ 0 }
     ensures whole { OnOk result (RanWhole input_limit (vec_len units.old)
-        (place (S.left source.old) (stage (target D.state units.old drives.old) (K.written sink.old)) steps.old)
-        (place (S.left source.new) (stage (target D.state units.new drives.new) (K.written sink.new)) steps.new)) }
+        (spot (S.left source.old) (stage (target D.state units.old drives.old) (K.written sink.old)) steps.old)
+        (spot (S.left source.new) (stage (target D.state units.new drives.new) (K.written sink.new)) steps.new)) }
     ensures stopped { IfErr result (RanTo input_limit (vec_len units.old)
-        (place (S.left source.old) (stage (target D.state units.old drives.old) (K.written sink.old)) steps.old)
-        (place (S.left source.new) (stage (target D.state units.new drives.new) (K.written sink.new)) steps.new)) }
+        (spot (S.left source.old) (stage (target D.state units.old drives.old) (K.written sink.old)) steps.old)
+        (spot (S.left source.new) (stage (target D.state units.new drives.new) (K.written sink.new)) steps.new)) }
     ensures keeps { KeepsUnits (target D.state units.old drives.old) (target D.state units.new drives.new) }
     ensures causes { IfErr result (HasStreamCause
-        (reads (S.left source.old) (S.faults source.old)) (reads (S.left source.new) (S.faults source.new))
-        (writes (K.written sink.old) (K.faults sink.old)) (writes (K.written sink.new) (K.faults sink.new))) }
+        (source_state (S.left source.old) (S.faults source.old)) (source_state (S.left source.new) (S.faults source.new))
+        (sink_state (K.written sink.old) (K.faults sink.old)) (sink_state (K.written sink.new) (K.faults sink.new))) }
 {
     write_frame(OutFrame::Magic, sink)?;
     let mut reader = FrameReader::first_only(alloc, LIMIT);
@@ -124,8 +130,8 @@ fn refuse<K: Sink>(fault: FrameFault, sink: &mut K) -> FleetFault
 
 /// Why serving stops where frames are carried out no further.
 fn tell_stop<K: Sink>(stop: Stop, sink: &mut K) -> FleetFault
-    ensures { TellsStop (writes (K.written sink.old) (K.faults sink.old))
-        (writes (K.written sink.new) (K.faults sink.new)) result stop }
+    ensures { TellsStop (sink_state (K.written sink.old) (K.faults sink.old))
+        (sink_state (K.written sink.new) (K.faults sink.new)) result stop }
 {
     match stop {
         Stop::Refused(fault) => refuse(fault, sink),

@@ -9,7 +9,7 @@ ghost use Rattle.satl_step.specs.Events.{IsWholeOf};
 ghost use Rattle.satl_step.specs.Runs.{calls_allowed};
 ghost use Rattle.satl_step.specs.Serving.{CanServeEvent};
 ghost use Rattle.satl_pages.specs.Counts.{number_of};
-ghost use Rattle.satl_fleet.specs.Units.{IsTiedSpot, UnitDid, UnitDidInPart, spot};
+ghost use Rattle.satl_fleet.specs.Units.{IsTiedUnit, UnitDid, UnitDidInPart, unit_state};
 
 use crate::telling::UnitTeller;
 use satl_base::{Lender, Replies, Request, Steps};
@@ -57,13 +57,15 @@ pub fn serve_unit<K: Sink, D: Bench, L: Ledger>(
     steps: &mut Steps<L>,
 ) -> Result<(), WriteFault>
     requires can { CanServeEvent event satl.old (D.state drive.old) replies.old }
-    ensures tied { IsTiedSpot (spot satl.new (D.state drive.new)) }
+    ensures tied { IsTiedUnit (unit_state satl.new (D.state drive.new)) }
     ensures all_in { OnOk result (satl.new.out ≡ 0) }
     ensures none { OnOk result (replies.new ≡ []) }
     ensures done { (whole : Frame) → IsWholeOf event whole → OnOk result (UnitDid unit whole
-        (spot satl.old (D.state drive.old)) (spot satl.new (D.state drive.new)) (K.written sink.old) (K.written sink.new)) }
+        (unit_state satl.old (D.state drive.old)) (unit_state satl.new (D.state drive.new))
+        (K.written sink.old) (K.written sink.new)) }
     ensures part { (whole : Frame) → IsWholeOf event whole → OnErr result (UnitDidInPart unit whole
-        (spot satl.old (D.state drive.old)) (spot satl.new (D.state drive.new)) (K.written sink.old) (K.written sink.new)) }
+        (unit_state satl.old (D.state drive.old)) (unit_state satl.new (D.state drive.new))
+        (K.written sink.old) (K.written sink.new)) }
     ensures calls { steps.new + turn_calls * length satl.new.tasks
         ≤ steps.old + turn_calls * length satl.old.tasks + calls_allowed (event ∷ []) }
     ensures cause { HasCause (K.faults sink.old) (K.faults sink.new) result }

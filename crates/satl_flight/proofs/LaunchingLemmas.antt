@@ -22,8 +22,8 @@ use Rattle.satl_drive.specs.Queue.{CanIssue, IsIssueCutOff, IsIssued, Slots}
 use Rattle.satl_pages.specs.Slots.{pages_at}
 use Rattle.satl_flight.specs.declared.flight.Flying.{Flying}
 use Rattle.satl_flight.specs.Flown.{IsInFlight, clash, holds, is_in_slot, queued_for}
-use Rattle.satl_flight.specs.Lending.{IsLending, Waiting, has_tag, is_of_slot, waiting, whole, whole_task, whole_tasks}
-use Rattle.satl_flight.specs.Settled.{IsCovered, IsFilled, IsLaunched, IsLostQuietly, OnDrive, on_drive}
+use Rattle.satl_flight.specs.Lending.{IsLending, Waiting, has_tag, is_of_slot, waiting, whole_task, whole_tasks, with_own_pages}
+use Rattle.satl_flight.specs.Settled.{IsFilled, IsIssuedIfItMay, IsLaunched, IsLostQuietly, OnDrive, on_drive}
 use Rattle.satl_flight.proofs.FlownLemmas.{FitsOn}
 use Rattle.satl_flight.proofs.TagsLemmas.{weigh}
 use Rattle.satl_flight.proofs.LendingLemmas.{at_found, find-none, get-set, lend_lending, lend_same, whole_get, whole-slots, slots-get}
@@ -83,7 +83,7 @@ module _ (flying : List Flying) (slots : Slots) (tasks : List Held) (lending : I
   its_slot h at = let same : Some h ≡ Some (whole_task flying slots (record { slot = slot; entry = entry })) = sym at ∙ whole_stands in let one : h ≡ whole_task flying slots (record { slot = slot; entry = entry }) = cc in ap (λ (x : Held). x.slot) one
 
   -- a barrier is not issued
-  pub covered_barrier : ranged_of entry ≡ None → IsCovered flying (whole_tasks flying slots tasks) place
+  pub covered_barrier : ranged_of entry ≡ None → IsIssuedIfItMay flying (whole_tasks flying slots tasks) place
   covered_barrier none = inr (λ h task at passes ranged. ap (holds flying) (its_slot h at) ∙ go (holds flying slot) refl h task at ranged)
     where
       go : (b : Bool) → holds flying slot ≡ b → (h : Held) (task : RangedTask) → slice_get (whole_tasks flying slots tasks) place ≡ Some h → ranged_of h.entry ≡ Some task → holds flying slot ≡ true
@@ -94,10 +94,10 @@ module _ (flying : List Flying) (slots : Slots) (tasks : List Held) (lending : I
           let clash_of : Some task ≡ None = sym ranged ∙ ap (λ (x : Held). ranged_of x.entry) one ∙ none in absurd cc
 
   -- one that may not be issued is outstanding, or not eligible, or no tag is free
-  pub covered_kept : (eligible_at (entries_of tasks) place ≡ true → holds flying slot ≡ false → length flying ≡ 32) → IsCovered flying (whole_tasks flying slots tasks) place
+  pub covered_kept : (eligible_at (entries_of tasks) place ≡ true → holds flying slot ≡ false → length flying ≡ 32) → IsIssuedIfItMay flying (whole_tasks flying slots tasks) place
   covered_kept otherwise = go (holds flying slot) refl (eligible_at (entries_of tasks) place) refl
     where
-      go : (b : Bool) → holds flying slot ≡ b → (e : Bool) → eligible_at (entries_of tasks) place ≡ e → IsCovered flying (whole_tasks flying slots tasks) place
+      go : (b : Bool) → holds flying slot ≡ b → (e : Bool) → eligible_at (entries_of tasks) place ≡ e → IsIssuedIfItMay flying (whole_tasks flying slots tasks) place
       go true held e test = inr (λ h task at passes ranged. ap (holds flying) (its_slot h at) ∙ held)
       go false fresh true test = inl (otherwise test fresh)
       go false fresh false test = inr (λ h task at passes ranged. let no_pass : true ≡ false = sym passes ∙ same_test flying slots tasks place ∙ test in absurd cc)
@@ -141,13 +141,13 @@ module _ (flying : List Flying) (slots : Slots) (tasks : List Held) (lending : I
           ∙ lend_same flying slots tasks lending place (record { slot = slot; entry = entry }) stands alone tag small fresh free
 
     pub launched : (flown : Waiting) (new : DriveState) → length flying < 32 → flown.flying ≡ flying ++ record { tag = tag; slot = slot } ∷ [] → IsIssued old (queued_for tag task) entry.body new
-        → IsLaunched (on_drive (whole (waiting flying slots tasks)) old) (on_drive (whole flown) new)
-    launched flown new room is_flown issued = launched_one flying (whole_tasks flying slots tasks) old tie slots tag slot (record { slot = slot; entry = entry }) task (whole flown) new is_flown small found eligible ranged fresh free room issued
+        → IsLaunched (on_drive (with_own_pages (waiting flying slots tasks)) old) (on_drive (with_own_pages flown) new)
+    launched flown new room is_flown issued = launched_one flying (whole_tasks flying slots tasks) old tie slots tag slot (record { slot = slot; entry = entry }) task (with_own_pages flown) new is_flown small found eligible ranged fresh free room issued
 
     pub lost : (new : DriveState) → IsIssueCutOff old (queued_for tag task) entry.body new → IsLostQuietly (whole_tasks flying slots tasks) old new
     lost new cut = lost_issue flying (whole_tasks flying slots tasks) old tie tag slot (record { slot = slot; entry = entry }) task new small found eligible ranged cut
 
-  pub covered_new : (flown : List Flying) (tag : ℕ) → flown ≡ flying ++ record { tag = tag; slot = slot } ∷ [] → IsCovered flown (whole_tasks flying slots tasks) place
+  pub covered_new : (flown : List Flying) (tag : ℕ) → flown ≡ flying ++ record { tag = tag; slot = slot } ∷ [] → IsIssuedIfItMay flown (whole_tasks flying slots tasks) place
   covered_new flown tag is_flown = inr (λ h task at passes ranged. ap (holds flown) (its_slot h at) ∙ ap (λ fs. holds fs slot) is_flown ∙ last flying)
     where
       last : (fs : List Flying) → holds (fs ++ record { tag = tag; slot = slot } ∷ []) slot ≡ true
@@ -163,7 +163,7 @@ holds_append (f ∷ fs) more slot h =
     [ true ↦ λ e. refl | false ↦ λ e. holds_append fs more slot e ]) h
 
 -- a place that is covered stays so
-pub covered_still : (tasks : List Held) (old new : OnDrive) (place : ℕ) → IsLaunched old new → IsCovered old.queue.flying tasks place → IsCovered new.queue.flying tasks place
+pub covered_still : (tasks : List Held) (old new : OnDrive) (place : ℕ) → IsLaunched old new → IsIssuedIfItMay old.queue.flying tasks place → IsIssuedIfItMay new.queue.flying tasks place
 covered_still tasks old new place step covered =
     ⊎_elim
     (λ full. inl (omega (arith, full, step.tie.few, ap length step.more, length-append old.queue.flying step.rest)))
@@ -171,7 +171,7 @@ covered_still tasks old new place step covered =
     covered
 
 -- one that is outstanding is covered
-pub covered_held : (flying : List Flying) (slots : Slots) (tasks : List Held) (place slot : ℕ) → slice_get (slots_of tasks) place ≡ Some slot → holds flying slot ≡ true → IsCovered flying (whole_tasks flying slots tasks) place
+pub covered_held : (flying : List Flying) (slots : Slots) (tasks : List Held) (place slot : ℕ) → slice_get (slots_of tasks) place ≡ Some slot → holds flying slot ≡ true → IsIssuedIfItMay flying (whole_tasks flying slots tasks) place
 covered_held flying slots tasks place slot is held =
     inr (λ h task at passes ranged. ap (holds flying) (slots-get (whole_tasks flying slots tasks) place h slot at (ap (λ l. slice_get l place) (whole-slots flying slots tasks) ∙ is)) ∙ held)
 
@@ -185,7 +185,7 @@ held_by_bit bit true seen is told set = refl
 held_by_bit bit false seen is told set = absurd (omega (arith, is, told, ap weigh set))
 
 -- where each place is covered the queue is used
-pub filled : (flying : List Flying) (tasks : List Held) → ((k : ℕ) → k < length tasks → IsCovered flying tasks k) → IsFilled flying tasks
+pub filled : (flying : List Flying) (tasks : List Held) → ((k : ℕ) → k < length tasks → IsIssuedIfItMay flying tasks k) → IsFilled flying tasks
 filled flying tasks covered = go (cases_eq (length flying) 32)
   where
     within : (ts : List Held) (k : ℕ) (h : Held) → slice_get ts k ≡ Some h → k < length ts
@@ -216,7 +216,7 @@ get-come (t ∷ ts) h k zero at = at
 get-come (t ∷ ts) h k (suc p) at = get-come ts h k p at
 
 -- where the queue was used, and the new task is covered, it is used
-pub filled_come : (tasks : List Held) (h : Held) (old new : OnDrive) → IsFilled old.queue.flying tasks → IsLaunched old new → IsCovered new.queue.flying (tasks ++ h ∷ []) (length tasks) → IsFilled new.queue.flying (tasks ++ h ∷ [])
+pub filled_come : (tasks : List Held) (h : Held) (old new : OnDrive) → IsFilled old.queue.flying tasks → IsLaunched old new → IsIssuedIfItMay new.queue.flying (tasks ++ h ∷ []) (length tasks) → IsFilled new.queue.flying (tasks ++ h ∷ [])
 filled_come tasks h old new was step covered =
     ⊎_elim
     (λ full. inl (omega (arith, full, step.tie.few, ap length step.more, length-append old.queue.flying step.rest)))

@@ -30,7 +30,7 @@ use Rattle.satl_pages.specs.Slots.{pages_at}
 use Rattle.satl_flight.specs.declared.flight.Flying.{Flying}
 use Rattle.satl_flight.specs.Flown.{IsFlown, IsInFlight, RangedFits, clash, is_in_slot, queued_for}
 use Rattle.satl_flight.specs.Lending.{IsAt, Waiting, has_tag, waiting}
-use Rattle.satl_flight.specs.Settled.{Deepens, IsFlawOrCrc, IsSettled, on_drive, outcome_of, read_into}
+use Rattle.satl_flight.specs.Settled.{Deepens, HasEndedAt, IsFlawOrCrc, on_drive, outcome_of, read_into}
 use Rattle.satl_flight.proofs.ZipLemmas.{All-remove, zip-find, zip-remove_first, zip-with}
 use Rattle.satl_flight.proofs.FlownLemmas.{FitsOn, all_may_put, fits_on, flown_still, moves_of_each, others_differ, apart_removed, pairs_of_task}
 
@@ -98,7 +98,7 @@ module _ (flying : List Flying) (tasks : List Held) (old : DriveState) (tie : Is
 
   pub settled_done : (tag place : ℕ) (f : Flying) (held : Held) (slots taken : Slots) (pages body : List Block) (left : Waiting) (new : DriveState) → left.flying ≡ remove_first (has_tag tag) flying → find (has_tag tag) flying ≡ Some f → IsAt tasks place f.slot held
       → pages_at slots tag ≡ Some pages → pages_at taken tag ≡ Some body → IsQueuedDone tag old slots taken new
-      → (ranged : RangedTask) × ((ranged_of held.entry ≡ Some ranged) × IsSettled place (outcome_of None ranged body) (on_drive (waiting flying slots tasks) old) (on_drive left new))
+      → (ranged : RangedTask) × ((ranged_of held.entry ≡ Some ranged) × HasEndedAt place (outcome_of None ranged body) (on_drive (waiting flying slots tasks) old) (on_drive left new))
   settled_done tag place f held slots taken pages body left new left_is found at filled gave done =
       let flown = flown_found flying tasks old tag f done.done tie found done.found in
       let same = held_is f done.done place held flown at in
@@ -271,7 +271,7 @@ module _ (flying : List Flying) (tasks : List Held) (old : DriveState) (tie : Is
 
   -- all that the error took away, but for the one that failed
   pub settled_failed : (place : ℕ) (f : Flying) (held : Held) (slots taken : Slots) (body : List Block) (left : Waiting) (mid new : DriveState) → left.flying ≡ [] → (failed : IsFailed old slots taken mid) (x : Traffic) → IsLogRead failed.entry x mid new
-      → find (has_tag failed.entry.tag) flying ≡ Some f → IsAt tasks place f.slot held → (ranged : RangedTask) × ((ranged_of held.entry ≡ Some ranged) × IsSettled place (outcome_of (Some failed.entry) ranged body) (on_drive (waiting flying slots tasks) old) (on_drive left new))
+      → find (has_tag failed.entry.tag) flying ≡ Some f → IsAt tasks place f.slot held → (ranged : RangedTask) × ((ranged_of held.entry ≡ Some ranged) × HasEndedAt place (outcome_of (Some failed.entry) ranged body) (on_drive (waiting flying slots tasks) old) (on_drive left new))
   settled_failed place f held slots taken body left mid new none failed x read found at = (flown.ranged, (of_held, go flown.ranged refl))
     where
       e : NcqError
@@ -347,7 +347,7 @@ module _ (flying : List Flying) (tasks : List Held) (old : DriveState) (tie : Is
       deep = deepens_shorter old new (ap (λ (d : DriveState). d.deepest) read.stays ∙ ap (λ (d : DriveState). d.deepest) failed.stays) (omega (arith, ap length outstanding))
 
       with : (before after : List Cell) → Moves (MayPut old.cache (entries_of tasks)) old.cells before → EndsAs old.cache flown.ranged (outcome_of (Some e) flown.ranged body) before old.glitches after new.glitches
-          → Moves (MayPut old.cache (entries_of (remove tasks place))) after failed.mid → IsSettled place (outcome_of (Some e) flown.ranged body) (on_drive (waiting flying slots tasks) old) (on_drive left new)
+          → Moves (MayPut old.cache (entries_of (remove tasks place))) after failed.mid → HasEndedAt place (outcome_of (Some e) flown.ranged body) (on_drive (waiting flying slots tasks) old) (on_drive left new)
       with before after first ends later = record {
         held = held;
         stands = at.stands;
@@ -365,14 +365,14 @@ module _ (flying : List Flying) (tasks : List Held) (old : DriveState) (tie : Is
       }
 
       -- a write or a trim ends amid the others
-      amid : (ranged : RangedTask) → flown.ranged ≡ ranged → IsNoRead ranged → IsSettled place (outcome_of (Some e) flown.ranged body) (on_drive (waiting flying slots tasks) old) (on_drive left new)
+      amid : (ranged : RangedTask) → flown.ranged ≡ ranged → IsNoRead ranged → HasEndedAt place (outcome_of (Some e) flown.ranged body) (on_drive (waiting flying slots tasks) old) (on_drive left new)
       amid ranged is writes =
           let s = split_at old.cache (MayPut old.cache (entries_of tasks)) (MayPut old.cache (entries_of (remove tasks place))) (is_tagged e.tag) old.outstanding failed.failed old.cells failed.mid failed.found all still failed.part in
           with s.before s.after s.moves_before
           (ends_failed old.cache flown.ranged body old.cells s.before s.after old.glitches new.glitches e (flaw_met old.cells flown.ranged) (same_flaw s.before old.cells flown.ranged s.same_flaws (subst IsNoRead (sym is) writes)) (subst (λ ps. Part s.before ps s.after) pairs s.part) cause)
           s.moves_after
 
-      go : (ranged : RangedTask) → flown.ranged ≡ ranged → IsSettled place (outcome_of (Some e) flown.ranged body) (on_drive (waiting flying slots tasks) old) (on_drive left new)
+      go : (ranged : RangedTask) → flown.ranged ≡ ranged → HasEndedAt place (outcome_of (Some e) flown.ranged body) (on_drive (waiting flying slots tasks) old) (on_drive left new)
       -- a read ends before the others do anything
       go (ranged_read fua range) is =
           let nothing : queued_pairs old.cache failed.failed ≡ [] = pairs ∙ ap (written_pairs old.cache) is in

@@ -43,8 +43,8 @@ abbrev pub waiting : List Flying → Slots → List Held → Waiting
 waiting flying slots tasks = record { tasks = tasks; flying = flying; slots = slots }
 
 -- the same, each task with its pages (profile)
-abbrev pub whole : Waiting → Waiting
-whole w = record w { tasks = whole_tasks w.flying w.slots w.tasks }
+abbrev pub with_own_pages : Waiting → Waiting
+with_own_pages w = record w { tasks = whole_tasks w.flying w.slots w.tasks }
 
 -- a task that is outstanding has no pages of its own: they lie in the slot of its tag (profile)
 pub record IsLent (slots : Slots) (tasks : List Held) (f : Flying) : Type 0 where
@@ -79,9 +79,9 @@ pub record Lands (tag place : ℕ) (old new : Waiting) : Type 0 where
   pub in_slot : bare.slot ≡ landed.slot
   pub alone : count_of landed.slot (slots_of old.tasks) ≡ 1
   pub held : Held
-  pub at : IsAt (whole old).tasks place landed.slot held
+  pub at : IsAt (with_own_pages old).tasks place landed.slot held
   pub pages : pages_at old.slots tag ≡ Some held.entry.body
-  pub same : (whole new).tasks ≡ (whole old).tasks
+  pub same : (with_own_pages new).tasks ≡ (with_own_pages old).tasks
   pub back : slice_get new.tasks place ≡ Some held
   pub lending : IsLending new.flying new.slots new.tasks
   pub still_alone : count_of landed.slot (slots_of new.tasks) ≡ 1

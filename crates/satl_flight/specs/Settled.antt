@@ -21,7 +21,7 @@ use Rattle.satl_drive.specs.State.{DriveState}
 use Rattle.satl_drive.specs.Rules.{IsLogRead, IsRunCutOff, MaySet}
 use Rattle.satl_flight.specs.declared.flight.Flying.{Flying}
 use Rattle.satl_flight.specs.Flown.{IsInFlight, clash, holds}
-use Rattle.satl_flight.specs.Lending.{IsLending, Waiting, whole}
+use Rattle.satl_flight.specs.Lending.{IsLending, Waiting, with_own_pages}
 
 -- a queue, and the drive that it is on, at a moment (profile)
 pub record OnDrive : Type 0 where
@@ -104,7 +104,7 @@ IsFlawOrCrc (Some e) = (e.error ≡ unc) ⊎ (e.error ≡ icrc)
 
 -- the task at this place has ended: what the others put before it, its own end, and what they put after it; whether it has left
 -- the queue is not said (profile)
-pub record IsSettled (place : ℕ) (outcome : Outcome) (old new : OnDrive) : Type 0 where
+pub record HasEndedAt (place : ℕ) (outcome : Outcome) (old new : OnDrive) : Type 0 where
   pub held : Held
   pub stands : slice_get old.queue.tasks place ≡ Some held
   pub eligible : IsEligibleBy clash old.queue.tasks held
@@ -135,14 +135,14 @@ pub record IsCut (tasks : List Held) (old new : DriveState) : Type 0 where
 pub record Settles (place : ℕ) (error : Option NcqError) (old new : OnDrive) : Type 0 where
   pub ranged : RangedTask
   pub body : List Block
-  pub settled : IsSettled place (outcome_of error ranged body) (on_drive (whole old.queue) old.drive)
-      (on_drive (whole new.queue) new.drive)
+  pub settled : HasEndedAt place (outcome_of error ranged body) (on_drive (with_own_pages old.queue) old.drive)
+      (on_drive (with_own_pages new.queue) new.drive)
   pub error_is : IsFlawOrCrc error
   pub ranged_is : ranged_of settled.held.entry ≡ Some ranged
   pub ended : slice_get new.queue.tasks place ≡ Some (with_body body settled.held)
   pub size : length body ≡ length settled.held.entry.body
   pub leaves : IsLending new.queue.flying new.queue.slots (remove new.queue.tasks place)
-  pub others : remove (whole new.queue).tasks place ≡ remove (whole old.queue).tasks place
+  pub others : remove (with_own_pages new.queue).tasks place ≡ remove (with_own_pages old.queue).tasks place
 
 -- the error log was read (ACS-3 annex A, log 10h)
 pub record HasReadLog (e : NcqError) (old new : DriveState) : Type 0 where
@@ -157,8 +157,8 @@ pub record IsLogCutOff (old new : DriveState) : Type 0 where
   pub cut : IsRunCutOff old registers given new
 
 -- the task at a place is outstanding, or may not be, or no tag is left (profile)
-abbrev pub IsCovered : List Flying → List Held → ℕ → Type 0
-IsCovered flying tasks place =
+abbrev pub IsIssuedIfItMay : List Flying → List Held → ℕ → Type 0
+IsIssuedIfItMay flying tasks place =
     (length flying ≡ 32) ⊎ ((h : Held) (task : RangedTask) → slice_get tasks place ≡ Some h
     → eligible_by clash tasks place ≡ true → ranged_of h.entry ≡ Some task → holds flying h.slot ≡ true)
 

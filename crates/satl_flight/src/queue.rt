@@ -1,20 +1,20 @@
 // The tasks that wait, and which of them are outstanding.
 ghost use Rattle.std.specs.Option.{option_map};
 ghost use Rattle.std.specs.List.{position_from};
-ghost use Rattle.std.specs.Prelude.{◌≡◌, ◌≢◌, ◌≤◌, ◌<◌, ◌+◌, ◌-◌, ◌↔◌, [], length, Some, false, IfErr, IfOk, IsTrue, OnOk, OnErr, is_err, remove, slice_get};
+ghost use Rattle.std.specs.Prelude.{◌≡◌, ◌≢◌, ◌≤◌, ◌<◌, ◌+◌, ◌-◌, ◌↔◌, [], length, Some, false, IfOk, IsTrue, OnOk, OnErr, is_err, remove, slice_get};
 ghost use Rattle.satl_base.specs.Limits.{most_held, most_tasks};
 ghost use Rattle.satl_line.specs.Tasks.{Adds, AreOwnSlots, Held, change_task, entry_at, is_named, is_too_much, total_blocks, with_body};
 ghost use Rattle.satl_flight.specs.Flown.{holds};
 ghost use Rattle.satl_drive.specs.State.{DriveState, IsFit};
 ghost use Rattle.satl_flight.specs.Lending.{AreAlike};
-ghost use Rattle.satl_flight.specs.Queueing.{Ends, IsQueued, IsSlotted, empty, without_pages};
-ghost use Rattle.satl_flight.specs.Settled.{IsCovered, IsCut, IsFilled, IsLaunched, IsLostInFlight, IsLostQuietly, on_drive};
+ghost use Rattle.satl_flight.specs.Queueing.{EndsAndLeaves, IsQueued, IsSlotted, empty, without_pages};
+ghost use Rattle.satl_flight.specs.Settled.{IsCut, IsFilled, IsIssuedIfItMay, IsLaunched, IsLostInFlight, IsLostQuietly, on_drive};
 
 use crate::flight::Flight;
 use satl_base::{Nexus, NoMemory, Pages, Steps, Tag};
 use satl_drive::{Drive, LinkDown};
 use satl_errlog::NcqError;
-use satl_line::{Entry, TaskSet};
+use satl_line::{Entry, TaskBox, TaskSet, TaskSetFull};
 use satl_pages::Dma;
 use std::alloc::Global;
 use std::marker::Model;
@@ -30,11 +30,11 @@ pub struct Queue {
 }
 
 impl Model for Queue {
-    ghost use Rattle.satl_flight.specs.Lending.{IsLending, Waiting, waiting, whole};
+    ghost use Rattle.satl_flight.specs.Lending.{IsLending, Waiting, waiting, with_own_pages};
 
     ghost Value = { Waiting };
 
-    ghost view = { λ q. whole (waiting q.flight q.dma q.set) };
+    ghost view = { λ q. with_own_pages (waiting q.flight q.dma q.set) };
 
     ghost invariant = { λ q. IsLending q.flight q.dma q.set };
 }
@@ -75,17 +75,20 @@ impl Queue {
         }
     }
 
-    /// Polls once: the task that has ended leaves, with the entry of the error log where it failed.
+    /// Polls once: the task that has ended leaves, into a box. Gives the entry of the error log where it failed. The task that
+    /// lay in the box is gone; at a lost link it stays.
     pub fn settle_one<D: Drive, L: Ledger>(
         &mut self,
+        task: &mut TaskBox,
         drive: &mut D,
         steps: &mut Steps<L>,
-    ) -> Result<(Entry, Option<NcqError>), LinkDown>
+    ) -> Result<Option<NcqError>, LinkDown>
         requires queued { IsQueued self.old (D.state drive.old) }
         requires one { self.old.flying ≢ [] }
         requires fit { IsFit (D.state drive.old) }
-        ensures ok { IfOk result (λ ended. Ends ended.1 ended.0 (on_drive self.old (D.state drive.old))
+        ensures ok { IfOk result (λ error. EndsAndLeaves error task.new (on_drive self.old (D.state drive.old))
             (on_drive self.new (D.state drive.new))) }
+        ensures back { OnErr result (task.new ≡ task.old) }
         ensures err { OnErr result (IsLostInFlight self.old.tasks (D.state drive.old) (D.state drive.new)) }
         ensures emptied { OnErr result (self.new.flying ≡ []) }
         ensures alike { OnErr result (AreAlike self.old.tasks self.new.tasks) }
@@ -97,8 +100,8 @@ impl Queue {
             .settle_one(&mut self.set, &mut self.dma, drive, steps)
         {
             Ok(ended) => {
-                let entry = self.set.remove(ended.place);
-                Ok((entry, ended.error))
+                self.set.remove(ended.place, task);
+                Ok(ended.error)
             }
             Err(LinkDown) => Err(LinkDown),
         }
@@ -170,7 +173,7 @@ impl Queue {
         requires some { 0 < length self.old.tasks }
         requires queued { IsQueued self.old (D.state drive.old) }
         ensures ok { OnOk result (IsLaunched (on_drive self.old (D.state drive.old)) (on_drive self.new (D.state drive.new))) }
-        ensures covered { OnOk result (IsCovered self.new.flying self.new.tasks (length self.old.tasks - 1)) }
+        ensures covered { OnOk result (IsIssuedIfItMay self.new.flying self.new.tasks (length self.old.tasks - 1)) }
         ensures err { OnErr result (IsLostQuietly self.old.tasks (D.state drive.old) (D.state drive.new)) }
         ensures emptied { OnErr result (self.new.flying ≡ []) }
         ensures same { self.new.tasks ≡ self.old.tasks }
@@ -204,33 +207,33 @@ impl Queue {
         self.flight.is_empty()
     }
 
-    /// Adds a task at the end, which is not outstanding. The error is the task itself, exactly where the set is full (SAM-5,
-    /// TASK SET FULL).
-    pub fn add(&mut self, entry: Entry) -> Result<(), Entry>
-        ensures full { is_err result ≡ is_too_much self.old.tasks entry }
-        ensures ok { OnOk result (Adds self.old.tasks entry self.new.tasks) }
+    /// Adds the task of a box at the end, where it is not outstanding: the box has another one then. The error comes exactly
+    /// where the set is full, and the task stays in its box (SAM-5, TASK SET FULL).
+    pub fn add(&mut self, task: &mut TaskBox) -> Result<(), TaskSetFull>
+        ensures full { is_err result ≡ is_too_much self.old.tasks task.old }
+        ensures ok { OnOk result (Adds self.old.tasks task.old self.new.tasks) }
         ensures waits { OnOk result ((h : Held) → slice_get self.new.tasks (length self.old.tasks) ≡ Some h
             → holds self.new.flying h.slot ≡ false) }
-        ensures back { IfErr result (λ refused. refused ≡ entry) }
+        ensures back { OnErr result (task.new ≡ task.old) }
         ensures kept { OnErr result (self.new ≡ self.old) }
         ensures flying { self.new.flying ≡ self.old.flying }
         ensures slots { self.new.slots ≡ self.old.slots }
     {
-        self.set.add(entry)
+        self.set.add(task)
     }
 
-    /// Takes the task at a place out, which is not outstanding.
-    pub fn remove(&mut self, place: usize) -> Entry
+    /// Takes the task at a place out, which is not outstanding, into a box: the task that lay there is gone.
+    pub fn remove(&mut self, place: usize, task: &mut TaskBox)
         requires within { place < length self.old.tasks }
         requires waits { (h : Held) → slice_get self.old.tasks place ≡ Some h → holds self.old.flying h.slot ≡ false }
-        ensures value { entry_at self.old.tasks place ≡ Some result }
+        ensures value { entry_at self.old.tasks place ≡ Some task.new }
         ensures others { self.new.tasks ≡ remove self.old.tasks place }
         ensures flying { self.new.flying ≡ self.old.flying }
         ensures slots { self.new.slots ≡ self.old.slots }
     {
         // It tells that no other task has the slot.
         let _alone = self.set.slot_of(place);
-        self.set.remove(place)
+        self.set.remove(place, task);
     }
 
     /// Forgets all that is outstanding, where the drive has let go of it.

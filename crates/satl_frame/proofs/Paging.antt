@@ -6,7 +6,7 @@ use Rattle.std.proofs.Math.Seq.{take-append-add, drop-append-add}
 use Rattle.std.specs.List.{AllByRecursion}
 use Rattle.satl_base.specs.declared.block.Block.{Block}
 use Rattle.satl_base.specs.Blocks.{bytes_of}
-use Rattle.satl_frame.specs.DataPages.{page_count, padded_block, pages_from, pages_of, zeros}
+use Rattle.satl_frame.specs.DataPages.{page_count, padded_block, pages_from, pages_of, zero_bytes}
 
 -- 512 bytes are a block
 pub whole_block : (xs bytes : List ℕ) → 512 ≤ length xs → bytes ≡ take 512 xs → record { bytes = bytes } ≡ padded_block xs
@@ -112,20 +112,12 @@ pages_of-append q xs ys l =
     let all : page_count (length (xs ++ ys)) ≡ q + page_count (length ys) = omega (arith, length-append xs ys) in
     rw (all, front) (pages_from-append q (page_count (length ys)) xs ys l)
 
--- a front of the pages, where behind the bytes stand zeros
-pub front_of_pages : (m : ℕ) (xs buffer : List ℕ) (k : ℕ) → buffer ≡ xs ++ replicate k 0 → pages_from (min (page_count (length xs)) m) buffer ≡ take m (pages_of xs)
-unfolding pages_of
-front_of_pages m xs buffer k e =
-    let same : min (page_count (length xs)) m ≡ min m (page_count (length xs)) = omega arith in
-    rw (e, same) (pages_from-zeros (min m (page_count (length xs))) xs k ∙ sym (take-pages_from m (page_count (length xs)) xs))
-
 -- one block more in the pages that are done
-pub placed_block : (n : ℕ) (buffer : List ℕ) (start done done' : List Block) (b c : Block) → reverse done ≡ reverse start ++ pages_from n buffer →
-    done' ≡ c ∷ done → c ≡ b → b ≡ padded_block (drop (512 * n) buffer) → reverse done' ≡ reverse start ++ pages_from (n + 1) buffer
-placed_block n buffer start done done' b c before put same is =
+pub placed_block : (n : ℕ) (buffer : List ℕ) (start done done' : List Block) (b : Block) → reverse done ≡ reverse start ++ pages_from n buffer →
+    done' ≡ b ∷ done → b ≡ padded_block (drop (512 * n) buffer) → reverse done' ≡ reverse start ++ pages_from (n + 1) buffer
+placed_block n buffer start done done' b before put is =
     let next : n + 1 ≡ suc n = omega arith in
-    let block : c ≡ padded_block (drop (512 * n) buffer) = same ∙ is in
-    rw (put, next, pages_from-more n buffer, block)
+    rw (put, next, pages_from-more n buffer, is)
     (reverse-append (padded_block (drop (512 * n) buffer) ∷ []) done
     ∙ ap (λ bs. bs ++ padded_block (drop (512 * n) buffer) ∷ []) before ∙ append_assoc (reverse start) (pages_from n buffer) (padded_block (drop (512 * n) buffer) ∷ []))
 
@@ -133,13 +125,20 @@ pub none_placed : (buffer : List ℕ) (start : List Block) → reverse start ≡
 unfolding pages_from
 none_placed buffer start = sym (append-nil (reverse start))
 
--- a chunk whose front was filled
-pub chunk_placed : (count m : ℕ) (chunk buffer : List ℕ) → count ≤ 4096 → length chunk ≡ count → buffer ≡ chunk ++ drop count (zeros 4096) →
-    pages_from (min (page_count count) m) buffer ≡ take m (pages_of chunk)
-unfolding zeros
-chunk_placed count m chunk buffer short size is =
-    let padded : buffer ≡ chunk ++ replicate (4096 - count) 0 = is ∙ ap (λ z. chunk ++ z) (drop-replicate count 4096 0) in
-    ap (λ n. pages_from (min (page_count n) m) buffer) (sym size) ∙ front_of_pages m chunk buffer (4096 - count) padded
+-- a chunk whose front was filled, with zeros up to the end of its last page
+pub chunk_placed : (count m : ℕ) (chunk behind buffer : List ℕ) → length chunk ≡ count →
+    buffer ≡ (chunk ++ zero_bytes (512 * page_count count - count)) ++ behind → pages_from (min (page_count count) m) buffer ≡ take m (pages_of chunk)
+unfolding zero_bytes pages_from pages_of
+chunk_placed count m chunk behind buffer size is =
+    let n : ℕ = page_count count in
+    let filled : List ℕ = chunk ++ replicate (512 * n - count) 0 in
+    let whole : length filled ≡ 512 * n = omega (arith, length-append chunk (replicate (512 * n - count) 0), length-replicate {A = ℕ} (512 * n - count) 0) in
+    let sum : n ≡ n + 0 = omega arith in
+    let front : pages_from n buffer ≡ pages_from (page_count (length chunk)) chunk =
+    ap (pages_from n) is ∙ ap (λ k. pages_from k (filled ++ behind)) sum ∙ pages_from-append n 0 filled behind whole ∙ append-nil (pages_from n filled)
+    ∙ pages_from-zeros n chunk (512 * n - count) ∙ ap (λ k. pages_from (page_count k) chunk) (sym size) in
+    let same : min n m ≡ min m n = omega arith in
+    ap (λ k. pages_from k buffer) same ∙ sym (take-pages_from m n buffer) ∙ ap (take m) front
 
 -- the bytes of pages
 bytes_of-pages_from : (n : ℕ) (xs : List ℕ) → length xs ≤ 512 * n → bytes_of (pages_from n xs) ≡ xs ++ replicate (512 * n - length xs) 0
@@ -215,8 +214,8 @@ pub all_filled : (lent n : ℕ) (taken : List ℕ) (pages : List Block) → leng
 all_filled lent n taken pages size few is =
     ap length is ∙ length-take-le lent (pages_of taken) (omega (arith, length-pages_of taken ∙ ap page_count size))
 
-pub length-zeros : (n : ℕ) → length (zeros n) ≡ n
-unfolding zeros
+pub length-zeros : (n : ℕ) → length (zero_bytes n) ≡ n
+unfolding zero_bytes
 length-zeros n = length-replicate n 0
 
 -- a whole block is one page of its bytes, and whole blocks are the pages of theirs

@@ -9,7 +9,7 @@ use Rattle.satl_frame.specs.Faults.{fault, frame_fault}
 use Rattle.satl_frame.specs.Inputs.{all_spelled, AreFrames, NoneEnds, Reads}
 use Rattle.satl_frame.specs.Magic.{magic, magic_fault, version_of}
 use Rattle.satl_frame.specs.Progress.{ReadTo, ReadUpTo, HasRead}
-use Rattle.satl_frame.specs.Reading.{Reading, Gave, IsNext, opening, at_offset, first_refusal, refusal}
+use Rattle.satl_frame.specs.Reading.{Reading, Gave, IsNext, opening, at_offset, first_refusal, where_refused}
 use Rattle.satl_frame.specs.declared.frames.Version.{Version}
 use Rattle.satl_frame.specs.declared.frames.Reason.{Reason}
 use Rattle.satl_frame.specs.declared.frames.Frame.{Frame}
@@ -84,7 +84,7 @@ first_some (Some x) later reason n e = inl (at_some (Some x) 0 reason n e)
 
 -- what a reader refuses is refused in its input, at that offset
 pub refused_there : (r : Reading) (input rest : List ℕ) (fs : List Frame) (reason : Reason) (offset : ℕ) → HasRead r (Some input) (Some rest) fs →
-    refusal r.limit r.newest r.place rest ≡ Some (reason, offset) → fault r.newest r.limit input offset ≡ Some reason
+    where_refused r.limit r.newest r.place rest ≡ Some (reason, offset) → fault r.newest r.limit input offset ≡ Some reason
 refused_there r input rest fs reason offset read refused = by_place r.limit r.newest r.place input rest fs reason offset read refused
   where
     at_zero : (limit : ℕ) (newest : Version) (input : List ℕ) (reason : Reason) (offset : ℕ) → offset ≡ 0 → magic_fault newest (take 8 input) ≡ Some reason → fault newest limit input offset ≡ Some reason
@@ -96,7 +96,7 @@ refused_there r input rest fs reason offset read refused = by_place r.limit r.ne
         subst (λ (o : ℕ). fault newest limit input o ≡ Some reason) (sym is) (subst (λ (o : ℕ). frame_fault (version_of input) limit o (drop o input) ≡ Some reason) is e)
 
     by_place : (limit : ℕ) (newest : Version) (at : Option Place) (input rest : List ℕ) (fs : List Frame) (reason : Reason) (offset : ℕ) → ReadUpTo limit newest at (Some input) (Some rest) fs →
-        refusal limit newest at rest ≡ Some (reason, offset) → fault newest limit input offset ≡ Some reason
+        where_refused limit newest at rest ≡ Some (reason, offset) → fault newest limit input offset ≡ Some reason
     by_place limit newest None input rest fs reason offset (nothing, same) refused =
         let is : rest ≡ input = same_Some rest input same in
         elim (first_some (magic_fault newest (take 8 input)) (at_offset 8 (frame_fault (version_of input) limit 8 (drop 8 input))) reason offset (rw is at refused)) [

@@ -13,7 +13,7 @@ use Rattle.satl_frame.specs.Frames.{frame_rows, has_code, allows, payload_bytes,
 use Rattle.satl_frame.specs.Magic.{magic, magic_fault, names_version, version_code, version_of}
 use Rattle.satl_frame.specs.Faults.{told_length, head_fault, frame_fault}
 use Rattle.satl_frame.specs.Pulls.{Lacks, FewerThan, TookBadField}
-use Rattle.satl_frame.specs.Reading.{Reading, Blames, at_offset, refusal, asked, asked_of_frame}
+use Rattle.satl_frame.specs.Reading.{Reading, Blames, at_offset, where_refused, asked, asked_of_frame}
 use Rattle.satl_frame.specs.Steps.{Began, BlamesMagic, BlamesAt, BlamesPayload, StoodBehind, StoodAt}
 use Rattle.satl_frame.specs.declared.frames.Version.{Version}
 use Rattle.satl_frame.specs.declared.frames.Version.TheVariants.{One, Two}
@@ -231,7 +231,7 @@ begin_blames old a b ReadFault (is, fewer) = fewer_weaker (asked old.limit old.n
 
 -- what a reader says of a whole magic is what it says of the frame behind it
 pub computed : (limit : ℕ) (newest version : Version) (rest : List ℕ) → names_version newest (version_code version) ≡ true →
-    (refusal limit newest None (magic version ++ rest) ≡ at_offset 8 (frame_fault version limit 8 rest))
+    (where_refused limit newest None (magic version ++ rest) ≡ at_offset 8 (frame_fault version limit 8 rest))
     × (asked limit newest None (magic version ++ rest) ≡ 8 + asked_of_frame version limit 8 rest)
 computed limit One One rest named = (refl, refl)
 computed limit One Two rest named = cc
@@ -241,7 +241,7 @@ computed limit Two Two rest named = (refl, refl)
 -- the refusal of a frame behind the magic
 behind_magic : (limit : ℕ) (newest version : Version) (rest : List ℕ) (c : Option (List ℕ)) (r : Reason) → names_version newest (version_code version) ≡ true →
     frame_fault version limit 8 rest ≡ Some r → Took (Some rest) c (take (asked_of_frame version limit 8 rest) rest) →
-    (refusal limit newest None (magic version ++ rest) ≡ Some (r, 8))
+    (where_refused limit newest None (magic version ++ rest) ≡ Some (r, 8))
     × Took (Some (magic version ++ rest)) c (take (asked limit newest None (magic version ++ rest)) (magic version ++ rest))
 behind_magic limit newest version rest c r named fault took =
     let known = computed limit newest version rest named in
@@ -274,5 +274,5 @@ frame_blames old place a b c e began blames = by_place old.limit old.newest old.
         let taken : Took (Some rest) c (take (asked_of_frame place.version limit 8 rest) rest) = rw is at blames.1.1 in
         let all = behind_magic limit newest place.version rest c r named fault taken in
         let offset : o ≡ 8 = blames.0 ∙ is in
-        subst (λ (xs : List ℕ). (refusal limit newest None xs ≡ Some (r, o)) × Took (Some xs) c (take (asked limit newest None xs) xs)) (sym took.known)
+        subst (λ (xs : List ℕ). (where_refused limit newest None xs ≡ Some (r, o)) × Took (Some xs) c (take (asked limit newest None xs) xs)) (sym took.known)
         (all.0 ∙ ap (λ (k : ℕ). Some (r, k)) (sym offset), all.1)

@@ -9,7 +9,7 @@ use Rattle.satl_frame.specs.Faults.{fault, frame_fault}
 use Rattle.satl_frame.specs.Inputs.{all_spelled, AreFrames, NoneEnds, Reads, Stands}
 use Rattle.satl_frame.specs.Magic.{magic}
 use Rattle.satl_frame.specs.Progress.{ReadTo, ReadUpTo, HasRead, ReadsToEnd}
-use Rattle.satl_frame.specs.Reading.{Reading, Gave, Blames, IsNext, opening, at_offset, refusal}
+use Rattle.satl_frame.specs.Reading.{Reading, Gave, Blames, IsNext, opening, at_offset, where_refused}
 use Rattle.satl_frame.specs.declared.frames.Version.{Version}
 use Rattle.satl_frame.specs.declared.frames.Reason.{Reason}
 use Rattle.satl_frame.specs.declared.frames.Frame.{Frame}
@@ -87,19 +87,19 @@ pub none_refused : (r : Reading) (input : List ℕ) (fs given : List Frame) (res
 none_refused r input fs given rest mid left' reason offset all read none blames = by_mid mid read blames
   where
     by_place : (limit : ℕ) (newest : Version) (at : Option Place) (left : List ℕ) → ReadsToEnd limit newest input fs rest → ReadUpTo limit newest at (Some input) (Some left) given →
-        refusal limit newest at left ≡ Some (reason, offset) → ⊥
+        where_refused limit newest at left ≡ Some (reason, offset) → ⊥
     by_place limit newest None left all (nothing, same) refused =
         let whole : Reads limit input all.place.version (fs ++ frames.End ∷ []) rest = has_read_all limit newest all.place input rest (fs ++ frames.End ∷ []) all.read in
         let behind = all_spelled (fs ++ frames.End ∷ []) ++ rest in
         let is : left ≡ magic all.place.version ++ behind = same_Some left input same ∙ whole.split in
         let good : frame_fault all.place.version limit 8 behind ≡ None = stands_good all.place.version limit 8 behind (next_stands all.place.version limit 8 fs rest behind refl whole.each) in
-        let nothing_there : refusal limit newest None left ≡ None =
-        ap (λ (xs : List ℕ). refusal limit newest None xs) is ∙ (computed limit newest all.place.version behind all.read.named).0 ∙ ap (λ (f : Option Reason). at_offset 8 f) good in
+        let nothing_there : where_refused limit newest None left ≡ None =
+        ap (λ (xs : List ℕ). where_refused limit newest None xs) is ∙ (computed limit newest all.place.version behind all.read.named).0 ∙ ap (λ (f : Option Reason). at_offset 8 f) good in
         cc
     by_place limit newest (Some p) left all read refused =
         let next = read_ahead limit newest all.place p input fs given rest left all.read read none in
         let good : frame_fault p.version limit p.offset left ≡ None = stands_good p.version limit p.offset left (next_stands p.version limit p.offset next.later rest left next.left_is next.each) in
-        let nothing_there : refusal limit newest (Some p) left ≡ None = ap (λ (f : Option Reason). at_offset p.offset f) good in
+        let nothing_there : where_refused limit newest (Some p) left ≡ None = ap (λ (f : Option Reason). at_offset p.offset f) good in
         cc
 
     by_mid : (mid : Option (List ℕ)) → HasRead r (Some input) mid given → Blames r mid left' (Bad reason offset) → ⊥

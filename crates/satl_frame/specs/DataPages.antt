@@ -20,5 +20,5 @@ unfoldable pub pages_of : List ℕ → List Block
 pages_of given = pages_from (page_count (length given)) given
 
 -- n bytes of zero
-unfoldable pub zeros : ℕ → List ℕ
-zeros n = replicate n 0
+unfoldable pub zero_bytes : ℕ → List ℕ
+zero_bytes n = replicate n 0

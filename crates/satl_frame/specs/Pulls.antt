@@ -48,7 +48,7 @@ pub record TookPages (left left' : Option (List ℕ)) (n room : ℕ) (pages : Li
   pub pages_are : pages ≡ take room (pages_of taken)
 
 -- pages were filled from the front of some and put in reverse before others
-pub record Placed (left left' : Option (List ℕ)) (n room : ℕ) (old new : List Block) : Type 0 where
+pub record FilledInReverse (left left' : Option (List ℕ)) (n room : ℕ) (old new : List Block) : Type 0 where
   pub taken : List ℕ
   pub took : Took left left' taken
   pub size : length taken ≡ n

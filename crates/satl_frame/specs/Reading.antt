@@ -54,11 +54,11 @@ first_refusal None later = later
 first_refusal (Some x) later = Some x
 
 -- why, and where, the bytes that are left are refused: the magic at 0, or the frame at the place
-abbrev pub refusal : ℕ → Version → Option Place → List ℕ → Option (Reason × ℕ)
-refusal limit newest None left =
+abbrev pub where_refused : ℕ → Version → Option Place → List ℕ → Option (Reason × ℕ)
+where_refused limit newest None left =
     first_refusal (at_offset 0 (magic_fault newest (take 8 left)))
     (at_offset 8 (frame_fault (version_of left) limit 8 (drop 8 left)))
-refusal limit newest (Some place) left = at_offset place.offset (frame_fault place.version limit place.offset left)
+where_refused limit newest (Some place) left = at_offset place.offset (frame_fault place.version limit place.offset left)
 
 -- how many bytes of a frame are asked for: the first five, and all of it where these are good
 abbrev pub asked_of_frame : Version → ℕ → ℕ → List ℕ → ℕ
@@ -75,7 +75,7 @@ asked limit newest (Some place) left = asked_of_frame place.version limit place.
 -- taken than the next frame has, so no whole one
 abbrev pub Blames : Reading → Option (List ℕ) → Option (List ℕ) → FrameFault → Type 0
 Blames old left left' (Bad reason offset) =
-    IfSome left (λ input. (refusal old.limit old.newest old.place input ≡ Some (reason, offset))
+    IfSome left (λ input. (where_refused old.limit old.newest old.place input ≡ Some (reason, offset))
     × Took left left' (take (asked old.limit old.newest old.place input) input))
 Blames old left left' ReadFault = FewerThan left left' (asked old.limit old.newest old.place)
 

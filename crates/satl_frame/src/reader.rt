@@ -10,7 +10,7 @@ use crate::frames::{Frame, FrameFault, Place, Reason, Version};
 use crate::judge::{head_fault, head_size, magic_fault, told_length, version_of};
 use crate::payloads::{request_of, small_frame};
 use crate::pulling::{PullError, fill, pull};
-use crate::refill::{pull_data, skip};
+use crate::refill::{CHUNK, pull_by, skip};
 use satl_base::{Lender, Request};
 use satl_io::{Failed, Source};
 use std::alloc::Global;
@@ -19,6 +19,7 @@ use std::marker::Model;
 /// Pulls the data-out of a request.
 fn pull_rest<S: Source, P: Lender>(
     source: &mut S,
+    buffer: &mut [u8; CHUNK],
     lender: &mut P,
     request: Request,
     len: u32,
@@ -30,7 +31,7 @@ fn pull_rest<S: Source, P: Lender>(
     ensures out { P.out lender.new ≡ P.out lender.old + given_pages request_pages result }
     ensures rest { P.rest lender.new ≡ P.rest lender.old }
 {
-    match pull_data(source, lender, len) {
+    match pull_by(source, buffer, lender, len) {
         Ok(body) => Ok(Request {
             body,
             data_len: len,
@@ -43,6 +44,7 @@ fn pull_rest<S: Source, P: Lender>(
 /// Pulls the payload of a request. None where a field of it is bad.
 fn pull_request<S: Source, P: Lender>(
     source: &mut S,
+    buffer: &mut [u8; CHUNK],
     lender: &mut P,
     version: Version,
     len: u32,
@@ -58,15 +60,15 @@ fn pull_request<S: Source, P: Lender>(
     ensures rest { P.rest lender.new ≡ P.rest lender.old }
 {
     let size = head_size(version);
-    let mut buffer = [0; 34];
-    let head = &mut buffer[..size as usize];
+    let mut room = [0; 34];
+    let head = &mut room[..size as usize];
     pull(source, head)?;
     match request_of(version, head) {
-        Some(request) => match pull_rest(source, lender, request, len - size) {
+        Some(request) => match pull_rest(source, buffer, lender, request, len - size) {
             Ok(request) => Ok(Some(request)),
             Err(error) => Err(error),
         },
-        None => match skip(source, len - size) {
+        None => match skip(source, buffer, len - size) {
             Ok(()) => Ok(None),
             Err(error) => Err(error),
         },
@@ -99,6 +101,7 @@ fn pull_small<S: Source>(
 /// Pulls the payload of a frame of this kind and length. None where a field of it is bad.
 fn pull_payload<S: Source, P: Lender>(
     source: &mut S,
+    buffer: &mut [u8; CHUNK],
     lender: &mut P,
     version: Version,
     code: u8,
@@ -118,7 +121,7 @@ fn pull_payload<S: Source, P: Lender>(
     if code > 1 {
         return pull_small(source, version, code, len);
     }
-    match pull_request(source, lender, version, len) {
+    match pull_request(source, buffer, lender, version, len) {
         Ok(Some(request)) => Ok(Some(Frame::Request(request))),
         Ok(None) => Ok(None),
         Err(error) => Err(error),
@@ -128,6 +131,7 @@ fn pull_payload<S: Source, P: Lender>(
 /// Reads the payload behind a good head.
 fn read_payload<S: Source, P: Lender>(
     source: &mut S,
+    buffer: &mut [u8; CHUNK],
     lender: &mut P,
     head: &[u8],
     place: Place,
@@ -144,7 +148,14 @@ fn read_payload<S: Source, P: Lender>(
     ensures rest { P.rest lender.new ≡ P.rest lender.old }
 {
     let offset = place.offset;
-    match pull_payload(source, lender, place.version, head[0], told_length(head)) {
+    match pull_payload(
+        source,
+        buffer,
+        lender,
+        place.version,
+        head[0],
+        told_length(head),
+    ) {
         Ok(Some(frame)) => Ok(frame),
         Ok(None) => Err(FrameFault::Bad {
             reason: Reason::BadField,
@@ -161,6 +172,7 @@ fn read_payload<S: Source, P: Lender>(
 /// Reads the frame at a place, and gives the offset behind it too.
 fn read_frame<S: Source, P: Lender>(
     source: &mut S,
+    buffer: &mut [u8; CHUNK],
     lender: &mut P,
     limit: u64,
     place: Place,
@@ -180,7 +192,7 @@ fn read_frame<S: Source, P: Lender>(
     let offset = place.offset;
     match head_fault(place.version, limit, offset, &head, count) {
         Some(reason) => Err(FrameFault::Bad { reason, offset }),
-        None => match read_payload(source, lender, &head, place) {
+        None => match read_payload(source, buffer, lender, &head, place) {
             Ok(frame) => Ok((frame, offset + 5 + u64::from(told_length(&head)))),
             Err(fault) => Err(fault),
         },
@@ -231,6 +243,8 @@ pub struct FrameReader {
     newest: Version,
     place: Option<Place>,
     refused: Option<FrameFault>,
+    // Data-out goes through it. As a local it would be blanked at each call.
+    buffer: [u8; CHUNK],
 }
 
 impl Model for FrameReader {
@@ -253,6 +267,7 @@ impl FrameReader {
             newest: Version::Two,
             place: None,
             refused: None,
+            buffer: [0; CHUNK],
         }
     }
 
@@ -266,6 +281,7 @@ impl FrameReader {
             newest: Version::One,
             place: None,
             refused: None,
+            buffer: [0; CHUNK],
         }
     }
 
@@ -286,7 +302,7 @@ impl FrameReader {
             Ok(place) => place,
             Err(fault) => return Err(fault),
         };
-        match read_frame(source, lender, self.limit, place) {
+        match read_frame(source, &mut self.buffer, lender, self.limit, place) {
             Ok((frame, offset)) => {
                 self.place = Some(Place { offset, ..place });
                 Ok(frame)

@@ -1,31 +1,23 @@
 // Data-out from the source into pages, in large reads.
-ghost use Rattle.std.specs.Prelude.{◌≡◌, ◌<◌, ◌≤◌, ◌+◌, ◌*◌, ◌^◌, ◌++◌, [], IfOk, OnOk, length, take, drop, reverse};
+ghost use Rattle.std.specs.Prelude.{◌≡◌, ◌<◌, ◌≤◌, ◌+◌, ◌-◌, ◌*◌, ◌^◌, ◌++◌, [], IfOk, OnOk, length, take, drop, reverse};
 ghost use Rattle.satl_base.specs.Blocks.{zero_block};
-ghost use Rattle.satl_frame.specs.DataPages.{page_count, padded_block, pages_from, zeros};
-ghost use Rattle.satl_frame.specs.Pulls.{PullCauses, Stopped, TookCount, TookPages, Placed, given_pages};
+ghost use Rattle.satl_frame.specs.DataPages.{page_count, padded_block, pages_from, zero_bytes};
+ghost use Rattle.satl_frame.specs.Pulls.{PullCauses, Stopped, TookCount, TookPages, FilledInReverse, given_pages};
 
 use crate::pulling::{PullError, pull};
-use satl_base::{Block, Lender, Pages};
+use satl_base::{Lender, Page, Pages};
 use satl_io::Source;
 
 /// The most bytes that one pull asks for: eight pages.
-const CHUNK: usize = 4096;
+pub const CHUNK: usize = 4096;
 
-fn empty_chunk() -> [u8; CHUNK]
-    ensures { result ≡ zeros 4096 }
-{
-    [0; CHUNK]
-}
-
-/// The block at a place of a buffer.
-fn block_at(buffer: &[u8], i: u32) -> Block
+/// Fills a page with the block at a place of a buffer.
+fn fill_page(page: &mut Page, buffer: &[u8], i: u32)
     requires { 512 * i + 512 ≤ length buffer.now }
-    ensures { result ≡ padded_block (drop (512 * i) buffer.now) }
+    ensures { page.new ≡ padded_block (drop (512 * i) buffer.now) }
 {
     let first = 512 * i as usize;
-    let mut bytes = [0; 512];
-    bytes.copy_from_slice(&buffer[first..first + 512]);
-    Block { bytes }
+    page.set_bytes(&buffer[first..first + 512]);
 }
 
 /// Fills n pages from a buffer, and moves them from the front of `todo` to that of `done`.
@@ -40,36 +32,48 @@ fn place_blocks(buffer: &[u8], n: u32, todo: &mut Pages, done: &mut Pages)
         let Some(mut page) = todo.pop_first() else {
             unreachable!();
         };
-        page.set(&block_at(buffer, i));
+        fill_page(&mut page, buffer, i);
         done.push_first(page);
     }
+}
+
+/// Blanks what stands behind so many bytes, up to the end of their last page.
+fn blank_rest(buffer: &mut [u8; CHUNK], count: usize)
+    requires { count ≤ 4096 }
+    ensures { buffer.new ≡ (take count buffer.old ++ zero_bytes (512 * page_count count - count))
+        ++ drop (512 * page_count count) buffer.old }
+{
+    buffer[count..512 * count.div_ceil(512)].fill(0);
 }
 
 /// Takes at most a chunk of bytes into as many of the pages as there are.
 fn pull_chunk<S: Source>(
     source: &mut S,
+    buffer: &mut [u8; CHUNK],
     count: usize,
     todo: &mut Pages,
     done: &mut Pages,
 ) -> Result<(), PullError>
     requires short { count ≤ 4096 }
     requires few { length todo.old + length done.old < 2 ^ 32 }
-    ensures placed { OnOk result (Placed (S.left source.old) (S.left source.new) count (length todo.old) done.old done.new) }
+    ensures placed { OnOk result (FilledInReverse (S.left source.old) (S.left source.new) count (length todo.old)
+        done.old done.new) }
     ensures same { length todo.new + length done.new ≡ length todo.old + length done.old }
     ensures stopped { Stopped (S.left source.old) (S.left source.new) count result }
     ensures causes { PullCauses (S.left source.old) (S.left source.new) count (S.faults source.old)
         (S.faults source.new) result }
 {
-    let mut buffer = empty_chunk();
     pull(source, &mut buffer[..count])?;
+    blank_rest(buffer, count);
     let pages = count.div_ceil(512) as u32;
-    place_blocks(&buffer, pages.min(todo.blocks()), todo, done);
+    place_blocks(buffer, pages.min(todo.blocks()), todo, done);
     Ok(())
 }
 
 /// Takes bytes into as many of the pages as there are, and moves the filled ones in reverse to `done`.
 fn fill_pages<S: Source>(
     source: &mut S,
+    buffer: &mut [u8; CHUNK],
     len: u32,
     todo: &mut Pages,
     done: &mut Pages,
@@ -85,7 +89,7 @@ fn fill_pages<S: Source>(
     let mut at = 0;
     while at < len {
         let count = (len - at).min(CHUNK);
-        match pull_chunk(source, count, todo, done) {
+        match pull_chunk(source, buffer, count, todo, done) {
             Ok(()) => at += count,
             Err(error) => return Err(error),
         }
@@ -94,12 +98,51 @@ fn fill_pages<S: Source>(
 }
 
 /// Takes bytes from the source, and drops them.
-pub fn skip<S: Source>(source: &mut S, len: u32) -> Result<(), PullError>
+pub fn skip<S: Source>(source: &mut S, buffer: &mut [u8; CHUNK], len: u32) -> Result<(), PullError>
     ensures bytes { OnOk result (TookCount (S.left source.old) (S.left source.new) len) }
     ensures stopped { Stopped (S.left source.old) (S.left source.new) len result }
     ensures causes { PullCauses (S.left source.old) (S.left source.new) len (S.faults source.old) (S.faults source.new) result }
 {
-    fill_pages(source, len, &mut Pages::default(), &mut Pages::default())
+    fill_pages(
+        source,
+        buffer,
+        len,
+        &mut Pages::default(),
+        &mut Pages::default(),
+    )
+}
+
+/// Takes bytes by a buffer into as many pages as they need and as are free, each of 512 bytes, with zeros behind the last byte.
+/// What does not fit is taken too, and dropped. Where a read fails no page is kept.
+pub fn pull_by<S: Source, P: Lender>(
+    source: &mut S,
+    buffer: &mut [u8; CHUNK],
+    lender: &mut P,
+    len: u32,
+) -> Result<Pages, PullError>
+    ensures filled { IfOk result (TookPages (S.left source.old) (S.left source.new) len (P.free lender.old)) }
+    ensures stopped { Stopped (S.left source.old) (S.left source.new) len result }
+    ensures causes { PullCauses (S.left source.old) (S.left source.new) len (S.faults source.old) (S.faults source.new) result }
+    ensures free { P.free lender.new + given_pages length result ≡ P.free lender.old }
+    ensures out { P.out lender.new ≡ P.out lender.old + given_pages length result }
+    ensures rest { P.rest lender.new ≡ P.rest lender.old }
+{
+    if len == 0 {
+        return Ok(Pages::default());
+    }
+    let mut todo = lender.lend(len.div_ceil(512).min(lender.room()));
+    let mut done = Pages::default();
+    match fill_pages(source, buffer, len, &mut todo, &mut done) {
+        Ok(()) => {
+            done.reverse();
+            Ok(done)
+        }
+        Err(error) => {
+            lender.give_back(todo);
+            lender.give_back(done);
+            Err(error)
+        }
+    }
 }
 
 /// Takes `len` bytes into as many pages as they need and as are free, each of 512 bytes, with zeros behind the last byte
@@ -117,20 +160,5 @@ pub fn pull_data<S: Source, P: Lender>(
     ensures out { P.out lender.new ≡ P.out lender.old + given_pages length result }
     ensures rest { P.rest lender.new ≡ P.rest lender.old }
 {
-    if len == 0 {
-        return Ok(Pages::default());
-    }
-    let mut todo = lender.lend(len.div_ceil(512).min(lender.room()));
-    let mut done = Pages::default();
-    match fill_pages(source, len, &mut todo, &mut done) {
-        Ok(()) => {
-            done.reverse();
-            Ok(done)
-        }
-        Err(error) => {
-            lender.give_back(todo);
-            lender.give_back(done);
-            Err(error)
-        }
-    }
+    pull_by(source, &mut [0; CHUNK], lender, len)
 }

@@ -11,7 +11,7 @@ use Rattle.satl_frame.specs.declared.frames.Frame.TheVariants as frames
 use Rattle.satl_frame.specs.declared.frames.Version.TheVariants.{One}
 use Rattle.satl_frame.proofs.FieldSizes.{length-request_fields}
 use Rattle.satl_gen.specs.Coming.{request_head}
-use Rattle.satl_gen.specs.Generated.{is_write, sent_blocks, drawn_command, request_of, blocks_from}
+use Rattle.satl_gen.specs.Generated.{is_write, sent_blocks, drawn_command, request_of, rising_blocks}
 use Rattle.satl_gen.specs.declared.draw.Draw.{Draw}
 use Rattle.satl_gen.proofs.Blocks.{length-blocks, first_blocks, blocks_are_pages}
 
@@ -31,7 +31,7 @@ fields_fit i d small = record { nexus = omega arith; lun = refl; tag = small; cd
 
 has_data : (i : ℕ) (d : Draw) → HasData (request_of i d)
 has_data i d =
-    let sent : data_out (request_of i d) ≡ bytes_of (blocks_from (sent_blocks d) i) = first_blocks (sent_blocks d) i in
+    let sent : data_out (request_of i d) ≡ bytes_of (rising_blocks (sent_blocks d) i) = first_blocks (sent_blocks d) i in
     record {
       size = ap length sent ∙ length-blocks (sent_blocks d) i;
       short = omega (arith, sent_blocks-le d);
@@ -47,8 +47,8 @@ length-payload i d small =
     ∙ omega (arith, length-request_fields One (request_of i d) (fields_fit i d small), (has_data i d).size)
 
 -- the head, and then the data-out
-pub request_spelled : (i : ℕ) (d : Draw) → i < 2 ^ 32 → spelled (frames.Request (request_of i d)) ≡ request_head i d ++ bytes_of (blocks_from (sent_blocks d) i)
+pub request_spelled : (i : ℕ) (d : Draw) → i < 2 ^ 32 → spelled (frames.Request (request_of i d)) ≡ request_head i d ++ bytes_of (rising_blocks (sent_blocks d) i)
 request_spelled i d small =
     ap (λ (n : ℕ). (0x01 ∷ big_bytes 4 n) ++ (request_fields (request_of i d) ++ data_out (request_of i d))) (length-payload i d small)
     ∙ ap (λ (xs : List ℕ). (0x01 ∷ big_bytes 4 (30 + 512 * sent_blocks d)) ++ (request_fields (request_of i d) ++ xs)) (first_blocks (sent_blocks d) i)
-    ∙ sym (append_assoc (0x01 ∷ big_bytes 4 (30 + 512 * sent_blocks d)) (request_fields (request_of i d)) (bytes_of (blocks_from (sent_blocks d) i)))
+    ∙ sym (append_assoc (0x01 ∷ big_bytes 4 (30 + 512 * sent_blocks d)) (request_fields (request_of i d)) (bytes_of (rising_blocks (sent_blocks d) i)))

@@ -9,7 +9,7 @@ use Rattle.satl_frame.specs.Inputs.{all_spelled}
 use Rattle.satl_frame.specs.declared.frames.Frame.{Frame}
 use Rattle.satl_frame.specs.declared.frames.Frame.TheVariants as frames
 use Rattle.satl_gen.specs.Coming.{request_head, burst_behind, burst_bytes}
-use Rattle.satl_gen.specs.Generated.{seeded, draw, after_draw, sent_blocks, block_of, blocks_from, burst, request_of, frames_of, frames_from, generated}
+use Rattle.satl_gen.specs.Generated.{seeded, draw, after_draw, sent_blocks, block_full_of, rising_blocks, burst, request_of, frames_of, frames_from, generated}
 use Rattle.satl_frame.specs.Magic.{magic}
 use Rattle.satl_frame.specs.declared.frames.Version.TheVariants.{One}
 use Rattle.satl_frame.proofs.ProgressLemmas.{all_spelled-append}
@@ -18,18 +18,18 @@ use Rattle.satl_gen.proofs.Blocks.{blocks_from-next, blocks_from-none}
 use Rattle.satl_gen.proofs.Requests.{request_spelled}
 
 -- a block more
-pub block_taken : (n value : ℕ) (piece rest : List ℕ) → 0 < n → piece ≡ (block_of value).bytes →
-    bytes_of (blocks_from n value) ++ rest ≡ piece ++ (bytes_of (blocks_from (n - 1) (value + 1)) ++ rest)
+pub block_taken : (n value : ℕ) (piece rest : List ℕ) → 0 < n → piece ≡ (block_full_of value).bytes →
+    bytes_of (rising_blocks n value) ++ rest ≡ piece ++ (bytes_of (rising_blocks (n - 1) (value + 1)) ++ rest)
 block_taken n value piece rest some is =
-    rw is (ap (λ (bs : List Block). bytes_of bs ++ rest) (blocks_from-next n value some) ∙ append_assoc (block_of value).bytes (bytes_of (blocks_from (n - 1) (value + 1))) rest)
+    rw is (ap (λ (bs : List Block). bytes_of bs ++ rest) (blocks_from-next n value some) ∙ append_assoc (block_full_of value).bytes (bytes_of (rising_blocks (n - 1) (value + 1))) rest)
 
 -- no block
-pub no_block_left : (n value : ℕ) (rest : List ℕ) → n ≡ 0 → bytes_of (blocks_from n value) ++ rest ≡ rest
+pub no_block_left : (n value : ℕ) (rest : List ℕ) → n ≡ 0 → bytes_of (rising_blocks n value) ++ rest ≡ rest
 no_block_left n value rest none = ap (λ (bs : List Block). bytes_of bs ++ rest) (blocks_from-none n value none)
 
 -- a burst
 pub burst_taken : (n value c : ℕ) (b : Option ℕ) (piece rest : List ℕ) → n ≡ 0 → b ≡ Some c → piece ≡ all_spelled (burst c) →
-    bytes_of (blocks_from n value) ++ (burst_bytes b ++ rest) ≡ piece ++ (bytes_of (blocks_from n value) ++ (burst_bytes None ++ rest))
+    bytes_of (rising_blocks n value) ++ (burst_bytes b ++ rest) ≡ piece ++ (bytes_of (rising_blocks n value) ++ (burst_bytes None ++ rest))
 burst_taken n value c b piece rest none there is =
     no_block_left n value (burst_bytes b ++ rest) none ∙ ap (λ (o : Option ℕ). burst_bytes o ++ rest) there ∙ ap (λ (xs : List ℕ). xs ++ rest) (sym is)
     ∙ ap (λ (xs : List ℕ). piece ++ xs) (sym (no_block_left n value rest none))
@@ -57,12 +57,12 @@ behind ended n i g = if ended then [] else all_spelled (frames_from n i g ++ fra
 
 -- a request more
 pub request_taken : (n i : ℕ) (g : Lcg) → 0 < n → i < 2 ^ 32 → all_spelled (frames_from n i g ++ frames.End ∷ []) ≡
-    request_head i (draw g) ++ (bytes_of (blocks_from (sent_blocks (draw g)) i) ++ (burst_bytes (burst_behind i (draw g)) ++ all_spelled (frames_from (n - 1) (i + 1) (after_draw g) ++ frames.End ∷ [])))
+    request_head i (draw g) ++ (bytes_of (rising_blocks (sent_blocks (draw g)) i) ++ (burst_bytes (burst_behind i (draw g)) ++ all_spelled (frames_from (n - 1) (i + 1) (after_draw g) ++ frames.End ∷ [])))
 request_taken n i g some small =
     let d = draw g in
     let tail = if i % 16 == 15 then burst d.c else [] in
     let rest = frames_from (n - 1) (i + 1) (after_draw g) ++ frames.End ∷ [] in
-    let blocks = bytes_of (blocks_from (sent_blocks d) i) in
+    let blocks = bytes_of (rising_blocks (sent_blocks d) i) in
     ap (λ (fs : List Frame). all_spelled (fs ++ frames.End ∷ [])) (frames_from-next n i g some)
     ∙ ap (λ (fs : List Frame). spelled (frames.Request (request_of i d)) ++ all_spelled fs) (append_assoc tail (frames_from (n - 1) (i + 1) (after_draw g)) (frames.End ∷ []))
     ∙ ap (λ (xs : List ℕ). spelled (frames.Request (request_of i d)) ++ xs) (all_spelled-append tail rest ∙ ap (λ (xs : List ℕ). xs ++ all_spelled rest) (burst_spelled i d))
@@ -72,24 +72,24 @@ request_taken n i g some small =
 -- the same, as one piece more
 pub request_step : (blocks value : ℕ) (b : Option ℕ) (ended : Bool) (n i : ℕ) (g g' : Lcg) (d : Draw) (piece : List ℕ) (blocks' value' : ℕ) (b' : Option ℕ) →
     blocks ≡ 0 → b ≡ None → ended ≡ false → 0 < n → i < 2 ^ 32 → d ≡ draw g → g' ≡ after_draw g → piece ≡ request_head i d → blocks' ≡ sent_blocks d → value' ≡ i → b' ≡ burst_behind i d →
-    bytes_of (blocks_from blocks value) ++ (burst_bytes b ++ behind ended n i g) ≡ piece ++ (bytes_of (blocks_from blocks' value') ++ (burst_bytes b' ++ behind ended (n - 1) (i + 1) g'))
+    bytes_of (rising_blocks blocks value) ++ (burst_bytes b ++ behind ended n i g) ≡ piece ++ (bytes_of (rising_blocks blocks' value') ++ (burst_bytes b' ++ behind ended (n - 1) (i + 1) g'))
 request_step blocks value b ended n i g g' d piece blocks' value' b' none no_burst going some small drawn moved is sent valued order =
     no_block_left blocks value (burst_bytes b ++ behind ended n i g) none
     ∙ rw (no_burst, going, is, sent, valued, order, drawn, moved) (request_taken n i g some small)
 
 -- END
 pub end_taken : (blocks value : ℕ) (b : Option ℕ) (ended : Bool) (n i : ℕ) (g : Lcg) (piece : List ℕ) → blocks ≡ 0 → b ≡ None → ended ≡ false → n ≡ 0 → piece ≡ spelled frames.End →
-    bytes_of (blocks_from blocks value) ++ (burst_bytes b ++ behind ended n i g) ≡ piece ++ (bytes_of (blocks_from blocks value) ++ (burst_bytes b ++ []))
+    bytes_of (rising_blocks blocks value) ++ (burst_bytes b ++ behind ended n i g) ≡ piece ++ (bytes_of (rising_blocks blocks value) ++ (burst_bytes b ++ []))
 end_taken blocks value b ended n i g piece none no_burst going last is =
     no_block_left blocks value (burst_bytes b ++ behind ended n i g) none
     ∙ rw (no_burst, going, is, frames_from-none n i g last, blocks_from-none blocks value none) refl
 
 -- nothing is to come
 pub nothing_left : (blocks value : ℕ) (b : Option ℕ) (ended : Bool) (rest : List ℕ) → blocks ≡ 0 → b ≡ None → ended ≡ true →
-    bytes_of (blocks_from blocks value) ++ (burst_bytes b ++ (if ended then [] else rest)) ≡ []
+    bytes_of (rising_blocks blocks value) ++ (burst_bytes b ++ (if ended then [] else rest)) ≡ []
 nothing_left blocks value b ended rest none no_burst done = no_block_left blocks value (burst_bytes b ++ (if ended then [] else rest)) none ∙ rw (no_burst, done) refl
 
 -- all is to come
 pub all_ahead : (piece : List ℕ) (seed requests : ℕ) (g : Lcg) → piece ≡ magic One → g ≡ seeded seed →
-    drop 0 piece ++ (bytes_of (blocks_from 0 0) ++ (burst_bytes None ++ behind false requests 0 g)) ≡ generated seed requests
+    drop 0 piece ++ (bytes_of (rising_blocks 0 0) ++ (burst_bytes None ++ behind false requests 0 g)) ≡ generated seed requests
 all_ahead piece seed requests g is start = rw (is, start, blocks_from-none 0 0 refl) refl

@@ -5,7 +5,7 @@ use Rattle.satl_base.specs.Blocks.{bytes_of}
 use Rattle.satl_frame.specs.Frames.{request_fields}
 use Rattle.satl_frame.specs.Inputs.{all_spelled}
 use Rattle.satl_frame.specs.declared.frames.Frame.TheVariants as frames
-use Rattle.satl_gen.specs.Generated.{request_of, sent_blocks, blocks_from, burst, frames_from}
+use Rattle.satl_gen.specs.Generated.{request_of, sent_blocks, rising_blocks, burst, frames_from}
 use Rattle.satl_gen.specs.declared.ahead.Ahead.{Ahead}
 use Rattle.satl_gen.specs.declared.draw.Draw.{Draw}
 
@@ -25,5 +25,5 @@ burst_bytes (Some c) = all_spelled (burst c)
 -- blocks of a WRITE, a burst, and then requests and END, unless END was made (profile)
 abbrev pub bytes_ahead : Ahead → List ℕ
 bytes_ahead p =
-    bytes_of (blocks_from p.blocks p.value) ++ (burst_bytes p.burst
+    bytes_of (rising_blocks p.blocks p.value) ++ (burst_bytes p.burst
     ++ (if p.ended then [] else all_spelled (frames_from p.requests p.next p.generator ++ frames.End ∷ [])))

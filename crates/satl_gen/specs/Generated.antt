@@ -52,13 +52,13 @@ abbrev pub sent_blocks : Draw → ℕ
 sent_blocks d = if is_write d then 1 + d.c % 32 else 0
 
 -- a block whose bytes are all the same (profile)
-unfoldable pub block_of : ℕ → Block
-block_of value = record { bytes = replicate 512 (value % 256) }
+unfoldable pub block_full_of : ℕ → Block
+block_full_of value = record { bytes = replicate 512 (value % 256) }
 
 -- n blocks, each with the value that follows that of the block before it (profile)
-unfoldable pub blocks_from : ℕ → ℕ → List Block
-blocks_from zero value = []
-blocks_from (suc n) value = block_of value ∷ blocks_from n (value + 1)
+unfoldable pub rising_blocks : ℕ → ℕ → List Block
+rising_blocks zero value = []
+rising_blocks (suc n) value = block_full_of value ∷ rising_blocks n (value + 1)
 
 -- request i of nexus 0 to 3: one of sixteen is ORDERED, the tag is i, and block k of data-out has the value i + k (profile)
 abbrev pub request_of : ℕ → Draw → Request
@@ -68,7 +68,7 @@ request_of i d = record {
   lun = replicate 8 0;
   tag = record { 0 = i };
   cdb = cdb_bytes (drawn_command d);
-  body = blocks_from (sent_blocks d) i;
+  body = rising_blocks (sent_blocks d) i;
   data_len = 512 * sent_blocks d;
   expected = None;
 }

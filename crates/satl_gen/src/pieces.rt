@@ -4,7 +4,7 @@ ghost use Rattle.satl_frame.specs.Frames.{attr_code, spelled};
 ghost use Rattle.satl_frame.specs.Inputs.{all_spelled};
 ghost use Rattle.satl_frame.specs.declared.frames.Frame.TheVariants as frames;
 ghost use Rattle.satl_gen.specs.Coming.{request_head};
-ghost use Rattle.satl_gen.specs.Generated.{block_of, burst};
+ghost use Rattle.satl_gen.specs.Generated.{block_full_of, burst};
 
 use crate::draw::Draw;
 use arrayvec::ArrayVec;
@@ -25,9 +25,9 @@ pub fn piece_of(bytes: &[u8]) -> Piece
 }
 
 /// A block whose bytes are all the same.
-#[tactic(auto, unfolding(crate::specs::Generated::block_of))]
+#[tactic(auto, unfolding(crate::specs::Generated::block_full_of))]
 pub fn block_piece(value: u64) -> Piece
-    ensures { result.items ≡ (block_of value).bytes }
+    ensures { result.items ≡ (block_full_of value).bytes }
 {
     piece_of(&[(value % 256) as u8; 512])
 }

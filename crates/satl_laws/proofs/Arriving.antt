@@ -11,7 +11,7 @@ use Rattle.satl_cdb.specs.Table.{says}
 use Rattle.satl_unit.specs.declared.attention.Attention.{Attention}
 use Rattle.satl_direct.specs.Device.{Device, is_called}
 use Rattle.satl_direct.specs.Tasks.{asks, needed, range_of}
-use Rattle.satl_direct.specs.Arrival.{Arrival, arrival, asks_for, attention_arrival, attention_for, cdb_arrival, code_arrival, code_of, command_arrival, is_unit_0, other_arrival, unless_refused}
+use Rattle.satl_direct.specs.Arrival.{Arrival, arrival, asks_for, attention_arrival, attention_for, cdb_arrival, code_arrival, command_arrival, is_unit_0, operation_code, other_arrival, unless_refused}
 use Rattle.satl_laws.specs.ArrivalOrder.{writes_plainly}
 use Rattle.satl_laws.proofs.Bringing.{Gets, inquiry_unknown, refused, sense_unknown}
 use Rattle.satl_laws.proofs.Becoming.{becomes_gets, either_gets}
@@ -58,9 +58,9 @@ module _ (s : Device) (r : Request) where
     other_gets : Gets n has it r.body (other_arrival s r)
     other_gets =
         either_gets s r it (asks_for 0x12 r && not (bit 1 0 r.cdb)) _ _
-        (λ h. inquiry_unknown r.cdb s.identity.trim (eqb-true (code_of r) 0x12 (and_parts (asks_for 0x12 r) (not (bit 1 0 r.cdb)) h).0) r.body _)
+        (λ h. inquiry_unknown r.cdb s.identity.trim (eqb-true (operation_code r) 0x12 (and_parts (asks_for 0x12 r) (not (bit 1 0 r.cdb)) h).0) r.body _)
         (λ h. either_gets s r it (asks_for 0x03 r) _ _
-        (λ k. sense_unknown r.cdb s.identity.trim (eqb-true (code_of r) 0x03 k) r.body _)
+        (λ k. sense_unknown r.cdb s.identity.trim (eqb-true (operation_code r) 0x03 k) r.body _)
         (λ k. refused it r.body _ refl))
 
     -- what the request becomes

@@ -8,7 +8,7 @@ use Rattle.satl_base.specs.declared.bench.Which.TheVariants as flaws
 use Rattle.satl_base.specs.Cells.{Cell, Pair, change_at, first_flaw, first_set, has_flaw, put, put_at, whole}
 use Rattle.satl_base.specs.Losses.{Loses}
 use Rattle.satl_base.proofs.ListsLemmas.{All-weaken}
-use Rattle.satl_laws.specs.ArrivalOrder.{block_at}
+use Rattle.satl_laws.specs.ArrivalOrder.{read_at}
 
 -- a sector without flaws
 abbrev pub IsClean : Cell → Type 0
@@ -36,7 +36,7 @@ loses_clean (c ∷ cs) [] h all = absurd h
 loses_clean (c ∷ cs) (d ∷ ds) h all = ((h.0.read_flaw ∙ all.0.0, h.0.write_flaw ∙ all.0.1), loses_clean cs ds h.1 all.1)
 
 -- which leave what is read
-pub loses_seen : (a b : List Cell) (x : ℕ) → Loses a b → block_at b x ≡ block_at a x
+pub loses_seen : (a b : List Cell) (x : ℕ) → Loses a b → read_at b x ≡ read_at a x
 loses_seen [] [] x h = refl
 loses_seen [] (d ∷ ds) x h = absurd h
 loses_seen (c ∷ cs) [] x h = absurd h

@@ -8,7 +8,7 @@ use Rattle.satl_frame.specs.declared.frames.Frame.{Frame}
 use Rattle.satl_frame.specs.Output.{Answer}
 use Rattle.satl_line.specs.declared.entry.Entry.{Entry}
 use Rattle.satl_direct.specs.Device.{Device, is_called}
-use Rattle.satl_laws.specs.ArrivalOrder.{block_at, was_done}
+use Rattle.satl_laws.specs.ArrivalOrder.{read_at, was_done}
 use Rattle.satl_laws.specs.OnceEach.{answers_to, asks_by}
 use Rattle.satl_laws.proofs.Given.{AllRight}
 use Rattle.satl_laws.proofs.Items.{AreSorted, IsWell, Item, held, waiting}
@@ -26,7 +26,7 @@ module _ (first : Device) where
 
   -- what a sector holds by these requests
   abbrev pub holds : List Item → ℕ → Block
-  holds items x = held trim x (block_at first.cells x) items
+  holds items x = held trim x (read_at first.cells x) items
 
   -- one that was answered with GOOD has acted
   abbrev pub IsSure : List Answer → Item → Type 0
@@ -45,7 +45,7 @@ module _ (first : Device) where
     pub counts : (nexus tag : ℕ) → how_many (answers_to nexus tag) answers + how_many (is_called nexus tag) tasks ≤ how_many (asks_by nexus tag) events
     pub well : AllByRecursion (IsWell trim sectors) items
     pub sorted : (x : ℕ) → x < sectors → AreSorted trim x items
-    pub stands : (x : ℕ) → x < sectors → Stands x (block_at cells x) (holds items x) tasks
+    pub stands : (x : ℕ) → x < sectors → Stands x (read_at cells x) (holds items x) tasks
     pub sure : AllByRecursion (IsSure answers) items
     pub only : faithful ≡ true → AllByRecursion (IsOnly answers) items
-    pub right : AllRight trim answers (block_at first.cells) (λ x. false) items
+    pub right : AllRight trim answers (read_at first.cells) (λ x. false) items

@@ -19,7 +19,7 @@ use Rattle.satl_frame.specs.Output.{Answer}
 use Rattle.satl_frame.specs.Output.Answer.{replied}
 use Rattle.satl_line.specs.declared.entry.Entry.{Entry}
 use Rattle.satl_direct.specs.Device.{Device}
-use Rattle.satl_laws.specs.ArrivalOrder.{IsGoodReply, IsReadOf, block_at, brought, is_done, is_good, was_done}
+use Rattle.satl_laws.specs.ArrivalOrder.{IsGoodReply, IsReadOf, brought, is_done, is_good, read_at, was_done}
 use Rattle.satl_laws.specs.OnceEach.{answers_to, asks_by}
 use Rattle.satl_laws.proofs.Arrivals.{IsTo}
 use Rattle.satl_laws.proofs.Bringing.{Answers}
@@ -72,11 +72,11 @@ module _ (first : Device) where
           omega (arith, o.counts nexus tag, named, how_many-append (answers_to nexus tag) answers (replied reply ∷ []), how_many-append (asks_by nexus tag) events (frames.Request r ∷ []));
       well = All-push_end (IsWell (trim first) (sectors first)) o.items mine o.well (record { waits = tt });
       sorted = λ x inside. sorted_push (trim first) x o.items mine (idle x) (o.sorted x inside);
-      stands = λ x inside. subst (λ h. Stands x (block_at cells x) h tasks) (sym (held-append (trim first) x (block_at first.cells x) o.items (mine ∷ []) ∙ idle x (holds first o.items x))) (o.stands x inside);
+      stands = λ x inside. subst (λ h. Stands x (read_at cells x) h tasks) (sym (held-append (trim first) x (read_at first.cells x) o.items (mine ∷ []) ∙ idle x (holds first o.items x))) (o.stands x inside);
       sure = All-push_end (IsSure first now) o.items mine (all_from IsOther (IsSure first answers) (IsSure first now) sure_other o.items apart o.sure) (λ h x. done_good r reply (sym its_own ∙ h));
       only = λ f. All-push_end (IsOnly first now) o.items mine (all_from IsOther (IsOnly first answers) (IsOnly first now) only_other o.items apart (o.only f)) (λ x good. its_own ∙ good_done r reply (reply_named r reply to.nexus to.tag) good);
-      right = right_push (trim first) now o.items mine (block_at first.cells) (λ x. false) mine_right
-          (right_on (trim first) answers now o.items (block_at first.cells) (block_at first.cells) (λ x. false) (λ x. false) (λ x h. (refl, h)) (All-weaken IsOther (IsTold (trim first) answers now) told_other o.items apart) o.right);
+      right = right_push (trim first) now o.items mine (read_at first.cells) (λ x. false) mine_right
+          (right_on (trim first) answers now o.items (read_at first.cells) (read_at first.cells) (λ x. false) (λ x. false) (λ x h. (refl, h)) (All-weaken IsOther (IsTold (trim first) answers now) told_other o.items apart) o.right);
     }
       where
         now : List Answer

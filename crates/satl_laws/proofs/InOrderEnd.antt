@@ -11,7 +11,7 @@ use Rattle.satl_frame.specs.declared.frames.Frame.{Frame}
 use Rattle.satl_frame.specs.declared.frames.Frame.TheVariants as frames
 use Rattle.satl_frame.specs.Output.{Answer}
 use Rattle.satl_direct.specs.Device.{Device}
-use Rattle.satl_laws.specs.ArrivalOrder.{IsGoodReply, block_at, was_done}
+use Rattle.satl_laws.specs.ArrivalOrder.{IsGoodReply, read_at, was_done}
 use Rattle.satl_laws.specs.OnceEach.{asks_by}
 use Rattle.satl_laws.proofs.InOrder.{InOrder, holds, trim}
 use Rattle.satl_laws.proofs.Names.{asks_self}
@@ -61,16 +61,16 @@ module _ (first last : Device) (events : List Frame) (answers : List Answer) (f 
   in_order_as acted acts all same = record {
     reads = λ before after r reply lba count place reads good.
         let k = placed_at o.items (requests_of before) r (requests_of after) (o.requests ∙ sym same ∙ ap requests_of place ∙ requests-append before (frames.Request r ∷ after)) in
-        let right = right_at (trim first) answers k.front k.back k.item (block_at first.cells) (λ x. false) (subst (AllRight (trim first) answers (block_at first.cells) (λ x. false)) k.split o.right) in
+        let right = right_at (trim first) answers k.front k.back k.item (read_at first.cells) (λ x. false) (subst (AllRight (trim first) answers (read_at first.cells) (λ x. false)) k.split o.right) in
         let g = right reply lba count (subst (λ q. IsReadOf (says q.cdb (trim first)) lba count) (sym k.is) reads) (subst (λ q. IsGoodReply q reply answers) (sym k.is) good) in
         g.blocks
-        ∙ range_same count lba (holds first k.front) (λ x. content (acted x) (trim first) x before (block_at first.cells x))
-        (λ x from to. sym (content_held (trim first) x (acted x) before k.front (block_at first.cells x) k.fronts
+        ∙ range_same count lba (holds first k.front) (λ x. content (acted x) (trim first) x before (read_at first.cells x))
+        (λ x from to. sym (content_held (trim first) x (acted x) before k.front (read_at first.cells x) k.fronts
         (all_front (λ i. acted x i.request ≡ i.acted x) k.front k.back k.item (subst (AllByRecursion (λ i. acted x i.request ≡ i.acted x)) k.split (acts x)))));
     writes = λ x c there.
         seen_get last.cells x c there
         ∙ ⊎_elim (λ is. is) (λ early. absurd early.eligible) (o.stands x (omega (arith, slice_get_within last.cells x c there, o.size)))
-        ∙ sym (content_held (trim first) x (acted x) all o.items (block_at first.cells x) (o.requests ∙ sym same) (acts x));
+        ∙ sym (content_held (trim first) x (acted x) all o.items (read_at first.cells x) (o.requests ∙ sym same) (acts x));
   }
 
   -- each acts as its item

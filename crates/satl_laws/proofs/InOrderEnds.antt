@@ -12,7 +12,7 @@ use Rattle.satl_line.specs.declared.entry.Entry.{Entry}
 use Rattle.satl_line.specs.Eligible.{IsEligible}
 use Rattle.satl_direct.specs.Device.{Device, is_called, without}
 use Rattle.satl_direct.specs.Turn.{OneEnds}
-use Rattle.satl_laws.specs.ArrivalOrder.{IsGoodReply, IsReadOf, block_at, is_done, is_good}
+use Rattle.satl_laws.specs.ArrivalOrder.{IsGoodReply, IsReadOf, is_done, is_good, read_at}
 use Rattle.satl_laws.specs.OnceEach.{answers_to, asks_by}
 use Rattle.satl_laws.proofs.Eligibles.{SplitAt, split_at, without_is}
 use Rattle.satl_laws.proofs.Ends.{eligible_in, ends_leaves}
@@ -71,16 +71,16 @@ module _ (first : Device) (events : List Frame) (answers : List Answer) (s new :
   abbrev sorted_here : (x : ℕ) → x < sectors first → AreSorted (trim first) x (in_front ++ its_item ∷ behind)
   sorted_here = sorted_at first events answers s.cells s.tasks faithful o once at.before at.later t at.split
 
-  abbrev stands_here : (x : ℕ) → x < sectors first → Stands x (block_at s.cells x) (holds first (in_front ++ its_item ∷ behind) x) (waiting in_front ++ t ∷ waiting behind)
+  abbrev stands_here : (x : ℕ) → x < sectors first → Stands x (read_at s.cells x) (holds first (in_front ++ its_item ∷ behind) x) (waiting in_front ++ t ∷ waiting behind)
   stands_here = stands_at first events answers s.cells s.tasks faithful o once at.before at.later t at.split
 
   -- what it leaves in a sector
-  leaves : (x : ℕ) → x < sectors first → (acted : Bool) × Leaves (trim first) (sectors first) x (block_at s.cells x) (block_at new.cells x) (block_at first.cells x) in_front behind its_item t (is_good reply.status) acted
+  leaves : (x : ℕ) → x < sectors first → (acted : Bool) × Leaves (trim first) (sectors first) x (read_at s.cells x) (read_at new.cells x) (read_at first.cells x) in_front behind its_item t (is_good reply.status) acted
   leaves x inside =
       ⊎_elim
-      (λ c. leaves_still (trim first) (sectors first) x (block_at s.cells x) (block_at new.cells x) (block_at first.cells x) in_front behind its_item t (is_good reply.status) it_awaits (sorted_here x inside) its_place.is
+      (λ c. leaves_still (trim first) (sectors first) x (read_at s.cells x) (read_at new.cells x) (read_at first.cells x) in_front behind its_item t (is_good reply.status) it_awaits (sorted_here x inside) its_place.is
       c.0 c.1 (λ el. none_before x) (stands_here x inside))
-      (λ c. leaves_done (trim first) (sectors first) x (block_at s.cells x) (block_at new.cells x) (block_at first.cells x) in_front behind its_item t (is_good reply.status) it_awaits (sorted_here x inside) its_place.is
+      (λ c. leaves_done (trim first) (sectors first) x (read_at s.cells x) (read_at new.cells x) (read_at first.cells x) in_front behind its_item t (is_good reply.status) it_awaits (sorted_here x inside) its_place.is
       c.0 c.1 (none_before x)
       (λ u el writes mine. alone first events answers s.cells s.tasks faithful o once at.before at.later t at.split eligible x (writer_fits (sectors first) t task_plain (and_parts (brings t.command) (spans t.command x) mine).0) (and_parts (brings t.command) (spans t.command x) mine).1 u (subst (λ ts. IsEligible ts u) all_tasks el) writes)
       (stands_here x inside))

@@ -9,7 +9,7 @@ use Rattle.satl_regs.specs.Sectors.{with_flaw}
 use Rattle.satl_frame.specs.declared.frames.Frame.{Frame}
 use Rattle.satl_frame.specs.Output.{Answer}
 use Rattle.satl_direct.specs.Device.{Device}
-use Rattle.satl_laws.specs.ArrivalOrder.{block_at}
+use Rattle.satl_laws.specs.ArrivalOrder.{read_at}
 use Rattle.satl_laws.proofs.InOrder.{InOrder, holds}
 use Rattle.satl_laws.proofs.InOrderSteps.{InOrderAt}
 use Rattle.satl_laws.proofs.Standing.{Stands}
@@ -42,7 +42,7 @@ module _ (first : Device) (exact : Bool) where
       p : InOrder first events answers s.cells s.tasks (exact && not s.down)
       p = o.order
 
-      unchanged : (cells : List Cell) (lba x : ℕ) → block_at (change_at cells lba f) x ≡ block_at cells x
+      unchanged : (cells : List Cell) (lba x : ℕ) → read_at (change_at cells lba f) x ≡ read_at cells x
       unchanged [] lba x = refl
       unchanged (c ∷ cs) zero zero = same c
       unchanged (c ∷ cs) zero (suc x) = refl

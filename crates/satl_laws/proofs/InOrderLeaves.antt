@@ -11,7 +11,7 @@ use Rattle.satl_frame.specs.declared.frames.Frame.{Frame}
 use Rattle.satl_frame.specs.Output.{Answer}
 use Rattle.satl_line.specs.declared.entry.Entry.{Entry}
 use Rattle.satl_direct.specs.Device.{Device, is_called}
-use Rattle.satl_laws.specs.ArrivalOrder.{IsGoodReply, IsReadOf, block_at, is_done, was_done}
+use Rattle.satl_laws.specs.ArrivalOrder.{IsGoodReply, IsReadOf, is_done, read_at, was_done}
 use Rattle.satl_laws.specs.OnceEach.{answers_to, asks_by}
 use Rattle.satl_direct.specs.Valid.{AreOwn}
 use Rattle.satl_laws.proofs.Cases.{how_many-append}
@@ -76,5 +76,5 @@ module _ (first : Device) where
       pub told_good : still_faithful ≡ true → good ≡ true → list_any (is_done item.request) more ≡ true
       pub whole : still_faithful ≡ true → (faithful ≡ true) × (brings t.command ≡ true → good ≡ true)
       pub size : length new ≡ length cells
-      pub leaves : (x : ℕ) → x < (sectors first) → (acted : Bool) × Leaves (trim first) (sectors first) x (block_at cells x) (block_at new x) (block_at first.cells x) place.front place.back item t good acted
+      pub leaves : (x : ℕ) → x < (sectors first) → (acted : Bool) × Leaves (trim first) (sectors first) x (read_at cells x) (read_at new x) (read_at first.cells x) place.front place.back item t good acted
       pub reads : (reply : Reply) (lba count : ℕ) → IsReadOf (says item.request.cdb (trim first)) lba count → IsGoodReply item.request reply more → GivesRight (trim first) (holds first place.front) (pending (λ x. false) place.front) reply lba count

@@ -17,7 +17,7 @@ use Rattle.satl_frame.specs.Output.{Answer}
 use Rattle.satl_frame.specs.Output.Answer.{replied}
 use Rattle.satl_line.specs.declared.entry.Entry.{Entry}
 use Rattle.satl_direct.specs.Device.{Device, is_called}
-use Rattle.satl_laws.specs.ArrivalOrder.{IsGoodReply, IsReadOf, block_at, is_done, was_done}
+use Rattle.satl_laws.specs.ArrivalOrder.{IsGoodReply, IsReadOf, is_done, read_at, was_done}
 use Rattle.satl_laws.specs.OnceEach.{answers_to, asks_by}
 use Rattle.satl_laws.proofs.Cases.{how_many-append}
 use Rattle.satl_laws.proofs.Given.{AllRight, GivesRight, IsTold, right_leave}
@@ -52,15 +52,15 @@ module _ (first : Device) where
       was_not_done = not_done first events answers cells tasks faithful o once before later t split
 
       -- it has settled
-      abbrev acting : HasSettled (trim first) (sectors first) (block_at cells) (block_at new) (block_at first.cells) its_place.front its_place.back its_item t good
-      acting = has_settled (trim first) (sectors first) (block_at cells) (block_at new) (block_at first.cells) its_place.front its_place.back its_item t good l.leaves
+      abbrev acting : HasSettled (trim first) (sectors first) (read_at cells) (read_at new) (read_at first.cells) its_place.front its_place.back its_item t good
+      acting = has_settled (trim first) (sectors first) (read_at cells) (read_at new) (read_at first.cells) its_place.front its_place.back its_item t good l.leaves
 
       abbrev its_end : Item
-      its_end = settled (trim first) (sectors first) (block_at cells) (block_at new) (block_at first.cells) its_place.front its_place.back its_item t good acting it_awaits
+      its_end = settled (trim first) (sectors first) (read_at cells) (read_at new) (read_at first.cells) its_place.front its_place.back its_item t good acting it_awaits
 
       -- where it writes no sector, it leaves what it did
       alike : (x : ℕ) (w : Block) → writes_at t x ≡ false → left (trim first) its_end x w ≡ left (trim first) its_item x w
-      alike = leaves_alike (trim first) (sectors first) (block_at cells) (block_at new) (block_at first.cells) its_place.front its_place.back its_item t good acting it_awaits
+      alike = leaves_alike (trim first) (sectors first) (read_at cells) (read_at new) (read_at first.cells) its_place.front its_place.back its_item t good acting it_awaits
 
       -- a request has another nexus or tag
       abbrev IsOther : Item → Type 0
@@ -119,20 +119,20 @@ module _ (first : Device) where
         well = all_replaced IsOther (IsWell (trim first) (sectors first)) (IsWell (trim first) (sectors first)) (λ k other well. well) its_place.front its_place.back its_item its_end others_apart.fronts others_apart.backs
             (all_in (IsWell (trim first) (sectors first)) o.well) (record { waits = tt });
         sorted = λ x inside. sorted_leave (trim first) x its_place.front its_place.back its_item its_end refl
-            (alike_or_clear (trim first) (sectors first) (block_at cells) (block_at new) (block_at first.cells) its_place.front its_place.back its_item t good acting it_awaits x inside)
+            (alike_or_clear (trim first) (sectors first) (read_at cells) (read_at new) (read_at first.cells) its_place.front its_place.back its_item t good acting it_awaits x inside)
             (subst (AreSorted (trim first) x) its_place.split (o.sorted x inside));
         stands = λ x inside.
-            subst (λ ts. Stands x (block_at new x) (holds first after_items x) ts) (ap (λ l. l ++ waiting its_place.back) its_place.fronts ∙ ap (λ l. before ++ l) its_place.backs)
-            (subst (λ h. Stands x (block_at new x) h (waiting its_place.front ++ waiting its_place.back)) (sym (held-append (trim first) x (block_at first.cells x) its_place.front (its_end ∷ its_place.back))) (acting.inside x inside).stands);
+            subst (λ ts. Stands x (read_at new x) (holds first after_items x) ts) (ap (λ l. l ++ waiting its_place.back) its_place.fronts ∙ ap (λ l. before ++ l) its_place.backs)
+            (subst (λ h. Stands x (read_at new x) h (waiting its_place.front ++ waiting its_place.back)) (sym (held-append (trim first) x (read_at first.cells x) its_place.front (its_end ∷ its_place.back))) (acting.inside x inside).stands);
         sure = all_replaced IsOther (IsSure first answers) (IsSure first (answers ++ more)) sure_other its_place.front its_place.back its_item its_end others_apart.fronts others_apart.backs
             (all_in (IsSure first answers) o.sure)
             (λ h x. acting.sure x (l.good_only its_item.request (sym (done_more its_item.request ∙ ap (λ b. b || list_any (is_done its_item.request) more) was_not_done) ∙ h)));
         only = λ f. all_replaced IsOther (IsOnly first answers) (IsOnly first (answers ++ more)) only_still its_place.front its_place.back its_item its_end others_apart.fronts others_apart.backs
             (all_in (IsOnly first answers) (o.only (l.whole f).0))
             (λ x h. done_more its_item.request ∙ ap (λ b. b || list_any (is_done its_item.request) more) was_not_done ∙ l.told_good f (⊎_elim (λ good_it. good_it) (l.whole f).1 (acting.only x h)));
-        right = right_leave (trim first) answers (answers ++ more) its_place.front its_place.back its_item its_end (block_at first.cells) (λ x. false) refl
+        right = right_leave (trim first) answers (answers ++ more) its_place.front its_place.back its_item its_end (read_at first.cells) (λ x. false) refl
             (λ x w none. alike x w (sym (ap (λ k. is_to_write k x) its_place.is) ∙ none))
             (All-weaken IsOther (IsTold (trim first) answers (answers ++ more)) told_other its_place.front others_apart.fronts)
             (All-weaken IsOther (IsTold (trim first) answers (answers ++ more)) told_other its_place.back others_apart.backs) read_settled
-            (subst (AllRight (trim first) answers (block_at first.cells) (λ x. false)) its_place.split o.right);
+            (subst (AllRight (trim first) answers (read_at first.cells) (λ x. false)) its_place.split o.right);
       }

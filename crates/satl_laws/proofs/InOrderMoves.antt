@@ -15,7 +15,7 @@ use Rattle.satl_frame.specs.Output.{Answer}
 use Rattle.satl_line.specs.declared.entry.Entry.{Entry}
 use Rattle.satl_line.specs.Eligible.{IsEligible}
 use Rattle.satl_direct.specs.Device.{Device}
-use Rattle.satl_laws.specs.ArrivalOrder.{block_at}
+use Rattle.satl_laws.specs.ArrivalOrder.{read_at}
 use Rattle.satl_direct.specs.Quiet.{MayShow, writes}
 use Rattle.satl_laws.proofs.Ends.{eligible_in}
 use Rattle.satl_laws.proofs.InOrder.{InOrder, holds, sectors, trim}
@@ -34,7 +34,7 @@ module _ (first : Device) where
     -- cells that stand
     record Standing (cells : List Cell) : Type 0 where
       pub size : length cells ≡ sectors first
-      pub stands : (x : ℕ) → x < sectors first → Stands x (block_at cells x) (hold x) tasks
+      pub stands : (x : ℕ) → x < sectors first → Stands x (read_at cells x) (hold x) tasks
 
     put_stands : (s : Device) (cells : List Cell) (t : Entry) (p : Pair) → IsEligible tasks t → IsIn p (writes s t) → Standing cells → Standing (put_at cells p)
     put_stands s cells t p el among k = record { size = change_at-length cells p.lba _ ∙ k.size; stands = λ x inside. go x inside (cases_eq p.lba x) }
@@ -49,10 +49,10 @@ module _ (first : Device) where
             decide true h = h
             decide false h = absurd (subst (IsIn p) (none_written t.command s t it.plain h) among)
 
-        go : (x : ℕ) → x < sectors first → (p.lba ≡ x) ⊎ (p.lba ≡ x → ⊥) → Stands x (block_at (put_at cells p) x) (hold x) tasks
+        go : (x : ℕ) → x < sectors first → (p.lba ≡ x) ⊎ (p.lba ≡ x → ⊥) → Stands x (read_at (put_at cells p) x) (hold x) tasks
         go x inside (inl same) =
             let mine = pair_of (sectors first) s t p (writer_fits (sectors first) t it writer) among in
-            let is : block_at (put_at cells p) x ≡ p.block = subst (λ y. block_at (put_at cells p) y ≡ p.block) same (put_seen cells p.lba p.block p.cached (omega (arith, same, inside, k.size))) in
+            let is : read_at (put_at cells p) x ≡ p.block = subst (λ y. read_at (put_at cells p) y ≡ p.block) same (put_seen cells p.lba p.block p.cached (omega (arith, same, inside, k.size))) in
             inr (record {
               task = t;
               eligible = el;

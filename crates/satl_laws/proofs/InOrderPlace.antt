@@ -13,7 +13,7 @@ use Rattle.satl_line.specs.declared.entry.Entry.{Entry}
 use Rattle.satl_line.specs.Conflict.{conflicts}
 use Rattle.satl_line.specs.Eligible.{IsEligible}
 use Rattle.satl_direct.specs.Device.{Device, is_called}
-use Rattle.satl_laws.specs.ArrivalOrder.{block_at, is_done}
+use Rattle.satl_laws.specs.ArrivalOrder.{is_done, read_at}
 use Rattle.satl_laws.specs.OnceEach.{answers_to, asks_by}
 use Rattle.satl_direct.specs.Quiet.{writes}
 use Rattle.satl_laws.proofs.InOrder.{InOrder, holds, sectors, trim}
@@ -72,8 +72,8 @@ module _ (first : Device) (events : List Frame) (answers : List Answer) (cells :
   pub sorted_at : (x : ℕ) → x < sectors first → AreSorted (trim first) x (front ++ one_item ∷ back)
   sorted_at x inside = subst (AreSorted (trim first) x) its_place.split (o.sorted x inside)
 
-  pub stands_at : (x : ℕ) → x < sectors first → Stands x (block_at cells x) (holds first (front ++ one_item ∷ back) x) (waiting front ++ t ∷ waiting back)
-  stands_at x inside = subst (λ ts. Stands x (block_at cells x) (holds first (front ++ one_item ∷ back) x) ts) (sym tasks_at) (subst (λ l. Stands x (block_at cells x) (holds first l x) tasks) its_place.split (o.stands x inside))
+  pub stands_at : (x : ℕ) → x < sectors first → Stands x (read_at cells x) (holds first (front ++ one_item ∷ back) x) (waiting front ++ t ∷ waiting back)
+  stands_at x inside = subst (λ ts. Stands x (read_at cells x) (holds first (front ++ one_item ∷ back) x) ts) (sym tasks_at) (subst (λ l. Stands x (read_at cells x) (holds first l x) tasks) its_place.split (o.stands x inside))
 
   -- ---- it leaves, and nothing changes
 
@@ -89,7 +89,7 @@ module _ (first : Device) (events : List Frame) (answers : List Answer) (cells :
         told_good = λ f. absurd cc;
         whole = λ f. absurd cc;
         size = refl;
-        leaves = λ x inside. leaves_still (trim first) (sectors first) x (block_at cells x) (block_at cells x) (block_at first.cells x) front back one_item t false
+        leaves = λ x inside. leaves_still (trim first) (sectors first) x (read_at cells x) (read_at cells x) (read_at first.cells x) front back one_item t false
             (awaits first events answers cells tasks faithful o once before later t split) (sorted_at x inside) its_place.is refl refl
             (λ el. clear x (subst (λ ts. IsEligible ts t) tasks_at el)) (stands_at x inside);
         reads = λ other lba count is_read g. absurd (let no : true ≡ false = sym g.done ∙ none_in (is_done one_item.request) more (replied other) (bad one_item.request) g.among in cc);

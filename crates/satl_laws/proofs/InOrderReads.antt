@@ -13,7 +13,7 @@ use Rattle.satl_line.specs.declared.entry.Entry.{Entry}
 use Rattle.satl_line.specs.Eligible.{IsEligible}
 use Rattle.satl_direct.specs.Device.{Device}
 use Rattle.satl_direct.specs.Tasks.{range_of}
-use Rattle.satl_laws.specs.ArrivalOrder.{IsReadOf, block_at, brought}
+use Rattle.satl_laws.specs.ArrivalOrder.{IsReadOf, brought, read_at}
 use Rattle.satl_laws.specs.OnceEach.{asks_by}
 use Rattle.satl_laws.proofs.Ends.{eligible_in}
 use Rattle.satl_laws.proofs.Given.{GivesRight}
@@ -64,10 +64,10 @@ module _ (first : Device) (events : List Frame) (answers : List Answer) (cells :
       sorted_of (i ∷ items) k = sorted_of items k.1
 
   -- a sector that it reads holds what the requests before it left
-  reads_held : (x : ℕ) → x < sectors first → gives t.command ≡ true → spans t.command x ≡ true → block_at cells x ≡ holds first in_front x
+  reads_held : (x : ℕ) → x < sectors first → gives t.command ≡ true → spans t.command x ≡ true → read_at cells x ≡ holds first in_front x
   reads_held x inside g has =
       ⊎_elim
-      (λ is. is ∙ held-append (trim first) x (block_at first.cells x) in_front (its_item ∷ behind) ∙ none_behind x inside g has (holds first in_front x))
+      (λ is. is ∙ held-append (trim first) x (read_at first.cells x) in_front (its_item ∷ behind) ∙ none_behind x inside g has (holds first in_front x))
       (λ early. absurd (reads_only t.command g
       (ap (λ u. brings u.command) (sym (alone x (reader_fits (sectors first) t task_plain g) has early.task
       (subst (λ ts. IsEligible ts early.task) (tasks_at first events answers cells tasks faithful o once before later t split) early.eligible) early.writes_it))
@@ -88,7 +88,7 @@ module _ (first : Device) (events : List Frame) (answers : List Answer) (cells :
             ∙ ap (λ k. nows cells k (range_of t.command).count) r.1
             ∙ ap (λ k. nows cells lba k) r.2
             ∙ nows_seen lba count cells (omega (arith, fits.inside, r.1, r.2, o.size))
-            ∙ range_same count lba (block_at cells) (holds first in_front) (λ x from to. reads_held x (omega (arith, fits.inside, r.1, r.2, to)) r.0 (has x from to));
+            ∙ range_same count lba (read_at cells) (holds first in_front) (λ x from to. reads_held x (omega (arith, fits.inside, r.1, r.2, to)) r.0 (has x from to));
         settled = λ x from to. pending_none (λ y. false) in_front x refl
             (none_to_write (trim first) (sectors first) x t fits (has x from to) in_front (free first events answers cells tasks faithful o once before later t split eligible)
             (well_front first events answers cells tasks faithful o once before later t split));

@@ -16,7 +16,7 @@ use Rattle.satl_frame.specs.Output.Answer.{replied}
 use Rattle.satl_direct.specs.Device.{Device, is_called}
 use Rattle.satl_direct.specs.Arrival.{Arrival, Arrives, ArrivesAs, arrival}
 use Rattle.satl_direct.specs.Arrival.Arrival.{answered, attended, overlaps, waits}
-use Rattle.satl_laws.specs.ArrivalOrder.{block_at, is_done, is_plain, stops_or_starts, was_done, writes_plainly}
+use Rattle.satl_laws.specs.ArrivalOrder.{is_done, is_plain, read_at, stops_or_starts, was_done, writes_plainly}
 use Rattle.satl_laws.specs.OnceEach.{answers_to, asks_by}
 use Rattle.satl_laws.specs.OrderUnderErrors.{is_mild}
 use Rattle.satl_laws.proofs.Arrivals.{IsFor, IsTo, arrival_for}
@@ -56,7 +56,7 @@ module _ (first : Device) (exact : Bool) where
       stands = p.stands;
       sure = All-weaken (IsSure first answers) (IsSure first now) (λ k sure h. sure (sym (same k.request) ∙ h)) p.items p.sure;
       only = λ f. All-weaken (IsOnly first answers) (IsOnly first now) (λ k only x h. same k.request ∙ only x h) p.items (p.only f);
-      right = right_on (trim first) answers now p.items (block_at first.cells) (block_at first.cells) (λ x. false) (λ x. false) (λ x h. (refl, h)) (told p.items) p.right;
+      right = right_on (trim first) answers now p.items (read_at first.cells) (read_at first.cells) (λ x. false) (λ x. false) (λ x h. (refl, h)) (told p.items) p.right;
     };
     calm = o.calm;
     steady = o.steady;

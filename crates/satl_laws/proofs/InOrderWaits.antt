@@ -12,7 +12,7 @@ use Rattle.satl_frame.specs.Output.Answer.{replied}
 use Rattle.satl_line.specs.declared.entry.Entry.{Entry}
 use Rattle.satl_line.specs.Eligible.{IsEligible}
 use Rattle.satl_direct.specs.Device.{Device, is_called}
-use Rattle.satl_laws.specs.ArrivalOrder.{block_at, is_done, writes_plainly}
+use Rattle.satl_laws.specs.ArrivalOrder.{is_done, read_at, writes_plainly}
 use Rattle.satl_laws.specs.OnceEach.{asks_by}
 use Rattle.satl_laws.proofs.Arrivals.{IsOf}
 use Rattle.satl_laws.proofs.Bringing.{Waits}
@@ -48,11 +48,11 @@ module _ (first : Device) where
       well = All-push_end (IsWell (trim first) (sectors first)) o.items mine o.well
           (record { waits = record { idle = λ x. refl; nexus = of.nexus; tag = of.tag; says_it = it.says_it; leaves = it.leaves; plain = sym (ap writes_plainly it.says_it) ∙ plain; fits = it.fits } });
       sorted = λ x inside. sorted_push (trim first) x o.items mine (λ w. refl) (o.sorted x inside);
-      stands = λ x inside. subst (λ h. Stands x (block_at cells x) h (tasks ++ task ∷ [])) (sym (held-append (trim first) x (block_at first.cells x) o.items (mine ∷ [])))
+      stands = λ x inside. subst (λ h. Stands x (read_at cells x) h (tasks ++ task ∷ [])) (sym (held-append (trim first) x (read_at first.cells x) o.items (mine ∷ [])))
           (⊎_elim (λ is. inl is) (λ early. inr (record { task = early.task; eligible = eligible_push tasks (task ∷ []) early.task early.eligible; writes_it = early.writes_it; is = early.is })) (o.stands x inside));
       sure = All-push_end (IsSure first answers) o.items mine o.sure (λ h x. let no : true ≡ false = sym h ∙ (not_done first events answers cells tasks faithful r o unasked) in absurd cc);
       only = λ f. All-push_end (IsOnly first answers) o.items mine (o.only f) (λ x h. absurd cc);
-      right = right_push (trim first) answers o.items mine (block_at first.cells) (λ x. false)
+      right = right_push (trim first) answers o.items mine (read_at first.cells) (λ x. false)
           (λ q lba count reads g. let no : true ≡ false = sym g.done ∙ none_in (is_done r) answers (replied q) (not_done first events answers cells tasks faithful r o unasked) g.among in absurd cc) o.right;
     }
       where

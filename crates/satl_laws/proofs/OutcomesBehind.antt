@@ -15,7 +15,7 @@ use Rattle.satl_laws.specs.ArrivalOrder.{IsGoodReply}
 use Rattle.satl_direct.specs.Run.{Run}
 use Rattle.satl_direct.specs.Tasks.{is_ordered}
 use Rattle.satl_direct.specs.Turn.{OneEnds}
-use Rattle.satl_laws.specs.Scenes.{AreApart, at_work, reads_sector_0, writes_both_sectors, writes_sector_0}
+use Rattle.satl_laws.specs.Scenes.{DifferInNexusOrTag, at_work, reads_sector_0, writes_both_sectors, writes_sector_0}
 use Rattle.satl_laws.proofs.Ends.{Leaves, ends_leaves}
 use Rattle.satl_laws.proofs.GoodTurns.{GoodTurn, IsDoneBy, done_by, good_turn, may_still, same_name}
 
@@ -35,7 +35,7 @@ write_conflicts w v = ordered_or_met (is_ordered w.attr) (is_ordered v.attr)
 
 module _ (write other : Request) (a b : Cell) (s last : Device) (losses : ℕ) (answers : List Answer) (reply : Reply) where
   -- so the second does not end in the first turn
-  none_passes : (second : Entry) → conflicts (writes_sector_0 write) second ≡ true → AreApart write other →
+  none_passes : (second : Entry) → conflicts (writes_sector_0 write) second ≡ true → DifferInNexusOrTag write other →
       Run (at_work a b (writes_sector_0 write ∷ second ∷ []) s) (frames.Turn 1 ∷ []) losses answers last → IsGoodReply other reply answers → ⊥
   none_passes second conflict apart run good =
       ⊎_elim
@@ -59,10 +59,10 @@ module _ (write other : Request) (a b : Cell) (s last : Device) (losses : ℕ) (
       l : Leaves turn.before one.task reply (turn.good).mid
       l = ends_leaves turn.before (turn.good).mid one.task reply one.ends
 
-  pub no_read_passes : AreApart write other →
+  pub no_read_passes : DifferInNexusOrTag write other →
       Run (at_work a b (writes_sector_0 write ∷ reads_sector_0 other ∷ []) s) (frames.Turn 1 ∷ []) losses answers last → IsGoodReply other reply answers → ⊥
   no_read_passes = none_passes (reads_sector_0 other) (read_conflicts write other)
 
-  pub no_write_passes : AreApart write other →
+  pub no_write_passes : DifferInNexusOrTag write other →
       Run (at_work a b (writes_sector_0 write ∷ writes_both_sectors other ∷ []) s) (frames.Turn 1 ∷ []) losses answers last → IsGoodReply other reply answers → ⊥
   no_write_passes = none_passes (writes_both_sectors other) (write_conflicts write other)

@@ -11,12 +11,12 @@ use Rattle.satl_frame.specs.Output.{Answer}
 use Rattle.satl_direct.specs.Device.{Device, is_called}
 use Rattle.satl_laws.specs.OnceEach.{answers_to, asks_by}
 use Rattle.satl_direct.specs.Run.{Run}
-use Rattle.satl_laws.specs.Scenes.{AreApart, AreTurns, at_work, reads_sector_0}
+use Rattle.satl_laws.specs.Scenes.{AreTurns, DifferInNexusOrTag, at_work, reads_sector_0}
 use Rattle.satl_laws.proofs.Counts.{run_counts}
 use Rattle.satl_laws.proofs.GoodTurns.{same_name}
 
 -- two requests are apart both ways
-apart_back : (a b : Request) → AreApart a b → AreApart b a
+apart_back : (a b : Request) → DifferInNexusOrTag a b → DifferInNexusOrTag b a
 apart_back a b h = decide ((b.nexus == a.nexus) && ((b.tag).0 == (a.tag).0)) refl
   where
     decide : (c : Bool) → ((b.nexus == a.nexus) && ((b.tag).0 == (a.tag).0)) ≡ c → ((b.nexus == a.nexus) && ((b.tag).0 == (a.tag).0)) ≡ false
@@ -55,12 +55,12 @@ answers_few nexus tag first last turns losses answers are few run =
 
 module _ (p q : Request) (a b : Cell) (s last : Device) (turns : Frame) (losses : ℕ) (answers : List Answer) where
   -- each of the two is answered once at most
-  pub first_once : AreApart p q → AreTurns turns → Run (at_work a b (reads_sector_0 p ∷ reads_sector_0 q ∷ []) s) (turns ∷ []) losses answers last → how_many (answers_to p.nexus (p.tag).0) answers ≤ 1
+  pub first_once : DifferInNexusOrTag p q → AreTurns turns → Run (at_work a b (reads_sector_0 p ∷ reads_sector_0 q ∷ []) s) (turns ∷ []) losses answers last → how_many (answers_to p.nexus (p.tag).0) answers ≤ 1
   first_once apart are =
       answers_few p.nexus (p.tag).0 (at_work a b (reads_sector_0 p ∷ reads_sector_0 q ∷ []) s) last turns losses answers are
       (few_first (is_called p.nexus (p.tag).0 (reads_sector_0 p)) (is_called p.nexus (p.tag).0 (reads_sector_0 q)) (apart_back p q apart))
 
-  pub second_once : AreApart p q → AreTurns turns → Run (at_work a b (reads_sector_0 p ∷ reads_sector_0 q ∷ []) s) (turns ∷ []) losses answers last → how_many (answers_to q.nexus (q.tag).0) answers ≤ 1
+  pub second_once : DifferInNexusOrTag p q → AreTurns turns → Run (at_work a b (reads_sector_0 p ∷ reads_sector_0 q ∷ []) s) (turns ∷ []) losses answers last → how_many (answers_to q.nexus (q.tag).0) answers ≤ 1
   second_once apart are =
       answers_few q.nexus (q.tag).0 (at_work a b (reads_sector_0 p ∷ reads_sector_0 q ∷ []) s) last turns losses answers are
       (few_second (is_called q.nexus (q.tag).0 (reads_sector_0 p)) (is_called q.nexus (q.tag).0 (reads_sector_0 q)) apart)

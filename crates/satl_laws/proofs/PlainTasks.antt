@@ -8,7 +8,7 @@ use Rattle.satl_cdb.specs.declared.command.Command.{Command}
 use Rattle.satl_cdb.specs.declared.command.Command.TheVariants as commands
 use Rattle.satl_line.specs.declared.entry.Entry.{Entry}
 use Rattle.satl_direct.specs.Device.{Device}
-use Rattle.satl_laws.specs.ArrivalOrder.{block_at, writes_plainly}
+use Rattle.satl_laws.specs.ArrivalOrder.{read_at, writes_plainly}
 use Rattle.satl_laws.specs.Untouched.{now_at}
 use Rattle.satl_direct.specs.Quiet.{written_by}
 use Rattle.satl_laws.proofs.Coming.{WritesItsOwn}
@@ -27,14 +27,14 @@ own_alone (commands.Pass cdb) plain = absurd cc
 own_alone c plain = tt
 
 -- what is read is the same where the sectors' blocks are
-pub same_block : (old new : List Cell) (x : ℕ) → now_at new x ≡ now_at old x → block_at new x ≡ block_at old x
+pub same_block : (old new : List Cell) (x : ℕ) → now_at new x ≡ now_at old x → read_at new x ≡ read_at old x
 same_block old new x h = is_block_in new x ∙ ap block_in h ∙ sym (is_block_in old x)
   where
     block_in : Option Block → Block
     block_in None = no_block
     block_in (Some v) = v
 
-    is_block_in : (cells : List Cell) (x : ℕ) → block_at cells x ≡ block_in (now_at cells x)
+    is_block_in : (cells : List Cell) (x : ℕ) → read_at cells x ≡ block_in (now_at cells x)
     is_block_in [] x = refl
     is_block_in (c ∷ cs) zero = refl
     is_block_in (c ∷ cs) (suc x) = is_block_in cs x

@@ -17,7 +17,7 @@ use Rattle.satl_line.specs.Ending.{EndsAs, Outcome}
 use Rattle.satl_line.specs.Ending.Outcome.{ends_done, ends_flawed, ends_glitched}
 use Rattle.satl_direct.specs.Device.{Device}
 use Rattle.satl_direct.specs.Ending.{Ends, EndsBy, IsChecked, outcome_reply}
-use Rattle.satl_laws.specs.ArrivalOrder.{block_at, is_good, writes_plainly}
+use Rattle.satl_laws.specs.ArrivalOrder.{is_good, read_at, writes_plainly}
 use Rattle.satl_laws.specs.Untouched.{Spares}
 use Rattle.satl_direct.specs.Quiet.{writes, written_by}
 use Rattle.satl_direct.specs.Tasks.{asks, over, range_of}
@@ -63,8 +63,8 @@ module _ (s new : Device) (t : Entry) (reply : Reply) where
   -- a sector holds what it held, where the task does not end with GOOD; or what the task leaves
   abbrev pub Changed : ℕ → Type 0
   Changed x =
-      ((is_good reply.status ≡ false) × (block_at new.cells x ≡ block_at s.cells x))
-      ⊎ (((is_good reply.status ≡ true) ⊎ (brings t.command ≡ true)) × (block_at new.cells x ≡ after t x (block_at s.cells x)))
+      ((is_good reply.status ≡ false) × (read_at new.cells x ≡ read_at s.cells x))
+      ⊎ (((is_good reply.status ≡ true) ⊎ (brings t.command ≡ true)) × (read_at new.cells x ≡ after t x (read_at s.cells x)))
 
   module _ (n : ℕ) (plain : writes_plainly (Ok t.command) ≡ true) (fits : gives t.command || brings t.command ≡ true → Transfers n t) (e : Ends s t reply new) where
     pub ends_size : length new.cells ≡ length s.cells
@@ -80,23 +80,23 @@ module _ (s new : Device) (t : Entry) (reply : Reply) where
 
     -- written in part: at each sector all or nothing
     part_at : (x : ℕ) (pairs : List Pair) (cells : List Cell) → x < length cells → ((p : Pair) → IsIn p pairs → IsItsOwn t.command t p) → Part cells pairs new.cells
-        → (block_at new.cells x ≡ block_at cells x) ⊎ (block_at new.cells x ≡ after t x (block_at cells x))
-    part_at x [] cells inside its is = inl (ap (λ c. block_at c x) is)
+        → (read_at new.cells x ≡ read_at cells x) ⊎ (read_at new.cells x ≡ after t x (read_at cells x))
+    part_at x [] cells inside its is = inl (ap (λ c. read_at c x) is)
     part_at x (p ∷ ps) cells inside its h =
         ⊎_elim
         (λ out. part_at x ps cells inside (λ q i. its q (inr i)) out)
         (λ put. shown (cases_eq p.lba x) (part_at x ps (put_at cells p) (subst (λ k. x < k) (sym (change_at-length cells p.lba _)) inside) (λ q i. its q (inr i)) put))
         h
       where
-        shown : (p.lba ≡ x) ⊎ (p.lba ≡ x → ⊥) → (block_at new.cells x ≡ block_at (put_at cells p) x) ⊎ (block_at new.cells x ≡ after t x (block_at (put_at cells p) x))
-            → (block_at new.cells x ≡ block_at cells x) ⊎ (block_at new.cells x ≡ after t x (block_at cells x))
+        shown : (p.lba ≡ x) ⊎ (p.lba ≡ x → ⊥) → (read_at new.cells x ≡ read_at (put_at cells p) x) ⊎ (read_at new.cells x ≡ after t x (read_at (put_at cells p) x))
+            → (read_at new.cells x ≡ read_at cells x) ⊎ (read_at new.cells x ≡ after t x (read_at cells x))
         shown (inl same) k =
             let it = its p (inl refl) in
             let is : (v : Block) → after t x v ≡ p.block = λ v. subst (λ y. after t y v ≡ p.block) same (it.leaves_it v) in
-            let here : block_at (put_at cells p) x ≡ p.block = subst (λ y. block_at (put_at cells p) y ≡ p.block) same (put_seen cells p.lba p.block p.cached (subst (λ y. y < length cells) (sym same) inside)) in
-            inr (⊎_elim (λ q. q ∙ here) (λ q. q ∙ is (block_at (put_at cells p) x)) k ∙ sym (is (block_at cells x)))
+            let here : read_at (put_at cells p) x ≡ p.block = subst (λ y. read_at (put_at cells p) y ≡ p.block) same (put_seen cells p.lba p.block p.cached (subst (λ y. y < length cells) (sym same) inside)) in
+            inr (⊎_elim (λ q. q ∙ here) (λ q. q ∙ is (read_at (put_at cells p) x)) k ∙ sym (is (read_at cells x)))
         shown (inr other) k =
-            let here : block_at (put_at cells p) x ≡ block_at cells x = put_elsewhere cells p.lba x p.block p.cached other in
+            let here : read_at (put_at cells p) x ≡ read_at cells x = put_elsewhere cells p.lba x p.block p.cached other in
             ⊎_elim (λ q. inl (q ∙ here)) (λ q. inr (q ∙ ap (after t x) here)) k
 
     -- a WRITE
@@ -109,10 +109,10 @@ module _ (s new : Device) (t : Entry) (reply : Reply) where
         transfers = fits (ap (λ q. gives t.command || q) b ∙ or-true (gives t.command))
 
         checked : {sense : Sense} → IsChecked sense s t reply new → Changed x
-        checked k = let w = checked_writes t.command _ k in inl (w.0, ap (λ c. block_at c x) w.1)
+        checked k = let w = checked_writes t.command _ k in inl (w.0, ap (λ c. read_at c x) w.1)
 
         written : WriteEnds t.command → Changed x
-        written (inl d) = inr (inl d.0, ap (λ c. block_at c x) d.1 ∙ written_seen n s t s.cells x transfers inside)
+        written (inl d) = inr (inl d.0, ap (λ c. read_at c x) d.1 ∙ written_seen n s t s.cells x transfers inside)
         written (inr f) = ⊎_elim (λ same. inl (f.0, same)) (λ all. inr (inr b, all)) (part_at x (writes s t) s.cells inside (λ p i. pair_of n s t p transfers i) f.1)
 
     -- any such command
@@ -121,11 +121,11 @@ module _ (s new : Device) (t : Entry) (reply : Reply) where
         by_test (λ b. brings t.command ≡ b → Changed x) (brings t.command)
         (λ yes h. write_changes x inside h)
         (λ no h. by_test (λ g. is_good reply.status ≡ g → Changed x) (is_good reply.status)
-        (λ good k. inr (inl k, kept h ∙ sym (still t x (block_at s.cells x) (and_left (brings t.command) (spans t.command x) h))))
+        (λ good k. inr (inl k, kept h ∙ sym (still t x (read_at s.cells x) (and_left (brings t.command) (spans t.command x) h))))
         (λ bad k. inl (k, kept h)) refl)
         refl
       where
-        kept : brings t.command ≡ false → block_at new.cells x ≡ block_at s.cells x
+        kept : brings t.command ≡ false → read_at new.cells x ≡ read_at s.cells x
         kept none =
             let r = ends_reach s new t reply e in
             let spared : Spares x r.pairs = r.spared x (own_alone t.command plain) (subst (Spares x) (sym (none_written t.command s t plain none)) refl) in

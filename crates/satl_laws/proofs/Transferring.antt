@@ -12,7 +12,7 @@ use Rattle.satl_line.specs.declared.entry.Entry.{Entry}
 use Rattle.satl_line.specs.declared.entry.Kind.TheVariants.{Ranged}
 use Rattle.satl_line.specs.Conflict.{access_of, accesses_conflict, any_meet, conflicts, is_write, ranges_meet}
 use Rattle.satl_direct.specs.Device.{Device}
-use Rattle.satl_laws.specs.ArrivalOrder.{IsReadOf, block_at, brought}
+use Rattle.satl_laws.specs.ArrivalOrder.{IsReadOf, brought, read_at}
 use Rattle.satl_direct.specs.Quiet.{writes, written_by}
 use Rattle.satl_direct.specs.Tasks.{range_of}
 use Rattle.satl_laws.proofs.Seen.{by_test, in_row, row_seen, within, within_from, within_to}
@@ -108,12 +108,12 @@ clash n t u x a b one h k =
 -- ---- what a task writes
 
 -- what a READ or a WRITE writes is what it leaves
-by_seen : (c : Command) (s : Device) (t : Entry) (cells : List Cell) (x : ℕ) → gives c || brings c ≡ true → length t.body ≤ (range_of c).count → x < length cells → block_at (whole cells (written_by c s t)) x ≡ brought (Ok c) t.body x (block_at cells x)
+by_seen : (c : Command) (s : Device) (t : Entry) (cells : List Cell) (x : ℕ) → gives c || brings c ≡ true → length t.body ≤ (range_of c).count → x < length cells → read_at (whole cells (written_by c s t)) x ≡ brought (Ok c) t.body x (read_at cells x)
 by_seen (commands.Read form lba count fua) s t cells x h fits inside = refl
 by_seen (commands.Write form lba count fua) s t cells x h fits inside = row_seen t.body lba count x (s.modes.wce && not fua) cells fits inside
 by_seen c s t cells x h fits inside = absurd cc
 
-pub written_seen : (n : ℕ) (s : Device) (t : Entry) (cells : List Cell) (x : ℕ) → Transfers n t → x < length cells → block_at (whole cells (writes s t)) x ≡ after t x (block_at cells x)
+pub written_seen : (n : ℕ) (s : Device) (t : Entry) (cells : List Cell) (x : ℕ) → Transfers n t → x < length cells → read_at (whole cells (writes s t)) x ≡ after t x (read_at cells x)
 written_seen n s t cells x a inside = by_seen t.command s t cells x a.either a.fits inside
 
 -- a pair of a task is the block that it leaves there

@@ -61,8 +61,8 @@ content acted trim x [] was = was
 content acted trim x (event ∷ events) was = content acted trim x events (block_after acted trim x event was)
 
 -- what a read of a sector gives, and no block past the last (SBC-3)
-abbrev pub block_at : List Cell → ℕ → Block
-block_at cells x = get_or (map (λ c. c.now) cells) x no_block
+abbrev pub read_at : List Cell → ℕ → Block
+read_at cells x = get_or (map (λ c. c.now) cells) x no_block
 
 -- a READ of a range (SBC-3 5.10)
 abbrev pub IsReadOf : Result Command Illegal → ℕ → ℕ → Type 0
@@ -83,10 +83,10 @@ pub record IsInOrder (acted : ℕ → Request → Bool) (first : Device) (all : 
   pub reads : (before after : List Frame) (r : Request) (reply : Reply) (lba count : ℕ)
       → all ≡ before ++ frames.Request r ∷ after → IsReadOf (says r.cdb first.identity.trim) lba count →
       IsGoodReply r reply answers
-      → reply.body ≡ map (λ x. content (acted x) first.identity.trim x before (block_at first.cells x))
+      → reply.body ≡ map (λ x. content (acted x) first.identity.trim x before (read_at first.cells x))
       (addresses_from lba count)
   pub writes : (x : ℕ) (c : Cell) → slice_get last.cells x ≡ Some c
-      → c.now ≡ content (acted x) first.identity.trim x all (block_at first.cells x)
+      → c.now ≡ content (acted x) first.identity.trim x all (read_at first.cells x)
 
 -- whether a CDB changes no block but as a WRITE does: it is no WRITE SAME, UNMAP or ATA PASS-THROUGH (SBC-3 5; SAT-3 12.2)
 abbrev pub writes_plainly : Result Command Illegal → Bool

@@ -43,8 +43,8 @@ abbrev pub flushes : Request → Entry
 flushes r = task_for false r (commands.Flush forms.Ten 0 0)
 
 -- two requests of different nexus or tag (SAM-5 4.7, I_T_L_Q nexus)
-abbrev pub AreApart : Request → Request → Type 0
-AreApart a b = ((a.nexus == b.nexus) && ((a.tag).0 == (b.tag).0)) ≡ false
+abbrev pub DifferInNexusOrTag : Request → Request → Type 0
+DifferInNexusOrTag a b = ((a.nexus == b.nexus) && ((a.tag).0 == (b.tag).0)) ≡ false
 
 -- TURN, or END, which takes turns until no task is left (profile)
 abbrev pub AreTurns : Frame → Type 0

@@ -14,12 +14,12 @@ ghost use Rattle.satl_laws.specs.ArrivalOrder.{IsGoodReply};
 ghost use Rattle.satl_laws.specs.OnceEach.{answers_to};
 ghost use Rattle.satl_laws.specs.Untouched.{now_at};
 ghost use Rattle.satl_direct.specs.Run.{Run};
-ghost use Rattle.satl_laws.specs.Scenes.{AreApart, AreTurns, at_work, cached, flushes, reads_sector_0, writes_both_sectors, writes_sector_0};
+ghost use Rattle.satl_laws.specs.Scenes.{AreTurns, DifferInNexusOrTag, at_work, cached, flushes, reads_sector_0, writes_both_sectors, writes_sector_0};
 
 /// Where a WRITE of a sector waits, and then a READ of it, one turn never ends the READ with GOOD (SAM-5 8; profile).
 pub fn no_read_passes_an_earlier_write()
     ensures { (write read : Request) (a b : Cell) (s last : Device) (losses : ℕ) (answers : List Answer) (reply : Reply)
-        → AreApart write read →
+        → DifferInNexusOrTag write read →
         Run (at_work a b (writes_sector_0 write ∷ reads_sector_0 read ∷ []) s) (frames.Turn 1 ∷ []) losses answers last →
         IsGoodReply read reply answers → ⊥ }
 {}
@@ -28,7 +28,7 @@ pub fn no_read_passes_an_earlier_write()
 /// profile).
 pub fn no_write_passes_an_earlier_write()
     ensures { (first second : Request) (a b : Cell) (s last : Device) (losses : ℕ) (answers : List Answer) (reply : Reply)
-        → AreApart first second →
+        → DifferInNexusOrTag first second →
         Run (at_work a b (writes_sector_0 first ∷ writes_both_sectors second ∷ []) s) (frames.Turn 1 ∷ []) losses answers last →
         IsGoodReply second reply answers → ⊥ }
 {}
@@ -36,12 +36,12 @@ pub fn no_write_passes_an_earlier_write()
 /// Where two READs wait, turns never answer one of them twice (SAM-5 5).
 pub fn no_neighbour_is_answered_twice()
     ensures first { (first second : Request) (a b : Cell) (s last : Device) (turns : Frame) (losses : ℕ) (answers : List Answer)
-        → AreApart first second →
+        → DifferInNexusOrTag first second →
         AreTurns turns →
         Run (at_work a b (reads_sector_0 first ∷ reads_sector_0 second ∷ []) s) (turns ∷ []) losses answers last →
         how_many (answers_to first.nexus (first.tag).0) answers ≤ 1 }
     ensures second { (first second : Request) (a b : Cell) (s last : Device) (turns : Frame) (losses : ℕ)
-        (answers : List Answer) → AreApart first second →
+        (answers : List Answer) → DifferInNexusOrTag first second →
         AreTurns turns →
         Run (at_work a b (reads_sector_0 first ∷ reads_sector_0 second ∷ []) s) (turns ∷ []) losses answers last →
         how_many (answers_to second.nexus (second.tag).0) answers ≤ 1 }

@@ -1,6 +1,6 @@
 -- What slots hold as tasks come and go.
-use Rattle.std.proofs.Common.{◌≡◌, refl, sym, ◌∙◌, ap, subst, ℕ, zero, suc, ◌+◌, ◌-◌, ◌*◌, ◌%◌, ◌<◌, ◌≤◌, ◌^◌, Bool, true, false, cond, List, [], ◌∷◌, ◌++◌, Option, Some, None, map, length, take, drop, get_or, set, arith, append_assoc, add-one, ◌⊎◌, ⊎_elim, inl, inr, bit_or}
-use Rattle.std.specs.Prelude.{not, nat_lt, ◌==◌, ◌||◌, ◌&&◌, if◌then◌else◌, is_some, slice_get, unwrap_or, replicate}
+use Rattle.std.proofs.Common.{◌≡◌, refl, sym, ◌∙◌, ap, subst, ℕ, zero, suc, ◌+◌, ◌-◌, ◌*◌, ◌%◌, ◌<◌, ◌≤◌, ◌^◌, Bool, true, false, cond, List, [], ◌∷◌, ◌++◌, Option, Some, map, length, take, drop, get_or, set, arith, append_assoc, add-one, ◌⊎◌, ⊎_elim, inl, inr, bit_or}
+use Rattle.std.specs.Prelude.{not, nat_lt, ◌==◌, ◌||◌, ◌&&◌, if◌then◌else◌, slice_get, unwrap_or, replicate}
 use Rattle.std.specs.Option.{option_map}
 use Rattle.std.specs.List.{list_any, AllByRecursion, remove, position_from}
 use Rattle.std.specs.Int.Bits.{and_zero_l}
@@ -14,10 +14,11 @@ use Rattle.std.proofs.lemmas.Option.{slice_get-get_or, slice_get_past}
 use Rattle.std.proofs.lemmas.Bool.{eq-eqb, eqb-true, eqb-false, ltb-true, ltb-false, lt-ltb, le-ltb, and_right, ne_eqb}
 use Rattle.std.proofs.lemmas.List.{get_or-set_same, get_or-set_other, length-append, length-map, map-append, append-nil, get_or_default}
 use Rattle.satl_line.specs.declared.entry.Entry.{Entry}
+use Rattle.satl_line.specs.Blank.{no_entry}
 use Rattle.satl_line.specs.Conflict.{access_of, accesses_conflict, conflicts}
 use Rattle.satl_line.specs.Eligible.{eligible_at, is_clear_by}
 use Rattle.satl_line.specs.Tasks.{AreOwnSlots, AreMasks, is_barred_from, entries_of, Held, count_of, slots_of, total_blocks, entry_at, Adds, with_body, change_task}
-use Rattle.satl_line.specs.Layout.{Mark, mark_of, is_marked, IsMask, HaveMasks, IsMasked, clear_bit, cleared, entry_or, held_in, tasks_in, IsFilled, IsSound, is_unbarred_at}
+use Rattle.satl_line.specs.Layout.{SlotAccess, mark_of, is_marked, IsMask, HaveMasks, IsMasked, clear_bit, cleared, held_in, tasks_in, FitTogether, is_unbarred_at}
 use Rattle.satl_line.proofs.MasksLemmas.{bit, HasNot, AreSmall, is_struck, zero_mask, are_removed, are_added, get_or-cleared, mask_more_yes, mask_more_no}
 
 -- ---- counts
@@ -79,31 +80,25 @@ position_from-map f p i (x ∷ xs) = ap (λ r. cond (p (f x)) (Some i) r) (posit
 
 -- ---- the tasks in slots
 
-pub slots_of_tasks : (slots : List (Option Entry)) (order : List ℕ) → slots_of (tasks_in slots order) ≡ order
+pub slots_of_tasks : (slots : List Entry) (order : List ℕ) → slots_of (tasks_in slots order) ≡ order
 slots_of_tasks slots [] = refl
 slots_of_tasks slots (q ∷ qs) = ap (λ r. q ∷ r) (slots_of_tasks slots qs)
 
 -- a slot that no task has may be written
-pub tasks_set_other : (slots : List (Option Entry)) (s : ℕ) (x : Option Entry) (order : List ℕ) → count_of s order ≡ 0 → tasks_in (set slots s x) order ≡ tasks_in slots order
+pub tasks_set_other : (slots : List Entry) (s : ℕ) (x : Entry) (order : List ℕ) → count_of s order ≡ 0 → tasks_in (set slots s x) order ≡ tasks_in slots order
 tasks_set_other slots s x [] h = refl
 tasks_set_other slots s x (q ∷ qs) h =
     let out = head_out s q (count_of s qs) h in
-    ap (λ v. record { slot = q; entry = entry_or v } ∷ tasks_in (set slots s x) qs) (get_or-set_other slots s q x None (eqb-false q s out.0))
+    ap (λ v. record { slot = q; entry = v } ∷ tasks_in (set slots s x) qs) (get_or-set_other slots s q x no_entry (eqb-false q s out.0))
     ∙ ap (λ r. held_in slots q ∷ r) (tasks_set_other slots s x qs out.1)
 
-pub filled_set_other : (slots : List (Option Entry)) (s : ℕ) (x : Option Entry) (order : List ℕ) → count_of s order ≡ 0 → AllByRecursion (IsFilled slots) order → AllByRecursion (IsFilled (set slots s x)) order
-filled_set_other slots s x [] h k = tt
-filled_set_other slots s x (q ∷ qs) h k =
-    let out = head_out s q (count_of s qs) h in
-    ((k.0.0, ap is_some (get_or-set_other slots s q x None (eqb-false q s out.0)) ∙ k.0.1), filled_set_other slots s x qs out.1 k.1)
-
-pub has_not : (slots : List (Option Entry)) (s : ℕ) (order : List ℕ) → count_of s order ≡ 0 → HasNot s (map mark_of (tasks_in slots order))
+pub has_not : (slots : List Entry) (s : ℕ) (order : List ℕ) → count_of s order ≡ 0 → HasNot s (map mark_of (tasks_in slots order))
 has_not slots s [] h = tt
 has_not slots s (q ∷ qs) h = let out = head_out s q (count_of s qs) h in (out.0, has_not slots s qs out.1)
 
-pub are_small : (slots : List (Option Entry)) (order : List ℕ) → AllByRecursion (IsFilled slots) order → AreSmall (map mark_of (tasks_in slots order))
+pub are_small : (slots : List Entry) (order : List ℕ) → AllByRecursion (λ q. q < 64) order → AreSmall (map mark_of (tasks_in slots order))
 are_small slots [] h = tt
-are_small slots (q ∷ qs) h = (h.0.0, are_small slots qs h.1)
+are_small slots (q ∷ qs) h = (h.0, are_small slots qs h.1)
 
 pub total-append : (xs ys : List Held) → total_blocks (xs ++ ys) ≡ total_blocks xs + total_blocks ys
 total-append [] ys = omega arith
@@ -115,7 +110,7 @@ pub struck_map : (held : List Held) (e : Entry) → is_struck (map mark_of held)
 struck_map [] e = refl
 struck_map (h ∷ hs) e = ap (λ b. conflicts h.entry e || b) (struck_map hs e)
 
-small-append : (xs ys : List Mark) → AreSmall xs → AreSmall ys → AreSmall (xs ++ ys)
+small-append : (xs ys : List SlotAccess) → AreSmall xs → AreSmall ys → AreSmall (xs ++ ys)
 small-append xs ys h k = All-append (λ u. u.slot < 64) xs ys h k
 
 eligible_from : (earlier tasks : List Held) (masks : List ℕ) (k : ℕ) → AreSmall (map mark_of earlier) → AreSmall (map mark_of tasks) → HaveMasks (map mark_of earlier) (map mark_of tasks) masks → get_or masks (get_or (slots_of tasks) k 0) 0 < 2 ^ 64 → k < length tasks →
@@ -132,53 +127,53 @@ eligible_from earlier (h ∷ hs) masks (suc k) small_earlier small are fits lt =
     (ap (λ l. l ++ take k (entries_of hs)) (map-append (λ held. held.entry) earlier (h ∷ [])) ∙ append_assoc (entries_of earlier) (h.entry ∷ []) (take k (entries_of hs)))
 
 -- the mask of the task at a place is 0 exactly where the task is eligible
-pub eligible_is : (slots : List (Option Entry)) (order seen masks : List ℕ) (tasks : List Held) (k : ℕ) → seen ≡ order → tasks_in slots order ≡ tasks → AllByRecursion (IsFilled slots) order → IsMasked (tasks_in slots order) masks → get_or masks (get_or seen k 0) 0 < 2 ^ 64 → k < length tasks →
+pub eligible_is : (slots : List Entry) (order seen masks : List ℕ) (tasks : List Held) (k : ℕ) → seen ≡ order → tasks_in slots order ≡ tasks → AllByRecursion (λ q. q < 64) order → IsMasked (tasks_in slots order) masks → get_or masks (get_or seen k 0) 0 < 2 ^ 64 → k < length tasks →
     (get_or masks (get_or seen k 0) 0 == 0) ≡ eligible_at (entries_of tasks) k
-eligible_is slots order seen masks tasks k same is filled are fits lt =
+eligible_is slots order seen masks tasks k same is taken are fits lt =
     let seen_is : seen ≡ slots_of tasks = same ∙ sym (slots_of_tasks slots order) ∙ ap slots_of is in
     ap (λ l. get_or masks (get_or l k 0) 0 == 0) seen_is
-    ∙ eligible_from [] tasks masks k tt (subst (λ l. AreSmall (map mark_of l)) is (are_small slots order filled)) (subst (λ l. HaveMasks [] (map mark_of l) masks) is are.full)
+    ∙ eligible_from [] tasks masks k tt (subst (λ l. AreSmall (map mark_of l)) is (are_small slots order taken)) (subst (λ l. HaveMasks [] (map mark_of l) masks) is are.full)
     (subst (λ l. get_or masks (get_or l k 0) 0 < 2 ^ 64) seen_is fits) lt
 
 -- ---- a task leaves
 
 -- the counts of the slot of a task
-alone : (slots : List (Option Entry)) (front : List ℕ) (s : ℕ) (back free masks : List ℕ) (blocks : ℕ) → IsSound slots (front ++ s ∷ back) free masks blocks → s < 64 → (count_of s front ≡ 0) × (count_of s back ≡ 0)
+alone : (slots : List Entry) (front : List ℕ) (s : ℕ) (back free masks : List ℕ) (blocks : ℕ) → FitTogether slots (front ++ s ∷ back) free masks blocks → s < 64 → (count_of s front ≡ 0) × (count_of s back ≡ 0)
 alone slots front s back free masks blocks h small =
     let e = count-append s front (s ∷ back) in
     let o = h.once s small in
     let one : count_of s (s ∷ back) ≡ 1 + count_of s back = rw (eq-eqb s s refl) (omega arith) in
     (omega (arith, e, o, one), omega (arith, e, o, one))
 
-pub sound_without : (slots : List (Option Entry)) (front : List ℕ) (s : ℕ) (back free masks : List ℕ) (blocks : ℕ) (e : Entry) → IsSound slots (front ++ s ∷ back) free masks blocks → get_or slots s None ≡ Some e →
-    IsSound (set slots s None) (front ++ back) (free ++ s ∷ []) (cleared masks s) (blocks - e.blocks)
-    × (tasks_in (set slots s None) (front ++ back) ≡ tasks_in slots (front ++ back)) × (e.blocks ≤ blocks)
-sound_without slots front s back free masks blocks e h is =
-    let at : IsFilled slots s = (All-right (IsFilled slots) front (s ∷ back) h.filled).0 in
-    let out = alone slots front s back free masks blocks h at.0 in
+pub sound_without : (slots : List Entry) (front : List ℕ) (s : ℕ) (back free masks : List ℕ) (blocks : ℕ) (e other : Entry) → FitTogether slots (front ++ s ∷ back) free masks blocks → get_or slots s no_entry ≡ e →
+    FitTogether (set slots s other) (front ++ back) (free ++ s ∷ []) (cleared masks s) (blocks - e.blocks)
+    × (tasks_in (set slots s other) (front ++ back) ≡ tasks_in slots (front ++ back)) × (e.blocks ≤ blocks)
+sound_without slots front s back free masks blocks e other h is =
+    let at : s < 64 = (All-right (λ q. q < 64) front (s ∷ back) h.taken).0 in
+    let out = alone slots front s back free masks blocks h at in
     let none : count_of s (front ++ back) ≡ 0 = omega (arith, count-append s front back, out.0, out.1) in
-    let same : tasks_in (set slots s None) (front ++ back) ≡ tasks_in slots (front ++ back) = tasks_set_other slots s None (front ++ back) none in
-    let filled : AllByRecursion (IsFilled slots) (front ++ back) = All-append (IsFilled slots) front back (All-left (IsFilled slots) front (s ∷ back) h.filled) (All-right (IsFilled slots) front (s ∷ back) h.filled).1 in
+    let same : tasks_in (set slots s other) (front ++ back) ≡ tasks_in slots (front ++ back) = tasks_set_other slots s other (front ++ back) none in
+    let taken : AllByRecursion (λ q. q < 64) (front ++ back) = All-append (λ q. q < 64) front back (All-left (λ q. q < 64) front (s ∷ back) h.taken) (All-right (λ q. q < 64) front (s ∷ back) h.taken).1 in
     let parts : map mark_of (tasks_in slots (front ++ s ∷ back)) ≡ map mark_of (tasks_in slots front) ++ mark_of (held_in slots s) ∷ map mark_of (tasks_in slots back)
     = ap (map mark_of) (map-append (held_in slots) front (s ∷ back)) ∙ map-append mark_of (tasks_in slots front) (tasks_in slots (s ∷ back)) in
     let whole : map mark_of (tasks_in slots (front ++ back)) ≡ map mark_of (tasks_in slots front) ++ map mark_of (tasks_in slots back)
     = ap (map mark_of) (map-append (held_in slots) front back) ∙ map-append mark_of (tasks_in slots front) (tasks_in slots back) in
     let full : HaveMasks [] (map mark_of (tasks_in slots front) ++ map mark_of (tasks_in slots back)) (cleared masks s)
-    = are_removed (map mark_of (tasks_in slots front)) (mark_of (held_in slots s)) (map mark_of (tasks_in slots back)) masks at.0 (has_not slots s front out.0) (has_not slots s back out.1)
+    = are_removed (map mark_of (tasks_in slots front)) (mark_of (held_in slots s)) (map mark_of (tasks_in slots back)) masks at (has_not slots s front out.0) (has_not slots s back out.1)
     (subst (λ l. HaveMasks [] l masks) parts h.masked.full) in
     let blocks_is : total_blocks (tasks_in slots (front ++ back)) + e.blocks ≡ blocks
     = sum_out (tasks_in slots front) (held_in slots s) (tasks_in slots back) (tasks_in slots (front ++ back)) (tasks_in slots (front ++ s ∷ back)) e blocks
-    (map-append (held_in slots) front back) (map-append (held_in slots) front (s ∷ back)) (ap entry_or is) h.total in (
+    (map-append (held_in slots) front back) (map-append (held_in slots) front (s ∷ back)) is h.total in (
       record {
-        room = length-set slots s None ∙ h.room;
+        room = length-set slots s other ∙ h.room;
         wide = length-set (map (clear_bit s) masks) s 0 ∙ length-map masks (clear_bit s) ∙ h.wide;
-        filled = filled_set_other slots s None (front ++ back) none filled;
-        small = All-append (λ q. q < 64) free (s ∷ []) h.small (at.0, tt);
+        taken = taken;
+        small = All-append (λ q. q < 64) free (s ∷ []) h.small (at, tt);
         once = λ q lt. omega (arith, h.once q lt, count-append q front (s ∷ back), count-append q front back, count-append q free (s ∷ []));
         count = omega (arith, h.count, length-append front (s ∷ back), length-append front back, length-append free (s ∷ []));
         masked = record {
           full = subst (λ l. HaveMasks [] (map mark_of l) (cleared masks s)) (sym same) (subst (λ l. HaveMasks [] l (cleared masks s)) (sym whole) full);
-          empty = λ q gone. empty_out q (ap (count_of q) (sym (slots_of_tasks (set slots s None) (front ++ back))) ∙ gone);
+          empty = λ q gone. empty_out q (ap (count_of q) (sym (slots_of_tasks (set slots s other) (front ++ back))) ∙ gone);
         };
         total = ap total_blocks same ∙ omega (arith, blocks_is);
         few = omega (arith, h.few);
@@ -198,7 +193,7 @@ sound_without slots front s back free masks blocks e h is =
     empty_out q gone =
         (elim (q == s) as (λ b. (q == s) ≡ b → get_or (cleared masks s) q 0 ≡ 0) [
           | true ↦ λ i. subst (λ r. get_or (cleared masks s) r 0 ≡ 0) (sym (eqb-true q s i)) (get_or-set_same (map (clear_bit s) masks) s 0 0
-              (let at : IsFilled slots s = (All-right (IsFilled slots) front (s ∷ back) h.filled).0 in omega (arith, at.0, length-map masks (clear_bit s), h.wide)))
+              (let at : s < 64 = (All-right (λ q. q < 64) front (s ∷ back) h.taken).0 in omega (arith, at, length-map masks (clear_bit s), h.wide)))
           | false ↦ λ i. get_or-cleared masks s q i ∙ ap (clear_bit s) (h.masked.empty q (
               ap (count_of q) (slots_of_tasks slots (front ++ s ∷ back)) ∙ (let o : count_of q (s ∷ []) ≡ 0 = count_other q s i in
               omega (arith, gone, o, count-append q front (s ∷ back), count-append q front back)))) ∙ and_zero_l (bit_not w64 (1 * 2 ^ s % 2 ^ 64))
@@ -206,30 +201,30 @@ sound_without slots front s back free masks blocks e h is =
 
 -- ---- a task comes
 
-pub sound_with : (slots : List (Option Entry)) (order free : List ℕ) (s : ℕ) (masks : List ℕ) (blocks mask : ℕ) (e : Entry) → IsSound slots order (free ++ s ∷ []) masks blocks → blocks + e.blocks ≤ 32768 → IsMask (map mark_of (tasks_in slots order)) (access_of e) mask →
-    IsSound (set slots s (Some e)) (order ++ s ∷ []) free (set masks s mask) (blocks + e.blocks)
-    × (tasks_in (set slots s (Some e)) (order ++ s ∷ []) ≡ tasks_in slots order ++ record { slot = s; entry = e } ∷ []) × (s < 64) × (count_of s order ≡ 0)
+pub sound_with : (slots : List Entry) (order free : List ℕ) (s : ℕ) (masks : List ℕ) (blocks mask : ℕ) (e : Entry) → FitTogether slots order (free ++ s ∷ []) masks blocks → blocks + e.blocks ≤ 32768 → IsMask (map mark_of (tasks_in slots order)) (access_of e) mask →
+    FitTogether (set slots s e) (order ++ s ∷ []) free (set masks s mask) (blocks + e.blocks)
+    × (tasks_in (set slots s e) (order ++ s ∷ []) ≡ tasks_in slots order ++ record { slot = s; entry = e } ∷ []) × (s < 64) × (count_of s order ≡ 0)
 sound_with slots order free s masks blocks mask e h fits is =
     let small : s < 64 = (All-right (λ q. q < 64) free (s ∷ []) h.small).0 in
     let none : count_of s order ≡ 0 = omega (arith, h.once s small, count-append s free (s ∷ []), count_one s) in
-    let here : get_or (set slots s (Some e)) s None ≡ Some e = get_or-set_same slots s (Some e) None (omega (arith, h.room)) in
-    let before : tasks_in (set slots s (Some e)) order ≡ tasks_in slots order = tasks_set_other slots s (Some e) order none in
-    let last : held_in (set slots s (Some e)) s ≡ record { slot = s; entry = e } = ap (λ o. record { slot = s; entry = entry_or o }) here in
-    let tasks : tasks_in (set slots s (Some e)) (order ++ s ∷ []) ≡ tasks_in slots order ++ record { slot = s; entry = e } ∷ []
-    = map-append (held_in (set slots s (Some e))) order (s ∷ []) ∙ ap (λ l. l ++ held_in (set slots s (Some e)) s ∷ []) before ∙ ap (λ x. tasks_in slots order ++ x ∷ []) last in
+    let here : get_or (set slots s e) s no_entry ≡ e = get_or-set_same slots s e no_entry (omega (arith, h.room)) in
+    let before : tasks_in (set slots s e) order ≡ tasks_in slots order = tasks_set_other slots s e order none in
+    let last : held_in (set slots s e) s ≡ record { slot = s; entry = e } = ap (λ o. record { slot = s; entry = o }) here in
+    let tasks : tasks_in (set slots s e) (order ++ s ∷ []) ≡ tasks_in slots order ++ record { slot = s; entry = e } ∷ []
+    = map-append (held_in (set slots s e)) order (s ∷ []) ∙ ap (λ l. l ++ held_in (set slots s e) s ∷ []) before ∙ ap (λ x. tasks_in slots order ++ x ∷ []) last in
     let marks : map mark_of (tasks_in slots order ++ record { slot = s; entry = e } ∷ []) ≡ map mark_of (tasks_in slots order) ++ record { slot = s; access = access_of e } ∷ []
     = map-append mark_of (tasks_in slots order) (record { slot = s; entry = e } ∷ []) in (
       record {
-        room = length-set slots s (Some e) ∙ h.room;
+        room = length-set slots s e ∙ h.room;
         wide = length-set masks s mask ∙ h.wide;
-        filled = All-append (IsFilled (set slots s (Some e))) order (s ∷ []) (filled_set_other slots s (Some e) order none h.filled) ((small, ap is_some here), tt);
+        taken = All-append (λ q. q < 64) order (s ∷ []) h.taken (small, tt);
         small = All-left (λ q. q < 64) free (s ∷ []) h.small;
         once = λ q lt. omega (arith, h.once q lt, count-append q order (s ∷ []), count-append q free (s ∷ []));
         count = omega (arith, h.count, length-append order (s ∷ []), length-append free (s ∷ []));
         masked = record {
           full = subst (λ l. HaveMasks [] (map mark_of l) (set masks s mask)) (sym tasks) (subst (λ l. HaveMasks [] l (set masks s mask)) (sym marks)
               (are_added (map mark_of (tasks_in slots order)) (record { slot = s; access = access_of e }) masks mask (omega (arith, h.wide)) (has_not slots s order none) h.masked.full is));
-          empty = λ q gone. empty_in q (ap (count_of q) (sym (slots_of_tasks (set slots s (Some e)) (order ++ s ∷ []))) ∙ gone);
+          empty = λ q gone. empty_in q (ap (count_of q) (sym (slots_of_tasks (set slots s e) (order ++ s ∷ []))) ∙ gone);
         };
         total = ap total_blocks tasks ∙ omega (arith, total-append (tasks_in slots order) (record { slot = s; entry = e } ∷ []), h.total);
         few = fits;
@@ -248,66 +243,75 @@ sound_with slots order free s masks blocks mask e h fits is =
 
 -- ---- the steps as the code takes them
 
-pub record Leaves (tasks : List Held) (place : ℕ) (e : Entry) (slots' : List (Option Entry)) (order' free' masks' : List ℕ) (blocks : ℕ) : Type 0 where
-  pub sound : IsSound slots' order' free' masks' (blocks - e.blocks)
+pub record Leaves (tasks : List Held) (place : ℕ) (e : Entry) (slots' : List Entry) (order' free' masks' : List ℕ) (blocks : ℕ) : Type 0 where
+  pub sound : FitTogether slots' order' free' masks' (blocks - e.blocks)
   pub rest : tasks_in slots' order' ≡ remove tasks place
   pub value : entry_at tasks place ≡ Some e
   pub less : e.blocks ≤ blocks
 
 -- the entry at a place lies in the slot of that place
-pub entry_at_is : (slots : List (Option Entry)) (order : List ℕ) (place s : ℕ) (e : Entry) → place < length order → s ≡ get_or order place s → get_or slots s None ≡ Some e → entry_at (tasks_in slots order) place ≡ Some e
+pub entry_at_is : (slots : List Entry) (order : List ℕ) (place s : ℕ) (e : Entry) → place < length order → s ≡ get_or order place s → get_or slots s no_entry ≡ e → entry_at (tasks_in slots order) place ≡ Some e
 entry_at_is slots order place s e lt at is =
     ap (option_map (λ h. h.entry)) (slice_get-get_or (tasks_in slots order) place (held_in slots s) (omega (arith, length-map order (held_in slots))))
     ∙ ap (λ h. Some h.entry) (get_or-map (held_in slots) order place s)
-    ∙ ap (λ q. Some (entry_or (get_or slots q None))) (sym at)
-    ∙ ap (λ o. Some (entry_or o)) is
+    ∙ ap (λ q. Some (get_or slots q no_entry)) (sym at)
+    ∙ ap Some is
 
-pub leaves : (slots : List (Option Entry)) (order free masks : List ℕ) (blocks : ℕ) (tasks : List Held) (place s : ℕ) (seen x : Option Entry) (e : Entry) (order' free' masks' : List ℕ) →
-    IsSound slots order free masks blocks → tasks_in slots order ≡ tasks → place < length tasks → s ≡ get_or order place s → seen ≡ get_or slots s seen → seen ≡ Some e → x ≡ None →
-    order' ≡ remove order place → free' ≡ free ++ s ∷ [] → masks' ≡ cleared masks s → Leaves tasks place e (set slots s x) order' free' masks' blocks
-leaves slots order free masks blocks tasks place s seen x e order' free' masks' sound is lt at seen_is some none order_is free_is masks_is =
+pub leaves : (slots : List Entry) (order free masks : List ℕ) (blocks : ℕ) (tasks : List Held) (place s : ℕ) (seen other e : Entry) (order' free' masks' : List ℕ) →
+    FitTogether slots order free masks blocks → tasks_in slots order ≡ tasks → place < length tasks → s ≡ get_or order place s → seen ≡ get_or slots s seen → e ≡ seen →
+    order' ≡ remove order place → free' ≡ free ++ s ∷ [] → masks' ≡ cleared masks s → Leaves tasks place e (set slots s other) order' free' masks' blocks
+leaves slots order free masks blocks tasks place s seen other e order' free' masks' sound is lt at seen_is e_is order_is free_is masks_is =
     let within : place < length order = omega (arith, length-map order (held_in slots), ap length is) in
-    let filled : IsFilled slots s = subst (IsFilled slots) (sym at) (All-at (IsFilled slots) order place s within sound.filled) in
-    let here : get_or slots s None ≡ Some e = get_or_default slots s None seen (omega (arith, filled.0, sound.room)) ∙ sym seen_is ∙ some in
+    let small : s < 64 = subst (λ q. q < 64) (sym at) (All-at (λ q. q < 64) order place s within sound.taken) in
+    let here : get_or slots s no_entry ≡ e = get_or_default slots s no_entry seen (omega (arith, small, sound.room)) ∙ sym seen_is ∙ sym e_is in
     let order_parts : order ≡ take place order ++ s ∷ drop (suc place) order = parted order place s within ∙ ap (λ q. take place order ++ q ∷ drop (suc place) order) (sym at) in
-    let r = sound_without slots (take place order) s (drop (suc place) order) free masks blocks e (subst (λ l. IsSound slots l free masks blocks) order_parts sound) here in
-    let tasks_is : tasks_in (set slots s None) (remove order place) ≡ remove tasks place = r.1 ∙ remove-map (held_in slots) order place ∙ ap (λ l. remove l place) is in
+    let r = sound_without slots (take place order) s (drop (suc place) order) free masks blocks e other (subst (λ l. FitTogether slots l free masks blocks) order_parts sound) here in
+    let tasks_is : tasks_in (set slots s other) (remove order place) ≡ remove tasks place = r.1 ∙ remove-map (held_in slots) order place ∙ ap (λ l. remove l place) is in
     record {
-      sound = subst (λ o. IsSound (set slots s o) order' free' masks' (blocks - e.blocks)) (sym none)
-          (subst (λ l. IsSound (set slots s None) l free' masks' (blocks - e.blocks)) (sym order_is)
-          (subst (λ l. IsSound (set slots s None) (remove order place) l masks' (blocks - e.blocks)) (sym free_is)
-          (subst (λ l. IsSound (set slots s None) (remove order place) (free ++ s ∷ []) l (blocks - e.blocks)) (sym masks_is) r.0)));
-      rest = ap (λ o. tasks_in (set slots s o) order') none ∙ ap (tasks_in (set slots s None)) order_is ∙ tasks_is;
+      sound = subst (λ l. FitTogether (set slots s other) l free' masks' (blocks - e.blocks)) (sym order_is)
+          (subst (λ l. FitTogether (set slots s other) (remove order place) l masks' (blocks - e.blocks)) (sym free_is)
+          (subst (λ l. FitTogether (set slots s other) (remove order place) (free ++ s ∷ []) l (blocks - e.blocks)) (sym masks_is) r.0));
+      rest = ap (tasks_in (set slots s other)) order_is ∙ tasks_is;
       value = ap (λ l. entry_at l place) (sym is) ∙ entry_at_is slots order place s e within at here;
       less = r.2;
     }
 
-pub record Comes (old : List Held) (e : Entry) (slots' : List (Option Entry)) (order' free' masks' : List ℕ) (blocks : ℕ) : Type 0 where
-  pub sound : IsSound slots' order' free' masks' (blocks + e.blocks)
+pub record Comes (old : List Held) (e : Entry) (slots' : List Entry) (order' free' masks' : List ℕ) (blocks : ℕ) : Type 0 where
+  pub sound : FitTogether slots' order' free' masks' blocks
   pub adds : Adds old e (tasks_in slots' order')
 
-pub comes : (slots seen : List (Option Entry)) (order seen_order free freed : List ℕ) (s : ℕ) (masks : List ℕ) (blocks mask : ℕ) (e : Entry) (old : List Held) (order' : List ℕ) →
-    IsSound slots order free masks blocks → tasks_in slots order ≡ old → free ≡ freed ++ s ∷ [] → seen ≡ slots → seen_order ≡ order → IsMask (map mark_of (tasks_in seen seen_order)) (access_of e) mask → order' ≡ order ++ s ∷ [] → blocks + e.blocks ≤ 32768 →
-    Comes old e (set slots s (Some e)) order' freed (set masks s mask) blocks
+comes : (slots seen : List Entry) (order seen_order free freed : List ℕ) (s : ℕ) (masks : List ℕ) (blocks mask : ℕ) (e : Entry) (old : List Held) (order' : List ℕ) →
+    FitTogether slots order free masks blocks → tasks_in slots order ≡ old → free ≡ freed ++ s ∷ [] → seen ≡ slots → seen_order ≡ order → IsMask (map mark_of (tasks_in seen seen_order)) (access_of e) mask → order' ≡ order ++ s ∷ [] → blocks + e.blocks ≤ 32768 →
+    Comes old e (set slots s e) order' freed (set masks s mask) (blocks + e.blocks)
 comes slots seen order seen_order free freed s masks blocks mask e old order' sound is free_is seen_is seen_order_is mask_is order_is fits =
     let masked : IsMask (map mark_of (tasks_in slots order)) (access_of e) mask
     = subst (λ l. IsMask (map mark_of (tasks_in slots l)) (access_of e) mask) seen_order_is (subst (λ l. IsMask (map mark_of (tasks_in l seen_order)) (access_of e) mask) seen_is mask_is) in
-    let r = sound_with slots order freed s masks blocks mask e (subst (λ l. IsSound slots order l masks blocks) free_is sound) fits masked in
+    let r = sound_with slots order freed s masks blocks mask e (subst (λ l. FitTogether slots order l masks blocks) free_is sound) fits masked in
     record {
-      sound = subst (λ l. IsSound (set slots s (Some e)) l freed (set masks s mask) (blocks + e.blocks)) (sym order_is) r.0;
+      sound = subst (λ l. FitTogether (set slots s e) l freed (set masks s mask) (blocks + e.blocks)) (sym order_is) r.0;
       adds = record {
         slot = s;
         small = r.2;
         vacant = vacant_is is r.3;
-        last = ap (tasks_in (set slots s (Some e))) order_is ∙ r.1 ∙ ap (λ l. l ++ record { slot = s; entry = e } ∷ []) is;
+        last = ap (tasks_in (set slots s e)) order_is ∙ r.1 ∙ ap (λ l. l ++ record { slot = s; entry = e } ∷ []) is;
       };
     }
   where
     vacant_is : tasks_in slots order ≡ old → count_of s order ≡ 0 → count_of s (slots_of old) ≡ 0
     vacant_is i h = ap (λ l. count_of s (slots_of l)) (sym i) ∙ ap (count_of s) (slots_of_tasks slots order) ∙ h
 
+-- the same where the task is read from one place, and lies in another
+pub comes_from : (slots seen : List Entry) (order seen_order free freed : List ℕ) (s : ℕ) (masks : List ℕ) (blocks mask : ℕ) (e read put : Entry) (old : List Held) (order' : List ℕ) →
+    FitTogether slots order free masks blocks → tasks_in slots order ≡ old → free ≡ freed ++ s ∷ [] → seen ≡ slots → seen_order ≡ order → IsMask (map mark_of (tasks_in seen seen_order)) (access_of read) mask → order' ≡ order ++ s ∷ [] → blocks + read.blocks ≤ 32768 → read ≡ e → put ≡ e →
+    Comes old e (set slots s put) order' freed (set masks s mask) (blocks + read.blocks)
+comes_from slots seen order seen_order free freed s masks blocks mask e read put old order' sound is free_is seen_is seen_order_is mask_is order_is fits read_is put_is =
+    subst (λ x. Comes old e (set slots s x) order' freed (set masks s mask) (blocks + read.blocks)) (sym put_is)
+    (subst (λ (r : Entry). Comes old e (set slots s e) order' freed (set masks s mask) (blocks + r.blocks)) (sym read_is)
+    (comes slots seen order seen_order free freed s masks blocks mask e old order' sound is free_is seen_is seen_order_is
+    (subst (λ (r : Entry). IsMask (map mark_of (tasks_in seen seen_order)) (access_of r) mask) read_is mask_is) order_is (subst (λ (r : Entry). blocks + r.blocks ≤ 32768) read_is fits)))
+
 -- one more slot is looked at
-module _ (slots : List (Option Entry)) (order : List ℕ) (i : ℕ) (u e : Entry) (mask new : ℕ) (within : i < length order) (is : get_or slots (get_or order i 0) None ≡ Some u) (so_far : IsMask (map mark_of (tasks_in slots (take i order))) (access_of e) mask) where
+module _ (slots : List Entry) (order : List ℕ) (i : ℕ) (u e : Entry) (mask new : ℕ) (within : i < length order) (is : u ≡ get_or slots (get_or order i 0) no_entry) (so_far : IsMask (map mark_of (tasks_in slots (take i order))) (access_of e) mask) where
   marks_more : map mark_of (tasks_in slots (take (i + 1) order)) ≡ map mark_of (tasks_in slots (take i order)) ++ mark_of (held_in slots (get_or order i 0)) ∷ []
   marks_more =
       ap (λ l. map mark_of (tasks_in slots l)) (ap (λ k. take k order) (add-one i) ∙ take-suc order i 0 within)
@@ -315,7 +319,7 @@ module _ (slots : List (Option Entry)) (order : List ℕ) (i : ℕ) (u e : Entry
       ∙ map-append mark_of (tasks_in slots (take i order)) (held_in slots (get_or order i 0) ∷ [])
 
   clashes : accesses_conflict (mark_of (held_in slots (get_or order i 0))).access (access_of e) ≡ conflicts u e
-  clashes = ap (λ o. accesses_conflict (access_of (entry_or o)) (access_of e)) is
+  clashes = ap (λ o. accesses_conflict (access_of o) (access_of e)) (sym is)
 
   pub mask_step_yes : get_or order i 0 < 64 → conflicts u e ≡ true → new ≡ bit_or mask (1 * 2 ^ get_or order i 0 % 2 ^ 64) → IsMask (map mark_of (tasks_in slots (take (i + 1) order))) (access_of e) new
   mask_step_yes small struck new_is =
@@ -338,12 +342,12 @@ walk_step f xs init i d is lt =
     go (x ∷ xs) (suc i) lt = ap (λ l. f x ∷ l) (go xs i (omega arith))
 
 -- slots with nothing in them
-pub sound_new : (slots : List (Option Entry)) (free masks order : List ℕ) → length slots ≡ 64 → order ≡ [] → masks ≡ replicate 64 0 → length free ≡ 64 → AllByRecursion (λ q. q < 64) free → ((q : ℕ) → q < 64 → count_of q free ≡ 1) → IsSound slots order free masks 0
+pub sound_new : (slots : List Entry) (free masks order : List ℕ) → length slots ≡ 64 → order ≡ [] → masks ≡ replicate 64 0 → length free ≡ 64 → AllByRecursion (λ q. q < 64) free → ((q : ℕ) → q < 64 → count_of q free ≡ 1) → FitTogether slots order free masks 0
 sound_new slots free masks order room none zeros long small once =
-    subst (λ l. IsSound slots l free masks 0) (sym none) (record {
+    subst (λ l. FitTogether slots l free masks 0) (sym none) (record {
       room = room;
       wide = ap length zeros;
-      filled = tt;
+      taken = tt;
       small = small;
       once = λ q lt. omega (arith, once q lt);
       count = omega (arith, long);
@@ -418,18 +422,18 @@ module _ (masks order : List ℕ) (i free new : ℕ) (small : i < 64) (so_far : 
   ]) refl)
 
 -- a place has a mask of 0 exactly where its task is eligible
-pub free_is : (slots : List (Option Entry)) (order seen masks : List ℕ) (tasks : List Held) (p : ℕ) → seen ≡ order → tasks_in slots order ≡ tasks → AllByRecursion (IsFilled slots) order → IsMasked (tasks_in slots order) masks → ((q : ℕ) → get_or masks q 0 < 2 ^ 64) →
+pub free_is : (slots : List Entry) (order seen masks : List ℕ) (tasks : List Held) (p : ℕ) → seen ≡ order → tasks_in slots order ≡ tasks → AllByRecursion (λ q. q < 64) order → IsMasked (tasks_in slots order) masks → ((q : ℕ) → get_or masks q 0 < 2 ^ 64) →
     is_unbarred_at masks seen p ≡ eligible_at (entries_of tasks) p
-free_is slots order seen masks tasks p same is filled are fits =
+free_is slots order seen masks tasks p same is taken are fits =
     (elim (nat_lt p (length seen)) as (λ b. nat_lt p (length seen) ≡ b → (b && (get_or masks (get_or seen p 0) 0 == 0)) ≡ eligible_at (entries_of tasks) p) [
-      | true ↦ λ e. let below = ltb-true p (length seen) e in eligible_is slots order seen masks tasks p same is filled are (fits (get_or seen p 0)) (omega (arith, length-map order (held_in slots), ap length is, ap length same))
+      | true ↦ λ e. let below = ltb-true p (length seen) e in eligible_is slots order seen masks tasks p same is taken are (fits (get_or seen p 0)) (omega (arith, length-map order (held_in slots), ap length is, ap length same))
       | false ↦ λ e. let above = ltb-false p (length seen) e in
           ap (λ o. unwrap_or (option_map (is_clear_by conflicts (take p (entries_of tasks))) o) false) (sym (slice_get_past (entries_of tasks) p (omega (arith, length-map tasks (λ held. held.entry), length-map order (held_in slots), ap length is, ap length same))))
     ]) refl
 
 -- ---- pages of a task
 
-pub entry_at_or : (slots : List (Option Entry)) (order : List ℕ) (place d : ℕ) → place < length order → entry_at (tasks_in slots order) place ≡ Some (entry_or (get_or slots (get_or order place d) None))
+pub entry_at_or : (slots : List Entry) (order : List ℕ) (place d : ℕ) → place < length order → entry_at (tasks_in slots order) place ≡ Some (get_or slots (get_or order place d) no_entry)
 entry_at_or slots order place d lt =
     ap (option_map (λ h. h.entry)) (slice_get-get_or (tasks_in slots order) place (held_in slots d) (omega (arith, length-map order (held_in slots))))
     ∙ ap (λ h. Some h.entry) (get_or-map (held_in slots) order place d)
@@ -439,113 +443,109 @@ count_at [] k s lt is = absurd (omega arith)
 count_at (q ∷ qs) zero s lt is = let e = eq-eqb q s is in rw e (omega arith)
 count_at (q ∷ qs) (suc k) s lt is = let r = count_at qs k s (omega arith) is in omega arith
 
-pub record Changes (tasks : List Held) (place : ℕ) (body : List Block) (slots' : List (Option Entry)) (order free masks : List ℕ) (blocks : ℕ) : Type 0 where
-  pub sound : IsSound slots' order free masks blocks
+pub record Changes (tasks : List Held) (place : ℕ) (body : List Block) (slots' : List Entry) (order free masks : List ℕ) (blocks : ℕ) : Type 0 where
+  pub sound : FitTogether slots' order free masks blocks
   pub rest : tasks_in slots' order ≡ change_task (with_body body) tasks place
 
-module _ (slots : List (Option Entry)) (s : ℕ) (body : List Block) (within : s < length slots) (full : is_some (get_or slots s None) ≡ true) where
-  abbrev changed : List (Option Entry)
-  changed = set slots s (Some (with_body body (held_in slots s)).entry)
+module _ (slots : List Entry) (s : ℕ) (body : List Block) (within : s < length slots) where
+  abbrev changed : List Entry
+  changed = set slots s (with_body body (held_in slots s)).entry
 
-  there : get_or changed s None ≡ Some (with_body body (held_in slots s)).entry
-  there = get_or-set_same slots s (Some (with_body body (held_in slots s)).entry) None within
+  there : get_or changed s no_entry ≡ (with_body body (held_in slots s)).entry
+  there = get_or-set_same slots s (with_body body (held_in slots s)).entry no_entry within
 
   -- what is the same of each slot
-  same_of : {X : Type 0} (f : ℕ → Option Entry → X) → f s (Some (with_body body (held_in slots s)).entry) ≡ f s (get_or slots s None) → (q : ℕ) → f q (get_or changed q None) ≡ f q (get_or slots q None)
+  same_of : {X : Type 0} (f : ℕ → Entry → X) → f s (with_body body (held_in slots s)).entry ≡ f s (get_or slots s no_entry) → (q : ℕ) → f q (get_or changed q no_entry) ≡ f q (get_or slots q no_entry)
   same_of f here q =
-      (elim (q == s) as (λ b. (q == s) ≡ b → f q (get_or changed q None) ≡ f q (get_or slots q None)) [
-        | true ↦ λ e. subst (λ r. f r (get_or changed r None) ≡ f r (get_or slots r None)) (sym (eqb-true q s e)) (ap (f s) there ∙ here)
-        | false ↦ λ e. ap (f q) (get_or-set_other slots s q (Some (with_body body (held_in slots s)).entry) None (eqb-false q s e))
+      (elim (q == s) as (λ b. (q == s) ≡ b → f q (get_or changed q no_entry) ≡ f q (get_or slots q no_entry)) [
+        | true ↦ λ e. subst (λ r. f r (get_or changed r no_entry) ≡ f r (get_or slots r no_entry)) (sym (eqb-true q s e)) (ap (f s) there ∙ here)
+        | false ↦ λ e. ap (f q) (get_or-set_other slots s q (with_body body (held_in slots s)).entry no_entry (eqb-false q s e))
       ]) refl
 
   marks_same : (order : List ℕ) → map mark_of (tasks_in changed order) ≡ map mark_of (tasks_in slots order)
   marks_same [] = refl
-  marks_same (q ∷ qs) = ap (λ m. m ∷ map mark_of (tasks_in changed qs)) (same_of (λ r o. record { slot = r; access = access_of (entry_or o) }) refl q) ∙ ap (λ l. mark_of (held_in slots q) ∷ l) (marks_same qs)
+  marks_same (q ∷ qs) = ap (λ m. m ∷ map mark_of (tasks_in changed qs)) (same_of (λ r o. record { slot = r; access = access_of o }) refl q) ∙ ap (λ l. mark_of (held_in slots q) ∷ l) (marks_same qs)
 
   blocks_same : (order : List ℕ) → total_blocks (tasks_in changed order) ≡ total_blocks (tasks_in slots order)
   blocks_same [] = refl
-  blocks_same (q ∷ qs) = ap (λ n. n + total_blocks (tasks_in changed qs)) (same_of (λ r o. (entry_or o).blocks) refl q) ∙ ap (λ n. (held_in slots q).entry.blocks + n) (blocks_same qs)
-
-  filled_same : (order : List ℕ) → AllByRecursion (IsFilled slots) order → AllByRecursion (IsFilled changed) order
-  filled_same [] h = tt
-  filled_same (q ∷ qs) h = ((h.0.0, same_of (λ r o. is_some o) (sym full) q ∙ h.0.1), filled_same qs h.1)
+  blocks_same (q ∷ qs) = ap (λ n. n + total_blocks (tasks_in changed qs)) (same_of (λ r o. o.blocks) refl q) ∙ ap (λ n. (held_in slots q).entry.blocks + n) (blocks_same qs)
 
   change_is : (order : List ℕ) (place : ℕ) → place < length order → count_of s order ≤ 1 → get_or order place 0 ≡ s → tasks_in changed order ≡ change_task (with_body body) (tasks_in slots order) place
   change_is [] place lt once is = absurd (omega arith)
   change_is (q ∷ qs) zero lt once is =
       let here = eq-eqb q s is in
       let none : count_of s qs ≡ 0 = rest_none q (count_of s qs) here once in
-      let head : held_in changed q ≡ with_body body (held_in slots q) = subst (λ r. held_in changed r ≡ with_body body (held_in slots r)) (sym is) (ap (λ o. record { slot = s; entry = entry_or o }) there) in
-      ap (λ l. held_in changed q ∷ l) (tasks_set_other slots s (Some (with_body body (held_in slots s)).entry) qs none) ∙ ap (λ h. h ∷ tasks_in slots qs) head
+      let head : held_in changed q ≡ with_body body (held_in slots q) = subst (λ r. held_in changed r ≡ with_body body (held_in slots r)) (sym is) (ap (λ o. record { slot = s; entry = o }) there) in
+      ap (λ l. held_in changed q ∷ l) (tasks_set_other slots s (with_body body (held_in slots s)).entry qs none) ∙ ap (λ h. h ∷ tasks_in slots qs) head
     where
       rest_none : (q n : ℕ) → (q == s) ≡ true → (if q == s then 1 else 0) + n ≤ 1 → n ≡ 0
       rest_none q n e h = let h' : (if true then 1 else 0) + n ≤ 1 = subst (λ b. (if b then 1 else 0) + n ≤ 1) e h in omega arith
   change_is (q ∷ qs) (suc k) lt once is =
       let some = count_at qs k s (omega arith) is in
       let r = apart q (count_of s qs) once some in
-      ap (λ o. record { slot = q; entry = entry_or o } ∷ tasks_in changed qs) (get_or-set_other slots s q (Some (with_body body (held_in slots s)).entry) None (eqb-false q s r.0))
+      ap (λ o. record { slot = q; entry = o } ∷ tasks_in changed qs) (get_or-set_other slots s q (with_body body (held_in slots s)).entry no_entry (eqb-false q s r.0))
       ∙ ap (λ l. held_in slots q ∷ l) (change_is qs k (omega arith) r.1 is)
     where
       apart : (q n : ℕ) → (if q == s then 1 else 0) + n ≤ 1 → 1 ≤ n → ((q == s) ≡ false) × (n ≤ 1)
       apart q n h some = (elim (q == s) as (λ b. (if b then 1 else 0) + n ≤ 1 → (b ≡ false) × (n ≤ 1)) [ true ↦ λ e. absurd (omega arith) | false ↦ λ e. (refl, omega arith) ]) h
 
-pub changes : (slots : List (Option Entry)) (order free masks : List ℕ) (blocks : ℕ) (tasks : List Held) (place : ℕ) (seen : List ℕ) (body : List Block) (slots' : List (Option Entry)) → IsSound slots order free masks blocks → tasks_in slots order ≡ tasks → place < length tasks → seen ≡ order →
-    slots' ≡ set slots (get_or seen place 0) (Some (with_body body (held_in slots (get_or seen place 0))).entry) → Changes tasks place body slots' order free masks blocks
+pub changes : (slots : List Entry) (order free masks : List ℕ) (blocks : ℕ) (tasks : List Held) (place : ℕ) (seen : List ℕ) (body : List Block) (slots' : List Entry) → FitTogether slots order free masks blocks → tasks_in slots order ≡ tasks → place < length tasks → seen ≡ order →
+    slots' ≡ set slots (get_or seen place 0) (with_body body (held_in slots (get_or seen place 0))).entry → Changes tasks place body slots' order free masks blocks
 changes slots order free masks blocks tasks place seen body slots' sound is lt same slots_is =
     let s : ℕ = get_or order place 0 in
     let within : place < length order = omega (arith, length-map order (held_in slots), ap length is) in
-    let filled : IsFilled slots s = All-at (IsFilled slots) order place 0 within sound.filled in
-    let room : s < length slots = omega (arith, filled.0, sound.room) in
-    let slots_are : slots' ≡ changed slots s body room filled.1 = slots_is ∙ ap (λ l. set slots (get_or l place 0) (Some (with_body body (held_in slots (get_or l place 0))).entry)) same in
-    let new_sound : IsSound (changed slots s body room filled.1) order free masks blocks = record {
-      room = length-set slots s (Some (with_body body (held_in slots s)).entry) ∙ sound.room;
+    let small : s < 64 = All-at (λ q. q < 64) order place 0 within sound.taken in
+    let room : s < length slots = omega (arith, small, sound.room) in
+    let slots_are : slots' ≡ changed slots s body room = slots_is ∙ ap (λ l. set slots (get_or l place 0) (with_body body (held_in slots (get_or l place 0))).entry) same in
+    let new_sound : FitTogether (changed slots s body room) order free masks blocks = record {
+      room = length-set slots s (with_body body (held_in slots s)).entry ∙ sound.room;
       wide = sound.wide;
-      filled = filled_same slots s body room filled.1 order sound.filled;
+      taken = sound.taken;
       small = sound.small;
       once = sound.once;
       count = sound.count;
       masked = record {
-        full = subst (λ l. HaveMasks [] l masks) (sym (marks_same slots s body room filled.1 order)) sound.masked.full;
-        empty = λ q gone. sound.masked.empty q (ap (count_of q) (slots_of_tasks slots order ∙ sym (slots_of_tasks (changed slots s body room filled.1) order)) ∙ gone);
+        full = subst (λ l. HaveMasks [] l masks) (sym (marks_same slots s body room order)) sound.masked.full;
+        empty = λ q gone. sound.masked.empty q (ap (count_of q) (slots_of_tasks slots order ∙ sym (slots_of_tasks (changed slots s body room) order)) ∙ gone);
       };
-      total = blocks_same slots s body room filled.1 order ∙ sound.total;
+      total = blocks_same slots s body room order ∙ sound.total;
       few = sound.few;
     } in
-    let once : count_of s order ≤ 1 = omega (arith, sound.once s filled.0) in
+    let once : count_of s order ≤ 1 = omega (arith, sound.once s small) in
     record {
-      sound = subst (λ l. IsSound l order free masks blocks) (sym slots_are) new_sound;
-      rest = ap (λ l. tasks_in l order) slots_are ∙ change_is slots s body room filled.1 order place within once refl ∙ ap (λ l. change_task (with_body body) l place) is;
+      sound = subst (λ l. FitTogether l order free masks blocks) (sym slots_are) new_sound;
+      rest = ap (λ l. tasks_in l order) slots_are ∙ change_is slots s body room order place within once refl ∙ ap (λ l. change_task (with_body body) l place) is;
     }
 
-pub body_is : (slots : List (Option Entry)) (order : List ℕ) (tasks : List Held) (place : ℕ) (seen : List ℕ) (taken : List Block) → tasks_in slots order ≡ tasks → place < length tasks → seen ≡ order → taken ≡ (entry_or (get_or slots (get_or seen place 0) None)).body →
+pub body_is : (slots : List Entry) (order : List ℕ) (tasks : List Held) (place : ℕ) (seen : List ℕ) (taken : List Block) → tasks_in slots order ≡ tasks → place < length tasks → seen ≡ order → taken ≡ (get_or slots (get_or seen place 0) no_entry).body →
     option_map (λ e. e.body) (entry_at tasks place) ≡ Some taken
 body_is slots order tasks place seen taken is lt same taken_is =
     ap (λ l. option_map (λ e. e.body) (entry_at l place)) (sym is)
     ∙ ap (option_map (λ e. e.body)) (entry_at_or slots order place 0 (omega (arith, length-map order (held_in slots), ap length is)))
-    ∙ ap (λ l. Some (entry_or (get_or slots (get_or l place 0) None)).body) (sym same)
+    ∙ ap (λ l. Some (get_or slots (get_or l place 0) no_entry).body) (sym same)
     ∙ ap Some (sym taken_is)
 
 -- no other task lies in the slot of a task
-pub slot_alone : (slots : List (Option Entry)) (order free masks : List ℕ) (blocks : ℕ) (tasks : List Held) (place : ℕ) (seen : List ℕ) → IsSound slots order free masks blocks → tasks_in slots order ≡ tasks → place < length tasks → seen ≡ order →
+pub slot_alone : (slots : List Entry) (order free masks : List ℕ) (blocks : ℕ) (tasks : List Held) (place : ℕ) (seen : List ℕ) → FitTogether slots order free masks blocks → tasks_in slots order ≡ tasks → place < length tasks → seen ≡ order →
     (get_or seen place 0 < 64) × (count_of (get_or seen place 0) (slots_of tasks) ≡ 1)
 slot_alone slots order free masks blocks tasks place seen sound is lt same =
     let within : place < length order = omega (arith, length-map order (held_in slots), ap length is) in
-    let filled : IsFilled slots (get_or order place 0) = All-at (IsFilled slots) order place 0 within sound.filled in
-    let once = sound.once (get_or order place 0) filled.0 in
+    let small : get_or order place 0 < 64 = All-at (λ q. q < 64) order place 0 within sound.taken in
+    let once = sound.once (get_or order place 0) small in
     let some = count_at order place (get_or order place 0) within refl in
     let one : count_of (get_or order place 0) order ≡ 1 = omega arith in
     subst (λ l. (get_or l place 0 < 64) × (count_of (get_or l place 0) (slots_of tasks) ≡ 1)) (sym same)
-    (filled.0, ap (count_of (get_or order place 0)) (sym (sym (slots_of_tasks slots order) ∙ ap slots_of is)) ∙ one)
+    (small, ap (count_of (get_or order place 0)) (sym (sym (slots_of_tasks slots order) ∙ ap slots_of is)) ∙ one)
 
 -- a slot that none of these has
-not_in : (slots : List (Option Entry)) (s : ℕ) (order : List ℕ) → count_of s order ≡ 0 → AllByRecursion (λ (other : Held). (s == other.slot) ≡ false) (tasks_in slots order)
+not_in : (slots : List Entry) (s : ℕ) (order : List ℕ) → count_of s order ≡ 0 → AllByRecursion (λ (other : Held). (s == other.slot) ≡ false) (tasks_in slots order)
 not_in slots s [] h = tt
 not_in slots s (q ∷ qs) h =
     let out = head_out s q (count_of s qs) h in
     (ne_eqb s q (λ e. eqb-false q s out.0 (sym e)), not_in slots s qs out.1)
 
 -- the slots of all tasks differ
-pub own_slots : (slots : List (Option Entry)) (order : List ℕ) → AllByRecursion (λ s. count_of s order ≤ 1) order → AreOwnSlots (tasks_in slots order)
+pub own_slots : (slots : List Entry) (order : List ℕ) → AllByRecursion (λ s. count_of s order ≤ 1) order → AreOwnSlots (tasks_in slots order)
 own_slots slots [] once = tt
 own_slots slots (q ∷ qs) once =
     let one : count_of q (q ∷ qs) ≡ 1 + count_of q qs = rw (eq-eqb q q refl) (omega arith) in
@@ -554,9 +554,9 @@ own_slots slots (q ∷ qs) once =
     fewer : (s : ℕ) (b : Bool) → (if q == s then 1 else 0) + count_of s qs ≤ 1 → count_of s qs ≤ 1
     fewer s b few = omega (arith, few)
 
-pub own_of : (slots : List (Option Entry)) (order free masks : List ℕ) (blocks : ℕ) (tasks : List Held) → IsSound slots order free masks blocks → tasks_in slots order ≡ tasks → AreOwnSlots tasks
+pub own_of : (slots : List Entry) (order free masks : List ℕ) (blocks : ℕ) (tasks : List Held) → FitTogether slots order free masks blocks → tasks_in slots order ≡ tasks → AreOwnSlots tasks
 own_of slots order free masks blocks tasks sound is =
-    subst AreOwnSlots is (own_slots slots order (All-weaken (IsFilled slots) (λ s. count_of s order ≤ 1) (λ s filled. omega (arith, sound.once s filled.0)) order sound.filled))
+    subst AreOwnSlots is (own_slots slots order (All-weaken (λ s. s < 64) (λ s. count_of s order ≤ 1) (λ s small. omega (arith, sound.once s small)) order sound.taken))
 
 -- ---- the masks of the tasks, place by place
 

@@ -1,65 +1,40 @@
 -- How a set of tasks lies in memory: slots, the order of arrival, the free slots, and the masks (profile, all of it).
-use Rattle.std.specs.Prelude.{◌≡◌, ℕ, ◌+◌, ◌*◌, ◌%◌, ◌^◌, ◌<◌, ◌≤◌, ◌==◌, Bool, true, false, ◌&&◌, if◌then◌else◌, nat_lt, List, [], ◌∷◌, ◌++◌, map, length, slice_index_or, slice_set, Option, Some, None, is_some, bit_and}
+use Rattle.std.specs.Prelude.{◌≡◌, ℕ, ◌+◌, ◌*◌, ◌%◌, ◌^◌, ◌<◌, ◌≤◌, ◌==◌, Bool, true, false, ◌&&◌, if◌then◌else◌, nat_lt, List, [], ◌∷◌, ◌++◌, map, length, slice_index_or, slice_set, bit_and}
 use Rattle.std.specs.Int.{bit_at, bit_not, w64}
 use Rattle.std.specs.List.{list_any, AllByRecursion}
 use Rattle.satl_base.specs.Limits.{most_held}
-use Rattle.satl_cdb.specs.declared.command.Command.TheVariants.{TestUnitReady}
 use Rattle.satl_line.specs.declared.entry.Entry.{Entry}
-use Rattle.satl_line.specs.declared.entry.Kind.TheVariants.{Barrier}
+use Rattle.satl_line.specs.Blank.{no_entry}
 use Rattle.satl_line.specs.Conflict.{Access, access_of, accesses_conflict}
 use Rattle.satl_line.specs.Tasks.{Held, count_of, slots_of, total_blocks}
 
--- what stands for the task of an empty slot
-abbrev pub no_entry : Entry
-no_entry = record {
-  nexus = 0;
-  tag = record { 0 = 0 };
-  kind = Barrier;
-  ordered = false;
-  blocks = 0;
-  command = TestUnitReady;
-  body = [];
-  ranges = record { items = [] };
-  modes = None;
-  expected = None;
-}
-
--- the task of a slot, or what stands for one
-abbrev pub entry_or : Option Entry → Entry
-entry_or None = no_entry
-entry_or (Some entry) = entry
-
 -- the task in a slot
-abbrev pub held_in : List (Option Entry) → ℕ → Held
-held_in slots slot = record { slot = slot; entry = entry_or (slice_index_or slots slot None) }
+abbrev pub held_in : List Entry → ℕ → Held
+held_in slots slot = record { slot = slot; entry = slice_index_or slots slot no_entry }
 
 -- the tasks in these slots
-abbrev pub tasks_in : List (Option Entry) → List ℕ → List Held
+abbrev pub tasks_in : List Entry → List ℕ → List Held
 tasks_in slots order = map (held_in slots) order
 
--- the slot is there, and filled
-abbrev pub IsFilled : List (Option Entry) → ℕ → Type 0
-IsFilled slots slot = (slot < 64) × (is_some (slice_index_or slots slot None) ≡ true)
-
 -- a slot, and the access of its task
-pub record Mark : Type 0 where
+pub record SlotAccess : Type 0 where
   pub slot : ℕ
   pub access : Access
 
 -- the mark of a task in its slot
-abbrev pub mark_of : Held → Mark
+abbrev pub mark_of : Held → SlotAccess
 mark_of held = record { slot = held.slot; access = access_of held.entry }
 
 -- whether an earlier task in this slot conflicts
-abbrev pub is_marked : List Mark → Access → ℕ → Bool
+abbrev pub is_marked : List SlotAccess → Access → ℕ → Bool
 is_marked earlier access slot = list_any (λ mark. mark.slot == slot && accesses_conflict mark.access access) earlier
 
 -- the mask has the slots of the earlier tasks that conflict
-abbrev pub IsMask : List Mark → Access → ℕ → Type 0
+abbrev pub IsMask : List SlotAccess → Access → ℕ → Type 0
 IsMask earlier access mask = (q : ℕ) → q < 64 → bit_at mask q ≡ (if is_marked earlier access q then 1 else 0)
 
 -- each task after these has its mask in its slot
-abbrev pub HaveMasks : List Mark → List Mark → List ℕ → Type 0
+abbrev pub HaveMasks : List SlotAccess → List SlotAccess → List ℕ → Type 0
 HaveMasks earlier [] masks = Unit {0}
 HaveMasks earlier (mark ∷ rest) masks =
     IsMask earlier mark.access (slice_index_or masks mark.slot 0) × HaveMasks (earlier ++ mark ∷ []) rest masks
@@ -81,11 +56,11 @@ cleared masks slot = slice_set (map (clear_bit slot) masks) slot 0
 abbrev pub is_unbarred_at : List ℕ → List ℕ → ℕ → Bool
 is_unbarred_at masks order place = nat_lt place (length order) && (slice_index_or masks (slice_index_or order place 0) 0 == 0)
 
--- the slots, the filled ones in order of arrival, the free ones, the masks and the number of blocks fit together
-pub record IsSound (slots : List (Option Entry)) (order free masks : List ℕ) (blocks : ℕ) : Type 0 where
+-- the slots, those that are taken in order of arrival, those that are free, the masks and the number of blocks fit together
+pub record FitTogether (slots : List Entry) (order free masks : List ℕ) (blocks : ℕ) : Type 0 where
   pub room : length slots ≡ 64
   pub wide : length masks ≡ 64
-  pub filled : AllByRecursion (IsFilled slots) order
+  pub taken : AllByRecursion (λ slot. slot < 64) order
   pub small : AllByRecursion (λ slot. slot < 64) free
   pub once : (slot : ℕ) → slot < 64 → count_of slot order + count_of slot free ≡ 1
   pub count : length order + length free ≡ 64

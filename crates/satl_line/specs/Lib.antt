@@ -4,4 +4,6 @@ pub mod Eligible
 pub mod Ranged
 pub mod Ending
 pub mod Tasks
+pub mod Blank
+pub mod Lending
 pub mod Layout

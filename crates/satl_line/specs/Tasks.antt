@@ -68,8 +68,8 @@ change_task change (held ∷ rest) zero = change held ∷ rest
 change_task change (held ∷ rest) (suc place) = held ∷ change_task change rest place
 
 -- bit p is 1 exactly where a task stands at place p and is eligible (profile)
-abbrev pub IsReady : List Held → ℕ → Type 0
-IsReady tasks ready = (p : ℕ) → p < 64 → bit_at ready p ≡ (if eligible_at (entries_of tasks) p then 1 else 0)
+abbrev pub IsReadyMask : List Held → ℕ → Type 0
+IsReadyMask tasks ready = (p : ℕ) → p < 64 → bit_at ready p ≡ (if eligible_at (entries_of tasks) p then 1 else 0)
 
 -- whether one of these tasks lies in this slot and conflicts with the task (profile)
 abbrev pub is_barred_from : List Held → Entry → ℕ → Bool

@@ -1,10 +1,12 @@
 //! The tasks that wait, in order of arrival, and which of them may be carried out.
 #![tactic(auto)]
 
+mod boxed;
 mod conflict;
 mod entry;
 pub mod laws;
 mod set;
 
+pub use boxed::TaskBox;
 pub use entry::{Entry, Kind};
-pub use set::TaskSet;
+pub use set::{TaskSet, TaskSetFull};

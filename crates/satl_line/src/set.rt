@@ -1,14 +1,15 @@
 // The tasks in order of arrival, each in a slot of its own.
-ghost use Rattle.std.specs.Prelude.{◌≡◌, ◌≤◌, ◌<◌, ◌==◌, ◌^◌, ◌&&◌, if◌then◌else◌, ℕ, [], map, length, remove, replicate, Some, None, IfOk, IfErr, OnOk, OnErr, is_err, slice_get, slice_index, slice_index_or, slice_set};
+ghost use Rattle.std.specs.Prelude.{◌≡◌, ◌≤◌, ◌<◌, ◌==◌, ◌^◌, ◌&&◌, if◌then◌else◌, ℕ, [], map, length, remove, replicate, Some, IfOk, OnOk, OnErr, is_err, slice_get, slice_index, slice_set};
 ghost use Rattle.std.specs.Int.{bit_at};
 ghost use Rattle.std.specs.Option.{option_copied, option_map};
 ghost use Rattle.std.specs.List.{AllByRecursion, position_from};
 ghost use Rattle.satl_base.specs.Limits.{most_held, most_tasks};
 ghost use Rattle.satl_line.specs.Conflict.{access_of};
 ghost use Rattle.satl_line.specs.Eligible.{eligible_at};
-ghost use Rattle.satl_line.specs.Tasks.{Adds, AreMasks, AreOwnSlots, IsReady, change_task, count_of, entries_of, entry_at, is_named, is_too_much, slots_of, total_blocks, with_body};
-ghost use Rattle.satl_line.specs.Layout.{IsFilled, IsMask, cleared, entry_or, held_in, is_unbarred_at, mark_of, tasks_in};
+ghost use Rattle.satl_line.specs.Tasks.{Adds, AreMasks, AreOwnSlots, IsReadyMask, change_task, count_of, entries_of, entry_at, is_named, is_too_much, slots_of, total_blocks, with_body};
+ghost use Rattle.satl_line.specs.Layout.{IsMask, cleared, held_in, is_unbarred_at, mark_of, tasks_in};
 
+use crate::boxed::TaskBox;
 use crate::conflict::conflict;
 use crate::entry::Entry;
 use arrayvec::ArrayVec;
@@ -17,12 +18,17 @@ use std::alloc::Global;
 use std::marker::Model;
 use std::mem;
 
+/// The task set is full, or the blocks of its tasks are too many (SAM-5, TASK SET FULL; profile).
+#[derive(Clone, Copy, Debug, PartialEq, Eq)]
+pub struct TaskSetFull;
+
 /// At most 64 tasks in order of arrival (SAM-5, task set; the figure is the profile's). Each lies in one of 64 slots
 /// from its arrival until it leaves, and each slot has a mask of the earlier tasks that its task conflicts with.
 /// Clauses see the list of the tasks, each with its slot.
+// Each slot has a box from the start, with an old task in it where the slot is free.
 #[derive(Drop)]
 pub struct TaskSet {
-    slots: Vec<Option<Entry>>,
+    slots: Vec<TaskBox>,
     order: ArrayVec<u8, 64>,
     free: ArrayVec<u8, 64>,
     masks: [u64; 64],
@@ -32,13 +38,13 @@ pub struct TaskSet {
 impl Model for TaskSet {
     ghost use Rattle.std.specs.Prelude.{List};
     ghost use Rattle.satl_line.specs.Tasks.{Held};
-    ghost use Rattle.satl_line.specs.Layout.{IsSound, tasks_in};
+    ghost use Rattle.satl_line.specs.Layout.{FitTogether, tasks_in};
 
     ghost Value = { List Held };
 
     ghost view = { λ s. tasks_in s.slots.items s.order.items };
 
-    ghost invariant = { λ s. IsSound s.slots.items s.order.items s.free.items s.masks s.blocks };
+    ghost invariant = { λ s. FitTogether s.slots.items s.order.items s.free.items s.masks s.blocks };
 }
 
 impl TaskSet {
@@ -49,7 +55,7 @@ impl TaskSet {
         let mut slots = Vec::with_capacity(alloc, MOST_TASKS)?;
         let mut free = ArrayVec::new();
         for slot in 0..64u8 {
-            let Ok(()) = slots.push(None) else {
+            let Ok(()) = slots.push(TaskBox::new(alloc)?) else {
                 unreachable!();
             };
             free.push(slot);
@@ -80,43 +86,43 @@ impl TaskSet {
         self.order.is_empty()
     }
 
-    /// Adds a task at the end. The error is the task itself, exactly where 64 are held or their blocks and its own
-    /// would exceed 32,768 (SAM-5, TASK SET FULL; the figures are the profile's).
-    pub fn add(&mut self, entry: Entry) -> Result<(), Entry>
-        ensures full { is_err result ≡ is_too_much self.old entry }
-        ensures ok { OnOk result (Adds self.old entry self.new) }
-        ensures back { IfErr result (λ refused. refused ≡ entry) }
+    /// Adds the task of a box at the end: the box has another one then. The error comes exactly where 64 are held or their
+    /// blocks and its own would exceed 32,768, and the task stays in its box (SAM-5, TASK SET FULL; the figures are the
+    /// profile's).
+    pub fn add(&mut self, task: &mut TaskBox) -> Result<(), TaskSetFull>
+        ensures full { is_err result ≡ is_too_much self.old task.old }
+        ensures ok { OnOk result (Adds self.old task.old self.new) }
+        ensures back { OnErr result (task.new ≡ task.old) }
         ensures kept { OnErr result (self.new ≡ self.old) }
     {
+        let entry = task.entry();
+        let blocks = entry.blocks;
         if self.order.len() == MOST_TASKS
-            || u64::from(entry.blocks) + u64::from(self.blocks) > u64::from(MOST_HELD)
+            || u64::from(blocks) + u64::from(self.blocks) > u64::from(MOST_HELD)
         {
-            return Err(entry);
+            return Err(TaskSetFull);
         }
         let Some(slot) = self.free.pop() else {
             unreachable!();
         };
-        self.masks[slot as usize] = mask_against(&self.slots, &self.order, &entry);
-        self.blocks += entry.blocks;
-        self.slots[slot as usize] = Some(entry);
+        self.masks[slot as usize] = mask_against(&self.slots, &self.order, entry);
+        self.blocks += blocks;
+        mem::swap(&mut self.slots[slot as usize], task);
         self.order.push(slot);
         Ok(())
     }
 
-    /// Takes the task at a place out (profile).
-    pub fn remove(&mut self, place: usize) -> Entry
+    /// Takes the task at a place out, into a box: the task that lay there is gone (profile).
+    pub fn remove(&mut self, place: usize, task: &mut TaskBox)
         requires { place < length self.old }
-        ensures value { entry_at self.old place ≡ Some result }
+        ensures value { entry_at self.old place ≡ Some task.new }
         ensures others { self.new ≡ remove self.old place }
     {
         let slot = self.order.remove(place);
-        let Some(entry) = self.slots[slot as usize].take() else {
-            unreachable!();
-        };
+        mem::swap(&mut self.slots[slot as usize], task);
         clear_slot(&mut self.masks, slot);
         self.free.push(slot);
-        self.blocks -= entry.blocks;
-        entry
+        self.blocks -= task.entry().blocks;
     }
 
     /// Whether no earlier task conflicts with the one at a place (profile).
@@ -129,7 +135,7 @@ impl TaskSet {
 
     /// The places with an eligible task, as the bits of a number, the lowest for place 0 (profile).
     pub fn ready(&self) -> u64
-        ensures { IsReady self.now result }
+        ensures { IsReadyMask self.now result }
     {
         ready_places(&self.masks, &self.order)
     }
@@ -223,9 +229,9 @@ fn mask_at(masks: &[u64], slot: u8) -> u64
 }
 
 /// The slots of the tasks that conflict with this one, as the bits of a number.
-fn mask_against(slots: &[Option<Entry>], order: &[u8], entry: &Entry) -> u64
+fn mask_against(slots: &[TaskBox], order: &[u8], entry: &Entry) -> u64
     requires room { length slots.now ≡ 64 }
-    requires filled { AllByRecursion (IsFilled slots.now) order.now }
+    requires small { AllByRecursion (λ slot. slot < 64) order.now }
     ensures { IsMask (map mark_of (tasks_in slots.now order.now)) (access_of entry.now) result }
 {
     let mut mask = 0u64;
@@ -272,9 +278,9 @@ fn place_in(order: &[u8], slot: u8) -> Option<usize>
     order.iter().position(|other| *other == slot)
 }
 
-fn find_in(slots: &[Option<Entry>], order: &[u8], nexus: Nexus, tag: Tag) -> Option<usize>
+fn find_in(slots: &[TaskBox], order: &[u8], nexus: Nexus, tag: Tag) -> Option<usize>
     requires room { length slots.now ≡ 64 }
-    requires filled { AllByRecursion (IsFilled slots.now) order.now }
+    requires small { AllByRecursion (λ slot. slot < 64) order.now }
     ensures { result ≡ position_from (is_named nexus tag) 0 (tasks_in slots.now order.now) }
 {
     for (place, slot) in order.iter().enumerate() {
@@ -291,29 +297,22 @@ fn has_name(entry: &Entry, nexus: Nexus, tag: Tag) -> bool
     entry.nexus == nexus && entry.tag == tag
 }
 
-fn entry_in(slots: &[Option<Entry>], slot: u8) -> &Entry
-    requires filled { IsFilled slots.now slot }
+fn entry_in(slots: &[TaskBox], slot: u8) -> &Entry
+    requires small { slot < 64 }
     requires room { length slots.now ≡ 64 }
-    ensures { slice_index_or slots.now slot None ≡ Some result.now }
+    ensures { result.now ≡ (held_in slots.now slot).entry }
 {
-    match &slots[slot as usize] {
-        Some(entry) => entry,
-        None => unreachable!(),
-    }
+    slots[slot as usize].entry()
 }
 
 /// Puts pages into the task in a slot, and gives those that it had.
-fn swap_body(slots: &mut Vec<Option<Entry>>, slot: u8, body: Pages) -> Pages
+fn swap_body(slots: &mut Vec<TaskBox>, slot: u8, body: Pages) -> Pages
     requires room { length slots.old.items ≡ 64 }
-    requires filled { IsFilled slots.old.items slot }
-    ensures value { result ≡ (entry_or (slice_index_or slots.old.items slot None)).body }
-    ensures items { slots.new.items ≡ slice_set slots.old.items slot
-        (Some (with_body body (held_in slots.old.items slot)).entry) }
+    requires small { slot < 64 }
+    ensures value { result ≡ (held_in slots.old.items slot).entry.body }
+    ensures items { slots.new.items ≡ slice_set slots.old.items slot (with_body body (held_in slots.old.items slot)).entry }
 {
-    match &mut slots[slot as usize] {
-        Some(entry) => mem::replace(&mut entry.body, body),
-        None => unreachable!(),
-    }
+    slots[slot as usize].swap_body(body)
 }
 
 #[cfg(test)]
@@ -328,22 +327,17 @@ mod tests {
 
     const WRITE: Kind = Kind::Ranged { write: true };
 
-    fn task(number: u32, kind: Kind, ordered: bool, range: Range, blocks: u32) -> Entry {
-        let mut ranges = ArrayVec::new();
-        ranges.push(Range { lba: 900, count: 0 });
-        ranges.push(range);
-        Entry {
-            nexus: Nexus::default(),
-            tag: Tag(number),
-            kind,
-            ordered,
-            blocks,
-            command: Command::Unmap { length: 40 },
-            body: Pages::default(),
-            ranges,
-            modes: None,
-            expected: None,
-        }
+    /// Puts a task into a box. It has no pages.
+    fn put(task: &mut TaskBox, number: u32, kind: Kind, ordered: bool, range: Range, blocks: u32) {
+        let entry = task.entry_mut();
+        entry.tag = Tag(number);
+        entry.kind = kind;
+        entry.ordered = ordered;
+        entry.blocks = blocks;
+        entry.command = Command::Unmap { length: 40 };
+        entry.ranges = ArrayVec::new();
+        entry.ranges.push(Range { lba: 900, count: 0 });
+        entry.ranges.push(range);
     }
 
     #[test]
@@ -363,13 +357,16 @@ mod tests {
         ];
         for (kind, ordered, other, behind, lba, count, passes) in cases {
             let mut set = TaskSet::new(rt.alloc())?;
-            let first = task(1, kind, ordered, Range { lba: 100, count: 8 }, 8);
-            let second = task(2, other, behind, Range { lba, count }, 8);
-            assert!(rt; set.add(first).is_ok() && set.add(second).is_ok());
+            let mut task = TaskBox::new(rt.alloc())?;
+            put(&mut task, 1, kind, ordered, Range { lba: 100, count: 8 }, 8);
+            assert!(rt; set.add(&mut task).is_ok());
+            put(&mut task, 2, other, behind, Range { lba, count }, 8);
+            assert!(rt; set.add(&mut task).is_ok());
             assert_eq!(rt; set.len(), 2);
             assert_eq!(rt; set.eligible(1), passes, "at {lba}");
             assert_eq!(rt; set.ready(), if passes { 3 } else { 1 });
-            assert_eq!(rt; set.remove(0).tag, Tag(1));
+            set.remove(0, &mut task);
+            assert_eq!(rt; task.entry().tag, Tag(1));
             assert_eq!(rt; set.ready(), 1);
         }
         Ok(())
@@ -378,27 +375,33 @@ mod tests {
     #[test]
     fn full_at_64_tasks_and_32768_blocks(rt: HostRuntime) -> Result<(), Fail> {
         let range = Range { lba: 0, count: 1 };
+        let mut task = TaskBox::new(rt.alloc())?;
         for (blocks, tasks) in [(0, 64), (512, 64), (4096, 8), (4095, 8), (32768, 1)] {
             let mut set = TaskSet::new(rt.alloc())?;
             for number in 0..tasks {
-                assert!(rt; set.add(task(number, READ, false, range, blocks)).is_ok());
+                put(&mut task, number, READ, false, range, blocks);
+                assert!(rt; set.add(&mut task).is_ok());
             }
-            let refused = set.add(task(99, WRITE, true, range, 513));
-            assert_eq!(rt; refused.map_err(|entry| entry.tag), Err(Tag(99)));
+            put(&mut task, 99, WRITE, true, range, 513);
+            assert_eq!(rt; set.add(&mut task), Err(TaskSetFull));
+            assert_eq!(rt; task.entry().tag, Tag(99));
             assert_eq!(rt; set.len(), tasks as usize);
             assert_eq!(rt; set.first().map(|entry| entry.tag), Some(Tag(0)));
             let last = Tag(tasks - 1);
             assert_eq!(rt; set.find(Nexus::default(), last), Some(tasks as usize - 1));
         }
         let mut set = TaskSet::new(rt.alloc())?;
-        assert!(rt; set.add(task(1, WRITE, false, range, 2)).is_ok());
-        assert!(rt; set.add(task(2, WRITE, false, range, 2)).is_ok());
+        for number in 1..=2 {
+            put(&mut task, number, WRITE, false, range, 2);
+            assert!(rt; set.add(&mut task).is_ok());
+        }
         assert_eq!(rt; set.len(), 2);
         let (first, second) = (set.slot_of(0), set.slot_of(1));
         assert_eq!(rt; set.masks()[second as usize], 1 << first);
         assert_eq!(rt; set.place_of(second), Some(1));
         assert_eq!(rt; set.take_data(1).blocks(), 0);
         set.put_data(1, Pages::zeroed(rt.alloc(), 2)?);
+        assert_eq!(rt; set.len(), 2);
         assert_eq!(rt; set.entry(1).body.blocks(), 2);
         Ok(())
     }

@@ -63,8 +63,8 @@ shown_by control i m =
     else record { fixed = true; settings = defaults i }
 
 -- the lines of a page: its code and length, and what it shows
-abbrev pub lines : ModePage → Shown → List Line
-lines page s =
+abbrev pub page_lines : ModePage → Shown → List Line
+page_lines page s =
     byte 0 (row_of page).code ∷ byte 1 (row_of page).length
     ∷ ((if s.fixed then (row_of page).fixed else []) ++ (row_of page).settings s.settings)
 
@@ -72,10 +72,10 @@ abbrev pub size_of : ModePage → ℕ
 size_of page = 2 + (row_of page).length
 
 abbrev pub page_byte : ModePage → Shown → ℕ → ℕ
-page_byte page s place = at_place (lines page s) place
+page_byte page s place = at_place (page_lines page s) place
 
 abbrev pub page_bytes : ModePage → Shown → List ℕ
-page_bytes page s = laid (size_of page) (lines page s)
+page_bytes page s = laid (size_of page) (page_lines page s)
 
 -- pages one after the other
 abbrev pub pages_bytes : List ModePage → Shown → List ℕ

@@ -1,8 +1,8 @@
 // A pool of pages.
-ghost use Rattle.std.specs.Prelude.{◌≡◌, ◌≤◌, ◌<◌, ◌+◌, ◌↔◌, IfOk, IfSome, IfNone, IsNone, OnSome, length, vec_len, vec_capacity};
+ghost use Rattle.std.specs.Prelude.{◌≡◌, ◌≤◌, ◌<◌, ◌+◌, ◌↔◌, IfOk, IfSome, IfNone, IsNone, OnSome, length};
 ghost use Rattle.satl_pages.specs.Counts.{number_of};
 
-use satl_base::{Lender, NoMemory, Page, Pages};
+use satl_base::{Lender, NoMemory, Pages};
 use std::alloc::Global;
 use std::marker::Model;
 
@@ -10,20 +10,19 @@ use std::marker::Model;
 /// how many are out; their sum is the pool's number, which no call changes.
 #[derive(Drop)]
 pub struct Pool {
-    // Made with room for all pages, so that it never grows.
-    free: Vec<Page>,
+    free: Pages,
     number: u32,
 }
 
 impl Model for Pool {
-    ghost use Rattle.std.specs.Prelude.{◌≤◌, ◌<◌, ◌-◌, ◌^◌, length, vec_capacity};
+    ghost use Rattle.std.specs.Prelude.{◌≤◌, ◌<◌, ◌-◌, ◌^◌, length};
     ghost use Rattle.satl_pages.specs.Counts.{Counts};
 
     ghost Value = { Counts };
 
-    ghost view = { λ p. record { free = length p.free.items; out = p.number - length p.free.items } };
+    ghost view = { λ p. record { free = length p.free; out = p.number - length p.free } };
 
-    ghost invariant = { λ p. (length p.free.items ≤ p.number) × (p.number ≤ vec_capacity p.free) × (p.number < 2 ^ 32) };
+    ghost invariant = { λ p. (length p.free ≤ p.number) × (p.number < 2 ^ 32) };
 }
 
 impl Pool {
@@ -32,14 +31,10 @@ impl Pool {
         ensures free { IfOk result (λ pool. pool.free ≡ n) }
         ensures out { IfOk result (λ pool. pool.out ≡ 0) }
     {
-        let mut free = Vec::with_capacity(alloc, n as usize)?;
-        for _ in 0..n {
-            let page = Page::zeroed(alloc)?;
-            let Ok(()) = free.push(page) else {
-                unreachable!();
-            };
-        }
-        Ok(Pool { free, number: n })
+        Ok(Pool {
+            free: Pages::zeroed(alloc, n)?,
+            number: n,
+        })
     }
 
     /// How many pages the pool has, free or out (profile).
@@ -53,7 +48,7 @@ impl Pool {
     pub fn free(&self) -> u32
         ensures { result ≡ self.now.free }
     {
-        self.free.len() as u32
+        self.free.blocks()
     }
 
     /// Takes `n` pages, with whatever they hold. None exactly where fewer are free. It takes no memory (profile).
@@ -69,7 +64,9 @@ impl Pool {
         if self.free() < n {
             return None;
         }
-        Some(take_from(&mut self.free, n))
+        let mut pages = Pages::default();
+        self.free.move_first(n, &mut pages);
+        Some(pages)
     }
 
     /// Takes pages back, at most as many as are out. It takes no memory (profile).
@@ -79,40 +76,8 @@ impl Pool {
         ensures out { self.new.out + length pages ≡ self.old.out }
         ensures none_lost { number_of self.new ≡ number_of self.old }
     {
-        give_to(&mut self.free, pages);
-    }
-}
-
-/// Links `n` pages off the end of the vector.
-fn take_from(free: &mut Vec<Page>, n: u32) -> Pages
-    requires { n ≤ vec_len free.old }
-    ensures pages { length result ≡ n }
-    ensures free { vec_len free.new + n ≡ vec_len free.old }
-    ensures capacity { vec_capacity free.new ≡ vec_capacity free.old }
-{
-    let mut pages = Pages::default();
-    for _ in 0..n {
-        let Some(page) = free.pop() else {
-            unreachable!();
-        };
-        pages.push_first(page);
-    }
-    pages
-}
-
-/// Unlinks the pages onto the end of the vector, which has the room.
-fn give_to(free: &mut Vec<Page>, mut pages: Pages)
-    requires { vec_len free.old + length pages ≤ vec_capacity free.old }
-    ensures free { vec_len free.new ≡ vec_len free.old + length pages }
-    ensures capacity { vec_capacity free.old ≤ vec_capacity free.new }
-{
-    for _ in 0..pages.blocks() {
-        let Some(page) = pages.pop_first() else {
-            unreachable!();
-        };
-        let Ok(()) = free.push(page) else {
-            unreachable!();
-        };
+        let mut pages = pages;
+        pages.move_first(pages.blocks(), &mut self.free);
     }
 }
 

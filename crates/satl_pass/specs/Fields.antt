@@ -26,7 +26,7 @@ abbrev pub t_length : Field
 t_length = bits 2 1 0
 
 -- what differs by the form: EXTEND, where the registers stand, and the byte of COMMAND
-pub record Form : Type 0 where
+pub record PassForm : Type 0 where
   pub extend : Flag
   pub registers : List ℕ → Registers
   pub command_place : ℕ
@@ -44,7 +44,7 @@ registers_16 cdb = record {
   command = slice_index cdb 14;
 }
 
-abbrev pub form_16 : Form
+abbrev pub form_16 : PassForm
 form_16 = record { extend = bit 1 0; registers = registers_16; command_place = 14 }
 
 -- ATA PASS-THROUGH (12): registers without high bytes, and no EXTEND
@@ -57,10 +57,10 @@ registers_12 cdb = record {
   command = slice_index cdb 9;
 }
 
-abbrev pub form_12 : Form
+abbrev pub form_12 : PassForm
 form_12 = record { extend = λ cdb. false; registers = registers_12; command_place = 9 }
 
-abbrev pub form_of : List ℕ → Form
+abbrev pub form_of : List ℕ → PassForm
 form_of cdb = if slice_index cdb 0 == code_16 then form_16 else form_12
 
 -- COUNT as a number of blocks: 0 counts as 256, or with EXTEND as 65,536 (profile)
@@ -75,14 +75,14 @@ abbrev pub count_length : Bool → Bool → Registers → ℕ
 count_length blocks extend r = if blocks then 512 * blocks_counted extend r.count else r.count
 
 -- the transfer length in bytes, by T_LENGTH: none, in FEATURES or in COUNT (3 is refused)
-abbrev pub transfer_length : Form → Field
+abbrev pub transfer_length : PassForm → Field
 transfer_length form cdb =
     if t_length cdb == 1 then features_length (byt_blok cdb) (form.registers cdb)
     else if t_length cdb == 2 then count_length (byt_blok cdb) (form.extend cdb) (form.registers cdb)
     else 0
 
 -- what the fields say, in a form
-abbrev pub pass_in : Form → List ℕ → Pass
+abbrev pub pass_in : PassForm → List ℕ → Pass
 pass_in form cdb = record {
   protocol = protocol cdb;
   extend = form.extend cdb;

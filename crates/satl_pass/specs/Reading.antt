@@ -9,7 +9,7 @@ use Rattle.satl_regs.specs.Commands.{command_in}
 use Rattle.satl_regs.specs.Effects.{own_blocks}
 use Rattle.satl_regs.specs.QueuedCommands.{queued_codes}
 use Rattle.satl_pass.specs.declared.pass.Pass.{Pass}
-use Rattle.satl_pass.specs.Fields.{Form, form_of, pass_in, protocol, t_length, transfer_length}
+use Rattle.satl_pass.specs.Fields.{PassForm, form_of, pass_in, protocol, t_length, transfer_length}
 use Rattle.satl_pass.specs.Transfers.{protocols, own_protocols, is_writing, is_other}
 
 -- a queued command: the layer keeps the queue for itself
@@ -30,7 +30,7 @@ has_other_direction command pass =
     not (is_other command) && not (pass.length == 0) && (if pass.out then not (is_writing command) else is_writing command)
 
 -- the rules of a form, in the order in which they are judged
-abbrev pub rules : Form → List Rule
+abbrev pub rules : PassForm → List Rule
 rules form =
     at 1 (is_none_of protocols protocol)
     ∷ at 2 (is 3 t_length)
@@ -46,7 +46,7 @@ unfoldable pub pass_says : List ℕ → Result Pass Illegal
 pass_says cdb = unless_broken (rules (form_of cdb)) cdb (pass_in (form_of cdb) cdb)
 
 -- what a layer may rely on: it can be run as it stands
-pub record CanRun (pass : Pass) : Type 0 where
+pub record CanGoToDrive (pass : Pass) : Type 0 where
   pub length : pass.length ≤ longest_data
   pub lba : pass.regs.lba < 2 ^ 48
   pub not_queued : IsFalse (is_queued pass)

@@ -2,7 +2,7 @@
 
 ghost use Rattle.std.specs.Prelude.{◌≡◌, IfOk};
 ghost use Rattle.satl_regs.specs.Commands.{command_in};
-ghost use Rattle.satl_pass.specs.Reading.{CanRun, has_other_direction, has_other_length, is_queued, pass_says};
+ghost use Rattle.satl_pass.specs.Reading.{CanGoToDrive, has_other_direction, has_other_length, is_queued, pass_says};
 
 use crate::fields::{command_place, pass_of};
 use crate::pass::Pass;
@@ -37,7 +37,7 @@ fn has_other_direction(command: &AtaCommand, pass: &Pass) -> bool
 #[tactic(auto, unfolding(crate::specs::Reading::pass_says))]
 pub fn read_pass(cdb: &[u8; 16]) -> Result<Pass, Illegal>
     ensures says { result ≡ pass_says cdb.now }
-    ensures can_run { IfOk result (λ pass. CanRun pass) }
+    ensures can_run { IfOk result (λ pass. CanGoToDrive pass) }
 {
     let pass = pass_of(cdb);
     if !is_protocol(pass.protocol) {

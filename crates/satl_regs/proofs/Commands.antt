@@ -9,7 +9,7 @@ use Rattle.satl_regs.specs.declared.values.AtaCommand.{AtaCommand}
 use Rattle.satl_regs.specs.declared.values.AtaCommand.TheVariants as commands
 use Rattle.satl_regs.specs.Fields.{count_8, count_16}
 use Rattle.satl_regs.specs.Commands.{Row, table, first_row, row_of, command_by, command_in}
-use Rattle.satl_regs.specs.Spelling.{command_registers, plain, CommandFits}
+use Rattle.satl_regs.specs.Spelling.{command_registers, plain_registers, CommandFits}
 
 -- fields are read back
 count_8_back : (n : ℕ) → 1 ≤ n → n ≤ 256 → count_8 (n / 1 % 256) ≡ n
@@ -86,7 +86,7 @@ writes_back DmaExt lba sectors f = rw (lba_48_back lba f.address, count_16_back 
 
 other_back : (code : ℕ) → CommandFits (commands.Other code) → IsBack (commands.Other code)
 unfolding command_registers
-other_back code f = no_row_is_other (plain 0 0 0 code) f
+other_back code f = no_row_is_other (plain_registers 0 0 0 code) f
 
 pub command_back : (c : AtaCommand) → CommandFits c → IsBack c
 unfolding command_in command_registers row_of

@@ -7,7 +7,7 @@ use Rattle.std.proofs.lemmas.List.Concat.{flat_map-cons}
 use Rattle.byteorder.specs.Endian.{little_bytes, little_number}
 use Rattle.byteorder.specs.Numbers.{little_number-reads_back}
 use Rattle.satl_base.specs.declared.block.Range.{Range}
-use Rattle.satl_regs.specs.Trim.{entry_number, entry_of, split, entries, payload, zeros, block_of, numbers, is_used, trimmed, IsTrimmable, FitsEntry}
+use Rattle.satl_regs.specs.Trim.{entry_number, trim_entry, split, entries, payload, zero_bytes, padded_bytes, numbers, is_used, trimmed, IsTrimmable, FitsEntry}
 
 pub entries_room : (rs : List Range) (i : ℕ) (d : Range) → i < length rs → length (entries (take i rs)) + length (split (get_or rs i d)) ≤ length (entries rs)
 entries_room [] i d h = absurd (omega (arith, h))
@@ -18,7 +18,7 @@ entries_room (r ∷ rs) (suc i) d h =
 
 -- what is left of a block is read
 abbrev pub rest_of : ℕ → List ℕ → List Range
-rest_of i block = filter is_used (map entry_of (numbers (64 - i) (drop (8 * i) block)))
+rest_of i block = filter is_used (map trim_entry (numbers (64 - i) (drop (8 * i) block)))
 
 pub starts : (block : List ℕ) → rest_of 0 block ≡ trimmed block
 unfolding trimmed
@@ -27,13 +27,13 @@ starts block = refl
 filter_front : (r : Range) (rs : List Range) → filter is_used (r ∷ rs) ≡ filter is_used (r ∷ []) ++ filter is_used rs
 filter_front r rs = elim (is_used r) as (λ b. cond b (r ∷ filter is_used rs) (filter is_used rs) ≡ cond b (r ∷ []) [] ++ filter is_used rs) [ true ↦ refl | false ↦ refl ]
 
-pub steps : (i : ℕ) (block : List ℕ) → i < 64 → rest_of i block ≡ filter is_used (entry_of (little_number 8 (drop (8 * i) block)) ∷ []) ++ rest_of (i + 1) block
+pub steps : (i : ℕ) (block : List ℕ) → i < 64 → rest_of i block ≡ filter is_used (trim_entry (little_number 8 (drop (8 * i) block)) ∷ []) ++ rest_of (i + 1) block
 unfolding numbers
 steps i block h =
     let k : 64 - i ≡ suc (64 - (i + 1)) = omega arith in
     let d : drop 8 (drop (8 * i) block) ≡ drop (8 * (i + 1)) block = drop-drop 8 (8 * i) block ∙ ap (λ (n : ℕ). drop n block) (omega arith) in
     let one : numbers (64 - i) (drop (8 * i) block) ≡ little_number 8 (drop (8 * i) block) ∷ numbers (64 - (i + 1)) (drop (8 * (i + 1)) block) = rw (k, d) refl in
-    ap (λ (ws : List ℕ). filter is_used (map entry_of ws)) one ∙ filter_front (entry_of (little_number 8 (drop (8 * i) block))) (map entry_of (numbers (64 - (i + 1)) (drop (8 * (i + 1)) block)))
+    ap (λ (ws : List ℕ). filter is_used (map trim_entry ws)) one ∙ filter_front (trim_entry (little_number 8 (drop (8 * i) block))) (map trim_entry (numbers (64 - (i + 1)) (drop (8 * (i + 1)) block)))
 
 pub ends : (i : ℕ) (block : List ℕ) → 64 ≤ i → rest_of i block ≡ []
 unfolding numbers
@@ -43,56 +43,56 @@ length_payload : (es : List Range) → length (payload es) ≡ 8 * length es
 length_payload [] = refl
 length_payload (r ∷ rs) = let ih = length_payload rs in omega (arith, ih)
 
-pub put_next : (xs : List ℕ) (at w : ℕ) → length xs ≡ at → at + 8 ≤ 512 → take at (block_of xs) ++ (little_bytes 8 w ++ drop (at + 8) (block_of xs)) ≡ block_of (xs ++ little_bytes 8 w)
+pub put_next : (xs : List ℕ) (at w : ℕ) → length xs ≡ at → at + 8 ≤ 512 → take at (padded_bytes xs) ++ (little_bytes 8 w ++ drop (at + 8) (padded_bytes xs)) ≡ padded_bytes (xs ++ little_bytes 8 w)
 put_next xs at w len room =
     let len' : length (xs ++ little_bytes 8 w) ≡ at + 8 = omega (arith, len, length-append xs (little_bytes 8 w)) in
-    let t : take at (block_of xs) ≡ xs = take_at xs (zeros (512 - length xs)) at len in
-    let d : drop (at + 8) (block_of xs) ≡ zeros (512 - length (xs ++ little_bytes 8 w)) =
-    sym (drop-drop 8 at (block_of xs)) ∙ ap (drop 8) (drop_at xs (zeros (512 - length xs)) at len) ∙ drop-replicate 8 (512 - length xs) 0 ∙ ap (λ (n : ℕ). zeros n) (omega (arith, len, len')) in
-    rw (t, d) (sym (append_assoc xs (little_bytes 8 w) (zeros (512 - length (xs ++ little_bytes 8 w)))))
+    let t : take at (padded_bytes xs) ≡ xs = take_at xs (zero_bytes (512 - length xs)) at len in
+    let d : drop (at + 8) (padded_bytes xs) ≡ zero_bytes (512 - length (xs ++ little_bytes 8 w)) =
+    sym (drop-drop 8 at (padded_bytes xs)) ∙ ap (drop 8) (drop_at xs (zero_bytes (512 - length xs)) at len) ∙ drop-replicate 8 (512 - length xs) 0 ∙ ap (λ (n : ℕ). zero_bytes n) (omega (arith, len, len')) in
+    rw (t, d) (sym (append_assoc xs (little_bytes 8 w) (zero_bytes (512 - length (xs ++ little_bytes 8 w)))))
 
 -- ---- what is put is read
 
-words_zero : (n : ℕ) → numbers n (zeros (8 * n)) ≡ zeros n
+words_zero : (n : ℕ) → numbers n (zero_bytes (8 * n)) ≡ zero_bytes n
 unfolding numbers
 words_zero zero = refl
 words_zero (suc n) = let e : 8 * suc n ≡ suc (suc (suc (suc (suc (suc (suc (suc (8 * n)))))))) = omega arith in rw e (ap (λ (ws : List ℕ). 0 ∷ ws) (words_zero n))
 
-words_back : (es : List Range) (m : ℕ) → AllByRecursion FitsEntry es → numbers (length es + m) (payload es ++ zeros (8 * m)) ≡ map entry_number es ++ zeros m
+words_back : (es : List Range) (m : ℕ) → AllByRecursion FitsEntry es → numbers (length es + m) (payload es ++ zero_bytes (8 * m)) ≡ map entry_number es ++ zero_bytes m
 unfolding numbers
 words_back [] m f = let e : 0 + m ≡ m = omega arith in rw e (words_zero m)
 words_back (r ∷ rs) m f =
     let n : suc (length rs) + m ≡ suc (length rs + m) = omega arith in
     let wide : entry_number r < 256 ^ 8 = omega (arith, f.0.0, f.0.1) in
-    let front = little_number-reads_back 8 (entry_number r) (payload rs ++ zeros (8 * m)) wide in
+    let front = little_number-reads_back 8 (entry_number r) (payload rs ++ zero_bytes (8 * m)) wide in
     rw (n, front) (ap (λ (ws : List ℕ). entry_number r ∷ ws) (words_back rs m f.1))
 
-unused : (m : ℕ) → filter is_used (map entry_of (zeros m)) ≡ []
+unused : (m : ℕ) → filter is_used (map trim_entry (zero_bytes m)) ≡ []
 unused zero = refl
 unused (suc m) = unused m
 
-range_back : (r : Range) → FitsEntry r → entry_of (entry_number r) ≡ r
+range_back : (r : Range) → FitsEntry r → trim_entry (entry_number r) ≡ r
 range_back r f =
     let l : entry_number r / 2 ^ 0 % 2 ^ 48 ≡ r.lba = omega (arith, f.0, f.1) in
     let c : entry_number r / 2 ^ 48 % 2 ^ 16 ≡ r.count = omega (arith, f.0, f.1) in
     rw (l, c) refl
 
-kept : (es : List Range) (m : ℕ) → AllByRecursion FitsEntry es → filter is_used (map entry_of (map entry_number es ++ zeros m)) ≡ filter is_used es
+kept : (es : List Range) (m : ℕ) → AllByRecursion FitsEntry es → filter is_used (map trim_entry (map entry_number es ++ zero_bytes m)) ≡ filter is_used es
 kept [] m f = unused m
 kept (r ∷ rs) m f =
-    ap (λ (x : Range). filter is_used (x ∷ map entry_of (map entry_number rs ++ zeros m))) (range_back r f.0)
-    ∙ filter_front r (map entry_of (map entry_number rs ++ zeros m))
+    ap (λ (x : Range). filter is_used (x ∷ map trim_entry (map entry_number rs ++ zero_bytes m))) (range_back r f.0)
+    ∙ filter_front r (map trim_entry (map entry_number rs ++ zero_bytes m))
     ∙ ap (λ (x : List Range). filter is_used (r ∷ []) ++ x) (kept rs m f.1)
     ∙ sym (filter_front r rs)
 
-pub block_back : (es : List Range) → AllByRecursion FitsEntry es → length es ≤ 64 → trimmed (block_of (payload es)) ≡ filter is_used es
+pub block_back : (es : List Range) → AllByRecursion FitsEntry es → length es ≤ 64 → trimmed (padded_bytes (payload es)) ≡ filter is_used es
 unfolding trimmed
 block_back es f room =
     let n : 64 ≡ length es + (64 - length es) = omega arith in
     let z : 512 - length (payload es) ≡ 8 * (64 - length es) = omega (arith, length_payload es) in
-    ap (λ (k : ℕ). filter is_used (map entry_of (numbers k (block_of (payload es))))) n
-    ∙ ap (λ (k : ℕ). filter is_used (map entry_of (numbers (length es + (64 - length es)) (payload es ++ zeros k)))) z
-    ∙ ap (λ (ws : List ℕ). filter is_used (map entry_of ws)) (words_back es (64 - length es) f)
+    ap (λ (k : ℕ). filter is_used (map trim_entry (numbers k (padded_bytes (payload es))))) n
+    ∙ ap (λ (k : ℕ). filter is_used (map trim_entry (numbers (length es + (64 - length es)) (payload es ++ zero_bytes k)))) z
+    ∙ ap (λ (ws : List ℕ). filter is_used (map trim_entry ws)) (words_back es (64 - length es) f)
     ∙ kept es (64 - length es) f
 
 fits_append : (xs ys : List Range) → AllByRecursion FitsEntry xs → AllByRecursion FitsEntry ys → AllByRecursion FitsEntry (xs ++ ys)
@@ -121,18 +121,18 @@ entries_past (r ∷ rs) (suc i) d h =
     ap (λ (n : ℕ). payload (take n (r ∷ rs))) k ∙ ap (λ (x : List ℕ). little_bytes 8 (entry_number r) ++ x) (entries_past rs i d (omega (arith, h)))
 
 -- a turn of the loop that writes
-pub writes_next : (es : List Range) (place w : ℕ) (d : Range) (old new : List ℕ) → place < length es → length es ≤ 64 → old ≡ block_of (payload (take place es)) → w ≡ entry_number (get_or es place d)
-    → new ≡ take (8 * place) old ++ (little_bytes 8 w ++ drop (8 * place + 8) old) → new ≡ block_of (payload (take (place + 1) es))
+pub writes_next : (es : List Range) (place w : ℕ) (d : Range) (old new : List ℕ) → place < length es → length es ≤ 64 → old ≡ padded_bytes (payload (take place es)) → w ≡ entry_number (get_or es place d)
+    → new ≡ take (8 * place) old ++ (little_bytes 8 w ++ drop (8 * place + 8) old) → new ≡ padded_bytes (payload (take (place + 1) es))
 writes_next es place w d old new lt room is wis put =
     let len : length (payload (take place es)) ≡ 8 * place = omega (arith, length_payload (take place es), length-take place es) in
     put
     ∙ ap (λ (o : List ℕ). take (8 * place) o ++ (little_bytes 8 w ++ drop (8 * place + 8) o)) is
     ∙ put_next (payload (take place es)) (8 * place) w len (omega arith)
-    ∙ ap (λ (x : ℕ). block_of (payload (take place es) ++ little_bytes 8 x)) wis
-    ∙ ap block_of (sym (entries_past es place d lt))
+    ∙ ap (λ (x : ℕ). padded_bytes (payload (take place es) ++ little_bytes 8 x)) wis
+    ∙ ap padded_bytes (sym (entries_past es place d lt))
 
 -- a turn of the loop that reads
-pub reads_next : (i : ℕ) (block : List ℕ) (r : Range) (out new : List Range) → i < 64 → r ≡ entry_of (little_number 8 (drop (8 * i) block)) → new ≡ out ++ filter is_used (r ∷ []) → out ++ rest_of i block ≡ trimmed block
+pub reads_next : (i : ℕ) (block : List ℕ) (r : Range) (out new : List Range) → i < 64 → r ≡ trim_entry (little_number 8 (drop (8 * i) block)) → new ≡ out ++ filter is_used (r ∷ []) → out ++ rest_of i block ≡ trimmed block
     → new ++ rest_of (i + 1) block ≡ trimmed block
 reads_next i block r out new lt ris pushed so_far =
     ap (λ (x : List Range). x ++ rest_of (i + 1) block) pushed

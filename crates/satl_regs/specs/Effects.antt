@@ -125,13 +125,13 @@ writing how lba sectors given m =
     }
 
 -- it ends bad with this error, and nothing changes (ACS-3, error outputs)
-pub record IsRefused (error lba : ℕ) (x : Traffic) (old new : Medium) : Type 0 where
+pub record EndsBad (error lba : ℕ) (x : Traffic) (old new : Medium) : Type 0 where
   pub ends : x.ended ≡ bad_end x.registers error lba
   pub data_in : x.taken ≡ x.given
   pub medium : new ≡ old
 
 -- it is carried out: the blocks that it reads stand in front in the pages, and the drive is active (ACS-3, normal outputs)
-pub record IsCarriedOut (t : Transfer) (x : Traffic) (old new : Medium) : Type 0 where
+pub record EndsInFull (t : Transfer) (x : Traffic) (old new : Medium) : Type 0 where
   pub ends : x.ended ≡ good_end x.registers 0 0
   pub data_in : x.taken ≡ t.reads ++ drop (length t.reads) x.given
   pub medium : new ≡ record old { cells = whole old.cells t.writes; active = true }
@@ -157,9 +157,9 @@ pub record IsFlawed (t : Transfer) (at : ℕ) (x : Traffic) (old new : Medium) :
 abbrev pub Carries : Transfer → Traffic → Medium → Medium → Type 0
 Carries t x old new =
     MatchBool (nat_lt (length old.cells) (t.lba + t.sectors))
-    (IsRefused idnf x.registers.lba x old new)
+    (EndsBad idnf x.registers.lba x old new)
     (MatchOption (first_flaw t.stopped_by old.cells t.lba t.sectors)
-    (IsCarriedOut t x old new ⊎ IsGarbled t x old new)
+    (EndsInFull t x old new ⊎ IsGarbled t x old new)
     (λ at. IsFlawed t at x old new))
 
 -- IDENTIFY DEVICE: the data stand in the first page (ACS-3, IDENTIFY DEVICE)
@@ -306,16 +306,16 @@ HasEffect (commands.Verify ext lba sectors) x old new = Carries (verifying ext l
 HasEffect (commands.Flush ext) x old new = EndsGood 0 0 x (all_settled old) new
 HasEffect commands.Identify x old new = IsIdentified x old new
 HasEffect (commands.SetFeatures what) x old new =
-    MatchOption (settable old.identify (setting_of what)) (IsRefused abrt 0 x old new) (λ setting. IsSet setting x old new)
+    MatchOption (settable old.identify (setting_of what)) (EndsBad abrt 0 x old new) (λ setting. IsSet setting x old new)
 HasEffect commands.Standby x old new = EndsGood 0 0 x (record old { active = false }) new
 HasEffect commands.Idle x old new = EndsGood 0 0 x (record old { active = true }) new
 HasEffect commands.CheckPower x old new = EndsGood (power_count old.active) 0 x old new
 HasEffect (commands.ReadLog log page blocks) x old new =
-    MatchBool (is_error_log log page blocks) (IsLogged no_error_log x old new) (IsRefused abrt 0 x old new)
+    MatchBool (is_error_log log page blocks) (IsLogged no_error_log x old new) (EndsBad abrt 0 x old new)
 HasEffect (commands.Trim blocks) x old new =
-    MatchBool (is_no_trim blocks x.given old) (IsRefused abrt 0 x old new) (Carries (trimming blocks x.given old) x old new)
+    MatchBool (is_no_trim blocks x.given old) (EndsBad abrt 0 x old new) (Carries (trimming blocks x.given old) x old new)
 HasEffect commands.SmartStatus x old new = EndsGood 0 (0xC24F * 2 ^ 8) x old new
-HasEffect (commands.Other code) x old new = IsRefused abrt 0 x old new
+HasEffect (commands.Other code) x old new = EndsBad abrt 0 x old new
 
 -- the effect of the command in the registers (ACS-3 section 7)
 abbrev pub Ata : Traffic → Medium → Medium → Type 0

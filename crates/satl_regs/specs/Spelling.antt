@@ -7,13 +7,14 @@ use Rattle.satl_regs.specs.declared.values.AtaCommand.TheVariants as commands
 use Rattle.satl_regs.specs.Commands.{code_of, is_ext, row_of}
 
 -- A command without an address of its own. DEVICE(6) is 1 in each.
-abbrev pub plain : ℕ → ℕ → ℕ → ℕ → Registers
-plain features count lba code = record { features = features; count = count; lba = lba; device = 0x40; command = code }
+abbrev pub plain_registers : ℕ → ℕ → ℕ → ℕ → Registers
+plain_registers features count lba code =
+    record { features = features; count = count; lba = lba; device = 0x40; command = code }
 
 -- A command that names sectors: in 48 bits of LBA and 16 of COUNT, or in 28 and 8, with LBA(27:24) in DEVICE(3:0).
 abbrev pub addressed : Bool → ℕ → ℕ → ℕ → Registers
 addressed ext lba sectors code =
-    if ext then plain 0 (bits_of 15 0 sectors) lba code
+    if ext then plain_registers 0 (bits_of 15 0 sectors) lba code
     else record {
       features = 0;
       count = bits_of 7 0 sectors;
@@ -27,17 +28,17 @@ abbrev pub spelled_with : AtaCommand → ℕ → Registers
 spelled_with (commands.Read how lba sectors) = addressed (is_ext how) lba sectors
 spelled_with (commands.Write how lba sectors) = addressed (is_ext how) lba sectors
 spelled_with (commands.Verify ext lba sectors) = addressed ext lba sectors
-spelled_with (commands.Flush ext) = plain 0 0 0
-spelled_with commands.Identify = plain 0 0 0
-spelled_with (commands.SetFeatures what) = plain what 0 0
-spelled_with commands.Standby = plain 0 0 0
-spelled_with commands.Idle = plain 0 0 0
-spelled_with commands.CheckPower = plain 0 0 0
+spelled_with (commands.Flush ext) = plain_registers 0 0 0
+spelled_with commands.Identify = plain_registers 0 0 0
+spelled_with (commands.SetFeatures what) = plain_registers what 0 0
+spelled_with commands.Standby = plain_registers 0 0 0
+spelled_with commands.Idle = plain_registers 0 0 0
+spelled_with commands.CheckPower = plain_registers 0 0 0
 spelled_with (commands.ReadLog log page blocks) =
-    plain 0 (bits_of 15 0 blocks) (log + bits_of 7 0 page * 2 ^ 8 + bits_of 15 8 page * 2 ^ 32)
-spelled_with (commands.Trim blocks) = plain 1 (bits_of 15 0 blocks) 0
-spelled_with commands.SmartStatus = plain 0xDA 0 (0xC24F * 2 ^ 8)
-spelled_with (commands.Other code) = plain 0 0 0
+    plain_registers 0 (bits_of 15 0 blocks) (log + bits_of 7 0 page * 2 ^ 8 + bits_of 15 8 page * 2 ^ 32)
+spelled_with (commands.Trim blocks) = plain_registers 1 (bits_of 15 0 blocks) 0
+spelled_with commands.SmartStatus = plain_registers 0xDA 0 (0xC24F * 2 ^ 8)
+spelled_with (commands.Other code) = plain_registers 0 0 0
 
 -- The registers of a command.
 unfoldable pub command_registers : AtaCommand → Registers
@@ -49,8 +50,8 @@ pub record Reaches (ext : Bool) (lba sectors : ℕ) : Type 0 where
   pub some : 1 ≤ sectors
   pub most : sectors ≤ (if ext then 65536 else 256)
 
-abbrev pub Counts : ℕ → Type 0
-Counts blocks = (1 ≤ blocks) × (blocks ≤ 65536)
+abbrev pub IsBlockCount : ℕ → Type 0
+IsBlockCount blocks = (1 ≤ blocks) × (blocks ≤ 65536)
 
 -- The fields of a command fit its registers. `Other` is spelled by its code alone, so it fits where that spells no
 -- command of the table.
@@ -64,7 +65,7 @@ CommandFits (commands.SetFeatures what) = what < 2 ^ 8
 CommandFits commands.Standby = Unit {0}
 CommandFits commands.Idle = Unit {0}
 CommandFits commands.CheckPower = Unit {0}
-CommandFits (commands.ReadLog log page blocks) = (log < 2 ^ 8) × (page < 2 ^ 16) × Counts blocks
-CommandFits (commands.Trim blocks) = Counts blocks
+CommandFits (commands.ReadLog log page blocks) = (log < 2 ^ 8) × (page < 2 ^ 16) × IsBlockCount blocks
+CommandFits (commands.Trim blocks) = IsBlockCount blocks
 CommandFits commands.SmartStatus = Unit {0}
-CommandFits (commands.Other code) = IsNone (row_of (plain 0 0 0 code))
+CommandFits (commands.Other code) = IsNone (row_of (plain_registers 0 0 0 code))

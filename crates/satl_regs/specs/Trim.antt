@@ -9,8 +9,8 @@ use Rattle.satl_base.specs.declared.block.Range.{Range}
 abbrev pub entry_number : Range → ℕ
 entry_number r = r.lba + r.count * 2 ^ 48
 
-abbrev pub entry_of : ℕ → Range
-entry_of number = record { lba = bits_of 47 0 number; count = bits_of 63 48 number }
+abbrev pub trim_entry : ℕ → Range
+trim_entry number = record { lba = bits_of 47 0 number; count = bits_of 63 48 number }
 
 -- A count has 16 bits, so a range of 65,536 blocks takes two entries.
 abbrev pub split : Range → List Range
@@ -26,16 +26,16 @@ abbrev pub payload : List Range → List ℕ
 payload [] = []
 payload (r ∷ rs) = little_bytes 8 (entry_number r) ++ payload rs
 
-abbrev pub zeros : ℕ → List ℕ
-zeros n = replicate n 0
+abbrev pub zero_bytes : ℕ → List ℕ
+zero_bytes n = replicate n 0
 
 -- A block that begins with these bytes; all others are 0.
-abbrev pub block_of : List ℕ → List ℕ
-block_of bytes = bytes ++ zeros (512 - length bytes)
+abbrev pub padded_bytes : List ℕ → List ℕ
+padded_bytes bytes = bytes ++ zero_bytes (512 - length bytes)
 
 -- The block that trims these ranges.
 abbrev pub trim_block : List Range → List ℕ
-trim_block ranges = block_of (payload (entries ranges))
+trim_block ranges = padded_bytes (payload (entries ranges))
 
 -- The numbers of 8 bytes each that stand in a list of bytes, n of them.
 unfoldable pub numbers : ℕ → List ℕ → List ℕ
@@ -48,7 +48,7 @@ is_used r = not (r.count == 0)
 
 -- The ranges that a block trims.
 unfoldable pub trimmed : List ℕ → List Range
-trimmed block = filter is_used (map entry_of (numbers 64 block))
+trimmed block = filter is_used (map trim_entry (numbers 64 block))
 
 -- A range that entries can name: 48 bits of LBA, and at most 65,536 blocks.
 pub record IsTrimmable (r : Range) : Type 0 where

@@ -4,7 +4,7 @@ ghost use Rattle.std.specs.Prelude.{◌≡◌, ◌+◌, ◌*◌, ◌<◌, ◌≤
 ghost use Rattle.std.specs.List.{filter, AllByRecursion};
 ghost use Rattle.byteorder.specs.Endian.{little_bytes, little_number};
 ghost use Rattle.arrayvec.specs.ArrayVec.{array_vec_len};
-ghost use Rattle.satl_regs.specs.Trim.{FitsEntry, IsTrimList, IsTrimmable, addresses, block_of, entries, entry_number, entry_of, is_used, payload, split, trim_block, trimmed};
+ghost use Rattle.satl_regs.specs.Trim.{FitsEntry, IsTrimList, IsTrimmable, addresses, entries, entry_number, is_used, padded_bytes, payload, split, trim_block, trim_entry, trimmed};
 
 use crate::fields::low_48;
 use arrayvec::ArrayVec;
@@ -59,7 +59,7 @@ fn put_number(bytes: &mut [u8; 512], at: usize, number: u64)
 fn filled(entries: &[Range]) -> [u8; 512]
     requires fits { AllByRecursion FitsEntry entries.now }
     requires room { length entries.now ≤ 64 }
-    ensures { result ≡ block_of (payload entries.now) }
+    ensures { result ≡ padded_bytes (payload entries.now) }
 {
     let mut bytes = [0u8; 512];
     for (place, entry) in entries.iter().enumerate() {
@@ -85,7 +85,7 @@ pub fn trim_bytes(ranges: &[Range]) -> Block
 
 fn entry_in(block: &[u8; 512], at: usize) -> Range
     requires { at + 8 ≤ 512 }
-    ensures { result ≡ entry_of (little_number 8 (drop at block.now)) }
+    ensures { result ≡ trim_entry (little_number 8 (drop at block.now)) }
 {
     let number = LittleEndian::read_u64(&block[at..]);
     Range {

@@ -3,7 +3,7 @@
 ghost use Rattle.std.specs.Prelude.{◌≡◌, ◌+◌, ◌*◌, ◌^◌, true, false};
 ghost use Rattle.satl_base.specs.Fields.{bits_of};
 ghost use Rattle.satl_regs.specs.Commands.{command_in, read_code, write_code};
-ghost use Rattle.satl_regs.specs.Spelling.{CommandFits, addressed, command_registers, plain};
+ghost use Rattle.satl_regs.specs.Spelling.{CommandFits, addressed, command_registers, plain_registers};
 
 use crate::fields::low_16;
 use crate::values::{AtaCommand, How, Registers};
@@ -31,7 +31,7 @@ fn write_code_of(how: How) -> u8
 }
 
 fn code_alone(code: u8) -> Registers
-    ensures { result ≡ plain 0 0 0 code }
+    ensures { result ≡ plain_registers 0 0 0 code }
 {
     Registers {
         features: 0,
@@ -74,7 +74,8 @@ fn put_sectors(code: u8, ext: bool, lba: u64, sectors: u32) -> Registers
 }
 
 fn put_log(log: u8, page: u16, blocks: u32) -> Registers
-    ensures { result ≡ plain 0 (bits_of 15 0 blocks) (log + bits_of 7 0 page * 2 ^ 8 + bits_of 15 8 page * 2 ^ 32) 0x2F }
+    ensures { result ≡ plain_registers 0 (bits_of 15 0 blocks)
+        (log + bits_of 7 0 page * 2 ^ 8 + bits_of 15 8 page * 2 ^ 32) 0x2F }
 {
     let lba = u64::from(log) + (u64::from(page & 0xFF) << 8) + (u64::from(page >> 8) << 32);
     Registers {
@@ -85,7 +86,7 @@ fn put_log(log: u8, page: u16, blocks: u32) -> Registers
 }
 
 fn put_trim(blocks: u32) -> Registers
-    ensures { result ≡ plain 1 (bits_of 15 0 blocks) 0 0x06 }
+    ensures { result ≡ plain_registers 1 (bits_of 15 0 blocks) 0 0x06 }
 {
     Registers {
         features: 1,
@@ -95,7 +96,7 @@ fn put_trim(blocks: u32) -> Registers
 }
 
 fn put_smart_status() -> Registers
-    ensures { result ≡ plain 0xDA 0 (0xC24F * 2 ^ 8) 0xB0 }
+    ensures { result ≡ plain_registers 0xDA 0 (0xC24F * 2 ^ 8) 0xB0 }
 {
     Registers {
         features: 0xDA,
@@ -105,7 +106,7 @@ fn put_smart_status() -> Registers
 }
 
 fn put_set_features(what: u8) -> Registers
-    ensures { result ≡ plain what 0 0 0xEF }
+    ensures { result ≡ plain_registers what 0 0 0xEF }
 {
     Registers {
         features: u16::from(what),

@@ -16,7 +16,7 @@ use Rattle.satl_direct.specs.Run.{depth}
 use Rattle.satl_direct.specs.Tasks.{over}
 use Rattle.satl_scenarios.specs.Commands.{compared, ends_with, miscompared, same_written, started, stopped, stopped_unflushed, unmap_list, unmapped, verify_failed, written}
 use Rattle.satl_scenarios.specs.Scenario.{CanHappen}
-use Rattle.satl_scenarios.specs.Devices.{aa, bb, holds, unreadable, zeros}
+use Rattle.satl_scenarios.specs.Devices.{aa, bb, lasts, unreadable, zeros}
 use Rattle.satl_scenarios.specs.Requests.{task, with_task}
 use Rattle.satl_scenarios.proofs.Building.{it_can_happen, one_turn}
 use Rattle.satl_scenarios.proofs.Building.Follows.{next, ends_here}
@@ -51,11 +51,11 @@ blocks_miscompared = turn_ends (Verify Ten 0 2 true) (aa ∷ bb ∷ []) written 
 
 pub flaw_found : CanHappen verify_failed
 unfolding fixed_form
-flaw_found = turn_ends (Verify Ten 0 2 false) [] (holds zeros ∷ unreadable zeros ∷ []) _ verify_failed.last (record { answer = refl; stays = refl }) refl refl
+flaw_found = turn_ends (Verify Ten 0 2 false) [] (lasts zeros ∷ unreadable zeros ∷ []) _ verify_failed.last (record { answer = refl; stays = refl }) refl refl
 
 pub same_everywhere : CanHappen same_written
 same_everywhere = turn_ends (WriteSame Ten 0 2 false) (bb ∷ []) written _ same_written.last (inr (record { answer = refl; stays = refl })) refl refl
 
 pub blocks_unmapped : CanHappen unmapped
 unfolding unmap_list descriptor descriptors_from
-blocks_unmapped = turn_ends (Unmap 24) (unmap_list ∷ []) (holds aa ∷ holds bb ∷ []) _ unmapped.last (done (ranged_trim (over 1 1 ∷ [])) _ (task 1 (Unmap 24) (unmap_list ∷ [])) refl) refl refl
+blocks_unmapped = turn_ends (Unmap 24) (unmap_list ∷ []) (lasts aa ∷ lasts bb ∷ []) _ unmapped.last (done (ranged_trim (over 1 1 ∷ [])) _ (task 1 (Unmap 24) (unmap_list ∷ [])) refl) refl refl

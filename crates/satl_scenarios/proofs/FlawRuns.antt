@@ -13,7 +13,7 @@ use Rattle.satl_direct.specs.Tasks.{over}
 use Rattle.satl_direct.specs.Run.TurnsOf.{none}
 use Rattle.satl_scenarios.specs.Scenario.{CanHappen}
 use Rattle.satl_scenarios.specs.Flaws.{flaw_among_writes, torn_write, garbled_read, spared_read, described}
-use Rattle.satl_scenarios.specs.Devices.{aa, bb, blank, device, cached_over, holds, unreadable, unwritable, zeros}
+use Rattle.satl_scenarios.specs.Devices.{aa, bb, blank, device, cached_over, lasts, unreadable, unwritable, zeros}
 use Rattle.satl_scenarios.specs.Requests.{task}
 use Rattle.satl_scenarios.proofs.Building.{it_can_happen, arrives, drained, happens, one_turn, turn_more}
 use Rattle.satl_scenarios.proofs.Building.Follows.{next, ends_here}
@@ -32,10 +32,10 @@ high_write = task 3 (Write Ten 2 1 false) (bb ∷ [])
 
 -- the device with the flaw, and once the first write is done, and the other
 abbrev struck : Device
-struck = device (holds zeros ∷ unreadable zeros ∷ holds zeros ∷ [])
+struck = device (lasts zeros ∷ unreadable zeros ∷ lasts zeros ∷ [])
 
 abbrev low_written : Device
-low_written = device (cached_over zeros aa ∷ unreadable zeros ∷ holds zeros ∷ [])
+low_written = device (cached_over zeros aa ∷ unreadable zeros ∷ lasts zeros ∷ [])
 
 abbrev both_written : Device
 both_written = device (cached_over zeros aa ∷ unreadable zeros ∷ cached_over zeros bb ∷ [])
@@ -73,7 +73,7 @@ abbrev torn_task : Entry
 torn_task = task 1 (Write Ten 0 2 false) (aa ∷ bb ∷ [])
 
 abbrev worn : Device
-worn = device (holds zeros ∷ unwritable zeros ∷ [])
+worn = device (lasts zeros ∷ unwritable zeros ∷ [])
 
 abbrev torn : Device
 torn = device (cached_over zeros aa ∷ unwritable zeros ∷ [])
@@ -102,7 +102,7 @@ read_garbled =
     it_can_happen garbled_read
     (next (happens [] (record (blank 2) { glitches = 1 }) (record { none = refl; new_is = refl }))
     (next (arrives [] (record (blank 2) { glitches = 1; tasks = first_read ∷ [] }) (refl, refl))
-    (next (one_turn (blank 2) (ended first_read (inl refl) (glitched (ranged_read false (over 0 1)) (holds zeros ∷ holds zeros ∷ []) 0 _ first_read refl refl refl)))
+    (next (one_turn (blank 2) (ended first_read (inl refl) (glitched (ranged_read false (over 0 1)) (lasts zeros ∷ lasts zeros ∷ []) 0 _ first_read refl refl refl)))
     (next (arrives [] (record (blank 2) { tasks = second_read ∷ [] }) (refl, refl))
     (next (one_turn (blank 2) (ended second_read (inl refl) (done (ranged_read false (over 0 1)) _ second_read refl)))
     ends_here)))))

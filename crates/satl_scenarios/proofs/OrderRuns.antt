@@ -14,7 +14,7 @@ use Rattle.satl_direct.specs.Tasks.{over}
 use Rattle.satl_direct.specs.Run.TurnsOf.{none}
 use Rattle.satl_scenarios.specs.Orders.{torn_out_of_order, written_out_of_order}
 use Rattle.satl_scenarios.specs.Scenario.{CanHappen}
-use Rattle.satl_scenarios.specs.Devices.{aa, bb, blank, cached_over, device, holds, zeros}
+use Rattle.satl_scenarios.specs.Devices.{aa, bb, blank, cached_over, device, lasts, zeros}
 use Rattle.satl_scenarios.specs.Requests.{read, task, write}
 use Rattle.satl_scenarios.proofs.Building.{it_can_happen, arrives, drained, happens, turn_more, turns}
 use Rattle.satl_scenarios.proofs.Building.Follows.{next, ends_here}
@@ -39,7 +39,7 @@ abbrev told : List Cell → List Entry → Device
 told cells tasks = record written_out_of_order.last { cells = cells; tasks = tasks }
 
 abbrev low_and_high : List Cell
-low_and_high = cached_over zeros aa ∷ cached_over zeros bb ∷ holds zeros ∷ []
+low_and_high = cached_over zeros aa ∷ cached_over zeros bb ∷ lasts zeros ∷ []
 
 pub writes_out_of_order : CanHappen written_out_of_order
 unfolding says accesses_conflict fixed_form
@@ -54,7 +54,7 @@ writes_out_of_order =
     (turn_more written_out_of_order.last
     (turn_more (told low_and_high (flush ∷ []))
     (turn_more (told low_and_high (both ∷ flush ∷ []))
-    (turn_more (told (holds zeros ∷ cached_over zeros bb ∷ holds zeros ∷ []) (low ∷ both ∷ flush ∷ [])) none
+    (turn_more (told (lasts zeros ∷ cached_over zeros bb ∷ lasts zeros ∷ []) (low ∷ both ∷ flush ∷ [])) none
     (ended high (inr (refl, inl refl)) (done (ranged_write false (over 1 1) (bb ∷ [])) _ high refl)))
     (ended low (inl refl) (done (ranged_write false (over 0 1) (aa ∷ [])) _ low refl)))
     (ended both (inl refl) (done (ranged_read false (over 0 2)) _ both refl)))
@@ -81,7 +81,7 @@ abbrev glitchy : List Entry → Device
 glitchy tasks = record (blank 3) { glitches = 1; tasks = tasks }
 
 abbrev torn_cells : List Cell
-torn_cells = holds zeros ∷ cached_over zeros bb ∷ cached_over zeros aa ∷ []
+torn_cells = lasts zeros ∷ cached_over zeros bb ∷ cached_over zeros aa ∷ []
 
 pub writes_torn : CanHappen torn_out_of_order
 unfolding says accesses_conflict fixed_form
@@ -94,7 +94,7 @@ writes_torn =
     (next (turns
     (turn_more (device torn_cells)
     (turn_more (record (device torn_cells) { tasks = over_all ∷ [] })
-    (turn_more (record (device (holds zeros ∷ holds zeros ∷ cached_over zeros aa ∷ [])) { glitches = 1; tasks = long ∷ over_all ∷ [] }) none
+    (turn_more (record (device (lasts zeros ∷ lasts zeros ∷ cached_over zeros aa ∷ [])) { glitches = 1; tasks = long ∷ over_all ∷ [] }) none
     (ended short (inr (refl, inl refl)) (done (ranged_write false (over 2 1) (aa ∷ [])) _ short refl)))
     (ended long (inl refl) (glitched (ranged_write false (over 0 2) (aa ∷ bb ∷ [])) torn_cells 0 _ long refl (inl (inr refl)) refl)))
     (ended over_all (inl refl) (done (ranged_read false (over 0 3)) _ over_all refl))))

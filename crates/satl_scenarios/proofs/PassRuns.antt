@@ -15,7 +15,7 @@ use Rattle.satl_direct.specs.Tasks.{pass_of}
 use Rattle.satl_scenarios.specs.Commands.{written}
 use Rattle.satl_scenarios.specs.Passes.{cache_disabled, identified, identify, power_checked, through, unreadable_through, write_block, written_through}
 use Rattle.satl_scenarios.specs.Scenario.{CanHappen}
-use Rattle.satl_scenarios.specs.Devices.{bb, device, filled, holds, identify_data, unreadable, zeros}
+use Rattle.satl_scenarios.specs.Devices.{bb, device, filled, identify_data, lasts, unreadable, zeros}
 use Rattle.satl_scenarios.proofs.CommandRuns.{turn_ends}
 
 abbrev identify_data_2 : Block
@@ -72,7 +72,7 @@ block_written =
 pub block_unreadable : CanHappen unreadable_through
 unfolding command_in row_of pages_of pages_from padded_block fixed_form error_sense
 block_unreadable =
-    turn_ends (Pass (through 0x0D 0x0E 0 1 1 0x40 0x25)) [] (holds zeros ∷ unreadable zeros ∷ []) _ unreadable_through.last
+    turn_ends (Pass (through 0x0D 0x0E 0 1 1 0x40 0x25)) [] (lasts zeros ∷ unreadable zeros ∷ []) _ unreadable_through.last
     (record {
       given = zeros ∷ [];
       data_out = λ out. absurd cc;

@@ -14,7 +14,7 @@ use Rattle.satl_laws.specs.Passing.{lies_in}
 use Rattle.satl_laws.proofs.Seen.{by_test, within_from}
 use Rattle.satl_scenarios.specs.Orders.{IsOfPassing, four_waiting, passed_where_apart, reads_second, reads_two, writes_second, writes_third}
 use Rattle.satl_scenarios.specs.Scenario.{CanHappen}
-use Rattle.satl_scenarios.specs.Devices.{aa, bb, blank, cached_over, device, holds, zeros}
+use Rattle.satl_scenarios.specs.Devices.{aa, bb, blank, cached_over, device, lasts, zeros}
 use Rattle.satl_scenarios.specs.Requests.{cdb_10, request}
 use Rattle.satl_scenarios.proofs.Building.{it_can_happen, turn_more, turns}
 use Rattle.satl_scenarios.proofs.Building.Follows.{next, ends_here}
@@ -26,7 +26,7 @@ abbrev left : List Cell → List Entry → Device
 left cells tasks = record (device cells) { tasks = tasks }
 
 abbrev third_written : List Cell
-third_written = holds zeros ∷ holds zeros ∷ cached_over zeros aa ∷ []
+third_written = lasts zeros ∷ lasts zeros ∷ cached_over zeros aa ∷ []
 
 pub transfers_pass : CanHappen passed_where_apart
 unfolding accesses_conflict

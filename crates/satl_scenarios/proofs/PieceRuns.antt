@@ -18,7 +18,7 @@ use Rattle.satl_direct.specs.Tasks.{over}
 use Rattle.satl_scenarios.specs.Commands.{written}
 use Rattle.satl_scenarios.specs.Pieces.{compare_flawed, compare_garbled, flawed_at_the_end, glitchy_ends, glitchy_with, same_garbled, same_garbled_before_the_flaw, same_torn, same_unmapped}
 use Rattle.satl_scenarios.specs.Scenario.{CanHappen}
-use Rattle.satl_scenarios.specs.Devices.{aa, bb, holds, unreadable, zeros}
+use Rattle.satl_scenarios.specs.Devices.{aa, bb, lasts, unreadable, zeros}
 use Rattle.satl_scenarios.specs.Requests.{task}
 use Rattle.satl_scenarios.proofs.Building.{it_can_happen, one_turn}
 use Rattle.satl_scenarios.proofs.Building.Follows.{next, ends_here}
@@ -59,24 +59,24 @@ garbled_partly =
 pub torn_in_the_second_piece : CanHappen same_torn
 unfolding fixed_form over_all
 torn_in_the_second_piece =
-    glitchy_turn (WriteSame Ten 0 65 false) (bb ∷ []) (flawed_at_the_end (holds zeros)) _ same_torn.last
+    glitchy_turn (WriteSame Ten 0 65 false) (bb ∷ []) (flawed_at_the_end (lasts zeros)) _ same_torn.last
     (inr (torn _ (over_all 0 64) (over_all 64 1) 64 same_torn.last.cells same_torn.first (task 1 (WriteSame Ten 0 65 false) (bb ∷ [])) refl refl)) refl refl
 
 pub garbled_in_the_first_piece : CanHappen same_garbled_before_the_flaw
 unfolding fixed_form over_all
 garbled_in_the_first_piece =
-    glitchy_turn (WriteSame Ten 0 65 false) (bb ∷ []) (flawed_at_the_end (holds zeros)) _ same_garbled_before_the_flaw.last
+    glitchy_turn (WriteSame Ten 0 65 false) (bb ∷ []) (flawed_at_the_end (lasts zeros)) _ same_garbled_before_the_flaw.last
     (inl (refl, garbled _ [] (over_all 0 65) same_garbled_before_the_flaw.last.cells 0 same_garbled_before_the_flaw.first (task 1 (WriteSame Ten 0 65 false) (bb ∷ [])) refl refl refl)) refl refl
 
 pub same_trimmed : CanHappen same_unmapped
 same_trimmed =
-    turn_ends (WriteSame Ten 0 2 true) (zeros ∷ []) (holds aa ∷ holds bb ∷ []) _ same_unmapped.last
+    turn_ends (WriteSame Ten 0 2 true) (zeros ∷ []) (lasts aa ∷ lasts bb ∷ []) _ same_unmapped.last
     (done (ranged_trim (over 0 2 ∷ [])) _ (task 1 (WriteSame Ten 0 2 true) (zeros ∷ [])) refl) refl refl
 
 pub flaw_before_comparison : CanHappen compare_flawed
 unfolding fixed_form
 flaw_before_comparison =
-    glitchy_turn (Verify Ten 0 2 true) (aa ∷ bb ∷ []) (holds zeros ∷ unreadable zeros ∷ []) _ compare_flawed.last (record { answer = refl; stays = refl }) refl refl
+    glitchy_turn (Verify Ten 0 2 true) (aa ∷ bb ∷ []) (lasts zeros ∷ unreadable zeros ∷ []) _ compare_flawed.last (record { answer = refl; stays = refl }) refl refl
 
 pub comparison_garbled : CanHappen compare_garbled
 unfolding fixed_form

@@ -21,7 +21,7 @@ use Rattle.satl_scenarios.specs.Passes.{through}
 use Rattle.satl_scenarios.specs.Power.{caching_list, select}
 use Rattle.satl_scenarios.specs.Scenario.{CanHappen}
 use Rattle.satl_scenarios.specs.Standby.{at_rest, ends_at_rest, read_through, selected_at_rest, standby_told}
-use Rattle.satl_scenarios.specs.Devices.{aa, filled, holds, zeros}
+use Rattle.satl_scenarios.specs.Devices.{aa, filled, lasts, zeros}
 use Rattle.satl_scenarios.specs.Requests.{task, with_task}
 use Rattle.satl_scenarios.proofs.Building.{it_can_happen, one_turn}
 use Rattle.satl_scenarios.proofs.Building.Follows.{next, ends_here}
@@ -36,7 +36,7 @@ rest_turn command body cells reply last e none up =
 pub block_read_through : CanHappen read_through
 unfolding command_in row_of pages_of pages_from padded_block filled
 block_read_through =
-    rest_turn (Pass (through 0x0D 0x0E 0 1 1 0x40 0x25)) [] (holds zeros ∷ holds aa ∷ []) _ read_through.last
+    rest_turn (Pass (through 0x0D 0x0E 0 1 1 0x40 0x25)) [] (lasts zeros ∷ lasts aa ∷ []) _ read_through.last
     (record {
       given = zeros ∷ [];
       data_out = λ out. absurd cc;

@@ -13,7 +13,7 @@ use Rattle.satl_direct.specs.Tasks.{over}
 use Rattle.satl_direct.specs.Run.TurnsOf.{none}
 use Rattle.satl_scenarios.specs.Scenario.{CanHappen}
 use Rattle.satl_scenarios.specs.Transfers.{waking_read, ordered_read, written_then_read, reads_in_order, reads_in_reverse, written_past_the_cache, garbled_write}
-use Rattle.satl_scenarios.specs.Devices.{aa, bb, blank, device, cached_over, holds, zeros}
+use Rattle.satl_scenarios.specs.Devices.{aa, bb, blank, device, cached_over, lasts, zeros}
 use Rattle.satl_scenarios.specs.Requests.{read, task}
 use Rattle.satl_scenarios.proofs.Building.{it_can_happen, arrives, drained, one_turn, turn_more}
 use Rattle.satl_scenarios.proofs.Building.Follows.{next, ends_here}
@@ -29,7 +29,7 @@ read_task = task 2 (Read Ten 0 1 false) []
 
 -- the device once the block is written
 abbrev written : Device
-written = device (cached_over zeros aa ∷ holds zeros ∷ holds zeros ∷ [])
+written = device (cached_over zeros aa ∷ lasts zeros ∷ lasts zeros ∷ [])
 
 pub read_after_write : CanHappen written_then_read
 unfolding says

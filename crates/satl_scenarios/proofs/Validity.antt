@@ -10,10 +10,10 @@ use Rattle.satl_base.specs.Cells.{AreSound}
 use Rattle.satl_direct.specs.Valid.{IsValid}
 use Rattle.satl_cdb.specs.Table.{says}
 use Rattle.satl_scenarios.specs.Waiting.{two_waiting}
-use Rattle.satl_scenarios.specs.Devices.{aa, blank, filled, identify_data, identity, holds, zeros}
+use Rattle.satl_scenarios.specs.Devices.{aa, blank, filled, identify_data, identity, lasts, zeros}
 use Rattle.satl_scenarios.specs.Requests.{cdb_10, request}
 
-pub all_sound : (count : ℕ) → AreSound (replicate count (holds zeros))
+pub all_sound : (count : ℕ) → AreSound (replicate count (lasts zeros))
 all_sound zero = tt
 all_sound (suc count) = (inl refl, all_sound count)
 
@@ -27,7 +27,7 @@ unfolding identity_of identify_data
 identity_real count some few = rw (capacity_told count, ne_eqb count 0 (λ none. omega arith), le-ltb 281474976710655 count (omega arith)) refl
 
 pub blank_real : (count : ℕ) → 0 < count → count < 256 → IsIdentity (blank count).identity
-blank_real count some few = rw (length-replicate count (holds zeros)) (identity_real count some few)
+blank_real count some few = rw (length-replicate count (lasts zeros)) (identity_real count some few)
 
 pub blank_valid : (count : ℕ) → 0 < count → count < 256 → IsValid (blank count)
 blank_valid count some small = record {

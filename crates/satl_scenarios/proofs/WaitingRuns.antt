@@ -16,7 +16,7 @@ use Rattle.satl_direct.specs.Quiet.{Quiet}
 use Rattle.satl_direct.specs.Run.TurnsOf.{none}
 use Rattle.satl_scenarios.specs.Scenario.{CanBeCut, CanHappen, Scenario, events_of, silent}
 use Rattle.satl_scenarios.specs.Waiting.{aborted_half_done, overlapped_reads, full, one_too_many, cut_off}
-use Rattle.satl_scenarios.specs.Devices.{aa, blank, device, cached_over, holds, zeros}
+use Rattle.satl_scenarios.specs.Devices.{aa, blank, device, cached_over, lasts, zeros}
 use Rattle.satl_scenarios.specs.Requests.{read, task}
 use Rattle.satl_scenarios.proofs.Building.{it_can_happen, arrives, drained, manages, turn_more}
 use Rattle.satl_scenarios.proofs.Building.Follows.{next, ends_here}
@@ -26,7 +26,7 @@ use Rattle.satl_scenarios.proofs.TransferRuns.{both_wait, long_write, low_read}
 -- ---- a write is aborted
 
 abbrev half_done : Device
-half_done = device (cached_over zeros aa ∷ holds zeros ∷ [])
+half_done = device (cached_over zeros aa ∷ lasts zeros ∷ [])
 
 -- the first block shows before the write ends
 first_shows : Quiet (record (blank 2) { tasks = long_write ∷ [] }) (record half_done { tasks = long_write ∷ [] })

@@ -10,7 +10,7 @@ use Rattle.satl_frame.specs.declared.frames.Frame.TheVariants.{Turn}
 use Rattle.satl_frame.specs.Output.{Answer}
 use Rattle.satl_direct.specs.Device.{Device}
 use Rattle.satl_scenarios.specs.Scenario.{Scenario, answered}
-use Rattle.satl_scenarios.specs.Devices.{aa, bb, cached_over, device, holds, unreadable, zeros}
+use Rattle.satl_scenarios.specs.Devices.{aa, bb, cached_over, device, lasts, unreadable, zeros}
 use Rattle.satl_scenarios.specs.Replies.{check, good, sense, sense_at}
 use Rattle.satl_scenarios.specs.Requests.{with_task}
 
@@ -26,13 +26,13 @@ ends_with command body cells answer last = record {
 
 -- a sector that was written through the cache, and one that never was
 abbrev pub written : List Cell
-written = cached_over zeros aa ∷ holds zeros ∷ []
+written = cached_over zeros aa ∷ lasts zeros ∷ []
 
 -- START STOP UNIT: the unit is stopped and in standby, with all written back (SBC-3, START STOP UNIT; SAT-3)
 abbrev pub stopped : Scenario
 stopped =
     ends_with (StartStop false false) [] written (good 1 [])
-    (record (device (holds aa ∷ holds zeros ∷ [])) { started = false; active = false })
+    (record (device (lasts aa ∷ lasts zeros ∷ [])) { started = false; active = false })
 
 -- with NO_FLUSH nothing is written back
 abbrev pub stopped_unflushed : Scenario
@@ -60,14 +60,14 @@ miscompared = ends_with (Verify Ten 0 2 true) (aa ∷ bb ∷ []) written (check 
 -- VERIFY without comparison meets a flaw (SBC-3 5.33)
 abbrev pub verify_failed : Scenario
 verify_failed =
-    ends_with (Verify Ten 0 2 false) [] (holds zeros ∷ unreadable zeros ∷ []) (check 1 (sense_at 0x3 0x11 0x00 1))
-    (device (holds zeros ∷ unreadable zeros ∷ []))
+    ends_with (Verify Ten 0 2 false) [] (lasts zeros ∷ unreadable zeros ∷ []) (check 1 (sense_at 0x3 0x11 0x00 1))
+    (device (lasts zeros ∷ unreadable zeros ∷ []))
 
 -- WRITE SAME: the block at each address (SBC-3 5.42)
 abbrev pub same_written : Scenario
 same_written =
     ends_with (WriteSame Ten 0 2 false) (bb ∷ []) written (good 1 [])
-    (device (record (holds bb) { may = zeros ∷ aa ∷ bb ∷ [] } ∷ cached_over zeros bb ∷ []))
+    (device (record (lasts bb) { may = zeros ∷ aa ∷ bb ∷ [] } ∷ cached_over zeros bb ∷ []))
 
 -- a parameter list for UNMAP: one descriptor, of one block at address 1 (SBC-3 5.28.2)
 unfoldable pub unmap_list : Block
@@ -78,5 +78,5 @@ unmap_list = record {
 -- UNMAP: its blocks read as zeros (SBC-3 5.28, LBPRZ)
 abbrev pub unmapped : Scenario
 unmapped =
-    ends_with (Unmap 24) (unmap_list ∷ []) (holds aa ∷ holds bb ∷ []) (good 1 [])
-    (device (holds aa ∷ cached_over bb zero_block ∷ []))
+    ends_with (Unmap 24) (unmap_list ∷ []) (lasts aa ∷ lasts bb ∷ []) (good 1 [])
+    (device (lasts aa ∷ cached_over bb zero_block ∷ []))

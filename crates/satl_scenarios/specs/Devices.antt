@@ -22,19 +22,19 @@ abbrev pub bb : Block
 bb = filled 0xBB
 
 -- a sector without flaws, which a loss of power leaves as it is (profile)
-abbrev pub holds : Block → Cell
-holds block = record { now = block; may = block ∷ []; read_flaw = false; write_flaw = false }
+abbrev pub lasts : Block → Cell
+lasts block = record { now = block; may = block ∷ []; read_flaw = false; write_flaw = false }
 
 -- a sector that was written through the cache, over a block that a loss of power may bring back (SBC-3 4.15)
 abbrev pub cached_over : Block → Block → Cell
-cached_over old new = record (holds new) { may = old ∷ new ∷ [] }
+cached_over old new = record (lasts new) { may = old ∷ new ∷ [] }
 
 -- a sector with a flaw at which reads fail, and one at which writes fail (profile)
 abbrev pub unreadable : Block → Cell
-unreadable block = record (holds block) { read_flaw = true }
+unreadable block = record (lasts block) { read_flaw = true }
 
 abbrev pub unwritable : Block → Cell
-unwritable block = record (holds block) { write_flaw = true }
+unwritable block = record (lasts block) { write_flaw = true }
 
 -- the IDENTIFY DEVICE data of a drive of fewer than 256 sectors: LBA and DMA (word 49), trims with zeros (69, 105, 169), a
 -- queue of 32 with trims in it (75 to 77), a cache and look-ahead that are there and on (82, 85), 48-bit addresses (83; ACS-3
@@ -75,7 +75,7 @@ device cells = record {
 
 -- a device that has never been written to (profile)
 abbrev pub blank : ℕ → Device
-blank count = device (replicate count (holds zeros))
+blank count = device (replicate count (lasts zeros))
 
 -- a device just after a power cycle: each nexus is told of it (SAM-5 6.3)
 abbrev pub powered : List Cell → Device

@@ -5,7 +5,7 @@ use Rattle.satl_base.specs.declared.bench.Which.TheVariants as flaws
 use Rattle.satl_frame.specs.declared.frames.Frame.TheVariants.{Bench, End, Turn}
 use Rattle.satl_frame.specs.Output.Answer.{ended}
 use Rattle.satl_scenarios.specs.Scenario.{Scenario, answered, silent}
-use Rattle.satl_scenarios.specs.Devices.{aa, bb, blank, cached_over, device, holds, unreadable, unwritable, zeros}
+use Rattle.satl_scenarios.specs.Devices.{aa, bb, blank, cached_over, device, lasts, unreadable, unwritable, zeros}
 use Rattle.satl_scenarios.specs.Replies.{check, good, sense, sense_at}
 use Rattle.satl_scenarios.specs.Requests.{read, write}
 
@@ -74,7 +74,7 @@ spared_read = record {
 -- where D_SENSE is 1 sense data are in the descriptor form: a flaw is told in an information descriptor (SPC-4 4.5.2.2)
 abbrev pub described : Scenario
 described = record {
-  first = record (device (holds zeros ∷ unreadable zeros ∷ [])) { modes = record { wce = true; dra = false; d_sense = true } };
+  first = record (device (lasts zeros ∷ unreadable zeros ∷ [])) { modes = record { wce = true; dra = false; d_sense = true } };
   steps =
       silent (read 1 0 2)
       ∷ answered (Turn 1) (
@@ -84,5 +84,5 @@ described = record {
       ∷ [];
   losses = 0;
   depth = 1;
-  last = record (device (holds zeros ∷ unreadable zeros ∷ [])) { modes = record { wce = true; dra = false; d_sense = true } };
+  last = record (device (lasts zeros ∷ unreadable zeros ∷ [])) { modes = record { wce = true; dra = false; d_sense = true } };
 }

@@ -5,7 +5,7 @@ use Rattle.satl_base.specs.declared.reply.Response.TheVariants.{Complete}
 use Rattle.satl_frame.specs.declared.frames.Frame.TheVariants.{Bench, End, Manage, Turn}
 use Rattle.satl_frame.specs.Output.Answer.{ended}
 use Rattle.satl_scenarios.specs.Scenario.{Scenario, answered, silent}
-use Rattle.satl_scenarios.specs.Devices.{aa, blank, cached_over, device, holds, zeros}
+use Rattle.satl_scenarios.specs.Devices.{aa, blank, cached_over, device, lasts, zeros}
 use Rattle.satl_scenarios.specs.Replies.{check, good, response, sense}
 use Rattle.satl_scenarios.specs.Requests.{manage, read, write}
 
@@ -48,7 +48,7 @@ done_and_lost = record {
       ∷ [];
   losses = 1;
   depth = 2;
-  last = record (device (cached_over zeros aa ∷ holds zeros ∷ holds zeros ∷ [])) { down = true };
+  last = record (device (cached_over zeros aa ∷ lasts zeros ∷ lasts zeros ∷ [])) { down = true };
 }
 
 -- the link is lost as a command arrives: it is answered too; a later command is answered at its turn (profile)

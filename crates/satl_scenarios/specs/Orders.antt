@@ -15,7 +15,7 @@ use Rattle.satl_laws.specs.Passing.{ComesAfter, DoNotClash, goes_alone}
 use Rattle.satl_direct.specs.Device.{Device}
 use Rattle.satl_direct.specs.Valid.{IsValid}
 use Rattle.satl_scenarios.specs.Scenario.{Scenario, answered, events_of, silent}
-use Rattle.satl_scenarios.specs.Devices.{aa, bb, blank, cached_over, device, holds, powered, zeros}
+use Rattle.satl_scenarios.specs.Devices.{aa, bb, blank, cached_over, device, lasts, powered, zeros}
 use Rattle.satl_scenarios.specs.Replies.{check, good, sense}
 use Rattle.satl_scenarios.specs.Requests.{cdb_10, read, request, task, write}
 
@@ -34,7 +34,7 @@ written_out_of_order = record {
       ∷ [];
   losses = 0;
   depth = 2;
-  last = record (device (holds aa ∷ holds bb ∷ holds zeros ∷ [])) {
+  last = record (device (lasts aa ∷ lasts bb ∷ lasts zeros ∷ [])) {
     attentions = [] ∷ (PowerOn ∷ []) ∷ (PowerOn ∷ []) ∷ (PowerOn ∷ []) ∷ [];
   };
 }
@@ -55,7 +55,7 @@ torn_out_of_order = record {
       ∷ [];
   losses = 1;
   depth = 2;
-  last = record (device (holds zeros ∷ cached_over zeros bb ∷ cached_over zeros aa ∷ [])) { down = true };
+  last = record (device (lasts zeros ∷ cached_over zeros bb ∷ cached_over zeros aa ∷ [])) { down = true };
 }
 
 -- the law of arrival order speaks of a scenario (profile)
@@ -99,7 +99,7 @@ passed_where_apart = record {
   steps = answered (Turn 4) (good 4 [] ∷ good 2 (zeros ∷ []) ∷ good 1 (zeros ∷ zeros ∷ []) ∷ good 3 [] ∷ []) ∷ [];
   losses = 0;
   depth = 2;
-  last = device (holds zeros ∷ cached_over zeros bb ∷ cached_over zeros aa ∷ []);
+  last = device (lasts zeros ∷ cached_over zeros bb ∷ cached_over zeros aa ∷ []);
 }
 
 -- by the law of passing a task can end before these (profile)

@@ -5,7 +5,7 @@ use Rattle.satl_frame.specs.declared.frames.Frame.TheVariants.{Request, Turn}
 use Rattle.satl_frame.specs.Output.{Answer}
 use Rattle.satl_scenarios.specs.Commands.{ends_with, written}
 use Rattle.satl_scenarios.specs.Scenario.{Scenario, answered, silent}
-use Rattle.satl_scenarios.specs.Devices.{aa, bb, cached_over, device, holds, identify_data, unreadable, zeros}
+use Rattle.satl_scenarios.specs.Devices.{aa, bb, cached_over, device, identify_data, lasts, unreadable, zeros}
 use Rattle.satl_scenarios.specs.Replies.{check, good}
 use Rattle.satl_scenarios.specs.Requests.{read, request}
 
@@ -48,7 +48,7 @@ power_checked =
 abbrev pub cache_disabled : Scenario
 cache_disabled =
     ends_with (Pass (through 0x06 0x00 0x82 0 0 0 0xEF)) [] written (good 1 [])
-    (record (device (holds aa ∷ holds zeros ∷ [])) { modes = record { wce = false; dra = false; d_sense = false } })
+    (record (device (lasts aa ∷ lasts zeros ∷ [])) { modes = record { wce = false; dra = false; d_sense = false } })
 
 -- WRITE DMA EXT of a block at address 1 (ACS-3, WRITE DMA EXT)
 abbrev pub write_block : List ℕ
@@ -77,6 +77,6 @@ read_behind_it = record {
 -- (SAT-3 11, 12.2.2.6)
 abbrev pub unreadable_through : Scenario
 unreadable_through =
-    ends_with (Pass (through 0x0D 0x0E 0 1 1 0x40 0x25)) [] (holds zeros ∷ unreadable zeros ∷ [])
+    ends_with (Pass (through 0x0D 0x0E 0 1 1 0x40 0x25)) [] (lasts zeros ∷ unreadable zeros ∷ [])
     (check 1 (0xF0 ∷ 0 ∷ 0x3 ∷ 0x40 ∷ 0x41 ∷ 0x40 ∷ 0 ∷ 0x0A ∷ 0x80 ∷ 1 ∷ 0 ∷ 0 ∷ 0x11 ∷ 0x00 ∷ 0 ∷ 0 ∷ 0 ∷ 0 ∷ []))
-    (device (holds zeros ∷ unreadable zeros ∷ []))
+    (device (lasts zeros ∷ unreadable zeros ∷ []))

@@ -10,7 +10,7 @@ use Rattle.satl_frame.specs.Output.{Answer}
 use Rattle.satl_direct.specs.Device.{Device}
 use Rattle.satl_scenarios.specs.Commands.{ends_with, written}
 use Rattle.satl_scenarios.specs.Scenario.{Scenario}
-use Rattle.satl_scenarios.specs.Devices.{aa, bb, cached_over, device, holds, unreadable, unwritable, zeros}
+use Rattle.satl_scenarios.specs.Devices.{aa, bb, cached_over, device, lasts, unreadable, unwritable, zeros}
 use Rattle.satl_scenarios.specs.Replies.{check, good, sense, sense_at}
 use Rattle.satl_scenarios.specs.Requests.{with_task}
 
@@ -28,7 +28,7 @@ glitchy_ends command body cells answer last =
 abbrev pub same_garbled : Scenario
 same_garbled =
     glitchy_ends (WriteSame Ten 0 2 false) (bb ∷ []) written (check 1 (sense 0xB 0x47 0x03))
-    (device (record (holds bb) { may = zeros ∷ aa ∷ bb ∷ [] } ∷ holds zeros ∷ []))
+    (device (record (lasts bb) { may = zeros ∷ aa ∷ bb ∷ [] } ∷ lasts zeros ∷ []))
 
 -- 65 sectors, the last with a write flaw: it is in the second piece of a WRITE SAME over all (the pieces: profile)
 abbrev pub flawed_at_the_end : Cell → List Cell
@@ -38,26 +38,26 @@ flawed_at_the_end cell = replicate 64 cell ++ unwritable zeros ∷ []
 -- FAILED at its address (SBC-3 5.42; SPC-4 4.5.6)
 abbrev pub same_torn : Scenario
 same_torn =
-    glitchy_ends (WriteSame Ten 0 65 false) (bb ∷ []) (flawed_at_the_end (holds zeros)) (check 1 (sense_at 0x3 0x0C 0x02 64))
+    glitchy_ends (WriteSame Ten 0 65 false) (bb ∷ []) (flawed_at_the_end (lasts zeros)) (check 1 (sense_at 0x3 0x0C 0x02 64))
     (record (device (flawed_at_the_end (cached_over zeros bb))) { glitches = 1 })
 
 -- or it fails by the CRC error in its first piece, before it comes to the flaw (SBC-3 5.42; profile)
 abbrev pub same_garbled_before_the_flaw : Scenario
 same_garbled_before_the_flaw =
-    glitchy_ends (WriteSame Ten 0 65 false) (bb ∷ []) (flawed_at_the_end (holds zeros)) (check 1 (sense 0xB 0x47 0x03))
-    (device (flawed_at_the_end (holds zeros)))
+    glitchy_ends (WriteSame Ten 0 65 false) (bb ∷ []) (flawed_at_the_end (lasts zeros)) (check 1 (sense 0xB 0x47 0x03))
+    (device (flawed_at_the_end (lasts zeros)))
 
 -- WRITE SAME with UNMAP: its blocks read as zeros (SBC-3 5.42, LBPRZ)
 abbrev pub same_unmapped : Scenario
 same_unmapped =
-    ends_with (WriteSame Ten 0 2 true) (zeros ∷ []) (holds aa ∷ holds bb ∷ []) (good 1 [])
+    ends_with (WriteSame Ten 0 2 true) (zeros ∷ []) (lasts aa ∷ lasts bb ∷ []) (good 1 [])
     (device (cached_over aa zero_block ∷ cached_over bb zero_block ∷ []))
 
 -- VERIFY with comparison meets a flaw: that decides, and neither the data-out nor the glitch (SBC-3 5.33)
 abbrev pub compare_flawed : Scenario
 compare_flawed =
-    glitchy_ends (Verify Ten 0 2 true) (aa ∷ bb ∷ []) (holds zeros ∷ unreadable zeros ∷ []) (check 1 (sense_at 0x3 0x11 0x00 1))
-    (record (device (holds zeros ∷ unreadable zeros ∷ [])) { glitches = 1 })
+    glitchy_ends (Verify Ten 0 2 true) (aa ∷ bb ∷ []) (lasts zeros ∷ unreadable zeros ∷ []) (check 1 (sense_at 0x3 0x11 0x00 1))
+    (record (device (lasts zeros ∷ unreadable zeros ∷ [])) { glitches = 1 })
 
 -- VERIFY with comparison fails by a CRC error (SBC-3 5.33; SPC-4 4.5.6)
 abbrev pub compare_garbled : Scenario

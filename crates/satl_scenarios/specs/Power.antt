@@ -9,13 +9,13 @@ use Rattle.satl_unit.specs.declared.attention.Attention.TheVariants.{ModeChanged
 use Rattle.satl_frame.specs.declared.frames.Frame.TheVariants.{Bench, Turn}
 use Rattle.satl_direct.specs.Device.{Device}
 use Rattle.satl_scenarios.specs.Scenario.{Scenario, answered, silent}
-use Rattle.satl_scenarios.specs.Devices.{aa, bb, blank, cached_over, device, holds, powered, unreadable, zeros}
+use Rattle.satl_scenarios.specs.Devices.{aa, bb, blank, cached_over, device, lasts, powered, unreadable, zeros}
 use Rattle.satl_scenarios.specs.Replies.{check, good, sense}
 use Rattle.satl_scenarios.specs.Requests.{read, with_task, write}
 
 -- a device whose first sector was written through the cache, with a command of tag 1 that waits
 abbrev pub cached_with : Command → List Block → Device
-cached_with command body = with_task 1 command body (cached_over zeros aa ∷ holds zeros ∷ [])
+cached_with command body = with_task 1 command body (cached_over zeros aa ∷ lasts zeros ∷ [])
 
 -- SYNCHRONIZE CACHE of the whole medium (SBC-3, SYNCHRONIZE CACHE)
 abbrev pub flush : Command
@@ -28,7 +28,7 @@ flushed = record {
   steps = answered (Turn 1) (good 1 [] ∷ []) ∷ silent (Bench bench.Power) ∷ [];
   losses = 0;
   depth = 0;
-  last = powered (holds aa ∷ holds zeros ∷ []);
+  last = powered (lasts aa ∷ lasts zeros ∷ []);
 }
 
 -- the cache is written back, and the sector is written again: power leaves this block (SBC-3 4.15)
@@ -42,7 +42,7 @@ flushed_then_written left = record {
       ∷ [];
   losses = 0;
   depth = 1;
-  last = powered (holds left ∷ holds zeros ∷ []);
+  last = powered (lasts left ∷ lasts zeros ∷ []);
 }
 
 -- a list of 24 bytes for MODE SELECT(6): the Caching page with WCE and DRA 0 (SPC-4, MODE SELECT commands; SBC-3 6.4.5)
@@ -59,7 +59,7 @@ turned_off = record {
   steps = answered (Turn 1) (good 1 [] ∷ []) ∷ [];
   losses = 0;
   depth = 0;
-  last = record (device (holds aa ∷ holds zeros ∷ [])) {
+  last = record (device (lasts aa ∷ lasts zeros ∷ [])) {
     modes = record { wce = false; dra = false; d_sense = false };
     attentions = [] ∷ (ModeChanged ∷ []) ∷ (ModeChanged ∷ []) ∷ (ModeChanged ∷ []) ∷ [];
   };
@@ -72,7 +72,7 @@ turned_off_then_power = record {
   steps = turned_off.steps ++ silent (Bench bench.Power) ∷ [];
   losses = 0;
   depth = 0;
-  last = powered (holds aa ∷ holds zeros ∷ []);
+  last = powered (lasts aa ∷ lasts zeros ∷ []);
 }
 
 -- after a power cycle a nexus is told so once, and then its commands are carried out (SAM-5 5.14)
@@ -105,5 +105,5 @@ power_with_a_task = record {
   steps = silent (Bench bench.Power) ∷ [];
   losses = 0;
   depth = 0;
-  last = record (powered (holds zeros ∷ unreadable bb ∷ [])) { glitches = 3 };
+  last = record (powered (lasts zeros ∷ unreadable bb ∷ [])) { glitches = 3 };
 }

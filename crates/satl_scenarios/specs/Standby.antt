@@ -11,7 +11,7 @@ use Rattle.satl_scenarios.specs.Commands.{ends_with, written}
 use Rattle.satl_scenarios.specs.Passes.{through}
 use Rattle.satl_scenarios.specs.Power.{caching_list, select}
 use Rattle.satl_scenarios.specs.Scenario.{Scenario}
-use Rattle.satl_scenarios.specs.Devices.{aa, device, holds, zeros}
+use Rattle.satl_scenarios.specs.Devices.{aa, device, lasts, zeros}
 use Rattle.satl_scenarios.specs.Replies.{check, good}
 use Rattle.satl_scenarios.specs.Requests.{with_task}
 
@@ -27,8 +27,8 @@ ends_at_rest command body cells answer last =
 -- a host reads by READ DMA EXT: the drive is active from then on, and the unit stays stopped (SAT-3 12.2; ACS-3, READ DMA EXT)
 abbrev pub read_through : Scenario
 read_through =
-    ends_at_rest (Pass (through 0x0D 0x0E 0 1 1 0x40 0x25)) [] (holds zeros ∷ holds aa ∷ []) (good 1 (aa ∷ []))
-    (record (device (holds zeros ∷ holds aa ∷ [])) { started = false })
+    ends_at_rest (Pass (through 0x0D 0x0E 0 1 1 0x40 0x25)) [] (lasts zeros ∷ lasts aa ∷ []) (good 1 (aa ∷ []))
+    (record (device (lasts zeros ∷ lasts aa ∷ [])) { started = false })
 
 -- CHECK POWER MODE with CK_COND: STATUS 40h and COUNT 00h, standby; the drive stays in standby (SAT-3 12.2.2.6; ACS-3, CHECK
 -- POWER MODE)
@@ -43,7 +43,7 @@ standby_told =
 abbrev pub selected_at_rest : Scenario
 selected_at_rest =
     ends_at_rest select (caching_list ∷ []) written (good 1 [])
-    (record (at_rest (device (holds aa ∷ holds zeros ∷ []))) {
+    (record (at_rest (device (lasts aa ∷ lasts zeros ∷ []))) {
       modes = record { wce = false; dra = false; d_sense = false };
       attentions = [] ∷ (ModeChanged ∷ []) ∷ (ModeChanged ∷ []) ∷ (ModeChanged ∷ []) ∷ [];
     })

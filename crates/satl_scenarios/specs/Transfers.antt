@@ -5,7 +5,7 @@ use Rattle.satl_frame.specs.declared.frames.Frame.TheVariants.{End, Request, Tur
 use Rattle.satl_frame.specs.Output.{Answer}
 use Rattle.satl_frame.specs.Output.Answer.{ended}
 use Rattle.satl_scenarios.specs.Scenario.{Scenario, answered, silent}
-use Rattle.satl_scenarios.specs.Devices.{aa, bb, blank, cached_over, device, holds, zeros}
+use Rattle.satl_scenarios.specs.Devices.{aa, bb, blank, cached_over, device, lasts, zeros}
 use Rattle.satl_scenarios.specs.Replies.{check, good, sense}
 use Rattle.satl_scenarios.specs.Requests.{cdb_10, read, request, write}
 
@@ -21,7 +21,7 @@ written_then_read = record {
       ∷ [];
   losses = 0;
   depth = 1;
-  last = device (cached_over zeros aa ∷ holds zeros ∷ holds zeros ∷ []);
+  last = device (cached_over zeros aa ∷ lasts zeros ∷ lasts zeros ∷ []);
 }
 
 -- two reads wait, and END answers them so
@@ -79,7 +79,7 @@ written_past_the_cache = record {
       ∷ [];
   losses = 0;
   depth = 1;
-  last = device (holds aa ∷ holds zeros ∷ []);
+  last = device (lasts aa ∷ lasts zeros ∷ []);
 }
 
 -- a write garbled by a CRC error: its second block alone is written (SPC-4 4.5.6; profile)
@@ -92,5 +92,5 @@ garbled_write = record {
       ∷ [];
   losses = 0;
   depth = 1;
-  last = device (holds zeros ∷ cached_over zeros bb ∷ []);
+  last = device (lasts zeros ∷ cached_over zeros bb ∷ []);
 }

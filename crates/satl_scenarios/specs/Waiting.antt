@@ -9,7 +9,7 @@ use Rattle.satl_base.specs.declared.reply.Response.TheVariants.{Complete}
 use Rattle.satl_frame.specs.declared.frames.Frame.TheVariants.{End, Manage, Turn}
 use Rattle.satl_frame.specs.Output.Answer.{ended}
 use Rattle.satl_scenarios.specs.Scenario.{Scenario, answered, silent}
-use Rattle.satl_scenarios.specs.Devices.{aa, bb, blank, cached_over, device, holds, zeros}
+use Rattle.satl_scenarios.specs.Devices.{aa, bb, blank, cached_over, device, lasts, zeros}
 use Rattle.satl_scenarios.specs.Replies.{check, good, reply, response, sense}
 use Rattle.satl_scenarios.specs.Requests.{manage, read, task, write}
 
@@ -24,7 +24,7 @@ aborted_half_done = record {
       ∷ [];
   losses = 0;
   depth = 1;
-  last = device (cached_over zeros aa ∷ holds zeros ∷ []);
+  last = device (cached_over zeros aa ∷ lasts zeros ∷ []);
 }
 
 -- a read with the tag of one that waits: both go, and one answer says so (SAM-5 5.1, overlapped commands)

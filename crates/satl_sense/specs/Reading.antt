@@ -4,8 +4,8 @@ use Rattle.satl_sense.specs.declared.sense.Sense.{Sense}
 use Rattle.satl_sense.specs.Descriptor.{descriptor_form, FitsForm}
 
 -- a text is the descriptor form of sense data whose numbers fit it
-abbrev pub Reads : List ℕ → Sense → Type 0
-Reads text s = FitsForm s × (text ≡ descriptor_form s)
+abbrev pub IsDescriptorForm : List ℕ → Sense → Type 0
+IsDescriptorForm text s = FitsForm s × (text ≡ descriptor_form s)
 
 -- the first n bytes of a text are the first n of such a form; a text or a form of fewer bytes is taken whole
 abbrev pub Begins : ℕ → List ℕ → Sense → Type 0

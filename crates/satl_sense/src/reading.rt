@@ -3,7 +3,7 @@
 ghost use Rattle.std.specs.Prelude.{◌≡◌, ◌≢◌, ◌+◌, ◌<◌, ◌≤◌, length, slice_index, take, Ok, IfOk, IfErr, MatchOption};
 ghost use Rattle.satl_base.specs.Places.{places};
 ghost use Rattle.satl_sense.specs.Fields.{ata_return_in, extra_in, sense_in};
-ghost use Rattle.satl_sense.specs.Reading.{IsFirstFault, Reads};
+ghost use Rattle.satl_sense.specs.Reading.{IsDescriptorForm, IsFirstFault};
 
 use crate::sense::{AtaReturn, Extra, Sense};
 use crate::writing::sense_bytes;
@@ -94,8 +94,8 @@ fn first_difference(text: &[u8], form: &[u8]) -> Option<u16>
 /// The sense data of a text in the descriptor form. `Err` has the first byte at which the text is none: the bytes before it
 /// begin some sense data, and with it they begin none (SPC-4 4.5.2, SAT-3 12.2.2.6).
 pub fn read_sense(bytes: &[u8]) -> Result<Sense, NotSense>
-    ensures found { IfOk result (λ s. Reads bytes.now s) }
-    ensures only { (s : Sense) → Reads bytes.now s → result ≡ Ok s }
+    ensures found { IfOk result (λ s. IsDescriptorForm bytes.now s) }
+    ensures only { (s : Sense) → IsDescriptorForm bytes.now s → result ≡ Ok s }
     ensures fault { IfErr result (λ e. IsFirstFault bytes.now e.byte) }
 {
     let sense = told_by(bytes);

@@ -2,7 +2,7 @@
 
 ghost use Rattle.std.specs.Prelude.{◌≡◌, ◌+◌, length, IsTrue, IsFalse};
 ghost use Rattle.satl_sense.specs.Descriptor.{FitsForm, additional_length, descriptor_form, pointer_flags};
-ghost use Rattle.satl_sense.specs.Reading.{Reads};
+ghost use Rattle.satl_sense.specs.Reading.{IsDescriptorForm};
 ghost use Rattle.satl_sense.specs.Fixed.{fixed_form, ata_flags};
 
 use crate::sense::{AtaReturn, Extra, Sense};
@@ -119,7 +119,7 @@ fn fixed_text(sense: &Sense) -> [u8; 18]
 pub fn sense_bytes(sense: &Sense, descriptor: bool) -> SenseBytes
     ensures descriptor { IsTrue descriptor → result.items ≡ descriptor_form sense.now }
     ensures fixed { IsFalse descriptor → result.items ≡ fixed_form sense.now }
-    ensures read_back { IsTrue descriptor → FitsForm sense.now → Reads result.items sense.now }
+    ensures read_back { IsTrue descriptor → FitsForm sense.now → IsDescriptorForm result.items sense.now }
 {
     if descriptor {
         return descriptor_text(sense);

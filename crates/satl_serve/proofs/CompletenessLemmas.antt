@@ -24,7 +24,7 @@ use Rattle.satl_serve.specs.Completeness.{GoesWell, IsGoodInput, MayStop}
 use Rattle.satl_serve.specs.Headline.{IsNotServed, ResultSays}
 use Rattle.satl_serve.specs.Moments.{Moment, Spot, spot_at}
 use Rattle.satl_serve.specs.Runs.{RanWhole, ReadBefore}
-use Rattle.satl_serve.specs.Stopping.{HasServeCause, HasStreamCause, IsRefused, RanTo, TellsRefusal}
+use Rattle.satl_serve.specs.Stopping.{HasServeCause, HasStreamCause, IsDriveRefused, RanTo, TellsRefusal}
 use Rattle.satl_serve.specs.declared.serving.ServeFault.{ServeFault}
 use Rattle.satl_serve.specs.declared.serving.ServeFault.TheVariants as faults
 use Rattle.satl_serve.specs.declared.telling.Form.{Form}
@@ -66,7 +66,7 @@ module _ (before after : Moment) (given : OpenFault) (cause : IsCause before.dri
       by_fault opening.LinkDown cause = cause
       by_fault (opening.Identity fault) cause = let both : Err fault ≡ Ok well.identity = sym cause ∙ well.accepted in cc
 
-  tells_refusal : (refusal : IdentityFault) → IsRefused refusal before.drive after.drive → TellsRefusal refusal (faults.Open given)
+  tells_refusal : (refusal : IdentityFault) → IsDriveRefused refusal before.drive after.drive → TellsRefusal refusal (faults.Open given)
   tells_refusal refusal refused = by_fault given cause
     where
       by_fault : (given : OpenFault) → IsCause before.drive after.drive given → TellsRefusal refusal (faults.Open given)

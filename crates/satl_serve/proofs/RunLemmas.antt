@@ -21,14 +21,14 @@ use Rattle.satl_line.specs.Tasks.{entries_of}
 use Rattle.satl_direct.specs.Run.{RunDeep, joined}
 use Rattle.satl_direct.specs.Tasks.{task_of}
 use Rattle.satl_core.specs.Layer.{Layer}
-use Rattle.satl_step.specs.Loop.{Ended, HasStopCause, Refused, Stage, StoppedInAnswers, StoppedSo}
+use Rattle.satl_step.specs.Loop.{HasStopCause, LoopState, ReachedEnd, Refused, StoppedInAnswers, StoppedSo}
 use Rattle.satl_step.specs.declared.frames_loop.Stop.{Stop}
 use Rattle.satl_step.specs.declared.frames_loop.Stop.TheVariants as stops
 use Rattle.satl_step.specs.Runs.{AreCounted, IsDeep, RunSoFar, Stand, is_request, requests_in}
 use Rattle.satl_step.specs.Telling.{IsTold, Telling}
 use Rattle.satl_step.proofs.RunLemmas.{run_start}
 use Rattle.satl_serve.specs.Forms.{begun, fault_told, output, told_of}
-use Rattle.satl_serve.specs.Moments.{Reads, Spot, Writes}
+use Rattle.satl_serve.specs.Moments.{SinkState, SourceState, Spot}
 use Rattle.satl_serve.specs.Runs.{BrokeInAnswers, BrokeInFault, BrokeInMagic, RanBefore, RanWhole, ReadBefore, input_limit}
 use Rattle.satl_serve.specs.Stopping.{HasStreamCause, RanTo, Tells, TellsSo, TellsStop}
 use Rattle.satl_serve.specs.declared.serving.ServeFault.{ServeFault}
@@ -38,10 +38,10 @@ use Rattle.satl_serve.specs.Tellers.{RanBy, TellsIn}
 use Rattle.satl_serve.proofs.TellerLemmas.{all_told_in, tells_on}
 
 -- where a stage stands that was reached behind what was written
-abbrev pub spot_of : {T : Type 0} → Option (List ℕ) → Stage T → Spot
+abbrev pub spot_of : {T : Type 0} → Option (List ℕ) → LoopState T → Spot
 spot_of written a = record { left = a.left; written = written; stand = a.scene.stand }
 
-abbrev pub seen : {T : Type 0} → Stage T → Spot
+abbrev pub seen : {T : Type 0} → LoopState T → Spot
 seen a = spot_of a.scene.telling.written a
 
 -- what was read up to END
@@ -71,18 +71,18 @@ run_to a b events all groups is r = record {
 
 module _ {T : Type 0} (by : T → Answer → List ℕ) (behind : T → Answer → T) where
   -- a stage at which serving begins: a new reader, a teller that tells in the form, and what stands before all answers
-  pub record Begins (form : Form) (written : Option (List ℕ)) (a : Stage T) : Type 0 where
+  pub record Begins (form : Form) (written : Option (List ℕ)) (a : LoopState T) : Type 0 where
     pub limit : a.reader.limit ≡ input_limit
     pub newest : a.reader.newest ≡ Two
     pub tells : TellsIn by behind form a.scene.telling.teller
     pub magic : Wrote written a.scene.telling.written (begun form)
 
   -- the output so far
-  printed : (form : Form) (written : Option (List ℕ)) (a : Stage T) (b : Telling T) (answers : List Answer) → Begins form written a → IsTold by behind a.scene.telling b answers → Wrote written b.written (output form answers)
+  printed : (form : Form) (written : Option (List ℕ)) (a : LoopState T) (b : Telling T) (answers : List Answer) → Begins form written a → IsTold by behind a.scene.telling b answers → Wrote written b.written (output form answers)
   printed form written a b answers begins told_so =
       Wrote-more begins.magic (subst (λ l. Wrote a.scene.telling.written b.written l) (all_told_in by behind form a.scene.telling.teller answers begins.tells) told_so.wrote)
 
-  ran : (form : Form) (written : Option (List ℕ)) (a b : Stage T) (n : ℕ) → IsDeep a.scene.stand.tally → Begins form written a → (e : Ended by behind a b n) → RanWhole form input_limit (spot_of written a) (seen b)
+  ran : (form : Form) (written : Option (List ℕ)) (a b : LoopState T) (n : ℕ) → IsDeep a.scene.stand.tally → Begins form written a → (e : ReachedEnd by behind a b n) → RanWhole form input_limit (spot_of written a) (seen b)
   unfolding run_to
   ran form written a b n deep begins e =
       let s = e.so_far in
@@ -97,14 +97,14 @@ module _ {T : Type 0} (by : T → Answer → List ℕ) (behind : T → Answer �
         deep = s.run.covered deep;
       }
 
-  pub whole : (form : Form) (written : Option (List ℕ)) (a b : Stage T) (n : ℕ) → IsDeep a.scene.stand.tally → Begins form written a → Ended by behind a b n → RanBy behind form input_limit a.scene.telling.teller b.scene.telling.teller n (spot_of written a) (seen b)
+  pub whole : (form : Form) (written : Option (List ℕ)) (a b : LoopState T) (n : ℕ) → IsDeep a.scene.stand.tally → Begins form written a → ReachedEnd by behind a b n → RanBy behind form input_limit a.scene.telling.teller b.scene.telling.teller n (spot_of written a) (seen b)
   unfolding ran
   whole form written a b n deep begins e = record {
     to_end = ran form written a b n deep begins e;
     told_so = record { requests_are = counted n e.so_far.events e.earlier e.ends e.so_far.requests_are; teller = e.so_far.told_so.teller };
   }
 
-  read_before : (form : Form) (written : Option (List ℕ)) (a b : Stage T) (why : FrameFault) → Begins form written a → (r : Refused by behind a b why) → ReadBefore input_limit a.left b.left r.going.so_far.events why
+  read_before : (form : Form) (written : Option (List ℕ)) (a b : LoopState T) (why : FrameFault) → Begins form written a → (r : Refused by behind a b why) → ReadBefore input_limit a.left b.left r.going.so_far.events why
   read_before form written a b why begins r =
       let given = r.going.so_far.given in
       record {
@@ -118,7 +118,7 @@ module _ {T : Type 0} (by : T → Answer → List ℕ) (behind : T → Answer �
       }
 
   -- a refusal, which was told or was not
-  before : (form : Form) (written last : Option (List ℕ)) (a b : Stage T) (why : FrameFault) → Begins form written a → Refused by behind a b why → Wrote b.scene.telling.written last (told_of form why) → RanBefore form input_limit why (spot_of written a) (spot_of last b)
+  before : (form : Form) (written last : Option (List ℕ)) (a b : LoopState T) (why : FrameFault) → Begins form written a → Refused by behind a b why → Wrote b.scene.telling.written last (told_of form why) → RanBefore form input_limit why (spot_of written a) (spot_of last b)
   before form written last a b why begins r wrote =
       let s = r.going.so_far in
       record {
@@ -129,7 +129,7 @@ module _ {T : Type 0} (by : T → Answer → List ℕ) (behind : T → Answer �
         run = s.run;
       }
 
-  broken : (form : Form) (written last : Option (List ℕ)) (a b : Stage T) (reason : Reason) (offset : ℕ) → Begins form written a → Refused by behind a b (Bad reason offset) → WrotePart b.scene.telling.written last (fault_told form reason offset) → BrokeInFault form input_limit (spot_of written a) (spot_of last b)
+  broken : (form : Form) (written last : Option (List ℕ)) (a b : LoopState T) (reason : Reason) (offset : ℕ) → Begins form written a → Refused by behind a b (Bad reason offset) → WrotePart b.scene.telling.written last (fault_told form reason offset) → BrokeInFault form input_limit (spot_of written a) (spot_of last b)
   broken form written last a b reason offset begins r part =
       let s = r.going.so_far in
       record {
@@ -144,7 +144,7 @@ module _ {T : Type 0} (by : T → Answer → List ℕ) (behind : T → Answer �
         run = s.run;
       }
 
-  pub refused : (form : Form) (written last : Option (List ℕ)) (a b : Stage T) (why : FrameFault) (fault : ServeFault) → Begins form written a → Refused by behind a b why → Tells form why b.scene.telling.written last fault → RanTo form input_limit (spot_of written a) (spot_of last b) fault
+  pub refused : (form : Form) (written last : Option (List ℕ)) (a b : LoopState T) (why : FrameFault) (fault : ServeFault) → Begins form written a → Refused by behind a b why → Tells form why b.scene.telling.written last fault → RanTo form input_limit (spot_of written a) (spot_of last b) fault
   refused form written last a b why (faults.Open opening) begins r tells = absurd tells
   refused form written last a b why (faults.BadInput reason offset) begins r (is, wrote) =
       before form written last a b (Bad reason offset) begins (subst (λ w. Refused by behind a b w) is r) wrote
@@ -153,7 +153,7 @@ module _ {T : Type 0} (by : T → Answer → List ℕ) (behind : T → Answer �
   refused form written last a b why faults.Write begins r (reason, offset, is, part) =
       inr (inr (broken form written last a b reason offset begins (subst (λ w. Refused by behind a b w) is r) part))
 
-  pub in_answers : (form : Form) (written : Option (List ℕ)) (a b : Stage T) → Begins form written a → StoppedInAnswers by behind a b → BrokeInAnswers form input_limit (spot_of written a) (seen b)
+  pub in_answers : (form : Form) (written : Option (List ℕ)) (a b : LoopState T) → Begins form written a → StoppedInAnswers by behind a b → BrokeInAnswers form input_limit (spot_of written a) (seen b)
   in_answers form written a b begins t =
       let s = t.going.so_far in
       let mid = t.mid.scene.telling in
@@ -176,14 +176,14 @@ module _ {T : Type 0} (by : T → Answer → List ℕ) (behind : T → Answer �
       }
 
   -- where frames are carried out no further
-  pub stopped : (form : Form) (written : Option (List ℕ)) (a b : Stage T) (before after : Writes) (fault : ServeFault) (stop : Stop) → before.written ≡ b.scene.telling.written → Begins form written a → StoppedSo by behind a b stop → TellsStop form before after fault stop → RanTo form input_limit (spot_of written a) (spot_of after.written b) fault
+  pub stopped : (form : Form) (written : Option (List ℕ)) (a b : LoopState T) (before after : SinkState) (fault : ServeFault) (stop : Stop) → before.written ≡ b.scene.telling.written → Begins form written a → StoppedSo by behind a b stop → TellsStop form before after fault stop → RanTo form input_limit (spot_of written a) (spot_of after.written b) fault
   stopped form written a b before after fault (stops.Refused why) same begins r told =
       refused form written after.written a b why fault begins r (subst (λ w. Tells form why w after.written fault) same told.tells)
   stopped form written a b before after fault stops.Write same begins t (is, stays) =
-      subst (RanTo form input_limit (spot_of written a) (spot_of after.written b)) (sym is) (inr (inl (subst (λ w. BrokeInAnswers form input_limit (spot_of written a) (spot_of w b)) (sym same ∙ ap (λ (w : Writes). w.written) (sym stays)) (in_answers form written a b begins t))))
+      subst (RanTo form input_limit (spot_of written a) (spot_of after.written b)) (sym is) (inr (inl (subst (λ w. BrokeInAnswers form input_limit (spot_of written a) (spot_of w b)) (sym same ∙ ap (λ (w : SinkState). w.written) (sym stays)) (in_answers form written a b begins t))))
 
 -- and why
-pub stop_cause : (form : Form) (read read' : Reads) (first begun_at before after : Writes) (fault : ServeFault) (stop : Stop) → first.faults ≤ begun_at.faults → HasStopCause read.faults read'.faults begun_at.faults before.faults stop → TellsStop form before after fault stop → begun_at.faults ≤ before.faults → HasStreamCause read read' first after fault
+pub stop_cause : (form : Form) (read read' : SourceState) (first begun_at before after : SinkState) (fault : ServeFault) (stop : Stop) → first.faults ≤ begun_at.faults → HasStopCause read.faults read'.faults begun_at.faults before.faults stop → TellsStop form before after fault stop → begun_at.faults ≤ before.faults → HasStreamCause read read' first after fault
 stop_cause form read read' first begun_at before after fault (stops.Refused why) earlier cause told later = by_fault fault why cause told
   where
     by_fault : (fault : ServeFault) (why : FrameFault) → HasStopCause read.faults read'.faults begun_at.faults before.faults (stops.Refused why) → TellsSo form why before after fault → HasStreamCause read read' first after fault
@@ -192,7 +192,7 @@ stop_cause form read read' first begun_at before after fault (stops.Refused why)
     by_fault faults.Read why cause told = subst (λ w. HasStopCause read.faults read'.faults begun_at.faults before.faults (stops.Refused w)) told.tells.0 cause
     by_fault faults.Write why cause told = let rose = told.cause refl in omega (arith, rose, earlier, later)
 stop_cause form read read' first begun_at before after fault stops.Write earlier cause (is, stays) later =
-    let same = ap (λ (w : Writes). w.faults) stays in subst (HasStreamCause read read' first after) (sym is) (omega (arith, cause, earlier, same))
+    let same = ap (λ (w : SinkState). w.faults) stays in subst (HasStreamCause read read' first after) (sym is) (omega (arith, cause, earlier, same))
 
 -- nothing was read, and what stands before all answers was written in part
 pub in_magic : (form : Form) (left written written' : Option (List ℕ)) (l : Layer) (a : Stand) → l.tasks ≡ [] → a.device.tasks ≡ map task_of (entries_of l.tasks) → WrotePart written written' (begun form) → BrokeInMagic form (record { left = left; written = written; stand = a }) (record { left = left; written = written'; stand = a })

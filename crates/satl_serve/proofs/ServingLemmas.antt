@@ -17,7 +17,7 @@ use Rattle.satl_direct.specs.Tasks.{task_of}
 use Rattle.satl_core.specs.Layer.{Layer, Tied, view}
 use Rattle.satl_core.specs.Opening.{IsOpened}
 use Rattle.satl_core.specs.Tie.{TiesQueue, given_by}
-use Rattle.satl_step.specs.Runs.{AreCounted, Covers, IsDeep, RunCutSoFar, RunSoFar, Stand, Tally, requests_in, tally_of, unplugs_in}
+use Rattle.satl_step.specs.Runs.{AreCounted, IsDeep, KeepsDeepest, RunCutSoFar, RunSoFar, Stand, Tally, requests_in, tally_of, unplugs_in}
 use Rattle.satl_serve.specs.Headline.{IsServedToEnd, IsServedWhole, IsStopped}
 use Rattle.satl_serve.specs.Moments.{Moment, Spot, spot_at}
 use Rattle.satl_serve.specs.Runs.{IsFirstDevice, IsLeftAs, RanBefore, RanInPart, RanWhole, Serves}
@@ -64,7 +64,7 @@ module _ (s : Device) (old new : Tally) (same : new ≡ record old { calls = new
     unplugged = subst (λ n. RoseBy (unplugs_in events) n b.tally.unplugs) (ap (λ (t : Tally). t.unplugs) same) c.unplugged;
     few_unplugs = let is = ap (λ (t : Tally). t.unplugs) same in omega (arith, is, c.few_unplugs);
     few_calls = omega (arith, few, c.few_calls);
-    queue = subst (λ t. Covers (record t { calls = old.calls }) b.tally) same (record { rises = c.queue.rises; covers = c.queue.covers });
+    queue = subst (λ t. KeepsDeepest (record t { calls = old.calls }) b.tally) same (record { rises = c.queue.rises; covers = c.queue.covers });
   }
 
   sooner_covered : (deep : ℕ) (b : Stand) → (IsDeep new → deep ≤ b.tally.deepest) → IsDeep old → deep ≤ b.tally.deepest

@@ -16,7 +16,7 @@ use Rattle.satl_serve.specs.declared.serving.ServeFault.{ServeFault}
 use Rattle.satl_serve.specs.declared.serving.ServeFault.TheVariants as faults
 use Rattle.satl_serve.specs.Moments.{Moment}
 use Rattle.satl_serve.specs.Runs.{RanBefore, RanInPart, RanWhole, Serves}
-use Rattle.satl_serve.specs.Stopping.{HasServeCause, IsRefused, TellsRefusal}
+use Rattle.satl_serve.specs.Stopping.{HasServeCause, IsDriveRefused, TellsRefusal}
 
 -- an input was served up to END, in this form, within this limit, from this before to this after (profile)
 abbrev pub IsServedToEnd : Form → ℕ → Moment → Moment → Type 0
@@ -60,6 +60,6 @@ pub record ResultSays {A : Type 0} (form : Form) (limit : ℕ) (before after : M
     (result : Result A ServeFault) : Type 0 where
   pub stopped : IfErr result (IsStopped form limit before after)
   pub causes : IfErr result (HasServeCause before after)
-  pub refused : (fault : IdentityFault) → IsRefused fault before.drive after.drive → IsErrAnd result (TellsRefusal fault)
+  pub refused : (fault : IdentityFault) → IsDriveRefused fault before.drive after.drive → IsErrAnd result (TellsRefusal fault)
   pub complete : (fs : List Frame) (rest : List ℕ) → IsGoodInput limit before.source.left fs rest → GoesWell before after
       → MatchResult result (λ _. after.source.left ≡ Some rest) (MayStop before after)

@@ -5,29 +5,29 @@ use Rattle.satl_direct.specs.Device.{Device}
 use Rattle.satl_step.specs.Runs.{Stand, tally_of}
 
 -- a source: what is left to read, where it tells that, and its count of faults (profile)
-pub record Reads : Type 0 where
+pub record SourceState : Type 0 where
   pub left : Option (List ℕ)
   pub faults : ℕ
 
-abbrev pub reads : Option (List ℕ) → ℕ → Reads
-reads left faults = record { left = left; faults = faults }
+abbrev pub source_state : Option (List ℕ) → ℕ → SourceState
+source_state left faults = record { left = left; faults = faults }
 
 -- a sink: what was written, where it tells that, and its count of faults (profile)
-pub record Writes : Type 0 where
+pub record SinkState : Type 0 where
   pub written : Option (List ℕ)
   pub faults : ℕ
 
-abbrev pub writes : Option (List ℕ) → ℕ → Writes
-writes written faults = record { written = written; faults = faults }
+abbrev pub sink_state : Option (List ℕ) → ℕ → SinkState
+sink_state written faults = record { written = written; faults = faults }
 
 -- a moment: the source, the sink, how often the drive was called, and the drive (profile)
 pub record Moment : Type 0 where
-  pub source : Reads
-  pub sink : Writes
+  pub source : SourceState
+  pub sink : SinkState
   pub calls : ℕ
   pub drive : DriveState
 
-abbrev pub moment : Reads → Writes → ℕ → DriveState → Moment
+abbrev pub moment : SourceState → SinkState → ℕ → DriveState → Moment
 moment source sink calls drive = record { source = source; sink = sink; calls = calls; drive = drive }
 
 -- how far a run has come: what is left to read, what was written, the device, and what was counted (profile)

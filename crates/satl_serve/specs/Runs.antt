@@ -18,7 +18,7 @@ use Rattle.satl_drive.specs.State.{DriveState}
 use Rattle.satl_direct.specs.Device.{Device}
 use Rattle.satl_direct.specs.Valid.{IsValid}
 use Rattle.satl_direct.specs.Run.{joined}
-use Rattle.satl_core.specs.Tie.{Given, IsQueue}
+use Rattle.satl_core.specs.Tie.{Given, IsTiedQueue}
 use Rattle.satl_step.specs.Runs.{RunCutSoFar, RunSoFar}
 use Rattle.satl_serve.specs.Forms.{all_told, begun, fault_told, output, told_of}
 use Rattle.satl_serve.specs.Moments.{Moment, Spot, spot_at}
@@ -58,7 +58,7 @@ pub record IsLeftAs (s : Device) (d : DriveState) : Type 0 where
 -- profile)
 pub record KeepsQueue (s : Device) (d : DriveState) : Type 0 where
   pub given : List Given
-  pub queue : IsQueue s given d.outstanding
+  pub queue : IsTiedQueue s given d.outstanding
 
 -- a run served from this moment to that: it began with the first device of the drive, of which the layer has asked the identity
 -- by one call, and the drive is left as its last device is, with its tasks in the queue (profile)

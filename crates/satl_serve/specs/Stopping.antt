@@ -16,7 +16,7 @@ use Rattle.satl_serve.specs.declared.serving.ServeFault.{ServeFault}
 use Rattle.satl_serve.specs.declared.serving.ServeFault.TheVariants as faults
 use Rattle.satl_serve.specs.declared.telling.Form.{Form}
 use Rattle.satl_serve.specs.Forms.{fault_told}
-use Rattle.satl_serve.specs.Moments.{Moment, Reads, Spot, Writes}
+use Rattle.satl_serve.specs.Moments.{Moment, SinkState, SourceState, Spot}
 use Rattle.satl_serve.specs.Runs.{RanBefore, RanInPart}
 
 -- how far a run came where it stopped with a fault (profile)
@@ -27,7 +27,7 @@ RanTo form limit before after faults.Read = RanBefore form limit ReadFault befor
 RanTo form limit before after faults.Write = RanInPart form limit before after
 
 -- a read fault comes only where the source's count rose, and a write fault only where the sink's did (profile)
-abbrev pub HasStreamCause : Reads → Reads → Writes → Writes → ServeFault → Type 0
+abbrev pub HasStreamCause : SourceState → SourceState → SinkState → SinkState → ServeFault → Type 0
 HasStreamCause read read' write write' (faults.Open fault) = ⊥
 HasStreamCause read read' write write' (faults.BadInput reason offset) = Unit {0}
 HasStreamCause read read' write write' faults.Read = Rose read.faults read'.faults
@@ -41,7 +41,7 @@ HasServeCause before after faults.Read = Rose before.source.faults after.source.
 HasServeCause before after faults.Write = Rose before.sink.faults after.sink.faults
 
 -- the drive's IDENTIFY DEVICE data are refused, and its count of faults has not risen (profile)
-pub record IsRefused (fault : IdentityFault) (old new : DriveState) : Type 0 where
+pub record IsDriveRefused (fault : IdentityFault) (old new : DriveState) : Type 0 where
   pub refused : identity_of old.identify ≡ Err fault
   pub no_rise : Rose old.faults new.faults → ⊥
 
@@ -59,13 +59,13 @@ Tells form why written written' faults.Write =
     (reason : Reason) × (offset : ℕ) × (why ≡ Bad reason offset) × WrotePart written written' (fault_told form reason offset)
 
 -- the same, which takes no fault of writing back, and has one where a write failed (profile)
-pub record TellsSo (form : Form) (why : FrameFault) (before after : Writes) (fault : ServeFault) : Type 0 where
+pub record TellsSo (form : Form) (why : FrameFault) (before after : SinkState) (fault : ServeFault) : Type 0 where
   pub tells : Tells form why before.written after.written fault
   pub later : before.faults ≤ after.faults
   pub cause : (fault ≡ faults.Write) → Rose before.faults after.faults
 
 -- why serving stops where frames are carried out no further: a refusal is told, and behind a write that failed nothing is
 -- (profile)
-abbrev pub TellsStop : Form → Writes → Writes → ServeFault → Stop → Type 0
+abbrev pub TellsStop : Form → SinkState → SinkState → ServeFault → Stop → Type 0
 TellsStop form before after fault (stops.Refused why) = TellsSo form why before after fault
 TellsStop form before after fault stops.Write = (fault ≡ faults.Write) × (after ≡ before)

@@ -5,7 +5,7 @@ ghost use Rattle.satl_drive.specs.State.{IsFit};
 ghost use Rattle.satl_core.specs.Layer.{Tied};
 ghost use Rattle.satl_step.specs.Runs.{IsDeep, stand_of, tally_of};
 ghost use Rattle.satl_serve.specs.Headline.{IsServedToEnd, IsServedWhole, ResultSays};
-ghost use Rattle.satl_serve.specs.Moments.{moment, reads, spot, writes};
+ghost use Rattle.satl_serve.specs.Moments.{moment, sink_state, source_state, spot};
 ghost use Rattle.satl_serve.specs.Runs.{input_limit};
 ghost use Rattle.satl_serve.specs.Stopping.{HasStreamCause, RanTo, Tells, TellsStop};
 ghost use Rattle.satl_serve.specs.Tellers.{IsServedBy, RanBy, TellsIn};
@@ -83,14 +83,14 @@ pub fn serve<S: Source, K: Sink, D: Bench, L: Ledger>(
     requires no_error { (D.state drive.old).error ≡ None }
     requires fit { IsFit (D.state drive.old) }
     ensures served { IfOk result (λ summary. IsServedWhole form input_limit summary
-        (moment (reads (S.left source.old) (S.faults source.old)) (writes (K.written sink.old) (K.faults sink.old))
+        (moment (source_state (S.left source.old) (S.faults source.old)) (sink_state (K.written sink.old) (K.faults sink.old))
         steps.old (D.state drive.old))
-        (moment (reads (S.left source.new) (S.faults source.new)) (writes (K.written sink.new) (K.faults sink.new))
+        (moment (source_state (S.left source.new) (S.faults source.new)) (sink_state (K.written sink.new) (K.faults sink.new))
         steps.new (D.state drive.new))) }
     ensures says { ResultSays form input_limit
-        (moment (reads (S.left source.old) (S.faults source.old)) (writes (K.written sink.old) (K.faults sink.old))
+        (moment (source_state (S.left source.old) (S.faults source.old)) (sink_state (K.written sink.old) (K.faults sink.old))
         steps.old (D.state drive.old))
-        (moment (reads (S.left source.new) (S.faults source.new)) (writes (K.written sink.new) (K.faults sink.new))
+        (moment (source_state (S.left source.new) (S.faults source.new)) (sink_state (K.written sink.new) (K.faults sink.new))
         steps.new (D.state drive.new)) result }
 {
     let mut counter = Counter::new(form);
@@ -111,14 +111,14 @@ pub fn serve_uncounted<S: Source, K: Sink, D: Bench, L: Ledger>(
     requires no_error { (D.state drive.old).error ≡ None }
     requires fit { IsFit (D.state drive.old) }
     ensures served { IfOk result (λ _. IsServedToEnd form input_limit
-        (moment (reads (S.left source.old) (S.faults source.old)) (writes (K.written sink.old) (K.faults sink.old))
+        (moment (source_state (S.left source.old) (S.faults source.old)) (sink_state (K.written sink.old) (K.faults sink.old))
         steps.old (D.state drive.old))
-        (moment (reads (S.left source.new) (S.faults source.new)) (writes (K.written sink.new) (K.faults sink.new))
+        (moment (source_state (S.left source.new) (S.faults source.new)) (sink_state (K.written sink.new) (K.faults sink.new))
         steps.new (D.state drive.new))) }
     ensures says { ResultSays form input_limit
-        (moment (reads (S.left source.old) (S.faults source.old)) (writes (K.written sink.old) (K.faults sink.old))
+        (moment (source_state (S.left source.old) (S.faults source.old)) (sink_state (K.written sink.old) (K.faults sink.old))
         steps.old (D.state drive.old))
-        (moment (reads (S.left source.new) (S.faults source.new)) (writes (K.written sink.new) (K.faults sink.new))
+        (moment (source_state (S.left source.new) (S.faults source.new)) (sink_state (K.written sink.new) (K.faults sink.new))
         steps.new (D.state drive.new)) result }
 {
     serve_by(
@@ -148,14 +148,14 @@ fn serve_by<T: Teller, S: Source, K: Sink, D: Bench, L: Ledger>(
     requires no_error { (D.state drive.old).error ≡ None }
     requires fit { IsFit (D.state drive.old) }
     ensures served { IfOk result (λ requests. IsServedBy T.behind form input_limit teller.old teller.new requests
-        (moment (reads (S.left source.old) (S.faults source.old)) (writes (K.written sink.old) (K.faults sink.old))
+        (moment (source_state (S.left source.old) (S.faults source.old)) (sink_state (K.written sink.old) (K.faults sink.old))
         steps.old (D.state drive.old))
-        (moment (reads (S.left source.new) (S.faults source.new)) (writes (K.written sink.new) (K.faults sink.new))
+        (moment (source_state (S.left source.new) (S.faults source.new)) (sink_state (K.written sink.new) (K.faults sink.new))
         steps.new (D.state drive.new))) }
     ensures says { ResultSays form input_limit
-        (moment (reads (S.left source.old) (S.faults source.old)) (writes (K.written sink.old) (K.faults sink.old))
+        (moment (source_state (S.left source.old) (S.faults source.old)) (sink_state (K.written sink.old) (K.faults sink.old))
         steps.old (D.state drive.old))
-        (moment (reads (S.left source.new) (S.faults source.new)) (writes (K.written sink.new) (K.faults sink.new))
+        (moment (source_state (S.left source.new) (S.faults source.new)) (sink_state (K.written sink.new) (K.faults sink.new))
         steps.new (D.state drive.new)) result }
 {
     let mut satl = Satl::open(alloc, drive, steps)?;
@@ -187,9 +187,9 @@ fn serve_opened<T: Teller, S: Source, K: Sink, D: Bench, L: Ledger>(
     ensures stopped { IfErr result (RanTo form input_limit
         (spot (S.left source.old) (K.written sink.old) (stand_of satl.old (D.state drive.old) steps.old))
         (spot (S.left source.new) (K.written sink.new) (stand_of satl.new (D.state drive.new) steps.new))) }
-    ensures causes { IfErr result (HasStreamCause (reads (S.left source.old) (S.faults source.old))
-        (reads (S.left source.new) (S.faults source.new)) (writes (K.written sink.old) (K.faults sink.old))
-        (writes (K.written sink.new) (K.faults sink.new))) }
+    ensures causes { IfErr result (HasStreamCause (source_state (S.left source.old) (S.faults source.old))
+        (source_state (S.left source.new) (S.faults source.new)) (sink_state (K.written sink.old) (K.faults sink.old))
+        (sink_state (K.written sink.new) (K.faults sink.new))) }
 {
     tell_beginning(form, sink)?;
     let mut reader = FrameReader::new(alloc, LIMIT);
@@ -218,8 +218,8 @@ fn refuse<K: Sink>(form: Form, fault: FrameFault, sink: &mut K) -> ServeFault
 
 /// Why serving stops where frames are carried out no further.
 fn tell_stop<K: Sink>(form: Form, stop: Stop, sink: &mut K) -> ServeFault
-    ensures { TellsStop form (writes (K.written sink.old) (K.faults sink.old))
-        (writes (K.written sink.new) (K.faults sink.new)) result stop }
+    ensures { TellsStop form (sink_state (K.written sink.old) (K.faults sink.old))
+        (sink_state (K.written sink.new) (K.faults sink.new)) result stop }
 {
     match stop {
         Stop::Refused(fault) => refuse(form, fault, sink),

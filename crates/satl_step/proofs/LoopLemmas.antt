@@ -23,7 +23,7 @@ use Rattle.satl_direct.proofs.Quieting.{joined-push}
 use Rattle.satl_base.specs.Limits.{IsExpectable}
 use Rattle.satl_core.specs.Submitting.{CanSubmit}
 use Rattle.satl_step.specs.Events.{CanTake, Done, DoneInPart}
-use Rattle.satl_step.specs.Loop.{Ended, Going, HasGiven, SoFar, Stage, StoppedInAnswers, is_end, place_offset}
+use Rattle.satl_step.specs.Loop.{Going, HasGiven, LoopState, ReachedEnd, SoFar, StoppedInAnswers, is_end, place_offset}
 use Rattle.satl_step.specs.Runs.{is_request, requests_in}
 use Rattle.satl_step.specs.Telling.{IsTold}
 use Rattle.satl_step.proofs.TellingLemmas.{told_more, told_none}
@@ -113,7 +113,7 @@ request_whole room frame frames.End cut = ap (λ f. requests_in (f ∷ [])) cut
 -- ---- the run so far
 
 module _ {T : Type 0} (told : T → Answer → List ℕ) (behind : T → Answer → T) where
-  pub going_start : (a : Stage T) → a.reader.place ≡ None → a.scene.stand.device.tasks ≡ [] → Going told behind a a 0
+  pub going_start : (a : LoopState T) → a.reader.place ≡ None → a.scene.stand.device.tasks ≡ [] → Going told behind a a 0
   going_start a unread idle = record {
     so_far = record {
       events = [];
@@ -127,10 +127,10 @@ module _ {T : Type 0} (told : T → Answer → List ℕ) (behind : T → Answer 
   }
 
   -- the device is the same however many pages were lent
-  pub lent : (a b : Stage T) (s : Device) (n : ℕ) → s ≡ b.scene.stand.device → Going told behind a b n → Going told behind a (record b { scene = record b.scene { stand = record b.scene.stand { device = s } } }) n
+  pub lent : (a b : LoopState T) (s : Device) (n : ℕ) → s ≡ b.scene.stand.device → Going told behind a b n → Going told behind a (record b { scene = record b.scene { stand = record b.scene.stand { device = s } } }) n
   lent a b s n same going = subst (λ (x : Device). Going told behind a (record b { scene = record b.scene { stand = record b.scene.stand { device = x } } }) n) (sym same) going
 
-  given_more : (a b c : Stage T) (n room : ℕ) (frame : Frame) (going : Going told behind a b n) → (gave : Gave b.reader room frame c.reader b.left c.left) → HasGiven a c (going.so_far.events ++ gave.whole ∷ [])
+  given_more : (a b c : LoopState T) (n room : ℕ) (frame : Frame) (going : Going told behind a b n) → (gave : Gave b.reader room frame c.reader b.left c.left) → HasGiven a c (going.so_far.events ++ gave.whole ∷ [])
   given_more a b c n room frame going gave = record {
     limit = ap (λ (r : Reading). r.limit) gave.new_is ∙ going.so_far.given.limit;
     newest = ap (λ (r : Reading). r.newest) gave.new_is ∙ going.so_far.given.newest;
@@ -138,7 +138,7 @@ module _ {T : Type 0} (told : T → Answer → List ℕ) (behind : T → Answer 
   }
 
   -- one frame more
-  module _ (a b c : Stage T) (n m room : ℕ) (frame : Frame) where
+  module _ (a b c : LoopState T) (n m room : ℕ) (frame : Frame) where
     so_far_more : Going told behind a b n → (gave : Gave b.reader room frame c.reader b.left c.left) → Done told behind frame b.scene c.scene → m ≡ min (n + requests_in (frame ∷ [])) (2 ^ 64 - 1) → SoFar told behind a c m
     so_far_more going gave done count =
         let so_far = going.so_far in
@@ -159,7 +159,7 @@ module _ {T : Type 0} (told : T → Answer → List ℕ) (behind : T → Answer 
     }
 
     -- the last one is END
-    pub ended : is_end frame ≡ true → Going told behind a b n → (gave : Gave b.reader room frame c.reader b.left c.left) → Done told behind frame b.scene c.scene → m ≡ min (n + requests_in (frame ∷ [])) (2 ^ 64 - 1) → Ended told behind a c m
+    pub ended : is_end frame ≡ true → Going told behind a b n → (gave : Gave b.reader room frame c.reader b.left c.left) → Done told behind frame b.scene c.scene → m ≡ min (n + requests_in (frame ∷ [])) (2 ^ 64 - 1) → ReachedEnd told behind a c m
     unfolding so_far_more
     ended last going gave done count = record {
       so_far = so_far_more going gave done count;

@@ -13,7 +13,7 @@ use Rattle.satl_direct.specs.Run.{CutTurns, losses_in}
 use Rattle.satl_direct.specs.Run.RunDeep.{start, step}
 use Rattle.satl_direct.proofs.Quieting.{quiet_none}
 use Rattle.satl_step.specs.Events.{Carried, IsTallied, IsWholeOf, unplugs_behind}
-use Rattle.satl_step.specs.Runs.{AreCounted, Covers, DoesInPart, DoesShort, RunCutSoFar, RunSoFar, Stand, is_manage, is_request, is_unplug, unplugs_in}
+use Rattle.satl_step.specs.Runs.{AreCounted, DoesInPart, DoesShort, KeepsDeepest, RunCutSoFar, RunSoFar, Stand, is_manage, is_request, is_unplug, unplugs_in}
 use Rattle.satl_step.specs.Runs.DoesInPart.{does_all, does_some}
 use Rattle.satl_step.specs.Runs.RunInPart.{last}
 
@@ -54,10 +54,10 @@ pub unplugs_pushed : (events : List Frame) (event : Frame) → unplugs_in (event
 unplugs_pushed events event = omega (arith, how_many-push is_unplug events event)
 
 -- what covered the queue before covers it
-pub covers_same : (a : Stand) → Covers a.tally a.tally
+pub covers_same : (a : Stand) → KeepsDeepest a.tally a.tally
 covers_same a = record { rises = omega arith; covers = λ deep. deep }
 
-pub covers_more : (a b c : Stand) → Covers a.tally b.tally → Covers b.tally c.tally → Covers a.tally c.tally
+pub covers_more : (a b c : Stand) → KeepsDeepest a.tally b.tally → KeepsDeepest b.tally c.tally → KeepsDeepest a.tally c.tally
 covers_more a b c p q = record { rises = omega (arith, p.rises, q.rises); covers = λ deep. q.covers (p.covers deep) }
 
 -- events and one more are counted

@@ -1,6 +1,9 @@
 -- Answers that are told one after the other.
-use Rattle.std.proofs.Common.{◌≡◌, append_assoc, refl, sym, ap, subst, ◌∙◌, ℕ, List, [], ◌∷◌, ◌++◌, map}
+use Rattle.std.proofs.Common.{◌≡◌, append_assoc, refl, sym, ap, subst, ◌∙◌, ℕ, List, [], ◌∷◌, ◌++◌, map, length, Some}
+use Rattle.std.specs.Prelude.{slice_get, unwrap_or}
+use Rattle.std.specs.Option.{option_map}
 use Rattle.std.proofs.lemmas.List.{append-nil}
+use Rattle.satl_base.specs.declared.block.Block.{Block}
 use Rattle.satl_base.specs.declared.reply.Reply.{Reply}
 use Rattle.satl_io.specs.Known.{Wrote, WrotePart}
 use Rattle.satl_io.proofs.Joined.{Wrote-more, Wrote-none, WrotePart-front, WrotePart-more}
@@ -69,3 +72,8 @@ module _ {T : Type 0} (told : T → Answer → List ℕ) (behind : T → Answer 
 
   pub so_far_all : (a b : Telling T) (left all : List Reply) → IsToldBut a b left all → left ≡ [] → IsTold told behind a b (map replied all)
   so_far_all a b left all p is = subst (λ l. IsTold told behind a b l) (sym (append-nil p.done) ∙ (ap (λ l. p.done ++ map replied l) (sym is) ∙ p.whole)) p.told_so
+
+-- the data-in of the first reply of a list
+pub data_of_first : (replies rest : List Reply) (first : Reply) (body : List Block) → replies ≡ first ∷ rest → option_map (λ reply. reply.body) (slice_get replies 0) ≡ Some body → length body ≡ length first.body
+data_of_first replies rest first body is here =
+    ap (λ o. length (unwrap_or o [])) (sym here ∙ ap (λ l. option_map (λ reply. reply.body) (slice_get l 0)) is)

@@ -13,7 +13,7 @@ use Rattle.satl_core.specs.Benching.{unplugs_after}
 use Rattle.satl_core.specs.Layer.{Layer}
 use Rattle.satl_core.specs.Submitting.{CanSubmit}
 use Rattle.satl_core.specs.Turning.{turn_calls}
-use Rattle.satl_step.specs.Runs.{Covers, DoesShort, IsDeep, Stand, calls_allowed, stand_of}
+use Rattle.satl_step.specs.Runs.{DoesShort, IsDeep, KeepsDeepest, Stand, calls_allowed, stand_of}
 use Rattle.satl_step.specs.Telling.{IsTold, IsToldInPart, Telling}
 
 -- where a run stands, and who tells its answers (profile)
@@ -61,7 +61,7 @@ pub record IsTallied (event : Frame) (before after : Stand) : Type 0 where
   pub unplugs : after.tally.unplugs ≡ unplugs_behind event before.tally.unplugs
   pub calls : after.tally.calls + turn_calls * length after.device.tasks
       ≤ before.tally.calls + turn_calls * length before.device.tasks + calls_allowed (event ∷ [])
-  pub queue : Covers before.tally after.tally
+  pub queue : KeepsDeepest before.tally after.tally
 
 -- an event was carried out and counted, and its answers were told (profile)
 pub record Done {T : Type 0} (told : T → Answer → List ℕ) (behind : T → Answer → T) (event : Frame)

@@ -31,26 +31,26 @@ place_offset None = 0
 place_offset (Some place) = place.offset
 
 -- a reader, what is left to read, and the scene that its frames are carried out on (profile)
-pub record Stage (T : Type 0) : Type 0 where
+pub record LoopState (T : Type 0) : Type 0 where
   pub reader : Reading
   pub left : Option (List ℕ)
   pub scene : Scene T
 
-abbrev pub stage_of : {T : Type 0} → Reading → Option (List ℕ) → Scene T → Stage T
-stage_of reader left scene = record { reader = reader; left = left; scene = scene }
+abbrev pub loop_state : {T : Type 0} → Reading → Option (List ℕ) → Scene T → LoopState T
+loop_state reader left scene = record { reader = reader; left = left; scene = scene }
 
 -- the number of requests, which stands still at 2^64 - 1 (profile)
 abbrev pub counted_requests : List Frame → ℕ
 counted_requests events = min (requests_in events) (2 ^ 64 - 1)
 
 -- the reader is the same but for where it stands, and has given these frames (profile)
-pub record HasGiven {T : Type 0} (before after : Stage T) (events : List Frame) : Type 0 where
+pub record HasGiven {T : Type 0} (before after : LoopState T) (events : List Frame) : Type 0 where
   pub limit : after.reader.limit ≡ before.reader.limit
   pub newest : after.reader.newest ≡ before.reader.newest
   pub read : HasRead after.reader before.left after.left events
 
 -- frames were read and carried out, so many of them requests, and their answers were told (profile)
-pub record SoFar {T : Type 0} (told : T → Answer → List ℕ) (behind : T → Answer → T) (before after : Stage T)
+pub record SoFar {T : Type 0} (told : T → Answer → List ℕ) (behind : T → Answer → T) (before after : LoopState T)
     (requests : ℕ) : Type 0 where
   pub events : List Frame
   pub groups : List (List Answer)
@@ -60,20 +60,20 @@ pub record SoFar {T : Type 0} (told : T → Answer → List ℕ) (behind : T →
   pub requests_are : requests ≡ counted_requests events
 
 -- the same, and none of them is END (profile)
-pub record Going {T : Type 0} (told : T → Answer → List ℕ) (behind : T → Answer → T) (before after : Stage T)
+pub record Going {T : Type 0} (told : T → Answer → List ℕ) (behind : T → Answer → T) (before after : LoopState T)
     (requests : ℕ) : Type 0 where
   pub so_far : SoFar told behind before after requests
   pub none_ends : NoneEnds so_far.events
 
 -- the same, and the last of them is END (profile)
-pub record Ended {T : Type 0} (told : T → Answer → List ℕ) (behind : T → Answer → T) (before after : Stage T)
+pub record ReachedEnd {T : Type 0} (told : T → Answer → List ℕ) (behind : T → Answer → T) (before after : LoopState T)
     (requests : ℕ) : Type 0 where
   pub so_far : SoFar told behind before after requests
   pub earlier : List Frame
   pub ends : so_far.events ≡ earlier ++ frames.End ∷ []
 
 -- frames were carried out, none of which is END, and what follows them was refused or not read (profile)
-pub record Refused {T : Type 0} (told : T → Answer → List ℕ) (behind : T → Answer → T) (before after : Stage T)
+pub record Refused {T : Type 0} (told : T → Answer → List ℕ) (behind : T → Answer → T) (before after : LoopState T)
     (why : FrameFault) : Type 0 where
   pub reader : Reading
   pub mid : Option (List ℕ)
@@ -84,8 +84,8 @@ pub record Refused {T : Type 0} (told : T → Answer → List ℕ) (behind : T �
 -- frames were carried out, none of which is END, and their answers were told; then one frame more was read, which was carried
 -- out or cut short, and a front of its answers was told (profile)
 pub record StoppedInAnswers {T : Type 0} (told : T → Answer → List ℕ) (behind : T → Answer → T)
-    (before after : Stage T) : Type 0 where
-  pub mid : Stage T
+    (before after : LoopState T) : Type 0 where
+  pub mid : LoopState T
   pub requests : ℕ
   pub going : Going told behind before mid requests
   pub event : Frame
@@ -96,15 +96,15 @@ pub record StoppedInAnswers {T : Type 0} (told : T → Answer → List ℕ) (beh
       (going.so_far.groups ++ answers ∷ [])
 
 -- by why they are carried out no further (profile)
-abbrev pub StoppedSo : {T : Type 0} → (T → Answer → List ℕ) → (T → Answer → T) → Stage T → Stage T → Stop → Type 0
+abbrev pub StoppedSo : {T : Type 0} → (T → Answer → List ℕ) → (T → Answer → T) → LoopState T → LoopState T → Stop → Type 0
 StoppedSo told behind before after (stops.Refused why) = Refused told behind before after why
 StoppedSo told behind before after stops.Write = StoppedInAnswers told behind before after
 
 -- frames were carried out, by the result: up to END, so many of them requests, or up to where they are carried out no further
 -- (profile)
-pub record Ran {T : Type 0} (told : T → Answer → List ℕ) (behind : T → Answer → T) (before after : Stage T)
+pub record Ran {T : Type 0} (told : T → Answer → List ℕ) (behind : T → Answer → T) (before after : LoopState T)
     (result : Result ℕ Stop) : Type 0 where
-  pub ended : IfOk result (Ended told behind before after)
+  pub ended : IfOk result (ReachedEnd told behind before after)
   pub stopped : IfErr result (StoppedSo told behind before after)
 
 -- a read fault comes only where the source's count rose, and a write fault only where the sink's did (profile)

@@ -34,7 +34,7 @@ abbrev pub IsDeep : Tally → Type 0
 IsDeep t = t.outstanding ≤ t.deepest
 
 -- the deepest queue does not fall, and stays at least what the drive has, where it was (profile)
-pub record Covers (before after : Tally) : Type 0 where
+pub record KeepsDeepest (before after : Tally) : Type 0 where
   pub rises : before.deepest ≤ after.deepest
   pub covers : IsDeep before → IsDeep after
 
@@ -101,7 +101,7 @@ pub record AreCounted (events : List Frame) (losses : ℕ) (before after : Stand
   pub unplugged : RoseBy (unplugs_in events) before.tally.unplugs after.tally.unplugs
   pub few_unplugs : after.tally.unplugs ≤ before.tally.unplugs + unplugs_in events
   pub few_calls : after.tally.calls + turn_calls * length after.device.tasks ≤ before.tally.calls + calls_allowed events
-  pub queue : Covers before.tally after.tally
+  pub queue : KeepsDeepest before.tally after.tally
 
 -- events were carried out one after the other, from a device without tasks on, and were counted: a group of answers for each
 -- (profile)

@@ -2,7 +2,7 @@
 ghost use Rattle.std.specs.Prelude.{◌≡◌, ◌≤◌, ◌+◌, ◌-◌, ◌^◌, min, [], ◌∷◌, None, IfErr};
 ghost use Rattle.satl_core.specs.Layer.{Tied};
 ghost use Rattle.satl_step.specs.Events.{scene_of};
-ghost use Rattle.satl_step.specs.Loop.{HasStopCause, Ran, is_end, stage_of};
+ghost use Rattle.satl_step.specs.Loop.{HasStopCause, Ran, is_end, loop_state};
 ghost use Rattle.satl_step.specs.Runs.{requests_in};
 
 use crate::events::serve_event;
@@ -64,9 +64,9 @@ pub fn serve_frames<S: Source, T: Teller, K: Sink, D: Bench, L: Ledger>(
     requires unread { reader.old.place ≡ None }
     ensures tied { Tied satl.new (D.state drive.new) }
     ensures ran { Ran T.told T.behind
-        (stage_of reader.old (S.left source.old)
+        (loop_state reader.old (S.left source.old)
         (scene_of satl.old (D.state drive.old) steps.old teller.old (K.written sink.old)))
-        (stage_of reader.new (S.left source.new)
+        (loop_state reader.new (S.left source.new)
         (scene_of satl.new (D.state drive.new) steps.new teller.new (K.written sink.new))) result }
     ensures causes { IfErr result (HasStopCause (S.faults source.old) (S.faults source.new) (K.faults sink.old)
         (K.faults sink.new)) }

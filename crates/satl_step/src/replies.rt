@@ -33,11 +33,8 @@ pub fn tell_replies<T: Teller, K: Sink>(
     ensures cause { HasCause (K.faults sink.old) (K.faults sink.new) result }
 {
     for _ in 0..replies.len() {
-        let Some(reply) = replies.pop_first() else {
-            unreachable!();
-        };
-        teller.tell_reply(&reply, sink)?;
-        satl.recycle(reply.body);
+        teller.tell_reply(replies.first(), sink)?;
+        satl.recycle(replies.remove_first());
     }
     Ok(())
 }

@@ -7,7 +7,7 @@ use Rattle.satl_vpd.specs.Luns.{lun_list}
 use Rattle.satl_vpd.specs.Standard.{standard_data}
 use Rattle.satl_vpd.specs.Vital.{vpd_page}
 use Rattle.satl_mode.specs.ModeData.{mode_data}
-use Rattle.satl_direct.specs.Senses.{sense_in}
+use Rattle.satl_direct.specs.Senses.{sense_spelled}
 use Rattle.satl_telling.specs.declared.telling.Data.{Data}
 use Rattle.satl_telling.specs.declared.telling.Data.TheVariants as datas
 
@@ -20,4 +20,4 @@ data_text i m (datas.Modes asked) = mode_data i m asked
 data_text i m datas.Capacity10 = capacity_10 i
 data_text i m datas.Capacity16 = capacity_16 i
 data_text i m (datas.Luns select) = lun_list select
-data_text i m (datas.Sense descriptor sense) = sense_in descriptor sense
+data_text i m (datas.Sense descriptor sense) = sense_spelled descriptor sense

@@ -4,7 +4,7 @@ ghost use Rattle.satl_vpd.specs.Luns.{lun_list};
 ghost use Rattle.satl_vpd.specs.Vital.{vpd_page};
 ghost use Rattle.satl_frame.specs.DataPages.{padded_block, pages_of};
 ghost use Rattle.satl_frame.specs.Output.{IsWritable};
-ghost use Rattle.satl_direct.specs.Arrival.{told};
+ghost use Rattle.satl_direct.specs.Arrival.{good_with_data};
 ghost use Rattle.satl_base.specs.Limits.{IsExpectable};
 ghost use Rattle.satl_telling.specs.Telling.{data_text};
 
@@ -127,7 +127,7 @@ pub fn tell(
 ) -> Reply
     requires capacity { 1 ≤ identity.now.capacity }
     requires room { 2 ≤ pool.old.free }
-    ensures reply { result ≡ told request.now alloc (data_text identity.now modes.now what.now) }
+    ensures reply { result ≡ good_with_data request.now alloc (data_text identity.now modes.now what.now) }
     ensures free { pool.new.free + length result.body ≡ pool.old.free }
     ensures out { pool.new.out ≡ pool.old.out + length result.body }
     ensures writable { IsExpectable request.now.expected → IsWritable result }
@@ -139,7 +139,7 @@ pub fn tell(
 fn told(pool: &mut Pool, request: &Request, alloc: u32, text: &[u8]) -> Reply
     requires few { length text.now ≤ 576 }
     requires room { 2 ≤ pool.old.free }
-    ensures reply { result ≡ told request.now alloc text.now }
+    ensures reply { result ≡ good_with_data request.now alloc text.now }
     ensures free { pool.new.free + length result.body ≡ pool.old.free }
     ensures out { pool.new.out ≡ pool.old.out + length result.body }
     ensures writable { IsExpectable request.now.expected → IsWritable result }

@@ -8,7 +8,7 @@ use Rattle.satl_usb.specs.declared.fault.UsbFault.{UsbFault}
 use Rattle.satl_usb.specs.declared.fault.UsbFault.TheVariants as faults
 use Rattle.satl_top.specs.Bridging.{BridgeEnds}
 use Rattle.satl_top.specs.Faults.{status_of_usb}
-use Rattle.satl_top.specs.Top.{Completes, HasCause}
+use Rattle.satl_top.specs.Top.{Completes, HasStatusCause}
 use Rattle.satl_top.specs.declared.status.Status.{Status}
 use Rattle.satl_top.specs.declared.status.Status.TheVariants as statuses
 
@@ -24,10 +24,10 @@ module _ (before after : Moment) (fault : UsbFault) (status : Status) (is : stat
       by_fault faults.Read stopped = stopped
       by_fault faults.Write stopped = stopped
 
-  pub bridge_causes : HasUsbCause before after fault → HasCause before after status
-  bridge_causes cause = subst (HasCause before after) (sym is) (by_fault fault cause)
+  pub bridge_causes : HasUsbCause before after fault → HasStatusCause before after status
+  bridge_causes cause = subst (HasStatusCause before after) (sym is) (by_fault fault cause)
     where
-      by_fault : (f : UsbFault) → HasUsbCause before after f → HasCause before after (status_of_usb f)
+      by_fault : (f : UsbFault) → HasUsbCause before after f → HasStatusCause before after (status_of_usb f)
       by_fault (faults.Open opening.NoMemory) cause = tt
       by_fault (faults.Open opening.LinkDown) cause = inr cause
       by_fault (faults.Open (opening.Identity fault)) cause = inl (fault, cause)

@@ -12,16 +12,16 @@ use Rattle.satl_gen.specs.Generated.{generated, generated_frames}
 use Rattle.satl_gen.proofs.WholeInput.{reads_whole}
 use Rattle.satl_serve.specs.Completeness.{GoesWell, IsGoodInput, MayStop}
 use Rattle.satl_serve.specs.Headline.{IsServedWhole, IsStopped}
-use Rattle.satl_serve.specs.Moments.{Moment, Reads, Writes, moment, reads}
+use Rattle.satl_serve.specs.Moments.{Moment, SinkState, SourceState, moment, source_state}
 use Rattle.satl_serve.specs.Runs.{input_limit}
-use Rattle.satl_serve.specs.Stopping.{HasServeCause, IsRefused, TellsRefusal}
+use Rattle.satl_serve.specs.Stopping.{HasServeCause, IsDriveRefused, TellsRefusal}
 use Rattle.satl_serve.specs.declared.serving.ServeFault.{ServeFault}
 use Rattle.satl_serve.specs.declared.serving.ServeFault.TheVariants as faults
 use Rattle.satl_serve.specs.declared.telling.Form.TheVariants as forms
 use Rattle.satl_top.specs.Faults.{status_of}
 use Rattle.satl_top.specs.Load.{IsLoaded, Load, LoadEnds, LoadStops, input_of, load_of, nowhere}
 use Rattle.satl_words.specs.declared.modes.Mode.TheVariants as modes
-use Rattle.satl_top.specs.Top.{HasCause, IsCarriedOut}
+use Rattle.satl_top.specs.Top.{HasCarriedOut, HasStatusCause}
 use Rattle.satl_top.proofs.RequestLemmas.{frames_read, total_is}
 use Rattle.satl_top.specs.declared.status.Status.{Status}
 use Rattle.satl_top.specs.declared.status.Status.TheVariants as statuses
@@ -36,12 +36,12 @@ good_input load made is few = record { input = generated load.seed load.requests
 
 module _ (load : Load) (made : List ℕ) (left : Option (List ℕ)) (calls calls' : ℕ) (old new : DriveState) where
   abbrev begins : Moment
-  begins = moment (reads (Some made) 0) nowhere calls old
+  begins = moment (source_state (Some made) 0) nowhere calls old
 
   abbrev ends : Moment
-  ends = moment (reads left 0) nowhere calls' new
+  ends = moment (source_state left 0) nowhere calls' new
 
-  stops_so : (fault : ServeFault) → IsStopped forms.Count input_limit begins ends fault → HasServeCause begins ends fault → (GoesWell begins ends → MayStop begins ends fault) → (source : Reads) (sink : Writes) → LoadStops (moment source sink calls old) (moment source sink calls' new) fault
+  stops_so : (fault : ServeFault) → IsStopped forms.Count input_limit begins ends fault → HasServeCause begins ends fault → (GoesWell begins ends → MayStop begins ends fault) → (source : SourceState) (sink : SinkState) → LoadStops (moment source sink calls old) (moment source sink calls' new) fault
   stops_so (faults.Open fault) n cause may source sink =
       (record { read = refl; wrote = refl; undisturbed = n.undisturbed; nows = n.nows; unplugs = n.unplugs; one_call = n.one_call }, cause)
   stops_so (faults.BadInput reason offset) served cause may source sink =
@@ -50,13 +50,13 @@ module _ (load : Load) (made : List ℕ) (left : Option (List ℕ)) (calls calls
   stops_so faults.Write served cause may source sink = never_rose cause
 
   -- a load stops only where nothing was served
-  pub load_stops : made ≡ generated load.seed load.requests → load.requests ≤ 100000 → (r : Result Summary ServeFault) → IfErr r (IsStopped forms.Count input_limit begins ends) → IfErr r (HasServeCause begins ends) → ((fs : List Frame) (rest : List ℕ) → IsGoodInput input_limit (Some made) fs rest → GoesWell begins ends → MatchResult r (λ _. left ≡ Some rest) (MayStop begins ends)) → IfErr r (λ fault. (source : Reads) (sink : Writes) → LoadStops (moment source sink calls old) (moment source sink calls' new) fault)
+  pub load_stops : made ≡ generated load.seed load.requests → load.requests ≤ 100000 → (r : Result Summary ServeFault) → IfErr r (IsStopped forms.Count input_limit begins ends) → IfErr r (HasServeCause begins ends) → ((fs : List Frame) (rest : List ℕ) → IsGoodInput input_limit (Some made) fs rest → GoesWell begins ends → MatchResult r (λ _. left ≡ Some rest) (MayStop begins ends)) → IfErr r (λ fault. (source : SourceState) (sink : SinkState) → LoadStops (moment source sink calls old) (moment source sink calls' new) fault)
   load_stops is few (Ok summary) stopped cause complete = tt
   load_stops is few (Err fault) stopped cause complete =
       stops_so fault stopped cause (complete (generated_frames load.seed load.requests) [] (good_input load made is few))
 
   -- what was served whole was the generated frames, with their number
-  all_served : load.requests ≤ 100000 → (summary : Summary) → IsServedWhole forms.Count input_limit summary (moment (reads (input_of load) 0) nowhere calls old) ends → (source : Reads) (sink sink' : Writes)
+  all_served : load.requests ≤ 100000 → (summary : Summary) → IsServedWhole forms.Count input_limit summary (moment (source_state (input_of load) 0) nowhere calls old) ends → (source : SourceState) (sink sink' : SinkState)
       → IsLoaded input_limit load summary (moment source sink calls old) (moment source sink' calls' new)
   all_served few summary served source sink sink' =
       let run = served.to_end.run in
@@ -70,9 +70,9 @@ module _ (load : Load) (made : List ℕ) (left : Option (List ℕ)) (calls calls
       }
 
   pub is_loaded : made ≡ generated load.seed load.requests → load.requests ≤ 100000 → (r : Result Summary ServeFault) → IfOk r (λ summary. IsServedWhole forms.Count input_limit summary begins ends)
-      → IfOk r (λ summary. (source : Reads) (sink sink' : Writes) → IsLoaded input_limit load summary (moment source sink calls old) (moment source sink' calls' new))
+      → IfOk r (λ summary. (source : SourceState) (sink sink' : SinkState) → IsLoaded input_limit load summary (moment source sink calls old) (moment source sink' calls' new))
   is_loaded is few (Err fault) served = tt
-  is_loaded is few (Ok summary) served = all_served few summary (subst (λ m. IsServedWhole forms.Count input_limit summary (moment (reads (Some m) 0) nowhere calls old) ends) is served)
+  is_loaded is few (Ok summary) served = all_served few summary (subst (λ m. IsServedWhole forms.Count input_limit summary (moment (source_state (Some m) 0) nowhere calls old) ends) is served)
 
 -- the status of such a fault says so
 pub stop_ends : (limit : ℕ) (load : Load) (before after : Moment) (fault : ServeFault) (status : Status) → status ≡ status_of fault → LoadStops before after fault → LoadEnds limit load before after status
@@ -87,10 +87,10 @@ stop_ends limit load before after fault status is stops = subst (LoadEnds limit 
     by_fault faults.Write stops = absurd stops
 
 -- and has its cause
-pub stop_causes : (before after : Moment) (fault : ServeFault) (status : Status) → status ≡ status_of fault → LoadStops before after fault → HasCause before after status
-stop_causes before after fault status is stops = subst (HasCause before after) (sym is) (by_fault fault stops)
+pub stop_causes : (before after : Moment) (fault : ServeFault) (status : Status) → status ≡ status_of fault → LoadStops before after fault → HasStatusCause before after status
+stop_causes before after fault status is stops = subst (HasStatusCause before after) (sym is) (by_fault fault stops)
   where
-    by_fault : (f : ServeFault) → LoadStops before after f → HasCause before after (status_of f)
+    by_fault : (f : ServeFault) → LoadStops before after f → HasStatusCause before after (status_of f)
     by_fault (faults.Open opening.NoMemory) stops = tt
     by_fault (faults.Open opening.LinkDown) stops = inr stops.1
     by_fault (faults.Open (opening.Identity fault)) stops = inl (fault, stops.1)

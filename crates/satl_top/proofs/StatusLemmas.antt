@@ -9,7 +9,7 @@ use Rattle.satl_serve.specs.declared.serving.ServeFault.{ServeFault}
 use Rattle.satl_serve.specs.declared.serving.ServeFault.TheVariants as faults
 use Rattle.satl_serve.specs.declared.telling.Form.{Form}
 use Rattle.satl_top.specs.Faults.{status_of}
-use Rattle.satl_top.specs.Top.{Completes, HasCause, ServeEnds}
+use Rattle.satl_top.specs.Top.{Completes, HasStatusCause, ServeEnds}
 use Rattle.satl_top.specs.declared.status.Status.{Status}
 
 -- a fault has the status that says how far the input was served
@@ -25,10 +25,10 @@ fault_ends form limit before after fault status is stopped = subst (λ s. ServeE
     by_fault faults.Write stopped = stopped
 
 -- and its cause
-pub fault_causes : (before after : Moment) (fault : ServeFault) (status : Status) → status ≡ status_of fault → HasServeCause before after fault → HasCause before after status
-fault_causes before after fault status is cause = subst (HasCause before after) (sym is) (by_fault fault cause)
+pub fault_causes : (before after : Moment) (fault : ServeFault) (status : Status) → status ≡ status_of fault → HasServeCause before after fault → HasStatusCause before after status
+fault_causes before after fault status is cause = subst (HasStatusCause before after) (sym is) (by_fault fault cause)
   where
-    by_fault : (f : ServeFault) → HasServeCause before after f → HasCause before after (status_of f)
+    by_fault : (f : ServeFault) → HasServeCause before after f → HasStatusCause before after (status_of f)
     by_fault (faults.Open opening.NoMemory) cause = tt
     by_fault (faults.Open opening.LinkDown) cause = inr cause
     by_fault (faults.Open (opening.Identity fault)) cause = inl (fault, cause)

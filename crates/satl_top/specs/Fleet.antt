@@ -15,7 +15,7 @@ use Rattle.satl_fleet.specs.Opening.{IsCauseOfOne}
 use Rattle.satl_fleet.specs.declared.fault.FleetFault.{FleetFault}
 use Rattle.satl_fleet.specs.declared.fault.FleetFault.TheVariants as faults
 use Rattle.satl_top.specs.Faults.{status_of_open}
-use Rattle.satl_top.specs.Top.{Outcome}
+use Rattle.satl_top.specs.Top.{OutcomeByWords}
 use Rattle.satl_top.specs.declared.status.Status.{Status}
 use Rattle.satl_top.specs.declared.status.Status.TheVariants as statuses
 
@@ -66,7 +66,7 @@ pub record OnFirst (words : List Text) (limit : ℕ) (before after : FleetMoment
   pub others : List DriveState
   pub olds : before.drives ≡ first ∷ others
   pub news : after.drives ≡ last ∷ others
-  pub outcome : Outcome words limit (moment before.source before.sink before.calls first)
+  pub outcome : OutcomeByWords words limit (moment before.source before.sink before.calls first)
       (moment after.source after.sink after.calls last) status
 
 -- all drives were served as one target, where the words ask for it: what holds by the status, and why it is that one (profile)

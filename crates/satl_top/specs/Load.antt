@@ -6,7 +6,7 @@ use Rattle.satl_text.specs.Lines.{summary_lines}
 use Rattle.satl_text.specs.declared.summary.Summary.{Summary}
 use Rattle.satl_gen.specs.Generated.{generated, generated_frames}
 use Rattle.satl_serve.specs.Headline.{IsNotServed, IsServedWhole}
-use Rattle.satl_serve.specs.Moments.{Moment, Writes, moment, reads, writes}
+use Rattle.satl_serve.specs.Moments.{Moment, SinkState, moment, sink_state, source_state}
 use Rattle.satl_serve.specs.declared.serving.ServeFault.{ServeFault}
 use Rattle.satl_serve.specs.declared.serving.ServeFault.TheVariants as faults
 use Rattle.satl_serve.specs.declared.telling.Form.TheVariants as forms
@@ -26,12 +26,12 @@ abbrev pub input_of : Load → Option (List ℕ)
 input_of load = Some (generated load.seed load.requests)
 
 -- where answers are counted alone they go nowhere (profile)
-abbrev pub nowhere : Writes
-nowhere = writes None 0
+abbrev pub nowhere : SinkState
+nowhere = sink_state None 0
 
 -- a moment of a load: this is left of its generated input, and its answers go nowhere (profile)
 abbrev pub at_load : Option (List ℕ) → Moment → Moment
-at_load left m = moment (reads left 0) nowhere m.calls m.drive
+at_load left m = moment (source_state left 0) nowhere m.calls m.drive
 
 -- a generated input was served whole within this limit: the run was one over the generated frames and END, with these totals,
 -- which say as many requests as were asked for; and the source that was handed in was not read (profile)

@@ -13,7 +13,7 @@ use Rattle.satl_serve.specs.declared.telling.Form.TheVariants as forms
 use Rattle.satl_serve.specs.Headline.{IsNotServed, IsServedBefore, IsServedInPart, IsServedWhole}
 use Rattle.satl_serve.specs.Completeness.{GoesWell, IsGoodInput}
 use Rattle.satl_serve.specs.Moments.{Moment}
-use Rattle.satl_serve.specs.Stopping.{IsRefused}
+use Rattle.satl_serve.specs.Stopping.{IsDriveRefused}
 use Rattle.satl_words.specs.declared.modes.Mode.{Mode}
 use Rattle.satl_words.specs.declared.modes.Mode.TheVariants as modes
 use Rattle.satl_words.specs.Asked.{AreRefused, AskFor}
@@ -39,17 +39,17 @@ exit_number statuses.NotCovered = 10
 
 -- a read or a write fault comes only where the source's or the sink's count of faults rose, and a drive is refused only for its
 -- IDENTIFY DEVICE data or where its own count rose (profile)
-abbrev pub HasCause : Moment → Moment → Status → Type 0
-HasCause before after statuses.Done = Unit {0}
-HasCause before after statuses.Usage = Unit {0}
-HasCause before after statuses.BadInput = Unit {0}
-HasCause before after statuses.ReadFault = Rose before.source.faults after.source.faults
-HasCause before after statuses.WriteFault = Rose before.sink.faults after.sink.faults
-HasCause before after statuses.NoMemory = Unit {0}
-HasCause before after statuses.DriveRefused =
+abbrev pub HasStatusCause : Moment → Moment → Status → Type 0
+HasStatusCause before after statuses.Done = Unit {0}
+HasStatusCause before after statuses.Usage = Unit {0}
+HasStatusCause before after statuses.BadInput = Unit {0}
+HasStatusCause before after statuses.ReadFault = Rose before.source.faults after.source.faults
+HasStatusCause before after statuses.WriteFault = Rose before.sink.faults after.sink.faults
+HasStatusCause before after statuses.NoMemory = Unit {0}
+HasStatusCause before after statuses.DriveRefused =
     ((fault : IdentityFault) × (identity_of before.drive.identify ≡ Err fault)) ⊎ Rose before.drive.faults after.drive.faults
-HasCause before after statuses.No = Unit {0}
-HasCause before after statuses.NotCovered = Unit {0}
+HasStatusCause before after statuses.No = Unit {0}
+HasStatusCause before after statuses.NotCovered = Unit {0}
 
 -- what holds of the input, the output in a form and the drive, by the status (profile): a whole input was served; or it was
 -- served up to a frame that was refused or not read, or up to a write that failed; or it was not served
@@ -80,14 +80,14 @@ Completes rest before after statuses.NotCovered = ⊥
 
 -- a drive whose IDENTIFY DEVICE data are refused is told so, unless there was no memory (profile)
 abbrev pub TellsRefused : Moment → Moment → Status → Type 0
-TellsRefused before after status = (fault : IdentityFault) → IsRefused fault before.drive after.drive →
+TellsRefused before after status = (fault : IdentityFault) → IsDriveRefused fault before.drive after.drive →
     (status ≡ statuses.DriveRefused) ⊎ (status ≡ statuses.NoMemory)
 
 -- the frames that were handed in were served, and answered in a form: what holds by the status, and why it is that one; a good
 -- input is served whole where all goes well (profile)
 pub record HasServed (form : Form) (limit : ℕ) (before after : Moment) (status : Status) : Type 0 where
   pub ends : ServeEnds form limit before after status
-  pub causes : HasCause before after status
+  pub causes : HasStatusCause before after status
   pub refused : TellsRefused before after status
   pub complete : (fs : List Frame) (rest : List ℕ) → IsGoodInput limit before.source.left fs rest → GoesWell before after
       → Completes rest before after status
@@ -96,7 +96,7 @@ pub record HasServed (form : Form) (limit : ℕ) (before after : Moment) (status
 -- bridged whole where all goes well; the drive was not unplugged (profile)
 pub record HasBridged (limit : ℕ) (before after : Moment) (status : Status) : Type 0 where
   pub ends : BridgeEnds limit before after status
-  pub causes : HasCause before after status
+  pub causes : HasStatusCause before after status
   pub refused : TellsRefused before after status
   pub complete : (items : List Item) → IsItemInput limit before.source.left items → GoesWell before after
       → Completes [] before after status
@@ -105,22 +105,22 @@ pub record HasBridged (limit : ℕ) (before after : Moment) (status : Status) : 
 -- the record that was handed in was judged: what holds by the status, and why it is that one (profile)
 pub record HasJudged (before after : Moment) (status : Status) : Type 0 where
   pub ends : AuditEnds before after status
-  pub causes : HasCause before after status
+  pub causes : HasStatusCause before after status
   pub refused : TellsRefused before after status
 
 -- a generated input was served, and its totals told: what holds by the status, and why it is that one (profile)
 pub record HasLoaded (limit : ℕ) (load : Load) (before after : Moment) (status : Status) : Type 0 where
   pub ends : LoadEnds limit load before after status
-  pub causes : HasCause before after status
+  pub causes : HasStatusCause before after status
   pub refused : TellsRefused before after status
 
 -- a mode was carried out (profile)
-abbrev pub IsCarriedOut : Mode → ℕ → Moment → Moment → Status → Type 0
-IsCarriedOut modes.Replay limit before after status = HasServed forms.Frames limit before after status
-IsCarriedOut modes.Show limit before after status = HasServed forms.Text limit before after status
-IsCarriedOut modes.Usb limit before after status = HasBridged limit before after status
-IsCarriedOut modes.Audit limit before after status = HasJudged before after status
-IsCarriedOut (modes.Generate seed requests) limit before after status =
+abbrev pub HasCarriedOut : Mode → ℕ → Moment → Moment → Status → Type 0
+HasCarriedOut modes.Replay limit before after status = HasServed forms.Frames limit before after status
+HasCarriedOut modes.Show limit before after status = HasServed forms.Text limit before after status
+HasCarriedOut modes.Usb limit before after status = HasBridged limit before after status
+HasCarriedOut modes.Audit limit before after status = HasJudged before after status
+HasCarriedOut (modes.Generate seed requests) limit before after status =
     HasLoaded limit (load_of seed requests) before after status
 
 -- nothing was done: the words ask for nothing, or there was not the memory to read them (profile)
@@ -129,6 +129,6 @@ pub record IsUnused (words : List Text) (before after : Moment) (status : Status
   pub stays : after ≡ before
 
 -- the outcome by the words (profile): nothing was done, or the words ask for a mode, which was carried out
-abbrev pub Outcome : List Text → ℕ → Moment → Moment → Status → Type 0
-Outcome words limit before after status =
-    IsUnused words before after status ⊎ ((mode : Mode) × AskFor words mode × IsCarriedOut mode limit before after status)
+abbrev pub OutcomeByWords : List Text → ℕ → Moment → Moment → Status → Type 0
+OutcomeByWords words limit before after status =
+    IsUnused words before after status ⊎ ((mode : Mode) × AskFor words mode × HasCarriedOut mode limit before after status)

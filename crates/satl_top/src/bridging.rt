@@ -1,7 +1,7 @@
 // A USB disk bridge.
 ghost use Rattle.std.specs.Prelude.{◌≡◌, [], None};
 ghost use Rattle.satl_drive.specs.State.{IsFit};
-ghost use Rattle.satl_serve.specs.Moments.{moment, reads, writes};
+ghost use Rattle.satl_serve.specs.Moments.{moment, sink_state, source_state};
 ghost use Rattle.satl_serve.specs.Runs.{input_limit};
 ghost use Rattle.satl_top.specs.Top.{HasBridged};
 
@@ -28,9 +28,9 @@ pub fn bridge<S: Source, K: Sink, D: Bench, L: Ledger>(
     requires no_error { (D.state drive.old).error ≡ None }
     requires fit { IsFit (D.state drive.old) }
     ensures { HasBridged input_limit
-        (moment (reads (S.left source.old) (S.faults source.old)) (writes (K.written sink.old) (K.faults sink.old))
+        (moment (source_state (S.left source.old) (S.faults source.old)) (sink_state (K.written sink.old) (K.faults sink.old))
         steps.old (D.state drive.old))
-        (moment (reads (S.left source.new) (S.faults source.new)) (writes (K.written sink.new) (K.faults sink.new))
+        (moment (source_state (S.left source.new) (S.faults source.new)) (sink_state (K.written sink.new) (K.faults sink.new))
         steps.new (D.state drive.new)) result }
 {
     match serve_usb(alloc, source, sink, drive, steps) {

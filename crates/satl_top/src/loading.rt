@@ -3,9 +3,9 @@ ghost use Rattle.std.specs.Prelude.{◌≡◌, ◌≤◌, [], IfErr, IfOk, None}
 ghost use Rattle.std.specs.Result.{IsErrAnd};
 ghost use Rattle.satl_identify.specs.declared.identity.IdentityFault.{IdentityFault};
 ghost use Rattle.satl_drive.specs.State.{IsFit};
-ghost use Rattle.satl_serve.specs.Moments.{Reads, Writes, moment, writes};
+ghost use Rattle.satl_serve.specs.Moments.{SinkState, SourceState, moment, sink_state};
 ghost use Rattle.satl_serve.specs.Runs.{input_limit};
-ghost use Rattle.satl_serve.specs.Stopping.{IsRefused, TellsRefusal};
+ghost use Rattle.satl_serve.specs.Stopping.{IsDriveRefused, TellsRefusal};
 ghost use Rattle.satl_top.specs.Load.{IsLoaded, LoadStops, load_of};
 ghost use Rattle.satl_top.specs.Top.{HasLoaded};
 
@@ -46,13 +46,13 @@ fn serve_generated<D: Bench, L: Ledger>(
     requires idle { (D.state drive.old).outstanding ≡ [] }
     requires no_error { (D.state drive.old).error ≡ None }
     requires fit { IsFit (D.state drive.old) }
-    ensures loaded { IfOk result (λ summary. (source : Reads) (sink sink' : Writes)
+    ensures loaded { IfOk result (λ summary. (source : SourceState) (sink sink' : SinkState)
         → IsLoaded input_limit (load_of seed requests) summary (moment source sink steps.old (D.state drive.old))
         (moment source sink' steps.new (D.state drive.new))) }
-    ensures stopped { IfErr result (λ fault. (source : Reads) (sink : Writes)
+    ensures stopped { IfErr result (λ fault. (source : SourceState) (sink : SinkState)
         → LoadStops (moment source sink steps.old (D.state drive.old)) (moment source sink steps.new (D.state drive.new))
         fault) }
-    ensures refused { (fault : IdentityFault) → IsRefused fault (D.state drive.old) (D.state drive.new)
+    ensures refused { (fault : IdentityFault) → IsDriveRefused fault (D.state drive.old) (D.state drive.new)
         → IsErrAnd result (TellsRefusal fault) }
 {
     let mut source = GenSource::new(seed, requests);
@@ -76,9 +76,9 @@ pub fn load<K: Sink, D: Bench, L: Ledger>(
     requires idle { (D.state drive.old).outstanding ≡ [] }
     requires no_error { (D.state drive.old).error ≡ None }
     requires fit { IsFit (D.state drive.old) }
-    ensures { (source : Reads) → HasLoaded input_limit (load_of seed requests)
-        (moment source (writes (K.written sink.old) (K.faults sink.old)) steps.old (D.state drive.old))
-        (moment source (writes (K.written sink.new) (K.faults sink.new)) steps.new (D.state drive.new)) result }
+    ensures { (source : SourceState) → HasLoaded input_limit (load_of seed requests)
+        (moment source (sink_state (K.written sink.old) (K.faults sink.old)) steps.old (D.state drive.old))
+        (moment source (sink_state (K.written sink.new) (K.faults sink.new)) steps.new (D.state drive.new)) result }
 {
     match serve_generated(alloc, seed, requests, drive, steps) {
         Ok(summary) => match write_summary(seed, &summary, sink) {

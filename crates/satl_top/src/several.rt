@@ -4,7 +4,7 @@ ghost use Rattle.std.specs.List.{AllByRecursion};
 ghost use Rattle.std.specs.Rc.{rc_str_bytes};
 ghost use Rattle.satl_fleet.specs.Moments.{fleet_moment};
 ghost use Rattle.satl_fleet.specs.Opening.{IsServable};
-ghost use Rattle.satl_serve.specs.Moments.{reads, writes};
+ghost use Rattle.satl_serve.specs.Moments.{sink_state, source_state};
 ghost use Rattle.satl_serve.specs.Runs.{input_limit};
 ghost use Rattle.satl_top.specs.Fleet.{AskForFleet, HasDone, HasServedFleet};
 
@@ -68,9 +68,11 @@ pub fn fleet<S: Source, K: Sink, D: Bench, L: Ledger>(
     requires few { vec_len drives.old ≤ 4 }
     requires servable { AllByRecursion IsServable (map D.state drives.old.items) }
     ensures { HasServedFleet (map rc_str_bytes words.now) input_limit
-        (fleet_moment (reads (S.left source.old) (S.faults source.old)) (writes (K.written sink.old) (K.faults sink.old))
+        (fleet_moment (source_state (S.left source.old) (S.faults source.old))
+        (sink_state (K.written sink.old) (K.faults sink.old))
         steps.old (map D.state drives.old.items))
-        (fleet_moment (reads (S.left source.new) (S.faults source.new)) (writes (K.written sink.new) (K.faults sink.new))
+        (fleet_moment (source_state (S.left source.new) (S.faults source.new))
+        (sink_state (K.written sink.new) (K.faults sink.new))
         steps.new (map D.state drives.new.items)) result }
 {
     if !is_fleet(words) {
@@ -97,9 +99,11 @@ pub fn program<S: Source, K: Sink, D: Bench, L: Ledger>(
     requires few { vec_len drives.old ≤ 4 }
     requires servable { AllByRecursion IsServable (map D.state drives.old.items) }
     ensures { HasDone (map rc_str_bytes words.now) input_limit
-        (fleet_moment (reads (S.left source.old) (S.faults source.old)) (writes (K.written sink.old) (K.faults sink.old))
+        (fleet_moment (source_state (S.left source.old) (S.faults source.old))
+        (sink_state (K.written sink.old) (K.faults sink.old))
         steps.old (map D.state drives.old.items))
-        (fleet_moment (reads (S.left source.new) (S.faults source.new)) (writes (K.written sink.new) (K.faults sink.new))
+        (fleet_moment (source_state (S.left source.new) (S.faults source.new))
+        (sink_state (K.written sink.new) (K.faults sink.new))
         steps.new (map D.state drives.new.items)) result }
 {
     if is_fleet(words) {
@@ -126,9 +130,11 @@ pub fn counted_program<S: Source, K: Sink, D: Bench, L: Ledger>(
     requires parts { blank.parts ≡ L.parts }
     requires enough { 0 < blank.parts }
     ensures { (calls : ℕ) × HasDone (map rc_str_bytes words.now) input_limit
-        (fleet_moment (reads (S.left source.old) (S.faults source.old)) (writes (K.written sink.old) (K.faults sink.old))
+        (fleet_moment (source_state (S.left source.old) (S.faults source.old))
+        (sink_state (K.written sink.old) (K.faults sink.old))
         0 (map D.state drives.old.items))
-        (fleet_moment (reads (S.left source.new) (S.faults source.new)) (writes (K.written sink.new) (K.faults sink.new))
+        (fleet_moment (source_state (S.left source.new) (S.faults source.new))
+        (sink_state (K.written sink.new) (K.faults sink.new))
         calls (map D.state drives.new.items)) result }
 {
     let mut steps = Steps::<L>::new(blank);

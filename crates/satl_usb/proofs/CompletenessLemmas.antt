@@ -9,7 +9,7 @@ use Rattle.satl_serve.specs.Completeness.{GoesWell}
 use Rattle.satl_serve.specs.Moments.{Moment, Spot}
 use Rattle.satl_usb.specs.Bridge.{BridgedWhole, HasTaken}
 use Rattle.satl_usb.specs.Headline.{HasStreamCause, IsItemInput, MayStop, RanTo}
-use Rattle.satl_usb.specs.Items.{AreItems, IsItem, IsRefused, Item, Stands, all_spelled, sent_length, spelled}
+use Rattle.satl_usb.specs.Items.{AreItems, HasNoItem, IsItem, Item, Stands, all_spelled, sent_length, spelled}
 use Rattle.satl_usb.specs.declared.fault.UsbFault.{UsbFault}
 use Rattle.satl_usb.specs.declared.fault.UsbFault.TheVariants as faults
 use Rattle.satl_usb.proofs.ItemsLemmas.{fronts, rests}
@@ -70,10 +70,10 @@ not_refused : (limit offset : ℕ) (items : List Item) (rest : List ℕ) → res
 not_refused limit offset [] rest is each some none = some is
 not_refused limit offset (z ∷ items) rest is (item, within, others) some none = none (record { item = z; rest = all_spelled items; is_item = item; split = is; within = within })
 
-never_refused : (limit offset : ℕ) (left mid : Option (List ℕ)) (items taken : List Item) → IsItemInput limit left items → HasTaken limit left mid taken → offset ≡ length (all_spelled taken) → IsRefused limit offset mid → ⊥
+never_refused : (limit offset : ℕ) (left mid : Option (List ℕ)) (items taken : List Item) → IsItemInput limit left items → HasTaken limit left mid taken → offset ≡ length (all_spelled taken) → HasNoItem limit offset mid → ⊥
 never_refused limit offset left mid items taken input has at refused = by_mid left mid input.told has.took.known refused
   where
-    by_mid : (left mid : Option (List ℕ)) → left ≡ Some (all_spelled items) → Consumes left mid (all_spelled taken) → IsRefused limit offset mid → ⊥
+    by_mid : (left mid : Option (List ℕ)) → left ≡ Some (all_spelled items) → Consumes left mid (all_spelled taken) → HasNoItem limit offset mid → ⊥
     by_mid None mid told known refused = absurd cc
     by_mid (Some bytes) None told known refused = absurd known
     by_mid (Some bytes) (Some rest) told known (some, none) =

@@ -9,7 +9,7 @@ use Rattle.satl_base.specs.declared.block.Block.{Block}
 use Rattle.satl_frame.specs.Pulls.{FewerThan, Lacks, TookPages}
 use Rattle.satl_io.specs.Known.{Took}
 use Rattle.satl_io.proofs.Joined.{Took-more}
-use Rattle.satl_usb.specs.Items.{IsCutOff, IsRefused, Stands, TookFront, sent_length, spelled}
+use Rattle.satl_usb.specs.Items.{HasNoItem, IsTruncated, Stands, TookFront, sent_length, spelled}
 use Rattle.satl_usb.specs.Reading.{TookHead, TookItem}
 
 -- fronts that are equally long are the same, and so are the rests
@@ -46,7 +46,7 @@ module _ (limit offset : ℕ) (bytes head behind : List ℕ) (long : length head
       spelled_length limit offset bytes s ∙ ap (λ c. 31 + sent_length c) same
 
 -- a wrapper that is none was taken
-pub bad_head : (left left' : Option (List ℕ)) (head : List ℕ) → length head ≡ 31 → Took left left' head → cbw_of head ≡ None → ((limit offset : ℕ) → IsRefused limit offset left) × TookFront left left'
+pub bad_head : (left left' : Option (List ℕ)) (head : List ℕ) → length head ≡ 31 → Took left left' head → cbw_of head ≡ None → ((limit offset : ℕ) → HasNoItem limit offset left) × TookFront left left'
 bad_head None left' head long took bad = (λ limit offset. tt, tt)
 bad_head (Some bytes) None head long took bad = absurd took.known
 bad_head (Some bytes) (Some behind) head long took bad =
@@ -59,7 +59,7 @@ front_more left mid left' bytes head behind count known is took more =
     subst (Took left left') (sym (ap (take (length head + count)) is ∙ take-append-add head behind count)) (Took-more took more)
 
 -- the item that its wrapper tells ends past the limit
-pub too_far : (limit offset : ℕ) (left left' : Option (List ℕ)) (command : Cbw) → offset ≤ limit → TookHead left left' command → limit - offset < 31 + sent_length command → IsRefused limit offset left × TookFront left left'
+pub too_far : (limit offset : ℕ) (left left' : Option (List ℕ)) (command : Cbw) → offset ≤ limit → TookHead left left' command → limit - offset < 31 + sent_length command → HasNoItem limit offset left × TookFront left left'
 too_far limit offset None left' command near t far = (tt, tt)
 too_far limit offset (Some bytes) None command near t far = absurd t.took.known
 too_far limit offset (Some bytes) (Some behind) command near t far =
@@ -69,7 +69,7 @@ too_far limit offset (Some bytes) (Some behind) command near t far =
     )
 
 -- fewer bytes stood behind a wrapper than it tells
-pub too_short : (limit offset : ℕ) (left mid left' : Option (List ℕ)) (command : Cbw) → TookHead left mid command → Lacks mid left' (sent_length command) → IsRefused limit offset left × TookFront left left'
+pub too_short : (limit offset : ℕ) (left mid left' : Option (List ℕ)) (command : Cbw) → TookHead left mid command → Lacks mid left' (sent_length command) → HasNoItem limit offset left × TookFront left left'
 too_short limit offset None mid left' command t lacks = (tt, tt)
 too_short limit offset (Some bytes) None left' command t lacks = absurd t.took.known
 too_short limit offset (Some bytes) (Some behind) left' command t lacks =
@@ -86,7 +86,7 @@ too_short limit offset (Some bytes) (Some behind) left' command t lacks =
     take_whole (x ∷ xs) = ap (λ l. x ∷ l) (take_whole xs)
 
 -- a read failed within what a wrapper tells
-pub cut_body : (limit offset : ℕ) (left mid left' : Option (List ℕ)) (command : Cbw) → TookHead left mid command → FewerThan mid left' (λ _. sent_length command) → IsCutOff limit offset left left'
+pub cut_body : (limit offset : ℕ) (left mid left' : Option (List ℕ)) (command : Cbw) → TookHead left mid command → FewerThan mid left' (λ _. sent_length command) → IsTruncated limit offset left left'
 cut_body limit offset None mid left' command t fewer = tt
 cut_body limit offset (Some bytes) None left' command t fewer = absurd t.took.known
 cut_body limit offset (Some bytes) (Some behind) left' command t fewer =

@@ -6,7 +6,7 @@ use Rattle.satl_drive.specs.State.{DriveState}
 use Rattle.satl_core.specs.Opening.{IsCause}
 use Rattle.satl_core.specs.declared.satl.OpenFault.TheVariants as opening
 use Rattle.satl_serve.specs.Headline.{IsNotServed}
-use Rattle.satl_serve.specs.Moments.{Moment, Reads, Spot, Writes}
+use Rattle.satl_serve.specs.Moments.{Moment, SinkState, SourceState, Spot}
 use Rattle.satl_serve.specs.Runs.{Serves}
 use Rattle.satl_usb.specs.Bridge.{BridgedBefore, BridgedInPart, BridgedUpTo, BridgedWhole}
 use Rattle.satl_usb.specs.Items.{AreItems, Item, all_spelled}
@@ -51,7 +51,7 @@ IsStopped limit before after faults.Read = IsBridgedUpTo limit before after
 IsStopped limit before after faults.Write = IsBridgedInPart limit before after
 
 -- a read fault comes only where the source's count rose, and a write fault only where the sink's did (profile)
-abbrev pub HasStreamCause : Reads → Reads → Writes → Writes → UsbFault → Type 0
+abbrev pub HasStreamCause : SourceState → SourceState → SinkState → SinkState → UsbFault → Type 0
 HasStreamCause read read' write write' (faults.Open fault) = ⊥
 HasStreamCause read read' write write' (faults.BadInput offset) = Unit {0}
 HasStreamCause read read' write write' faults.Read = Rose read.faults read'.faults

@@ -51,11 +51,11 @@ abbrev pub TookFront : Option (List ℕ) → Option (List ℕ) → Type 0
 TookFront left left' = IfSome left (λ bytes. (count : ℕ) × Took left left' (take count bytes))
 
 -- what stands at the offset is refused: there is a byte, and no item (profile)
-abbrev pub IsRefused : ℕ → ℕ → Option (List ℕ) → Type 0
-IsRefused limit offset left = IfSome left (λ bytes. (bytes ≡ [] → ⊥) × (Stands limit offset bytes → ⊥))
+abbrev pub HasNoItem : ℕ → ℕ → Option (List ℕ) → Type 0
+HasNoItem limit offset left = IfSome left (λ bytes. (bytes ≡ [] → ⊥) × (Stands limit offset bytes → ⊥))
 
 -- a front was taken that has no whole item
-abbrev pub IsCutOff : ℕ → ℕ → Option (List ℕ) → Option (List ℕ) → Type 0
-IsCutOff limit offset left left' =
+abbrev pub IsTruncated : ℕ → ℕ → Option (List ℕ) → Option (List ℕ) → Type 0
+IsTruncated limit offset left left' =
     IfSome left (λ bytes. (count : ℕ) × Took left left' (take count bytes)
     × ((s : Stands limit offset bytes) → count < length (spelled s.item)))

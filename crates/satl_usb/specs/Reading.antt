@@ -10,7 +10,7 @@ use Rattle.satl_io.specs.Known.{Took}
 use Rattle.satl_usb.specs.declared.items.ItemFault.{ItemFault}
 use Rattle.satl_usb.specs.declared.items.ItemFault.TheVariants as faults
 use Rattle.satl_usb.specs.declared.items.Taken.{Taken}
-use Rattle.satl_usb.specs.Items.{IsCutOff, IsItem, IsRefused, Item, TookFront, spelled}
+use Rattle.satl_usb.specs.Items.{HasNoItem, IsItem, IsTruncated, Item, TookFront, spelled}
 
 -- nothing was left to take
 pub record WasAtEnd (left left' : Option (List ℕ)) : Type 0 where
@@ -40,7 +40,7 @@ HeadRead left left' (Some command) = TookHead left left' command
 
 -- no wrapper: what is left is refused, or a read failed within 31 bytes
 abbrev pub HeadMissed : Option (List ℕ) → Option (List ℕ) → ItemFault → Type 0
-HeadMissed left left' faults.Bad = ((limit offset : ℕ) → IsRefused limit offset left) × TookFront left left'
+HeadMissed left left' faults.Bad = ((limit offset : ℕ) → HasNoItem limit offset left) × TookFront left left'
 HeadMissed left left' faults.Failed = FewerThan left left' (λ _. 31)
 
 -- an item, or the end of the source
@@ -50,8 +50,8 @@ ItemRead limit offset room left left' (Some taken) = TookItem limit offset room 
 
 -- no item: what stands there is refused, or a read failed within the item
 abbrev pub ItemMissed : ℕ → ℕ → Option (List ℕ) → Option (List ℕ) → ItemFault → Type 0
-ItemMissed limit offset left left' faults.Bad = IsRefused limit offset left × TookFront left left'
-ItemMissed limit offset left left' faults.Failed = IsCutOff limit offset left left'
+ItemMissed limit offset left left' faults.Bad = HasNoItem limit offset left × TookFront left left'
+ItemMissed limit offset left left' faults.Failed = IsTruncated limit offset left left'
 
 -- a read failed only where the count rose, which has not fallen
 pub record ItemCauses {T : Type 0} (before now : ℕ) (result : Result T ItemFault) : Type 0 where

@@ -7,8 +7,8 @@ ghost use Rattle.satl_drive.specs.State.{IsFit};
 ghost use Rattle.satl_core.specs.Layer.{Tied};
 ghost use Rattle.satl_step.specs.Runs.{IsDeep, stand_of, tally_of};
 ghost use Rattle.satl_serve.specs.Completeness.{GoesWell};
-ghost use Rattle.satl_serve.specs.Moments.{moment, reads, spot, writes};
-ghost use Rattle.satl_serve.specs.Stopping.{IsRefused};
+ghost use Rattle.satl_serve.specs.Moments.{moment, sink_state, source_state, spot};
+ghost use Rattle.satl_serve.specs.Stopping.{IsDriveRefused};
 ghost use Rattle.satl_usb.specs.Headline.{Bridges, HasStreamCause, HasUsbCause, IsBridgedWhole, IsItemInput, IsStopped, MayStop, TellsRefusal, stop_at};
 ghost use Rattle.satl_usb.specs.Items.{Item, item_limit};
 
@@ -44,28 +44,28 @@ pub fn serve_usb<S: Source, K: Sink, D: Bench, L: Ledger>(
     requires no_error { (D.state drive.old).error ≡ None }
     requires fit { IsFit (D.state drive.old) }
     ensures bridged { OnOk result (IsBridgedWhole item_limit
-        (moment (reads (S.left source.old) (S.faults source.old)) (writes (K.written sink.old) (K.faults sink.old))
+        (moment (source_state (S.left source.old) (S.faults source.old)) (sink_state (K.written sink.old) (K.faults sink.old))
         steps.old (D.state drive.old))
-        (moment (reads (S.left source.new) (S.faults source.new)) (writes (K.written sink.new) (K.faults sink.new))
+        (moment (source_state (S.left source.new) (S.faults source.new)) (sink_state (K.written sink.new) (K.faults sink.new))
         steps.new (D.state drive.new))) }
     ensures stopped { IfErr result (IsStopped item_limit
-        (moment (reads (S.left source.old) (S.faults source.old)) (writes (K.written sink.old) (K.faults sink.old))
+        (moment (source_state (S.left source.old) (S.faults source.old)) (sink_state (K.written sink.old) (K.faults sink.old))
         steps.old (D.state drive.old))
-        (moment (reads (S.left source.new) (S.faults source.new)) (writes (K.written sink.new) (K.faults sink.new))
+        (moment (source_state (S.left source.new) (S.faults source.new)) (sink_state (K.written sink.new) (K.faults sink.new))
         steps.new (D.state drive.new))) }
     ensures causes { IfErr result (HasUsbCause
-        (moment (reads (S.left source.old) (S.faults source.old)) (writes (K.written sink.old) (K.faults sink.old))
+        (moment (source_state (S.left source.old) (S.faults source.old)) (sink_state (K.written sink.old) (K.faults sink.old))
         steps.old (D.state drive.old))
-        (moment (reads (S.left source.new) (S.faults source.new)) (writes (K.written sink.new) (K.faults sink.new))
+        (moment (source_state (S.left source.new) (S.faults source.new)) (sink_state (K.written sink.new) (K.faults sink.new))
         steps.new (D.state drive.new))) }
     ensures unplugs { (D.state drive.new).unplugs ≡ (D.state drive.old).unplugs }
-    ensures refused { (fault : IdentityFault) → IsRefused fault (D.state drive.old) (D.state drive.new)
+    ensures refused { (fault : IdentityFault) → IsDriveRefused fault (D.state drive.old) (D.state drive.new)
         → IsErrAnd result (TellsRefusal fault) }
     ensures complete { (items : List Item) → IsItemInput item_limit (S.left source.old) items
         → GoesWell
-        (moment (reads (S.left source.old) (S.faults source.old)) (writes (K.written sink.old) (K.faults sink.old))
+        (moment (source_state (S.left source.old) (S.faults source.old)) (sink_state (K.written sink.old) (K.faults sink.old))
         steps.old (D.state drive.old))
-        (moment (reads (S.left source.new) (S.faults source.new)) (writes (K.written sink.new) (K.faults sink.new))
+        (moment (source_state (S.left source.new) (S.faults source.new)) (sink_state (K.written sink.new) (K.faults sink.new))
         steps.new (D.state drive.new)) → MatchResult result (λ _. S.left source.new ≡ Some [])
         (MayStop (D.state drive.old) (D.state drive.new)) }
 {
@@ -92,9 +92,9 @@ fn serve_items<S: Source, K: Sink, D: Bench, L: Ledger>(
     ensures bridges { Bridges item_limit
         (spot (S.left source.old) (K.written sink.old) (stand_of satl.old (D.state drive.old) steps.old))
         (spot (S.left source.new) (K.written sink.new) (stand_of satl.new (D.state drive.new) steps.new)) result }
-    ensures causes { IfErr result (HasStreamCause (reads (S.left source.old) (S.faults source.old))
-        (reads (S.left source.new) (S.faults source.new)) (writes (K.written sink.old) (K.faults sink.old))
-        (writes (K.written sink.new) (K.faults sink.new))) }
+    ensures causes { IfErr result (HasStreamCause (source_state (S.left source.old) (S.faults source.old))
+        (source_state (S.left source.new) (S.faults source.new)) (sink_state (K.written sink.old) (K.faults sink.old))
+        (sink_state (K.written sink.new) (K.faults sink.new))) }
     ensures unplugs { (D.state drive.new).unplugs ≡ (D.state drive.old).unplugs }
 {
     let mut replies = Replies::new(alloc);

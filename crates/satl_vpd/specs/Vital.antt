@@ -10,7 +10,7 @@ use Rattle.satl_identify.specs.declared.identity.Identity.{Identity}
 use Rattle.satl_vpd.specs.Texts.{characters, ata_vendor}
 
 -- a page: its code, and what stands from byte 4 on
-pub record Page : Type 0 where
+pub record PageRow : Type 0 where
   pub code : ℕ
   pub rest : Identity → List ℕ
 
@@ -19,7 +19,7 @@ abbrev from_byte_4 : ℕ → List Line → List ℕ
 from_byte_4 n lines = places 4 n (at_place lines)
 
 -- the serial number as it stands in words 10 to 19 (SPC-4, Unit Serial Number)
-abbrev pub serial_number : Page
+abbrev pub serial_number : PageRow
 serial_number = record { code = 0x80; rest = λ i. characters 10 19 i.bytes }
 
 -- word 87 says something, and that there is a world wide name (ACS-3 7.12.7)
@@ -34,7 +34,7 @@ designators d =
     ∷ byte 76 0x01 ∷ byte 77 0x03 ∷ byte 79 0x08 ∷ text 80 (characters 108 111 d) ∷ []
 
 -- SPC-4, Device Identification: both descriptors, or the first alone where there is no world wide name
-abbrev pub identification : Page
+abbrev pub identification : PageRow
 identification =
     record {
       code = 0x83;
@@ -57,7 +57,7 @@ layer_revision = 0x30 ∷ 0x30 ∷ 0x30 ∷ 0x31 ∷ []
 
 -- vendor, product and revision of this layer; the device signature left out (profile); the command IDENTIFY DEVICE, and its
 -- data in bytes 60 to 571 (SAT-3, ATA Information)
-abbrev pub ata_information : Page
+abbrev pub ata_information : PageRow
 ata_information = record {
   code = 0x89;
   rest = λ i. from_byte_4 56 (text 8 layer_vendor ∷ text 16 layer_product ∷ text 32 layer_revision ∷ byte 56 0xEC ∷ [])
@@ -66,7 +66,7 @@ ata_information = record {
 
 -- WSNZ, MAXIMUM TRANSFER LENGTH, MAXIMUM UNMAP LBA COUNT, MAXIMUM UNMAP BLOCK DESCRIPTOR COUNT and MAXIMUM WRITE SAME LENGTH
 -- (SBC-3, Block Limits)
-abbrev pub block_limits : Page
+abbrev pub block_limits : PageRow
 block_limits = record {
   code = 0xB0;
   rest = λ i. from_byte_4 60 (
@@ -76,33 +76,33 @@ block_limits = record {
 }
 
 -- MEDIUM ROTATION RATE as in word 217, NOMINAL FORM FACTOR as in word 168 (SBC-3, Block Device Characteristics)
-abbrev pub block_characteristics : Page
+abbrev pub block_characteristics : PageRow
 block_characteristics = record {
   code = 0xB1;
   rest = λ i. from_byte_4 60 (number 4 5 (word 217 i.bytes) ∷ byte 7 (word_bits 168 3 0 i.bytes) ∷ []);
 }
 
 -- LBPU, LBPWS, LBPWS10 and LBPRZ (SBC-3, Logical Block Provisioning)
-abbrev pub provisioning : Page
+abbrev pub provisioning : PageRow
 provisioning = record { code = 0xB2; rest = λ i. from_byte_4 4 (byte 5 (if i.trim then 0xE4 else 0x00) ∷ []) }
 
 -- the pages but for the list of them (profile)
-abbrev vpd_pages : List Page
+abbrev vpd_pages : List PageRow
 vpd_pages = serial_number ∷ identification ∷ ata_information ∷ block_limits ∷ block_characteristics ∷ provisioning ∷ []
 
 -- the codes of all pages, in ascending order
 abbrev pub page_codes : List ℕ
-page_codes = 0x00 ∷ map (λ (p : Page). p.code) vpd_pages
+page_codes = 0x00 ∷ map (λ (p : PageRow). p.code) vpd_pages
 
 -- SPC-4, Supported VPD Pages
-abbrev pub supported_pages : Page
+abbrev pub supported_pages : PageRow
 supported_pages = record { code = 0x00; rest = λ i. page_codes }
 
 -- PERIPHERAL QUALIFIER and DEVICE TYPE, PAGE CODE, PAGE LENGTH, and the rest (SPC-4, Vital product data parameters)
-abbrev pub page_bytes : Page → Identity → List ℕ
+abbrev pub page_bytes : PageRow → Identity → List ℕ
 page_bytes p i = 0x00 ∷ p.code ∷ (bytes_high_first 2 (length (p.rest i)) ++ p.rest i)
 
 -- the page of a code
 unfoldable pub vpd_page : ℕ → Identity → Option (List ℕ)
 vpd_page code i =
-    option_map (λ (p : Page). page_bytes p i) (find (λ (p : Page). p.code == code) (supported_pages ∷ vpd_pages))
+    option_map (λ (p : PageRow). page_bytes p i) (find (λ (p : PageRow). p.code == code) (supported_pages ∷ vpd_pages))

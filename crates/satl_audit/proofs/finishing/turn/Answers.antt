@@ -1,5 +1,5 @@
 use Rattle.std.proofs.Common.{arith, ◌≡◌, refl, sym, ◌∙◌, subst, Bool}
-use Rattle.satl_audit.specs.Finishing.{Ends, TurnsOn}
+use Rattle.satl_audit.specs.Finishing.{EndsOrCannot, TurnsOn}
 use Rattle.satl_audit.specs.Progress.{recorded, progress}
 use Rattle.satl_audit.proofs.TurnLemmas.{idle_turns, no_turns, none_waits, one_more, some_waits, stuck_turns}
 use Rattle.satl_audit.proofs.finishing.turn.Goals as goal
@@ -19,7 +19,7 @@ pub returns-then-not-branch-clause-turns : goal.returns-then-not-branch-clause-t
 returns-then-not-branch-clause-turns c =
     let i = c.loop-done.invariant in
     stuck_turns c.args.identity.now c.args.input.now c.args.steps.now c.loop-done.steps c.args.sectors.now c.loop-done.sectors c.loop-done._done c.requires.tasks i.turns
-    (subst (λ (b : Bool). Ends (recorded c.args.identity.now c.args.input.now) (progress c.loop-done.steps c.loop-done.sectors) (progress c.end_task.new.steps c.end_task.new.sectors) b) c.if-not-branch.true c.in_ok-end_task.ensures.ends)
+    (subst (λ (b : Bool). EndsOrCannot (recorded c.args.identity.now c.args.input.now) (progress c.loop-done.steps c.loop-done.sectors) (progress c.end_task.new.steps c.end_task.new.sectors) b) c.if-not-branch.true c.in_ok-end_task.ensures.ends)
     c.args.count c.loop-done-test.true (some_waits c.loop-done.steps.waiting (sym c.is_empty.ensures ∙ c.if-is_empty.false))
 
 pub loop-done-preserved : goal.loop-done-preserved
@@ -29,7 +29,7 @@ loop-done-preserved c =
       tasks = c.in_ok-end_task.ensures.tasks;
       size = c.in_ok-end_task.ensures.length ∙ i.size;
       turns = one_more c.args.identity.now c.args.input.now c.args.steps.now c.loop-done.steps c.end_task.new.steps c.args.sectors.now c.loop-done.sectors c.end_task.new.sectors c.loop-done._done i.turns
-          (subst (λ (b : Bool). Ends (recorded c.args.identity.now c.args.input.now) (progress c.loop-done.steps c.loop-done.sectors) (progress c.end_task.new.steps c.end_task.new.sectors) b) c.if-not-branch.false c.in_ok-end_task.ensures.ends);
+          (subst (λ (b : Bool). EndsOrCannot (recorded c.args.identity.now c.args.input.now) (progress c.loop-done.steps c.loop-done.sectors) (progress c.end_task.new.steps c.end_task.new.sectors) b) c.if-not-branch.false c.in_ok-end_task.ensures.ends);
     }
 
 pub returns-clause-turns : goal.returns-clause-turns

@@ -3,7 +3,7 @@ use Rattle.std.specs.Prelude.{◌&&◌, not, slice_get}
 use Rattle.std.proofs.lemmas.Result.{on_ok_weaker}
 use Rattle.satl_line.specs.declared.entry.Entry.{Entry}
 use Rattle.satl_audit.specs.Guesses.{blocks_at}
-use Rattle.satl_audit.specs.Kept.{sector_at}
+use Rattle.satl_audit.specs.Kept.{known_sector_at}
 use Rattle.satl_audit.specs.Waiting.{Fits, Placed}
 use Rattle.satl_audit.proofs.EndWithin.{both_at, write_within}
 use Rattle.satl_audit.proofs.NextLemmas.{all_at}
@@ -47,7 +47,7 @@ returns-in-Write-clause-pends c = λ identity input.
     on_ok_weaker c.pend_blocks.result
     (λ pends. moved identity input c.args.waiting.now c.args.place p c.args.sectors.now c.pend_blocks.new.sectors at (sym c.eligible.ensures ∙ c.if-not-eligible.false)
     (λ x less. pends (identity.cache && not c.in-Write.fua) x less
-    ∙ ap (λ l. (sector_at input c.args.sectors.now x).may ++ blocks_at x l) (sym (write_pairs identity input c.args.waiting.now p c.in-Write.form c.in-Write.lba c.in-Write.count c.in-Write.fua c.in-Write.is f.held))))
+    ∙ ap (λ l. (known_sector_at input c.args.sectors.now x).may ++ blocks_at x l) (sym (write_pairs identity input c.args.waiting.now p c.in-Write.form c.in-Write.lba c.in-Write.count c.in-Write.fua c.in-Write.is f.held))))
     (c.pend_blocks.ensures.pends input)
 
 pub returns-in_default : goal.returns-in_default

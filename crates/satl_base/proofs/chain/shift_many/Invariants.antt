@@ -4,7 +4,7 @@ use Rattle.satl_base.proofs.chain.shift_many.Given as goal
 
 abbrev pub invariant-loop : goal.invariant-loop
 invariant-loop l = record {
-  same : reverse (blocks_of l.onto) ++ blocks_of l.from ≡ reverse (blocks_of l.initial.onto) ++ blocks_of l.initial.from;
-  count : length (blocks_of l.onto) ≡ length (blocks_of l.initial.onto) + l.counter;
-  left : length (blocks_of l.from) + l.counter ≡ length (blocks_of l.initial.from);
+  same : reverse (blocks_of l.done) ++ blocks_of l.rest ≡ reverse (blocks_of l.initial.done) ++ blocks_of l.initial.rest;
+  count : length (blocks_of l.done) ≡ length (blocks_of l.initial.done) + l.counter;
+  left : length (blocks_of l.rest) + l.counter ≡ length (blocks_of l.initial.rest);
 }

@@ -5,7 +5,7 @@ use Rattle.satl_base.proofs.OutcomeLemmas.{any_err}
 use Rattle.satl_fleet.specs.Rounds.{DidAt, DidAtInPart, stage}
 use Rattle.satl_fleet.specs.Serving.{target}
 use Rattle.satl_fleet.specs.Shared.{frame_of}
-use Rattle.satl_fleet.specs.Units.{spots_of}
+use Rattle.satl_fleet.specs.Units.{unit_states}
 use Rattle.satl_fleet.proofs.RoundLemmas.{done_all, done_next, done_none, done_part}
 use Rattle.satl_fleet.proofs.SpotLemmas.{length_states}
 use Rattle.satl_fleet.proofs.TargetLemmas.{all_tied}
@@ -43,7 +43,7 @@ returns-clause-done g c =
     done_all (frame_of c.args.event.now) c.loop-k.k (stage (target g.D.Drive.state c.args.units.now c.args.drives.now) (g.K.Sink.written c.args.sink.now)) (stage (target g.D.Drive.state c.loop-k.units c.loop-k.drives) (g.K.Sink.written c.loop-k.sink)) (omega (arith, long, c.args.units.now.ok.0, c.loop-k-test.false)) c.loop-k.invariant.done
 
 pub returns-clause-keeps : goal.returns-clause-keeps
-returns-clause-keeps g c = record { tied = all_tied (spots_of c.loop-k.units.items (map g.D.Drive.state c.loop-k.drives.items)) c.loop-k.invariant.serve.has.ready; layers = c.loop-k.invariant.units; drives = c.loop-k.invariant.drives }
+returns-clause-keeps g c = record { tied = all_tied (unit_states c.loop-k.units.items (map g.D.Drive.state c.loop-k.drives.items)) c.loop-k.invariant.serve.has.ready; layers = c.loop-k.invariant.units; drives = c.loop-k.invariant.drives }
 
 pub returns-in_err-serve_at-clause-keeps : goal.returns-in_err-serve_at-clause-keeps
 returns-in_err-serve_at-clause-keeps g c = record { tied = c.serve_at.ensures.keeps.tied; layers = c.serve_at.ensures.keeps.layers ∙ c.loop-k.invariant.units; drives = c.serve_at.ensures.keeps.drives ∙ c.loop-k.invariant.drives }

@@ -1,7 +1,7 @@
 use Rattle.std.proofs.Common.{◌≡◌, ◌≤◌, ◌-◌, None, vec_len}
 use Rattle.satl_pages.specs.Counts.{number_of}
 use Rattle.satl_step.specs.Loop.{place_offset}
-use Rattle.satl_fleet.specs.Loop.{Going, scene}
+use Rattle.satl_fleet.specs.Loop.{Going, loop_state}
 use Rattle.satl_fleet.specs.Rounds.{stage}
 use Rattle.satl_fleet.specs.Serving.{CanServe, target}
 use Rattle.satl_fleet.proofs.frames_loop.serve_frames.Given as goal
@@ -14,7 +14,7 @@ invariant-frames g l = record {
   number : number_of l.pool ≡ 4096;
   all_in : l.pool.out ≡ 0;
   fresh : l.reader.refused ≡ None;
-  going : Going (vec_len l.fn.units) (scene l.fn.reader (g.S.Source.left l.fn.source) (stage (target g.D.Drive.state l.fn.units l.fn.drives) (g.K.Sink.written l.fn.sink)) l.fn.steps) (scene l.reader (g.S.Source.left l.source) (stage (target g.D.Drive.state l.units l.drives) (g.K.Sink.written l.sink)) l.steps);
+  going : Going (vec_len l.fn.units) (loop_state l.fn.reader (g.S.Source.left l.fn.source) (stage (target g.D.Drive.state l.fn.units l.fn.drives) (g.K.Sink.written l.fn.sink)) l.fn.steps) (loop_state l.reader (g.S.Source.left l.source) (stage (target g.D.Drive.state l.units l.drives) (g.K.Sink.written l.sink)) l.steps);
   read_later : g.S.Source.faults l.fn.source ≤ g.S.Source.faults l.source;
   write_later : g.K.Sink.faults l.fn.sink ≤ g.K.Sink.faults l.sink;
 }

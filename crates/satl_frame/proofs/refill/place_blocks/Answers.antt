@@ -11,8 +11,8 @@ loop-i-init c = record {
 
 pub loop-i-preserved : goal.loop-i-preserved
 loop-i-preserved c = record {
-  placed = placed_block c.loop-i.i c.args.buffer.now c.args.done.now c.loop-i.done c.push_first.new.self c.block_at.result c.set.new.self
-      c.loop-i.invariant.placed c.push_first.ensures c.set.ensures c.block_at.ensures;
+  placed = placed_block c.loop-i.i c.args.buffer.now c.args.done.now c.loop-i.done c.push_first.new.self c.fill_page.new.page
+      c.loop-i.invariant.placed c.push_first.ensures c.fill_page.ensures;
   left = omega (arith, c.in-Some.ensures.len);
   all = omega (arith, c.in-Some.ensures.len, ap length c.push_first.ensures);
 }

@@ -1,4 +1,4 @@
-use Rattle.satl_serve.specs.Moments.{writes}
+use Rattle.satl_serve.specs.Moments.{sink_state}
 use Rattle.satl_serve.specs.Runs.{input_limit}
 use Rattle.satl_top.specs.Load.{load_of}
 use Rattle.satl_top.proofs.LoadLemmas.{refusal_ends, stop_causes, stop_ends}
@@ -20,7 +20,7 @@ returns-in-Err-write_summary g c = λ source. record {
 
 pub returns-in-Err : goal.returns-in-Err
 returns-in-Err g c = λ source.
-    let stopped = c.in-Err.ensures.stopped source (writes (g.K.Sink.written c.args.sink.now) (g.K.Sink.faults c.args.sink.now)) in
+    let stopped = c.in-Err.ensures.stopped source (sink_state (g.K.Sink.written c.args.sink.now) (g.K.Sink.faults c.args.sink.now)) in
     record {
       ends = stop_ends input_limit (load_of c.args.seed c.args.requests) _ _ c.in-Err.fault c.from.result c.from.ensures stopped;
       causes = stop_causes _ _ c.in-Err.fault c.from.result c.from.ensures stopped;

@@ -19,13 +19,13 @@ use Rattle.satl_core.proofs.AddingLemmas.{HasPages, becomes_added, can_trim, com
 use Rattle.satl_core.proofs.AgreeingLemmas.{HasOwnEntries}
 use Rattle.satl_core.proofs.satl.Satl.add_task.Goals as goal
 
-pub task_without_pages-task-requires-clause-holds : goal.task_without_pages-task-requires-clause-holds
-task_without_pages-task-requires-clause-holds c =
+pub put_task-requires-clause-holds : goal.put_task-requires-clause-holds
+put_task-requires-clause-holds c =
     let long = long_enough c.args.self.now c.args.request c.args.command c.requires.judged in
     ⊎_elim inr (λ short. inl (list_held c.args.request (needed c.args.command) c.requires.holds long short)) (task_needs c.args.self.now.identity.capacity (held_blocks c.args.command) c.args.command c.requires.task)
 
-pub task_without_pages-task-requires-clause-list : goal.task_without_pages-task-requires-clause-list
-task_without_pages-task-requires-clause-list c = subst (λ (l : Layer). HasList c.args.command c.args.request.body l.identity.capacity) (sym c.self.view_is) c.requires.list
+pub put_task-requires-clause-list : goal.put_task-requires-clause-list
+put_task-requires-clause-list c = subst (λ (l : Layer). HasList c.args.command c.args.request.body l.identity.capacity) (sym c.self.view_is) c.requires.list
 
 pub own_pages-body-requires-clause-list : goal.own_pages-body-requires-clause-list
 own_pages-body-requires-clause-list c = subst (λ (l : Layer). HasList c.args.command c.args.request.body l.identity.capacity) (sym c.self.view_is) c.requires.list
@@ -36,8 +36,8 @@ own_pages-body-requires-clause-trim c = subst (λ (l : Layer). trims c.args.comm
 pub own_pages-body-requires-clause-room : goal.own_pages-body-requires-clause-room
 own_pages-body-requires-clause-room c =
     let adds = on_ok c.add.result _ (sym c.is_err.ensures.value ∙ c.if-is_err.false) c.add.ensures.ok in
-    let total = fits_in c.self.inside.queue.tasks c.task_without_pages-task.result (sym c.add.ensures.full ∙ (sym c.is_err.ensures.value ∙ c.if-is_err.false)) in
-    let blocks = ap (λ (e : Entry). e.blocks) c.task_without_pages-task.ensures in
+    let total = fits_in c.self.inside.queue.tasks c.put_task.new.task (sym c.add.ensures.full ∙ (sym c.is_err.ensures.value ∙ c.if-is_err.false)) in
+    let blocks = ap (λ (e : Entry). e.blocks) c.put_task.ensures in
     let held = held_is c.self.inside.identity c.self.inside.queue.tasks c.self.invariant.kept in
     let view = ap (λ (l : Layer). l.out) c.self.view_is in
     omega (arith, total, blocks, held, view, ap (λ (l : Layer). length l.tasks) c.self.view_is, c.requires.few, c.self.invariant.all, c.self.invariant.held, c.requires.can.pages)
@@ -53,31 +53,31 @@ own_pages-body-requires-clause-written c =
 pub fill_last-requires-clause-some : goal.fill_last-requires-clause-some
 fill_last-requires-clause-some c =
     let adds = on_ok c.add.result _ (sym c.is_err.ensures.value ∙ c.if-is_err.false) c.add.ensures.ok in
-    let count = count_with c.self.inside.queue.tasks c.add.new.self.tasks c.task_without_pages-task.result adds in
+    let count = count_with c.self.inside.queue.tasks c.add.new.self.tasks c.put_task.new.task adds in
     omega (arith, count)
 
 pub fill_last-requires-clause-waits : goal.fill_last-requires-clause-waits
 fill_last-requires-clause-waits c = λ h stands.
     let adds = on_ok c.add.result _ (sym c.is_err.ensures.value ∙ c.if-is_err.false) c.add.ensures.ok in
     let waits = on_ok c.add.result _ (sym c.is_err.ensures.value ∙ c.if-is_err.false) c.add.ensures.waits in
-    let count = count_with c.self.inside.queue.tasks c.add.new.self.tasks c.task_without_pages-task.result adds in
+    let count = count_with c.self.inside.queue.tasks c.add.new.self.tasks c.put_task.new.task adds in
     let place : length c.add.new.self.tasks - 1 ≡ length c.self.inside.queue.tasks = omega (arith, count) in
     let at = subst (λ n. slice_get c.add.new.self.tasks n ≡ Some h) place stands in
-    (waits h at, ap (λ (e : Entry). e.body) (last_is c.self.inside.queue.tasks c.add.new.self.tasks c.task_without_pages-task.result (length c.self.inside.queue.tasks) adds refl h at ∙ c.task_without_pages-task.ensures))
+    (waits h at, ap (λ (e : Entry). e.body) (last_is c.self.inside.queue.tasks c.add.new.self.tasks c.put_task.new.task (length c.self.inside.queue.tasks) adds refl h at ∙ c.put_task.ensures))
 
 pub invariant_of-self-2 : goal.invariant_of-self-2
 invariant_of-self-2 c =
     let adds = on_ok c.add.result _ (sym c.is_err.ensures.value ∙ c.if-is_err.false) c.add.ensures.ok in
-    let count = count_with c.self.inside.queue.tasks c.add.new.self.tasks c.task_without_pages-task.result adds in
-    let task = c.task_without_pages-task.ensures in
-    let has = given_pages c.self.inside.queue.tasks c.add.new.self.tasks c.fill_last.new.self.tasks c.task_without_pages-task.result c.own_pages-body.result (length c.add.new.self.tasks - 1) adds (omega (arith, count)) c.fill_last.ensures.filled in
-    let held = held_with c.self.inside.queue.tasks c.fill_last.new.self.tasks c.task_without_pages-task.result c.own_pages-body.result has in
+    let count = count_with c.self.inside.queue.tasks c.add.new.self.tasks c.put_task.new.task adds in
+    let task = c.put_task.ensures in
+    let has = given_pages c.self.inside.queue.tasks c.add.new.self.tasks c.fill_last.new.self.tasks c.put_task.new.task c.own_pages-body.result (length c.add.new.self.tasks - 1) adds (omega (arith, count)) c.fill_last.ensures.filled in
+    let held = held_with c.self.inside.queue.tasks c.fill_last.new.self.tasks c.put_task.new.task c.own_pages-body.result has in
     let view = ap (λ (l : Layer). l.out) c.self.view_is in
     let transfer = subst (λ (l : Layer). IsTask l.identity.capacity c.args.command (held_blocks c.args.command)) (sym c.self.view_is) c.requires.task in
     record {
       held = omega (arith, held, view, c.self.invariant.held, c.requires.can.pages, c.own_pages-body.ensures.size, c.own_pages-body.ensures.out);
       all = omega (arith, view, c.self.invariant.held, c.self.invariant.all, c.requires.can.pages, c.own_pages-body.ensures.free, c.own_pages-body.ensures.out);
-      kept = kept_with c.self.inside.identity c.self.inside.queue.tasks c.fill_last.new.self.tasks c.task_without_pages-task.result c.own_pages-body.result c.self.invariant.kept
+      kept = kept_with c.self.inside.identity c.self.inside.queue.tasks c.fill_last.new.self.tasks c.put_task.new.task c.own_pages-body.result c.self.invariant.kept
           (subst (λ (e : Entry). length c.own_pages-body.result ≡ e.blocks + entry_pages e.command c.self.inside.identity.queued_trim) (sym task) c.own_pages-body.ensures.size)
           (subst (λ (e : Entry). CanTrim c.self.inside.identity e.command e.ranges.items) (sym task) (can_trim c.self.inside.identity c.args.request c.args.command (held_blocks c.args.command) c.self.invariant.identity_is transfer (subst (λ (l : Layer). HasList c.args.command c.args.request.body l.identity.capacity) (sym c.self.view_is) c.requires.list) (subst (λ (l : Layer). trims c.args.command ≡ true → l.identity.trim ≡ true) (sym c.self.view_is) c.requires.trims)))
           (subst (λ (e : Entry). IsTask c.self.inside.identity.capacity e.command e.blocks) (sym task) transfer)
@@ -91,12 +91,12 @@ pub returns-clause-becomes : goal.returns-clause-becomes
 returns-clause-becomes c =
     let full = sym c.add.ensures.full ∙ (sym c.is_err.ensures.value ∙ c.if-is_err.false) in
     let adds = on_ok c.add.result _ (sym c.is_err.ensures.value ∙ c.if-is_err.false) c.add.ensures.ok in
-    let count = count_with c.self.inside.queue.tasks c.add.new.self.tasks c.task_without_pages-task.result adds in
-    let task = c.task_without_pages-task.ensures in
-    let has = given_pages c.self.inside.queue.tasks c.add.new.self.tasks c.fill_last.new.self.tasks c.task_without_pages-task.result c.own_pages-body.result (length c.add.new.self.tasks - 1) adds (omega (arith, count)) c.fill_last.ensures.filled in
+    let count = count_with c.self.inside.queue.tasks c.add.new.self.tasks c.put_task.new.task adds in
+    let task = c.put_task.ensures in
+    let has = given_pages c.self.inside.queue.tasks c.add.new.self.tasks c.fill_last.new.self.tasks c.put_task.new.task c.own_pages-body.result (length c.add.new.self.tasks - 1) adds (omega (arith, count)) c.fill_last.ensures.filled in
     let layer = layer_of c.self.inside.identity c.self.inside.modes c.self.inside.started c.self.inside.down c.self.inside.attentions c.fill_last.new.self c.own_pages-body.new.pool in
     let old = layer_of c.self.inside.identity c.self.inside.modes c.self.inside.started c.self.inside.down c.self.inside.attentions c.self.inside.queue c.self.inside.pool in
-    let held = held_with c.self.inside.queue.tasks c.fill_last.new.self.tasks c.task_without_pages-task.result c.own_pages-body.result has in
+    let held = held_with c.self.inside.queue.tasks c.fill_last.new.self.tasks c.put_task.new.task c.own_pages-body.result has in
     let view = ap (λ (l : Layer). l.out) c.self.view_is in
     let none : c.own_pages-body.new.pool.out - held_pages c.fill_last.new.self.tasks ≡ 0 = omega (arith, held, view, c.self.invariant.held, c.requires.can.pages, c.own_pages-body.ensures.size, c.own_pages-body.ensures.out) in
     subst (λ (l : Layer). Becomes c.args.request c.args.command l c.args.replies.now layer) c.self.view_is
@@ -113,8 +113,8 @@ returns-clause-long c = λ none. own_pages-body-requires-clause-written c.before
 pub returns-clause-comes : goal.returns-clause-comes
 returns-clause-comes c = λ none.
     let adds = on_ok c.add.result _ (sym c.is_err.ensures.value ∙ c.if-is_err.false) c.add.ensures.ok in
-    let count = count_with c.self.inside.queue.tasks c.add.new.self.tasks c.task_without_pages-task.result adds in
-    let has = given_pages c.self.inside.queue.tasks c.add.new.self.tasks c.fill_last.new.self.tasks c.task_without_pages-task.result c.own_pages-body.result (length c.add.new.self.tasks - 1) adds (omega (arith, count)) c.fill_last.ensures.filled in
+    let count = count_with c.self.inside.queue.tasks c.add.new.self.tasks c.put_task.new.task adds in
+    let has = given_pages c.self.inside.queue.tasks c.add.new.self.tasks c.fill_last.new.self.tasks c.put_task.new.task c.own_pages-body.result (length c.add.new.self.tasks - 1) adds (omega (arith, count)) c.fill_last.ensures.filled in
     subst (λ (l : Layer). Comes l.identity.capacity l.identity.queued_trim l.tasks c.fill_last.new.self.tasks) c.self.view_is
-    (comes_with c.self.inside.identity c.self.inside.queue.tasks c.fill_last.new.self.tasks c.task_without_pages-task.result c.own_pages-body.result (invariant_of-self-2 c).kept
-    (subst (λ (e : Entry). HasOwnEntries e.command c.self.inside.identity.queued_trim e.ranges.items c.own_pages-body.result) (sym c.task_without_pages-task.ensures) (own_entries c.args.request c.args.command c.self.inside.identity.queued_trim c.own_pages-body.result c.own_pages-body.ensures.entries)) has)
+    (comes_with c.self.inside.identity c.self.inside.queue.tasks c.fill_last.new.self.tasks c.put_task.new.task c.own_pages-body.result (invariant_of-self-2 c).kept
+    (subst (λ (e : Entry). HasOwnEntries e.command c.self.inside.identity.queued_trim e.ranges.items c.own_pages-body.result) (sym c.put_task.ensures) (own_entries c.args.request c.args.command c.self.inside.identity.queued_trim c.own_pages-body.result c.own_pages-body.ensures.entries)) has)

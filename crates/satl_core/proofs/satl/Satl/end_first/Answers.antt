@@ -1,4 +1,4 @@
-use Rattle.std.proofs.Common.{◌≡◌, ◌≤◌, inl, inr, arith, refl, sym, ap, subst, ◌∙◌, [], ◌∷◌, ◌++◌, length, map}
+use Rattle.std.proofs.Common.{◌≡◌, ◌≤◌, inl, inr, arith, refl, sym, ap, subst, ◌∙◌, [], ◌∷◌, ◌++◌, Some, length, map}
 use Rattle.std.proofs.lemmas.List.{length-append, length-map}
 use Rattle.satl_base.specs.declared.reply.Reply.{Reply}
 use Rattle.satl_line.specs.Tasks.{Held, entries_of}
@@ -34,37 +34,37 @@ run_task-requires-clause-free g c =
 pub run_task-requires-clause-task : goal.run_task-requires-clause-task
 run_task-requires-clause-task g c =
     let tied = subst (λ l. Tied l (g.D.Drive.state c.args.drive.now)) (sym c.self.view_is) c.requires.tied in
-    let first = first_of c.self.inside.queue.tasks c.remove-task.new.self.tasks c.remove-task.result c.remove-task.ensures.value c.remove-task.ensures.others in
-    let kept = first_kept c.self.inside.identity c.self.inside.queue.tasks c.remove-task.new.self.tasks c.remove-task.result c.self.invariant.kept first in
-    subst (λ n. IsTask n c.remove-task.result.command c.remove-task.result.blocks) (sym (capacity_is _ _ tied.agrees)) kept.0.task
+    let first = first_of c.self.inside.queue.tasks c.remove.new.self.tasks c.entry_mut-task.result.now (c.remove.ensures.value ∙ ap Some (sym c.entry_mut-task.ensures.value)) c.remove.ensures.others in
+    let kept = first_kept c.self.inside.identity c.self.inside.queue.tasks c.remove.new.self.tasks c.entry_mut-task.result.now c.self.invariant.kept first in
+    subst (λ n. IsTask n c.entry_mut-task.result.now.command c.entry_mut-task.result.now.blocks) (sym (capacity_is _ _ tied.agrees)) kept.0.task
 
 pub run_task-requires-clause-alone : goal.run_task-requires-clause-alone
 run_task-requires-clause-alone g c =
     let i = c.self.inside in
     let was = layer_of i.identity i.modes i.started i.down i.attentions i.queue i.pool in
     let tied = subst (λ l. Tied l (g.D.Drive.state c.args.drive.now)) (sym c.self.view_is) c.requires.tied in
-    let first = first_of c.self.inside.queue.tasks c.remove-task.new.self.tasks c.remove-task.result c.remove-task.ensures.value c.remove-task.ensures.others in
-    let kept = first_kept c.self.inside.identity c.self.inside.queue.tasks c.remove-task.new.self.tasks c.remove-task.result c.self.invariant.kept first in
-    first_alone was c.remove-task.new.self.tasks c.remove-task.result tied.used (subst (λ (l : Layer). l.flying ≡ []) (sym c.self.view_is) c.requires.idle) first kept.0
+    let first = first_of c.self.inside.queue.tasks c.remove.new.self.tasks c.entry_mut-task.result.now (c.remove.ensures.value ∙ ap Some (sym c.entry_mut-task.ensures.value)) c.remove.ensures.others in
+    let kept = first_kept c.self.inside.identity c.self.inside.queue.tasks c.remove.new.self.tasks c.entry_mut-task.result.now c.self.invariant.kept first in
+    first_alone was c.remove.new.self.tasks c.entry_mut-task.result.now tied.used (subst (λ (l : Layer). l.flying ≡ []) (sym c.self.view_is) c.requires.idle) first kept.0
 
 pub run_task-requires-clause-may : goal.run_task-requires-clause-may
 run_task-requires-clause-may g c =
     let tied = subst (λ l. Tied l (g.D.Drive.state c.args.drive.now)) (sym c.self.view_is) c.requires.tied in
-    let first = first_of c.self.inside.queue.tasks c.remove-task.new.self.tasks c.remove-task.result c.remove-task.ensures.value c.remove-task.ensures.others in
-    let kept = first_kept c.self.inside.identity c.self.inside.queue.tasks c.remove-task.new.self.tasks c.remove-task.result c.self.invariant.kept first in
+    let first = first_of c.self.inside.queue.tasks c.remove.new.self.tasks c.entry_mut-task.result.now (c.remove.ensures.value ∙ ap Some (sym c.entry_mut-task.ensures.value)) c.remove.ensures.others in
+    let kept = first_kept c.self.inside.identity c.self.inside.queue.tasks c.remove.new.self.tasks c.entry_mut-task.result.now c.self.invariant.kept first in
     let noted = has_as_noted _ (g.D.Drive.state c.args.drive.now) tied.agrees in
     record {
-      cache = wanted_cache c.self.inside.identity c.self.inside.modes c.wanted_by-wanted.result c.remove-task.result.modes _ noted.cache c.wanted_by-wanted.ensures tied.agrees.valid.modes kept.0.change;
-      look = wanted_look c.self.inside.identity c.self.inside.modes c.wanted_by-wanted.result c.remove-task.result.modes _ noted.look c.wanted_by-wanted.ensures tied.agrees.valid.modes kept.0.change;
+      cache = wanted_cache c.self.inside.identity c.self.inside.modes c.wanted_by-wanted.result c.entry_mut-task.result.now.modes _ noted.cache c.wanted_by-wanted.ensures tied.agrees.valid.modes kept.0.change;
+      look = wanted_look c.self.inside.identity c.self.inside.modes c.wanted_by-wanted.result c.entry_mut-task.result.now.modes _ noted.look c.wanted_by-wanted.ensures tied.agrees.valid.modes kept.0.change;
     }
 
 pub run_task-requires-clause-carry : goal.run_task-requires-clause-carry
 run_task-requires-clause-carry g c =
     let d = g.D.Drive.state c.args.drive.now in
     let tied = subst (λ l. Tied l d) (sym c.self.view_is) c.requires.tied in
-    let first = first_of c.self.inside.queue.tasks c.remove-task.new.self.tasks c.remove-task.result c.remove-task.ensures.value c.remove-task.ensures.others in
-    let kept = first_kept c.self.inside.identity c.self.inside.queue.tasks c.remove-task.new.self.tasks c.remove-task.result c.self.invariant.kept first in
-    can_carry c.self.inside.identity c.remove-task.result d kept.0 (sym (capacity_is _ d tied.agrees)) (sym (capacity_is _ d tied.agrees) ∙ sym tied.agrees.fit.sectors) (has_as_noted _ d tied.agrees).trim
+    let first = first_of c.self.inside.queue.tasks c.remove.new.self.tasks c.entry_mut-task.result.now (c.remove.ensures.value ∙ ap Some (sym c.entry_mut-task.ensures.value)) c.remove.ensures.others in
+    let kept = first_kept c.self.inside.identity c.self.inside.queue.tasks c.remove.new.self.tasks c.entry_mut-task.result.now c.self.invariant.kept first in
+    can_carry c.self.inside.identity c.entry_mut-task.result.now d kept.0 (sym (capacity_is _ d tied.agrees)) (sym (capacity_is _ d tied.agrees) ∙ sym tied.agrees.fit.sectors) (has_as_noted _ d tied.agrees).trim
 
 pub run_task-requires-clause-room : goal.run_task-requires-clause-room
 run_task-requires-clause-room g c =
@@ -75,35 +75,35 @@ run_task-requires-clause-room g c =
 
 pub end_task-requires-clause-few : goal.end_task-requires-clause-few
 end_task-requires-clause-few g c =
-    let first = first_of c.self.inside.queue.tasks c.remove-task.new.self.tasks c.remove-task.result c.remove-task.ensures.value c.remove-task.ensures.others in
-    let kept = first_kept c.self.inside.identity c.self.inside.queue.tasks c.remove-task.new.self.tasks c.remove-task.result c.self.invariant.kept first in
-    subst (λ n. n ≤ 4096) (sym c.run_task.ensures.size) (entry_few c.self.inside.identity c.remove-task.result kept.0)
+    let first = first_of c.self.inside.queue.tasks c.remove.new.self.tasks c.entry_mut-task.result.now (c.remove.ensures.value ∙ ap Some (sym c.entry_mut-task.ensures.value)) c.remove.ensures.others in
+    let kept = first_kept c.self.inside.identity c.self.inside.queue.tasks c.remove.new.self.tasks c.entry_mut-task.result.now c.self.invariant.kept first in
+    subst (λ n. n ≤ 4096) (sym c.run_task.ensures.size) (entry_few c.self.inside.identity c.entry_mut-task.result.now kept.0)
 
 pub invariant_of-self : goal.invariant_of-self
 invariant_of-self g c =
-    let first = first_of c.self.inside.queue.tasks c.remove-task.new.self.tasks c.remove-task.result c.remove-task.ensures.value c.remove-task.ensures.others in
-    let held = first_pages c.self.inside.queue.tasks c.remove-task.new.self.tasks c.remove-task.result first in
+    let first = first_of c.self.inside.queue.tasks c.remove.new.self.tasks c.entry_mut-task.result.now (c.remove.ensures.value ∙ ap Some (sym c.entry_mut-task.ensures.value)) c.remove.ensures.others in
+    let held = first_pages c.self.inside.queue.tasks c.remove.new.self.tasks c.entry_mut-task.result.now first in
     record {
       held = omega (arith, held, c.run_task.ensures.size, c.self.invariant.held, ap (λ (p : Counts). p.out) c.run_task.ensures.pool, c.end_task.ensures.out);
       all = omega (arith, c.run_task.ensures.size, c.self.invariant.all, ap (λ (p : Counts). p.out) c.run_task.ensures.pool, c.end_task.ensures.out, ap (λ (p : Counts). p.free) c.run_task.ensures.pool, c.end_task.ensures.free);
-      kept = (first_kept c.self.inside.identity c.self.inside.queue.tasks c.remove-task.new.self.tasks c.remove-task.result c.self.invariant.kept first).1;
+      kept = (first_kept c.self.inside.identity c.self.inside.queue.tasks c.remove.new.self.tasks c.entry_mut-task.result.now c.self.invariant.kept first).1;
       identity_is = c.self.invariant.identity_is;
     }
 
 pub end_task-requires-in-Err-clause-few : goal.end_task-requires-in-Err-clause-few
 end_task-requires-in-Err-clause-few g c =
-    let first = first_of c.self.inside.queue.tasks c.remove-task.new.self.tasks c.remove-task.result c.remove-task.ensures.value c.remove-task.ensures.others in
-    let kept = first_kept c.self.inside.identity c.self.inside.queue.tasks c.remove-task.new.self.tasks c.remove-task.result c.self.invariant.kept first in
-    subst (λ n. n ≤ 4096) (sym c.run_task.ensures.size) (entry_few c.self.inside.identity c.remove-task.result kept.0)
+    let first = first_of c.self.inside.queue.tasks c.remove.new.self.tasks c.entry_mut-task.result.now (c.remove.ensures.value ∙ ap Some (sym c.entry_mut-task.ensures.value)) c.remove.ensures.others in
+    let kept = first_kept c.self.inside.identity c.self.inside.queue.tasks c.remove.new.self.tasks c.entry_mut-task.result.now c.self.invariant.kept first in
+    subst (λ n. n ≤ 4096) (sym c.run_task.ensures.size) (entry_few c.self.inside.identity c.entry_mut-task.result.now kept.0)
 
 pub invariant_of-self-in-Err : goal.invariant_of-self-in-Err
 invariant_of-self-in-Err g c =
-    let first = first_of c.self.inside.queue.tasks c.remove-task.new.self.tasks c.remove-task.result c.remove-task.ensures.value c.remove-task.ensures.others in
-    let held = first_pages c.self.inside.queue.tasks c.remove-task.new.self.tasks c.remove-task.result first in
+    let first = first_of c.self.inside.queue.tasks c.remove.new.self.tasks c.entry_mut-task.result.now (c.remove.ensures.value ∙ ap Some (sym c.entry_mut-task.ensures.value)) c.remove.ensures.others in
+    let held = first_pages c.self.inside.queue.tasks c.remove.new.self.tasks c.entry_mut-task.result.now first in
     record {
       held = omega (arith, held, c.run_task.ensures.size, c.self.invariant.held, ap (λ (p : Counts). p.out) c.run_task.ensures.pool, c.end_task-in-Err.ensures.out);
       all = omega (arith, c.run_task.ensures.size, c.self.invariant.all, ap (λ (p : Counts). p.out) c.run_task.ensures.pool, c.end_task-in-Err.ensures.out, ap (λ (p : Counts). p.free) c.run_task.ensures.pool, c.end_task-in-Err.ensures.free);
-      kept = (first_kept c.self.inside.identity c.self.inside.queue.tasks c.remove-task.new.self.tasks c.remove-task.result c.self.invariant.kept first).1;
+      kept = (first_kept c.self.inside.identity c.self.inside.queue.tasks c.remove.new.self.tasks c.entry_mut-task.result.now c.self.invariant.kept first).1;
       identity_is = c.self.invariant.identity_is;
     }
 
@@ -114,16 +114,16 @@ returns-in-Ok-clause-ends g c =
     let d = g.D.Drive.state c.args.drive.now in
     let d' = g.D.Drive.state c.run_task.new.drive in
     let tied = subst (λ l. Tied l d) (sym c.self.view_is) c.requires.tied in
-    let first = first_of i.queue.tasks c.remove-task.new.self.tasks c.remove-task.result c.remove-task.ensures.value c.remove-task.ensures.others in
-    let new = seen i.identity c.modes_after-modes.result c.started_after-self-inside.result c.post.new.attentions (map task_of (entries_of c.remove-task.new.self.tasks)) d' in
-    let kept = first_kept i.identity i.queue.tasks c.remove-task.new.self.tasks c.remove-task.result c.self.invariant.kept first in
-    let carry = can_carry i.identity c.remove-task.result d kept.0 (sym (capacity_is _ d tied.agrees)) (sym (capacity_is _ d tied.agrees) ∙ sym tied.agrees.fit.sectors) (has_as_noted _ d tied.agrees).trim in
+    let first = first_of i.queue.tasks c.remove.new.self.tasks c.entry_mut-task.result.now (c.remove.ensures.value ∙ ap Some (sym c.entry_mut-task.ensures.value)) c.remove.ensures.others in
+    let new = seen i.identity c.modes_after-modes.result c.started_after-self-inside.result c.post.new.attentions (map task_of (entries_of c.remove.new.self.tasks)) d' in
+    let kept = first_kept i.identity i.queue.tasks c.remove.new.self.tasks c.entry_mut-task.result.now c.self.invariant.kept first in
+    let carry = can_carry i.identity c.entry_mut-task.result.now d kept.0 (sym (capacity_is _ d tied.agrees)) (sym (capacity_is _ d tied.agrees) ∙ sym tied.agrees.fit.sectors) (has_as_noted _ d tied.agrees).trim in
     inl (
       c.end_task.result,
       c.push.ensures ∙ ap (λ l. l ++ c.end_task.result ∷ []) c.requires.empty,
       subst (λ r. EndsOne (view c.args.self.now d) r new) (sym (c.end_task.ensures.reply ∙ ap (λ t. ended_reply t c.in-Ok.ending i.modes.d_sense) c.run_task.ensures.task))
-          (subst (λ l. EndsOne (view l d) (ended_reply (record c.remove-task.result { body = c.run_task.new.task.body }) c.in-Ok.ending i.modes.d_sense) new) c.self.view_is
-          (first_ends was c.remove-task.new.self.tasks c.remove-task.result d d' c.self.invariant.kept first tied.agrees carry c.in-Ok.ending c.run_task.new.task c.started_after-self-inside.result c.wanted_by-wanted.result c.modes_after-modes.result c.change_posting-posting.result c.post.new.attentions
+          (subst (λ l. EndsOne (view l d) (ended_reply (record c.entry_mut-task.result.now { body = c.run_task.new.task.body }) c.in-Ok.ending i.modes.d_sense) new) c.self.view_is
+          (first_ends was c.remove.new.self.tasks c.entry_mut-task.result.now d d' c.self.invariant.kept first tied.agrees carry c.in-Ok.ending c.run_task.new.task c.started_after-self-inside.result c.wanted_by-wanted.result c.modes_after-modes.result c.change_posting-posting.result c.post.new.attentions
           c.wanted_by-wanted.ensures c.in-Ok.ensures.ends c.started_after-self-inside.ensures c.modes_after-modes.ensures c.change_posting-posting.ensures c.post.ensures)),
     )
 
@@ -133,12 +133,12 @@ returns-in-Ok-clause-agrees g c =
     let was = layer_of i.identity i.modes i.started i.down i.attentions i.queue i.pool in
     let d = g.D.Drive.state c.args.drive.now in
     let tied = subst (λ l. Tied l d) (sym c.self.view_is) c.requires.tied in
-    let first = first_of i.queue.tasks c.remove-task.new.self.tasks c.remove-task.result c.remove-task.ensures.value c.remove-task.ensures.others in
-    let kept = first_kept i.identity i.queue.tasks c.remove-task.new.self.tasks c.remove-task.result c.self.invariant.kept first in
-    let new = layer_of i.identity c.modes_after-modes.result c.started_after-self-inside.result i.down c.post.new.attentions c.remove-task.new.self c.end_task.new.pool in
-    agrees_rest was new c.wanted_by-wanted.result c.change_posting-posting.result c.remove-task.new.self.tasks c.remove-task.result c.in-Ok.ending d (g.D.Drive.state c.run_task.new.drive) first kept.0 (task_unasked i.down i.started c.wanted_by-wanted.result _ _ c.in-Ok.ending c.in-Ok.ensures.ends) c.modes_after-modes.ensures c.post.ensures
+    let first = first_of i.queue.tasks c.remove.new.self.tasks c.entry_mut-task.result.now (c.remove.ensures.value ∙ ap Some (sym c.entry_mut-task.ensures.value)) c.remove.ensures.others in
+    let kept = first_kept i.identity i.queue.tasks c.remove.new.self.tasks c.entry_mut-task.result.now c.self.invariant.kept first in
+    let new = layer_of i.identity c.modes_after-modes.result c.started_after-self-inside.result i.down c.post.new.attentions c.remove.new.self c.end_task.new.pool in
+    agrees_rest was new c.wanted_by-wanted.result c.change_posting-posting.result c.remove.new.self.tasks c.entry_mut-task.result.now c.in-Ok.ending d (g.D.Drive.state c.run_task.new.drive) first kept.0 (task_unasked i.down i.started c.wanted_by-wanted.result _ _ c.in-Ok.ending c.in-Ok.ensures.ends) c.modes_after-modes.ensures c.post.ensures
     c.in-Ok.ensures.up c.in-Ok.ensures.cache c.in-Ok.ensures.look c.run_task.ensures.stays
-    (ap (λ fs. record new { flying = fs }) (c.remove-task.ensures.flying ∙ subst (λ (l : Layer). l.flying ≡ []) (sym c.self.view_is) c.requires.idle)) tied.agrees
+    (ap (λ fs. record new { flying = fs }) (c.remove.ensures.flying ∙ subst (λ (l : Layer). l.flying ≡ []) (sym c.self.view_is) c.requires.idle)) tied.agrees
 
 pub returns-in-Ok-clause-kept : goal.returns-in-Ok-clause-kept
 returns-in-Ok-clause-kept g c =
@@ -147,27 +147,27 @@ returns-in-Ok-clause-kept g c =
 
 pub returns-in-Ok-clause-pages : goal.returns-in-Ok-clause-pages
 returns-in-Ok-clause-pages g c =
-    let first = first_of c.self.inside.queue.tasks c.remove-task.new.self.tasks c.remove-task.result c.remove-task.ensures.value c.remove-task.ensures.others in
-    let held = first_pages c.self.inside.queue.tasks c.remove-task.new.self.tasks c.remove-task.result first in
+    let first = first_of c.self.inside.queue.tasks c.remove.new.self.tasks c.entry_mut-task.result.now (c.remove.ensures.value ∙ ap Some (sym c.entry_mut-task.ensures.value)) c.remove.ensures.others in
+    let held = first_pages c.self.inside.queue.tasks c.remove.new.self.tasks c.entry_mut-task.result.now first in
     let pages = one_pages c.args.replies.now c.push.new.self c.end_task.result c.requires.empty c.push.ensures in
     let view = ap (λ (l : Layer). l.out) c.self.view_is in
     omega (arith, held, pages, view, c.run_task.ensures.size, c.requires.all_in, c.self.invariant.held, ap (λ (p : Counts). p.out) c.run_task.ensures.pool, c.end_task.ensures.out)
 
 pub returns-in-Ok-clause-writable : goal.returns-in-Ok-clause-writable
 returns-in-Ok-clause-writable g c =
-    let first = first_of c.self.inside.queue.tasks c.remove-task.new.self.tasks c.remove-task.result c.remove-task.ensures.value c.remove-task.ensures.others in
-    let kept = first_kept c.self.inside.identity c.self.inside.queue.tasks c.remove-task.new.self.tasks c.remove-task.result c.self.invariant.kept first in
-    one_writable c.args.replies.now c.push.new.self c.end_task.result (record c.remove-task.result { body = c.run_task.new.task.body }) c.in-Ok.ending c.self.inside.modes.d_sense c.requires.empty c.push.ensures (c.end_task.ensures.reply ∙ ap (λ t. ended_reply t c.in-Ok.ending c.self.inside.modes.d_sense) c.run_task.ensures.task) (subst (λ n. n ≤ 4096) (sym c.run_task.ensures.size) (entry_few c.self.inside.identity c.remove-task.result kept.0)) kept.0.expected
+    let first = first_of c.self.inside.queue.tasks c.remove.new.self.tasks c.entry_mut-task.result.now (c.remove.ensures.value ∙ ap Some (sym c.entry_mut-task.ensures.value)) c.remove.ensures.others in
+    let kept = first_kept c.self.inside.identity c.self.inside.queue.tasks c.remove.new.self.tasks c.entry_mut-task.result.now c.self.invariant.kept first in
+    one_writable c.args.replies.now c.push.new.self c.end_task.result (record c.entry_mut-task.result.now { body = c.run_task.new.task.body }) c.in-Ok.ending c.self.inside.modes.d_sense c.requires.empty c.push.ensures (c.end_task.ensures.reply ∙ ap (λ t. ended_reply t c.in-Ok.ending c.self.inside.modes.d_sense) c.run_task.ensures.task) (subst (λ n. n ≤ 4096) (sym c.run_task.ensures.size) (entry_few c.self.inside.identity c.entry_mut-task.result.now kept.0)) kept.0.expected
 
 pub returns-in-Ok-clause-flushed : goal.returns-in-Ok-clause-flushed
 returns-in-Ok-clause-flushed g c = λ flushed quiet.
     let i = c.self.inside in
-    let first = first_of i.queue.tasks c.remove-task.new.self.tasks c.remove-task.result c.remove-task.ensures.value c.remove-task.ensures.others in
+    let first = first_of i.queue.tasks c.remove.new.self.tasks c.entry_mut-task.result.now (c.remove.ensures.value ∙ ap Some (sym c.entry_mut-task.ensures.value)) c.remove.ensures.others in
     let tied = subst (λ (l : Layer). Tied l (g.D.Drive.state c.args.drive.now)) (sym c.self.view_is) c.requires.tied in
-    let own = (subst (λ ts. AreOwn ts) (first_tasks i.queue.tasks c.remove-task.new.self.tasks c.remove-task.result first) tied.agrees.valid.own).0 in
-    let done = first_flush i.queue.tasks c.remove-task.new.self.tasks c.remove-task.result (record c.remove-task.result { body = c.run_task.new.task.body }) c.in-Ok.ending i.modes.d_sense c.args.replies.now c.push.new.self c.end_task.result first refl refl own c.requires.empty c.push.ensures (c.end_task.ensures.reply ∙ ap (λ t. ended_reply t c.in-Ok.ending c.self.inside.modes.d_sense) c.run_task.ensures.task)
+    let own = (subst (λ ts. AreOwn ts) (first_tasks i.queue.tasks c.remove.new.self.tasks c.entry_mut-task.result.now first) tied.agrees.valid.own).0 in
+    let done = first_flush i.queue.tasks c.remove.new.self.tasks c.entry_mut-task.result.now (record c.entry_mut-task.result.now { body = c.run_task.new.task.body }) c.in-Ok.ending i.modes.d_sense c.args.replies.now c.push.new.self c.end_task.result first refl refl own c.requires.empty c.push.ensures (c.end_task.ensures.reply ∙ ap (λ t. ended_reply t c.in-Ok.ending c.self.inside.modes.d_sense) c.run_task.ensures.task)
     (subst (λ (l : Layer). IsFlushed l.tasks c.push.new.self) (sym c.self.view_is) flushed) in
-    flush_done i.down i.started c.wanted_by-wanted.result (task_on c.remove-task.result (g.D.Drive.state c.args.drive.now)) (task_on c.run_task.new.task (g.D.Drive.state c.run_task.new.drive)) c.in-Ok.ending done.flush done.good c.in-Ok.ensures.ends
+    flush_done i.down i.started c.wanted_by-wanted.result (task_on c.entry_mut-task.result.now (g.D.Drive.state c.args.drive.now)) (task_on c.run_task.new.task (g.D.Drive.state c.run_task.new.drive)) c.in-Ok.ending done.flush done.good c.in-Ok.ensures.ends
 
 pub returns-in-Err-clause-ends : goal.returns-in-Err-clause-ends
 returns-in-Err-clause-ends g c =
@@ -176,11 +176,11 @@ returns-in-Err-clause-ends g c =
     let d = g.D.Drive.state c.args.drive.now in
     let d' = g.D.Drive.state c.run_task.new.drive in
     let tied = subst (λ l. Tied l d) (sym c.self.view_is) c.requires.tied in
-    let first = first_of i.queue.tasks c.remove-task.new.self.tasks c.remove-task.result c.remove-task.ensures.value c.remove-task.ensures.others in
+    let first = first_of i.queue.tasks c.remove.new.self.tasks c.entry_mut-task.result.now (c.remove.ensures.value ∙ ap Some (sym c.entry_mut-task.ensures.value)) c.remove.ensures.others in
     inr (
-      alone_loses was c.args.self.now c.lose.new.self c.remove-task.new.self.tasks c.remove-task.result d d' c.self.invariant.kept first tied.agrees c.self.view_is c.link_lost.result c.args.replies.now c.push-in-Err.new.self c.lose.new.replies c.end_task-in-Err.result
-          (lost_layer was (layer_of i.identity i.modes i.started i.down i.attentions c.remove-task.new.self c.end_task-in-Err.new.pool) c.lose.new.self refl (c.remove-task.ensures.flying ∙ subst (λ (l : Layer). l.flying ≡ []) (sym c.self.view_is) c.requires.idle) c.lose.ensures.stays)
-          c.in-Err.ensures.lost c.requires.empty c.push-in-Err.ensures c.lose.ensures.answers (c.end_task-in-Err.ensures.reply ∙ (ap (λ t. ended_reply t c.link_lost.result c.self.inside.modes.d_sense) c.run_task.ensures.task ∙ checked_reply c.remove-task.result c.run_task.new.task.body c.link_lost.result link_lost c.self.inside.modes.d_sense c.link_lost.ensures)) c.link_lost.ensures,
+      alone_loses was c.args.self.now c.lose.new.self c.remove.new.self.tasks c.entry_mut-task.result.now d d' c.self.invariant.kept first tied.agrees c.self.view_is c.link_lost.result c.args.replies.now c.push-in-Err.new.self c.lose.new.replies c.end_task-in-Err.result
+          (lost_layer was (layer_of i.identity i.modes i.started i.down i.attentions c.remove.new.self c.end_task-in-Err.new.pool) c.lose.new.self refl (c.remove.ensures.flying ∙ subst (λ (l : Layer). l.flying ≡ []) (sym c.self.view_is) c.requires.idle) c.lose.ensures.stays)
+          c.in-Err.ensures.lost c.requires.empty c.push-in-Err.ensures c.lose.ensures.answers (c.end_task-in-Err.ensures.reply ∙ (ap (λ t. ended_reply t c.link_lost.result c.self.inside.modes.d_sense) c.run_task.ensures.task ∙ checked_reply c.entry_mut-task.result.now c.run_task.new.task.body c.link_lost.result link_lost c.self.inside.modes.d_sense c.link_lost.ensures)) c.link_lost.ensures,
       c.in-Err.ensures.lost.lost.down,
     )
 
@@ -191,7 +191,7 @@ returns-in-Err-clause-agrees g c =
     let d = g.D.Drive.state c.args.drive.now in
     let tied = subst (λ l. Tied l d) (sym c.self.view_is) c.requires.tied in
     (tied_lost was c.lose.new.self d (g.D.Drive.state c.run_task.new.drive) (alone_down d (g.D.Drive.state c.run_task.new.drive) c.run_task.ensures.stays c.in-Err.ensures.lost.lost.down tied.agrees.fit)
-    (lost_layer was (layer_of i.identity i.modes i.started i.down i.attentions c.remove-task.new.self c.end_task-in-Err.new.pool) c.lose.new.self refl (c.remove-task.ensures.flying ∙ subst (λ (l : Layer). l.flying ≡ []) (sym c.self.view_is) c.requires.idle) c.lose.ensures.stays) tied.agrees).agrees
+    (lost_layer was (layer_of i.identity i.modes i.started i.down i.attentions c.remove.new.self c.end_task-in-Err.new.pool) c.lose.new.self refl (c.remove.ensures.flying ∙ subst (λ (l : Layer). l.flying ≡ []) (sym c.self.view_is) c.requires.idle) c.lose.ensures.stays) tied.agrees).agrees
 
 pub returns-in-Err-clause-kept : goal.returns-in-Err-clause-kept
 returns-in-Err-clause-kept g c =
@@ -199,25 +199,25 @@ returns-in-Err-clause-kept g c =
 
 pub returns-in-Err-clause-pages : goal.returns-in-Err-clause-pages
 returns-in-Err-clause-pages g c =
-    let first = first_of c.self.inside.queue.tasks c.remove-task.new.self.tasks c.remove-task.result c.remove-task.ensures.value c.remove-task.ensures.others in
-    let held = first_pages c.self.inside.queue.tasks c.remove-task.new.self.tasks c.remove-task.result first in
-    let pages = all_pages c.args.replies.now c.push-in-Err.new.self c.lose.new.replies (lost_replies c.self.inside.modes.d_sense c.remove-task.new.self.tasks) c.end_task-in-Err.result c.requires.empty c.push-in-Err.ensures c.lose.ensures.answers in
-    let lost = lost_pages c.self.inside.modes.d_sense c.remove-task.new.self.tasks in
+    let first = first_of c.self.inside.queue.tasks c.remove.new.self.tasks c.entry_mut-task.result.now (c.remove.ensures.value ∙ ap Some (sym c.entry_mut-task.ensures.value)) c.remove.ensures.others in
+    let held = first_pages c.self.inside.queue.tasks c.remove.new.self.tasks c.entry_mut-task.result.now first in
+    let pages = all_pages c.args.replies.now c.push-in-Err.new.self c.lose.new.replies (lost_replies c.self.inside.modes.d_sense c.remove.new.self.tasks) c.end_task-in-Err.result c.requires.empty c.push-in-Err.ensures c.lose.ensures.answers in
+    let lost = lost_pages c.self.inside.modes.d_sense c.remove.new.self.tasks in
     let none = ap (λ (r : Reply). length r.body) c.end_task-in-Err.ensures.reply ∙ ap (λ e. length (data_in e c.run_task.new.task.command c.run_task.new.task.body)) c.link_lost.ensures in
     let view = ap (λ (l : Layer). l.out) c.self.view_is in
     omega (arith, held, pages, lost, none, view, c.run_task.ensures.size, ap (λ (l : Layer). l.out) c.lose.ensures.stays, c.requires.all_in, c.self.invariant.held, ap (λ (p : Counts). p.out) c.run_task.ensures.pool, c.end_task-in-Err.ensures.out)
 
 pub returns-in-Err-clause-writable : goal.returns-in-Err-clause-writable
 returns-in-Err-clause-writable g c =
-    let first = first_of c.self.inside.queue.tasks c.remove-task.new.self.tasks c.remove-task.result c.remove-task.ensures.value c.remove-task.ensures.others in
-    let kept = first_kept c.self.inside.identity c.self.inside.queue.tasks c.remove-task.new.self.tasks c.remove-task.result c.self.invariant.kept first in
-    lost_all_writable c.args.replies.now c.push-in-Err.new.self c.lose.new.replies c.end_task-in-Err.result c.remove-task.result c.link_lost.result c.self.inside.modes.d_sense c.self.inside.identity c.remove-task.new.self.tasks c.requires.empty c.push-in-Err.ensures c.lose.ensures.answers
-    (c.end_task-in-Err.ensures.reply ∙ (ap (λ t. ended_reply t c.link_lost.result c.self.inside.modes.d_sense) c.run_task.ensures.task ∙ checked_reply c.remove-task.result c.run_task.new.task.body c.link_lost.result link_lost c.self.inside.modes.d_sense c.link_lost.ensures)) c.link_lost.ensures kept.0.expected kept.1
+    let first = first_of c.self.inside.queue.tasks c.remove.new.self.tasks c.entry_mut-task.result.now (c.remove.ensures.value ∙ ap Some (sym c.entry_mut-task.ensures.value)) c.remove.ensures.others in
+    let kept = first_kept c.self.inside.identity c.self.inside.queue.tasks c.remove.new.self.tasks c.entry_mut-task.result.now c.self.invariant.kept first in
+    lost_all_writable c.args.replies.now c.push-in-Err.new.self c.lose.new.replies c.end_task-in-Err.result c.entry_mut-task.result.now c.link_lost.result c.self.inside.modes.d_sense c.self.inside.identity c.remove.new.self.tasks c.requires.empty c.push-in-Err.ensures c.lose.ensures.answers
+    (c.end_task-in-Err.ensures.reply ∙ (ap (λ t. ended_reply t c.link_lost.result c.self.inside.modes.d_sense) c.run_task.ensures.task ∙ checked_reply c.entry_mut-task.result.now c.run_task.new.task.body c.link_lost.result link_lost c.self.inside.modes.d_sense c.link_lost.ensures)) c.link_lost.ensures kept.0.expected kept.1
 
 pub returns-in-Err-clause-room : goal.returns-in-Err-clause-room
 returns-in-Err-clause-room g c =
-    let first = first_of c.self.inside.queue.tasks c.remove-task.new.self.tasks c.remove-task.result c.remove-task.ensures.value c.remove-task.ensures.others in
-    let count = first_count c.self.inside.queue.tasks c.remove-task.new.self.tasks c.remove-task.result first in
+    let first = first_of c.self.inside.queue.tasks c.remove.new.self.tasks c.entry_mut-task.result.now (c.remove.ensures.value ∙ ap Some (sym c.entry_mut-task.ensures.value)) c.remove.ensures.others in
+    let count = first_count c.self.inside.queue.tasks c.remove.new.self.tasks c.entry_mut-task.result.now first in
     let one = pushed c.args.replies.now c.push-in-Err.new.self c.end_task-in-Err.result c.push-in-Err.ensures in
-    let all = ap length c.lose.ensures.answers ∙ length-append c.push-in-Err.new.self (lost_replies c.self.inside.modes.d_sense c.remove-task.new.self.tasks) in
-    omega (arith, all, one, count, length-map c.remove-task.new.self.tasks (λ (h : Held). ended_reply h.entry (endings.Check link_lost) c.self.inside.modes.d_sense), ap length c.requires.empty, ap (λ (l : Layer). length l.tasks) c.lose.ensures.stays, ap (λ (l : Layer). length l.tasks) c.self.view_is, c.requires.few)
+    let all = ap length c.lose.ensures.answers ∙ length-append c.push-in-Err.new.self (lost_replies c.self.inside.modes.d_sense c.remove.new.self.tasks) in
+    omega (arith, all, one, count, length-map c.remove.new.self.tasks (λ (h : Held). ended_reply h.entry (endings.Check link_lost) c.self.inside.modes.d_sense), ap length c.requires.empty, ap (λ (l : Layer). length l.tasks) c.lose.ensures.stays, ap (λ (l : Layer). length l.tasks) c.self.view_is, c.requires.few)

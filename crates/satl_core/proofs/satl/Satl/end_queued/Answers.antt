@@ -8,7 +8,7 @@ use Rattle.std.specs.Prelude.{not}
 use Rattle.satl_core.specs.Turning.{ended_reply, ending_by, lost_replies}
 use Rattle.satl_core.proofs.AgreeingLemmas.{works_flying}
 use Rattle.satl_core.proofs.CountedLemmas.{kept_rose}
-use Rattle.satl_core.proofs.EndingLemmas.{some_count, some_tasks, ended_count, ended_kept, ended_pages, ended_unflushed, flight_loses, flight_tied, others_kept, queued_agrees, queued_ends}
+use Rattle.satl_core.proofs.EndingLemmas.{some_count, some_tasks, ended_as, ended_count, ended_kept, ended_pages, ended_unflushed, flight_loses, flight_tied, others_kept, queued_agrees, queued_ends}
 use Rattle.satl_core.proofs.HeldLemmas.{alike_count, alike_held, alike_kept, pushed}
 use Rattle.satl_core.proofs.RefillLemmas.{lost_layer}
 use Rattle.satl_core.proofs.TieLemmas.{layer_of}
@@ -17,19 +17,19 @@ use Rattle.satl_core.proofs.satl.Satl.end_queued.Goals as goal
 
 pub end_task-requires-clause-held : goal.end_task-requires-clause-held
 end_task-requires-clause-held g c =
-    let pages = ended_pages _ _ _ _ c.in-Ok.ensures.ok in
+    let pages = ended_pages _ _ _ _ (ended_as _ _ _ _ _ c.entry_mut-task.ensures.value c.in-Ok.ensures.ok) in
     omega (arith, pages, c.self.invariant.held)
 
 pub end_task-requires-clause-few : goal.end_task-requires-clause-few
-end_task-requires-clause-few g c = entry_few c.self.inside.identity c.in-Ok.task (ended_kept _ _ _ _ c.in-Ok.ensures.ok c.self.inside.identity c.self.invariant.kept)
+end_task-requires-clause-few g c = entry_few c.self.inside.identity c.entry_mut-task.result.now (ended_kept _ _ _ _ (ended_as _ _ _ _ _ c.entry_mut-task.ensures.value c.in-Ok.ensures.ok) c.self.inside.identity c.self.invariant.kept)
 
 pub invariant_of-self : goal.invariant_of-self
 invariant_of-self g c =
-    let pages = ended_pages _ _ _ _ c.in-Ok.ensures.ok in
+    let pages = ended_pages _ _ _ _ (ended_as _ _ _ _ _ c.entry_mut-task.ensures.value c.in-Ok.ensures.ok) in
     record {
       held = omega (arith, pages, c.self.invariant.held, c.end_task.ensures.out);
       all = omega (arith, c.self.invariant.all, c.end_task.ensures.out, c.end_task.ensures.free);
-      kept = others_kept _ _ _ _ c.in-Ok.ensures.ok c.self.inside.identity c.self.invariant.kept;
+      kept = others_kept _ _ _ _ (ended_as _ _ _ _ _ c.entry_mut-task.ensures.value c.in-Ok.ensures.ok) c.self.inside.identity c.self.invariant.kept;
       identity_is = c.self.invariant.identity_is;
     }
 
@@ -52,8 +52,8 @@ returns-in-Ok-clause-ends g c =
     let i = c.self.inside in
     let was = layer_of i.identity i.modes i.started i.down i.attentions i.queue i.pool in
     let tied = subst (λ l. Tied l (g.D.Drive.state c.args.drive.now)) (sym c.self.view_is) c.requires.tied in
-    queued_ends was c.args.self.now (layer_of i.identity i.modes i.started i.down i.attentions c.settle_one.new.self c.end_task.new.pool) (g.D.Drive.state c.args.drive.now) (g.D.Drive.state c.settle_one.new.drive) c.in-Ok.error c.in-Ok.task c.self.view_is
-    (works_flying was tied.used (subst (λ (l : Layer). l.flying ≢ []) (sym c.self.view_is) c.requires.one)) c.requires.tied.agrees c.in-Ok.ensures.ok refl
+    queued_ends was c.args.self.now (layer_of i.identity i.modes i.started i.down i.attentions c.settle_one.new.self c.end_task.new.pool) (g.D.Drive.state c.args.drive.now) (g.D.Drive.state c.settle_one.new.drive) c.in-Ok.error c.entry_mut-task.result.now c.self.view_is
+    (works_flying was tied.used (subst (λ (l : Layer). l.flying ≢ []) (sym c.self.view_is) c.requires.one)) c.requires.tied.agrees (ended_as _ _ _ _ _ c.entry_mut-task.ensures.value c.in-Ok.ensures.ok) refl
     c.args.replies.now c.push.new.self c.end_task.result c.ending_by-ending.result c.requires.empty c.push.ensures c.end_task.ensures.reply (c.ending_by-ending.ensures ∙ ap (λ b. ending_by (not b) c.in-Ok.error) c.is_read.ensures)
 
 pub returns-in-Ok-clause-agrees : goal.returns-in-Ok-clause-agrees
@@ -61,29 +61,29 @@ returns-in-Ok-clause-agrees g c =
     let i = c.self.inside in
     let was = layer_of i.identity i.modes i.started i.down i.attentions i.queue i.pool in
     let tied = subst (λ l. Tied l (g.D.Drive.state c.args.drive.now)) (sym c.self.view_is) c.requires.tied in
-    queued_agrees was c.args.self.now (layer_of i.identity i.modes i.started i.down i.attentions c.settle_one.new.self c.end_task.new.pool) (g.D.Drive.state c.args.drive.now) (g.D.Drive.state c.settle_one.new.drive) c.in-Ok.error c.in-Ok.task c.self.view_is
-    (works_flying was tied.used (subst (λ (l : Layer). l.flying ≢ []) (sym c.self.view_is) c.requires.one)) c.requires.tied.agrees c.in-Ok.ensures.ok refl c.in-Ok.ensures.fit
+    queued_agrees was c.args.self.now (layer_of i.identity i.modes i.started i.down i.attentions c.settle_one.new.self c.end_task.new.pool) (g.D.Drive.state c.args.drive.now) (g.D.Drive.state c.settle_one.new.drive) c.in-Ok.error c.entry_mut-task.result.now c.self.view_is
+    (works_flying was tied.used (subst (λ (l : Layer). l.flying ≢ []) (sym c.self.view_is) c.requires.one)) c.requires.tied.agrees (ended_as _ _ _ _ _ c.entry_mut-task.ensures.value c.in-Ok.ensures.ok) refl c.in-Ok.ensures.fit
 
 pub returns-in-Ok-clause-pages : goal.returns-in-Ok-clause-pages
 returns-in-Ok-clause-pages g c =
-    let held = ended_pages _ _ _ _ c.in-Ok.ensures.ok in
+    let held = ended_pages _ _ _ _ (ended_as _ _ _ _ _ c.entry_mut-task.ensures.value c.in-Ok.ensures.ok) in
     let pages = one_pages c.args.replies.now c.push.new.self c.end_task.result c.requires.empty c.push.ensures in
     let view = ap (λ (l : Layer). l.out) c.self.view_is in
     omega (arith, held, pages, view, c.requires.all_in, c.self.invariant.held, c.end_task.ensures.out)
 
 pub returns-in-Ok-clause-writable : goal.returns-in-Ok-clause-writable
 returns-in-Ok-clause-writable g c =
-    let kept = ended_kept _ _ _ _ c.in-Ok.ensures.ok c.self.inside.identity c.self.invariant.kept in
-    one_writable c.args.replies.now c.push.new.self c.end_task.result c.in-Ok.task c.ending_by-ending.result c.self.inside.modes.d_sense c.requires.empty c.push.ensures c.end_task.ensures.reply (entry_few c.self.inside.identity c.in-Ok.task kept) kept.expected
+    let kept = ended_kept _ _ _ _ (ended_as _ _ _ _ _ c.entry_mut-task.ensures.value c.in-Ok.ensures.ok) c.self.inside.identity c.self.invariant.kept in
+    one_writable c.args.replies.now c.push.new.self c.end_task.result c.entry_mut-task.result.now c.ending_by-ending.result c.self.inside.modes.d_sense c.requires.empty c.push.ensures c.end_task.ensures.reply (entry_few c.self.inside.identity c.entry_mut-task.result.now kept) kept.expected
 
 pub returns-in-Ok-clause-fewer : goal.returns-in-Ok-clause-fewer
 returns-in-Ok-clause-fewer g c =
-    let count = ended_count _ _ _ _ c.in-Ok.ensures.ok in
+    let count = ended_count _ _ _ _ (ended_as _ _ _ _ _ c.entry_mut-task.ensures.value c.in-Ok.ensures.ok) in
     omega (arith, count, ap (λ (l : Layer). length l.tasks) c.self.view_is)
 
 pub returns-in-Ok-clause-room : goal.returns-in-Ok-clause-room
 returns-in-Ok-clause-room g c =
-    let count = ended_count _ _ _ _ c.in-Ok.ensures.ok in
+    let count = ended_count _ _ _ _ (ended_as _ _ _ _ _ c.entry_mut-task.ensures.value c.in-Ok.ensures.ok) in
     let more = pushed c.args.replies.now c.push.new.self c.end_task.result c.push.ensures in
     omega (arith, count, more, ap length c.requires.empty, ap (λ (l : Layer). length l.tasks) c.self.view_is, c.requires.few)
 
@@ -91,7 +91,7 @@ pub returns-in-Ok-clause-unflushed : goal.returns-in-Ok-clause-unflushed
 returns-in-Ok-clause-unflushed g c = λ flushed.
     let i = c.self.inside in
     let tied = subst (λ l. Tied l (g.D.Drive.state c.args.drive.now)) (sym c.self.view_is) c.requires.tied in
-    absurd (ended_unflushed _ _ _ _ c.in-Ok.ensures.ok (layer_of i.identity i.modes i.started i.down i.attentions i.queue i.pool) c.ending_by-ending.result c.args.replies.now c.push.new.self c.end_task.result refl tied.agrees c.requires.empty c.push.ensures c.end_task.ensures.reply
+    absurd (ended_unflushed _ _ _ _ (ended_as _ _ _ _ _ c.entry_mut-task.ensures.value c.in-Ok.ensures.ok) (layer_of i.identity i.modes i.started i.down i.attentions i.queue i.pool) c.ending_by-ending.result c.args.replies.now c.push.new.self c.end_task.result refl tied.agrees c.requires.empty c.push.ensures c.end_task.ensures.reply
     (subst (λ (l : Layer). Rattle.satl_core.specs.Flushed.IsFlushed l.tasks c.push.new.self) (sym c.self.view_is) flushed))
 
 pub returns-in-Err-clause-ends : goal.returns-in-Err-clause-ends

@@ -25,6 +25,9 @@ returns-clause-nows g c = told_nows _ _ _ _ c.in-Ok.ensures.told
 pub returns-in_err-queue-clause-alone : goal.returns-in_err-queue-clause-alone
 returns-in_err-queue-clause-alone g c = any_err c.from_residual.result _ (untouched refl)
 
+pub returns-in_err-desk-clause-alone : goal.returns-in_err-desk-clause-alone
+returns-in_err-desk-clause-alone g c = any_err c.from_residual-in_err-desk.result _ (untouched refl)
+
 pub returns-in_err-pool-clause-alone : goal.returns-in_err-pool-clause-alone
 returns-in_err-pool-clause-alone g c = any_err c.from_residual-in_err-pool.result _ (untouched refl)
 

@@ -5,9 +5,9 @@ use Rattle.satl_disk.proofs.sectors.Sectors.load.Goals as goal
 pub load-requires : goal.load-requires
 load-requires c =
     let i = c.self.inside in
-    omega (arith, size_is i.nows i.stables i.marks.items c.args.self.now c.self.view_is c.self.invariant, c.self.invariant.0)
+    omega (arith, size_is i.blocks i.dirty.items i.flaws.items c.args.self.now c.self.view_is c.self.invariant, c.self.invariant.0)
 
 pub returns : goal.returns
 returns c =
     let i = c.self.inside in
-    c.load.ensures ∙ now_is i.nows i.stables i.marks.items c.args.self.now c.self.view_is c.self.invariant c.args.place (omega (arith, size_is i.nows i.stables i.marks.items c.args.self.now c.self.view_is c.self.invariant))
+    c.load.ensures ∙ now_is i.blocks i.dirty.items i.flaws.items c.args.self.now c.self.view_is c.self.invariant c.args.place (omega (arith, size_is i.blocks i.dirty.items i.flaws.items c.args.self.now c.self.view_is c.self.invariant))

@@ -1,13 +1,13 @@
 use Rattle.std.proofs.Common.{arith}
-use Rattle.satl_line.proofs.SlotsLemmas.{comes}
+use Rattle.satl_line.proofs.SlotsLemmas.{comes_from}
 use Rattle.satl_line.proofs.set.TaskSet.add.Goals as goal
 
 pub invariant_of-self : goal.invariant_of-self
 invariant_of-self c =
-    (comes c.self.inside.slots.items c.deref.result.now c.self.inside.order.items c.deref-2.result.now c.self.inside.free.items c.pop.new.self.items c.in-Some.slot c.self.inside.masks c.self.inside.blocks c.mask_against.result c.args.entry c.args.self.now c.push.new.self.items
-    c.self.invariant c.self.view_is c.in-Some.ensures.items c.deref.ensures.value c.deref-2.ensures.0 c.mask_against.ensures c.push.ensures.items (omega arith)).sound
+    (comes_from c.self.inside.slots.items c.deref.result.now c.self.inside.order.items c.deref-2.result.now c.self.inside.free.items c.pop.new.self.items c.in-Some.slot c.self.inside.masks c.self.inside.blocks c.mask_against.result c.args.task.now c.entry-entry.result.now c.swap.new.x c.args.self.now
+    c.push.new.self.items c.self.invariant c.self.view_is c.in-Some.ensures.items c.deref.ensures.value c.deref-2.ensures.0 c.mask_against.ensures c.push.ensures.items (omega arith) c.entry-entry.ensures c.swap.ensures.x_after).sound
 
 pub returns-clause-ok : goal.returns-clause-ok
 returns-clause-ok c =
-    (comes c.self.inside.slots.items c.deref.result.now c.self.inside.order.items c.deref-2.result.now c.self.inside.free.items c.pop.new.self.items c.in-Some.slot c.self.inside.masks c.self.inside.blocks c.mask_against.result c.args.entry c.args.self.now c.push.new.self.items
-    c.self.invariant c.self.view_is c.in-Some.ensures.items c.deref.ensures.value c.deref-2.ensures.0 c.mask_against.ensures c.push.ensures.items (omega arith)).adds
+    (comes_from c.self.inside.slots.items c.deref.result.now c.self.inside.order.items c.deref-2.result.now c.self.inside.free.items c.pop.new.self.items c.in-Some.slot c.self.inside.masks c.self.inside.blocks c.mask_against.result c.args.task.now c.entry-entry.result.now c.swap.new.x c.args.self.now
+    c.push.new.self.items c.self.invariant c.self.view_is c.in-Some.ensures.items c.deref.ensures.value c.deref-2.ensures.0 c.mask_against.ensures c.push.ensures.items (omega arith) c.entry-entry.ensures c.swap.ensures.x_after).adds

@@ -2,7 +2,7 @@ use Rattle.std.proofs.Common.{◌≡◌, ◌≤◌, ◌∙◌, [], ap, refl, min
 use Rattle.satl_frame.specs.DataPages.{page_count, pages_of}
 use Rattle.satl_frame.proofs.Paging.{pages_free, all_filled, nothing_placed}
 use Rattle.satl_io.proofs.Joined.{Took-none}
-use Rattle.satl_frame.proofs.refill.pull_data.Goals as goal
+use Rattle.satl_frame.proofs.refill.pull_by.Goals as goal
 
 pub returns-then-len-eq0-clause-filled : goal.returns-then-len-eq0-clause-filled
 returns-then-len-eq0-clause-filled g c = record {
