@@ -27,19 +27,8 @@ full_same input ps c =
 
 pub task_same : (input : List ℕ) (at : ℕ) (q : Bool) (r : Request) (c : Command) → is_known (Ok c) ≡ true → needed c ≤ r.data_len → StandsAt input at r.data_len r.body → task_in input (record { entry = bare_task q r c; at = at }) ≡ task_for q r c
 task_same input at q r commands.TestUnitReady k le st = refl
-task_same input at q r (commands.RequestSense descriptor alloc) k le st = absurd cc
-task_same input at q r (commands.Inquiry page alloc) k le st = absurd cc
-task_same input at q r (commands.ModeSense ten long_lba no_descriptor control page alloc) k le st = absurd cc
-task_same input at q r (commands.ModeSelect ten size) k le st = absurd cc
-task_same input at q r (commands.StartStop start no_flush) k le st = absurd cc
-task_same input at q r commands.ReadCapacity10 k le st = absurd cc
-task_same input at q r (commands.ReadCapacity16 alloc) k le st = absurd cc
-task_same input at q r (commands.ReportLuns select alloc) k le st = absurd cc
 task_same input at q r (commands.Read form lba count fua) k le st = refl
 task_same input at q r (commands.Write form lba count fua) k le st =
     ap (λ (l : List Block). record (task_for q r (commands.Write form lba count fua)) { body = l }) (sym (st count le))
-task_same input at q r (commands.Verify form lba count compare) k le st = absurd cc
 task_same input at q r (commands.Flush form lba count) k le st = refl
-task_same input at q r (commands.WriteSame form lba count unmap) k le st = absurd cc
-task_same input at q r (commands.Unmap size) k le st = absurd cc
-task_same input at q r (commands.Pass cdb) k le st = absurd cc
+task_same input at q r _ k le st = absurd cc

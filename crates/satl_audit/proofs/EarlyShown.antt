@@ -23,41 +23,17 @@ use Rattle.satl_laws.proofs.Rows.{in_all as all_of}
 
 -- a command's pairs turn on the mode values alone
 writes_modes : (c : Command) (s u : Device) (t : Entry) → FormedBy c t → u.modes ≡ s.modes → written_by c u t ≡ written_by c s t
-writes_modes commands.TestUnitReady s u t f e = absurd f
-writes_modes (commands.RequestSense descriptor alloc) s u t f e = absurd f
-writes_modes (commands.Inquiry page alloc) s u t f e = absurd f
-writes_modes (commands.ModeSense ten long_lba no_descriptor control page alloc) s u t f e = absurd f
-writes_modes (commands.ModeSelect ten size) s u t f e = absurd f
-writes_modes (commands.StartStop starts no_flush) s u t f e = absurd f
-writes_modes commands.ReadCapacity10 s u t f e = absurd f
-writes_modes (commands.ReadCapacity16 alloc) s u t f e = absurd f
-writes_modes (commands.ReportLuns select alloc) s u t f e = absurd f
 writes_modes (commands.Read form lba count fua) s u t f e = refl
 writes_modes (commands.Write form lba count fua) s u t f e = ap (λ (m : _). pairs_from lba t.body (m.wce && not fua)) e
-writes_modes (commands.Verify form lba count compare) s u t f e = absurd f
 writes_modes (commands.Flush form lba count) s u t f e = refl
-writes_modes (commands.WriteSame form lba count unmap) s u t f e = absurd f
-writes_modes (commands.Unmap size) s u t f e = absurd f
-writes_modes (commands.Pass cdb) s u t f e = absurd f
+writes_modes _ s u t f e = absurd f
 
 -- two pairs of one known command at one address are the same
 one_by : (c : Command) (s : Device) (t : Entry) (p q : Pair) → FormedBy c t → IsIn p (written_by c s t) → IsIn q (written_by c s t) → p.lba ≡ q.lba → p ≡ q
-one_by commands.TestUnitReady s t p q f i j e = absurd f
-one_by (commands.RequestSense descriptor alloc) s t p q f i j e = absurd f
-one_by (commands.Inquiry page alloc) s t p q f i j e = absurd f
-one_by (commands.ModeSense ten long_lba no_descriptor control page alloc) s t p q f i j e = absurd f
-one_by (commands.ModeSelect ten size) s t p q f i j e = absurd f
-one_by (commands.StartStop starts no_flush) s t p q f i j e = absurd f
-one_by commands.ReadCapacity10 s t p q f i j e = absurd f
-one_by (commands.ReadCapacity16 alloc) s t p q f i j e = absurd f
-one_by (commands.ReportLuns select alloc) s t p q f i j e = absurd f
 one_by (commands.Read form lba count fua) s t p q f i j e = absurd i
 one_by (commands.Write form lba count fua) s t p q f i j e = from_one lba t.body (s.modes.wce && not fua) p q i j e
-one_by (commands.Verify form lba count compare) s t p q f i j e = absurd f
 one_by (commands.Flush form lba count) s t p q f i j e = absurd i
-one_by (commands.WriteSame form lba count unmap) s t p q f i j e = absurd f
-one_by (commands.Unmap size) s t p q f i j e = absurd f
-one_by (commands.Pass cdb) s t p q f i j e = absurd f
+one_by _ s t p q f i j e = absurd f
 
 -- a task stays eligible where another is taken off
 pub eligible_without : (ts : List Entry) (t w : Entry) → is_called t.nexus (t.tag).0 w ≡ false → IsEligible ts w → IsEligible (remove_first (is_called t.nexus (t.tag).0) ts) w

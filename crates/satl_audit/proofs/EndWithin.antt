@@ -43,19 +43,7 @@ both_at (Some q) entry at e f =
 -- no other command ends so that it is known what it did
 pub no_other : (c : Command) (s : Device) (t : Entry) (blocks : List Block) (deed : Deed) → DoneAs c s t blocks deed → ((form : Form) (lba count : ℕ) (fua : Bool) → c ≡ commands.Read form lba count fua → ⊥) →
     ((form : Form) (lba count : ℕ) (fua : Bool) → c ≡ commands.Write form lba count fua → ⊥) → ((form : Form) (lba count : ℕ) → c ≡ commands.Flush form lba count → ⊥) → ⊥
-no_other commands.TestUnitReady s t blocks deed d r w f = absurd d
-no_other (commands.RequestSense descriptor alloc) s t blocks deed d r w f = absurd d
-no_other (commands.Inquiry page alloc) s t blocks deed d r w f = absurd d
-no_other (commands.ModeSense ten long_lba no_descriptor control page alloc) s t blocks deed d r w f = absurd d
-no_other (commands.ModeSelect ten size) s t blocks deed d r w f = absurd d
-no_other (commands.StartStop start no_flush) s t blocks deed d r w f = absurd d
-no_other commands.ReadCapacity10 s t blocks deed d r w f = absurd d
-no_other (commands.ReadCapacity16 alloc) s t blocks deed d r w f = absurd d
-no_other (commands.ReportLuns select alloc) s t blocks deed d r w f = absurd d
 no_other (commands.Read form lba count fua) s t blocks deed d r w f = r form lba count fua refl
 no_other (commands.Write form lba count fua) s t blocks deed d r w f = w form lba count fua refl
-no_other (commands.Verify form lba count compare) s t blocks deed d r w f = absurd d
 no_other (commands.Flush form lba count) s t blocks deed d r w f = f form lba count refl
-no_other (commands.WriteSame form lba count unmap) s t blocks deed d r w f = absurd d
-no_other (commands.Unmap size) s t blocks deed d r w f = absurd d
-no_other (commands.Pass cdb) s t blocks deed d r w f = absurd d
+no_other _ s t blocks deed d r w f = absurd d

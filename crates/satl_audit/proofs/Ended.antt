@@ -35,15 +35,6 @@ pub record Ended (c : Command) (s : Device) (t : Entry) (reply : Reply) (cells :
 
 module _ (s : Device) (t : Entry) (reply : Reply) (blocks : List Block) (deed : Deed) (cells : List Cell) (h : IsSane s) (answer : reply ≡ task_reply t Good [] blocks) where
   by_ends : (c : Command) → DoneAs c (bare s) t blocks deed → DoneBy deed s.cells cells → Ended c s t reply cells
-  by_ends commands.TestUnitReady k e = absurd k
-  by_ends (commands.RequestSense descriptor alloc) k e = absurd k
-  by_ends (commands.Inquiry page alloc) k e = absurd k
-  by_ends (commands.ModeSense ten long_lba no_descriptor control page alloc) k e = absurd k
-  by_ends (commands.ModeSelect ten size) k e = absurd k
-  by_ends (commands.StartStop start no_flush) k e = absurd k
-  by_ends commands.ReadCapacity10 k e = absurd k
-  by_ends (commands.ReadCapacity16 alloc) k e = absurd k
-  by_ends (commands.ReportLuns select alloc) k e = absurd k
   by_ends (commands.Read form lba count fua) k e =
       let d : DoneBy (gives lba blocks) s.cells cells = subst (λ x. DoneBy x s.cells cells) k.1 e in
       record {
@@ -70,7 +61,6 @@ module _ (s : Device) (t : Entry) (reply : Reply) (blocks : List Block) (deed : 
         stays = refl;
         cells_are = sym d;
       }
-  by_ends (commands.Verify form lba count compare) k e = absurd k
   by_ends (commands.Flush form lba count) k e =
       let d : DoneBy settles s.cells cells = subst (λ x. DoneBy x s.cells cells) k.1 e in
       record {
@@ -79,9 +69,7 @@ module _ (s : Device) (t : Entry) (reply : Reply) (blocks : List Block) (deed : 
         stays = refl;
         cells_are = sym d;
       }
-  by_ends (commands.WriteSame form lba count unmap) k e = absurd k
-  by_ends (commands.Unmap size) k e = absurd k
-  by_ends (commands.Pass cdb) k e = absurd k
+  by_ends _ k e = absurd k
 
 pub record TurnMade (s : Device) (reply : Reply) (cells : List Cell) (bared : Device) : Type 0 where
   pub new : Device

@@ -43,19 +43,7 @@ few_append (Some last) (settles ∷ ds) pairs es = ap (λ l. settles ∷ l) (few
 
 -- what a task does is among the few
 pub few_done : (c : Command) (s : Device) (t : Entry) (blocks : List Block) (deed : Deed) (pairs : List Pair) → DoneAs c s t blocks deed → few_from (Some pairs) (deed ∷ []) ≡ deed ∷ []
-few_done commands.TestUnitReady s t blocks deed pairs e = absurd e
-few_done (commands.RequestSense descriptor alloc) s t blocks deed pairs e = absurd e
-few_done (commands.Inquiry page alloc) s t blocks deed pairs e = absurd e
-few_done (commands.ModeSense ten long_lba no_descriptor control page alloc) s t blocks deed pairs e = absurd e
-few_done (commands.ModeSelect ten size) s t blocks deed pairs e = absurd e
-few_done (commands.StartStop starts no_flush) s t blocks deed pairs e = absurd e
-few_done commands.ReadCapacity10 s t blocks deed pairs e = absurd e
-few_done (commands.ReadCapacity16 alloc) s t blocks deed pairs e = absurd e
-few_done (commands.ReportLuns select alloc) s t blocks deed pairs e = absurd e
 few_done (commands.Read form lba count fua) s t blocks deed pairs e = subst (λ d. few_from (Some pairs) (d ∷ []) ≡ d ∷ []) (sym e.1) refl
 few_done (commands.Write form lba count fua) s t blocks deed pairs e = subst (λ d. few_from (Some pairs) (d ∷ []) ≡ d ∷ []) (sym e.1) refl
-few_done (commands.Verify form lba count compare) s t blocks deed pairs e = absurd e
 few_done (commands.Flush form lba count) s t blocks deed pairs e = subst (λ d. few_from (Some pairs) (d ∷ []) ≡ d ∷ []) (sym e.1) refl
-few_done (commands.WriteSame form lba count unmap) s t blocks deed pairs e = absurd e
-few_done (commands.Unmap size) s t blocks deed pairs e = absurd e
-few_done (commands.Pass cdb) s t blocks deed pairs e = absurd e
+few_done _ s t blocks deed pairs e = absurd e

@@ -20,58 +20,23 @@ module _ (s : Device) (r : Request) where
 
   pub passes : (c : Command) (x : Arrival) → is_known (Ok c) ≡ true → nat_lt s.identity.capacity ((range_of c).lba + (range_of c).count) ≡ false → nat_lt r.data_len (needed c) ≡ false → becomes s r c ≡ x → command_arrival s r c ≡ x
   passes commands.TestUnitReady x k g h e = through commands.TestUnitReady None None refl refl g h ∙ e
-  passes (commands.RequestSense descriptor alloc) x k g h e = absurd cc
-  passes (commands.Inquiry page alloc) x k g h e = absurd cc
-  passes (commands.ModeSense ten long_lba no_descriptor control page alloc) x k g h e = absurd cc
-  passes (commands.ModeSelect ten size) x k g h e = absurd cc
-  passes (commands.StartStop start no_flush) x k g h e = absurd cc
-  passes commands.ReadCapacity10 x k g h e = absurd cc
-  passes (commands.ReadCapacity16 alloc) x k g h e = absurd cc
-  passes (commands.ReportLuns select alloc) x k g h e = absurd cc
   passes (commands.Read form lba count fua) x k g h e = through (commands.Read form lba count fua) None None refl refl g h ∙ e
   passes (commands.Write form lba count fua) x k g h e = through (commands.Write form lba count fua) None None refl refl g h ∙ e
-  passes (commands.Verify form lba count compare) x k g h e = absurd cc
   passes (commands.Flush form lba count) x k g h e = through (commands.Flush form lba count) None None refl refl g h ∙ e
-  passes (commands.WriteSame form lba count unmap) x k g h e = absurd cc
-  passes (commands.Unmap size) x k g h e = absurd cc
-  passes (commands.Pass cdb) x k g h e = absurd cc
+  passes _ x k g h e = absurd cc
 
 -- commands that may wait
 pub may_wait : (capacity bytes : ℕ) (c : Command) → IsTransfer c → (range_of c).lba + (range_of c).count ≤ capacity → needed c ≤ bytes → MayWait capacity bytes c
-may_wait capacity bytes commands.TestUnitReady t le enough = t
-may_wait capacity bytes (commands.RequestSense descriptor alloc) t le enough = t
-may_wait capacity bytes (commands.Inquiry page alloc) t le enough = t
-may_wait capacity bytes (commands.ModeSense ten long_lba no_descriptor control page alloc) t le enough = t
-may_wait capacity bytes (commands.ModeSelect ten size) t le enough = t
-may_wait capacity bytes (commands.StartStop start no_flush) t le enough = t
-may_wait capacity bytes commands.ReadCapacity10 t le enough = t
-may_wait capacity bytes (commands.ReadCapacity16 alloc) t le enough = t
-may_wait capacity bytes (commands.ReportLuns select alloc) t le enough = t
 may_wait capacity bytes (commands.Read form lba count fua) t le enough = le
 may_wait capacity bytes (commands.Write form lba count fua) t le enough = (le, enough)
-may_wait capacity bytes (commands.Verify form lba count compare) t le enough = t
 may_wait capacity bytes (commands.Flush form lba count) t le enough = tt
-may_wait capacity bytes (commands.WriteSame form lba count unmap) t le enough = t
-may_wait capacity bytes (commands.Unmap size) t le enough = t
-may_wait capacity bytes (commands.Pass cdb) t le enough = t
+may_wait capacity bytes _ t le enough = t
 
 pub waits_known : (capacity bytes : ℕ) (c : Command) → MayWait capacity bytes c → (is_known (Ok c) ≡ true) × (needed c ≤ bytes)
-waits_known capacity bytes commands.TestUnitReady w = absurd w
-waits_known capacity bytes (commands.RequestSense descriptor alloc) w = absurd w
-waits_known capacity bytes (commands.Inquiry page alloc) w = absurd w
-waits_known capacity bytes (commands.ModeSense ten long_lba no_descriptor control page alloc) w = absurd w
-waits_known capacity bytes (commands.ModeSelect ten size) w = absurd w
-waits_known capacity bytes (commands.StartStop start no_flush) w = absurd w
-waits_known capacity bytes commands.ReadCapacity10 w = absurd w
-waits_known capacity bytes (commands.ReadCapacity16 alloc) w = absurd w
-waits_known capacity bytes (commands.ReportLuns select alloc) w = absurd w
 waits_known capacity bytes (commands.Read form lba count fua) w = (refl, omega arith)
 waits_known capacity bytes (commands.Write form lba count fua) w = (refl, w.1)
-waits_known capacity bytes (commands.Verify form lba count compare) w = absurd w
 waits_known capacity bytes (commands.Flush form lba count) w = (refl, omega arith)
-waits_known capacity bytes (commands.WriteSame form lba count unmap) w = absurd w
-waits_known capacity bytes (commands.Unmap size) w = absurd w
-waits_known capacity bytes (commands.Pass cdb) w = absurd w
+waits_known capacity bytes _ w = absurd w
 
 pub if_ok_both : {T E : Type 0} (r : Result T E) (P Q R : T → Type 0) → IfOk r P → IfOk r Q → ((x : T) → P x → Q x → R x) → IfOk r R
 if_ok_both (Ok x) P Q R h g f = f x h g

@@ -1,5 +1,5 @@
 -- READs of known tasks lie within the capacity.
-use Rattle.std.proofs.Common.{◌≡◌, refl, sym, ap, ◌∙◌, subst, ℕ, ◌+◌, true, List, [], ◌∷◌, length}
+use Rattle.std.proofs.Common.{◌≡◌, refl, sym, ap, ◌∙◌, subst, ℕ, ◌+◌, true, List, [], ◌∷◌}
 use Rattle.std.specs.Prelude.{◌≤◌, not}
 use Rattle.std.specs.List.{AllByRecursion}
 use Rattle.std.proofs.lemmas.Bool.{and_parts}
@@ -38,22 +38,10 @@ pub record Within (size : ℕ) (deeds : List Deed) (s : Device) : Type 0 where
   pub known : AllByRecursion (IsKnown size) s.tasks
 
 done_lies : (size : ℕ) (c : Command) (s : Device) (t : Entry) (blocks : List Block) (deed : Deed) → KnownBy size c → DoneAs c s t blocks deed → Lies deed size
-done_lies size commands.TestUnitReady s t blocks deed k e = absurd k
-done_lies size (commands.RequestSense descriptor alloc) s t blocks deed k e = absurd k
-done_lies size (commands.Inquiry page alloc) s t blocks deed k e = absurd k
-done_lies size (commands.ModeSense ten long_lba no_descriptor control page alloc) s t blocks deed k e = absurd k
-done_lies size (commands.ModeSelect ten length) s t blocks deed k e = absurd k
-done_lies size (commands.StartStop starts no_flush) s t blocks deed k e = absurd k
-done_lies size commands.ReadCapacity10 s t blocks deed k e = absurd k
-done_lies size (commands.ReadCapacity16 alloc) s t blocks deed k e = absurd k
-done_lies size (commands.ReportLuns select alloc) s t blocks deed k e = absurd k
 done_lies size (commands.Read form lba count fua) s t blocks deed k e = subst (λ d. Lies d size) (sym e.1) (subst (λ n. lba + n ≤ size) (sym e.0) k)
 done_lies size (commands.Write form lba count fua) s t blocks deed k e = subst (λ d. Lies d size) (sym e.1) tt
-done_lies size (commands.Verify form lba count compare) s t blocks deed k e = absurd k
 done_lies size (commands.Flush form lba count) s t blocks deed k e = subst (λ d. Lies d size) (sym e.1) tt
-done_lies size (commands.WriteSame form lba count unmap) s t blocks deed k e = absurd k
-done_lies size (commands.Unmap length) s t blocks deed k e = absurd k
-done_lies size (commands.Pass cdb) s t blocks deed k e = absurd k
+done_lies size _ s t blocks deed k e = absurd k
 
 arrives_within : (a : Arrival) (r : Request) (s new : Device) (replies : List Reply) (size : ℕ) → Comes size a → AllByRecursion (IsKnown size) s.tasks → ArrivesAs a r s replies new → AllByRecursion (IsKnown size) new.tasks
 arrives_within (answered reply) r s new replies size c k e = subst (λ (d : Device). AllByRecursion (IsKnown size) d.tasks) (sym e.1) k

@@ -47,63 +47,27 @@ module _ (x : ℕ) where
     pub high : x < lba + count
 
   pub write_at : (c : Command) (s : Device) (t : Entry) (p : Pair) → FormedBy c t → IsIn p (written_by c s t) → p.lba ≡ x → WriteAt t
-  write_at commands.TestUnitReady s t p f i e = absurd f
-  write_at (commands.RequestSense descriptor alloc) s t p f i e = absurd f
-  write_at (commands.Inquiry page alloc) s t p f i e = absurd f
-  write_at (commands.ModeSense ten long_lba no_descriptor control page alloc) s t p f i e = absurd f
-  write_at (commands.ModeSelect ten size) s t p f i e = absurd f
-  write_at (commands.StartStop starts no_flush) s t p f i e = absurd f
-  write_at commands.ReadCapacity10 s t p f i e = absurd f
-  write_at (commands.ReadCapacity16 alloc) s t p f i e = absurd f
-  write_at (commands.ReportLuns select alloc) s t p f i e = absurd f
   write_at (commands.Read form lba count fua) s t p f i e = absurd i
   write_at (commands.Write form lba count fua) s t p f i e =
       let w = from_within lba t.body (s.modes.wce && not fua) p i in
       record { lba = lba; count = count; kind = f.0; ranges = f.1; low = omega (arith, w.0, e); high = omega (arith, w.1, e, f.2) }
-  write_at (commands.Verify form lba count compare) s t p f i e = absurd f
   write_at (commands.Flush form lba count) s t p f i e = absurd i
-  write_at (commands.WriteSame form lba count unmap) s t p f i e = absurd f
-  write_at (commands.Unmap size) s t p f i e = absurd f
-  write_at (commands.Pass cdb) s t p f i e = absurd f
+  write_at _ s t p f i e = absurd f
 
   -- conflicts with each task that goes over the sector
   pub clashes : (c : Command) (w t : Entry) → WriteAt w → FormedBy c t → TouchesBy c → conflicts w t ≡ true
-  clashes commands.TestUnitReady w t a f g = absurd f
-  clashes (commands.RequestSense descriptor alloc) w t a f g = absurd f
-  clashes (commands.Inquiry page alloc) w t a f g = absurd f
-  clashes (commands.ModeSense ten long_lba no_descriptor control page alloc) w t a f g = absurd f
-  clashes (commands.ModeSelect ten size) w t a f g = absurd f
-  clashes (commands.StartStop starts no_flush) w t a f g = absurd f
-  clashes commands.ReadCapacity10 w t a f g = absurd f
-  clashes (commands.ReadCapacity16 alloc) w t a f g = absurd f
-  clashes (commands.ReportLuns select alloc) w t a f g = absurd f
   clashes (commands.Read form lba count fua) w t a f g =
       meeting (access_of w) (access_of t) (over a.lba a.count) (over lba count) (ap is_write a.kind) a.ranges f.1 (ranges_that_meet x a.lba a.count lba count a.low a.high g.0 g.1)
   clashes (commands.Write form lba count fua) w t a f g =
       meeting (access_of w) (access_of t) (over a.lba a.count) (over lba count) (ap is_write a.kind) a.ranges f.1 (ranges_that_meet x a.lba a.count lba count a.low a.high g.0 g.1)
-  clashes (commands.Verify form lba count compare) w t a f g = absurd f
   clashes (commands.Flush form lba count) w t a f g = barred (access_of w) (access_of t) (ap (λ k. is_alone k t.ordered) f)
-  clashes (commands.WriteSame form lba count unmap) w t a f g = absurd f
-  clashes (commands.Unmap size) w t a f g = absurd f
-  clashes (commands.Pass cdb) w t a f g = absurd f
+  clashes _ w t a f g = absurd f
 
   -- a WRITE with a pair there goes over the sector
   pub touches_by : (c : Command) (s : Device) (t : Entry) (p : Pair) → FormedBy c t → IsIn p (written_by c s t) → p.lba ≡ x → TouchesBy c
-  touches_by commands.TestUnitReady s t p f i e = absurd f
-  touches_by (commands.RequestSense descriptor alloc) s t p f i e = absurd f
-  touches_by (commands.Inquiry page alloc) s t p f i e = absurd f
-  touches_by (commands.ModeSense ten long_lba no_descriptor control page alloc) s t p f i e = absurd f
-  touches_by (commands.ModeSelect ten size) s t p f i e = absurd f
-  touches_by (commands.StartStop starts no_flush) s t p f i e = absurd f
-  touches_by commands.ReadCapacity10 s t p f i e = absurd f
-  touches_by (commands.ReadCapacity16 alloc) s t p f i e = absurd f
-  touches_by (commands.ReportLuns select alloc) s t p f i e = absurd f
   touches_by (commands.Read form lba count fua) s t p f i e = absurd i
   touches_by (commands.Write form lba count fua) s t p f i e =
       let w = from_within lba t.body (s.modes.wce && not fua) p i in
       (omega (arith, w.0, e), omega (arith, w.1, e, f.2))
-  touches_by (commands.Verify form lba count compare) s t p f i e = absurd f
   touches_by (commands.Flush form lba count) s t p f i e = absurd i
-  touches_by (commands.WriteSame form lba count unmap) s t p f i e = absurd f
-  touches_by (commands.Unmap size) s t p f i e = absurd f
-  touches_by (commands.Pass cdb) s t p f i e = absurd f
+  touches_by _ s t p f i e = absurd f

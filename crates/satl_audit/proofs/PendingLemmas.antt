@@ -42,22 +42,11 @@ write_pairs identity input waiting p form lba count fua c held =
     (write_body input p form lba count fua c held)
 
 none_by : (capacity bytes : ℕ) (c : Command) (s : Device) (t : Entry) → MayWait capacity bytes c → ((form : Form) (lba count : ℕ) (fua : Bool) → c ≡ commands.Write form lba count fua → ⊥) → written_by c s t ≡ []
-none_by capacity bytes commands.TestUnitReady s t w other = refl
-none_by capacity bytes (commands.RequestSense descriptor alloc) s t w other = refl
-none_by capacity bytes (commands.Inquiry page alloc) s t w other = refl
-none_by capacity bytes (commands.ModeSense ten long_lba no_descriptor control page alloc) s t w other = refl
-none_by capacity bytes (commands.ModeSelect ten size) s t w other = refl
-none_by capacity bytes (commands.StartStop start no_flush) s t w other = refl
-none_by capacity bytes commands.ReadCapacity10 s t w other = refl
-none_by capacity bytes (commands.ReadCapacity16 alloc) s t w other = refl
-none_by capacity bytes (commands.ReportLuns select alloc) s t w other = refl
-none_by capacity bytes (commands.Read form lba count fua) s t w other = refl
 none_by capacity bytes (commands.Write form lba count fua) s t w other = absurd (other form lba count fua refl)
-none_by capacity bytes (commands.Verify form lba count compare) s t w other = refl
-none_by capacity bytes (commands.Flush form lba count) s t w other = refl
 none_by capacity bytes (commands.WriteSame form lba count unmap) s t w other = absurd w
 none_by capacity bytes (commands.Unmap size) s t w other = absurd w
 none_by capacity bytes (commands.Pass cdb) s t w other = absurd w
+none_by capacity bytes _ s t w other = refl
 
 pub writes_none : (identity : Identity) (input : List ℕ) (waiting : List Placed) (capacity bytes : ℕ) (p : Placed) → MayWait capacity bytes p.entry.command → ((form : Form) (lba count : ℕ) (fua : Bool) → p.entry.command ≡ commands.Write form lba count fua → ⊥) →
     writes (device_of identity input waiting []) (task_in input p) ≡ []

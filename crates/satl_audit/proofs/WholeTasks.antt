@@ -23,37 +23,13 @@ from_whole lba [] cached h = tt
 from_whole lba (v ∷ vs) cached h = (h.0, from_whole (lba + 1) vs cached h.1)
 
 pub writes_whole : (c : Command) (s : Device) (t : Entry) → FormedBy c t → HasWhole t → AllByRecursion IsWholePair (written_by c s t)
-writes_whole commands.TestUnitReady s t f h = absurd f
-writes_whole (commands.RequestSense descriptor alloc) s t f h = absurd f
-writes_whole (commands.Inquiry page alloc) s t f h = absurd f
-writes_whole (commands.ModeSense ten long_lba no_descriptor control page alloc) s t f h = absurd f
-writes_whole (commands.ModeSelect ten size) s t f h = absurd f
-writes_whole (commands.StartStop starts no_flush) s t f h = absurd f
-writes_whole commands.ReadCapacity10 s t f h = absurd f
-writes_whole (commands.ReadCapacity16 alloc) s t f h = absurd f
-writes_whole (commands.ReportLuns select alloc) s t f h = absurd f
 writes_whole (commands.Read form lba count fua) s t f h = tt
 writes_whole (commands.Write form lba count fua) s t f h = from_whole lba t.body (s.modes.wce && not fua) h
-writes_whole (commands.Verify form lba count compare) s t f h = absurd f
 writes_whole (commands.Flush form lba count) s t f h = tt
-writes_whole (commands.WriteSame form lba count unmap) s t f h = absurd f
-writes_whole (commands.Unmap size) s t f h = absurd f
-writes_whole (commands.Pass cdb) s t f h = absurd f
+writes_whole _ s t f h = absurd f
 
 pub done_brings : (c : Command) (s : Device) (t : Entry) (blocks : List Block) (d : Deed) → FormedBy c t → HasWhole t → DoneAs c s t blocks d → BringsWhole d
-done_brings commands.TestUnitReady s t blocks d f h e = absurd f
-done_brings (commands.RequestSense descriptor alloc) s t blocks d f h e = absurd f
-done_brings (commands.Inquiry page alloc) s t blocks d f h e = absurd f
-done_brings (commands.ModeSense ten long_lba no_descriptor control page alloc) s t blocks d f h e = absurd f
-done_brings (commands.ModeSelect ten size) s t blocks d f h e = absurd f
-done_brings (commands.StartStop starts no_flush) s t blocks d f h e = absurd f
-done_brings commands.ReadCapacity10 s t blocks d f h e = absurd f
-done_brings (commands.ReadCapacity16 alloc) s t blocks d f h e = absurd f
-done_brings (commands.ReportLuns select alloc) s t blocks d f h e = absurd f
 done_brings (commands.Read form lba count fua) s t blocks d f h e = subst BringsWhole (sym e.1) tt
 done_brings (commands.Write form lba count fua) s t blocks d f h e = subst BringsWhole (sym e.1) (from_whole lba t.body (s.modes.wce && not fua) h)
-done_brings (commands.Verify form lba count compare) s t blocks d f h e = absurd f
 done_brings (commands.Flush form lba count) s t blocks d f h e = subst BringsWhole (sym e.1) tt
-done_brings (commands.WriteSame form lba count unmap) s t blocks d f h e = absurd f
-done_brings (commands.Unmap size) s t blocks d f h e = absurd f
-done_brings (commands.Pass cdb) s t blocks d f h e = absurd f
+done_brings _ s t blocks d f h e = absurd f

@@ -6,12 +6,9 @@ use std::test::*;
 
 /// A command descriptor block with zeros behind it.
 fn padded(front: &[u8]) -> [u8; 16] {
-    let mut cdb = [0u8; 16];
-    for (place, byte) in front.iter().enumerate() {
-        if place < 16 {
-            cdb[place] = *byte;
-        }
-    }
+    let count = front.len().min(16);
+    let mut cdb = [0; 16];
+    cdb[..count].copy_from_slice(&front[..count]);
     cdb
 }
 

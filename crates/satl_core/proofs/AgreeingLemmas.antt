@@ -27,6 +27,7 @@ use Rattle.satl_drive.specs.Rules.{MaySet}
 use Rattle.satl_flight.specs.Flown.{FitsDrive, IsFlown, IsInFlight, RangedFits}
 use Rattle.satl_flight.specs.Settled.{HasEndedAt, IsCut, IsFilled, IsLaunched, IsLostInFlight, IsLostQuietly}
 use Rattle.satl_flight.proofs.FlownLemmas.{FitsOn}
+use Rattle.satl_flight.proofs.ZipLemmas.{All-remove}
 use Rattle.satl_barrier.specs.Leaving.{Stays, TellsOf}
 use Rattle.satl_barrier.proofs.ToldLemmas.{all_bytes, retold}
 use Rattle.satl_direct.specs.Device.{Device}
@@ -72,34 +73,30 @@ own_removed [] (suc place) own = own
 own_removed (t ∷ ts) zero own = own.1
 own_removed (t ∷ ts) (suc place) own = (none_removed _ ts place own.0, own_removed ts place own.1)
 
-come_removed : (identity : Identity) (ts : List Entry) (place : ℕ) → AllByRecursion (HasCome identity) ts → AllByRecursion (HasCome identity) (remove ts place)
-come_removed identity [] zero all = all
-come_removed identity [] (suc place) all = all
-come_removed identity (t ∷ ts) zero all = all.1
-come_removed identity (t ∷ ts) (suc place) all = (all.0, come_removed identity ts place all.1)
-
 fewer_removed : (ts : List Entry) (place : ℕ) → (length (remove ts place) ≤ length ts) × (held_by (remove ts place) ≤ held_by ts)
 fewer_removed [] zero = (omega arith, omega arith)
 fewer_removed [] (suc place) = (omega arith, omega arith)
 fewer_removed (t ∷ ts) zero = (omega arith, omega arith)
 fewer_removed (t ∷ ts) (suc place) = let rest = fewer_removed ts place in (omega (arith, rest.0), omega (arith, rest.1))
 
+-- fewer of the tasks are left
+pub valid_fewer : (ts : List Entry) (s : Device) → (length ts ≤ length s.tasks) × (held_by ts ≤ held_by s.tasks) → AreOwn ts → AllByRecursion (HasCome s.identity) ts → IsValid s → IsValid (record s { tasks = ts })
+valid_fewer ts s fewer own come v = record {
+  identity = v.identity;
+  cells = v.cells;
+  sound = v.sound;
+  few = omega (arith, fewer.0, v.few);
+  blocks = omega (arith, fewer.1, v.blocks);
+  own = own;
+  come = come;
+  modes = v.modes;
+  nexuses = v.nexuses;
+  attentions = v.attentions;
+}
+
 -- the task at a place is gone
 pub valid_removed : (place : ℕ) (s : Device) → IsValid s → IsValid (record s { tasks = remove s.tasks place })
-valid_removed place s v =
-    let less = fewer_removed s.tasks place in
-    record {
-      identity = v.identity;
-      cells = v.cells;
-      sound = v.sound;
-      few = omega (arith, less.0, v.few);
-      blocks = omega (arith, less.1, v.blocks);
-      own = own_removed s.tasks place v.own;
-      come = come_removed s.identity s.tasks place v.come;
-      modes = v.modes;
-      nexuses = v.nexuses;
-      attentions = v.attentions;
-    }
+valid_removed place s v = valid_fewer (remove s.tasks place) s (fewer_removed s.tasks place) (own_removed s.tasks place v.own) (All-remove (HasCome s.identity) s.tasks place v.come) v
 
 -- ---- settings that stay
 

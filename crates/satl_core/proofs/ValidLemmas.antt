@@ -34,7 +34,7 @@ use Rattle.satl_flight.proofs.FlownLemmas.{FitsOn, fits_by, fits_on}
 use Rattle.satl_core.specs.Refilling.{Comes}
 use Rattle.satl_core.specs.Layer.{Agrees, IsUsed, Layer, Tied, view, works}
 use Rattle.satl_base.specs.Limits.{IsExpectable}
-use Rattle.satl_core.proofs.AgreeingLemmas.{agrees_by, capacity_is, idle_in_flight}
+use Rattle.satl_core.proofs.AgreeingLemmas.{agrees_by, capacity_is, idle_in_flight, valid_fewer}
 use Rattle.satl_core.specs.Leaving.{left_by}
 use Rattle.satl_asks.specs.Requests.{is_for_unit}
 use Rattle.satl_core.specs.Submitting.{Becomes, FindsSetFull, IsAdded, attention_of, code_answer, judged, once_judged, overlaps, task_without_pages, untold}
@@ -79,20 +79,7 @@ fewer p (t ∷ ts) =
 
 -- the tasks that pass a test are left
 pub valid_left : (p : Entry → Bool) (s : Device) → IsValid s → IsValid (record s { tasks = filter p s.tasks })
-valid_left p s v =
-    let less = fewer p s.tasks in
-    record {
-      identity = v.identity;
-      cells = v.cells;
-      sound = v.sound;
-      few = omega (arith, less.0, v.few);
-      blocks = omega (arith, less.1, v.blocks);
-      own = own_filtered p s.tasks v.own;
-      come = come_kept s.identity p s.tasks v.come;
-      modes = v.modes;
-      nexuses = v.nexuses;
-      attentions = v.attentions;
-    }
+valid_left p s v = valid_fewer (filter p s.tasks) s (fewer p s.tasks) (own_filtered p s.tasks v.own) (come_kept s.identity p s.tasks v.come) v
 
 -- ---- a condition that is told
 

@@ -1,6 +1,6 @@
 -- Blocks behind the end of a list, and three lists side by side.
-use Rattle.std.proofs.Common.{◌≡◌, refl, sym, ◌∙◌, ap, ℕ, ◌+◌, ◌<◌, ◌≤◌, zero, suc, Bool, true, false, List, [], ◌∷◌, ◌++◌, append_assoc, arith, length, map}
-use Rattle.std.specs.Prelude.{if◌then◌else◌, ◌==◌, ◌%◌, ◌-◌, drop, replicate, slice_index_or, slice_set}
+use Rattle.std.proofs.Common.{◌≡◌, refl, sym, ◌∙◌, ap, ℕ, ◌+◌, ◌<◌, ◌≤◌, zero, suc, List, [], ◌∷◌, ◌++◌, append_assoc, arith, length, map, Option, None}
+use Rattle.std.specs.Prelude.{◌-◌, replicate, slice_index_or, slice_set}
 use Rattle.std.proofs.lemmas.List.{append-nil, get_or_default, get_or_past}
 use Rattle.satl_base.specs.declared.block.Block.{Block}
 use Rattle.satl_base.specs.declared.bench.Which.{Which}
@@ -8,9 +8,8 @@ use Rattle.satl_base.specs.declared.bench.Which.TheVariants.{Read, Write}
 use Rattle.satl_base.specs.Blocks.{zero_block}
 use Rattle.satl_base.specs.Cells.{has_flaw}
 use Rattle.satl_disk.specs.declared.sectors.Flaws.{Flaws}
-use Rattle.satl_disk.specs.declared.twins.Places.{Places}
-use Rattle.satl_disk.specs.Layout.{Twin, block_at, flaw_of, front_blocks, left_twin, sector_of, struck_flaws, twin_of, written_places, written_twin, zipped}
-use Rattle.satl_disk.specs.Sectors.{Sector, after_power_loss, cell_of, rest_by, settled, struck_sector}
+use Rattle.satl_disk.specs.Layout.{block_at, flaw_of, front_blocks, sector_of, struck_flaws, zipped}
+use Rattle.satl_disk.specs.Sectors.{cell_of, settled, struck_sector}
 
 pub filled-length : (n : ℕ) (bs : List Block) → length (front_blocks n bs) ≡ n
 filled-length zero bs = refl
@@ -120,57 +119,16 @@ zipped-set f (a ∷ xs) (b ∷ ys) (c ∷ zs) zero x y z = refl
 zipped-set f (a ∷ xs) (b ∷ ys) (c ∷ zs) (suc place) x y z = ap (λ ds. f a b c ∷ ds) (zipped-set f xs ys zs place x y z)
 
 -- no sector is dirty any more
-pub zipped-settled : (ts : List Twin) (ds : List Bool) (fs : List Flaws) → zipped sector_of ts (map (λ (b : Bool). false) ds) fs ≡ map settled (zipped sector_of ts ds fs)
-zipped-settled [] ds fs = refl
-zipped-settled (t ∷ ts) [] fs = refl
-zipped-settled (t ∷ ts) (d ∷ ds) [] = refl
-zipped-settled (t ∷ ts) (d ∷ ds) (f ∷ fs) = ap (λ ss. settled (sector_of t d f) ∷ ss) (zipped-settled ts ds fs)
+pub zipped-settled : (bs : List Block) (os : List (Option Block)) (fs : List Flaws) → zipped sector_of bs (replicate (length os) None) fs ≡ map settled (zipped sector_of bs os fs)
+zipped-settled [] os fs = refl
+zipped-settled (b ∷ bs) [] fs = refl
+zipped-settled (b ∷ bs) (o ∷ os) [] = refl
+zipped-settled (b ∷ bs) (o ∷ os) (f ∷ fs) = ap (λ ss. settled (sector_of b o f) ∷ ss) (zipped-settled bs os fs)
 
-pub struck_of : (which : Which) (t : Twin) (dirty : Bool) (f : Flaws) → sector_of t dirty (struck_flaws which f) ≡ struck_sector which (sector_of t dirty f)
-struck_of Read t dirty f = refl
-struck_of Write t dirty f = refl
+pub struck_of : (which : Which) (b : Block) (o : Option Block) (f : Flaws) → sector_of b o (struck_flaws which f) ≡ struck_sector which (sector_of b o f)
+struck_of Read b o f = refl
+struck_of Write b o f = refl
 
-pub flawed_of : (which : Which) (t : Twin) (dirty : Bool) (f : Flaws) → flaw_of which f ≡ has_flaw which (cell_of (sector_of t dirty f))
-flawed_of Read t dirty f = refl
-flawed_of Write t dirty f = refl
-
--- a written block in the second place, and in the first
-module _ (a b v : Block) where
-  pub second_of : (cached dirty : Bool) (p : Places) → (written_places cached dirty p).now ≡ true → twin_of a v (written_places cached dirty p) ≡ written_twin cached dirty v (twin_of a b p)
-  second_of cached dirty p = by cached dirty p.now p.stable
-    where
-      by : (cached dirty now stable : Bool) → (written_places cached dirty (record { now = now; stable = stable })).now ≡ true →
-          twin_of a v (written_places cached dirty (record { now = now; stable = stable })) ≡ written_twin cached dirty v (twin_of a b (record { now = now; stable = stable }))
-      by true true now true h = cc
-      by true true now false h = refl
-      by true false true stable h = cc
-      by true false false stable h = refl
-      by false dirty true stable h = refl
-      by false dirty false stable h = cc
-
-  pub first_of : (cached dirty : Bool) (p : Places) → (written_places cached dirty p).now ≡ false → twin_of v b (written_places cached dirty p) ≡ written_twin cached dirty v (twin_of a b p)
-  first_of cached dirty p = by cached dirty p.now p.stable
-    where
-      by : (cached dirty now stable : Bool) → (written_places cached dirty (record { now = now; stable = stable })).now ≡ false →
-          twin_of v b (written_places cached dirty (record { now = now; stable = stable })) ≡ written_twin cached dirty v (twin_of a b (record { now = now; stable = stable }))
-      by true true now true h = refl
-      by true true now false h = cc
-      by true false true stable h = refl
-      by true false false stable h = cc
-      by false dirty true stable h = cc
-      by false dirty false stable h = refl
-
--- a loss of power at a dirty sector, and at a clean one
-pub left_dirty : (byte : ℕ) (t : Twin) (dirty : Bool) (f : Flaws) → dirty ≡ true → sector_of (left_twin byte t) false f ≡ after_power_loss byte (sector_of t dirty f)
-left_dirty byte t dirty f is =
-    let s = sector_of t dirty f in
-    sym (ap (λ b. if b then record s { now = (if byte % 2 == 0 then t.stable else t.now); dirty = false } else s) is)
-
-pub left_clean : (byte : ℕ) (s : Sector) → s.dirty ≡ false → after_power_loss byte s ≡ s
-left_clean byte s is = ap (λ b. if b then record s { now = (if byte % 2 == 0 then s.stable else s.now); dirty = false } else s) is
-
-pub rest_dirty : (s : Sector) (bytes : List ℕ) → s.dirty ≡ true → drop 1 bytes ≡ rest_by s bytes
-rest_dirty s bytes is = sym (ap (λ b. if b then drop 1 bytes else bytes) is)
-
-pub rest_clean : (s : Sector) (bytes : List ℕ) → s.dirty ≡ false → bytes ≡ rest_by s bytes
-rest_clean s bytes is = sym (ap (λ b. if b then drop 1 bytes else bytes) is)
+pub flawed_of : (which : Which) (b : Block) (o : Option Block) (f : Flaws) → flaw_of which f ≡ has_flaw which (cell_of (sector_of b o f))
+flawed_of Read b o f = refl
+flawed_of Write b o f = refl

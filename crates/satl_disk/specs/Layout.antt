@@ -1,11 +1,11 @@
--- How the modelled drive keeps its sectors: the places of their two blocks, which of them are dirty, and their flaws (profile).
-use Rattle.std.specs.Prelude.{◌==◌, ℕ, zero, suc, ◌%◌, Bool, true, false, not, if◌then◌else◌, List, [], ◌∷◌, slice_index_or}
+-- How the modelled drive keeps its sectors: their blocks, the stable blocks of the dirty ones, in slots, and their flaws
+-- (profile).
+use Rattle.std.specs.Prelude.{◌≡◌, ℕ, zero, suc, ◌^◌, ◌<◌, Bool, true, false, if◌then◌else◌, List, [], ◌∷◌, Option, Some, None, option_map, unwrap_or, length, slice_index_or}
 use Rattle.satl_base.specs.declared.block.Block.{Block}
 use Rattle.satl_base.specs.declared.bench.Which.{Which}
 use Rattle.satl_base.specs.declared.bench.Which.TheVariants.{Read, Write}
 use Rattle.satl_base.specs.Blocks.{zero_block}
 use Rattle.satl_disk.specs.declared.sectors.Flaws.{Flaws}
-use Rattle.satl_disk.specs.declared.twins.Places.{Places}
 use Rattle.satl_disk.specs.Sectors.{Sector}
 use Rattle.satl_disk.specs.Disk.{blank_sector}
 
@@ -26,42 +26,51 @@ zipped f (x ∷ xs) [] zs = []
 zipped f (x ∷ xs) (y ∷ ys) [] = []
 zipped f (x ∷ xs) (y ∷ ys) (z ∷ zs) = f x y z ∷ zipped f xs ys zs
 
--- the two blocks of a sector: the one that a read gives, and the one that a loss of power may leave where it is dirty
-pub record Twin : Type 0 where
-  pub now : Block
-  pub stable : Block
+-- two lists of one length that are read side by side
+abbrev pub paired : {A B C : Type 0} → (A → B → C) → List A → List B → List C
+paired f [] ys = []
+paired f (x ∷ xs) [] = []
+paired f (x ∷ xs) (y ∷ ys) = f x y ∷ paired f xs ys
 
--- the two blocks by what stands in the first place and in the second
-abbrev pub twin_of : Block → Block → Places → Twin
-twin_of a b p = record { now = (if p.now then b else a); stable = (if p.stable then b else a) }
+-- the slot of the sector at a place, none behind the end
+abbrev pub slot_at : List (Option ℕ) → ℕ → Option ℕ
+slot_at slots place = slice_index_or slots place None
 
--- the two blocks of a new drive's sector
-abbrev pub blank_twin : Twin
-blank_twin = record { now = zero_block; stable = zero_block }
+-- how many sectors have a slot
+abbrev pub taken : List (Option ℕ) → ℕ
+taken [] = 0
+taken (None ∷ slots) = taken slots
+taken (Some k ∷ slots) = suc (taken slots)
 
--- the two blocks at a place, zeros behind the end
-abbrev pub twin_at : List Twin → ℕ → Twin
-twin_at ts place = slice_index_or ts place blank_twin
+-- the slots of fewer than 2^32 sectors, taken in order from 0: no two sectors have one slot
+pub record AreSlots (used : ℕ) (slots : List (Option ℕ)) : Type 0 where
+  pub few : length slots < 2 ^ 32
+  pub count : taken slots ≡ used
+  pub below : (place k : ℕ) → slot_at slots place ≡ Some k → k < used
+  pub apart : (place other k : ℕ) → slot_at slots place ≡ Some k → slot_at slots other ≡ Some k → other ≡ place
 
--- where the blocks of a sector stand once it was written, through the cache or past it, where it was dirty or not: the block
--- that a loss of power may leave is not written over
-abbrev pub written_places : Bool → Bool → Places → Places
-written_places true true p = record { now = not p.stable; stable = p.stable }
-written_places true false p = record { now = not p.now; stable = p.now }
-written_places false dirty p = record { now = p.now; stable = p.now }
+-- a dirty sector has a slot
+abbrev pub HasSlot : Bool → Option ℕ → Type 0
+HasSlot true None = ⊥
+HasSlot true (Some k) = Unit {0}
+HasSlot false slot = Unit {0}
 
--- the two blocks of a sector that was written
-abbrev pub written_twin : Bool → Bool → Block → Twin → Twin
-written_twin cached dirty v t = record { now = v; stable = (if cached then (if dirty then t.stable else t.now) else v) }
+-- the stable block of a sector by the blocks that are kept, whether it is dirty, and its slot
+abbrev pub stable_of : List Block → Bool → Option ℕ → Option Block
+stable_of kept false slot = None
+stable_of kept true slot = option_map (block_at kept) slot
 
--- the two blocks of a dirty sector after a loss of power
-abbrev pub left_twin : ℕ → Twin → Twin
-left_twin byte t = record t { now = (if byte % 2 == 0 then t.stable else t.now) }
+-- the stable block of the sector at a place, none behind the end
+abbrev pub stable_at : List (Option Block) → ℕ → Option Block
+stable_at stables place = slice_index_or stables place None
 
--- a sector by its two blocks, whether it is dirty, and its flaws
-abbrev pub sector_of : Twin → Bool → Flaws → Sector
-sector_of t dirty f =
-    record { now = t.now; stable = t.stable; dirty = dirty; read_flaw = f.read; write_flaw = f.write }
+-- the stable block of a sector that was written over an old block, through the cache or past it
+abbrev pub written_stable : Bool → Block → Option Block → Option Block
+written_stable cached old stable = if cached then Some (unwrap_or stable old) else None
+
+-- a sector by its block, its stable block and its flaws
+abbrev pub sector_of : Block → Option Block → Flaws → Sector
+sector_of b stable f = record { now = b; stable = stable; read_flaw = f.read; write_flaw = f.write }
 
 -- the sector at a place, a blank one behind the end
 abbrev pub sector_at : List Sector → ℕ → Sector

@@ -3,7 +3,7 @@ ghost use Rattle.std.specs.Prelude.{◌≡◌, ◌≤◌, ◌<◌, ◌-◌, ◌+
 ghost use Rattle.satl_base.specs.Blocks.{zero_block};
 ghost use Rattle.satl_disk.specs.Layout.{block_at};
 
-use satl_base::{Block, NoMemory, Page};
+use satl_base::{Block, NoMemory};
 use std::alloc::Global;
 use std::marker::Model;
 
@@ -14,10 +14,13 @@ pub struct Blocks {
     // Made with room for all blocks, so that it never grows. Blocks behind its end are zeros.
     kept: Vec<Block>,
     number: usize,
+    // What a block reads as until it is set.
+    zeros: Block,
 }
 
 impl Model for Blocks {
-    ghost use Rattle.std.specs.Prelude.{List, ◌≤◌, vec_capacity};
+    ghost use Rattle.std.specs.Prelude.{List, ◌≡◌, ◌≤◌, vec_capacity};
+    ghost use Rattle.satl_base.specs.Blocks.{zero_block};
     ghost use Rattle.satl_base.specs.declared.block.Block.{Block};
     ghost use Rattle.satl_disk.specs.Layout.{front_blocks};
 
@@ -25,7 +28,7 @@ impl Model for Blocks {
 
     ghost view = { λ b. front_blocks b.number b.kept.items };
 
-    ghost invariant = { λ b. b.number ≤ vec_capacity b.kept };
+    ghost invariant = { λ b. (b.number ≤ vec_capacity b.kept) × (b.zeros ≡ zero_block) };
 }
 
 impl Blocks {
@@ -36,18 +39,19 @@ impl Blocks {
         Ok(Blocks {
             kept: Vec::with_capacity(alloc, number)?,
             number,
+            zeros: Block::zero(),
         })
     }
 
-    /// Writes the block at a place into a page.
-    pub fn load(&self, place: usize, page: &mut Page)
+    /// The block at a place.
+    pub fn at(&self, place: usize) -> &Block
         requires { place < length self.now }
-        ensures { page.new ≡ block_at self.now place }
+        ensures { result.now ≡ block_at self.now place }
     {
         if place < self.kept.len() {
-            page.set(&self.kept[place]);
+            &self.kept[place]
         } else {
-            clear_page(page);
+            &self.zeros
         }
     }
 
@@ -62,13 +66,6 @@ impl Blocks {
             push_at(&mut self.kept, place, block);
         }
     }
-}
-
-/// Writes zeros into a page. Apart from `load`, which would clear a block of its own at each call.
-fn clear_page(page: &mut Page)
-    ensures { page.new ≡ zero_block }
-{
-    page.set(&Block::zero());
 }
 
 /// Pushes a block at a place behind the end, which has the room, and zeros up to there. Apart from `set`, which is short

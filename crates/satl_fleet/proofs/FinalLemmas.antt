@@ -1,52 +1,40 @@
 -- Serving, from before the units were opened to its end.
-use Rattle.std.proofs.Common.{◌≡◌, ◌⊎◌, inl, inr, refl, sym, subst, arith, ℕ, ◌+◌, ◌≤◌, List, [], ◌∷◌, ◌++◌, length}
-use Rattle.std.specs.Prelude.{Result, Ok, Err, IfErr}
-use Rattle.std.specs.Result.{IsErrAnd}
-use Rattle.std.specs.List.{AllByRecursion, AllZip}
+use Rattle.std.proofs.Common.{◌≡◌, ◌⊎◌, inl, inr, refl, subst, arith, ℕ, ◌+◌, ◌≤◌, List, [], ◌∷◌, ◌++◌, length}
+use Rattle.std.specs.List.{AllByRecursion}
 use Rattle.satl_frame.specs.declared.frames.FrameFault.{FrameFault}
 use Rattle.satl_frame.specs.declared.frames.FrameFault.TheVariants.{Bad, ReadFault}
 use Rattle.satl_drive.specs.State.{DriveState}
 use Rattle.satl_core.specs.Layer.{Layer}
 use Rattle.satl_fleet.specs.Headline.{BrokeInFault, BrokeInMagic, BrokeInRound, IsFleetBefore, IsFleetInPart, IsFleetNotServed, IsFleetStopped, IsFleetWhole}
 use Rattle.satl_fleet.specs.Moments.{FleetMoment}
-use Rattle.satl_fleet.specs.Opening.{IsLeftAlone, OpensTo, StopsOpening}
+use Rattle.satl_fleet.specs.Opening.{IsCauseOfOne, OpensTo}
 use Rattle.satl_fleet.specs.Output.{Round}
 use Rattle.satl_fleet.specs.Runs.{AreServed, AreServedInPart, HaveRun, HaveRunInPart}
 use Rattle.satl_fleet.specs.Stopping.{HasFleetCause, HasStreamCause, RanBefore, RanInPart, RanTo, RanWhole, Spot, StoppedInAnswers, StoppedInFault, StoppedInMagic}
 use Rattle.satl_fleet.specs.Units.{IsTiedUnit, unit_states}
-use Rattle.satl_fleet.specs.declared.fault.FleetFault.{FleetFault}
-use Rattle.satl_fleet.specs.declared.fault.FleetFault.TheVariants as faults
+use Rattle.satl_core.specs.declared.satl.OpenFault.TheVariants.{NoMemory}
+use Rattle.satl_serve.specs.declared.serving.ServeFault.{ServeFault}
+use Rattle.satl_serve.specs.declared.serving.ServeFault.TheVariants as faults
 use Rattle.satl_fleet.proofs.OpeningLemmas.{all_same}
 use Rattle.satl_fleet.proofs.ServingLemmas.{are_served, are_served_part}
 
-pub on_error : {X : Type 0} (r : Result X FleetFault) (P Q : FleetFault → Type 0) → IsErrAnd r P → ((e : FleetFault) → P e → Q e) → IfErr r Q
-on_error (Ok x) P Q is f = tt
-on_error (Err e) P Q is f = f e is
+-- ---- no unit was opened
 
--- ---- no unit was opened, or not all
+-- there was not the memory to begin
+pub no_memory : (a : FleetMoment) → IsFleetNotServed a a
+no_memory a = record { read = refl; wrote = refl; alone = all_same a.drives; few_calls = omega arith }
 
-module _ (limit : ℕ) (before after : FleetMoment) (read : after.source.left ≡ before.source.left) (wrote : after.sink.written ≡ before.sink.written) (alone : AllZip IsLeftAlone before.drives after.drives) (few : after.calls ≤ before.calls + length before.drives) where
-  not_served : IsFleetNotServed before after
-  not_served = record { read = read; wrote = wrote; alone = alone; few_calls = few }
-
-  pub not_opened : (fault : FleetFault) → StopsOpening before.drives after.drives fault → IsFleetStopped limit before after fault
-  not_opened (faults.Open fault) stops = not_served
-  not_opened (faults.BadInput reason offset) stops = absurd stops
-  not_opened faults.Read stops = absurd stops
-  not_opened faults.Write stops = absurd stops
-  not_opened faults.NoMemory stops = not_served
-
-pub no_memory : (limit : ℕ) (a : FleetMoment) (fault : FleetFault) → fault ≡ faults.NoMemory → IsFleetStopped limit a a fault
-no_memory limit a fault is = subst (IsFleetStopped limit a a) (sym is) (record { read = refl; wrote = refl; alone = all_same a.drives; few_calls = omega arith })
+pub lacks_memory : (ds : List DriveState) → 1 ≤ length ds → IsCauseOfOne NoMemory ds ds
+lacks_memory [] some = absurd (omega (arith, some))
+lacks_memory (d ∷ ds) some = inl tt
 
 -- ---- all units were opened
 
-pub stream_cause : (before after : FleetMoment) (fault : FleetFault) → HasStreamCause before.source after.source before.sink after.sink fault → HasFleetCause before after fault
+pub stream_cause : (before after : FleetMoment) (fault : ServeFault) → HasStreamCause before.source after.source before.sink after.sink fault → HasFleetCause before after fault
 stream_cause before after (faults.Open fault) cause = absurd cause
 stream_cause before after (faults.BadInput reason offset) cause = tt
 stream_cause before after faults.Read cause = cause
 stream_cause before after faults.Write cause = cause
-stream_cause before after faults.NoMemory cause = absurd cause
 
 module _ (limit units : ℕ) (before after : FleetMoment) (mids : List DriveState) (opened : ℕ) (ls ls' : List Layer) (mid_drives last_units last_drives : ℕ) (o : OpensTo before.drives ls mids) (few : opened ≤ before.calls + length before.drives) (each : length ls ≡ length before.drives) (long : length ls' ≡ length after.drives) (is : units ≡ length before.drives) (tied : AllByRecursion IsTiedUnit (unit_states ls' after.drives)) where
   abbrev a : Spot
@@ -59,29 +47,22 @@ module _ (limit units : ℕ) (before after : FleetMoment) (mids : List DriveStat
   served rounds run = are_served (length before.drives) 0 rounds ls' after.drives o each long run tied
 
   whole : RanWhole limit (length before.drives) a b → IsFleetWhole limit before after
-  whole r = record { rounds = r.rounds; earlier = r.earlier; place = r.at; ends = r.ends; read = r.read; wrote = r.wrote; served = served r.rounds r.run; calls = omega (arith, few, r.calls) }
+  whole r = record { rounds = r.rounds; told = r.told; served = served r.rounds r.run; calls = omega (arith, few, r.calls) }
 
   pub fleet_whole : RanWhole limit units a b → IsFleetWhole limit before after
   fleet_whole r = whole (subst (λ n. RanWhole limit n a b) is r)
 
   early : (why : FrameFault) → RanBefore limit (length before.drives) why a b → IsFleetBefore limit why before after
-  early why r = record { rounds = r.rounds; read = r.read; wrote = r.wrote; served = served r.rounds r.run; calls = omega (arith, few, r.calls) }
+  early why r = record { rounds = r.rounds; told = r.told; served = served r.rounds r.run; calls = omega (arith, few, r.calls) }
 
   in_magic : StoppedInMagic (length before.drives) a b → BrokeInMagic before after
-  in_magic r = record { read = r.read; part = r.part; served = served [] r.run; calls = omega (arith, few, r.calls) }
+  in_magic r = record { breaks = r.breaks; served = served [] r.run; calls = omega (arith, few, r.calls) }
 
   in_round : StoppedInAnswers limit (length before.drives) a b → BrokeInRound limit before after
   in_round r = record {
     rounds = r.rounds;
     round = r.round;
-    reader = r.reader;
-    behind = r.behind;
-    limit_is = r.limit_is;
-    newest_is = r.newest_is;
-    none_ends = r.none_ends;
-    read = r.read;
-    wrote = r.wrote;
-    part = r.part;
+    breaks = r.breaks;
     served = by_run r.run;
     calls = omega (arith, few, r.calls);
   }
@@ -92,19 +73,18 @@ module _ (limit units : ℕ) (before after : FleetMoment) (mids : List DriveStat
       by_run (inr run) = inr (are_served_part (length before.drives) 0 r.rounds r.round ls' after.drives o each long run tied)
 
   in_fault : StoppedInFault limit (length before.drives) a b → BrokeInFault limit before after
-  in_fault r = record { rounds = r.rounds; reason = r.reason; offset = r.offset; behind = r.behind; read = r.read; wrote = r.wrote; part = r.part; served = served r.rounds r.run; calls = omega (arith, few, r.calls) }
+  in_fault r = record { rounds = r.rounds; breaks = r.breaks; served = served r.rounds r.run; calls = omega (arith, few, r.calls) }
 
   in_part : RanInPart limit (length before.drives) a b → IsFleetInPart limit before after
   in_part (inl r) = inl (in_magic r)
   in_part (inr (inl r)) = inr (inl (in_round r))
   in_part (inr (inr r)) = inr (inr (in_fault r))
 
-  stops : (fault : FleetFault) → RanTo limit (length before.drives) a b fault → IsFleetStopped limit before after fault
+  stops : (fault : ServeFault) → RanTo limit (length before.drives) a b fault → IsFleetStopped limit before after fault
   stops (faults.Open fault) r = absurd r
   stops (faults.BadInput reason offset) r = early (Bad reason offset) r
   stops faults.Read r = early ReadFault r
   stops faults.Write r = in_part r
-  stops faults.NoMemory r = absurd r
 
-  pub fleet_stops : (fault : FleetFault) → RanTo limit units a b fault → IsFleetStopped limit before after fault
+  pub fleet_stops : (fault : ServeFault) → RanTo limit units a b fault → IsFleetStopped limit before after fault
   fleet_stops fault r = stops fault (subst (λ n. RanTo limit n a b fault) is r)

@@ -1,5 +1,5 @@
 -- The list of LUNs.
-use Rattle.std.proofs.Common.{◌≡◌, append_assoc, sym, ap, subst, false, ◌∙◌, arith, ℕ, zero, suc, ◌+◌, ◌*◌, List, [], ◌∷◌, ◌++◌}
+use Rattle.std.proofs.Common.{◌≡◌, append_assoc, sym, ap, subst, false, ◌∙◌, arith, ℕ, zero, suc, ◌+◌, List, [], ◌∷◌, ◌++◌}
 use Rattle.std.proofs.lemmas.List.{append-nil}
 use Rattle.std.specs.Prelude.{Option}
 use Rattle.satl_base.specs.declared.reply.Reply.{Reply}

@@ -18,8 +18,8 @@ use Rattle.satl_fleet.specs.Opening.{IsLeftAlone}
 use Rattle.satl_fleet.specs.Output.{Round, frames_of, output, round_told}
 use Rattle.satl_fleet.specs.Rounds.{calls_for}
 use Rattle.satl_fleet.specs.Runs.{AreServed, AreServedInPart}
-use Rattle.satl_fleet.specs.declared.fault.FleetFault.{FleetFault}
-use Rattle.satl_fleet.specs.declared.fault.FleetFault.TheVariants as faults
+use Rattle.satl_serve.specs.declared.serving.ServeFault.{ServeFault}
+use Rattle.satl_serve.specs.declared.serving.ServeFault.TheVariants as faults
 
 -- the drives were called once each for their identity, and then as often at most as these frames allow (profile)
 abbrev pub HasFewCalls : List Frame → FleetMoment → FleetMoment → Type 0
@@ -40,61 +40,91 @@ pub record ReadBefore (limit : ℕ) (left left' : Option (List ℕ)) (fs : List 
   pub read : HasRead reader left mid fs
   pub blames : Blames reader mid left' why
 
--- frames of version 1 up to END were read and no byte behind them; the output of rounds over exactly these was written; and
--- each unit was served in these rounds (profile)
-pub record IsFleetWhole (limit : ℕ) (before after : FleetMoment) : Type 0 where
-  pub rounds : List Round
+-- ---- what was read and written: of the source what was left, and of the sink what was written, before and after
+
+-- frames of version 1 up to END were read and no byte behind them, and the output of rounds over exactly these was written
+-- (profile)
+pub record IsToldWhole (limit units : ℕ) (left left' written written' : Option (List ℕ)) (rounds : List Round) : Type 0 where
   pub earlier : List Frame
   pub place : Place
   pub ends : frames_of rounds ≡ earlier ++ frames.End ∷ []
-  pub read : ReadTo limit One place before.source.left after.source.left (frames_of rounds)
-  pub wrote : Wrote before.sink.written after.sink.written (output (length before.drives) rounds)
-  pub served : AreServed (length before.drives) 0 rounds before.drives after.drives
-  pub calls : HasFewCalls (frames_of rounds) before after
+  pub read : ReadTo limit One place left left' (frames_of rounds)
+  pub wrote : Wrote written written' (output units rounds)
 
 -- the same of frames none of which is END, and what follows was refused or not read, which was told (profile)
-pub record IsFleetBefore (limit : ℕ) (why : FrameFault) (before after : FleetMoment) : Type 0 where
-  pub rounds : List Round
-  pub read : ReadBefore limit before.source.left after.source.left (frames_of rounds) why
-  pub wrote : Wrote before.sink.written after.sink.written (output (length before.drives) rounds ++ told_of why)
-  pub served : AreServed (length before.drives) 0 rounds before.drives after.drives
-  pub calls : HasFewCalls (frames_of rounds) before after
+pub record IsToldBefore (limit units : ℕ) (why : FrameFault) (left left' written written' : Option (List ℕ))
+    (rounds : List Round) : Type 0 where
+  pub read : ReadBefore limit left left' (frames_of rounds) why
+  pub wrote : Wrote written written' (output units rounds ++ told_of why)
 
 -- nothing was read, and a front of the magic was written (profile)
-pub record BrokeInMagic (before after : FleetMoment) : Type 0 where
-  pub read : after.source.left ≡ before.source.left
-  pub part : WrotePart before.sink.written after.sink.written out_magic
-  pub served : AreServed (length before.drives) 0 [] before.drives after.drives
-  pub calls : HasFewCalls [] before after
+pub record BreaksInMagic (left left' written written' : Option (List ℕ)) : Type 0 where
+  pub read : left' ≡ left
+  pub part : WrotePart written written' out_magic
 
--- rounds were served, none of which is END, and their output was written whole; then one frame more was read, and of what is
--- due to it a front was written: units from the first on did it, one of them perhaps in part, and those behind that one leave
--- it out (profile)
-pub record BrokeInRound (limit : ℕ) (before after : FleetMoment) : Type 0 where
-  pub rounds : List Round
-  pub round : Round
+-- the output of rounds was written whole, none of which is END; then one frame more was read, and of what is due to it a front
+-- was written (profile)
+pub record BreaksInRound (limit units : ℕ) (left left' written written' : Option (List ℕ)) (rounds : List Round)
+    (round : Round) : Type 0 where
   pub reader : Reading
   pub behind : Option (List ℕ)
   pub limit_is : reader.limit ≡ limit
   pub newest_is : reader.newest ≡ One
   pub none_ends : NoneEnds (frames_of rounds)
-  pub read : HasRead reader before.source.left after.source.left (frames_of rounds ++ round.frame ∷ [])
-  pub wrote : Wrote before.sink.written behind (output (length before.drives) rounds)
-  pub part : WrotePart behind after.sink.written (round_told (length before.drives) round)
+  pub read : HasRead reader left left' (frames_of rounds ++ round.frame ∷ [])
+  pub wrote : Wrote written behind (output units rounds)
+  pub part : WrotePart behind written' (round_told units round)
+
+-- the output of rounds was written whole, none of which is END; and what follows was refused, of which a front was told
+-- (profile)
+pub record BreaksInFault (limit units : ℕ) (left left' written written' : Option (List ℕ)) (rounds : List Round) : Type 0 where
+  pub reason : Reason
+  pub offset : ℕ
+  pub behind : Option (List ℕ)
+  pub read : ReadBefore limit left left' (frames_of rounds) (Bad reason offset)
+  pub wrote : Wrote written behind (output units rounds)
+  pub part : WrotePart behind written' (fault_bytes reason offset)
+
+-- ---- and what the units did
+
+-- an input was read up to END and told whole, and each unit was served in its rounds (profile)
+pub record IsFleetWhole (limit : ℕ) (before after : FleetMoment) : Type 0 where
+  pub rounds : List Round
+  pub told : IsToldWhole limit (length before.drives) before.source.left after.source.left before.sink.written
+      after.sink.written rounds
+  pub served : AreServed (length before.drives) 0 rounds before.drives after.drives
+  pub calls : HasFewCalls (frames_of rounds) before after
+
+-- the same up to what was refused or not read (profile)
+pub record IsFleetBefore (limit : ℕ) (why : FrameFault) (before after : FleetMoment) : Type 0 where
+  pub rounds : List Round
+  pub told : IsToldBefore limit (length before.drives) why before.source.left after.source.left before.sink.written
+      after.sink.written rounds
+  pub served : AreServed (length before.drives) 0 rounds before.drives after.drives
+  pub calls : HasFewCalls (frames_of rounds) before after
+
+-- a write failed in the magic, and nothing was served (profile)
+pub record BrokeInMagic (before after : FleetMoment) : Type 0 where
+  pub breaks : BreaksInMagic before.source.left after.source.left before.sink.written after.sink.written
+  pub served : AreServed (length before.drives) 0 [] before.drives after.drives
+  pub calls : HasFewCalls [] before after
+
+-- rounds were served, and a write failed in what is due to one more: units from the first on did it, one of them perhaps in
+-- part, and those behind that one leave it out (profile)
+pub record BrokeInRound (limit : ℕ) (before after : FleetMoment) : Type 0 where
+  pub rounds : List Round
+  pub round : Round
+  pub breaks : BreaksInRound limit (length before.drives) before.source.left after.source.left before.sink.written
+      after.sink.written rounds round
   pub served : AreServed (length before.drives) 0 (rounds ++ round ∷ []) before.drives after.drives
       ⊎ AreServedInPart (length before.drives) rounds round 0 before.drives after.drives
   pub calls : HasFewCalls (frames_of rounds ++ round.frame ∷ []) before after
 
--- rounds were served, none of which is END; their output was written whole; and what follows was refused, of which a front was
--- told (profile)
+-- rounds were served, and a write failed in what tells that what follows is refused (profile)
 pub record BrokeInFault (limit : ℕ) (before after : FleetMoment) : Type 0 where
   pub rounds : List Round
-  pub reason : Reason
-  pub offset : ℕ
-  pub behind : Option (List ℕ)
-  pub read : ReadBefore limit before.source.left after.source.left (frames_of rounds) (Bad reason offset)
-  pub wrote : Wrote before.sink.written behind (output (length before.drives) rounds)
-  pub part : WrotePart behind after.sink.written (fault_bytes reason offset)
+  pub breaks : BreaksInFault limit (length before.drives) before.source.left after.source.left before.sink.written
+      after.sink.written rounds
   pub served : AreServed (length before.drives) 0 rounds before.drives after.drives
   pub calls : HasFewCalls (frames_of rounds) before after
 
@@ -111,9 +141,8 @@ pub record IsFleetNotServed (before after : FleetMoment) : Type 0 where
   pub few_calls : after.calls ≤ before.calls + length before.drives
 
 -- by the fault (profile)
-abbrev pub IsFleetStopped : ℕ → FleetMoment → FleetMoment → FleetFault → Type 0
+abbrev pub IsFleetStopped : ℕ → FleetMoment → FleetMoment → ServeFault → Type 0
 IsFleetStopped limit before after (faults.Open fault) = IsFleetNotServed before after
 IsFleetStopped limit before after (faults.BadInput reason offset) = IsFleetBefore limit (Bad reason offset) before after
 IsFleetStopped limit before after faults.Read = IsFleetBefore limit ReadFault before after
 IsFleetStopped limit before after faults.Write = IsFleetInPart limit before after
-IsFleetStopped limit before after faults.NoMemory = IsFleetNotServed before after

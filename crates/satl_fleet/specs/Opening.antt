@@ -5,8 +5,6 @@ use Rattle.satl_core.specs.Layer.{Layer}
 use Rattle.satl_core.specs.Opening.{IsCause, IsOpened, IsUndisturbed}
 use Rattle.satl_core.specs.Tie.{TiesQueue}
 use Rattle.satl_core.specs.declared.satl.OpenFault.{OpenFault}
-use Rattle.satl_fleet.specs.declared.fault.FleetFault.{FleetFault}
-use Rattle.satl_fleet.specs.declared.fault.FleetFault.TheVariants as fleet
 
 -- a drive has nothing outstanding and is in no error state, and its IDENTIFY DEVICE data fit it (profile)
 pub record IsServable (d : DriveState) : Type 0 where
@@ -33,16 +31,8 @@ pub data OpensTo : List DriveState → List Layer → List DriveState → Type 0
   more : {old new : DriveState} {l : Layer} {olds news : List DriveState} {ls : List Layer}
       → Opens old l new → OpensTo olds ls news → OpensTo (old ∷ olds) (l ∷ ls) (new ∷ news)
 
--- some drive is refused for this cause (profile)
+-- one of the drives is not opened for this cause (profile)
 abbrev pub IsCauseOfOne : OpenFault → List DriveState → List DriveState → Type 0
 IsCauseOfOne fault [] news = ⊥
 IsCauseOfOne fault (old ∷ olds) [] = ⊥
 IsCauseOfOne fault (old ∷ olds) (new ∷ news) = IsCause old new fault ⊎ IsCauseOfOne fault olds news
-
--- why the units are not all opened: one drive is refused for its own cause, or memory ran out (profile)
-abbrev pub StopsOpening : List DriveState → List DriveState → FleetFault → Type 0
-StopsOpening olds news (fleet.Open fault) = IsCauseOfOne fault olds news
-StopsOpening olds news (fleet.BadInput reason offset) = ⊥
-StopsOpening olds news fleet.Read = ⊥
-StopsOpening olds news fleet.Write = ⊥
-StopsOpening olds news fleet.NoMemory = Unit {0}

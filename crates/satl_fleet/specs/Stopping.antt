@@ -6,33 +6,26 @@ use Rattle.satl_frame.specs.declared.frames.FrameFault.{FrameFault}
 use Rattle.satl_frame.specs.declared.frames.FrameFault.TheVariants.{Bad, ReadFault}
 use Rattle.satl_frame.specs.declared.frames.Reason.{Reason}
 use Rattle.satl_frame.specs.declared.frames.Frame.{Frame}
-use Rattle.satl_frame.specs.declared.frames.Frame.TheVariants as frames
-use Rattle.satl_frame.specs.declared.frames.Place.{Place as FramePlace}
-use Rattle.satl_frame.specs.declared.frames.Version.TheVariants.{One}
-use Rattle.satl_frame.specs.Inputs.{NoneEnds}
-use Rattle.satl_frame.specs.Output.{fault_bytes, out_magic}
-use Rattle.satl_frame.specs.Progress.{HasRead, ReadTo}
-use Rattle.satl_frame.specs.Reading.{Reading}
+use Rattle.satl_frame.specs.Output.{fault_bytes}
 use Rattle.satl_step.specs.declared.frames_loop.Stop.{Stop}
 use Rattle.satl_step.specs.declared.frames_loop.Stop.TheVariants as stops
 use Rattle.satl_serve.specs.Moments.{SinkState, SourceState}
-use Rattle.satl_fleet.specs.Headline.{ReadBefore, told_of}
+use Rattle.satl_fleet.specs.Headline.{BreaksInFault, BreaksInMagic, BreaksInRound, IsToldBefore, IsToldWhole}
 use Rattle.satl_fleet.specs.Moments.{FleetMoment}
 use Rattle.satl_fleet.specs.Opening.{IsCauseOfOne}
-use Rattle.satl_fleet.specs.Output.{Round, frames_of, output, round_told}
+use Rattle.satl_fleet.specs.Output.{Round, frames_of}
 use Rattle.satl_fleet.specs.Rounds.{Stage, calls_for}
 use Rattle.satl_fleet.specs.Runs.{HaveRun, HaveRunInPart}
-use Rattle.satl_fleet.specs.declared.fault.FleetFault.{FleetFault}
-use Rattle.satl_fleet.specs.declared.fault.FleetFault.TheVariants as faults
+use Rattle.satl_serve.specs.declared.serving.ServeFault.{ServeFault}
+use Rattle.satl_serve.specs.declared.serving.ServeFault.TheVariants as faults
 
 -- a read fault comes only where the source's count rose, a write fault only where the sink's did, and a drive is refused only
 -- for its own cause (profile)
-abbrev pub HasFleetCause : FleetMoment → FleetMoment → FleetFault → Type 0
+abbrev pub HasFleetCause : FleetMoment → FleetMoment → ServeFault → Type 0
 HasFleetCause before after (faults.Open fault) = IsCauseOfOne fault before.drives after.drives
 HasFleetCause before after (faults.BadInput reason offset) = Unit {0}
 HasFleetCause before after faults.Read = Rose before.source.faults after.source.faults
 HasFleetCause before after faults.Write = Rose before.sink.faults after.sink.faults
-HasFleetCause before after faults.NoMemory = Unit {0}
 
 -- ---- on units that were opened
 
@@ -49,29 +42,23 @@ spot left stage calls = record { left = left; stage = stage; calls = calls }
 abbrev pub HasFewCallsOn : ℕ → List Frame → Spot → Spot → Type 0
 HasFewCallsOn units fs before after = after.calls ≤ before.calls + calls_for units fs
 
--- frames up to END were read and no byte behind them, and served (profile)
+-- an input was read up to END and told whole, and its frames were carried out (profile)
 pub record RanWhole (limit units : ℕ) (before after : Spot) : Type 0 where
   pub rounds : List Round
-  pub earlier : List Frame
-  pub at : FramePlace
-  pub ends : frames_of rounds ≡ earlier ++ frames.End ∷ []
-  pub read : ReadTo limit One at before.left after.left (frames_of rounds)
-  pub wrote : Wrote before.stage.written after.stage.written (output units rounds)
+  pub told : IsToldWhole limit units before.left after.left before.stage.written after.stage.written rounds
   pub run : HaveRun units 0 rounds before.stage.target.units after.stage.target.units
   pub calls : HasFewCallsOn units (frames_of rounds) before after
 
--- frames none of which is END were read and served, and what follows was refused or not read, which was told (profile)
+-- the same up to what was refused or not read (profile)
 pub record RanBefore (limit units : ℕ) (why : FrameFault) (before after : Spot) : Type 0 where
   pub rounds : List Round
-  pub read : ReadBefore limit before.left after.left (frames_of rounds) why
-  pub wrote : Wrote before.stage.written after.stage.written (output units rounds ++ told_of why)
+  pub told : IsToldBefore limit units why before.left after.left before.stage.written after.stage.written rounds
   pub run : HaveRun units 0 rounds before.stage.target.units after.stage.target.units
   pub calls : HasFewCallsOn units (frames_of rounds) before after
 
--- nothing was read, and a front of the magic was written (profile)
+-- a write failed in the magic (profile)
 pub record StoppedInMagic (units : ℕ) (before after : Spot) : Type 0 where
-  pub read : after.left ≡ before.left
-  pub part : WrotePart before.stage.written after.stage.written out_magic
+  pub breaks : BreaksInMagic before.left after.left before.stage.written after.stage.written
   pub run : HaveRun units 0 [] before.stage.target.units after.stage.target.units
   pub calls : HasFewCallsOn units [] before after
 
@@ -79,14 +66,7 @@ pub record StoppedInMagic (units : ℕ) (before after : Spot) : Type 0 where
 pub record StoppedInAnswers (limit units : ℕ) (before after : Spot) : Type 0 where
   pub rounds : List Round
   pub round : Round
-  pub reader : Reading
-  pub behind : Option (List ℕ)
-  pub limit_is : reader.limit ≡ limit
-  pub newest_is : reader.newest ≡ One
-  pub none_ends : NoneEnds (frames_of rounds)
-  pub read : HasRead reader before.left after.left (frames_of rounds ++ round.frame ∷ [])
-  pub wrote : Wrote before.stage.written behind (output units rounds)
-  pub part : WrotePart behind after.stage.written (round_told units round)
+  pub breaks : BreaksInRound limit units before.left after.left before.stage.written after.stage.written rounds round
   pub run : HaveRun units 0 (rounds ++ round ∷ []) before.stage.target.units after.stage.target.units
       ⊎ HaveRunInPart units rounds round 0 before.stage.target.units after.stage.target.units
   pub calls : HasFewCallsOn units (frames_of rounds ++ round.frame ∷ []) before after
@@ -94,12 +74,7 @@ pub record StoppedInAnswers (limit units : ℕ) (before after : Spot) : Type 0 w
 -- a write failed in what tells a refusal (profile)
 pub record StoppedInFault (limit units : ℕ) (before after : Spot) : Type 0 where
   pub rounds : List Round
-  pub reason : Reason
-  pub offset : ℕ
-  pub behind : Option (List ℕ)
-  pub read : ReadBefore limit before.left after.left (frames_of rounds) (Bad reason offset)
-  pub wrote : Wrote before.stage.written behind (output units rounds)
-  pub part : WrotePart behind after.stage.written (fault_bytes reason offset)
+  pub breaks : BreaksInFault limit units before.left after.left before.stage.written after.stage.written rounds
   pub run : HaveRun units 0 rounds before.stage.target.units after.stage.target.units
   pub calls : HasFewCallsOn units (frames_of rounds) before after
 
@@ -108,39 +83,36 @@ RanInPart limit units before after =
     StoppedInMagic units before after ⊎ (StoppedInAnswers limit units before after ⊎ StoppedInFault limit units before after)
 
 -- how far a run came where it stopped with a fault (profile)
-abbrev pub RanTo : ℕ → ℕ → Spot → Spot → FleetFault → Type 0
+abbrev pub RanTo : ℕ → ℕ → Spot → Spot → ServeFault → Type 0
 RanTo limit units before after (faults.Open fault) = ⊥
 RanTo limit units before after (faults.BadInput reason offset) = RanBefore limit units (Bad reason offset) before after
 RanTo limit units before after faults.Read = RanBefore limit units ReadFault before after
 RanTo limit units before after faults.Write = RanInPart limit units before after
-RanTo limit units before after faults.NoMemory = ⊥
 
 -- and why (profile)
-abbrev pub HasStreamCause : SourceState → SourceState → SinkState → SinkState → FleetFault → Type 0
+abbrev pub HasStreamCause : SourceState → SourceState → SinkState → SinkState → ServeFault → Type 0
 HasStreamCause read read' write write' (faults.Open fault) = ⊥
 HasStreamCause read read' write write' (faults.BadInput reason offset) = Unit {0}
 HasStreamCause read read' write write' faults.Read = Rose read.faults read'.faults
 HasStreamCause read read' write write' faults.Write = Rose write.faults write'.faults
-HasStreamCause read read' write write' faults.NoMemory = ⊥
 
 -- a refusal of the reader is told, where a frame is bad (profile)
-abbrev pub Tells : FrameFault → Option (List ℕ) → Option (List ℕ) → FleetFault → Type 0
+abbrev pub Tells : FrameFault → Option (List ℕ) → Option (List ℕ) → ServeFault → Type 0
 Tells why written written' (faults.Open fault) = ⊥
 Tells why written written' (faults.BadInput reason offset) =
     (why ≡ Bad reason offset) × Wrote written written' (fault_bytes reason offset)
 Tells why written written' faults.Read = (why ≡ ReadFault) × (written' ≡ written)
 Tells why written written' faults.Write =
     (reason : Reason) × (offset : ℕ) × (why ≡ Bad reason offset) × WrotePart written written' (fault_bytes reason offset)
-Tells why written written' faults.NoMemory = ⊥
 
 -- the same, which takes no fault of writing back, and has one where a write failed (profile)
-pub record TellsSo (why : FrameFault) (before after : SinkState) (fault : FleetFault) : Type 0 where
+pub record TellsSo (why : FrameFault) (before after : SinkState) (fault : ServeFault) : Type 0 where
   pub tells : Tells why before.written after.written fault
   pub later : before.faults ≤ after.faults
   pub cause : (fault ≡ faults.Write) → Rose before.faults after.faults
 
 -- why serving stops where frames are carried out no further: a refusal is told, and behind a write that failed nothing is
 -- (profile)
-abbrev pub TellsStop : SinkState → SinkState → FleetFault → Stop → Type 0
+abbrev pub TellsStop : SinkState → SinkState → ServeFault → Stop → Type 0
 TellsStop before after fault (stops.Refused why) = TellsSo why before after fault
 TellsStop before after fault stops.Write = (fault ≡ faults.Write) × (after ≡ before)

@@ -3,7 +3,6 @@
 #![tactic(auto)]
 
 mod event;
-mod fault;
 mod frame;
 mod frames_loop;
 mod opening;
@@ -14,5 +13,4 @@ mod shared;
 mod telling;
 mod unit;
 
-pub use fault::FleetFault;
 pub use serving::serve_fleet;

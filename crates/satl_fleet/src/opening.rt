@@ -1,29 +1,27 @@
 // The units of a target are opened.
 ghost use Rattle.std.specs.Prelude.{◌≡◌, ◌≤◌, ◌+◌, [], IfErr, IfOk, OnErr, map, vec_len};
 ghost use Rattle.std.specs.List.{AllByRecursion, AllZip};
-ghost use Rattle.satl_fleet.specs.Opening.{IsLeftAlone, IsServable, OpensTo, StopsOpening};
+ghost use Rattle.satl_fleet.specs.Opening.{IsCauseOfOne, IsLeftAlone, IsServable, OpensTo};
 
-use crate::fault::FleetFault;
 use satl_base::Steps;
-use satl_core::Satl;
+use satl_core::{OpenFault, Satl};
 use satl_drive::Bench;
 use satl_step::see_queue;
 use std::alloc::Global;
 use std::sync::ledger::Ledger;
 
 /// Opens a unit on each drive, in order. Each drive has nothing outstanding and is in no error state, and its IDENTIFY DEVICE
-/// data fit it. `Open`: the layer was not opened on one of them, for the cause told. `NoMemory`: there was not the memory. No
-/// other fault comes (SAT-3; profile).
+/// data fit it. A fault: the layer was not opened on one of them, for the cause told (SAT-3; profile).
 pub fn open_units<D: Bench, L: Ledger>(
     alloc: Global,
     drives: &mut Vec<D>,
     steps: &mut Steps<L>,
-) -> Result<Vec<Satl>, FleetFault>
+) -> Result<Vec<Satl>, OpenFault>
     requires servable { AllByRecursion IsServable (map D.state drives.old.items) }
     requires few { vec_len drives.old ≤ 4 }
     ensures opened { IfOk result (λ units. OpensTo (map D.state drives.old.items) units.items (map D.state drives.new.items)) }
     ensures each { IfOk result (λ units. vec_len units ≡ vec_len drives.old) }
-    ensures stopped { IfErr result (StopsOpening (map D.state drives.old.items) (map D.state drives.new.items)) }
+    ensures stopped { IfErr result (λ fault. IsCauseOfOne fault (map D.state drives.old.items) (map D.state drives.new.items)) }
     ensures alone { OnErr result (AllZip IsLeftAlone (map D.state drives.old.items) (map D.state drives.new.items)) }
     ensures drives { vec_len drives.new ≡ vec_len drives.old }
     ensures calls { steps.new ≤ steps.old + vec_len drives.old }
@@ -35,10 +33,10 @@ pub fn open_units<D: Bench, L: Ledger>(
             Ok(satl) => {
                 see_queue(&satl);
                 let Ok(()) = units.push(satl) else {
-                    return Err(FleetFault::NoMemory);
+                    return Err(OpenFault::NoMemory);
                 };
             }
-            Err(fault) => return Err(FleetFault::Open(fault)),
+            Err(fault) => return Err(fault),
         }
     }
     Ok(units)

@@ -12,15 +12,15 @@ ghost use Rattle.satl_fleet.specs.Rounds.{stage};
 ghost use Rattle.satl_fleet.specs.Serving.{CanBegin, KeepsUnits, target};
 ghost use Rattle.satl_fleet.specs.Stopping.{HasFleetCause, HasStreamCause, RanTo, RanWhole, Tells, TellsStop, spot};
 
-use crate::fault::FleetFault;
 use crate::frames_loop::serve_frames;
 use crate::opening::open_units;
 use satl_base::Steps;
-use satl_core::Satl;
+use satl_core::{OpenFault, Satl};
 use satl_drive::Bench;
 use satl_frame::{FrameFault, FrameReader, OutFrame, WriteFault, write_frame};
 use satl_io::{Sink, Source};
 use satl_pages::Pool;
+use satl_serve::ServeFault;
 use satl_step::Stop;
 use std::alloc::Global;
 use std::sync::ledger::Ledger;
@@ -37,17 +37,17 @@ const POOL_PAGES: u32 = 4096;
 /// of the bench and END go to every unit in ascending order. Answers are written as frames, each before the next frame is read,
 /// and a frame names their unit before those of one frame. To each LUN the answers are those of its own direct device alone.
 /// Each drive has nothing outstanding and is in no error state, and its IDENTIFY DEVICE data fit it.
-/// `Open` and `NoMemory`: the layer was not opened on each drive, for the cause told of one of them or for want of memory, and
-/// nothing was read or written. `BadInput` comes after its FAULT frame was written, with the reason and the offset of the
-/// refused frame in bytes. `Read` and `Write` come only where the source's or the sink's count of faults rose. The drives are
-/// called once each for their identity, and then as often at most as the frames allow (SAM-5 4.7.2; profile).
+/// `Open`: the layer was not opened on each drive, for the cause told of one of them or for want of memory, and nothing was
+/// read or written. `BadInput` comes after its FAULT frame was written, with the reason and the offset of the refused frame in
+/// bytes. `Read` and `Write` come only where the source's or the sink's count of faults rose. The drives are called once each
+/// for their identity, and then as often at most as the frames allow (SAM-5 4.7.2; profile).
 pub fn serve_fleet<S: Source, K: Sink, D: Bench, L: Ledger>(
     alloc: Global,
     source: &mut S,
     sink: &mut K,
     drives: &mut Vec<D>,
     steps: &mut Steps<L>,
-) -> Result<(), FleetFault>
+) -> Result<(), ServeFault>
     requires some { 1 ≤ vec_len drives.old }
     requires few { vec_len drives.old ≤ 4 }
     requires servable { AllByRecursion IsServable (map D.state drives.old.items) }
@@ -74,7 +74,9 @@ pub fn serve_fleet<S: Source, K: Sink, D: Bench, L: Ledger>(
         steps.new (map D.state drives.new.items))) }
     ensures drives { vec_len drives.new ≡ vec_len drives.old }
 {
-    let mut pool = Pool::new(alloc, POOL_PAGES)?;
+    let Ok(mut pool) = Pool::new(alloc, POOL_PAGES) else {
+        return Err(ServeFault::Open(OpenFault::NoMemory));
+    };
     let mut units = open_units(alloc, drives, steps)?;
     serve_opened(alloc, &mut units, drives, &mut pool, source, sink, steps)
 }
@@ -88,7 +90,7 @@ fn serve_opened<S: Source, K: Sink, D: Bench, L: Ledger>(
     source: &mut S,
     sink: &mut K,
     steps: &mut Steps<L>,
-) -> Result<(), FleetFault>
+) -> Result<(), ServeFault>
     requires opened { CanBegin (target D.state units.old drives.old) }
     requires pool { number_of pool.old ≡ 4096 }
     requires all_in { pool.old.out ≡ 0 }
@@ -112,29 +114,29 @@ fn serve_opened<S: Source, K: Sink, D: Bench, L: Ledger>(
 }
 
 /// Why serving stops at a reader's refusal: of a bad frame is told first.
-fn refuse<K: Sink>(fault: FrameFault, sink: &mut K) -> FleetFault
+fn refuse<K: Sink>(fault: FrameFault, sink: &mut K) -> ServeFault
     ensures tells { Tells fault (K.written sink.old) (K.written sink.new) result }
     ensures later { K.faults sink.old ≤ K.faults sink.new }
-    ensures write { (result ≡ FleetFault.Write) → Rose (K.faults sink.old) (K.faults sink.new) }
+    ensures write { (result ≡ ServeFault.Write) → Rose (K.faults sink.old) (K.faults sink.new) }
 {
     match fault {
-        FrameFault::ReadFault => FleetFault::Read,
+        FrameFault::ReadFault => ServeFault::Read,
         FrameFault::Bad { reason, offset } => {
             match write_frame(OutFrame::Fault { reason, offset }, sink) {
-                Ok(()) => FleetFault::BadInput { reason, offset },
-                Err(WriteFault) => FleetFault::Write,
+                Ok(()) => ServeFault::BadInput { reason, offset },
+                Err(WriteFault) => ServeFault::Write,
             }
         }
     }
 }
 
 /// Why serving stops where frames are carried out no further.
-fn tell_stop<K: Sink>(stop: Stop, sink: &mut K) -> FleetFault
+fn tell_stop<K: Sink>(stop: Stop, sink: &mut K) -> ServeFault
     ensures { TellsStop (sink_state (K.written sink.old) (K.faults sink.old))
         (sink_state (K.written sink.new) (K.faults sink.new)) result stop }
 {
     match stop {
         Stop::Refused(fault) => refuse(fault, sink),
-        Stop::Write => FleetFault::Write,
+        Stop::Write => ServeFault::Write,
     }
 }

@@ -1,6 +1,7 @@
 //! The framing of the program's input and output (profile): bytes to frames however the reads are cut, and frames to bytes.
 #![tactic(auto)]
 
+mod buffer;
 mod frames;
 mod judge;
 pub mod laws;
@@ -12,8 +13,9 @@ mod refill;
 mod tests;
 mod writing;
 
+pub use buffer::WriteBuffer;
 pub use frames::{Frame, FrameFault, OutFrame, Place, Reason, Version, WriteFault};
 pub use pulling::{PullError, fill, pull};
 pub use reader::FrameReader;
 pub use refill::pull_data;
-pub use writing::{Gathered, gather, gather_data, push, sent_len, write_frame};
+pub use writing::{gather, gather_data, push, sent_len, write_frame, write_reply};

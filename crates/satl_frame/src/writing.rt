@@ -1,4 +1,4 @@
-// Bytes of frames into a sink, gathered into few writes.
+// Bytes of frames into a sink, in few writes.
 ghost use Rattle.std.specs.Prelude.{◌≡◌, ◌≤◌, ◌+◌, ◌*◌, ◌++◌, [], None, Some, OnOk, OnErr, is_ok, length};
 ghost use Rattle.byteorder.specs.Endian.{big_bytes};
 ghost use Rattle.arrayvec.specs.ArrayVec.{array_vec_len};
@@ -9,19 +9,14 @@ ghost use Rattle.satl_io.specs.Known.{Wrote, WrotePart};
 ghost use Rattle.satl_frame.specs.Gathering.{Gathers};
 ghost use Rattle.satl_frame.specs.Output.{sent_len, residual, reply_kind, reply_fields, reply_len, framed, reply_bytes, written_bytes, CanWrite, IsWritable};
 
+use crate::buffer::WriteBuffer;
 use crate::frames::{OutFrame, WriteFault};
 use arrayvec::ArrayVec;
-use satl_base::{Pages, Reply, append};
+use satl_base::{Pages, Reply};
 use satl_io::{Failed, Sink};
-
-/// At most 8,192 bytes that wait to be written (profile). A reply with 4 KiB of data fits whole.
-pub type Gathered = ArrayVec<u8, 8192>;
 
 /// What stands before the data of a reply: 12 or 16 bytes, and at most 32 of sense.
 type Front = ArrayVec<u8, 48>;
-
-/// A whole reply with at most 4 KiB of data.
-type Whole = ArrayVec<u8, 4144>;
 
 /// Writes all the bytes (profile), in one write call if the sink takes all that it is given. `Failed` comes only where the
 /// sink's count of faults rose, and then some front of the bytes was written.
@@ -40,47 +35,43 @@ pub fn push<K: Sink>(sink: &mut K, bytes: &[u8]) -> Result<(), Failed>
     Ok(())
 }
 
-/// Gathers at most 8,192 bytes (profile). Where they do not fit, those that were gathered before are written first. `Failed`
-/// comes only where the sink's count of faults rose; then some front of what was gathered and of the bytes was written.
-pub fn gather<K: Sink>(sink: &mut K, gathered: &mut Gathered, bytes: &[u8]) -> Result<(), Failed>
+/// Puts at most 8,192 bytes into a buffer (profile). Where they do not fit, those that wait in it are written first. `Failed`
+/// comes only where the sink's count of faults rose; then some front of what waited and of the bytes was written.
+pub fn gather<K: Sink>(sink: &mut K, buffer: &mut WriteBuffer, bytes: &[u8]) -> Result<(), Failed>
     requires { length bytes.now ≤ 8192 }
-    ensures all { OnOk result (Gathers (K.written sink.old)
-        (K.written sink.new) gathered.old.items gathered.new.items bytes.now) }
-    ensures part { OnErr result (WrotePart (K.written sink.old) (K.written sink.new) (gathered.old.items ++ bytes.now)) }
+    ensures all { OnOk result (Gathers (K.written sink.old) (K.written sink.new) buffer.old buffer.new bytes.now) }
+    ensures part { OnErr result (WrotePart (K.written sink.old) (K.written sink.new) (buffer.old ++ bytes.now)) }
     ensures cause { HasCause (K.faults sink.old) (K.faults sink.new) result }
 {
-    if let Ok(()) = gathered.try_extend_from_slice(bytes) {
-        return Ok(());
+    if bytes.len() > buffer.room() {
+        match push(sink, buffer.as_slice()) {
+            Ok(()) => buffer.clear(),
+            Err(Failed) => return Err(Failed),
+        }
     }
-    match push(sink, gathered.as_slice()) {
-        Ok(()) => {}
-        Err(Failed) => return Err(Failed),
-    }
-    gathered.clear();
-    append(gathered, bytes);
+    buffer.put(bytes);
     Ok(())
 }
 
-/// Gathers the first `len` bytes that the pages hold, in order (profile). `Failed` comes only where the sink's count of faults
-/// rose; then some front of what was gathered and of these bytes was written.
+/// Puts the first `len` bytes that the pages hold into a buffer, in order (profile). `Failed` comes only where the sink's count
+/// of faults rose; then some front of what waited in it and of these bytes was written.
 pub fn gather_data<K: Sink>(
     sink: &mut K,
-    gathered: &mut Gathered,
+    buffer: &mut WriteBuffer,
     pages: &Pages,
     len: u32,
 ) -> Result<(), Failed>
     requires { len ≤ 512 * length pages.now }
-    ensures all { OnOk result (Gathers (K.written sink.old) (K.written sink.new) gathered.old.items gathered.new.items
+    ensures all { OnOk result (Gathers (K.written sink.old) (K.written sink.new) buffer.old buffer.new
         (first_bytes len pages.now)) }
-    ensures part { OnErr result (WrotePart (K.written sink.old) (K.written sink.new)
-        (gathered.old.items ++ first_bytes len pages.now)) }
+    ensures part { OnErr result (WrotePart (K.written sink.old) (K.written sink.new) (buffer.old ++ first_bytes len pages.now)) }
     ensures cause { HasCause (K.faults sink.old) (K.faults sink.new) result }
 {
     let mut left = len as usize;
     for block in pages.iter() {
         let bytes = block.as_bytes();
         let count = left.min(512);
-        match gather(sink, gathered, &bytes[..count]) {
+        match gather(sink, buffer, &bytes[..count]) {
             Ok(()) => left -= count,
             Err(Failed) => return Err(Failed),
         }
@@ -162,67 +153,10 @@ fn extend_by_fields(reply: &Reply, front: &mut Front)
     }
 }
 
-/// Gathers the first `len` bytes that the pages hold, where all of them fit.
-fn gather_whole(gathered: &mut Whole, pages: &Pages, len: u32)
-    requires held { len ≤ 512 * length pages.now }
-    requires fits { array_vec_len gathered.old + len ≤ 4144 }
-    ensures { gathered.new.items ≡ gathered.old.items ++ first_bytes len pages.now }
-{
-    let mut left = len as usize;
-    for block in pages.iter() {
-        let bytes = block.as_bytes();
-        let count = left.min(512);
-        match gathered.try_extend_from_slice(&bytes[..count]) {
-            Ok(()) => left -= count,
-            Err(_) => unreachable!(),
-        }
-    }
-}
-
-/// Writes what stands before the data of a reply, and at most 4 KiB of data, in one piece.
-fn write_whole<K: Sink>(sink: &mut K, front: &Front, pages: &Pages, len: u32) -> Result<(), Failed>
-    requires held { len ≤ 512 * length pages.now }
-    requires short { len ≤ 4096 }
-    ensures all { OnOk result (Wrote (K.written sink.old) (K.written sink.new) (front.now.items ++ first_bytes len pages.now)) }
-    ensures part { OnErr result (WrotePart (K.written sink.old) (K.written sink.new)
-        (front.now.items ++ first_bytes len pages.now)) }
-    ensures cause { HasCause (K.faults sink.old) (K.faults sink.new) result }
-{
-    let mut gathered = Whole::new();
-    match gathered.try_extend_from_slice(front.as_slice()) {
-        Ok(()) => {}
-        Err(_) => unreachable!(),
-    }
-    gather_whole(&mut gathered, pages, len);
-    match push(sink, gathered.as_slice()) {
-        Ok(()) => Ok(()),
-        Err(Failed) => Err(Failed),
-    }
-}
-
 /// Writes what stands before the data of a reply, and the data, in pieces of at most 8,192 bytes.
-fn write_pieces<K: Sink>(sink: &mut K, front: &Front, pages: &Pages, len: u32) -> Result<(), Failed>
-    requires { len ≤ 512 * length pages.now }
-    ensures all { OnOk result (Wrote (K.written sink.old) (K.written sink.new) (front.now.items ++ first_bytes len pages.now)) }
-    ensures part { OnErr result (WrotePart (K.written sink.old) (K.written sink.new)
-        (front.now.items ++ first_bytes len pages.now)) }
-    ensures cause { HasCause (K.faults sink.old) (K.faults sink.new) result }
-{
-    let mut gathered = Gathered::new();
-    append(&mut gathered, front.as_slice());
-    match gather_data(sink, &mut gathered, pages, len) {
-        Ok(()) => match push(sink, gathered.as_slice()) {
-            Ok(()) => Ok(()),
-            Err(Failed) => Err(Failed),
-        },
-        Err(Failed) => Err(Failed),
-    }
-}
-
-/// Writes what stands before the data of a reply, and the data. A function blanks its locals when it begins, so each buffer
-/// stands in a function of its own.
 fn write_with_data<K: Sink>(
     sink: &mut K,
+    buffer: &mut WriteBuffer,
     front: &Front,
     pages: &Pages,
     len: u32,
@@ -233,14 +167,19 @@ fn write_with_data<K: Sink>(
         (front.now.items ++ first_bytes len pages.now)) }
     ensures cause { HasCause (K.faults sink.old) (K.faults sink.new) result }
 {
-    if len <= 4096 {
-        write_whole(sink, front, pages, len)
-    } else {
-        write_pieces(sink, front, pages, len)
+    buffer.clear();
+    buffer.put(front.as_slice());
+    match gather_data(sink, buffer, pages, len) {
+        Ok(()) => match push(sink, buffer.as_slice()) {
+            Ok(()) => Ok(()),
+            Err(Failed) => Err(Failed),
+        },
+        Err(Failed) => Err(Failed),
     }
 }
 
-fn write_reply<K: Sink>(sink: &mut K, reply: &Reply) -> Result<(), Failed>
+/// What stands before the data of a reply, and the data.
+fn write_parts<K: Sink>(sink: &mut K, buffer: &mut WriteBuffer, reply: &Reply) -> Result<(), Failed>
     requires { IsWritable reply.now }
     ensures all { OnOk result (Wrote (K.written sink.old) (K.written sink.new) (reply_bytes reply.now)) }
     ensures part { OnErr result (WrotePart (K.written sink.old) (K.written sink.new) (reply_bytes reply.now)) }
@@ -251,12 +190,39 @@ fn write_reply<K: Sink>(sink: &mut K, reply: &Reply) -> Result<(), Failed>
     extend(&mut front, reply.sense.as_slice());
     let len = sent_len(reply.expected, reply.data_len);
     if len > 0 {
-        return write_with_data(sink, &front, &reply.body, len);
+        return write_with_data(sink, buffer, &front, &reply.body, len);
     }
     match push(sink, front.as_slice()) {
         Ok(()) => Ok(()),
         Err(Failed) => Err(Failed),
     }
+}
+
+/// Appends exactly the bytes of a reply's frame, as `write_frame` does, for who writes many and keeps a buffer for them: no
+/// memory is cleared for a reply then. What waited in the buffer is dropped (profile).
+pub fn write_reply<K: Sink>(
+    reply: &Reply,
+    buffer: &mut WriteBuffer,
+    sink: &mut K,
+) -> Result<(), WriteFault>
+    requires { IsWritable reply.now }
+    ensures all { OnOk result (Wrote (K.written sink.old) (K.written sink.new) (reply_bytes reply.now)) }
+    ensures part { OnErr result (WrotePart (K.written sink.old) (K.written sink.new) (reply_bytes reply.now)) }
+    ensures cause { HasCause (K.faults sink.old) (K.faults sink.new) result }
+{
+    told(write_parts(sink, buffer, reply))
+}
+
+/// The same by a buffer of its own. Apart from `write_frame`, which would clear it for frames of all kinds.
+#[inline(never)]
+fn write_alone<K: Sink>(reply: &Reply, sink: &mut K) -> Result<(), WriteFault>
+    requires { IsWritable reply.now }
+    ensures all { OnOk result (Wrote (K.written sink.old) (K.written sink.new) (reply_bytes reply.now)) }
+    ensures part { OnErr result (WrotePart (K.written sink.old) (K.written sink.new) (reply_bytes reply.now)) }
+    ensures cause { HasCause (K.faults sink.old) (K.faults sink.new) result }
+{
+    let mut buffer = WriteBuffer::new();
+    write_reply(reply, &mut buffer, sink)
 }
 
 /// Appends exactly the bytes of the frame to those of the sink (profile). A reply with an `expected` goes out as one of
@@ -270,7 +236,7 @@ pub fn write_frame<K: Sink>(frame: OutFrame, sink: &mut K) -> Result<(), WriteFa
 {
     match frame {
         OutFrame::Magic => told(push(sink, b"SATLRSP1")),
-        OutFrame::Reply(reply) => told(write_reply(sink, reply)),
+        OutFrame::Reply(reply) => write_alone(reply, sink),
         OutFrame::Managed {
             nexus,
             function,

@@ -1,6 +1,7 @@
-ghost use Rattle.std.specs.Prelude.{◌<◌, ◌≤◌, IfOk, length};
+ghost use Rattle.std.specs.Prelude.{◌<◌, length};
 
 use crate::GenSource;
+use satl_frame::fill;
 use satl_io::{Failed, Source};
 use std::test::Fail;
 
@@ -11,21 +12,6 @@ const TWO_REQUESTS: [u8; 83] = *b"SATLRPL1\
     \x01\x00\x00\x00\x1E\x00\x00\x00\x00\x00\x00\x00\x00\x00\x00\x00\x00\x00\x01\
     \x28\x00\x00\x00\x08\xBB\x00\x00\x09\x00\x00\x00\x00\x00\x00\x00\
     \x05\x00\x00\x00\x00";
-
-/// Fills the buffer, or as much of its front as the source has bytes for.
-fn fill(source: &mut GenSource, buf: &mut [u8]) -> Result<usize, Failed>
-    ensures { IfOk result (λ n. n ≤ length buf.new) }
-{
-    let mut at = 0;
-    while at < buf.len() {
-        let count = source.read(&mut buf[at..])?;
-        if count == 0 {
-            return Ok(at);
-        }
-        at += count;
-    }
-    Ok(at)
-}
 
 /// The number of bytes that are left, and the sum of their values.
 fn totals(source: &mut GenSource, buf: &mut [u8]) -> Result<(u64, u64), Failed>

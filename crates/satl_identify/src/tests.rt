@@ -3,7 +3,7 @@ use byteorder::{ByteOrder, LittleEndian};
 use std::test::*;
 
 // The words that are not 0 of a drive of 16,384 sectors that tells no more than what is read here.
-const WORDS: [(usize, u16); 12] = [
+const WORDS: [(u8, u16); 12] = [
     (49, 0x0300),
     (69, 0x4020),
     (75, 0x001F),
@@ -18,10 +18,8 @@ const WORDS: [(usize, u16); 12] = [
     (255, 0xD0A5),
 ];
 
-fn set_word(bytes: &mut [u8; 512], place: usize, value: u16) {
-    if place < 256 {
-        LittleEndian::write_u16(&mut bytes[2 * place..], value);
-    }
+fn set_word(bytes: &mut [u8; 512], place: u8, value: u16) {
+    LittleEndian::write_u16(&mut bytes[2 * usize::from(place)..], value);
 }
 
 fn drive_data() -> [u8; 512] {

@@ -1,5 +1,5 @@
 // Which tasks conflict.
-ghost use Rattle.std.specs.Prelude.{◌≡◌};
+ghost use Rattle.std.specs.Prelude.{◌≡◌, ◌≤◌};
 ghost use Rattle.std.specs.List.{list_any};
 ghost use Rattle.satl_line.specs.Conflict.{any_meet, conflicts, is_alone, is_write, ranges_meet};
 
@@ -51,7 +51,17 @@ fn meets_one_of(ranges: &[Range], other: &Range) -> bool
 fn meet(a: &Range, b: &Range) -> bool
     ensures { result ≡ ranges_meet a.now b.now }
 {
-    let a_end = a.lba as u128 + a.count as u128;
-    let b_end = b.lba as u128 + b.count as u128;
-    (a.lba.max(b.lba) as u128) < a_end.min(b_end)
+    if a.lba <= b.lba {
+        reaches(a, b)
+    } else {
+        reaches(b, a)
+    }
+}
+
+/// Whether the first block of a range that begins no earlier lies in this one. Without a sum, which may be too large.
+fn reaches(range: &Range, later: &Range) -> bool
+    requires { range.now.lba ≤ later.now.lba }
+    ensures { result ≡ ranges_meet range.now later.now }
+{
+    later.count > 0 && later.lba - range.lba < u64::from(range.count)
 }

@@ -6,20 +6,11 @@ use satl_regs::{AtaCommand, How, Registers, Taskfile};
 use satl_sense::{AtaReturn, Extra, Sense, sense_bytes};
 use std::test::*;
 
-/// A command descriptor block with zeros behind it.
-fn padded(front: &[u8]) -> [u8; 16] {
-    let mut cdb = [0u8; 16];
-    for (place, byte) in front.iter().enumerate() {
-        if place < 16 {
-            cdb[place] = *byte;
-        }
-    }
-    cdb
-}
-
-/// What a command descriptor block of pass-through asks for, None for one of another code.
+/// What a command descriptor block of pass-through asks for, with zeros behind it, None for one of another code.
 fn read(front: &[u8]) -> Option<Result<Pass, Illegal>> {
-    let cdb = padded(front);
+    let count = front.len().min(16);
+    let mut cdb = [0; 16];
+    cdb[..count].copy_from_slice(&front[..count]);
     match cdb[0] {
         0x85 | 0xA1 => Some(read_pass(&cdb)),
         _ => None,

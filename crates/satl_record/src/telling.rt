@@ -10,16 +10,16 @@ use crate::fault::RecordFault;
 use itoa::Buffer;
 use satl_audit::Verdict;
 use satl_base::append;
-use satl_frame::{Gathered, OutFrame, Reason, WriteFault, push};
+use satl_frame::{OutFrame, Reason, WriteFault, push};
 use satl_io::{Failed, Sink};
-use satl_text::write_line;
+use satl_text::{Text, write_line};
 
 /// The words of a verdict.
-fn words_of(verdict: Verdict) -> Gathered
+fn words_of(verdict: Verdict) -> Text
     ensures words { result.items ++ 0x0A ∷ [] ≡ verdict_line verdict }
     ensures few { array_vec_len result ≤ 8000 }
 {
-    let mut text = Gathered::new();
+    let mut text = Text::new();
     match verdict {
         Verdict::Yes => append(&mut text, b"yes"),
         Verdict::No => append(&mut text, b"no"),

@@ -17,7 +17,6 @@ use Rattle.satl_serve.specs.Headline.{IsServedWhole}
 use Rattle.satl_serve.specs.Moments.{Moment}
 use Rattle.satl_serve.specs.Tellers.{IsServedBy, TellsIn}
 use Rattle.satl_serve.specs.declared.printer.Counter.{Counter}
-use Rattle.satl_serve.specs.declared.printer.Printer.{Printer}
 use Rattle.satl_serve.specs.declared.telling.Form.{Form}
 
 -- ---- totals
@@ -42,27 +41,27 @@ totals_more n answers ended = nothing_more n answers ended refl refl refl refl r
 
 -- ---- who prints, and who counts too
 
-pub printer_tells : (form : Form) (p : Printer) → p.form ≡ form → TellsIn (λ printer answer. told printer.form answer) (λ printer answer. printer) form p
-printer_tells form p is earlier answer = ap (λ (x : Printer). told x.form answer) (stays p earlier) ∙ ap (λ (f : Form). told f answer) is
+pub printer_tells : (form : Form) (p : Form) → p ≡ form → TellsIn (λ printer answer. told printer answer) (λ printer answer. printer) form p
+printer_tells form p is earlier answer = ap (λ (x : Form). told x answer) (stays p earlier) ∙ ap (λ (f : Form). told f answer) is
   where
-    stays : (p : Printer) (answers : List Answer) → all_behind (λ printer answer. printer) p answers ≡ p
+    stays : (p : Form) (answers : List Answer) → all_behind (λ printer answer. printer) p answers ≡ p
     stays p [] = refl
     stays p (x ∷ answers) = stays p answers
 
 -- a counter that has told these answers
 abbrev pub counter_of : Form → List Answer → Counter
-counter_of form answers = record { printer = record { form = form }; totals = summary_of 0 answers }
+counter_of form answers = record { printer = form; totals = summary_of 0 answers }
 
 -- a counter has counted the answers that it has told
 pub all_counted : (form : Form) (before answers : List Answer) → all_behind (λ counter answer. counter_behind counter answer) (counter_of form before) answers ≡ counter_of form (before ++ answers)
 all_counted form before [] = ap (λ l. counter_of form l) (sym (append-nil before))
 all_counted form before (x ∷ answers) =
-    ap (λ (u : Summary). all_behind (λ counter answer. counter_behind counter answer) (record { printer = record { form = form }; totals = u }) answers) (sym (totals_more 0 before x))
+    ap (λ (u : Summary). all_behind (λ counter answer. counter_behind counter answer) (record { printer = form; totals = u }) answers) (sym (totals_more 0 before x))
     ∙ (all_counted form (before ++ x ∷ []) answers ∙ ap (λ l. counter_of form l) (append_assoc before (x ∷ []) answers))
 
-pub counter_tells : (form : Form) (c : Counter) → c ≡ counter_of form [] → TellsIn (λ counter answer. told counter.printer.form answer) (λ counter answer. counter_behind counter answer) form c
+pub counter_tells : (form : Form) (c : Counter) → c ≡ counter_of form [] → TellsIn (λ counter answer. told counter.printer answer) (λ counter answer. counter_behind counter answer) form c
 counter_tells form c is earlier answer =
-    ap (λ (x : Counter). told x.printer.form answer) (ap (λ (x : Counter). all_behind (λ counter answer. counter_behind counter answer) x earlier) is ∙ all_counted form [] earlier)
+    ap (λ (x : Counter). told x.printer answer) (ap (λ (x : Counter). all_behind (λ counter answer. counter_behind counter answer) x earlier) is ∙ all_counted form [] earlier)
 
 -- what was served and told by a counter was counted
 pub served_counted : (form : Form) (limit : ℕ) (c c' : Counter) (requests : ℕ) (before after : Moment) (summary : Summary) → c ≡ counter_of form [] → summary ≡ record c'.totals { requests = requests } → IsServedBy (λ counter answer. counter_behind counter answer) form limit c c' requests before after

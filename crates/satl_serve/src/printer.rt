@@ -6,26 +6,49 @@ ghost use Rattle.satl_text.specs.Totals.{summary_of};
 
 use crate::telling::{Form, tell_end, tell_managed, tell_reply};
 use satl_base::{Manage, Reply, Response};
-use satl_frame::WriteFault;
+use satl_frame::{WriteBuffer, WriteFault};
 use satl_io::Sink;
 use satl_step::Teller;
 use satl_text::Summary;
+use std::marker::Model;
 
-/// Prints answers in a form.
-#[derive(Clone, Copy, Debug, PartialEq, Eq)]
+/// Prints answers in a form. A clause sees the form.
+#[derive(Drop)]
 pub struct Printer {
-    pub form: Form,
+    form: Form,
+    // Kept, so that its memory is not cleared for each reply.
+    buffer: WriteBuffer,
+}
+
+impl Model for Printer {
+    ghost use Rattle.satl_serve.specs.declared.telling.Form.{Form};
+
+    ghost Value = { Form };
+
+    ghost view = { λ p. p.form };
+}
+
+impl Printer {
+    /// A printer of answers in a form.
+    pub fn new(form: Form) -> Self
+        ensures { result ≡ form }
+    {
+        Printer {
+            form,
+            buffer: WriteBuffer::new(),
+        }
+    }
 }
 
 impl Teller for Printer {
     ghost use Rattle.satl_serve.specs.Forms.{told};
 
-    ghost told = { λ printer answer. told printer.form answer };
+    ghost told = { λ printer answer. told printer answer };
 
     ghost behind = { λ printer _. printer };
 
     fn tell_reply<K: Sink>(&mut self, reply: &Reply, sink: &mut K) -> Result<(), WriteFault> {
-        tell_reply(self.form, reply, sink)
+        tell_reply(self.form, reply, &mut self.buffer, sink)
     }
 
     fn tell_managed<K: Sink>(
@@ -43,7 +66,7 @@ impl Teller for Printer {
 }
 
 /// Prints answers in a form, and counts them.
-#[derive(Clone, Copy, Debug, PartialEq, Eq)]
+#[derive(Drop)]
 pub struct Counter {
     printer: Printer,
     /// The totals of the replies so far, with no request.
@@ -53,10 +76,10 @@ pub struct Counter {
 impl Counter {
     /// A counter that has told no answer.
     pub fn new(form: Form) -> Self
-        ensures { result ≡ record { printer = record { form = form }; totals = summary_of 0 [] } }
+        ensures { result ≡ record { printer = form; totals = summary_of 0 [] } }
     {
         Counter {
-            printer: Printer { form },
+            printer: Printer::new(form),
             totals: Summary::default(),
         }
     }
@@ -76,7 +99,7 @@ impl Teller for Counter {
     ghost use Rattle.satl_serve.specs.Forms.{told};
     ghost use Rattle.satl_serve.specs.Growing.{counter_behind};
 
-    ghost told = { λ counter answer. told counter.printer.form answer };
+    ghost told = { λ counter answer. told counter.printer answer };
 
     ghost behind = { λ counter answer. counter_behind counter answer };
 

@@ -124,7 +124,7 @@ pub fn serve_uncounted<S: Source, K: Sink, D: Bench, L: Ledger>(
     serve_by(
         alloc,
         form,
-        &mut Printer { form },
+        &mut Printer::new(form),
         source,
         sink,
         drive,

@@ -7,7 +7,7 @@ ghost use Rattle.satl_io.specs.Known.{Wrote, WrotePart};
 ghost use Rattle.satl_serve.specs.Forms.{begun, fault_told, told};
 
 use satl_base::{Manage, Reply, Response};
-use satl_frame::{OutFrame, Reason, WriteFault, write_frame};
+use satl_frame::{OutFrame, Reason, WriteBuffer, WriteFault, write_frame, write_reply};
 use satl_io::Sink;
 use satl_text::write_line;
 
@@ -34,15 +34,20 @@ pub fn tell_beginning<K: Sink>(form: Form, sink: &mut K) -> Result<(), WriteFaul
     }
 }
 
-/// A reply.
-pub fn tell_reply<K: Sink>(form: Form, reply: &Reply, sink: &mut K) -> Result<(), WriteFault>
+/// A reply, by a buffer that is kept.
+pub fn tell_reply<K: Sink>(
+    form: Form,
+    reply: &Reply,
+    buffer: &mut WriteBuffer,
+    sink: &mut K,
+) -> Result<(), WriteFault>
     requires { IsWritable reply.now }
     ensures all { OnOk result (Wrote (K.written sink.old) (K.written sink.new) (told form (replied reply.now))) }
     ensures part { OnErr result (WrotePart (K.written sink.old) (K.written sink.new) (told form (replied reply.now))) }
     ensures cause { HasCause (K.faults sink.old) (K.faults sink.new) result }
 {
     match form {
-        Form::Frames => write_frame(OutFrame::Reply(reply), sink),
+        Form::Frames => write_reply(reply, buffer, sink),
         Form::Text => write_line(OutFrame::Reply(reply), sink),
         Form::Count => Ok(()),
     }
@@ -67,25 +72,15 @@ pub fn tell_managed<K: Sink>(
         tag,
         ..
     } = *manage;
+    let frame = OutFrame::Managed {
+        nexus,
+        function,
+        response,
+        tag,
+    };
     match form {
-        Form::Frames => write_frame(
-            OutFrame::Managed {
-                nexus,
-                function,
-                response,
-                tag,
-            },
-            sink,
-        ),
-        Form::Text => write_line(
-            OutFrame::Managed {
-                nexus,
-                function,
-                response,
-                tag,
-            },
-            sink,
-        ),
+        Form::Frames => write_frame(frame, sink),
+        Form::Text => write_line(frame, sink),
         Form::Count => Ok(()),
     }
 }

@@ -264,38 +264,33 @@ module _ {T : Type 0} (told : T → Answer → List ℕ) (behind : T → Answer 
     part = on_both_err r _ _ _ (λ some told_so. record { answers = map replied replies; some = omega (arith, length-map replies replied, some); carried = inl carried; tallied = tallied; told_so = told_so }) some part;
   }
 
-  -- a task management function, whose response is told behind replies
-  pub manage_done : (m : Manage) (response : Response) (a c : Scene T) (b : Telling T) (replies : List Reply) → Around (MayLose (Manages m response)) a.stand.device replies c.stand.device → (IsDeep a.stand.tally → depth c.stand.device ≤ c.stand.tally.deepest) → IsTallied (frames.Manage m) a.stand c.stand → IsTold told behind a.telling b (map replied replies) → Wrote b.written c.telling.written (told b.teller (managed m.nexus m.function response m.tag)) → c.telling.teller ≡ behind b.teller (managed m.nexus m.function response m.tag) →
-      Done told behind (frames.Manage m) a c
-  manage_done m response a c b replies step covered tallied told_so wrote next =
-      let last = managed m.nexus m.function response m.tag in
-      record {
-        answers = map replied replies ++ last ∷ [];
-        carried = carried_manage m response a.stand c.stand replies step covered;
-        tallied = tallied;
-        told_so = told_more told behind a.telling b c.telling (map replied replies) (last ∷ []) told_so (told_one told behind b c.telling last wrote next);
-      }
+  -- a task management function, whose response comes behind replies
+  module _ (m : Manage) (response : Response) (a c : Scene T) (replies : List Reply) (step : Around (MayLose (Manages m response)) a.stand.device replies c.stand.device) (covered : IsDeep a.stand.tally → depth c.stand.device ≤ c.stand.tally.deepest) (tallied : IsTallied (frames.Manage m) a.stand c.stand) where
+    abbrev last : Answer
+    last = managed m.nexus m.function response m.tag
 
-  pub manage_in_part : (m : Manage) (response : Response) (a c : Scene T) (b : Telling T) (replies : List Reply) → Around (MayLose (Manages m response)) a.stand.device replies c.stand.device → (IsDeep a.stand.tally → depth c.stand.device ≤ c.stand.tally.deepest) → IsTallied (frames.Manage m) a.stand c.stand → IsTold told behind a.telling b (map replied replies) → WrotePart b.written c.telling.written (told b.teller (managed m.nexus m.function response m.tag)) →
-      DoneInPart told behind (frames.Manage m) a c
-  manage_in_part m response a c b replies step covered tallied told_so part =
-      let last = managed m.nexus m.function response m.tag in
-      record {
-        answers = map replied replies ++ last ∷ [];
-        some = omega (arith, length-append (map replied replies) (last ∷ []));
-        carried = inl (carried_manage m response a.stand c.stand replies step covered);
-        tallied = tallied;
-        told_so = told_part told behind a.telling b c.telling (map replied replies) (last ∷ []) told_so (part_one told behind b c.telling last part);
-      }
+    -- it is told behind them
+    pub manage_done : (b : Telling T) → IsTold told behind a.telling b (map replied replies) → Wrote b.written c.telling.written (told b.teller last) → c.telling.teller ≡ behind b.teller last → Done told behind (frames.Manage m) a c
+    manage_done b told_so wrote next = record {
+      answers = map replied replies ++ last ∷ [];
+      carried = carried_manage m response a.stand c.stand replies step covered;
+      tallied = tallied;
+      told_so = told_more told behind a.telling b c.telling (map replied replies) (last ∷ []) told_so (told_one told behind b c.telling last wrote next);
+    }
 
-  -- a write failed before the response
-  pub manage_before : (m : Manage) (response : Response) (a c : Scene T) (replies : List Reply) → Around (MayLose (Manages m response)) a.stand.device replies c.stand.device → (IsDeep a.stand.tally → depth c.stand.device ≤ c.stand.tally.deepest) → IsTallied (frames.Manage m) a.stand c.stand → IsToldInPart told behind a.telling c.telling (map replied replies) → DoneInPart told behind (frames.Manage m) a c
-  manage_before m response a c replies step covered tallied part =
-      let last = managed m.nexus m.function response m.tag in
-      record {
-        answers = map replied replies ++ last ∷ [];
-        some = omega (arith, length-append (map replied replies) (last ∷ []));
-        carried = inl (carried_manage m response a.stand c.stand replies step covered);
-        tallied = tallied;
-        told_so = part_before told behind a.telling c.telling (map replied replies) (last ∷ []) part;
-      }
+    told_to_a_front : IsToldInPart told behind a.telling c.telling (map replied replies ++ last ∷ []) → DoneInPart told behind (frames.Manage m) a c
+    told_to_a_front front = record {
+      answers = map replied replies ++ last ∷ [];
+      some = omega (arith, length-append (map replied replies) (last ∷ []));
+      carried = inl (carried_manage m response a.stand c.stand replies step covered);
+      tallied = tallied;
+      told_so = front;
+    }
+
+    -- a write failed in it
+    pub manage_in_part : (b : Telling T) → IsTold told behind a.telling b (map replied replies) → WrotePart b.written c.telling.written (told b.teller last) → DoneInPart told behind (frames.Manage m) a c
+    manage_in_part b told_so part = told_to_a_front (told_part told behind a.telling b c.telling (map replied replies) (last ∷ []) told_so (part_one told behind b c.telling last part))
+
+    -- a write failed before it
+    pub manage_before : IsToldInPart told behind a.telling c.telling (map replied replies) → DoneInPart told behind (frames.Manage m) a c
+    manage_before part = told_to_a_front (part_before told behind a.telling c.telling (map replied replies) (last ∷ []) part)

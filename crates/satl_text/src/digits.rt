@@ -8,16 +8,20 @@ ghost use Rattle.satl_io.specs.Known.{WrotePart};
 ghost use Rattle.satl_text.specs.Lines.{hex_bytes};
 
 use satl_base::Pages;
-use satl_frame::{Gathered, gather};
+use satl_frame::{WriteBuffer, gather};
 use satl_io::{Failed, Sink};
 
 /// Gathers the digits of at most 512 bytes.
-fn gather_block<K: Sink>(sink: &mut K, gathered: &mut Gathered, bytes: &[u8]) -> Result<(), Failed>
+fn gather_block<K: Sink>(
+    sink: &mut K,
+    gathered: &mut WriteBuffer,
+    bytes: &[u8],
+) -> Result<(), Failed>
     requires { length bytes.now ≤ 512 }
-    ensures all { OnOk result (Gathers (K.written sink.old) (K.written sink.new) gathered.old.items gathered.new.items
+    ensures all { OnOk result (Gathers (K.written sink.old) (K.written sink.new) gathered.old gathered.new
         (encode_lower bytes.now)) }
     ensures part { OnErr result (WrotePart (K.written sink.old) (K.written sink.new)
-        (gathered.old.items ++ encode_lower bytes.now)) }
+        (gathered.old ++ encode_lower bytes.now)) }
     ensures cause { HasCause (K.faults sink.old) (K.faults sink.new) result }
 {
     let mut digits = [0; 1024];
@@ -31,15 +35,15 @@ fn gather_block<K: Sink>(sink: &mut K, gathered: &mut Gathered, bytes: &[u8]) ->
 /// Gathers the digits of the first bytes that the pages hold.
 fn gather_digits<K: Sink>(
     sink: &mut K,
-    gathered: &mut Gathered,
+    gathered: &mut WriteBuffer,
     pages: &Pages,
     len: u32,
 ) -> Result<(), Failed>
     requires { len ≤ 512 * length pages.now }
-    ensures all { OnOk result (Gathers (K.written sink.old) (K.written sink.new) gathered.old.items gathered.new.items
+    ensures all { OnOk result (Gathers (K.written sink.old) (K.written sink.new) gathered.old gathered.new
         (encode_lower (first_bytes len pages.now))) }
     ensures part { OnErr result (WrotePart (K.written sink.old) (K.written sink.new)
-        (gathered.old.items ++ encode_lower (first_bytes len pages.now))) }
+        (gathered.old ++ encode_lower (first_bytes len pages.now))) }
     ensures cause { HasCause (K.faults sink.old) (K.faults sink.new) result }
     ensures size { OnOk result (length (first_bytes len pages.now) ≡ len) }
 {
@@ -58,15 +62,15 @@ fn gather_digits<K: Sink>(
 /// Gathers the digits of the first bytes that the pages hold, or `-` where there is none.
 pub fn gather_bytes<K: Sink>(
     sink: &mut K,
-    gathered: &mut Gathered,
+    gathered: &mut WriteBuffer,
     pages: &Pages,
     len: u32,
 ) -> Result<(), Failed>
     requires { len ≤ 512 * length pages.now }
-    ensures all { OnOk result (Gathers (K.written sink.old) (K.written sink.new) gathered.old.items gathered.new.items
+    ensures all { OnOk result (Gathers (K.written sink.old) (K.written sink.new) gathered.old gathered.new
         (hex_bytes (first_bytes len pages.now))) }
     ensures part { OnErr result (WrotePart (K.written sink.old) (K.written sink.new)
-        (gathered.old.items ++ hex_bytes (first_bytes len pages.now))) }
+        (gathered.old ++ hex_bytes (first_bytes len pages.now))) }
     ensures cause { HasCause (K.faults sink.old) (K.faults sink.new) result }
 {
     if len == 0 {

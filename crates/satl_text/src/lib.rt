@@ -11,3 +11,4 @@ mod words;
 
 pub use lines::{write_line, write_summary};
 pub use summary::Summary;
+pub use words::Text;

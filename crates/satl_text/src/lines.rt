@@ -9,17 +9,17 @@ ghost use Rattle.satl_text.specs.Parts.{reply_front, reply_end};
 
 use crate::digits::gather_bytes;
 use crate::summary::Summary;
-use crate::words::{add_bytes, add_decimal, add_digits, add_word};
+use crate::words::{Text, add_bytes, add_decimal, add_digits, add_word};
 use satl_base::{Nexus, Reply, Response, Tag, append};
-use satl_frame::{Gathered, OutFrame, Reason, WriteFault, gather, push, sent_len};
+use satl_frame::{OutFrame, Reason, WriteBuffer, WriteFault, gather, push, sent_len};
 use satl_io::{Failed, Sink};
 
 /// The line of a reply up to its data.
-fn gathered_front(reply: &Reply) -> Gathered
+fn front_text(reply: &Reply) -> Text
     ensures front { result.items ≡ reply_front reply.now }
     ensures few { array_vec_len result ≤ 8000 }
 {
-    let mut text = Gathered::new();
+    let mut text = Text::new();
     append(&mut text, b"reply");
     add_decimal(&mut text, reply.nexus.number());
     add_digits(&mut text, &reply.tag.0.to_be_bytes());
@@ -30,12 +30,12 @@ fn gathered_front(reply: &Reply) -> Gathered
 }
 
 /// The line of a reply behind its data.
-fn gathered_end(reply: &Reply) -> Gathered
+fn end_text(reply: &Reply) -> Text
     requires { IsWritable reply.now }
     ensures end { result.items ≡ reply_end reply.now.expected reply.now.data_len }
     ensures few { array_vec_len result ≤ 8000 }
 {
-    let mut text = Gathered::new();
+    let mut text = Text::new();
     if let Some(expected) = reply.expected {
         add_decimal(&mut text, expected as i32 - reply.data_len as i32);
     }
@@ -44,10 +44,10 @@ fn gathered_end(reply: &Reply) -> Gathered
 }
 
 /// The line of a response to a task management function.
-fn gathered_managed(nexus: Nexus, function: u8, response: Response, tag: Tag) -> Gathered
+fn managed_text(nexus: Nexus, function: u8, response: Response, tag: Tag) -> Text
     ensures { result.items ≡ managed_line nexus function response tag }
 {
-    let mut text = Gathered::new();
+    let mut text = Text::new();
     append(&mut text, b"managed");
     add_decimal(&mut text, nexus.number());
     add_digits(&mut text, &[function]);
@@ -58,10 +58,10 @@ fn gathered_managed(nexus: Nexus, function: u8, response: Response, tag: Tag) ->
 }
 
 /// The line of a refused input.
-fn gathered_fault(reason: Reason, offset: u64) -> Gathered
+fn fault_text(reason: Reason, offset: u64) -> Text
     ensures { result.items ≡ fault_line reason offset }
 {
-    let mut text = Gathered::new();
+    let mut text = Text::new();
     append(&mut text, b"input fault");
     add_decimal(&mut text, reason.code());
     add_word(&mut text, b"at byte");
@@ -71,7 +71,7 @@ fn gathered_fault(reason: Reason, offset: u64) -> Gathered
 }
 
 /// A line of a name and a number.
-fn add_number(text: &mut Gathered, name: &[u8], n: u64)
+fn add_number(text: &mut Text, name: &[u8], n: u64)
     requires short { length name.now ≤ 100 }
     requires room { array_vec_len text.old ≤ 7800 }
     ensures added { text.new.items ≡ text.old.items ++ number_line name.now n }
@@ -83,10 +83,10 @@ fn add_number(text: &mut Gathered, name: &[u8], n: u64)
 }
 
 /// The lines of a summary.
-fn gathered_summary(seed: u64, summary: &Summary) -> Gathered
+fn summary_text(seed: u64, summary: &Summary) -> Text
     ensures { result.items ≡ summary_lines seed summary.now }
 {
-    let mut text = Gathered::new();
+    let mut text = Text::new();
     add_number(&mut text, b"seed", seed);
     add_number(&mut text, b"requests", summary.requests);
     add_number(&mut text, b"good", summary.good);
@@ -115,17 +115,17 @@ fn write_reply<K: Sink>(sink: &mut K, reply: &Reply) -> Result<(), WriteFault>
     ensures part { OnErr result (WrotePart (K.written sink.old) (K.written sink.new) (reply_line reply.now)) }
     ensures cause { HasCause (K.faults sink.old) (K.faults sink.new) result }
 {
-    let mut text = gathered_front(reply);
+    let mut buffer = WriteBuffer::of(front_text(reply).as_slice());
     let len = sent_len(reply.expected, reply.data_len);
-    match gather_bytes(sink, &mut text, &reply.body, len) {
+    match gather_bytes(sink, &mut buffer, &reply.body, len) {
         Ok(()) => {}
         Err(Failed) => return Err(WriteFault),
     }
-    match gather(sink, &mut text, gathered_end(reply).as_slice()) {
+    match gather(sink, &mut buffer, end_text(reply).as_slice()) {
         Ok(()) => {}
         Err(Failed) => return Err(WriteFault),
     }
-    match write_text(sink, text.as_slice()) {
+    match write_text(sink, buffer.as_slice()) {
         Ok(()) => Ok(()),
         Err(WriteFault) => Err(WriteFault),
     }
@@ -151,11 +151,11 @@ pub fn write_line<K: Sink>(frame: OutFrame, sink: &mut K) -> Result<(), WriteFau
             tag,
         } => write_text(
             sink,
-            gathered_managed(nexus, function, response, tag).as_slice(),
+            managed_text(nexus, function, response, tag).as_slice(),
         ),
         OutFrame::End => write_text(sink, b"end\n"),
         OutFrame::Fault { reason, offset } => {
-            write_text(sink, gathered_fault(reason, offset).as_slice())
+            write_text(sink, fault_text(reason, offset).as_slice())
         }
     }
 }
@@ -168,5 +168,5 @@ pub fn write_summary<K: Sink>(seed: u64, summary: &Summary, sink: &mut K) -> Res
     ensures part { OnErr result (WrotePart (K.written sink.old) (K.written sink.new) (summary_lines seed summary.now)) }
     ensures cause { HasCause (K.faults sink.old) (K.faults sink.new) result }
 {
-    write_text(sink, gathered_summary(seed, summary).as_slice())
+    write_text(sink, summary_text(seed, summary).as_slice())
 }

@@ -12,8 +12,6 @@ use Rattle.satl_serve.specs.Moments.{moment}
 use Rattle.satl_fleet.specs.Headline.{IsFleetBefore, IsFleetInPart, IsFleetNotServed, IsFleetWhole}
 use Rattle.satl_fleet.specs.Moments.{FleetMoment}
 use Rattle.satl_fleet.specs.Opening.{IsCauseOfOne}
-use Rattle.satl_fleet.specs.declared.fault.FleetFault.{FleetFault}
-use Rattle.satl_fleet.specs.declared.fault.FleetFault.TheVariants as faults
 use Rattle.satl_top.specs.Faults.{status_of_open}
 use Rattle.satl_top.specs.Top.{OutcomeByWords}
 use Rattle.satl_top.specs.declared.status.Status.{Status}
@@ -22,14 +20,6 @@ use Rattle.satl_top.specs.declared.status.Status.TheVariants as statuses
 -- two words, of which the second is `fleet` (profile)
 abbrev pub AskForFleet : List Text → Type 0
 AskForFleet words = (name : Text) × (words ≡ name ∷ codes "fleet" ∷ [])
-
--- the status of a fault of serving a fleet (profile)
-abbrev pub status_of_fleet : FleetFault → Status
-status_of_fleet (faults.Open fault) = status_of_open fault
-status_of_fleet (faults.BadInput reason offset) = statuses.BadInput
-status_of_fleet faults.Read = statuses.ReadFault
-status_of_fleet faults.Write = statuses.WriteFault
-status_of_fleet faults.NoMemory = statuses.NoMemory
 
 -- what holds of the input, the output and the drives, by the status (profile): a whole input was served; or it was served up to
 -- a frame that was refused or not read, or up to a write that failed; or it was not served; or nothing at all was done

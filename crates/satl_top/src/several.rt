@@ -11,30 +11,12 @@ ghost use Rattle.satl_top.specs.Fleet.{AskForFleet, HasDone, HasServedFleet};
 use crate::status::Status;
 use crate::top::satl;
 use satl_base::Steps;
-use satl_core::OpenFault;
 use satl_drive::Bench;
-use satl_fleet::{FleetFault, serve_fleet};
+use satl_fleet::serve_fleet;
 use satl_io::{Sink, Source};
 use std::alloc::Global;
 use std::rc::RcStr;
 use std::sync::ledger::{Blank, Ledger};
-
-impl From<FleetFault> for Status {
-    ghost use Rattle.std.specs.Prelude.{◌≡◌};
-    ghost use Rattle.satl_top.specs.Fleet.{status_of_fleet};
-
-    ghost from_gives = { λ fault status. status ≡ status_of_fleet fault };
-
-    fn from(fault: FleetFault) -> Status {
-        match fault {
-            FleetFault::Open(OpenFault::NoMemory) | FleetFault::NoMemory => Status::NoMemory,
-            FleetFault::Open(_) => Status::DriveRefused,
-            FleetFault::BadInput { .. } => Status::BadInput,
-            FleetFault::Read => Status::ReadFault,
-            FleetFault::Write => Status::WriteFault,
-        }
-    }
-}
 
 fn is_word(word: &RcStr, text: &str) -> bool
     ensures { (result ≡ true) ↔ (rc_str_bytes word.now ≡ text.now) }

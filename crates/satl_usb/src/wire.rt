@@ -1,15 +1,14 @@
 // What is written for an answer.
 ghost use Rattle.std.specs.Prelude.{◌≡◌, ◌≤◌, ◌-◌, ◌++◌, OnErr, OnOk, length, replicate};
-ghost use Rattle.arrayvec.specs.ArrayVec.{array_vec_len};
 ghost use Rattle.satl_frame.specs.Gathering.{Gathers};
 ghost use Rattle.satl_frame.specs.Output.{IsWritable};
 ghost use Rattle.satl_io.specs.Causes.{HasCause};
 ghost use Rattle.satl_io.specs.Known.{Wrote, WrotePart};
 ghost use Rattle.satl_usb.specs.Wire.{csw_status, kept_on_wire, reply_on_wire, status_on_wire, taken_length};
 
-use satl_base::{Reply, Scsi, SenseBytes, append};
+use satl_base::{Reply, Scsi, SenseBytes};
 use satl_bot::{Cbw, csw_bytes};
-use satl_frame::{Gathered, gather, gather_data, push};
+use satl_frame::{WriteBuffer, gather, gather_data, push};
 use satl_io::{Failed, Sink};
 
 /// The number of bytes of data that the host takes (USB Mass Storage Class, Bulk-Only Transport 1.0, 5.3).
@@ -40,11 +39,11 @@ fn csw_status(command: &Cbw, status: Scsi, size: u32) -> u8
 }
 
 /// Gathers so many zeros.
-fn gather_zeros<K: Sink>(sink: &mut K, gathered: &mut Gathered, count: u32) -> Result<(), Failed>
-    ensures all { OnOk result (Gathers (K.written sink.old) (K.written sink.new) gathered.old.items gathered.new.items
+fn gather_zeros<K: Sink>(sink: &mut K, gathered: &mut WriteBuffer, count: u32) -> Result<(), Failed>
+    ensures all { OnOk result (Gathers (K.written sink.old) (K.written sink.new) gathered.old gathered.new
         (replicate count 0)) }
     ensures part { OnErr result (WrotePart (K.written sink.old) (K.written sink.new)
-        (gathered.old.items ++ replicate count 0)) }
+        (gathered.old ++ replicate count 0)) }
     ensures cause { HasCause (K.faults sink.old) (K.faults sink.new) result }
 {
     let zeros = [0; 512];
@@ -62,13 +61,13 @@ fn tell_status<K: Sink>(
     command: &Cbw,
     status: Scsi,
     size: u32,
-    gathered: &mut Gathered,
+    gathered: &mut WriteBuffer,
     sink: &mut K,
 ) -> Result<(), Failed>
     ensures all { OnOk result (Wrote (K.written sink.old) (K.written sink.new)
-        (gathered.old.items ++ status_on_wire command.now status size)) }
+        (gathered.old ++ status_on_wire command.now status size)) }
     ensures part { OnErr result (WrotePart (K.written sink.old) (K.written sink.new)
-        (gathered.old.items ++ status_on_wire command.now status size)) }
+        (gathered.old ++ status_on_wire command.now status size)) }
     ensures cause { HasCause (K.faults sink.old) (K.faults sink.new) result }
 {
     let missing = taken_length(command).saturating_sub(size);
@@ -87,7 +86,7 @@ pub fn tell_reply<K: Sink>(command: &Cbw, reply: &Reply, sink: &mut K) -> Result
     ensures part { OnErr result (WrotePart (K.written sink.old) (K.written sink.new) (reply_on_wire command.now reply.now)) }
     ensures cause { HasCause (K.faults sink.old) (K.faults sink.new) result }
 {
-    let mut gathered = Gathered::new();
+    let mut gathered = WriteBuffer::new();
     let count = taken_length(command).min(reply.data_len);
     gather_data(sink, &mut gathered, &reply.body, count)?;
     tell_status(command, reply.status, reply.data_len, &mut gathered, sink)
@@ -103,7 +102,6 @@ pub fn tell_kept<K: Sink>(command: &Cbw, sense: &SenseBytes, sink: &mut K) -> Re
     let sense = sense.as_slice();
     let size = sense.len().min(usize::from(command.cdb[4]));
     let count = size.min(taken_length(command) as usize);
-    let mut gathered = Gathered::new();
-    append(&mut gathered, &sense[..count]);
+    let mut gathered = WriteBuffer::of(&sense[..count]);
     tell_status(command, Scsi::Good, size as u32, &mut gathered, sink)
 }

@@ -4,16 +4,13 @@ ghost use Rattle.std.specs.List.{AllByRecursion};
 ghost use Rattle.satl_disk.specs.Disk.{state_of};
 ghost use Rattle.satl_fleet.specs.Opening.{IsServable};
 
-use crate::replaying::words;
+use crate::replaying::{pieces, run_on};
 use satl_base::{NoMemory, Which};
 use satl_disk::ModelDrive;
 use satl_drive::Bench;
-use satl_io::{MemorySink, MemorySource};
-use satl_top::{Status, counted_program};
+use satl_top::Status;
 use std::alloc::Global;
-use std::marker::Brand;
 use std::process::Abort;
-use std::sync::ledger::Blank;
 use std::test::Fail;
 
 /// REPORT LUNS of nexus 0, tag 1, and END.
@@ -69,28 +66,17 @@ fn modelled(alloc: Global) -> Result<Vec<ModelDrive>, NoMemory>
     Ok(drives)
 }
 
-/// How an input of a fleet of two drives ends, and what it writes.
-fn serve(alloc: Global, input: &[u8], piece: usize) -> Result<(Status, Vec<u8>), NoMemory> {
-    let words = words(alloc, &["fleet"])?;
-    let piece = piece.max(1);
-    let mut source = MemorySource::new(input.to_vec(alloc)?, piece, Vec::new(alloc));
-    let mut sink = MemorySink::new(alloc, 65536, piece, Vec::new(alloc))?;
-    let mut drives = modelled(alloc)?;
-    let status = counted_program::<_, _, _, Brand>(
-        alloc,
-        &words,
-        &mut source,
-        &mut sink,
-        &mut drives,
-        Blank::new(1),
-    );
-    Ok((status, sink.written().to_vec(alloc)?))
-}
-
 /// The input ends with 0 and writes this, however its bytes are cut.
 fn expect(rt: &impl Abort, alloc: Global, input: &[u8], output: &[u8]) -> Result<(), Fail> {
     for piece in [1, 65536] {
-        let (ended, written) = serve(alloc, input, piece)?;
+        let mut drives = modelled(alloc)?;
+        let (ended, written) = run_on(
+            alloc,
+            &["fleet"],
+            input.to_vec(alloc)?,
+            pieces(piece),
+            &mut drives,
+        )?;
         assert_eq!(rt; ended, Status::Done, "in pieces of {piece}");
         assert_eq!(rt; written.as_slice(), output, "in pieces of {piece}");
     }

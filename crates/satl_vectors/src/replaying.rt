@@ -1,20 +1,21 @@
 // Replays over memory streams.
-ghost use Rattle.std.specs.Prelude.{◌≡◌, ◌<◌, [], None, false};
+ghost use Rattle.std.specs.Prelude.{◌≡◌, ◌≤◌, IfOk, false, map, vec_len};
+ghost use Rattle.std.specs.List.{AllByRecursion};
 ghost use Rattle.satl_base.specs.Lists.{is_in};
 ghost use Rattle.satl_disk.specs.Bench.{fitting_words};
-ghost use Rattle.satl_drive.specs.State.{IsFit};
+ghost use Rattle.satl_disk.specs.Disk.{state_of};
+ghost use Rattle.satl_fleet.specs.Opening.{IsServable};
 
 use crate::frames::{END, ENDED};
-use satl_base::{NoMemory, Steps};
+use satl_base::NoMemory;
 use satl_disk::ModelDrive;
-use satl_drive::Bench;
-use satl_io::{MemorySink, MemorySource, Sink, Source};
-use satl_top::{Status, satl};
+use satl_io::{MemorySink, MemorySource};
+use satl_top::{Status, counted_program};
 use std::alloc::{AllocError, Global};
 use std::marker::Brand;
 use std::process::Abort;
 use std::rc::RcStr;
-use std::sync::ledger::{Blank, Ledger};
+use std::sync::ledger::Blank;
 use std::test::Fail;
 
 /// How many bytes a read gives and a write takes at most, and which call of the source and of the sink fails.
@@ -32,25 +33,6 @@ pub fn pieces(piece: usize) -> Streams {
         failing_read: None,
         failing_write: None,
     }
-}
-
-fn counted<S: Source, K: Sink, D: Bench, L: Ledger>(
-    alloc: Global,
-    words: &[RcStr],
-    source: &mut S,
-    sink: &mut K,
-    drive: &mut D,
-    blank: Blank,
-) -> Status
-    requires idle { (D.state drive.old).outstanding ≡ [] }
-    requires no_error { (D.state drive.old).error ≡ None }
-    requires fit { IsFit (D.state drive.old) }
-    requires name { blank.name ≡ L.name }
-    requires parts { blank.parts ≡ L.parts }
-    requires some { 0 < blank.parts }
-{
-    let mut steps = Steps::<L>::new(blank);
-    satl(alloc, words, source, sink, drive, &mut steps)
 }
 
 /// The calls that fail: the one of this number, if any.
@@ -72,7 +54,7 @@ pub fn replay(
 }
 
 /// The words behind the program's name.
-pub fn words(alloc: Global, given: &[&str]) -> Result<Vec<RcStr>, NoMemory> {
+fn words(alloc: Global, given: &[&str]) -> Result<Vec<RcStr>, NoMemory> {
     let mut words = Vec::new(alloc);
     words.push(RcStr::from_str(alloc, "satl")?)?;
     for word in given {
@@ -81,28 +63,70 @@ pub fn words(alloc: Global, given: &[&str]) -> Result<Vec<RcStr>, NoMemory> {
     Ok(words)
 }
 
-/// How the program ends with these words behind its name, and what it writes.
+/// How the program ends with these words behind its name, over this source and these drives, and what it writes to a sink of
+/// these streams.
+fn run_over(
+    alloc: Global,
+    given: &[&str],
+    source: &mut MemorySource,
+    streams: Streams,
+    drives: &mut Vec<ModelDrive>,
+) -> Result<(Status, Vec<u8>), NoMemory>
+    requires some { 1 ≤ vec_len drives.old }
+    requires few { vec_len drives.old ≤ 4 }
+    requires servable { AllByRecursion IsServable (map state_of drives.old.items) }
+{
+    let words = words(alloc, given)?;
+    let failing = calls(alloc, streams.failing_write)?;
+    let mut sink = MemorySink::new(alloc, 131072, streams.piece.max(1), failing)?;
+    let status = counted_program::<_, _, _, Brand>(
+        alloc,
+        &words,
+        source,
+        &mut sink,
+        drives,
+        Blank::new(1),
+    );
+    Ok((status, sink.written().to_vec(alloc)?))
+}
+
+/// How the program ends with these words behind its name, over these drives, and what it writes.
+pub fn run_on(
+    alloc: Global,
+    given: &[&str],
+    input: Vec<u8>,
+    streams: Streams,
+    drives: &mut Vec<ModelDrive>,
+) -> Result<(Status, Vec<u8>), NoMemory>
+    requires some { 1 ≤ vec_len drives.old }
+    requires few { vec_len drives.old ≤ 4 }
+    requires servable { AllByRecursion IsServable (map state_of drives.old.items) }
+{
+    let failing = calls(alloc, streams.failing_read)?;
+    let mut source = MemorySource::new(input, streams.piece.max(1), failing);
+    run_over(alloc, given, &mut source, streams, drives)
+}
+
+/// This drive alone.
+fn alone(alloc: Global, drive: ModelDrive) -> Result<Vec<ModelDrive>, NoMemory>
+    requires { IsServable (state_of drive) }
+    ensures count { IfOk result (λ drives. vec_len drives ≡ 1) }
+    ensures servable { IfOk result (λ drives. AllByRecursion IsServable (map state_of drives.items)) }
+{
+    let mut drives = Vec::new(alloc);
+    drives.push(drive)?;
+    Ok(drives)
+}
+
+/// How the program ends with these words behind its name, over a drive of 8,192 sectors, and what it writes.
 pub fn run(
     alloc: Global,
     given: &[&str],
     input: Vec<u8>,
     streams: Streams,
 ) -> Result<(Status, Vec<u8>), NoMemory> {
-    let words = words(alloc, given)?;
-    let piece = streams.piece.max(1);
-    let mut source = MemorySource::new(input, piece, calls(alloc, streams.failing_read)?);
-    let failing = calls(alloc, streams.failing_write)?;
-    let mut sink = MemorySink::new(alloc, 131072, piece, failing)?;
-    let mut drive = ModelDrive::new(alloc, 8192)?;
-    let status = counted::<_, _, _, Brand>(
-        alloc,
-        &words,
-        &mut source,
-        &mut sink,
-        &mut drive,
-        Blank::new(1),
-    );
-    Ok((status, sink.written().to_vec(alloc)?))
+    let mut drives = alone(alloc, ModelDrive::new(alloc, 8192)?)?;
+    run_on(alloc, given, input, streams, &mut drives)
 }
 
 /// How a replay of a source ends, and what it writes, on a drive with this value in this word of its IDENTIFY DEVICE data.
@@ -114,19 +138,10 @@ pub fn replay_changed(
 ) -> Result<(Status, Vec<u8>), NoMemory>
     requires { is_in word fitting_words ≡ false }
 {
-    let words = words(alloc, &["replay"])?;
-    let mut sink = MemorySink::new(alloc, 65536, 65536, Vec::new(alloc))?;
     let mut drive = ModelDrive::new(alloc, 8192)?;
     drive.set_identify_word(word, value);
-    let status = counted::<_, _, _, Brand>(
-        alloc,
-        &words,
-        source,
-        &mut sink,
-        &mut drive,
-        Blank::new(1),
-    );
-    Ok((status, sink.written().to_vec(alloc)?))
+    let mut drives = alone(alloc, drive)?;
+    run_over(alloc, &["replay"], source, pieces(65536), &mut drives)
 }
 
 /// What a replay of an input writes on a drive whose trims are not queued.
@@ -143,20 +158,15 @@ pub fn run_until_lost(
     input: Vec<u8>,
     after: u32,
 ) -> Result<(Status, Vec<u8>), NoMemory> {
-    let words = words(alloc, given)?;
-    let mut source = MemorySource::new(input, 65536, calls(alloc, None)?);
-    let mut sink = MemorySink::new(alloc, 65536, 65536, calls(alloc, None)?)?;
     let mut drive = ModelDrive::new(alloc, 64)?;
     drive.lose_link_after(after);
-    let status = counted::<_, _, _, Brand>(
+    run_on(
         alloc,
-        &words,
-        &mut source,
-        &mut sink,
-        &mut drive,
-        Blank::new(1),
-    );
-    Ok((status, sink.written().to_vec(alloc)?))
+        given,
+        input,
+        pieces(65536),
+        &mut alone(alloc, drive)?,
+    )
 }
 
 /// A replay of an input ends and writes so, however its bytes are cut.

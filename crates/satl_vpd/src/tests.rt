@@ -7,7 +7,7 @@ use satl_identify::Identity;
 use std::test::*;
 
 // The words of its IDENTIFY DEVICE data that are looked at, beside the texts.
-const WORDS: [(usize, u16); 7] = [
+const WORDS: [(u8, u16); 7] = [
     (87, 0x4120),
     (106, 0x6003),
     (108, 0x5000),
@@ -43,12 +43,6 @@ const CHARACTERISTICS: [u8; 64] = [
     0x00, 0x00, 0x00, 0x00, 0x00, 0x00, 0x00, 0x00, 0x00, 0x00, 0x00, 0x00, 0x00, 0x00, 0x00, 0x00,
 ];
 
-fn set_word(bytes: &mut [u8; 512], place: usize, value: u16) {
-    if place < 256 {
-        LittleEndian::write_u16(&mut bytes[2 * place..], value);
-    }
-}
-
 fn drive_identity() -> Identity
     ensures { result.capacity ≡ 8192 }
 {
@@ -57,8 +51,8 @@ fn drive_identity() -> Identity
     bytes[20..40].copy_from_slice(b"ASLT0000000000000010");
     bytes[46..54].copy_from_slice(b"WF102030");
     bytes[54..94].copy_from_slice(b"OMED LCN QIDKS                          ");
-    for (place, value) in WORDS.iter() {
-        set_word(&mut bytes, *place, *value);
+    for (place, value) in WORDS {
+        LittleEndian::write_u16(&mut bytes[2 * usize::from(place)..], value);
     }
     Identity {
         bytes,
@@ -117,7 +111,7 @@ fn pages(rt: HostRuntime) {
     // Without a world wide name, and without trim.
     let mut plain = identity;
     plain.trim = false;
-    set_word(&mut plain.bytes, 87, 0x4020);
+    LittleEndian::write_u16(&mut plain.bytes[2 * 87..], 0x4020);
     assert!(rt; is_page(vpd(&plain, 0x83), UNNAMED));
     assert!(rt; is_page(vpd(&plain, 0xB2), b"\x00\xB2\x00\x04\x00\x00\x00\x00"));
 }
@@ -134,8 +128,8 @@ fn inquiry_capacity_and_luns(rt: HostRuntime) {
     assert_eq!(rt; inquiry(&identity, false)[0], 0x7F);
     // Firmware characters 5 to 8 are spaces: the first four show.
     let mut short = identity;
-    set_word(&mut short.bytes, 25, 0x2020);
-    set_word(&mut short.bytes, 26, 0x2020);
+    LittleEndian::write_u16(&mut short.bytes[2 * 25..], 0x2020);
+    LittleEndian::write_u16(&mut short.bytes[2 * 26..], 0x2020);
     assert_eq!(rt; &inquiry(&short, true)[32..], &b"FW01"[..]);
     let mut most = identity;
     most.capacity = 0x1_0000_0001;

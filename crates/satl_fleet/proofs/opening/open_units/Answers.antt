@@ -1,5 +1,6 @@
 use Rattle.std.proofs.Common.{arith, map, refl, sym, subst}
 use Rattle.std.specs.Prelude.{slice_set}
+use Rattle.satl_core.specs.declared.satl.OpenFault.TheVariants.{NoMemory}
 use Rattle.satl_fleet.specs.Opening.{OpensTo}
 use Rattle.satl_fleet.specs.Opening.OpensTo.{rest}
 use Rattle.satl_fleet.proofs.OpeningLemmas.{able, alone_more, cause_more, opened_alone, opened_more}
@@ -24,6 +25,9 @@ loop-k-init g c = record {
 
 pub returns-in_default-clause-alone : goal.returns-in_default-clause-alone
 returns-in_default-clause-alone g c = alone_more g.D.Drive.state (map g.D.Drive.state c.args.drives.now.items) c.loop-k.units.items c.loop-k.drives.items c.loop-k.k c.index_mut-drive.result.now c.loop-k.invariant.opened (omega (arith, c.loop-k.invariant.units, c.loop-k.units.ok.0)) (omega (arith, c.loop-k-test.true, c.loop-k.invariant.drives, c.loop-k.drives.ok.0)) c.index_mut-drive.ensures.value c.open.new.drive (opened_alone (g.D.Drive.state c.index_mut-drive.result.now) (g.D.Drive.state c.open.new.drive) c.in-Ok.satl (record { opened = c.in-Ok.ensures.opened; queue = c.see_queue.ensures.ties (g.D.Drive.state c.open.new.drive) c.in-Ok.ensures.opened.tied; nows = c.in-Ok.ensures.nows }))
+
+pub returns-in_default-clause-stopped : goal.returns-in_default-clause-stopped
+returns-in_default-clause-stopped g c = cause_more g.D.Drive.state (map g.D.Drive.state c.args.drives.now.items) c.loop-k.units.items c.loop-k.drives.items c.loop-k.k c.index_mut-drive.result.now c.loop-k.invariant.opened (omega (arith, c.loop-k.invariant.units, c.loop-k.units.ok.0)) (omega (arith, c.loop-k-test.true, c.loop-k.invariant.drives, c.loop-k.drives.ok.0)) c.index_mut-drive.ensures.value c.open.new.drive NoMemory tt
 
 pub returns-in-Err-clause-stopped : goal.returns-in-Err-clause-stopped
 returns-in-Err-clause-stopped g c = cause_more g.D.Drive.state (map g.D.Drive.state c.args.drives.now.items) c.loop-k.units.items c.loop-k.drives.items c.loop-k.k c.index_mut-drive.result.now c.loop-k.invariant.opened (omega (arith, c.loop-k.invariant.units, c.loop-k.units.ok.0)) (omega (arith, c.loop-k-test.true, c.loop-k.invariant.drives, c.loop-k.drives.ok.0)) c.index_mut-drive.ensures.value c.open.new.drive c.in-Err.fault c.in-Err.ensures.cause

@@ -4,7 +4,7 @@ use Rattle.std.proofs.lemmas.Result.{IfErr-weaker, on_ok_weaker}
 use Rattle.satl_serve.specs.Moments.{sink_state, source_state}
 use Rattle.satl_serve.specs.Runs.{input_limit}
 use Rattle.satl_fleet.specs.Moments.{fleet_moment}
-use Rattle.satl_fleet.proofs.FinalLemmas.{fleet_stops, fleet_whole, no_memory, on_error, stream_cause}
+use Rattle.satl_fleet.proofs.FinalLemmas.{fleet_stops, fleet_whole, lacks_memory, no_memory, stream_cause}
 use Rattle.satl_fleet.proofs.OpeningLemmas.{all_idle, all_ready}
 use Rattle.satl_fleet.proofs.serving.serve_fleet.Goals as goal
 
@@ -34,5 +34,8 @@ serve_opened-requires-clause-opened g c = record {
   idle = all_idle c.requires.servable c.in_ok-units.ensures.opened;
 }
 
-pub returns-in_err-pool-clause-stopped : goal.returns-in_err-pool-clause-stopped
-returns-in_err-pool-clause-stopped g c = on_error c.from_residual.result _ _ c.from_residual.ensures.1 (λ e is. no_memory input_limit (fleet_moment (source_state (g.S.Source.left c.args.source.now) (g.S.Source.faults c.args.source.now)) (sink_state (g.K.Sink.written c.args.sink.now) (g.K.Sink.faults c.args.sink.now)) c.args.steps.now (map g.D.Drive.state c.args.drives.now.items)) e is)
+pub returns-in_default-clause-stopped : goal.returns-in_default-clause-stopped
+returns-in_default-clause-stopped g c = no_memory (fleet_moment (source_state (g.S.Source.left c.args.source.now) (g.S.Source.faults c.args.source.now)) (sink_state (g.K.Sink.written c.args.sink.now) (g.K.Sink.faults c.args.sink.now)) c.args.steps.now (map g.D.Drive.state c.args.drives.now.items))
+
+pub returns-in_default-clause-causes : goal.returns-in_default-clause-causes
+returns-in_default-clause-causes g c = lacks_memory (map g.D.Drive.state c.args.drives.now.items) (omega (arith, length-map c.args.drives.now.items g.D.Drive.state, c.requires.some, c.args.drives.now.ok.0))

@@ -5,7 +5,7 @@ use Rattle.satl_serve.proofs.PrintingLemmas.{printer_tells}
 use Rattle.satl_serve.proofs.serving.serve_uncounted.Goals as goal
 
 pub serve_by-requires-clause-tells : goal.serve_by-requires-clause-tells
-serve_by-requires-clause-tells g c = printer_tells c.args.form _ refl
+serve_by-requires-clause-tells g c = printer_tells c.args.form _ c.new.ensures
 
 pub returns-clause-says : goal.returns-clause-says
 returns-clause-says g c = says_ok c.args.form input_limit _ _ _ _ c.in_ok-serve_by.ensures.says

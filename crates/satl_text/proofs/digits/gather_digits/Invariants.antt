@@ -7,7 +7,7 @@ use Rattle.satl_text.proofs.digits.gather_digits.Given as goal
 abbrev pub invariant-loop-block : goal.invariant-loop-block
 invariant-loop-block g l = record {
   front : List ℕ;
-  gathers : Gathers (g.K.Sink.written l.fn.sink) (g.K.Sink.written l.sink) l.fn.gathered.items l.gathered.items (encode_lower front);
+  gathers : Gathers (g.K.Sink.written l.fn.sink) (g.K.Sink.written l.sink) l.fn.gathered l.gathered (encode_lower front);
   rest : front ++ first_bytes l.left l.block-iterator ≡ first_bytes l.len l.pages;
   holds : l.left ≤ 512 * length l.block-iterator;
   counted : length front + l.left ≡ l.len;

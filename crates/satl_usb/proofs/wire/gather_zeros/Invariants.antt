@@ -5,7 +5,7 @@ use Rattle.satl_usb.proofs.wire.gather_zeros.Given as goal
 abbrev pub invariant-loop-left : goal.invariant-loop-left
 invariant-loop-left g l = record {
   few : l.left ≤ l.fn.count;
-  gathers : Gathers (g.K.Sink.written l.fn.sink) (g.K.Sink.written l.sink) l.fn.gathered.items l.gathered.items (replicate (l.fn.count - l.left) 0);
+  gathers : Gathers (g.K.Sink.written l.fn.sink) (g.K.Sink.written l.sink) l.fn.gathered l.gathered (replicate (l.fn.count - l.left) 0);
   later : g.K.Sink.faults l.fn.sink ≤ g.K.Sink.faults l.sink;
 }
 

@@ -18,10 +18,10 @@ pub returns-clause-all : goal.returns-clause-all
 returns-clause-all g c =
     let r = c.args.reply.now in
     let same = ap (λ n. first_bytes n r.body) (c.min-count.ensures ∙ ap (λ n. min n r.data_len) c.taken_length.ensures) ∙ take_twice (taken_length c.args.command.now) r.data_len (bytes_of r.body) in
-    on_ok_weaker c.tell_status.result (answer_written c.args.command.now r.status r.data_len (first_bytes r.data_len r.body) (first_bytes c.min-count.result r.body) same (g.K.Sink.written c.args.sink.now) (g.K.Sink.written c.gather_data.new.sink) (g.K.Sink.written c.tell_status.new.sink) c.new-gathered.result.items c.gather_data.new.gathered.items c.new-gathered.ensures c.in_ok-gather_data.ensures.all) c.tell_status.ensures.all
+    on_ok_weaker c.tell_status.result (answer_written c.args.command.now r.status r.data_len (first_bytes r.data_len r.body) (first_bytes c.min-count.result r.body) same (g.K.Sink.written c.args.sink.now) (g.K.Sink.written c.gather_data.new.sink) (g.K.Sink.written c.tell_status.new.sink) c.new-gathered.result c.gather_data.new.buffer c.new-gathered.ensures c.in_ok-gather_data.ensures.all) c.tell_status.ensures.all
 
 pub returns-clause-part : goal.returns-clause-part
 returns-clause-part g c =
     let r = c.args.reply.now in
     let same = ap (λ n. first_bytes n r.body) (c.min-count.ensures ∙ ap (λ n. min n r.data_len) c.taken_length.ensures) ∙ take_twice (taken_length c.args.command.now) r.data_len (bytes_of r.body) in
-    on_err_weaker c.tell_status.result (answer_in_part c.args.command.now r.status r.data_len (first_bytes r.data_len r.body) (first_bytes c.min-count.result r.body) same (g.K.Sink.written c.args.sink.now) (g.K.Sink.written c.gather_data.new.sink) (g.K.Sink.written c.tell_status.new.sink) c.new-gathered.result.items c.gather_data.new.gathered.items c.new-gathered.ensures c.in_ok-gather_data.ensures.all) c.tell_status.ensures.part
+    on_err_weaker c.tell_status.result (answer_in_part c.args.command.now r.status r.data_len (first_bytes r.data_len r.body) (first_bytes c.min-count.result r.body) same (g.K.Sink.written c.args.sink.now) (g.K.Sink.written c.gather_data.new.sink) (g.K.Sink.written c.tell_status.new.sink) c.new-gathered.result c.gather_data.new.buffer c.new-gathered.ensures c.in_ok-gather_data.ensures.all) c.tell_status.ensures.part

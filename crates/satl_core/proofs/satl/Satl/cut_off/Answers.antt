@@ -1,31 +1,36 @@
-use Rattle.std.proofs.Common.{◌≢◌, arith, refl, sym, ap, subst, ◌∙◌, [], length}
+use Rattle.std.proofs.Common.{◌≢◌, ◌≤◌, arith, refl, sym, ap, subst, ◌∙◌, [], length}
 use Rattle.std.specs.List.{AllByRecursion}
-use Rattle.satl_core.specs.Layer.{IsKept, Layer, Tied, held_pages}
+use Rattle.satl_core.specs.Layer.{IsKept, IsSoundLayer, Layer, Tied, held_pages}
 use Rattle.satl_core.specs.Leaving.{is_within}
 use Rattle.satl_core.proofs.AgreeingLemmas.{quietly_down, tied_lost, works_flying}
 use Rattle.satl_core.proofs.LeavingLemmas.{left_fewer, left_kept}
 use Rattle.satl_core.proofs.RefillLemmas.{lost_layer, lost_rest}
 use Rattle.satl_core.proofs.TakingLemmas.{cut_agrees, cut_lost, cut_removed, dropped_layer, rest_left}
 use Rattle.satl_core.proofs.TieLemmas.{layer_of, queue_changed}
+use Rattle.satl_core.proofs.satl.Satl.cut_off.Given as given
 use Rattle.satl_core.proofs.satl.Satl.cut_off.Goals as goal
+use Rattle.satl_core.proofs.satl.Satl.cut_off.Goals.{After-drop_tasks}
+
+-- ---- tasks were dropped
+
+sound_left : (g : given.Over) (c : After-drop_tasks g) → IsSoundLayer c.self.inside.identity c.drop_tasks.new.queue.tasks c.drop_tasks.new.pool
+sound_left g c = record {
+  held = omega (arith, c.drop_tasks.ensures.out, c.self.invariant.held, ap held_pages c.cut-cut.ensures.same);
+  all = omega (arith, c.drop_tasks.ensures.out, c.drop_tasks.ensures.free, c.self.invariant.all);
+  kept = subst (AllByRecursion (IsKept c.self.inside.identity)) (sym c.drop_tasks.ensures.others) (left_kept (IsKept c.self.inside.identity) (is_within c.args.scope.now) c.cut-cut.new.self.tasks (subst (AllByRecursion (IsKept c.self.inside.identity)) (sym c.cut-cut.ensures.same) c.self.invariant.kept));
+  identity_is = c.self.invariant.identity_is;
+}
+
+fewer_left : (g : given.Over) (c : After-drop_tasks g) → length c.drop_tasks.new.queue.tasks ≤ length c.self.inside.queue.tasks
+fewer_left g c =
+    let few = left_fewer (is_within c.args.scope.now) c.cut-cut.new.self.tasks in
+    omega (arith, few, ap length c.drop_tasks.ensures.others, ap length c.cut-cut.ensures.same)
 
 pub invariant_of-self : goal.invariant_of-self
-invariant_of-self g c =
-    record {
-      held = omega (arith, c.drop_tasks.ensures.out, c.self.invariant.held, ap held_pages c.cut-cut.ensures.same);
-      all = omega (arith, c.drop_tasks.ensures.out, c.drop_tasks.ensures.free, c.self.invariant.all);
-      kept = subst (AllByRecursion (IsKept c.self.inside.identity)) (sym c.drop_tasks.ensures.others) (left_kept (IsKept c.self.inside.identity) (is_within c.args.scope.now) c.cut-cut.new.self.tasks (subst (AllByRecursion (IsKept c.self.inside.identity)) (sym c.cut-cut.ensures.same) c.self.invariant.kept));
-      identity_is = c.self.invariant.identity_is;
-    }
+invariant_of-self g c = sound_left g (goal.at.invariant_of-self g c).After-drop_tasks
 
 pub invariant_of-self-in-Err : goal.invariant_of-self-in-Err
-invariant_of-self-in-Err g c =
-    record {
-      held = omega (arith, c.drop_tasks.ensures.out, c.self.invariant.held, ap held_pages c.cut-cut.ensures.same);
-      all = omega (arith, c.drop_tasks.ensures.out, c.drop_tasks.ensures.free, c.self.invariant.all);
-      kept = subst (AllByRecursion (IsKept c.self.inside.identity)) (sym c.drop_tasks.ensures.others) (left_kept (IsKept c.self.inside.identity) (is_within c.args.scope.now) c.cut-cut.new.self.tasks (subst (AllByRecursion (IsKept c.self.inside.identity)) (sym c.cut-cut.ensures.same) c.self.invariant.kept));
-      identity_is = c.self.invariant.identity_is;
-    }
+invariant_of-self-in-Err g c = sound_left g (goal.at.invariant_of-self-in-Err g c).After-drop_tasks
 
 pub refill-requires-clause-agrees : goal.refill-requires-clause-agrees
 refill-requires-clause-agrees g c =
@@ -40,13 +45,13 @@ refill-requires-clause-agrees g c =
 
 pub refill-requires-clause-room : goal.refill-requires-clause-room
 refill-requires-clause-room g c =
-    let few = left_fewer (is_within c.args.scope.now) c.cut-cut.new.self.tasks in
-    omega (arith, few, ap length c.drop_tasks.ensures.others, ap length c.cut-cut.ensures.same, ap (λ (l : Layer). length l.tasks) c.self.view_is, c.requires.room)
+    let few = fewer_left g (goal.at.refill-requires-clause-room g c).After-drop_tasks in
+    omega (arith, few, ap (λ (l : Layer). length l.tasks) c.self.view_is, c.requires.room)
 
 pub lose-requires-clause-room : goal.lose-requires-clause-room
 lose-requires-clause-room g c =
-    let few = left_fewer (is_within c.args.scope.now) c.cut-cut.new.self.tasks in
-    omega (arith, few, ap length c.drop_tasks.ensures.others, ap length c.cut-cut.ensures.same, ap (λ (l : Layer). length l.tasks) c.self.view_is, c.requires.room)
+    let few = fewer_left g (goal.at.lose-requires-clause-room g c).After-drop_tasks in
+    omega (arith, few, ap (λ (l : Layer). length l.tasks) c.self.view_is, c.requires.room)
 
 pub returns-in-Ok-clause-removes : goal.returns-in-Ok-clause-removes
 returns-in-Ok-clause-removes g c =
@@ -62,9 +67,8 @@ returns-in-Ok-clause-removes g c =
 pub returns-in-Ok-clause-rest : goal.returns-in-Ok-clause-rest
 returns-in-Ok-clause-rest g c =
     let i = c.self.inside in
-    let few = left_fewer (is_within c.args.scope.now) c.cut-cut.new.self.tasks in
     rest_left c.args.scope.now (layer_of i.identity i.modes i.started i.down i.attentions i.queue i.pool) _ (layer_of i.identity i.modes i.started i.down i.attentions c.drop_tasks.new.queue c.drop_tasks.new.pool) _ _ _ c.self.view_is refl
-    (omega (arith, c.drop_tasks.ensures.out, ap held_pages c.cut-cut.ensures.same, c.self.invariant.held)) (omega (arith, few, ap length c.drop_tasks.ensures.others, ap length c.cut-cut.ensures.same)) c.refill.ensures.rest
+    (omega (arith, c.drop_tasks.ensures.out, ap held_pages c.cut-cut.ensures.same, c.self.invariant.held)) (fewer_left g (goal.at.returns-in-Ok-clause-rest g c).After-drop_tasks) c.refill.ensures.rest
 
 pub returns-in-Err-clause-removes : goal.returns-in-Err-clause-removes
 returns-in-Err-clause-removes g c =

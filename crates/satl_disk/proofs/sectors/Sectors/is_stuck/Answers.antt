@@ -6,9 +6,9 @@ use Rattle.satl_disk.proofs.sectors.Sectors.is_stuck.Goals as goal
 pub returns-then-place-len : goal.returns-then-place-len
 returns-then-place-len c =
     let i = c.self.inside in
-    stuck_is i.blocks i.dirty.items i.flaws.items c.args.self.now c.self.view_is c.self.invariant c.args.place (omega (arith, i.flaws.ok.0)) c.index.result.now c.index.ensures
+    stuck_is i.blocks i.stables i.flaws.items c.args.self.now c.self.view_is c.self.invariant c.args.place (omega (arith, i.flaws.ok.0)) c.index.result.now c.index.ensures
 
 pub returns-else-place-len : goal.returns-else-place-len
 returns-else-place-len c =
     let i = c.self.inside in
-    stuck_none c.args.self.now c.args.place (omega (arith, i.flaws.ok.0, size_is i.blocks i.dirty.items i.flaws.items c.args.self.now c.self.view_is c.self.invariant))
+    stuck_none c.args.self.now c.args.place (omega (arith, i.flaws.ok.0, size_is i.blocks i.stables i.flaws.items c.args.self.now c.self.view_is c.self.invariant))

@@ -7,8 +7,8 @@ use Rattle.satl_disk.proofs.sectors.Sectors.write.Goals as goal
 pub returns-then-place-len-clause-value : goal.returns-then-place-len-clause-value
 returns-then-place-len-clause-value c =
     let i = c.self.inside in
-    write_is i.blocks i.dirty.items i.flaws.items c.args.self.now c.self.view_is c.self.invariant c.args.place (omega (arith, i.flaws.ok.0)) c.args.block.now c.args.cached
-    c.index.result.now c.write.new.self c.index_mut-then-place-len.result.now c.overwrite.new.self c.index.ensures c.index_mut-then-place-len.ensures.value c.overwrite.ensures c.write.ensures
+    write_is i.blocks i.stables i.flaws.items c.args.self.now c.self.view_is c.self.invariant c.args.place (omega (arith, i.flaws.ok.0)) c.args.block.now c.at.result.now c.args.cached c.set.new.self c.write.new.self
+    c.index_mut.result.now c.overwrite.new.self c.index_mut.ensures.value c.overwrite.ensures c.at.ensures c.write.ensures c.set.ensures
 
 pub returns-then-place-len-clause-size : goal.returns-then-place-len-clause-size
 returns-then-place-len-clause-size c = ap length (returns-then-place-len-clause-value c) ∙ changed_at-length (λ (s : Sector). written s c.args.block.now c.args.cached) c.args.self.now c.args.place
@@ -16,4 +16,4 @@ returns-then-place-len-clause-size c = ap length (returns-then-place-len-clause-
 pub returns-else-place-len-clause-value : goal.returns-else-place-len-clause-value
 returns-else-place-len-clause-value c =
     let i = c.self.inside in
-    changed_none (λ (s : Sector). written s c.args.block.now c.args.cached) c.args.self.now c.args.place (omega (arith, i.flaws.ok.0, size_is i.blocks i.dirty.items i.flaws.items c.args.self.now c.self.view_is c.self.invariant))
+    changed_none (λ (s : Sector). written s c.args.block.now c.args.cached) c.args.self.now c.args.place (omega (arith, i.flaws.ok.0, size_is i.blocks i.stables i.flaws.items c.args.self.now c.self.view_is c.self.invariant))

@@ -1,4 +1,0 @@
-use Rattle.satl_vectors.proofs.replaying.replay_changed.Given as goal
-
-abbrev pub ghosts-counted : goal.ghosts-counted
-ghosts-counted a = record { name = a.blank.name; parts = a.blank.parts }
