@@ -15,7 +15,7 @@ use Rattle.satl_base.proofs.MovesLemmas.{moves-length, moves-sound}
 use Rattle.satl_identify.specs.Data.{identity_data}
 use Rattle.satl_identify.specs.declared.identity.Identity.{Identity}
 use Rattle.satl_line.specs.declared.entry.Entry.{Entry}
-use Rattle.satl_line.specs.Ending.{Outcome}
+use Rattle.satl_line.specs.Ending.{Outcome, surface}
 use Rattle.satl_line.specs.Kinds.{kind_of}
 use Rattle.satl_line.specs.Ranged.{ranged_by, ranged_of}
 use Rattle.satl_line.specs.Ranged.RangedTask.{ranged_read, ranged_trim, ranged_write}
@@ -258,7 +258,7 @@ agrees_settled l new d d' place outcome s same fit agrees =
     size = fit.sectors ∙ (ap (λ (x : DriveState). x.capacity) s.stays ∙ sym agrees.fit.sectors)
 
     sound : AreSound d'.cells
-    sound = moves-sound s.moves_after (ends-sound d.cache s.ranged outcome s.before d.glitches s.after d'.glitches (moves-sound s.moves_before agrees.valid.sound) s.ends)
+    sound = moves-sound s.moves_after (ends-sound d.cache s.ranged outcome (surface s.before d.glitches) (surface s.after d'.glitches) (moves-sound s.moves_before agrees.valid.sound) s.ends)
 
 -- ---- the queue is used
 

@@ -23,7 +23,7 @@ use Rattle.satl_line.specs.declared.entry.Kind.{Kind}
 use Rattle.satl_line.specs.declared.entry.Kind.TheVariants.{Ranged, Barrier}
 use Rattle.satl_line.specs.Conflict.{conflicts}
 use Rattle.satl_line.specs.Eligible.{IsEligible, IsEligibleBy}
-use Rattle.satl_line.specs.Ending.{EndsAs, Outcome, active_after}
+use Rattle.satl_line.specs.Ending.{EndsAs, Outcome, active_after, surface}
 use Rattle.satl_line.specs.Ending.Outcome.{ends_flawed, ends_glitched}
 use Rattle.satl_line.specs.Ranged.{MayPut, RangedTask, ranged_by, ranged_of, written_pairs}
 use Rattle.satl_line.specs.Ranged.RangedTask.{ranged_read, ranged_write, ranged_trim}
@@ -291,7 +291,7 @@ module _ (l : Layer) (d : DriveState) (agrees : Agrees l d) (w : works l ≡ tru
           (ends_ranged s.held.entry.command mid_before s.held.entry s.held.entry.ranges.items s.ranged (outcome_reply mid_before task s.ranged outcome) mid_after refl (by_command s.held.entry s.ranged s.ranged_is)
           (record {
             outcome = outcome;
-            ends = subst (λ c. EndsAs c s.ranged outcome s.before d.glitches s.after d'.glitches) (sym cached) s.ends;
+            ends = subst (λ c. EndsAs c s.ranged outcome (surface s.before d.glitches) (surface s.after d'.glitches)) (sym cached) s.ends;
             answer = refl;
             stays = refl;
           }));

@@ -12,13 +12,13 @@ use Rattle.satl_base.specs.Cells.{Cell, Pair, first_flaw, nows, whole}
 use Rattle.satl_cdb.specs.declared.command.Command.{Command}
 use Rattle.satl_line.specs.declared.entry.Entry.{Entry}
 use Rattle.satl_line.specs.Eligible.{IsEligible}
-use Rattle.satl_line.specs.Ending.{Outcome, EndsAs}
+use Rattle.satl_line.specs.Ending.{Outcome, EndsAs, Surface}
 use Rattle.satl_line.specs.Ending.Outcome.{ends_done, ends_flawed, ends_glitched}
 use Rattle.satl_line.specs.Ranged.RangedTask.{ranged_read}
 use Rattle.satl_direct.specs.Arrival.{placed, reply_to}
 use Rattle.satl_direct.specs.Arrival.Arrival.{answered, waits}
 use Rattle.satl_direct.specs.Device.{Device}
-use Rattle.satl_direct.specs.Ending.{EndsInPieces, EndsTorn, IsTaskDone, outcome_reply, same_pairs, task_check}
+use Rattle.satl_direct.specs.Ending.{EndsInPieces, IsTaskDone, IsTorn, outcome_reply, same_pairs, surface_of, task_check}
 use Rattle.satl_direct.specs.Senses.{read_error}
 use Rattle.satl_direct.specs.Tasks.{held_blocks, held_by, is_full, over}
 use Rattle.satl_direct.specs.Turn.{IsFirst, OneEnds, Turn}
@@ -50,28 +50,28 @@ placed_below s r command t is many =
     absurd cc (sym is ∙ full_answers s r command (or_left (length s.tasks == 64) (nat_lt 32768 (held_by s.tasks + held_blocks command)) (eq-eqb (length s.tasks) 64 many)))
 
 -- an end on the medium at a flaw names it
-pub names_flaw : (s : Device) (t : Entry) (lba count at : ℕ) (fua : Bool) (outcome : Outcome) (new : List Cell) (left : ℕ)
-    → EndsAs s.modes.wce (ranged_read fua (over lba count)) outcome s.cells s.glitches new left → first_flaw flaws.Read s.cells lba count ≡ Some at
+pub names_flaw : (s : Device) (t : Entry) (lba count at : ℕ) (fua : Bool) (outcome : Outcome) (new : Surface)
+    → EndsAs s.modes.wce (ranged_read fua (over lba count)) outcome (surface_of s) new → first_flaw flaws.Read s.cells lba count ≡ Some at
     → outcome_reply s t (ranged_read fua (over lba count)) outcome ≡ task_check s t (read_error at)
-names_flaw s t lba count at fua (ends_done blocks) new left e flaw = absurd cc (sym flaw ∙ e.no_flaw)
-names_flaw s t lba count at fua (ends_flawed found) new left e flaw =
+names_flaw s t lba count at fua (ends_done blocks) new e flaw = absurd cc (sym flaw ∙ e.no_flaw)
+names_flaw s t lba count at fua (ends_flawed found) new e flaw =
     let same : found ≡ at = cc (sym e.flaw ∙ flaw) in ap (λ x. task_check s t (read_error x)) same
-names_flaw s t lba count at fua ends_glitched new left e flaw = absurd cc (sym flaw ∙ e.no_flaw)
+names_flaw s t lba count at fua ends_glitched new e flaw = absurd cc (sym flaw ∙ e.no_flaw)
 
 -- a good end of a read gives its blocks
-pub gives_blocks : (s : Device) (t : Entry) (lba count : ℕ) (fua : Bool) (outcome : Outcome) (new : List Cell) (left : ℕ)
-    → EndsAs s.modes.wce (ranged_read fua (over lba count)) outcome s.cells s.glitches new left
+pub gives_blocks : (s : Device) (t : Entry) (lba count : ℕ) (fua : Bool) (outcome : Outcome) (new : Surface)
+    → EndsAs s.modes.wce (ranged_read fua (over lba count)) outcome (surface_of s) new
     → (outcome_reply s t (ranged_read fua (over lba count)) outcome).status ≡ Good
     → (outcome_reply s t (ranged_read fua (over lba count)) outcome).body ≡ nows s.cells lba count
-gives_blocks s t lba count fua (ends_done blocks) new left e good = e.read
-gives_blocks s t lba count fua (ends_flawed found) new left e good = absurd cc good
-gives_blocks s t lba count fua ends_glitched new left e good = absurd cc good
+gives_blocks s t lba count fua (ends_done blocks) new e good = e.read
+gives_blocks s t lba count fua (ends_flawed found) new e good = absurd cc good
+gives_blocks s t lba count fua ends_glitched new e good = absurd cc good
 
 -- a WRITE SAME that meets a flaw or is done takes no glitch
 pub no_glitch : (o : Option ℕ) (after : Device) (writes : List Pair) (s : Device) (t : Entry) (reply : Reply) (new : Device) → after.glitches ≡ s.glitches
-    → MatchOption o (IsTaskDone after t reply new) (λ at. EndsTorn writes at s t reply new) → new.glitches ≡ s.glitches
+    → MatchOption o (IsTaskDone after t reply new) (λ at. (reply ≡ task_check s t (write_error at)) × IsTorn writes s t new) → new.glitches ≡ s.glitches
 no_glitch None after writes s t reply new same h = ap (λ d. d.glitches) h.stays ∙ same
-no_glitch (Some at) after writes s t reply new same h = ap (λ d. d.glitches) h.stays
+no_glitch (Some at) after writes s t reply new same h = ap (λ d. d.glitches) h.1.stays
 
 -- with a flaw in its first piece there is no CRC error
 pub flaw_first : (range : Range) (at : ℕ) (s : Device) (t : Entry) (reply : Reply) (new : Device)

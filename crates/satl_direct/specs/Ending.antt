@@ -23,7 +23,7 @@ use Rattle.satl_frame.specs.DataPages.{page_count, pages_of}
 use Rattle.satl_line.specs.declared.entry.Entry.{Entry}
 use Rattle.satl_line.specs.Ranged.{RangedTask}
 use Rattle.satl_line.specs.Ranged.RangedTask.{ranged_read, ranged_write, ranged_trim}
-use Rattle.satl_line.specs.Ending.{Outcome, EndsAs, active_after}
+use Rattle.satl_line.specs.Ending.{Outcome, EndsAs, Surface, active_after, surface}
 use Rattle.satl_line.specs.Ending.Outcome.{ends_done, ends_flawed, ends_glitched}
 use Rattle.satl_direct.specs.Device.{Device, without}
 use Rattle.satl_direct.specs.Tasks.{asks, over, pass_of}
@@ -69,11 +69,15 @@ outcome_reply s t ranged (ends_done blocks) = task_reply t Good [] blocks
 outcome_reply s t ranged (ends_flawed lba) = task_check s t (medium_error ranged lba)
 outcome_reply s t ranged ends_glitched = task_check s t crc_error
 
+-- what the end of a ranged task changes of the device (profile)
+abbrev pub surface_of : Device → Surface
+surface_of s = surface s.cells s.glitches
+
 -- a READ, a WRITE or a trim ends by its outcome on the medium: at a flaw of its kind with the lowest flawed address; while
 -- glitches are left it may end with a CRC error, which takes one; else it is done (SBC-3 5; of CRC errors: profile)
 pub record EndsOnMedium (ranged : RangedTask) (s : Device) (t : Entry) (reply : Reply) (new : Device) : Type 0 where
   pub outcome : Outcome
-  pub ends : EndsAs s.modes.wce ranged outcome s.cells s.glitches new.cells new.glitches
+  pub ends : EndsAs s.modes.wce ranged outcome (surface_of s) (surface_of new)
   pub answer : reply ≡ outcome_reply s t ranged outcome
   pub stays : new ≡ record s {
     cells = new.cells;
@@ -89,9 +93,8 @@ pub record EndsGarbled (writes : List Pair) (s : Device) (t : Entry) (reply : Re
   pub one_glitch : new.glitches + 1 ≡ s.glitches
   pub stays : new ≡ record s { cells = new.cells; tasks = without t s.tasks; glitches = new.glitches }
 
--- a write flaw: the lowest is named, and what the task writes is written in part (SPC-4 4.5.6)
-pub record EndsTorn (writes : List Pair) (lba : ℕ) (s : Device) (t : Entry) (reply : Reply) (new : Device) : Type 0 where
-  pub answer : reply ≡ task_check s t (write_error lba)
+-- the task leaves, and what it writes is written in part (SPC-4 4.5.6)
+pub record IsTorn (writes : List Pair) (s : Device) (t : Entry) (new : Device) : Type 0 where
   pub part : Part s.cells writes new.cells
   pub stays : new ≡ record s { cells = new.cells; tasks = without t s.tasks }
 
@@ -101,14 +104,14 @@ same_pairs lba count [] cached = []
 same_pairs lba count (block ∷ blocks) cached = pairs_from lba (replicate count block) cached
 
 -- a WRITE SAME goes over pieces of 64 blocks upwards, so a CRC error may come where the first piece has no flaw; else the
--- lowest flaw of all decides (SBC-3 5.42; the pieces: profile)
+-- lowest flaw of all decides, and is named (SBC-3 5.42; SPC-4 4.5.6; the pieces: profile)
 abbrev pub EndsInPieces : Range → Device → Entry → Reply → Device → Type 0
 EndsInPieces range s t reply new =
     let writes : List Pair = same_pairs range.lba range.count t.body s.modes.wce in
     ((first_flaw flaws.Write s.cells range.lba (min piece range.count) ≡ None) × EndsGarbled writes s t reply new)
     ⊎ MatchOption (first_flaw flaws.Write s.cells range.lba range.count)
     (IsTaskDone (record s { cells = whole s.cells writes; active = true }) t reply new)
-    (λ at. EndsTorn writes at s t reply new)
+    (λ at. (reply ≡ task_check s t (write_error at)) × IsTorn writes s t new)
 
 -- VERIFY: a read flaw in its range, or it is done (SBC-3 5.33)
 abbrev pub EndsVerified : Range → Device → Entry → Reply → Device → Type 0

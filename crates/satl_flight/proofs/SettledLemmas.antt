@@ -17,7 +17,7 @@ use Rattle.satl_regs.specs.Effects.{Traffic, unc}
 use Rattle.satl_errlog.specs.declared.entry.NcqError.{NcqError}
 use Rattle.satl_errlog.specs.Log.{log_of, log_says}
 use Rattle.satl_errlog.proofs.Logs.{log_back}
-use Rattle.satl_line.specs.Ending.{EndsAs, flaw_met, blocks_read, active_after}
+use Rattle.satl_line.specs.Ending.{EndsAs, Surface, flaw_met, blocks_read, active_after, surface}
 use Rattle.satl_line.specs.Ending.Outcome.{ends_flawed, ends_glitched}
 use Rattle.satl_line.specs.Eligible.{IsEligibleBy}
 use Rattle.satl_line.specs.Ranged.{MayPut, RangedTask, ranged_of, written_pairs}
@@ -189,13 +189,13 @@ why_of : (tag glitches left : ℕ) (ranged : RangedTask) (e : NcqError) (o : Opt
 why_of tag glitches left ranged e None c = (c.entry.error_is, c.one_glitch)
 why_of tag glitches left ranged e (Some lba) c = (c.entry.error_is, c.entry.lba_is, c.glitches_stay)
 
-ends_failed : (cache : Bool) (ranged : RangedTask) (body : List Block) (cells before after : List Cell) (glitches left : ℕ) (e : NcqError) (o : Option ℕ)
-    → flaw_met before ranged ≡ o → Part before (written_pairs cache ranged) after → Why o glitches left e → EndsAs cache ranged (outcome_of (Some e) ranged body) before glitches after left
-ends_failed cache ranged body cells before after glitches left e None flaw part why =
-    subst (λ n. EndsAs cache ranged (if n == unc then ends_flawed e.lba else ends_glitched) before glitches after left) (sym why.0)
+ends_failed : (cache : Bool) (ranged : RangedTask) (body : List Block) (before after : Surface) (e : NcqError) (o : Option ℕ)
+    → flaw_met before.cells ranged ≡ o → Part before.cells (written_pairs cache ranged) after.cells → Why o before.glitches after.glitches e → EndsAs cache ranged (outcome_of (Some e) ranged body) before after
+ends_failed cache ranged body before after e None flaw part why =
+    subst (λ n. EndsAs cache ranged (if n == unc then ends_flawed e.lba else ends_glitched) before after) (sym why.0)
     (record { no_flaw = flaw; written = part; one_glitch = why.1 })
-ends_failed cache ranged body cells before after glitches left e (Some lba) flaw part why =
-    subst (λ n. EndsAs cache ranged (if n == unc then ends_flawed e.lba else ends_glitched) before glitches after left) (sym why.0)
+ends_failed cache ranged body before after e (Some lba) flaw part why =
+    subst (λ n. EndsAs cache ranged (if n == unc then ends_flawed e.lba else ends_glitched) before after) (sym why.0)
     (record { flaw = flaw ∙ ap Some (sym why.1); written = part; glitches_stay = why.2 })
 
 -- an entry is neither done
@@ -346,7 +346,7 @@ module _ (flying : List Flying) (tasks : List Held) (old : DriveState) (tie : Is
       deep : Deepens old new
       deep = deepens_shorter old new (ap (λ (d : DriveState). d.deepest) read.stays ∙ ap (λ (d : DriveState). d.deepest) failed.stays) (omega (arith, ap length outstanding))
 
-      with : (before after : List Cell) → Moves (MayPut old.cache (entries_of tasks)) old.cells before → EndsAs old.cache flown.ranged (outcome_of (Some e) flown.ranged body) before old.glitches after new.glitches
+      with : (before after : List Cell) → Moves (MayPut old.cache (entries_of tasks)) old.cells before → EndsAs old.cache flown.ranged (outcome_of (Some e) flown.ranged body) (surface before old.glitches) (surface after new.glitches)
           → Moves (MayPut old.cache (entries_of (remove tasks place))) after failed.mid → HasEndedAt place (outcome_of (Some e) flown.ranged body) (on_drive (waiting flying slots tasks) old) (on_drive left new)
       with before after first ends later = record {
         held = held;
@@ -369,7 +369,7 @@ module _ (flying : List Flying) (tasks : List Held) (old : DriveState) (tie : Is
       amid ranged is writes =
           let s = split_at old.cache (MayPut old.cache (entries_of tasks)) (MayPut old.cache (entries_of (remove tasks place))) (is_tagged e.tag) old.outstanding failed.failed old.cells failed.mid failed.found all still failed.part in
           with s.before s.after s.moves_before
-          (ends_failed old.cache flown.ranged body old.cells s.before s.after old.glitches new.glitches e (flaw_met old.cells flown.ranged) (same_flaw s.before old.cells flown.ranged s.same_flaws (subst IsNoRead (sym is) writes)) (subst (λ ps. Part s.before ps s.after) pairs s.part) cause)
+          (ends_failed old.cache flown.ranged body (surface s.before old.glitches) (surface s.after new.glitches) e (flaw_met old.cells flown.ranged) (same_flaw s.before old.cells flown.ranged s.same_flaws (subst IsNoRead (sym is) writes)) (subst (λ ps. Part s.before ps s.after) pairs s.part) cause)
           s.moves_after
 
       go : (ranged : RangedTask) → flown.ranged ≡ ranged → HasEndedAt place (outcome_of (Some e) flown.ranged body) (on_drive (waiting flying slots tasks) old) (on_drive left new)
@@ -379,7 +379,7 @@ module _ (flying : List Flying) (tasks : List Held) (old : DriveState) (tie : Is
           let s = split_at old.cache (MayPut old.cache (entries_of (remove tasks place))) (MayPut old.cache (entries_of (remove tasks place))) (is_tagged e.tag) old.outstanding failed.failed old.cells failed.mid failed.found still still failed.part in
           let stood : s.after ≡ s.before = subst (λ ps. Part s.before ps s.after) nothing s.part in
           with old.cells old.cells stay
-          (ends_failed old.cache flown.ranged body old.cells old.cells old.cells old.glitches new.glitches e (flaw_met old.cells flown.ranged) refl (subst (λ r. Part old.cells (written_pairs old.cache r) old.cells) (sym is) refl) cause)
+          (ends_failed old.cache flown.ranged body (surface old.cells old.glitches) (surface old.cells new.glitches) e (flaw_met old.cells flown.ranged) refl (subst (λ r. Part old.cells (written_pairs old.cache r) old.cells) (sym is) refl) cause)
           (moves_on s.moves_before (subst (λ c. Moves (MayPut old.cache (entries_of (remove tasks place))) c failed.mid) stood s.moves_after))
       go (ranged_write fua range blocks) is = amid (ranged_write fua range blocks) is tt
       go (ranged_trim ranges) is = amid (ranged_trim ranges) is tt

@@ -12,7 +12,7 @@ use Rattle.satl_regs.specs.Commands.{command_in}
 use Rattle.satl_regs.specs.Effects.{Traffic, icrc, unc}
 use Rattle.satl_errlog.specs.declared.entry.NcqError.{NcqError}
 use Rattle.satl_line.specs.Eligible.{IsEligibleBy, eligible_by}
-use Rattle.satl_line.specs.Ending.{EndsAs, Outcome, active_after}
+use Rattle.satl_line.specs.Ending.{EndsAs, Outcome, active_after, surface}
 use Rattle.satl_line.specs.Ending.Outcome.{ends_done, ends_flawed, ends_glitched}
 use Rattle.satl_line.specs.Ranged.{MayPut, RangedTask, ranged_of}
 use Rattle.satl_line.specs.Ranged.RangedTask.{ranged_read, ranged_write, ranged_trim}
@@ -113,7 +113,7 @@ pub record HasEndedAt (place : ℕ) (outcome : Outcome) (old new : OnDrive) : Ty
   pub before : List Cell
   pub after : List Cell
   pub moves_before : Moves (MayPut old.drive.cache (entries_of old.queue.tasks)) old.drive.cells before
-  pub ends : EndsAs old.drive.cache ranged outcome before old.drive.glitches after new.drive.glitches
+  pub ends : EndsAs old.drive.cache ranged outcome (surface before old.drive.glitches) (surface after new.drive.glitches)
   pub moves_after : Moves (MayPut old.drive.cache (entries_of (remove old.queue.tasks place))) after new.drive.cells
   pub tie : IsInFlight new.queue.flying (remove old.queue.tasks place) new.drive
   pub stays : new.drive ≡ record old.drive {

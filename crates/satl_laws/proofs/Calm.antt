@@ -17,7 +17,7 @@ use Rattle.satl_line.specs.Ranged.RangedTask.{ranged_read, ranged_write}
 use Rattle.satl_line.specs.Ending.{EndsAs, Outcome, flaw_met}
 use Rattle.satl_line.specs.Ending.Outcome.{ends_done, ends_flawed, ends_glitched}
 use Rattle.satl_direct.specs.Device.{Device}
-use Rattle.satl_direct.specs.Ending.{Ends, EndsBy, EndsCompared, EndsOnMedium, EndsVerified, IsChecked, IsTaskDone, outcome_reply, selected, settled, settled_if}
+use Rattle.satl_direct.specs.Ending.{Ends, EndsBy, EndsCompared, EndsOnMedium, EndsVerified, IsChecked, IsTaskDone, outcome_reply, selected, settled, settled_if, surface_of}
 use Rattle.satl_laws.specs.ArrivalOrder.{is_good, stops_or_starts, writes_plainly}
 use Rattle.satl_direct.specs.Quiet.{Quiet}
 use Rattle.satl_direct.specs.Senses.{link_lost, not_ready}
@@ -77,7 +77,7 @@ module _ (s new : Device) (t : Entry) (reply : Reply) (calm : IsCalm s) where
   on_medium : (ranged : RangedTask) → flaw_met s.cells ranged ≡ None → EndsOnMedium ranged s t reply new → OnMedium
   on_medium ranged none e = go e.outcome e.ends e.answer
     where
-      go : (o : Outcome) → EndsAs s.modes.wce ranged o s.cells s.glitches new.cells new.glitches → reply ≡ outcome_reply s t ranged o → OnMedium
+      go : (o : Outcome) → EndsAs s.modes.wce ranged o (surface_of s) (surface_of new) → reply ≡ outcome_reply s t ranged o → OnMedium
       go (ends_done blocks) d is = record {
         good = ap (λ r. is_good r.status) is;
         after = record {

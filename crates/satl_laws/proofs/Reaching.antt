@@ -18,7 +18,7 @@ use Rattle.satl_line.specs.Ending.{EndsAs, Outcome}
 use Rattle.satl_line.specs.Ending.Outcome.{ends_done, ends_flawed, ends_glitched}
 use Rattle.satl_direct.specs.Device.{Device}
 use Rattle.satl_direct.specs.Tasks.{asks, over, pass_of}
-use Rattle.satl_direct.specs.Ending.{Ends, EndsBy, EndsCompared, EndsInPieces, EndsOnMedium, EndsPassed, EndsVerified, IsChecked, IsTaskDone, after_select, after_start_stop, medium_of, selected, settled, settled_if}
+use Rattle.satl_direct.specs.Ending.{Ends, EndsBy, EndsCompared, EndsInPieces, EndsOnMedium, EndsPassed, EndsVerified, IsChecked, IsTaskDone, after_select, after_start_stop, medium_of, selected, settled, settled_if, surface_of}
 use Rattle.satl_direct.specs.Quiet.{written_by}
 use Rattle.satl_laws.specs.Untouched.{Spares}
 use Rattle.satl_laws.proofs.Cases.{by_bool, by_option}
@@ -63,7 +63,7 @@ module _ (s new : Device) (t : Entry) (reply : Reply) where
   start_stop_done c true no_flush = done c (after_start_stop true no_flush s) (stays s.cells s.cells refl) refl
   start_stop_done c false no_flush = done c (after_start_stop false no_flush s) (flushed (not no_flush)) (flushed_identity (not no_flush))
 
-  ranged_steps : (ranged : RangedTask) (o : Outcome) → EndsAs s.modes.wce ranged o s.cells s.glitches new.cells new.glitches → Steps (written_pairs s.modes.wce ranged) s.cells new.cells
+  ranged_steps : (ranged : RangedTask) (o : Outcome) → EndsAs s.modes.wce ranged o (surface_of s) (surface_of new) → Steps (written_pairs s.modes.wce ranged) s.cells new.cells
   ranged_steps ranged (ends_done blocks) e = all_of (written_pairs s.modes.wce ranged) s.cells new.cells e.written
   ranged_steps ranged (ends_flawed lba) e = parts e.written
   ranged_steps ranged ends_glitched e = parts e.written

@@ -13,7 +13,7 @@ use Rattle.satl_line.specs.Ending.{EndsAs, Outcome}
 use Rattle.satl_line.specs.Ending.Outcome.{ends_done, ends_flawed, ends_glitched}
 use Rattle.satl_direct.specs.Device.{Device}
 use Rattle.satl_direct.specs.Tasks.{asks, over}
-use Rattle.satl_direct.specs.Ending.{Ends, EndsBy, EndsOnMedium, outcome_reply, selected, settled_if}
+use Rattle.satl_direct.specs.Ending.{Ends, EndsBy, EndsOnMedium, outcome_reply, selected, settled_if, surface_of}
 use Rattle.satl_direct.specs.Quiet.{written_by}
 use Rattle.satl_laws.specs.Durable.{secures}
 use Rattle.satl_laws.proofs.Cases.{by_bool}
@@ -34,7 +34,7 @@ module _ (x : ℕ) (s mid : Device) (t : Entry) (reply : Reply) (good : reply.st
       → EndsOnMedium (ranged_write form_fua (over lba count) t.body) s t reply mid → IsSingle x mid.cells
   past_single fua lba count h e = by_outcome e.outcome e.ends (ap (λ r. r.status) e.answer)
     where
-      by_outcome : (o : Outcome) → EndsAs s.modes.wce (ranged_write fua (over lba count) t.body) o s.cells s.glitches mid.cells mid.glitches
+      by_outcome : (o : Outcome) → EndsAs s.modes.wce (ranged_write fua (over lba count) t.body) o (surface_of s) (surface_of mid)
           → reply.status ≡ (outcome_reply s t (ranged_write fua (over lba count) t.body) o).status → IsSingle x mid.cells
       by_outcome (ends_done blocks) ends status = subst (IsSingle x) (sym ends.written) (written_single x lba t.body s.cells (s.modes.wce && not fua) h)
       by_outcome (ends_flawed at) ends status = not_good status

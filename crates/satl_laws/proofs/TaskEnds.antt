@@ -16,7 +16,7 @@ use Rattle.satl_line.specs.Ranged.RangedTask.{ranged_read, ranged_write}
 use Rattle.satl_line.specs.Ending.{EndsAs, Outcome}
 use Rattle.satl_line.specs.Ending.Outcome.{ends_done, ends_flawed, ends_glitched}
 use Rattle.satl_direct.specs.Device.{Device}
-use Rattle.satl_direct.specs.Ending.{Ends, EndsBy, IsChecked, outcome_reply}
+use Rattle.satl_direct.specs.Ending.{Ends, EndsBy, IsChecked, outcome_reply, surface_of}
 use Rattle.satl_laws.specs.ArrivalOrder.{is_good, read_at, writes_plainly}
 use Rattle.satl_laws.specs.Untouched.{Spares}
 use Rattle.satl_direct.specs.Quiet.{writes, written_by}
@@ -37,7 +37,7 @@ module _ (s new : Device) (t : Entry) (reply : Reply) where
   write_ends : (c : Command) → brings c ≡ true → EndsBy c s t reply new → WriteEnds c
   write_ends (commands.Write form lba count fua) b e = go e.outcome e.ends e.answer
     where
-      go : (o : Outcome) → EndsAs s.modes.wce (ranged_write fua (over lba count) t.body) o s.cells s.glitches new.cells new.glitches → reply ≡ outcome_reply s t (ranged_write fua (over lba count) t.body) o → WriteEnds (commands.Write form lba count fua)
+      go : (o : Outcome) → EndsAs s.modes.wce (ranged_write fua (over lba count) t.body) o (surface_of s) (surface_of new) → reply ≡ outcome_reply s t (ranged_write fua (over lba count) t.body) o → WriteEnds (commands.Write form lba count fua)
       go (ends_done blocks) d is = inl (ap (λ r. is_good r.status) is, d.written)
       go (ends_flawed lba_of) f is = inr (ap (λ r. is_good r.status) is, f.written)
       go ends_glitched g is = inr (ap (λ r. is_good r.status) is, g.written)
@@ -50,7 +50,7 @@ module _ (s new : Device) (t : Entry) (reply : Reply) where
       bad : is_good reply.status ≡ false → reply.body ≡ nows s.cells lba count
       bad h = let no : true ≡ false = sym good ∙ h in absurd cc
 
-      go : (o : Outcome) → EndsAs s.modes.wce (ranged_read fua (over lba count)) o s.cells s.glitches new.cells new.glitches → reply ≡ outcome_reply s t (ranged_read fua (over lba count)) o → reply.body ≡ nows s.cells lba count
+      go : (o : Outcome) → EndsAs s.modes.wce (ranged_read fua (over lba count)) o (surface_of s) (surface_of new) → reply ≡ outcome_reply s t (ranged_read fua (over lba count)) o → reply.body ≡ nows s.cells lba count
       go (ends_done blocks) d is = ap (λ r. r.body) is ∙ d.read
       go (ends_flawed lba_of) f is = bad (ap (λ r. is_good r.status) is)
       go ends_glitched g is = bad (ap (λ r. is_good r.status) is)

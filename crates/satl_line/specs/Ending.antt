@@ -31,30 +31,36 @@ blocks_read cells (ranged_read fua range) = nows cells range.lba range.count
 blocks_read cells (ranged_write fua range blocks) = []
 blocks_read cells (ranged_trim ranges) = []
 
+-- what the end of a ranged task changes: the cells, and how many CRC errors are still to come (profile)
+pub record Surface : Type 0 where
+  pub cells : List Cell
+  pub glitches : ℕ
+
+-- these cells, with so many CRC errors to come (profile)
+abbrev pub surface : List Cell → ℕ → Surface
+surface cells glitches = record { cells = cells; glitches = glitches }
+
 -- done: no flaw was met, all that the task writes is written, and the glitches stay (SBC-3; profile)
-pub record EndsDone (cache_on : Bool) (task : RangedTask) (data_in : List Block) (old : List Cell) (glitches : ℕ)
-    (new : List Cell) (left : ℕ) : Type 0 where
-  pub no_flaw : flaw_met old task ≡ None
-  pub read : data_in ≡ blocks_read old task
-  pub written : new ≡ whole old (written_pairs cache_on task)
-  pub glitches_stay : left ≡ glitches
+pub record EndsDone (cache_on : Bool) (task : RangedTask) (data_in : List Block) (old new : Surface) : Type 0 where
+  pub no_flaw : flaw_met old.cells task ≡ None
+  pub read : data_in ≡ blocks_read old.cells task
+  pub written : new.cells ≡ whole old.cells (written_pairs cache_on task)
+  pub glitches_stay : new.glitches ≡ old.glitches
 
 -- a flaw: the lowest is named, part of what the task writes is written, and the glitches stay (SBC-3, MEDIUM ERROR; profile)
-pub record EndsFlawed (cache_on : Bool) (task : RangedTask) (lba : ℕ) (old : List Cell) (glitches : ℕ) (new : List Cell)
-    (left : ℕ) : Type 0 where
-  pub flaw : flaw_met old task ≡ Some lba
-  pub written : Part old (written_pairs cache_on task) new
-  pub glitches_stay : left ≡ glitches
+pub record EndsFlawed (cache_on : Bool) (task : RangedTask) (lba : ℕ) (old new : Surface) : Type 0 where
+  pub flaw : flaw_met old.cells task ≡ Some lba
+  pub written : Part old.cells (written_pairs cache_on task) new.cells
+  pub glitches_stay : new.glitches ≡ old.glitches
 
 -- a CRC error: no flaw was met, part of what the task writes is written, and one glitch is used up (ACS-3, ICRC; profile)
-pub record EndsGlitched (cache_on : Bool) (task : RangedTask) (old : List Cell) (glitches : ℕ) (new : List Cell)
-    (left : ℕ) : Type 0 where
-  pub no_flaw : flaw_met old task ≡ None
-  pub written : Part old (written_pairs cache_on task) new
-  pub one_glitch : left + 1 ≡ glitches
+pub record EndsGlitched (cache_on : Bool) (task : RangedTask) (old new : Surface) : Type 0 where
+  pub no_flaw : flaw_met old.cells task ≡ None
+  pub written : Part old.cells (written_pairs cache_on task) new.cells
+  pub one_glitch : new.glitches + 1 ≡ old.glitches
 
--- how a ranged task ends on the medium: the cells and the glitches before, and the new cells and the glitches left (profile)
-abbrev pub EndsAs : Bool → RangedTask → Outcome → List Cell → ℕ → List Cell → ℕ → Type 0
-EndsAs cache_on task (ends_done data_in) old glitches new left = EndsDone cache_on task data_in old glitches new left
-EndsAs cache_on task (ends_flawed lba) old glitches new left = EndsFlawed cache_on task lba old glitches new left
-EndsAs cache_on task ends_glitched old glitches new left = EndsGlitched cache_on task old glitches new left
+-- how a ranged task ends on the medium (SBC-3; profile)
+abbrev pub EndsAs : Bool → RangedTask → Outcome → Surface → Surface → Type 0
+EndsAs cache_on task (ends_done data_in) old new = EndsDone cache_on task data_in old new
+EndsAs cache_on task (ends_flawed lba) old new = EndsFlawed cache_on task lba old new
+EndsAs cache_on task ends_glitched old new = EndsGlitched cache_on task old new

@@ -1,13 +1,13 @@
 //! What holds of eligible tasks and of the ends of ranged tasks, whatever the tasks are.
 ghost use Rattle.std.specs.Prelude.{◌≡◌, ◌≢◌, ◌<◌, ◌++◌, ◌⊎◌, ◌↔◌, ℕ, Bool, true, false, List, Some, slice_get, filter, remove, length};
 ghost use Rattle.std.specs.List.{AllByRecursion};
-ghost use Rattle.satl_base.specs.Cells.{AreSound, Cell, Pair};
+ghost use Rattle.satl_base.specs.Cells.{AreSound, Pair};
 ghost use Rattle.satl_base.specs.Moves.{Moves, Passes};
 ghost use Rattle.satl_line.specs.declared.entry.Entry.{Entry};
 ghost use Rattle.satl_line.specs.Conflict.{conflicts};
 ghost use Rattle.satl_line.specs.Eligible.{IsEligible, eligible_at};
 ghost use Rattle.satl_line.specs.Ranged.{RangedTask, written_pairs};
-ghost use Rattle.satl_line.specs.Ending.{EndsAs, Outcome};
+ghost use Rattle.satl_line.specs.Ending.{EndsAs, Outcome, Surface};
 
 /// The test at a place passes exactly where no earlier task conflicts with the one there (profile).
 pub fn the_test_is_of_pairs()
@@ -47,17 +47,14 @@ pub fn eligible_tasks_do_not_conflict()
 /// However a ranged task ends, the cells change by moves, where each pair that it writes may be put (profile).
 pub fn endings_are_moves()
     ensures { (allows : Pair → Bool) (cache_on : Bool) (task : RangedTask) (outcome : Outcome)
-        (old : List Cell) (glitches : ℕ) (new : List Cell) (left : ℕ) →
-        AllByRecursion (Passes allows) (written_pairs cache_on task) →
-        EndsAs cache_on task outcome old glitches new left → Moves (Passes allows) old new }
+        (old new : Surface) → AllByRecursion (Passes allows) (written_pairs cache_on task) →
+        EndsAs cache_on task outcome old new → Moves (Passes allows) old.cells new.cells }
 {}
 
 /// However a ranged task ends, there are as many cells as before, and sound ones stay sound (profile).
 pub fn endings_keep_the_cells()
-    ensures count { (cache_on : Bool) (task : RangedTask) (outcome : Outcome)
-        (old : List Cell) (glitches : ℕ) (new : List Cell) (left : ℕ) →
-        EndsAs cache_on task outcome old glitches new left → length new ≡ length old }
-    ensures sound { (cache_on : Bool) (task : RangedTask) (outcome : Outcome)
-        (old : List Cell) (glitches : ℕ) (new : List Cell) (left : ℕ) →
-        AreSound old → EndsAs cache_on task outcome old glitches new left → AreSound new }
+    ensures count { (cache_on : Bool) (task : RangedTask) (outcome : Outcome) (old new : Surface) →
+        EndsAs cache_on task outcome old new → length new.cells ≡ length old.cells }
+    ensures sound { (cache_on : Bool) (task : RangedTask) (outcome : Outcome) (old new : Surface) →
+        AreSound old.cells → EndsAs cache_on task outcome old new → AreSound new.cells }
 {}

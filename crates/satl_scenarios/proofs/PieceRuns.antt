@@ -11,9 +11,9 @@ use Rattle.satl_sense.specs.Fixed.{fixed_form}
 use Rattle.satl_line.specs.declared.entry.Entry.{Entry}
 use Rattle.satl_line.specs.Ranged.RangedTask.{ranged_trim}
 use Rattle.satl_direct.specs.Device.{Device}
-use Rattle.satl_direct.specs.Ending.{Ends, EndsGarbled, EndsTorn, task_check}
+use Rattle.satl_direct.specs.Ending.{Ends, EndsGarbled, IsTorn, task_check}
 use Rattle.satl_direct.specs.Run.{depth}
-use Rattle.satl_direct.specs.Senses.{crc_error, write_error}
+use Rattle.satl_direct.specs.Senses.{crc_error}
 use Rattle.satl_direct.specs.Tasks.{over}
 use Rattle.satl_scenarios.specs.Commands.{written}
 use Rattle.satl_scenarios.specs.Pieces.{compare_flawed, compare_garbled, flawed_at_the_end, glitchy_ends, glitchy_with, same_garbled, same_garbled_before_the_flaw, same_torn, same_unmapped}
@@ -32,9 +32,9 @@ part_front cells [] (p ∷ ps) = inl (part_front cells [] ps)
 part_front cells (p ∷ ps) back = inr (part_front (put_at cells p) ps back)
 
 -- a flaw, and a CRC error, when the first pairs are put
-torn : (writes front back : List Pair) (lba : ℕ) (cells : List Cell) (s : Device) (t : Entry) → writes ≡ front ++ back → cells ≡ whole s.cells front
-    → EndsTorn writes lba s t (task_check s t (write_error lba)) (once_flawed cells s t)
-torn writes front back lba cells s t split is = record { answer = refl; part = rw (split, is) (part_front s.cells front back); stays = refl }
+torn : (writes front back : List Pair) (cells : List Cell) (s : Device) (t : Entry) → writes ≡ front ++ back → cells ≡ whole s.cells front
+    → IsTorn writes s t (once_flawed cells s t)
+torn writes front back cells s t split is = record { part = rw (split, is) (part_front s.cells front back); stays = refl }
 
 garbled : (writes front back : List Pair) (cells : List Cell) (left : ℕ) (s : Device) (t : Entry) → writes ≡ front ++ back → cells ≡ whole s.cells front → left + 1 ≡ s.glitches
     → EndsGarbled writes s t (task_check s t crc_error) (once_glitched cells left s t)
@@ -60,7 +60,7 @@ pub torn_in_the_second_piece : CanHappen same_torn
 unfolding fixed_form over_all
 torn_in_the_second_piece =
     glitchy_turn (WriteSame Ten 0 65 false) (bb ∷ []) (flawed_at_the_end (lasts zeros)) _ same_torn.last
-    (inr (torn _ (over_all 0 64) (over_all 64 1) 64 same_torn.last.cells same_torn.first (task 1 (WriteSame Ten 0 65 false) (bb ∷ [])) refl refl)) refl refl
+    (inr (refl, torn _ (over_all 0 64) (over_all 64 1) same_torn.last.cells same_torn.first (task 1 (WriteSame Ten 0 65 false) (bb ∷ [])) refl refl)) refl refl
 
 pub garbled_in_the_first_piece : CanHappen same_garbled_before_the_flaw
 unfolding fixed_form over_all
