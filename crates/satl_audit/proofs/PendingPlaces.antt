@@ -16,7 +16,7 @@ use Rattle.satl_direct.specs.Run.{eligibles}
 use Rattle.satl_audit.specs.Arriving.{device_of}
 use Rattle.satl_audit.specs.Guesses.{blocks_at}
 use Rattle.satl_audit.specs.Kept.{Keeping, known_sector_at}
-use Rattle.satl_audit.specs.Powering.{PendsBetween, picks, shown_from}
+use Rattle.satl_audit.specs.Powering.{PendsUpTo, picks, shown_from}
 use Rattle.satl_audit.specs.Skeleton.{pairs_by, pairs_shown}
 use Rattle.satl_audit.specs.Waiting.{Placed, device_tasks, entries_in, task_in}
 use Rattle.satl_audit.proofs.NextLemmas.{eligible_same}
@@ -104,13 +104,13 @@ module _ (identity : Identity) (input : List ℕ) (waiting : List Placed) where
       either false = refl
 
   -- a task that is not eligible, or writes nothing
-  pub still : (n : ℕ) (p : Placed) (b : Bool) (ks : List Keeping) → slice_get waiting n ≡ Some p → eligible_at (entries_in waiting) n ≡ b → (b ≡ true → writes (device_of identity input waiting []) (task_in input p) ≡ []) → PendsBetween identity input waiting n (n + 1) ks ks
+  pub still : (n : ℕ) (p : Placed) (b : Bool) (ks : List Keeping) → slice_get waiting n ≡ Some p → eligible_at (entries_in waiting) n ≡ b → (b ≡ true → writes (device_of identity input waiting []) (task_in input p) ≡ []) → PendsUpTo input (shown_from identity input waiting n) (shown_from identity input waiting (n + 1)) ks ks
   still n p false ks at is none = λ x less. ap (λ l. (known_sector_at input ks x).may ++ blocks_at x l) (step_of false n p at is)
   still n p true ks at is none = λ x less. ap (λ l. (known_sector_at input ks x).may ++ blocks_at x l) (step_of true n p at is ∙ ap (λ l. l ++ shown_from identity input waiting (n + 1)) (none refl))
 
   -- a WRITE that is eligible
   pub moved : (n : ℕ) (p : Placed) (ks ms : List Keeping) → slice_get waiting n ≡ Some p → eligible_at (entries_in waiting) n ≡ true →
-      ((x : ℕ) → x < length ks → (known_sector_at input ms x).may ≡ (known_sector_at input ks x).may ++ blocks_at x (writes (device_of identity input waiting []) (task_in input p))) → PendsBetween identity input waiting n (n + 1) ks ms
+      ((x : ℕ) → x < length ks → (known_sector_at input ms x).may ≡ (known_sector_at input ks x).may ++ blocks_at x (writes (device_of identity input waiting []) (task_in input p))) → PendsUpTo input (shown_from identity input waiting n) (shown_from identity input waiting (n + 1)) ks ms
   moved n p ks ms at is h = λ x less.
       ap (λ l. (known_sector_at input ks x).may ++ blocks_at x l) (step_of true n p at is)
       ∙ ap (λ l. (known_sector_at input ks x).may ++ l) (blocks-append x (writes (device_of identity input waiting []) (task_in input p)) (shown_from identity input waiting (n + 1)))

@@ -23,11 +23,10 @@ abbrev pub shown_from : Identity → List ℕ → List Placed → ℕ → List P
 shown_from identity input waiting place = pairs_by (device_of identity input waiting [])
     (picks (eligible_at (entries_in waiting)) place (drop place (device_tasks input waiting)))
 
--- what a loss of power may leave has the blocks of the eligible tasks between two places too (SBC-3 4.15)
-abbrev pub PendsBetween : Identity → List ℕ → List Placed → ℕ → ℕ → List Keeping → List Keeping → Type 0
-PendsBetween identity input waiting place next old new = (x : ℕ) → x < length old →
-    (known_sector_at input old x).may ++ blocks_at x (shown_from identity input waiting place)
-    ≡ (known_sector_at input new x).may ++ blocks_at x (shown_from identity input waiting next)
+-- of the pairs that show, all but the later ones are now among what a loss of power may leave (SBC-3 4.15)
+abbrev pub PendsUpTo : List ℕ → List Pair → List Pair → List Keeping → List Keeping → Type 0
+PendsUpTo input pairs later old new = (x : ℕ) → x < length old →
+    (known_sector_at input old x).may ++ blocks_at x pairs ≡ (known_sector_at input new x).may ++ blocks_at x later
 
 -- what a loss of power may leave has the blocks of all eligible tasks too (SBC-3 4.15)
 abbrev pub PendsAll : Identity → List ℕ → List Placed → List Keeping → List Keeping → Type 0

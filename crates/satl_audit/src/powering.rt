@@ -7,7 +7,7 @@ ghost use Rattle.satl_unit.specs.declared.attention.Attention.TheVariants as att
 ghost use Rattle.satl_audit.specs.Advancing.{GoesOn};
 ghost use Rattle.satl_audit.specs.Arriving.{device_of};
 ghost use Rattle.satl_audit.specs.Following.{Follows};
-ghost use Rattle.satl_audit.specs.Powering.{PendsAll, PendsBetween, power_deeds};
+ghost use Rattle.satl_audit.specs.Powering.{PendsAll, PendsUpTo, power_deeds, shown_from};
 ghost use Rattle.satl_audit.specs.Waiting.{AllFit};
 ghost use Rattle.satl_audit.specs.Progress.{progress, recorded};
 
@@ -26,7 +26,8 @@ fn pend_task(waiting: &Waiting, sectors: &mut Sectors, place: usize) -> Result<(
     requires capacity { length sectors.old < 2 ^ 64 }
     ensures length { length sectors.new ≡ length sectors.old }
     ensures pends { (identity : Identity) → (input : List ℕ)
-        → OnOk result (PendsBetween identity input waiting.now place (place + 1) sectors.old sectors.new) }
+        → OnOk result (PendsUpTo input (shown_from identity input waiting.now place)
+        (shown_from identity input waiting.now (place + 1)) sectors.old sectors.new) }
 {
     if !waiting.eligible(place) {
         return Ok(());

@@ -13,7 +13,7 @@ use Rattle.satl_frame.specs.DataPages.{padded_block, pages_from, pages_of}
 use Rattle.satl_direct.specs.Ending.{medium_of}
 use Rattle.satl_direct.specs.Tasks.{pass_of}
 use Rattle.satl_scenarios.specs.Commands.{written}
-use Rattle.satl_scenarios.specs.Passes.{cache_disabled, identified, identify, power_checked, through, unreadable_through, write_block, written_through}
+use Rattle.satl_scenarios.specs.Passes.{cache_disabled, cache_off, check_power, identified, identify, power_checked, read_block, unreadable_through, write_block, written_through}
 use Rattle.satl_scenarios.specs.Scenario.{CanHappen}
 use Rattle.satl_scenarios.specs.Devices.{bb, device, filled, identify_data, lasts, unreadable, zeros}
 use Rattle.satl_scenarios.proofs.CommandRuns.{turn_ends}
@@ -40,12 +40,12 @@ drive_identified =
 pub power_mode_checked : CanHappen power_checked
 unfolding command_in row_of pages_of pages_from padded_block fixed_form
 power_mode_checked =
-    turn_ends (Pass (through 0x06 0x20 0 0 0 0 0xE5)) [] written _ power_checked.last
+    turn_ends (Pass check_power) [] written _ power_checked.last
     (record {
       given = [];
       data_out = λ out. refl;
       size = refl;
-      ended = good_end (pass_of (through 0x06 0x20 0 0 0 0 0xE5)).regs 0xFF 0;
+      ended = good_end (pass_of check_power).regs 0xFF 0;
       taken = [];
       after = medium_of power_checked.first;
       does = record { ends = refl; data_in = refl; medium = refl };
@@ -72,12 +72,12 @@ block_written =
 pub block_unreadable : CanHappen unreadable_through
 unfolding command_in row_of pages_of pages_from padded_block fixed_form error_sense
 block_unreadable =
-    turn_ends (Pass (through 0x0D 0x0E 0 1 1 0x40 0x25)) [] (lasts zeros ∷ unreadable zeros ∷ []) _ unreadable_through.last
+    turn_ends (Pass read_block) [] (lasts zeros ∷ unreadable zeros ∷ []) _ unreadable_through.last
     (record {
       given = zeros ∷ [];
       data_out = λ out. absurd cc;
       size = refl;
-      ended = flawed_end (pass_of (through 0x0D 0x0E 0 1 1 0x40 0x25)).regs true 1;
+      ended = flawed_end (pass_of read_block).regs true 1;
       taken = zeros ∷ [];
       after = medium_of unreadable_through.first;
       does = record { ends = refl; data_in = refl; part = refl; medium = refl };
@@ -108,12 +108,12 @@ tells_disabled = record {
 pub features_set : CanHappen cache_disabled
 unfolding command_in row_of pages_of pages_from padded_block identify_data
 features_set =
-    turn_ends (Pass (through 0x06 0x00 0x82 0 0 0 0xEF)) [] written _ cache_disabled.last
+    turn_ends (Pass cache_off) [] written _ cache_disabled.last
     (record {
       given = [];
       data_out = λ out. refl;
       size = refl;
-      ended = good_end (pass_of (through 0x06 0x00 0x82 0 0 0 0xEF)).regs 0 0;
+      ended = good_end (pass_of cache_off).regs 0 0;
       taken = [];
       after = record (medium_of (device cache_disabled.last.cells)) { cache = false; identify = disabled_data };
       does = record { ends = refl; data_in = refl; tells = tells_disabled; medium = refl };

@@ -17,7 +17,7 @@ use Rattle.satl_direct.specs.Ending.{Ends, medium_of}
 use Rattle.satl_direct.specs.Run.{depth}
 use Rattle.satl_direct.specs.Tasks.{pass_of}
 use Rattle.satl_scenarios.specs.Commands.{written}
-use Rattle.satl_scenarios.specs.Passes.{through}
+use Rattle.satl_scenarios.specs.Passes.{check_power, read_block}
 use Rattle.satl_scenarios.specs.Power.{caching_list, select}
 use Rattle.satl_scenarios.specs.Scenario.{CanHappen}
 use Rattle.satl_scenarios.specs.Standby.{at_rest, ends_at_rest, read_through, selected_at_rest, standby_told}
@@ -36,12 +36,12 @@ rest_turn command body cells reply last e none up =
 pub block_read_through : CanHappen read_through
 unfolding command_in row_of pages_of pages_from padded_block filled
 block_read_through =
-    rest_turn (Pass (through 0x0D 0x0E 0 1 1 0x40 0x25)) [] (lasts zeros ∷ lasts aa ∷ []) _ read_through.last
+    rest_turn (Pass read_block) [] (lasts zeros ∷ lasts aa ∷ []) _ read_through.last
     (record {
       given = zeros ∷ [];
       data_out = λ out. absurd cc;
       size = refl;
-      ended = good_end (pass_of (through 0x0D 0x0E 0 1 1 0x40 0x25)).regs 0 0;
+      ended = good_end (pass_of read_block).regs 0 0;
       taken = aa ∷ [];
       after = record (medium_of read_through.first) { active = true };
       does = inl (record { ends = refl; data_in = refl; medium = refl });
@@ -52,12 +52,12 @@ block_read_through =
 pub standby_checked : CanHappen standby_told
 unfolding command_in row_of pages_of pages_from padded_block fixed_form
 standby_checked =
-    rest_turn (Pass (through 0x06 0x20 0 0 0 0 0xE5)) [] written _ standby_told.last
+    rest_turn (Pass check_power) [] written _ standby_told.last
     (record {
       given = [];
       data_out = λ out. refl;
       size = refl;
-      ended = good_end (pass_of (through 0x06 0x20 0 0 0 0 0xE5)).regs 0 0;
+      ended = good_end (pass_of check_power).regs 0 0;
       taken = [];
       after = medium_of standby_told.first;
       does = record { ends = refl; data_in = refl; medium = refl };

@@ -9,15 +9,41 @@ use Rattle.satl_scenarios.specs.Devices.{aa, bb, cached_over, device, identify_d
 use Rattle.satl_scenarios.specs.Replies.{check, good}
 use Rattle.satl_scenarios.specs.Requests.{read, request}
 
--- an ATA PASS-THROUGH (16): bytes 1 and 2 with PROTOCOL, EXTEND and the flags, and the low bytes of FEATURES, COUNT, LBA,
--- DEVICE and COMMAND (SAT-3 12.2.2.3)
-abbrev pub through : ℕ → ℕ → ℕ → ℕ → ℕ → ℕ → ℕ → List ℕ
-through protocol flags features count lba unit command =
-    0x85 ∷ protocol ∷ flags ∷ 0 ∷ features ∷ 0 ∷ count ∷ 0 ∷ lba ∷ 0 ∷ 0 ∷ 0 ∷ 0 ∷ unit ∷ command ∷ 0 ∷ []
+-- bytes of an ATA PASS-THROUGH (16): byte 1 with PROTOCOL and EXTEND, byte 2 with the flags, and the low bytes of FEATURES,
+-- COUNT, LBA, DEVICE and COMMAND (SAT-3 12.2.2.3)
+pub record ThroughFields : Type 0 where
+  pub protocol : ℕ
+  pub flags : ℕ
+  pub features : ℕ
+  pub count : ℕ
+  pub lba : ℕ
+  pub device_field : ℕ
+  pub command : ℕ
+
+-- all of them 0 (SAT-3 12.2.2.3)
+abbrev pub no_fields : ThroughFields
+no_fields = record { protocol = 0; flags = 0; features = 0; count = 0; lba = 0; device_field = 0; command = 0 }
+
+-- the CDB with these bytes, and 0 in all others (SAT-3 12.2.2.3)
+abbrev pub through : ThroughFields → List ℕ
+through f =
+    0x85 ∷ f.protocol ∷ f.flags ∷ 0 ∷ f.features ∷ 0 ∷ f.count ∷ 0 ∷ f.lba ∷ 0 ∷ 0 ∷ 0 ∷ 0 ∷ f.device_field ∷ f.command ∷ 0 ∷ []
 
 -- IDENTIFY DEVICE, by PIO (ACS-3, IDENTIFY DEVICE)
 abbrev pub identify : List ℕ
-identify = through 0x08 0x0E 0 1 0 0 0xEC
+identify = through (record no_fields { protocol = 0x08; flags = 0x0E; count = 1; command = 0xEC })
+
+-- CHECK POWER MODE with CK_COND (ACS-3, CHECK POWER MODE)
+abbrev pub check_power : List ℕ
+check_power = through (record no_fields { protocol = 0x06; flags = 0x20; command = 0xE5 })
+
+-- SET FEATURES that turns the write cache off (ACS-3, SET FEATURES)
+abbrev pub cache_off : List ℕ
+cache_off = through (record no_fields { protocol = 0x06; features = 0x82; command = 0xEF })
+
+-- READ DMA EXT of a block at address 1 (ACS-3, READ DMA EXT)
+abbrev pub read_block : List ℕ
+read_block = through (record no_fields { protocol = 0x0D; flags = 0x0E; count = 1; lba = 1; device_field = 0x40; command = 0x25 })
 
 -- its answer, with its data (ACS-3, IDENTIFY DEVICE)
 abbrev pub identity_told : Answer
@@ -40,19 +66,19 @@ identified_on_request = record {
 -- CHECK POWER MODE with CK_COND: ATA PASS THROUGH INFORMATION AVAILABLE, with STATUS 40h and COUNT FFh, active (SAT-3 12.2.2.6)
 abbrev pub power_checked : Scenario
 power_checked =
-    ends_with (Pass (through 0x06 0x20 0 0 0 0 0xE5)) [] written
+    ends_with (Pass check_power) [] written
     (check 1 (0xF0 ∷ 0 ∷ 0x1 ∷ 0 ∷ 0x40 ∷ 0 ∷ 0xFF ∷ 0x0A ∷ 0 ∷ 0 ∷ 0 ∷ 0 ∷ 0x00 ∷ 0x1D ∷ 0 ∷ 0 ∷ 0 ∷ 0 ∷ []))
     (device written)
 
 -- SET FEATURES turns the write cache off: all is written back, and WCE is 0 (ACS-3, SET FEATURES; SAT-3)
 abbrev pub cache_disabled : Scenario
 cache_disabled =
-    ends_with (Pass (through 0x06 0x00 0x82 0 0 0 0xEF)) [] written (good 1 [])
+    ends_with (Pass cache_off) [] written (good 1 [])
     (record (device (lasts aa ∷ lasts zeros ∷ [])) { modes = record { wce = false; dra = false; d_sense = false } })
 
 -- WRITE DMA EXT of a block at address 1 (ACS-3, WRITE DMA EXT)
 abbrev pub write_block : List ℕ
-write_block = through 0x0D 0x06 0 1 1 0x40 0x35
+write_block = through (record no_fields { protocol = 0x0D; flags = 0x06; count = 1; lba = 1; device_field = 0x40; command = 0x35 })
 
 -- it waits, and ends with GOOD (SAT-3 12.2)
 abbrev pub written_through : Scenario
@@ -77,6 +103,6 @@ read_behind_it = record {
 -- (SAT-3 11, 12.2.2.6)
 abbrev pub unreadable_through : Scenario
 unreadable_through =
-    ends_with (Pass (through 0x0D 0x0E 0 1 1 0x40 0x25)) [] (lasts zeros ∷ unreadable zeros ∷ [])
+    ends_with (Pass read_block) [] (lasts zeros ∷ unreadable zeros ∷ [])
     (check 1 (0xF0 ∷ 0 ∷ 0x3 ∷ 0x40 ∷ 0x41 ∷ 0x40 ∷ 0 ∷ 0x0A ∷ 0x80 ∷ 1 ∷ 0 ∷ 0 ∷ 0x11 ∷ 0x00 ∷ 0 ∷ 0 ∷ 0 ∷ 0 ∷ []))
     (device (lasts zeros ∷ unreadable zeros ∷ []))

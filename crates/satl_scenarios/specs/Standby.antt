@@ -8,7 +8,7 @@ use Rattle.satl_unit.specs.declared.attention.Attention.TheVariants.{ModeChanged
 use Rattle.satl_frame.specs.Output.{Answer}
 use Rattle.satl_direct.specs.Device.{Device}
 use Rattle.satl_scenarios.specs.Commands.{ends_with, written}
-use Rattle.satl_scenarios.specs.Passes.{through}
+use Rattle.satl_scenarios.specs.Passes.{check_power, read_block}
 use Rattle.satl_scenarios.specs.Power.{caching_list, select}
 use Rattle.satl_scenarios.specs.Scenario.{Scenario}
 use Rattle.satl_scenarios.specs.Devices.{aa, device, lasts, zeros}
@@ -27,14 +27,14 @@ ends_at_rest command body cells answer last =
 -- a host reads by READ DMA EXT: the drive is active from then on, and the unit stays stopped (SAT-3 12.2; ACS-3, READ DMA EXT)
 abbrev pub read_through : Scenario
 read_through =
-    ends_at_rest (Pass (through 0x0D 0x0E 0 1 1 0x40 0x25)) [] (lasts zeros ∷ lasts aa ∷ []) (good 1 (aa ∷ []))
+    ends_at_rest (Pass read_block) [] (lasts zeros ∷ lasts aa ∷ []) (good 1 (aa ∷ []))
     (record (device (lasts zeros ∷ lasts aa ∷ [])) { started = false })
 
 -- CHECK POWER MODE with CK_COND: STATUS 40h and COUNT 00h, standby; the drive stays in standby (SAT-3 12.2.2.6; ACS-3, CHECK
 -- POWER MODE)
 abbrev pub standby_told : Scenario
 standby_told =
-    ends_at_rest (Pass (through 0x06 0x20 0 0 0 0 0xE5)) [] written
+    ends_at_rest (Pass check_power) [] written
     (check 1 (0xF0 ∷ 0 ∷ 0x1 ∷ 0 ∷ 0x40 ∷ 0 ∷ 0x00 ∷ 0x0A ∷ 0 ∷ 0 ∷ 0 ∷ 0 ∷ 0x00 ∷ 0x1D ∷ 0 ∷ 0 ∷ 0 ∷ 0 ∷ []))
     (at_rest (device written))
 
