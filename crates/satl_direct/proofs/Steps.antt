@@ -19,7 +19,7 @@ use Rattle.satl_direct.specs.Arrival.{placed, reply_to}
 use Rattle.satl_direct.specs.Arrival.Arrival.{answered, waits}
 use Rattle.satl_direct.specs.Device.{Device}
 use Rattle.satl_direct.specs.Ending.{EndsInPieces, IsTaskDone, IsTorn, outcome_reply, same_pairs, surface_of, task_check}
-use Rattle.satl_direct.specs.Senses.{read_error}
+use Rattle.satl_direct.specs.Senses.{read_error, write_error}
 use Rattle.satl_direct.specs.Tasks.{held_blocks, held_by, is_full, over}
 use Rattle.satl_direct.specs.Turn.{IsFirst, OneEnds, Turn}
 use Rattle.satl_direct.specs.Turn.Turn.{idle, ends, loses, ends_and_loses}

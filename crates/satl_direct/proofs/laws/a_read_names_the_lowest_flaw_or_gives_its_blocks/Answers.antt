@@ -1,5 +1,6 @@
 use Rattle.std.proofs.Common.{sym, ap, ◌∙◌}
 use Rattle.satl_direct.proofs.Steps.{gives_blocks, names_flaw}
+use Rattle.satl_direct.specs.Ending.{surface_of}
 use Rattle.satl_direct.proofs.laws.a_read_names_the_lowest_flaw_or_gives_its_blocks.Goals as goal
 
 pub returns-clause-flawed : goal.returns-clause-flawed

@@ -3,4 +3,4 @@ use Rattle.satl_line.proofs.EndingLemmas.{ends_by_moves}
 use Rattle.satl_line.proofs.laws.endings_are_moves.Goals as goal
 
 pub returns : goal.returns
-returns c = λ allows cache_on task outcome old glitches new left may e. ends_by_moves (Passes allows) cache_on task outcome old glitches new left may e
+returns c = λ allows cache_on task outcome old new may e. ends_by_moves (Passes allows) cache_on task outcome old new may e
