@@ -94,49 +94,28 @@ module _ (x : ℕ) where
 
     -- an ATA command names the same sectors at both
     ata_named : (c : AtaCommand) (given : List Block) → named (pairs_of c (medium_of u) given) ≡ named (pairs_of c (medium_of s) given)
-    ata_named (ata.Read how lba sectors) given = refl
     ata_named (ata.Write how lba sectors) given =
         ap (λ n. named (if nat_lt n (lba + sectors) then [] else pairs_from lba (take sectors given) u.modes.wce)) a.size ∙ either (nat_lt (length s.cells) (lba + sectors))
       where
         either : (b : Bool) → named (if b then [] else pairs_from lba (take sectors given) u.modes.wce) ≡ named (if b then [] else pairs_from lba (take sectors given) s.modes.wce)
         either true = refl
         either false = from_named lba (take sectors given) u.modes.wce s.modes.wce
-    ata_named (ata.Verify ext lba sectors) given = refl
-    ata_named (ata.Flush ext) given = refl
-    ata_named ata.Identify given = refl
-    ata_named (ata.SetFeatures what) given = refl
-    ata_named ata.Standby given = refl
-    ata_named ata.Idle given = refl
-    ata_named ata.CheckPower given = refl
-    ata_named (ata.ReadLog log page blocks) given = refl
     ata_named (ata.Trim blocks) given =
         ap (λ b. named (if b then [] else zeros_at u.modes.wce (addresses (payload_ranges blocks given)))) (no_trim_alike blocks given) ∙ either (is_no_trim blocks given (medium_of s))
       where
         either : (b : Bool) → named (if b then [] else zeros_at u.modes.wce (addresses (payload_ranges blocks given))) ≡ named (if b then [] else zeros_at s.modes.wce (addresses (payload_ranges blocks given)))
         either true = refl
         either false = at_named (addresses (payload_ranges blocks given)) u.modes.wce s.modes.wce
-    ata_named ata.SmartStatus given = refl
-    ata_named (ata.Other code) given = refl
+    ata_named _ given = refl
 
     -- and so does a command of a task
     command_named : (c : Command) (t : Entry) → named (written_by c u t) ≡ named (written_by c s t)
-    command_named commands.TestUnitReady t = refl
-    command_named (commands.RequestSense descriptor alloc) t = refl
-    command_named (commands.Inquiry page alloc) t = refl
-    command_named (commands.ModeSense ten long_lba no_descriptor control page alloc) t = refl
-    command_named (commands.ModeSelect ten size) t = refl
-    command_named (commands.StartStop start no_flush) t = refl
-    command_named commands.ReadCapacity10 t = refl
-    command_named (commands.ReadCapacity16 alloc) t = refl
-    command_named (commands.ReportLuns select alloc) t = refl
-    command_named (commands.Read form lba count fua) t = refl
     command_named (commands.Write form lba count fua) t = from_named lba t.body (u.modes.wce && not fua) (s.modes.wce && not fua)
-    command_named (commands.Verify form lba count compare) t = refl
-    command_named (commands.Flush form lba count) t = refl
     command_named (commands.WriteSame form lba count false) t = same_named lba count t.body u.modes.wce s.modes.wce
     command_named (commands.WriteSame form lba count true) t = over_named (over lba count ∷ []) u.modes.wce s.modes.wce
     command_named (commands.Unmap size) t = over_named t.ranges.items u.modes.wce s.modes.wce
     command_named (commands.Pass cdb) t = ata_named (command_in (pass_of cdb).regs) t.body
+    command_named _ t = refl
 
     -- a task that spares a sector at one of the two spares it at the other
     pub writes_alike : (t : Entry) → named (writes u t) ≡ named (writes s t)

@@ -16,6 +16,7 @@ use Rattle.satl_direct.specs.Device.{Device, attentions_of, is_called}
 use Rattle.satl_direct.specs.Tasks.{asks, is_full, needed, range_of}
 use Rattle.satl_direct.specs.Arrival.{Arrival, arrival, asks_for, attention_arrival, attention_for, becomes, cdb_arrival, code_arrival, command_arrival, is_unit_0, placed, placed_unless, readiness, sense_told, unless_refused}
 use Rattle.satl_direct.specs.Arrival.Arrival.{answered, attended, overlaps, waits}
+use Rattle.satl_laws.proofs.Cases.{chosen}
 use Rattle.satl_laws.proofs.Coming.{WritesItsOwn, fields_own}
 
 -- an answer to a request
@@ -37,25 +38,15 @@ IsFor r (overlaps reply) = IsTo r reply
 IsFor r (waits task) = IsOf r task
 
 module _ (s : Device) (r : Request) where
-  -- of two arrivals, one that a test chooses
-  either_for : (b : Bool) (x y : Arrival) → IsFor r x → IsFor r y → IsFor r (if b then x else y)
-  either_for true x y p q = p
-  either_for false x y p q = q
-
-  -- of two replies, one that a test chooses
-  either_to : (b : Bool) (x y : Reply) → IsTo r x → IsTo r y → IsTo r (if b then x else y)
-  either_to true x y p q = p
-  either_to false x y p q = q
-
   -- the steps of an arrival, from the last to the first
   ready_to : IsTo r (readiness s r)
-  ready_to = either_to s.down _ _ (record { nexus = refl; tag = refl }) (either_to (not s.started) _ _ (record { nexus = refl; tag = refl }) (record { nexus = refl; tag = refl }))
+  ready_to = chosen (IsTo r) s.down (record { nexus = refl; tag = refl }) (chosen (IsTo r) (not s.started) (record { nexus = refl; tag = refl }) (record { nexus = refl; tag = refl }))
 
   placed_for : (c : Command) → WritesItsOwn c → IsFor r (placed s r c)
-  placed_for c own = either_for (is_full s.tasks c) _ _ (record { nexus = refl; tag = refl }) (record { nexus = refl; tag = refl; own = own })
+  placed_for c own = chosen (IsFor r) (is_full s.tasks c) (record { nexus = refl; tag = refl }) (record { nexus = refl; tag = refl; own = own })
 
   unless_for : (idle : Bool) (c : Command) → WritesItsOwn c → IsFor r (placed_unless idle s r c)
-  unless_for idle c own = either_for idle _ _ ready_to (placed_for c own)
+  unless_for idle c own = chosen (IsFor r) idle ready_to (placed_for c own)
 
   sense_for : (o : Option Attention) (descriptor : Bool) (alloc : ℕ) → IsFor r (sense_told o r descriptor alloc)
   sense_for None descriptor alloc = record { nexus = refl; tag = refl }
@@ -64,13 +55,8 @@ module _ (s : Device) (r : Request) where
   becomes_for : (c : Command) → WritesItsOwn c → IsFor r (becomes s r c)
   becomes_for commands.TestUnitReady own = ready_to
   becomes_for (commands.RequestSense descriptor alloc) own = sense_for (slice_get (attentions_of r.nexus s) 0) descriptor alloc
-  becomes_for (commands.Inquiry page alloc) own = record { nexus = refl; tag = refl }
-  becomes_for (commands.ModeSense ten long_lba no_descriptor control page alloc) own = record { nexus = refl; tag = refl }
   becomes_for (commands.ModeSelect ten size) own = unless_for (size == 0) (commands.ModeSelect ten size) own
   becomes_for (commands.StartStop start no_flush) own = placed_for (commands.StartStop start no_flush) own
-  becomes_for commands.ReadCapacity10 own = record { nexus = refl; tag = refl }
-  becomes_for (commands.ReadCapacity16 alloc) own = record { nexus = refl; tag = refl }
-  becomes_for (commands.ReportLuns select alloc) own = record { nexus = refl; tag = refl }
   becomes_for (commands.Read form lba count fua) own = unless_for (count == 0) (commands.Read form lba count fua) own
   becomes_for (commands.Write form lba count fua) own = unless_for (count == 0) (commands.Write form lba count fua) own
   becomes_for (commands.Verify form lba count compare) own = unless_for (count == 0) (commands.Verify form lba count compare) own
@@ -78,6 +64,7 @@ module _ (s : Device) (r : Request) where
   becomes_for (commands.WriteSame form lba count unmap) own = placed_for (commands.WriteSame form lba count unmap) own
   becomes_for (commands.Unmap size) own = unless_for ((size == 0) || (length (ranges_of r.body) == 0)) (commands.Unmap size) own
   becomes_for (commands.Pass cdb) own = placed_for (commands.Pass cdb) own
+  becomes_for _ own = record { nexus = refl; tag = refl }
 
   refused_for : (o : Option Illegal) (next : Arrival) → (o ≡ None → IsFor r next) → IsFor r (unless_refused o s r next)
   refused_for None next n = n refl
@@ -85,9 +72,9 @@ module _ (s : Device) (r : Request) where
 
   command_for : (c : Command) → WritesItsOwn c → IsFor r (command_arrival s r c)
   command_for c own =
-      either_for (nat_lt s.identity.capacity ((range_of c).lba + (range_of c).count)) _ _ (record { nexus = refl; tag = refl })
+      chosen (IsFor r) (nat_lt s.identity.capacity ((range_of c).lba + (range_of c).count)) (record { nexus = refl; tag = refl })
       (refused_for (asks c).length_fault _
-      (λ fine. either_for (nat_lt r.data_len (needed c)) _ _ (record { nexus = refl; tag = refl })
+      (λ fine. chosen (IsFor r) (nat_lt r.data_len (needed c)) (record { nexus = refl; tag = refl })
       (refused_for ((asks c).data_fault s.identity s.modes r.body) _ (λ good. becomes_for c own))))
 
   cdb_for : (said : Result Command Illegal) → IsFor r (cdb_arrival s r said)
@@ -105,7 +92,7 @@ module _ (s : Device) (r : Request) where
   -- each arrival is for its request
   pub arrival_for : IsFor r (arrival s r)
   arrival_for =
-      either_for (is_unit_0 r.lun || asks_for 0xA0 r) _ _
-      (either_for (list_any (is_called r.nexus (r.tag).0) s.tasks) _ _ (record { nexus = refl; tag = refl }) (attention_for_it (attention_for s r)))
-      (either_for (asks_for 0x12 r && not (bit 1 0 r.cdb)) _ _ (record { nexus = refl; tag = refl })
-      (either_for (asks_for 0x03 r) _ _ (record { nexus = refl; tag = refl }) (record { nexus = refl; tag = refl })))
+      chosen (IsFor r) (is_unit_0 r.lun || asks_for 0xA0 r)
+      (chosen (IsFor r) (list_any (is_called r.nexus (r.tag).0) s.tasks) (record { nexus = refl; tag = refl }) (attention_for_it (attention_for s r)))
+      (chosen (IsFor r) (asks_for 0x12 r && not (bit 1 0 r.cdb)) (record { nexus = refl; tag = refl })
+      (chosen (IsFor r) (asks_for 0x03 r) (record { nexus = refl; tag = refl }) (record { nexus = refl; tag = refl })))

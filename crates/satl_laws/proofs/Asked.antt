@@ -19,6 +19,7 @@ use Rattle.satl_direct.specs.Device.{Device, attentions_of}
 use Rattle.satl_direct.specs.Tasks.{asks, is_full, is_ordered, needed, range_of, task_for}
 use Rattle.satl_direct.specs.Valid.{HasCome}
 use Rattle.satl_laws.specs.Passing.{alters, goes_over, goes_with_others, lies_in}
+use Rattle.satl_laws.proofs.Cases.{chosen}
 
 -- a task by its command, on a drive that queues trims or does not
 pub record IsAsked (queued_trim : Bool) (t : Entry) : Type 0 where
@@ -41,65 +42,40 @@ unmaps false r size = by_itself false r (commands.Unmap size) refl refl
 
 -- of each command
 asked : (queued_trim : Bool) (r : Request) (c : Command) → IsAsked queued_trim (task_for queued_trim r c)
-asked q r commands.TestUnitReady = by_itself q r commands.TestUnitReady refl refl
-asked q r (commands.RequestSense descriptor alloc) = by_itself q r (commands.RequestSense descriptor alloc) refl refl
-asked q r (commands.Inquiry page alloc) = by_itself q r (commands.Inquiry page alloc) refl refl
-asked q r (commands.ModeSense ten long_lba no_descriptor control page alloc) = by_itself q r (commands.ModeSense ten long_lba no_descriptor control page alloc) refl refl
-asked q r (commands.ModeSelect ten size) = by_itself q r (commands.ModeSelect ten size) refl refl
-asked q r (commands.StartStop start no_flush) = by_itself q r (commands.StartStop start no_flush) refl refl
-asked q r commands.ReadCapacity10 = by_itself q r commands.ReadCapacity10 refl refl
-asked q r (commands.ReadCapacity16 alloc) = by_itself q r (commands.ReadCapacity16 alloc) refl refl
-asked q r (commands.ReportLuns select alloc) = by_itself q r (commands.ReportLuns select alloc) refl refl
 asked q r (commands.Read form lba count fua) = record { alone = sym (or-false (is_ordered r.attr)); writes = λ h. refl; goes = λ h x. sym (or-false (lies_in lba count x)) }
 asked q r (commands.Write form lba count fua) = record { alone = sym (or-false (is_ordered r.attr)); writes = λ h. refl; goes = λ h x. sym (or-false (lies_in lba count x)) }
-asked q r (commands.Verify form lba count compare) = by_itself q r (commands.Verify form lba count compare) refl refl
-asked q r (commands.Flush form lba count) = by_itself q r (commands.Flush form lba count) refl refl
-asked q r (commands.WriteSame form lba count unmap) = by_itself q r (commands.WriteSame form lba count unmap) refl refl
 asked q r (commands.Unmap size) = unmaps q r size
-asked q r (commands.Pass cdb) = by_itself q r (commands.Pass cdb) refl refl
+asked q r other = by_itself q r other refl refl
 
 -- ---- a task comes by a request
 
 -- the task that waits after an arrival, if one does
 abbrev IsAskedIn : Bool → Arrival → Type 0
-IsAskedIn queued_trim (answered reply) = Unit {0}
-IsAskedIn queued_trim (attended reply) = Unit {0}
-IsAskedIn queued_trim (overlaps reply) = Unit {0}
 IsAskedIn queued_trim (waits task) = IsAsked queued_trim task
+IsAskedIn queued_trim _ = Unit {0}
 
 module _ (s : Device) (r : Request) where
   abbrev queued_trim : Bool
   queued_trim = s.identity.queued_trim
-
-  -- of two arrivals, one that a test chooses
-  either : (b : Bool) (x y : Arrival) → IsAskedIn queued_trim x → IsAskedIn queued_trim y → IsAskedIn queued_trim (if b then x else y)
-  either true x y p q = p
-  either false x y p q = q
 
   unless : (why : Option Illegal) (next : Arrival) → IsAskedIn queued_trim next → IsAskedIn queued_trim (unless_refused why s r next)
   unless None next h = h
   unless (Some why) next h = tt
 
   in_place : (c : Command) → IsAskedIn queued_trim (placed s r c)
-  in_place c = either (is_full s.tasks c) _ _ tt (asked queued_trim r c)
+  in_place c = chosen (IsAskedIn queued_trim) (is_full s.tasks c) tt (asked queued_trim r c)
 
   unless_idle : (idle : Bool) (c : Command) → IsAskedIn queued_trim (placed_unless idle s r c)
-  unless_idle idle c = either idle _ _ tt (in_place c)
+  unless_idle idle c = chosen (IsAskedIn queued_trim) idle tt (in_place c)
 
   tells_sense : (o : Option Attention) (descriptor : Bool) (alloc : ℕ) → IsAskedIn queued_trim (sense_told o r descriptor alloc)
   tells_sense None descriptor alloc = tt
   tells_sense (Some what) descriptor alloc = tt
 
   becomes_asked : (c : Command) → IsAskedIn queued_trim (becomes s r c)
-  becomes_asked commands.TestUnitReady = tt
   becomes_asked (commands.RequestSense descriptor alloc) = tells_sense (slice_get (attentions_of r.nexus s) 0) descriptor alloc
-  becomes_asked (commands.Inquiry page alloc) = tt
-  becomes_asked (commands.ModeSense ten long_lba no_descriptor control page alloc) = tt
   becomes_asked (commands.ModeSelect ten size) = unless_idle (size == 0) (commands.ModeSelect ten size)
   becomes_asked (commands.StartStop start no_flush) = in_place (commands.StartStop start no_flush)
-  becomes_asked commands.ReadCapacity10 = tt
-  becomes_asked (commands.ReadCapacity16 alloc) = tt
-  becomes_asked (commands.ReportLuns select alloc) = tt
   becomes_asked (commands.Read form lba count fua) = unless_idle (count == 0) (commands.Read form lba count fua)
   becomes_asked (commands.Write form lba count fua) = unless_idle (count == 0) (commands.Write form lba count fua)
   becomes_asked (commands.Verify form lba count compare) = unless_idle (count == 0) (commands.Verify form lba count compare)
@@ -107,14 +83,15 @@ module _ (s : Device) (r : Request) where
   becomes_asked (commands.WriteSame form lba count unmap) = in_place (commands.WriteSame form lba count unmap)
   becomes_asked (commands.Unmap size) = unless_idle ((size == 0) || (length (ranges_of r.body) == 0)) (commands.Unmap size)
   becomes_asked (commands.Pass cdb) = in_place (commands.Pass cdb)
+  becomes_asked _ = tt
 
   said_asked : (said : Result Command Illegal) → IsAskedIn queued_trim (cdb_arrival s r said)
   said_asked (Err why) = tt
   said_asked (Ok c) =
       unless (asks c).fields_fault (command_arrival s r c)
-      (either (nat_lt s.identity.capacity ((range_of c).lba + (range_of c).count)) _ _ tt
+      (chosen (IsAskedIn queued_trim) (nat_lt s.identity.capacity ((range_of c).lba + (range_of c).count)) tt
       (unless (asks c).length_fault _
-      (either (nat_lt r.data_len (needed c)) _ _ tt
+      (chosen (IsAskedIn queued_trim) (nat_lt r.data_len (needed c)) tt
       (unless ((asks c).data_fault s.identity s.modes r.body) _ (becomes_asked c)))))
 
   code_asked : IsAskedIn queued_trim (code_arrival s r)

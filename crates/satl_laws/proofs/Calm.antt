@@ -100,10 +100,6 @@ module _ (s new : Device) (t : Entry) (reply : Reply) (calm : IsCalm s) where
 
   -- by the command
   command_calm : (c : Command) → writes_plainly (Ok c) ≡ true → stops_or_starts (Ok c) ≡ false → EndsBy c s t reply new → EndsCalm c
-  command_calm commands.TestUnitReady plain steady e = absurd e
-  command_calm (commands.RequestSense descriptor alloc) plain steady e = absurd e
-  command_calm (commands.Inquiry page alloc) plain steady e = absurd e
-  command_calm (commands.ModeSense ten long_lba no_descriptor control page alloc) plain steady e = absurd e
   command_calm (commands.ModeSelect ten size) plain steady e =
       let k = settled_calm (s.modes.wce && not (selected s t).wce) s calm in
       record {
@@ -111,9 +107,6 @@ module _ (s new : Device) (t : Entry) (reply : Reply) (calm : IsCalm s) where
         whole_write = λ b. absurd cc;
       }
   command_calm (commands.StartStop start no_flush) plain steady e = absurd cc
-  command_calm commands.ReadCapacity10 plain steady e = absurd e
-  command_calm (commands.ReadCapacity16 alloc) plain steady e = absurd e
-  command_calm (commands.ReportLuns select alloc) plain steady e = absurd e
   command_calm (commands.Read form lba count fua) plain steady e =
       record { calm_still = (on_medium (ranged_read fua (over lba count)) (no_flaw flaws.Read s.cells lba count calm.clean) e).after; whole_write = λ b. absurd cc }
   command_calm (commands.Write form lba count fua) plain steady e =
@@ -125,6 +118,7 @@ module _ (s new : Device) (t : Entry) (reply : Reply) (calm : IsCalm s) where
   command_calm (commands.WriteSame form lba count unmap) plain steady e = absurd cc
   command_calm (commands.Unmap size) plain steady e = absurd cc
   command_calm (commands.Pass cdb) plain steady e = absurd cc
+  command_calm _ plain steady e = absurd e
 
   -- where the link is up
   pub ends_calm : s.down ≡ false → writes_plainly (Ok t.command) ≡ true → stops_or_starts (Ok t.command) ≡ false → Ends s t reply new → EndsCalm t.command

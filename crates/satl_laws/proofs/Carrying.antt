@@ -55,16 +55,11 @@ module _ (x : Traffic) (old new : Medium) where
       (λ fits. ap (λ b. if b then [] else (writing how lba sectors x.given old).writes) fits) h
   carried_out (ata.Verify ext lba sectors) h = transfer (ata.Verify ext lba sectors) (verifying ext lba sectors) (λ fits. refl) h
   carried_out (ata.Flush ext) h = record { pairs = []; spared = λ y k. refl; cells = settles (ap (λ m. m.cells) h.medium) }
-  carried_out ata.Identify h = as_before ata.Identify (ap (λ m. m.cells) h.medium)
   carried_out (ata.SetFeatures what) h =
       by_option (settable old.identify (setting_of what)) (λ k. as_before (ata.SetFeatures what) (ap (λ m. m.cells) k.medium)) (λ setting k. set_carried (ata.SetFeatures what) setting k) h
-  carried_out ata.Standby h = as_before ata.Standby (ap (λ m. m.cells) h.medium)
-  carried_out ata.Idle h = as_before ata.Idle (ap (λ m. m.cells) h.medium)
-  carried_out ata.CheckPower h = as_before ata.CheckPower (ap (λ m. m.cells) h.medium)
   carried_out (ata.ReadLog log page blocks) h =
       by_bool (is_error_log log page blocks) (λ k. as_before (ata.ReadLog log page blocks) (ap (λ m. m.cells) k.medium)) (λ k. as_before (ata.ReadLog log page blocks) (ap (λ m. m.cells) k.medium)) h
   carried_out (ata.Trim blocks) h =
       by_bool_is (is_no_trim blocks x.given old) (λ k. as_before (ata.Trim blocks) (ap (λ m. m.cells) k.medium))
       (λ trims k. transfer (ata.Trim blocks) (trimming blocks x.given old) (λ fits. ap (λ b. if b then [] else (trimming blocks x.given old).writes) trims) k) h
-  carried_out ata.SmartStatus h = as_before ata.SmartStatus (ap (λ m. m.cells) h.medium)
-  carried_out (ata.Other code) h = as_before (ata.Other code) (ap (λ m. m.cells) h.medium)
+  carried_out other h = as_before other (ap (λ m. m.cells) h.medium)

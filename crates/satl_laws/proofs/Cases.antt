@@ -1,12 +1,17 @@
 -- Facts that are given by cases, and what a list counts.
 use Rattle.std.proofs.Common.{◌≡◌, ◌+◌, Bool, true, false, List, [], ◌∷◌, ◌++◌, Option, Some, None, arith, cond}
-use Rattle.std.specs.Prelude.{MatchBool, MatchOption, not, filter}
+use Rattle.std.specs.Prelude.{MatchBool, MatchOption, if◌then◌else◌, not, filter}
 use Rattle.satl_base.specs.Lists.{how_many}
 
 -- from each of the two cases of a test
 pub by_bool : {A B C : Type 0} (b : Bool) → (A → C) → (B → C) → MatchBool b A B → C
 by_bool true f g h = f h
 by_bool false f g h = g h
+
+-- of two, one that a test chooses
+pub chosen : {X : Type 0} {x y : X} (P : X → Type 0) (b : Bool) → P x → P y → P (if b then x else y)
+chosen P true p q = p
+chosen P false p q = q
 
 -- from each of the two cases of an option
 pub by_option : {X A C : Type 0} {B : X → Type 0} (o : Option X) → (A → C) → ((x : X) → B x → C) → MatchOption o A B → C

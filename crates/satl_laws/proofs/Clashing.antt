@@ -17,15 +17,13 @@ record IsFree (p q r s m : Bool) : Type 0 where
   apart : ((r || s) && m) ≡ false
 
 free_parts : (p q r s m : Bool) → (p || q || ((r || s) && m)) ≡ false → IsFree p q r s m
-free_parts true q r s m h = absurd cc
-free_parts false true r s m h = absurd cc
 free_parts false false r s m h = record { first = refl; second = refl; apart = h }
+free_parts _ _ r s m h = absurd cc
 
 -- a task that goes with others, by its command
 pub with_others : (o g : Bool) → (o || not g) ≡ false → g ≡ true
-with_others true g h = absurd cc
 with_others false true h = refl
-with_others false false h = absurd cc
+with_others _ _ h = absurd cc
 
 module _ (s : Device) (a b : Entry) (is_a : IsAsked s.identity.queued_trim a) (is_b : IsAsked s.identity.queued_trim b) where
   abbrev writes_one : Bool
@@ -78,8 +76,7 @@ module _ (s : Device) (a b : Entry) (is_a : IsAsked s.identity.queued_trim a) (i
       where
         last : (p q w : Bool) → p ≡ true → q ≡ true → (p && q && w) ≡ false → w ≡ false
         last true true w h k none = none
-        last true false w h k none = absurd cc
-        last false q w h k none = absurd cc
+        last _ _ w h k none = absurd cc
 
     -- so they conflict not
     pub conflict_none : DoNotClash a b → conflicts a b ≡ false

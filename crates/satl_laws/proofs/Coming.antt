@@ -21,22 +21,8 @@ use Rattle.satl_direct.proofs.Passing.{writes_none}
 
 -- an ATA PASS-THROUGH without data-out writes nothing, whatever is handed in
 abbrev pub WritesItsOwn : Command → Type 0
-WritesItsOwn commands.TestUnitReady = Unit {0}
-WritesItsOwn (commands.RequestSense descriptor alloc) = Unit {0}
-WritesItsOwn (commands.Inquiry page alloc) = Unit {0}
-WritesItsOwn (commands.ModeSense ten long_lba no_descriptor control page alloc) = Unit {0}
-WritesItsOwn (commands.ModeSelect ten size) = Unit {0}
-WritesItsOwn (commands.StartStop start no_flush) = Unit {0}
-WritesItsOwn commands.ReadCapacity10 = Unit {0}
-WritesItsOwn (commands.ReadCapacity16 alloc) = Unit {0}
-WritesItsOwn (commands.ReportLuns select alloc) = Unit {0}
-WritesItsOwn (commands.Read form lba count fua) = Unit {0}
-WritesItsOwn (commands.Write form lba count fua) = Unit {0}
-WritesItsOwn (commands.Verify form lba count compare) = Unit {0}
-WritesItsOwn (commands.Flush form lba count) = Unit {0}
-WritesItsOwn (commands.WriteSame form lba count unmap) = Unit {0}
-WritesItsOwn (commands.Unmap size) = Unit {0}
 WritesItsOwn (commands.Pass cdb) = (pass_of cdb).out ≡ false → (m : Medium) (given : List Block) → pairs_of (command_in (pass_of cdb).regs) m given ≡ []
+WritesItsOwn _ = Unit {0}
 
 -- no rule is broken where nothing is refused
 unbroken : {A : Type 0} (all : List Rule) (cdb : List ℕ) (value : A) (of : Result A Illegal → Option Illegal) → ((why : Illegal) → of (Err why) ≡ Some why) → of (unless_broken all cdb value) ≡ None → AllByRecursion (λ rule. rule.breaks cdb ≡ false) all
@@ -54,19 +40,5 @@ pass_own cdb h =
 
 -- a command whose fields are good
 pub fields_own : (c : Command) → (asks c).fields_fault ≡ None → WritesItsOwn c
-fields_own commands.TestUnitReady h = tt
-fields_own (commands.RequestSense descriptor alloc) h = tt
-fields_own (commands.Inquiry page alloc) h = tt
-fields_own (commands.ModeSense ten long_lba no_descriptor control page alloc) h = tt
-fields_own (commands.ModeSelect ten size) h = tt
-fields_own (commands.StartStop start no_flush) h = tt
-fields_own commands.ReadCapacity10 h = tt
-fields_own (commands.ReadCapacity16 alloc) h = tt
-fields_own (commands.ReportLuns select alloc) h = tt
-fields_own (commands.Read form lba count fua) h = tt
-fields_own (commands.Write form lba count fua) h = tt
-fields_own (commands.Verify form lba count compare) h = tt
-fields_own (commands.Flush form lba count) h = tt
-fields_own (commands.WriteSame form lba count unmap) h = tt
-fields_own (commands.Unmap size) h = tt
 fields_own (commands.Pass cdb) h = pass_own cdb h
+fields_own _ h = tt

@@ -1,5 +1,5 @@
 -- Replies, tasks that wait and tasks that were taken off are together the requests.
-use Rattle.std.proofs.Common.{◌≡◌, refl, ap, ℕ, ◌+◌, List, [], ◌∷◌, ◌++◌, arith, map}
+use Rattle.std.proofs.Common.{◌≡◌, refl, ap, ◌∙◌, ℕ, ◌+◌, List, [], ◌∷◌, ◌++◌, arith, map}
 use Rattle.satl_base.specs.declared.reply.Reply.{Reply}
 use Rattle.satl_base.specs.Lists.{how_many}
 use Rattle.satl_frame.specs.declared.frames.Frame.{Frame}
@@ -10,6 +10,7 @@ use Rattle.satl_direct.specs.Device.{Device}
 use Rattle.satl_direct.specs.Arrival.{Arrives, arrival}
 use Rattle.satl_direct.specs.Run.{Does, Manages, RunDeep, joined}
 use Rattle.satl_direct.specs.Run.RunDeep.{start, step}
+use Rattle.satl_direct.proofs.Quieting.{joined-push}
 use Rattle.satl_laws.specs.OnceEach.{answers_to, asks_by, removed, taken_off}
 use Rattle.satl_laws.proofs.Cases.{how_many-append}
 use Rattle.satl_laws.proofs.Arrivals.{arrival_for}
@@ -58,9 +59,7 @@ module _ (nexus tag : ℕ) where
 
   -- one more group of answers
   joined_push : (groups : List (List Answer)) (group : List Answer) → how_many (answers_to nexus tag) (joined (groups ++ group ∷ [])) ≡ how_many (answers_to nexus tag) (joined groups) + how_many (answers_to nexus tag) group
-  joined_push [] group = omega (arith, how_many-append (answers_to nexus tag) group [])
-  joined_push (g ∷ groups) group =
-      omega (arith, how_many-append (answers_to nexus tag) g (joined (groups ++ group ∷ [])), joined_push groups group, how_many-append (answers_to nexus tag) g (joined groups))
+  joined_push groups group = ap (how_many (answers_to nexus tag)) (joined-push groups group) ∙ how_many-append (answers_to nexus tag) (joined groups) group
 
   -- a run
   pub run_counts : {first last : Device} {events : List Frame} {groups : List (List Answer)} {losses deep : ℕ} (run : RunDeep first events groups losses last deep)

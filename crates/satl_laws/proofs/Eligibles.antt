@@ -49,12 +49,3 @@ pub still_eligible : (before : List Entry) (t : Entry) (later : List Entry) (u :
 still_eligible [] t later u el = ⊎_elim (λ same. inl (sym same)) (λ rest. inr rest.1) el
 still_eligible (b ∷ bs) t later u el =
     ⊎_elim (λ same. inr (inl same)) (λ rest. ⊎_elim (λ is. inl is) (λ e. inr (inr (rest.0, e))) (still_eligible bs t later u rest.1)) el
-
--- of two that are eligible neither conflicts with a later one
-pub both_eligible : (tasks : List Entry) (t u : Entry) → IsEligible tasks t → IsEligible tasks u → (t ≡ u) ⊎ (conflicts t u ≡ false) ⊎ (conflicts u t ≡ false)
-both_eligible [] t u a b = elim a [ ]
-both_eligible (k ∷ ks) t u a b =
-    ⊎_elim
-    (λ is_t. ⊎_elim (λ is_u. inl (sym is_t ∙ is_u)) (λ later. inr (inl (subst (λ w. conflicts w u ≡ false) is_t later.0))) b)
-    (λ later_t. ⊎_elim (λ is_u. inr (inr (subst (λ w. conflicts w t ≡ false) is_u later_t.0))) (λ later_u. both_eligible ks t u later_t.1 later_u.1) b)
-    a

@@ -18,6 +18,7 @@ use Rattle.satl_line.specs.Ending.Outcome.{ends_done, ends_flawed, ends_glitched
 use Rattle.satl_direct.specs.Device.{Device, without}
 use Rattle.satl_direct.specs.Tasks.{asks, over}
 use Rattle.satl_direct.specs.Ending.{Ends, EndsBy, EndsCompared, EndsGarbled, EndsInPieces, EndsOnMedium, EndsPassed, EndsVerified, IsChecked, IsTaskDone, IsTorn, after_select, after_start_stop, outcome_reply, settled, settled_if, selected, task_check}
+use Rattle.satl_direct.specs.Senses.{write_error}
 use Rattle.satl_direct.specs.Turn.{IsFirst, MayEnd}
 use Rattle.satl_laws.proofs.Cases.{by_bool, by_option}
 
@@ -51,13 +52,11 @@ module _ (s new : Device) (t : Entry) (reply : Reply) where
 
   outcome_nexus : (ranged : RangedTask) (o : Outcome) → (outcome_reply s t ranged o).nexus ≡ t.nexus
   outcome_nexus ranged (ends_done blocks) = refl
-  outcome_nexus ranged (ends_flawed lba) = refl
-  outcome_nexus ranged ends_glitched = refl
+  outcome_nexus ranged _ = refl
 
   outcome_tag : (ranged : RangedTask) (o : Outcome) → (outcome_reply s t ranged o).tag ≡ t.tag
   outcome_tag ranged (ends_done blocks) = refl
-  outcome_tag ranged (ends_flawed lba) = refl
-  outcome_tag ranged ends_glitched = refl
+  outcome_tag ranged _ = refl
 
   medium_leaves : (ranged : RangedTask) → EndsOnMedium ranged s t reply new → Leaves s t reply new
   medium_leaves ranged e = record {
@@ -92,15 +91,8 @@ module _ (s new : Device) (t : Entry) (reply : Reply) where
 
   -- by the command
   command_leaves : (c : Command) → EndsBy c s t reply new → Leaves s t reply new
-  command_leaves commands.TestUnitReady e = absurd e
-  command_leaves (commands.RequestSense descriptor alloc) e = absurd e
-  command_leaves (commands.Inquiry page alloc) e = absurd e
-  command_leaves (commands.ModeSense ten long_lba no_descriptor control page alloc) e = absurd e
   command_leaves (commands.ModeSelect ten size) e = done_leaves (after_select s t) (settled_tasks (s.modes.wce && not (selected s t).wce) s) e
   command_leaves (commands.StartStop start no_flush) e = done_leaves (after_start_stop start no_flush s) (after_start_stop-tasks start no_flush s) e
-  command_leaves commands.ReadCapacity10 e = absurd e
-  command_leaves (commands.ReadCapacity16 alloc) e = absurd e
-  command_leaves (commands.ReportLuns select alloc) e = absurd e
   command_leaves (commands.Read form lba count fua) e = medium_leaves _ e
   command_leaves (commands.Write form lba count fua) e = medium_leaves _ e
   command_leaves (commands.Verify form lba count false) e = verified_leaves (over lba count) e
@@ -110,6 +102,7 @@ module _ (s new : Device) (t : Entry) (reply : Reply) where
   command_leaves (commands.WriteSame form lba count true) e = medium_leaves _ e
   command_leaves (commands.Unmap size) e = medium_leaves _ e
   command_leaves (commands.Pass cdb) e = passed_leaves _ e
+  command_leaves _ e = absurd e
 
   -- however a task ends, it goes and is answered
   pub ends_leaves : Ends s t reply new → Leaves s t reply new

@@ -57,18 +57,10 @@ module _ (nexus tag : ℕ) where
         where
           of_arrival : (a : Arrival) → mine nexus tag (cleared_by a r (record old { cells = new.cells; active = new.active })) ≡ mine nexus tag (cleared_by a r old)
           of_arrival (answered reply) = refl
-          of_arrival (attended reply) = refl
-          of_arrival (overlaps reply) = refl
-          of_arrival (waits task) = refl
+          of_arrival _ = refl
       same (frames.Manage m) = ap (λ e. mine nexus tag (filter e.goes old.tasks)) (effect_quiet old new.cells new.active m)
-      same (frames.Turn count) = refl
       same (frames.Bench bench.Power) = refl
-      same (frames.Bench (bench.Strike which lba)) = refl
-      same (frames.Bench (bench.Mend lba)) = refl
-      same (frames.Bench (bench.Glitch count)) = refl
-      same (frames.Bench (bench.Order order)) = refl
-      same (frames.Bench bench.Unplug) = refl
-      same frames.End = refl
+      same _ = refl
 
   -- a management function takes tasks off and answers none
   pub manages_counts : (m : Manage) (response : Response) (s new : Device) (answers : List Reply) → Manages m response s answers new
@@ -78,9 +70,6 @@ module _ (nexus tag : ℕ) where
 
   -- an event of the bench answers tasks or takes them off
   pub bench_counts : (event : BenchEvent) (s new : Device) (answers : List Reply) → Happens event s answers new → replies nexus tag answers + mine nexus tag new.tasks + mine nexus tag (cut_by event s) ≡ mine nexus tag s.tasks
-  bench_counts (bench.Strike which lba) s new answers h = omega (arith, ap (replies nexus tag) h.none, ap (λ d. mine nexus tag d.tasks) h.new_is)
-  bench_counts (bench.Mend lba) s new answers h = omega (arith, ap (replies nexus tag) h.none, ap (λ d. mine nexus tag d.tasks) h.new_is)
-  bench_counts (bench.Glitch count) s new answers h = omega (arith, ap (replies nexus tag) h.none, ap (λ d. mine nexus tag d.tasks) h.new_is)
-  bench_counts (bench.Order order) s new answers h = omega (arith, ap (replies nexus tag) h.none, ap (λ d. mine nexus tag d.tasks) h.new_is)
   bench_counts bench.Power s new answers h = omega (arith, ap (replies nexus tag) h.none, ap (λ d. mine nexus tag d.tasks) h.stays)
   bench_counts bench.Unplug s new answers h = omega (arith, loss_counts nexus tag s new answers h.answer (ap (λ d. d.tasks) h.stays))
+  bench_counts _ s new answers h = omega (arith, ap (replies nexus tag) h.none, ap (λ d. mine nexus tag d.tasks) h.new_is)

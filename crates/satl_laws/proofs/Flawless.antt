@@ -1,13 +1,15 @@
 -- Sectors without flaws.
 use Rattle.std.proofs.Common.{◌≡◌, refl, ap, ◌∙◌, ℕ, zero, suc, ◌+◌, Bool, false, List, [], ◌∷◌, Some, None, map}
-use Rattle.std.specs.Prelude.{if◌then◌else◌, slice_index_or}
+use Rattle.std.specs.Prelude.{get_or, if◌then◌else◌, slice_index_or}
 use Rattle.std.specs.List.{AllByRecursion}
 use Rattle.satl_base.specs.declared.block.Block.{Block}
 use Rattle.satl_base.specs.declared.bench.Which.{Which}
 use Rattle.satl_base.specs.declared.bench.Which.TheVariants as flaws
+use Rattle.satl_base.specs.Blocks.{no_block}
 use Rattle.satl_base.specs.Cells.{Cell, Pair, change_at, first_flaw, first_set, has_flaw, put, put_at, whole}
 use Rattle.satl_base.specs.Losses.{Loses}
 use Rattle.satl_base.proofs.ListsLemmas.{All-weaken}
+use Rattle.satl_base.proofs.LossesLemmas.{loses-nows}
 use Rattle.satl_laws.specs.ArrivalOrder.{read_at}
 
 -- a sector without flaws
@@ -31,17 +33,12 @@ whole_clean (p ∷ ps) cells all = whole_clean ps (put_at cells p) (pair_clean c
 -- nor do losses of entries
 pub loses_clean : (a b : List Cell) → Loses a b → AllByRecursion IsClean a → AllByRecursion IsClean b
 loses_clean [] [] h all = tt
-loses_clean [] (d ∷ ds) h all = absurd h
-loses_clean (c ∷ cs) [] h all = absurd h
 loses_clean (c ∷ cs) (d ∷ ds) h all = ((h.0.read_flaw ∙ all.0.0, h.0.write_flaw ∙ all.0.1), loses_clean cs ds h.1 all.1)
+loses_clean _ _ h all = absurd h
 
 -- which leave what is read
 pub loses_seen : (a b : List Cell) (x : ℕ) → Loses a b → read_at b x ≡ read_at a x
-loses_seen [] [] x h = refl
-loses_seen [] (d ∷ ds) x h = absurd h
-loses_seen (c ∷ cs) [] x h = absurd h
-loses_seen (c ∷ cs) (d ∷ ds) zero h = h.0.now
-loses_seen (c ∷ cs) (d ∷ ds) (suc x) h = loses_seen cs ds x h.1
+loses_seen a b x h = ap (λ blocks. get_or blocks x no_block) (loses-nows a b h)
 
 -- no flag of sectors none of which has it
 no_flag : (f : Cell → Bool) (cells : List Cell) (x : ℕ) → AllByRecursion (λ c. f c ≡ false) cells → slice_index_or (map f cells) x false ≡ false

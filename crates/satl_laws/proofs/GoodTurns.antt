@@ -74,8 +74,7 @@ replied_in reply (r ∷ rs) i = ⊎_elim (λ same. inl (one_reply reply r same))
 -- a status that is GOOD by its test
 good_is : (status : Scsi) → is_good status ≡ true → status ≡ Good
 good_is Good h = refl
-good_is CheckCondition h = absurd cc
-good_is TaskSetFull h = absurd cc
+good_is _ h = absurd cc
 
 -- what a reply that answers a request with GOOD is
 pub record IsDoneBy (r : Request) (reply : Reply) : Type 0 where

@@ -36,8 +36,10 @@ module _ (first : Device) where
   abbrev pub IsOnly : List Answer → Item → Type 0
   IsOnly answers i = (x : ℕ) → i.acted x ≡ true → was_done answers i.request ≡ true
 
-  -- the cells and tasks of the device after some events and answers; where it is faithful, each WRITE that has acted was answered with GOOD
-  pub record InOrder (events : List Frame) (answers : List Answer) (cells : List Cell) (tasks : List Entry) (faithful : Bool) : Type 0 where
+  -- the cells and tasks of the device after some events and answers; where it is faithful, each WRITE that has acted was answered
+  -- with GOOD
+  pub record InOrder (events : List Frame) (answers : List Answer) (cells : List Cell) (tasks : List Entry)
+      (faithful : Bool) : Type 0 where
     pub items : List Item
     pub requests : map (λ i. i.request) items ≡ requests_of events
     pub tasks_are : tasks ≡ waiting items
@@ -49,3 +51,20 @@ module _ (first : Device) where
     pub sure : AllByRecursion (IsSure answers) items
     pub only : faithful ≡ true → AllByRecursion (IsOnly answers) items
     pub right : AllRight trim answers (read_at first.cells) (λ x. false) items
+
+  -- other cells that stand as well
+  pub cells_in_order : (events : List Frame) (answers : List Answer) (cells new : List Cell) (tasks : List Entry) (faithful : Bool) (o : InOrder events answers cells tasks faithful)
+      → length new ≡ sectors → ((x : ℕ) → x < sectors → Stands x (read_at new x) (holds o.items x) tasks) → InOrder events answers new tasks faithful
+  cells_in_order events answers cells new tasks faithful o size stands = record {
+    items = o.items;
+    requests = o.requests;
+    tasks_are = o.tasks_are;
+    size = size;
+    counts = o.counts;
+    well = o.well;
+    sorted = o.sorted;
+    stands = stands;
+    sure = o.sure;
+    only = o.only;
+    right = o.right;
+  }

@@ -93,7 +93,7 @@ module _ (first : Device) where
         its_own = now_done r ∙ ap (λ b. b || (is_done r (replied reply) || false)) not_done
 
         idle : (x : ℕ) (w : Block) → left (trim first) mine x w ≡ w
-        idle x w = by_test (λ b. is_good reply.status ≡ b → (if b then brought (says r.cdb (trim first)) r.body x w else w) ≡ w) (is_good reply.status) (λ yes good. says_so.writes_none good x w) (λ no bad. refl) refl
+        idle x w = by_test (λ b. (if b then brought (says r.cdb (trim first)) r.body x w else w) ≡ w) (is_good reply.status) (λ good. says_so.writes_none good x w) (λ bad. refl)
 
         other : (q : Request) → has_name r.nexus (r.tag).0 q ≡ false → (is_done q (replied reply) || false) ≡ false
         other q h = reply_other r.nexus (r.tag).0 q reply to.nexus (ap (λ k. k.0) to.tag) h

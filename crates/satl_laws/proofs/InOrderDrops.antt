@@ -35,8 +35,7 @@ module _ (first : Device) (exact : Bool) where
       where
         third : (p q : Bool) → ((p && q && false) || false) ≡ false
         third true true = refl
-        third true false = refl
-        third false q = refl
+        third _ _ = refl
 
         bad : (r : Request) → list_any (is_done r) (replied (task_check s t link_lost) ∷ []) ≡ false
         bad r = third (t.nexus == r.nexus) ((t.tag).0 == (r.tag).0)

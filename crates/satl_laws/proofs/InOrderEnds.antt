@@ -71,7 +71,8 @@ module _ (first : Device) (events : List Frame) (answers : List Answer) (s new :
   abbrev sorted_here : (x : ℕ) → x < sectors first → AreSorted (trim first) x (in_front ++ its_item ∷ behind)
   sorted_here = sorted_at first events answers s.cells s.tasks faithful o once at.before at.later t at.split
 
-  abbrev stands_here : (x : ℕ) → x < sectors first → Stands x (read_at s.cells x) (holds first (in_front ++ its_item ∷ behind) x) (waiting in_front ++ t ∷ waiting behind)
+  abbrev stands_here : (x : ℕ) → x < sectors first →
+      Stands x (read_at s.cells x) (holds first (in_front ++ its_item ∷ behind) x) (waiting in_front ++ t ∷ waiting behind)
   stands_here = stands_at first events answers s.cells s.tasks faithful o once at.before at.later t at.split
 
   -- what it leaves in a sector

@@ -10,7 +10,7 @@ use Rattle.satl_frame.specs.declared.frames.Frame.{Frame}
 use Rattle.satl_frame.specs.Output.{Answer}
 use Rattle.satl_direct.specs.Device.{Device}
 use Rattle.satl_laws.specs.ArrivalOrder.{read_at}
-use Rattle.satl_laws.proofs.InOrder.{InOrder, holds}
+use Rattle.satl_laws.proofs.InOrder.{cells_in_order, holds, InOrder}
 use Rattle.satl_laws.proofs.InOrderSteps.{InOrderAt}
 use Rattle.satl_laws.proofs.Standing.{Stands}
 
@@ -22,19 +22,8 @@ module _ (first : Device) (exact : Bool) where
       subst (InOrderAt first exact events answers) (sym is)
       (record {
         identity = o.identity;
-        order = record {
-          items = p.items;
-          requests = p.requests;
-          tasks_are = p.tasks_are;
-          size = change_at-length s.cells lba f ∙ p.size;
-          counts = p.counts;
-          well = p.well;
-          sorted = p.sorted;
-          stands = λ x inside. subst (λ v. Stands x v (holds first p.items x) s.tasks) (sym (unchanged s.cells lba x)) (p.stands x inside);
-          sure = p.sure;
-          only = p.only;
-          right = p.right;
-        };
+        order = cells_in_order first events answers s.cells (change_at s.cells lba f) s.tasks (exact && not s.down) p (change_at-length s.cells lba f ∙ p.size)
+            (λ x inside. subst (λ v. Stands x v (holds first p.items x) s.tasks) (sym (unchanged s.cells lba x)) (p.stands x inside));
         calm = λ x. absurd (loose x);
         steady = λ x. absurd (loose x);
       })
@@ -43,11 +32,9 @@ module _ (first : Device) (exact : Bool) where
       p = o.order
 
       unchanged : (cells : List Cell) (lba x : ℕ) → read_at (change_at cells lba f) x ≡ read_at cells x
-      unchanged [] lba x = refl
       unchanged (c ∷ cs) zero zero = same c
-      unchanged (c ∷ cs) zero (suc x) = refl
-      unchanged (c ∷ cs) (suc lba) zero = refl
       unchanged (c ∷ cs) (suc lba) (suc x) = unchanged cs lba x
+      unchanged _ _ _ = refl
 
   pub flaw_now : (which : Which) (c : Cell) → (with_flaw which c).now ≡ c.now
   flaw_now flaws.Read c = refl

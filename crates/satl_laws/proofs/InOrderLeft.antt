@@ -52,7 +52,8 @@ module _ (first : Device) where
       was_not_done = not_done first events answers cells tasks faithful o once before later t split
 
       -- it has settled
-      abbrev acting : HasSettled (trim first) (sectors first) (read_at cells) (read_at new) (read_at first.cells) its_place.front its_place.back its_item t good
+      abbrev acting : HasSettled (trim first) (sectors first) (read_at cells) (read_at new) (read_at first.cells)
+          its_place.front its_place.back its_item t good
       acting = has_settled (trim first) (sectors first) (read_at cells) (read_at new) (read_at first.cells) its_place.front its_place.back its_item t good l.leaves
 
       abbrev its_end : Item
@@ -86,7 +87,8 @@ module _ (first : Device) where
       after_items = its_place.front ++ its_end ∷ its_place.back
 
       -- what held of all, of those in front, of it, and of those behind
-      abbrev all_in : (P : Item → Type 0) → AllByRecursion P o.items → AllByRecursion P (its_place.front ++ its_item ∷ its_place.back)
+      abbrev all_in : (P : Item → Type 0) → AllByRecursion P o.items →
+          AllByRecursion P (its_place.front ++ its_item ∷ its_place.back)
       all_in P all = subst (AllByRecursion P) its_place.split all
 
       -- the READ that it was, if it was one

@@ -18,8 +18,8 @@ use Rattle.satl_direct.specs.Device.{Device}
 use Rattle.satl_laws.specs.ArrivalOrder.{read_at}
 use Rattle.satl_direct.specs.Quiet.{MayShow, writes}
 use Rattle.satl_laws.proofs.Ends.{eligible_in}
-use Rattle.satl_laws.proofs.InOrder.{InOrder, holds, sectors, trim}
-use Rattle.satl_laws.proofs.Seen.{put_elsewhere, put_seen}
+use Rattle.satl_laws.proofs.InOrder.{cells_in_order, holds, InOrder, sectors, trim}
+use Rattle.satl_laws.proofs.Seen.{by_test, put_elsewhere, put_seen}
 use Rattle.satl_laws.proofs.Flawless.{loses_seen}
 use Rattle.satl_laws.proofs.Rows.{in_all}
 use Rattle.satl_laws.proofs.Standing.{Stands}
@@ -43,11 +43,7 @@ module _ (first : Device) where
         it = in_all (IsPlainTask (sectors first)) tasks t plain (eligible_in tasks t el)
 
         writer : brings t.command ≡ true
-        writer = decide (brings t.command) refl
-          where
-            decide : (b : Bool) → brings t.command ≡ b → brings t.command ≡ true
-            decide true h = h
-            decide false h = absurd (subst (IsIn p) (none_written t.command s t it.plain h) among)
+        writer = by_test (λ b. b ≡ true) (brings t.command) (λ yes. refl) (λ no. absurd (subst (IsIn p) (none_written t.command s t it.plain no) among))
 
         go : (x : ℕ) → x < sectors first → (p.lba ≡ x) ⊎ (p.lba ≡ x → ⊥) → Stands x (read_at (put_at cells p) x) (hold x) tasks
         go x inside (inl same) =
@@ -75,16 +71,4 @@ module _ (first : Device) where
   moved_in_order events answers s new faithful moves o =
       let plain = subst (AllByRecursion (IsPlainTask (sectors first))) (sym o.tasks_are) (tasks_plain (trim first) (sectors first) o.items o.well) in
       let k : Standing s.tasks plain (holds first o.items) new = moves_stand s.tasks plain (holds first o.items) s refl moves (record { size = o.size; stands = o.stands }) in
-      record {
-        items = o.items;
-        requests = o.requests;
-        tasks_are = o.tasks_are;
-        size = k.size;
-        counts = o.counts;
-        well = o.well;
-        sorted = o.sorted;
-        stands = k.stands;
-        sure = o.sure;
-        only = o.only;
-        right = o.right;
-      }
+      cells_in_order first events answers s.cells new s.tasks faithful o k.size k.stands

@@ -22,7 +22,8 @@ use Rattle.satl_laws.proofs.InOrderLeaves.{awaits, place}
 use Rattle.satl_laws.proofs.InOrderPlace.{back, free, front, it, one_item, plain, sorted_at, stands_at, tasks_at, well_front}
 use Rattle.satl_laws.proofs.Items.{AreSorted, Awaits, Item, covers, held, held-append}
 use Rattle.satl_laws.proofs.Rows.{in_all}
-use Rattle.satl_laws.proofs.Seen.{nows_seen, range_same, within, within_to}
+use Rattle.satl_laws.specs.Passing.{lies_in}
+use Rattle.satl_laws.proofs.Seen.{nows_seen, range_same, within_to}
 use Rattle.satl_laws.proofs.Settling.{none_to_write, pending, pending_none}
 use Rattle.satl_laws.proofs.Standing.{writes_at}
 use Rattle.satl_laws.proofs.Tasks.{IsPlainTask, reader_fits, writes_alone}
@@ -81,7 +82,7 @@ module _ (first : Device) (events : List Frame) (answers : List Answer) (cells :
       let r = read_of t.command lba count (subst (λ said. IsReadOf said lba count) it_awaits.says_it is_read) in
       let fits = reader_fits (sectors first) t task_plain r.0 in
       let has : (x : ℕ) → lba ≤ x → x < lba + count → spans t.command x ≡ true =
-      λ x from to. ap (λ k. within k (range_of t.command).count x) r.1 ∙ ap (λ k. within lba k x) r.2 ∙ within_to lba count x from to in
+      λ x from to. ap (λ k. lies_in k (range_of t.command).count x) r.1 ∙ ap (λ k. lies_in lba k x) r.2 ∙ within_to lba count x from to in
       record {
         blocks =
             given r.0

@@ -30,6 +30,7 @@ use Rattle.satl_laws.specs.OrderUnderErrors.{OrderUnderErrors}
 use Rattle.satl_laws.proofs.InOrderEnd.{act_as_done, act_as_items, acted_by, done_acts, in_order_as}
 use Rattle.satl_laws.proofs.InOrderEvents.{does_at}
 use Rattle.satl_laws.proofs.Requests.{requests-append, requests_of}
+use Rattle.satl_laws.proofs.Rows.{all_at, all_front}
 use Rattle.satl_laws.proofs.Runs.{split}
 
 -- a device at rest
@@ -44,8 +45,7 @@ rest_at first exact empty fresh = record {
 
 -- all but the last, and the last
 pushed : {X : Type 0} (P : X → Type 0) (xs : List X) (x : X) → AllByRecursion P (xs ++ x ∷ []) → AllByRecursion P xs × P x
-pushed P [] x h = (tt, h.0)
-pushed P (y ∷ ys) x h = let k = pushed P ys x h.1 in ((h.0, k.0), k.1)
+pushed P xs x h = (all_front P xs [] x h, all_at P xs [] x h)
 
 -- a run
 run_at : {first last : Device} {events : List Frame} {groups : List (List Answer)} {losses deep : ℕ} (exact : Bool) → RunDeep first events groups losses last deep → length first.cells ≡ first.identity.capacity
@@ -70,16 +70,11 @@ still_up false false h z = refl
 -- a plain event without a loss leaves the link up
 event_up : (trims : Bool) (event : Frame) (old new : Device) (now : List Answer) (d : ℕ) → is_plain trims event ≡ true → Does event old now new d → losses_in event old new ≡ 0 → old.down ≡ false → new.down ≡ false
 event_up trims (frames.Request r) old new now d plain h z up = still_up old.down new.down up z
-event_up trims (frames.Manage m) old new now d plain h z up = absurd cc
 event_up trims (frames.Turn count) old new now d plain h z up = still_up old.down new.down up z
 event_up trims (frames.Bench (bench.Order order)) old new now d plain h z up =
     let a = h.2 in ap (λ k. k.down) (a.quiet_after).stays ∙ ap (λ k. k.down) (a.step).new_is ∙ ap (λ k. k.down) (a.quiet_before).stays ∙ up
-event_up trims (frames.Bench (bench.Strike which lba)) old new now d plain h z up = absurd cc
-event_up trims (frames.Bench (bench.Mend lba)) old new now d plain h z up = absurd cc
-event_up trims (frames.Bench (bench.Glitch count)) old new now d plain h z up = absurd cc
-event_up trims (frames.Bench bench.Power) old new now d plain h z up = absurd cc
-event_up trims (frames.Bench bench.Unplug) old new now d plain h z up = absurd cc
 event_up trims frames.End old new now d plain h z up = still_up old.down new.down up z
+event_up trims _ old new now d plain h z up = absurd cc
 
 run_up : {first last : Device} {events : List Frame} {groups : List (List Answer)} {losses deep : ℕ} (trims : Bool) → RunDeep first events groups losses last deep → losses ≡ 0 → first.down ≡ false
     → AllByRecursion (λ f. is_plain trims f ≡ true) events → last.down ≡ false
@@ -93,15 +88,10 @@ run_up {last = last} trims (step {events = events} {losses = losses} {s = s} eve
 -- a plain event may stand in each run
 plain_stands : (first : Device) (event : Frame) → is_plain first.identity.trim event ≡ true → MayStand first true event
 plain_stands first (frames.Request r) h = ((and_parts (writes_plainly (says r.cdb first.identity.trim)) (not (stops_or_starts (says r.cdb first.identity.trim))) h).0, λ x. h)
-plain_stands first (frames.Manage m) h = absurd cc
 plain_stands first (frames.Turn count) h = (refl, λ x. h)
 plain_stands first (frames.Bench (bench.Order order)) h = (refl, λ x. h)
-plain_stands first (frames.Bench (bench.Strike which lba)) h = absurd cc
-plain_stands first (frames.Bench (bench.Mend lba)) h = absurd cc
-plain_stands first (frames.Bench (bench.Glitch count)) h = absurd cc
-plain_stands first (frames.Bench bench.Power) h = absurd cc
-plain_stands first (frames.Bench bench.Unplug) h = absurd cc
 plain_stands first frames.End h = (refl, λ x. h)
+plain_stands first _ h = absurd cc
 
 -- order under errors: the tasks that still wait have acted as far as they show
 pub order_under_errors : OrderUnderErrors

@@ -35,9 +35,8 @@ one_down s new reply down e = ap (λ d. d.down) (MatchBool-at_true (IsChecked li
 
 -- neither of two flags
 pub up_of : (p q : Bool) → (p && not q) ≡ true → q ≡ false
-up_of true true h = absurd cc
 up_of true false h = refl
-up_of false q h = absurd cc
+up_of _ _ h = absurd cc
 
 pub not_both : (p q : Bool) → q ≡ true → (p && not q) ≡ true → ⊥
 not_both p q h k = let no : true ≡ false = sym h ∙ up_of p q k in cc
@@ -47,7 +46,8 @@ module _ (first : Device) (exact : Bool) where
   abbrev pub AreSteady : List Entry → Type 0
   AreSteady tasks = AllByRecursion (λ t. stops_or_starts (Ok t.command) ≡ false) tasks
 
-  -- the device after some events and answers; where the run is exact and its link is up it is calm, and each WRITE that has acted was answered with GOOD
+  -- the device after some events and answers; where the run is exact and its link is up it is calm, and each WRITE that has acted
+  -- was answered with GOOD
   pub record InOrderAt (events : List Frame) (answers : List Answer) (s : Device) : Type 0 where
     pub identity : s.identity ≡ first.identity
     pub order : InOrder first events answers s.cells s.tasks (exact && not s.down)
@@ -97,7 +97,7 @@ module _ (first : Device) (exact : Bool) where
   }
     where
       was_up : new.down ≡ false → s.down ≡ false
-      was_up up = by_test (λ b. s.down ≡ b → s.down ≡ false) s.down (λ yes h. absurd (both_ways new.down up (one_down s new reply h e))) (λ no h. h) refl
+      was_up up = by_test (λ b. b ≡ false) s.down (λ yes. absurd (both_ways new.down up (one_down s new reply yes e))) (λ no. refl)
 
       there : IsIn e.task s.tasks
       there = eligible_in s.tasks e.task (may_eligible s e.task e.may)

@@ -10,7 +10,8 @@ use Rattle.satl_frame.specs.declared.frames.Frame.TheVariants as frames
 use Rattle.satl_frame.specs.Output.{Answer}
 use Rattle.satl_frame.specs.Output.Answer.{replied}
 use Rattle.satl_line.specs.declared.entry.Entry.{Entry}
-use Rattle.satl_line.specs.Eligible.{IsEligible}
+use Rattle.satl_line.specs.Conflict.{conflicts}
+use Rattle.satl_line.proofs.EligibleLemmas.{eligible_come}
 use Rattle.satl_direct.specs.Device.{Device, is_called}
 use Rattle.satl_laws.specs.ArrivalOrder.{is_done, read_at, writes_plainly}
 use Rattle.satl_laws.specs.OnceEach.{asks_by}
@@ -25,11 +26,6 @@ use Rattle.satl_laws.proofs.Names.{none_in}
 use Rattle.satl_laws.proofs.Settling.{sorted_push}
 use Rattle.satl_laws.proofs.Standing.{Stands}
 use Rattle.satl_laws.proofs.InOrderArrivals.{not_done, requests_push}
-
--- a task that is eligible stays so when more come
-pub eligible_push : (tasks more : List Entry) (u : Entry) → IsEligible tasks u → IsEligible (tasks ++ more) u
-eligible_push [] more u el = elim el [ ]
-eligible_push (t ∷ ts) more u el = ⊎_elim (λ same. inl same) (λ rest. inr (rest.0, eligible_push ts more u rest.1)) el
 
 module _ (first : Device) where
   module _ (events : List Frame) (answers : List Answer) (cells : List Cell) (tasks : List Entry) (faithful : Bool) (r : Request) (o : InOrder first events answers cells tasks faithful)
@@ -49,7 +45,7 @@ module _ (first : Device) where
           (record { waits = record { idle = λ x. refl; nexus = of.nexus; tag = of.tag; says_it = it.says_it; leaves = it.leaves; plain = sym (ap writes_plainly it.says_it) ∙ plain; fits = it.fits } });
       sorted = λ x inside. sorted_push (trim first) x o.items mine (λ w. refl) (o.sorted x inside);
       stands = λ x inside. subst (λ h. Stands x (read_at cells x) h (tasks ++ task ∷ [])) (sym (held-append (trim first) x (read_at first.cells x) o.items (mine ∷ [])))
-          (⊎_elim (λ is. inl is) (λ early. inr (record { task = early.task; eligible = eligible_push tasks (task ∷ []) early.task early.eligible; writes_it = early.writes_it; is = early.is })) (o.stands x inside));
+          (⊎_elim (λ is. inl is) (λ early. inr (record { task = early.task; eligible = eligible_come conflicts tasks (task ∷ []) early.task early.eligible; writes_it = early.writes_it; is = early.is })) (o.stands x inside));
       sure = All-push_end (IsSure first answers) o.items mine o.sure (λ h x. let no : true ≡ false = sym h ∙ (not_done first events answers cells tasks faithful r o unasked) in absurd cc);
       only = λ f. All-push_end (IsOnly first answers) o.items mine (o.only f) (λ x h. absurd cc);
       right = right_push (trim first) answers o.items mine (read_at first.cells) (λ x. false)

@@ -26,9 +26,8 @@ kept_on a b c p q = record { now = q.now ∙ p.now; fewer = λ v i. ⊎_elim (λ
 -- a sector that there is, or none
 abbrev pub KeptAs : Option Cell → Option Cell → Type 0
 KeptAs None None = Unit {0}
-KeptAs None (Some d) = ⊥
-KeptAs (Some c) None = ⊥
 KeptAs (Some c) (Some d) = Kept c d
+KeptAs _ _ = ⊥
 
 -- the same of a sector that there is, or none
 pub as_none : (o : Option Cell) → KeptAs o o
@@ -37,11 +36,10 @@ as_none (Some c) = kept_none c
 
 as_on : (a b c : Option Cell) → KeptAs a b → KeptAs b c → KeptAs a c
 as_on None None None p q = tt
-as_on None None (Some z) p q = absurd q
 as_on None (Some y) c p q = absurd p
 as_on (Some x) None c p q = absurd p
-as_on (Some x) (Some y) None p q = absurd q
 as_on (Some x) (Some y) (Some z) p q = kept_on x y z p q
+as_on _ _ _ p q = absurd q
 
 -- a sector of these cells
 pub record KeptAt (x : ℕ) (old new : List Cell) : Type 0 where
@@ -63,9 +61,8 @@ at_now x old new k = of (slice_get old x) (slice_get new x) k.at
   where
     of : (a b : Option Cell) → KeptAs a b → option_map (λ c. c.now) b ≡ option_map (λ c. c.now) a
     of None None h = refl
-    of None (Some d) h = absurd h
-    of (Some c) None h = absurd h
     of (Some c) (Some d) h = ap Some h.now
+    of _ _ h = absurd h
 
 -- each cell is kept
 at_map : (f : Cell → Cell) → ((c : Cell) → Kept c (f c)) → (x : ℕ) (cells : List Cell) → KeptAs (slice_get cells x) (slice_get (map f cells) x)

@@ -39,7 +39,7 @@ meets_at a b h =
     (within_to a.lba a.count (max a.lba b.lba) (omega arith) (omega (arith, lt)), within_to b.lba b.count (max a.lba b.lba) (omega arith) (omega (arith, lt)))
 
 -- and ranges that have a sector meet
-meets : (a b : Range) (x : ℕ) → has x a ≡ true → has x b ≡ true → ranges_meet a b ≡ true
+pub meets : (a b : Range) (x : ℕ) → has x a ≡ true → has x b ≡ true → ranges_meet a b ≡ true
 meets a b x h k =
     let p = within_from a.lba a.count x h in
     let q = within_from b.lba b.count x k in

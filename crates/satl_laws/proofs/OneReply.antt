@@ -1,6 +1,7 @@
 -- A request at a device without tasks, and a turn, are answered by one reply.
 use Rattle.std.proofs.Common.{◌≡◌, rules, refl, sym, ap, subst, ◌∙◌, inl, inr, Bool, true, false, List, [], ◌∷◌, ◌++◌, map}
 use Rattle.satl_base.specs.Lists.{IsIn}
+use Rattle.satl_laws.proofs.Eligibles.{without_is}
 use Rattle.satl_laws.proofs.Ends.{ends_leaves, may_end_in}
 use Rattle.std.specs.Prelude.{MatchBool, ◌||◌, not}
 use Rattle.satl_base.specs.declared.reply.Reply.{Reply}
@@ -18,6 +19,7 @@ use Rattle.satl_direct.specs.Turn.Turn.{ends, ends_and_loses, idle, loses}
 use Rattle.satl_direct.specs.Run.{MayLose}
 use Rattle.satl_direct.specs.Run.MayLose.{keeps, keeps_and_loses}
 use Rattle.satl_direct.proofs.Quieting.{quiet_tasks}
+use Rattle.satl_direct.proofs.Steps.{turn_idle}
 use Rattle.satl_laws.specs.OneReplyEach.{OneAnswered, OneReplyEach}
 
 -- ---- one task is left, or its answer was given
@@ -52,34 +54,18 @@ arrives_half r s new replies none (keeps_and_loses {answers} {more} {mid} {after
 
 -- ---- a turn
 
-none_ends : (s : Device) (task : Entry) → s.tasks ≡ [] → MayEnd s task → ⊥
-none_ends s task none may = no_task (s.down || not s.started) (subst (λ l. MatchBool (s.down || not s.started) (IsFirst l task) (IsEligible l task)) none may)
-  where
-    no_task : (b : Bool) → MatchBool b (IsFirst [] task) (IsEligible [] task) → ⊥
-    no_task true h = h
-    no_task false h = h
-
 turn_none : (s new : Device) (replies : List Reply) → s.tasks ≡ [] → Turn s replies new → (replies ≡ []) × (new.tasks ≡ [])
-turn_none s new replies none (idle h) = (refl, none)
-turn_none s new replies none (ends reply e) = absurd (none_ends s e.task none e.may)
-turn_none s new replies none (loses some l) = (l.answer ∙ ap (map (λ t. task_check s t link_lost)) none, ap (λ (x : Device). x.tasks) l.stays)
-turn_none s new replies none (ends_and_loses reply e q l) = absurd (none_ends s e.task none e.may)
+turn_none s new replies none turn = let idle = turn_idle s new replies none turn in (idle.0, ap (λ (x : Device). x.tasks) idle.1 ∙ none)
 
 -- the only task is the one that ends
 the_one : (t u : Entry) → IsIn u (t ∷ []) → u ≡ t
 the_one t u (inl same) = same
 the_one t u (inr rest) = absurd rest
 
--- without it none is left
-without_it : (t : Entry) → without t (t ∷ []) ≡ []
-without_it t =
-    let same : is_called t.nexus (t.tag).0 t ≡ true = search rules in
-    rw same refl
-
 one_gone : (s new : Device) (t : Entry) (reply : Reply) → s.tasks ≡ t ∷ [] → OneEnds s reply new → new.tasks ≡ []
 one_gone s new t reply one e =
     let is : e.task ≡ t = the_one t e.task (subst (IsIn e.task) one (may_end_in s e.task e.may)) in
-    (ends_leaves s new e.task reply e.ends).tasks ∙ (ap (without e.task) one ∙ (ap (λ u. without u (t ∷ [])) is ∙ without_it t))
+    (ends_leaves s new e.task reply e.ends).tasks ∙ (ap (without e.task) one ∙ (ap (λ u. without u (t ∷ [])) is ∙ without_is [] t [] (refl, tt)))
 
 -- a turn of the only task
 turn_one : (s new : Device) (t : Entry) (replies : List Reply) → s.tasks ≡ t ∷ [] → Turn s replies new → OneAnswered [] replies new

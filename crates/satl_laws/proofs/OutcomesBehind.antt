@@ -21,9 +21,8 @@ use Rattle.satl_laws.proofs.GoodTurns.{GoodTurn, IsDoneBy, done_by, good_turn, m
 
 -- a READ of the sector conflicts with it, and so does a WRITE of both sectors
 ordered_or_met : (p q : Bool) → (p || q || true) ≡ true
-ordered_or_met true q = refl
-ordered_or_met false true = refl
 ordered_or_met false false = refl
+ordered_or_met _ _ = refl
 
 read_conflicts : (w r : Request) → conflicts (writes_sector_0 w) (reads_sector_0 r) ≡ true
 unfolding accesses_conflict

@@ -18,11 +18,9 @@ use Rattle.satl_laws.proofs.SparingEvents.{does_keep}
 
 -- turns in which no task writes a sector keep it
 turns_spare : (x : ℕ) (turns : Frame) (s new : Device) (now : List Answer) (d : ℕ) → AreTurns turns → Does turns s now new d → NoneWrites x s → Keeps x s new
-turns_spare x (frames.Request r) s new now d are h = absurd are
-turns_spare x (frames.Manage m) s new now d are h = absurd are
 turns_spare x (frames.Turn count) s new now d are h = does_keep x (frames.Turn count) s new now d refl (λ before q. tt) h
-turns_spare x (frames.Bench event) s new now d are h = absurd are
 turns_spare x frames.End s new now d are h = does_keep x frames.End s new now d refl (λ before q. tt) h
+turns_spare x _ s new now d are h = absurd are
 
 -- a WRITE of sector 0 spares sector 1
 spares_sector_1 : (body : List Block) (past : Bool) → Spares 1 (pairs_from 0 (take 1 body) past)

@@ -13,27 +13,17 @@ use Rattle.satl_laws.specs.OnceEach.{answers_to, asks_by}
 use Rattle.satl_direct.specs.Run.{Run}
 use Rattle.satl_laws.specs.Scenes.{AreTurns, DifferInNexusOrTag, at_work, reads_sector_0}
 use Rattle.satl_laws.proofs.Counts.{run_counts}
-use Rattle.satl_laws.proofs.GoodTurns.{same_name}
+use Rattle.satl_laws.proofs.Names.{swapped}
 
 -- two requests are apart both ways
 apart_back : (a b : Request) → DifferInNexusOrTag a b → DifferInNexusOrTag b a
-apart_back a b h = decide ((b.nexus == a.nexus) && ((b.tag).0 == (a.tag).0)) refl
-  where
-    decide : (c : Bool) → ((b.nexus == a.nexus) && ((b.tag).0 == (a.tag).0)) ≡ c → ((b.nexus == a.nexus) && ((b.tag).0 == (a.tag).0)) ≡ false
-    decide false is = is
-    decide true is =
-        let nexus : a.nexus ≡ b.nexus = sym (eqb-true b.nexus a.nexus (and_parts (b.nexus == a.nexus) ((b.tag).0 == (a.tag).0) is).0) in
-        let tag : (a.tag).0 ≡ (b.tag).0 = sym (eqb-true (b.tag).0 (a.tag).0 (and_parts (b.nexus == a.nexus) ((b.tag).0 == (a.tag).0) is).1) in
-        let clash : true ≡ false = sym (same_name a.nexus b.nexus (a.tag).0 (b.tag).0 nexus tag) ∙ h in
-        absurd cc
+apart_back a b h = swapped a.nexus b.nexus (a.tag).0 (b.tag).0 h
 
 -- turns ask for nothing
 no_asks : (nexus tag : ℕ) (turns : Frame) → AreTurns turns → how_many (asks_by nexus tag) (turns ∷ []) ≡ 0
-no_asks nexus tag (frames.Request r) h = absurd h
-no_asks nexus tag (frames.Manage m) h = absurd h
 no_asks nexus tag (frames.Turn count) h = refl
-no_asks nexus tag (frames.Bench event) h = absurd h
 no_asks nexus tag frames.End h = refl
+no_asks nexus tag _ h = absurd h
 
 -- how many of two pass
 abbrev count_of : Bool → Bool → ℕ

@@ -35,6 +35,5 @@ same_block old new x h = is_block_in new x ∙ ap block_in h ∙ sym (is_block_i
     block_in (Some v) = v
 
     is_block_in : (cells : List Cell) (x : ℕ) → read_at cells x ≡ block_in (now_at cells x)
-    is_block_in [] x = refl
-    is_block_in (c ∷ cs) zero = refl
     is_block_in (c ∷ cs) (suc x) = is_block_in cs x
+    is_block_in _ _ = refl

@@ -20,17 +20,15 @@ use Rattle.satl_laws.proofs.Singles.{IsSingle}
 -- a sector that a loss of power leaves, or none
 abbrev LeftAs : Option Cell → Option Cell → Type 0
 LeftAs None None = Unit {0}
-LeftAs None (Some d) = ⊥
-LeftAs (Some c) None = ⊥
 LeftAs (Some c) (Some d) = IsLeftBehind c d
+LeftAs _ _ = ⊥
 
 -- each sector is left so
 left_at : (x : ℕ) (a b : List Cell) → AllZip IsLeftBehind a b → LeftAs (slice_get a x) (slice_get b x)
 left_at x [] [] h = tt
-left_at x [] (d ∷ ds) h = absurd h
-left_at x (c ∷ cs) [] h = absurd h
 left_at zero (c ∷ cs) (d ∷ ds) h = h.0
 left_at (suc x) (c ∷ cs) (d ∷ ds) h = left_at x cs ds h.1
+left_at x _ _ h = absurd h
 
 -- a single block that was kept is what is left
 power_leaves : (x : ℕ) (a b c : List Cell) → IsSingle x a → KeptAt x a b → AllZip IsLeftBehind b c → now_at c x ≡ now_at a x
@@ -38,11 +36,10 @@ power_leaves x a b c single kept left = of (slice_get a x) (slice_get b x) (slic
   where
     of : (p q r : Option Cell) → ((d : Cell) → p ≡ Some d → (v : Block) → IsIn v d.may → v ≡ d.now) → KeptAs p q → LeftAs q r → option_map (λ d. d.now) r ≡ option_map (λ d. d.now) p
     of None None None one k l = refl
-    of None None (Some r) one k l = absurd l
     of None (Some q) r one k l = absurd k
     of (Some p) None r one k l = absurd k
-    of (Some p) (Some q) None one k l = absurd l
     of (Some p) (Some q) (Some r) one k l = ap Some (⊎_elim (λ i. one p refl r.now i) (λ same. same) (k.fewer r.now l.one))
+    of _ _ _ one k l = absurd l
 
 -- a loss of power after steps that kept a single block
 pub power_keeps : (x : ℕ) (a last after : Device) (answers : List Reply) → IsSingle x a.cells → Keeps x a last → Around (Happens bench.Power) last answers after → now_at after.cells x ≡ now_at a.cells x

@@ -33,26 +33,12 @@ module _ (s : Device) (r : Request) (cells : List Cell) (active : Bool) where
   refused_same (Some why) x y h = refl
 
   becomes_same : (c : Command) → becomes other r c ≡ becomes s r c
-  becomes_same commands.TestUnitReady = refl
-  becomes_same (commands.RequestSense descriptor alloc) = refl
   becomes_same (commands.Inquiry none alloc) = inquiry none
     where
       inquiry : (page : Option ℕ) → becomes other r (commands.Inquiry page alloc) ≡ becomes s r (commands.Inquiry page alloc)
       inquiry None = refl
       inquiry (Some page) = refl
-  becomes_same (commands.ModeSense ten long_lba no_descriptor control page alloc) = refl
-  becomes_same (commands.ModeSelect ten size) = refl
-  becomes_same (commands.StartStop start no_flush) = refl
-  becomes_same commands.ReadCapacity10 = refl
-  becomes_same (commands.ReadCapacity16 alloc) = refl
-  becomes_same (commands.ReportLuns select alloc) = refl
-  becomes_same (commands.Read form lba count fua) = refl
-  becomes_same (commands.Write form lba count fua) = refl
-  becomes_same (commands.Verify form lba count compare) = refl
-  becomes_same (commands.Flush form lba count) = refl
-  becomes_same (commands.WriteSame form lba count unmap) = refl
-  becomes_same (commands.Unmap size) = refl
-  becomes_same (commands.Pass cdb) = refl
+  becomes_same _ = refl
 
   command_same : (c : Command) → command_arrival other r c ≡ command_arrival s r c
   command_same c =
@@ -85,12 +71,7 @@ module _ (s : Device) (cells : List Cell) (active : Bool) where
   function_same : (o : Option Function) (m : Manage) → effect_or_none o m same_but ≡ effect_or_none o m s
   function_same None m = refl
   function_same (Some functions.AbortTask) m = refl
-  function_same (Some functions.AbortTaskSet) m = refl
-  function_same (Some functions.ClearTaskSet) m = refl
-  function_same (Some functions.UnitReset) m = refl
-  function_same (Some functions.NexusReset) m = refl
-  function_same (Some functions.QueryTask) m = refl
-  function_same (Some functions.QueryTaskSet) m = refl
+  function_same _ m = refl
 
   -- its effect at both devices
   pub effect_quiet : (m : Manage) → effect m same_but ≡ effect m s

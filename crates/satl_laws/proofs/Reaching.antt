@@ -65,8 +65,7 @@ module _ (s new : Device) (t : Entry) (reply : Reply) where
 
   ranged_steps : (ranged : RangedTask) (o : Outcome) → EndsAs s.modes.wce ranged o (surface_of s) (surface_of new) → Steps (written_pairs s.modes.wce ranged) s.cells new.cells
   ranged_steps ranged (ends_done blocks) e = all_of (written_pairs s.modes.wce ranged) s.cells new.cells e.written
-  ranged_steps ranged (ends_flawed lba) e = parts e.written
-  ranged_steps ranged ends_glitched e = parts e.written
+  ranged_steps ranged _ e = parts e.written
 
   on_medium : (c : Command) (ranged : RangedTask) → written_by c s t ≡ written_pairs s.modes.wce ranged → EndsOnMedium ranged s t reply new → Reaches c s t new
   on_medium c ranged same e = record {
@@ -82,7 +81,7 @@ module _ (s new : Device) (t : Entry) (reply : Reply) where
       (λ e. reached (parts (e.1).part) (ap (λ d. d.identity) (e.1).stays))
       (by_option (first_flaw flaws.Write s.cells lba count)
       (λ e. reached (all_of writes s.cells new.cells (ap (λ d. d.cells) e.stays)) (ap (λ d. d.identity) e.stays))
-      (λ at e. reached (parts e.part) (ap (λ d. d.identity) e.stays)))
+      (λ at e. reached (parts (e.1).part) (ap (λ d. d.identity) (e.1).stays)))
     where
       writes : List Pair
       writes = written_by (commands.WriteSame form lba count false) s t
@@ -120,15 +119,8 @@ module _ (s new : Device) (t : Entry) (reply : Reply) where
 
   -- by the command
   by_command : (c : Command) → EndsBy c s t reply new → Reaches c s t new
-  by_command commands.TestUnitReady e = absurd e
-  by_command (commands.RequestSense descriptor alloc) e = absurd e
-  by_command (commands.Inquiry page alloc) e = absurd e
-  by_command (commands.ModeSense ten long_lba no_descriptor control page alloc) e = absurd e
   by_command (commands.ModeSelect ten size) e = select_done (commands.ModeSelect ten size) e
   by_command (commands.StartStop start no_flush) e = start_stop_done (commands.StartStop start no_flush) start no_flush e
-  by_command commands.ReadCapacity10 e = absurd e
-  by_command (commands.ReadCapacity16 alloc) e = absurd e
-  by_command (commands.ReportLuns select alloc) e = absurd e
   by_command (commands.Read form lba count fua) e = on_medium (commands.Read form lba count fua) _ refl e
   by_command (commands.Write form lba count fua) e = on_medium (commands.Write form lba count fua) _ refl e
   by_command (commands.Verify form lba count false) e = verified (commands.Verify form lba count false) (over lba count) e
@@ -138,6 +130,7 @@ module _ (s new : Device) (t : Entry) (reply : Reply) where
   by_command (commands.WriteSame form lba count true) e = on_medium (commands.WriteSame form lba count true) _ refl e
   by_command (commands.Unmap size) e = on_medium (commands.Unmap size) _ refl e
   by_command (commands.Pass cdb) e = passed cdb e
+  by_command _ e = absurd e
 
   -- however a task ends, it puts its own pairs alone
   pub ends_reach : Ends s t reply new → Reaches t.command s t new

@@ -5,6 +5,7 @@ use Rattle.std.specs.List.{AllByRecursion}
 use Rattle.satl_base.specs.declared.block.Block.{Block}
 use Rattle.satl_base.specs.declared.request.Request.{Request}
 use Rattle.satl_base.specs.Lists.{how_many}
+use Rattle.satl_base.proofs.ListsLemmas.{All-in, none_counted}
 use Rattle.satl_cdb.specs.Table.{says}
 use Rattle.satl_frame.specs.declared.frames.Frame.{Frame}
 use Rattle.satl_frame.specs.declared.frames.Frame.TheVariants as frames
@@ -12,15 +13,12 @@ use Rattle.satl_laws.specs.ArrivalOrder.{brought, content}
 use Rattle.satl_laws.specs.OnceEach.{asks_by}
 use Rattle.satl_laws.proofs.Cases.{how_many-append}
 use Rattle.satl_laws.proofs.Items.{Item, held, left}
-use Rattle.satl_laws.proofs.Names.{one}
+use Rattle.satl_laws.proofs.Names.{none_in, one}
 
 -- the request of an event, if it is one
 abbrev pub asked_in : Frame → List Request
 asked_in (frames.Request r) = r ∷ []
-asked_in (frames.Manage m) = []
-asked_in (frames.Turn count) = []
-asked_in (frames.Bench event) = []
-asked_in frames.End = []
+asked_in _ = []
 
 -- the requests of an input
 abbrev pub requests_of : List Frame → List Request
@@ -39,10 +37,7 @@ has_name nexus tag r = (r.nexus == nexus) && ((r.tag).0 == tag)
 pub asked_as_often : (nexus tag : ℕ) (events : List Frame) → how_many (has_name nexus tag) (requests_of events) ≡ how_many (asks_by nexus tag) events
 asked_as_often nexus tag [] = refl
 asked_as_often nexus tag (frames.Request r ∷ events) = ap (λ k. (if has_name nexus tag r then 1 else 0) + k) (asked_as_often nexus tag events)
-asked_as_often nexus tag (frames.Manage m ∷ events) = omega (arith, asked_as_often nexus tag events)
-asked_as_often nexus tag (frames.Turn count ∷ events) = omega (arith, asked_as_often nexus tag events)
-asked_as_often nexus tag (frames.Bench event ∷ events) = omega (arith, asked_as_often nexus tag events)
-asked_as_often nexus tag (frames.End ∷ events) = omega (arith, asked_as_often nexus tag events)
+asked_as_often nexus tag (_ ∷ events) = omega (arith, asked_as_often nexus tag events)
 
 -- a test of what is at the place is a test of the item
 pub how_many-map : {X Y : Type 0} (f : X → Y) (p : Y → Bool) (xs : List X) → how_many p (map f xs) ≡ how_many (λ x. p (f x)) xs
@@ -51,16 +46,7 @@ how_many-map f p (x ∷ xs) = ap (λ k. (if p (f x) then 1 else 0) + k) (how_man
 
 -- where none is counted, none passes
 pub none_pass : {X : Type 0} (p : X → Bool) (xs : List X) → how_many p xs ≡ 0 → AllByRecursion (λ x. p x ≡ false) xs
-none_pass p [] h = tt
-none_pass p (x ∷ xs) h = (first (p x) (how_many p xs) h, none_pass p xs (rest (p x) (how_many p xs) h))
-  where
-    first : (b : Bool) (k : ℕ) → (if b then 1 else 0) + k ≡ 0 → b ≡ false
-    first true k h = absurd (omega (arith, h))
-    first false k h = refl
-
-    rest : (b : Bool) (k : ℕ) → (if b then 1 else 0) + k ≡ 0 → k ≡ 0
-    rest true k h = absurd (omega (arith, h))
-    rest false k h = omega (arith, h)
+none_pass p xs h = All-in (λ x. p x ≡ false) xs (λ x among. none_in p xs x (none_counted p xs h) among)
 
 -- the others have other names
 pub record AreApart {X : Type 0} (p : X → Bool) (front back : List X) : Type 0 where
@@ -84,8 +70,6 @@ pub record PlacedAt (items : List Item) (before : List Request) (r : Request) (a
   pub backs : map (λ i. i.request) back ≡ after
 
 pub placed_at : (items : List Item) (before : List Request) (r : Request) (after : List Request) → map (λ i. i.request) items ≡ before ++ r ∷ after → PlacedAt items before r after
-placed_at [] [] r after h = absurd cc
-placed_at [] (b ∷ before) r after h = absurd cc
 placed_at (i ∷ is) [] r after h = record { front = []; item = i; back = is; split = refl; is = cc; fronts = refl; backs = cc }
 placed_at (i ∷ is) (b ∷ before) r after h =
     let same : i.request ≡ b = cc in
@@ -100,6 +84,8 @@ placed_at (i ∷ is) (b ∷ before) r after h =
       fronts = ap (λ l. i.request ∷ l) k.fronts ∙ ap (λ q. q ∷ before) same;
       backs = k.backs;
     }
+placed_at [] [] r after h = absurd cc
+placed_at [] (b ∷ before) r after h = absurd cc
 
 module _ (trim : Bool) (x : ℕ) (acted : Request → Bool) where
   -- a sector's block after requests that have acted
@@ -111,10 +97,7 @@ module _ (trim : Bool) (x : ℕ) (acted : Request → Bool) where
   content_events : (events : List Frame) (v : Block) → content acted trim x events v ≡ content_of (requests_of events) v
   content_events [] v = refl
   content_events (frames.Request r ∷ events) v = content_events events (if acted r then brought (says r.cdb trim) r.body x v else v)
-  content_events (frames.Manage m ∷ events) v = content_events events v
-  content_events (frames.Turn count ∷ events) v = content_events events v
-  content_events (frames.Bench event ∷ events) v = content_events events v
-  content_events (frames.End ∷ events) v = content_events events v
+  content_events (_ ∷ events) v = content_events events v
 
   content_items : (items : List Item) (v : Block) → AllByRecursion (λ i. acted i.request ≡ i.acted x) items → content_of (map (λ i. i.request) items) v ≡ held trim x v items
   content_items [] v h = refl

@@ -86,27 +86,20 @@ once event run =
 module _ (x : ℕ) where
   -- a task that comes writes its own alone, and spares the sector
   none_comes : (a : Arrival) (r : Request) (s : Device) → IsFor r a → SparedByNew x s a → NoneComes x s a
-  none_comes (answered reply) r s to h = tt
-  none_comes (attended reply) r s to h = tt
-  none_comes (overlaps reply) r s to h = tt
   none_comes (waits task) r s to h = record { spares = h; own = to.own }
+  none_comes _ r s to h = tt
 
   -- nor after quiet moves
   later_comes : (a : Arrival) (s u : Device) → Quiet s u → NoneComes x s a → NoneComes x u a
-  later_comes (answered reply) s u q h = tt
-  later_comes (attended reply) s u q h = tt
-  later_comes (overlaps reply) s u q h = tt
   later_comes (waits task) s u q h = spares_alike x s u (quiet_alike x s u q) task h
+  later_comes _ s u q h = tt
 
   -- what an event brings spares the sector
   none_comes_by : (event : Frame) (s : Device) → SparedIn x event s → (before : Device) → Quiet s before → NoneComesBy x event before
   none_comes_by (frames.Request r) s h before q =
       let same : arrival before r ≡ arrival s r = ap (λ d. arrival d r) q.stays ∙ arrival_quiet s r before.cells before.active in
       subst (NoneComes x before) (sym same) (later_comes (arrival s r) s before q (none_comes (arrival s r) r s (arrival_for s r) h))
-  none_comes_by (frames.Manage m) s h before q = tt
-  none_comes_by (frames.Turn count) s h before q = tt
-  none_comes_by (frames.Bench event) s h before q = tt
-  none_comes_by frames.End s h before q = tt
+  none_comes_by _ s h before q = tt
 
   -- tasks that spare a sector, each of which writes its own alone
   pub none_writes : (s : Device) → SparedBy x s s.tasks → AllByRecursion (λ t. WritesItsOwn t.command) s.tasks → NoneWrites x s

@@ -37,28 +37,15 @@ module _ (x : ℕ) (s mid : Device) (t : Entry) (reply : Reply) (good : reply.st
       by_outcome : (o : Outcome) → EndsAs s.modes.wce (ranged_write fua (over lba count) t.body) o (surface_of s) (surface_of mid)
           → reply.status ≡ (outcome_reply s t (ranged_write fua (over lba count) t.body) o).status → IsSingle x mid.cells
       by_outcome (ends_done blocks) ends status = subst (IsSingle x) (sym ends.written) (written_single x lba t.body s.cells (s.modes.wce && not fua) h)
-      by_outcome (ends_flawed at) ends status = not_good status
-      by_outcome ends_glitched ends status = not_good status
+      by_outcome _ ends status = not_good status
 
   -- by the command of the task
   secured_by : (c : Command) → t.command ≡ c → secures c s t x ≡ true → EndsBy c s t reply mid → IsSingle x mid.cells
-  secured_by commands.TestUnitReady is h e = absurd cc
-  secured_by (commands.RequestSense descriptor alloc) is h e = absurd cc
-  secured_by (commands.Inquiry page alloc) is h e = absurd cc
-  secured_by (commands.ModeSense ten long_lba no_descriptor control page alloc) is h e = absurd cc
   secured_by (commands.ModeSelect ten size) is h e = flushed_single (s.modes.wce && not (selected s t).wce) h (ap (λ d. d.cells) e.stays)
-  secured_by (commands.StartStop true no_flush) is h e = absurd cc
   secured_by (commands.StartStop false no_flush) is h e = flushed_single (not no_flush) h (ap (λ d. d.cells) e.stays)
-  secured_by commands.ReadCapacity10 is h e = absurd cc
-  secured_by (commands.ReadCapacity16 alloc) is h e = absurd cc
-  secured_by (commands.ReportLuns select alloc) is h e = absurd cc
-  secured_by (commands.Read form lba count fua) is h e = absurd cc
   secured_by (commands.Write form lba count fua) is h e = past_single fua lba count (sym (ap (λ c. list_any (past_cache x) (written_by c s t)) is) ∙ h) e
-  secured_by (commands.Verify form lba count compare) is h e = absurd cc
   secured_by (commands.Flush form lba count) is h e = settled_single x s.cells mid.cells (ap (λ d. d.cells) e.stays)
-  secured_by (commands.WriteSame form lba count unmap) is h e = absurd cc
-  secured_by (commands.Unmap size) is h e = absurd cc
-  secured_by (commands.Pass cdb) is h e = absurd cc
+  secured_by _ is h e = absurd cc
 
   -- a sector that a task secures is single once it has ended with GOOD
   pub secured : secures t.command s t x ≡ true → Ends s t reply mid → IsSingle x mid.cells

@@ -9,6 +9,7 @@ use Rattle.satl_base.specs.Lists.{IsIn}
 use Rattle.satl_base.proofs.CellsLemmas.{change_at-length}
 use Rattle.satl_regs.specs.Trim.{addresses_from}
 use Rattle.satl_laws.specs.ArrivalOrder.{read_at}
+use Rattle.satl_laws.specs.Passing.{lies_in}
 
 -- a block that was put is read
 pub put_seen : (cells : List Cell) (x : ℕ) (v : Block) (cached : Bool) → x < length cells → read_at (change_at cells x (λ c. put c v cached)) x ≡ v
@@ -18,11 +19,9 @@ put_seen (c ∷ cs) (suc x) v cached h = put_seen cs x v cached (omega (arith, h
 
 -- elsewhere the same is read as before
 pub put_elsewhere : (cells : List Cell) (lba x : ℕ) (v : Block) (cached : Bool) → (lba ≡ x → ⊥) → read_at (change_at cells lba (λ c. put c v cached)) x ≡ read_at cells x
-put_elsewhere [] lba x v cached other = refl
 put_elsewhere (c ∷ cs) zero zero v cached other = absurd (other refl)
-put_elsewhere (c ∷ cs) zero (suc x) v cached other = refl
-put_elsewhere (c ∷ cs) (suc lba) zero v cached other = refl
 put_elsewhere (c ∷ cs) (suc lba) (suc x) v cached other = put_elsewhere cs lba x v cached (λ same. other (ap suc same))
+put_elsewhere _ _ _ v cached other = refl
 
 -- blocks in a row leave the sectors before them
 row_before : (vs : List Block) (lba x : ℕ) (cached : Bool) (cells : List Cell) → x < lba → read_at (whole cells (pairs_from lba vs cached)) x ≡ read_at cells x
@@ -47,26 +46,22 @@ row_at (v ∷ vs) lba (suc i) cached cells h =
     ∙ row_at vs (lba + 1) i cached (put_at cells (record { lba = lba; block = v; cached = cached })) (omega (arith, h, change_at-length cells lba (λ c. put c v cached)))
     ∙ ap (get_or vs i) other
 
--- whether a sector lies in a range
-abbrev pub within : ℕ → ℕ → ℕ → Bool
-within lba count x = nat_le lba x && nat_lt x (lba + count)
-
 -- by the two cases of a test
 pub by_test : (P : Bool → Type 0) (b : Bool) → (b ≡ true → P true) → (b ≡ false → P false) → P b
 by_test P b hit miss = (elim b as (λ c. b ≡ c → P c) [ true ↦ hit | false ↦ miss ]) refl
 
 -- the numbers of a sector in a range
-pub within_from : (lba count x : ℕ) → within lba count x ≡ true → (lba ≤ x) × (x < lba + count)
+pub within_from : (lba count x : ℕ) → lies_in lba count x ≡ true → (lba ≤ x) × (x < lba + count)
 within_from lba count x h =
     (leb-true lba x (and_parts (nat_le lba x) (nat_lt x (lba + count)) h).0, ltb-true x (lba + count) (and_parts (nat_le lba x) (nat_lt x (lba + count)) h).1)
 
 -- and of one in a range, the range
-pub within_to : (lba count x : ℕ) → lba ≤ x → x < lba + count → within lba count x ≡ true
+pub within_to : (lba count x : ℕ) → lba ≤ x → x < lba + count → lies_in lba count x ≡ true
 within_to lba count x h k = ap (λ b. b && nat_lt x (lba + count)) (le-leb lba x h) ∙ lt-ltb x (lba + count) k
 
 -- blocks in a row, at most as many as a range has, are read in the range, and nothing else changes
 pub row_seen : (vs : List Block) (lba count x : ℕ) (cached : Bool) (cells : List Cell) → length vs ≤ count → x < length cells
-    → read_at (whole cells (pairs_from lba vs cached)) x ≡ (if within lba count x then get_or vs (x - lba) (read_at cells x) else read_at cells x)
+    → read_at (whole cells (pairs_from lba vs cached)) x ≡ (if lies_in lba count x then get_or vs (x - lba) (read_at cells x) else read_at cells x)
 row_seen vs lba count x cached cells fits inside = of (cases_lt x lba)
   where
     at : lba ≤ x → read_at (whole cells (pairs_from lba vs cached)) x ≡ get_or vs (x - lba) (read_at cells x)
@@ -74,13 +69,13 @@ row_seen vs lba count x cached cells fits inside = of (cases_lt x lba)
         let place : lba + (x - lba) ≡ x = omega (arith, from) in
         subst (λ y. read_at (whole cells (pairs_from lba vs cached)) y ≡ get_or vs (x - lba) (read_at cells y)) place (row_at vs lba (x - lba) cached cells (omega (arith, place, inside)))
 
-    of : (x < lba) ⊎ (lba ≤ x) → read_at (whole cells (pairs_from lba vs cached)) x ≡ (if within lba count x then get_or vs (x - lba) (read_at cells x) else read_at cells x)
+    of : (x < lba) ⊎ (lba ≤ x) → read_at (whole cells (pairs_from lba vs cached)) x ≡ (if lies_in lba count x then get_or vs (x - lba) (read_at cells x) else read_at cells x)
     of (inl before) =
-        by_test (λ b. read_at (whole cells (pairs_from lba vs cached)) x ≡ (if b then get_or vs (x - lba) (read_at cells x) else read_at cells x)) (within lba count x)
+        by_test (λ b. read_at (whole cells (pairs_from lba vs cached)) x ≡ (if b then get_or vs (x - lba) (read_at cells x) else read_at cells x)) (lies_in lba count x)
         (λ t. absurd (let r = within_from lba count x t in omega (arith, r.0, before)))
         (λ f. row_before vs lba x cached cells before)
     of (inr from) =
-        by_test (λ b. read_at (whole cells (pairs_from lba vs cached)) x ≡ (if b then get_or vs (x - lba) (read_at cells x) else read_at cells x)) (within lba count x)
+        by_test (λ b. read_at (whole cells (pairs_from lba vs cached)) x ≡ (if b then get_or vs (x - lba) (read_at cells x) else read_at cells x)) (lies_in lba count x)
         (λ t. at from)
         (λ f. at from ∙ get_or_past vs (x - lba) (read_at cells x) (⊎_elim (λ less. absurd (let no : true ≡ false = sym (within_to lba count x from less) ∙ f in cc)) (λ past. omega (arith, past, fits)) (cases_lt x (lba + count))))
 

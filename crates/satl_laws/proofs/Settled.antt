@@ -72,8 +72,8 @@ module _ (trim : Bool) (n : ℕ) (was now at_first : ℕ → Block) (front back 
 
     pub alike_or_clear : (x : ℕ) → x < n → IsFree x
     alike_or_clear x is =
-        by_test (λ b. writes_at t x ≡ b → IsFree x) (writes_at t x)
-        (λ writes h. by_test (λ b. s.acts x ≡ b → IsFree x) (s.acts x)
-        (λ yes k. inr ((s.inside x is).free k h))
-        (λ no k. inl (λ w. ap (λ b. if b then brought (says i.request.cdb trim) i.request.body x w else w) (k ∙ sym (a.idle x)))) refl)
-        (λ none h. inl (λ w. leaves_alike x w h)) refl
+        by_test (λ b. IsFree x) (writes_at t x)
+        (λ writes. by_test (λ b. IsFree x) (s.acts x)
+        (λ yes. inr ((s.inside x is).free yes writes))
+        (λ no. inl (λ w. ap (λ b. if b then brought (says i.request.cdb trim) i.request.body x w else w) (no ∙ sym (a.idle x)))))
+        (λ none. inl (λ w. leaves_alike x w none))

@@ -27,39 +27,32 @@ pending_none p (i ∷ is) x h k = pending_none (λ y. p y || is_to_write i.task 
 -- ---- tasks before one that conflicts with none of them
 
 module _ (trim : Bool) (n x : ℕ) (t : Entry) (b : Transfers n t) (has : spans t.command x ≡ true) where
-  -- where it writes the sector, none of them reads or writes it
-  pub none_covers : (items : List Item) → brings t.command ≡ true → AllByRecursion (λ u. conflicts u t ≡ false) (waiting items) → AllByRecursion (IsWell trim n) items → NoneCovers x items
-  none_covers [] writes c w = tt
-  none_covers (j ∷ items) writes c w = one j.task refl c w.0.waits (λ k. none_covers items writes k w.1)
+  -- what only such tasks have as conflict with it, none of them has
+  none_has : (has_it : Option Entry → Bool) → has_it None ≡ false
+      → ((u : Entry) → (gives u.command || brings u.command ≡ true → Transfers n u) → has_it (Some u) ≡ true → conflicts u t ≡ true)
+      → (items : List Item) → AllByRecursion (λ u. conflicts u t ≡ false) (waiting items) → AllByRecursion (IsWell trim n) items → AllByRecursion (λ j. has_it j.task ≡ false) items
+  none_has has_it none clashes [] c w = tt
+  none_has has_it none clashes (j ∷ items) c w = one j.task refl c w.0.waits (λ k. none_has has_it none clashes items k w.1)
     where
       one : (o : Option Entry) → j.task ≡ o → AllByRecursion (λ u. conflicts u t ≡ false) (before_all o (waiting items)) → AwaitsIf trim n j o
-          → (AllByRecursion (λ u. conflicts u t ≡ false) (waiting items) → NoneCovers x items) → (covers j.task x ≡ false) × NoneCovers x items
-      one None is c a next = (ap (λ o. covers o x) is, next c)
+          → (AllByRecursion (λ u. conflicts u t ≡ false) (waiting items) → AllByRecursion (λ k. has_it k.task ≡ false) items) → AllByRecursion (λ k. has_it k.task ≡ false) (j ∷ items)
+      one None is c a next = (ap has_it is ∙ none, next c)
       one (Some u) is c a next = (
-        ap (λ o. covers o x) is
-            ∙ by_test (λ p. covers (Some u) x ≡ p → covers (Some u) x ≡ false) (covers (Some u) x)
-            (λ yes h. absurd (let no : true ≡ false =
-            sym (clash n u t x (a.fits (and_parts (gives u.command || brings u.command) (spans u.command x) h).0) b (inr writes) (and_parts (gives u.command || brings u.command) (spans u.command x) h).1 has) ∙ c.0 in cc))
-            (λ no h. h) refl,
+        ap has_it is ∙ by_test (λ p. p ≡ false) (has_it (Some u)) (λ yes. sym (clashes u a.fits yes) ∙ c.0) (λ no. refl),
         next c.1,
       )
 
+  -- where it writes the sector, none of them reads or writes it
+  pub none_covers : (items : List Item) → brings t.command ≡ true → AllByRecursion (λ u. conflicts u t ≡ false) (waiting items) → AllByRecursion (IsWell trim n) items → NoneCovers x items
+  none_covers items writes =
+      none_has (λ o. covers o x) refl
+      (λ u fits h. let both = and_parts (gives u.command || brings u.command) (spans u.command x) h in clash n u t x (fits both.0) b (inr writes) both.1 has) items
+
   -- where it reads or writes the sector, none of them writes it
   pub none_to_write : (items : List Item) → AllByRecursion (λ u. conflicts u t ≡ false) (waiting items) → AllByRecursion (IsWell trim n) items → NoneToWrite x items
-  none_to_write [] c w = tt
-  none_to_write (j ∷ items) c w = one j.task refl c w.0.waits (λ k. none_to_write items k w.1)
-    where
-      one : (o : Option Entry) → j.task ≡ o → AllByRecursion (λ u. conflicts u t ≡ false) (before_all o (waiting items)) → AwaitsIf trim n j o
-          → (AllByRecursion (λ u. conflicts u t ≡ false) (waiting items) → NoneToWrite x items) → (is_to_write j.task x ≡ false) × NoneToWrite x items
-      one None is c a next = (ap (λ o. is_to_write o x) is, next c)
-      one (Some u) is c a next = (
-        ap (λ o. is_to_write o x) is
-            ∙ by_test (λ p. is_to_write (Some u) x ≡ p → is_to_write (Some u) x ≡ false) (is_to_write (Some u) x)
-            (λ yes h. absurd (let writes : brings u.command ≡ true = (and_parts (brings u.command) (spans u.command x) h).0 in
-            let no : true ≡ false = sym (clash n u t x (a.fits (or_right (gives u.command) (brings u.command) writes)) b (inl writes) (and_parts (brings u.command) (spans u.command x) h).1 has) ∙ c.0 in cc))
-            (λ no h. h) refl,
-        next c.1,
-      )
+  none_to_write =
+      none_has (λ o. is_to_write o x) refl
+      (λ u fits h. let both = and_parts (brings u.command) (spans u.command x) h in clash n u t x (fits (or_right (gives u.command) (brings u.command) both.0)) b (inl both.0) both.1 has)
 
 module _ (trim : Bool) where
   -- ---- the order of those that wait and those that have acted

@@ -13,11 +13,9 @@ use Rattle.satl_laws.proofs.Kept.{Kept, KeptAs, KeptAt, as_none, at_none, at_on,
 
 -- a change at another place
 pub elsewhere : (f : Cell → Cell) (cells : List Cell) (lba x : ℕ) → lba ≢ x → slice_get (change_at cells lba f) x ≡ slice_get cells x
-elsewhere f [] lba x other = refl
 elsewhere f (c ∷ cs) zero zero other = absurd (other refl)
-elsewhere f (c ∷ cs) zero (suc x) other = refl
-elsewhere f (c ∷ cs) (suc lba) zero other = refl
 elsewhere f (c ∷ cs) (suc lba) (suc x) other = elsewhere f cs lba x (λ same. other (ap suc same))
+elsewhere f _ _ _ other = refl
 
 -- a pair for another sector
 put_keeps : (x : ℕ) (cells : List Cell) (p : Pair) → (p.lba == x) ≡ false → KeptAt x cells (put_at cells p)
@@ -43,10 +41,9 @@ lost_keeps c d l = record { now = l.now; fewer = λ v i. inl (leaves_in v c.may 
 -- so do losses of all sectors
 loses_keep : (x : ℕ) (a b : List Cell) → Loses a b → KeptAs (slice_get a x) (slice_get b x)
 loses_keep x [] [] l = tt
-loses_keep x [] (d ∷ ds) l = absurd l
-loses_keep x (c ∷ cs) [] l = absurd l
 loses_keep zero (c ∷ cs) (d ∷ ds) l = lost_keeps c d l.0
 loses_keep (suc x) (c ∷ cs) (d ∷ ds) l = loses_keep x cs ds l.1
+loses_keep x _ _ l = absurd l
 
 -- moves that put nothing there
 pub moves_keep : {P : Pair → Type 0} {a b : List Cell} (x : ℕ) → ((p : Pair) → P p → (p.lba == x) ≡ false) → Moves P a b → KeptAt x a b

@@ -30,10 +30,8 @@ use Rattle.satl_laws.proofs.Sparing.{Keeps, NoneWrites, SparesAt, around_keeps, 
 module _ (x : ℕ) where
   -- nor does the task that a request becomes
   abbrev pub NoneComes : Device → Arrival → Type 0
-  NoneComes s (answered reply) = Unit {0}
-  NoneComes s (attended reply) = Unit {0}
-  NoneComes s (overlaps reply) = Unit {0}
   NoneComes s (waits task) = SparesAt x s task
+  NoneComes s _ = Unit {0}
 
   -- so does a step before a loss of the link
   may_lose_keeps : (Step : Device → List Reply → Device → Type 0) (old new : Device) (answers : List Reply)
@@ -45,12 +43,11 @@ module _ (x : ℕ) where
 
   -- so does an arrival
   arrives_keeps : (a : Arrival) (r : Request) (s new : Device) (answers : List Reply) → NoneComes s a → ArrivesAs a r s answers new → NoneWrites x s → Keeps x s new
-  arrives_keeps (answered reply) r s new answers comes h g = same_cells x s new s.tasks (ap (λ d. d.cells) h.1) (ap (λ d. d.identity) h.1) (ap (λ d. d.tasks) h.1) g.each
-  arrives_keeps (attended reply) r s new answers comes h g = same_cells x s new s.tasks (ap (λ d. d.cells) h.1) (ap (λ d. d.identity) h.1) (ap (λ d. d.tasks) h.1) g.each
   arrives_keeps (overlaps reply) r s new answers comes h g =
       same_cells x s new (of_others r.nexus s.tasks) (ap (λ d. d.cells) h.1) (ap (λ d. d.identity) h.1) (ap (λ d. d.tasks) h.1) (All-filter (SparesAt x s) (λ t. not (is_of r.nexus t)) s.tasks g.each)
   arrives_keeps (waits task) r s new answers comes h g =
       same_cells x s new (s.tasks ++ task ∷ []) (ap (λ d. d.cells) h.1) (ap (λ d. d.identity) h.1) (ap (λ d. d.tasks) h.1) (All-push_end (SparesAt x s) s.tasks task g.each comes)
+  arrives_keeps _ r s new answers comes h g = same_cells x s new s.tasks (ap (λ d. d.cells) h.1) (ap (λ d. d.identity) h.1) (ap (λ d. d.tasks) h.1) g.each
 
   -- so does a management function
   manages_keeps : (m : Manage) (response : Response) (s new : Device) (answers : List Reply) → Manages m response s answers new → NoneWrites x s → Keeps x s new
@@ -72,18 +69,14 @@ module _ (x : ℕ) where
   bench_keeps : (event : BenchEvent) (s new : Device) (answers : List Reply) → is_power (frames.Bench event) ≡ false → Happens event s answers new → NoneWrites x s → Keeps x s new
   bench_keeps (bench.Strike which lba) s new answers mains h g = flaws_keep s new lba (with_flaw which) (strike_keeps which x lba s.cells) h.new_is g
   bench_keeps (bench.Mend lba) s new answers mains h g = flaws_keep s new lba without_flaws (mend_keeps x lba s.cells) h.new_is g
-  bench_keeps (bench.Glitch count) s new answers mains h g = same_cells x s new s.tasks (ap (λ d. d.cells) h.new_is) (ap (λ d. d.identity) h.new_is) (ap (λ d. d.tasks) h.new_is) g.each
-  bench_keeps (bench.Order order) s new answers mains h g = same_cells x s new s.tasks (ap (λ d. d.cells) h.new_is) (ap (λ d. d.identity) h.new_is) (ap (λ d. d.tasks) h.new_is) g.each
   bench_keeps bench.Power s new answers mains h g = absurd cc
   bench_keeps bench.Unplug s new answers mains h g = loss_keeps x s new (ap (λ d. d.cells) h.stays) (ap (λ d. d.identity) h.stays) (ap (λ d. d.tasks) h.stays)
+  bench_keeps _ s new answers mains h g = same_cells x s new s.tasks (ap (λ d. d.cells) h.new_is) (ap (λ d. d.identity) h.new_is) (ap (λ d. d.tasks) h.new_is) g.each
 
   -- what an event brings is judged after quiet moves
   abbrev pub NoneComesBy : Frame → Device → Type 0
   NoneComesBy (frames.Request r) s = NoneComes s (arrival s r)
-  NoneComesBy (frames.Manage m) s = Unit {0}
-  NoneComesBy (frames.Turn count) s = Unit {0}
-  NoneComesBy (frames.Bench event) s = Unit {0}
-  NoneComesBy frames.End s = Unit {0}
+  NoneComesBy _ s = Unit {0}
 
   -- so does each event but for a loss of power
   pub does_keep : (event : Frame) (s new : Device) (now : List Answer) (d : ℕ) → is_power event ≡ false → ((before : Device) → Quiet s before → NoneComesBy event before) → Does event s now new d → NoneWrites x s → Keeps x s new

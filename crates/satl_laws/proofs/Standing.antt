@@ -57,9 +57,8 @@ module _ (trim : Bool) (n x : ℕ) (v now first : Block) (front back : List Item
     later [] s writes = s.0 (ap (λ o. covers o x) is ∙ covered (gives t.command) (brings t.command) (spans t.command x) writes)
       where
         covered : (p q r : Bool) → (q && r) ≡ true → ((p || q) && r) ≡ true
-        covered true true r h = h
         covered true false r h = absurd cc
-        covered false q r h = h
+        covered _ _ r h = h
     later (j ∷ items) s writes = later items s.1 writes
 
     -- before it leaves it has not acted
@@ -69,77 +68,55 @@ module _ (trim : Bool) (n x : ℕ) (v now first : Block) (front back : List Item
     -- and if it has, the sector holds what it leaves
     has_acted : then_holds true ≡ after t x sum
     has_acted =
-        by_test (λ b. writes_at t x ≡ b → then_holds true ≡ after t x sum) (writes_at t x)
-        (λ writes h. ap (λ w. held trim x w back) (sym (a.leaves x earlier)) ∙ later front sorted writes (after t x earlier) ∙ ap (after t x) (sym (later front sorted writes earlier) ∙ sym not_yet))
-        (λ none h. ap (λ w. held trim x w back) (sym (a.leaves x earlier) ∙ still t x earlier none) ∙ sym not_yet ∙ sym (still t x sum none))
-        refl
+        by_test (λ b. then_holds true ≡ after t x sum) (writes_at t x)
+        (λ writes. ap (λ w. held trim x w back) (sym (a.leaves x earlier)) ∙ later front sorted writes (after t x earlier) ∙ ap (after t x) (sym (later front sorted writes earlier) ∙ sym not_yet))
+        (λ none. ap (λ w. held trim x w back) (sym (a.leaves x earlier) ∙ still t x earlier none) ∙ sym not_yet ∙ sym (still t x sum none))
 
-    -- it leaves as it waited, where it does not end with GOOD
-    pub leaves_still : good ≡ false → now ≡ v → (IsEligible (waiting front ++ t ∷ waiting back) t → writes_at t x ≡ true → NoneCovers x front)
-        → Stands x v sum (waiting front ++ t ∷ waiting back) → (acted : Bool) × Leaves acted
-    leaves_still bad same clear (inl holds) = (
+    -- it has not acted, where it does not end with GOOD
+    idles : good ≡ false → Stands x now (then_holds false) (waiting front ++ waiting back) → (acted : Bool) × Leaves acted
+    idles bad stands = (
       false,
       record {
         sure = λ h. absurd (let no : true ≡ false = sym h ∙ bad in cc);
         only = λ h. absurd cc;
         free = λ h. absurd cc;
-        stands = inl (same ∙ holds ∙ not_yet);
+        stands = stands;
       },
     )
+
+    -- it has acted, where it may have
+    acts : (good ≡ true) ⊎ (brings t.command ≡ true) → (writes_at t x ≡ true → NoneCovers x front) → Stands x now (then_holds true) (waiting front ++ waiting back) → (acted : Bool) × Leaves acted
+    acts why clear stands = (true, record { sure = λ h. refl; only = λ h. why; free = λ h. clear; stands = stands })
+
+    -- it leaves as it waited, where it does not end with GOOD
+    pub leaves_still : good ≡ false → now ≡ v → (IsEligible (waiting front ++ t ∷ waiting back) t → writes_at t x ≡ true → NoneCovers x front)
+        → Stands x v sum (waiting front ++ t ∷ waiting back) → (acted : Bool) × Leaves acted
+    leaves_still bad same clear (inl holds) = idles bad (inl (same ∙ holds ∙ not_yet))
     leaves_still bad same clear (inr early) =
         ⊎_elim
-        (λ it. (
-          true,
-          record {
-            sure = λ h. refl;
-            only = λ h. inr (and_parts (brings t.command) (spans t.command x) (subst (λ u. writes_at u x ≡ true) it early.writes_it)).0;
-            free = λ h writes. clear (subst (IsEligible (waiting front ++ t ∷ waiting back)) it early.eligible) writes;
-            stands = inl (same ∙ early.is ∙ ap (λ u. after u x sum) it ∙ sym has_acted);
-          },
-        ))
-        (λ other. (
-          false,
-          record {
-            sure = λ h. absurd (let no : true ≡ false = sym h ∙ bad in cc);
-            only = λ h. absurd cc;
-            free = λ h. absurd cc;
-            stands = inr (record { task = early.task; eligible = other; writes_it = early.writes_it; is = same ∙ early.is ∙ ap (after early.task x) not_yet });
-          },
-        ))
+        (λ it. acts
+        (inr (and_parts (brings t.command) (spans t.command x) (subst (λ u. writes_at u x ≡ true) it early.writes_it)).0)
+        (clear (subst (IsEligible (waiting front ++ t ∷ waiting back)) it early.eligible))
+        (inl (same ∙ early.is ∙ ap (λ u. after u x sum) it ∙ sym has_acted)))
+        (λ other. idles bad (inr (record { task = early.task; eligible = other; writes_it = early.writes_it; is = same ∙ early.is ∙ ap (after early.task x) not_yet })))
         (still_eligible (waiting front) t (waiting back) early.task early.eligible)
 
     -- it leaves with its block in the sector
     pub leaves_done : (good ≡ true) ⊎ (brings t.command ≡ true) → now ≡ after t x v → (writes_at t x ≡ true → NoneCovers x front)
         → ((u : Entry) → IsEligible (waiting front ++ t ∷ waiting back) u → writes_at u x ≡ true → writes_at t x ≡ true → u ≡ t)
         → Stands x v sum (waiting front ++ t ∷ waiting back) → (acted : Bool) × Leaves acted
-    leaves_done why is_after clear alone (inl holds) = (
-      true,
-      record {
-        sure = λ h. refl;
-        only = λ h. why;
-        free = λ h. clear;
-        stands = inl (is_after ∙ ap (after t x) holds ∙ sym has_acted);
-      },
-    )
-    leaves_done why is_after clear alone (inr early) = (
-      true,
-      record {
-        sure = λ h. refl;
-        only = λ h. why;
-        free = λ h. clear;
-        stands =
-            by_test (λ b. writes_at t x ≡ b → Stands x now (then_holds true) (waiting front ++ waiting back)) (writes_at t x)
-            (λ writes h. let it = alone early.task early.eligible early.writes_it writes in
-            inl (is_after ∙ ap (after t x) (early.is ∙ ap (λ u. after u x sum) it) ∙ after_twice t x sum ∙ sym has_acted))
-            (λ none h. ⊎_elim
-            (λ it. absurd (let no : true ≡ false = sym (subst (λ u. writes_at u x ≡ true) it early.writes_it) ∙ none in cc))
-            (λ other. inr (record {
-              task = early.task;
-              eligible = other;
-              writes_it = early.writes_it;
-              is = is_after ∙ still t x v none ∙ early.is ∙ ap (after early.task x) (sym (has_acted ∙ still t x sum none));
-            }))
-            (still_eligible (waiting front) t (waiting back) early.task early.eligible))
-            refl;
-      },
-    )
+    leaves_done why is_after clear alone (inl holds) = acts why clear (inl (is_after ∙ ap (after t x) holds ∙ sym has_acted))
+    leaves_done why is_after clear alone (inr early) =
+        acts why clear
+        (by_test (λ b. Stands x now (then_holds true) (waiting front ++ waiting back)) (writes_at t x)
+        (λ writes. let it = alone early.task early.eligible early.writes_it writes in
+        inl (is_after ∙ ap (after t x) (early.is ∙ ap (λ u. after u x sum) it) ∙ after_twice t x sum ∙ sym has_acted))
+        (λ none. ⊎_elim
+        (λ it. absurd (let no : true ≡ false = sym (subst (λ u. writes_at u x ≡ true) it early.writes_it) ∙ none in cc))
+        (λ other. inr (record {
+          task = early.task;
+          eligible = other;
+          writes_it = early.writes_it;
+          is = is_after ∙ still t x v none ∙ early.is ∙ ap (after early.task x) (sym (has_acted ∙ still t x sum none));
+        }))
+        (still_eligible (waiting front) t (waiting back) early.task early.eligible)))

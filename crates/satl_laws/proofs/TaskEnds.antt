@@ -52,8 +52,7 @@ module _ (s new : Device) (t : Entry) (reply : Reply) where
 
       go : (o : Outcome) → EndsAs s.modes.wce (ranged_read fua (over lba count)) o (surface_of s) (surface_of new) → reply ≡ outcome_reply s t (ranged_read fua (over lba count)) o → reply.body ≡ nows s.cells lba count
       go (ends_done blocks) d is = ap (λ r. r.body) is ∙ d.read
-      go (ends_flawed lba_of) f is = bad (ap (λ r. is_good r.status) is)
-      go ends_glitched g is = bad (ap (λ r. is_good r.status) is)
+      go _ _ is = bad (ap (λ r. is_good r.status) is)
   read_ends c g good e = absurd cc
 
   -- or it is checked, and nothing is written
@@ -118,12 +117,11 @@ module _ (s new : Device) (t : Entry) (reply : Reply) where
     -- any such command
     pub ends_change : (x : ℕ) → x < length s.cells → Changed x
     ends_change x inside =
-        by_test (λ b. brings t.command ≡ b → Changed x) (brings t.command)
-        (λ yes h. write_changes x inside h)
-        (λ no h. by_test (λ g. is_good reply.status ≡ g → Changed x) (is_good reply.status)
-        (λ good k. inr (inl k, kept h ∙ sym (still t x (read_at s.cells x) (and_left (brings t.command) (spans t.command x) h))))
-        (λ bad k. inl (k, kept h)) refl)
-        refl
+        by_test (λ b. Changed x) (brings t.command)
+        (λ yes. write_changes x inside yes)
+        (λ no. by_test (λ g. Changed x) (is_good reply.status)
+        (λ good. inr (inl good, kept no ∙ sym (still t x (read_at s.cells x) (and_left (brings t.command) (spans t.command x) no))))
+        (λ bad. inl (bad, kept no)))
       where
         kept : brings t.command ≡ false → read_at new.cells x ≡ read_at s.cells x
         kept none =

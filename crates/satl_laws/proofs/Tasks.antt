@@ -8,12 +8,12 @@ use Rattle.satl_base.specs.declared.reply.Reply.{Reply}
 use Rattle.satl_frame.specs.Output.Answer.{replied}
 use Rattle.satl_line.specs.declared.entry.Entry.{Entry}
 use Rattle.satl_line.specs.Eligible.{IsEligible}
+use Rattle.satl_line.proofs.EligibleLemmas.{eligible_do_not_conflict}
 use Rattle.satl_laws.specs.ArrivalOrder.{is_done, is_good, writes_plainly}
 use Rattle.satl_direct.specs.Turn.{IsFirst, MayEnd}
 use Rattle.satl_direct.specs.Device.{Device}
 use Rattle.satl_laws.proofs.Cases.{by_bool}
 use Rattle.satl_laws.proofs.Items.{AwaitsIf, IsWell, Item, before_all, waiting}
-use Rattle.satl_laws.proofs.Eligibles.{both_eligible}
 use Rattle.satl_laws.proofs.Names.{and_three, asks_self, swapped}
 use Rattle.satl_laws.proofs.Requests.{has_name}
 use Rattle.satl_laws.proofs.Standing.{writes_at}
@@ -49,10 +49,8 @@ writes_alone n x tasks t u a b fits plain has writes =
     let other : Transfers n u = writer_fits n u plain brings_u in
     ⊎_elim
     (λ same. sym same)
-    (λ free. ⊎_elim
-    (λ k. absurd (let no : true ≡ false = sym (clash n t u x fits other (inr brings_u) has has_u) ∙ k in cc))
-    (λ k. absurd (let no : true ≡ false = sym (clash n u t x other fits (inl brings_u) has_u has) ∙ k in cc)) free)
-    (both_eligible tasks t u a b)
+    (λ free. absurd (let no : true ≡ false = sym (clash n t u x fits other (inr brings_u) has has_u) ∙ free in cc))
+    (eligible_do_not_conflict tasks t u a b)
 
 -- a task that may end is eligible
 pub may_eligible : (s : Device) (t : Entry) → MayEnd s t → IsEligible s.tasks t
@@ -82,8 +80,7 @@ done_good r reply = third (reply.nexus == r.nexus) ((reply.tag).0 == (r.tag).0) 
     third : (p q g : Bool) → ((p && q && g) || false) ≡ true → g ≡ true
     third true true true h = refl
     third true true false h = h
-    third true false g h = absurd cc
-    third false q g h = absurd cc
+    third _ _ g h = absurd cc
 
 -- and GOOD to a request of its name is done
 pub good_done : (r : Request) (reply : Reply) → ((reply.nexus == r.nexus) && ((reply.tag).0 == (r.tag).0)) ≡ true → is_good reply.status ≡ true → (is_done r (replied reply) || false) ≡ true
@@ -92,5 +89,4 @@ good_done r reply = all (reply.nexus == r.nexus) ((reply.tag).0 == (r.tag).0) (i
     all : (p q g : Bool) → (p && q) ≡ true → g ≡ true → ((p && q && g) || false) ≡ true
     all true true true h k = refl
     all true true false h k = k
-    all true false g h k = absurd cc
-    all false q g h k = absurd cc
+    all _ _ g h k = absurd cc

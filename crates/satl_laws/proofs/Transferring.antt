@@ -15,7 +15,9 @@ use Rattle.satl_direct.specs.Device.{Device}
 use Rattle.satl_laws.specs.ArrivalOrder.{IsReadOf, brought, read_at}
 use Rattle.satl_direct.specs.Quiet.{writes, written_by}
 use Rattle.satl_direct.specs.Tasks.{range_of}
-use Rattle.satl_laws.proofs.Seen.{by_test, in_row, row_seen, within, within_from, within_to}
+use Rattle.satl_laws.specs.Passing.{lies_in}
+use Rattle.satl_laws.proofs.Meeting.{meets}
+use Rattle.satl_laws.proofs.Seen.{by_test, in_row, row_seen, within_from, within_to}
 
 -- whether a command is a READ
 abbrev pub gives : Command → Bool
@@ -29,7 +31,7 @@ brings command = false
 
 -- whether its range has a sector
 abbrev pub spans : Command → ℕ → Bool
-spans c x = within (range_of c).lba (range_of c).count x
+spans c x = lies_in (range_of c).lba (range_of c).count x
 
 -- what a task leaves in a sector that held this
 abbrev pub after : Entry → ℕ → Block → Block
@@ -53,14 +55,13 @@ still t x v h = still_by t.command t.body x v h
 
 -- a block that is there is there twice
 get_twice : (body : List Block) (k : ℕ) (v : Block) → get_or body k (get_or body k v) ≡ get_or body k v
-get_twice [] k v = refl
-get_twice (b ∷ bs) zero v = refl
 get_twice (b ∷ bs) (suc k) v = get_twice bs k v
+get_twice _ _ v = refl
 
 -- what is written twice is as written once
 twice_by : (c : Command) (body : List Block) (x : ℕ) (v : Block) → brought (Ok c) body x (brought (Ok c) body x v) ≡ brought (Ok c) body x v
 twice_by (commands.Write form lba count fua) body x v =
-    by_test (λ b. (if b then get_or body (x - lba) (if b then get_or body (x - lba) v else v) else (if b then get_or body (x - lba) v else v)) ≡ (if b then get_or body (x - lba) v else v)) (within lba count x)
+    by_test (λ b. (if b then get_or body (x - lba) (if b then get_or body (x - lba) v else v) else (if b then get_or body (x - lba) v else v)) ≡ (if b then get_or body (x - lba) v else v)) (lies_in lba count x)
     (λ has. get_twice body (x - lba) v)
     (λ no. refl)
 twice_by c body x v = refl
@@ -80,13 +81,6 @@ reads_only c g b = cc
 
 -- ---- conflicts
 
--- two ranges that have a sector meet
-met : (a b : Range) (x : ℕ) → within a.lba a.count x ≡ true → within b.lba b.count x ≡ true → ranges_meet a b ≡ true
-met a b x h k =
-    let p = within_from a.lba a.count x h in
-    let q = within_from b.lba b.count x k in
-    lt-ltb (max a.lba b.lba) (min (a.lba + a.count) (b.lba + b.count)) (omega (arith, p.0, p.1, q.0, q.1))
-
 -- tasks that have a sector, one of which writes, conflict
 pub clash : (n : ℕ) (t u : Entry) (x : ℕ) → Transfers n t → Transfers n u → (brings t.command ≡ true) ⊎ (brings u.command ≡ true) → spans t.command x ≡ true → spans u.command x ≡ true → conflicts t u ≡ true
 unfolding accesses_conflict
@@ -94,16 +88,15 @@ clash n t u x a b one h k =
     let write_t : is_write t.kind ≡ brings t.command = ap is_write a.kind in
     let write_u : is_write u.kind ≡ brings u.command = ap is_write b.kind in
     let meet : any_meet t.ranges.items u.ranges.items ≡ true =
-    ap (λ r. any_meet r u.ranges.items) a.ranges ∙ ap (any_meet (range_of t.command ∷ [])) b.ranges ∙ ap (λ p. (p || false) || false) (met (range_of t.command) (range_of u.command) x h k) in
+    ap (λ r. any_meet r u.ranges.items) a.ranges ∙ ap (any_meet (range_of t.command ∷ [])) b.ranges ∙ ap (λ p. (p || false) || false) (meets (range_of t.command) (range_of u.command) x h k) in
     go (access_of t).alone (access_of u).alone (is_write t.kind) (is_write u.kind) (any_meet t.ranges.items u.ranges.items) (⊎_elim (λ l. inl (write_t ∙ l)) (λ r. inr (write_u ∙ r)) one) meet
   where
     go : (p q r s m : Bool) → (r ≡ true) ⊎ (s ≡ true) → m ≡ true → (p || q || ((r || s) && m)) ≡ true
-    go true q r s m w e = refl
-    go false true r s m w e = refl
     go false false true s m w e = e
     go false false false true m w e = e
     go false false false false m (inl w) e = absurd cc
     go false false false false m (inr w) e = absurd cc
+    go _ _ r s m w e = refl
 
 -- ---- what a task writes
 
@@ -126,7 +119,7 @@ by_pair : (c : Command) (s : Device) (t : Entry) (p : Pair) → gives c || bring
 by_pair (commands.Read form lba count fua) s t p h fits i = absurd i
 by_pair (commands.Write form lba count fua) s t p h fits i =
     let r = in_row t.body lba (s.modes.wce && not fua) p i in
-    let has : within lba count p.lba ≡ true = within_to lba count p.lba (omega (arith, r.at)) (omega (arith, r.at, r.small, fits)) in
+    let has : lies_in lba count p.lba ≡ true = within_to lba count p.lba (omega (arith, r.at)) (omega (arith, r.at, r.small, fits)) in
     let place : p.lba - lba ≡ r.place = omega (arith, r.at) in
     record {
       writes_it = refl;

@@ -16,6 +16,7 @@ use Rattle.satl_direct.specs.Turn.{OneEnds, Turn, lost_replies}
 use Rattle.satl_direct.specs.Turn.Turn.{idle, ends, loses, ends_and_loses}
 use Rattle.satl_direct.specs.Run.{TurnsOf}
 use Rattle.satl_direct.specs.Run.TurnsOf.{none, more}
+use Rattle.satl_direct.proofs.Naming.{called_self}
 use Rattle.satl_direct.proofs.Quieting.{quiet_tasks}
 use Rattle.satl_laws.specs.OnceEach.{answers_to}
 use Rattle.satl_laws.proofs.Cases.{how_many-append}
@@ -54,11 +55,8 @@ module _ (nexus tag : ℕ) where
       plus : (a b c d : ℕ) → b + c ≡ d → (a + b) + c ≡ a + d
       plus a b c d h = omega (arith, h)
 
-      called : is_called t.nexus (t.tag).0 t ≡ true
-      called = ap (λ b. b && ((t.tag).0 == (t.tag).0)) (eq-eqb t.nexus t.nexus refl) ∙ eq-eqb (t.tag).0 (t.tag).0 refl
-
       apart : u ≡ t → is_called t.nexus (t.tag).0 u ≡ false → ⊥
-      apart same h = let no : true ≡ false = sym called ∙ ap (is_called t.nexus (t.tag).0) (sym same) ∙ h in absurd cc
+      apart same h = let no : true ≡ false = sym (called_self t) ∙ ap (is_called t.nexus (t.tag).0) (sym same) ∙ h in absurd cc
 
   -- each task is answered once at a lost link
   lost_counts : (s : Device) (tasks : List Entry) → replies (map (λ t. task_check s t link_lost) tasks) ≡ mine tasks
