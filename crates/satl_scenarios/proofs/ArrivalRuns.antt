@@ -12,7 +12,7 @@ use Rattle.satl_line.specs.declared.entry.Entry.{Entry}
 use Rattle.satl_line.specs.Ranged.RangedTask.{ranged_read}
 use Rattle.satl_direct.specs.Run.TurnsOf.{none}
 use Rattle.satl_direct.specs.Tasks.{over}
-use Rattle.satl_scenarios.specs.Arrivals.{full_of_blocks, lengths_expected, no_block, no_block_at_rest, one_block_too_many, other_unit, sense_requested}
+use Rattle.satl_scenarios.specs.Arrivals.{full_of_blocks, lengths_expected, nothing_moved, no_block_at_rest, one_block_too_many, other_unit, sense_requested}
 use Rattle.satl_scenarios.specs.Scenario.{CanHappen}
 use Rattle.satl_scenarios.specs.Devices.{blank}
 use Rattle.satl_scenarios.specs.Requests.{task}
@@ -37,10 +37,10 @@ unit_unknown =
     (next (arrives _ other_unit.last (refl, refl))
     ends_here))
 
-pub nothing_to_do : CanHappen no_block
+pub nothing_to_do : CanHappen nothing_moved
 unfolding says fixed_form
 nothing_to_do =
-    it_can_happen no_block
+    it_can_happen nothing_moved
     (next (arrives _ (blank 2) (refl, refl))
     (next (arrives _ (blank 2) (refl, refl))
     (next (arrives _ (blank 2) (refl, refl))

@@ -14,7 +14,7 @@ use Rattle.satl_direct.specs.Device.{Device}
 use Rattle.satl_direct.specs.Ending.{Ends}
 use Rattle.satl_direct.specs.Run.{depth}
 use Rattle.satl_direct.specs.Tasks.{over}
-use Rattle.satl_scenarios.specs.Commands.{compared, ends_with, miscompared, same_written, started, stopped, stopped_unflushed, unmap_list, unmapped, verify_failed, written}
+use Rattle.satl_scenarios.specs.Commands.{same_blocks, ends_with, miscompared, same_written, started_unit, stopped_unit, stopped_unflushed, unmap_list, unmapped, verify_failed, written}
 use Rattle.satl_scenarios.specs.Scenario.{CanHappen}
 use Rattle.satl_scenarios.specs.Devices.{aa, bb, lasts, unreadable, zeros}
 use Rattle.satl_scenarios.specs.Requests.{task, with_task}
@@ -27,17 +27,17 @@ use Rattle.satl_scenarios.proofs.Validity.{filled_differ}
 pub turn_ends : (command : Command) (body : List Block) (cells : List Cell) (reply : Reply) (last : Device) → Ends (with_task 1 command body cells) (task 1 command body) reply last → depth last ≡ 0 → last.down ≡ false → CanHappen (ends_with command body cells (replied reply) last)
 turn_ends command body cells reply last e none up = it_can_happen (ends_with command body cells (replied reply) last) (next (one_turn last (ended (task 1 command body) (inl refl) e)) (rw (none, up) ends_here))
 
-pub unit_stopped : CanHappen stopped
-unit_stopped = turn_ends (StartStop false false) [] written _ stopped.last (record { answer = refl; stays = refl }) refl refl
+pub unit_stopped : CanHappen stopped_unit
+unit_stopped = turn_ends (StartStop false false) [] written _ stopped_unit.last (record { answer = refl; stays = refl }) refl refl
 
 pub unit_stopped_unflushed : CanHappen stopped_unflushed
 unit_stopped_unflushed = turn_ends (StartStop false true) [] written _ stopped_unflushed.last (record { answer = refl; stays = refl }) refl refl
 
-pub unit_started : CanHappen started
-unit_started = it_can_happen started (next (one_turn started.last (ended (task 1 (StartStop true false) []) refl (record { answer = refl; stays = refl }))) ends_here)
+pub unit_started : CanHappen started_unit
+unit_started = it_can_happen started_unit (next (one_turn started_unit.last (ended (task 1 (StartStop true false) []) refl (record { answer = refl; stays = refl }))) ends_here)
 
-pub blocks_compared : CanHappen compared
-blocks_compared = turn_ends (Verify Ten 0 2 true) (aa ∷ zeros ∷ []) written _ compared.last (inr (inl (refl, record { answer = refl; stays = refl }))) refl refl
+pub blocks_compared : CanHappen same_blocks
+blocks_compared = turn_ends (Verify Ten 0 2 true) (aa ∷ zeros ∷ []) written _ same_blocks.last (inr (inl (refl, record { answer = refl; stays = refl }))) refl refl
 
 -- the first byte of a filled block tells it from another
 bytes_differ : (aa ∷ bb ∷ []) ≡ (aa ∷ zeros ∷ []) → ⊥

@@ -13,7 +13,7 @@ use Rattle.satl_direct.specs.Device.{Device}
 use Rattle.satl_direct.specs.Run.TurnsOf.{none}
 use Rattle.satl_direct.proofs.Quieting.{quiet_none}
 use Rattle.satl_scenarios.specs.Scenario.{CanHappen}
-use Rattle.satl_scenarios.specs.Functions.{cleared, nexus_reset, queried, reset, set_aborted}
+use Rattle.satl_scenarios.specs.Functions.{tasks_cleared, nexus_reset, queried, all_reset, set_aborted}
 use Rattle.satl_scenarios.specs.Devices.{blank}
 use Rattle.satl_scenarios.specs.Requests.{task}
 use Rattle.satl_scenarios.proofs.Building.{it_can_happen, arrives, drained, manages}
@@ -34,23 +34,23 @@ functions_queried =
     (next (manages _ IncorrectLun _ waiting waiting (quiet_none waiting) (record { response_is = refl; stays = refl }))
     ends_here)))))
 
-pub set_cleared : CanHappen cleared
+pub set_cleared : CanHappen tasks_cleared
 unfolding says fixed_form function_of posted
 set_cleared =
-    it_can_happen cleared
+    it_can_happen tasks_cleared
     (next (arrives [] waiting (refl, refl))
     (next (manages _ Complete _ waiting (record (blank 2) { attentions = (Cleared ∷ []) ∷ [] ∷ [] ∷ [] ∷ [] }) (quiet_none waiting) (record { response_is = refl; stays = refl }))
     (next (arrives _ (blank 2) (refl, refl))
     (next (drained none refl)
     ends_here))))
 
-pub unit_reset : CanHappen reset
+pub unit_reset : CanHappen all_reset
 unfolding says fixed_form function_of posted
 unit_reset =
-    it_can_happen reset
+    it_can_happen all_reset
     (next (arrives [] waiting (refl, refl))
     (next (manages _ Complete _ waiting (record (blank 2) { attentions = (UnitReset ∷ []) ∷ (UnitReset ∷ []) ∷ (UnitReset ∷ []) ∷ (UnitReset ∷ []) ∷ [] }) (quiet_none waiting) (record { response_is = refl; stays = refl }))
-    (next (arrives _ reset.last (refl, refl))
+    (next (arrives _ all_reset.last (refl, refl))
     ends_here)))
 
 -- two reads of one nexus, or of two

@@ -18,7 +18,7 @@ use Rattle.satl_direct.specs.Ending.{after_select, settled}
 use Rattle.satl_direct.specs.Tasks.{over}
 use Rattle.satl_direct.specs.Run.TurnsOf.{none}
 use Rattle.satl_scenarios.specs.Scenario.{CanHappen}
-use Rattle.satl_scenarios.specs.Power.{caching_list, flush, flushed, flushed_then_written, select, power_with_a_task, told_once, turned_off, turned_off_then_power}
+use Rattle.satl_scenarios.specs.Power.{caching_list, flush, written_back, flushed_then_written, select, power_with_a_task, told_once, turned_off, turned_off_then_power}
 use Rattle.satl_scenarios.specs.Devices.{aa, bb, blank, device, cached_over, lasts, powered, zeros, unreadable}
 use Rattle.satl_scenarios.specs.Requests.{task}
 use Rattle.satl_scenarios.proofs.Building.{it_can_happen, arrives, happens, one_turn, turn_more, turns}
@@ -38,10 +38,10 @@ flush_task = task 1 flush []
 abbrev kept : Device
 kept = device (lasts aa ∷ lasts zeros ∷ [])
 
-pub flush_keeps : CanHappen flushed
+pub flush_keeps : CanHappen written_back
 flush_keeps =
-    it_can_happen flushed
-    (next (one_turn kept (ended flush_task (inl refl) (carried_out (settled flushed.first) flush_task)))
+    it_can_happen written_back
+    (next (one_turn kept (ended flush_task (inl refl) (carried_out (settled written_back.first) flush_task)))
     (next (happens [] (powered kept.cells) (record { none = refl; cells = (left_with (lasts aa) aa (inl refl), (left_with (lasts zeros) zeros (inl refl), tt)); stays = refl }))
     ends_here))
 
@@ -57,11 +57,11 @@ pub write_after_flush : (left : Block) → IsIn left (aa ∷ bb ∷ []) → CanH
 unfolding says accesses_conflict
 write_after_flush left one =
     it_can_happen (flushed_then_written left)
-    (next (arrives [] (record flushed.first { tasks = flush_task ∷ later_write ∷ [] }) (refl, refl))
+    (next (arrives [] (record written_back.first { tasks = flush_task ∷ later_write ∷ [] }) (refl, refl))
     (next (turns
     (turn_more rewritten
     (turn_more (record kept { tasks = later_write ∷ [] }) none
-    (ended flush_task (inl refl) (carried_out (settled (record flushed.first { tasks = flush_task ∷ later_write ∷ [] })) flush_task)))
+    (ended flush_task (inl refl) (carried_out (settled (record written_back.first { tasks = flush_task ∷ later_write ∷ [] })) flush_task)))
     (ended later_write (inl refl) (done (ranged_write false (over 0 1) (bb ∷ [])) _ later_write refl))))
     (next (happens [] (powered (lasts left ∷ lasts zeros ∷ [])) (record { none = refl; cells = (left_with (cached_over aa bb) left one, (left_with (lasts zeros) zeros (inl refl), tt)); stays = refl }))
     ends_here)))

@@ -6,17 +6,17 @@ use Rattle.satl_cdb.specs.Table.{says}
 use Rattle.satl_sense.specs.Fixed.{fixed_form}
 use Rattle.satl_line.specs.declared.entry.Entry.{Entry}
 use Rattle.satl_scenarios.specs.Scenario.{CanHappen}
-use Rattle.satl_scenarios.specs.Refused.{not_started, refused}
+use Rattle.satl_scenarios.specs.Refused.{not_started, refused_at_once}
 use Rattle.satl_scenarios.specs.Devices.{blank}
 use Rattle.satl_scenarios.specs.Requests.{task}
 use Rattle.satl_scenarios.proofs.Building.{it_can_happen, arrives, one_turn}
 use Rattle.satl_scenarios.proofs.Building.Follows.{next, ends_here}
 use Rattle.satl_scenarios.proofs.Endings.{ended}
 
-pub all_refused : CanHappen refused
+pub all_refused : CanHappen refused_at_once
 unfolding says fixed_form
 all_refused =
-    it_can_happen refused
+    it_can_happen refused_at_once
     (next (arrives _ (blank 2) (refl, refl))
     (next (arrives _ (blank 2) (refl, refl))
     (next (arrives _ (blank 2) (refl, refl))

@@ -15,7 +15,7 @@ use Rattle.satl_direct.specs.Tasks.{over}
 use Rattle.satl_direct.specs.Quiet.{Quiet}
 use Rattle.satl_direct.specs.Run.TurnsOf.{none}
 use Rattle.satl_scenarios.specs.Scenario.{CanBeCut, CanHappen, Scenario, events_of, silent}
-use Rattle.satl_scenarios.specs.Waiting.{aborted_half_done, overlapped_reads, full, one_too_many, cut_off}
+use Rattle.satl_scenarios.specs.Waiting.{aborted_half_done, overlapped_reads, full, one_too_many, one_turn_left}
 use Rattle.satl_scenarios.specs.Devices.{aa, blank, device, cached_over, lasts, zeros}
 use Rattle.satl_scenarios.specs.Requests.{read, task}
 use Rattle.satl_scenarios.proofs.Building.{it_can_happen, arrives, drained, manages, turn_more}
@@ -85,7 +85,7 @@ both_arrive =
     (next (arrives [] arrived.last (refl, refl))
     ends_here))
 
-pub run_cut : CanBeCut cut_off
+pub run_cut : CanBeCut one_turn_left
 run_cut = record {
   before = events_of arrived;
   event = Turn 3;
@@ -98,7 +98,7 @@ run_cut = record {
   asked = omega arith;
   replies = _;
   deep = _;
-  turns = turn_more cut_off.last none (ended low_read (inl refl) (done (ranged_read false (over 0 1)) arrived.last low_read refl));
+  turns = turn_more one_turn_left.last none (ended low_read (inl refl) (done (ranged_read false (over 0 1)) arrived.last low_read refl));
   answer = refl;
   losses_are = refl;
 }

@@ -69,8 +69,8 @@ other_unit = record {
 
 -- a READ and a WRITE of no block are done at once, also right behind the last sector, and further on there is no address (SBC-3
 -- 5.10, 5.31)
-abbrev pub no_block : Scenario
-no_block = record {
+abbrev pub nothing_moved : Scenario
+nothing_moved = record {
   first = blank 2;
   steps =
       answered (read 1 2 0) (good 1 [] ∷ [])

@@ -29,8 +29,8 @@ abbrev pub written : List Cell
 written = cached_over zeros aa ∷ lasts zeros ∷ []
 
 -- START STOP UNIT: the unit is stopped and in standby, with all written back (SBC-3, START STOP UNIT; SAT-3)
-abbrev pub stopped : Scenario
-stopped =
+abbrev pub stopped_unit : Scenario
+stopped_unit =
     ends_with (StartStop false false) [] written (good 1 [])
     (record (device (lasts aa ∷ lasts zeros ∷ [])) { started = false; active = false })
 
@@ -41,8 +41,8 @@ stopped_unflushed =
     (record (device written) { started = false; active = false })
 
 -- START STOP UNIT of a stopped unit: it is started and active (SBC-3, START STOP UNIT; SAT-3)
-abbrev pub started : Scenario
-started = record {
+abbrev pub started_unit : Scenario
+started_unit = record {
   first = record (with_task 1 (StartStop true false) [] written) { started = false; active = false };
   steps = answered (Turn 1) (good 1 [] ∷ []) ∷ [];
   losses = 0;
@@ -51,8 +51,8 @@ started = record {
 }
 
 -- VERIFY with comparison: the data-out are what reads give, or they are not: MISCOMPARE DURING VERIFY OPERATION (SBC-3 5.33)
-abbrev pub compared : Scenario
-compared = ends_with (Verify Ten 0 2 true) (aa ∷ zeros ∷ []) written (good 1 []) (device written)
+abbrev pub same_blocks : Scenario
+same_blocks = ends_with (Verify Ten 0 2 true) (aa ∷ zeros ∷ []) written (good 1 []) (device written)
 
 abbrev pub miscompared : Scenario
 miscompared = ends_with (Verify Ten 0 2 true) (aa ∷ bb ∷ []) written (check 1 (sense 0xE 0x1D 0x00)) (device written)

@@ -29,8 +29,8 @@ queried = record {
 }
 
 -- CLEAR TASK SET by nexus 1: the task of nexus 0 goes without an answer, and its next command tells it so (SAM-5 7.4)
-abbrev pub cleared : Scenario
-cleared = record {
+abbrev pub tasks_cleared : Scenario
+tasks_cleared = record {
   first = blank 2;
   steps =
       silent (read 1 0 1)
@@ -44,8 +44,8 @@ cleared = record {
 }
 
 -- LOGICAL UNIT RESET: all tasks go, and each nexus is told (SAM-5 7.7)
-abbrev pub reset : Scenario
-reset = record {
+abbrev pub all_reset : Scenario
+all_reset = record {
   first = blank 2;
   steps =
       silent (read 1 0 1)

@@ -22,8 +22,8 @@ abbrev pub flush : Command
 flush = commands.Flush Ten 0 0
 
 -- the cache is written back: power takes nothing then (SBC-3 4.15)
-abbrev pub flushed : Scenario
-flushed = record {
+abbrev pub written_back : Scenario
+written_back = record {
   first = cached_with flush [];
   steps = answered (Turn 1) (good 1 [] ∷ []) ∷ silent (Bench bench.Power) ∷ [];
   losses = 0;

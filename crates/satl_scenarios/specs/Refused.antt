@@ -8,8 +8,8 @@ use Rattle.satl_scenarios.specs.Requests.{cdb_10, read, request}
 
 -- refused at once, each for its own fault: another logical unit, an operation code that there is none for, RDPROTECT in byte 1,
 -- a block past the last sector, and fewer bytes of data-out than the blocks (SPC-4 4.5.6)
-abbrev pub refused : Scenario
-refused = record {
+abbrev pub refused_at_once : Scenario
+refused_at_once = record {
   first = blank 2;
   steps =
       answered (Request (record (request 1 (cdb_10 0x28 0 1) []) { lun = 0 ∷ 1 ∷ replicate 6 0 }))

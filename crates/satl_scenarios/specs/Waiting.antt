@@ -62,8 +62,8 @@ two_waiting = record (blank 3) {
 }
 
 -- two reads, and of three turns one is taken: the second read waits
-abbrev pub cut_off : Scenario
-cut_off = record {
+abbrev pub one_turn_left : Scenario
+one_turn_left = record {
   first = blank 2;
   steps =
       silent (read 1 0 1)

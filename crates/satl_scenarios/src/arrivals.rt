@@ -1,12 +1,12 @@
 //! Commands as they arrive.
 
-ghost use Rattle.satl_scenarios.specs.Arrivals.{lengths_expected, no_block, no_block_at_rest, one_block_too_many, other_unit, sense_requested};
-ghost use Rattle.satl_scenarios.specs.Refused.{refused};
+ghost use Rattle.satl_scenarios.specs.Arrivals.{lengths_expected, nothing_moved, no_block_at_rest, one_block_too_many, other_unit, sense_requested};
+ghost use Rattle.satl_scenarios.specs.Refused.{refused_at_once};
 ghost use Rattle.satl_scenarios.specs.Scenario.{CanHappen};
 
 /// Commands are refused when they arrive (SPC-4 4.5.6).
 pub fn commands_refused_on_arrival()
-    ensures { CanHappen refused }
+    ensures { CanHappen refused_at_once }
 {}
 
 /// REQUEST SENSE tells conditions one by one (SPC-4 6.39).
@@ -21,7 +21,7 @@ pub fn another_logical_unit()
 
 /// A command over no block is done at once (SBC-3 5.10, 5.31).
 pub fn commands_over_no_block()
-    ensures { CanHappen no_block }
+    ensures { CanHappen nothing_moved }
 {}
 
 /// And it is told that the unit is stopped (SPC-4 4.5.6; profile).

@@ -1,12 +1,12 @@
 //! VERIFY, WRITE SAME and UNMAP: done, and failed by a flaw or a CRC error.
 
-ghost use Rattle.satl_scenarios.specs.Commands.{compared, miscompared, same_written, unmapped, verify_failed};
+ghost use Rattle.satl_scenarios.specs.Commands.{same_blocks, miscompared, same_written, unmapped, verify_failed};
 ghost use Rattle.satl_scenarios.specs.Pieces.{compare_flawed, compare_garbled, same_garbled, same_garbled_before_the_flaw, same_torn, same_unmapped};
 ghost use Rattle.satl_scenarios.specs.Scenario.{CanHappen};
 
 /// Blocks are as the data-out (SBC-3 5.33).
 pub fn blocks_compared()
-    ensures { CanHappen compared }
+    ensures { CanHappen same_blocks }
 {}
 
 /// Blocks are not as the data-out (SBC-3 5.33).

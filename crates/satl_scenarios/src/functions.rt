@@ -1,6 +1,6 @@
 //! Task management functions.
 
-ghost use Rattle.satl_scenarios.specs.Functions.{cleared, nexus_reset, queried, reset, set_aborted};
+ghost use Rattle.satl_scenarios.specs.Functions.{tasks_cleared, nexus_reset, queried, all_reset, set_aborted};
 ghost use Rattle.satl_scenarios.specs.Scenario.{CanHappen};
 ghost use Rattle.satl_scenarios.specs.Waiting.{aborted_half_done};
 
@@ -16,12 +16,12 @@ pub fn tasks_queried()
 
 /// A nexus is told that another cleared its tasks (SAM-5 7.4).
 pub fn tasks_cleared_by_another_nexus()
-    ensures { CanHappen cleared }
+    ensures { CanHappen tasks_cleared }
 {}
 
 /// All nexuses are told that the logical unit was reset (SAM-5 7.7).
 pub fn a_unit_reset()
-    ensures { CanHappen reset }
+    ensures { CanHappen all_reset }
 {}
 
 /// All tasks of a nexus are aborted (SAM-5 7.3).

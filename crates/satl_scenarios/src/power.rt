@@ -1,12 +1,12 @@
 //! Power cycles, and what is on the medium after them.
 
-ghost use Rattle.satl_scenarios.specs.Power.{flushed, flushed_then_written, power_with_a_task, told_once, turned_off, turned_off_then_power};
+ghost use Rattle.satl_scenarios.specs.Power.{written_back, flushed_then_written, power_with_a_task, told_once, turned_off, turned_off_then_power};
 ghost use Rattle.satl_scenarios.specs.Scenario.{CanHappen};
 ghost use Rattle.satl_scenarios.specs.Devices.{aa, bb};
 
 /// What was flushed outlives the power (SBC-3 4.15).
 pub fn power_after_a_flush()
-    ensures { CanHappen flushed }
+    ensures { CanHappen written_back }
 {}
 
 /// What is written after a flush may outlive the power (SBC-3 4.15).

@@ -1,13 +1,13 @@
 //! A unit is stopped and started, and commands come while it is stopped or in standby.
 
-ghost use Rattle.satl_scenarios.specs.Commands.{started, stopped, stopped_unflushed};
+ghost use Rattle.satl_scenarios.specs.Commands.{started_unit, stopped_unit, stopped_unflushed};
 ghost use Rattle.satl_scenarios.specs.Refused.{not_started};
 ghost use Rattle.satl_scenarios.specs.Scenario.{CanHappen};
 ghost use Rattle.satl_scenarios.specs.Standby.{read_through, selected_at_rest, standby_told};
 
 /// A unit is stopped, with all written back (SBC-3, START STOP UNIT).
 pub fn a_unit_stopped()
-    ensures { CanHappen stopped }
+    ensures { CanHappen stopped_unit }
 {}
 
 /// A unit is stopped, and nothing is written back (SBC-3, START STOP UNIT).
@@ -17,7 +17,7 @@ pub fn a_unit_stopped_without_a_flush()
 
 /// A stopped unit is started (SBC-3, START STOP UNIT).
 pub fn a_unit_started()
-    ensures { CanHappen started }
+    ensures { CanHappen started_unit }
 {}
 
 /// A stopped unit reads nothing (SPC-4 4.5.6).

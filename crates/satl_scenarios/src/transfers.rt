@@ -2,7 +2,7 @@
 
 ghost use Rattle.satl_scenarios.specs.Scenario.{CanBeCut, CanHappen};
 ghost use Rattle.satl_scenarios.specs.Transfers.{ordered_read, reads_in_order, reads_in_reverse, waking_read, written_past_the_cache, written_then_read};
-ghost use Rattle.satl_scenarios.specs.Waiting.{cut_off, one_too_many, overlapped_reads};
+ghost use Rattle.satl_scenarios.specs.Waiting.{one_turn_left, one_too_many, overlapped_reads};
 
 /// A block that was written is read (SBC-3 5.10, 5.31).
 pub fn write_then_read()
@@ -46,5 +46,5 @@ pub fn a_full_task_set()
 
 /// A run is cut short between its turns (profile).
 pub fn a_run_cut_short()
-    ensures { CanBeCut cut_off }
+    ensures { CanBeCut one_turn_left }
 {}
