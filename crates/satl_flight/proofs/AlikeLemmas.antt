@@ -12,6 +12,7 @@ use Rattle.satl_drive.specs.Queue.{Slots}
 use Rattle.satl_pages.specs.Slots.{pages_at}
 use Rattle.satl_flight.specs.declared.flight.Flying.{Flying}
 use Rattle.satl_flight.specs.Lending.{AreAlike, IsLending, IsLent, is_of_slot, lent, whole_tasks}
+use Rattle.satl_flight.proofs.LendingLemmas.{lent_on}
 
 -- each slot has as many pages as before
 abbrev pub HaveRoom : Slots → Slots → Type 0
@@ -25,18 +26,14 @@ pages_room : (o p : Option (Option (List Block))) → option_map (option_map len
 pages_room (Some (Some x)) (Some (Some y)) e = cc
 pages_room (Some None) (Some None) e = refl
 pages_room None None e = refl
-pages_room (Some (Some x)) (Some None) e = absurd cc
-pages_room (Some None) (Some (Some y)) e = absurd cc
-pages_room (Some x) None e = absurd cc
-pages_room None (Some y) e = absurd cc
+pages_room _ _ e = absurd cc
 
 tag_room : (slots taken : Slots) → HaveRoom slots taken → (tag : ℕ) → option_map length (pages_at taken tag) ≡ option_map length (pages_at slots tag)
 tag_room slots taken room tag = pages_room (slice_get slots tag) (slice_get taken tag) (slot_room slots taken room tag)
 
 still_empty : (o p : Option (Option (List Block))) → option_map (option_map length) p ≡ option_map (option_map length) o → o ≡ Some None → p ≡ Some None
 still_empty o (Some None) e is = refl
-still_empty o (Some (Some y)) e is = let no = e ∙ ap (option_map (option_map length)) is in absurd cc
-still_empty o None e is = let no = e ∙ ap (option_map (option_map length)) is in absurd cc
+still_empty o _ e is = let no = e ∙ ap (option_map (option_map length)) is in absurd cc
 
 -- pages, where there are some
 some_pages : (o : Option (List Block)) (n : ℕ) → option_map length o ≡ Some n → (pages : List Block) × (o ≡ Some pages)
@@ -46,7 +43,7 @@ some_pages None n e = absurd cc
 lent_still : (slots taken : Slots) (tasks : List Held) → HaveRoom slots taken → (f : Flying) → IsLent slots tasks f → IsLent taken tasks f
 lent_still slots taken tasks room f l =
     let some = some_pages (pages_at taken f.tag) (length l.pages) (tag_room slots taken room f.tag ∙ ap (option_map length) l.filled) in
-    record { small = l.small; pages = some.0; filled = some.1; held = l.held; found = l.found; bare = l.bare }
+    lent_on slots taken tasks tasks f l some.0 some.1 l.found
 
 pub alike_lending : (flying : List Flying) (slots taken : Slots) (tasks : List Held) → HaveRoom slots taken → IsLending flying slots tasks → IsLending flying taken tasks
 alike_lending flying slots taken tasks room lending = record {
@@ -61,8 +58,7 @@ alike_lending flying slots taken tasks room lending = record {
 or_length : (o p : Option (List Block)) (own : List Block) → option_map length p ≡ option_map length o → length (unwrap_or p own) ≡ length (unwrap_or o own)
 or_length (Some x) (Some y) own e = cc
 or_length None None own e = refl
-or_length (Some x) None own e = absurd cc
-or_length None (Some y) own e = absurd cc
+or_length _ _ own e = absurd cc
 
 then_room : (slots taken : Slots) → HaveRoom slots taken → (found : Option Flying) → option_map length (option_and_then (λ (f : Flying). pages_at taken f.tag) found) ≡ option_map length (option_and_then (λ (f : Flying). pages_at slots f.tag) found)
 then_room slots taken room None = refl

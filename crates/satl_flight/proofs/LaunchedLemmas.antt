@@ -39,8 +39,8 @@ use Rattle.satl_flight.specs.Lending.{Waiting, waiting}
 use Rattle.satl_flight.specs.Settled.{Deepens, IsCut, IsLaunched, IsLostInFlight, IsLostQuietly, OnDrive, on_drive}
 use Rattle.satl_line.proofs.SlotsLemmas.{All-append}
 use Rattle.satl_flight.proofs.ZipLemmas.{zip-any, zip-push}
-use Rattle.satl_flight.proofs.FlownLemmas.{FitsOn, all_may_put, apart_push, fits_on, flown_puts, moves_of_each}
-use Rattle.satl_flight.proofs.SettledLemmas.{deepens_shorter, tags_agree}
+use Rattle.satl_flight.proofs.FlownLemmas.{FitsOn, all_may_put, apart_push, fits_on, flown_puts, moves_of_each, none_flown}
+use Rattle.satl_flight.proofs.SettledLemmas.{deepens_shorter, tag_is, tags_agree}
 
 -- ---- the deepest queue
 
@@ -63,9 +63,8 @@ deepens_emptied old new is none = deepens_shorter old new is (omega (arith, ap l
 
 -- a write's blocks are its pages
 abbrev pub Follows : List Block → RangedTask → Type 0
-Follows body (ranged_read fua range) = Unit {0}
 Follows body (ranged_write fua range blocks) = body ≡ blocks
-Follows body (ranged_trim ranges) = Unit {0}
+Follows body _ = Unit {0}
 
 -- the kind's pages: as many as sectors, with the blocks that it is issued with
 issued_is : (tag capacity : ℕ) (trims : Bool) (body : List Block) (task : RangedTask) → RangedFits capacity trims body task → Follows body task → issued (queued_for tag task) body ≡ outstanding_for tag task
@@ -74,24 +73,20 @@ issued_is tag capacity trims body (ranged_write fua range blocks) fits of = ap (
 issued_is tag capacity trims body (ranged_trim ranges) fits of = ap (λ b. record { command = queued_for tag (ranged_trim ranges); blocks = b }) fits.1
 
 pub size_is : (tag capacity : ℕ) (trims : Bool) (body : List Block) (task : RangedTask) → RangedFits capacity trims body task → length body ≡ (queued_for tag task).sectors
-size_is tag capacity trims body (ranged_read fua range) fits = fits.0
-size_is tag capacity trims body (ranged_write fua range blocks) fits = fits.0
 size_is tag capacity trims body (ranged_trim ranges) fits = ap length fits.1
+size_is tag capacity trims body _ fits = fits.0
 
 lies_within : (tag capacity : ℕ) (trims : Bool) (body : List Block) (task : RangedTask) → RangedFits capacity trims body task → LiesWithin (queued_for tag task).kind capacity (queued_for tag task) body
-lies_within tag capacity trims body (ranged_read fua range) fits = fits.1.within
-lies_within tag capacity trims body (ranged_write fua range blocks) fits = fits.1.within
 lies_within tag capacity trims body (ranged_trim ranges) fits = fits.3
+lies_within tag capacity trims body _ fits = fits.1.within
 
 has_command : (tag capacity : ℕ) (identify : List ℕ) (body : List Block) (task : RangedTask) → RangedFits capacity (has_queued_trim identify) body task → HasCommand (queued_for tag task).kind identify
-has_command tag capacity identify body (ranged_read fua range) fits = tt
-has_command tag capacity identify body (ranged_write fua range blocks) fits = tt
 has_command tag capacity identify body (ranged_trim ranges) fits = fits.0
+has_command tag capacity identify body _ fits = tt
 
 pub queued_fits : (tag capacity : ℕ) (trims : Bool) (body : List Block) (task : RangedTask) → tag < 32 → RangedFits capacity trims body task → QueuedFits (queued_for tag task)
-queued_fits tag capacity trims body (ranged_read fua range) small fits = record { lba = fits.1.lba; some = fits.1.some; sectors = omega (arith, fits.1.few); tag = small; kind = tt }
-queued_fits tag capacity trims body (ranged_write fua range blocks) small fits = record { lba = fits.1.lba; some = fits.1.some; sectors = omega (arith, fits.1.few); tag = small; kind = tt }
 queued_fits tag capacity trims body (ranged_trim ranges) small fits = record { lba = omega arith; some = omega arith; sectors = omega arith; tag = small; kind = (refl, refl, refl) }
+queued_fits tag capacity trims body _ small fits = record { lba = fits.1.lba; some = fits.1.some; sectors = omega (arith, fits.1.few); tag = small; kind = tt }
 
 module _ (flying : List Flying) (tasks : List Held) (old : DriveState) (tie : IsInFlight flying tasks old) where
   pub tag_free : (tag : ℕ) → list_any (λ (f : Flying). f.tag == tag) flying ≡ false → list_any (is_tagged tag) old.outstanding ≡ false
@@ -103,37 +98,20 @@ module _ (flying : List Flying) (tasks : List Held) (old : DriveState) (tie : Is
     spelled = refl;
     fits = queued_fits tag old.capacity (has_queued_trim old.identify) held.entry.body task small (fits task is);
     had = has_command tag old.capacity old.identify held.entry.body task (fits task is);
-    free = subst (λ n. list_any (is_tagged n) old.outstanding ≡ false) (sym (tag_of tag task)) (tag_free tag free);
-    filled = subst (λ n. pages_at slots n ≡ Some held.entry.body) (sym (tag_of tag task)) filled;
+    free = subst (λ n. list_any (is_tagged n) old.outstanding ≡ false) (sym (tag_is tag task)) (tag_free tag free);
+    filled = subst (λ n. pages_at slots n ≡ Some held.entry.body) (sym (tag_is tag task)) filled;
     size = size_is tag old.capacity (has_queued_trim old.identify) held.entry.body task (fits task is);
     within = lies_within tag old.capacity (has_queued_trim old.identify) held.entry.body task (fits task is);
     no_error = tie.no_error;
   }
-    where
-      tag_of : (tag : ℕ) (task : RangedTask) → (queued_for tag task).tag ≡ tag
-      tag_of tag (ranged_read fua range) = refl
-      tag_of tag (ranged_write fua range blocks) = refl
-      tag_of tag (ranged_trim ranges) = refl
 
 -- ---- what a task's pages are to its command
 
 follows_by : (command : Command) (ranges : List Range) (body : List Block) (task : RangedTask) → ranged_by command ranges body ≡ Some task → Follows body task
-follows_by commands.TestUnitReady ranges body task h = absurd cc
-follows_by (commands.RequestSense descriptor alloc) ranges body task h = absurd cc
-follows_by (commands.Inquiry page alloc) ranges body task h = absurd cc
-follows_by (commands.ModeSense ten long_lba no_descriptor control page alloc) ranges body task h = absurd cc
-follows_by (commands.ModeSelect ten size) ranges body task h = absurd cc
-follows_by (commands.StartStop start no_flush) ranges body task h = absurd cc
-follows_by commands.ReadCapacity10 ranges body task h = absurd cc
-follows_by (commands.ReadCapacity16 alloc) ranges body task h = absurd cc
-follows_by (commands.ReportLuns select alloc) ranges body task h = absurd cc
 follows_by (commands.Read form lba count fua) ranges body task h = let is : ranged_read fua (record { lba = lba; count = count }) ≡ task = cc in subst (Follows body) is tt
 follows_by (commands.Write form lba count fua) ranges body task h = let is : ranged_write fua (record { lba = lba; count = count }) body ≡ task = cc in subst (Follows body) is refl
-follows_by (commands.Verify form lba count compare) ranges body task h = absurd cc
-follows_by (commands.Flush form lba count) ranges body task h = absurd cc
-follows_by (commands.WriteSame form lba count unmap) ranges body task h = absurd cc
 follows_by (commands.Unmap size) ranges body task h = let is : ranged_trim ranges ≡ task = cc in subst (Follows body) is tt
-follows_by (commands.Pass cdb) ranges body task h = absurd cc
+follows_by _ ranges body task h = absurd cc
 
 pub follows_of : (e : Entry) (task : RangedTask) → ranged_of e ≡ Some task → Follows e.body task
 follows_of e task h = go e.kind refl
@@ -245,14 +223,7 @@ module _ (flying : List Flying) (tasks : List Held) (old : DriveState) (tie : Is
   -- the drive was reset
   pub cut_all : (new : DriveState) → IsReset old new → IsCut tasks old new
   cut_all new reset = record {
-    tie = record {
-      each = subst (λ qs. AllZip (IsFlown tasks) [] qs) (sym outstanding) tt;
-      apart = tt;
-      few = omega arith;
-      fits = fits_on tasks old new capacity (ap has_queued_trim identify) tie.fits;
-      small = omega (arith, tie.small, capacity);
-      no_error = ap (λ (d : DriveState). d.error) reset.stays;
-    };
+    tie = none_flown tasks old new tie.fits tie.small outstanding (ap (λ (d : DriveState). d.capacity) reset.stays) (ap (λ (d : DriveState). d.identify) reset.stays) (ap (λ (d : DriveState). d.error) reset.stays);
     moves = moves_on (moves_of_each (MayPut old.cache (entries_of tasks)) old.cache old.outstanding old.cells reset.mid (all_may_put old.cache flying tasks old tie) reset.part) (lose_once reset.lost);
     stays = reset.stays;
     deep = deepens_emptied old new (ap (λ (d : DriveState). d.deepest) reset.stays) outstanding;
@@ -260,12 +231,6 @@ module _ (flying : List Flying) (tasks : List Held) (old : DriveState) (tie : Is
     where
       outstanding : new.outstanding ≡ []
       outstanding = ap (λ (d : DriveState). d.outstanding) reset.stays
-
-      capacity : new.capacity ≡ old.capacity
-      capacity = ap (λ (d : DriveState). d.capacity) reset.stays
-
-      identify : new.identify ≡ old.identify
-      identify = ap (λ (d : DriveState). d.identify) reset.stays
 
   -- the link is lost while the error log is read
   pub lost_log : (slots taken : Slots) (mid new : DriveState) (r : Registers) (given : List Block) → IsFailed old slots taken mid → command_in r ≡ ReadLog 0x10 0 1 → IsRunCutOff mid r given new → IsLostInFlight tasks old new

@@ -4,6 +4,8 @@ use Rattle.std.specs.Prelude.{◌==◌, ◌||◌, slice_get, slice_set, take, un
 use Rattle.std.specs.Option.{option_and_then, option_map}
 use Rattle.std.specs.List.{find, list_any}
 use Rattle.std.proofs.lemmas.Bool.{cases_eq}
+use Rattle.std.proofs.lemmas.List.{append-nil, length-map}
+use Rattle.std.proofs.lemmas.Option.{slice_get_within}
 use Rattle.satl_base.specs.declared.block.Block.{Block}
 use Rattle.satl_base.specs.Identify.{has_queued_trim}
 use Rattle.satl_base.proofs.ListsLemmas.{All-find}
@@ -38,8 +40,7 @@ held_at (k ∷ ks) (suc place) slot entry e s = held_at ks place slot entry e s
 -- the same command under a tag
 pub retagged : (tag : ℕ) (task : RangedTask) → record (queued_for 0 task) { tag = tag } ≡ queued_for tag task
 retagged tag (ranged_read fua range) = refl
-retagged tag (ranged_write fua range blocks) = refl
-retagged tag (ranged_trim ranges) = refl
+retagged tag _ = refl
 
 -- what was told of a task is that of one that is ranged
 pub the_task : (o : Option RangedTask) (q : Queued) → option_map (queued_for 0) o ≡ Some q → (task : RangedTask) × ((o ≡ Some task) × (q ≡ queued_for 0 task))
@@ -57,15 +58,10 @@ same_test flying slots tasks place =
     ∙ sym (eligible_by-formed clash conflicts (λ (h : Held). h.entry) (λ a b. refl) tasks place)
 
 pub length-whole : (flying : List Flying) (slots : Slots) (tasks : List Held) → length (whole_tasks flying slots tasks) ≡ length tasks
-length-whole flying slots [] = refl
-length-whole flying slots (k ∷ ks) = ap suc (length-whole flying slots ks)
+length-whole flying slots tasks = length-map tasks (whole_task flying slots)
 
 pub launched_none : (queue : Waiting) (old : DriveState) → IsInFlight queue.flying queue.tasks old → IsLaunched (on_drive queue old) (on_drive queue old)
-launched_none queue old tie = record { tie = tie; rest = []; more = append_nil queue.flying; lost = inl refl; stays = refl; deep = deepens_same old }
-  where
-    append_nil : (xs : List Flying) → xs ≡ xs ++ []
-    append_nil [] = refl
-    append_nil (x ∷ xs) = ap (λ r. x ∷ r) (append_nil xs)
+launched_none queue old tie = record { tie = tie; rest = []; more = sym (append-nil queue.flying); lost = inl refl; stays = refl; deep = deepens_same old }
 
 module _ (flying : List Flying) (slots : Slots) (tasks : List Held) (lending : IsLending flying slots tasks) (old : DriveState) (tie : IsInFlight flying (whole_tasks flying slots tasks) old)
     (place slot : ℕ) (entry : Entry) (is : entry_at tasks place ≡ Some entry) (in_slot : slice_get (slots_of tasks) place ≡ Some slot) (alone : count_of slot (slots_of tasks) ≡ 1) where
@@ -188,14 +184,9 @@ held_by_bit bit false seen is told set = absurd (omega (arith, is, told, ap weig
 pub filled : (flying : List Flying) (tasks : List Held) → ((k : ℕ) → k < length tasks → IsIssuedIfItMay flying tasks k) → IsFilled flying tasks
 filled flying tasks covered = go (cases_eq (length flying) 32)
   where
-    within : (ts : List Held) (k : ℕ) (h : Held) → slice_get ts k ≡ Some h → k < length ts
-    within [] k h at = absurd cc
-    within (t ∷ ts) zero h at = omega arith
-    within (t ∷ ts) (suc k) h at = let r = within ts k h at in omega (arith, r)
-
     go : (length flying ≡ 32) ⊎ (length flying ≡ 32 → ⊥) → IsFilled flying tasks
     go (inl full) = inl full
-    go (inr room) = inr (λ h task e ranged. let r = eligible_stands clash tasks h e in ⊎_elim (λ full. absurd (room full)) (λ each. each h task r.1 r.2 ranged) (covered r.0 (within tasks r.0 h r.1)))
+    go (inr room) = inr (λ h task e ranged. let r = eligible_stands clash tasks h e in ⊎_elim (λ full. absurd (room full)) (λ each. each h task r.1 r.2 ranged) (covered r.0 (slice_get_within tasks r.0 h r.1)))
 
 -- ---- one more task
 

@@ -32,7 +32,7 @@ use Rattle.satl_flight.specs.Flown.{IsFlown, IsInFlight, RangedFits, clash, is_i
 use Rattle.satl_flight.specs.Lending.{IsAt, Waiting, has_tag, waiting}
 use Rattle.satl_flight.specs.Settled.{Deepens, HasEndedAt, IsFlawOrCrc, on_drive, outcome_of, read_into}
 use Rattle.satl_flight.proofs.ZipLemmas.{All-remove, zip-find, zip-remove_first, zip-with}
-use Rattle.satl_flight.proofs.FlownLemmas.{FitsOn, all_may_put, fits_on, flown_still, moves_of_each, others_differ, apart_removed, pairs_of_task}
+use Rattle.satl_flight.proofs.FlownLemmas.{FitsOn, all_may_put, fits_on, flown_still, moves_of_each, none_flown, others_differ, apart_removed, pairs_of_task}
 
 -- ---- the deepest queue
 
@@ -43,8 +43,7 @@ deepens_shorter old new is shorter = record { rises = omega (arith, is); covers 
 
 pub tag_is : (tag : ℕ) (ranged : RangedTask) → (queued_for tag ranged).tag ≡ tag
 tag_is tag (ranged_read fua range) = refl
-tag_is tag (ranged_write fua range blocks) = refl
-tag_is tag (ranged_trim ranges) = refl
+tag_is tag _ = refl
 
 pub tags_agree : (tasks : List Held) (tag : ℕ) (f : Flying) (q : Outstanding) → IsFlown tasks f q → has_tag tag f ≡ is_tagged tag q
 tags_agree tasks tag f q flown = ap (λ n. n == tag) (sym (tag_is f.tag flown.ranged)) ∙ ap (λ (o : Outstanding). o.command.tag == tag) (sym flown.command)
@@ -64,8 +63,7 @@ flown_found flying tasks d tag f q tie is found =
 
 flaw_is : (cells : List Cell) (tag : ℕ) (ranged : RangedTask) → queued_flaw cells (queued_for tag ranged) ≡ flaw_met cells ranged
 flaw_is cells tag (ranged_read fua range) = refl
-flaw_is cells tag (ranged_write fua range blocks) = refl
-flaw_is cells tag (ranged_trim ranges) = refl
+flaw_is cells tag _ = refl
 
 pub pages_at-set : (slots : Slots) (tag : ℕ) (pages v : List Block) → pages_at slots tag ≡ Some pages → pages_at (slice_set slots tag (Some v)) tag ≡ Some v
 pages_at-set [] tag pages v h = absurd cc
@@ -139,8 +137,7 @@ module _ (flying : List Flying) (tasks : List Held) (old : DriveState) (tie : Is
       gives : (ranged : RangedTask) → taken ≡ slots_after (queued_for f.tag ranged).kind old.cells (queued_for f.tag ranged) slots → f.tag ≡ tag → read_into ranged body ≡ blocks_read old.cells ranged
       gives (ranged_read fua range) moved tag_of =
           let is : Some body ≡ Some (Rattle.satl_base.specs.Cells.nows old.cells range.lba range.count) = sym gave ∙ ap (λ s. pages_at s tag) moved ∙ ap (λ n. pages_at (slice_set slots n (Some (Rattle.satl_base.specs.Cells.nows old.cells range.lba range.count))) tag) tag_of ∙ pages_at-set slots tag pages _ filled in cc
-      gives (ranged_write fua range blocks) moved tag_of = refl
-      gives (ranged_trim ranges) moved tag_of = refl
+      gives _ moved tag_of = refl
 
 -- ---- an error
 
@@ -222,9 +219,8 @@ pub record EntryFits (e : NcqError) : Type 0 where
   pub count : e.count < 2 ^ 16
 
 low_lba : (tag capacity : ℕ) (trims : Bool) (body : List Block) (ranged : RangedTask) → RangedFits capacity trims body ranged → (queued_for tag ranged).lba < 2 ^ 48
-low_lba tag capacity trims body (ranged_read fua range) fits = fits.1.lba
-low_lba tag capacity trims body (ranged_write fua range blocks) fits = fits.1.lba
 low_lba tag capacity trims body (ranged_trim ranges) fits = omega arith
+low_lba tag capacity trims body _ fits = fits.1.lba
 
 entry_fits : (tag glitches left capacity : ℕ) (trims : Bool) (cells : List Cell) (body : List Block) (ranged : RangedTask) (e : NcqError) (o : Option ℕ) → tag < 32 → capacity ≤ 2 ^ 48 → RangedFits capacity trims body ranged → flaw_met cells ranged ≡ o
     → MatchOption o (FailsByCrc (queued_for tag ranged) glitches left e) (λ lba. FailsAtFlaw (queued_for tag ranged) lba glitches left e) → EntryFits e
@@ -249,8 +245,7 @@ flaw_or_crc old slots taken mid failed = by (queued_flaw old.cells failed.failed
 
 abbrev IsNoRead : RangedTask → Type 0
 IsNoRead (ranged_read fua range) = ⊥
-IsNoRead (ranged_write fua range blocks) = Unit {0}
-IsNoRead (ranged_trim ranges) = Unit {0}
+IsNoRead _ = Unit {0}
 
 -- a write meets the flaws from before, whatever the others did
 same_flaw : (a b : List Cell) (ranged : RangedTask) → map (has_flaw flaws.Write) a ≡ map (has_flaw flaws.Write) b → IsNoRead ranged → flaw_met a ranged ≡ flaw_met b ranged
@@ -314,24 +309,15 @@ module _ (flying : List Flying) (tasks : List Held) (old : DriveState) (tie : Is
       outstanding : new.outstanding ≡ []
       outstanding = ap (λ (d : DriveState). d.outstanding) read.stays ∙ ap (λ (d : DriveState). d.outstanding) failed.stays
 
-      capacity : new.capacity ≡ old.capacity
-      capacity = ap (λ (d : DriveState). d.capacity) read.stays ∙ ap (λ (d : DriveState). d.capacity) failed.stays
-
-      identify : new.identify ≡ old.identify
-      identify = ap (λ (d : DriveState). d.identify) read.stays ∙ ap (λ (d : DriveState). d.identify) failed.stays
-
       lost : Moves (MayPut old.cache (entries_of (remove tasks place))) failed.mid new.cells
       lost = moves_on (lose_once failed.lost) (lose_once read.lost)
 
       empty : IsInFlight left.flying (remove tasks place) new
-      empty = subst (λ fs. IsInFlight fs (remove tasks place) new) (sym none) (record {
-        each = subst (λ qs. AllZip (IsFlown (remove tasks place)) [] qs) (sym outstanding) tt;
-        apart = tt;
-        few = omega arith;
-        fits = fits_on (remove tasks place) old new capacity (ap has_queued_trim identify) (All-remove (FitsOn old) tasks place tie.fits);
-        small = omega (arith, tie.small, capacity);
-        no_error = ap (λ (d : DriveState). d.error) read.stays;
-      })
+      empty = subst (λ fs. IsInFlight fs (remove tasks place) new) (sym none)
+          (none_flown (remove tasks place) old new (All-remove (FitsOn old) tasks place tie.fits) tie.small outstanding
+          (ap (λ (d : DriveState). d.capacity) read.stays ∙ ap (λ (d : DriveState). d.capacity) failed.stays)
+          (ap (λ (d : DriveState). d.identify) read.stays ∙ ap (λ (d : DriveState). d.identify) failed.stays)
+          (ap (λ (d : DriveState). d.error) read.stays))
 
       -- mid is the old drive but for these, and so is new
       stays : new ≡ record old { cells = new.cells; outstanding = new.outstanding; active = active_after (outcome_of (Some e) flown.ranged body) old.active; glitches = new.glitches }
@@ -381,5 +367,4 @@ module _ (flying : List Flying) (tasks : List Held) (old : DriveState) (tie : Is
           with old.cells old.cells stay
           (ends_failed old.cache flown.ranged body (surface old.cells old.glitches) (surface old.cells new.glitches) e (flaw_met old.cells flown.ranged) refl (subst (λ r. Part old.cells (written_pairs old.cache r) old.cells) (sym is) refl) cause)
           (moves_on s.moves_before (subst (λ c. Moves (MayPut old.cache (entries_of (remove tasks place))) c failed.mid) stood s.moves_after))
-      go (ranged_write fua range blocks) is = amid (ranged_write fua range blocks) is tt
-      go (ranged_trim ranges) is = amid (ranged_trim ranges) is tt
+      go other is = amid other is tt
