@@ -18,17 +18,14 @@ use Rattle.satl_fleet.specs.Opening.{IsLeftAlone}
 use Rattle.satl_fleet.specs.Output.{Round, frames_of, output, round_told}
 use Rattle.satl_fleet.specs.Rounds.{calls_for}
 use Rattle.satl_fleet.specs.Runs.{AreServed, AreServedInPart}
+use Rattle.satl_serve.specs.Forms.{told_of}
+use Rattle.satl_serve.specs.declared.telling.Form.TheVariants.{Frames}
 use Rattle.satl_serve.specs.declared.serving.ServeFault.{ServeFault}
 use Rattle.satl_serve.specs.declared.serving.ServeFault.TheVariants as faults
 
 -- the drives were called once each for their identity, and then as often at most as these frames allow (profile)
 abbrev pub HasFewCalls : List Frame → FleetMoment → FleetMoment → Type 0
 HasFewCalls frames before after = after.calls ≤ before.calls + length before.drives + calls_for (length before.drives) frames
-
--- what is told of a frame that was refused or not read: a FAULT, or nothing (profile)
-abbrev pub told_of : FrameFault → List ℕ
-told_of (Bad reason offset) = fault_bytes reason offset
-told_of ReadFault = []
 
 -- frames of version 1, none of which is END, were read, and what follows them was refused or not read (profile)
 pub record ReadBefore (limit : ℕ) (left left' : Option (List ℕ)) (fs : List Frame) (why : FrameFault) : Type 0 where
@@ -55,7 +52,7 @@ pub record IsToldWhole (limit units : ℕ) (left left' written written' : Option
 pub record IsToldBefore (limit units : ℕ) (why : FrameFault) (left left' written written' : Option (List ℕ))
     (rounds : List Round) : Type 0 where
   pub read : ReadBefore limit left left' (frames_of rounds) why
-  pub wrote : Wrote written written' (output units rounds ++ told_of why)
+  pub wrote : Wrote written written' (output units rounds ++ told_of Frames why)
 
 -- nothing was read, and a front of the magic was written (profile)
 pub record BreaksInMagic (left left' written written' : Option (List ℕ)) : Type 0 where

@@ -1,15 +1,9 @@
 -- Why serving a target stops (profile).
-use Rattle.std.specs.Prelude.{◌≡◌, ◌⊎◌, ℕ, ◌+◌, ◌≤◌, List, [], ◌∷◌, ◌++◌, Option}
+use Rattle.std.specs.Prelude.{◌⊎◌, ℕ, ◌+◌, ◌≤◌, List, [], ◌∷◌, ◌++◌, Option}
 use Rattle.satl_io.specs.Causes.{Rose}
-use Rattle.satl_io.specs.Known.{Wrote, WrotePart}
 use Rattle.satl_frame.specs.declared.frames.FrameFault.{FrameFault}
 use Rattle.satl_frame.specs.declared.frames.FrameFault.TheVariants.{Bad, ReadFault}
-use Rattle.satl_frame.specs.declared.frames.Reason.{Reason}
 use Rattle.satl_frame.specs.declared.frames.Frame.{Frame}
-use Rattle.satl_frame.specs.Output.{fault_bytes}
-use Rattle.satl_step.specs.declared.frames_loop.Stop.{Stop}
-use Rattle.satl_step.specs.declared.frames_loop.Stop.TheVariants as stops
-use Rattle.satl_serve.specs.Moments.{SinkState, SourceState}
 use Rattle.satl_fleet.specs.Headline.{BreaksInFault, BreaksInMagic, BreaksInRound, IsToldBefore, IsToldWhole}
 use Rattle.satl_fleet.specs.Moments.{FleetMoment}
 use Rattle.satl_fleet.specs.Opening.{IsCauseOfOne}
@@ -88,31 +82,3 @@ RanTo limit units before after (faults.Open fault) = ⊥
 RanTo limit units before after (faults.BadInput reason offset) = RanBefore limit units (Bad reason offset) before after
 RanTo limit units before after faults.Read = RanBefore limit units ReadFault before after
 RanTo limit units before after faults.Write = RanInPart limit units before after
-
--- and why (profile)
-abbrev pub HasStreamCause : SourceState → SourceState → SinkState → SinkState → ServeFault → Type 0
-HasStreamCause read read' write write' (faults.Open fault) = ⊥
-HasStreamCause read read' write write' (faults.BadInput reason offset) = Unit {0}
-HasStreamCause read read' write write' faults.Read = Rose read.faults read'.faults
-HasStreamCause read read' write write' faults.Write = Rose write.faults write'.faults
-
--- a refusal of the reader is told, where a frame is bad (profile)
-abbrev pub Tells : FrameFault → Option (List ℕ) → Option (List ℕ) → ServeFault → Type 0
-Tells why written written' (faults.Open fault) = ⊥
-Tells why written written' (faults.BadInput reason offset) =
-    (why ≡ Bad reason offset) × Wrote written written' (fault_bytes reason offset)
-Tells why written written' faults.Read = (why ≡ ReadFault) × (written' ≡ written)
-Tells why written written' faults.Write =
-    (reason : Reason) × (offset : ℕ) × (why ≡ Bad reason offset) × WrotePart written written' (fault_bytes reason offset)
-
--- the same, which takes no fault of writing back, and has one where a write failed (profile)
-pub record TellsSo (why : FrameFault) (before after : SinkState) (fault : ServeFault) : Type 0 where
-  pub tells : Tells why before.written after.written fault
-  pub later : before.faults ≤ after.faults
-  pub cause : (fault ≡ faults.Write) → Rose before.faults after.faults
-
--- why serving stops where frames are carried out no further: a refusal is told, and behind a write that failed nothing is
--- (profile)
-abbrev pub TellsStop : SinkState → SinkState → ServeFault → Stop → Type 0
-TellsStop before after fault (stops.Refused why) = TellsSo why before after fault
-TellsStop before after fault stops.Write = (fault ≡ faults.Write) × (after ≡ before)
