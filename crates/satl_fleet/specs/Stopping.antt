@@ -5,7 +5,7 @@ use Rattle.satl_frame.specs.declared.frames.FrameFault.{FrameFault}
 use Rattle.satl_frame.specs.declared.frames.FrameFault.TheVariants.{Bad, ReadFault}
 use Rattle.satl_frame.specs.declared.frames.Frame.{Frame}
 use Rattle.satl_fleet.specs.Headline.{BreaksInFault, BreaksInMagic, BreaksInRound, IsToldBefore, IsToldWhole}
-use Rattle.satl_fleet.specs.Moments.{FleetMoment}
+use Rattle.satl_fleet.specs.Moments.{FleetMoment, Streams, terms}
 use Rattle.satl_fleet.specs.Opening.{IsCauseOfOne}
 use Rattle.satl_fleet.specs.Output.{Round, frames_of}
 use Rattle.satl_fleet.specs.Rounds.{Stage, calls_for}
@@ -32,6 +32,10 @@ pub record Spot : Type 0 where
 abbrev pub spot : Option (List ℕ) → Stage → ℕ → Spot
 spot left stage calls = record { left = left; stage = stage; calls = calls }
 
+-- the streams there (profile)
+abbrev pub streams_of : Spot → Streams
+streams_of s = record { left = s.left; written = s.stage.written }
+
 -- what a run leaves at its end: how often the drives were called (profile)
 abbrev pub HasFewCallsOn : ℕ → List Frame → Spot → Spot → Type 0
 HasFewCallsOn units fs before after = after.calls ≤ before.calls + calls_for units fs
@@ -39,20 +43,20 @@ HasFewCallsOn units fs before after = after.calls ≤ before.calls + calls_for u
 -- an input was read up to END and told whole, and its frames were carried out (profile)
 pub record RanWhole (limit units : ℕ) (before after : Spot) : Type 0 where
   pub rounds : List Round
-  pub told : IsToldWhole limit units before.left after.left before.stage.written after.stage.written rounds
+  pub told : IsToldWhole (terms limit units) (streams_of before) (streams_of after) rounds
   pub run : HaveRun units 0 rounds before.stage.target.units after.stage.target.units
   pub calls : HasFewCallsOn units (frames_of rounds) before after
 
 -- the same up to what was refused or not read (profile)
 pub record RanBefore (limit units : ℕ) (why : FrameFault) (before after : Spot) : Type 0 where
   pub rounds : List Round
-  pub told : IsToldBefore limit units why before.left after.left before.stage.written after.stage.written rounds
+  pub told : IsToldBefore (terms limit units) why (streams_of before) (streams_of after) rounds
   pub run : HaveRun units 0 rounds before.stage.target.units after.stage.target.units
   pub calls : HasFewCallsOn units (frames_of rounds) before after
 
 -- a write failed in the magic (profile)
 pub record StoppedInMagic (units : ℕ) (before after : Spot) : Type 0 where
-  pub breaks : BreaksInMagic before.left after.left before.stage.written after.stage.written
+  pub breaks : BreaksInMagic (streams_of before) (streams_of after)
   pub run : HaveRun units 0 [] before.stage.target.units after.stage.target.units
   pub calls : HasFewCallsOn units [] before after
 
@@ -60,7 +64,7 @@ pub record StoppedInMagic (units : ℕ) (before after : Spot) : Type 0 where
 pub record StoppedInAnswers (limit units : ℕ) (before after : Spot) : Type 0 where
   pub rounds : List Round
   pub round : Round
-  pub breaks : BreaksInRound limit units before.left after.left before.stage.written after.stage.written rounds round
+  pub breaks : BreaksInRound (terms limit units) (streams_of before) (streams_of after) rounds round
   pub run : HaveRun units 0 (rounds ++ round ∷ []) before.stage.target.units after.stage.target.units
       ⊎ HaveRunInPart units rounds round 0 before.stage.target.units after.stage.target.units
   pub calls : HasFewCallsOn units (frames_of rounds ++ round.frame ∷ []) before after
@@ -68,7 +72,7 @@ pub record StoppedInAnswers (limit units : ℕ) (before after : Spot) : Type 0 w
 -- a write failed in what tells a refusal (profile)
 pub record StoppedInFault (limit units : ℕ) (before after : Spot) : Type 0 where
   pub rounds : List Round
-  pub breaks : BreaksInFault limit units before.left after.left before.stage.written after.stage.written rounds
+  pub breaks : BreaksInFault (terms limit units) (streams_of before) (streams_of after) rounds
   pub run : HaveRun units 0 rounds before.stage.target.units after.stage.target.units
   pub calls : HasFewCallsOn units (frames_of rounds) before after
 
