@@ -10,11 +10,12 @@ use Rattle.satl_fleet.specs.Moments.{FleetMoment}
 use Rattle.satl_fleet.specs.Opening.{IsCauseOfOne, OpensTo}
 use Rattle.satl_fleet.specs.Output.{Round}
 use Rattle.satl_fleet.specs.Runs.{AreServed, AreServedInPart, HaveRun, HaveRunInPart}
-use Rattle.satl_fleet.specs.Stopping.{HasFleetCause, HasStreamCause, RanBefore, RanInPart, RanTo, RanWhole, Spot, StoppedInAnswers, StoppedInFault, StoppedInMagic}
+use Rattle.satl_fleet.specs.Stopping.{HasFleetCause, RanBefore, RanInPart, RanTo, RanWhole, Spot, StoppedInAnswers, StoppedInFault, StoppedInMagic}
 use Rattle.satl_fleet.specs.Units.{IsTiedUnit, unit_states}
 use Rattle.satl_core.specs.declared.satl.OpenFault.TheVariants.{NoMemory}
 use Rattle.satl_serve.specs.declared.serving.ServeFault.{ServeFault}
 use Rattle.satl_serve.specs.declared.serving.ServeFault.TheVariants as faults
+use Rattle.satl_serve.specs.Stopping.{HasStreamCause}
 use Rattle.satl_fleet.proofs.OpeningLemmas.{all_same}
 use Rattle.satl_fleet.proofs.ServingLemmas.{are_served, are_served_part}
 

@@ -19,7 +19,7 @@ use Rattle.satl_frame.proofs.ProgressLemmas.{has_read_more}
 use Rattle.satl_line.proofs.SlotsLemmas.{All-append}
 use Rattle.satl_core.specs.Turning.{turn_calls}
 use Rattle.satl_step.specs.Loop.{is_end}
-use Rattle.satl_step.proofs.LoopLemmas.{expectable, holds}
+use Rattle.satl_step.proofs.LoopLemmas.{expectable, holds, not_end, the_end}
 use Rattle.satl_fleet.specs.Loop.{Going, HasGiven, LoopState, ReachedEnd, SoFar, StoppedInRound}
 use Rattle.satl_fleet.specs.Output.{Round, all_told, frames_of, round_told}
 use Rattle.satl_fleet.specs.Rounds.{CanRoute, EachDid, RoundDone, RoundInPart, Stops, calls_for, frame_calls, round_of}
@@ -78,16 +78,6 @@ none_pending [] idle = refl
 none_pending (s ∷ ss) idle = let none = ap length idle.0.tasks in let others = none_pending ss idle.1 in omega (arith, none, others)
 
 -- ---- frames so far
-
-the_end : (frame : Frame) → is_end frame ≡ true → frame ≡ frames.End
-the_end (frames.Request w) last = absurd cc
-the_end (frames.Manage m) last = absurd cc
-the_end (frames.Turn n) last = absurd cc
-the_end (frames.Bench b) last = absurd cc
-the_end frames.End last = refl
-
-not_end : (frame : Frame) → is_end frame ≡ false → frame ≡ frames.End → ⊥
-not_end frame other is = let bad : true ≡ false = sym (ap is_end is) ∙ other in absurd cc
 
 module _ (units : ℕ) where
   pub going_start : (a : LoopState) → a.reader.place ≡ None → AllByRecursion HasNoTask a.stage.target.units → Going units a a

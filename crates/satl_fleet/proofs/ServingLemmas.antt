@@ -14,7 +14,7 @@ use Rattle.satl_fleet.specs.Opening.{Opens, OpensTo}
 use Rattle.satl_fleet.specs.Opening.OpensTo.{rest, more}
 use Rattle.satl_fleet.specs.Output.{Round, frames_of, groups_for}
 use Rattle.satl_fleet.specs.Routing.{project}
-use Rattle.satl_fleet.specs.Runs.{AreServed, AreServedInPart, HaveRun, HaveRunInPart, RanRounds, RanRoundsInPart, UnitCounted, UnitRan, UnitRanInPart, UnitServed}
+use Rattle.satl_fleet.specs.Runs.{AreServed, AreServedInPart, HaveRun, HaveRunInPart, RanRounds, RanRoundsInPart, UnitCounted, UnitRan, UnitRanInPart, UnitServed, unit_stand}
 use Rattle.satl_fleet.specs.Runs.AreServedInPart.{here as served_here, later as served_later}
 use Rattle.satl_fleet.specs.Runs.HaveRunInPart.{here as run_here, later as run_later}
 use Rattle.satl_fleet.specs.Units.{IsTiedUnit, unit_state, unit_states}
@@ -34,16 +34,16 @@ module _ (old mid new : DriveState) (stays : mid ≡ record old { cells = mid.ce
         covers = c.covers;
       }
 
-  sooner : (first last : Device) (events : List Frame) (groups : List (List Answer)) → UnitRan first mid events groups last new → UnitRan first old events groups last new
+  sooner : (first last : Device) (events : List Frame) (groups : List (List Answer)) → UnitRan (unit_stand first mid) events groups (unit_stand last new) → UnitRan (unit_stand first old) events groups (unit_stand last new)
   sooner first last events groups r = record { losses = r.losses; deep = r.deep; run = r.run; deepest = r.deepest; counted = sooner_counted events r.losses r.counted }
 
-  sooner_part : (first last : Device) (events : List Frame) (groups : List (List Answer)) → UnitRanInPart first mid events groups last new → UnitRanInPart first old events groups last new
+  sooner_part : (first last : Device) (events : List Frame) (groups : List (List Answer)) → UnitRanInPart (unit_stand first mid) events groups (unit_stand last new) → UnitRanInPart (unit_stand first old) events groups (unit_stand last new)
   sooner_part first last events groups r = record { losses = r.losses; run = r.run; counted = sooner_counted events r.losses r.counted }
 
 -- ---- one unit
 
 module _ (units k : ℕ) (rounds : List Round) (old mid new : DriveState) (l l' : Layer) (o : Opens old l mid) (tied : IsTiedUnit (unit_state l' new)) where
-  unit_served : RanRounds units k rounds (view l mid) mid (view l' new) new → UnitServed (λ first last. RanRounds units k rounds first old last new) old new
+  unit_served : RanRounds units k rounds (unit_stand (view l mid) mid) (unit_stand (view l' new) new) → UnitServed (RanRounds units k rounds) old new
   unit_served r = record {
     first = view l mid;
     last = view l' new;
@@ -53,7 +53,7 @@ module _ (units k : ℕ) (rounds : List Round) (old mid new : DriveState) (l l' 
     queue = record { given = given_by l'; queue = tied.queue.queue };
   }
 
-  unit_served_part : RanRoundsInPart units k rounds (view l mid) mid (view l' new) new → UnitServed (λ first last. RanRoundsInPart units k rounds first old last new) old new
+  unit_served_part : RanRoundsInPart units k rounds (unit_stand (view l mid) mid) (unit_stand (view l' new) new) → UnitServed (RanRoundsInPart units k rounds) old new
   unit_served_part r = record {
     first = view l mid;
     last = view l' new;

@@ -1,5 +1,5 @@
 -- What serving a target meets, before and after (profile).
-use Rattle.std.specs.Prelude.{ℕ, List}
+use Rattle.std.specs.Prelude.{ℕ, List, Option}
 use Rattle.satl_drive.specs.State.{DriveState}
 use Rattle.satl_serve.specs.Moments.{SinkState, SourceState}
 
@@ -12,3 +12,20 @@ pub record FleetMoment : Type 0 where
 
 abbrev pub fleet_moment : SourceState → SinkState → ℕ → List DriveState → FleetMoment
 fleet_moment source sink calls drives = record { source = source; sink = sink; calls = calls; drives = drives }
+
+-- what a source has left to read and what a sink was given, where they tell that (profile)
+pub record Streams : Type 0 where
+  pub left : Option (List ℕ)
+  pub written : Option (List ℕ)
+
+-- the streams at a moment (profile)
+abbrev pub streams_at : FleetMoment → Streams
+streams_at m = record { left = m.source.left; written = m.sink.written }
+
+-- the terms on which an input is served: within how many bytes each frame ends, and for how many units (profile)
+pub record Terms : Type 0 where
+  pub limit : ℕ
+  pub units : ℕ
+
+abbrev pub terms : ℕ → ℕ → Terms
+terms limit units = record { limit = limit; units = units }

@@ -12,6 +12,18 @@ use Rattle.satl_fleet.specs.Output.{Round, frames_of, groups_for}
 use Rattle.satl_fleet.specs.Routing.{project}
 use Rattle.satl_fleet.specs.Units.{UnitState, device_of}
 
+-- a unit where a run begins or ends: the device that it is, and its drive (profile)
+pub record UnitStand : Type 0 where
+  pub device : Device
+  pub drive : DriveState
+
+abbrev pub unit_stand : Device → DriveState → UnitStand
+unit_stand device drive = record { device = device; drive = drive }
+
+-- where a unit stands (profile)
+abbrev pub stand_of : UnitState → UnitStand
+stand_of s = unit_stand (device_of s) s.drive
+
 -- events with so many losses were counted: the drive's count of faults rose by the losses at least, or stands at its last
 -- value; its number of unplugs rose by the events that unplug it, or stands at its last value; its deepest queue did not fall
 -- (profile)
@@ -24,37 +36,35 @@ pub record UnitCounted (events : List Frame) (losses : ℕ) (old new : DriveStat
 
 -- events were carried out one after the other, from a device without tasks on, with a group of answers for each; the drive had
 -- at once as many commands as the device let it have (profile)
-pub record UnitRan (first : Device) (old : DriveState) (events : List Frame) (groups : List (List Answer))
-    (last : Device) (new : DriveState) : Type 0 where
+pub record UnitRan (first : UnitStand) (events : List Frame) (groups : List (List Answer)) (last : UnitStand) : Type 0 where
   pub losses : ℕ
   pub deep : ℕ
-  pub run : RunDeep first events groups losses last deep
-  pub deepest : deep ≤ new.deepest
-  pub counted : UnitCounted events losses old new
+  pub run : RunDeep first.device events groups losses last.device deep
+  pub deepest : deep ≤ last.drive.deepest
+  pub counted : UnitCounted events losses first.drive last.drive
 
 -- the same, and the last event was carried out or cut short between two of its turns (profile)
-pub record UnitRanInPart (first : Device) (old : DriveState) (events : List Frame) (groups : List (List Answer))
-    (last : Device) (new : DriveState) : Type 0 where
+pub record UnitRanInPart (first : UnitStand) (events : List Frame) (groups : List (List Answer))
+    (last : UnitStand) : Type 0 where
   pub losses : ℕ
-  pub run : RunInPart first events groups losses last
-  pub counted : UnitCounted events losses old new
+  pub run : RunInPart first.device events groups losses last.device
+  pub counted : UnitCounted events losses first.drive last.drive
 
 -- so did a unit in rounds (profile)
-abbrev pub RanRounds : ℕ → ℕ → List Round → Device → DriveState → Device → DriveState → Type 0
-RanRounds units k rounds first old last new =
-    UnitRan first old (project units k (frames_of rounds)) (groups_for units k rounds) last new
+abbrev pub RanRounds : ℕ → ℕ → List Round → UnitStand → UnitStand → Type 0
+RanRounds units k rounds first last = UnitRan first (project units k (frames_of rounds)) (groups_for units k rounds) last
 
-abbrev pub RanRoundsInPart : ℕ → ℕ → List Round → Device → DriveState → Device → DriveState → Type 0
-RanRoundsInPart units k rounds first old last new =
-    UnitRanInPart first old (project units k (frames_of rounds)) (groups_for units k rounds) last new
+abbrev pub RanRoundsInPart : ℕ → ℕ → List Round → UnitStand → UnitStand → Type 0
+RanRoundsInPart units k rounds first last =
+    UnitRanInPart first (project units k (frames_of rounds)) (groups_for units k rounds) last
 
 -- a unit was served: it began with the first device of its drive, and the drive is left as its last device is, with its tasks
 -- in the queue (profile)
-pub record UnitServed (Run : Device → Device → Type 0) (old new : DriveState) : Type 0 where
+pub record UnitServed (Run : UnitStand → UnitStand → Type 0) (old new : DriveState) : Type 0 where
   pub first : Device
   pub last : Device
   pub begins : IsFirstDevice old first
-  pub run : Run first last
+  pub run : Run (unit_stand first old) (unit_stand last new)
   pub ends : IsLeftAs last new
   pub queue : KeepsQueue last new
 
@@ -64,17 +74,17 @@ AreServed units k rounds [] [] = Unit {0}
 AreServed units k rounds [] (new ∷ news) = ⊥
 AreServed units k rounds (old ∷ olds) [] = ⊥
 AreServed units k rounds (old ∷ olds) (new ∷ news) =
-    UnitServed (λ first last. RanRounds units k rounds first old last new) old new × AreServed units (suc k) rounds olds news
+    UnitServed (RanRounds units k rounds) old new × AreServed units (suc k) rounds olds news
 
 -- units from this one on were served in rounds and in one more, the next one in the last round in whole or in part, and those
 -- behind it leave the last round out (profile)
 pub data AreServedInPart (units : ℕ) (rounds : List Round) (round : Round)
     : ℕ → List DriveState → List DriveState → Type 0 where
   here : {k : ℕ} {old new : DriveState} {olds news : List DriveState}
-      → UnitServed (λ first last. RanRoundsInPart units k (rounds ++ round ∷ []) first old last new) old new
+      → UnitServed (RanRoundsInPart units k (rounds ++ round ∷ [])) old new
       → AreServed units (suc k) rounds olds news → AreServedInPart units rounds round k (old ∷ olds) (new ∷ news)
   later : {k : ℕ} {old new : DriveState} {olds news : List DriveState}
-      → UnitServed (λ first last. RanRounds units k (rounds ++ round ∷ []) first old last new) old new
+      → UnitServed (RanRounds units k (rounds ++ round ∷ [])) old new
       → AreServedInPart units rounds round (suc k) olds news → AreServedInPart units rounds round k (old ∷ olds) (new ∷ news)
 
 -- ---- so far
@@ -85,15 +95,15 @@ HaveRun units k rounds [] [] = Unit {0}
 HaveRun units k rounds [] (s ∷ ss) = ⊥
 HaveRun units k rounds (a ∷ starts) [] = ⊥
 HaveRun units k rounds (a ∷ starts) (s ∷ ss) =
-    RanRounds units k rounds (device_of a) a.drive (device_of s) s.drive × HaveRun units (suc k) rounds starts ss
+    RanRounds units k rounds (stand_of a) (stand_of s) × HaveRun units (suc k) rounds starts ss
 
 -- the same, and in one round more, up to a unit that did it in whole or in part (profile)
 pub data HaveRunInPart (units : ℕ) (rounds : List Round) (round : Round) : ℕ → List UnitState → List UnitState → Type 0 where
   here : {k : ℕ} {a s : UnitState} {starts ss : List UnitState}
-      → RanRoundsInPart units k (rounds ++ round ∷ []) (device_of a) a.drive (device_of s) s.drive
+      → RanRoundsInPart units k (rounds ++ round ∷ []) (stand_of a) (stand_of s)
       → HaveRun units (suc k) rounds starts ss → HaveRunInPart units rounds round k (a ∷ starts) (s ∷ ss)
   later : {k : ℕ} {a s : UnitState} {starts ss : List UnitState}
-      → RanRounds units k (rounds ++ round ∷ []) (device_of a) a.drive (device_of s) s.drive
+      → RanRounds units k (rounds ++ round ∷ []) (stand_of a) (stand_of s)
       → HaveRunInPart units rounds round (suc k) starts ss → HaveRunInPart units rounds round k (a ∷ starts) (s ∷ ss)
 
 -- a unit has no task, and its deepest queue is what its drive has at least (profile)

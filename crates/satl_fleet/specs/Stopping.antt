@@ -1,17 +1,11 @@
 -- Why serving a target stops (profile).
-use Rattle.std.specs.Prelude.{◌≡◌, ◌⊎◌, ℕ, ◌+◌, ◌≤◌, List, [], ◌∷◌, ◌++◌, Option}
+use Rattle.std.specs.Prelude.{◌⊎◌, ℕ, ◌+◌, ◌≤◌, List, [], ◌∷◌, ◌++◌, Option}
 use Rattle.satl_io.specs.Causes.{Rose}
-use Rattle.satl_io.specs.Known.{Wrote, WrotePart}
 use Rattle.satl_frame.specs.declared.frames.FrameFault.{FrameFault}
 use Rattle.satl_frame.specs.declared.frames.FrameFault.TheVariants.{Bad, ReadFault}
-use Rattle.satl_frame.specs.declared.frames.Reason.{Reason}
 use Rattle.satl_frame.specs.declared.frames.Frame.{Frame}
-use Rattle.satl_frame.specs.Output.{fault_bytes}
-use Rattle.satl_step.specs.declared.frames_loop.Stop.{Stop}
-use Rattle.satl_step.specs.declared.frames_loop.Stop.TheVariants as stops
-use Rattle.satl_serve.specs.Moments.{SinkState, SourceState}
 use Rattle.satl_fleet.specs.Headline.{BreaksInFault, BreaksInMagic, BreaksInRound, IsToldBefore, IsToldWhole}
-use Rattle.satl_fleet.specs.Moments.{FleetMoment}
+use Rattle.satl_fleet.specs.Moments.{FleetMoment, Streams, terms}
 use Rattle.satl_fleet.specs.Opening.{IsCauseOfOne}
 use Rattle.satl_fleet.specs.Output.{Round, frames_of}
 use Rattle.satl_fleet.specs.Rounds.{Stage, calls_for}
@@ -38,6 +32,10 @@ pub record Spot : Type 0 where
 abbrev pub spot : Option (List ℕ) → Stage → ℕ → Spot
 spot left stage calls = record { left = left; stage = stage; calls = calls }
 
+-- the streams there (profile)
+abbrev pub streams_of : Spot → Streams
+streams_of s = record { left = s.left; written = s.stage.written }
+
 -- what a run leaves at its end: how often the drives were called (profile)
 abbrev pub HasFewCallsOn : ℕ → List Frame → Spot → Spot → Type 0
 HasFewCallsOn units fs before after = after.calls ≤ before.calls + calls_for units fs
@@ -45,20 +43,20 @@ HasFewCallsOn units fs before after = after.calls ≤ before.calls + calls_for u
 -- an input was read up to END and told whole, and its frames were carried out (profile)
 pub record RanWhole (limit units : ℕ) (before after : Spot) : Type 0 where
   pub rounds : List Round
-  pub told : IsToldWhole limit units before.left after.left before.stage.written after.stage.written rounds
+  pub told : IsToldWhole (terms limit units) (streams_of before) (streams_of after) rounds
   pub run : HaveRun units 0 rounds before.stage.target.units after.stage.target.units
   pub calls : HasFewCallsOn units (frames_of rounds) before after
 
 -- the same up to what was refused or not read (profile)
 pub record RanBefore (limit units : ℕ) (why : FrameFault) (before after : Spot) : Type 0 where
   pub rounds : List Round
-  pub told : IsToldBefore limit units why before.left after.left before.stage.written after.stage.written rounds
+  pub told : IsToldBefore (terms limit units) why (streams_of before) (streams_of after) rounds
   pub run : HaveRun units 0 rounds before.stage.target.units after.stage.target.units
   pub calls : HasFewCallsOn units (frames_of rounds) before after
 
 -- a write failed in the magic (profile)
 pub record StoppedInMagic (units : ℕ) (before after : Spot) : Type 0 where
-  pub breaks : BreaksInMagic before.left after.left before.stage.written after.stage.written
+  pub breaks : BreaksInMagic (streams_of before) (streams_of after)
   pub run : HaveRun units 0 [] before.stage.target.units after.stage.target.units
   pub calls : HasFewCallsOn units [] before after
 
@@ -66,7 +64,7 @@ pub record StoppedInMagic (units : ℕ) (before after : Spot) : Type 0 where
 pub record StoppedInAnswers (limit units : ℕ) (before after : Spot) : Type 0 where
   pub rounds : List Round
   pub round : Round
-  pub breaks : BreaksInRound limit units before.left after.left before.stage.written after.stage.written rounds round
+  pub breaks : BreaksInRound (terms limit units) (streams_of before) (streams_of after) rounds round
   pub run : HaveRun units 0 (rounds ++ round ∷ []) before.stage.target.units after.stage.target.units
       ⊎ HaveRunInPart units rounds round 0 before.stage.target.units after.stage.target.units
   pub calls : HasFewCallsOn units (frames_of rounds ++ round.frame ∷ []) before after
@@ -74,7 +72,7 @@ pub record StoppedInAnswers (limit units : ℕ) (before after : Spot) : Type 0 w
 -- a write failed in what tells a refusal (profile)
 pub record StoppedInFault (limit units : ℕ) (before after : Spot) : Type 0 where
   pub rounds : List Round
-  pub breaks : BreaksInFault limit units before.left after.left before.stage.written after.stage.written rounds
+  pub breaks : BreaksInFault (terms limit units) (streams_of before) (streams_of after) rounds
   pub run : HaveRun units 0 rounds before.stage.target.units after.stage.target.units
   pub calls : HasFewCallsOn units (frames_of rounds) before after
 
@@ -88,31 +86,3 @@ RanTo limit units before after (faults.Open fault) = ⊥
 RanTo limit units before after (faults.BadInput reason offset) = RanBefore limit units (Bad reason offset) before after
 RanTo limit units before after faults.Read = RanBefore limit units ReadFault before after
 RanTo limit units before after faults.Write = RanInPart limit units before after
-
--- and why (profile)
-abbrev pub HasStreamCause : SourceState → SourceState → SinkState → SinkState → ServeFault → Type 0
-HasStreamCause read read' write write' (faults.Open fault) = ⊥
-HasStreamCause read read' write write' (faults.BadInput reason offset) = Unit {0}
-HasStreamCause read read' write write' faults.Read = Rose read.faults read'.faults
-HasStreamCause read read' write write' faults.Write = Rose write.faults write'.faults
-
--- a refusal of the reader is told, where a frame is bad (profile)
-abbrev pub Tells : FrameFault → Option (List ℕ) → Option (List ℕ) → ServeFault → Type 0
-Tells why written written' (faults.Open fault) = ⊥
-Tells why written written' (faults.BadInput reason offset) =
-    (why ≡ Bad reason offset) × Wrote written written' (fault_bytes reason offset)
-Tells why written written' faults.Read = (why ≡ ReadFault) × (written' ≡ written)
-Tells why written written' faults.Write =
-    (reason : Reason) × (offset : ℕ) × (why ≡ Bad reason offset) × WrotePart written written' (fault_bytes reason offset)
-
--- the same, which takes no fault of writing back, and has one where a write failed (profile)
-pub record TellsSo (why : FrameFault) (before after : SinkState) (fault : ServeFault) : Type 0 where
-  pub tells : Tells why before.written after.written fault
-  pub later : before.faults ≤ after.faults
-  pub cause : (fault ≡ faults.Write) → Rose before.faults after.faults
-
--- why serving stops where frames are carried out no further: a refusal is told, and behind a write that failed nothing is
--- (profile)
-abbrev pub TellsStop : SinkState → SinkState → ServeFault → Stop → Type 0
-TellsStop before after fault (stops.Refused why) = TellsSo why before after fault
-TellsStop before after fault stops.Write = (fault ≡ faults.Write) × (after ≡ before)

@@ -1,7 +1,7 @@
 // The loop over the frames of an input, for the units of a target.
 ghost use Rattle.std.specs.Prelude.{◌≡◌, ◌≤◌, ◌<◌, ◌+◌, ◌-◌, ◌^◌, None, IfErr, OnOk, vec_len};
 ghost use Rattle.satl_pages.specs.Counts.{number_of};
-ghost use Rattle.satl_step.specs.Loop.{HasStopCause, is_end};
+ghost use Rattle.satl_step.specs.Loop.{HasStopCause};
 ghost use Rattle.satl_fleet.specs.Loop.{ReachedEnd, StoppedSo, loop_state};
 ghost use Rattle.satl_fleet.specs.Rounds.{stage};
 ghost use Rattle.satl_fleet.specs.Serving.{CanBegin, KeepsUnits, target};
@@ -10,21 +10,12 @@ use crate::frame::serve_frame;
 use satl_base::{Replies, Steps};
 use satl_core::Satl;
 use satl_drive::Bench;
-use satl_frame::{Frame, FrameReader};
+use satl_frame::FrameReader;
 use satl_io::{Sink, Source};
 use satl_pages::Pool;
-use satl_step::Stop;
+use satl_step::{Stop, is_end};
 use std::alloc::Global;
 use std::sync::ledger::Ledger;
-
-fn is_end(frame: &Frame) -> bool
-    ensures { result ≡ is_end frame.now }
-{
-    match frame {
-        Frame::End => true,
-        Frame::Request(_) | Frame::Manage(_) | Frame::Turn(_) | Frame::Bench(_) => false,
-    }
-}
 
 /// Carries out the frames of an input up to END on the units, and tells the answers of each before it reads the next. Frames
 /// are read into the pool, whose 4,096 pages hold each whole one. The reader has given no frame, and no unit has a task.

@@ -1,27 +1,26 @@
 // An input is served by the units of a target.
-ghost use Rattle.std.specs.Prelude.{◌≡◌, ◌≤◌, ◌+◌, IfErr, OnOk, map, vec_len};
+ghost use Rattle.std.specs.Prelude.{◌≡◌, ◌≤◌, IfErr, OnOk, map, vec_len};
 ghost use Rattle.std.specs.List.{AllByRecursion};
-ghost use Rattle.satl_io.specs.Causes.{Rose};
 ghost use Rattle.satl_pages.specs.Counts.{number_of};
 ghost use Rattle.satl_serve.specs.Moments.{sink_state, source_state};
 ghost use Rattle.satl_serve.specs.Runs.{input_limit};
+ghost use Rattle.satl_serve.specs.Stopping.{HasStreamCause};
 ghost use Rattle.satl_fleet.specs.Headline.{IsFleetStopped, IsFleetWhole};
 ghost use Rattle.satl_fleet.specs.Moments.{fleet_moment};
 ghost use Rattle.satl_fleet.specs.Opening.{IsServable};
 ghost use Rattle.satl_fleet.specs.Rounds.{stage};
 ghost use Rattle.satl_fleet.specs.Serving.{CanBegin, KeepsUnits, target};
-ghost use Rattle.satl_fleet.specs.Stopping.{HasFleetCause, HasStreamCause, RanTo, RanWhole, Tells, TellsStop, spot};
+ghost use Rattle.satl_fleet.specs.Stopping.{HasFleetCause, RanTo, RanWhole, spot};
 
 use crate::frames_loop::serve_frames;
 use crate::opening::open_units;
 use satl_base::Steps;
 use satl_core::{OpenFault, Satl};
 use satl_drive::Bench;
-use satl_frame::{FrameFault, FrameReader, OutFrame, WriteFault, write_frame};
+use satl_frame::{FrameReader, OutFrame, write_frame};
 use satl_io::{Sink, Source};
 use satl_pages::Pool;
-use satl_serve::ServeFault;
-use satl_step::Stop;
+use satl_serve::{Form, ServeFault, tell_stop};
 use std::alloc::Global;
 use std::sync::ledger::Ledger;
 
@@ -109,34 +108,6 @@ fn serve_opened<S: Source, K: Sink, D: Bench, L: Ledger>(
     let mut reader = FrameReader::first_only(alloc, LIMIT);
     match serve_frames(alloc, &mut reader, units, drives, pool, source, sink, steps) {
         Ok(()) => Ok(()),
-        Err(stop) => Err(tell_stop(stop, sink)),
-    }
-}
-
-/// Why serving stops at a reader's refusal: of a bad frame is told first.
-fn refuse<K: Sink>(fault: FrameFault, sink: &mut K) -> ServeFault
-    ensures tells { Tells fault (K.written sink.old) (K.written sink.new) result }
-    ensures later { K.faults sink.old ≤ K.faults sink.new }
-    ensures write { (result ≡ ServeFault.Write) → Rose (K.faults sink.old) (K.faults sink.new) }
-{
-    match fault {
-        FrameFault::ReadFault => ServeFault::Read,
-        FrameFault::Bad { reason, offset } => {
-            match write_frame(OutFrame::Fault { reason, offset }, sink) {
-                Ok(()) => ServeFault::BadInput { reason, offset },
-                Err(WriteFault) => ServeFault::Write,
-            }
-        }
-    }
-}
-
-/// Why serving stops where frames are carried out no further.
-fn tell_stop<K: Sink>(stop: Stop, sink: &mut K) -> ServeFault
-    ensures { TellsStop (sink_state (K.written sink.old) (K.faults sink.old))
-        (sink_state (K.written sink.new) (K.faults sink.new)) result stop }
-{
-    match stop {
-        Stop::Refused(fault) => refuse(fault, sink),
-        Stop::Write => ServeFault::Write,
+        Err(stop) => Err(tell_stop(Form::Frames, stop, sink)),
     }
 }

@@ -1,5 +1,5 @@
 mod CompletenessLemmas
 mod PrintingLemmas
-mod RunLemmas
+pub mod RunLemmas
 pub mod ServingLemmas
 mod TellerLemmas

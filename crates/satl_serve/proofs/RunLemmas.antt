@@ -45,11 +45,11 @@ abbrev pub seen : {T : Type 0} → LoopState T → Spot
 seen a = spot_of a.scene.telling.written a
 
 -- what was read up to END
-read_to : (limit : ℕ) (r : Reading) (left left' : Option (List ℕ)) (events earlier : List Frame) → r.limit ≡ limit → r.newest ≡ Two → HasRead r left left' events → events ≡ earlier ++ frames.End ∷ [] → (place : Place) × ReadTo limit Two place left left' (earlier ++ frames.End ∷ [])
-read_to limit r left left' events earlier limit_is newest_is read ends =
-    by_place r.place (subst (λ (n : ℕ). ReadUpTo n Two r.place left left' (earlier ++ frames.End ∷ [])) limit_is (subst (λ (v : Version). ReadUpTo r.limit v r.place left left' (earlier ++ frames.End ∷ [])) newest_is (subst (λ fs. HasRead r left left' fs) ends read)))
+pub read_to : (limit : ℕ) (newest : Version) (r : Reading) (left left' : Option (List ℕ)) (events earlier : List Frame) → r.limit ≡ limit → r.newest ≡ newest → HasRead r left left' events → events ≡ earlier ++ frames.End ∷ [] → (place : Place) × ReadTo limit newest place left left' (earlier ++ frames.End ∷ [])
+read_to limit newest r left left' events earlier limit_is newest_is read ends =
+    by_place r.place (subst (λ (n : ℕ). ReadUpTo n newest r.place left left' (earlier ++ frames.End ∷ [])) limit_is (subst (λ (v : Version). ReadUpTo r.limit v r.place left left' (earlier ++ frames.End ∷ [])) newest_is (subst (λ fs. HasRead r left left' fs) ends read)))
   where
-    by_place : (at : Option Place) → ReadUpTo limit Two at left left' (earlier ++ frames.End ∷ []) → (place : Place) × ReadTo limit Two place left left' (earlier ++ frames.End ∷ [])
+    by_place : (at : Option Place) → ReadUpTo limit newest at left left' (earlier ++ frames.End ∷ []) → (place : Place) × ReadTo limit newest place left left' (earlier ++ frames.End ∷ [])
     by_place None (nothing, same) = let long = length-append earlier (frames.End ∷ []) in let none = ap length nothing in absurd (omega (arith, long, none))
     by_place (Some place) read = (place, read)
 
@@ -86,7 +86,7 @@ module _ {T : Type 0} (by : T → Answer → List ℕ) (behind : T → Answer �
   unfolding run_to
   ran form written a b n deep begins e =
       let s = e.so_far in
-      let read = read_to input_limit b.reader a.left b.left s.events e.earlier (s.given.limit ∙ begins.limit) (s.given.newest ∙ begins.newest) s.given.read e.ends in
+      let read = read_to input_limit Two b.reader a.left b.left s.events e.earlier (s.given.limit ∙ begins.limit) (s.given.newest ∙ begins.newest) s.given.read e.ends in
       record {
         events = e.earlier;
         groups = s.groups;

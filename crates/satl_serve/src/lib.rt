@@ -5,5 +5,5 @@ mod printer;
 mod serving;
 mod telling;
 
-pub use serving::{ServeFault, serve, serve_uncounted};
+pub use serving::{ServeFault, serve, serve_uncounted, tell_stop};
 pub use telling::Form;

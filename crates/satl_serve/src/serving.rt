@@ -216,8 +216,9 @@ fn refuse<K: Sink>(form: Form, fault: FrameFault, sink: &mut K) -> ServeFault
     }
 }
 
-/// Why serving stops where frames are carried out no further.
-fn tell_stop<K: Sink>(form: Form, stop: Stop, sink: &mut K) -> ServeFault
+/// Why serving stops where frames are carried out no further: a bad frame is told in the form, and nothing else is written
+/// (profile).
+pub fn tell_stop<K: Sink>(form: Form, stop: Stop, sink: &mut K) -> ServeFault
     ensures { TellsStop form (sink_state (K.written sink.old) (K.faults sink.old))
         (sink_state (K.written sink.new) (K.faults sink.new)) result stop }
 {

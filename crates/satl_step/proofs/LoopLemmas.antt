@@ -88,19 +88,27 @@ nearer {old} {new} gave =
     by_place limit newest None place size next within some = omega arith
     by_place limit newest (Some p) place size next within some = let same : place.offset ≡ p.offset = ap (λ (x : Place). x.offset) next in omega arith
 
--- a frame is END where the whole one is
-not_end : (room : ℕ) (frame whole : Frame) → frame ≡ cut_to room whole → is_end frame ≡ false → whole ≡ frames.End → ⊥
-not_end room frame whole cut other is =
-    let end : frame ≡ frames.End = cut ∙ ap (cut_to room) is in
-    let bad : true ≡ false = sym (ap is_end end) ∙ other in
-    absurd cc
+-- a frame is END where it is told to be, and not where it is not
+pub the_end : (frame : Frame) → is_end frame ≡ true → frame ≡ frames.End
+the_end (frames.Request w) last = absurd cc
+the_end (frames.Manage m) last = absurd cc
+the_end (frames.Turn n) last = absurd cc
+the_end (frames.Bench b) last = absurd cc
+the_end frames.End last = refl
 
-is_the_end : (room : ℕ) (frame whole : Frame) → frame ≡ cut_to room whole → is_end frame ≡ true → whole ≡ frames.End
-is_the_end room frame (frames.Request w) cut last = let bad : true ≡ false = sym last ∙ ap is_end cut in absurd cc
-is_the_end room frame (frames.Manage m) cut last = let bad : true ≡ false = sym last ∙ ap is_end cut in absurd cc
-is_the_end room frame (frames.Turn n) cut last = let bad : true ≡ false = sym last ∙ ap is_end cut in absurd cc
-is_the_end room frame (frames.Bench b) cut last = let bad : true ≡ false = sym last ∙ ap is_end cut in absurd cc
-is_the_end room frame frames.End cut last = refl
+pub not_end : (frame : Frame) → is_end frame ≡ false → frame ≡ frames.End → ⊥
+not_end frame other is = let bad : true ≡ false = sym (ap is_end is) ∙ other in absurd cc
+
+-- so it is told of the whole frame
+whole_end : (room : ℕ) (frame whole : Frame) → frame ≡ cut_to room whole → is_end whole ≡ is_end frame
+whole_end room frame whole cut = sym (ap is_end cut ∙ cut_end whole)
+  where
+    cut_end : (whole : Frame) → is_end (cut_to room whole) ≡ is_end whole
+    cut_end (frames.Request w) = refl
+    cut_end (frames.Manage m) = refl
+    cut_end (frames.Turn n) = refl
+    cut_end (frames.Bench b) = refl
+    cut_end frames.End = refl
 
 -- a whole frame is a request where the one that was carried out is
 request_whole : (room : ℕ) (frame whole : Frame) → frame ≡ cut_to room whole → requests_in (frame ∷ []) ≡ requests_in (whole ∷ [])
@@ -155,7 +163,7 @@ module _ {T : Type 0} (told : T → Answer → List ℕ) (behind : T → Answer 
     unfolding so_far_more
     going_more other going gave done count = record {
       so_far = so_far_more going gave done count;
-      none_ends = All-append (λ f. f ≡ frames.End → ⊥) going.so_far.events (gave.whole ∷ []) going.none_ends (not_end room frame gave.whole gave.cut other, tt);
+      none_ends = All-append (λ f. f ≡ frames.End → ⊥) going.so_far.events (gave.whole ∷ []) going.none_ends (not_end gave.whole (whole_end room frame gave.whole gave.cut ∙ other), tt);
     }
 
     -- the last one is END
@@ -164,7 +172,7 @@ module _ {T : Type 0} (told : T → Answer → List ℕ) (behind : T → Answer 
     ended last going gave done count = record {
       so_far = so_far_more going gave done count;
       earlier = going.so_far.events;
-      ends = ap (λ f. going.so_far.events ++ f ∷ []) (is_the_end room frame gave.whole gave.cut last);
+      ends = ap (λ f. going.so_far.events ++ f ∷ []) (the_end gave.whole (whole_end room frame gave.whole gave.cut ∙ last));
     }
 
     -- the last one was told in part

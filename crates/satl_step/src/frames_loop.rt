@@ -24,7 +24,8 @@ pub enum Stop {
     Write,
 }
 
-fn is_end(frame: &Frame) -> bool
+/// Whether a frame is END, which ends an input (profile).
+pub fn is_end(frame: &Frame) -> bool
     ensures { result ≡ is_end frame.now }
 {
     match frame {

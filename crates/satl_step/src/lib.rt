@@ -10,6 +10,6 @@ mod teller;
 mod turns;
 
 pub use events::serve_event;
-pub use frames_loop::{Stop, serve_frames};
+pub use frames_loop::{Stop, is_end, serve_frames};
 pub use queue::see_queue;
 pub use teller::Teller;

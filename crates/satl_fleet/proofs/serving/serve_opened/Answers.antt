@@ -1,10 +1,12 @@
 use Rattle.std.proofs.Common.{ap, inl, refl, vec_len}
 use Rattle.satl_frame.specs.Reading.{Reading}
 use Rattle.satl_serve.specs.Moments.{sink_state, source_state}
+use Rattle.satl_serve.specs.declared.telling.Form.TheVariants.{Frames}
+use Rattle.satl_serve.proofs.RunLemmas.{stop_cause}
 use Rattle.satl_fleet.specs.Loop.{loop_state}
 use Rattle.satl_fleet.specs.Rounds.{stage}
 use Rattle.satl_fleet.specs.Serving.{target}
-use Rattle.satl_fleet.proofs.StoppingLemmas.{any_write, in_magic, stop_cause, stopped, whole}
+use Rattle.satl_fleet.proofs.StoppingLemmas.{any_write, in_magic, stopped, whole}
 use Rattle.satl_fleet.proofs.TargetLemmas.{keeps_same}
 use Rattle.satl_fleet.proofs.serving.serve_opened.Goals as goal
 
@@ -25,4 +27,4 @@ returns-in-Err-clause-stopped g c =
 
 pub returns-in-Err-clause-causes : goal.returns-in-Err-clause-causes
 returns-in-Err-clause-causes g c =
-    stop_cause (source_state (g.S.Source.left c.args.source.now) (g.S.Source.faults c.args.source.now)) (source_state (g.S.Source.left c.serve_frames.new.source) (g.S.Source.faults c.serve_frames.new.source)) (sink_state (g.K.Sink.written c.args.sink.now) (g.K.Sink.faults c.args.sink.now)) (sink_state (g.K.Sink.written c.write_frame.new.sink) (g.K.Sink.faults c.write_frame.new.sink)) (sink_state (g.K.Sink.written c.serve_frames.new.sink) (g.K.Sink.faults c.serve_frames.new.sink)) (sink_state (g.K.Sink.written c.tell_stop.new.sink) (g.K.Sink.faults c.tell_stop.new.sink)) c.tell_stop.result c.in-Err.stop c.in_ok-write_frame.ensures.cause.later c.in-Err.ensures.causes c.tell_stop.ensures c.serve_frames.ensures.later
+    stop_cause Frames (source_state (g.S.Source.left c.args.source.now) (g.S.Source.faults c.args.source.now)) (source_state (g.S.Source.left c.serve_frames.new.source) (g.S.Source.faults c.serve_frames.new.source)) (sink_state (g.K.Sink.written c.args.sink.now) (g.K.Sink.faults c.args.sink.now)) (sink_state (g.K.Sink.written c.write_frame.new.sink) (g.K.Sink.faults c.write_frame.new.sink)) (sink_state (g.K.Sink.written c.serve_frames.new.sink) (g.K.Sink.faults c.serve_frames.new.sink)) (sink_state (g.K.Sink.written c.tell_stop.new.sink) (g.K.Sink.faults c.tell_stop.new.sink)) c.tell_stop.result c.in-Err.stop c.in_ok-write_frame.ensures.cause.later c.in-Err.ensures.causes c.tell_stop.ensures c.serve_frames.ensures.later
