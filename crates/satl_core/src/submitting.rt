@@ -14,7 +14,6 @@ ghost use Rattle.satl_asks.specs.Commands.{CanPass, HasList, IsList};
 ghost use Rattle.satl_core.specs.Submitting.{HasEntries, HasLengths, HasListUnlessEmpty, HoldsList, answer_to, attention_of, code_answer, command_answer, data_answer, fault_of_block, is_idle, other_answer, readiness, reply_at_once, sense_data, task_without_pages, tell_attention, trims, unless_idle, unmap_list_fault, untold};
 
 use crate::satl::Satl;
-use arrayvec::ArrayVec;
 use satl_asks::{
     attention_sense, change_of, fields_fault, held_blocks, is_ordered, is_outside, is_untold,
     length_fault, listed_ranges, needed, plain, put_ranges, range_of, refusal,
@@ -404,31 +403,15 @@ pub fn answer_at_once(
 {
     let mut request = request;
     pool.give(mem::take(&mut request.body));
-    replies.push(reply_at_once(pool, identity, modes, &request, answer));
-}
-
-fn reply_at_once(
-    pool: &mut Pool,
-    identity: &Identity,
-    modes: &Modes,
-    request: &Request,
-    answer: AtOnce,
-) -> Reply
-    requires capacity { 1 ≤ identity.now.capacity }
-    requires room { 2 ≤ pool.old.free }
-    ensures reply { result ≡ reply_at_once identity.now modes.now request.now answer }
-    ensures free { pool.new.free + length result.body ≡ pool.old.free }
-    ensures out { pool.new.out ≡ pool.old.out + length result.body }
-    ensures writable { IsExpectable request.now.expected → IsWritable result }
-{
     match answer {
-        AtOnce::Good => reply_to(request, Scsi::Good, ArrayVec::new()),
-        AtOnce::Tell { what, alloc } => tell(pool, identity, modes, request, &what, alloc),
-        AtOnce::Check(sense) => reply_to(
-            request,
-            Scsi::CheckCondition,
-            sense_bytes(&sense, modes.d_sense),
-        ),
+        AtOnce::Good => replies.push(reply_to(&request, Scsi::Good, SenseBytes::new())),
+        AtOnce::Tell { what, alloc } => replies.push(tell(
+            pool, identity, modes, &request, &what, alloc,
+        )),
+        AtOnce::Check(sense) => {
+            let sense = sense_bytes(&sense, modes.d_sense);
+            replies.push(reply_to(&request, Scsi::CheckCondition, sense));
+        }
     }
 }
 
