@@ -35,7 +35,7 @@ use Rattle.satl_barrier.specs.Finishing as barrier
 use Rattle.satl_barrier.specs.Finishing.{ComparesAs, FinishesAs, IsVerified, IsTorn, trimming, verifying, writing_same}
 use Rattle.satl_direct.specs.Device.{Device, without}
 use Rattle.satl_direct.specs.Tasks.{asks, over, task_of}
-use Rattle.satl_direct.specs.Ending.{EndsBy, EndsCompared, EndsGarbled, EndsInPieces, EndsOnMedium, EndsVerified, IsChecked, IsCompared, IsTaskDone, IsTorn, same_pairs, task_check, task_reply}
+use Rattle.satl_direct.specs.Ending.{EndsBy, EndsCompared, EndsGarbled, EndsInPieces, EndsOnMedium, EndsVerified, IsChecked, IsCompared, IsTaskDone, IsPartlyWritten, same_pairs, task_check, task_reply}
 use Rattle.satl_direct.specs.Quiet.{MayShow, MayWake, Quiet, is_pass, wakes, writes}
 use Rattle.satl_direct.specs.Senses.{crc_error, miscompare, read_error, write_error}
 use Rattle.satl_direct.proofs.Quieting.{quiet_none}
@@ -129,8 +129,8 @@ abbrev same_writes : Range → Device → Entry → List Pair
 same_writes range s t = same_pairs range.lba range.count t.body s.modes.wce
 
 pieces_by : (s : Device) (t : Entry) (reply : Reply) (new : Device) (range : Range) (o : Option ℕ) → first_flaw flaws.Write s.cells range.lba range.count ≡ o
-    → MatchOption o (IsTaskDone (record s { cells = whole s.cells (same_writes range s t); active = true }) t reply new) (λ at. (reply ≡ task_check s t (write_error at)) × IsTorn (same_writes range s t) s t new) → EndsInPieces range s t reply new
-pieces_by s t reply new range o is x = inr (subst (λ o. MatchOption o (IsTaskDone (record s { cells = whole s.cells (same_writes range s t); active = true }) t reply new) (λ at. (reply ≡ task_check s t (write_error at)) × IsTorn (same_writes range s t) s t new)) (sym is) x)
+    → MatchOption o (IsTaskDone (record s { cells = whole s.cells (same_writes range s t); active = true }) t reply new) (λ at. (reply ≡ task_check s t (write_error at)) × IsPartlyWritten (same_writes range s t) s t new) → EndsInPieces range s t reply new
+pieces_by s t reply new range o is x = inr (subst (λ o. MatchOption o (IsTaskDone (record s { cells = whole s.cells (same_writes range s t); active = true }) t reply new) (λ at. (reply ≡ task_check s t (write_error at)) × IsPartlyWritten (same_writes range s t) s t new)) (sym is) x)
 
 -- the device with the sectors that it had
 stays_so : (s new : Device) (cells : List Cell) (tasks : List Entry) (glitches : ℕ) → new ≡ record s { cells = cells; tasks = tasks; glitches = glitches } → cells ≡ s.cells → glitches ≡ s.glitches → new ≡ record s { tasks = tasks }
@@ -146,7 +146,7 @@ garbled s t reply new torn writes left answer same part one = record {
 }
 
 -- a flaw, with part of what is written
-torn_by : (s : Device) (t : Entry) (new : Device) (torn : List Cell) (writes : List Pair) (left : ℕ) → new ≡ record s { cells = torn; tasks = without t s.tasks; glitches = left } → Part s.cells writes torn → left ≡ s.glitches → IsTorn writes s t new
+torn_by : (s : Device) (t : Entry) (new : Device) (torn : List Cell) (writes : List Pair) (left : ℕ) → new ≡ record s { cells = torn; tasks = without t s.tasks; glitches = left } → Part s.cells writes torn → left ≡ s.glitches → IsPartlyWritten writes s t new
 torn_by s t new torn writes left same part unspent = record {
   part = subst (Part s.cells writes) (sym (ap (λ (x : Device). x.cells) same)) part;
   stays = same ∙ (ap (λ n. record s { cells = torn; tasks = without t s.tasks; glitches = n }) unspent ∙ sym (ap (λ (x : Device). record s { cells = x.cells; tasks = without t s.tasks }) same));

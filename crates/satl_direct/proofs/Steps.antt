@@ -18,7 +18,7 @@ use Rattle.satl_line.specs.Ranged.RangedTask.{ranged_read}
 use Rattle.satl_direct.specs.Arrival.{placed, reply_to}
 use Rattle.satl_direct.specs.Arrival.Arrival.{answered, waits}
 use Rattle.satl_direct.specs.Device.{Device}
-use Rattle.satl_direct.specs.Ending.{EndsInPieces, IsTaskDone, IsTorn, outcome_reply, same_pairs, surface_of, task_check}
+use Rattle.satl_direct.specs.Ending.{EndsInPieces, IsTaskDone, IsPartlyWritten, outcome_reply, same_pairs, surface_of, task_check}
 use Rattle.satl_direct.specs.Senses.{read_error, write_error}
 use Rattle.satl_direct.specs.Tasks.{held_blocks, held_by, is_full, over}
 use Rattle.satl_direct.specs.Turn.{IsFirst, OneEnds, Turn}
@@ -69,7 +69,7 @@ gives_blocks s t lba count fua ends_glitched new e good = absurd cc good
 
 -- a WRITE SAME that meets a flaw or is done takes no glitch
 pub no_glitch : (o : Option ℕ) (after : Device) (writes : List Pair) (s : Device) (t : Entry) (reply : Reply) (new : Device) → after.glitches ≡ s.glitches
-    → MatchOption o (IsTaskDone after t reply new) (λ at. (reply ≡ task_check s t (write_error at)) × IsTorn writes s t new) → new.glitches ≡ s.glitches
+    → MatchOption o (IsTaskDone after t reply new) (λ at. (reply ≡ task_check s t (write_error at)) × IsPartlyWritten writes s t new) → new.glitches ≡ s.glitches
 no_glitch None after writes s t reply new same h = ap (λ d. d.glitches) h.stays ∙ same
 no_glitch (Some at) after writes s t reply new same h = ap (λ d. d.glitches) h.1.stays
 

@@ -94,7 +94,7 @@ pub record EndsGarbled (writes : List Pair) (s : Device) (t : Entry) (reply : Re
   pub stays : new ≡ record s { cells = new.cells; tasks = without t s.tasks; glitches = new.glitches }
 
 -- the task leaves, and what it writes is written in part (SPC-4 4.5.6)
-pub record IsTorn (writes : List Pair) (s : Device) (t : Entry) (new : Device) : Type 0 where
+pub record IsPartlyWritten (writes : List Pair) (s : Device) (t : Entry) (new : Device) : Type 0 where
   pub part : Part s.cells writes new.cells
   pub stays : new ≡ record s { cells = new.cells; tasks = without t s.tasks }
 
@@ -111,7 +111,7 @@ EndsInPieces range s t reply new =
     ((first_flaw flaws.Write s.cells range.lba (min piece range.count) ≡ None) × EndsGarbled writes s t reply new)
     ⊎ MatchOption (first_flaw flaws.Write s.cells range.lba range.count)
     (IsTaskDone (record s { cells = whole s.cells writes; active = true }) t reply new)
-    (λ at. (reply ≡ task_check s t (write_error at)) × IsTorn writes s t new)
+    (λ at. (reply ≡ task_check s t (write_error at)) × IsPartlyWritten writes s t new)
 
 -- VERIFY: a read flaw in its range, or it is done (SBC-3 5.33)
 abbrev pub EndsVerified : Range → Device → Entry → Reply → Device → Type 0

@@ -17,7 +17,7 @@ use Rattle.satl_line.specs.Ending.{Outcome}
 use Rattle.satl_line.specs.Ending.Outcome.{ends_done, ends_flawed, ends_glitched}
 use Rattle.satl_direct.specs.Device.{Device, without}
 use Rattle.satl_direct.specs.Tasks.{asks, over}
-use Rattle.satl_direct.specs.Ending.{Ends, EndsBy, EndsCompared, EndsGarbled, EndsInPieces, EndsOnMedium, EndsPassed, EndsVerified, IsChecked, IsTaskDone, IsTorn, after_select, after_start_stop, outcome_reply, settled, settled_if, selected, task_check}
+use Rattle.satl_direct.specs.Ending.{Ends, EndsBy, EndsCompared, EndsGarbled, EndsInPieces, EndsOnMedium, EndsPassed, EndsVerified, IsChecked, IsTaskDone, IsPartlyWritten, after_select, after_start_stop, outcome_reply, settled, settled_if, selected, task_check}
 use Rattle.satl_direct.specs.Senses.{write_error}
 use Rattle.satl_direct.specs.Turn.{IsFirst, MayEnd}
 use Rattle.satl_laws.proofs.Cases.{by_bool, by_option}
@@ -68,7 +68,7 @@ module _ (s new : Device) (t : Entry) (reply : Reply) where
   garbled_leaves : (writes : List Pair) → EndsGarbled writes s t reply new → Leaves s t reply new
   garbled_leaves writes e = record { tasks = ap (λ d. d.tasks) e.stays; nexus = ap (λ r. r.nexus) e.answer; tag = ap (λ r. r.tag) e.answer }
 
-  torn_leaves : (writes : List Pair) (lba : ℕ) → reply ≡ task_check s t (write_error lba) → IsTorn writes s t new → Leaves s t reply new
+  torn_leaves : (writes : List Pair) (lba : ℕ) → reply ≡ task_check s t (write_error lba) → IsPartlyWritten writes s t new → Leaves s t reply new
   torn_leaves writes lba answer e = record { tasks = ap (λ d. d.tasks) e.stays; nexus = ap (λ r. r.nexus) answer; tag = ap (λ r. r.tag) answer }
 
   pieces_leave : (range : Range) → EndsInPieces range s t reply new → Leaves s t reply new

@@ -11,7 +11,7 @@ use Rattle.satl_sense.specs.Fixed.{fixed_form}
 use Rattle.satl_line.specs.declared.entry.Entry.{Entry}
 use Rattle.satl_line.specs.Ranged.RangedTask.{ranged_trim}
 use Rattle.satl_direct.specs.Device.{Device}
-use Rattle.satl_direct.specs.Ending.{Ends, EndsGarbled, IsTorn, task_check}
+use Rattle.satl_direct.specs.Ending.{Ends, EndsGarbled, IsPartlyWritten, task_check}
 use Rattle.satl_direct.specs.Run.{depth}
 use Rattle.satl_direct.specs.Senses.{crc_error}
 use Rattle.satl_direct.specs.Tasks.{over}
@@ -33,7 +33,7 @@ part_front cells (p ∷ ps) back = inr (part_front (put_at cells p) ps back)
 
 -- a flaw, and a CRC error, when the first pairs are put
 torn : (writes front back : List Pair) (cells : List Cell) (s : Device) (t : Entry) → writes ≡ front ++ back → cells ≡ whole s.cells front
-    → IsTorn writes s t (once_flawed cells s t)
+    → IsPartlyWritten writes s t (once_flawed cells s t)
 torn writes front back cells s t split is = record { part = rw (split, is) (part_front s.cells front back); stays = refl }
 
 garbled : (writes front back : List Pair) (cells : List Cell) (left : ℕ) (s : Device) (t : Entry) → writes ≡ front ++ back → cells ≡ whole s.cells front → left + 1 ≡ s.glitches
