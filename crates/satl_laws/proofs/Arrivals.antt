@@ -1,6 +1,6 @@
 -- Whom an arrival answers, and whose task it gives.
-use Rattle.std.proofs.Common.{◌≡◌, refl, ℕ, ◌+◌, Bool, true, false, Option, Some, None}
-use Rattle.std.specs.Prelude.{if◌then◌else◌, not, ◌==◌, ◌||◌, ◌&&◌, nat_lt, slice_get, length, Result, Ok, Err}
+use Rattle.std.proofs.Common.{◌≡◌, refl, ℕ, ◌+◌, Bool, Option, Some, None}
+use Rattle.std.specs.Prelude.{not, ◌==◌, ◌||◌, ◌&&◌, nat_lt, slice_get, length, Result, Ok, Err}
 use Rattle.std.specs.List.{list_any}
 use Rattle.satl_base.specs.declared.request.Request.{Request}
 use Rattle.satl_base.specs.declared.reply.Reply.{Reply}

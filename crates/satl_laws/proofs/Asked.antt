@@ -1,6 +1,6 @@
 -- A task of a device that there can be is that of its command: how it goes about the medium, and which sectors it goes over.
 use Rattle.std.proofs.Common.{◌≡◌, refl, sym, subst, ap, Bool, true, false, ◌∙◌, ℕ, ◌+◌, Option, Some, None}
-use Rattle.std.specs.Prelude.{if◌then◌else◌, not, ◌==◌, ◌||◌, nat_lt, slice_get, length, Result, Ok, Err}
+use Rattle.std.specs.Prelude.{not, ◌==◌, ◌||◌, nat_lt, slice_get, length, Result, Ok, Err}
 use Rattle.std.specs.List.{list_any}
 use Rattle.std.proofs.Math.Bool.{or-false, or-true}
 use Rattle.satl_base.specs.declared.request.Request.{Request}
@@ -14,7 +14,7 @@ use Rattle.satl_unit.specs.declared.attention.Attention.{Attention}
 use Rattle.satl_line.specs.declared.entry.Entry.{Entry}
 use Rattle.satl_line.specs.Conflict.{is_alone, is_write}
 use Rattle.satl_direct.specs.Arrival.{Arrival, becomes, cdb_arrival, code_arrival, command_arrival, placed, placed_unless, sense_told, unless_refused}
-use Rattle.satl_direct.specs.Arrival.Arrival.{answered, attended, overlaps, waits}
+use Rattle.satl_direct.specs.Arrival.Arrival.{waits}
 use Rattle.satl_direct.specs.Device.{Device, attentions_of}
 use Rattle.satl_direct.specs.Tasks.{asks, is_full, is_ordered, needed, range_of, task_for}
 use Rattle.satl_direct.specs.Valid.{HasCome}

@@ -1,5 +1,5 @@
 -- A device that is started, without glitches and flaws: there each WRITE ends with GOOD.
-use Rattle.std.proofs.Common.{◌≡◌, ⊎_elim, sym, ap, ◌∙◌, subst, ℕ, Bool, true, false, List, [], ◌∷◌, Some, None, arith, map}
+use Rattle.std.proofs.Common.{◌≡◌, ⊎_elim, sym, ap, ◌∙◌, subst, Bool, true, false, List, [], ◌∷◌, Some, None, arith, map}
 use Rattle.std.specs.Prelude.{◌&&◌, not, Ok}
 use Rattle.std.specs.List.{AllByRecursion}
 use Rattle.std.proofs.lemmas.Bool.{MatchBool-at_false}

@@ -1,21 +1,17 @@
 -- An ATA PASS-THROUGH that comes without data-out writes nothing.
-use Rattle.std.proofs.Common.{◌≡◌, refl, sym, ap, ◌∙◌, subst, ℕ, ◌+◌, ◌*◌, Bool, true, false, List, [], ◌∷◌, Option, Some, None, Result, Err, arith, eqb-true, take, length}
-use Rattle.std.specs.Prelude.{if◌then◌else◌, not, ◌==◌, ◌&&◌, nat_lt}
+use Rattle.std.proofs.Common.{◌≡◌, refl, sym, ◌∙◌, ℕ, true, false, List, [], ◌∷◌, Option, Some, None, Result, Err}
+use Rattle.std.specs.Prelude.{if◌then◌else◌}
 use Rattle.std.specs.List.{AllByRecursion}
 use Rattle.satl_base.specs.declared.block.Block.{Block}
-use Rattle.satl_base.specs.Cells.{pairs_from}
 use Rattle.satl_cdb.specs.declared.command.Command.{Command}
 use Rattle.satl_cdb.specs.declared.command.Command.TheVariants as commands
 use Rattle.satl_cdb.specs.declared.command.Illegal.{Illegal}
 use Rattle.satl_cdb.specs.Rows.{Rule, unless_broken}
-use Rattle.satl_regs.specs.declared.values.AtaCommand.{AtaCommand}
-use Rattle.satl_regs.specs.declared.values.AtaCommand.TheVariants as ata
 use Rattle.satl_regs.specs.Commands.{command_in}
-use Rattle.satl_regs.specs.Effects.{Medium, is_no_trim, pairs_of, payload_ranges, zeros_at}
-use Rattle.satl_regs.specs.Trim.{addresses}
+use Rattle.satl_regs.specs.Effects.{Medium, pairs_of}
 use Rattle.satl_pass.specs.declared.pass.Pass.{Pass}
 use Rattle.satl_pass.specs.Fields.{form_of, pass_in}
-use Rattle.satl_pass.specs.Reading.{has_other_direction, has_other_length, pass_says, rules}
+use Rattle.satl_pass.specs.Reading.{pass_says, rules}
 use Rattle.satl_direct.specs.Tasks.{asks, fault_in, pass_of}
 use Rattle.satl_direct.proofs.Passing.{writes_none}
 

@@ -1,5 +1,5 @@
 -- Flaws that come and go keep the order of arrival.
-use Rattle.std.proofs.Common.{◌≡◌, refl, sym, ◌∙◌, subst, ℕ, zero, suc, Bool, true, List, [], ◌∷◌}
+use Rattle.std.proofs.Common.{◌≡◌, refl, sym, ◌∙◌, subst, ℕ, zero, suc, Bool, true, List, ◌∷◌}
 use Rattle.std.specs.Prelude.{◌&&◌, not}
 use Rattle.satl_base.specs.declared.bench.Which.{Which}
 use Rattle.satl_base.specs.declared.bench.Which.TheVariants as flaws

@@ -9,7 +9,7 @@ use Rattle.satl_base.specs.Lists.{IsIn, how_many}
 use Rattle.satl_base.proofs.ListsLemmas.{none_counted}
 use Rattle.satl_frame.specs.declared.frames.Frame.TheVariants as frames
 use Rattle.satl_frame.specs.Output.{Answer}
-use Rattle.satl_frame.specs.Output.Answer.{replied, managed, ended}
+use Rattle.satl_frame.specs.Output.Answer.{replied}
 use Rattle.satl_line.specs.declared.entry.Entry.{Entry}
 use Rattle.satl_direct.specs.Device.{is_called}
 use Rattle.satl_laws.specs.ArrivalOrder.{is_done, is_good}

@@ -1,20 +1,18 @@
 -- A request at a device without tasks, and a turn, are answered by one reply.
-use Rattle.std.proofs.Common.{◌≡◌, rules, refl, sym, ap, subst, ◌∙◌, inl, inr, Bool, true, false, List, [], ◌∷◌, ◌++◌, map}
+use Rattle.std.proofs.Common.{◌≡◌, refl, sym, ap, subst, ◌∙◌, inl, inr, List, [], ◌∷◌, ◌++◌, map}
 use Rattle.satl_base.specs.Lists.{IsIn}
 use Rattle.satl_laws.proofs.Eligibles.{without_is}
 use Rattle.satl_laws.proofs.Ends.{ends_leaves, may_end_in}
-use Rattle.std.specs.Prelude.{MatchBool, ◌||◌, not}
 use Rattle.satl_base.specs.declared.reply.Reply.{Reply}
 use Rattle.satl_base.specs.declared.request.Request.{Request}
 use Rattle.satl_line.specs.declared.entry.Entry.{Entry}
-use Rattle.satl_line.specs.Eligible.{IsEligible}
-use Rattle.satl_direct.specs.Device.{Device, is_called, of_others, without}
+use Rattle.satl_direct.specs.Device.{Device, of_others, without}
 use Rattle.satl_direct.specs.Arrival.{Arrival, Arrives, ArrivesAs, arrival}
 use Rattle.satl_direct.specs.Arrival.Arrival.{answered, attended, overlaps, waits}
 use Rattle.satl_direct.specs.Ending.{task_check}
 use Rattle.satl_direct.specs.Quiet.{Around, Quiet}
 use Rattle.satl_direct.specs.Senses.{link_lost}
-use Rattle.satl_direct.specs.Turn.{IsFirst, MayEnd, OneEnds, Turn, lost_replies}
+use Rattle.satl_direct.specs.Turn.{OneEnds, Turn, lost_replies}
 use Rattle.satl_direct.specs.Turn.Turn.{ends, ends_and_loses, idle, loses}
 use Rattle.satl_direct.specs.Run.{MayLose}
 use Rattle.satl_direct.specs.Run.MayLose.{keeps, keeps_and_loses}

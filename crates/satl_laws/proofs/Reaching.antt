@@ -15,7 +15,7 @@ use Rattle.satl_regs.specs.Effects.{pairs_of}
 use Rattle.satl_line.specs.declared.entry.Entry.{Entry}
 use Rattle.satl_line.specs.Ranged.{RangedTask, written_pairs}
 use Rattle.satl_line.specs.Ending.{EndsAs, Outcome}
-use Rattle.satl_line.specs.Ending.Outcome.{ends_done, ends_flawed, ends_glitched}
+use Rattle.satl_line.specs.Ending.Outcome.{ends_done}
 use Rattle.satl_direct.specs.Device.{Device}
 use Rattle.satl_direct.specs.Tasks.{asks, over, pass_of}
 use Rattle.satl_direct.specs.Ending.{Ends, EndsBy, EndsCompared, EndsInPieces, EndsOnMedium, EndsPassed, EndsVerified, IsChecked, IsTaskDone, after_select, after_start_stop, medium_of, selected, settled, settled_if, surface_of}

@@ -8,7 +8,7 @@ use Rattle.satl_frame.specs.declared.frames.Frame.TheVariants as frames
 use Rattle.satl_frame.specs.Output.{Answer}
 use Rattle.satl_direct.specs.Device.{Device}
 use Rattle.satl_direct.specs.Arrival.{Arrival, arrival}
-use Rattle.satl_direct.specs.Arrival.Arrival.{answered, attended, overlaps, waits}
+use Rattle.satl_direct.specs.Arrival.Arrival.{waits}
 use Rattle.satl_direct.specs.Quiet.{Quiet, writes}
 use Rattle.satl_direct.specs.Run.{Does, RunDeep, joined}
 use Rattle.satl_direct.specs.Run.RunDeep.{start, step}

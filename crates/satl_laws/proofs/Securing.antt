@@ -10,7 +10,7 @@ use Rattle.satl_cdb.specs.declared.command.Command.TheVariants as commands
 use Rattle.satl_line.specs.declared.entry.Entry.{Entry}
 use Rattle.satl_line.specs.Ranged.RangedTask.{ranged_write}
 use Rattle.satl_line.specs.Ending.{EndsAs, Outcome}
-use Rattle.satl_line.specs.Ending.Outcome.{ends_done, ends_flawed, ends_glitched}
+use Rattle.satl_line.specs.Ending.Outcome.{ends_done}
 use Rattle.satl_direct.specs.Device.{Device}
 use Rattle.satl_direct.specs.Tasks.{asks, over}
 use Rattle.satl_direct.specs.Ending.{Ends, EndsBy, EndsOnMedium, outcome_reply, selected, settled_if, surface_of}

@@ -16,7 +16,7 @@ use Rattle.satl_frame.specs.declared.frames.Frame.TheVariants as frames
 use Rattle.satl_frame.specs.Output.{Answer}
 use Rattle.satl_direct.specs.Device.{Device, is_of, of_others}
 use Rattle.satl_direct.specs.Arrival.{Arrival, Arrives, ArrivesAs, arrival}
-use Rattle.satl_direct.specs.Arrival.Arrival.{answered, attended, overlaps, waits}
+use Rattle.satl_direct.specs.Arrival.Arrival.{overlaps, waits}
 use Rattle.satl_direct.specs.Bench.{Happens}
 use Rattle.satl_direct.specs.Management.{effect}
 use Rattle.satl_direct.specs.Quiet.{Quiet}
