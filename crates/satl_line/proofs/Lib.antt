@@ -1,4 +1,5 @@
 pub mod MasksLemmas
+pub mod OutlinesLemmas
 pub mod SlotsLemmas
 pub mod EligibleLemmas
 pub mod EndingLemmas

@@ -14,11 +14,14 @@ use Rattle.std.proofs.lemmas.Option.{slice_get-get_or, slice_get_past}
 use Rattle.std.proofs.lemmas.Bool.{eq-eqb, eqb-true, eqb-false, ltb-true, ltb-false, lt-ltb, le-ltb, and_right, ne_eqb}
 use Rattle.std.proofs.lemmas.List.{get_or-set_same, get_or-set_other, length-append, length-map, map-append, append-nil, get_or_default}
 use Rattle.satl_line.specs.declared.entry.Entry.{Entry}
+use Rattle.satl_line.specs.declared.outline.Outline.{Outline}
 use Rattle.satl_line.specs.Blank.{no_entry}
+use Rattle.satl_line.specs.Outlines.{AreOutlines, IsOutline, no_outline, outline_in}
 use Rattle.satl_line.specs.Conflict.{access_of, accesses_conflict, conflicts}
 use Rattle.satl_line.specs.Eligible.{eligible_at, is_clear_by}
 use Rattle.satl_line.specs.Tasks.{AreOwnSlots, AreMasks, is_barred_from, entries_of, Held, count_of, slots_of, total_blocks, entry_at, Adds, with_body, change_task}
 use Rattle.satl_line.specs.Layout.{SlotAccess, mark_of, is_marked, IsMask, HaveMasks, IsMasked, clear_bit, cleared, held_in, tasks_in, FitTogether, is_unbarred_at}
+use Rattle.satl_line.proofs.OutlinesLemmas.{EachIs, outline_with}
 use Rattle.satl_line.proofs.MasksLemmas.{bit, HasNot, AreSmall, is_struck, zero_mask, are_removed, are_added, get_or-cleared, mask_more_yes, mask_more_no}
 
 -- ---- counts
@@ -78,6 +81,11 @@ pub position_from-map : {X Y : Type 0} (f : X → Y) (p : Y → Bool) (i : ℕ) 
 position_from-map f p i [] = refl
 position_from-map f p i (x ∷ xs) = ap (λ r. cond (p (f x)) (Some i) r) (position_from-map f p (i + 1) xs)
 
+-- what does not turn on one number, where it is not among these
+pub All-other : (P Q : ℕ → Type 0) (s : ℕ) → ((q : ℕ) → (q == s) ≡ false → P q → Q q) → (xs : List ℕ) → count_of s xs ≡ 0 → AllByRecursion P xs → AllByRecursion Q xs
+All-other P Q s f [] h all = tt
+All-other P Q s f (x ∷ xs) h all = let out = head_out s x (count_of s xs) h in (f x out.0 all.0, All-other P Q s f xs out.1 all.1)
+
 -- ---- the tasks in slots
 
 pub slots_of_tasks : (slots : List Entry) (order : List ℕ) → slots_of (tasks_in slots order) ≡ order
@@ -99,6 +107,20 @@ has_not slots s (q ∷ qs) h = let out = head_out s q (count_of s qs) h in (out.
 pub are_small : (slots : List Entry) (order : List ℕ) → AllByRecursion (λ q. q < 64) order → AreSmall (map mark_of (tasks_in slots order))
 are_small slots [] h = tt
 are_small slots (q ∷ qs) h = (h.0, are_small slots qs h.1)
+
+-- what is written to a slot that no task has
+outline_other : (slots : List Entry) (outlines : List Outline) (s : ℕ) (x : Entry) (o : Outline) (order : List ℕ) → count_of s order ≡ 0 → EachIs slots outlines order → EachIs (set slots s x) (set outlines s o) order
+outline_other slots outlines s x o order none each =
+    All-other (λ q. IsOutline (get_or slots q no_entry) (outline_in outlines q)) (λ q. IsOutline (get_or (set slots s x) q no_entry) (outline_in (set outlines s o) q)) s
+    (λ q other is. subst (λ e. IsOutline e (outline_in (set outlines s o) q)) (sym (get_or-set_other slots s q x no_entry (eqb-false q s other)))
+    (subst (λ p. IsOutline (get_or slots q no_entry) p) (sym (get_or-set_other outlines s q o no_outline (eqb-false q s other))) is))
+    order none each
+
+entry_other : (slots : List Entry) (outlines : List Outline) (s : ℕ) (x : Entry) (order : List ℕ) → count_of s order ≡ 0 → EachIs slots outlines order → EachIs (set slots s x) outlines order
+entry_other slots outlines s x order none each =
+    All-other (λ q. IsOutline (get_or slots q no_entry) (outline_in outlines q)) (λ q. IsOutline (get_or (set slots s x) q no_entry) (outline_in outlines q)) s
+    (λ q other is. subst (λ e. IsOutline e (outline_in outlines q)) (sym (get_or-set_other slots s q x no_entry (eqb-false q s other))) is)
+    order none each
 
 pub total-append : (xs ys : List Held) → total_blocks (xs ++ ys) ≡ total_blocks xs + total_blocks ys
 total-append [] ys = omega arith
@@ -138,19 +160,19 @@ eligible_is slots order seen masks tasks k same is taken are fits lt =
 -- ---- a task leaves
 
 -- the counts of the slot of a task
-alone : (slots : List Entry) (front : List ℕ) (s : ℕ) (back free masks : List ℕ) (blocks : ℕ) → FitTogether slots (front ++ s ∷ back) free masks blocks → s < 64 → (count_of s front ≡ 0) × (count_of s back ≡ 0)
-alone slots front s back free masks blocks h small =
+alone : (slots : List Entry) (outlines : List Outline) (front : List ℕ) (s : ℕ) (back free masks : List ℕ) (blocks : ℕ) → FitTogether slots outlines (front ++ s ∷ back) free masks blocks → s < 64 → (count_of s front ≡ 0) × (count_of s back ≡ 0)
+alone slots outlines front s back free masks blocks h small =
     let e = count-append s front (s ∷ back) in
     let o = h.once s small in
     let one : count_of s (s ∷ back) ≡ 1 + count_of s back = rw (eq-eqb s s refl) (omega arith) in
     (omega (arith, e, o, one), omega (arith, e, o, one))
 
-pub sound_without : (slots : List Entry) (front : List ℕ) (s : ℕ) (back free masks : List ℕ) (blocks : ℕ) (e other : Entry) → FitTogether slots (front ++ s ∷ back) free masks blocks → get_or slots s no_entry ≡ e →
-    FitTogether (set slots s other) (front ++ back) (free ++ s ∷ []) (cleared masks s) (blocks - e.blocks)
+pub sound_without : (slots : List Entry) (outlines : List Outline) (front : List ℕ) (s : ℕ) (back free masks : List ℕ) (blocks : ℕ) (e other : Entry) → FitTogether slots outlines (front ++ s ∷ back) free masks blocks → get_or slots s no_entry ≡ e →
+    FitTogether (set slots s other) outlines (front ++ back) (free ++ s ∷ []) (cleared masks s) (blocks - e.blocks)
     × (tasks_in (set slots s other) (front ++ back) ≡ tasks_in slots (front ++ back)) × (e.blocks ≤ blocks)
-sound_without slots front s back free masks blocks e other h is =
+sound_without slots outlines front s back free masks blocks e other h is =
     let at : s < 64 = (All-right (λ q. q < 64) front (s ∷ back) h.taken).0 in
-    let out = alone slots front s back free masks blocks h at in
+    let out = alone slots outlines front s back free masks blocks h at in
     let none : count_of s (front ++ back) ≡ 0 = omega (arith, count-append s front back, out.0, out.1) in
     let same : tasks_in (set slots s other) (front ++ back) ≡ tasks_in slots (front ++ back) = tasks_set_other slots s other (front ++ back) none in
     let taken : AllByRecursion (λ q. q < 64) (front ++ back) = All-append (λ q. q < 64) front back (All-left (λ q. q < 64) front (s ∷ back) h.taken) (All-right (λ q. q < 64) front (s ∷ back) h.taken).1 in
@@ -174,6 +196,12 @@ sound_without slots front s back free masks blocks e other h is =
         masked = record {
           full = subst (λ l. HaveMasks [] (map mark_of l) (cleared masks s)) (sym same) (subst (λ l. HaveMasks [] l (cleared masks s)) (sym whole) full);
           empty = λ q gone. empty_out q (ap (count_of q) (sym (slots_of_tasks (set slots s other) (front ++ back))) ∙ gone);
+        };
+        outlined = record {
+          room = h.outlined.room;
+          each = entry_other slots outlines s other (front ++ back) none (All-append (λ q. IsOutline (get_or slots q no_entry) (outline_in outlines q)) front back
+              (All-left (λ q. IsOutline (get_or slots q no_entry) (outline_in outlines q)) front (s ∷ back) h.outlined.each)
+              (All-right (λ q. IsOutline (get_or slots q no_entry) (outline_in outlines q)) front (s ∷ back) h.outlined.each).1);
         };
         total = ap total_blocks same ∙ omega (arith, blocks_is);
         few = omega (arith, h.few);
@@ -201,10 +229,10 @@ sound_without slots front s back free masks blocks e other h is =
 
 -- ---- a task comes
 
-pub sound_with : (slots : List Entry) (order free : List ℕ) (s : ℕ) (masks : List ℕ) (blocks mask : ℕ) (e : Entry) → FitTogether slots order (free ++ s ∷ []) masks blocks → blocks + e.blocks ≤ 32768 → IsMask (map mark_of (tasks_in slots order)) (access_of e) mask →
-    FitTogether (set slots s e) (order ++ s ∷ []) free (set masks s mask) (blocks + e.blocks)
+pub sound_with : (slots : List Entry) (outlines : List Outline) (order free : List ℕ) (s : ℕ) (masks : List ℕ) (blocks mask : ℕ) (e : Entry) (o : Outline) → IsOutline e o → FitTogether slots outlines order (free ++ s ∷ []) masks blocks → blocks + e.blocks ≤ 32768 → IsMask (map mark_of (tasks_in slots order)) (access_of e) mask →
+    FitTogether (set slots s e) (set outlines s o) (order ++ s ∷ []) free (set masks s mask) (blocks + e.blocks)
     × (tasks_in (set slots s e) (order ++ s ∷ []) ≡ tasks_in slots order ++ record { slot = s; entry = e } ∷ []) × (s < 64) × (count_of s order ≡ 0)
-sound_with slots order free s masks blocks mask e h fits is =
+sound_with slots outlines order free s masks blocks mask e o own h fits is =
     let small : s < 64 = (All-right (λ q. q < 64) free (s ∷ []) h.small).0 in
     let none : count_of s order ≡ 0 = omega (arith, h.once s small, count-append s free (s ∷ []), count_one s) in
     let here : get_or (set slots s e) s no_entry ≡ e = get_or-set_same slots s e no_entry (omega (arith, h.room)) in
@@ -226,6 +254,14 @@ sound_with slots order free s masks blocks mask e h fits is =
               (are_added (map mark_of (tasks_in slots order)) (record { slot = s; access = access_of e }) masks mask (omega (arith, h.wide)) (has_not slots s order none) h.masked.full is));
           empty = λ q gone. empty_in q (ap (count_of q) (sym (slots_of_tasks (set slots s e) (order ++ s ∷ []))) ∙ gone);
         };
+        outlined = record {
+          room = length-set outlines s o ∙ h.outlined.room;
+          each = All-append (λ q. IsOutline (get_or (set slots s e) q no_entry) (outline_in (set outlines s o) q)) order (s ∷ []) (outline_other slots outlines s e o order none h.outlined.each) (
+            subst (λ x. IsOutline x (outline_in (set outlines s o) s)) (sym here)
+                (subst (λ p. IsOutline e p) (sym (get_or-set_same outlines s o no_outline (omega (arith, h.outlined.room)))) own),
+            tt,
+          );
+        };
         total = ap total_blocks tasks ∙ omega (arith, total-append (tasks_in slots order) (record { slot = s; entry = e } ∷ []), h.total);
         few = fits;
       },
@@ -243,8 +279,8 @@ sound_with slots order free s masks blocks mask e h fits is =
 
 -- ---- the steps as the code takes them
 
-pub record Leaves (tasks : List Held) (place : ℕ) (e : Entry) (slots' : List Entry) (order' free' masks' : List ℕ) (blocks : ℕ) : Type 0 where
-  pub sound : FitTogether slots' order' free' masks' (blocks - e.blocks)
+pub record Leaves (tasks : List Held) (place : ℕ) (e : Entry) (slots' : List Entry) (outlines : List Outline) (order' free' masks' : List ℕ) (blocks : ℕ) : Type 0 where
+  pub sound : FitTogether slots' outlines order' free' masks' (blocks - e.blocks)
   pub rest : tasks_in slots' order' ≡ remove tasks place
   pub value : entry_at tasks place ≡ Some e
   pub less : e.blocks ≤ blocks
@@ -257,38 +293,38 @@ entry_at_is slots order place s e lt at is =
     ∙ ap (λ q. Some (get_or slots q no_entry)) (sym at)
     ∙ ap Some is
 
-pub leaves : (slots : List Entry) (order free masks : List ℕ) (blocks : ℕ) (tasks : List Held) (place s : ℕ) (seen other e : Entry) (order' free' masks' : List ℕ) →
-    FitTogether slots order free masks blocks → tasks_in slots order ≡ tasks → place < length tasks → s ≡ get_or order place s → seen ≡ get_or slots s seen → e ≡ seen →
-    order' ≡ remove order place → free' ≡ free ++ s ∷ [] → masks' ≡ cleared masks s → Leaves tasks place e (set slots s other) order' free' masks' blocks
-leaves slots order free masks blocks tasks place s seen other e order' free' masks' sound is lt at seen_is e_is order_is free_is masks_is =
+pub leaves : (slots : List Entry) (outlines : List Outline) (order free masks : List ℕ) (blocks : ℕ) (tasks : List Held) (place s : ℕ) (seen other e : Entry) (order' free' masks' : List ℕ) →
+    FitTogether slots outlines order free masks blocks → tasks_in slots order ≡ tasks → place < length tasks → s ≡ get_or order place s → seen ≡ get_or slots s seen → e ≡ seen →
+    order' ≡ remove order place → free' ≡ free ++ s ∷ [] → masks' ≡ cleared masks s → Leaves tasks place e (set slots s other) outlines order' free' masks' blocks
+leaves slots outlines order free masks blocks tasks place s seen other e order' free' masks' sound is lt at seen_is e_is order_is free_is masks_is =
     let within : place < length order = omega (arith, length-map order (held_in slots), ap length is) in
     let small : s < 64 = subst (λ q. q < 64) (sym at) (All-at (λ q. q < 64) order place s within sound.taken) in
     let here : get_or slots s no_entry ≡ e = get_or_default slots s no_entry seen (omega (arith, small, sound.room)) ∙ sym seen_is ∙ sym e_is in
     let order_parts : order ≡ take place order ++ s ∷ drop (suc place) order = parted order place s within ∙ ap (λ q. take place order ++ q ∷ drop (suc place) order) (sym at) in
-    let r = sound_without slots (take place order) s (drop (suc place) order) free masks blocks e other (subst (λ l. FitTogether slots l free masks blocks) order_parts sound) here in
+    let r = sound_without slots outlines (take place order) s (drop (suc place) order) free masks blocks e other (subst (λ l. FitTogether slots outlines l free masks blocks) order_parts sound) here in
     let tasks_is : tasks_in (set slots s other) (remove order place) ≡ remove tasks place = r.1 ∙ remove-map (held_in slots) order place ∙ ap (λ l. remove l place) is in
     record {
-      sound = subst (λ l. FitTogether (set slots s other) l free' masks' (blocks - e.blocks)) (sym order_is)
-          (subst (λ l. FitTogether (set slots s other) (remove order place) l masks' (blocks - e.blocks)) (sym free_is)
-          (subst (λ l. FitTogether (set slots s other) (remove order place) (free ++ s ∷ []) l (blocks - e.blocks)) (sym masks_is) r.0));
+      sound = subst (λ l. FitTogether (set slots s other) outlines l free' masks' (blocks - e.blocks)) (sym order_is)
+          (subst (λ l. FitTogether (set slots s other) outlines (remove order place) l masks' (blocks - e.blocks)) (sym free_is)
+          (subst (λ l. FitTogether (set slots s other) outlines (remove order place) (free ++ s ∷ []) l (blocks - e.blocks)) (sym masks_is) r.0));
       rest = ap (tasks_in (set slots s other)) order_is ∙ tasks_is;
       value = ap (λ l. entry_at l place) (sym is) ∙ entry_at_is slots order place s e within at here;
       less = r.2;
     }
 
-pub record Comes (old : List Held) (e : Entry) (slots' : List Entry) (order' free' masks' : List ℕ) (blocks : ℕ) : Type 0 where
-  pub sound : FitTogether slots' order' free' masks' blocks
+pub record Comes (old : List Held) (e : Entry) (slots' : List Entry) (outlines : List Outline) (order' free' masks' : List ℕ) (blocks : ℕ) : Type 0 where
+  pub sound : FitTogether slots' outlines order' free' masks' blocks
   pub adds : Adds old e (tasks_in slots' order')
 
-comes : (slots seen : List Entry) (order seen_order free freed : List ℕ) (s : ℕ) (masks : List ℕ) (blocks mask : ℕ) (e : Entry) (old : List Held) (order' : List ℕ) →
-    FitTogether slots order free masks blocks → tasks_in slots order ≡ old → free ≡ freed ++ s ∷ [] → seen ≡ slots → seen_order ≡ order → IsMask (map mark_of (tasks_in seen seen_order)) (access_of e) mask → order' ≡ order ++ s ∷ [] → blocks + e.blocks ≤ 32768 →
-    Comes old e (set slots s e) order' freed (set masks s mask) (blocks + e.blocks)
-comes slots seen order seen_order free freed s masks blocks mask e old order' sound is free_is seen_is seen_order_is mask_is order_is fits =
+comes : (slots seen : List Entry) (outlines : List Outline) (order seen_order free freed : List ℕ) (s : ℕ) (masks : List ℕ) (blocks mask : ℕ) (e : Entry) (o : Outline) (old : List Held) (order' : List ℕ) → IsOutline e o →
+    FitTogether slots outlines order free masks blocks → tasks_in slots order ≡ old → free ≡ freed ++ s ∷ [] → seen ≡ slots → seen_order ≡ order → IsMask (map mark_of (tasks_in seen seen_order)) (access_of e) mask → order' ≡ order ++ s ∷ [] → blocks + e.blocks ≤ 32768 →
+    Comes old e (set slots s e) (set outlines s o) order' freed (set masks s mask) (blocks + e.blocks)
+comes slots seen outlines order seen_order free freed s masks blocks mask e o old order' own sound is free_is seen_is seen_order_is mask_is order_is fits =
     let masked : IsMask (map mark_of (tasks_in slots order)) (access_of e) mask
     = subst (λ l. IsMask (map mark_of (tasks_in slots l)) (access_of e) mask) seen_order_is (subst (λ l. IsMask (map mark_of (tasks_in l seen_order)) (access_of e) mask) seen_is mask_is) in
-    let r = sound_with slots order freed s masks blocks mask e (subst (λ l. FitTogether slots order l masks blocks) free_is sound) fits masked in
+    let r = sound_with slots outlines order freed s masks blocks mask e o own (subst (λ l. FitTogether slots outlines order l masks blocks) free_is sound) fits masked in
     record {
-      sound = subst (λ l. FitTogether (set slots s e) l freed (set masks s mask) (blocks + e.blocks)) (sym order_is) r.0;
+      sound = subst (λ l. FitTogether (set slots s e) (set outlines s o) l freed (set masks s mask) (blocks + e.blocks)) (sym order_is) r.0;
       adds = record {
         slot = s;
         small = r.2;
@@ -301,13 +337,13 @@ comes slots seen order seen_order free freed s masks blocks mask e old order' so
     vacant_is i h = ap (λ l. count_of s (slots_of l)) (sym i) ∙ ap (count_of s) (slots_of_tasks slots order) ∙ h
 
 -- the same where the task is read from one place, and lies in another
-pub comes_from : (slots seen : List Entry) (order seen_order free freed : List ℕ) (s : ℕ) (masks : List ℕ) (blocks mask : ℕ) (e read put : Entry) (old : List Held) (order' : List ℕ) →
-    FitTogether slots order free masks blocks → tasks_in slots order ≡ old → free ≡ freed ++ s ∷ [] → seen ≡ slots → seen_order ≡ order → IsMask (map mark_of (tasks_in seen seen_order)) (access_of read) mask → order' ≡ order ++ s ∷ [] → blocks + read.blocks ≤ 32768 → read ≡ e → put ≡ e →
-    Comes old e (set slots s put) order' freed (set masks s mask) (blocks + read.blocks)
-comes_from slots seen order seen_order free freed s masks blocks mask e read put old order' sound is free_is seen_is seen_order_is mask_is order_is fits read_is put_is =
-    subst (λ x. Comes old e (set slots s x) order' freed (set masks s mask) (blocks + read.blocks)) (sym put_is)
-    (subst (λ (r : Entry). Comes old e (set slots s e) order' freed (set masks s mask) (blocks + r.blocks)) (sym read_is)
-    (comes slots seen order seen_order free freed s masks blocks mask e old order' sound is free_is seen_is seen_order_is
+pub comes_from : (slots seen : List Entry) (outlines : List Outline) (order seen_order free freed : List ℕ) (s : ℕ) (masks : List ℕ) (blocks mask : ℕ) (e read put : Entry) (o : Outline) (old : List Held) (order' : List ℕ) → IsOutline read o →
+    FitTogether slots outlines order free masks blocks → tasks_in slots order ≡ old → free ≡ freed ++ s ∷ [] → seen ≡ slots → seen_order ≡ order → IsMask (map mark_of (tasks_in seen seen_order)) (access_of read) mask → order' ≡ order ++ s ∷ [] → blocks + read.blocks ≤ 32768 → read ≡ e → put ≡ e →
+    Comes old e (set slots s put) (set outlines s o) order' freed (set masks s mask) (blocks + read.blocks)
+comes_from slots seen outlines order seen_order free freed s masks blocks mask e read put o old order' own sound is free_is seen_is seen_order_is mask_is order_is fits read_is put_is =
+    subst (λ x. Comes old e (set slots s x) (set outlines s o) order' freed (set masks s mask) (blocks + read.blocks)) (sym put_is)
+    (subst (λ (r : Entry). Comes old e (set slots s e) (set outlines s o) order' freed (set masks s mask) (blocks + r.blocks)) (sym read_is)
+    (comes slots seen outlines order seen_order free freed s masks blocks mask e o old order' (subst (λ (r : Entry). IsOutline r o) read_is own) sound is free_is seen_is seen_order_is
     (subst (λ (r : Entry). IsMask (map mark_of (tasks_in seen seen_order)) (access_of r) mask) read_is mask_is) order_is (subst (λ (r : Entry). blocks + r.blocks ≤ 32768) read_is fits)))
 
 -- one more slot is looked at
@@ -342,9 +378,9 @@ walk_step f xs init i d is lt =
     go (x ∷ xs) (suc i) lt = ap (λ l. f x ∷ l) (go xs i (omega arith))
 
 -- slots with nothing in them
-pub sound_new : (slots : List Entry) (free masks order : List ℕ) → length slots ≡ 64 → order ≡ [] → masks ≡ replicate 64 0 → length free ≡ 64 → AllByRecursion (λ q. q < 64) free → ((q : ℕ) → q < 64 → count_of q free ≡ 1) → FitTogether slots order free masks 0
-sound_new slots free masks order room none zeros long small once =
-    subst (λ l. FitTogether slots l free masks 0) (sym none) (record {
+pub sound_new : (slots : List Entry) (outlines : List Outline) (free masks order : List ℕ) → length outlines ≡ 64 → length slots ≡ 64 → order ≡ [] → masks ≡ replicate 64 0 → length free ≡ 64 → AllByRecursion (λ q. q < 64) free → ((q : ℕ) → q < 64 → count_of q free ≡ 1) → FitTogether slots outlines order free masks 0
+sound_new slots outlines free masks order wide room none zeros long small once =
+    subst (λ l. FitTogether slots outlines l free masks 0) (sym none) (record {
       room = room;
       wide = ap length zeros;
       taken = tt;
@@ -352,6 +388,7 @@ sound_new slots free masks order room none zeros long small once =
       once = λ q lt. omega (arith, once q lt);
       count = omega (arith, long);
       masked = record { full = tt; empty = λ q gone. ap (λ l. get_or l q 0) zeros ∙ get_or-replicate_same 64 q };
+      outlined = record { room = wide; each = tt };
       total = refl;
       few = omega arith;
     })
@@ -443,8 +480,8 @@ count_at [] k s lt is = absurd (omega arith)
 count_at (q ∷ qs) zero s lt is = let e = eq-eqb q s is in rw e (omega arith)
 count_at (q ∷ qs) (suc k) s lt is = let r = count_at qs k s (omega arith) is in omega arith
 
-pub record Changes (tasks : List Held) (place : ℕ) (body : List Block) (slots' : List Entry) (order free masks : List ℕ) (blocks : ℕ) : Type 0 where
-  pub sound : FitTogether slots' order free masks blocks
+pub record Changes (tasks : List Held) (place : ℕ) (body : List Block) (slots' : List Entry) (outlines : List Outline) (order free masks : List ℕ) (blocks : ℕ) : Type 0 where
+  pub sound : FitTogether slots' outlines order free masks blocks
   pub rest : tasks_in slots' order ≡ change_task (with_body body) tasks place
 
 module _ (slots : List Entry) (s : ℕ) (body : List Block) (within : s < length slots) where
@@ -460,6 +497,14 @@ module _ (slots : List Entry) (s : ℕ) (body : List Block) (within : s < length
       (elim (q == s) as (λ b. (q == s) ≡ b → f q (get_or changed q no_entry) ≡ f q (get_or slots q no_entry)) [
         | true ↦ λ e. subst (λ r. f r (get_or changed r no_entry) ≡ f r (get_or slots r no_entry)) (sym (eqb-true q s e)) (ap (f s) there ∙ here)
         | false ↦ λ e. ap (f q) (get_or-set_other slots s q (with_body body (held_in slots s)).entry no_entry (eqb-false q s e))
+      ]) refl
+
+  outline_same : (o : Outline) (q : ℕ) → IsOutline (get_or slots q no_entry) o → IsOutline (get_or changed q no_entry) o
+  outline_same o q =
+      (elim (q == s) as (λ b. (q == s) ≡ b → IsOutline (get_or slots q no_entry) o → IsOutline (get_or changed q no_entry) o) [
+        | true ↦ λ e is. subst (λ r. IsOutline (get_or changed r no_entry) o) (sym (eqb-true q s e)) (subst (λ x. IsOutline x o) (sym there)
+            (outline_with (get_or slots s no_entry) body o (subst (λ r. IsOutline (get_or slots r no_entry) o) (eqb-true q s e) is)))
+        | false ↦ λ e is. subst (λ x. IsOutline x o) (sym (get_or-set_other slots s q (with_body body (held_in slots s)).entry no_entry (eqb-false q s e))) is
       ]) refl
 
   marks_same : (order : List ℕ) → map mark_of (tasks_in changed order) ≡ map mark_of (tasks_in slots order)
@@ -489,15 +534,15 @@ module _ (slots : List Entry) (s : ℕ) (body : List Block) (within : s < length
       apart : (q n : ℕ) → (if q == s then 1 else 0) + n ≤ 1 → 1 ≤ n → ((q == s) ≡ false) × (n ≤ 1)
       apart q n h some = (elim (q == s) as (λ b. (if b then 1 else 0) + n ≤ 1 → (b ≡ false) × (n ≤ 1)) [ true ↦ λ e. absurd (omega arith) | false ↦ λ e. (refl, omega arith) ]) h
 
-pub changes : (slots : List Entry) (order free masks : List ℕ) (blocks : ℕ) (tasks : List Held) (place : ℕ) (seen : List ℕ) (body : List Block) (slots' : List Entry) → FitTogether slots order free masks blocks → tasks_in slots order ≡ tasks → place < length tasks → seen ≡ order →
-    slots' ≡ set slots (get_or seen place 0) (with_body body (held_in slots (get_or seen place 0))).entry → Changes tasks place body slots' order free masks blocks
-changes slots order free masks blocks tasks place seen body slots' sound is lt same slots_is =
+pub changes : (slots : List Entry) (outlines : List Outline) (order free masks : List ℕ) (blocks : ℕ) (tasks : List Held) (place : ℕ) (seen : List ℕ) (body : List Block) (slots' : List Entry) → FitTogether slots outlines order free masks blocks → tasks_in slots order ≡ tasks → place < length tasks → seen ≡ order →
+    slots' ≡ set slots (get_or seen place 0) (with_body body (held_in slots (get_or seen place 0))).entry → Changes tasks place body slots' outlines order free masks blocks
+changes slots outlines order free masks blocks tasks place seen body slots' sound is lt same slots_is =
     let s : ℕ = get_or order place 0 in
     let within : place < length order = omega (arith, length-map order (held_in slots), ap length is) in
     let small : s < 64 = All-at (λ q. q < 64) order place 0 within sound.taken in
     let room : s < length slots = omega (arith, small, sound.room) in
     let slots_are : slots' ≡ changed slots s body room = slots_is ∙ ap (λ l. set slots (get_or l place 0) (with_body body (held_in slots (get_or l place 0))).entry) same in
-    let new_sound : FitTogether (changed slots s body room) order free masks blocks = record {
+    let new_sound : FitTogether (changed slots s body room) outlines order free masks blocks = record {
       room = length-set slots s (with_body body (held_in slots s)).entry ∙ sound.room;
       wide = sound.wide;
       taken = sound.taken;
@@ -508,12 +553,17 @@ changes slots order free masks blocks tasks place seen body slots' sound is lt s
         full = subst (λ l. HaveMasks [] l masks) (sym (marks_same slots s body room order)) sound.masked.full;
         empty = λ q gone. sound.masked.empty q (ap (count_of q) (slots_of_tasks slots order ∙ sym (slots_of_tasks (changed slots s body room) order)) ∙ gone);
       };
+      outlined = record {
+        room = sound.outlined.room;
+        each = All-weaken (λ q. IsOutline (get_or slots q no_entry) (outline_in outlines q)) (λ q. IsOutline (get_or (changed slots s body room) q no_entry) (outline_in outlines q))
+            (λ q. outline_same slots s body room (outline_in outlines q) q) order sound.outlined.each;
+      };
       total = blocks_same slots s body room order ∙ sound.total;
       few = sound.few;
     } in
     let once : count_of s order ≤ 1 = omega (arith, sound.once s small) in
     record {
-      sound = subst (λ l. FitTogether l order free masks blocks) (sym slots_are) new_sound;
+      sound = subst (λ l. FitTogether l outlines order free masks blocks) (sym slots_are) new_sound;
       rest = ap (λ l. tasks_in l order) slots_are ∙ change_is slots s body room order place within once refl ∙ ap (λ l. change_task (with_body body) l place) is;
     }
 
@@ -526,9 +576,9 @@ body_is slots order tasks place seen taken is lt same taken_is =
     ∙ ap Some (sym taken_is)
 
 -- no other task lies in the slot of a task
-pub slot_alone : (slots : List Entry) (order free masks : List ℕ) (blocks : ℕ) (tasks : List Held) (place : ℕ) (seen : List ℕ) → FitTogether slots order free masks blocks → tasks_in slots order ≡ tasks → place < length tasks → seen ≡ order →
+pub slot_alone : (slots : List Entry) (outlines : List Outline) (order free masks : List ℕ) (blocks : ℕ) (tasks : List Held) (place : ℕ) (seen : List ℕ) → FitTogether slots outlines order free masks blocks → tasks_in slots order ≡ tasks → place < length tasks → seen ≡ order →
     (get_or seen place 0 < 64) × (count_of (get_or seen place 0) (slots_of tasks) ≡ 1)
-slot_alone slots order free masks blocks tasks place seen sound is lt same =
+slot_alone slots outlines order free masks blocks tasks place seen sound is lt same =
     let within : place < length order = omega (arith, length-map order (held_in slots), ap length is) in
     let small : get_or order place 0 < 64 = All-at (λ q. q < 64) order place 0 within sound.taken in
     let once = sound.once (get_or order place 0) small in
@@ -554,8 +604,8 @@ own_slots slots (q ∷ qs) once =
     fewer : (s : ℕ) (b : Bool) → (if q == s then 1 else 0) + count_of s qs ≤ 1 → count_of s qs ≤ 1
     fewer s b few = omega (arith, few)
 
-pub own_of : (slots : List Entry) (order free masks : List ℕ) (blocks : ℕ) (tasks : List Held) → FitTogether slots order free masks blocks → tasks_in slots order ≡ tasks → AreOwnSlots tasks
-own_of slots order free masks blocks tasks sound is =
+pub own_of : (slots : List Entry) (outlines : List Outline) (order free masks : List ℕ) (blocks : ℕ) (tasks : List Held) → FitTogether slots outlines order free masks blocks → tasks_in slots order ≡ tasks → AreOwnSlots tasks
+own_of slots outlines order free masks blocks tasks sound is =
     subst AreOwnSlots is (own_slots slots order (All-weaken (λ s. s < 64) (λ s. count_of s order ≤ 1) (λ s small. omega (arith, sound.once s small)) order sound.taken))
 
 -- ---- the masks of the tasks, place by place

@@ -7,6 +7,8 @@ use Rattle.satl_line.specs.declared.entry.Entry.{Entry}
 use Rattle.satl_line.specs.Blank.{no_entry}
 use Rattle.satl_line.specs.Conflict.{Access, access_of, accesses_conflict}
 use Rattle.satl_line.specs.Tasks.{Held, count_of, slots_of, total_blocks}
+use Rattle.satl_line.specs.declared.outline.Outline.{Outline}
+use Rattle.satl_line.specs.Outlines.{AreOutlines}
 
 -- the task in a slot
 abbrev pub held_in : List Entry → ℕ → Held
@@ -56,8 +58,9 @@ cleared masks slot = slice_set (map (clear_bit slot) masks) slot 0
 abbrev pub is_unbarred_at : List ℕ → List ℕ → ℕ → Bool
 is_unbarred_at masks order place = nat_lt place (length order) && (slice_index_or masks (slice_index_or order place 0) 0 == 0)
 
--- the slots, those that are taken in order of arrival, those that are free, the masks and the number of blocks fit together
-pub record FitTogether (slots : List Entry) (order free masks : List ℕ) (blocks : ℕ) : Type 0 where
+-- the slots, the outlines of their tasks, the slots that are taken in order of arrival, those that are free, the masks and the
+-- number of blocks fit together
+pub record FitTogether (slots : List Entry) (outlines : List Outline) (order free masks : List ℕ) (blocks : ℕ) : Type 0 where
   pub room : length slots ≡ 64
   pub wide : length masks ≡ 64
   pub taken : AllByRecursion (λ slot. slot < 64) order
@@ -65,5 +68,6 @@ pub record FitTogether (slots : List Entry) (order free masks : List ℕ) (block
   pub once : (slot : ℕ) → slot < 64 → count_of slot order + count_of slot free ≡ 1
   pub count : length order + length free ≡ 64
   pub masked : IsMasked (tasks_in slots order) masks
+  pub outlined : AreOutlines slots outlines order
   pub total : total_blocks (tasks_in slots order) ≡ blocks
   pub few : blocks ≤ most_held

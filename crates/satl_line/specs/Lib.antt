@@ -6,4 +6,5 @@ pub mod Ending
 pub mod Tasks
 pub mod Blank
 pub mod Lending
+pub mod Outlines
 pub mod Layout

@@ -17,7 +17,7 @@ pub(crate) fn conflict(a: &Entry, b: &Entry) -> bool
         || ((writes(a) || writes(b)) && lists_meet(&a.ranges, &b.ranges))
 }
 
-fn stands_alone(entry: &Entry) -> bool
+pub(crate) fn stands_alone(entry: &Entry) -> bool
     ensures { result ≡ is_alone entry.now.kind entry.now.ordered }
 {
     match entry.kind {
@@ -26,7 +26,7 @@ fn stands_alone(entry: &Entry) -> bool
     }
 }
 
-fn writes(entry: &Entry) -> bool
+pub(crate) fn writes(entry: &Entry) -> bool
     ensures { result ≡ is_write entry.now.kind }
 {
     match entry.kind {

@@ -5,6 +5,7 @@ mod boxed;
 mod conflict;
 mod entry;
 pub mod laws;
+mod outline;
 mod set;
 
 pub use boxed::TaskBox;

@@ -1,17 +1,19 @@
 // The tasks in order of arrival, each in a slot of its own.
-ghost use Rattle.std.specs.Prelude.{◌≡◌, ◌≤◌, ◌<◌, ◌==◌, ◌^◌, ◌&&◌, if◌then◌else◌, ℕ, [], map, length, remove, replicate, Some, IfOk, OnOk, OnErr, is_err, slice_get, slice_index, slice_set};
+ghost use Rattle.std.specs.Prelude.{◌≡◌, ◌≤◌, ◌<◌, ◌==◌, ◌^◌, if◌then◌else◌, ℕ, [], map, length, remove, replicate, Some, IfOk, OnOk, OnErr, is_err, slice_get, slice_index, slice_set};
 ghost use Rattle.std.specs.Int.{bit_at};
 ghost use Rattle.std.specs.Option.{option_copied, option_map};
 ghost use Rattle.std.specs.List.{AllByRecursion, position_from};
 ghost use Rattle.satl_base.specs.Limits.{most_held, most_tasks};
-ghost use Rattle.satl_line.specs.Conflict.{access_of};
+ghost use Rattle.satl_line.specs.Conflict.{access_of, conflicts};
 ghost use Rattle.satl_line.specs.Eligible.{eligible_at};
 ghost use Rattle.satl_line.specs.Tasks.{Adds, AreMasks, AreOwnSlots, IsReadyMask, change_task, count_of, entries_of, entry_at, is_named, is_too_much, slots_of, total_blocks, with_body};
 ghost use Rattle.satl_line.specs.Layout.{IsMask, cleared, held_in, is_unbarred_at, mark_of, tasks_in};
+ghost use Rattle.satl_line.specs.Outlines.{AreOutlines, IsOutline, is_of_name, no_outline, outline_in, outlines_in};
 
 use crate::boxed::TaskBox;
 use crate::conflict::conflict;
 use crate::entry::Entry;
+use crate::outline::Outline;
 use arrayvec::ArrayVec;
 use satl_base::{MOST_HELD, MOST_TASKS, Nexus, NoMemory, Pages, Tag};
 use std::alloc::Global;
@@ -25,10 +27,12 @@ pub struct TaskSetFull;
 /// At most 64 tasks in order of arrival (SAM-5, task set; the figure is the profile's). Each lies in one of 64 slots
 /// from its arrival until it leaves, and each slot has a mask of the earlier tasks that its task conflicts with.
 /// Clauses see the list of the tasks, each with its slot.
-// Each slot has a box from the start, with an old task in it where the slot is free.
+// Each slot has a box from the start, with an old task in it where the slot is free. What is asked of each waiting task as
+// another one comes is mostly answered by the outlines, which lie side by side: no task is read for it.
 #[derive(Drop)]
 pub struct TaskSet {
     slots: Vec<TaskBox>,
+    outlines: [Outline; 64],
     order: ArrayVec<u8, 64>,
     free: ArrayVec<u8, 64>,
     masks: [u64; 64],
@@ -44,7 +48,7 @@ impl Model for TaskSet {
 
     ghost view = { λ s. tasks_in s.slots.items s.order.items };
 
-    ghost invariant = { λ s. FitTogether s.slots.items s.order.items s.free.items s.masks s.blocks };
+    ghost invariant = { λ s. FitTogether s.slots.items s.outlines s.order.items s.free.items s.masks s.blocks };
 }
 
 impl TaskSet {
@@ -62,6 +66,7 @@ impl TaskSet {
         }
         Ok(TaskSet {
             slots,
+            outlines: no_outlines(),
             order: ArrayVec::new(),
             free,
             masks: no_masks(),
@@ -105,7 +110,10 @@ impl TaskSet {
         let Some(slot) = self.free.pop() else {
             unreachable!();
         };
-        self.masks[slot as usize] = mask_against(&self.slots, &self.order, entry);
+        let outline = Outline::of(entry);
+        let mask = mask_against(&self.slots, &self.outlines, &self.order, entry, &outline);
+        self.masks[slot as usize] = mask;
+        self.outlines[slot as usize] = outline;
         self.blocks += blocks;
         mem::swap(&mut self.slots[slot as usize], task);
         self.order.push(slot);
@@ -144,7 +152,7 @@ impl TaskSet {
     pub fn find(&self, nexus: Nexus, tag: Tag) -> Option<usize>
         ensures { result ≡ position_from (is_named nexus tag) 0 self.now }
     {
-        find_in(&self.slots, &self.order, nexus, tag)
+        find_in(&self.outlines, &self.order, nexus, tag)
     }
 
     /// The first task. None exactly where there is none (profile).
@@ -213,6 +221,12 @@ impl TaskSet {
     }
 }
 
+fn no_outlines() -> [Outline; 64]
+    ensures { result ≡ replicate 64 no_outline }
+{
+    [Outline::none(); 64]
+}
+
 fn no_masks() -> [u64; 64]
     ensures { result ≡ replicate 64 0 }
 {
@@ -229,18 +243,46 @@ fn mask_at(masks: &[u64], slot: u8) -> u64
 }
 
 /// The slots of the tasks that conflict with this one, as the bits of a number.
-fn mask_against(slots: &[TaskBox], order: &[u8], entry: &Entry) -> u64
+fn mask_against(
+    slots: &[TaskBox],
+    outlines: &[Outline],
+    order: &[u8],
+    entry: &Entry,
+    outline: &Outline,
+) -> u64
     requires room { length slots.now ≡ 64 }
     requires small { AllByRecursion (λ slot. slot < 64) order.now }
+    requires told { AreOutlines slots.now outlines.now order.now }
+    requires own { IsOutline entry.now outline.now }
     ensures { IsMask (map mark_of (tasks_in slots.now order.now)) (access_of entry.now) result }
 {
     let mut mask = 0u64;
     for slot in order {
-        if conflict(entry_in(slots, *slot), entry) {
+        if conflicts_in(slots, outlines, *slot, entry, outline) {
             mask |= 1 << *slot;
         }
     }
     mask
+}
+
+/// Whether the task in a slot conflicts with this one. The outlines are asked first, and the task where they leave it open.
+fn conflicts_in(
+    slots: &[TaskBox],
+    outlines: &[Outline],
+    slot: u8,
+    entry: &Entry,
+    outline: &Outline,
+) -> bool
+    requires small { slot < 64 }
+    requires room { length slots.now ≡ 64 }
+    requires wide { length outlines.now ≡ 64 }
+    requires told { IsOutline (held_in slots.now slot).entry (outline_in outlines.now slot) }
+    requires own { IsOutline entry.now outline.now }
+    ensures { result ≡ conflicts (held_in slots.now slot).entry entry.now }
+{
+    let other = &outlines[slot as usize];
+    other.is_alone_beside(outline)
+        || (other.may_meet(outline) && conflict(entry_in(slots, slot), entry))
 }
 
 /// Takes a slot out of all masks, and makes its own 0.
@@ -278,23 +320,17 @@ fn place_in(order: &[u8], slot: u8) -> Option<usize>
     order.iter().position(|other| *other == slot)
 }
 
-fn find_in(slots: &[TaskBox], order: &[u8], nexus: Nexus, tag: Tag) -> Option<usize>
-    requires room { length slots.now ≡ 64 }
+fn find_in(outlines: &[Outline], order: &[u8], nexus: Nexus, tag: Tag) -> Option<usize>
+    requires wide { length outlines.now ≡ 64 }
     requires small { AllByRecursion (λ slot. slot < 64) order.now }
-    ensures { result ≡ position_from (is_named nexus tag) 0 (tasks_in slots.now order.now) }
+    ensures { result ≡ position_from (is_of_name nexus tag) 0 (outlines_in outlines.now order.now) }
 {
     for (place, slot) in order.iter().enumerate() {
-        if has_name(entry_in(slots, *slot), nexus, tag) {
+        if outlines[*slot as usize].names(nexus, tag) {
             return Some(place);
         }
     }
     None
-}
-
-fn has_name(entry: &Entry, nexus: Nexus, tag: Tag) -> bool
-    ensures { result ≡ (entry.now.nexus == nexus && entry.now.tag.0 == tag.0) }
-{
-    entry.nexus == nexus && entry.tag == tag
 }
 
 fn entry_in(slots: &[TaskBox], slot: u8) -> &Entry
@@ -370,6 +406,46 @@ mod tests {
             assert_eq!(rt; set.ready(), 1);
         }
         Ok(())
+    }
+
+    /// Puts a task into a box that writes two ranges.
+    fn put_write(task: &mut TaskBox, number: u32, first: Range, second: Range) {
+        put(task, number, WRITE, false, first, 0);
+        let entry = task.entry_mut();
+        entry.ranges = ArrayVec::new();
+        entry.ranges.push(first);
+        entry.ranges.push(second);
+    }
+
+    #[test]
+    fn waits_for_ranges_and_not_for_spans(rt: HostRuntime) -> Result<(), Fail> {
+        let none = (0, 0);
+        let top = u64::MAX;
+        // Two ranges of a task, two of one that stands behind it, and whether that one is eligible.
+        let cases = [
+            ((100, 8), (300, 8), (200, 8), (400, 8), true),
+            ((100, 8), (300, 8), (200, 8), (307, 1), false),
+            ((100, 8), (300, 8), (0, 50), (500, 8), true),
+            ((100, 8), (300, 8), (103, 0), (top, 0), true),
+            (none, none, (0, u32::MAX), (top, 1), true),
+            ((top - 1, 9), none, (top - 2, 1), none, true),
+            ((top - 1, 9), none, (top - 2, 2), none, false),
+            ((top - 1, 9), none, none, (top, u32::MAX), false),
+        ];
+        for (first, second, behind, last, passes) in cases {
+            let mut set = TaskSet::new(rt.alloc())?;
+            let mut task = TaskBox::new(rt.alloc())?;
+            put_write(&mut task, 1, range(first), range(second));
+            assert!(rt; set.add(&mut task).is_ok());
+            put_write(&mut task, 2, range(behind), range(last));
+            assert!(rt; set.add(&mut task).is_ok());
+            assert_eq!(rt; set.eligible(1), passes, "at {}", behind.0);
+        }
+        Ok(())
+    }
+
+    fn range((lba, count): (u64, u32)) -> Range {
+        Range { lba, count }
     }
 
     #[test]

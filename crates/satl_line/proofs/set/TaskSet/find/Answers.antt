@@ -1,0 +1,13 @@
+use Rattle.std.proofs.Common.{ap, sym, ◌∙◌}
+use Rattle.std.specs.List.{position_from}
+use Rattle.satl_line.specs.Tasks.{is_named}
+use Rattle.satl_line.specs.Outlines.{is_of_name, outlines_in}
+use Rattle.satl_line.proofs.OutlinesLemmas.{found_by_outlines}
+use Rattle.satl_line.proofs.set.TaskSet.find.Goals as goal
+
+pub returns : goal.returns
+returns c =
+    c.find_in.ensures
+    ∙ ap (λ order. position_from (is_of_name c.args.nexus c.args.tag) 0 (outlines_in c.self.inside.outlines order)) c.deref.ensures.0
+    ∙ found_by_outlines c.self.inside.slots.items c.self.inside.outlines c.self.inside.order.items c.args.nexus c.args.tag 0 c.self.invariant.outlined.each
+    ∙ ap (position_from (is_named c.args.nexus c.args.tag) 0) c.self.view_is
