@@ -26,14 +26,14 @@ use Rattle.satl_asks.specs.Commands.{HasList}
 use Rattle.satl_core.specs.Submitting.{Becomes, FindsSetFull, HasEntries, IsAdded, task_without_pages, trims}
 use Rattle.satl_identify.specs.Refusals.{IsIdentity}
 use Rattle.satl_core.proofs.AgreeingLemmas.{HasOwnEntries, fits_kept}
-use Rattle.std.proofs.lemmas.List.{length-take}
+use Rattle.std.proofs.lemmas.List.{length-take, length_push}
 use Rattle.satl_core.proofs.SelectLemmas.{change_same, taken_agrees}
 use Rattle.satl_core.proofs.Transfers.{of_task}
 use Rattle.satl_core.proofs.UnmapLemmas.{list_trims, range_trims, ranges_same}
-use Rattle.satl_core.proofs.HeldLemmas.{held-append, last_at, last_changed, length-push}
+use Rattle.satl_core.proofs.HeldLemmas.{held-append, last_at, last_changed}
 
-pub count_with : (old new : List Held) (entry : Entry) → Adds old entry new → length new ≡ suc (length old)
-count_with old new entry a = ap length a.last ∙ length-push old (record { slot = a.slot; entry = entry })
+pub count_with : (old new : List Held) (entry : Entry) → Adds old entry new → length new ≡ length old + 1
+count_with old new entry a = ap length a.last ∙ length_push old (record { slot = a.slot; entry = entry })
 
 -- the blocks of all tasks with one that is not too much
 pub fits_in : (tasks : List Held) (e : Entry) → is_too_much tasks e ≡ false → total_blocks tasks + e.blocks ≤ 32768
@@ -95,21 +95,7 @@ can_trim identity r c n is t list has =
 pub own_entries : (r : Request) (c : Command) (queued_trim : Bool) (pages : List Block) → HasEntries c queued_trim r.body pages → HasOwnEntries c queued_trim ((asks c).ranges r.body) pages
 own_entries r (cdbs.Unmap size) true pages has = λ queued. has
 own_entries r (cdbs.Unmap size) false pages has = λ queued. absurd cc
-own_entries r cdbs.TestUnitReady queued_trim pages has = tt
-own_entries r (cdbs.Inquiry a b) queued_trim pages has = tt
-own_entries r (cdbs.ModeSense x y z t u v) queued_trim pages has = tt
-own_entries r cdbs.ReadCapacity10 queued_trim pages has = tt
-own_entries r (cdbs.ReadCapacity16 a) queued_trim pages has = tt
-own_entries r (cdbs.ReportLuns a b) queued_trim pages has = tt
-own_entries r (cdbs.Read x y z t) queued_trim pages has = tt
-own_entries r (cdbs.Write x y z t) queued_trim pages has = tt
-own_entries r (cdbs.RequestSense a b) queued_trim pages has = tt
-own_entries r (cdbs.ModeSelect a b) queued_trim pages has = tt
-own_entries r (cdbs.StartStop a b) queued_trim pages has = tt
-own_entries r (cdbs.Verify x y z t) queued_trim pages has = tt
-own_entries r (cdbs.Flush x y z) queued_trim pages has = tt
-own_entries r (cdbs.WriteSame x y z t) queued_trim pages has = tt
-own_entries r (cdbs.Pass a) queued_trim pages has = tt
+own_entries r _ queued_trim pages has = tt
 
 push_tasks : (old : List Held) (h : Held) → map task_of (entries_of (old ++ h ∷ [])) ≡ map task_of (entries_of old) ++ task_of h.entry ∷ []
 push_tasks [] h = refl

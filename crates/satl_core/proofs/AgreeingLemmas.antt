@@ -107,9 +107,17 @@ pub record KeepsSettings (d d' : DriveState) : Type 0 where
   pub look : d'.look ≡ d.look
   pub identify : d'.identify ≡ d.identify
 
+-- so on a drive that is this one
+pub settings_kept : (d d' g : DriveState) → d' ≡ g → g.down ≡ d.down → g.cache ≡ d.cache → g.look ≡ d.look → g.identify ≡ d.identify → KeepsSettings d d'
+settings_kept d d' g stays down cache look identify = subst (KeepsSettings d) (sym stays) (record { down = down; cache = cache; look = look; identify = identify })
+
 -- so the data tell the same
 pub still_told : (bytes : List ℕ) (d d' : DriveState) → d'.identify ≡ d.identify → d'.cache ≡ d.cache → d'.look ≡ d.look → TellsOf bytes d → TellsOf bytes d'
 still_told bytes d d' same cache look told = same ∙ (told ∙ (ap (λ b. identity_data bytes b d.look) (sym cache) ∙ ap (λ b. identity_data bytes d'.cache b) (sym look)))
+
+-- the data of a drive that is this one
+pub told_by : (bytes : List ℕ) (d d' g : DriveState) → d' ≡ g → g.identify ≡ d.identify → g.cache ≡ d.cache → g.look ≡ d.look → TellsOf bytes d → TellsOf bytes d'
+told_by bytes d d' g stays identify cache look told = subst (TellsOf bytes) (sym stays) (still_told bytes d g identify cache look told)
 
 -- another layer agrees where its mark, its modes and its identity are the same
 pub agrees_by : (l new : Layer) (d d' : DriveState) → new.down ≡ l.down → new.modes ≡ l.modes → new.identity ≡ l.identity → KeepsSettings d d' → IsInFlight new.flying new.tasks d' → IsFit d' → IsValid (view new d') → Agrees l d → Agrees new d'
@@ -132,7 +140,7 @@ capacity_is l d agrees = sym agrees.fit.sectors ∙ agrees.valid.cells
 pub agrees_launched : (l new : Layer) (d d' : DriveState) → IsLaunched (queue_on l d) (queue_on new d') → new ≡ record l { flying = new.flying; slots = new.slots } → IsFit d' → Agrees l d → Agrees new d'
 agrees_launched l new d d' step same fit agrees =
     agrees_by l new d d' (ap (λ (x : Layer). x.down) same) (ap (λ (x : Layer). x.modes) same) (ap (λ (x : Layer). x.identity) same)
-    (record { down = ap (λ (x : DriveState). x.down) step.stays; cache = ap (λ (x : DriveState). x.cache) step.stays; look = ap (λ (x : DriveState). x.look) step.stays; identify = ap (λ (x : DriveState). x.identify) step.stays })
+    (settings_kept d d' _ step.stays refl refl refl refl)
     (subst (λ ts. IsInFlight new.flying ts d') (sym (ap (λ (x : Layer). x.tasks) same)) step.tie) fit
     (valid_with_cells (view l d) (view new d') d'.cells l.started d'.active d'.down d'.glitches size sound (ap (λ x. view x d') same) agrees.valid) agrees
   where
@@ -147,7 +155,7 @@ agrees_launched l new d d' step same fit agrees =
 pub agrees_cut : (l new : Layer) (d d' : DriveState) → IsCut l.tasks d d' → new ≡ record l { flying = []; slots = new.slots } → IsFit d' → Agrees l d → Agrees new d'
 agrees_cut l new d d' cut same fit agrees =
     agrees_by l new d d' (ap (λ (x : Layer). x.down) same) (ap (λ (x : Layer). x.modes) same) (ap (λ (x : Layer). x.identity) same)
-    (record { down = ap (λ (x : DriveState). x.down) cut.stays; cache = ap (λ (x : DriveState). x.cache) cut.stays; look = ap (λ (x : DriveState). x.look) cut.stays; identify = ap (λ (x : DriveState). x.identify) cut.stays })
+    (settings_kept d d' _ cut.stays refl refl refl refl)
     (subst (λ fs. IsInFlight fs new.tasks d') (sym (ap (λ (x : Layer). x.flying) same)) (subst (λ ts. IsInFlight [] ts d') (sym (ap (λ (x : Layer). x.tasks) same)) cut.tie)) fit
     (valid_with_cells (view l d) (view new d') d'.cells l.started d'.active d'.down d'.glitches (moves-length cut.moves) (moves-sound cut.moves agrees.valid.sound) (ap (λ x. view x d') same) agrees.valid) agrees
 
@@ -180,7 +188,7 @@ down_by d d' g stays down idle no_error capacity size sound fit told = record {
 pub quietly_down : (tasks : List Held) (d d' : DriveState) → IsLostQuietly tasks d d' → IsFit d' → IsLeftDown d d'
 quietly_down tasks d d' lost fit =
     down_by d d' _ lost.stays refl refl refl refl (moves-length lost.moves) (moves-sound lost.moves) fit
-    (λ bytes long told. still_told bytes d d' (ap (λ (x : DriveState). x.identify) lost.stays) (ap (λ (x : DriveState). x.cache) lost.stays) (ap (λ (x : DriveState). x.look) lost.stays) told)
+    (λ bytes long. told_by bytes d d' _ lost.stays refl refl refl)
 
 pub in_flight_down : (tasks : List Held) (d d' : DriveState) → IsLostInFlight tasks d d' → IsFit d' → IsLeftDown d d'
 in_flight_down tasks d d' lost fit =
@@ -246,7 +254,7 @@ tied_lost l new d d' left same agrees =
 pub agrees_settled : (l new : Layer) (d d' : DriveState) (place : ℕ) (outcome : Outcome) → HasEndedAt place outcome (queue_on l d) (queue_on new d') → new ≡ record l { tasks = remove l.tasks place; flying = new.flying; slots = new.slots; free = new.free; out = new.out } → IsFit d' → Agrees l d → Agrees new d'
 agrees_settled l new d d' place outcome s same fit agrees =
     agrees_by l new d d' (ap (λ (x : Layer). x.down) same) (ap (λ (x : Layer). x.modes) same) (ap (λ (x : Layer). x.identity) same)
-    (record { down = ap (λ (x : DriveState). x.down) s.stays; cache = ap (λ (x : DriveState). x.cache) s.stays; look = ap (λ (x : DriveState). x.look) s.stays; identify = ap (λ (x : DriveState). x.identify) s.stays })
+    (settings_kept d d' _ s.stays refl refl refl refl)
     (subst (λ ts. IsInFlight new.flying ts d') (sym (ap (λ (x : Layer). x.tasks) same)) s.tie) fit
     (valid_with_cells (record (view l d) { tasks = remove (view l d).tasks place }) (view new d') d'.cells l.started d'.active d'.down d'.glitches size sound (ap (λ x. view x d') same ∙ ap (λ ts. record (view l d) { cells = d'.cells; tasks = ts; active = d'.active; down = d'.down; glitches = d'.glitches }) fewer)
     (valid_removed place (view l d) agrees.valid)) agrees

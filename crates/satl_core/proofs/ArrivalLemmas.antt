@@ -21,7 +21,7 @@ use Rattle.satl_unit.specs.declared.attention.Attention.{Attention}
 use Rattle.satl_direct.specs.Device.{Device, is_of}
 use Rattle.satl_direct.specs.Senses.{attention_sense, no_sense, out_of_range, overlapped, refusal, sense_spelled, short_data, unknown_unit}
 use Rattle.satl_direct.specs.Arrival as direct
-use Rattle.satl_direct.specs.Arrival.{untold_codes, attended, Arrival, ArrivesAs, Arrives, answered, waits, arrival, asks_for, attention_arrival, cdb_arrival, check, code_arrival, operation_code, is_unit_0, other_arrival, unit_arrival}
+use Rattle.satl_direct.specs.Arrival.{untold_codes, attended, Arrival, ArrivesAs, Arrives, answered, waits, arrival, asks_for, attention_arrival, cdb_arrival, check, code_arrival, operation_code, other_arrival, unit_arrival}
 use Rattle.satl_direct.specs.Tasks.{asks, held_by, is_full, needed, range_of, task_for, task_of}
 use Rattle.satl_core.specs.declared.submitting.AtOnce.{AtOnce}
 use Rattle.satl_core.specs.declared.submitting.AtOnce.TheVariants as at_once
@@ -89,15 +89,7 @@ becomes_at_once l d r a cdbs.ReadCapacity10 here none mark e = same_answer l d r
 becomes_at_once l d r a (cdbs.ReadCapacity16 alloc) here none mark e = same_answer l d r (at_once.Tell datas.Capacity16 alloc) a _ refl e
 becomes_at_once l d r a (cdbs.ReportLuns select alloc) here none mark e = same_answer l d r (at_once.Tell (datas.Luns select) alloc) a _ refl e
 becomes_at_once l d r a (cdbs.RequestSense descriptor alloc) here none mark e = ap (λ what. direct.sense_told what r descriptor alloc) (none here) ∙ same_answer l d r (at_once.Tell (datas.Sense descriptor no_sense) alloc) a _ refl e
-becomes_at_once l d r a (cdbs.Read form lba count fua) here none mark e = idle_is l d r a (cdbs.Read form lba count fua) (count == 0) mark e
-becomes_at_once l d r a (cdbs.Write form lba count fua) here none mark e = idle_is l d r a (cdbs.Write form lba count fua) (count == 0) mark e
-becomes_at_once l d r a (cdbs.ModeSelect x y) here none mark e = idle_is l d r a (cdbs.ModeSelect x y) (y == 0) mark e
-becomes_at_once l d r a (cdbs.Verify x y z t) here none mark e = idle_is l d r a (cdbs.Verify x y z t) (z == 0) mark e
-becomes_at_once l d r a (cdbs.Unmap x) here none mark e = idle_is l d r a (cdbs.Unmap x) (is_idle (cdbs.Unmap x) r.body) mark e
-becomes_at_once l d r a (cdbs.StartStop x y) here none mark e = absurd cc
-becomes_at_once l d r a (cdbs.Flush x y z) here none mark e = absurd cc
-becomes_at_once l d r a (cdbs.WriteSame x y z t) here none mark e = absurd cc
-becomes_at_once l d r a (cdbs.Pass x) here none mark e = absurd cc
+becomes_at_once l d r a c here none mark e = idle_is l d r a c (is_idle c r.body) mark e
 
 -- what the device does by these tests
 abbrev tested_arrival : Layer → DriveState → Request → Option Illegal → Bool → Option Illegal → Bool → Option Illegal → Arrival → Arrival
@@ -248,24 +240,12 @@ becomes_waits l d r c cdbs.ReadCapacity10 e = absurd cc
 becomes_waits l d r c (cdbs.ReadCapacity16 x) e = absurd cc
 becomes_waits l d r c (cdbs.ReportLuns x y) e = absurd cc
 becomes_waits l d r c (cdbs.RequestSense x y) e = absurd cc
-becomes_waits l d r c (cdbs.Read form lba count fua) e = placed_is l d r c (cdbs.Read form lba count fua) (count == 0) e
-becomes_waits l d r c (cdbs.Write form lba count fua) e = placed_is l d r c (cdbs.Write form lba count fua) (count == 0) e
-becomes_waits l d r c (cdbs.ModeSelect x y) e = placed_is l d r c (cdbs.ModeSelect x y) (y == 0) e
-becomes_waits l d r c (cdbs.Verify x y z t) e = placed_is l d r c (cdbs.Verify x y z t) (z == 0) e
-becomes_waits l d r c (cdbs.Unmap x) e = placed_is l d r c (cdbs.Unmap x) (is_idle (cdbs.Unmap x) r.body) e
-becomes_waits l d r c (cdbs.StartStop x y) e = ap (full_or_waits l d r) (ok_is (cdbs.StartStop x y) c e)
-becomes_waits l d r c (cdbs.Flush x y z) e = ap (full_or_waits l d r) (ok_is (cdbs.Flush x y z) c e)
-becomes_waits l d r c (cdbs.WriteSame x y z t) e = ap (full_or_waits l d r) (ok_is (cdbs.WriteSame x y z t) c e)
-becomes_waits l d r c (cdbs.Pass x) e = ap (full_or_waits l d r) (ok_is (cdbs.Pass x) c e)
+becomes_waits l d r c k e = placed_is l d r c k (is_idle k r.body) e
 
 tests_wait : (l : Layer) (d : DriveState) (r : Request) (c : Command) (fields : Option Illegal) (outside : Bool) (header : Option Illegal) (short : Bool) (sound : Option Illegal) (next : Result Command AtOnce) (then : Arrival)
     → (next ≡ Ok c → then ≡ full_or_waits l d r c) → tested fields outside header short sound next ≡ Ok c → tested_arrival l d r fields outside header short sound then ≡ full_or_waits l d r c
-tests_wait l d r c (Some why) outside header short sound next then go e = absurd cc
-tests_wait l d r c None true header short sound next then go e = absurd cc
-tests_wait l d r c None false (Some why) short sound next then go e = absurd cc
-tests_wait l d r c None false None true sound next then go e = absurd cc
-tests_wait l d r c None false None false (Some why) next then go e = absurd cc
 tests_wait l d r c None false None false None next then go e = go e
+tests_wait l d r c fields outside header short sound next then go e = absurd cc
 
 cdb_waits : (l : Layer) (d : DriveState) (r : Request) (c : Command) (found : Result Command Illegal) → cdb_answer l r found ≡ Ok c → cdb_arrival (view l d) r found ≡ full_or_waits l d r c
 cdb_waits l d r c (Err why) e = absurd cc

@@ -2,6 +2,8 @@
 use Rattle.std.proofs.Common.{◌≡◌, inl, inr, refl, sym, ap, subst, ◌∙◌, arith, ℕ, zero, suc, ◌≤◌, Bool, true, false, List, [], ◌∷◌, length, map}
 use Rattle.std.specs.Prelude.{MatchBool, not, replicate}
 use Rattle.std.specs.List.{AllZip}
+use Rattle.std.proofs.lemmas.Slice.Zip.{AllZip-long}
+use Rattle.satl_flight.proofs.ZipLemmas.{zip-right}
 use Rattle.satl_base.specs.declared.bench.BenchEvent.{BenchEvent}
 use Rattle.satl_base.specs.declared.bench.BenchEvent.TheVariants.{Strike, Mend, Glitch, Order, Power, Unplug}
 use Rattle.satl_base.specs.declared.bench.Which.{Which}
@@ -39,7 +41,7 @@ use Rattle.satl_base.proofs.Booleans.{not-not}
 use Rattle.satl_direct.specs.Quiet.{MayShow}
 use Rattle.satl_direct.proofs.Quieting.{quiet_none, around_alone}
 use Rattle.satl_core.specs.Layer.{Layer, Tied, view, works}
-use Rattle.satl_core.proofs.AgreeingLemmas.{IsLeftDown, agrees_by, idle_in_flight, still_told, tied_lost, valid_with_cells}
+use Rattle.satl_core.proofs.AgreeingLemmas.{IsLeftDown, agrees_by, idle_in_flight, settings_kept, still_told, tied_lost, valid_with_cells}
 use Rattle.satl_core.proofs.EndingLemmas.{nothing_out}
 use Rattle.satl_core.proofs.QueuedLemmas.{moves_shown}
 use Rattle.satl_drive.specs.Queue.{Slots}
@@ -93,18 +95,9 @@ changes_glitches count old new is =
 changes_none : (old new : DriveState) → new ≡ old → ChangesMedium old new
 changes_none old new is = changes_glitches old.glitches old new is
 
--- sectors that are left behind are sound, and as many
+-- sectors that are left behind are sound
 left_behind-sound : (old new : List Cell) → AllZip IsLeftBehind old new → AreSound new
-left_behind-sound [] [] all = tt
-left_behind-sound (c ∷ old) (c' ∷ new) all = (subst (λ may. IsSound (record c' { may = may })) (sym all.0.alone) (inl refl), left_behind-sound old new all.1)
-left_behind-sound [] (c ∷ new) all = absurd all
-left_behind-sound (c ∷ old) [] all = absurd all
-
-left_behind-length : (old new : List Cell) → AllZip IsLeftBehind old new → length new ≡ length old
-left_behind-length [] [] all = refl
-left_behind-length (c ∷ old) (c' ∷ new) all = ap suc (left_behind-length old new all.1)
-left_behind-length [] (c ∷ new) all = absurd all
-left_behind-length (c ∷ old) [] all = absurd all
+left_behind-sound old new all = zip-right IsLeftBehind IsSound old new (λ c c' left. subst (λ may. IsSound (record c' { may = may })) (sym left.alone) (inl refl)) all
 
 -- with nothing outstanding an unplugged drive writes back at most
 unplugged_lost : (old new : DriveState) → old.outstanding ≡ [] → IsUnplugged old new → Loses old.cells new.cells
@@ -177,7 +170,7 @@ tied_changed : (l new : Layer) (d d' : DriveState) → ChangesMedium d d' → ne
 tied_changed l new d d' change same fit tied =
     subst (λ x. Tied x d') (sym same) (record {
       agrees = agrees_by l l d d' refl refl refl
-          (record { down = ap (λ (x : DriveState). x.down) change.stays; cache = ap (λ (x : DriveState). x.cache) change.stays; look = ap (λ (x : DriveState). x.look) change.stays; identify = ap (λ (x : DriveState). x.identify) change.stays })
+          (settings_kept d d' _ change.stays refl refl refl refl)
           (subst (λ x. IsInFlight l.flying l.tasks x) (sym change.stays) (record { each = queue.each; apart = queue.apart; few = queue.few; fits = queue.fits; small = queue.small; no_error = queue.no_error })) fit
           (valid_with_cells (view l d) (view l d') d'.cells l.started d'.active d'.down d'.glitches change.size (change.sound tied.agrees.valid.sound) refl tied.agrees.valid) tied.agrees;
       used = tied.used;
@@ -190,7 +183,7 @@ tied_changed l new d d' change same fit tied =
 valid_powered : (l : Layer) (d d' : DriveState) (slots : Slots) (free out : ℕ) → IsPowerCycled d d' → IsValid (view l d) → IsValid (view (record l { modes = defaults l.identity; started = true; down = false; attentions = replicate 4 (PowerOn ∷ []); tasks = []; flying = []; slots = slots; free = free; out = out }) d')
 valid_powered l d d' slots free out p v = record {
   identity = v.identity;
-  cells = left_behind-length d.cells d'.cells p.cells ∙ v.cells;
+  cells = AllZip-long IsLeftBehind d.cells d'.cells p.cells ∙ v.cells;
   sound = left_behind-sound d.cells d'.cells p.cells;
   few = omega arith;
   blocks = omega arith;

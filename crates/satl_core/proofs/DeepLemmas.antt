@@ -1,11 +1,13 @@
 -- The drive's queue is as deep as the device allows.
-use Rattle.std.proofs.Common.{◌≡◌, ◌⊎◌, refl, sym, ◌∙◌, ap, subst, inl, inr, ⊎_elim, ℕ, zero, suc, ◌+◌, ◌≤◌, Bool, true, false, cond, List, [], ◌∷◌, length, arith, Option, Some, None, eqb-true, eq-eqb}
-use Rattle.std.specs.Prelude.{◌==◌, ◌||◌, ◌&&◌, not, map, min, if◌then◌else◌, slice_get}
-use Rattle.std.specs.List.{AllByRecursion, AllZip, filter, find, list_any}
+use Rattle.std.proofs.Common.{◌≡◌, ◌⊎◌, refl, sym, ◌∙◌, ap, subst, inl, inr, ⊎_elim, ℕ, ◌≤◌, Bool, true, false, cond, List, [], ◌∷◌, length, arith, Some, eqb-true, eq-eqb}
+use Rattle.std.specs.Prelude.{◌==◌, ◌||◌, ◌&&◌, MatchBool, not, map, min, if◌then◌else◌}
+use Rattle.std.specs.List.{AllByRecursion, filter, find}
+use Rattle.std.proofs.Math.Nat.{min-le_left, min-le_right}
 use Rattle.satl_base.specs.Lists.{remove_first}
 use Rattle.satl_base.proofs.ListsLemmas.{length-remove_first, All-weaken, All-both, All-filter}
 use Rattle.satl_line.specs.Eligible.{IsEligibleBy}
 use Rattle.std.proofs.lemmas.List.{length-map}
+use Rattle.std.proofs.lemmas.Slice.Zip.{AllZip-long}
 use Rattle.satl_line.specs.declared.entry.Entry.{Entry}
 use Rattle.satl_line.specs.Conflict.{conflicts}
 use Rattle.satl_line.specs.Kinds.{is_ranged, kind_of}
@@ -106,7 +108,7 @@ pub deep_enough : (tasks : List Held) (flying : List Flying) (queued_trim : Bool
     → min 32 (length (filter is_ranged (eligibles (map task_of (entries_of tasks))))) ≤ length flying
 deep_enough tasks flying queued_trim own kinds filled =
     ⊎_elim
-    (λ full. omega (arith, full, Rattle.std.proofs.Math.Nat.min-le_left 32 (length (filter is_ranged (eligibles (map task_of (entries_of tasks)))))))
+    (λ full. omega (arith, full, min-le_left 32 (length (filter is_ranged (eligibles (map task_of (entries_of tasks)))))))
     (λ each.
     let count = ap (λ ts. length (filter is_ranged ts)) (eligibles_seen tasks) ∙ ap length (filter-map as_seen is_ranged (eligibles_held tasks)) ∙ length-map (filter (λ h. is_ranged (as_seen h)) (eligibles_held tasks)) as_seen in
     let few = pigeon (filter (λ h. is_ranged (as_seen h)) (eligibles_held tasks)) flying (own_filter (λ h. is_ranged (as_seen h)) (eligibles_held tasks) (own_eligibles tasks own))
@@ -114,14 +116,8 @@ deep_enough tasks flying queued_trim own kinds filled =
     (All-weaken (λ (h : Held). (h.entry.kind ≡ kind_of h.entry.command queued_trim) × IsEligibleBy clash tasks h) (λ (h : Held). is_ranged (as_seen h) ≡ true → holds flying h.slot ≡ true)
     (λ h both ranged. let r = ranged_held h.entry queued_trim both.0 ranged in each h r.0 both.1 r.1) (eligibles_held tasks)
     (All-both (λ (h : Held). h.entry.kind ≡ kind_of h.entry.command queued_trim) (IsEligibleBy clash tasks) (eligibles_held tasks) (All-eligibles (λ (h : Held). h.entry.kind ≡ kind_of h.entry.command queued_trim) tasks kinds) (each_eligible tasks)))) in
-    omega (arith, count, few, Rattle.std.proofs.Math.Nat.min-le_right 32 (length (filter is_ranged (eligibles (map task_of (entries_of tasks)))))))
+    omega (arith, count, few, min-le_right 32 (length (filter is_ranged (eligibles (map task_of (entries_of tasks)))))))
     filled
-
-zip-length : {X Y : Type 0} (R : X → Y → Type 0) (xs : List X) (ys : List Y) → AllZip R xs ys → length xs ≡ length ys
-zip-length R [] [] z = refl
-zip-length R [] (y ∷ ys) z = absurd z
-zip-length R (x ∷ xs) [] z = absurd z
-zip-length R (x ∷ xs) (y ∷ ys) z = ap suc (zip-length R xs ys z.1)
 
 kinds_kept : (identity : Rattle.satl_identify.specs.declared.identity.Identity.Identity) (hs : List Held) → AllByRecursion (IsKept identity) hs → AllByRecursion (λ (h : Held). h.entry.kind ≡ kind_of h.entry.command identity.queued_trim) hs
 kinds_kept identity [] kept = tt
@@ -132,12 +128,12 @@ pub as_deep : (l : Layer) (d : DriveState) → AreOwnSlots l.tasks → AllByRecu
 as_deep l d own kept tied = by d.down l.started refl refl
   where
     count : length l.flying ≡ length d.outstanding
-    count = zip-length (IsFlown l.tasks) l.flying d.outstanding tied.agrees.queue.each
+    count = sym (AllZip-long (IsFlown l.tasks) l.flying d.outstanding tied.agrees.queue.each)
 
     by : (down started : Bool) → d.down ≡ down → l.started ≡ started → (if down || not started then 0 else min 32 (length (filter is_ranged (eligibles (map task_of (entries_of l.tasks)))))) ≤ length d.outstanding
     by true started is on = omega arith
     by false false is on = omega arith
     by false true is on =
-        let filled : IsFilled l.flying l.tasks = Rattle.std.proofs.Common.subst (λ b. Rattle.std.specs.Prelude.MatchBool b (IsFilled l.flying l.tasks) (l.flying ≡ [])) (ap (λ b. not b && l.started) (tied.agrees.mark ∙ is) ∙ on) tied.used in
+        let filled : IsFilled l.flying l.tasks = subst (λ b. MatchBool b (IsFilled l.flying l.tasks) (l.flying ≡ [])) (ap (λ b. not b && l.started) (tied.agrees.mark ∙ is) ∙ on) tied.used in
         let deep = deep_enough l.tasks l.flying l.identity.queued_trim own (kinds_kept l.identity l.tasks kept) filled in
         omega (arith, deep, count)

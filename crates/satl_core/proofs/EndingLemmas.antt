@@ -1,6 +1,6 @@
 -- Tasks end: the first one, or one that was outstanding.
-use Rattle.std.proofs.Common.{◌≡◌, inl, inr, refl, sym, ap, subst, ◌∙◌, arith, ℕ, zero, suc, ◌+◌, ◌≤◌, true, false, Bool, List, [], ◌∷◌, ◌++◌, length, map, Some, None}
-use Rattle.std.specs.Prelude.{IsSome, MatchBool, Option, not, slice_get}
+use Rattle.std.proofs.Common.{◌≡◌, inl, inr, refl, sym, ap, subst, ◌∙◌, arith, ℕ, suc, ◌+◌, ◌≤◌, true, false, Bool, List, [], ◌∷◌, ◌++◌, length, map, Some, None}
+use Rattle.std.specs.Prelude.{IsSome, MatchBool, Option, not}
 use Rattle.std.specs.Option.{option_map}
 use Rattle.std.specs.List.{AllByRecursion, AllZip, remove}
 use Rattle.satl_base.specs.declared.reply.Reply.{Reply}
@@ -20,7 +20,7 @@ use Rattle.satl_flight.specs.Flown.{IsFlown}
 use Rattle.satl_flight.specs.Lending.{AreAlike}
 use Rattle.satl_flight.specs.Queueing.{EndsAndLeaves}
 use Rattle.satl_flight.specs.Settled.{Deepens, IsFilled, IsLostInFlight, OnDrive, outcome_of}
-use Rattle.satl_flight.proofs.ZipLemmas.{All-remove}
+use Rattle.satl_flight.proofs.ZipLemmas.{All-remove, zip-none}
 use Rattle.satl_barrier.specs.Leaving.{Stays}
 use Rattle.satl_direct.specs.Senses.{link_lost}
 use Rattle.satl_core.specs.declared.turning.Ending.{Ending}
@@ -32,7 +32,7 @@ use Rattle.satl_core.specs.Refilling.{EndsOne, EndsOrLoses}
 use Rattle.satl_core.specs.Turning.{IsLostInTask, ended_reply, ending_by, is_read, lost_replies}
 use Rattle.satl_core.proofs.AgreeingLemmas.{agrees_settled, in_flight_down, tied_lost}
 use Rattle.satl_core.proofs.FlushedLemmas.{queued_no_flush}
-use Rattle.satl_core.proofs.HeldLemmas.{IsFirst, IsKeptEntry, alike_lost}
+use Rattle.satl_core.proofs.HeldLemmas.{IsFirst, IsKeptEntry, alike_lost, at_place}
 use Rattle.satl_core.proofs.LeavingLemmas.{count_removed, pages_removed}
 use Rattle.satl_core.proofs.QueuedLemmas.{first_is_barrier, loses_in_flight, queue_on, settled_reply, settles_one}
 use Rattle.satl_core.proofs.RefillLemmas.{works_by}
@@ -58,11 +58,7 @@ first_alone l rest entry used idle first kept up on =
 
 -- nothing is outstanding on the drive either
 pub nothing_out : (l : Layer) (d : DriveState) → Agrees l d → l.flying ≡ [] → d.outstanding ≡ []
-nothing_out l d agrees idle = by d.outstanding (subst (λ fs. AllZip (IsFlown l.tasks) fs d.outstanding) idle agrees.queue.each)
-  where
-    by : (qs : List Outstanding) → AllZip (IsFlown l.tasks) [] qs → qs ≡ []
-    by [] z = refl
-    by (q ∷ qs) z = absurd z
+nothing_out l d agrees idle = zip-none (IsFlown l.tasks) d.outstanding (subst (λ fs. AllZip (IsFlown l.tasks) fs d.outstanding) idle agrees.queue.each)
 
 -- so the deepest queue stays
 pub alone_deepens : (l : Layer) (d d' : DriveState) → Agrees l d → l.flying ≡ [] → Stays d d' → Deepens d d'
@@ -79,11 +75,6 @@ alone_loses l now new rest entry d d' kept first agrees is ending given pushed a
     (subst (Around Turn (view l d) answers) (sym (ap (λ x. view x d') same)) (first_loses l rest entry d d' kept first agrees ending given pushed answers reply [] refl lost none push more told by))
 
 -- ---- the task that has ended
-
-at_place : (P : Held → Type 0) (tasks : List Held) (place : ℕ) (h : Held) → AllByRecursion P tasks → slice_get tasks place ≡ Some h → P h
-at_place P [] place h all at = absurd cc
-at_place P (k ∷ tasks) zero h all at = let one : k ≡ h = cc in subst P one all.0
-at_place P (k ∷ tasks) (suc place) h all at = at_place P tasks place h all.1 at
 
 -- the task that ended, as it is read
 pub ended_as : (error : Option NcqError) (task read : Entry) (old new : OnDrive) → read ≡ task → EndsAndLeaves error task old new → EndsAndLeaves error read old new

@@ -64,21 +64,7 @@ flush_done false started wanted old new ending flush good =
   where
     carried : (c : Command) → IsFlush c → DoneAlone wanted ending (task_on (record old.task { command = c }) old.drive) new → AllByRecursion IsSettled new.drive.cells
     carried (commands.Flush form lba count) flush done = all_settled old.drive.cells new.drive.cells done.1.lost
-    carried commands.TestUnitReady flush done = absurd flush
-    carried (commands.RequestSense descriptor alloc) flush done = absurd flush
-    carried (commands.Inquiry page alloc) flush done = absurd flush
-    carried (commands.ModeSense ten long_lba no_descriptor control page alloc) flush done = absurd flush
-    carried (commands.ModeSelect ten size) flush done = absurd flush
-    carried (commands.StartStop start no_flush) flush done = absurd flush
-    carried commands.ReadCapacity10 flush done = absurd flush
-    carried (commands.ReadCapacity16 alloc) flush done = absurd flush
-    carried (commands.ReportLuns select alloc) flush done = absurd flush
-    carried (commands.Read form lba count fua) flush done = absurd flush
-    carried (commands.Write form lba count fua) flush done = absurd flush
-    carried (commands.Verify form lba count compare) flush done = absurd flush
-    carried (commands.WriteSame form lba count unmap) flush done = absurd flush
-    carried (commands.Unmap size) flush done = absurd flush
-    carried (commands.Pass cdb) flush done = absurd flush
+    carried _ flush done = absurd flush
 
 -- ---- the task that was answered is the first
 
@@ -119,21 +105,7 @@ first_flush tasks rest first entry ending descriptor given replies r is nexus ta
 
 not_flush : (c : Command) (ranges : List Range) (body : List Block) (ranged : RangedTask) → ranged_by c ranges body ≡ Some ranged → IsFlush c → ⊥
 not_flush (commands.Flush form lba count) ranges body ranged is flush = absurd cc
-not_flush commands.TestUnitReady ranges body ranged is flush = flush
-not_flush (commands.RequestSense descriptor alloc) ranges body ranged is flush = flush
-not_flush (commands.Inquiry page alloc) ranges body ranged is flush = flush
-not_flush (commands.ModeSense ten long_lba no_descriptor control page alloc) ranges body ranged is flush = flush
-not_flush (commands.ModeSelect ten size) ranges body ranged is flush = flush
-not_flush (commands.StartStop start no_flush) ranges body ranged is flush = flush
-not_flush commands.ReadCapacity10 ranges body ranged is flush = flush
-not_flush (commands.ReadCapacity16 alloc) ranges body ranged is flush = flush
-not_flush (commands.ReportLuns select alloc) ranges body ranged is flush = flush
-not_flush (commands.Read form lba count fua) ranges body ranged is flush = flush
-not_flush (commands.Write form lba count fua) ranges body ranged is flush = flush
-not_flush (commands.Verify form lba count compare) ranges body ranged is flush = flush
-not_flush (commands.WriteSame form lba count unmap) ranges body ranged is flush = flush
-not_flush (commands.Unmap size) ranges body ranged is flush = flush
-not_flush (commands.Pass cdb) ranges body ranged is flush = flush
+not_flush _ ranges body ranged is flush = flush
 
 -- tasks of one nexus and tag are one
 one_named : (tasks : List Held) (t u : Held) (place : ℕ) → AreOwn (map task_of (entries_of tasks)) → IsIn t tasks → slice_get tasks place ≡ Some u → t.entry.nexus ≡ u.entry.nexus → t.entry.tag ≡ u.entry.tag → t.entry ≡ u.entry

@@ -27,7 +27,7 @@ use Rattle.satl_direct.specs.Valid.{AreOwn}
 use Rattle.satl_direct.proofs.Naming.{called-sym, called_same}
 use Rattle.satl_flight.specs.declared.flight.Flying.{Flying}
 use Rattle.satl_flight.specs.Flown as flown
-use Rattle.satl_flight.specs.Flown.{IsFlown, IsInFlight, clash, is_in_slot, queued_for, outstanding_for, blocks_for}
+use Rattle.satl_flight.specs.Flown.{IsFlown, IsInFlight, clash, is_in_slot}
 use Rattle.satl_flight.specs.Settled.{IsFilled}
 use Rattle.satl_flight.specs.Queueing.{IsSlotted}
 use Rattle.satl_line.specs.Tasks.{AreOwnSlots}
@@ -38,22 +38,10 @@ use Rattle.satl_core.proofs.QueuedLemmas.{eligible_seen}
 
 -- a task is the same ranged task to the device
 seen_by : (command : Command) (e : Entry) (ranged : RangedTask) → ranged_by command e.ranges.items e.body ≡ Some ranged → ranged_by command e.ranges.items (data_out command e.body) ≡ Some ranged
-seen_by commands.TestUnitReady e ranged h = absurd cc
-seen_by (commands.RequestSense a b) e ranged h = absurd cc
-seen_by (commands.Inquiry a b) e ranged h = absurd cc
-seen_by (commands.ModeSense a b c d f g) e ranged h = absurd cc
-seen_by (commands.ModeSelect a b) e ranged h = absurd cc
-seen_by (commands.StartStop a b) e ranged h = absurd cc
-seen_by commands.ReadCapacity10 e ranged h = absurd cc
-seen_by (commands.ReadCapacity16 a) e ranged h = absurd cc
-seen_by (commands.ReportLuns a b) e ranged h = absurd cc
 seen_by (commands.Read form lba count fua) e ranged h = h
 seen_by (commands.Write form lba count fua) e ranged h = h
-seen_by (commands.Verify a b c d) e ranged h = absurd cc
-seen_by (commands.Flush a b c) e ranged h = absurd cc
-seen_by (commands.WriteSame a b c d) e ranged h = absurd cc
 seen_by (commands.Unmap a) e ranged h = h
-seen_by (commands.Pass a) e ranged h = absurd cc
+seen_by _ e ranged h = absurd cc
 
 pub seen_ranged : (e : Entry) (ranged : RangedTask) → ranged_of e ≡ Some ranged → ranged_of (task_of e) ≡ Some ranged
 seen_ranged e ranged h = go e.kind refl
@@ -96,22 +84,10 @@ All-eligible P conflict (y ∷ ys) x all e = ⊎_elim (λ here. subst P here all
 
 -- a kept task that is ranged is one of its command
 ranged_kept : (command : Command) (queued_trim : Bool) (e : Entry) → e.kind ≡ kind_of command queued_trim → is_ranged e ≡ true → (r : RangedTask) × (ranged_by command e.ranges.items e.body ≡ Some r)
-ranged_kept commands.TestUnitReady q e kind is = absurd (barred e kind is)
-ranged_kept (commands.RequestSense a b) q e kind is = absurd (barred e kind is)
-ranged_kept (commands.Inquiry a b) q e kind is = absurd (barred e kind is)
-ranged_kept (commands.ModeSense a b c d f g) q e kind is = absurd (barred e kind is)
-ranged_kept (commands.ModeSelect a b) q e kind is = absurd (barred e kind is)
-ranged_kept (commands.StartStop a b) q e kind is = absurd (barred e kind is)
-ranged_kept commands.ReadCapacity10 q e kind is = absurd (barred e kind is)
-ranged_kept (commands.ReadCapacity16 a) q e kind is = absurd (barred e kind is)
-ranged_kept (commands.ReportLuns a b) q e kind is = absurd (barred e kind is)
 ranged_kept (commands.Read form lba count fua) q e kind is = (ranged_read fua (record { lba = lba; count = count }), refl)
 ranged_kept (commands.Write form lba count fua) q e kind is = (ranged_write fua (record { lba = lba; count = count }) e.body, refl)
-ranged_kept (commands.Verify a b c d) q e kind is = absurd (barred e kind is)
-ranged_kept (commands.Flush a b c) q e kind is = absurd (barred e kind is)
-ranged_kept (commands.WriteSame a b c d) q e kind is = absurd (barred e kind is)
 ranged_kept (commands.Unmap a) q e kind is = (ranged_trim e.ranges.items, refl)
-ranged_kept (commands.Pass a) q e kind is = absurd (barred e kind is)
+ranged_kept _ q e kind is = absurd (barred e kind is)
 
 pub ranged_held : (e : Entry) (q : Bool) → e.kind ≡ kind_of e.command q → is_ranged e ≡ true → (r : RangedTask) × (ranged_of e ≡ Some r)
 ranged_held e q kind is =

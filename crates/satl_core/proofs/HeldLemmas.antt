@@ -1,7 +1,10 @@
 -- The tasks of the layer and their pages.
-use Rattle.std.proofs.Common.{◌≡◌, append_assoc, refl, sym, ap, subst, ◌∙◌, arith, ℕ, suc, ◌+◌, ◌≤◌, Bool, false, List, [], ◌∷◌, ◌++◌, length, Some}
+use Rattle.std.proofs.Common.{◌≡◌, append_assoc, refl, sym, ap, subst, ◌∙◌, arith, ℕ, zero, suc, ◌+◌, ◌≤◌, Bool, false, List, [], ◌∷◌, ◌++◌, length, Some}
 use Rattle.std.specs.Prelude.{IfSome, Result, Ok, Err, OnOk, is_err, remove, slice_get}
-use Rattle.std.specs.List.{AllByRecursion}
+use Rattle.std.specs.List.{AllByRecursion, filter}
+use Rattle.std.proofs.lemmas.List.{length_push}
+use Rattle.std.proofs.lemmas.Slice.Zip.{AllZip-long}
+use Rattle.std.proofs.lemmas.List.Sums.{count_by-le-length, length-filter}
 use Rattle.satl_base.specs.declared.reply.Reply.{Reply}
 use Rattle.satl_line.specs.declared.entry.Entry.{Entry}
 use Rattle.satl_identify.specs.declared.identity.Identity.{Identity}
@@ -15,6 +18,10 @@ use Rattle.satl_core.specs.Layer.{CanTrim, IsKept, IsTask, entry_pages, held_pag
 use Rattle.satl_base.specs.Limits.{IsExpectable}
 use Rattle.satl_core.specs.Turning.{ended_reply, lost_replies}
 use Rattle.satl_core.proofs.Transfers.{entries_few}
+
+-- a filter leaves no more than there was
+pub filter_fewer : {X : Type 0} (p : X → Bool) (xs : List X) → length (filter p xs) ≤ length xs
+filter_fewer p xs = let count = length-filter p xs in let most = count_by-le-length p xs in omega (arith, count, most)
 
 -- ---- the first task
 
@@ -63,9 +70,11 @@ first_lost descriptor tasks rest entry replies replies' all first whole pushed =
     here : ended_reply entry (endings.Check link_lost) descriptor ∷ lost_replies descriptor rest ≡ lost_replies descriptor tasks
     here = rw first.are (ap (λ (e : Entry). ended_reply e (endings.Check link_lost) descriptor ∷ lost_replies descriptor rest) (sym first.entry_is))
 
-pub none_left : (tasks : List Held) → length tasks ≡ 0 → tasks ≡ []
-none_left [] e = refl
-none_left (h ∷ tasks) e = absurd cc
+-- what holds of all tasks holds of the one at a place
+pub at_place : (P : Held → Type 0) (tasks : List Held) (place : ℕ) (h : Held) → AllByRecursion P tasks → slice_get tasks place ≡ Some h → P h
+at_place P [] place h all at = absurd cc
+at_place P (k ∷ tasks) zero h all at = let one : k ≡ h = cc in subst P one all.0
+at_place P (k ∷ tasks) (suc place) h all at = at_place P tasks place h all.1 at
 
 -- ---- pages
 
@@ -96,27 +105,14 @@ pub last_changed : (change : Held → Held) (tasks : List Held) (h : Held) (n : 
 last_changed change [] h n e = rw e refl
 last_changed change (t ∷ tasks) h n e = rw e (ap (λ l. t ∷ l) (last_changed change tasks h (length tasks) refl))
 
-pub length-push : (tasks : List Held) (h : Held) → length (tasks ++ h ∷ []) ≡ suc (length tasks)
-length-push [] h = refl
-length-push (t ∷ tasks) h = ap suc (length-push tasks h)
-
--- no replies
-pub no_replies : (rs : List Reply) → length rs ≡ 0 → rs ≡ []
-no_replies [] e = refl
-no_replies (r ∷ rs) e = absurd cc
-
 -- what an Ok says
 pub on_ok : {A E : Type 0} (r : Result A E) (P : Type 0) → is_err r ≡ false → OnOk r P → P
 on_ok (Ok a) P e p = p
 on_ok (Err x) P e p = absurd cc
 
 -- one reply more
-pub pushed : (replies replies' : List Reply) (r : Reply) → replies' ≡ replies ++ r ∷ [] → length replies' ≡ suc (length replies)
-pushed replies replies' r is = ap length is ∙ count replies
-  where
-    count : (l : List Reply) → length (l ++ r ∷ []) ≡ suc (length l)
-    count [] = refl
-    count (x ∷ l) = ap suc (count l)
+pub pushed : (replies replies' : List Reply) (r : Reply) → replies' ≡ replies ++ r ∷ [] → length replies' ≡ length replies + 1
+pushed replies replies' r is = ap length is ∙ length_push replies r
 
 -- ---- the same tasks, whatever their pages hold
 
@@ -134,10 +130,7 @@ alike_held (k ∷ old) [] alike = absurd alike
 alike_held (k ∷ old) (h ∷ new) alike = let here = alike.0.size in let rest = alike_held old new alike.1 in omega (arith, here, rest)
 
 pub alike_count : (old new : List Held) → AreAlike old new → length new ≡ length old
-alike_count [] [] alike = refl
-alike_count [] (h ∷ new) alike = absurd alike
-alike_count (k ∷ old) [] alike = absurd alike
-alike_count (k ∷ old) (h ∷ new) alike = ap suc (alike_count old new alike.1)
+alike_count old new alike = AllZip-long _ old new alike
 
 -- at a lost link they are answered alike
 pub alike_lost : (descriptor : Bool) (old new : List Held) → AreAlike old new → lost_replies descriptor new ≡ lost_replies descriptor old

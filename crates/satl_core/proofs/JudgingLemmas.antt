@@ -59,15 +59,7 @@ answer_ok l body cdbs.ReadCapacity10 d e = absurd cc
 answer_ok l body (cdbs.ReadCapacity16 a) d e = absurd cc
 answer_ok l body (cdbs.ReportLuns a b) d e = absurd cc
 answer_ok l body (cdbs.RequestSense a b) d e = absurd cc
-answer_ok l body (cdbs.Read form lba count fua) d e = let k = some_ok l body (cdbs.Read form lba count fua) d e in (k.0, k.1, λ told. told)
-answer_ok l body (cdbs.Write form lba count fua) d e = let k = some_ok l body (cdbs.Write form lba count fua) d e in (k.0, k.1, λ told. told)
-answer_ok l body (cdbs.ModeSelect ten size) d e = let k = some_ok l body (cdbs.ModeSelect ten size) d e in (k.0, k.1, λ told. told)
-answer_ok l body (cdbs.StartStop a b) d e = let k = some_ok l body (cdbs.StartStop a b) d e in (k.0, k.1, λ told. told)
-answer_ok l body (cdbs.Verify x y z t) d e = let k = some_ok l body (cdbs.Verify x y z t) d e in (k.0, k.1, λ told. told)
-answer_ok l body (cdbs.Flush x y z) d e = let k = some_ok l body (cdbs.Flush x y z) d e in (k.0, k.1, λ told. told)
-answer_ok l body (cdbs.WriteSame x y z t) d e = let k = some_ok l body (cdbs.WriteSame x y z t) d e in (k.0, k.1, λ told. told)
-answer_ok l body (cdbs.Unmap a) d e = let k = some_ok l body (cdbs.Unmap a) d e in (k.0, k.1, λ told. told)
-answer_ok l body (cdbs.Pass a) d e = let k = some_ok l body (cdbs.Pass a) d e in (k.0, k.1, λ told. told)
+answer_ok l body c d e = let k = some_ok l body c d e in (k.0, k.1, λ told. told)
 
 -- what is known of a command that is not answered at once
 pub record IsGood (l : Layer) (r : Request) (c : Command) : Type 0 where
@@ -87,12 +79,8 @@ tested fields outside header short sound next =
 
 tests_ok : (fields : Option Illegal) (outside : Bool) (header : Option Illegal) (short : Bool) (sound : Option Illegal) (next : Result Command AtOnce) (d : Command) → tested fields outside header short sound next ≡ Ok d
     → (fields ≡ None) × (outside ≡ false) × (header ≡ None) × (short ≡ false) × (sound ≡ None) × (next ≡ Ok d)
-tests_ok (Some why) outside header short sound next d e = absurd cc
-tests_ok None true header short sound next d e = absurd cc
-tests_ok None false (Some why) short sound next d e = absurd cc
-tests_ok None false None true sound next d e = absurd cc
-tests_ok None false None false (Some why) next d e = absurd cc
 tests_ok None false None false None next d e = (refl, refl, refl, refl, refl, e)
+tests_ok fields outside header short sound next d e = absurd cc
 
 command_ok : (l : Layer) (r : Request) (c d : Command) → command_answer l r c ≡ Ok d → (c ≡ d) × IsGood l r c
 command_ok l r c d e =
@@ -120,10 +108,8 @@ judged_by unit over what l r = cond (not unit) (Err (other_answer r)) (cond over
 
 -- where a command may become a task, no test has stopped it
 pub by_ok : (P : Bool → Bool → Option Attention → Type 0) (unit over : Bool) (what : Option Attention) (l : Layer) (r : Request) (c : Command) → (code_answer l r ≡ Ok c → P true false None) → judged_by unit over what l r ≡ Ok c → P unit over what
-by_ok P false over what l r c p e = absurd cc
-by_ok P true true what l r c p e = absurd cc
-by_ok P true false (Some what) l r c p e = absurd cc
 by_ok P true false None l r c p e = p e
+by_ok P unit over what l r c p e = absurd cc
 
 pub judged_ok : (l : Layer) (r : Request) (c : Command) → judged l r ≡ Ok c → IsJudged l r c
 judged_ok l r c e = by_ok (λ unit over what. IsJudged l r c) (is_for_unit r) (overlaps l.tasks r) (attention_of l.attentions r) l r c (code_ok l r c) e
@@ -139,13 +125,6 @@ pub of_command : (P : Command → Type 0) → ((c : Command) → IsTold c → P 
     → ((form : Form) (lba count : ℕ) (unmap : Bool) → P (cdbs.WriteSame form lba count unmap))
     → ((size : ℕ) → P (cdbs.Unmap size))
     → ((cdb : List ℕ) → P (cdbs.Pass cdb)) → (c : Command) → P c
-of_command P told read write flush switch select check same trim through cdbs.TestUnitReady = told cdbs.TestUnitReady tt
-of_command P told read write flush switch select check same trim through (cdbs.Inquiry a b) = told (cdbs.Inquiry a b) tt
-of_command P told read write flush switch select check same trim through (cdbs.ModeSense a b e f g h) = told (cdbs.ModeSense a b e f g h) tt
-of_command P told read write flush switch select check same trim through cdbs.ReadCapacity10 = told cdbs.ReadCapacity10 tt
-of_command P told read write flush switch select check same trim through (cdbs.ReadCapacity16 a) = told (cdbs.ReadCapacity16 a) tt
-of_command P told read write flush switch select check same trim through (cdbs.ReportLuns a b) = told (cdbs.ReportLuns a b) tt
-of_command P told read write flush switch select check same trim through (cdbs.RequestSense a b) = told (cdbs.RequestSense a b) tt
 of_command P told read write flush switch select check same trim through (cdbs.Read form lba count fua) = read form lba count fua
 of_command P told read write flush switch select check same trim through (cdbs.Write form lba count fua) = write form lba count fua
 of_command P told read write flush switch select check same trim through (cdbs.ModeSelect a b) = select a b
@@ -155,6 +134,7 @@ of_command P told read write flush switch select check same trim through (cdbs.F
 of_command P told read write flush switch select check same trim through (cdbs.WriteSame a b e f) = same a b e f
 of_command P told read write flush switch select check same trim through (cdbs.Unmap a) = trim a
 of_command P told read write flush switch select check same trim through (cdbs.Pass a) = through a
+of_command P told read write flush switch select check same trim through c = told c tt
 
 -- what holds of each of them holds of a command that is told
 pub of_told : (P : Command → Type 0) → P cdbs.TestUnitReady → ((descriptor : Bool) (alloc : ℕ) → P (cdbs.RequestSense descriptor alloc)) → ((page : Option ℕ) (alloc : ℕ) → P (cdbs.Inquiry page alloc)) → ((ten long_lba no_descriptor : Bool) (control page alloc : ℕ) → P (cdbs.ModeSense ten long_lba no_descriptor control page alloc)) → P cdbs.ReadCapacity10 → ((alloc : ℕ) → P (cdbs.ReadCapacity16 alloc)) → ((select alloc : ℕ) → P (cdbs.ReportLuns select alloc)) → (c : Command) → IsTold c → P c
@@ -164,16 +144,8 @@ of_told P ready sense told modes short long luns (cdbs.ModeSense a b e f g h) he
 of_told P ready sense told modes short long luns cdbs.ReadCapacity10 here = short
 of_told P ready sense told modes short long luns (cdbs.ReadCapacity16 a) here = long a
 of_told P ready sense told modes short long luns (cdbs.ReportLuns a b) here = luns a b
-of_told P ready sense told modes short long luns (cdbs.Read a b e f) here = absurd here
-of_told P ready sense told modes short long luns (cdbs.Write a b e f) here = absurd here
 of_told P ready sense told modes short long luns (cdbs.RequestSense a b) here = sense a b
-of_told P ready sense told modes short long luns (cdbs.ModeSelect a b) here = absurd here
-of_told P ready sense told modes short long luns (cdbs.StartStop a b) here = absurd here
-of_told P ready sense told modes short long luns (cdbs.Verify a b e f) here = absurd here
-of_told P ready sense told modes short long luns (cdbs.Flush a b e) here = absurd here
-of_told P ready sense told modes short long luns (cdbs.WriteSame a b e f) here = absurd here
-of_told P ready sense told modes short long luns (cdbs.Unmap a) here = absurd here
-of_told P ready sense told modes short long luns (cdbs.Pass a) here = absurd here
+of_told P ready sense told modes short long luns _ here = absurd here
 
 makes_task : (capacity : ℕ) (cdb : List ℕ) (trim : Bool) (body : List Block) (c : Command) → HasLengths cdb → CanPass c → IsSaid cdb trim c → is_idle c body ≡ false → capacity < 2 ^ 48 → nat_lt capacity ((range_of c).lba + (range_of c).count) ≡ false → (IsTold c → ⊥) → IsTask capacity c (held_blocks c)
 makes_task capacity cdb trim body c bytes can said some small within untold =
@@ -260,21 +232,7 @@ code_list l r (Ok c) bytes holds e =
           whole = list_held r size holds (omega (arith, long)) (said.0 bytes);
           sound = fault_no size some good.sound;
         }
-    by cdbs.TestUnitReady said good = tt
-    by (cdbs.Inquiry a b) said good = tt
-    by (cdbs.ModeSense x y z t u v) said good = tt
-    by cdbs.ReadCapacity10 said good = tt
-    by (cdbs.ReadCapacity16 a) said good = tt
-    by (cdbs.ReportLuns a b) said good = tt
-    by (cdbs.Read x y z t) said good = tt
-    by (cdbs.Write x y z t) said good = tt
-    by (cdbs.RequestSense a b) said good = tt
-    by (cdbs.ModeSelect a b) said good = tt
-    by (cdbs.StartStop a b) said good = tt
-    by (cdbs.Verify x y z t) said good = tt
-    by (cdbs.Flush x y z) said good = tt
-    by (cdbs.WriteSame x y z t) said good = tt
-    by (cdbs.Pass a) said good = tt
+    by _ said good = tt
 code_list l r (Err a) bytes holds e = tt
 
 -- a command that trims does so on a drive with trim
@@ -284,20 +242,7 @@ code_trims l r (Ok c) e = let j = code_ok l r c (sym e) in by c (said_of r.cdb l
     by : (c : Command) → IsSaid r.cdb l.identity.trim c → trims c ≡ true → l.identity.trim ≡ true
     by (cdbs.Unmap size) said is = said.1
     by (cdbs.WriteSame form lba count unmap) said is = said.2 is
-    by cdbs.TestUnitReady said is = absurd cc
-    by (cdbs.Inquiry a b) said is = absurd cc
-    by (cdbs.ModeSense x y z t u v) said is = absurd cc
-    by cdbs.ReadCapacity10 said is = absurd cc
-    by (cdbs.ReadCapacity16 a) said is = absurd cc
-    by (cdbs.ReportLuns a b) said is = absurd cc
-    by (cdbs.Read x y z t) said is = absurd cc
-    by (cdbs.Write x y z t) said is = absurd cc
-    by (cdbs.RequestSense a b) said is = absurd cc
-    by (cdbs.ModeSelect a b) said is = absurd cc
-    by (cdbs.StartStop a b) said is = absurd cc
-    by (cdbs.Verify x y z t) said is = absurd cc
-    by (cdbs.Flush x y z) said is = absurd cc
-    by (cdbs.Pass a) said is = absurd cc
+    by _ said is = absurd cc
 code_trims l r (Err a) e = tt
 
 -- a request has all the data-out that its command needs

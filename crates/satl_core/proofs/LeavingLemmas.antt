@@ -58,25 +58,6 @@ count_removed [] place entry at = absurd cc
 count_removed (h ∷ tasks) zero entry at = refl
 count_removed (h ∷ tasks) (suc place) entry at = ap suc (count_removed tasks place entry at)
 
--- what holds of all tasks holds of those that stay
-pub left_kept : (P : Held → Type 0) (goes : Entry → Bool) (tasks : List Held) → AllByRecursion P tasks → AllByRecursion P (left_by goes tasks)
-left_kept P goes [] all = tt
-left_kept P goes (h ∷ tasks) all =
-    elim (goes h.entry) as (λ b. AllByRecursion P (cond (not b) (h ∷ left_by goes tasks) (left_by goes tasks))) [
-      | true ↦ left_kept P goes tasks all.1
-      | false ↦ (all.0, left_kept P goes tasks all.1)
-    ]
-
--- no more tasks stay than there were
-pub left_fewer : (goes : Entry → Bool) (tasks : List Held) → length (left_by goes tasks) ≤ length tasks
-left_fewer goes [] = omega arith
-left_fewer goes (h ∷ tasks) =
-    let rest = left_fewer goes tasks in
-    elim (goes h.entry) as (λ b. length (cond (not b) (h ∷ left_by goes tasks) (left_by goes tasks)) ≤ length (h ∷ tasks)) [
-      | true ↦ omega (arith, rest)
-      | false ↦ omega (arith, rest)
-    ]
-
 -- no task stays where all go
 pub left_none : (tasks : List Held) → left_by (λ t. true) tasks ≡ []
 left_none [] = refl
@@ -103,19 +84,25 @@ within_bare (scopes.OfNexus nexus) t = refl
 within_bare scopes.All t = refl
 within_bare scopes.Nothing t = refl
 
+-- it says the same of tasks that are alike but for their pages
+bare_alike : (p : Entry → Bool) → IsBare p → (t u : Entry) → without_pages t ≡ without_pages u → p t ≡ p u
+bare_alike p bare t u alike = bare t ∙ (ap p alike ∙ sym (bare u))
+
+-- the task at a place is what was seen there, but for its pages
+seen_there : (tasks : List Held) (place : ℕ) (entry : Entry) (h : Held) → option_map without_pages (entry_at tasks place) ≡ Some (without_pages entry) → slice_get tasks place ≡ Some h → without_pages h.entry ≡ without_pages entry
+seen_there tasks place entry h at stands =
+    let same : Some (without_pages h.entry) ≡ Some (without_pages entry) = sym (ap (λ o. option_map without_pages (option_map (λ (k : Held). k.entry) o)) stands) ∙ at in cc
+
 -- what is seen of a task at a place tells whether it passes
 pub seen_passes : (p : Entry → Bool) → IsBare p → (tasks : List Held) (place : ℕ) (entry : Entry) (b : Bool) (h : Held) → option_map without_pages (entry_at tasks place) ≡ Some (without_pages entry) → slice_get tasks place ≡ Some h → p entry ≡ b → p h.entry ≡ b
-seen_passes p bare tasks place entry b h at stands is =
-    let same : Some (without_pages h.entry) ≡ Some (without_pages entry) = sym (ap (λ o. option_map without_pages (option_map (λ (k : Held). k.entry) o)) stands) ∙ at in
-    let one : without_pages h.entry ≡ without_pages entry = cc in
-    bare h.entry ∙ (ap p one ∙ (sym (bare entry) ∙ is))
+seen_passes p bare tasks place entry b h at stands is = bare_alike p bare h.entry entry (seen_there tasks place entry h at stands) ∙ is
 
 -- what is taken out at a place passes as what was seen there
 pub bare_goes : (p : Entry → Bool) → IsBare p → (tasks : List Held) (place : ℕ) (entry taken : Entry) → option_map without_pages (entry_at tasks place) ≡ Some (without_pages entry) → entry_at tasks place ≡ Some taken → p entry ≡ true → p taken ≡ true
 bare_goes p bare tasks place entry taken at is passes =
     let same : Some (without_pages taken) ≡ Some (without_pages entry) = sym (ap (option_map without_pages) is) ∙ at in
     let one : without_pages taken ≡ without_pages entry = cc in
-    bare taken ∙ (ap p one ∙ (sym (bare entry) ∙ passes))
+    bare_alike p bare taken entry one ∙ passes
 
 -- the task at a place is one
 pub any_here : (p : Entry → Bool) → IsBare p → (tasks : List Held) (place : ℕ) (entry : Entry) → option_map without_pages (entry_at tasks place) ≡ Some (without_pages entry) → p entry ≡ true → list_any p (entries_of (drop place tasks)) ≡ true
@@ -148,10 +135,7 @@ pub wait_next : (goes : Entry → Bool) → IsBare goes → (flying : List Flyin
     → (goes entry ≡ true → (h : Held) → slice_get tasks place ≡ Some h → out ≡ holds flying h.slot) → (goes entry ≡ true → out ≡ false) → WaitBefore goes flying place tasks → WaitBefore goes flying next tasks
 wait_next goes bare flying tasks place next entry out e at told none all =
     subst (λ n. WaitBefore goes flying n tasks) (sym e) (wait_step goes flying tasks place
-    (λ h stands is. let here : goes entry ≡ true = bare entry ∙ (sym (ap goes (seen_one h stands)) ∙ (sym (bare h.entry) ∙ is)) in sym (told here h stands) ∙ none here) all)
-  where
-    seen_one : (h : Held) → slice_get tasks place ≡ Some h → without_pages h.entry ≡ without_pages entry
-    seen_one h stands = let same : Some (without_pages h.entry) ≡ Some (without_pages entry) = sym (ap (λ o. option_map without_pages (option_map (λ (k : Held). k.entry) o)) stands) ∙ at in cc
+    (λ h stands is. let here = sym (bare_alike goes bare h.entry entry (seen_there tasks place entry h at stands)) ∙ is in sym (told here h stands) ∙ none here) all)
 
 -- where a task is outstanding something is
 pub some_held : (flying : List Flying) (slot : ℕ) → holds flying slot ≡ true → flying ≢ []
@@ -167,17 +151,6 @@ stands (h ∷ tasks) (suc place) less = stands tasks place (omega (arith, less))
 pub idle_waits : (goes : Entry → Bool) (flying : List Flying) (tasks : List Held) → flying ≡ [] → AreWaiting goes flying tasks
 idle_waits goes flying [] idle = tt
 idle_waits goes flying (h ∷ tasks) idle = ((λ is. ap (λ fs. holds fs h.slot) idle), idle_waits goes flying tasks idle)
-
-pub waits_at : (goes : Entry → Bool) (flying : List Flying) (tasks : List Held) (place : ℕ) (h : Held) → AreWaiting goes flying tasks → slice_get tasks place ≡ Some h → goes h.entry ≡ true → holds flying h.slot ≡ false
-waits_at goes flying [] place h all at is = absurd cc
-waits_at goes flying (k ∷ tasks) zero h all at is = let one : k ≡ h = cc in subst (λ (x : Held). holds flying x.slot ≡ false) one (all.0 (ap (λ (x : Held). goes x.entry) one ∙ is))
-waits_at goes flying (k ∷ tasks) (suc place) h all at is = waits_at goes flying tasks place h all.1 at is
-
-pub waits_removed : (goes : Entry → Bool) (flying : List Flying) (tasks : List Held) (place : ℕ) → AreWaiting goes flying tasks → AreWaiting goes flying (remove tasks place)
-waits_removed goes flying [] zero all = all
-waits_removed goes flying [] (suc place) all = all
-waits_removed goes flying (h ∷ tasks) zero all = all.1
-waits_removed goes flying (h ∷ tasks) (suc place) all = (all.0, waits_removed goes flying tasks place all.1)
 
 -- the device has one where the layer has, by a test that says the same of them there
 pub any_tasks : (p q : Entry → Bool) → ((t : Entry) → q (task_of t) ≡ p t) → (tasks : List Held) → list_any p (entries_of tasks) ≡ list_any q (map task_of (entries_of tasks))

@@ -292,29 +292,30 @@ can_carry identity entry d kept capacity size has =
     takes : (ranges : List Range) → AreTrimmed identity ranges → TakesTrim ranges d
     takes ranges can = record { has = has ∙ can.has; list = can.list; within = subst (λ n. AllByRecursion (λ (r : Range). r.lba + r.count ≤ n) ranges) size can.within }
 
+-- a command writes these pairs, where it is the one of a task that runs alone on the drive
+abbrev pub WritesAlone : Entry → DriveState → List Pair → Command → Type 0
+WritesAlone entry d pairs command = IsSomeAnd (alone_of command) (λ alone. HasWhole alone entry × (pairs ≡ written_alone alone entry d))
+
 -- what it writes is what the device says that it writes
 written_is : (identity : Identity) (modes : Modes) (started : Bool) (attentions : List (List Attention)) (entry : Entry) (others : List Entry) (d : DriveState) (pairs : List Pair) (pair : Pair) → IsSetBy modes d → TellsOf identity.bytes d
-    → IsSomeAnd (alone_of entry.command) (λ alone. HasWhole alone entry × (pairs ≡ written_alone alone entry d)) → IsKeptEntry identity entry → IsIn pair pairs → IsIn pair (writes (seen identity modes started attentions (task_of entry ∷ others) d) (task_of entry))
+    → WritesAlone entry d pairs entry.command → IsKeptEntry identity entry → IsIn pair pairs → IsIn pair (writes (seen identity modes started attentions (task_of entry ∷ others) d) (task_of entry))
 written_is identity modes started attentions entry others d pairs pair set told written kept =
-    of_task (λ c. Written c → length entry.body ≡ entry.blocks + entry_pages c identity.queued_trim → IsIn pair pairs → Shown c) identity.capacity entry.blocks entry.command
+    of_task (λ c. WritesAlone entry d pairs c → length entry.body ≡ entry.blocks + entry_pages c identity.queued_trim → IsIn pair pairs → Shown c) identity.capacity entry.blocks entry.command
     (λ form lba count fua t is size i. absurd is) (λ form lba count fua t is size i. absurd is) (λ form lba count none is size i. absurd (subst (IsIn pair) is.1 i)) (λ start no_flush none is size i. absurd (subst (IsIn pair) is.1 i))
     (λ ten size none is pages i. absurd (subst (IsIn pair) is.1 i)) (λ form lba count t is size i. absurd (subst (IsIn pair) is.1 i)) (λ form lba count t is size i. absurd (subst (IsIn pair) is.1 i))
-    (λ form lba count unmap. elim unmap as (λ b. (entry.blocks ≡ 1) × FitsCapacity identity.capacity lba count → Written (cdbs.WriteSame form lba count b) → length entry.body ≡ entry.blocks + 0 → IsIn pair pairs → Shown (cdbs.WriteSame form lba count b)) [
+    (λ form lba count unmap. elim unmap as (λ b. (entry.blocks ≡ 1) × FitsCapacity identity.capacity lba count → WritesAlone entry d pairs (cdbs.WriteSame form lba count b) → length entry.body ≡ entry.blocks + 0 → IsIn pair pairs → Shown (cdbs.WriteSame form lba count b)) [
       | true ↦ λ t is size i. subst (IsIn pair) (is.1 ∙ (zeros_of_ranges d.cache (over lba count ∷ []) ∙ ap (zeros_over (over lba count ∷ [])) set.cache)) i
       | false ↦ λ t is size i. subst (IsIn pair) (is.1 ∙ (same_is lba count entry.body d.cache (omega (arith, t.0, size)) ∙ ap (same_pairs lba count entry.body) set.cache)) i
     ])
     (λ size t is pages i. subst (IsIn pair) (is.1 ∙ (zeros_of_ranges d.cache entry.ranges.items ∙ ap (zeros_over entry.ranges.items) set.cache)) i)
     (λ cdb t is size i. pass_pairs identity modes started attentions entry others d cdb pair set told t.1 (omega (arith, t.0, size)) is.0 (subst (IsIn pair) is.1 i)) kept.task written kept.pages
   where
-    Written : Command → Type 0
-    Written c = IsSomeAnd (alone_of c) (λ alone. HasWhole alone entry × (pairs ≡ written_alone alone entry d))
-
     Shown : Command → Type 0
     Shown c = IsIn pair (writes (seen identity modes started attentions (task_of (record entry { command = c }) ∷ others) d) (task_of (record entry { command = c })))
 
 -- so it may show, as the first task, where the unit is started if the command needs it
 pub shows : (identity : Identity) (modes : Modes) (started : Bool) (attentions : List (List Attention)) (entry : Entry) (others : List Entry) (d : DriveState) (pairs : List Pair) → IsSetBy modes d → TellsOf identity.bytes d
-    → IsSomeAnd (alone_of entry.command) (λ alone. HasWhole alone entry × (pairs ≡ written_alone alone entry d)) → (not started && (asks entry.command).starts) ≡ false → IsKeptEntry identity entry → (pair : Pair) → IsIn pair pairs
+    → WritesAlone entry d pairs entry.command → (not started && (asks entry.command).starts) ≡ false → IsKeptEntry identity entry → (pair : Pair) → IsIn pair pairs
     → MayShow (seen identity modes started attentions (task_of entry ∷ others) d) pair
 shows identity modes started attentions entry others d pairs set told written ready kept pair i = record {
   task = task_of entry;
@@ -328,12 +329,9 @@ shows identity modes started attentions entry others d pairs set told written re
     on false true p e h = absurd cc
     on false false p e h = h
 
-    Written : Command → Type 0
-    Written c = IsSomeAnd (alone_of c) (λ alone. HasWhole alone entry × (pairs ≡ written_alone alone entry d))
-
     starts_it : (asks entry.command).starts || is_pass entry.command ≡ true
     starts_it =
-        of_task (λ c. Written c → (asks c).starts || is_pass c ≡ true) identity.capacity entry.blocks entry.command
+        of_task (λ c. WritesAlone entry d pairs c → (asks c).starts || is_pass c ≡ true) identity.capacity entry.blocks entry.command
         (λ form lba count fua t is. absurd is) (λ form lba count fua t is. absurd is) (λ form lba count none is. refl) (λ start no_flush none is. absurd (subst (IsIn pair) is.1 i)) (λ ten size none is. absurd (subst (IsIn pair) is.1 i))
         (λ form lba count t is. refl) (λ form lba count t is. refl)
         (λ form lba count unmap t is. elim unmap as (λ b. (asks (cdbs.WriteSame form lba count b)).starts || false ≡ true) [ true ↦ refl | false ↦ refl ]) (λ size t is. refl) (λ cdb t is. refl) kept.task written

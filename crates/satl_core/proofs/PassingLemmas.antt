@@ -42,7 +42,7 @@ use Rattle.satl_direct.specs.Tasks.{pass_of, task_of}
 use Rattle.satl_direct.proofs.Passing.{writes_none}
 use Rattle.satl_direct.proofs.Quieting.{quiet_none}
 use Rattle.satl_core.specs.declared.turning.Ending.{Ending}
-use Rattle.satl_core.specs.Medium.{PassesThrough, passed}
+use Rattle.satl_core.specs.Medium.{PagesOnDrive, PassesThrough, pages_on, passed}
 use Rattle.satl_core.specs.Refilling.{EndsOne}
 use Rattle.satl_core.specs.Turning.{ended_reply, modes_after, set_by, where_done, with_setting}
 use Rattle.satl_core.proofs.DeviceLemmas.{ends_around, ends_by, first_gone, seen}
@@ -135,12 +135,7 @@ module _ (x : Traffic) (modes : Modes) (old new : Medium) (set : AreSet modes ol
   set_after (ata.Read how lba sectors) does = keeps modes old new (is_bad x.ended) set (carries_keep (reading how lba sectors old) x old new does)
   set_after (ata.Write how lba sectors) does = keeps modes old new (is_bad x.ended) set (carries_keep (writing how lba sectors x.given old) x old new does)
   set_after (ata.Verify ext lba sectors) does = keeps modes old new (is_bad x.ended) set (carries_keep (verifying ext lba sectors) x old new does)
-  set_after (ata.Flush ext) does = keeps modes old new (is_bad x.ended) set (same_so old new _ does.medium refl refl)
-  set_after ata.Identify does = keeps modes old new (is_bad x.ended) set (same_so old new _ does.medium refl refl)
   set_after (ata.SetFeatures what) does = features (setting_of what) does
-  set_after ata.Standby does = keeps modes old new (is_bad x.ended) set (same_so old new _ does.medium refl refl)
-  set_after ata.Idle does = keeps modes old new (is_bad x.ended) set (same_so old new _ does.medium refl refl)
-  set_after ata.CheckPower does = keeps modes old new (is_bad x.ended) set (same_so old new _ does.medium refl refl)
   set_after (ata.ReadLog log page blocks) does = logged (effects.is_error_log log page blocks) does
     where
       logged : (b : Bool) → MatchBool b (effects.IsLogged effects.no_error_log x old new) (EndsBad abrt 0 x old new) → AreSet (if is_bad x.ended then modes else modes) new
@@ -151,8 +146,7 @@ module _ (x : Traffic) (modes : Modes) (old new : Medium) (set : AreSet modes ol
       trimmed : (b : Bool) → MatchBool b (EndsBad abrt 0 x old new) (Carries (trimming blocks x.given old) x old new) → AreSet (if is_bad x.ended then modes else modes) new
       trimmed true does = keeps modes old new (is_bad x.ended) set (same_so old new _ does.medium refl refl)
       trimmed false does = keeps modes old new (is_bad x.ended) set (carries_keep (trimming blocks x.given old) x old new does)
-  set_after ata.SmartStatus does = keeps modes old new (is_bad x.ended) set (same_so old new _ does.medium refl refl)
-  set_after (ata.Other code) does = keeps modes old new (is_bad x.ended) set (same_so old new _ does.medium refl refl)
+  set_after _ does = keeps modes old new (is_bad x.ended) set (same_so old new _ does.medium refl refl)
 
 -- the form of sense data stays
 same_form : (c : AtaCommand) (bad : Bool) (modes : Modes) → (modes_by c bad modes).d_sense ≡ modes.d_sense
@@ -202,11 +196,12 @@ reply_is s entry cdb ended taken read same = by (is_bad ended) refl (pass_of cdb
     by false good false ck false o = let both = same (rw (good, o) refl) in rw (good, ck, o, both.0, both.1) refl
 
 -- the drive is set as the mode values behind it say
-pub pass_sets : (cdb : List ℕ) (modes wanted : Modes) (given taken : List Block) (d d' : DriveState) (ending : Ending) → IsSetBy modes d → PassesThrough (pass_of cdb) given taken d ending d'
-    → (d'.cache ≡ (modes_after (cdbs.Pass cdb) ending modes wanted).wce) × (d'.look ≡ not (modes_after (cdbs.Pass cdb) ending modes wanted).dra)
-pass_sets cdb modes wanted given taken d d' ending set through =
+pub pass_sets : (cdb : List ℕ) (modes wanted : Modes) (old new : PagesOnDrive) (ending : Ending) → PassesThrough (pass_of cdb) old ending new → IsSetBy modes old.drive
+    → (new.drive.cache ≡ (modes_after (cdbs.Pass cdb) ending modes wanted).wce) × (new.drive.look ≡ not (modes_after (cdbs.Pass cdb) ending modes wanted).dra)
+pass_sets cdb modes wanted old new ending through set =
     let c = command_in (pass_of cdb).regs in
-    let are = set_after (record { registers = (pass_of cdb).regs; given = given; ended = through.ended; taken = taken }) modes (drive.medium_of d) through.is.after (record { cache = set.cache; look = set.look }) c through.is.does in
+    let x : Traffic = record { registers = (pass_of cdb).regs; given = old.pages; ended = through.ended; taken = new.pages } in
+    let are = set_after x modes (drive.medium_of old.drive) through.is.after (record { cache = set.cache; look = set.look }) c through.is.does in
     let same = sym (ap (λ e. where_done e (set_by c modes) modes) through.told ∙ modes_behind (pass_of cdb) through.ended c modes) in
     (ap (λ (y : DriveState). y.cache) through.is.stays ∙ (are.cache ∙ ap (λ (m : Modes). m.wce) same), ap (λ (y : DriveState). y.look) through.is.stays ∙ (are.look ∙ ap (λ (m : Modes). not m.dra) same))
 
@@ -263,7 +258,7 @@ module _ (identity : Identity) (modes : Modes) (started : Bool) (attentions : Li
       by named true out = subst (λ g. IsIn pair (pairs_of command (medium_of before) g)) (sym (out_is can named count whole out)) (subst (λ m. IsIn pair (pairs_of command m entry.body)) (same_medium set told) among)
       by named false out = absurd (subst (IsIn pair) (writes_none command pass can.own_length can.own_direction out (drive.medium_of d) entry.body) among)
 
-  module _ (d' : DriveState) (ending : Ending) (taken : List Block) (set : IsSetBy modes d) (told : TellsOf identity.bytes d) (can : CanGoToDrive pass) (count : length entry.body ≡ page_count pass.length) (through : PassesThrough pass entry.body taken d ending d') where
+  module _ (d' : DriveState) (ending : Ending) (taken : List Block) (set : IsSetBy modes d) (told : TellsOf identity.bytes d) (can : CanGoToDrive pass) (count : length entry.body ≡ page_count pass.length) (through : PassesThrough pass (pages_on entry.body d) ending (pages_on taken d')) where
     abbrev x : Traffic
     x = record { registers = pass.regs; given = entry.body; ended = through.ended; taken = taken }
 

@@ -37,7 +37,7 @@ use Rattle.satl_direct.specs.Quiet.{MayShow, Quiet, is_pass, writes, written_by}
 use Rattle.satl_direct.specs.Senses.{crc_error, read_error, write_error}
 use Rattle.satl_direct.specs.Tasks.{task_of}
 use Rattle.satl_direct.specs.Turn as turns
-use Rattle.satl_direct.specs.Turn.{Loss, TurnLoss}
+use Rattle.satl_direct.specs.Turn.{Loss}
 use Rattle.satl_direct.specs.Turn.Turn.{loses}
 use Rattle.satl_direct.specs.Quiet.{Around}
 use Rattle.satl_direct.specs.Valid.{AreOwn}
@@ -56,22 +56,10 @@ use Rattle.satl_core.proofs.DeviceLemmas.{ends_by, rest_lost}
 
 -- what a ranged task writes
 writes_by : (command : Command) (s : Device) (e : Entry) (ranges : List Range) (ranged : RangedTask) → e.ranges.items ≡ ranges → ranged_by command ranges e.body ≡ Some ranged → written_by command s (task_of (record e { command = command })) ≡ written_pairs s.modes.wce ranged
-writes_by commands.TestUnitReady s e ranges ranged same h = absurd cc
-writes_by (commands.RequestSense a b) s e ranges ranged same h = absurd cc
-writes_by (commands.Inquiry a b) s e ranges ranged same h = absurd cc
-writes_by (commands.ModeSense a b c d f g) s e ranges ranged same h = absurd cc
-writes_by (commands.ModeSelect a b) s e ranges ranged same h = absurd cc
-writes_by (commands.StartStop a b) s e ranges ranged same h = absurd cc
-writes_by commands.ReadCapacity10 s e ranges ranged same h = absurd cc
-writes_by (commands.ReadCapacity16 a) s e ranges ranged same h = absurd cc
-writes_by (commands.ReportLuns a b) s e ranges ranged same h = absurd cc
 writes_by (commands.Read form lba count fua) s e ranges ranged same h = let is : ranged_read fua (record { lba = lba; count = count }) ≡ ranged = cc in ap (written_pairs s.modes.wce) is
 writes_by (commands.Write form lba count fua) s e ranges ranged same h = let is : ranged_write fua (record { lba = lba; count = count }) e.body ≡ ranged = cc in ap (written_pairs s.modes.wce) is
-writes_by (commands.Verify a b c d) s e ranges ranged same h = absurd cc
-writes_by (commands.Flush a b c) s e ranges ranged same h = absurd cc
-writes_by (commands.WriteSame a b c d) s e ranges ranged same h = absurd cc
 writes_by (commands.Unmap a) s e ranges ranged same h = let is : ranged_trim ranges ≡ ranged = cc in ap (λ rs. written_pairs s.modes.wce (ranged_trim rs)) same ∙ ap (written_pairs s.modes.wce) is
-writes_by (commands.Pass a) s e ranges ranged same h = absurd cc
+writes_by _ s e ranges ranged same h = absurd cc
 
 -- a ranged task is told so by its command
 pub by_command : (e : Entry) (ranged : RangedTask) → ranged_of e ≡ Some ranged → ranged_by e.command e.ranges.items e.body ≡ Some ranged
@@ -87,25 +75,13 @@ writes_of s e ranged h = writes_by e.command s e e.ranges.items ranged refl (by_
 -- how it ends
 ends_ranged : (command : Command) (s : Device) (e : Entry) (ranges : List Range) (ranged : RangedTask) (reply : Reply) (new : Device) → e.ranges.items ≡ ranges → ranged_by command ranges e.body ≡ Some ranged
     → EndsOnMedium ranged s (task_of (record e { command = command })) reply new → EndsBy command s (task_of (record e { command = command })) reply new
-ends_ranged commands.TestUnitReady s e ranges ranged reply new same h m = absurd cc
-ends_ranged (commands.RequestSense a b) s e ranges ranged reply new same h m = absurd cc
-ends_ranged (commands.Inquiry a b) s e ranges ranged reply new same h m = absurd cc
-ends_ranged (commands.ModeSense a b c d f g) s e ranges ranged reply new same h m = absurd cc
-ends_ranged (commands.ModeSelect a b) s e ranges ranged reply new same h m = absurd cc
-ends_ranged (commands.StartStop a b) s e ranges ranged reply new same h m = absurd cc
-ends_ranged commands.ReadCapacity10 s e ranges ranged reply new same h m = absurd cc
-ends_ranged (commands.ReadCapacity16 a) s e ranges ranged reply new same h m = absurd cc
-ends_ranged (commands.ReportLuns a b) s e ranges ranged reply new same h m = absurd cc
 ends_ranged (commands.Read form lba count fua) s e ranges ranged reply new same h m =
     let is : ranged_read fua (record { lba = lba; count = count }) ≡ ranged = cc in subst (λ r. EndsOnMedium r s (task_of (record e { command = commands.Read form lba count fua })) reply new) (sym is) m
 ends_ranged (commands.Write form lba count fua) s e ranges ranged reply new same h m =
     let is : ranged_write fua (record { lba = lba; count = count }) e.body ≡ ranged = cc in subst (λ r. EndsOnMedium r s (task_of (record e { command = commands.Write form lba count fua })) reply new) (sym is) m
-ends_ranged (commands.Verify a b c d) s e ranges ranged reply new same h m = absurd cc
-ends_ranged (commands.Flush a b c) s e ranges ranged reply new same h m = absurd cc
-ends_ranged (commands.WriteSame a b c d) s e ranges ranged reply new same h m = absurd cc
 ends_ranged (commands.Unmap a) s e ranges ranged reply new same h m =
     let is : ranged_trim ranges ≡ ranged = cc in subst (λ r. EndsOnMedium r s (task_of (record e { command = commands.Unmap a })) reply new) (sym (ap ranged_trim same ∙ is)) m
-ends_ranged (commands.Pass a) s e ranges ranged reply new same h m = absurd cc
+ends_ranged _ s e ranges ranged reply new same h m = absurd cc
 
 -- ---- the answer to a task that has ended
 
@@ -131,19 +107,7 @@ tells : (command : Command) (ranges : List Range) (body : List Block) (ranged : 
 tells (commands.Read form lba count fua) ranges body ranged h = let is : ranged_read fua (record { lba = lba; count = count }) ≡ ranged = cc in subst (TellsSame (commands.Read form lba count fua)) is (record { data_in = λ b. refl; flaw = read_flaw })
 tells (commands.Write form lba count fua) ranges body ranged h = let is : ranged_write fua (record { lba = lba; count = count }) body ≡ ranged = cc in subst (TellsSame (commands.Write form lba count fua)) is (record { data_in = λ b. refl; flaw = write_flaw })
 tells (commands.Unmap a) ranges body ranged h = let is : ranged_trim ranges ≡ ranged = cc in subst (TellsSame (commands.Unmap a)) is (record { data_in = λ b. refl; flaw = write_flaw })
-tells commands.TestUnitReady ranges body ranged h = absurd cc
-tells (commands.RequestSense a b) ranges body ranged h = absurd cc
-tells (commands.Inquiry a b) ranges body ranged h = absurd cc
-tells (commands.ModeSense a b c d f g) ranges body ranged h = absurd cc
-tells (commands.ModeSelect a b) ranges body ranged h = absurd cc
-tells (commands.StartStop a b) ranges body ranged h = absurd cc
-tells commands.ReadCapacity10 ranges body ranged h = absurd cc
-tells (commands.ReadCapacity16 a) ranges body ranged h = absurd cc
-tells (commands.ReportLuns a b) ranges body ranged h = absurd cc
-tells (commands.Verify a b c d) ranges body ranged h = absurd cc
-tells (commands.Flush a b c) ranges body ranged h = absurd cc
-tells (commands.WriteSame a b c d) ranges body ranged h = absurd cc
-tells (commands.Pass a) ranges body ranged h = absurd cc
+tells _ ranges body ranged h = absurd cc
 
 pub settled_reply : (s : Device) (e : Entry) (ranged : RangedTask) (body : List Block) (error : Option NcqError) → ranged_of e ≡ Some ranged → IsFlawOrCrc error
     → ended_reply (record e { body = body }) (ending_by (not (is_read e.command)) error) s.modes.d_sense ≡ outcome_reply s (task_of e) ranged (outcome_of error ranged body)

@@ -18,44 +18,21 @@ use Rattle.satl_regs.specs.Trim.{addresses}
 use Rattle.satl_unit.specs.declared.attention.Attention.{Attention}
 use Rattle.satl_line.specs.declared.entry.Entry.{Entry}
 use Rattle.satl_direct.specs.Device.{Device}
-use Rattle.satl_direct.specs.Quiet.{IsUnderWay, MayShow, MayWake, Quiet, StaysOrWakes, written_by, writes}
+use Rattle.satl_direct.specs.Quiet.{IsUnderWay, MayShow, MayWake, Quiet, written_by, writes}
 use Rattle.satl_direct.specs.Tasks.{pass_of}
 
 -- a command writes the same to as many sectors
 pairs_same : (c : AtaCommand) (m : Medium) (cells : List Cell) (active : Bool) (given : List Block) → length cells ≡ length m.cells → pairs_of c (record m { cells = cells; active = active }) given ≡ pairs_of c m given
-pairs_same (commands.Read how lba sectors) m cells active given same = refl
 pairs_same (commands.Write how lba sectors) m cells active given same = ap (λ n. if nat_lt n (lba + sectors) then [] else pairs_from lba (take sectors given) m.cache) same
-pairs_same (commands.Verify ext lba sectors) m cells active given same = refl
-pairs_same (commands.Flush ext) m cells active given same = refl
-pairs_same commands.Identify m cells active given same = refl
-pairs_same (commands.SetFeatures what) m cells active given same = refl
-pairs_same commands.Standby m cells active given same = refl
-pairs_same commands.Idle m cells active given same = refl
-pairs_same commands.CheckPower m cells active given same = refl
-pairs_same (commands.ReadLog log page blocks) m cells active given same = refl
 pairs_same (commands.Trim blocks) m cells active given same =
     ap (λ n. if not (has_trim m.identify) || nat_lt (trim_blocks m.identify) blocks || list_any (λ (range : Range). nat_lt n (range.lba + range.count)) (payload_ranges blocks given) then [] else zeros_at m.cache (addresses (payload_ranges blocks given))) same
-pairs_same commands.SmartStatus m cells active given same = refl
-pairs_same (commands.Other code) m cells active given same = refl
+pairs_same _ m cells active given same = refl
 
 written_same : (c : Command) (s : Device) (cells : List Cell) (active : Bool) (lists : List (List Attention)) (t : Entry) → length cells ≡ length s.cells → written_by c (record s { cells = cells; active = active; attentions = lists }) t ≡ written_by c s t
-written_same cdbs.TestUnitReady s cells active lists t same = refl
-written_same (cdbs.RequestSense a b) s cells active lists t same = refl
-written_same (cdbs.Inquiry a b) s cells active lists t same = refl
-written_same (cdbs.ModeSense a b d e f g) s cells active lists t same = refl
-written_same (cdbs.ModeSelect a b) s cells active lists t same = refl
-written_same (cdbs.StartStop a b) s cells active lists t same = refl
-written_same cdbs.ReadCapacity10 s cells active lists t same = refl
-written_same (cdbs.ReadCapacity16 a) s cells active lists t same = refl
-written_same (cdbs.ReportLuns a b) s cells active lists t same = refl
-written_same (cdbs.Read a b d e) s cells active lists t same = refl
-written_same (cdbs.Write a b d e) s cells active lists t same = refl
-written_same (cdbs.Verify a b d e) s cells active lists t same = refl
-written_same (cdbs.Flush a b d) s cells active lists t same = refl
 written_same (cdbs.WriteSame a b d false) s cells active lists t same = refl
 written_same (cdbs.WriteSame a b d true) s cells active lists t same = refl
-written_same (cdbs.Unmap a) s cells active lists t same = refl
 written_same (cdbs.Pass cdb) s cells active lists t same = pairs_same (command_in (pass_of cdb).regs) (Rattle.satl_direct.specs.Ending.medium_of s) cells active t.body same
+written_same _ s cells active lists t same = refl
 
 -- quiet moves after quiet moves are quiet moves
 pub quiet_on : (a b c : Device) → Quiet a b → Quiet b c → Quiet a c

@@ -1,8 +1,8 @@
 -- What is issued, and what is answered where the link is lost in it.
-use Rattle.std.proofs.Common.{◌≡◌, ◌⊎◌, ℕ, inl, inr, ⊎_elim, refl, sym, ap, subst, ◌∙◌, arith, ◌+◌, ◌≤◌, true, false, Bool, List, [], ◌∷◌, ◌++◌, length}
+use Rattle.std.proofs.Common.{◌≡◌, ◌⊎◌, ℕ, inl, inr, ⊎_elim, refl, sym, ap, subst, ◌∙◌, arith, ◌+◌, true, false, Bool, List, [], ◌∷◌, ◌++◌, length}
 use Rattle.std.specs.Prelude.{not, ◌&&◌, ◌-◌, MatchBool}
 use Rattle.std.specs.List.{AllByRecursion}
-use Rattle.std.proofs.lemmas.List.{append-nil}
+use Rattle.std.proofs.lemmas.List.{append-nil, length_push}
 use Rattle.satl_base.specs.declared.reply.Reply.{Reply}
 use Rattle.satl_io.specs.Causes.{Rose, RoseBy}
 use Rattle.satl_direct.specs.Run.{losses_of}
@@ -58,17 +58,17 @@ module _ (l now new : Layer) (d d' : DriveState) (is : l ≡ now) (w : works l �
   launched_settled all = ⊎_elim (λ still. subst (AllByRecursion IsSettled) (sym still) all) (λ lost. still_settled d.cells d'.cells all lost) step.lost
 
 -- the task that came last is covered, so the queue is used
-pub filled_last : (l new : Layer) (capacity : Rattle.std.proofs.Common.ℕ) (trims : Bool) (d d' : DriveState) → works l ≡ true → new.tasks ≡ l.tasks → (before : List Held) → Comes capacity trims before l.tasks → MatchBool (works l) (IsFilled l.flying before) (l.flying ≡ [])
+pub filled_last : (l new : Layer) (capacity : ℕ) (trims : Bool) (d d' : DriveState) → works l ≡ true → new.tasks ≡ l.tasks → (before : List Held) → Comes capacity trims before l.tasks → MatchBool (works l) (IsFilled l.flying before) (l.flying ≡ [])
     → IsLaunched (queue_on l d) (queue_on new d') → IsIssuedIfItMay new.flying new.tasks (length l.tasks - 1) → IsFilled new.flying new.tasks
 filled_last l new capacity trims d d' w same before comes used step covered =
     let filled : IsFilled l.flying before = subst (λ b. MatchBool b (IsFilled l.flying before) (l.flying ≡ [])) w used in
-    let count : length l.tasks - 1 ≡ length before = ap (λ ts. length ts - 1) comes.last ∙ one_less before comes.held in
+    let count : length l.tasks - 1 ≡ length before = ap (λ ts. length ts - 1) comes.last ∙ one_less in
     subst (IsFilled new.flying) (sym (same ∙ comes.last))
     (filled_come before comes.held (queue_on l d) (queue_on new d') filled step
     (subst (λ n. IsIssuedIfItMay new.flying (before ++ comes.held ∷ []) n) count (subst (λ ts. IsIssuedIfItMay new.flying ts (length l.tasks - 1)) (same ∙ comes.last) covered)))
   where
-    one_less : (ts : List Held) (h : Held) → length (ts ++ h ∷ []) - 1 ≡ length ts
-    one_less ts h = let n = Rattle.std.proofs.Common.length-append ts (h ∷ []) in omega (arith, n)
+    one_less : length (before ++ comes.held ∷ []) - 1 ≡ length before
+    one_less = let n = length_push before comes.held in omega (arith, n)
 
 -- ---- the link is lost in it
 

@@ -19,21 +19,13 @@ use Rattle.satl_core.specs.Submitting.{HasLengths}
 abbrev pub IsSaid : List ℕ → Bool → Command → Type 0
 IsSaid cdb trim (cdbs.Read form lba count fua) = slice_index cdb 4 < 256 → count ≤ 4096
 IsSaid cdb trim (cdbs.Write form lba count fua) = slice_index cdb 4 < 256 → count ≤ 4096
-IsSaid cdb trim cdbs.TestUnitReady = Unit {0}
 IsSaid cdb trim (cdbs.RequestSense descriptor alloc) = slice_index cdb 0 ≡ 0x03
-IsSaid cdb trim (cdbs.Inquiry page alloc) = Unit {0}
-IsSaid cdb trim (cdbs.ModeSense is_ten long_lba no_descriptor control page alloc) = Unit {0}
-IsSaid cdb trim cdbs.ReadCapacity10 = Unit {0}
-IsSaid cdb trim (cdbs.ReadCapacity16 alloc) = Unit {0}
-IsSaid cdb trim (cdbs.ReportLuns select alloc) = Unit {0}
-IsSaid cdb trim (cdbs.StartStop start no_flush) = Unit {0}
 IsSaid cdb trim (cdbs.ModeSelect is_ten size) = HasLengths cdb → size < 65536
-IsSaid cdb trim (cdbs.Flush form lba count) = Unit {0}
 IsSaid cdb trim (cdbs.Verify form lba count false) = count ≤ 65536
 IsSaid cdb trim (cdbs.Verify form lba count true) = count ≤ 4096
 IsSaid cdb trim (cdbs.WriteSame form lba count unmap) = (1 ≤ count) × (count ≤ 65536) × (unmap ≡ true → trim ≡ true)
 IsSaid cdb trim (cdbs.Unmap size) = (HasLengths cdb → size < 65536) × (trim ≡ true)
-IsSaid cdb trim (cdbs.Pass bytes) = Unit {0}
+IsSaid cdb trim _ = Unit {0}
 
 -- a transfer's rules are kept
 of_rules : (long : Layout) (cdb : List ℕ) (c d : Command) → unless_broken (transfer_rules long) cdb c ≡ Ok d → (c ≡ d) × (long.count cdb ≤ 4096)

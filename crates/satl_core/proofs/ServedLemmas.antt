@@ -1,6 +1,6 @@
 -- The first task ends as the device says, where nothing is outstanding.
 use Rattle.std.proofs.Common.{◌≡◌, inl, refl, sym, ap, subst, ◌∙◌, ℕ, true, false, Bool, List, [], ◌∷◌, ◌++◌, map, Some, None}
-use Rattle.std.specs.Prelude.{IfSome, IsSomeAnd, MatchBool, Option, if◌then◌else◌, not, ◌==◌, ◌&&◌}
+use Rattle.std.specs.Prelude.{IfSome, MatchBool, Option, if◌then◌else◌, not, ◌==◌, ◌&&◌}
 use Rattle.std.specs.List.{AllByRecursion}
 use Rattle.std.proofs.lemmas.Bool.{and_right}
 use Rattle.satl_base.specs.declared.block.Block.{Block}
@@ -45,9 +45,9 @@ use Rattle.satl_core.specs.Turning as core
 use Rattle.satl_core.specs.Turning.{DoneAlone, IsLostInTask, IsUnasked, TaskEnds, TaskOnDrive, change_posting, ended_reply, modes_after, read_pages, started_after, task_on, wanted_by, where_done}
 use Rattle.satl_core.proofs.DeviceLemmas.{all_lost, ends_around, ends_by, ends_down, ends_stopped, first_checked, first_gone, first_tasks, quiet_same, seen}
 use Rattle.satl_core.proofs.HeldLemmas.{IsFirst, IsKeptEntry, first_kept}
-use Rattle.satl_core.specs.Medium.{CanCarry, HasWhole, written_alone}
+use Rattle.satl_core.specs.Medium.{CanCarry}
 use Rattle.satl_core.proofs.PassingLemmas.{pass_turn}
-use Rattle.satl_core.proofs.MediumLemmas.{check_turn, compare_turn, same_turn, shows, unmap_turn, zero_turn}
+use Rattle.satl_core.proofs.MediumLemmas.{WritesAlone, check_turn, compare_turn, same_turn, shows, unmap_turn, zero_turn}
 use Rattle.satl_core.proofs.Transfers.{of_task}
 
 -- a task that moves no has is done, and leaves these sectors
@@ -184,7 +184,7 @@ task_turn identity modes started attentions entry left others d d' ending kept s
 
 -- the pairs of the first task may show
 lost_turn : (identity : Identity) (modes : Modes) (started : Bool) (attentions : List (List Attention)) (entry : Entry) (others : List Entry) (d d' : DriveState) (pairs : List Pair) (answers : List Reply) → IsSetBy modes d → TellsOf identity.bytes d
-    → IsSomeAnd (alone_of entry.command) (λ alone. HasWhole alone entry × (pairs ≡ written_alone alone entry d)) → (not started && (asks entry.command).starts) ≡ false → IsKeptEntry identity entry
+    → WritesAlone entry d pairs entry.command → (not started && (asks entry.command).starts) ≡ false → IsKeptEntry identity entry
     → IsLostIn pairs d d' → answers ≡ turns.lost_replies (seen identity modes started attentions (task_of entry ∷ others) d) → Around Turn (seen identity modes started attentions (task_of entry ∷ others) d) answers (seen identity modes started attentions [] d')
 lost_turn identity modes started attentions entry others d d' pairs answers set told written ready kept x is =
     let s : Device = seen identity modes started attentions (task_of entry ∷ others) d in

@@ -1,8 +1,9 @@
 -- Tasks are taken off, and what may be issued then is.
 use Rattle.std.proofs.Common.{◌≡◌, inl, ⊎_elim, refl, sym, ap, subst, ◌∙◌, ◌-◌, arith, ◌+◌, ◌≤◌, true, false, Bool, List, [], ◌∷◌, ◌++◌, length, map, cond, Some, eqb-true, eq-eqb}
 use Rattle.std.specs.Prelude.{not, ◌||◌, ◌==◌, filter, MatchBool}
-use Rattle.std.specs.List.{AllByRecursion, find}
+use Rattle.std.specs.List.{find}
 use Rattle.std.proofs.lemmas.Bool.{or_right}
+use Rattle.satl_base.proofs.ListsLemmas.{All-in}
 use Rattle.satl_base.specs.declared.modes.Modes.{Modes}
 use Rattle.satl_base.specs.declared.reply.Reply.{Reply}
 use Rattle.satl_base.specs.Lists.{IsIn}
@@ -43,10 +44,6 @@ in_holds : (flying : List Flying) (f : Flying) → IsIn f flying → holds flyin
 in_holds [] f i = absurd i
 in_holds (g ∷ flying) f i = ⊎_elim (λ e. ap (λ b. b || holds flying f.slot) (eq-eqb g.slot f.slot (ap (λ (x : Flying). x.slot) (sym e)))) (λ later. or_right (g.slot == f.slot) (holds flying f.slot) (in_holds flying f later)) i
 
-all_in : (P : Flying → Type 0) (fs : List Flying) → ((f : Flying) → IsIn f fs → P f) → AllByRecursion P fs
-all_in P [] each = tt
-all_in P (f ∷ fs) each = (each f (inl refl), all_in P fs (λ g i. each g (Rattle.std.proofs.Common.inr i)))
-
 -- a task that is outstanding does not go
 stays_flying : (goes : Entry → Bool) (flying : List Flying) (tasks all : List Held) → AreWaiting goes flying tasks → (f : Flying) → holds flying f.slot ≡ true → (h : Held) → find (is_in_slot f.slot) tasks ≡ Some h → not (goes h.entry) ≡ true
 stays_flying goes flying [] all waits f held h found = absurd cc
@@ -80,7 +77,7 @@ agrees_left scope l new d same waits agrees =
     agrees_by l new d d (ap (λ (x : Layer). x.down) same) (ap (λ (x : Layer). x.modes) same) (ap (λ (x : Layer). x.identity) same) (record { down = refl; cache = refl; look = refl; identify = refl })
     (subst (λ fs. IsInFlight fs new.tasks d) (sym (ap (λ (x : Layer). x.flying) same)) (subst (λ ts. IsInFlight l.flying ts d) (sym (ap (λ (x : Layer). x.tasks) same))
     (tie_kept l.flying l.tasks (λ h. not (is_within scope h.entry)) d
-    (all_in _ l.flying (λ f i h found. stays_flying (is_within scope) l.flying l.tasks l.tasks waits f (in_holds l.flying f i) h found)) agrees.queue)))
+    (All-in _ l.flying (λ f i h found. stays_flying (is_within scope) l.flying l.tasks l.tasks waits f (in_holds l.flying f i) h found)) agrees.queue)))
     agrees.fit
     (subst IsValid (sym (ap (λ x. view x d) same ∙ ap (λ ts. record (view l d) { tasks = ts }) (left_seen scope l.tasks))) (valid_left (λ t. not (is_within scope t)) (view l d) agrees.valid)) agrees
 

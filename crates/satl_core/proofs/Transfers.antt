@@ -26,19 +26,13 @@ of_task P capacity n (cdbs.Read form lba count fua) read write flush switch sele
 of_task P capacity n (cdbs.Write form lba count fua) read write flush switch select check compare same trim through t = write form lba count fua t
 of_task P capacity n (cdbs.Flush form lba count) read write flush switch select check compare same trim through t = flush form lba count t
 of_task P capacity n (cdbs.StartStop start no_flush) read write flush switch select check compare same trim through t = switch start no_flush t
-of_task P capacity n cdbs.TestUnitReady read write flush switch select check compare same trim through t = absurd t
-of_task P capacity n (cdbs.RequestSense a b) read write flush switch select check compare same trim through t = absurd t
-of_task P capacity n (cdbs.Inquiry a b) read write flush switch select check compare same trim through t = absurd t
-of_task P capacity n (cdbs.ModeSense a b e f g h) read write flush switch select check compare same trim through t = absurd t
 of_task P capacity n (cdbs.ModeSelect ten size) read write flush switch select check compare same trim through t = select ten size t
-of_task P capacity n cdbs.ReadCapacity10 read write flush switch select check compare same trim through t = absurd t
-of_task P capacity n (cdbs.ReadCapacity16 a) read write flush switch select check compare same trim through t = absurd t
-of_task P capacity n (cdbs.ReportLuns a b) read write flush switch select check compare same trim through t = absurd t
 of_task P capacity n (cdbs.Verify a b e false) read write flush switch select check compare same trim through t = check a b e t
 of_task P capacity n (cdbs.Verify a b e true) read write flush switch select check compare same trim through t = compare a b e t
 of_task P capacity n (cdbs.WriteSame a b e f) read write flush switch select check compare same trim through t = same a b e f t
 of_task P capacity n (cdbs.Unmap a) read write flush switch select check compare same trim through t = trim a t
 of_task P capacity n (cdbs.Pass a) read write flush switch select check compare same trim through t = through a t
+of_task P capacity n _ read write flush switch select check compare same trim through t = absurd t
 
 -- a task holds at most 4,096 pages
 pub task_few : (capacity n : ℕ) (queued_trim : Bool) (command : Command) → IsTask capacity command n → n + entry_pages command queued_trim ≤ 4096

@@ -5,6 +5,8 @@ use Rattle.std.specs.List.{AllByRecursion, filter}
 use Rattle.std.proofs.lemmas.Bool.{cases_lt, eqb-false, eqb-true, ltb-false}
 use Rattle.std.proofs.lemmas.List.{append-nil, length-append}
 use Rattle.std.proofs.lemmas.List.Concat.{flat_map-cons}
+use Rattle.satl_core.proofs.HeldLemmas.{filter_fewer}
+use Rattle.satl_base.proofs.ListsLemmas.{All-filter}
 use Rattle.satl_base.specs.declared.block.Block.{Block}
 use Rattle.satl_base.specs.declared.block.Range.{Range}
 use Rattle.satl_cdb.specs.Refusals.{invalid_list_field, list_length_error, list_out_of_range}
@@ -50,17 +52,9 @@ sound_by capacity i sum (r ∷ rs) few none =
 
 -- ---- ranges without those of no block
 
-used_within : (capacity : ℕ) (rs : List Range) → AllByRecursion (λ (r : Range). r.lba + r.count ≤ capacity) rs → AllByRecursion (λ (r : Range). r.lba + r.count ≤ capacity) (filter is_used rs)
-used_within capacity [] all = tt
-used_within capacity (r ∷ rs) all = elim (r.count == 0) as (λ b. AllByRecursion (λ (r : Range). r.lba + r.count ≤ capacity) (cond (not b) (r ∷ filter is_used rs) (filter is_used rs))) [ true ↦ used_within capacity rs all.1 | false ↦ (all.0, used_within capacity rs all.1) ]
-
 used_total : (rs : List Range) → total (filter is_used rs) ≤ total rs
 used_total [] = omega arith
 used_total (r ∷ rs) = let rest = used_total rs in elim (r.count == 0) as (λ b. total (cond (not b) (r ∷ filter is_used rs) (filter is_used rs)) ≤ r.count + total rs) [ true ↦ omega (arith, rest) | false ↦ omega (arith, rest) ]
-
-used_count : (rs : List Range) → length (filter is_used rs) ≤ length rs
-used_count [] = omega arith
-used_count (r ∷ rs) = let rest = used_count rs in elim (r.count == 0) as (λ b. length (cond (not b) (r ∷ filter is_used rs) (filter is_used rs)) ≤ suc (length rs)) [ true ↦ omega (arith, rest) | false ↦ omega (arith, rest) ]
 
 abbrev AreUsed : List Range → Type 0
 AreUsed rs = AllByRecursion (λ (r : Range). 1 ≤ r.count) rs
@@ -139,9 +133,9 @@ pub list_trims : (identity : Identity) (list : List Block) (size : ℕ) → IsId
 list_trims identity list size is has it =
     let whole = list_sound list size identity.capacity it.sound in
     let all = sound_by identity.capacity 0 0 (descriptors list) (omega arith) whole.sound in
-    let within = used_within identity.capacity (descriptors list) all.within in
+    let within = All-filter (λ (r : Range). r.lba + r.count ≤ identity.capacity) is_used (descriptors list) all.within in
     let few : total (ranges_of list) ≤ 65536 = let less = used_total (descriptors list) in omega (arith, less, all.few) in
-    let short : length (ranges_of list) ≤ 64 = let less = used_count (descriptors list) in let count = descriptors_count 0 (descriptors_length list / 16) list in omega (arith, less, count, whole.few) in
+    let short : length (ranges_of list) ≤ 64 = let less = filter_fewer is_used (descriptors list) in let count = descriptors_count 0 (descriptors_length list / 16) list in omega (arith, less, count, whole.few) in
     record {
       has = has;
       list = record { each = trimmable identity.capacity (ranges_of list) (capacity_bounds identity is).1 within (are_used (descriptors list)) few; room = entries_few (ranges_of list) (are_used (descriptors list)) few short };
@@ -196,10 +190,6 @@ entries_within : (capacity : ℕ) (rs : List Range) → AllByRecursion (λ (x : 
 entries_within capacity [] all = tt
 entries_within capacity (r ∷ rs) all = rw flat_map-cons (split_within capacity r (entries rs) all.0 (entries_within capacity rs all.1))
 
-named_within : (capacity : ℕ) (rs : List Range) → AllByRecursion (λ (x : Range). x.lba + x.count ≤ capacity) rs → AllByRecursion (λ (x : Range). x.lba + x.count ≤ capacity) (filter trims.is_used rs)
-named_within capacity [] all = tt
-named_within capacity (r ∷ rs) all = elim (r.count == 0) as (λ b. AllByRecursion (λ (x : Range). x.lba + x.count ≤ capacity) (cond (not b) (r ∷ filter trims.is_used rs) (filter trims.is_used rs))) [ true ↦ named_within capacity rs all.1 | false ↦ (all.0, named_within capacity rs all.1) ]
-
 -- what the block of entries names
 payload_is : (ranges : List Range) → IsTrimList ranges → payload_ranges 1 (record { bytes = trim_block ranges } ∷ []) ≡ filter trims.is_used (entries ranges)
 payload_is ranges list = append-nil (trimmed (trim_block ranges)) ∙ block_back (entries ranges) (entries_fit ranges list.each) list.room
@@ -211,5 +201,5 @@ entries_suit identity ranges body trims queued is =
       queued,
       is,
       ap (λ b. addresses (payload_ranges 1 b)) is ∙ (ap addresses named ∙ addresses-entries ranges),
-      subst (λ b. AllByRecursion (λ (x : Range). x.lba + x.count ≤ identity.capacity) (payload_ranges 1 b)) (sym is) (subst (λ rs. AllByRecursion (λ (x : Range). x.lba + x.count ≤ identity.capacity) rs) (sym named) (named_within identity.capacity (entries ranges) (entries_within identity.capacity ranges trims.within))),
+      subst (λ b. AllByRecursion (λ (x : Range). x.lba + x.count ≤ identity.capacity) (payload_ranges 1 b)) (sym is) (subst (λ rs. AllByRecursion (λ (x : Range). x.lba + x.count ≤ identity.capacity) rs) (sym named) (All-filter (λ (x : Range). x.lba + x.count ≤ identity.capacity) is_used (entries ranges) (entries_within identity.capacity ranges trims.within))),
     )

@@ -3,8 +3,9 @@ use Rattle.std.proofs.Common.{◌≡◌, ⊎_elim, inl, refl, sym, ap, subst, �
 use Rattle.std.specs.Prelude.{Option, Ok, MatchBool, not, ◌==◌, ◌*◌, nat_lt, filter, replicate, IfSome}
 use Rattle.std.specs.List.{AllByRecursion, list_any}
 use Rattle.std.proofs.lemmas.Bool.{eqb-false, ltb-false, not-false, or_parts}
-use Rattle.std.proofs.lemmas.List.{length-append, length-replicate, length-set}
+use Rattle.std.proofs.lemmas.List.{length-append, length-replicate, length-set, length_push}
 use Rattle.std.proofs.Math.Seq.{take-append_seam}
+use Rattle.satl_base.proofs.ListsLemmas.{All-filter, All-push_end}
 use Rattle.satl_base.specs.declared.modes.Modes.{Modes}
 use Rattle.satl_base.specs.declared.reply.Reply.{Reply}
 use Rattle.satl_base.specs.declared.request.Request.{Request}
@@ -51,35 +52,22 @@ use Rattle.satl_mode.specs.Changes.{AreModesOf, IsChangeOf}
 use Rattle.satl_mode.proofs.Unchanged.{applied_of}
 use Rattle.satl_base.specs.declared.modes.ModeChange.{ModeChange}
 use Rattle.satl_core.proofs.DeviceLemmas.{first_tasks, seen}
-use Rattle.satl_core.proofs.HeldLemmas.{IsFirst, IsKeptEntry}
+use Rattle.satl_core.proofs.HeldLemmas.{IsFirst, IsKeptEntry, filter_fewer}
 use Rattle.satl_core.proofs.PostingLemmas.{once_kept, once_length}
 use Rattle.satl_core.proofs.ServedLemmas.{still}
 use Rattle.satl_core.proofs.LeavingLemmas.{found_is, left_tasks}
 
--- ---- tests
-
 -- ---- tasks that go
 
-come_kept : (identity : Identity) (p : Entry → Bool) (ts : List Entry) → AllByRecursion (HasCome identity) ts → AllByRecursion (HasCome identity) (filter p ts)
-come_kept identity p [] come = tt
-come_kept identity p (t ∷ ts) come =
-    elim (p t) as (λ b. AllByRecursion (HasCome identity) (cond b (t ∷ filter p ts) (filter p ts))) [
-      | true ↦ (come.0, come_kept identity p ts come.1)
-      | false ↦ come_kept identity p ts come.1
-    ]
-
-fewer : (p : Entry → Bool) (ts : List Entry) → (length (filter p ts) ≤ length ts) × (held_by (filter p ts) ≤ held_by ts)
-fewer p [] = (omega arith, omega arith)
-fewer p (t ∷ ts) =
-    let rest = fewer p ts in
-    elim (p t) as (λ b. (length (cond b (t ∷ filter p ts) (filter p ts)) ≤ length (t ∷ ts)) × (held_by (cond b (t ∷ filter p ts) (filter p ts)) ≤ held_by (t ∷ ts))) [
-      | true ↦ (omega (arith, rest.0), omega (arith, rest.1))
-      | false ↦ (omega (arith, rest.0), omega (arith, rest.1))
-    ]
+held_fewer : (p : Entry → Bool) (ts : List Entry) → held_by (filter p ts) ≤ held_by ts
+held_fewer p [] = omega arith
+held_fewer p (t ∷ ts) =
+    let rest = held_fewer p ts in
+    elim (p t) as (λ b. held_by (cond b (t ∷ filter p ts) (filter p ts)) ≤ held_by (t ∷ ts)) [ true ↦ omega (arith, rest) | false ↦ omega (arith, rest) ]
 
 -- the tasks that pass a test are left
 pub valid_left : (p : Entry → Bool) (s : Device) → IsValid s → IsValid (record s { tasks = filter p s.tasks })
-valid_left p s v = valid_fewer (filter p s.tasks) s (fewer p s.tasks) (own_filtered p s.tasks v.own) (come_kept s.identity p s.tasks v.come) v
+valid_left p s v = valid_fewer (filter p s.tasks) s (filter_fewer p s.tasks, held_fewer p s.tasks) (own_filtered p s.tasks v.own) (All-filter (HasCome s.identity) p s.tasks v.come) v
 
 -- ---- a condition that is told
 
@@ -114,22 +102,14 @@ once_judged_valid l d r v =
 
 -- ---- a task that comes
 
-come_pushed : (identity : Identity) (ts : List Entry) (t : Entry) → AllByRecursion (HasCome identity) ts → HasCome identity t → AllByRecursion (HasCome identity) (ts ++ t ∷ [])
-come_pushed identity [] t come here = (here, tt)
-come_pushed identity (u ∷ ts) t come here = (come.0, come_pushed identity ts t come.1 here)
-
 held_pushed : (ts : List Entry) (t : Entry) → held_by (ts ++ t ∷ []) ≡ held_by ts + t.blocks
 held_pushed [] t = omega arith
 held_pushed (u ∷ ts) t = let rest = held_pushed ts t in omega (arith, rest)
 
-count_pushed : (ts : List Entry) (t : Entry) → length (ts ++ t ∷ []) ≡ length ts + 1
-count_pushed [] t = refl
-count_pushed (u ∷ ts) t = let rest = count_pushed ts t in omega (arith, rest)
-
 -- a device with room for a task of its own nexus and tag, which has come
 valid_with : (s : Device) (t : Entry) → (length s.tasks == 64) ≡ false → nat_lt 32768 (held_by s.tasks + t.blocks) ≡ false → list_any (is_called t.nexus (t.tag).0) s.tasks ≡ false → HasCome s.identity t → IsValid s → IsValid (record s { tasks = s.tasks ++ t ∷ [] })
 valid_with s t room fits apart come v =
-    let more = count_pushed s.tasks t in
+    let more = length_push s.tasks t in
     let blocks = held_pushed s.tasks t in
     let some = eqb-false (length s.tasks) 64 room in
     let within = ltb-false 32768 (held_by s.tasks + t.blocks) fits in
@@ -140,7 +120,7 @@ valid_with s t room fits apart come v =
       few = omega (arith, more, some, v.few);
       blocks = omega (arith, blocks, within);
       own = own_pushed s.tasks t apart v.own;
-      come = come_pushed s.identity s.tasks t v.come come;
+      come = All-push_end (HasCome s.identity) s.tasks t v.come come;
       modes = v.modes;
       nexuses = v.nexuses;
       attentions = v.attentions;

@@ -83,15 +83,24 @@ ending_with (Some sense) bad = if bad then endings.Check sense else endings.Info
 abbrev pub passed : Pass → Taskfile → Ending
 passed pass ended = ending_with (status_sense pass ended) (is_bad ended)
 
--- the command of an ATA PASS-THROUGH was carried out with these pages, which are left with these blocks, and the task ends so
+-- pages, and the drive that they go to or come from, at a moment (profile)
+pub record PagesOnDrive : Type 0 where
+  pub pages : List Block
+  pub drive : DriveState
+
+-- these pages on the drive (profile)
+abbrev pub pages_on : List Block → DriveState → PagesOnDrive
+pages_on pages drive = record { pages = pages; drive = drive }
+
+-- the command of an ATA PASS-THROUGH was carried out with the pages, which are left with other blocks, and the task ends so
 -- (SAT-3 12.2)
-pub record PassesThrough (pass : Pass) (given taken : List Block) (old : DriveState) (ending : Ending)
-    (new : DriveState) : Type 0 where
+pub record PassesThrough (pass : Pass) (old : PagesOnDrive) (ending : Ending) (new : PagesOnDrive) : Type 0 where
   pub ended : Taskfile
-  pub is : IsCarriedOut (record { registers = pass.regs; given = given; ended = ended; taken = taken }) old new
-  pub whole : AreWhole given
-  pub left_whole : AreWhole taken
-  pub size : length taken ≡ length given
+  pub is : IsCarriedOut (record { registers = pass.regs; given = old.pages; ended = ended; taken = new.pages }) old.drive
+      new.drive
+  pub whole : AreWhole old.pages
+  pub left_whole : AreWhole new.pages
+  pub size : length new.pages ≡ length old.pages
   pub told : ending ≡ passed pass ended
 
 -- a drive takes a trim of these ranges: it has trim, one block of entries names them, and they lie within the capacity (ACS-3,

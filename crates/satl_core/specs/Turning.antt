@@ -33,7 +33,7 @@ use Rattle.satl_barrier.specs.Finishing.{most_pieces, trimming, writing_same}
 use Rattle.satl_barrier.specs.Leaving.{IsLostIn}
 use Rattle.satl_barrier.specs.Settings.{IsTuned}
 use Rattle.satl_barrier.specs.Flushing.{IsLeftWith, IsSwitched}
-use Rattle.satl_core.specs.Medium.{HasCompared, HasFinished, HasVerified, HasWhole, PassesThrough, written_alone}
+use Rattle.satl_core.specs.Medium.{HasCompared, HasFinished, HasVerified, HasWhole, PassesThrough, pages_on, written_alone}
 use Rattle.satl_core.specs.Alone.{alone_of}
 use Rattle.satl_core.specs.declared.alone.Alone.{Alone}
 use Rattle.satl_core.specs.declared.alone.Alone.TheVariants as alones
@@ -149,7 +149,7 @@ CarriedOut wanted (alones.TrimRange range) ending old new =
 CarriedOut wanted alones.TrimList ending old new =
     HasFinished (trimming old.task.ranges.items old.drive) 0 old.drive ending new.drive
 CarriedOut wanted (alones.Through cdb) ending old new =
-    PassesThrough (pass_of cdb) old.task.body new.task.body old.drive ending new.drive
+    PassesThrough (pass_of cdb) (pages_on old.task.body old.drive) ending (pages_on new.task.body new.drive)
 
 -- what the drive did for a task whose command runs alone (SAT-3 8)
 abbrev pub DoneAlone : Modes → Ending → TaskOnDrive → TaskOnDrive → Type 0

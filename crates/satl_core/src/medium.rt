@@ -66,10 +66,7 @@ pub fn compare_range<D: Drive, L: Ledger>(
     let mut scratch = scratch_pages(pool);
     let comparison = compare(range, blocks, &mut scratch, drive, steps);
     pool.give(scratch);
-    match comparison {
-        Ok(comparison) => Ok(compared(comparison)),
-        Err(LinkDown) => Err(LinkDown),
-    }
+    Ok(compared(comparison?))
 }
 
 /// A WRITE SAME of the first page to a range of 1 to 65,536 blocks (SBC-3 5.42).
@@ -95,10 +92,7 @@ pub fn write_range<D: Drive, L: Ledger>(
     let mut scratch = scratch_pages(pool);
     let finish = write_same(range, body.block(0), &mut scratch, drive, steps);
     pool.give(scratch);
-    match finish {
-        Ok(finish) => Ok(finished(finish)),
-        Err(LinkDown) => Err(LinkDown),
-    }
+    Ok(finished(finish?))
 }
 
 /// A trim of ranges that one block of entries can name (SBC-3 5.28, 5.42).
@@ -122,10 +116,7 @@ pub fn trim_ranges<D: Drive, L: Ledger>(
     let mut scratch = scratch_pages(pool);
     let finish = trim(ranges, &mut scratch, drive, steps);
     pool.give(scratch);
-    match finish {
-        Ok(finish) => Ok(finished(finish)),
-        Err(LinkDown) => Err(LinkDown),
-    }
+    Ok(finished(finish?))
 }
 
 /// Pages for the pieces of a command, with whatever they hold.

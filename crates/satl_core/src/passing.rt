@@ -9,7 +9,7 @@ ghost use Rattle.satl_barrier.specs.Commands.{AreWhole};
 ghost use Rattle.satl_barrier.specs.Leaving.{IsFree, IsLostIn, Stays};
 ghost use Rattle.satl_direct.specs.Tasks as direct;
 ghost use Rattle.satl_core.specs.Medium as medium;
-ghost use Rattle.satl_core.specs.Medium.{PassesThrough};
+ghost use Rattle.satl_core.specs.Medium.{PassesThrough, pages_on};
 
 use crate::turning::Ending;
 use satl_barrier::pass_through;
@@ -33,8 +33,8 @@ pub fn run_through<D: Drive, L: Ledger>(
     requires free { IsFree (D.state drive.old) }
     requires can { CanGoToDrive (direct.pass_of cdb.now) }
     requires room { length body.old ≡ page_count (direct.pass_of cdb.now).length }
-    ensures ends { IfOk result (λ ending. PassesThrough (direct.pass_of cdb.now) body.old body.new (D.state drive.old) ending
-        (D.state drive.new)) }
+    ensures ends { IfOk result (λ ending. PassesThrough (direct.pass_of cdb.now) (pages_on body.old (D.state drive.old)) ending
+        (pages_on body.new (D.state drive.new))) }
     ensures lost { OnErr result (IsLostIn (pairs_of (command_in (direct.pass_of cdb.now).regs)
         (medium_of (D.state drive.old)) body.old) (D.state drive.old) (D.state drive.new)) }
     ensures stays { Stays (D.state drive.old) (D.state drive.new) }

@@ -1,12 +1,14 @@
 use Rattle.std.proofs.Common.{arith, refl, sym, ap, subst, ◌∙◌, length}
+use Rattle.satl_flight.proofs.ZipLemmas.{All-remove}
+use Rattle.satl_core.proofs.HeldLemmas.{at_place}
 use Rattle.satl_core.specs.Layer.{held_pages}
 use Rattle.satl_core.specs.Leaving.{AreWaiting, is_within, left_by}
-use Rattle.satl_core.proofs.LeavingLemmas.{AreOthers, all_looked_at, bare_goes, count_removed, left_removed, others_removed, pages_removed, seen_passes, waits_at, waits_removed, within_bare}
+use Rattle.satl_core.proofs.LeavingLemmas.{AreOthers, all_looked_at, bare_goes, count_removed, left_removed, others_removed, pages_removed, seen_passes, within_bare}
 use Rattle.satl_core.proofs.leaving.drop_tasks.Goals as goal
 
 pub remove-requires-clause-waits : goal.remove-requires-clause-waits
 remove-requires-clause-waits c = λ h stands.
-    waits_at (is_within c.args.scope.now) c.loop-place.queue.flying c.loop-place.queue.tasks c.loop-place.place h c.loop-place.invariant.waiting stands
+    at_place _ c.loop-place.queue.tasks c.loop-place.place h c.loop-place.invariant.waiting stands
     (seen_passes (is_within c.args.scope.now) (within_bare c.args.scope.now) c.loop-place.queue.tasks c.loop-place.place c.entry.result.now _ h c.entry.ensures stands (sym c.is_within.ensures ∙ c.if-not-is_within.false))
 
 pub give-requires : goal.give-requires
@@ -27,7 +29,7 @@ loop-place-preserved c =
       same = ap (left_by (is_within c.args.scope.now)) c.remove.ensures.others ∙ (left_removed (is_within c.args.scope.now) c.loop-place.queue.tasks c.loop-place.place c.remove.new.task c.remove.ensures.value goes ∙ c.loop-place.invariant.same);
       front = subst (AreOthers (is_within c.args.scope.now) c.loop-place.place) (sym c.remove.ensures.others) (others_removed (is_within c.args.scope.now) c.loop-place.queue.tasks c.loop-place.place c.loop-place.invariant.front);
       waiting = subst (λ fs. AreWaiting (is_within c.args.scope.now) fs c.remove.new.self.tasks) (sym c.remove.ensures.flying)
-          (subst (AreWaiting (is_within c.args.scope.now) c.loop-place.queue.flying) (sym c.remove.ensures.others) (waits_removed (is_within c.args.scope.now) c.loop-place.queue.flying c.loop-place.queue.tasks c.loop-place.place c.loop-place.invariant.waiting));
+          (subst (AreWaiting (is_within c.args.scope.now) c.loop-place.queue.flying) (sym c.remove.ensures.others) (All-remove _ c.loop-place.queue.tasks c.loop-place.place c.loop-place.invariant.waiting));
       flying = c.remove.ensures.flying ∙ c.loop-place.invariant.flying;
       slots = c.remove.ensures.slots ∙ c.loop-place.invariant.slots;
       free = omega (arith, pages, body, left, c.give.ensures.free, c.loop-place.invariant.free);

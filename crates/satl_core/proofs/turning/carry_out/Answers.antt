@@ -15,9 +15,9 @@ returns-in_err-flush-in-Flush-clause-lost g c =
 pub returns-in-Through-clause-cache : goal.returns-in-Through-clause-cache
 returns-in-Through-clause-cache g c =
     subst (λ (alone : Alone). IfOk c.run_through.result (λ ending. (g.D.Drive.state c.run_through.new.drive).cache ≡ (modes_left alone ending c.args.modes.now c.args.wanted.now).wce)) (sym c.in-Through.is)
-    (IfOk-weaker c.run_through.result _ _ (λ ending x. (pass_sets c.in-Through.cdb c.args.modes.now c.args.wanted.now _ _ _ _ ending c.requires.set x).0) c.run_through.ensures.ends)
+    (IfOk-weaker c.run_through.result _ _ (λ ending x. (pass_sets c.in-Through.cdb c.args.modes.now c.args.wanted.now _ _ ending x c.requires.set).0) c.run_through.ensures.ends)
 
 pub returns-in-Through-clause-look : goal.returns-in-Through-clause-look
 returns-in-Through-clause-look g c =
     subst (λ (alone : Alone). IfOk c.run_through.result (λ ending. (g.D.Drive.state c.run_through.new.drive).look ≡ not (modes_left alone ending c.args.modes.now c.args.wanted.now).dra)) (sym c.in-Through.is)
-    (IfOk-weaker c.run_through.result _ _ (λ ending x. (pass_sets c.in-Through.cdb c.args.modes.now c.args.wanted.now _ _ _ _ ending c.requires.set x).1) c.run_through.ensures.ends)
+    (IfOk-weaker c.run_through.result _ _ (λ ending x. (pass_sets c.in-Through.cdb c.args.modes.now c.args.wanted.now _ _ ending x c.requires.set).1) c.run_through.ensures.ends)

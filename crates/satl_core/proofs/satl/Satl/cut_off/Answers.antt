@@ -1,9 +1,12 @@
 use Rattle.std.proofs.Common.{◌≢◌, ◌≤◌, arith, refl, sym, ap, subst, ◌∙◌, [], length}
+use Rattle.std.specs.Prelude.{not}
 use Rattle.std.specs.List.{AllByRecursion}
+use Rattle.satl_line.specs.Tasks.{Held}
+use Rattle.satl_base.proofs.ListsLemmas.{All-filter}
 use Rattle.satl_core.specs.Layer.{IsKept, IsSoundLayer, Layer, Tied, held_pages}
 use Rattle.satl_core.specs.Leaving.{is_within}
 use Rattle.satl_core.proofs.AgreeingLemmas.{quietly_down, tied_lost, works_flying}
-use Rattle.satl_core.proofs.LeavingLemmas.{left_fewer, left_kept}
+use Rattle.satl_core.proofs.HeldLemmas.{filter_fewer}
 use Rattle.satl_core.proofs.RefillLemmas.{lost_layer, lost_rest}
 use Rattle.satl_core.proofs.TakingLemmas.{cut_agrees, cut_lost, cut_removed, dropped_layer, rest_left}
 use Rattle.satl_core.proofs.TieLemmas.{layer_of, queue_changed}
@@ -17,13 +20,13 @@ sound_left : (g : given.Over) (c : After-drop_tasks g) → IsSoundLayer c.self.i
 sound_left g c = record {
   held = omega (arith, c.drop_tasks.ensures.out, c.self.invariant.held, ap held_pages c.cut-cut.ensures.same);
   all = omega (arith, c.drop_tasks.ensures.out, c.drop_tasks.ensures.free, c.self.invariant.all);
-  kept = subst (AllByRecursion (IsKept c.self.inside.identity)) (sym c.drop_tasks.ensures.others) (left_kept (IsKept c.self.inside.identity) (is_within c.args.scope.now) c.cut-cut.new.self.tasks (subst (AllByRecursion (IsKept c.self.inside.identity)) (sym c.cut-cut.ensures.same) c.self.invariant.kept));
+  kept = subst (AllByRecursion (IsKept c.self.inside.identity)) (sym c.drop_tasks.ensures.others) (All-filter (IsKept c.self.inside.identity) (λ h. not (is_within c.args.scope.now h.entry)) c.cut-cut.new.self.tasks (subst (AllByRecursion (IsKept c.self.inside.identity)) (sym c.cut-cut.ensures.same) c.self.invariant.kept));
   identity_is = c.self.invariant.identity_is;
 }
 
 fewer_left : (g : given.Over) (c : After-drop_tasks g) → length c.drop_tasks.new.queue.tasks ≤ length c.self.inside.queue.tasks
 fewer_left g c =
-    let few = left_fewer (is_within c.args.scope.now) c.cut-cut.new.self.tasks in
+    let few = filter_fewer (λ (h : Held). not (is_within c.args.scope.now h.entry)) c.cut-cut.new.self.tasks in
     omega (arith, few, ap length c.drop_tasks.ensures.others, ap length c.cut-cut.ensures.same)
 
 pub invariant_of-self : goal.invariant_of-self

@@ -1,5 +1,6 @@
 use Rattle.std.proofs.Common.{◌≡◌, ◌≤◌, arith, sym, ap, subst, ◌∙◌, ◌∷◌, [], true, length, Err, Ok}
 use Rattle.std.specs.Prelude.{IfSome}
+use Rattle.std.proofs.lemmas.List.{nil_from_length}
 use Rattle.satl_base.specs.declared.request.Request.{Request}
 use Rattle.satl_identify.proofs.Judging.{capacity_bounds}
 use Rattle.satl_mode.specs.Changes.{IsChangeOf}
@@ -15,7 +16,7 @@ use Rattle.satl_core.proofs.ArrivalLemmas.{answers_at_once, becomes_arrives, hel
 use Rattle.satl_core.proofs.CutLemmas.{judged_whole}
 use Rattle.satl_core.proofs.CountedLemmas.{becomes_more, few_tasks, tasks_seen}
 use Rattle.satl_core.proofs.DeviceLemmas.{arrives_around}
-use Rattle.satl_core.proofs.HeldLemmas.{held_is, no_replies}
+use Rattle.satl_core.proofs.HeldLemmas.{held_is}
 use Rattle.satl_core.proofs.OverlapLemmas.{sent_around}
 use Rattle.satl_core.proofs.TieLemmas.{layer_of}
 use Rattle.satl_core.proofs.ValidLemmas.{becomes_down, came_agrees, came_last, filled_up, filled_up_cut, filled_up_holds, full_tied, once_judged_valid, tied_told}
@@ -49,14 +50,14 @@ send_last-requires-clause-agrees g c =
     let becomes = subst (λ (l : Layer). Becomes r c.in-Ok.command l c.add_task.new.replies c.add_task.new.self) c.in-Ok.ensures.same c.add_task.ensures.becomes in
     came_agrees c.args.self.now c.add_task.new.self (g.D.Drive.state c.args.drive.now) (filled_up r) c.in-Ok.command c.add_task.new.replies
     (becomes_whole (filled_up r) r (length r.body) c.args.self.now.identity.capacity c.in-Ok.command c.args.self.now c.add_task.new.replies c.add_task.new.self (filled_up_cut r) c.in-Ok.ensures.task c.in-Ok.ensures.list c.add_task.ensures.long becomes)
-    (no_replies c.add_task.new.replies (sym c.len.ensures.count ∙ c.if-len-eq0.true)) (subst (λ (l : Layer). c.add_task.new.replies ≡ [] → Comes l.identity.capacity l.identity.queued_trim l.tasks c.add_task.new.self.tasks) c.in-Ok.ensures.same c.add_task.ensures.comes) c.requires.tied
+    (nil_from_length c.add_task.new.replies (sym c.len.ensures.count ∙ c.if-len-eq0.true)) (subst (λ (l : Layer). c.add_task.new.replies ≡ [] → Comes l.identity.capacity l.identity.queued_trim l.tasks c.add_task.new.self.tasks) c.in-Ok.ensures.same c.add_task.ensures.comes) c.requires.tied
     (judged_whole c.args.self.now (filled_up r) r (length r.body) _ (filled_up_cut r) c.in-Ok.ensures.lengths holds (sym c.in-Ok.ensures.judged)) (filled_up_holds r) c.requires.can.expected
 
 pub send_last-requires-clause-came : goal.send_last-requires-clause-came
 send_last-requires-clause-came g c =
     let becomes = subst (λ (l : Layer). Becomes c.args.request c.in-Ok.command l c.add_task.new.replies c.add_task.new.self) c.in-Ok.ensures.same c.add_task.ensures.becomes in
     came_last c.args.self.now c.add_task.new.self (g.D.Drive.state c.args.drive.now) c.args.request c.in-Ok.command c.add_task.new.replies becomes
-    (no_replies c.add_task.new.replies (sym c.len.ensures.count ∙ c.if-len-eq0.true)) (subst (λ (l : Layer). c.add_task.new.replies ≡ [] → Comes l.identity.capacity l.identity.queued_trim l.tasks c.add_task.new.self.tasks) c.in-Ok.ensures.same c.add_task.ensures.comes) c.requires.tied
+    (nil_from_length c.add_task.new.replies (sym c.len.ensures.count ∙ c.if-len-eq0.true)) (subst (λ (l : Layer). c.add_task.new.replies ≡ [] → Comes l.identity.capacity l.identity.queued_trim l.tasks c.add_task.new.self.tasks) c.in-Ok.ensures.same c.add_task.ensures.comes) c.requires.tied
 
 pub send_last-requires-clause-room : goal.send_last-requires-clause-room
 send_last-requires-clause-room g c =

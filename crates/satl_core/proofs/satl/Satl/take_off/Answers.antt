@@ -1,9 +1,12 @@
 use Rattle.std.proofs.Common.{◌≡◌, ◌≢◌, arith, refl, sym, ap, subst, ◌∙◌, [], length, true, false}
+use Rattle.std.specs.Prelude.{not}
 use Rattle.std.specs.List.{AllByRecursion}
+use Rattle.satl_line.specs.Tasks.{Held}
+use Rattle.satl_base.proofs.ListsLemmas.{All-filter}
 use Rattle.satl_core.specs.Layer.{IsKept, Layer, Tied}
 use Rattle.satl_core.specs.Leaving.{is_within}
 use Rattle.satl_core.proofs.AgreeingLemmas.{works_flying}
-use Rattle.satl_core.proofs.LeavingLemmas.{left_fewer, left_kept}
+use Rattle.satl_core.proofs.HeldLemmas.{filter_fewer}
 use Rattle.satl_core.proofs.QueuedLemmas.{works_so}
 use Rattle.satl_core.proofs.TakingLemmas.{agrees_left, dropped_layer, rest_left, still_idle, waiting_removed}
 use Rattle.satl_core.proofs.TieLemmas.{layer_of}
@@ -27,7 +30,7 @@ invariant_of-self g c =
     record {
       held = omega (arith, c.drop_tasks.ensures.out, c.self.invariant.held);
       all = omega (arith, c.drop_tasks.ensures.out, c.drop_tasks.ensures.free, c.self.invariant.all);
-      kept = subst (AllByRecursion (IsKept c.self.inside.identity)) (sym c.drop_tasks.ensures.others) (left_kept (IsKept c.self.inside.identity) (is_within c.args.scope.now) c.self.inside.queue.tasks c.self.invariant.kept);
+      kept = subst (AllByRecursion (IsKept c.self.inside.identity)) (sym c.drop_tasks.ensures.others) (All-filter (IsKept c.self.inside.identity) (λ h. not (is_within c.args.scope.now h.entry)) c.self.inside.queue.tasks c.self.invariant.kept);
       identity_is = c.self.invariant.identity_is;
     }
 
@@ -48,7 +51,7 @@ refill-requires-clause-still g c =
 
 pub refill-requires-clause-room : goal.refill-requires-clause-room
 refill-requires-clause-room g c =
-    let few = left_fewer (is_within c.args.scope.now) c.self.inside.queue.tasks in
+    let few = filter_fewer (λ (h : Held). not (is_within c.args.scope.now h.entry)) c.self.inside.queue.tasks in
     omega (arith, few, ap length c.drop_tasks.ensures.others, ap (λ (l : Layer). length l.tasks) c.self.view_is, c.requires.room)
 
 pub returns-clause-removes : goal.returns-clause-removes
@@ -60,6 +63,6 @@ returns-clause-removes g c =
 pub returns-clause-rest : goal.returns-clause-rest
 returns-clause-rest g c =
     let i = c.self.inside in
-    let few = left_fewer (is_within c.args.scope.now) i.queue.tasks in
+    let few = filter_fewer (λ (h : Held). not (is_within c.args.scope.now h.entry)) i.queue.tasks in
     rest_left c.args.scope.now (layer_of i.identity i.modes i.started i.down i.attentions i.queue i.pool) _ (layer_of i.identity i.modes i.started i.down i.attentions c.drop_tasks.new.queue c.drop_tasks.new.pool) _ _ _ c.self.view_is refl
     (omega (arith, c.drop_tasks.ensures.out, c.self.invariant.held)) (omega (arith, few, ap length c.drop_tasks.ensures.others)) c.refill.ensures.rest

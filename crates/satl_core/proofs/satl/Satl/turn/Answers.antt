@@ -6,13 +6,13 @@ use Rattle.satl_core.specs.Layer.{view}
 use Rattle.satl_core.proofs.ComposeLemmas.{turn_of}
 use Rattle.satl_core.proofs.CountedLemmas.{kept_on, rose_first, rose_later}
 use Rattle.satl_core.proofs.DeviceLemmas.{idle_around}
-use Rattle.satl_core.proofs.HeldLemmas.{none_left}
+use Rattle.std.proofs.lemmas.List.{nil_from_length}
 use Rattle.satl_core.proofs.RefillLemmas.{answered_before}
 use Rattle.satl_core.proofs.satl.Satl.turn.Goals as goal
 
 pub returns-then-pending-eq0-clause-turns : goal.returns-then-pending-eq0-clause-turns
 returns-then-pending-eq0-clause-turns g c =
-    idle_around _ _ c.args.replies.now (ap (λ t. map task_of (entries_of t)) (none_left c.args.self.now.tasks (sym c.pending.ensures.count ∙ c.if-pending-eq0.true))) c.requires.empty refl
+    idle_around _ _ c.args.replies.now (ap (λ t. map task_of (entries_of t)) (nil_from_length c.args.self.now.tasks (sym c.pending.ensures.count ∙ c.if-pending-eq0.true))) c.requires.empty refl
 
 pub returns-clause-turns : goal.returns-clause-turns
 returns-clause-turns g c =
