@@ -8,7 +8,7 @@ use Rattle.satl_base.specs.declared.block.Range.{Range}
 use Rattle.satl_base.specs.declared.reply.Reply.{Reply}
 use Rattle.satl_base.specs.declared.reply.Scsi.TheVariants.{Good, TaskSetFull}
 use Rattle.satl_base.specs.declared.request.Request.{Request}
-use Rattle.satl_base.specs.Cells.{Cell, Pair, first_flaw, nows, whole}
+use Rattle.satl_base.specs.Cells.{Pair, first_flaw, nows, whole}
 use Rattle.satl_cdb.specs.declared.command.Command.{Command}
 use Rattle.satl_line.specs.declared.entry.Entry.{Entry}
 use Rattle.satl_line.specs.Eligible.{IsEligible}

@@ -16,7 +16,7 @@ use Rattle.satl_line.specs.declared.entry.Entry.{Entry}
 use Rattle.satl_line.specs.Conflict.{conflicts}
 use Rattle.satl_line.specs.Eligible.{IsEligibleBy, eligible_at, eligible_by, is_clear_by}
 use Rattle.satl_line.specs.Ranged.{RangedTask, ranged_of}
-use Rattle.satl_line.specs.Ranged.RangedTask.{ranged_read, ranged_write, ranged_trim}
+use Rattle.satl_line.specs.Ranged.RangedTask.{ranged_read}
 use Rattle.satl_line.specs.Tasks.{Held, change_task, count_of, entries_of, entry_at, slots_of, with_body}
 use Rattle.satl_line.proofs.EligibleLemmas.{eligible_by-formed, eligible_passes, eligible_stands}
 use Rattle.satl_drive.specs.State.{DriveState}

@@ -1,12 +1,12 @@
 -- What an ended command does to the tie.
-use Rattle.std.proofs.Common.{◌≡◌, ◌⊎◌, refl, sym, ◌∙◌, ap, subst, inl, inr, ⊎_elim, ℕ, zero, suc, ◌+◌, ◌≤◌, ◌<◌, ◌^◌, Bool, true, false, cond, List, [], ◌∷◌, ◌++◌, Option, Some, None, arith, length}
-use Rattle.std.specs.Prelude.{◌==◌, ◌&&◌, map, if◌then◌else◌, slice_get, slice_set, slice_index_or, MatchOption}
-use Rattle.std.specs.List.{AllByRecursion, AllZip, find, list_any, remove}
+use Rattle.std.proofs.Common.{◌≡◌, refl, sym, ◌∙◌, ap, subst, inl, inr, ℕ, zero, suc, ◌+◌, ◌≤◌, ◌<◌, ◌^◌, Bool, true, false, cond, List, [], ◌∷◌, Option, Some, None, arith, length}
+use Rattle.std.specs.Prelude.{◌==◌, map, if◌then◌else◌, slice_set, slice_index_or, MatchOption}
+use Rattle.std.specs.List.{AllByRecursion, AllZip, find, remove}
 use Rattle.satl_base.specs.declared.block.Block.{Block}
 use Rattle.satl_base.specs.declared.bench.Which.TheVariants as flaws
 use Rattle.satl_base.specs.Identify.{has_queued_trim}
 use Rattle.satl_base.specs.Lists.{remove_first}
-use Rattle.satl_base.specs.Cells.{Cell, Pair, Part, first_flaw, first_set, has_flaw, whole}
+use Rattle.satl_base.specs.Cells.{Cell, Pair, Part, first_set, has_flaw, whole}
 use Rattle.satl_base.specs.Losses.{Loses}
 use Rattle.satl_base.specs.Moves.{Moves}
 use Rattle.satl_base.specs.Moves.{stay}

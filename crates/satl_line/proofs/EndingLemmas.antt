@@ -1,5 +1,5 @@
 -- What the end of a ranged task leaves of the cells.
-use Rattle.std.proofs.Common.{◌≡◌, sym, subst, Bool, List, ◌++◌, length}
+use Rattle.std.proofs.Common.{◌≡◌, sym, subst, Bool, List, length}
 use Rattle.std.specs.List.{AllByRecursion}
 use Rattle.satl_base.specs.Cells.{Pair, AreSound}
 use Rattle.satl_base.specs.Moves.{Moves}

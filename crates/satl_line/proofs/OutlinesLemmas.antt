@@ -1,20 +1,19 @@
 -- What outlines say of conflicts and of names.
-use Rattle.std.proofs.Common.{◌≡◌, refl, sym, ◌∙◌, ap, subst, ℕ, zero, suc, ◌+◌, ◌^◌, ◌<◌, ◌≤◌, Bool, true, false, cond, List, [], ◌∷◌, ◌++◌, Some, length, take, get_or, arith, ◌⊎◌, ⊎_elim, inl, inr}
+use Rattle.std.proofs.Common.{◌≡◌, refl, sym, ◌∙◌, ap, subst, ℕ, zero, suc, ◌+◌, ◌^◌, ◌<◌, ◌≤◌, Bool, true, false, cond, List, [], ◌∷◌, Some, length, take, get_or, arith, ◌⊎◌, ⊎_elim, inl, inr}
 use Rattle.std.specs.Prelude.{not, nat_lt, min, max, ◌==◌, ◌||◌, ◌&&◌}
 use Rattle.std.specs.List.{list_any, AllByRecursion, position_from}
 use Rattle.std.proofs.lemmas.Bool.{ltb-true, or_from}
 use Rattle.satl_base.specs.declared.block.Block.{Block}
 use Rattle.satl_base.specs.declared.block.Range.{Range}
 use Rattle.satl_base.specs.declared.request.Tag.{Tag}
-use Rattle.satl_base.proofs.ListsLemmas.{All-weaken}
 use Rattle.satl_line.specs.declared.entry.Entry.{Entry}
 use Rattle.satl_line.specs.declared.outline.Outline.{Outline}
 use Rattle.satl_line.specs.declared.outline.Span.{Span}
 use Rattle.satl_line.specs.Blank.{no_entry}
-use Rattle.satl_line.specs.Conflict.{access_of, accesses_conflict, any_meet, conflicts, is_alone, is_write, ranges_meet}
+use Rattle.satl_line.specs.Conflict.{accesses_conflict, any_meet, conflicts, is_alone, is_write, ranges_meet}
 use Rattle.satl_line.specs.Tasks.{is_named}
 use Rattle.satl_line.specs.Layout.{held_in, tasks_in}
-use Rattle.satl_line.specs.Outlines.{AreOutlines, IsOutline, LiesIn, Widens, is_of_name, may_meet, no_outline, outline_in, outlines_in, spans_meet}
+use Rattle.satl_line.specs.Outlines.{IsOutline, LiesIn, Widens, is_of_name, may_meet, outline_in, outlines_in, spans_meet}
 
 -- ---- spans
 

@@ -1,4 +1,3 @@
-use Rattle.std.proofs.Common.{refl}
 use Rattle.satl_serve.specs.Runs.{input_limit}
 use Rattle.satl_serve.proofs.CompletenessLemmas.{says_err, says_ok}
 use Rattle.satl_serve.proofs.PrintingLemmas.{printer_tells}

@@ -1,4 +1,4 @@
-use Rattle.std.proofs.Common.{ap, sym, ◌∙◌}
+use Rattle.std.proofs.Common.{ap, ◌∙◌}
 use Rattle.std.specs.List.{position_from}
 use Rattle.satl_line.specs.Tasks.{is_named}
 use Rattle.satl_line.specs.Outlines.{is_of_name, outlines_in}
