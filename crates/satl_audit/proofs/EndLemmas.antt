@@ -4,7 +4,7 @@ use Rattle.std.specs.Prelude.{◌&&◌, not, Option, Some, None, remove, slice_g
 use Rattle.satl_base.specs.declared.block.Block.{Block}
 use Rattle.satl_base.specs.declared.reply.Reply.{Reply}
 use Rattle.satl_base.specs.declared.reply.Scsi.TheVariants.{Good}
-use Rattle.satl_base.specs.Blocks.{bytes_of}
+use Rattle.satl_base.specs.Blocks.{bytes_of, AreWhole}
 use Rattle.satl_base.specs.Cells.{pairs_from}
 use Rattle.satl_base.proofs.BlocksLemmas.{length-bytes_of}
 use Rattle.satl_cdb.specs.declared.command.Command.TheVariants as commands
@@ -23,7 +23,7 @@ use Rattle.satl_direct.specs.Ending.{task_reply}
 use Rattle.satl_direct.specs.Quiet.{written_by}
 use Rattle.satl_direct.specs.Tasks.{over}
 use Rattle.satl_audit.specs.Arriving.{device_at, device_of}
-use Rattle.satl_audit.specs.Deciding.{AreWhole, GivesWhole}
+use Rattle.satl_audit.specs.Deciding.{GivesWhole}
 use Rattle.satl_audit.specs.Deeds.{Deed}
 use Rattle.satl_audit.specs.Deeds.Deed.{gives, puts, settles}
 use Rattle.satl_audit.specs.Following.{along, pairs_in}

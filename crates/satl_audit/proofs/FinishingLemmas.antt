@@ -4,8 +4,7 @@ use Rattle.std.specs.Prelude.{◌<◌, Option, Some, None}
 use Rattle.std.proofs.lemmas.List.{get_or-map}
 use Rattle.satl_base.specs.declared.block.Block.{Block}
 use Rattle.satl_base.specs.declared.reply.Scsi.TheVariants.{Good}
-use Rattle.satl_base.specs.Blocks.{bytes_of, first_bytes}
-use Rattle.satl_audit.specs.Deciding.{AreWhole}
+use Rattle.satl_base.specs.Blocks.{bytes_of, first_bytes, AreWhole}
 use Rattle.satl_audit.specs.Finishing.{IsReadBy, ReadAnswered, end_deeds, head_bytes}
 use Rattle.satl_audit.specs.Kept.{Keeping, blank_keeping, kept_settle, known_sector, known_sector_at}
 use Rattle.satl_audit.specs.Progress.{Compared}

@@ -4,10 +4,9 @@ use Rattle.std.specs.Prelude.{take}
 use Rattle.std.proofs.lemmas.List.{append-nil}
 use Rattle.satl_base.specs.declared.block.Block.{Block}
 use Rattle.satl_base.specs.declared.reply.Scsi.TheVariants.{Good}
-use Rattle.satl_base.specs.Blocks.{bytes_of, first_bytes}
+use Rattle.satl_base.specs.Blocks.{bytes_of, first_bytes, AreWhole}
 use Rattle.satl_frame.specs.Output.{reply_bytes}
 use Rattle.satl_line.specs.declared.entry.Entry.{Entry}
-use Rattle.satl_audit.specs.Deciding.{AreWhole}
 use Rattle.satl_base.specs.declared.request.Request.{Request}
 use Rattle.satl_base.specs.declared.reply.Scsi.{Scsi}
 use Rattle.satl_direct.specs.Arrival.{reply_to}

@@ -10,7 +10,8 @@ use Rattle.satl_audit.specs.Deeds.{Deed, DoneAt, DoneBy, EachAt, MovesAt, put_at
 use Rattle.satl_audit.specs.Deeds.Deed.{shows, puts, gives, settles, powers}
 use Rattle.satl_audit.specs.Deeds.MovesAt.{still, fewer, gets}
 use Rattle.satl_audit.proofs.Forming.{all_taken}
-use Rattle.satl_audit.specs.Deciding.{AreWhole, GivesWhole, IsWhole, IsWholeCell}
+use Rattle.satl_audit.specs.Deciding.{GivesWhole, IsWholeCell}
+use Rattle.satl_base.specs.Blocks.{AreWhole, IsWhole}
 use Rattle.satl_laws.proofs.Rows.{in_all as all_of}
 
 abbrev pub IsWholePair : Pair → Type 0

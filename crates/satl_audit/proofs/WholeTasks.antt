@@ -12,7 +12,7 @@ use Rattle.satl_direct.specs.Quiet.{written_by}
 use Rattle.satl_audit.specs.Deeds.{Deed}
 use Rattle.satl_audit.specs.Skeleton.{DoneAs}
 use Rattle.satl_audit.proofs.Forming.{FormedBy}
-use Rattle.satl_audit.specs.Deciding.{AreWhole}
+use Rattle.satl_base.specs.Blocks.{AreWhole}
 use Rattle.satl_audit.proofs.WholeCells.{IsWholePair, BringsWhole}
 
 abbrev pub HasWhole : Entry → Type 0

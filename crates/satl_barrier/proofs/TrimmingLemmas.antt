@@ -11,7 +11,8 @@ use Rattle.satl_base.specs.declared.block.Range.{Range}
 use Rattle.satl_base.specs.Identify.{has_trim, trim_blocks}
 use Rattle.satl_regs.specs.declared.values.AtaCommand.TheVariants as commands
 use Rattle.satl_regs.specs.Effects.{Carries, EndsBad, Medium, Traffic, abrt, is_no_trim, is_outside, pairs_of, payload_ranges, trimming as carried, zeros_at}
-use Rattle.satl_regs.specs.Trim.{addresses, entries, is_used, split, trimmed}
+use Rattle.satl_regs.specs.Trim.{addresses, entries, split, trimmed}
+use Rattle.satl_base.specs.Blocks.{is_used}
 use Rattle.satl_drive.specs.State.{DriveState, medium_of}
 use Rattle.satl_barrier.specs.Commands.{HasRun}
 use Rattle.satl_barrier.specs.Finishing.{FinishesAs, finish_of, trimming}

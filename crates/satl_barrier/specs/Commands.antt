@@ -47,10 +47,6 @@ pub record IsCutShort (pairs : List Pair) (old new : DriveState) : Type 0 where
   pub settings : MaySet old new
   pub cut : IsCutOff old pairs (record new { cache = old.cache; look = old.look; identify = old.identify })
 
--- each block has its 512 bytes (SBC-3 4.5; the size: profile)
-abbrev pub AreWhole : List Block → Type 0
-AreWhole blocks = AllByRecursion (λ (b : Block). length b.bytes ≡ 512) blocks
-
 -- a command that moves no data was carried out (ACS-3 section 7)
 pub record HasRunBare (command : AtaCommand) (old new : DriveState) : Type 0 where
   pub ended : Taskfile

@@ -6,7 +6,7 @@ ghost use Rattle.satl_regs.specs.Effects.{own_blocks, pairs_of};
 ghost use Rattle.satl_regs.specs.QueuedCommands.{queued_codes};
 ghost use Rattle.satl_drive.specs.Rules.{IsCarriedOut};
 ghost use Rattle.satl_drive.specs.State.{medium_of};
-ghost use Rattle.satl_barrier.specs.Commands.{AreWhole};
+ghost use Rattle.satl_base.specs.Blocks.{AreWhole};
 ghost use Rattle.satl_barrier.specs.Leaving.{IsFree, IsLostIn, Stays};
 
 use satl_base::{Pages, Steps};

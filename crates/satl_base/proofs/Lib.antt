@@ -1,3 +1,4 @@
+pub mod BenchLemmas
 pub mod BlocksLemmas
 pub mod Booleans
 pub mod CellsLemmas

@@ -1,6 +1,19 @@
 -- Blocks of 512 bytes, and the bytes of a list of them.
-use Rattle.std.specs.Prelude.{ℕ, ◌+◌, ◌*◌, ◌/◌, ◌%◌, ◌≤◌, ◌<◌, List, [], ◌∷◌, ◌++◌, replicate, slice_index, get_or, take, length}
+use Rattle.std.specs.Prelude.{ℕ, ◌+◌, ◌*◌, ◌/◌, ◌%◌, ◌≡◌, ◌≤◌, ◌<◌, ◌==◌, not, Bool, List, [], ◌∷◌, ◌++◌, replicate, slice_index, get_or, take, length}
+use Rattle.std.specs.List.{AllByRecursion}
 use Rattle.satl_base.specs.declared.block.Block.{Block}
+use Rattle.satl_base.specs.declared.block.Range.{Range}
+
+-- a block has its 512 bytes, and each of many has (SBC-3 4.5; the size: profile)
+abbrev pub IsWhole : Block → Type 0
+IsWhole block = length block.bytes ≡ 512
+
+abbrev pub AreWhole : List Block → Type 0
+AreWhole blocks = AllByRecursion IsWhole blocks
+
+-- n bytes of zero (profile)
+abbrev pub zero_bytes : ℕ → List ℕ
+zero_bytes n = replicate n 0
 
 -- 512 bytes of zero (profile)
 abbrev pub zero_block : Block
@@ -14,6 +27,11 @@ bytes_of (b ∷ bs) = b.bytes ++ bytes_of bs
 -- the first n bytes of the blocks (profile)
 abbrev pub first_bytes : ℕ → List Block → List ℕ
 first_bytes n blocks = take n (bytes_of blocks)
+
+-- a range that has a block: an UNMAP block descriptor and a range entry of DATA SET MANAGEMENT may have none (SBC-3 5.28;
+-- ACS-3 7.5)
+abbrev pub is_used : Range → Bool
+is_used range = not (range.count == 0)
 
 -- what stands past the last block (profile)
 abbrev pub no_block : Block

@@ -1,3 +1,4 @@
+pub mod Bench
 pub mod Blocks
 pub mod Cells
 pub mod Chains

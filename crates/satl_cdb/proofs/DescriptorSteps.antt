@@ -6,7 +6,8 @@ use Rattle.std.proofs.lemmas.Bool.{le-ltb, lt-ltb}
 use Rattle.satl_base.specs.declared.block.Block.{Block}
 use Rattle.satl_base.specs.declared.block.Range.{Range}
 use Rattle.satl_cdb.specs.Refusals.{list_out_of_range, invalid_list_field}
-use Rattle.satl_cdb.specs.Unmap.{descriptor, descriptors_from, descriptor_fault, is_used}
+use Rattle.satl_cdb.specs.Unmap.{descriptor, descriptors_from, descriptor_fault}
+use Rattle.satl_base.specs.Blocks.{is_used}
 
 -- a loop over the descriptors is at place i, with a sum of counts and the ranges taken: what is left decides, and gives the other ranges
 pub record IsAt (capacity : ℕ) (list : List Block) (count i sum : ℕ) (taken : List Range) : Type 0 where

@@ -3,7 +3,7 @@ use Rattle.std.specs.Prelude.{ℕ, zero, suc, ◌+◌, ◌*◌, ◌/◌, ◌==�
 use Rattle.byteorder.specs.Endian.{big_number}
 use Rattle.satl_base.specs.declared.block.Block.{Block}
 use Rattle.satl_base.specs.declared.block.Range.{Range}
-use Rattle.satl_base.specs.Blocks.{byte_at}
+use Rattle.satl_base.specs.Blocks.{byte_at, is_used}
 use Rattle.satl_base.specs.Limits.{most_covered, most_ranges}
 use Rattle.satl_base.specs.Places.{places}
 use Rattle.satl_cdb.specs.declared.command.Illegal.{Illegal}
@@ -48,8 +48,5 @@ list_fault list length capacity =
     else descriptor_fault capacity 0 0 (descriptors list)
 
 -- a descriptor without a block gives no range
-abbrev pub is_used : Range → Bool
-is_used r = not (r.count == 0)
-
 abbrev pub ranges_of : List Block → List Range
 ranges_of list = filter is_used (descriptors list)

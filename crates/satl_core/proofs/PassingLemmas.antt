@@ -6,7 +6,7 @@ use Rattle.std.proofs.lemmas.List.{length-take, take_all}
 use Rattle.satl_base.specs.declared.block.Block.{Block}
 use Rattle.satl_base.specs.declared.modes.Modes.{Modes}
 use Rattle.satl_base.specs.declared.reply.Reply.{Reply}
-use Rattle.satl_base.specs.Blocks.{bytes_of, first_bytes}
+use Rattle.satl_base.specs.Blocks.{bytes_of, first_bytes, AreWhole}
 use Rattle.satl_base.specs.Cells.{Pair, first_flaw}
 use Rattle.satl_base.specs.Lists.{IsIn}
 use Rattle.satl_base.proofs.MovesLemmas.{lose_once}
@@ -33,7 +33,6 @@ use Rattle.satl_line.specs.declared.entry.Entry.{Entry}
 use Rattle.satl_unit.specs.declared.attention.Attention.{Attention}
 use Rattle.satl_drive.specs.State as drive
 use Rattle.satl_drive.specs.State.{DriveState, with_medium}
-use Rattle.satl_barrier.specs.Commands.{AreWhole}
 use Rattle.satl_barrier.specs.Leaving.{TellsOf}
 use Rattle.satl_barrier.specs.Settings.{IsSetBy}
 use Rattle.satl_direct.specs.Device.{Device}

@@ -10,7 +10,8 @@ use Rattle.satl_base.proofs.ListsLemmas.{All-filter}
 use Rattle.satl_base.specs.declared.block.Block.{Block}
 use Rattle.satl_base.specs.declared.block.Range.{Range}
 use Rattle.satl_cdb.specs.Refusals.{invalid_list_field, list_length_error, list_out_of_range}
-use Rattle.satl_cdb.specs.Unmap.{descriptor, descriptor_fault, descriptors, descriptors_from, descriptors_length, is_used, list_fault, ranges_of}
+use Rattle.satl_cdb.specs.Unmap.{descriptor, descriptor_fault, descriptors, descriptors_from, descriptors_length, list_fault, ranges_of}
+use Rattle.satl_base.specs.Blocks.{is_used}
 use Rattle.satl_identify.specs.declared.identity.Identity.{Identity}
 use Rattle.satl_identify.specs.Refusals.{IsIdentity}
 use Rattle.satl_identify.proofs.Judging.{capacity_bounds}

@@ -3,7 +3,7 @@ use Rattle.std.specs.Prelude.{◌≡◌, ◌≤◌, ℕ, ◌+◌, Bool, true, fa
 use Rattle.std.specs.List.{AllByRecursion}
 use Rattle.satl_base.specs.declared.block.Block.{Block}
 use Rattle.satl_base.specs.declared.block.Range.{Range}
-use Rattle.satl_base.specs.Blocks.{no_block}
+use Rattle.satl_base.specs.Blocks.{no_block, AreWhole}
 use Rattle.satl_base.specs.Limits.{most_moved}
 use Rattle.satl_base.specs.Cells.{Pair}
 use Rattle.satl_base.specs.Identify.{has_trim}
@@ -23,7 +23,6 @@ use Rattle.satl_barrier.specs.declared.finishing.Finish.{Finish}
 use Rattle.satl_barrier.specs.declared.finishing.Finish.TheVariants as finishes
 use Rattle.satl_barrier.specs.declared.comparing.Comparison.{Comparison}
 use Rattle.satl_barrier.specs.declared.comparing.Comparison.TheVariants as comparisons
-use Rattle.satl_barrier.specs.Commands.{AreWhole}
 use Rattle.satl_barrier.specs.Finishing.{ComparesAs, FinishesAs, IsVerified, trimming, writing_same}
 use Rattle.satl_direct.specs.Senses.{crc_error, miscompare, read_error, write_error}
 use Rattle.satl_direct.specs.Tasks.{pass_of}

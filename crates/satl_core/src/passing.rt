@@ -5,7 +5,7 @@ ghost use Rattle.satl_regs.specs.Commands.{command_in};
 ghost use Rattle.satl_regs.specs.Effects.{pairs_of};
 ghost use Rattle.satl_pass.specs.Reading.{CanGoToDrive};
 ghost use Rattle.satl_drive.specs.State.{medium_of};
-ghost use Rattle.satl_barrier.specs.Commands.{AreWhole};
+ghost use Rattle.satl_base.specs.Blocks.{AreWhole};
 ghost use Rattle.satl_barrier.specs.Leaving.{IsFree, IsLostIn, Stays};
 ghost use Rattle.satl_direct.specs.Tasks as direct;
 ghost use Rattle.satl_core.specs.Medium as medium;

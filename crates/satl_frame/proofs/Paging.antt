@@ -5,8 +5,8 @@ use Rattle.std.proofs.lemmas.List.{take-append-drop, drop-drop, length-drop, len
 use Rattle.std.proofs.Math.Seq.{take-append-add, drop-append-add}
 use Rattle.std.specs.List.{AllByRecursion}
 use Rattle.satl_base.specs.declared.block.Block.{Block}
-use Rattle.satl_base.specs.Blocks.{bytes_of}
-use Rattle.satl_frame.specs.DataPages.{page_count, padded_block, pages_from, pages_of, zero_bytes}
+use Rattle.satl_base.specs.Blocks.{bytes_of, zero_bytes}
+use Rattle.satl_frame.specs.DataPages.{page_count, padded_block, pages_from, pages_of}
 
 -- 512 bytes are a block
 pub whole_block : (xs bytes : List ℕ) → 512 ≤ length xs → bytes ≡ take 512 xs → record { bytes = bytes } ≡ padded_block xs
@@ -128,7 +128,7 @@ none_placed buffer start = sym (append-nil (reverse start))
 -- a chunk whose front was filled, with zeros up to the end of its last page
 pub chunk_placed : (count m : ℕ) (chunk behind buffer : List ℕ) → length chunk ≡ count →
     buffer ≡ (chunk ++ zero_bytes (512 * page_count count - count)) ++ behind → pages_from (min (page_count count) m) buffer ≡ take m (pages_of chunk)
-unfolding zero_bytes pages_from pages_of
+unfolding pages_from pages_of
 chunk_placed count m chunk behind buffer size is =
     let n : ℕ = page_count count in
     let filled : List ℕ = chunk ++ replicate (512 * n - count) 0 in
@@ -215,7 +215,6 @@ all_filled lent n taken pages size few is =
     ap length is ∙ length-take-le lent (pages_of taken) (omega (arith, length-pages_of taken ∙ ap page_count size))
 
 pub length-zeros : (n : ℕ) → length (zero_bytes n) ≡ n
-unfolding zero_bytes
 length-zeros n = length-replicate n 0
 
 -- a whole block is one page of its bytes, and whole blocks are the pages of theirs

@@ -18,7 +18,3 @@ pages_from (suc n) given = padded_block given ∷ pages_from n (drop 512 given)
 -- the bytes in the fewest pages that hold them; what is left of the last page is zero
 unfoldable pub pages_of : List ℕ → List Block
 pages_of given = pages_from (page_count (length given)) given
-
--- n bytes of zero
-unfoldable pub zero_bytes : ℕ → List ℕ
-zero_bytes n = replicate n 0

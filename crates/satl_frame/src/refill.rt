@@ -1,7 +1,7 @@
 // Data-out from the source into pages, in large reads.
 ghost use Rattle.std.specs.Prelude.{◌≡◌, ◌<◌, ◌≤◌, ◌+◌, ◌-◌, ◌*◌, ◌^◌, ◌++◌, [], IfOk, OnOk, length, take, drop, reverse};
-ghost use Rattle.satl_base.specs.Blocks.{zero_block};
-ghost use Rattle.satl_frame.specs.DataPages.{page_count, padded_block, pages_from, zero_bytes};
+ghost use Rattle.satl_base.specs.Blocks.{zero_block, zero_bytes};
+ghost use Rattle.satl_frame.specs.DataPages.{page_count, padded_block, pages_from};
 ghost use Rattle.satl_frame.specs.Pulls.{PullCauses, Stopped, TookCount, TookPages, FilledInReverse, given_pages};
 
 use crate::pulling::{PullError, pull};

@@ -6,7 +6,8 @@ use Rattle.std.specs.List.{filter}
 use Rattle.std.proofs.lemmas.List.{append-nil}
 use Rattle.std.proofs.lemmas.List.Concat.{flat_map-cons}
 use Rattle.satl_base.specs.declared.block.Range.{Range}
-use Rattle.satl_regs.specs.Trim.{split, entries, is_used, addresses_from, addresses}
+use Rattle.satl_regs.specs.Trim.{split, entries, addresses_from, addresses}
+use Rattle.satl_base.specs.Blocks.{is_used}
 
 -- a run of addresses in two parts
 addresses_from-add : (m n lba : ℕ) → addresses_from lba (m + n) ≡ addresses_from lba m ++ addresses_from (lba + m) n

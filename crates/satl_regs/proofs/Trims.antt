@@ -7,7 +7,8 @@ use Rattle.std.proofs.lemmas.List.Concat.{flat_map-cons}
 use Rattle.byteorder.specs.Endian.{little_bytes, little_number}
 use Rattle.byteorder.specs.Numbers.{little_number-reads_back}
 use Rattle.satl_base.specs.declared.block.Range.{Range}
-use Rattle.satl_regs.specs.Trim.{entry_number, trim_entry, split, entries, payload, zero_bytes, padded_bytes, numbers, is_used, trimmed, IsTrimmable, FitsEntry}
+use Rattle.satl_regs.specs.Trim.{entry_number, trim_entry, split, entries, payload, padded_bytes, numbers, trimmed, IsTrimmable, FitsEntry}
+use Rattle.satl_base.specs.Blocks.{zero_bytes, is_used}
 
 pub entries_room : (rs : List Range) (i : ℕ) (d : Range) → i < length rs → length (entries (take i rs)) + length (split (get_or rs i d)) ≤ length (entries rs)
 entries_room [] i d h = absurd (omega (arith, h))

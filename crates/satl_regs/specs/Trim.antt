@@ -2,6 +2,7 @@
 use Rattle.std.specs.Prelude.{ℕ, zero, suc, ◌+◌, ◌-◌, ◌*◌, ◌^◌, ◌<◌, ◌≤◌, ◌==◌, not, Bool, List, [], ◌∷◌, ◌++◌, length, map, drop, replicate, if◌then◌else◌}
 use Rattle.std.specs.List.{filter, flat_map, AllByRecursion}
 use Rattle.byteorder.specs.Endian.{little_bytes, little_number}
+use Rattle.satl_base.specs.Blocks.{is_used, zero_bytes}
 use Rattle.satl_base.specs.Fields.{bits_of}
 use Rattle.satl_base.specs.declared.block.Range.{Range}
 
@@ -26,9 +27,6 @@ abbrev pub payload : List Range → List ℕ
 payload [] = []
 payload (r ∷ rs) = little_bytes 8 (entry_number r) ++ payload rs
 
-abbrev pub zero_bytes : ℕ → List ℕ
-zero_bytes n = replicate n 0
-
 -- A block that begins with these bytes; all others are 0.
 abbrev pub padded_bytes : List ℕ → List ℕ
 padded_bytes bytes = bytes ++ zero_bytes (512 - length bytes)
@@ -42,11 +40,7 @@ unfoldable pub numbers : ℕ → List ℕ → List ℕ
 numbers zero bytes = []
 numbers (suc n) bytes = little_number 8 bytes ∷ numbers n (drop 8 bytes)
 
--- An entry with count 0 is unused.
-abbrev pub is_used : Range → Bool
-is_used r = not (r.count == 0)
-
--- The ranges that a block trims.
+-- The ranges that a block trims: an entry with count 0 is unused.
 unfoldable pub trimmed : List ℕ → List Range
 trimmed block = filter is_used (map trim_entry (numbers 64 block))
 

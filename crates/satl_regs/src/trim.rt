@@ -4,7 +4,8 @@ ghost use Rattle.std.specs.Prelude.{◌≡◌, ◌+◌, ◌*◌, ◌<◌, ◌≤
 ghost use Rattle.std.specs.List.{filter, AllByRecursion};
 ghost use Rattle.byteorder.specs.Endian.{little_bytes, little_number};
 ghost use Rattle.arrayvec.specs.ArrayVec.{array_vec_len};
-ghost use Rattle.satl_regs.specs.Trim.{FitsEntry, IsTrimList, IsTrimmable, addresses, entries, entry_number, is_used, padded_bytes, payload, split, trim_block, trim_entry, trimmed};
+ghost use Rattle.satl_regs.specs.Trim.{FitsEntry, IsTrimList, IsTrimmable, addresses, entries, entry_number, padded_bytes, payload, split, trim_block, trim_entry, trimmed};
+ghost use Rattle.satl_base.specs.Blocks.{is_used};
 
 use crate::fields::low_48;
 use arrayvec::ArrayVec;

@@ -1,12 +1,12 @@
 use Rattle.std.proofs.Common.{◌≡◌, ℕ, ◌+◌, ◌-◌, ◌*◌, ◌++◌, ◌∙◌, List, ap, sym, length, take, drop, replicate, append_assoc, arith}
 use Rattle.std.proofs.lemmas.List.{drop-drop, length-drop, length-take-le}
 use borrow.Rule.Slice.PartMut.{put_mid}
-use Rattle.satl_frame.specs.DataPages.{page_count, zero_bytes}
+use Rattle.satl_frame.specs.DataPages.{page_count}
+use Rattle.satl_base.specs.Blocks.{zero_bytes}
 use Rattle.satl_frame.proofs.refill.blank_rest.Goals as goal
 
 -- zeros from a place on up to another one
 blanked : (a e : ℕ) (old part : List ℕ) → a + (e - a) ≡ e → part ≡ replicate (e - a) 0 → put_mid a (e - a) old part ≡ (take a old ++ zero_bytes (e - a)) ++ drop e old
-unfolding zero_bytes
 blanked a e old part all is =
     let behind : drop (e - a) (drop a old) ≡ drop e old = drop-drop (e - a) a old ∙ ap (λ k. drop k old) all in
     ap (λ ys. take a old ++ (ys ++ drop (e - a) (drop a old))) is ∙ ap (λ ys. take a old ++ (replicate (e - a) 0 ++ ys)) behind

@@ -1,6 +1,7 @@
 use Rattle.std.proofs.Common.{◌≡◌, ◌-◌, ◌*◌, ◌++◌, ◌∙◌, ap, min, length, drop, reverse, arith}
 use Rattle.std.proofs.lemmas.List.{length-reverse, length-append, length-take-le, take_at}
-use Rattle.satl_frame.specs.DataPages.{page_count, pages_from, zero_bytes}
+use Rattle.satl_frame.specs.DataPages.{page_count, pages_from}
+use Rattle.satl_base.specs.Blocks.{zero_bytes}
 use Rattle.satl_frame.proofs.Paging.{chunk_placed, length-pages_from}
 use Rattle.satl_frame.proofs.refill.pull_chunk.Goals as goal
 
