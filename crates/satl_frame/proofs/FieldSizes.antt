@@ -69,8 +69,8 @@ event_good (Strike Read lba) is = refl
 event_good (Strike Write lba) is = refl
 event_good (Mend lba) is = refl
 event_good (Glitch count) is = refl
-event_good (Order order) is = let low : nat_le 2 (suc (length order.items)) ≡ true = le-leb 2 (suc (length order.items)) (omega arith) in
-    let high : nat_le (suc (length order.items)) 257 ≡ true = le-leb (suc (length order.items)) 257 (omega arith) in rw (low, high) refl
+event_good (Order order) is = let low : nat_le 2 (suc (length order)) ≡ true = le-leb 2 (suc (length order)) (omega arith) in
+    let high : nat_le (suc (length order)) 257 ≡ true = le-leb (suc (length order)) 257 (omega arith) in rw (low, high) refl
 event_good Power is = refl
 event_good Unplug is = refl
 

@@ -121,7 +121,7 @@ decoded_event p =
     if get_or p 0 0 == 1 then Strike (which_from (get_or p 1 0)) (big_from 2 8 p)
     else if get_or p 0 0 == 2 then Mend (big_from 1 8 p)
     else if get_or p 0 0 == 3 then Glitch (big_from 1 2 p)
-    else if get_or p 0 0 == 4 then Order (record { items = drop 1 p })
+    else if get_or p 0 0 == 4 then Order (drop 1 p)
     else if get_or p 0 0 == 5 then Power
     else Unplug
 

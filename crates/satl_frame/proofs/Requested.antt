@@ -1,5 +1,5 @@
 -- Requests from their head and their data-out.
-use Rattle.std.proofs.Common.{◌≡◌, ℕ, ◌+◌, ◌-◌, ◌≤◌, ◌<◌, true, List, ◌++◌, length, IfNone, Option, Some, None, refl, ◌∙◌, ap, sym, subst, arith}
+use Rattle.std.proofs.Common.{◌≡◌, ℕ, ◌+◌, ◌-◌, ◌≤◌, ◌<◌, true, List, ◌++◌, length, IfNone, IfSome, Option, Some, None, refl, ◌∙◌, ap, sym, subst, arith}
 use Rattle.std.proofs.lemmas.List.{length-append}
 use Rattle.std.proofs.lemmas.Bool.Decides.{nat_tests}
 use Rattle.satl_base.specs.declared.request.Request.{Request}
@@ -9,7 +9,7 @@ use Rattle.satl_io.proofs.Joined.{Took-more}
 use Rattle.satl_frame.specs.DataPages.{pages_of}
 use Rattle.satl_frame.specs.Frames.{head_size, frame_rows, allows, payload_bytes, request_fields, HasFields}
 use Rattle.satl_frame.specs.Faults.{has_bad_field}
-use Rattle.satl_frame.specs.Pulls.{TookRequest, TookRest, TookCount, TookBadField}
+use Rattle.satl_frame.specs.Pulls.{Spells, TookPayload, TookRequest, TookRest, TookCount, TookBadField}
 use Rattle.satl_frame.specs.declared.frames.Version.{Version}
 use Rattle.satl_frame.specs.declared.frames.Version.TheVariants.{One, Two}
 use Rattle.satl_frame.specs.declared.frames.Frame.{Frame}
@@ -68,3 +68,16 @@ pub small_bad : {a b : Option (List ℕ)} (version : Version) (code : ℕ) {len 
     IfNone found (has_bad_field version code payload ≡ true) → IfNone found (TookBadField a b version code len)
 small_bad version code {payload} None took size bad = record { taken = payload; took = took; length_is = size; bad = bad }
 small_bad version code (Some frame) took size bad = bad
+
+-- a payload of which a frame is made
+pub small_taken : {a b : Option (List ℕ)} (version : Version) (code room : ℕ) {len : ℕ} {payload : List ℕ} (found : Option Frame) → Took a b payload → length payload ≡ len →
+    IfSome found (Spells version code payload room) → IfSome found (TookPayload a b version code len room)
+small_taken version code room None took size s = s
+small_taken {a} {b} version code room (Some frame) took size s = record {
+  whole = s.whole;
+  is_frame = s.is_frame;
+  cut = s.cut;
+  took = subst (Took a b) (sym s.payload_is) took;
+  kind_is = s.kind_is;
+  length_is = ap length s.payload_is ∙ size;
+}

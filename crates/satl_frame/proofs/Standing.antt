@@ -249,7 +249,7 @@ decode_event p b good =
     by_event (suc (suc (suc (suc zero)))) is allowed which =
         let sizes = within 2 257 (length p) allowed in
         record {
-          event = Order (record { items = drop 1 p });
+          event = Order (drop 1 p);
           is_event = (omega (arith, length-drop 1 p, sizes), omega (arith, length-drop 1 p, sizes));
           fields_are = ap (λ (x : ℕ). x ∷ drop 1 p) (sym is) ∙ first_of p (omega (arith, sizes));
         }

@@ -95,7 +95,7 @@ abbrev pub event_fields : BenchEvent → List ℕ
 event_fields (Strike which lba) = 1 ∷ which_code which ∷ big_bytes 8 lba
 event_fields (Mend lba) = 2 ∷ big_bytes 8 lba
 event_fields (Glitch count) = 3 ∷ big_bytes 2 count
-event_fields (Order order) = 4 ∷ order.items
+event_fields (Order order) = 4 ∷ order
 event_fields Power = 5 ∷ []
 event_fields Unplug = 6 ∷ []
 
@@ -151,7 +151,7 @@ abbrev pub IsEvent : BenchEvent → Type 0
 IsEvent (Strike which lba) = lba < 2 ^ 64
 IsEvent (Mend lba) = lba < 2 ^ 64
 IsEvent (Glitch count) = count < 2 ^ 16
-IsEvent (Order order) = (1 ≤ length order.items) × (length order.items ≤ 256)
+IsEvent (Order order) = (1 ≤ length order) × (length order ≤ 256)
 IsEvent Power = Unit {0}
 IsEvent Unplug = Unit {0}
 

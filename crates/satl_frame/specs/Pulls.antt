@@ -4,11 +4,13 @@ use Rattle.std.specs.declared.result.Result.{Result}
 use Rattle.std.specs.declared.result.Result.TheVariants.{Ok, Err}
 use Rattle.satl_io.specs.Causes.{Rose}
 use Rattle.satl_io.specs.Known.{Took}
+use Rattle.satl_base.specs.declared.bench.BenchEvent.{BenchEvent}
 use Rattle.satl_base.specs.declared.block.Block.{Block}
 use Rattle.satl_base.specs.declared.request.Request.{Request}
+use Rattle.satl_base.specs.Bench.{cut_event, event_pages}
 use Rattle.satl_frame.specs.DataPages.{pages_of}
 use Rattle.satl_frame.specs.Faults.{has_bad_field}
-use Rattle.satl_frame.specs.Frames.{kind, payload_bytes, IsFrame}
+use Rattle.satl_frame.specs.Frames.{event_fields, kind, payload_bytes, IsEvent, IsFrame}
 use Rattle.satl_frame.specs.declared.frames.Version.{Version}
 use Rattle.satl_frame.specs.declared.frames.Frame.{Frame}
 use Rattle.satl_frame.specs.declared.frames.Frame.TheVariants as frames
@@ -59,8 +61,30 @@ abbrev pub cut_to : ℕ → Frame → Frame
 cut_to room (frames.Request r) = frames.Request (record r { body = take room r.body })
 cut_to room (frames.Manage m) = frames.Manage m
 cut_to room (frames.Turn count) = frames.Turn count
-cut_to room (frames.Bench event) = frames.Bench event
+cut_to room (frames.Bench event) = frames.Bench (cut_event room event)
 cut_to room frames.End = frames.End
+
+-- a payload is that of this event, which needs no page
+pub record SpellsPlain (payload : List ℕ) (event : BenchEvent) : Type 0 where
+  pub is_event : IsEvent event
+  pub fields_are : event_fields event ≡ payload
+  pub no_page : event_pages event ≡ 0
+  pub uncut : (room : ℕ) → cut_event room event ≡ event
+
+-- a payload is that of a whole event, and this is the event with the page that was free, if there was one
+pub record SpellsEvent (payload : List ℕ) (room : ℕ) (event : BenchEvent) : Type 0 where
+  pub whole : BenchEvent
+  pub is_event : IsEvent whole
+  pub cut : event ≡ cut_event room whole
+  pub fields_are : event_fields whole ≡ payload
+
+-- a payload is that of a whole frame of this kind, and this is the frame with the pages that were free
+pub record Spells (version : Version) (k : ℕ) (payload : List ℕ) (room : ℕ) (frame : Frame) : Type 0 where
+  pub whole : Frame
+  pub is_frame : IsFrame version whole
+  pub cut : frame ≡ cut_to room whole
+  pub kind_is : kind whole ≡ k
+  pub payload_is : payload_bytes whole ≡ payload
 
 -- the payload of a whole frame of this kind and length was taken, and this is the frame with the pages that were free
 pub record TookPayload (left left' : Option (List ℕ)) (version : Version) (k len room : ℕ) (frame : Frame) : Type 0 where
@@ -94,12 +118,16 @@ abbrev pub frame_pages : Frame → ℕ
 frame_pages (frames.Request r) = length r.body
 frame_pages (frames.Manage m) = 0
 frame_pages (frames.Turn count) = 0
-frame_pages (frames.Bench event) = 0
+frame_pages (frames.Bench event) = event_pages event
 frame_pages frames.End = 0
 
 abbrev pub found_pages : Option Frame → ℕ
 found_pages None = 0
 found_pages (Some f) = frame_pages f
+
+abbrev pub found_event_pages : Option BenchEvent → ℕ
+found_event_pages None = 0
+found_event_pages (Some event) = event_pages event
 
 -- the pages of a request
 abbrev pub request_pages : Request → ℕ

@@ -1,15 +1,15 @@
 // Payloads of frames, field by field.
 ghost use Rattle.std.specs.Prelude.{◌≡◌, ◌<◌, ◌≤◌, ◌+◌, ◌++◌, [], true, ℕ, List, IfSome, IfNone, MatchOption, length, slice_index};
+ghost use Rattle.byteorder.specs.Endian.{big_bytes};
 ghost use Rattle.satl_frame.specs.Faults.{has_bad_event, has_bad_field};
 ghost use Rattle.satl_frame.specs.Frames.{attr_code, expected_in, is_expectable, which_code, head_size, request_fields, manage_fields, event_fields, frame_rows, has_code, allows, kind, payload_bytes, HasFields, IsManage, IsEvent, IsFrame};
-ghost use Rattle.satl_frame.specs.Pulls.{cut_to, frame_pages};
+ghost use Rattle.satl_frame.specs.Pulls.{Spells, SpellsEvent, SpellsPlain, found_event_pages, found_pages};
 
 use crate::frames::{Frame, Version};
 use crate::judge::{number_4, number_8};
-use arrayvec::ArrayVec;
 use byteorder::{BigEndian, ByteOrder};
 use satl_base::{
-    Attr, BenchEvent, LONGEST_DATA, Manage, Nexus, OrderBytes, Pages, Request, Tag, Which,
+    Attr, BenchEvent, LONGEST_DATA, Lender, Manage, Nexus, OrderBytes, Pages, Request, Tag, Which,
 };
 
 fn attr_of(code: u8) -> Option<Attr>
@@ -86,6 +86,13 @@ fn manage_of(payload: &[u8]) -> Option<Manage>
     })
 }
 
+fn turn_of(payload: &[u8]) -> u16
+    requires { length payload.now ≡ 2 }
+    ensures { big_bytes 2 result ≡ payload.now }
+{
+    BigEndian::read_u16(payload)
+}
+
 fn which_of(code: u8) -> Option<Which>
     ensures some { IfSome result (λ which. which_code which ≡ code) }
     ensures none { IfNone result ((code ≡ 1 → ⊥) × (code ≡ 2 → ⊥)) }
@@ -100,7 +107,7 @@ fn which_of(code: u8) -> Option<Which>
 fn strike_of(payload: &[u8]) -> Option<BenchEvent>
     requires some { 0 < length payload.now }
     requires event { slice_index payload.now 0 ≡ 1 }
-    ensures found { IfSome result (λ e. (event_fields e ≡ payload.now) × IsEvent e) }
+    ensures found { IfSome result (SpellsPlain payload.now) }
     ensures none { IfNone result (has_bad_event payload.now ≡ true) }
 {
     if payload.len() != 10 {
@@ -114,7 +121,7 @@ fn strike_of(payload: &[u8]) -> Option<BenchEvent>
 fn mend_of(payload: &[u8]) -> Option<BenchEvent>
     requires some { 0 < length payload.now }
     requires event { slice_index payload.now 0 ≡ 2 }
-    ensures found { IfSome result (λ e. (event_fields e ≡ payload.now) × IsEvent e) }
+    ensures found { IfSome result (SpellsPlain payload.now) }
     ensures none { IfNone result (has_bad_event payload.now ≡ true) }
 {
     if payload.len() != 9 {
@@ -127,7 +134,7 @@ fn mend_of(payload: &[u8]) -> Option<BenchEvent>
 fn glitch_of(payload: &[u8]) -> Option<BenchEvent>
     requires some { 0 < length payload.now }
     requires event { slice_index payload.now 0 ≡ 3 }
-    ensures found { IfSome result (λ e. (event_fields e ≡ payload.now) × IsEvent e) }
+    ensures found { IfSome result (SpellsPlain payload.now) }
     ensures none { IfNone result (has_bad_event payload.now ≡ true) }
 {
     if payload.len() != 3 {
@@ -137,52 +144,75 @@ fn glitch_of(payload: &[u8]) -> Option<BenchEvent>
     Some(BenchEvent::Glitch { count })
 }
 
-fn order_of(payload: &[u8]) -> Option<BenchEvent>
+fn order_of<P: Lender>(lender: &mut P, payload: &[u8]) -> Option<BenchEvent>
     requires some { 0 < length payload.now }
     requires event { slice_index payload.now 0 ≡ 4 }
-    ensures found { IfSome result (λ e. (event_fields e ≡ payload.now) × IsEvent e) }
+    ensures found { IfSome result (SpellsEvent payload.now (P.free lender.old)) }
     ensures none { IfNone result (has_bad_event payload.now ≡ true) }
+    ensures free { P.free lender.new + found_event_pages result ≡ P.free lender.old }
+    ensures out { P.out lender.new ≡ P.out lender.old + found_event_pages result }
+    ensures rest { P.rest lender.new ≡ P.rest lender.old }
 {
-    if payload.len() < 2 {
+    if payload.len() < 2 || payload.len() > 257 {
         return None;
     }
-    let mut bytes: OrderBytes = ArrayVec::new();
-    match bytes.try_extend_from_slice(&payload[1..]) {
-        Ok(()) => Some(BenchEvent::Order { bytes }),
-        Err(_) => None,
-    }
+    Some(BenchEvent::Order {
+        bytes: OrderBytes::lend(lender, &payload[1..]),
+    })
 }
 
-fn event_of(payload: &[u8]) -> Option<BenchEvent>
+/// The event of a payload that is no ORDER.
+fn plain_of(payload: &[u8]) -> Option<BenchEvent>
     requires some { 0 < length payload.now }
-    ensures found { IfSome result (λ e. (event_fields e ≡ payload.now) × IsEvent e) }
+    requires other { slice_index payload.now 0 ≡ 4 → ⊥ }
+    ensures found { IfSome result (SpellsPlain payload.now) }
     ensures none { IfNone result (has_bad_event payload.now ≡ true) }
 {
     match payload[0] {
         1 => strike_of(payload),
         2 => mend_of(payload),
         3 => glitch_of(payload),
-        4 => order_of(payload),
         5 if payload.len() == 1 => Some(BenchEvent::Power),
         6 if payload.len() == 1 => Some(BenchEvent::Unplug),
         _ => None,
     }
 }
 
-/// The frame of a payload of another kind than REQUEST. None where a field is bad.
-pub fn small_frame(version: Version, code: u8, payload: &[u8]) -> Option<Frame>
+fn event_of<P: Lender>(lender: &mut P, payload: &[u8]) -> Option<BenchEvent>
+    requires some { 0 < length payload.now }
+    ensures found { IfSome result (SpellsEvent payload.now (P.free lender.old)) }
+    ensures none { IfNone result (has_bad_event payload.now ≡ true) }
+    ensures free { P.free lender.new + found_event_pages result ≡ P.free lender.old }
+    ensures out { P.out lender.new ≡ P.out lender.old + found_event_pages result }
+    ensures rest { P.rest lender.new ≡ P.rest lender.old }
+{
+    if payload[0] == 4 {
+        order_of(lender, payload)
+    } else {
+        plain_of(payload)
+    }
+}
+
+/// The frame of a payload of another kind than REQUEST, with order bytes in a page of the lender. None where a field is bad.
+pub fn small_frame<P: Lender>(
+    lender: &mut P,
+    version: Version,
+    code: u8,
+    payload: &[u8],
+) -> Option<Frame>
     requires known { has_code (frame_rows version) code ≡ true }
     requires allowed { allows (frame_rows version) code (length payload.now) ≡ true }
     requires other { 1 < code }
-    ensures found { IfSome result (λ f. (payload_bytes f ≡ payload.now) × (kind f ≡ code)) }
-    ensures whole { IfSome result (λ f. IsFrame version f × (frame_pages f ≡ 0)) }
-    ensures same { IfSome result (λ f. (room : ℕ) → cut_to room f ≡ f) }
+    ensures found { IfSome result (Spells version code payload.now (P.free lender.old)) }
     ensures none { IfNone result (has_bad_field version code payload.now ≡ true) }
+    ensures free { P.free lender.new + found_pages result ≡ P.free lender.old }
+    ensures out { P.out lender.new ≡ P.out lender.old + found_pages result }
+    ensures rest { P.rest lender.new ≡ P.rest lender.old }
 {
     match code {
         2 => Some(Frame::Manage(manage_of(payload)?)),
-        3 => Some(Frame::Turn(BigEndian::read_u16(payload))),
-        4 => Some(Frame::Bench(event_of(payload)?)),
+        3 => Some(Frame::Turn(turn_of(payload))),
+        4 => Some(Frame::Bench(event_of(lender, payload)?)),
         _ => Some(Frame::End),
     }
 }

@@ -76,8 +76,10 @@ fn pull_request<S: Source, P: Lender>(
 }
 
 /// Pulls the payload of a frame of another kind. None where a field of it is bad.
-fn pull_small<S: Source>(
+fn pull_small<S: Source, P: Lender>(
     source: &mut S,
+    buffer: &mut [u8; CHUNK],
+    lender: &mut P,
     version: Version,
     code: u8,
     len: u32,
@@ -85,17 +87,18 @@ fn pull_small<S: Source>(
     requires known { has_code (frame_rows version) code ≡ true }
     requires allowed { allows (frame_rows version) code len ≡ true }
     requires other { 1 < code }
-    ensures frame { (room : ℕ) → IfOk result (λ found. IfSome found
-        (TookPayload (S.left source.old) (S.left source.new) version code len room)) }
+    ensures frame { IfOk result (λ found. IfSome found
+        (TookPayload (S.left source.old) (S.left source.new) version code len (P.free lender.old))) }
     ensures none { IfOk result (λ found. IfNone found (TookBadField (S.left source.old) (S.left source.new) version code len)) }
     ensures stopped { Stopped (S.left source.old) (S.left source.new) len result }
     ensures causes { PullCauses (S.left source.old) (S.left source.new) len (S.faults source.old) (S.faults source.new) result }
-    ensures pages { given_pages found_pages result ≡ 0 }
+    ensures free { P.free lender.new + given_pages found_pages result ≡ P.free lender.old }
+    ensures out { P.out lender.new ≡ P.out lender.old + given_pages found_pages result }
+    ensures rest { P.rest lender.new ≡ P.rest lender.old }
 {
-    let mut buffer = [0; 257];
     let payload = &mut buffer[..len as usize];
     pull(source, payload)?;
-    Ok(small_frame(version, code, payload))
+    Ok(small_frame(lender, version, code, payload))
 }
 
 /// Pulls the payload of a frame of this kind and length. None where a field of it is bad.
@@ -119,7 +122,7 @@ fn pull_payload<S: Source, P: Lender>(
     ensures rest { P.rest lender.new ≡ P.rest lender.old }
 {
     if code > 1 {
-        return pull_small(source, version, code, len);
+        return pull_small(source, buffer, lender, version, code, len);
     }
     match pull_request(source, buffer, lender, version, len) {
         Ok(Some(request)) => Ok(Some(Frame::Request(request))),
