@@ -47,17 +47,15 @@ impl Model for OrderBytes {
 }
 
 impl OrderBytes {
-    /// These bytes, at least one and at most 512, in a page of the lender; where it has none free, no byte (profile). It takes
-    /// no memory.
+    /// These bytes, at most 512, in a page of the lender; where it has none free, no byte (profile). It takes no memory.
     pub fn lend<P: Lender>(lender: &mut P, bytes: &[u8]) -> OrderBytes
-        requires some { 1 ≤ length bytes.now }
-        requires few { length bytes.now ≤ 512 }
+        requires { length bytes.now ≤ 512 }
         ensures bytes { result ≡ take (512 * P.free lender.old) bytes.now }
         ensures free { P.free lender.new + order_pages result ≡ P.free lender.old }
         ensures out { P.out lender.new ≡ P.out lender.old + order_pages result }
         ensures rest { P.rest lender.new ≡ P.rest lender.old }
     {
-        if lender.room() == 0 {
+        if bytes.is_empty() || lender.room() == 0 {
             return OrderBytes {
                 pages: Pages::default(),
                 len: 0,
@@ -71,9 +69,10 @@ impl OrderBytes {
         }
     }
 
-    /// The bytes.
+    /// The bytes, at most 512 (profile).
     pub fn as_slice(&self) -> &[u8]
-        ensures { result.now ≡ self.now }
+        ensures value { result.now ≡ self.now }
+        ensures few { length self.now ≤ 512 }
     {
         match self.pages.iter().next() {
             Some(block) => &block.as_bytes()[..self.len as usize],

@@ -75,7 +75,7 @@ request_of i d = record {
 
 -- an ORDER with the bytes of a number, and a TURN that empties the task set by 16 (profile)
 abbrev pub burst : ℕ → List Frame
-burst c = frames.Bench (events.Order (record { items = big_bytes 4 c })) ∷ frames.Turn 16 ∷ []
+burst c = frames.Bench (events.Order (big_bytes 4 c)) ∷ frames.Turn 16 ∷ []
 
 -- the frames of request i: behind each sixteenth one stands a burst (profile)
 abbrev pub frames_of : ℕ → Draw → List Frame

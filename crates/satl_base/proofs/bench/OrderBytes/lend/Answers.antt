@@ -1,4 +1,4 @@
-use Rattle.std.proofs.Common.{◌∙◌, ap, arith, sym, ◌≡◌, length}
+use Rattle.std.proofs.Common.{rules, ◌∙◌, ◌≤◌, ap, arith, sym, ◌≡◌, length}
 use Rattle.satl_base.specs.Bench.{order_pages}
 use Rattle.satl_base.specs.Blocks.{first_bytes}
 use Rattle.satl_base.proofs.BenchLemmas.{stand_first, some_page, none_cut}
@@ -10,14 +10,16 @@ placed g c = stand_first (length c.args.bytes.now) c.args.bytes.now c.block_of.r
 
 -- so there is one page of them
 paged : (g : _) (c : goal.After-set_block g) → order_pages (first_bytes (length c.args.bytes.now) c.set_block.new.self) ≡ 1
-paged g c = ap order_pages (placed g c).0 ∙ some_page c.args.bytes.now c.requires.some
+paged g c =
+    let some : 1 ≤ length c.args.bytes.now = search rules in
+    ap order_pages (placed g c).0 ∙ some_page c.args.bytes.now some
 
 pub invariant_of-result-2 : goal.invariant_of-result-2
-invariant_of-result-2 g c = (c.requires.few, (placed g c).1 ∙ sym (paged g c))
+invariant_of-result-2 g c = (c.requires, (placed g c).1 ∙ sym (paged g c))
 
 pub returns-clause-bytes : goal.returns-clause-bytes
 returns-clause-bytes g c =
-    (placed g c).0 ∙ sym (none_cut (g.P.Lender.free c.args.lender.now) c.args.bytes.now (omega (arith, c.lend-pages.ensures.free)) c.requires.few)
+    (placed g c).0 ∙ sym (none_cut (g.P.Lender.free c.args.lender.now) c.args.bytes.now (omega (arith, c.lend-pages.ensures.free)) c.requires)
 
 pub returns-clause-free : goal.returns-clause-free
 returns-clause-free g c = let one = paged g c in let free = c.lend-pages.ensures.free in omega (arith, one, free)
