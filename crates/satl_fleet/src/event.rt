@@ -4,11 +4,12 @@ ghost use Rattle.satl_io.specs.Causes.{HasCause};
 ghost use Rattle.satl_frame.specs.declared.frames.Frame.{Frame};
 ghost use Rattle.satl_base.specs.Limits.{IsExpectable};
 ghost use Rattle.satl_pages.specs.Counts.{number_of};
-ghost use Rattle.satl_step.specs.Events.{CanTake, IsWholeOf};
 ghost use Rattle.satl_step.specs.Runs.{calls_allowed};
 ghost use Rattle.satl_fleet.specs.Rounds.{DidAt, DidAtInPart, stage};
 ghost use Rattle.satl_fleet.specs.Serving.{CanServe, KeepsUnits, calls_due, target};
+ghost use Rattle.satl_fleet.specs.Shared.{frame_of};
 
+use crate::shared::Shared;
 use crate::unit::{lend, serve_unit};
 use satl_base::{Replies, Request, Steps};
 use satl_core::Satl;
@@ -18,35 +19,34 @@ use satl_io::Sink;
 use satl_pages::Pool;
 use std::sync::ledger::Ledger;
 
-/// Carries out an event that has no pages on the unit of this number.
+/// Carries out what goes to each unit on the unit of this number, with a page of that unit for order bytes.
 pub fn serve_at<K: Sink, D: Bench, L: Ledger>(
     units: &mut Vec<Satl>,
     drives: &mut Vec<D>,
     k: u8,
-    event: Frame,
+    event: &Shared,
     sink: &mut K,
     replies: &mut Replies,
     steps: &mut Steps<L>,
 ) -> Result<(), WriteFault>
     requires serve { CanServe (target D.state units.old drives.old) replies.old }
     requires within { k < vec_len units.old }
-    requires can { (free : ℕ) → CanTake event free 0 }
-    requires whole { IsWholeOf event event }
-    ensures done { OnOk result (DidAt k event
+    ensures done { OnOk result (DidAt k (frame_of event.now)
         (stage (target D.state units.old drives.old) (K.written sink.old))
         (stage (target D.state units.new drives.new) (K.written sink.new))) }
-    ensures part { OnErr result (DidAtInPart k event
+    ensures part { OnErr result (DidAtInPart k (frame_of event.now)
         (stage (target D.state units.old drives.old) (K.written sink.old))
         (stage (target D.state units.new drives.new) (K.written sink.new))) }
     ensures ready { OnOk result (CanServe (target D.state units.new drives.new) replies.new) }
     ensures keeps { KeepsUnits (target D.state units.old drives.old) (target D.state units.new drives.new) }
     ensures calls { calls_due (target D.state units.new drives.new) steps.new
-        ≤ calls_due (target D.state units.old drives.old) steps.old + calls_allowed (event ∷ []) }
+        ≤ calls_due (target D.state units.old drives.old) steps.old + calls_allowed (frame_of event.now ∷ []) }
     ensures cause { HasCause (K.faults sink.old) (K.faults sink.new) result }
 {
     let satl = &mut units[k as usize];
     let drive = &mut drives[k as usize];
-    serve_unit(satl, k, event, sink, drive, replies, steps)
+    let lent = event.again(satl);
+    serve_unit(satl, k, lent, sink, drive, replies, steps)
 }
 
 /// Carries out a request on the unit of this number, with pages of that unit. Those of the fleet's pool come back to it.

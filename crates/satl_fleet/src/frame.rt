@@ -46,7 +46,7 @@ fn serve_all<K: Sink, D: Bench, L: Ledger>(
     ensures cause { HasCause (K.faults sink.old) (K.faults sink.new) result }
 {
     for k in 0..units.len() as u8 {
-        serve_at(units, drives, k, event.again(), sink, replies, steps)?;
+        serve_at(units, drives, k, event, sink, replies, steps)?;
     }
     Ok(())
 }
@@ -118,8 +118,8 @@ fn serve_manage<K: Sink, D: Bench, L: Ledger>(
         return serve_all(units, drives, &event, sink, replies, steps);
     }
     let Route { unit, lun } = route_to(units.len() as u8, &manage.lun);
-    let event = Frame::Manage(Manage { lun, ..manage });
-    serve_at(units, drives, unit, event, sink, replies, steps)
+    let event = Shared::Manage(Manage { lun, ..manage });
+    serve_at(units, drives, unit, &event, sink, replies, steps)
 }
 
 /// The end of an input: of each unit, and then of the output.
@@ -186,7 +186,10 @@ pub fn serve_frame<K: Sink, D: Bench, L: Ledger>(
             serve_shared(units, drives, &Shared::Turn(count), sink, replies, steps)
         }
         Frame::Bench(event) => {
-            serve_shared(units, drives, &Shared::Bench(event), sink, replies, steps)
+            let event = Shared::Bench(event);
+            let served = serve_shared(units, drives, &event, sink, replies, steps);
+            pool.give(event.into_pages());
+            served
         }
         Frame::End => serve_end(units, drives, sink, replies, steps),
     }

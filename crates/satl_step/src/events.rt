@@ -79,6 +79,7 @@ fn serve_bench<T: Teller, K: Sink, D: Bench, L: Ledger>(
     ensures cause { HasCause (K.faults sink.old) (K.faults sink.new) result }
 {
     satl.bench(&event, drive, replies, steps);
+    satl.recycle(event.into_pages());
     see_queue(satl);
     tell_replies(satl, teller, sink, replies)
 }
