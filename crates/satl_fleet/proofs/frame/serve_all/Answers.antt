@@ -23,19 +23,18 @@ loop-k-init g c = record {
 
 pub loop-k-preserved : goal.loop-k-preserved
 loop-k-preserved g c =
-    let allowed = ap (λ f. calls_allowed (f ∷ [])) c.again.ensures in
     let product = add-mul c.loop-k.k 1 (calls_allowed (frame_of c.args.event.now ∷ [])) in
     record {
       units = c.serve_at.ensures.keeps.layers ∙ c.loop-k.invariant.units;
       drives = c.serve_at.ensures.keeps.drives ∙ c.loop-k.invariant.drives;
       serve = c.in_ok-serve_at.ensures.ready;
-      done = done_next (frame_of c.args.event.now) c.loop-k.k _ (stage (target g.D.Drive.state c.loop-k.units c.loop-k.drives) (g.K.Sink.written c.loop-k.sink)) (stage (target g.D.Drive.state c.serve_at.new.units c.serve_at.new.drives) (g.K.Sink.written c.serve_at.new.sink)) c.loop-k.invariant.done (subst (λ f. DidAt c.loop-k.k f (stage (target g.D.Drive.state c.loop-k.units c.loop-k.drives) (g.K.Sink.written c.loop-k.sink)) (stage (target g.D.Drive.state c.serve_at.new.units c.serve_at.new.drives) (g.K.Sink.written c.serve_at.new.sink))) c.again.ensures c.in_ok-serve_at.ensures.done);
-      calls = omega (arith, c.loop-k.invariant.calls, c.serve_at.ensures.calls, allowed, product);
+      done = done_next (frame_of c.args.event.now) c.loop-k.k _ (stage (target g.D.Drive.state c.loop-k.units c.loop-k.drives) (g.K.Sink.written c.loop-k.sink)) (stage (target g.D.Drive.state c.serve_at.new.units c.serve_at.new.drives) (g.K.Sink.written c.serve_at.new.sink)) c.loop-k.invariant.done c.in_ok-serve_at.ensures.done;
+      calls = omega (arith, c.loop-k.invariant.calls, c.serve_at.ensures.calls, product);
       later = omega (arith, c.loop-k.invariant.later, c.serve_at.ensures.cause.later);
     }
 
 pub returns-in_err-serve_at-clause-part : goal.returns-in_err-serve_at-clause-part
-returns-in_err-serve_at-clause-part g c = any_err c.from_residual.result _ (done_part (frame_of c.args.event.now) c.loop-k.k _ (stage (target g.D.Drive.state c.loop-k.units c.loop-k.drives) (g.K.Sink.written c.loop-k.sink)) (stage (target g.D.Drive.state c.serve_at.new.units c.serve_at.new.drives) (g.K.Sink.written c.serve_at.new.sink)) c.loop-k.invariant.done (subst (λ f. DidAtInPart c.loop-k.k f (stage (target g.D.Drive.state c.loop-k.units c.loop-k.drives) (g.K.Sink.written c.loop-k.sink)) (stage (target g.D.Drive.state c.serve_at.new.units c.serve_at.new.drives) (g.K.Sink.written c.serve_at.new.sink))) c.again.ensures c.in_err-serve_at.ensures.part))
+returns-in_err-serve_at-clause-part g c = any_err c.from_residual.result _ (done_part (frame_of c.args.event.now) c.loop-k.k _ (stage (target g.D.Drive.state c.loop-k.units c.loop-k.drives) (g.K.Sink.written c.loop-k.sink)) (stage (target g.D.Drive.state c.serve_at.new.units c.serve_at.new.drives) (g.K.Sink.written c.serve_at.new.sink)) c.loop-k.invariant.done c.in_err-serve_at.ensures.part)
 
 pub returns-clause-done : goal.returns-clause-done
 returns-clause-done g c =
