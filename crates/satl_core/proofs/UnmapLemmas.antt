@@ -192,7 +192,7 @@ entries_within capacity [] all = tt
 entries_within capacity (r ∷ rs) all = rw flat_map-cons (split_within capacity r (entries rs) all.0 (entries_within capacity rs all.1))
 
 -- what the block of entries names
-payload_is : (ranges : List Range) → IsTrimList ranges → payload_ranges 1 (record { bytes = trim_block ranges } ∷ []) ≡ filter trims.is_used (entries ranges)
+payload_is : (ranges : List Range) → IsTrimList ranges → payload_ranges 1 (record { bytes = trim_block ranges } ∷ []) ≡ filter is_used (entries ranges)
 payload_is ranges list = append-nil (trimmed (trim_block ranges)) ∙ block_back (entries ranges) (entries_fit ranges list.each) list.room
 
 -- it fits a drive with these sectors, which queues trims
