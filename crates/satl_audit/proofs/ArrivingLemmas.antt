@@ -20,7 +20,7 @@ use Rattle.satl_direct.specs.Arrival.Arrival.{answered, attended, overlaps, wait
 use Rattle.satl_direct.specs.Senses.{attention_sense, overlapped}
 use Rattle.satl_direct.specs.Tasks.{held_blocks, needed, task_for}
 use Rattle.satl_cover.specs.Known.{is_known}
-use Rattle.satl_audit.specs.Arriving.{ArrivesOn, CannotArrive, IsServing, StandsAt, attention_of, attentions_after, bare_task, device_of}
+use Rattle.satl_audit.specs.Arriving.{ArrivesOn, CannotArrive, IsServing, StandsAt, attention_told, attentions_after, bare_task, device_of}
 use Rattle.satl_audit.specs.Waiting.{Placed, device_tasks, has_no_room, task_in}
 use Rattle.satl_audit.proofs.ArrivingTask.{full_same, task_same}
 
@@ -96,18 +96,18 @@ module _ (i : Identity) (input : List ℕ) (ps : List Placed) (attentions : List
   abbrev begun : Device
   begun = device_of i input ps attentions
 
-  attends : (what : Attention) (sense : Sense) → Some what ≡ attention_of attentions r → sense ≡ attention_sense what → arrival begun r ≡ attended (check begun r sense)
+  attends : (what : Attention) (sense : Sense) → Some what ≡ attention_told attentions r → sense ≡ attention_sense what → arrival begun r ≡ attended (check begun r sense)
   attends what sense next is = attention_first begun r unit alone ∙ ap (λ (o : Option Attention). attention_arrival o begun r) (sym next) ∙ ap (λ (x : Sense). attended (check begun r x)) (sym is)
 
-  pub attention_goes : (new : List (List Attention)) (what : Attention) (sense : Sense) (output left : List ℕ) → Some what ≡ attention_of attentions r → new ≡ attentions_after (Some what) r.nexus attentions → sense ≡ attention_sense what →
+  pub attention_goes : (new : List (List Attention)) (what : Attention) (sense : Sense) (output left : List ℕ) → Some what ≡ attention_told attentions r → new ≡ attentions_after (Some what) r.nexus attentions → sense ≡ attention_sense what →
       output ≡ reply_bytes (reply_to r CheckCondition (fixed_form sense)) ++ left → ArrivesOn r begun (device_of i input ps new) output left
   attention_goes new what sense output left next told is e = attended_goes r begun (device_of i input ps new) (check begun r sense) output left (attends what sense next is) (refl, ap (device_of i input ps) told) e
 
-  pub attention_sticks : (what : Attention) (sense : Sense) (output : List ℕ) → Some what ≡ attention_of attentions r → sense ≡ attention_sense what →
+  pub attention_sticks : (what : Attention) (sense : Sense) (output : List ℕ) → Some what ≡ attention_told attentions r → sense ≡ attention_sense what →
       ((rest : List ℕ) → output ≡ reply_bytes (reply_to r CheckCondition (fixed_form sense)) ++ rest → ⊥) → CannotArrive r begun output
   attention_sticks what sense output next is other = attended_sticks r begun (check begun r sense) output (attends what sense next is) other
 
-  pub code_next : None ≡ attention_of attentions r → arrival begun r ≡ code_arrival begun r
+  pub code_next : None ≡ attention_told attentions r → arrival begun r ≡ code_arrival begun r
   code_next next = attention_first begun r unit alone ∙ ap (λ (o : Option Attention). attention_arrival o begun r) (sym next)
 
 pub serving : (i : Identity) (input : List ℕ) (ps : List Placed) (attentions : List (List Attention)) → IsServing i (device_of i input ps attentions)

@@ -17,7 +17,7 @@ use Rattle.satl_audit.specs.Arriving.{device_of}
 use Rattle.satl_audit.specs.Guesses.{blocks_at}
 use Rattle.satl_audit.specs.Kept.{Keeping, known_sector_at}
 use Rattle.satl_audit.specs.Powering.{PendsUpTo, picks, shown_from}
-use Rattle.satl_audit.specs.Skeleton.{pairs_by, pairs_shown}
+use Rattle.satl_audit.specs.Skeleton.{pairs_of_tasks, pairs_shown}
 use Rattle.satl_audit.specs.Waiting.{Placed, device_tasks, entries_in, task_in}
 use Rattle.satl_audit.proofs.NextLemmas.{eligible_same}
 
@@ -70,11 +70,11 @@ picks_same f g same n (t ∷ ts) = ap (λ (b : Bool). if b then t ∷ picks f (s
 module _ (identity : Identity) (input : List ℕ) (waiting : List Placed) where
   pub shown_all : pairs_shown (device_of identity input waiting []) ≡ shown_from identity input waiting 0
   shown_all =
-      ap (pairs_by (device_of identity input waiting []))
+      ap (pairs_of_tasks (device_of identity input waiting []))
       (eligibles_are (device_tasks input waiting) ∙ picks_same (eligible_at (device_tasks input waiting)) (eligible_at (entries_in waiting)) (eligible_same input waiting) 0 (device_tasks input waiting))
 
   pub shown_none : (n : ℕ) → length waiting ≤ n → shown_from identity input waiting n ≡ []
-  shown_none n le = ap (λ (l : List Entry). pairs_by (device_of identity input waiting []) (picks (eligible_at (entries_in waiting)) n l)) (drop_all n (device_tasks input waiting) (omega (arith, le, length-map waiting (task_in input))))
+  shown_none n le = ap (λ (l : List Entry). pairs_of_tasks (device_of identity input waiting []) (picks (eligible_at (entries_in waiting)) n l)) (drop_all n (device_tasks input waiting) (omega (arith, le, length-map waiting (task_in input))))
 
   drop_at : (ps : List Placed) (n : ℕ) (p : Placed) → slice_get ps n ≡ Some p → drop n (device_tasks input ps) ≡ task_in input p ∷ drop (n + 1) (device_tasks input ps)
   drop_at [] n p h = absurd cc
@@ -88,9 +88,9 @@ module _ (identity : Identity) (input : List ℕ) (waiting : List Placed) where
       shown_from identity input waiting n ≡ (if b then writes (device_of identity input waiting []) (task_in input p) ++ shown_from identity input waiting (n + 1) else shown_from identity input waiting (n + 1))
   step_of b n p at is =
       let next : suc n ≡ n + 1 = omega arith in
-      ap (λ (l : List Entry). pairs_by d (picks (eligible_at (entries_in waiting)) n l)) (drop_at waiting n p at)
-      ∙ ap (λ (c : Bool). pairs_by d (if c then task_in input p ∷ picks (eligible_at (entries_in waiting)) (suc n) rest else picks (eligible_at (entries_in waiting)) (suc n) rest)) is
-      ∙ ap (λ k. pairs_by d (if b then task_in input p ∷ picks (eligible_at (entries_in waiting)) k rest else picks (eligible_at (entries_in waiting)) k rest)) next
+      ap (λ (l : List Entry). pairs_of_tasks d (picks (eligible_at (entries_in waiting)) n l)) (drop_at waiting n p at)
+      ∙ ap (λ (c : Bool). pairs_of_tasks d (if c then task_in input p ∷ picks (eligible_at (entries_in waiting)) (suc n) rest else picks (eligible_at (entries_in waiting)) (suc n) rest)) is
+      ∙ ap (λ k. pairs_of_tasks d (if b then task_in input p ∷ picks (eligible_at (entries_in waiting)) k rest else picks (eligible_at (entries_in waiting)) k rest)) next
       ∙ either b
     where
       d : Device
@@ -99,7 +99,7 @@ module _ (identity : Identity) (input : List ℕ) (waiting : List Placed) where
       rest : List Entry
       rest = drop (n + 1) (device_tasks input waiting)
 
-      either : (c : Bool) → pairs_by d (if c then task_in input p ∷ picks (eligible_at (entries_in waiting)) (n + 1) rest else picks (eligible_at (entries_in waiting)) (n + 1) rest) ≡ (if c then writes d (task_in input p) ++ shown_from identity input waiting (n + 1) else shown_from identity input waiting (n + 1))
+      either : (c : Bool) → pairs_of_tasks d (if c then task_in input p ∷ picks (eligible_at (entries_in waiting)) (n + 1) rest else picks (eligible_at (entries_in waiting)) (n + 1) rest) ≡ (if c then writes d (task_in input p) ++ shown_from identity input waiting (n + 1) else shown_from identity input waiting (n + 1))
       either true = refl
       either false = refl
 

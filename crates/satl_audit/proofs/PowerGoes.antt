@@ -17,7 +17,7 @@ use Rattle.satl_audit.specs.Deeds.Deed.{shows, powers}
 use Rattle.satl_audit.specs.Following.{Follows}
 use Rattle.satl_audit.specs.Kept.{Keeping}
 use Rattle.satl_audit.specs.Powering.{power_deeds}
-use Rattle.satl_audit.specs.Skeleton.{pairs_by, pairs_shown, powered}
+use Rattle.satl_audit.specs.Skeleton.{pairs_of_tasks, pairs_shown, cycled}
 use Rattle.satl_audit.specs.Waiting.{Placed, device_tasks}
 use Rattle.satl_audit.specs.declared.arriving.Steps.{Steps}
 use Rattle.satl_audit.specs.Progress.{recorded, progress}
@@ -44,10 +44,10 @@ written_same identity before after input waiting (commands.Unmap size) t = refl
 written_same identity before after input waiting (commands.Pass cdb) t = refl
 
 pairs_same : (identity : Identity) (before after : List (List Attention)) (input : List ℕ) (waiting : List Placed) (ts : List Entry) →
-    pairs_by (device_of identity input waiting before) ts ≡ pairs_by (device_of identity input waiting after) ts
+    pairs_of_tasks (device_of identity input waiting before) ts ≡ pairs_of_tasks (device_of identity input waiting after) ts
 pairs_same identity before after input waiting [] = refl
 pairs_same identity before after input waiting (t ∷ ts) =
-    ap (λ (l : List Pair). l ++ pairs_by (device_of identity input waiting before) ts) (written_same identity before after input waiting t.command t)
+    ap (λ (l : List Pair). l ++ pairs_of_tasks (device_of identity input waiting before) ts) (written_same identity before after input waiting t.command t)
     ∙ ap (λ (l : List Pair). written_by t.command (device_of identity input waiting after) t ++ l) (pairs_same identity before after input waiting ts)
 
 pub shown_same : (identity : Identity) (before after : List (List Attention)) (input : List ℕ) (waiting : List Placed) → pairs_shown (device_of identity input waiting before) ≡ pairs_shown (device_of identity input waiting after)
@@ -64,7 +64,7 @@ power_goes identity input old new sectors after none told output follows = recor
   follows = subst (λ (pairs : List Pair). Follows input (shows pairs ∷ powers ∷ []) sectors after) (shown_same identity [] old.attentions input old.waiting) follows;
 }
   where
-    same : device_at identity input new ≡ powered (device_at identity input old)
+    same : device_at identity input new ≡ cycled (device_at identity input old)
     same =
         ap (λ (w : List Placed). device_of identity input w new.attentions) none
         ∙ ap (device_of identity input []) told

@@ -49,8 +49,8 @@ abbrev pub bare_task : Bool → Request → Command → Entry
 bare_task queued_trim r command = record (task_for queued_trim r command) { body = [] }
 
 -- the unit attention condition that a request is answered with, and the conditions once that was told (SAM-5 5.14)
-abbrev pub attention_of : List (List Attention) → Request → Option Attention
-attention_of attentions r =
+abbrev pub attention_told : List (List Attention) → Request → Option Attention
+attention_told attentions r =
     if is_in (operation_code r) untold_codes then None else slice_get (slice_index_or attentions r.nexus []) 0
 
 abbrev pub attentions_after : Option Attention → ℕ → List (List Attention) → List (List Attention)

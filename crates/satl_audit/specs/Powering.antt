@@ -10,7 +10,7 @@ use Rattle.satl_audit.specs.Deeds.{Deed}
 use Rattle.satl_audit.specs.Deeds.Deed.{shows, powers}
 use Rattle.satl_audit.specs.Guesses.{blocks_at}
 use Rattle.satl_audit.specs.Kept.{Keeping, known_sector_at}
-use Rattle.satl_audit.specs.Skeleton.{pairs_by, pairs_shown}
+use Rattle.satl_audit.specs.Skeleton.{pairs_of_tasks, pairs_shown}
 use Rattle.satl_audit.specs.Waiting.{Placed, device_tasks, entries_in}
 
 -- the tasks whose places, from this one on, pass (profile)
@@ -20,7 +20,7 @@ picks passes place (t ∷ ts) = if passes place then t ∷ picks passes (suc pla
 
 -- the pairs of the eligible tasks from a place on (SBC-3 5)
 abbrev pub shown_from : Identity → List ℕ → List Placed → ℕ → List Pair
-shown_from identity input waiting place = pairs_by (device_of identity input waiting [])
+shown_from identity input waiting place = pairs_of_tasks (device_of identity input waiting [])
     (picks (eligible_at (entries_in waiting)) place (drop place (device_tasks input waiting)))
 
 -- of the pairs that show, all but the later ones are now among what a loss of power may leave (SBC-3 4.15)

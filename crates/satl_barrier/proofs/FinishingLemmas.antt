@@ -15,7 +15,7 @@ use Rattle.satl_regs.specs.Effects.{Carries, pairs_of, EndsInFull, IsFlawed as I
 use Rattle.satl_drive.specs.State.{DriveState, medium_of, with_medium}
 use Rattle.satl_barrier.specs.declared.finishing.Finish.{Finish}
 use Rattle.satl_barrier.specs.declared.finishing.Finish.TheVariants as finishes
-use Rattle.satl_barrier.specs.Finishing.{FinishesAs, IsDone, IsFlawed, IsGarbled, IsReached, finish_of, verifying, writing}
+use Rattle.satl_barrier.specs.Finishing.{FinishesAs, IsDone, StopsAtFlaw, StopsAtCrc, IsReached, finish_of, verifying, writing}
 
 -- what follows from a good end and from a lost link
 pub either_way : {T E : Type 0} {Q : T → Type 0} {P R : Type 0} (r : Result T E) → ((x : T) → Q x → P) → (R → P) → IfOk r Q → OnErr r R → P
@@ -64,7 +64,7 @@ module _ (dma : Bool) (which : Which) (lba count : ℕ) (writes : List Pair) (re
     stays = gone.stays ∙ ap (λ (m : Medium). record (with_medium old m) { cells = new.cells }) does.medium;
   }
 
-  flawed_so : (at : ℕ) → first_flaw which old.cells lba count ≡ Some at → IsStopped (over dma which lba count writes reads) at x (medium_of old) gone.after → IsFlawed (over true which lba count writes []) at old new
+  flawed_so : (at : ℕ) → first_flaw which old.cells lba count ≡ Some at → IsStopped (over dma which lba count writes reads) at x (medium_of old) gone.after → StopsAtFlaw (over true which lba count writes []) at old new
   flawed_so at is does =
       let same : new ≡ record old { cells = new.cells } = gone.stays ∙ ap (λ (m : Medium). record (with_medium old m) { cells = new.cells }) does.medium in
       let active : new.active ≡ old.active = ap (λ (d : DriveState). d.active) same in
@@ -74,7 +74,7 @@ module _ (dma : Bool) (which : Which) (lba count : ℕ) (writes : List Pair) (re
         stays = same ∙ ap (λ b. record old { cells = new.cells; active = b }) (sym active);
       }
 
-  garbled_so : first_flaw which old.cells lba count ≡ None → IsSpoilt (over dma which lba count writes reads) x (medium_of old) gone.after → IsGarbled (over true which lba count writes []) count old new
+  garbled_so : first_flaw which old.cells lba count ≡ None → IsSpoilt (over dma which lba count writes reads) x (medium_of old) gone.after → StopsAtCrc (over true which lba count writes []) count old new
   garbled_so none does =
       let same : new ≡ record old { cells = new.cells; glitches = old.glitches - 1 } = gone.stays ∙ ap (λ (m : Medium). record (with_medium old m) { cells = new.cells }) does.medium in
       let active : new.active ≡ old.active = ap (λ (d : DriveState). d.active) same in
@@ -99,10 +99,10 @@ module _ (dma : Bool) (which : Which) (lba count : ℕ) (writes : List Pair) (re
 pub done_by : (t : Transfer) (count : ℕ) (it : Finish) (old new : DriveState) → it ≡ finishes.Done → FinishesAs t count it old new → IsDone t old new
 done_by t count it old new is x = subst (λ f. FinishesAs t count f old new) is x
 
-pub flawed_by : (t : Transfer) (count : ℕ) (it : Finish) (at : ℕ) (old new : DriveState) → it ≡ finishes.Flawed at → FinishesAs t count it old new → IsFlawed t at old new
+pub flawed_by : (t : Transfer) (count : ℕ) (it : Finish) (at : ℕ) (old new : DriveState) → it ≡ finishes.Flawed at → FinishesAs t count it old new → StopsAtFlaw t at old new
 flawed_by t count it at old new is x = subst (λ f. FinishesAs t count f old new) is x
 
-pub garbled_by : (t : Transfer) (count : ℕ) (it : Finish) (old new : DriveState) → it ≡ finishes.Garbled → FinishesAs t count it old new → IsGarbled t count old new
+pub garbled_by : (t : Transfer) (count : ℕ) (it : Finish) (old new : DriveState) → it ≡ finishes.Garbled → FinishesAs t count it old new → StopsAtCrc t count old new
 garbled_by t count it old new is x = subst (λ f. FinishesAs t count f old new) is x
 
 -- ---- each command

@@ -15,7 +15,7 @@ use Rattle.satl_base.proofs.MovesLemmas.{lose_once, moves_of_whole, moves_on}
 use Rattle.satl_regs.specs.Effects.{Transfer}
 use Rattle.satl_drive.specs.State.{DriveState}
 use Rattle.satl_barrier.specs.Commands.{IsCutShort}
-use Rattle.satl_barrier.specs.Finishing.{IsDone, IsFlawed, IsGarbled, IsTorn}
+use Rattle.satl_barrier.specs.Finishing.{IsDone, StopsAtFlaw, StopsAtCrc, IsTorn}
 use Rattle.satl_barrier.specs.Leaving.{IsLostIn, Stays}
 use Rattle.satl_barrier.proofs.CommandsLemmas.{lost_after, stays_on}
 use Rattle.satl_barrier.proofs.FinishingLemmas.{over}
@@ -169,7 +169,7 @@ module _ (which : Which) (lba a b : ℕ) (us vs : List Pair) (old mid new : Driv
         active = ⊎_elim (λ e. ⊎_elim (λ o. inl (e ∙ o)) (λ o. inr (e ∙ o)) first.active) (λ e. inr e) x.active;
       }
 
-  pub next_flawed : (c : ℕ) (ws : List Pair) (at : ℕ) → IsFlawed (over true which (lba + a) b vs []) at mid new → IsFlawed (over true which lba (a + (b + c)) (us ++ (vs ++ ws)) []) at old new
+  pub next_flawed : (c : ℕ) (ws : List Pair) (at : ℕ) → StopsAtFlaw (over true which (lba + a) b vs []) at mid new → StopsAtFlaw (over true which lba (a + (b + c)) (us ++ (vs ++ ws)) []) at old new
   next_flawed c ws at x = record {
     flaw =
         let count : a + (b + c) ≡ a + b + c = omega arith in
@@ -178,7 +178,7 @@ module _ (which : Which) (lba a b : ℕ) (us vs : List Pair) (old mid new : Driv
     stays = x.stays ∙ ap (λ (d : DriveState). record d { cells = new.cells; active = new.active }) first.stays;
   }
 
-  pub next_garbled : (c : ℕ) (ws : List Pair) (most : ℕ) → most ≤ a + b → IsGarbled (over true which (lba + a) b vs []) b mid new → IsGarbled (over true which lba (a + (b + c)) (us ++ (vs ++ ws)) []) most old new
+  pub next_garbled : (c : ℕ) (ws : List Pair) (most : ℕ) → most ≤ a + b → StopsAtCrc (over true which (lba + a) b vs []) b mid new → StopsAtCrc (over true which lba (a + (b + c)) (us ++ (vs ++ ws)) []) most old new
   next_garbled c ws most within x = record {
     no_flaw = first_flaw-less which old.cells lba most (a + b) within (rest_flaw ∙ x.no_flaw);
     torn = next_torn c ws x.torn;

@@ -13,14 +13,14 @@ use Rattle.satl_drive.specs.State.{DriveState}
 use Rattle.satl_barrier.specs.declared.comparing.Comparison.{Comparison}
 use Rattle.satl_barrier.specs.declared.comparing.Comparison.TheVariants as comparisons
 use Rattle.satl_barrier.specs.Commands.{IsCutShort}
-use Rattle.satl_barrier.specs.Finishing.{ComparesAs, IsDone, IsFlawed, IsGarbled, IsVerified, piece_behind, verifying}
+use Rattle.satl_barrier.specs.Finishing.{ComparesAs, IsDone, StopsAtFlaw, StopsAtCrc, IsVerified, piece_behind, verifying}
 use Rattle.satl_barrier.specs.Leaving.{IsLostIn, Stays}
 use Rattle.satl_barrier.proofs.FinishingLemmas.{over}
 use Rattle.satl_barrier.proofs.ComparingLemmas.{loses-nows_at, nows_part, same_all}
 use Rattle.satl_barrier.proofs.PiecesLemmas.{IsBegun, IsSoFar, all_done, begun, begun-nows, begun-read_flaws, head, next_done, next_flawed, next_garbled, next_lost, stays_so_far}
 
 -- without flaws, a garbled piece garbles all
-pub all_garbled : (range : Range) (most : ℕ) (old new : DriveState) → first_flaw flaws.Read old.cells range.lba range.count ≡ None → IsGarbled (verifying range) most old new → IsGarbled (verifying range) range.count old new
+pub all_garbled : (range : Range) (most : ℕ) (old new : DriveState) → first_flaw flaws.Read old.cells range.lba range.count ≡ None → StopsAtCrc (verifying range) most old new → StopsAtCrc (verifying range) range.count old new
 all_garbled range most old new clean x = record { no_flaw = clean; torn = x.torn; one = x.one; stays = x.stays }
 
 -- a part of a range behind its first blocks
@@ -52,13 +52,13 @@ module _ (range next : Range) (done : ℕ) (old mid new : DriveState) (next_is :
   pub read_stays : Stays mid new → Stays old new
   read_stays stays = stays_so_far (verifying (head range done)) old mid new so_far stays
 
-  pub read_flawed : (at : ℕ) → IsFlawed (verifying next) at mid new → IsFlawed (verifying range) at old new
-  read_flawed at x = subst (λ t. IsFlawed t at old new) (sym whole_is)
-      (next_flawed flaws.Read range.lba done next.count [] [] old mid new first (begun-read_flaws (verifying (head range done)) old mid refl first) (range.count - (done + next.count)) [] at (subst (λ t. IsFlawed t at mid new) piece_is x))
+  pub read_flawed : (at : ℕ) → StopsAtFlaw (verifying next) at mid new → StopsAtFlaw (verifying range) at old new
+  read_flawed at x = subst (λ t. StopsAtFlaw t at old new) (sym whole_is)
+      (next_flawed flaws.Read range.lba done next.count [] [] old mid new first (begun-read_flaws (verifying (head range done)) old mid refl first) (range.count - (done + next.count)) [] at (subst (λ t. StopsAtFlaw t at mid new) piece_is x))
 
-  pub read_garbled : first_flaw flaws.Read old.cells range.lba range.count ≡ None → IsGarbled (verifying next) next.count mid new → IsGarbled (verifying range) range.count old new
-  read_garbled clean x = all_garbled range 0 old new clean (subst (λ t. IsGarbled t 0 old new) (sym whole_is)
-      (next_garbled flaws.Read range.lba done next.count [] [] old mid new first (begun-read_flaws (verifying (head range done)) old mid refl first) (range.count - (done + next.count)) [] 0 (omega arith) (subst (λ t. IsGarbled t next.count mid new) piece_is x)))
+  pub read_garbled : first_flaw flaws.Read old.cells range.lba range.count ≡ None → StopsAtCrc (verifying next) next.count mid new → StopsAtCrc (verifying range) range.count old new
+  read_garbled clean x = all_garbled range 0 old new clean (subst (λ t. StopsAtCrc t 0 old new) (sym whole_is)
+      (next_garbled flaws.Read range.lba done next.count [] [] old mid new first (begun-read_flaws (verifying (head range done)) old mid refl first) (range.count - (done + next.count)) [] 0 (omega arith) (subst (λ t. StopsAtCrc t next.count mid new) piece_is x)))
 
   pub read_lost : IsCutShort [] mid new → IsLostIn [] old new
   read_lost cut = next_lost flaws.Read range.lba done next.count [] [] old mid new first (begun-read_flaws (verifying (head range done)) old mid refl first) [] cut

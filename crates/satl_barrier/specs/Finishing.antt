@@ -69,8 +69,8 @@ finish_of ended =
 
 -- the flawed address that a taskfile tells of a read for flaws: that of a bad end (ACS-3, READ VERIFY SECTOR(S) EXT, error
 -- outputs)
-abbrev pub flaw_of : Taskfile → Option ℕ
-flaw_of ended = if bits_of 0 0 ended.status == 0 then None else Some ended.lba
+abbrev pub told_flaw : Taskfile → Option ℕ
+told_flaw ended = if bits_of 0 0 ended.status == 0 then None else Some ended.lba
 
 -- all of it was carried out, sectors may have been written back since, and the drive is active (ACS-3, normal outputs)
 pub record IsDone (t : Transfer) (old new : DriveState) : Type 0 where
@@ -89,13 +89,13 @@ pub record IsTorn (t : Transfer) (old new : DriveState) : Type 0 where
   pub active : (new.active ≡ old.active) ⊎ (new.active ≡ true)
 
 -- the lowest flawed address of the range stopped it (ACS-3, UNC)
-pub record IsFlawed (t : Transfer) (at : ℕ) (old new : DriveState) : Type 0 where
+pub record StopsAtFlaw (t : Transfer) (at : ℕ) (old new : DriveState) : Type 0 where
   pub flaw : first_flaw t.stopped_by old.cells t.lba t.sectors ≡ Some at
   pub torn : IsTorn t old new
   pub stays : new ≡ record old { cells = new.cells; active = new.active }
 
 -- a CRC error stopped it, where its first piece, of so many blocks, has no flaw (ACS-3, ICRC; profile)
-pub record IsGarbled (t : Transfer) (first : ℕ) (old new : DriveState) : Type 0 where
+pub record StopsAtCrc (t : Transfer) (first : ℕ) (old new : DriveState) : Type 0 where
   pub no_flaw : first_flaw t.stopped_by old.cells t.lba first ≡ None
   pub torn : IsTorn t old new
   pub one : new.glitches + 1 ≡ old.glitches
@@ -104,13 +104,13 @@ pub record IsGarbled (t : Transfer) (first : ℕ) (old new : DriveState) : Type 
 -- how it ended, whose first piece has so many blocks (ACS-3; the pieces: profile)
 abbrev pub FinishesAs : Transfer → ℕ → Finish → DriveState → DriveState → Type 0
 FinishesAs t first finishes.Done old new = IsDone t old new
-FinishesAs t first (finishes.Flawed at) old new = IsFlawed t at old new
-FinishesAs t first finishes.Garbled old new = IsGarbled t first old new
+FinishesAs t first (finishes.Flawed at) old new = StopsAtFlaw t at old new
+FinishesAs t first finishes.Garbled old new = StopsAtCrc t first old new
 
 -- a range was verified: the lowest address that reads stop at, or all of it was read (SBC-3 5.33)
 abbrev pub IsVerified : Range → Option ℕ → DriveState → DriveState → Type 0
 IsVerified range flaw old new =
-    MatchOption flaw (IsDone (verifying range) old new) (λ at. IsFlawed (verifying range) at old new)
+    MatchOption flaw (IsDone (verifying range) old new) (λ at. StopsAtFlaw (verifying range) at old new)
 
 -- a range was compared with these blocks: reads give them, or others; or it ended before (SBC-3 5.33, BYTCHK)
 abbrev pub ComparesAs : Range → List Block → Comparison → DriveState → DriveState → Type 0
@@ -118,8 +118,8 @@ ComparesAs range blocks comparisons.Same old new =
     (nows old.cells range.lba range.count ≡ blocks) × IsDone (verifying range) old new
 ComparesAs range blocks comparisons.Differs old new =
     (nows old.cells range.lba range.count ≡ blocks → ⊥) × IsDone (verifying range) old new
-ComparesAs range blocks (comparisons.Flawed at) old new = IsFlawed (verifying range) at old new
-ComparesAs range blocks comparisons.Garbled old new = IsGarbled (verifying range) range.count old new
+ComparesAs range blocks (comparisons.Flawed at) old new = StopsAtFlaw (verifying range) at old new
+ComparesAs range blocks comparisons.Garbled old new = StopsAtCrc (verifying range) range.count old new
 
 -- a range that one command may go over: some blocks, at most 65,536, within the capacity and the 48 bits of an address (ACS-3)
 pub record IsReached (range : Range) (d : DriveState) : Type 0 where

@@ -1,7 +1,7 @@
 // VERIFY: a range is read for its flaws, or compared.
 ghost use Rattle.std.specs.Prelude.{◌≡◌, ◌≤◌, ◌+◌, ◌↔◌, [], None, IfOk, OnErr, IsTrue, length, take, drop};
 ghost use Rattle.satl_base.specs.Limits.{most_moved, piece};
-ghost use Rattle.satl_barrier.specs.Finishing.{ComparesAs, FinishesAs, IsReached, IsVerified, flaw_of, verifying};
+ghost use Rattle.satl_barrier.specs.Finishing.{ComparesAs, FinishesAs, IsReached, IsVerified, told_flaw, verifying};
 ghost use Rattle.satl_base.specs.declared.bench.Which.TheVariants as flaws;
 ghost use Rattle.satl_base.specs.Cells.{first_flaw, nows};
 ghost use Rattle.satl_barrier.specs.declared.finishing.Finish.TheVariants as finishes;
@@ -46,12 +46,12 @@ pub fn verify<D: Drive, L: Ledger>(
         sectors: range.count,
     };
     let ended = run(drive, &command, &mut Pages::default(), steps)?;
-    Ok(flaw_of(&ended))
+    Ok(told_flaw(&ended))
 }
 
 /// The flawed address that a taskfile tells of a read for flaws: that of a bad end (ACS-3, error outputs).
-fn flaw_of(ended: &Taskfile) -> Option<u64>
-    ensures { result ≡ flaw_of ended.now }
+fn told_flaw(ended: &Taskfile) -> Option<u64>
+    ensures { result ≡ told_flaw ended.now }
 {
     if ended.status & 0x01 == 0 {
         None

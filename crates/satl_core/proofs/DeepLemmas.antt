@@ -20,36 +20,36 @@ use Rattle.satl_flight.specs.Flown.{IsFlown}
 use Rattle.satl_core.specs.Layer.{IsKept, Layer, Tied, view}
 use Rattle.satl_core.proofs.GivenLemmas.{ranged_held}
 use Rattle.satl_flight.specs.declared.flight.Flying.{Flying}
-use Rattle.satl_flight.specs.Flown.{clash, holds}
+use Rattle.satl_flight.specs.Flown.{clash, is_outstanding}
 
 -- ---- slots that are all outstanding are no more than what is outstanding
 
-found : (slot : ℕ) (fs : List Flying) → holds fs slot ≡ true → (f : Flying) × (find (λ (g : Flying). g.slot == slot) fs ≡ Some f)
+found : (slot : ℕ) (fs : List Flying) → is_outstanding fs slot ≡ true → (f : Flying) × (find (λ (g : Flying). g.slot == slot) fs ≡ Some f)
 found slot [] h = absurd cc
 found slot (f ∷ fs) h =
-    (elim (f.slot == slot) as (λ b. (b || holds fs slot) ≡ true → (g : Flying) × (cond b (Some f) (find (λ (g : Flying). g.slot == slot) fs) ≡ Some g))
+    (elim (f.slot == slot) as (λ b. (b || is_outstanding fs slot) ≡ true → (g : Flying) × (cond b (Some f) (find (λ (g : Flying). g.slot == slot) fs) ≡ Some g))
     [ true ↦ λ e. (f, refl) | false ↦ λ e. found slot fs e ]) h
 
-still_held : (slot other : ℕ) (fs : List Flying) → (slot == other) ≡ false → holds fs other ≡ true → holds (remove_first (λ (g : Flying). g.slot == slot) fs) other ≡ true
+still_held : (slot other : ℕ) (fs : List Flying) → (slot == other) ≡ false → is_outstanding fs other ≡ true → is_outstanding (remove_first (λ (g : Flying). g.slot == slot) fs) other ≡ true
 still_held slot other [] apart h = h
 still_held slot other (f ∷ fs) apart h =
-    (elim (f.slot == slot) as (λ b. (f.slot == slot) ≡ b → holds (if b then fs else f ∷ remove_first (λ (g : Flying). g.slot == slot) fs) other ≡ true) [
+    (elim (f.slot == slot) as (λ b. (f.slot == slot) ≡ b → is_outstanding (if b then fs else f ∷ remove_first (λ (g : Flying). g.slot == slot) fs) other ≡ true) [
       | true ↦ λ is. not_here (f.slot == other) refl is h
-      | false ↦ λ is. (elim (f.slot == other) as (λ b. (b || holds fs other) ≡ true → (b || holds (remove_first (λ (g : Flying). g.slot == slot) fs) other) ≡ true)
+      | false ↦ λ is. (elim (f.slot == other) as (λ b. (b || is_outstanding fs other) ≡ true → (b || is_outstanding (remove_first (λ (g : Flying). g.slot == slot) fs) other) ≡ true)
           [ true ↦ λ e. refl | false ↦ λ e. still_held slot other fs apart e ]) h
     ]) refl
   where
-    not_here : (b : Bool) → (f.slot == other) ≡ b → (f.slot == slot) ≡ true → (b || holds fs other) ≡ true → holds fs other ≡ true
+    not_here : (b : Bool) → (f.slot == other) ≡ b → (f.slot == slot) ≡ true → (b || is_outstanding fs other) ≡ true → is_outstanding fs other ≡ true
     not_here true fo fi e = let a = eqb-true f.slot other fo in let b = eqb-true f.slot slot fi in let no : (slot == other) ≡ true = eq-eqb slot other (sym b ∙ a) in absurd cc
     not_here false fo fi e = e
 
-pub pigeon : (hs : List Held) (fs : List Flying) → AreOwnSlots hs → AllByRecursion (λ (h : Held). holds fs h.slot ≡ true) hs → length hs ≤ length fs
+pub pigeon : (hs : List Held) (fs : List Flying) → AreOwnSlots hs → AllByRecursion (λ (h : Held). is_outstanding fs h.slot ≡ true) hs → length hs ≤ length fs
 pigeon [] fs own held = omega arith
 pigeon (h ∷ hs) fs own held =
     let f = found h.slot fs held.0 in
     let fewer = length-remove_first (λ (g : Flying). g.slot == h.slot) fs f.0 f.1 in
     let rest = pigeon hs (remove_first (λ (g : Flying). g.slot == h.slot) fs) own.1
-    (All-weaken (λ (k : Held). ((h.slot == k.slot) ≡ false) × (holds fs k.slot ≡ true)) (λ (k : Held). holds (remove_first (λ (g : Flying). g.slot == h.slot) fs) k.slot ≡ true) (λ k both. still_held h.slot k.slot fs both.0 both.1) hs (All-both _ _ hs own.0 held.1)) in
+    (All-weaken (λ (k : Held). ((h.slot == k.slot) ≡ false) × (is_outstanding fs k.slot ≡ true)) (λ (k : Held). is_outstanding (remove_first (λ (g : Flying). g.slot == h.slot) fs) k.slot ≡ true) (λ k both. still_held h.slot k.slot fs both.0 both.1) hs (All-both _ _ hs own.0 held.1)) in
     omega (arith, fewer, rest)
 
 -- ---- the eligible tasks
@@ -112,8 +112,8 @@ deep_enough tasks flying queued_trim own kinds filled =
     (λ each.
     let count = ap (λ ts. length (filter is_ranged ts)) (eligibles_seen tasks) ∙ ap length (filter-map as_seen is_ranged (eligibles_held tasks)) ∙ length-map (filter (λ h. is_ranged (as_seen h)) (eligibles_held tasks)) as_seen in
     let few = pigeon (filter (λ h. is_ranged (as_seen h)) (eligibles_held tasks)) flying (own_filter (λ h. is_ranged (as_seen h)) (eligibles_held tasks) (own_eligibles tasks own))
-    (All-passing (λ (h : Held). holds flying h.slot ≡ true) (λ h. is_ranged (as_seen h)) (eligibles_held tasks)
-    (All-weaken (λ (h : Held). (h.entry.kind ≡ kind_of h.entry.command queued_trim) × IsEligibleBy clash tasks h) (λ (h : Held). is_ranged (as_seen h) ≡ true → holds flying h.slot ≡ true)
+    (All-passing (λ (h : Held). is_outstanding flying h.slot ≡ true) (λ h. is_ranged (as_seen h)) (eligibles_held tasks)
+    (All-weaken (λ (h : Held). (h.entry.kind ≡ kind_of h.entry.command queued_trim) × IsEligibleBy clash tasks h) (λ (h : Held). is_ranged (as_seen h) ≡ true → is_outstanding flying h.slot ≡ true)
     (λ h both ranged. let r = ranged_held h.entry queued_trim both.0 ranged in each h r.0 both.1 r.1) (eligibles_held tasks)
     (All-both (λ (h : Held). h.entry.kind ≡ kind_of h.entry.command queued_trim) (IsEligibleBy clash tasks) (eligibles_held tasks) (All-eligibles (λ (h : Held). h.entry.kind ≡ kind_of h.entry.command queued_trim) tasks kinds) (each_eligible tasks)))) in
     omega (arith, count, few, min-le_right 32 (length (filter is_ranged (eligibles (map task_of (entries_of tasks)))))))

@@ -32,7 +32,7 @@ use Rattle.satl_flight.specs.Settled.{IsFilled}
 use Rattle.satl_flight.specs.Queueing.{IsSlotted}
 use Rattle.satl_line.specs.Tasks.{AreOwnSlots}
 use Rattle.satl_core.specs.Layer.{IsKept, Layer, Tied}
-use Rattle.satl_core.specs.Tie.{AreApart, Given, IsFilledQueue, IsGiven, IsTiedQueue, TiesQueue, given_of, holds}
+use Rattle.satl_core.specs.Tie.{AreGivenOnce, Given, IsFilledQueue, IsGiven, IsTiedQueue, TiesQueue, given_of, is_given}
 use Rattle.satl_core.proofs.DeviceLemmas.{seen}
 use Rattle.satl_core.proofs.QueuedLemmas.{eligible_seen}
 
@@ -99,17 +99,17 @@ ranged_held e q kind is =
     go Barrier same r h = absurd (barred e same is)
 
 -- what is held is given
-holds_given : (tasks : List Held) (all : List Flying) (h : Held) (t : Entry) → task_of h.entry ≡ t → find (is_in_slot h.slot) tasks ≡ Some h → flown.holds all h.slot ≡ true → holds (map (given_of tasks) all) t ≡ true
+holds_given : (tasks : List Held) (all : List Flying) (h : Held) (t : Entry) → task_of h.entry ≡ t → find (is_in_slot h.slot) tasks ≡ Some h → flown.is_outstanding all h.slot ≡ true → is_given (map (given_of tasks) all) t ≡ true
 holds_given tasks [] h t same found held = absurd cc
 holds_given tasks (f ∷ fs) h t same found held = go (f.slot == h.slot) refl held (λ later. holds_given tasks fs h t same found later)
   where
-    go : (b : Bool) → (f.slot == h.slot) ≡ b → (b || flown.holds fs h.slot) ≡ true → (flown.holds fs h.slot ≡ true → holds (map (given_of tasks) fs) t ≡ true) → holds (map (given_of tasks) (f ∷ fs)) t ≡ true
+    go : (b : Bool) → (f.slot == h.slot) ≡ b → (b || flown.is_outstanding fs h.slot) ≡ true → (flown.is_outstanding fs h.slot ≡ true → is_given (map (given_of tasks) fs) t ≡ true) → is_given (map (given_of tasks) (f ∷ fs)) t ≡ true
     go true is e rest =
         let task : (given_of tasks f).task ≡ t = ap (λ n. unwrap_or (option_map (λ (k : Held). task_of k.entry) (find (is_in_slot n) tasks)) no_entry) (eqb-true f.slot h.slot is) ∙ ap (λ x. unwrap_or (option_map (λ (k : Held). task_of k.entry) x) no_entry) found ∙ same in
-        ap (λ b. b || holds (map (given_of tasks) fs) t) (called_same (given_of tasks f).task t task)
+        ap (λ b. b || is_given (map (given_of tasks) fs) t) (called_same (given_of tasks f).task t task)
     go false is e rest = either (is_called t.nexus (t.tag).0 (given_of tasks f).task) (rest e)
       where
-        either : (b : Bool) → holds (map (given_of tasks) fs) t ≡ true → (b || holds (map (given_of tasks) fs) t) ≡ true
+        either : (b : Bool) → is_given (map (given_of tasks) fs) t ≡ true → (b || is_given (map (given_of tasks) fs) t) ≡ true
         either true h = refl
         either false h = h
 
@@ -172,7 +172,7 @@ other_name (h ∷ hs) i j a b own apart fa fb = go (h.slot == i) refl fa (h.slot
 abbrev IsFound : List Held → Flying → Type 0
 IsFound tasks f = (h : Held) × (find (is_in_slot f.slot) tasks ≡ Some h)
 
-given_apart : (tasks : List Held) (flying : List Flying) → AreOwn (map task_of (entries_of tasks)) → flown.AreApart flying → AllByRecursion (IsFound tasks) flying → AreApart (map (given_of tasks) flying)
+given_apart : (tasks : List Held) (flying : List Flying) → AreOwn (map task_of (entries_of tasks)) → flown.AreApart flying → AllByRecursion (IsFound tasks) flying → AreGivenOnce (map (given_of tasks) flying)
 given_apart tasks [] own apart found = tt
 given_apart tasks (f ∷ fs) own apart found = (tags fs apart.0, names fs apart.0 found.1, given_apart tasks fs own apart.1 found.1)
   where
@@ -183,10 +183,10 @@ given_apart tasks (f ∷ fs) own apart found = (tags fs apart.0, names fs apart.
     task_is : (g : Flying) (h : Held) → find (is_in_slot g.slot) tasks ≡ Some h → (given_of tasks g).task ≡ task_of h.entry
     task_is g h at = ap (λ x. unwrap_or (option_map (λ (k : Held). task_of k.entry) x) no_entry) at
 
-    names : (gs : List Flying) → AllByRecursion (λ (g : Flying). ((f.slot == g.slot) ≡ false) × ((f.tag == g.tag) ≡ false)) gs → AllByRecursion (IsFound tasks) gs → holds (map (given_of tasks) gs) (given_of tasks f).task ≡ false
+    names : (gs : List Flying) → AllByRecursion (λ (g : Flying). ((f.slot == g.slot) ≡ false) × ((f.tag == g.tag) ≡ false)) gs → AllByRecursion (IsFound tasks) gs → is_given (map (given_of tasks) gs) (given_of tasks f).task ≡ false
     names [] all at = refl
     names (g ∷ gs) all at =
-        ap (λ b. b || holds (map (given_of tasks) gs) (given_of tasks f).task)
+        ap (λ b. b || is_given (map (given_of tasks) gs) (given_of tasks f).task)
         (ap (λ (t : Entry). is_called t.nexus (t.tag).0 (given_of tasks g).task) (task_is f found.0.0 found.0.1) ∙ ap (is_called found.0.0.entry.nexus (found.0.0.entry.tag).0) (task_is g at.0.0 at.0.1) ∙ other_name tasks f.slot g.slot found.0.0 at.0.0 own all.0.0 found.0.1 at.0.1)
         ∙ names gs all.1 at.1
 

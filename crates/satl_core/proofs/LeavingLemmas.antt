@@ -11,7 +11,7 @@ use Rattle.satl_direct.specs.Device.{is_called}
 use Rattle.satl_direct.specs.Tasks.{task_of}
 use Rattle.satl_core.specs.Layer.{held_pages}
 use Rattle.satl_flight.specs.declared.flight.Flying.{Flying}
-use Rattle.satl_flight.specs.Flown.{holds}
+use Rattle.satl_flight.specs.Flown.{is_outstanding}
 use Rattle.satl_flight.specs.Queueing.{without_pages}
 use Rattle.satl_core.specs.declared.leaving.Scope.{Scope}
 use Rattle.satl_core.specs.declared.leaving.Scope.TheVariants as scopes
@@ -125,20 +125,20 @@ any_next p bare tasks place next entry e at is = any_step p bare tasks place ent
 abbrev pub WaitBefore : (Entry → Bool) → List Flying → ℕ → List Held → Type 0
 WaitBefore goes flying place tasks = AreWaiting goes flying (take place tasks)
 
-wait_step : (goes : Entry → Bool) (flying : List Flying) (tasks : List Held) (place : ℕ) → ((h : Held) → slice_get tasks place ≡ Some h → goes h.entry ≡ true → holds flying h.slot ≡ false) → WaitBefore goes flying place tasks → WaitBefore goes flying (suc place) tasks
+wait_step : (goes : Entry → Bool) (flying : List Flying) (tasks : List Held) (place : ℕ) → ((h : Held) → slice_get tasks place ≡ Some h → goes h.entry ≡ true → is_outstanding flying h.slot ≡ false) → WaitBefore goes flying place tasks → WaitBefore goes flying (suc place) tasks
 wait_step goes flying [] place one all = tt
 wait_step goes flying (h ∷ tasks) zero one all = (one h refl, tt)
 wait_step goes flying (h ∷ tasks) (suc place) one all = (all.0, wait_step goes flying tasks place one all.1)
 
 -- nor is the next
 pub wait_next : (goes : Entry → Bool) → IsBare goes → (flying : List Flying) (tasks : List Held) (place next : ℕ) (entry : Entry) (out : Bool) → next ≡ suc place → option_map without_pages (entry_at tasks place) ≡ Some (without_pages entry)
-    → (goes entry ≡ true → (h : Held) → slice_get tasks place ≡ Some h → out ≡ holds flying h.slot) → (goes entry ≡ true → out ≡ false) → WaitBefore goes flying place tasks → WaitBefore goes flying next tasks
+    → (goes entry ≡ true → (h : Held) → slice_get tasks place ≡ Some h → out ≡ is_outstanding flying h.slot) → (goes entry ≡ true → out ≡ false) → WaitBefore goes flying place tasks → WaitBefore goes flying next tasks
 wait_next goes bare flying tasks place next entry out e at told none all =
     subst (λ n. WaitBefore goes flying n tasks) (sym e) (wait_step goes flying tasks place
     (λ h stands is. let here = sym (bare_alike goes bare h.entry entry (seen_there tasks place entry h at stands)) ∙ is in sym (told here h stands) ∙ none here) all)
 
 -- where a task is outstanding something is
-pub some_held : (flying : List Flying) (slot : ℕ) → holds flying slot ≡ true → flying ≢ []
+pub some_held : (flying : List Flying) (slot : ℕ) → is_outstanding flying slot ≡ true → flying ≢ []
 some_held [] slot held = absurd cc
 some_held (f ∷ flying) slot held = λ none. absurd cc
 
@@ -150,7 +150,7 @@ stands (h ∷ tasks) (suc place) less = stands tasks place (omega (arith, less))
 -- nothing is outstanding
 pub idle_waits : (goes : Entry → Bool) (flying : List Flying) (tasks : List Held) → flying ≡ [] → AreWaiting goes flying tasks
 idle_waits goes flying [] idle = tt
-idle_waits goes flying (h ∷ tasks) idle = ((λ is. ap (λ fs. holds fs h.slot) idle), idle_waits goes flying tasks idle)
+idle_waits goes flying (h ∷ tasks) idle = ((λ is. ap (λ fs. is_outstanding fs h.slot) idle), idle_waits goes flying tasks idle)
 
 -- the device has one where the layer has, by a test that says the same of them there
 pub any_tasks : (p q : Entry → Bool) → ((t : Entry) → q (task_of t) ≡ p t) → (tasks : List Held) → list_any p (entries_of tasks) ≡ list_any q (map task_of (entries_of tasks))

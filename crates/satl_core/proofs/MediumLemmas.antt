@@ -185,7 +185,7 @@ module _ (identity : Identity) (modes : Modes) (started : Bool) (attentions : Li
   EndsSo c ending = EndsOne (with_it c) (ended_reply (asking c) ending modes.d_sense) (seen identity modes started attentions others d')
 
   -- a flaw is met, where nothing is written
-  flawed_turn : (c : Command) (t : Transfer) (at : ℕ) → (not started && (asks c).starts) ≡ false → wakes c ≡ true → t.writes ≡ [] → barrier.IsFlawed t at d d'
+  flawed_turn : (c : Command) (t : Transfer) (at : ℕ) → (not started && (asks c).starts) ≡ false → wakes c ≡ true → t.writes ≡ [] → barrier.StopsAtFlaw t at d d'
       → ((reply : Reply) (new : Device) → IsChecked (read_error at) (roused c) (task_of (asking c)) reply new → EndsBy c (roused c) (task_of (asking c)) reply new) → EndsSo c (medium.flawed false at)
   flawed_turn c t at ready wake none x how =
       torn_turn identity modes started attentions (asking c) others d d' ready wake t (read_error at) x.torn (ap (λ (y : DriveState). y.down) x.stays)

@@ -20,7 +20,7 @@ use Rattle.satl_direct.specs.Tasks.{task_of}
 use Rattle.satl_direct.specs.Valid.{IsValid}
 use Rattle.satl_direct.proofs.Quieting.{quiet_none}
 use Rattle.satl_flight.specs.declared.flight.Flying.{Flying}
-use Rattle.satl_flight.specs.Flown.{IsInFlight, holds, is_in_slot}
+use Rattle.satl_flight.specs.Flown.{IsInFlight, is_outstanding, is_in_slot}
 use Rattle.satl_flight.specs.Lending.{Waiting}
 use Rattle.satl_flight.specs.Settled.{IsCut, IsFilled, IsLostQuietly}
 use Rattle.satl_flight.proofs.ComingLemmas.{tie_kept}
@@ -40,12 +40,12 @@ use Rattle.satl_core.proofs.ValidLemmas.{valid_left}
 
 -- ---- the others stay outstanding
 
-in_holds : (flying : List Flying) (f : Flying) → IsIn f flying → holds flying f.slot ≡ true
+in_holds : (flying : List Flying) (f : Flying) → IsIn f flying → is_outstanding flying f.slot ≡ true
 in_holds [] f i = absurd i
-in_holds (g ∷ flying) f i = ⊎_elim (λ e. ap (λ b. b || holds flying f.slot) (eq-eqb g.slot f.slot (ap (λ (x : Flying). x.slot) (sym e)))) (λ later. or_right (g.slot == f.slot) (holds flying f.slot) (in_holds flying f later)) i
+in_holds (g ∷ flying) f i = ⊎_elim (λ e. ap (λ b. b || is_outstanding flying f.slot) (eq-eqb g.slot f.slot (ap (λ (x : Flying). x.slot) (sym e)))) (λ later. or_right (g.slot == f.slot) (is_outstanding flying f.slot) (in_holds flying f later)) i
 
 -- a task that is outstanding does not go
-stays_flying : (goes : Entry → Bool) (flying : List Flying) (tasks all : List Held) → AreWaiting goes flying tasks → (f : Flying) → holds flying f.slot ≡ true → (h : Held) → find (is_in_slot f.slot) tasks ≡ Some h → not (goes h.entry) ≡ true
+stays_flying : (goes : Entry → Bool) (flying : List Flying) (tasks all : List Held) → AreWaiting goes flying tasks → (f : Flying) → is_outstanding flying f.slot ≡ true → (h : Held) → find (is_in_slot f.slot) tasks ≡ Some h → not (goes h.entry) ≡ true
 stays_flying goes flying [] all waits f held h found = absurd cc
 stays_flying goes flying (k ∷ tasks) all waits f held h found = by (k.slot == f.slot) refl found (stays_flying goes flying tasks all waits.1 f held h)
   where
@@ -55,7 +55,7 @@ stays_flying goes flying (k ∷ tasks) all waits f held h found = by (k.slot == 
         let one : k ≡ h = cc in
         subst (λ (x : Held). not (goes x.entry) ≡ true) one
         ((elim (goes k.entry) as (λ b. goes k.entry ≡ b → not b ≡ true) [
-          | true ↦ λ go. let none = waits.0 go in let some : holds flying k.slot ≡ true = ap (holds flying) (eqb-true k.slot f.slot is) ∙ held in absurd cc
+          | true ↦ λ go. let none = waits.0 go in let some : is_outstanding flying k.slot ≡ true = ap (is_outstanding flying) (eqb-true k.slot f.slot is) ∙ held in absurd cc
           | false ↦ λ stay. refl
         ]) refl)
 

@@ -4,7 +4,7 @@ use Rattle.std.specs.List.{AllByRecursion}
 use Rattle.satl_line.specs.declared.entry.Entry.{Entry}
 use Rattle.satl_line.specs.Tasks.{Held}
 use Rattle.satl_flight.specs.declared.flight.Flying.{Flying}
-use Rattle.satl_flight.specs.Flown.{holds}
+use Rattle.satl_flight.specs.Flown.{is_outstanding}
 use Rattle.satl_direct.specs.Device.{is_called, is_of}
 use Rattle.satl_core.specs.declared.leaving.Scope.{Scope}
 use Rattle.satl_core.specs.declared.leaving.Scope.TheVariants as scopes
@@ -22,4 +22,4 @@ left_by goes tasks = filter (λ h. not (goes h.entry)) tasks
 
 -- none of those that pass a test is outstanding (profile)
 abbrev pub AreWaiting : (Entry → Bool) → List Flying → List Held → Type 0
-AreWaiting goes flying tasks = AllByRecursion (λ h. goes h.entry ≡ true → holds flying h.slot ≡ false) tasks
+AreWaiting goes flying tasks = AllByRecursion (λ h. goes h.entry ≡ true → is_outstanding flying h.slot ≡ false) tasks

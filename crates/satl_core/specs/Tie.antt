@@ -32,22 +32,23 @@ pub record IsGiven (s : Device) (g : Given) (q : Outstanding) : Type 0 where
   pub blocks : q.blocks ≡ blocks_for ranged
 
 -- whether a task is among those given (profile)
-abbrev pub holds : List Given → Entry → Bool
-holds given t = list_any (λ (g : Given). is_called t.nexus (t.tag).0 g.task) given
+abbrev pub is_given : List Given → Entry → Bool
+is_given given t = list_any (λ (g : Given). is_called t.nexus (t.tag).0 g.task) given
 
 -- no tag is given twice, and no task has two (profile)
-abbrev pub AreApart : List Given → Type 0
-AreApart [] = Unit {0}
-AreApart (g ∷ gs) = (list_any (λ (h : Given). h.tag == g.tag) gs ≡ false) × (holds gs g.task ≡ false) × AreApart gs
+abbrev pub AreGivenOnce : List Given → Type 0
+AreGivenOnce [] = Unit {0}
+AreGivenOnce (g ∷ gs) = (list_any (λ (h : Given). h.tag == g.tag) gs ≡ false) × (is_given gs g.task ≡ false) × AreGivenOnce gs
 
 -- the queue is used: 32 tasks are given, or each eligible ranged task is (profile)
 abbrev pub IsFilledQueue : Device → List Given → Type 0
-IsFilledQueue s given = (length given ≡ 32) ⊎ ((t : Entry) → IsEligible s.tasks t → is_ranged t ≡ true → holds given t ≡ true)
+IsFilledQueue s given =
+    (length given ≡ 32) ⊎ ((t : Entry) → IsEligible s.tasks t → is_ranged t ≡ true → is_given given t ≡ true)
 
 -- the drive has what was given to it, and as much as can be while the unit is up and started, and else nothing (profile)
 pub record IsTiedQueue (s : Device) (given : List Given) (outstanding : List Outstanding) : Type 0 where
   pub each : AllZip (IsGiven s) given outstanding
-  pub apart : AreApart given
+  pub apart : AreGivenOnce given
   pub used : MatchBool (not s.down && s.started) (IsFilledQueue s given) (given ≡ [])
 
 -- the task that was given under a tag, as the device sees it (profile)

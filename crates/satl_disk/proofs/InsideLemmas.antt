@@ -8,8 +8,8 @@ use Rattle.satl_base.specs.Blocks.{zero_block}
 use Rattle.satl_base.specs.Cells.{has_flaw}
 use Rattle.satl_disk.specs.declared.sectors.Flaws.{Flaws}
 use Rattle.satl_disk.specs.Disk.{blank_sector}
-use Rattle.satl_disk.specs.Layout.{block_at, flaw_of, no_flaws, sector_at, sector_of, stable_at, struck_flaws, written_flaws, written_stable, zipped}
-use Rattle.satl_disk.specs.Sectors.{Sector, after_power_loss, cells_of, changed_at, is_stuck, left_block, mended_sector, rest_by, struck_sector, write_at, written}
+use Rattle.satl_disk.specs.Layout.{block_at, is_flawed, no_flaws, sector_at, sector_of, stable_at, struck_flaws, written_flaws, written_stable, zipped}
+use Rattle.satl_disk.specs.Sectors.{Sector, after_power_loss, cells_of, changed_at, is_stuck, left_block, mended_sector, rest_by, struck_sector, write_at, written_sector}
 use Rattle.satl_disk.proofs.LayoutLemmas.{flawed_of, struck_of, zipped-at, zipped-length, zipped-set}
 use Rattle.satl_disk.proofs.SectorsLemmas.{changed_same, changed_set, flag_at, stuck_at}
 
@@ -43,8 +43,8 @@ module _ (bs : List Block) (os : List (Option Block)) (fs : List Flaws) (olds : 
     pub now_is : b ≡ (sector_at olds place).now
     now_is = ap (λ (x : Sector). x.now) (at_place blank_sector)
 
-    pub flag_is : (which : Which) (n : Flaws) → n ≡ slice_index_or fs place n → flaw_of which n ≡ slice_index_or (map (has_flaw which) (cells_of olds)) place false
-    flag_is which n e = ap (flaw_of which) (flaws_are n e) ∙ flawed_of which b o f ∙ flag_at olds which place s within (at_place s)
+    pub flag_is : (which : Which) (n : Flaws) → n ≡ slice_index_or fs place n → is_flawed which n ≡ slice_index_or (map (has_flaw which) (cells_of olds)) place false
+    flag_is which n e = ap (is_flawed which) (flaws_are n e) ∙ flawed_of which b o f ∙ flag_at olds which place s within (at_place s)
 
     pub stuck_is : (n : Flaws) → n ≡ slice_index_or fs place n → n.write ≡ is_stuck olds place
     stuck_is n e = ap (λ (x : Flaws). x.write) (flaws_are n e) ∙ stuck_at olds place s within (at_place s)
@@ -73,7 +73,7 @@ module _ (bs : List Block) (os : List (Option Block)) (fs : List Flaws) (olds : 
     write_is v old cached bs2 os2 n z e is was stables blocks =
         ap (λ xs. zipped sector_of xs os2 (slice_set fs place z)) blocks
         ∙ ap (λ xs. zipped sector_of (slice_set bs place v) xs (slice_set fs place z)) (stables ∙ ap (λ x. slice_set os place (written_stable cached x o)) was)
-        ∙ changed_is (λ x. written x v cached) v (written_stable cached b o) z (ap (sector_of v (written_stable cached b o)) (is ∙ ap written_flaws (flaws_are n e)))
+        ∙ changed_is (λ x. written_sector x v cached) v (written_stable cached b o) z (ap (sector_of v (written_stable cached b o)) (is ∙ ap written_flaws (flaws_are n e)))
 
     -- a loss of power at a dirty sector
     module _ (x : Block) (dirty : Some x ≡ o) where

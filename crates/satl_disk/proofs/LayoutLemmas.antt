@@ -8,8 +8,8 @@ use Rattle.satl_base.specs.declared.bench.Which.TheVariants.{Read, Write}
 use Rattle.satl_base.specs.Blocks.{zero_block}
 use Rattle.satl_base.specs.Cells.{has_flaw}
 use Rattle.satl_disk.specs.declared.sectors.Flaws.{Flaws}
-use Rattle.satl_disk.specs.Layout.{block_at, flaw_of, front_blocks, sector_of, struck_flaws, zipped}
-use Rattle.satl_disk.specs.Sectors.{cell_of, settled, struck_sector}
+use Rattle.satl_disk.specs.Layout.{block_at, is_flawed, front_blocks, sector_of, struck_flaws, zipped}
+use Rattle.satl_disk.specs.Sectors.{cell_of, settled_sector, struck_sector}
 
 pub filled-length : (n : ℕ) (bs : List Block) → length (front_blocks n bs) ≡ n
 filled-length zero bs = refl
@@ -119,16 +119,16 @@ zipped-set f (a ∷ xs) (b ∷ ys) (c ∷ zs) zero x y z = refl
 zipped-set f (a ∷ xs) (b ∷ ys) (c ∷ zs) (suc place) x y z = ap (λ ds. f a b c ∷ ds) (zipped-set f xs ys zs place x y z)
 
 -- no sector is dirty any more
-pub zipped-settled : (bs : List Block) (os : List (Option Block)) (fs : List Flaws) → zipped sector_of bs (replicate (length os) None) fs ≡ map settled (zipped sector_of bs os fs)
+pub zipped-settled : (bs : List Block) (os : List (Option Block)) (fs : List Flaws) → zipped sector_of bs (replicate (length os) None) fs ≡ map settled_sector (zipped sector_of bs os fs)
 zipped-settled [] os fs = refl
 zipped-settled (b ∷ bs) [] fs = refl
 zipped-settled (b ∷ bs) (o ∷ os) [] = refl
-zipped-settled (b ∷ bs) (o ∷ os) (f ∷ fs) = ap (λ ss. settled (sector_of b o f) ∷ ss) (zipped-settled bs os fs)
+zipped-settled (b ∷ bs) (o ∷ os) (f ∷ fs) = ap (λ ss. settled_sector (sector_of b o f) ∷ ss) (zipped-settled bs os fs)
 
 pub struck_of : (which : Which) (b : Block) (o : Option Block) (f : Flaws) → sector_of b o (struck_flaws which f) ≡ struck_sector which (sector_of b o f)
 struck_of Read b o f = refl
 struck_of Write b o f = refl
 
-pub flawed_of : (which : Which) (b : Block) (o : Option Block) (f : Flaws) → flaw_of which f ≡ has_flaw which (cell_of (sector_of b o f))
+pub flawed_of : (which : Which) (b : Block) (o : Option Block) (f : Flaws) → is_flawed which f ≡ has_flaw which (cell_of (sector_of b o f))
 flawed_of Read b o f = refl
 flawed_of Write b o f = refl

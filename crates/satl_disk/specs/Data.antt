@@ -40,8 +40,8 @@ abbrev pub size_words : ℕ → List Word
 size_words n = at 60 (n % 2 ^ 16) ∷ at 61 (n / 2 ^ 16) ∷ at 100 (n % 2 ^ 16) ∷ at 101 (n / 2 ^ 16) ∷ []
 
 -- the data of a drive of n sectors whose write cache and look-ahead are on
-unfoldable pub identify_data : ℕ → List ℕ
-identify_data n = with_integrity (set_words (size_words n) (set_words fixed_words (replicate 512 0)))
+unfoldable pub drive_data : ℕ → List ℕ
+drive_data n = with_integrity (set_words (size_words n) (set_words fixed_words (replicate 512 0)))
 
 -- the byte that keeps the sum of all bytes modulo 256 where another one changes (ACS-3 7.12.7, word 255)
 abbrev pub balanced : ℕ → ℕ → ℕ → ℕ

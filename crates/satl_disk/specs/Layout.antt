@@ -90,6 +90,6 @@ struck_flaws Read f = record f { read = true }
 struck_flaws Write f = record f { write = true }
 
 -- the flaw of a kind
-abbrev pub flaw_of : Which → Flaws → Bool
-flaw_of Read f = f.read
-flaw_of Write f = f.write
+abbrev pub is_flawed : Which → Flaws → Bool
+is_flawed Read f = f.read
+is_flawed Write f = f.write

@@ -2,7 +2,7 @@
 ghost use Rattle.std.specs.Prelude.{◌≡◌, ◌≤◌, ◌<◌, ◌/◌, ◌%◌, ◌^◌};
 ghost use Rattle.satl_base.specs.Identify.{has_cache, has_look, trim_blocks};
 ghost use Rattle.satl_identify.specs.Data.{with_settings};
-ghost use Rattle.satl_disk.specs.Data.{fixed_words, identify_data, integrity_kept, retold, set_word, set_words};
+ghost use Rattle.satl_disk.specs.Data.{fixed_words, drive_data, integrity_kept, retold, set_word, set_words};
 
 use satl_identify::{balance, bit_at, settings_of, word_at};
 
@@ -140,10 +140,10 @@ fn high_half(number: u32) -> u16
 }
 
 /// The data of a drive of so many sectors, with write cache and look-ahead on.
-#[tactic(auto, unfolding(crate::specs::Data::identify_data))]
+#[tactic(auto, unfolding(crate::specs::Data::drive_data))]
 pub fn identify_bytes(sectors: u32) -> [u8; 512]
     requires { sectors ≤ 65536 }
-    ensures { result ≡ identify_data sectors }
+    ensures { result ≡ drive_data sectors }
 {
     let low = low_half(sectors);
     let high = high_half(sectors);

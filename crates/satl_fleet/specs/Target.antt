@@ -22,13 +22,14 @@ luns_from k (suc more) = lun_of k ++ luns_from (suc k) more
 
 -- the list of LUNs of at most four units, for SELECT REPORT 00h and 02h: the number of bytes of the LUNs, four bytes of zero,
 -- and the LUNs; and none for 01h, well known logical units (SPC-4 6.33)
-abbrev pub lun_list : ℕ → ℕ → List ℕ
-lun_list units select = if select == 1 then replicate 8 0 else (0 ∷ 0 ∷ 0 ∷ 8 * units ∷ 0 ∷ 0 ∷ 0 ∷ 0 ∷ []) ++ luns_from 0 units
+abbrev pub target_luns : ℕ → ℕ → List ℕ
+target_luns units select =
+    if select == 1 then replicate 8 0 else (0 ∷ 0 ∷ 0 ∷ 8 * units ∷ 0 ∷ 0 ∷ 0 ∷ 0 ∷ []) ++ luns_from 0 units
 
 -- GOOD with the list of LUNs in one page, cut to the allocation length (SPC-4 6.33)
 abbrev pub luns_told : ℕ → Request → Reply
 luns_told units r =
-    let luns = lun_list units (slice_index r.cdb 2) in
+    let luns = target_luns units (slice_index r.cdb 2) in
     record {
       nexus = r.nexus;
       tag = r.tag;

@@ -11,7 +11,7 @@ ghost use Rattle.satl_base.specs.Limits.{IsExpectable};
 ghost use Rattle.satl_io.specs.Causes.{HasCause};
 ghost use Rattle.satl_io.specs.Known.{Wrote, WrotePart};
 ghost use Rattle.satl_fleet.specs.Output.{named};
-ghost use Rattle.satl_fleet.specs.Target.{lun_list, luns_told, target_reply};
+ghost use Rattle.satl_fleet.specs.Target.{target_luns, luns_told, target_reply};
 ghost use Rattle.satl_pages.specs.Counts.{number_of};
 
 use crate::telling::UnitTeller;
@@ -32,7 +32,7 @@ type Luns = ArrayVec<u8, 40>;
 /// The LUNs of at most four units, behind the number of their bytes (SPC-4 6.33).
 fn all_luns(units: u8) -> Luns
     requires few { units ≤ 4 }
-    ensures { result.items ≡ lun_list units 0 }
+    ensures { result.items ≡ target_luns units 0 }
 {
     let mut luns = Luns::new();
     append(&mut luns, &[0, 0, 0, 8 * units, 0, 0, 0, 0]);
@@ -43,9 +43,9 @@ fn all_luns(units: u8) -> Luns
 }
 
 /// The list of LUNs by SELECT REPORT 00h to 02h (SPC-4 6.33).
-fn lun_list(units: u8, select: u8) -> Luns
+fn target_luns(units: u8, select: u8) -> Luns
     requires few { units ≤ 4 }
-    ensures { result.items ≡ lun_list units select }
+    ensures { result.items ≡ target_luns units select }
 {
     if select != 1 {
         return all_luns(units);
@@ -62,7 +62,7 @@ fn luns_told(units: u8, request: &Request, mut pages: Pages) -> Reply
     ensures told { result ≡ luns_told units request.now }
     ensures short { result.data_len ≤ 40 }
 {
-    let luns = lun_list(units, request.cdb[2]);
+    let luns = target_luns(units, request.cdb[2]);
     let Some(mut page) = pages.pop_first() else {
         unreachable!();
     };

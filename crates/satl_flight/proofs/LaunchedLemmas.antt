@@ -34,7 +34,7 @@ use Rattle.satl_drive.specs.Queue.{CanIssue, FailsAtFlaw, FailsByCrc, HasCommand
 use Rattle.satl_drive.specs.Rules.{IsCutOff, IsRunCutOff}
 use Rattle.satl_pages.specs.Slots.{pages_at}
 use Rattle.satl_flight.specs.declared.flight.Flying.{Flying}
-use Rattle.satl_flight.specs.Flown.{IsFlown, IsInFlight, RangedFits, clash, holds, is_in_slot, outstanding_for, queued_for}
+use Rattle.satl_flight.specs.Flown.{IsFlown, IsInFlight, RangedFits, clash, is_outstanding, is_in_slot, outstanding_for, queued_for}
 use Rattle.satl_flight.specs.Lending.{Waiting, waiting}
 use Rattle.satl_flight.specs.Settled.{Deepens, IsCut, IsLaunched, IsLostInFlight, IsLostQuietly, OnDrive, on_drive}
 use Rattle.satl_line.proofs.SlotsLemmas.{All-append}
@@ -122,7 +122,7 @@ follows_of e task h = go e.kind refl
 
 module _ (flying : List Flying) (tasks : List Held) (old : DriveState) (tie : IsInFlight flying tasks old) where
   pub launched_one : (slots : Slots) (tag slot : ℕ) (held : Held) (task : RangedTask) (flown : Waiting) (new : DriveState) → flown.flying ≡ flying ++ record { tag = tag; slot = slot } ∷ [] → tag < 32 → find (is_in_slot slot) tasks ≡ Some held → IsEligibleBy clash tasks held → ranged_of held.entry ≡ Some task
-      → holds flying slot ≡ false → list_any (λ (f : Flying). f.tag == tag) flying ≡ false → length flying < 32 → IsIssued old (queued_for tag task) held.entry.body new
+      → is_outstanding flying slot ≡ false → list_any (λ (f : Flying). f.tag == tag) flying ≡ false → length flying < 32 → IsIssued old (queued_for tag task) held.entry.body new
       → IsLaunched (on_drive (waiting flying slots tasks) old) (on_drive flown new)
   launched_one slots tag slot held task flown new more small found eligible is fresh free room done = record {
     tie = subst (λ fs. IsInFlight fs tasks new) (sym more) (record {

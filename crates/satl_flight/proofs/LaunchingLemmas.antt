@@ -23,7 +23,7 @@ use Rattle.satl_drive.specs.State.{DriveState}
 use Rattle.satl_drive.specs.Queue.{CanIssue, IsIssueCutOff, IsIssued, Slots}
 use Rattle.satl_pages.specs.Slots.{pages_at}
 use Rattle.satl_flight.specs.declared.flight.Flying.{Flying}
-use Rattle.satl_flight.specs.Flown.{IsInFlight, clash, holds, is_in_slot, queued_for}
+use Rattle.satl_flight.specs.Flown.{IsInFlight, clash, is_outstanding, is_in_slot, queued_for}
 use Rattle.satl_flight.specs.Lending.{IsLending, Waiting, has_tag, is_of_slot, waiting, whole_task, whole_tasks, with_own_pages}
 use Rattle.satl_flight.specs.Settled.{IsFilled, IsIssuedIfItMay, IsLaunched, IsLostQuietly, OnDrive, on_drive}
 use Rattle.satl_flight.proofs.FlownLemmas.{FitsOn}
@@ -69,7 +69,7 @@ module _ (flying : List Flying) (slots : Slots) (tasks : List Held) (lending : I
   stands = held_at tasks place slot entry is in_slot
 
   -- a task that has lent nothing is whole
-  bare : holds flying slot ≡ false → whole_task flying slots (record { slot = slot; entry = entry }) ≡ record { slot = slot; entry = entry }
+  bare : is_outstanding flying slot ≡ false → whole_task flying slots (record { slot = slot; entry = entry }) ≡ record { slot = slot; entry = entry }
   bare fresh = ap (λ o. with_body (unwrap_or (option_and_then (λ (f : Flying). pages_at slots f.tag) o) entry.body) (record { slot = slot; entry = entry })) (find-none (is_of_slot slot) flying fresh)
 
   whole_stands : slice_get (whole_tasks flying slots tasks) place ≡ Some (whole_task flying slots (record { slot = slot; entry = entry }))
@@ -80,9 +80,9 @@ module _ (flying : List Flying) (slots : Slots) (tasks : List Held) (lending : I
 
   -- a barrier is not issued
   pub covered_barrier : ranged_of entry ≡ None → IsIssuedIfItMay flying (whole_tasks flying slots tasks) place
-  covered_barrier none = inr (λ h task at passes ranged. ap (holds flying) (its_slot h at) ∙ go (holds flying slot) refl h task at ranged)
+  covered_barrier none = inr (λ h task at passes ranged. ap (is_outstanding flying) (its_slot h at) ∙ go (is_outstanding flying slot) refl h task at ranged)
     where
-      go : (b : Bool) → holds flying slot ≡ b → (h : Held) (task : RangedTask) → slice_get (whole_tasks flying slots tasks) place ≡ Some h → ranged_of h.entry ≡ Some task → holds flying slot ≡ true
+      go : (b : Bool) → is_outstanding flying slot ≡ b → (h : Held) (task : RangedTask) → slice_get (whole_tasks flying slots tasks) place ≡ Some h → ranged_of h.entry ≡ Some task → is_outstanding flying slot ≡ true
       go true held h task at ranged = held
       go false fresh h task at ranged =
           let same : Some h ≡ Some (record { slot = slot; entry = entry }) = sym at ∙ whole_stands ∙ ap Some (bare fresh) in
@@ -90,16 +90,16 @@ module _ (flying : List Flying) (slots : Slots) (tasks : List Held) (lending : I
           let clash_of : Some task ≡ None = sym ranged ∙ ap (λ (x : Held). ranged_of x.entry) one ∙ none in absurd cc
 
   -- one that may not be issued is outstanding, or not eligible, or no tag is free
-  pub covered_kept : (eligible_at (entries_of tasks) place ≡ true → holds flying slot ≡ false → length flying ≡ 32) → IsIssuedIfItMay flying (whole_tasks flying slots tasks) place
-  covered_kept otherwise = go (holds flying slot) refl (eligible_at (entries_of tasks) place) refl
+  pub covered_kept : (eligible_at (entries_of tasks) place ≡ true → is_outstanding flying slot ≡ false → length flying ≡ 32) → IsIssuedIfItMay flying (whole_tasks flying slots tasks) place
+  covered_kept otherwise = go (is_outstanding flying slot) refl (eligible_at (entries_of tasks) place) refl
     where
-      go : (b : Bool) → holds flying slot ≡ b → (e : Bool) → eligible_at (entries_of tasks) place ≡ e → IsIssuedIfItMay flying (whole_tasks flying slots tasks) place
-      go true held e test = inr (λ h task at passes ranged. ap (holds flying) (its_slot h at) ∙ held)
+      go : (b : Bool) → is_outstanding flying slot ≡ b → (e : Bool) → eligible_at (entries_of tasks) place ≡ e → IsIssuedIfItMay flying (whole_tasks flying slots tasks) place
+      go true held e test = inr (λ h task at passes ranged. ap (is_outstanding flying) (its_slot h at) ∙ held)
       go false fresh true test = inl (otherwise test fresh)
       go false fresh false test = inr (λ h task at passes ranged. let no_pass : true ≡ false = sym passes ∙ same_test flying slots tasks place ∙ test in absurd cc)
 
   -- one is issued
-  module _ (fresh : holds flying slot ≡ false) (passes : eligible_at (entries_of tasks) place ≡ true) (task : RangedTask) (ranged : ranged_of entry ≡ Some task) (tag : ℕ) (small : tag < 32) (free : list_any (has_tag tag) flying ≡ false) where
+  module _ (fresh : is_outstanding flying slot ≡ false) (passes : eligible_at (entries_of tasks) place ≡ true) (task : RangedTask) (ranged : ranged_of entry ≡ Some task) (tag : ℕ) (small : tag < 32) (free : list_any (has_tag tag) flying ≡ false) where
     found : find (is_in_slot slot) (whole_tasks flying slots tasks) ≡ Some (record { slot = slot; entry = entry })
     found = at_found (whole_tasks flying slots tasks) place (record { slot = slot; entry = entry }) (whole_stands ∙ ap Some (bare fresh)) (ap (count_of slot) (whole-slots flying slots tasks) ∙ alone)
 
@@ -144,18 +144,18 @@ module _ (flying : List Flying) (slots : Slots) (tasks : List Held) (lending : I
     lost new cut = lost_issue flying (whole_tasks flying slots tasks) old tie tag slot (record { slot = slot; entry = entry }) task new small found eligible ranged cut
 
   pub covered_new : (flown : List Flying) (tag : ℕ) → flown ≡ flying ++ record { tag = tag; slot = slot } ∷ [] → IsIssuedIfItMay flown (whole_tasks flying slots tasks) place
-  covered_new flown tag is_flown = inr (λ h task at passes ranged. ap (holds flown) (its_slot h at) ∙ ap (λ fs. holds fs slot) is_flown ∙ last flying)
+  covered_new flown tag is_flown = inr (λ h task at passes ranged. ap (is_outstanding flown) (its_slot h at) ∙ ap (λ fs. is_outstanding fs slot) is_flown ∙ last flying)
     where
-      last : (fs : List Flying) → holds (fs ++ record { tag = tag; slot = slot } ∷ []) slot ≡ true
+      last : (fs : List Flying) → is_outstanding (fs ++ record { tag = tag; slot = slot } ∷ []) slot ≡ true
       last [] = ap (λ b. b || false) (eq-eqb slot slot refl)
-      last (f ∷ fs) = elim (f.slot == slot) as (λ b. (b || holds (fs ++ record { tag = tag; slot = slot } ∷ []) slot) ≡ true) [ true ↦ refl | false ↦ last fs ]
+      last (f ∷ fs) = elim (f.slot == slot) as (λ b. (b || is_outstanding (fs ++ record { tag = tag; slot = slot } ∷ []) slot) ≡ true) [ true ↦ refl | false ↦ last fs ]
 
 -- ---- place after place
 
-holds_append : (fs more : List Flying) (slot : ℕ) → holds fs slot ≡ true → holds (fs ++ more) slot ≡ true
+holds_append : (fs more : List Flying) (slot : ℕ) → is_outstanding fs slot ≡ true → is_outstanding (fs ++ more) slot ≡ true
 holds_append [] more slot h = absurd cc
 holds_append (f ∷ fs) more slot h =
-    (elim (f.slot == slot) as (λ b. (b || holds fs slot) ≡ true → (b || holds (fs ++ more) slot) ≡ true)
+    (elim (f.slot == slot) as (λ b. (b || is_outstanding fs slot) ≡ true → (b || is_outstanding (fs ++ more) slot) ≡ true)
     [ true ↦ λ e. refl | false ↦ λ e. holds_append fs more slot e ]) h
 
 -- a place that is covered stays so
@@ -163,17 +163,17 @@ pub covered_still : (tasks : List Held) (old new : OnDrive) (place : ℕ) → Is
 covered_still tasks old new place step covered =
     ⊎_elim
     (λ full. inl (omega (arith, full, step.tie.few, ap length step.more, length-append old.queue.flying step.rest)))
-    (λ each. inr (λ h task at passes ranged. ap (λ fs. holds fs h.slot) step.more ∙ holds_append old.queue.flying step.rest h.slot (each h task at passes ranged)))
+    (λ each. inr (λ h task at passes ranged. ap (λ fs. is_outstanding fs h.slot) step.more ∙ holds_append old.queue.flying step.rest h.slot (each h task at passes ranged)))
     covered
 
 -- one that is outstanding is covered
-pub covered_held : (flying : List Flying) (slots : Slots) (tasks : List Held) (place slot : ℕ) → slice_get (slots_of tasks) place ≡ Some slot → holds flying slot ≡ true → IsIssuedIfItMay flying (whole_tasks flying slots tasks) place
+pub covered_held : (flying : List Flying) (slots : Slots) (tasks : List Held) (place slot : ℕ) → slice_get (slots_of tasks) place ≡ Some slot → is_outstanding flying slot ≡ true → IsIssuedIfItMay flying (whole_tasks flying slots tasks) place
 covered_held flying slots tasks place slot is held =
-    inr (λ h task at passes ranged. ap (holds flying) (slots-get (whole_tasks flying slots tasks) place h slot at (ap (λ l. slice_get l place) (whole-slots flying slots tasks) ∙ is)) ∙ held)
+    inr (λ h task at passes ranged. ap (is_outstanding flying) (slots-get (whole_tasks flying slots tasks) place h slot at (ap (λ l. slice_get l place) (whole-slots flying slots tasks) ∙ is)) ∙ held)
 
 -- what was outstanding stays so, as tasks are issued
-pub still_held : (old new : OnDrive) (slot : ℕ) → IsLaunched old new → holds old.queue.flying slot ≡ true → holds new.queue.flying slot ≡ true
-still_held old new slot step held = ap (λ fs. holds fs slot) step.more ∙ holds_append old.queue.flying step.rest slot held
+pub still_held : (old new : OnDrive) (slot : ℕ) → IsLaunched old new → is_outstanding old.queue.flying slot ≡ true → is_outstanding new.queue.flying slot ≡ true
+still_held old new slot step held = ap (λ fs. is_outstanding fs slot) step.more ∙ holds_append old.queue.flying step.rest slot held
 
 -- a bit that is found 1 is that of a task which is outstanding
 pub held_by_bit : (bit : ℕ) (held seen : Bool) → bit ≡ weigh held → bit ≡ weigh seen → seen ≡ true → held ≡ true
@@ -214,15 +214,15 @@ filled_come tasks h old new was step covered =
     (λ each. ⊎_elim inl (λ last. inr (λ k task e ranged. all each last k task ranged (eligible_stands clash (tasks ++ h ∷ []) k e))) covered)
     was
   where
-    all : ((k : Held) (task : RangedTask) → IsEligibleBy clash tasks k → ranged_of k.entry ≡ Some task → holds old.queue.flying k.slot ≡ true)
-        → ((k : Held) (task : RangedTask) → slice_get (tasks ++ h ∷ []) (length tasks) ≡ Some k → eligible_by clash (tasks ++ h ∷ []) (length tasks) ≡ true → ranged_of k.entry ≡ Some task → holds new.queue.flying k.slot ≡ true)
-        → (k : Held) (task : RangedTask) → ranged_of k.entry ≡ Some task → (p : ℕ) × (slice_get (tasks ++ h ∷ []) p ≡ Some k) × (eligible_by clash (tasks ++ h ∷ []) p ≡ true) → holds new.queue.flying k.slot ≡ true
+    all : ((k : Held) (task : RangedTask) → IsEligibleBy clash tasks k → ranged_of k.entry ≡ Some task → is_outstanding old.queue.flying k.slot ≡ true)
+        → ((k : Held) (task : RangedTask) → slice_get (tasks ++ h ∷ []) (length tasks) ≡ Some k → eligible_by clash (tasks ++ h ∷ []) (length tasks) ≡ true → ranged_of k.entry ≡ Some task → is_outstanding new.queue.flying k.slot ≡ true)
+        → (k : Held) (task : RangedTask) → ranged_of k.entry ≡ Some task → (p : ℕ) × (slice_get (tasks ++ h ∷ []) p ≡ Some k) × (eligible_by clash (tasks ++ h ∷ []) p ≡ true) → is_outstanding new.queue.flying k.slot ≡ true
     all each last k task ranged r =
         ⊎_elim
         (λ front.
         let same : eligible_by clash (tasks ++ h ∷ []) r.0 ≡ eligible_by clash tasks r.0 =
         ap (λ o. unwrap_or (option_map (is_clear_by clash (take r.0 (tasks ++ h ∷ []))) o) false) (get-come tasks h k r.0 front ∙ sym front)
         ∙ ap (λ ts. unwrap_or (option_map (is_clear_by clash ts) (slice_get tasks r.0)) false) (take-front tasks h k r.0 front) in
-        ap (λ fs. holds fs k.slot) step.more ∙ holds_append old.queue.flying step.rest k.slot (each k task (eligible_passes clash tasks r.0 k front (sym same ∙ r.2)) ranged))
+        ap (λ fs. is_outstanding fs k.slot) step.more ∙ holds_append old.queue.flying step.rest k.slot (each k task (eligible_passes clash tasks r.0 k front (sym same ∙ r.2)) ranged))
         (λ here. last k task (ap (slice_get (tasks ++ h ∷ [])) (sym here) ∙ r.1) (ap (eligible_by clash (tasks ++ h ∷ [])) (sym here) ∙ r.2) ranged)
         (get-front tasks h k r.0 r.1)

@@ -20,7 +20,7 @@ use Rattle.satl_line.specs.Tasks.{Held, entries_of, with_body}
 use Rattle.satl_drive.specs.State.{DriveState}
 use Rattle.satl_drive.specs.Rules.{IsLogRead, IsRunCutOff, MaySet}
 use Rattle.satl_flight.specs.declared.flight.Flying.{Flying}
-use Rattle.satl_flight.specs.Flown.{IsInFlight, clash, holds}
+use Rattle.satl_flight.specs.Flown.{IsInFlight, clash, is_outstanding}
 use Rattle.satl_flight.specs.Lending.{IsLending, Waiting, with_own_pages}
 
 -- a queue, and the drive that it is on, at a moment (profile)
@@ -160,10 +160,10 @@ pub record IsLogCutOff (old new : DriveState) : Type 0 where
 abbrev pub IsIssuedIfItMay : List Flying → List Held → ℕ → Type 0
 IsIssuedIfItMay flying tasks place =
     (length flying ≡ 32) ⊎ ((h : Held) (task : RangedTask) → slice_get tasks place ≡ Some h
-    → eligible_by clash tasks place ≡ true → ranged_of h.entry ≡ Some task → holds flying h.slot ≡ true)
+    → eligible_by clash tasks place ≡ true → ranged_of h.entry ≡ Some task → is_outstanding flying h.slot ≡ true)
 
 -- the queue is used: 32 tasks are outstanding, or each eligible ranged task is (profile)
 abbrev pub IsFilled : List Flying → List Held → Type 0
 IsFilled flying tasks =
     (length flying ≡ 32) ⊎ ((h : Held) (task : RangedTask) → IsEligibleBy clash tasks h → ranged_of h.entry ≡ Some task
-    → holds flying h.slot ≡ true)
+    → is_outstanding flying h.slot ≡ true)

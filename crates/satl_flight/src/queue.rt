@@ -4,7 +4,7 @@ ghost use Rattle.std.specs.List.{position_from};
 ghost use Rattle.std.specs.Prelude.{◌≡◌, ◌≢◌, ◌≤◌, ◌<◌, ◌+◌, ◌-◌, ◌↔◌, [], length, Some, false, IfOk, IsTrue, OnOk, OnErr, is_err, remove, slice_get};
 ghost use Rattle.satl_base.specs.Limits.{most_held, most_tasks};
 ghost use Rattle.satl_line.specs.Tasks.{Adds, AreOwnSlots, Held, change_task, entry_at, is_named, is_too_much, total_blocks, with_body};
-ghost use Rattle.satl_flight.specs.Flown.{holds};
+ghost use Rattle.satl_flight.specs.Flown.{is_outstanding};
 ghost use Rattle.satl_drive.specs.State.{DriveState, IsFit};
 ghost use Rattle.satl_flight.specs.Lending.{AreAlike};
 ghost use Rattle.satl_flight.specs.Queueing.{EndsAndLeaves, IsQueued, IsSlotted, empty, without_pages};
@@ -158,7 +158,7 @@ impl Queue {
     /// Whether the task at a place is outstanding.
     pub fn is_outstanding(&self, place: usize) -> bool
         requires { place < length self.now.tasks }
-        ensures { (h : Held) → slice_get self.now.tasks place ≡ Some h → result ≡ holds self.now.flying h.slot }
+        ensures { (h : Held) → slice_get self.now.tasks place ≡ Some h → result ≡ is_outstanding self.now.flying h.slot }
     {
         self.flight.holds_slot(self.set.slot_of(place))
     }
@@ -189,7 +189,7 @@ impl Queue {
     pub fn fill_last(&mut self, body: Pages)
         requires some { 0 < length self.old.tasks }
         requires waits { (h : Held) → slice_get self.old.tasks (length self.old.tasks - 1) ≡ Some h
-            → (holds self.old.flying h.slot ≡ false) × (h.entry.body ≡ []) }
+            → (is_outstanding self.old.flying h.slot ≡ false) × (h.entry.body ≡ []) }
         ensures filled { self.new.tasks ≡ change_task (with_body body) self.old.tasks (length self.old.tasks - 1) }
         ensures flying { self.new.flying ≡ self.old.flying }
         ensures slots { self.new.slots ≡ self.old.slots }
@@ -213,7 +213,7 @@ impl Queue {
         ensures full { is_err result ≡ is_too_much self.old.tasks task.old }
         ensures ok { OnOk result (Adds self.old.tasks task.old self.new.tasks) }
         ensures waits { OnOk result ((h : Held) → slice_get self.new.tasks (length self.old.tasks) ≡ Some h
-            → holds self.new.flying h.slot ≡ false) }
+            → is_outstanding self.new.flying h.slot ≡ false) }
         ensures back { OnErr result (task.new ≡ task.old) }
         ensures kept { OnErr result (self.new ≡ self.old) }
         ensures flying { self.new.flying ≡ self.old.flying }
@@ -225,7 +225,7 @@ impl Queue {
     /// Takes the task at a place out, which is not outstanding, into a box: the task that lay there is gone.
     pub fn remove(&mut self, place: usize, task: &mut TaskBox)
         requires within { place < length self.old.tasks }
-        requires waits { (h : Held) → slice_get self.old.tasks place ≡ Some h → holds self.old.flying h.slot ≡ false }
+        requires waits { (h : Held) → slice_get self.old.tasks place ≡ Some h → is_outstanding self.old.flying h.slot ≡ false }
         ensures value { entry_at self.old.tasks place ≡ Some task.new }
         ensures others { self.new.tasks ≡ remove self.old.tasks place }
         ensures flying { self.new.flying ≡ self.old.flying }

@@ -9,7 +9,7 @@ use Rattle.satl_io.proofs.Joined.{Took-more}
 use Rattle.satl_frame.specs.DataPages.{pages_of}
 use Rattle.satl_frame.specs.Frames.{head_size, frame_rows, allows, payload_bytes, request_fields, HasFields}
 use Rattle.satl_frame.specs.Faults.{has_bad_field}
-use Rattle.satl_frame.specs.Pulls.{Spells, TookPayload, TookRequest, TookRest, TookCount, TookBadField}
+use Rattle.satl_frame.specs.Pulls.{SpellsFrame, TookPayload, TookRequest, TookRest, TookCount, TookBadField}
 use Rattle.satl_frame.specs.declared.frames.Version.{Version}
 use Rattle.satl_frame.specs.declared.frames.Version.TheVariants.{One, Two}
 use Rattle.satl_frame.specs.declared.frames.Frame.{Frame}
@@ -71,7 +71,7 @@ small_bad version code (Some frame) took size bad = bad
 
 -- a payload of which a frame is made
 pub small_taken : {a b : Option (List ℕ)} (version : Version) (code room : ℕ) {len : ℕ} {payload : List ℕ} (found : Option Frame) → Took a b payload → length payload ≡ len →
-    IfSome found (Spells version code payload room) → IfSome found (TookPayload a b version code len room)
+    IfSome found (SpellsFrame version code payload room) → IfSome found (TookPayload a b version code len room)
 small_taken version code room None took size s = s
 small_taken {a} {b} version code room (Some frame) took size s = record {
   whole = s.whole;

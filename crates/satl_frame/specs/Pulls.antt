@@ -79,7 +79,7 @@ pub record SpellsEvent (payload : List ℕ) (room : ℕ) (event : BenchEvent) : 
   pub fields_are : event_fields whole ≡ payload
 
 -- a payload is that of a whole frame of this kind, and this is the frame with the pages that were free
-pub record Spells (version : Version) (k : ℕ) (payload : List ℕ) (room : ℕ) (frame : Frame) : Type 0 where
+pub record SpellsFrame (version : Version) (k : ℕ) (payload : List ℕ) (room : ℕ) (frame : Frame) : Type 0 where
   pub whole : Frame
   pub is_frame : IsFrame version whole
   pub cut : frame ≡ cut_to room whole

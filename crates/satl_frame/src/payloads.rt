@@ -3,7 +3,7 @@ ghost use Rattle.std.specs.Prelude.{◌≡◌, ◌<◌, ◌≤◌, ◌+◌, ◌+
 ghost use Rattle.byteorder.specs.Endian.{big_bytes};
 ghost use Rattle.satl_frame.specs.Faults.{has_bad_event, has_bad_field};
 ghost use Rattle.satl_frame.specs.Frames.{attr_code, expected_in, is_expectable, which_code, head_size, request_fields, manage_fields, event_fields, frame_rows, has_code, allows, kind, payload_bytes, HasFields, IsManage, IsEvent, IsFrame};
-ghost use Rattle.satl_frame.specs.Pulls.{Spells, SpellsEvent, SpellsPlain, found_event_pages, found_pages};
+ghost use Rattle.satl_frame.specs.Pulls.{SpellsFrame, SpellsEvent, SpellsPlain, found_event_pages, found_pages};
 
 use crate::frames::{Frame, Version};
 use crate::judge::{number_4, number_8};
@@ -203,7 +203,7 @@ pub fn small_frame<P: Lender>(
     requires known { has_code (frame_rows version) code ≡ true }
     requires allowed { allows (frame_rows version) code (length payload.now) ≡ true }
     requires other { 1 < code }
-    ensures found { IfSome result (Spells version code payload.now (P.free lender.old)) }
+    ensures found { IfSome result (SpellsFrame version code payload.now (P.free lender.old)) }
     ensures none { IfNone result (has_bad_field version code payload.now ≡ true) }
     ensures free { P.free lender.new + found_pages result ≡ P.free lender.old }
     ensures out { P.out lender.new ≡ P.out lender.old + found_pages result }

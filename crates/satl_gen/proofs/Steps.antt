@@ -9,7 +9,7 @@ use Rattle.satl_frame.specs.Inputs.{all_spelled}
 use Rattle.satl_frame.specs.declared.frames.Frame.{Frame}
 use Rattle.satl_frame.specs.declared.frames.Frame.TheVariants as frames
 use Rattle.satl_gen.specs.Coming.{request_head, burst_behind, burst_bytes}
-use Rattle.satl_gen.specs.Generated.{seeded, draw, after_draw, sent_blocks, block_full_of, rising_blocks, burst, request_of, frames_of, frames_from, generated}
+use Rattle.satl_gen.specs.Generated.{seeded, draw, after_draw, sent_blocks, block_full_of, rising_blocks, burst, request_drawn, frames_drawn, frames_from, generated}
 use Rattle.satl_frame.specs.Magic.{magic}
 use Rattle.satl_frame.specs.declared.frames.Version.TheVariants.{One}
 use Rattle.satl_frame.proofs.ProgressLemmas.{all_spelled-append}
@@ -41,7 +41,7 @@ burst_spelled i d = by_case (i % 16 == 15)
     by_case true = refl
     by_case false = refl
 
-frames_from-next : (n i : ℕ) (g : Lcg) → 0 < n → frames_from n i g ≡ frames_of i (draw g) ++ frames_from (n - 1) (i + 1) (after_draw g)
+frames_from-next : (n i : ℕ) (g : Lcg) → 0 < n → frames_from n i g ≡ frames_drawn i (draw g) ++ frames_from (n - 1) (i + 1) (after_draw g)
 unfolding frames_from
 frames_from-next zero i g some = absurd (omega arith)
 frames_from-next (suc n) i g some = let less : suc n - 1 ≡ n = omega arith in rw less refl
@@ -64,8 +64,8 @@ request_taken n i g some small =
     let rest = frames_from (n - 1) (i + 1) (after_draw g) ++ frames.End ∷ [] in
     let blocks = bytes_of (rising_blocks (sent_blocks d) i) in
     ap (λ (fs : List Frame). all_spelled (fs ++ frames.End ∷ [])) (frames_from-next n i g some)
-    ∙ ap (λ (fs : List Frame). spelled (frames.Request (request_of i d)) ++ all_spelled fs) (append_assoc tail (frames_from (n - 1) (i + 1) (after_draw g)) (frames.End ∷ []))
-    ∙ ap (λ (xs : List ℕ). spelled (frames.Request (request_of i d)) ++ xs) (all_spelled-append tail rest ∙ ap (λ (xs : List ℕ). xs ++ all_spelled rest) (burst_spelled i d))
+    ∙ ap (λ (fs : List Frame). spelled (frames.Request (request_drawn i d)) ++ all_spelled fs) (append_assoc tail (frames_from (n - 1) (i + 1) (after_draw g)) (frames.End ∷ []))
+    ∙ ap (λ (xs : List ℕ). spelled (frames.Request (request_drawn i d)) ++ xs) (all_spelled-append tail rest ∙ ap (λ (xs : List ℕ). xs ++ all_spelled rest) (burst_spelled i d))
     ∙ ap (λ (xs : List ℕ). xs ++ (burst_bytes (burst_behind i d) ++ all_spelled rest)) (request_spelled i d small)
     ∙ append_assoc (request_head i d) blocks (burst_bytes (burst_behind i d) ++ all_spelled rest)
 

@@ -11,11 +11,11 @@ use Rattle.satl_frame.specs.declared.frames.Frame.{Frame}
 use Rattle.satl_frame.specs.declared.frames.Frame.TheVariants as frames
 use Rattle.satl_frame.specs.declared.frames.Version.{Version}
 use Rattle.satl_frame.specs.declared.frames.Version.TheVariants.{One, Two}
-use Rattle.satl_gen.specs.Generated.{seeded, draw, after_draw, burst, request_of, frames_from, generated, generated_frames}
+use Rattle.satl_gen.specs.Generated.{seeded, draw, after_draw, burst, request_drawn, frames_from, generated, generated_frames}
 use Rattle.satl_gen.specs.declared.draw.Draw.{Draw}
 use Rattle.satl_gen.proofs.Requests.{sent_blocks-le, is_request, length-payload}
 
-length-request : (i : ℕ) (d : Draw) → i < 2 ^ 32 → length (spelled (frames.Request (request_of i d))) ≤ 16419
+length-request : (i : ℕ) (d : Draw) → i < 2 ^ 32 → length (spelled (frames.Request (request_drawn i d))) ≤ 16419
 length-request i d small = omega (arith, length-payload i d small, sent_blocks-le d)
 
 -- a burst, which has 17 bytes
@@ -32,14 +32,14 @@ regroup a b = omega arith
 
 -- a request, with a burst behind it or with none
 request_before : (limit offset i : ℕ) (d : Draw) (there : Bool) (rest : List Frame) → i < 2 ^ 32 → offset + 16436 ≤ limit → ((size : ℕ) → size ≤ 16436 → AreFrames One limit (offset + size) rest) →
-    AreFrames One limit offset ((frames.Request (request_of i d) ∷ (if there then burst d.c else [])) ++ rest)
+    AreFrames One limit offset ((frames.Request (request_drawn i d) ∷ (if there then burst d.c else [])) ++ rest)
 request_before limit offset i d true rest small within each =
-    let size = length (spelled (frames.Request (request_of i d))) in
+    let size = length (spelled (frames.Request (request_drawn i d))) in
     let few : size ≤ 16419 = length-request i d small in
     let behind : AreFrames One limit (offset + size + 10 + 7) rest = rw (regroup offset size) (each (size + 17) (omega arith)) in
     (is_request i d small, omega arith, λ e. absurd (cc), burst_before limit (offset + size) d.c rest (omega arith) behind)
 request_before limit offset i d false rest small within each =
-    let size = length (spelled (frames.Request (request_of i d))) in
+    let size = length (spelled (frames.Request (request_drawn i d))) in
     let few : size ≤ 16419 = length-request i d small in
     (is_request i d small, omega arith, λ e. absurd (cc), each size (omega arith))
 
@@ -50,8 +50,8 @@ are_frames zero i limit offset g small within = (tt, omega arith, λ e. refl, tt
 are_frames (suc n) i limit offset g small within =
     let rest = frames_from n (i + 1) (after_draw g) ++ frames.End ∷ [] in
     let tail = if i % 16 == 15 then burst (draw g).c else [] in
-    let split : (frames.Request (request_of i (draw g)) ∷ tail) ++ rest ≡ ((frames.Request (request_of i (draw g)) ∷ tail) ++ frames_from n (i + 1) (after_draw g)) ++ frames.End ∷ [] =
-    sym (append_assoc (frames.Request (request_of i (draw g)) ∷ tail) (frames_from n (i + 1) (after_draw g)) (frames.End ∷ [])) in
+    let split : (frames.Request (request_drawn i (draw g)) ∷ tail) ++ rest ≡ ((frames.Request (request_drawn i (draw g)) ∷ tail) ++ frames_from n (i + 1) (after_draw g)) ++ frames.End ∷ [] =
+    sym (append_assoc (frames.Request (request_drawn i (draw g)) ∷ tail) (frames_from n (i + 1) (after_draw g)) (frames.End ∷ [])) in
     subst (λ (fs : List Frame). AreFrames One limit offset fs) split
     (request_before limit offset i (draw g) (i % 16 == 15) rest (omega arith) (omega arith)
     (λ size few. are_frames n (i + 1) limit (offset + size) (after_draw g) (omega arith) (omega arith)))

@@ -5,13 +5,13 @@ use Rattle.satl_base.specs.Blocks.{bytes_of}
 use Rattle.satl_frame.specs.Frames.{request_fields}
 use Rattle.satl_frame.specs.Inputs.{all_spelled}
 use Rattle.satl_frame.specs.declared.frames.Frame.TheVariants as frames
-use Rattle.satl_gen.specs.Generated.{request_of, sent_blocks, rising_blocks, burst, frames_from}
+use Rattle.satl_gen.specs.Generated.{request_drawn, sent_blocks, rising_blocks, burst, frames_from}
 use Rattle.satl_gen.specs.declared.ahead.Ahead.{Ahead}
 use Rattle.satl_gen.specs.declared.draw.Draw.{Draw}
 
 -- a REQUEST frame up to its data-out (profile)
 abbrev pub request_head : ℕ → Draw → List ℕ
-request_head i d = (0x01 ∷ big_bytes 4 (30 + 512 * sent_blocks d)) ++ request_fields (request_of i d)
+request_head i d = (0x01 ∷ big_bytes 4 (30 + 512 * sent_blocks d)) ++ request_fields (request_drawn i d)
 
 -- the number of the burst behind request i, where one stands there (profile)
 abbrev pub burst_behind : ℕ → Draw → Option ℕ

@@ -35,21 +35,21 @@ unfoldable pub after_draw : Lcg → Lcg
 after_draw g = (pcg32 (pcg32 (pcg32 g).1).1).1
 
 -- whether a request is a WRITE (profile)
-abbrev pub is_write : Draw → Bool
-is_write d = nat_le 3 (d.a % 8) && nat_lt (d.a % 8) 6
+abbrev pub draws_write : Draw → Bool
+draws_write d = nat_le 3 (d.a % 8) && nat_lt (d.a % 8) 6
 
 -- the command: READ(10) and WRITE(10) of 1 to 32 blocks below address 8,032, SYNCHRONIZE CACHE(10) of all, TEST UNIT READY
 -- (profile)
 abbrev pub drawn_command : Draw → Command
 drawn_command d =
     if nat_lt (d.a % 8) 3 then commands.Read Ten (d.b % 8000) (1 + d.c % 32) false
-    else if is_write d then commands.Write Ten (d.b % 8000) (1 + d.c % 32) false
+    else if draws_write d then commands.Write Ten (d.b % 8000) (1 + d.c % 32) false
     else if d.a % 8 == 6 then commands.Flush Ten 0 0
     else commands.TestUnitReady
 
 -- the number of blocks of data-out (profile)
 abbrev pub sent_blocks : Draw → ℕ
-sent_blocks d = if is_write d then 1 + d.c % 32 else 0
+sent_blocks d = if draws_write d then 1 + d.c % 32 else 0
 
 -- a block whose bytes are all the same (profile)
 unfoldable pub block_full_of : ℕ → Block
@@ -61,8 +61,8 @@ rising_blocks zero value = []
 rising_blocks (suc n) value = block_full_of value ∷ rising_blocks n (value + 1)
 
 -- request i of nexus 0 to 3: one of sixteen is ORDERED, the tag is i, and block k of data-out has the value i + k (profile)
-abbrev pub request_of : ℕ → Draw → Request
-request_of i d = record {
+abbrev pub request_drawn : ℕ → Draw → Request
+request_drawn i d = record {
   nexus = d.a / 8 % 4;
   attr = if d.a / 32 % 16 == 0 then Ordered else Simple;
   lun = replicate 8 0;
@@ -78,13 +78,13 @@ abbrev pub burst : ℕ → List Frame
 burst c = frames.Bench (events.Order (big_bytes 4 c)) ∷ frames.Turn 16 ∷ []
 
 -- the frames of request i: behind each sixteenth one stands a burst (profile)
-abbrev pub frames_of : ℕ → Draw → List Frame
-frames_of i d = frames.Request (request_of i d) ∷ (if i % 16 == 15 then burst d.c else [])
+abbrev pub frames_drawn : ℕ → Draw → List Frame
+frames_drawn i d = frames.Request (request_drawn i d) ∷ (if i % 16 == 15 then burst d.c else [])
 
 -- the frames of n requests, from request i on (profile)
 unfoldable pub frames_from : ℕ → ℕ → Lcg → List Frame
 frames_from zero i g = []
-frames_from (suc n) i g = frames_of i (draw g) ++ frames_from n (i + 1) (after_draw g)
+frames_from (suc n) i g = frames_drawn i (draw g) ++ frames_from n (i + 1) (after_draw g)
 
 -- the frames before END (profile)
 abbrev pub generated_frames : ℕ → ℕ → List Frame

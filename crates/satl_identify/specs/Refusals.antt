@@ -22,9 +22,9 @@ rules =
     ∷ []
 
 -- the first refusal that the data call for, else the identity
-abbrev pub judged : List Rule → List ℕ → Identity → Result Identity IdentityFault
-judged [] d identity = Ok identity
-judged (rule ∷ rules) d identity = if rule.breaks d then Err rule.fault else judged rules d identity
+abbrev pub first_refused : List Rule → List ℕ → Identity → Result Identity IdentityFault
+first_refused [] d identity = Ok identity
+first_refused (rule ∷ rules) d identity = if rule.breaks d then Err rule.fault else first_refused rules d identity
 
 -- what the data say
 abbrev pub identity_in : List ℕ → Identity
@@ -42,7 +42,7 @@ identity_in d = record {
 
 -- the identity of a drive with these data, or the first refusal
 unfoldable pub identity_of : List ℕ → Result Identity IdentityFault
-identity_of d = judged rules d (identity_in d)
+identity_of d = first_refused rules d (identity_in d)
 
 -- an identity that data give
 abbrev pub IsIdentity : Identity → Type 0

@@ -18,7 +18,7 @@ use Rattle.satl_laws.specs.Durable.{secures}
 use Rattle.satl_laws.specs.Untouched.{now_at}
 use Rattle.satl_direct.specs.Quiet.{Around}
 use Rattle.satl_direct.specs.Run.{Run, joined}
-use Rattle.satl_laws.specs.Scenes.{at_work, cached, flushes}
+use Rattle.satl_laws.specs.Scenes.{at_work, cached, flushes_all_sectors}
 use Rattle.satl_laws.proofs.PowerLoss.{power_keeps}
 use Rattle.satl_laws.proofs.Securing.{secured}
 use Rattle.satl_laws.proofs.Singles.{IsSingle}
@@ -28,23 +28,23 @@ use Rattle.satl_laws.proofs.Sparing.{Keeps, keeps_on, one_keeps, quiet_keeps}
 use Rattle.satl_laws.proofs.GoodTurns.{GoodTurn, done_by, good_turn, may_still}
 
 -- one turn in which a flush of a device at work ended, and then a loss of power
-flush_then_power : (flush : Request) (cell b : Cell) (s mid last : Device) (said : List Reply) (reply : Reply) → GoodTurn (at_work cell b (flushes flush ∷ []) s) mid reply → reply.status ≡ Good
+flush_then_power : (flush : Request) (cell b : Cell) (s mid last : Device) (said : List Reply) (reply : Reply) → GoodTurn (at_work cell b (flushes_all_sectors flush ∷ []) s) mid reply → reply.status ≡ Good
     → Around (Happens bench.Power) mid said last → now_at last.cells 0 ≡ Some cell.now
 flush_then_power flush cell b s mid last said reply turn good power =
     power_keeps 0 (turn.good).mid mid last said single after power
     ∙ at_now 0 turn.before.cells (turn.good).mid.cells (one_keeps 0 turn.before (turn.good).mid reply (turn.good).one begun.none_writes).cells
-    ∙ at_now 0 (at_work cell b (flushes flush ∷ []) s).cells turn.before.cells begun.cells
+    ∙ at_now 0 (at_work cell b (flushes_all_sectors flush ∷ []) s).cells turn.before.cells begun.cells
   where
     first : Device
-    first = at_work cell b (flushes flush ∷ []) s
+    first = at_work cell b (flushes_all_sectors flush ∷ []) s
 
     begun : Keeps 0 first turn.before
     begun =
         keeps_on 0 first turn.begin turn.before (quiet_keeps 0 first turn.begin turn.quiet_first (record { each = (record { spares = refl; own = tt }, tt) }))
         (quiet_keeps 0 turn.begin turn.before turn.quiet_before)
 
-    task_is : flushes flush ≡ ((turn.good).one).task
-    task_is = ⊎_elim (λ same. same) (λ later. absurd later.1) (may_still cell b (flushes flush ∷ []) s turn.begin turn.before ((turn.good).one).task turn.quiet_first turn.quiet_before ((turn.good).one).may)
+    task_is : flushes_all_sectors flush ≡ ((turn.good).one).task
+    task_is = ⊎_elim (λ same. same) (λ later. absurd later.1) (may_still cell b (flushes_all_sectors flush ∷ []) s turn.begin turn.before ((turn.good).one).task turn.quiet_first turn.quiet_before ((turn.good).one).may)
 
     single : IsSingle 0 ((turn.good).mid).cells
     single = secured 0 turn.before (turn.good).mid ((turn.good).one).task reply good (subst (λ t. secures t.command turn.before t 0 ≡ true) task_is refl) ((turn.good).one).ends
@@ -62,7 +62,7 @@ module _ (flush : Request) (old new : Block) (b : Cell) (s last : Device) (losse
 
   -- what is read then is not the old block
   pub no_old_block : old ≢ new →
-      Run (at_work (cached old new) b (flushes flush ∷ []) s) (frames.Turn 1 ∷ frames.Bench bench.Power ∷ []) losses answers last →
+      Run (at_work (cached old new) b (flushes_all_sectors flush ∷ []) s) (frames.Turn 1 ∷ frames.Bench bench.Power ∷ []) losses answers last →
       IsGoodReply flush reply answers → now_at last.cells 0 ≡ Some old → ⊥
   no_old_block apart run good left =
       let d = done_by flush reply answers good in

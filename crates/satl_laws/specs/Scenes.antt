@@ -39,8 +39,8 @@ abbrev pub writes_both_sectors : Request → Entry
 writes_both_sectors r = task_for false r (commands.Write forms.Ten 0 2 false)
 
 -- the task of a request for SYNCHRONIZE CACHE(10) of all sectors (SBC-3, SYNCHRONIZE CACHE (10))
-abbrev pub flushes : Request → Entry
-flushes r = task_for false r (commands.Flush forms.Ten 0 0)
+abbrev pub flushes_all_sectors : Request → Entry
+flushes_all_sectors r = task_for false r (commands.Flush forms.Ten 0 0)
 
 -- two requests of different nexus or tag (SAM-5 4.7, I_T_L_Q nexus)
 abbrev pub DifferInNexusOrTag : Request → Request → Type 0

@@ -38,53 +38,53 @@ pub record Row : Type 0 where
 abbrev pub always : ℕ → (Registers → AtaCommand) → Row
 always code command = record { code = code; needs = λ r. true; command = command }
 
-abbrev pub reads : How → Row
-reads how = always (read_code how) (λ r. commands.Read how (lba_of (is_ext how) r) (sectors_of (is_ext how) r))
+abbrev pub read_row : How → Row
+read_row how = always (read_code how) (λ r. commands.Read how (lba_of (is_ext how) r) (sectors_of (is_ext how) r))
 
-abbrev pub writes : How → Row
-writes how = always (write_code how) (λ r. commands.Write how (lba_of (is_ext how) r) (sectors_of (is_ext how) r))
+abbrev pub write_row : How → Row
+write_row how = always (write_code how) (λ r. commands.Write how (lba_of (is_ext how) r) (sectors_of (is_ext how) r))
 
 -- READ VERIFY SECTOR(S), READ VERIFY SECTOR(S) EXT
-abbrev pub verifies : Bool → Row
-verifies ext = always (if ext then 0x42 else 0x40) (λ r. commands.Verify ext (lba_of ext r) (sectors_of ext r))
+abbrev pub verify_row : Bool → Row
+verify_row ext = always (if ext then 0x42 else 0x40) (λ r. commands.Verify ext (lba_of ext r) (sectors_of ext r))
 
 -- FLUSH CACHE, FLUSH CACHE EXT
-abbrev pub flushes : Bool → Row
-flushes ext = always (if ext then 0xEA else 0xE7) (λ r. commands.Flush ext)
+abbrev pub flush_row : Bool → Row
+flush_row ext = always (if ext then 0xEA else 0xE7) (λ r. commands.Flush ext)
 
 -- IDENTIFY DEVICE
-abbrev pub identifies : Row
-identifies = always 0xEC (λ r. commands.Identify)
+abbrev pub identify_row : Row
+identify_row = always 0xEC (λ r. commands.Identify)
 
 -- SET FEATURES: its subcommand in FEATURES(7:0).
-abbrev pub sets_features : Row
-sets_features = always 0xEF (λ r. commands.SetFeatures (bits_of 7 0 r.features))
+abbrev pub set_features_row : Row
+set_features_row = always 0xEF (λ r. commands.SetFeatures (bits_of 7 0 r.features))
 
 -- STANDBY IMMEDIATE
-abbrev pub stands_by : Row
-stands_by = always 0xE0 (λ r. commands.Standby)
+abbrev pub standby_row : Row
+standby_row = always 0xE0 (λ r. commands.Standby)
 
 -- IDLE IMMEDIATE
-abbrev pub idles : Row
-idles = always 0xE1 (λ r. commands.Idle)
+abbrev pub idle_row : Row
+idle_row = always 0xE1 (λ r. commands.Idle)
 
 -- CHECK POWER MODE
-abbrev pub checks_power : Row
-checks_power = always 0xE5 (λ r. commands.CheckPower)
+abbrev pub check_power_row : Row
+check_power_row = always 0xE5 (λ r. commands.CheckPower)
 
 -- READ LOG EXT: the log in LBA(7:0), the page in LBA(15:8) and above it LBA(39:32).
-abbrev pub reads_log : Row
-reads_log =
+abbrev pub read_log_row : Row
+read_log_row =
     always 0x2F (λ r. commands.ReadLog (bits_of 7 0 r.lba) (bits_of 15 8 r.lba + bits_of 39 32 r.lba * 2 ^ 8)
     (count_16 r.count))
 
 -- DATA SET MANAGEMENT: TRIM is FEATURES(0).
-abbrev pub trims : Row
-trims = record { code = 0x06; needs = λ r. bits_of 0 0 r.features == 1; command = λ r. commands.Trim (count_16 r.count) }
+abbrev pub trim_row : Row
+trim_row = record { code = 0x06; needs = λ r. bits_of 0 0 r.features == 1; command = λ r. commands.Trim (count_16 r.count) }
 
 -- SMART RETURN STATUS: its subcommand in FEATURES(7:0), and the two signature bytes in LBA(23:8).
-abbrev pub tells_smart : Row
-tells_smart = record {
+abbrev pub smart_row : Row
+smart_row = record {
   code = 0xB0;
   needs = λ r. bits_of 7 0 r.features == 0xDA && bits_of 23 8 r.lba == 0xC24F;
   command = λ r. commands.SmartStatus;
@@ -92,26 +92,26 @@ tells_smart = record {
 
 abbrev pub table : List Row
 table =
-    reads Pio ∷ reads PioExt ∷ reads Dma ∷ reads DmaExt
-    ∷ writes Pio ∷ writes PioExt ∷ writes Dma ∷ writes DmaExt
-    ∷ verifies false ∷ verifies true ∷ flushes false ∷ flushes true
-    ∷ identifies ∷ sets_features ∷ stands_by ∷ idles ∷ checks_power
-    ∷ reads_log ∷ trims ∷ tells_smart ∷ []
+    read_row Pio ∷ read_row PioExt ∷ read_row Dma ∷ read_row DmaExt
+    ∷ write_row Pio ∷ write_row PioExt ∷ write_row Dma ∷ write_row DmaExt
+    ∷ verify_row false ∷ verify_row true ∷ flush_row false ∷ flush_row true
+    ∷ identify_row ∷ set_features_row ∷ standby_row ∷ idle_row ∷ check_power_row
+    ∷ read_log_row ∷ trim_row ∷ smart_row ∷ []
 
 -- The code of each command: that of its row.
 abbrev pub code_of : AtaCommand → ℕ
-code_of (commands.Read how lba sectors) = (reads how).code
-code_of (commands.Write how lba sectors) = (writes how).code
-code_of (commands.Verify ext lba sectors) = (verifies ext).code
-code_of (commands.Flush ext) = (flushes ext).code
-code_of commands.Identify = identifies.code
-code_of (commands.SetFeatures what) = sets_features.code
-code_of commands.Standby = stands_by.code
-code_of commands.Idle = idles.code
-code_of commands.CheckPower = checks_power.code
-code_of (commands.ReadLog log page blocks) = reads_log.code
-code_of (commands.Trim blocks) = trims.code
-code_of commands.SmartStatus = tells_smart.code
+code_of (commands.Read how lba sectors) = (read_row how).code
+code_of (commands.Write how lba sectors) = (write_row how).code
+code_of (commands.Verify ext lba sectors) = (verify_row ext).code
+code_of (commands.Flush ext) = (flush_row ext).code
+code_of commands.Identify = identify_row.code
+code_of (commands.SetFeatures what) = set_features_row.code
+code_of commands.Standby = standby_row.code
+code_of commands.Idle = idle_row.code
+code_of commands.CheckPower = check_power_row.code
+code_of (commands.ReadLog log page blocks) = read_log_row.code
+code_of (commands.Trim blocks) = trim_row.code
+code_of commands.SmartStatus = smart_row.code
 code_of (commands.Other code) = code
 
 -- The first of the rows whose code and needs the registers meet.

@@ -2,7 +2,7 @@
 
 ghost use Rattle.std.specs.Prelude.{◌≡◌, ◌↔◌, ◌+◌, ◌*◌, ◌^◌, ◌==◌, ◌&&◌, IsNone};
 ghost use Rattle.satl_base.specs.Fields.{bits_of};
-ghost use Rattle.satl_regs.specs.Commands.{command_in, is_ext, reads, reads_log, row_of, tells_smart, trims, verifies, writes};
+ghost use Rattle.satl_regs.specs.Commands.{command_in, is_ext, read_row, read_log_row, row_of, smart_row, trim_row, verify_row, write_row};
 
 use crate::fields::{count_16_of, lba_in, sectors_in};
 use crate::values::{AtaCommand, How, Registers};
@@ -20,7 +20,7 @@ impl How {
 }
 
 fn read_in(regs: &Registers, how: How) -> AtaCommand
-    ensures { result ≡ (reads how).command regs.now }
+    ensures { result ≡ (read_row how).command regs.now }
 {
     AtaCommand::Read {
         how,
@@ -30,7 +30,7 @@ fn read_in(regs: &Registers, how: How) -> AtaCommand
 }
 
 fn write_in(regs: &Registers, how: How) -> AtaCommand
-    ensures { result ≡ (writes how).command regs.now }
+    ensures { result ≡ (write_row how).command regs.now }
 {
     AtaCommand::Write {
         how,
@@ -40,7 +40,7 @@ fn write_in(regs: &Registers, how: How) -> AtaCommand
 }
 
 fn verify_in(regs: &Registers, ext: bool) -> AtaCommand
-    ensures { result ≡ (verifies ext).command regs.now }
+    ensures { result ≡ (verify_row ext).command regs.now }
 {
     AtaCommand::Verify {
         ext,
@@ -50,7 +50,7 @@ fn verify_in(regs: &Registers, ext: bool) -> AtaCommand
 }
 
 fn log_in(regs: &Registers) -> AtaCommand
-    ensures { result ≡ reads_log.command regs.now }
+    ensures { result ≡ read_log_row.command regs.now }
 {
     let [_, _, _, high, _, _, low, log] = regs.lba.to_be_bytes();
     AtaCommand::ReadLog {
@@ -61,13 +61,13 @@ fn log_in(regs: &Registers) -> AtaCommand
 }
 
 fn is_trim(regs: &Registers) -> bool
-    ensures { result ≡ trims.needs regs.now }
+    ensures { result ≡ trim_row.needs regs.now }
 {
     regs.features & 1 == 1
 }
 
 fn is_smart_status(regs: &Registers) -> bool
-    ensures { result ≡ tells_smart.needs regs.now }
+    ensures { result ≡ smart_row.needs regs.now }
 {
     regs.features & 0xFF == 0xDA && regs.lba >> 8 & 0xFFFF == 0xC24F
 }

@@ -14,7 +14,7 @@ use Rattle.satl_direct.specs.Run.TurnsOf.{none}
 use Rattle.satl_direct.specs.Tasks.{over}
 use Rattle.satl_scenarios.specs.Arrivals.{full_of_blocks, lengths_expected, nothing_moved, no_block_at_rest, one_block_too_many, other_unit, sense_requested}
 use Rattle.satl_scenarios.specs.Scenario.{CanHappen}
-use Rattle.satl_scenarios.specs.Devices.{blank}
+use Rattle.satl_scenarios.specs.Devices.{never_written}
 use Rattle.satl_scenarios.specs.Requests.{task}
 use Rattle.satl_scenarios.proofs.Building.{it_can_happen, arrives, turn_more, turns}
 use Rattle.satl_scenarios.proofs.Building.Follows.{next, ends_here}
@@ -24,9 +24,9 @@ pub conditions_told : CanHappen sense_requested
 unfolding says fixed_form pages_of pages_from padded_block
 conditions_told =
     it_can_happen sense_requested
-    (next (arrives _ (record (blank 2) { attentions = (ModeChanged ∷ []) ∷ [] ∷ [] ∷ [] ∷ [] }) (refl, refl))
-    (next (arrives _ (blank 2) (refl, refl))
-    (next (arrives _ (blank 2) (refl, refl))
+    (next (arrives _ (record (never_written 2) { attentions = (ModeChanged ∷ []) ∷ [] ∷ [] ∷ [] ∷ [] }) (refl, refl))
+    (next (arrives _ (never_written 2) (refl, refl))
+    (next (arrives _ (never_written 2) (refl, refl))
     ends_here)))
 
 pub unit_unknown : CanHappen other_unit
@@ -41,9 +41,9 @@ pub nothing_to_do : CanHappen nothing_moved
 unfolding says fixed_form
 nothing_to_do =
     it_can_happen nothing_moved
-    (next (arrives _ (blank 2) (refl, refl))
-    (next (arrives _ (blank 2) (refl, refl))
-    (next (arrives _ (blank 2) (refl, refl))
+    (next (arrives _ (never_written 2) (refl, refl))
+    (next (arrives _ (never_written 2) (refl, refl))
+    (next (arrives _ (never_written 2) (refl, refl))
     ends_here)))
 
 pub nothing_to_do_at_rest : CanHappen no_block_at_rest
@@ -64,10 +64,10 @@ pub lengths_carried : CanHappen lengths_expected
 unfolding says accesses_conflict
 lengths_carried =
     it_can_happen lengths_expected
-    (next (arrives [] (record (blank 2) { tasks = short_read ∷ [] }) (refl, refl))
-    (next (arrives [] (record (blank 2) { tasks = short_read ∷ long_read ∷ [] }) (refl, refl))
+    (next (arrives [] (record (never_written 2) { tasks = short_read ∷ [] }) (refl, refl))
+    (next (arrives [] (record (never_written 2) { tasks = short_read ∷ long_read ∷ [] }) (refl, refl))
     (next (turns
-    (turn_more (blank 2)
-    (turn_more (record (blank 2) { tasks = long_read ∷ [] }) none (ended short_read (inl refl) (done (ranged_read false (over 0 1)) _ short_read refl)))
+    (turn_more (never_written 2)
+    (turn_more (record (never_written 2) { tasks = long_read ∷ [] }) none (ended short_read (inl refl) (done (ranged_read false (over 0 1)) _ short_read refl)))
     (ended long_read (inl refl) (done (ranged_read false (over 0 1)) _ long_read refl))))
     ends_here)))

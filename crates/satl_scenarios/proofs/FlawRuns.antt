@@ -13,7 +13,7 @@ use Rattle.satl_direct.specs.Tasks.{over}
 use Rattle.satl_direct.specs.Run.TurnsOf.{none}
 use Rattle.satl_scenarios.specs.Scenario.{CanHappen}
 use Rattle.satl_scenarios.specs.Flaws.{flaw_among_writes, torn_write, garbled_read, spared_read, described}
-use Rattle.satl_scenarios.specs.Devices.{aa, bb, blank, device, cached_over, lasts, unreadable, unwritable, zeros}
+use Rattle.satl_scenarios.specs.Devices.{aa, bb, never_written, device, cached_over, lasts, unreadable, unwritable, zeros}
 use Rattle.satl_scenarios.specs.Requests.{task}
 use Rattle.satl_scenarios.proofs.Building.{it_can_happen, arrives, drained, happens, one_turn, turn_more}
 use Rattle.satl_scenarios.proofs.Building.Follows.{next, ends_here}
@@ -100,17 +100,17 @@ pub read_garbled : CanHappen garbled_read
 unfolding says fixed_form
 read_garbled =
     it_can_happen garbled_read
-    (next (happens [] (record (blank 2) { glitches = 1 }) (record { none = refl; new_is = refl }))
-    (next (arrives [] (record (blank 2) { glitches = 1; tasks = first_read ∷ [] }) (refl, refl))
-    (next (one_turn (blank 2) (ended first_read (inl refl) (glitched (ranged_read false (over 0 1)) (lasts zeros ∷ lasts zeros ∷ []) 0 _ first_read refl refl refl)))
-    (next (arrives [] (record (blank 2) { tasks = second_read ∷ [] }) (refl, refl))
-    (next (one_turn (blank 2) (ended second_read (inl refl) (done (ranged_read false (over 0 1)) _ second_read refl)))
+    (next (happens [] (record (never_written 2) { glitches = 1 }) (record { none = refl; new_is = refl }))
+    (next (arrives [] (record (never_written 2) { glitches = 1; tasks = first_read ∷ [] }) (refl, refl))
+    (next (one_turn (never_written 2) (ended first_read (inl refl) (glitched (ranged_read false (over 0 1)) (lasts zeros ∷ lasts zeros ∷ []) 0 _ first_read refl refl refl)))
+    (next (arrives [] (record (never_written 2) { tasks = second_read ∷ [] }) (refl, refl))
+    (next (one_turn (never_written 2) (ended second_read (inl refl) (done (ranged_read false (over 0 1)) _ second_read refl)))
     ends_here)))))
 
 -- ---- a read is spared: a glitch need not be used
 
 abbrev glitchy : Device
-glitchy = record (blank 2) { glitches = 1 }
+glitchy = record (never_written 2) { glitches = 1 }
 
 pub read_spared : CanHappen spared_read
 unfolding says

@@ -14,14 +14,14 @@ use Rattle.satl_direct.specs.Run.TurnsOf.{none}
 use Rattle.satl_direct.proofs.Quieting.{quiet_none}
 use Rattle.satl_scenarios.specs.Scenario.{CanHappen}
 use Rattle.satl_scenarios.specs.Functions.{tasks_cleared, nexus_reset, queried, all_reset, set_aborted}
-use Rattle.satl_scenarios.specs.Devices.{blank}
+use Rattle.satl_scenarios.specs.Devices.{never_written}
 use Rattle.satl_scenarios.specs.Requests.{task}
 use Rattle.satl_scenarios.proofs.Building.{it_can_happen, arrives, drained, manages}
 use Rattle.satl_scenarios.proofs.Building.Follows.{next, ends_here}
 
 -- the device with a read that waits
 abbrev waiting : Device
-waiting = record (blank 2) { tasks = task 1 (Read Ten 0 1 false) [] ∷ [] }
+waiting = record (never_written 2) { tasks = task 1 (Read Ten 0 1 false) [] ∷ [] }
 
 pub functions_queried : CanHappen queried
 unfolding says function_of
@@ -39,8 +39,8 @@ unfolding says fixed_form function_of posted
 set_cleared =
     it_can_happen tasks_cleared
     (next (arrives [] waiting (refl, refl))
-    (next (manages _ Complete _ waiting (record (blank 2) { attentions = (Cleared ∷ []) ∷ [] ∷ [] ∷ [] ∷ [] }) (quiet_none waiting) (record { response_is = refl; stays = refl }))
-    (next (arrives _ (blank 2) (refl, refl))
+    (next (manages _ Complete _ waiting (record (never_written 2) { attentions = (Cleared ∷ []) ∷ [] ∷ [] ∷ [] ∷ [] }) (quiet_none waiting) (record { response_is = refl; stays = refl }))
+    (next (arrives _ (never_written 2) (refl, refl))
     (next (drained none refl)
     ends_here))))
 
@@ -49,7 +49,7 @@ unfolding says fixed_form function_of posted
 unit_reset =
     it_can_happen all_reset
     (next (arrives [] waiting (refl, refl))
-    (next (manages _ Complete _ waiting (record (blank 2) { attentions = (UnitReset ∷ []) ∷ (UnitReset ∷ []) ∷ (UnitReset ∷ []) ∷ (UnitReset ∷ []) ∷ [] }) (quiet_none waiting) (record { response_is = refl; stays = refl }))
+    (next (manages _ Complete _ waiting (record (never_written 2) { attentions = (UnitReset ∷ []) ∷ (UnitReset ∷ []) ∷ (UnitReset ∷ []) ∷ (UnitReset ∷ []) ∷ [] }) (quiet_none waiting) (record { response_is = refl; stays = refl }))
     (next (arrives _ all_reset.last (refl, refl))
     ends_here)))
 
@@ -68,8 +68,8 @@ tasks_aborted =
     (next (arrives [] both_waiting (refl, refl))
     (next (manages _ Succeeded _ both_waiting both_waiting (quiet_none both_waiting) (record { response_is = refl; stays = refl }))
     (next (manages _ Complete _ both_waiting both_waiting (quiet_none both_waiting) (record { response_is = refl; stays = refl }))
-    (next (manages _ Complete _ both_waiting (blank 2) (quiet_none both_waiting) (record { response_is = refl; stays = refl }))
-    (next (manages _ Complete _ (blank 2) (blank 2) (quiet_none (blank 2)) (record { response_is = refl; stays = refl }))
+    (next (manages _ Complete _ both_waiting (never_written 2) (quiet_none both_waiting) (record { response_is = refl; stays = refl }))
+    (next (manages _ Complete _ (never_written 2) (never_written 2) (quiet_none (never_written 2)) (record { response_is = refl; stays = refl }))
     ends_here))))))
 
 pub nexus_is_reset : CanHappen nexus_reset

@@ -19,7 +19,7 @@ use Rattle.satl_line.specs.Ranged.RangedTask.{ranged_read}
 use Rattle.satl_scenarios.proofs.Endings.{done, ended}
 use Rattle.satl_scenarios.specs.Scenario.{CanHappen}
 use Rattle.satl_scenarios.specs.Links.{done_and_lost, glitch_lost, lost_at_an_abort, lost_at_the_end, lost_in_turn, lost_on_arrival, unplugged_again}
-use Rattle.satl_scenarios.specs.Devices.{aa, blank, device}
+use Rattle.satl_scenarios.specs.Devices.{aa, never_written, device}
 use Rattle.satl_scenarios.specs.Requests.{task}
 use Rattle.satl_scenarios.proofs.Building.{it_can_happen, arrives, arrives_and_loses, drained, happens, manages_and_loses, one_turn, turn_more}
 use Rattle.satl_scenarios.proofs.Building.Follows.{next, ends_here}
@@ -36,9 +36,9 @@ pub link_lost_in_turn : CanHappen lost_in_turn
 unfolding says fixed_form accesses_conflict
 link_lost_in_turn =
     it_can_happen lost_in_turn
-    (next (arrives [] (record (blank 3) { tasks = waiting_write ∷ [] }) (refl, refl))
-    (next (arrives [] (record (blank 3) { tasks = waiting_write ∷ waiting_read ∷ [] }) (refl, refl))
-    (next (one_turn (record (blank 3) { down = true }) (loses some (record { was_up = refl; answer = refl; glitches = inl refl; stays = refl })))
+    (next (arrives [] (record (never_written 3) { tasks = waiting_write ∷ [] }) (refl, refl))
+    (next (arrives [] (record (never_written 3) { tasks = waiting_write ∷ waiting_read ∷ [] }) (refl, refl))
+    (next (one_turn (record (never_written 3) { down = true }) (loses some (record { was_up = refl; answer = refl; glitches = inl refl; stays = refl })))
     ends_here)))
   where
     some : (waiting_write ∷ waiting_read ∷ []) ≡ [] → ⊥
@@ -47,7 +47,7 @@ link_lost_in_turn =
 -- ---- by hand, twice
 
 abbrev unplugged : Device
-unplugged = record (blank 2) { down = true }
+unplugged = record (never_written 2) { down = true }
 
 pub link_lost_twice : CanHappen unplugged_again
 unfolding says fixed_form
@@ -64,15 +64,15 @@ pub link_lost_after_an_end : CanHappen done_and_lost
 unfolding says fixed_form accesses_conflict
 link_lost_after_an_end =
     it_can_happen done_and_lost
-    (next (arrives [] (record (blank 3) { tasks = waiting_write ∷ [] }) (refl, refl))
-    (next (arrives [] (record (blank 3) { tasks = waiting_write ∷ waiting_read ∷ [] }) (refl, refl))
+    (next (arrives [] (record (never_written 3) { tasks = waiting_write ∷ [] }) (refl, refl))
+    (next (arrives [] (record (never_written 3) { tasks = waiting_write ∷ waiting_read ∷ [] }) (refl, refl))
     (next (one_turn done_and_lost.last
-    (ends_and_loses _ (record { task = waiting_read; may = inr (refl, inl refl); ends = done (ranged_read false (over 1 1)) (record (blank 3) { tasks = waiting_write ∷ waiting_read ∷ [] }) waiting_read refl })
+    (ends_and_loses _ (record { task = waiting_read; may = inr (refl, inl refl); ends = done (ranged_read false (over 1 1)) (record (never_written 3) { tasks = waiting_write ∷ waiting_read ∷ [] }) waiting_read refl })
     write_shows (record { was_up = refl; answer = refl; glitches = inl refl; stays = refl })))
     ends_here)))
   where
     -- what waits is on the medium before the link is lost
-    write_shows : Quiet (record (blank 3) { tasks = waiting_write ∷ [] }) (record (device done_and_lost.last.cells) { tasks = waiting_write ∷ [] })
+    write_shows : Quiet (record (never_written 3) { tasks = waiting_write ∷ [] }) (record (device done_and_lost.last.cells) { tasks = waiting_write ∷ [] })
     write_shows = record {
       cells =
           write (record { lba = 0; block = aa; cached = true })
@@ -85,7 +85,7 @@ link_lost_after_an_end =
 -- ---- on arrival
 
 abbrev two_reads : Device
-two_reads = record (blank 2) { tasks = task 1 (Read Ten 0 1 false) [] ∷ task 2 (Read Ten 1 1 false) [] ∷ [] }
+two_reads = record (never_written 2) { tasks = task 1 (Read Ten 0 1 false) [] ∷ task 2 (Read Ten 1 1 false) [] ∷ [] }
 
 abbrev late_read : Entry
 late_read = task 3 (Read Ten 0 1 false) []
@@ -94,7 +94,7 @@ pub link_lost_on_arrival : CanHappen lost_on_arrival
 unfolding says fixed_form
 link_lost_on_arrival =
     it_can_happen lost_on_arrival
-    (next (arrives [] (record (blank 2) { tasks = task 1 (Read Ten 0 1 false) [] ∷ [] }) (refl, refl))
+    (next (arrives [] (record (never_written 2) { tasks = task 1 (Read Ten 0 1 false) [] ∷ [] }) (refl, refl))
     (next (arrives_and_loses [] (lost_replies two_reads) two_reads unplugged (refl, refl) (record { was_up = refl; answer = refl; stays = refl }))
     (next (arrives [] (record unplugged { tasks = late_read ∷ [] }) (refl, refl))
     (next (drained (turn_more unplugged none (ended late_read refl (record { answer = refl; stays = refl }))) refl)
@@ -106,9 +106,9 @@ pub link_lost_at_an_abort : CanHappen lost_at_an_abort
 unfolding says fixed_form accesses_conflict function_of
 link_lost_at_an_abort =
     it_can_happen lost_at_an_abort
-    (next (arrives [] (record (blank 2) { tasks = task 1 (Read Ten 0 1 false) [] ∷ [] }) (refl, refl))
+    (next (arrives [] (record (never_written 2) { tasks = task 1 (Read Ten 0 1 false) [] ∷ [] }) (refl, refl))
     (next (arrives [] two_reads (refl, refl))
-    (next (manages_and_loses Complete _ (record (blank 2) { tasks = task 2 (Read Ten 1 1 false) [] ∷ [] }) unplugged (record { response_is = refl; stays = refl }) (record { was_up = refl; answer = refl; stays = refl }))
+    (next (manages_and_loses Complete _ (record (never_written 2) { tasks = task 2 (Read Ten 1 1 false) [] ∷ [] }) unplugged (record { response_is = refl; stays = refl }) (record { was_up = refl; answer = refl; stays = refl }))
     ends_here)))
 
 -- ---- with a glitch
@@ -133,11 +133,11 @@ pub link_lost_at_the_end : CanHappen lost_at_the_end
 unfolding says fixed_form accesses_conflict
 link_lost_at_the_end =
     it_can_happen lost_at_the_end
-    (next (arrives [] (record (blank 2) { tasks = task 1 (Read Ten 0 1 false) [] ∷ [] }) (refl, refl))
+    (next (arrives [] (record (never_written 2) { tasks = task 1 (Read Ten 0 1 false) [] ∷ [] }) (refl, refl))
     (next (arrives [] two_reads (refl, refl))
     (next (drained
     (turn_more unplugged
-    (turn_more (record (blank 2) { tasks = task 1 (Read Ten 0 1 false) [] ∷ [] }) none
+    (turn_more (record (never_written 2) { tasks = task 1 (Read Ten 0 1 false) [] ∷ [] }) none
     (ended waiting_read (inr (refl, inl refl)) (done (ranged_read false (over 1 1)) two_reads waiting_read refl)))
     (loses some (record { was_up = refl; answer = refl; glitches = inl refl; stays = refl })))
     refl)

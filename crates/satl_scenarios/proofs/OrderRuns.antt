@@ -14,7 +14,7 @@ use Rattle.satl_direct.specs.Tasks.{over}
 use Rattle.satl_direct.specs.Run.TurnsOf.{none}
 use Rattle.satl_scenarios.specs.Orders.{torn_out_of_order, written_out_of_order}
 use Rattle.satl_scenarios.specs.Scenario.{CanHappen}
-use Rattle.satl_scenarios.specs.Devices.{aa, bb, blank, cached_over, device, lasts, zeros}
+use Rattle.satl_scenarios.specs.Devices.{aa, bb, never_written, cached_over, device, lasts, zeros}
 use Rattle.satl_scenarios.specs.Requests.{read, task, write}
 use Rattle.satl_scenarios.proofs.Building.{it_can_happen, arrives, drained, happens, turn_more, turns}
 use Rattle.satl_scenarios.proofs.Building.Follows.{next, ends_here}
@@ -45,11 +45,11 @@ pub writes_out_of_order : CanHappen written_out_of_order
 unfolding says accesses_conflict fixed_form
 writes_out_of_order =
     it_can_happen written_out_of_order
-    (next (arrives _ (told (blank 3).cells []) (refl, refl))
-    (next (arrives [] (told (blank 3).cells (low ∷ [])) (refl, refl))
-    (next (arrives [] (told (blank 3).cells (low ∷ high ∷ [])) (refl, refl))
-    (next (arrives [] (told (blank 3).cells (low ∷ high ∷ both ∷ [])) (refl, refl))
-    (next (arrives [] (told (blank 3).cells (low ∷ high ∷ both ∷ flush ∷ [])) (refl, refl))
+    (next (arrives _ (told (never_written 3).cells []) (refl, refl))
+    (next (arrives [] (told (never_written 3).cells (low ∷ [])) (refl, refl))
+    (next (arrives [] (told (never_written 3).cells (low ∷ high ∷ [])) (refl, refl))
+    (next (arrives [] (told (never_written 3).cells (low ∷ high ∷ both ∷ [])) (refl, refl))
+    (next (arrives [] (told (never_written 3).cells (low ∷ high ∷ both ∷ flush ∷ [])) (refl, refl))
     (next (drained
     (turn_more written_out_of_order.last
     (turn_more (told low_and_high (flush ∷ []))
@@ -78,7 +78,7 @@ late = task 4 (Write Ten 1 1 false) (aa ∷ [])
 
 -- with a glitch left, and these tasks
 abbrev glitchy : List Entry → Device
-glitchy tasks = record (blank 3) { glitches = 1; tasks = tasks }
+glitchy tasks = record (never_written 3) { glitches = 1; tasks = tasks }
 
 abbrev torn_cells : List Cell
 torn_cells = lasts zeros ∷ cached_over zeros bb ∷ cached_over zeros aa ∷ []

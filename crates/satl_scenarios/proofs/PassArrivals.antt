@@ -17,7 +17,7 @@ use Rattle.satl_direct.specs.Tasks.{over, pass_of}
 use Rattle.satl_scenarios.specs.Commands.{written}
 use Rattle.satl_scenarios.specs.Passes.{identified_on_request, identify, read_behind_it, write_block}
 use Rattle.satl_scenarios.specs.Scenario.{CanHappen}
-use Rattle.satl_scenarios.specs.Devices.{bb, device, filled, identify_data, zeros}
+use Rattle.satl_scenarios.specs.Devices.{bb, device, full_of, identify_data, zeros}
 use Rattle.satl_scenarios.specs.Requests.{task, with_task}
 use Rattle.satl_scenarios.proofs.Building.{arrives, it_can_happen, one_turn, turn_more, turns}
 use Rattle.satl_scenarios.proofs.Building.Follows.{ends_here, next}
@@ -57,7 +57,7 @@ abbrev still_to_read : Device
 still_to_read = record read_behind_it.last { tasks = waiting_read ∷ [] }
 
 pub read_from_its_arrival : CanHappen read_behind_it
-unfolding says pass_says command_in row_of pages_of pages_from padded_block filled accesses_conflict
+unfolding says pass_says command_in row_of pages_of pages_from padded_block full_of accesses_conflict
 read_from_its_arrival =
     it_can_happen read_behind_it
     (next (arrives [] (with_task 1 (Pass write_block) (bb ∷ []) written) (refl, refl))

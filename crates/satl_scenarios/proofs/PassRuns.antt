@@ -15,7 +15,7 @@ use Rattle.satl_direct.specs.Tasks.{pass_of}
 use Rattle.satl_scenarios.specs.Commands.{written}
 use Rattle.satl_scenarios.specs.Passes.{cache_disabled, cache_off, check_power, identified, identify, power_checked, read_block, unreadable_through, write_block, written_through}
 use Rattle.satl_scenarios.specs.Scenario.{CanHappen}
-use Rattle.satl_scenarios.specs.Devices.{bb, device, filled, identify_data, lasts, unreadable, zeros}
+use Rattle.satl_scenarios.specs.Devices.{bb, device, full_of, identify_data, lasts, unreadable, zeros}
 use Rattle.satl_scenarios.proofs.CommandRuns.{turn_ends}
 
 abbrev identify_data_2 : Block
@@ -54,7 +54,7 @@ power_mode_checked =
     }) refl refl
 
 pub block_written : CanHappen written_through
-unfolding command_in row_of pages_of pages_from padded_block filled
+unfolding command_in row_of pages_of pages_from padded_block full_of
 block_written =
     turn_ends (Pass write_block) (bb ∷ []) written _ written_through.last
     (record {

@@ -14,7 +14,7 @@ use Rattle.satl_laws.specs.Passing.{lies_in}
 use Rattle.satl_laws.proofs.Seen.{by_test, within_from}
 use Rattle.satl_scenarios.specs.Orders.{IsOfPassing, four_waiting, passed_where_apart, reads_second, reads_two, writes_second, writes_third}
 use Rattle.satl_scenarios.specs.Scenario.{CanHappen}
-use Rattle.satl_scenarios.specs.Devices.{aa, bb, blank, cached_over, device, lasts, zeros}
+use Rattle.satl_scenarios.specs.Devices.{aa, bb, never_written, cached_over, device, lasts, zeros}
 use Rattle.satl_scenarios.specs.Requests.{cdb_10, request}
 use Rattle.satl_scenarios.proofs.Building.{it_can_happen, turn_more, turns}
 use Rattle.satl_scenarios.proofs.Building.Follows.{next, ends_here}
@@ -56,12 +56,12 @@ four_valid = record {
   blocks = omega arith;
   own = (refl, (refl, (refl, (refl, tt))));
   come = (
-    record { request = request 1 (cdb_10 0x28 0 2) []; pages = omega arith; expected = tt; at = blank 3; same = refl; modes = record { cache = λ off. absurd cc; look = λ off. absurd cc }; became = refl },
+    record { request = request 1 (cdb_10 0x28 0 2) []; pages = omega arith; expected = tt; at = never_written 3; same = refl; modes = record { cache = λ off. absurd cc; look = λ off. absurd cc }; became = refl },
     (
-      record { request = request 2 (cdb_10 0x28 1 1) []; pages = omega arith; expected = tt; at = blank 3; same = refl; modes = record { cache = λ off. absurd cc; look = λ off. absurd cc }; became = refl },
+      record { request = request 2 (cdb_10 0x28 1 1) []; pages = omega arith; expected = tt; at = never_written 3; same = refl; modes = record { cache = λ off. absurd cc; look = λ off. absurd cc }; became = refl },
       (
-        record { request = request 3 (cdb_10 0x2A 1 1) (bb ∷ []); pages = omega arith; expected = tt; at = blank 3; same = refl; modes = record { cache = λ off. absurd cc; look = λ off. absurd cc }; became = refl },
-        (record { request = request 4 (cdb_10 0x2A 2 1) (aa ∷ []); pages = omega arith; expected = tt; at = blank 3; same = refl; modes = record { cache = λ off. absurd cc; look = λ off. absurd cc }; became = refl }, tt),
+        record { request = request 3 (cdb_10 0x2A 1 1) (bb ∷ []); pages = omega arith; expected = tt; at = never_written 3; same = refl; modes = record { cache = λ off. absurd cc; look = λ off. absurd cc }; became = refl },
+        (record { request = request 4 (cdb_10 0x2A 2 1) (aa ∷ []); pages = omega arith; expected = tt; at = never_written 3; same = refl; modes = record { cache = λ off. absurd cc; look = λ off. absurd cc }; became = refl }, tt),
       ),
     ),
   );

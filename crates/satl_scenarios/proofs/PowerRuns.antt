@@ -19,7 +19,7 @@ use Rattle.satl_direct.specs.Tasks.{over}
 use Rattle.satl_direct.specs.Run.TurnsOf.{none}
 use Rattle.satl_scenarios.specs.Scenario.{CanHappen}
 use Rattle.satl_scenarios.specs.Power.{caching_list, flush, written_back, flushed_then_written, select, power_with_a_task, told_once, turned_off, turned_off_then_power}
-use Rattle.satl_scenarios.specs.Devices.{aa, bb, blank, device, cached_over, lasts, powered, zeros, unreadable}
+use Rattle.satl_scenarios.specs.Devices.{aa, bb, never_written, device, cached_over, lasts, just_powered, zeros, unreadable}
 use Rattle.satl_scenarios.specs.Requests.{task}
 use Rattle.satl_scenarios.proofs.Building.{it_can_happen, arrives, happens, one_turn, turn_more, turns}
 use Rattle.satl_scenarios.proofs.Building.Follows.{next, ends_here}
@@ -42,7 +42,7 @@ pub flush_keeps : CanHappen written_back
 flush_keeps =
     it_can_happen written_back
     (next (one_turn kept (ended flush_task (inl refl) (carried_out (settled written_back.first) flush_task)))
-    (next (happens [] (powered kept.cells) (record { none = refl; cells = (left_with (lasts aa) aa (inl refl), (left_with (lasts zeros) zeros (inl refl), tt)); stays = refl }))
+    (next (happens [] (just_powered kept.cells) (record { none = refl; cells = (left_with (lasts aa) aa (inl refl), (left_with (lasts zeros) zeros (inl refl), tt)); stays = refl }))
     ends_here))
 
 -- ---- a flush and a write
@@ -63,7 +63,7 @@ write_after_flush left one =
     (turn_more (record kept { tasks = later_write ∷ [] }) none
     (ended flush_task (inl refl) (carried_out (settled (record written_back.first { tasks = flush_task ∷ later_write ∷ [] })) flush_task)))
     (ended later_write (inl refl) (done (ranged_write false (over 0 1) (bb ∷ [])) _ later_write refl))))
-    (next (happens [] (powered (lasts left ∷ lasts zeros ∷ [])) (record { none = refl; cells = (left_with (cached_over aa bb) left one, (left_with (lasts zeros) zeros (inl refl), tt)); stays = refl }))
+    (next (happens [] (just_powered (lasts left ∷ lasts zeros ∷ [])) (record { none = refl; cells = (left_with (cached_over aa bb) left one, (left_with (lasts zeros) zeros (inl refl), tt)); stays = refl }))
     ends_here)))
 
 pub later_write_kept : CanHappen (flushed_then_written bb)
@@ -89,7 +89,7 @@ unfolding change_from caching_list posted
 cache_back =
     it_can_happen turned_off_then_power
     (next (one_turn turned_off.last (ended select_task (inl refl) (carried_out (after_select turned_off.first select_task) select_task)))
-    (next (happens [] (powered kept.cells) (record { none = refl; cells = (left_with (lasts aa) aa (inl refl), (left_with (lasts zeros) zeros (inl refl), tt)); stays = refl }))
+    (next (happens [] (just_powered kept.cells) (record { none = refl; cells = (left_with (lasts aa) aa (inl refl), (left_with (lasts zeros) zeros (inl refl), tt)); stays = refl }))
     ends_here))
 
 -- ---- a unit attention
@@ -101,7 +101,7 @@ pub attention_once : CanHappen told_once
 unfolding says fixed_form
 attention_once =
     it_can_happen told_once
-    (next (happens [] (powered (blank 2).cells) (record { none = refl; cells = (left_with (lasts zeros) zeros (inl refl), (left_with (lasts zeros) zeros (inl refl), tt)); stays = refl }))
+    (next (happens [] (just_powered (never_written 2).cells) (record { none = refl; cells = (left_with (lasts zeros) zeros (inl refl), (left_with (lasts zeros) zeros (inl refl), tt)); stays = refl }))
     (next (arrives _ told_once.last (refl, refl))
     (next (arrives [] (record told_once.last { tasks = read_task ∷ [] }) (refl, refl))
     (next (one_turn told_once.last (ended read_task (inl refl) (done (ranged_read false (over 0 1)) _ read_task refl)))

@@ -7,7 +7,7 @@ use Rattle.satl_sense.specs.Fixed.{fixed_form}
 use Rattle.satl_line.specs.declared.entry.Entry.{Entry}
 use Rattle.satl_scenarios.specs.Scenario.{CanHappen}
 use Rattle.satl_scenarios.specs.Refused.{not_started, refused_at_once}
-use Rattle.satl_scenarios.specs.Devices.{blank}
+use Rattle.satl_scenarios.specs.Devices.{never_written}
 use Rattle.satl_scenarios.specs.Requests.{task}
 use Rattle.satl_scenarios.proofs.Building.{it_can_happen, arrives, one_turn}
 use Rattle.satl_scenarios.proofs.Building.Follows.{next, ends_here}
@@ -17,11 +17,11 @@ pub all_refused : CanHappen refused_at_once
 unfolding says fixed_form
 all_refused =
     it_can_happen refused_at_once
-    (next (arrives _ (blank 2) (refl, refl))
-    (next (arrives _ (blank 2) (refl, refl))
-    (next (arrives _ (blank 2) (refl, refl))
-    (next (arrives _ (blank 2) (refl, refl))
-    (next (arrives _ (blank 2) (refl, refl))
+    (next (arrives _ (never_written 2) (refl, refl))
+    (next (arrives _ (never_written 2) (refl, refl))
+    (next (arrives _ (never_written 2) (refl, refl))
+    (next (arrives _ (never_written 2) (refl, refl))
+    (next (arrives _ (never_written 2) (refl, refl))
     ends_here)))))
 
 abbrev waiting_read : Entry

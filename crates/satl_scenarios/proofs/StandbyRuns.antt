@@ -21,7 +21,7 @@ use Rattle.satl_scenarios.specs.Passes.{check_power, read_block}
 use Rattle.satl_scenarios.specs.Power.{caching_list, select}
 use Rattle.satl_scenarios.specs.Scenario.{CanHappen}
 use Rattle.satl_scenarios.specs.Standby.{at_rest, ends_at_rest, read_through, selected_at_rest, standby_told}
-use Rattle.satl_scenarios.specs.Devices.{aa, filled, lasts, zeros}
+use Rattle.satl_scenarios.specs.Devices.{aa, full_of, lasts, zeros}
 use Rattle.satl_scenarios.specs.Requests.{task, with_task}
 use Rattle.satl_scenarios.proofs.Building.{it_can_happen, one_turn}
 use Rattle.satl_scenarios.proofs.Building.Follows.{next, ends_here}
@@ -34,7 +34,7 @@ rest_turn command body cells reply last e none up =
     it_can_happen (ends_at_rest command body cells (replied reply) last) (next (one_turn last (ended (task 1 command body) refl e)) (rw (none, up) ends_here))
 
 pub block_read_through : CanHappen read_through
-unfolding command_in row_of pages_of pages_from padded_block filled
+unfolding command_in row_of pages_of pages_from padded_block full_of
 block_read_through =
     rest_turn (Pass read_block) [] (lasts zeros ∷ lasts aa ∷ []) _ read_through.last
     (record {

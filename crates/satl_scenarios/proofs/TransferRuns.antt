@@ -13,7 +13,7 @@ use Rattle.satl_direct.specs.Tasks.{over}
 use Rattle.satl_direct.specs.Run.TurnsOf.{none}
 use Rattle.satl_scenarios.specs.Scenario.{CanHappen}
 use Rattle.satl_scenarios.specs.Transfers.{waking_read, ordered_read, written_then_read, reads_in_order, reads_in_reverse, written_past_the_cache, garbled_write}
-use Rattle.satl_scenarios.specs.Devices.{aa, bb, blank, device, cached_over, lasts, zeros}
+use Rattle.satl_scenarios.specs.Devices.{aa, bb, never_written, device, cached_over, lasts, zeros}
 use Rattle.satl_scenarios.specs.Requests.{read, task}
 use Rattle.satl_scenarios.proofs.Building.{it_can_happen, arrives, drained, one_turn, turn_more}
 use Rattle.satl_scenarios.proofs.Building.Follows.{next, ends_here}
@@ -35,7 +35,7 @@ pub read_after_write : CanHappen written_then_read
 unfolding says
 read_after_write =
     it_can_happen written_then_read
-    (next (arrives [] (record (blank 3) { tasks = write_task ∷ [] }) (refl, refl))
+    (next (arrives [] (record (never_written 3) { tasks = write_task ∷ [] }) (refl, refl))
     (next (one_turn written (ended write_task (inl refl) (done (ranged_write false (over 0 1) (aa ∷ [])) _ write_task refl)))
     (next (arrives [] (record written { tasks = read_task ∷ [] }) (refl, refl))
     (next (one_turn written (ended read_task (inl refl) (done (ranged_read false (over 0 1)) _ read_task refl)))
@@ -51,17 +51,17 @@ high_read = task 2 (Read Ten 1 1 false) []
 
 -- the device while both wait
 abbrev pub both_wait : Device
-both_wait = record (blank 2) { tasks = low_read ∷ high_read ∷ [] }
+both_wait = record (never_written 2) { tasks = low_read ∷ high_read ∷ [] }
 
 pub in_order : CanHappen reads_in_order
 unfolding says accesses_conflict
 in_order =
     it_can_happen reads_in_order
-    (next (arrives [] (record (blank 2) { tasks = low_read ∷ [] }) (refl, refl))
+    (next (arrives [] (record (never_written 2) { tasks = low_read ∷ [] }) (refl, refl))
     (next (arrives [] both_wait (refl, refl))
     (next (drained
-    (turn_more (blank 2)
-    (turn_more (record (blank 2) { tasks = high_read ∷ [] }) none
+    (turn_more (never_written 2)
+    (turn_more (record (never_written 2) { tasks = high_read ∷ [] }) none
     (ended low_read (inl refl) (done (ranged_read false (over 0 1)) _ low_read refl)))
     (ended high_read (inl refl) (done (ranged_read false (over 1 1)) _ high_read refl)))
     refl)
@@ -72,11 +72,11 @@ pub in_reverse : CanHappen reads_in_reverse
 unfolding says accesses_conflict
 in_reverse =
     it_can_happen reads_in_reverse
-    (next (arrives [] (record (blank 2) { tasks = low_read ∷ [] }) (refl, refl))
+    (next (arrives [] (record (never_written 2) { tasks = low_read ∷ [] }) (refl, refl))
     (next (arrives [] both_wait (refl, refl))
     (next (drained
-    (turn_more (blank 2)
-    (turn_more (record (blank 2) { tasks = low_read ∷ [] }) none
+    (turn_more (never_written 2)
+    (turn_more (record (never_written 2) { tasks = low_read ∷ [] }) none
     (ended high_read (inr (refl, inl refl)) (done (ranged_read false (over 1 1)) _ high_read refl)))
     (ended low_read (inl refl) (done (ranged_read false (over 0 1)) _ low_read refl)))
     refl)
@@ -90,11 +90,11 @@ pub ordered_waits : CanHappen ordered_read
 unfolding says accesses_conflict
 ordered_waits =
     it_can_happen ordered_read
-    (next (arrives [] (record (blank 2) { tasks = low_read ∷ [] }) (refl, refl))
-    (next (arrives [] (record (blank 2) { tasks = low_read ∷ last_read ∷ [] }) (refl, refl))
+    (next (arrives [] (record (never_written 2) { tasks = low_read ∷ [] }) (refl, refl))
+    (next (arrives [] (record (never_written 2) { tasks = low_read ∷ last_read ∷ [] }) (refl, refl))
     (next (drained
-    (turn_more (blank 2)
-    (turn_more (record (blank 2) { tasks = last_read ∷ [] }) none
+    (turn_more (never_written 2)
+    (turn_more (record (never_written 2) { tasks = last_read ∷ [] }) none
     (ended low_read (inl refl) (done (ranged_read false (over 0 1)) _ low_read refl)))
     (ended last_read (inl refl) (done (ranged_read false (over 1 1)) _ last_read refl)))
     refl)
@@ -105,7 +105,7 @@ unfolding says
 read_wakes =
     it_can_happen waking_read
     (next (arrives [] (record waking_read.first { tasks = low_read ∷ [] }) (refl, refl))
-    (next (one_turn (blank 2) (ended low_read (inl refl) (done (ranged_read false (over 0 1)) _ low_read refl)))
+    (next (one_turn (never_written 2) (ended low_read (inl refl) (done (ranged_read false (over 0 1)) _ low_read refl)))
     ends_here))
 
 -- ---- past the cache
@@ -117,7 +117,7 @@ pub write_past_the_cache : CanHappen written_past_the_cache
 unfolding says
 write_past_the_cache =
     it_can_happen written_past_the_cache
-    (next (arrives [] (record (blank 2) { tasks = forced_write ∷ [] }) (refl, refl))
+    (next (arrives [] (record (never_written 2) { tasks = forced_write ∷ [] }) (refl, refl))
     (next (one_turn written_past_the_cache.last (ended forced_write (inl refl) (done (ranged_write true (over 0 1) (aa ∷ [])) _ forced_write refl)))
     ends_here))
 

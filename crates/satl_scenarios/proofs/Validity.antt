@@ -10,7 +10,7 @@ use Rattle.satl_base.specs.Cells.{AreSound}
 use Rattle.satl_direct.specs.Valid.{IsValid}
 use Rattle.satl_cdb.specs.Table.{says}
 use Rattle.satl_scenarios.specs.Waiting.{two_waiting}
-use Rattle.satl_scenarios.specs.Devices.{aa, blank, filled, identify_data, identity, lasts, zeros}
+use Rattle.satl_scenarios.specs.Devices.{aa, never_written, full_of, identify_data, identity, lasts, zeros}
 use Rattle.satl_scenarios.specs.Requests.{cdb_10, request}
 
 pub all_sound : (count : ℕ) → AreSound (replicate count (lasts zeros))
@@ -26,10 +26,10 @@ identity_real : (count : ℕ) → 0 < count → count < 256 → IsIdentity (iden
 unfolding identity_of identify_data
 identity_real count some few = rw (capacity_told count, ne_eqb count 0 (λ none. omega arith), le-ltb 281474976710655 count (omega arith)) refl
 
-pub blank_real : (count : ℕ) → 0 < count → count < 256 → IsIdentity (blank count).identity
+pub blank_real : (count : ℕ) → 0 < count → count < 256 → IsIdentity (never_written count).identity
 blank_real count some few = rw (length-replicate count (lasts zeros)) (identity_real count some few)
 
-pub blank_valid : (count : ℕ) → 0 < count → count < 256 → IsValid (blank count)
+pub blank_valid : (count : ℕ) → 0 < count → count < 256 → IsValid (never_written count)
 blank_valid count some small = record {
   identity = blank_real count some small;
   cells = refl;
@@ -54,14 +54,14 @@ waiting_valid = record {
   blocks = omega arith;
   own = (refl, (refl, tt));
   come = (
-    record { request = request 1 (cdb_10 0x2A 0 1) (aa ∷ []); pages = omega arith; expected = tt; at = blank 3; same = refl; modes = record { cache = λ off. absurd cc; look = λ off. absurd cc }; became = refl },
-    (record { request = request 2 (cdb_10 0x28 1 1) []; pages = omega arith; expected = tt; at = blank 3; same = refl; modes = record { cache = λ off. absurd cc; look = λ off. absurd cc }; became = refl }, tt),
+    record { request = request 1 (cdb_10 0x2A 0 1) (aa ∷ []); pages = omega arith; expected = tt; at = never_written 3; same = refl; modes = record { cache = λ off. absurd cc; look = λ off. absurd cc }; became = refl },
+    (record { request = request 2 (cdb_10 0x28 1 1) []; pages = omega arith; expected = tt; at = never_written 3; same = refl; modes = record { cache = λ off. absurd cc; look = λ off. absurd cc }; became = refl }, tt),
   );
   modes = record { cache = λ off. absurd cc; look = λ off. absurd cc };
   nexuses = refl;
   attentions = (tt, (tt, (tt, (tt, tt))));
 }
 
-pub filled_differ : (a b : ℕ) → filled a ≡ filled b → a ≡ b
-unfolding filled
+pub filled_differ : (a b : ℕ) → full_of a ≡ full_of b → a ≡ b
+unfolding full_of
 filled_differ a b same = ap (λ (x : Block). slice_index x.bytes 0) same

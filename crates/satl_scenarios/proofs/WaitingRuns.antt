@@ -16,7 +16,7 @@ use Rattle.satl_direct.specs.Quiet.{Quiet}
 use Rattle.satl_direct.specs.Run.TurnsOf.{none}
 use Rattle.satl_scenarios.specs.Scenario.{CanBeCut, CanHappen, Scenario, events_of, silent}
 use Rattle.satl_scenarios.specs.Waiting.{aborted_half_done, overlapped_reads, full, one_too_many, one_turn_left}
-use Rattle.satl_scenarios.specs.Devices.{aa, blank, device, cached_over, lasts, zeros}
+use Rattle.satl_scenarios.specs.Devices.{aa, never_written, device, cached_over, lasts, zeros}
 use Rattle.satl_scenarios.specs.Requests.{read, task}
 use Rattle.satl_scenarios.proofs.Building.{it_can_happen, arrives, drained, manages, turn_more}
 use Rattle.satl_scenarios.proofs.Building.Follows.{next, ends_here}
@@ -29,7 +29,7 @@ abbrev half_done : Device
 half_done = device (cached_over zeros aa ∷ lasts zeros ∷ [])
 
 -- the first block shows before the write ends
-first_shows : Quiet (record (blank 2) { tasks = long_write ∷ [] }) (record half_done { tasks = long_write ∷ [] })
+first_shows : Quiet (record (never_written 2) { tasks = long_write ∷ [] }) (record half_done { tasks = long_write ∷ [] })
 first_shows = record {
   cells =
       write (record { lba = 0; block = aa; cached = true })
@@ -43,7 +43,7 @@ pub abort_in_the_middle : CanHappen aborted_half_done
 unfolding says function_of
 abort_in_the_middle =
     it_can_happen aborted_half_done
-    (next (arrives [] (record (blank 2) { tasks = long_write ∷ [] }) (refl, refl))
+    (next (arrives [] (record (never_written 2) { tasks = long_write ∷ [] }) (refl, refl))
     (next (manages _ Complete _ (record half_done { tasks = long_write ∷ [] }) half_done first_shows (record { response_is = refl; stays = refl }))
     (next (drained none refl)
     ends_here)))
@@ -54,8 +54,8 @@ pub overlap : CanHappen overlapped_reads
 unfolding says fixed_form
 overlap =
     it_can_happen overlapped_reads
-    (next (arrives [] (record (blank 2) { tasks = task 1 (Read Ten 0 1 false) [] ∷ [] }) (refl, refl))
-    (next (arrives _ (blank 2) (refl, refl))
+    (next (arrives [] (record (never_written 2) { tasks = task 1 (Read Ten 0 1 false) [] ∷ [] }) (refl, refl))
+    (next (arrives _ (never_written 2) (refl, refl))
     (next (drained none refl)
     ends_here)))
 
@@ -70,7 +70,7 @@ set_full = it_can_happen one_too_many (next (arrives _ full (refl, refl)) ends_h
 -- the two reads arrive
 abbrev arrived : Scenario
 arrived = record {
-  first = blank 2;
+  first = never_written 2;
   steps = silent (read 1 0 1) ∷ silent (read 2 1 1) ∷ [];
   losses = 0;
   depth = 2;
@@ -81,7 +81,7 @@ both_arrive : CanHappen arrived
 unfolding says accesses_conflict
 both_arrive =
     it_can_happen arrived
-    (next (arrives [] (record (blank 2) { tasks = low_read ∷ [] }) (refl, refl))
+    (next (arrives [] (record (never_written 2) { tasks = low_read ∷ [] }) (refl, refl))
     (next (arrives [] arrived.last (refl, refl))
     ends_here))
 

@@ -11,7 +11,7 @@ use Rattle.satl_frame.specs.Output.{Answer}
 use Rattle.satl_frame.specs.Output.Answer.{replied}
 use Rattle.satl_direct.specs.Device.{Device}
 use Rattle.satl_scenarios.specs.Scenario.{Scenario, answered, silent}
-use Rattle.satl_scenarios.specs.Devices.{blank, zeros}
+use Rattle.satl_scenarios.specs.Devices.{never_written, zeros}
 use Rattle.satl_scenarios.specs.Replies.{check, good, reply, sense}
 use Rattle.satl_scenarios.specs.Requests.{cdb_10, read, request, task}
 
@@ -28,8 +28,8 @@ abbrev pub request_sense : ℕ → ℕ → ℕ → Asked
 request_sense tag form alloc = six tag (0x03 ∷ form ∷ 0 ∷ 0 ∷ alloc ∷ 0 ∷ [])
 
 -- GOOD with data-in of fewer bytes than a page has: they are its first (SAM-5 5.3.1)
-abbrev pub told : ℕ → List ℕ → Answer
-told tag bytes = replied (record {
+abbrev pub good_with : ℕ → List ℕ → Answer
+good_with tag bytes = replied (record {
   nexus = 0;
   tag = record { 0 = tag };
   status = Good;
@@ -42,36 +42,36 @@ told tag bytes = replied (record {
 -- REQUEST SENSE tells the conditions of its nexus one by one, and then NO SENSE (SPC-4 6.39; SAM-5 5.14)
 abbrev pub sense_requested : Scenario
 sense_requested = record {
-  first = record (blank 2) { attentions = (UnitReset ∷ ModeChanged ∷ []) ∷ [] ∷ [] ∷ [] ∷ [] };
+  first = record (never_written 2) { attentions = (UnitReset ∷ ModeChanged ∷ []) ∷ [] ∷ [] ∷ [] ∷ [] };
   steps =
-      answered (Request (request_sense 1 0 18)) (told 1 (sense 0x6 0x29 0x03) ∷ [])
-      ∷ answered (Request (request_sense 2 0 18)) (told 2 (sense 0x6 0x2A 0x01) ∷ [])
-      ∷ answered (Request (request_sense 3 0 18)) (told 3 (sense 0x0 0x00 0x00) ∷ [])
+      answered (Request (request_sense 1 0 18)) (good_with 1 (sense 0x6 0x29 0x03) ∷ [])
+      ∷ answered (Request (request_sense 2 0 18)) (good_with 2 (sense 0x6 0x2A 0x01) ∷ [])
+      ∷ answered (Request (request_sense 3 0 18)) (good_with 3 (sense 0x0 0x00 0x00) ∷ [])
       ∷ [];
   losses = 0;
   depth = 0;
-  last = blank 2;
+  last = never_written 2;
 }
 
 -- at another logical unit REQUEST SENSE says as data that there is none, here the first four bytes in the descriptor form; TEST
 -- UNIT READY is refused with it; and no condition is told (SPC-4 6.39; SAM-5 5.3)
 abbrev pub other_unit : Scenario
 other_unit = record {
-  first = record (blank 2) { attentions = (UnitReset ∷ []) ∷ [] ∷ [] ∷ [] ∷ [] };
+  first = record (never_written 2) { attentions = (UnitReset ∷ []) ∷ [] ∷ [] ∷ [] ∷ [] };
   steps =
-      answered (Request (record (request_sense 1 1 4) { lun = unit_1 })) (told 1 (0x72 ∷ 0x5 ∷ 0x25 ∷ 0x00 ∷ []) ∷ [])
+      answered (Request (record (request_sense 1 1 4) { lun = unit_1 })) (good_with 1 (0x72 ∷ 0x5 ∷ 0x25 ∷ 0x00 ∷ []) ∷ [])
       ∷ answered (Request (record (six 2 (replicate 6 0)) { lun = unit_1 })) (check 2 (sense 0x5 0x25 0x00) ∷ [])
       ∷ [];
   losses = 0;
   depth = 0;
-  last = record (blank 2) { attentions = (UnitReset ∷ []) ∷ [] ∷ [] ∷ [] ∷ [] };
+  last = record (never_written 2) { attentions = (UnitReset ∷ []) ∷ [] ∷ [] ∷ [] ∷ [] };
 }
 
 -- a READ and a WRITE of no block are done at once, also right behind the last sector, and further on there is no address (SBC-3
 -- 5.10, 5.31)
 abbrev pub nothing_moved : Scenario
 nothing_moved = record {
-  first = blank 2;
+  first = never_written 2;
   steps =
       answered (read 1 2 0) (good 1 [] ∷ [])
       ∷ answered (Request (request 2 (cdb_10 0x2A 0 0) [])) (good 2 [] ∷ [])
@@ -79,17 +79,17 @@ nothing_moved = record {
       ∷ [];
   losses = 0;
   depth = 0;
-  last = blank 2;
+  last = never_written 2;
 }
 
 -- of a stopped unit such a READ is told that it is not ready (SPC-4 4.5.6; profile)
 abbrev pub no_block_at_rest : Scenario
 no_block_at_rest = record {
-  first = record (blank 2) { started = false; active = false };
+  first = record (never_written 2) { started = false; active = false };
   steps = answered (read 1 2 0) (check 1 (sense 0x2 0x04 0x02) ∷ []) ∷ [];
   losses = 0;
   depth = 0;
-  last = record (blank 2) { started = false; active = false };
+  last = record (never_written 2) { started = false; active = false };
 }
 
 -- READ DMA EXT of 4,096 blocks by ATA PASS-THROUGH (16), with COUNT 1000h (SAT-3 12.2.2.3)
@@ -98,7 +98,7 @@ long_read = 0x85 ∷ 0x0D ∷ 0x0E ∷ 0 ∷ 0 ∷ 0x10 ∷ 0 ∷ 0 ∷ 0 ∷ 0 
 
 -- eight of these hold as many blocks as a task set may (SAM-5 4.8; the figure: profile)
 abbrev pub full_of_blocks : Device
-full_of_blocks = record (blank 2) { tasks = map (λ tag. task tag (Pass long_read) []) (places 1 8 (λ tag. tag)) }
+full_of_blocks = record (never_written 2) { tasks = map (λ tag. task tag (Pass long_read) []) (places 1 8 (λ tag. tag)) }
 
 -- a READ of one block more is not taken: TASK SET FULL (SAM-5 5.3.1; the figure: profile)
 abbrev pub one_block_too_many : Scenario
@@ -129,7 +129,7 @@ block_for tag count = replied (record {
 -- an answer carries what its host expects, fewer bytes than there are or more; the data are all there (SAM-5 5.1; profile)
 abbrev pub lengths_expected : Scenario
 lengths_expected = record {
-  first = blank 2;
+  first = never_written 2;
   steps =
       silent (expecting 1 77)
       ∷ silent (expecting 2 1024)
@@ -137,5 +137,5 @@ lengths_expected = record {
       ∷ [];
   losses = 0;
   depth = 2;
-  last = blank 2;
+  last = never_written 2;
 }

@@ -8,18 +8,18 @@ use Rattle.satl_unit.specs.declared.attention.Attention.TheVariants.{PowerOn}
 use Rattle.satl_direct.specs.Device.{Device}
 
 -- a block that is filled with one byte (profile)
-unfoldable pub filled : ℕ → Block
-filled byte = record { bytes = replicate 512 byte }
+unfoldable pub full_of : ℕ → Block
+full_of byte = record { bytes = replicate 512 byte }
 
 -- what is on a blank medium, and two blocks to be written
 abbrev pub zeros : Block
-zeros = filled 0x00
+zeros = full_of 0x00
 
 abbrev pub aa : Block
-aa = filled 0xAA
+aa = full_of 0xAA
 
 abbrev pub bb : Block
-bb = filled 0xBB
+bb = full_of 0xBB
 
 -- a sector without flaws, which a loss of power leaves as it is (profile)
 abbrev pub lasts : Block → Cell
@@ -74,9 +74,10 @@ device cells = record {
 }
 
 -- a device that has never been written to (profile)
-abbrev pub blank : ℕ → Device
-blank count = device (replicate count (lasts zeros))
+abbrev pub never_written : ℕ → Device
+never_written count = device (replicate count (lasts zeros))
 
 -- a device just after a power cycle: each nexus is told of it (SAM-5 6.3)
-abbrev pub powered : List Cell → Device
-powered cells = record (device cells) { attentions = (PowerOn ∷ []) ∷ (PowerOn ∷ []) ∷ (PowerOn ∷ []) ∷ (PowerOn ∷ []) ∷ [] }
+abbrev pub just_powered : List Cell → Device
+just_powered cells =
+    record (device cells) { attentions = (PowerOn ∷ []) ∷ (PowerOn ∷ []) ∷ (PowerOn ∷ []) ∷ (PowerOn ∷ []) ∷ [] }

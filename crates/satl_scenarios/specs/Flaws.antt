@@ -5,7 +5,7 @@ use Rattle.satl_base.specs.declared.bench.Which.TheVariants as flaws
 use Rattle.satl_frame.specs.declared.frames.Frame.TheVariants.{Bench, End, Turn}
 use Rattle.satl_frame.specs.Output.Answer.{ended}
 use Rattle.satl_scenarios.specs.Scenario.{Scenario, answered, silent}
-use Rattle.satl_scenarios.specs.Devices.{aa, bb, blank, cached_over, device, lasts, unreadable, unwritable, zeros}
+use Rattle.satl_scenarios.specs.Devices.{aa, bb, never_written, cached_over, device, lasts, unreadable, unwritable, zeros}
 use Rattle.satl_scenarios.specs.Replies.{check, good, sense, sense_at}
 use Rattle.satl_scenarios.specs.Requests.{read, write}
 
@@ -13,7 +13,7 @@ use Rattle.satl_scenarios.specs.Requests.{read, write}
 -- its address (SPC-4 4.5.6)
 abbrev pub flaw_among_writes : Scenario
 flaw_among_writes = record {
-  first = blank 3;
+  first = never_written 3;
   steps =
       silent (Bench (Strike flaws.Read 1))
       ∷ silent (write 1 0 (aa ∷ []))
@@ -30,7 +30,7 @@ flaw_among_writes = record {
 -- (SPC-4 4.5.6)
 abbrev pub torn_write : Scenario
 torn_write = record {
-  first = blank 2;
+  first = never_written 2;
   steps =
       silent (Bench (Strike flaws.Write 1))
       ∷ silent (write 1 0 (aa ∷ bb ∷ []))
@@ -44,7 +44,7 @@ torn_write = record {
 -- a read fails by a CRC error, and the next is done: INFORMATION UNIT iuCRC ERROR DETECTED (SPC-4 4.5.6)
 abbrev pub garbled_read : Scenario
 garbled_read = record {
-  first = blank 2;
+  first = never_written 2;
   steps =
       silent (Bench (Glitch 1))
       ∷ silent (read 1 0 1)
@@ -54,13 +54,13 @@ garbled_read = record {
       ∷ [];
   losses = 0;
   depth = 1;
-  last = blank 2;
+  last = never_written 2;
 }
 
 -- while a glitch is left a read may be done too (profile)
 abbrev pub spared_read : Scenario
 spared_read = record {
-  first = blank 2;
+  first = never_written 2;
   steps =
       silent (Bench (Glitch 1))
       ∷ silent (read 1 0 1)
@@ -68,7 +68,7 @@ spared_read = record {
       ∷ [];
   losses = 0;
   depth = 1;
-  last = record (blank 2) { glitches = 1 };
+  last = record (never_written 2) { glitches = 1 };
 }
 
 -- where D_SENSE is 1 sense data are in the descriptor form: a flaw is told in an information descriptor (SPC-4 4.5.2.2)

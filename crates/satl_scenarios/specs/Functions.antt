@@ -7,7 +7,7 @@ use Rattle.satl_unit.specs.declared.attention.Attention.TheVariants.{UnitReset}
 use Rattle.satl_frame.specs.declared.frames.Frame.TheVariants.{End, Manage, Request}
 use Rattle.satl_frame.specs.Output.Answer.{ended}
 use Rattle.satl_scenarios.specs.Scenario.{Scenario, answered, silent}
-use Rattle.satl_scenarios.specs.Devices.{blank}
+use Rattle.satl_scenarios.specs.Devices.{never_written}
 use Rattle.satl_scenarios.specs.Replies.{check, response, sense}
 use Rattle.satl_scenarios.specs.Requests.{cdb_10, manage, read, request, task}
 
@@ -15,7 +15,7 @@ use Rattle.satl_scenarios.specs.Requests.{cdb_10, manage, read, request, task}
 -- 7.1, 7.9)
 abbrev pub queried : Scenario
 queried = record {
-  first = blank 2;
+  first = never_written 2;
   steps =
       silent (read 1 0 1)
       ∷ answered (Manage (manage 0 0x80 1)) (response 0 0x80 1 Succeeded ∷ [])
@@ -25,13 +25,13 @@ queried = record {
       ∷ [];
   losses = 0;
   depth = 1;
-  last = record (blank 2) { tasks = task 1 (Read Ten 0 1 false) [] ∷ [] };
+  last = record (never_written 2) { tasks = task 1 (Read Ten 0 1 false) [] ∷ [] };
 }
 
 -- CLEAR TASK SET by nexus 1: the task of nexus 0 goes without an answer, and its next command tells it so (SAM-5 7.4)
 abbrev pub tasks_cleared : Scenario
 tasks_cleared = record {
-  first = blank 2;
+  first = never_written 2;
   steps =
       silent (read 1 0 1)
       ∷ answered (Manage (manage 1 0x04 0)) (response 1 0x04 0 Complete ∷ [])
@@ -40,13 +40,13 @@ tasks_cleared = record {
       ∷ [];
   losses = 0;
   depth = 1;
-  last = blank 2;
+  last = never_written 2;
 }
 
 -- LOGICAL UNIT RESET: all tasks go, and each nexus is told (SAM-5 7.7)
 abbrev pub all_reset : Scenario
 all_reset = record {
-  first = blank 2;
+  first = never_written 2;
   steps =
       silent (read 1 0 1)
       ∷ answered (Manage (manage 1 0x08 0)) (response 1 0x08 0 Complete ∷ [])
@@ -54,14 +54,14 @@ all_reset = record {
       ∷ [];
   losses = 0;
   depth = 1;
-  last = record (blank 2) { attentions = [] ∷ (UnitReset ∷ []) ∷ (UnitReset ∷ []) ∷ (UnitReset ∷ []) ∷ [] };
+  last = record (never_written 2) { attentions = [] ∷ (UnitReset ∷ []) ∷ (UnitReset ∷ []) ∷ (UnitReset ∷ []) ∷ [] };
 }
 
 -- ABORT TASK SET: all tasks of the nexus go without an answer, which QUERY TASK SET tells, and nobody is told of it (SAM-5 7.3,
 -- 7.9)
 abbrev pub set_aborted : Scenario
 set_aborted = record {
-  first = blank 2;
+  first = never_written 2;
   steps =
       silent (read 1 0 1)
       ∷ silent (read 2 1 1)
@@ -72,14 +72,14 @@ set_aborted = record {
       ∷ [];
   losses = 0;
   depth = 2;
-  last = blank 2;
+  last = never_written 2;
 }
 
 -- I_T NEXUS RESET, whatever the logical unit: the tasks of the nexus go, and it alone is told; the task of nexus 1 stays (SAM-5
 -- 7.6)
 abbrev pub nexus_reset : Scenario
 nexus_reset = record {
-  first = blank 2;
+  first = never_written 2;
   steps =
       silent (read 1 0 1)
       ∷ silent (Request (record (request 2 (cdb_10 0x28 1 1) []) { nexus = 1 }))
@@ -88,5 +88,5 @@ nexus_reset = record {
       ∷ [];
   losses = 0;
   depth = 2;
-  last = record (blank 2) { tasks = record (task 2 (Read Ten 1 1 false) []) { nexus = 1 } ∷ [] };
+  last = record (never_written 2) { tasks = record (task 2 (Read Ten 1 1 false) []) { nexus = 1 } ∷ [] };
 }

@@ -5,14 +5,14 @@ use Rattle.satl_base.specs.declared.reply.Response.TheVariants.{Complete}
 use Rattle.satl_frame.specs.declared.frames.Frame.TheVariants.{Bench, End, Manage, Turn}
 use Rattle.satl_frame.specs.Output.Answer.{ended}
 use Rattle.satl_scenarios.specs.Scenario.{Scenario, answered, silent}
-use Rattle.satl_scenarios.specs.Devices.{aa, blank, cached_over, device, lasts, zeros}
+use Rattle.satl_scenarios.specs.Devices.{aa, never_written, cached_over, device, lasts, zeros}
 use Rattle.satl_scenarios.specs.Replies.{check, good, response, sense}
 use Rattle.satl_scenarios.specs.Requests.{manage, read, write}
 
 -- the link is lost in a turn: all that waits is answered in order, with LOGICAL UNIT COMMUNICATION FAILURE (SPC-4 4.5.6)
 abbrev pub lost_in_turn : Scenario
 lost_in_turn = record {
-  first = blank 3;
+  first = never_written 3;
   steps =
       silent (write 1 0 (aa ∷ []))
       ∷ silent (read 2 1 1)
@@ -20,13 +20,13 @@ lost_in_turn = record {
       ∷ [];
   losses = 1;
   depth = 2;
-  last = record (blank 3) { down = true };
+  last = record (never_written 3) { down = true };
 }
 
 -- the link is unplugged, and again: a command between the two waits, and is answered at the second (profile)
 abbrev pub unplugged_again : Scenario
 unplugged_again = record {
-  first = blank 2;
+  first = never_written 2;
   steps =
       silent (Bench Unplug)
       ∷ silent (read 1 0 1)
@@ -34,13 +34,13 @@ unplugged_again = record {
       ∷ [];
   losses = 2;
   depth = 0;
-  last = record (blank 2) { down = true };
+  last = record (never_written 2) { down = true };
 }
 
 -- a task ends in a turn, and then the link is lost (SPC-4 4.5.6)
 abbrev pub done_and_lost : Scenario
 done_and_lost = record {
-  first = blank 3;
+  first = never_written 3;
   steps =
       silent (write 1 0 (aa ∷ []))
       ∷ silent (read 2 1 1)
@@ -54,7 +54,7 @@ done_and_lost = record {
 -- the link is lost as a command arrives: it is answered too; a later command is answered at its turn (profile)
 abbrev pub lost_on_arrival : Scenario
 lost_on_arrival = record {
-  first = blank 2;
+  first = never_written 2;
   steps =
       silent (read 1 0 1)
       ∷ answered (read 2 1 1) (check 1 (sense 0x4 0x08 0x00) ∷ check 2 (sense 0x4 0x08 0x00) ∷ [])
@@ -63,13 +63,13 @@ lost_on_arrival = record {
       ∷ [];
   losses = 1;
   depth = 1;
-  last = record (blank 2) { down = true };
+  last = record (never_written 2) { down = true };
 }
 
 -- the link is lost when a task is aborted: the other is answered, and then comes the response (SAM-5 7.2; profile)
 abbrev pub lost_at_an_abort : Scenario
 lost_at_an_abort = record {
-  first = blank 2;
+  first = never_written 2;
   steps =
       silent (read 1 0 1)
       ∷ silent (read 2 1 1)
@@ -77,23 +77,23 @@ lost_at_an_abort = record {
       ∷ [];
   losses = 1;
   depth = 2;
-  last = record (blank 2) { down = true };
+  last = record (never_written 2) { down = true };
 }
 
 -- a glitch goes with the link in a turn, and leaves the drive in standby (profile)
 abbrev pub glitch_lost : Scenario
 glitch_lost = record {
-  first = record (blank 2) { glitches = 2 };
+  first = record (never_written 2) { glitches = 2 };
   steps = silent (read 1 0 1) ∷ answered (Turn 1) (check 1 (sense 0x4 0x08 0x00) ∷ []) ∷ [];
   losses = 1;
   depth = 1;
-  last = record (blank 2) { down = true; active = false; glitches = 1 };
+  last = record (never_written 2) { down = true; active = false; glitches = 1 };
 }
 
 -- END with a loss: one read is done in a turn, and in the next the link is lost, with which the other is answered (profile)
 abbrev pub lost_at_the_end : Scenario
 lost_at_the_end = record {
-  first = blank 2;
+  first = never_written 2;
   steps =
       silent (read 1 0 1)
       ∷ silent (read 2 1 1)
@@ -101,5 +101,5 @@ lost_at_the_end = record {
       ∷ [];
   losses = 1;
   depth = 2;
-  last = record (blank 2) { down = true };
+  last = record (never_written 2) { down = true };
 }

@@ -15,7 +15,7 @@ use Rattle.satl_laws.specs.Passing.{ComesAfter, DoNotClash, goes_alone}
 use Rattle.satl_direct.specs.Device.{Device}
 use Rattle.satl_direct.specs.Valid.{IsValid}
 use Rattle.satl_scenarios.specs.Scenario.{Scenario, answered, events_of, silent}
-use Rattle.satl_scenarios.specs.Devices.{aa, bb, blank, cached_over, device, lasts, powered, zeros}
+use Rattle.satl_scenarios.specs.Devices.{aa, bb, never_written, cached_over, device, lasts, just_powered, zeros}
 use Rattle.satl_scenarios.specs.Replies.{check, good, sense}
 use Rattle.satl_scenarios.specs.Requests.{cdb_10, read, request, task, write}
 
@@ -23,7 +23,7 @@ use Rattle.satl_scenarios.specs.Requests.{cdb_10, read, request, task, write}
 -- without waiting. The second WRITE ends first, and the READ gives both blocks (SAM-5 5.14, 8; SBC-3 5)
 abbrev pub written_out_of_order : Scenario
 written_out_of_order = record {
-  first = powered (blank 3).cells;
+  first = just_powered (never_written 3).cells;
   steps =
       answered (Request (request 1 (cdb_10 0x00 0 0) [])) (check 1 (sense 0x6 0x29 0x01) ∷ [])
       ∷ silent (write 2 0 (aa ∷ []))
@@ -43,7 +43,7 @@ written_out_of_order = record {
 -- it so; then a third WRITE waits as the link is lost (SAM-5 8; SPC-4 4.5.6; profile)
 abbrev pub torn_out_of_order : Scenario
 torn_out_of_order = record {
-  first = blank 3;
+  first = never_written 3;
   steps =
       silent (Bench (bench.Glitch 1))
       ∷ silent (write 1 0 (aa ∷ bb ∷ []))
@@ -90,7 +90,7 @@ writes_third = task 4 (Write Ten 2 1 false) (aa ∷ [])
 
 -- they wait
 abbrev pub four_waiting : Device
-four_waiting = record (blank 3) { tasks = reads_two ∷ reads_second ∷ writes_second ∷ writes_third ∷ [] }
+four_waiting = record (never_written 3) { tasks = reads_two ∷ reads_second ∷ writes_second ∷ writes_third ∷ [] }
 
 -- the last WRITE passes all of them, the second READ the first; the WRITE of what both read waits for them (SAM-5 8; SBC-3 5)
 abbrev pub passed_where_apart : Scenario

@@ -43,7 +43,8 @@ cache_off = through (record no_fields { protocol = 0x06; features = 0x82; comman
 
 -- READ DMA EXT of a block at address 1 (ACS-3, READ DMA EXT)
 abbrev pub read_block : List ℕ
-read_block = through (record no_fields { protocol = 0x0D; flags = 0x0E; count = 1; lba = 1; device_field = 0x40; command = 0x25 })
+read_block =
+    through (record no_fields { protocol = 0x0D; flags = 0x0E; count = 1; lba = 1; device_field = 0x40; command = 0x25 })
 
 -- its answer, with its data (ACS-3, IDENTIFY DEVICE)
 abbrev pub identity_told : Answer
@@ -78,7 +79,8 @@ cache_disabled =
 
 -- WRITE DMA EXT of a block at address 1 (ACS-3, WRITE DMA EXT)
 abbrev pub write_block : List ℕ
-write_block = through (record no_fields { protocol = 0x0D; flags = 0x06; count = 1; lba = 1; device_field = 0x40; command = 0x35 })
+write_block =
+    through (record no_fields { protocol = 0x0D; flags = 0x06; count = 1; lba = 1; device_field = 0x40; command = 0x35 })
 
 -- it waits, and ends with GOOD (SAT-3 12.2)
 abbrev pub written_through : Scenario

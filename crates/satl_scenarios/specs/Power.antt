@@ -9,7 +9,7 @@ use Rattle.satl_unit.specs.declared.attention.Attention.TheVariants.{ModeChanged
 use Rattle.satl_frame.specs.declared.frames.Frame.TheVariants.{Bench, Turn}
 use Rattle.satl_direct.specs.Device.{Device}
 use Rattle.satl_scenarios.specs.Scenario.{Scenario, answered, silent}
-use Rattle.satl_scenarios.specs.Devices.{aa, bb, blank, cached_over, device, lasts, powered, unreadable, zeros}
+use Rattle.satl_scenarios.specs.Devices.{aa, bb, never_written, cached_over, device, lasts, just_powered, unreadable, zeros}
 use Rattle.satl_scenarios.specs.Replies.{check, good, sense}
 use Rattle.satl_scenarios.specs.Requests.{read, with_task, write}
 
@@ -28,7 +28,7 @@ written_back = record {
   steps = answered (Turn 1) (good 1 [] ∷ []) ∷ silent (Bench bench.Power) ∷ [];
   losses = 0;
   depth = 0;
-  last = powered (lasts aa ∷ lasts zeros ∷ []);
+  last = just_powered (lasts aa ∷ lasts zeros ∷ []);
 }
 
 -- the cache is written back, and the sector is written again: power leaves this block (SBC-3 4.15)
@@ -42,7 +42,7 @@ flushed_then_written left = record {
       ∷ [];
   losses = 0;
   depth = 1;
-  last = powered (lasts left ∷ lasts zeros ∷ []);
+  last = just_powered (lasts left ∷ lasts zeros ∷ []);
 }
 
 -- a list of 24 bytes for MODE SELECT(6): the Caching page with WCE and DRA 0 (SPC-4, MODE SELECT commands; SBC-3 6.4.5)
@@ -72,13 +72,13 @@ turned_off_then_power = record {
   steps = turned_off.steps ++ silent (Bench bench.Power) ∷ [];
   losses = 0;
   depth = 0;
-  last = powered (lasts aa ∷ lasts zeros ∷ []);
+  last = just_powered (lasts aa ∷ lasts zeros ∷ []);
 }
 
 -- after a power cycle a nexus is told so once, and then its commands are carried out (SAM-5 5.14)
 abbrev pub told_once : Scenario
 told_once = record {
-  first = blank 2;
+  first = never_written 2;
   steps =
       silent (Bench bench.Power)
       ∷ answered (read 1 0 1) (check 1 (sense 0x6 0x29 0x01) ∷ [])
@@ -87,7 +87,7 @@ told_once = record {
       ∷ [];
   losses = 0;
   depth = 1;
-  last = record (blank 2) { attentions = [] ∷ (PowerOn ∷ []) ∷ (PowerOn ∷ []) ∷ (PowerOn ∷ []) ∷ [] };
+  last = record (never_written 2) { attentions = [] ∷ (PowerOn ∷ []) ∷ (PowerOn ∷ []) ∷ (PowerOn ∷ []) ∷ [] };
 }
 
 -- a power cycle of a unit that is stopped and has lost its link: its task goes without an answer, a sector that was written
@@ -105,5 +105,5 @@ power_with_a_task = record {
   steps = silent (Bench bench.Power) ∷ [];
   losses = 0;
   depth = 0;
-  last = record (powered (lasts zeros ∷ unreadable bb ∷ [])) { glitches = 3 };
+  last = record (just_powered (lasts zeros ∷ unreadable bb ∷ [])) { glitches = 3 };
 }

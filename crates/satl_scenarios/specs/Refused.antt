@@ -2,7 +2,7 @@
 use Rattle.std.specs.Prelude.{false, [], ◌∷◌, drop, replicate}
 use Rattle.satl_frame.specs.declared.frames.Frame.TheVariants.{Request, Turn}
 use Rattle.satl_scenarios.specs.Scenario.{Scenario, answered, silent}
-use Rattle.satl_scenarios.specs.Devices.{aa, blank}
+use Rattle.satl_scenarios.specs.Devices.{aa, never_written}
 use Rattle.satl_scenarios.specs.Replies.{check, sense, sense_pointing}
 use Rattle.satl_scenarios.specs.Requests.{cdb_10, read, request}
 
@@ -10,7 +10,7 @@ use Rattle.satl_scenarios.specs.Requests.{cdb_10, read, request}
 -- a block past the last sector, and fewer bytes of data-out than the blocks (SPC-4 4.5.6)
 abbrev pub refused_at_once : Scenario
 refused_at_once = record {
-  first = blank 2;
+  first = never_written 2;
   steps =
       answered (Request (record (request 1 (cdb_10 0x28 0 1) []) { lun = 0 ∷ 1 ∷ replicate 6 0 }))
       (check 1 (sense 0x5 0x25 0x00) ∷ [])
@@ -22,18 +22,18 @@ refused_at_once = record {
       ∷ [];
   losses = 0;
   depth = 0;
-  last = blank 2;
+  last = never_written 2;
 }
 
 -- a read of a unit that is stopped: it waits for its turn, and is told so (SPC-4 4.5.6, LOGICAL UNIT NOT READY)
 abbrev pub not_started : Scenario
 not_started = record {
-  first = record (blank 2) { started = false; active = false };
+  first = record (never_written 2) { started = false; active = false };
   steps =
       silent (read 1 0 1)
       ∷ answered (Turn 1) (check 1 (sense 0x2 0x04 0x02) ∷ [])
       ∷ [];
   losses = 0;
   depth = 0;
-  last = record (blank 2) { started = false; active = false };
+  last = record (never_written 2) { started = false; active = false };
 }

@@ -5,14 +5,14 @@ use Rattle.satl_frame.specs.declared.frames.Frame.TheVariants.{End, Request, Tur
 use Rattle.satl_frame.specs.Output.{Answer}
 use Rattle.satl_frame.specs.Output.Answer.{ended}
 use Rattle.satl_scenarios.specs.Scenario.{Scenario, answered, silent}
-use Rattle.satl_scenarios.specs.Devices.{aa, bb, blank, cached_over, device, lasts, zeros}
+use Rattle.satl_scenarios.specs.Devices.{aa, bb, never_written, cached_over, device, lasts, zeros}
 use Rattle.satl_scenarios.specs.Replies.{check, good, sense}
 use Rattle.satl_scenarios.specs.Requests.{cdb_10, read, request, write}
 
 -- a block is written through the cache and read: power may still bring the old one back (SBC-3 4.15, 5.10, 5.31)
 abbrev pub written_then_read : Scenario
 written_then_read = record {
-  first = blank 3;
+  first = never_written 3;
   steps =
       silent (write 1 0 (aa ∷ []))
       ∷ answered (Turn 1) (good 1 [] ∷ [])
@@ -27,7 +27,7 @@ written_then_read = record {
 -- two reads wait, and END answers them so
 abbrev pub two_reads : List Answer → Scenario
 two_reads answers = record {
-  first = blank 2;
+  first = never_written 2;
   steps =
       silent (read 1 0 1)
       ∷ silent (read 2 1 1)
@@ -35,7 +35,7 @@ two_reads answers = record {
       ∷ [];
   losses = 0;
   depth = 2;
-  last = blank 2;
+  last = never_written 2;
 }
 
 -- in the order of arrival, and the other way round (SAM-5 8, command order)
@@ -48,7 +48,7 @@ reads_in_reverse = two_reads (good 2 (zeros ∷ []) ∷ good 1 (zeros ∷ []) �
 -- the second is ORDERED: it waits for the first, and the drive has one of them at a time (SAM-5 8.6)
 abbrev pub ordered_read : Scenario
 ordered_read = record {
-  first = blank 2;
+  first = never_written 2;
   steps =
       silent (read 1 0 1)
       ∷ silent (Request (record (request 2 (cdb_10 0x28 1 1) []) { attr = Ordered }))
@@ -56,23 +56,23 @@ ordered_read = record {
       ∷ [];
   losses = 0;
   depth = 1;
-  last = blank 2;
+  last = never_written 2;
 }
 
 -- a read of a drive in standby wakes it (ACS-3, power modes)
 abbrev pub waking_read : Scenario
 waking_read = record {
-  first = record (blank 2) { active = false };
+  first = record (never_written 2) { active = false };
   steps = silent (read 1 0 1) ∷ answered (Turn 1) (good 1 (zeros ∷ []) ∷ []) ∷ [];
   losses = 0;
   depth = 1;
-  last = blank 2;
+  last = never_written 2;
 }
 
 -- a write past the cache: nothing else is left to a loss of power (SBC-3 5.31, FUA)
 abbrev pub written_past_the_cache : Scenario
 written_past_the_cache = record {
-  first = blank 2;
+  first = never_written 2;
   steps =
       silent (Request (request 1 (0x2A ∷ 0x08 ∷ drop 2 (cdb_10 0x2A 0 1)) (aa ∷ [])))
       ∷ answered (Turn 1) (good 1 [] ∷ [])
@@ -85,7 +85,7 @@ written_past_the_cache = record {
 -- a write garbled by a CRC error: its second block alone is written (SPC-4 4.5.6; profile)
 abbrev pub garbled_write : Scenario
 garbled_write = record {
-  first = record (blank 2) { glitches = 1 };
+  first = record (never_written 2) { glitches = 1 };
   steps =
       silent (write 1 0 (aa ∷ bb ∷ []))
       ∷ answered (Turn 1) (check 1 (sense 0xB 0x47 0x03) ∷ [])

@@ -9,14 +9,14 @@ use Rattle.satl_base.specs.declared.reply.Response.TheVariants.{Complete}
 use Rattle.satl_frame.specs.declared.frames.Frame.TheVariants.{End, Manage, Turn}
 use Rattle.satl_frame.specs.Output.Answer.{ended}
 use Rattle.satl_scenarios.specs.Scenario.{Scenario, answered, silent}
-use Rattle.satl_scenarios.specs.Devices.{aa, bb, blank, cached_over, device, lasts, zeros}
+use Rattle.satl_scenarios.specs.Devices.{aa, bb, never_written, cached_over, device, lasts, zeros}
 use Rattle.satl_scenarios.specs.Replies.{check, good, reply, response, sense}
 use Rattle.satl_scenarios.specs.Requests.{manage, read, task, write}
 
 -- a write of two blocks is aborted when the first of them is on the medium: it is not answered (SAM-5 7.2)
 abbrev pub aborted_half_done : Scenario
 aborted_half_done = record {
-  first = blank 2;
+  first = never_written 2;
   steps =
       silent (write 1 0 (aa ∷ bb ∷ []))
       ∷ answered (Manage (manage 0 0x01 1)) (response 0 0x01 1 Complete ∷ [])
@@ -30,7 +30,7 @@ aborted_half_done = record {
 -- a read with the tag of one that waits: both go, and one answer says so (SAM-5 5.1, overlapped commands)
 abbrev pub overlapped_reads : Scenario
 overlapped_reads = record {
-  first = blank 2;
+  first = never_written 2;
   steps =
       silent (read 1 0 1)
       ∷ answered (read 1 1 1) (check 1 (sense 0xB 0x4E 0x00) ∷ [])
@@ -38,12 +38,12 @@ overlapped_reads = record {
       ∷ [];
   losses = 0;
   depth = 1;
-  last = blank 2;
+  last = never_written 2;
 }
 
 -- as many reads as a task set holds, with the tags 1 to 64 (SAM-5 4.8; the figure: profile)
 abbrev pub full : Device
-full = record (blank 2) { tasks = map (λ tag. task tag (commands.Read Ten 0 1 false) []) (places 1 64 (λ tag. tag)) }
+full = record (never_written 2) { tasks = map (λ tag. task tag (commands.Read Ten 0 1 false) []) (places 1 64 (λ tag. tag)) }
 
 -- one more is not taken: TASK SET FULL; and the drive holds 32 of them (SAM-5 5.3.1; the figure: profile)
 abbrev pub one_too_many : Scenario
@@ -57,14 +57,14 @@ one_too_many = record {
 
 -- two commands that wait
 abbrev pub two_waiting : Device
-two_waiting = record (blank 3) {
+two_waiting = record (never_written 3) {
   tasks = task 1 (commands.Write Ten 0 1 false) (aa ∷ []) ∷ task 2 (commands.Read Ten 1 1 false) [] ∷ [];
 }
 
 -- two reads, and of three turns one is taken: the second read waits
 abbrev pub one_turn_left : Scenario
 one_turn_left = record {
-  first = blank 2;
+  first = never_written 2;
   steps =
       silent (read 1 0 1)
       ∷ silent (read 2 1 1)
@@ -72,5 +72,5 @@ one_turn_left = record {
       ∷ [];
   losses = 0;
   depth = 2;
-  last = record (blank 2) { tasks = task 2 (commands.Read Ten 1 1 false) [] ∷ [] };
+  last = record (never_written 2) { tasks = task 2 (commands.Read Ten 1 1 false) [] ∷ [] };
 }

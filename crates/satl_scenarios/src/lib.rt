@@ -17,11 +17,11 @@ ghost use Rattle.std.specs.Prelude.{◌≡◌, ◌<◌, ℕ};
 ghost use Rattle.satl_direct.specs.Valid.{IsValid};
 ghost use Rattle.satl_identify.specs.Refusals.{IsIdentity};
 ghost use Rattle.satl_scenarios.specs.Waiting.{two_waiting};
-ghost use Rattle.satl_scenarios.specs.Devices.{blank, filled};
+ghost use Rattle.satl_scenarios.specs.Devices.{never_written, full_of};
 
 /// The device that most of these start from is valid, with any number of sectors below 256 (profile).
 pub fn blank_devices_are_valid()
-    ensures { (count : ℕ) → 0 < count → count < 256 → IsValid (blank count) }
+    ensures { (count : ℕ) → 0 < count → count < 256 → IsValid (never_written count) }
 {}
 
 /// A device with commands that wait may be valid too (profile).
@@ -31,10 +31,10 @@ pub fn waiting_devices_are_valid()
 
 /// What such a device says of itself is what a drive of so many sectors may say (ACS-3 7.12.7).
 pub fn blank_devices_are_real()
-    ensures { (count : ℕ) → 0 < count → count < 256 → IsIdentity (blank count).identity }
+    ensures { (count : ℕ) → 0 < count → count < 256 → IsIdentity (never_written count).identity }
 {}
 
 /// Blocks that are filled with different bytes are different (profile).
 pub fn filled_blocks_differ()
-    ensures { (a b : ℕ) → filled a ≡ filled b → a ≡ b }
+    ensures { (a b : ℕ) → full_of a ≡ full_of b → a ≡ b }
 {}

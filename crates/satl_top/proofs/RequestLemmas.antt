@@ -9,14 +9,14 @@ use Rattle.satl_frame.specs.declared.frames.Version.TheVariants.{Two}
 use Rattle.satl_frame.specs.Progress.{ReadTo}
 use Rattle.satl_frame.proofs.WholeInputs.{one_end}
 use Rattle.satl_text.specs.Totals.{total}
-use Rattle.satl_gen.specs.Generated.{after_draw, burst, draw, frames_from, generated, generated_frames, request_of, seeded}
+use Rattle.satl_gen.specs.Generated.{after_draw, burst, draw, frames_from, generated, generated_frames, request_drawn, seeded}
 use Rattle.satl_gen.specs.declared.draw.Draw.{Draw}
 use Rattle.satl_gen.proofs.WholeInput.{reads_whole}
 use Rattle.satl_step.specs.Runs.{requests_in}
 use Rattle.satl_serve.specs.Runs.{input_limit}
 
 -- a request, with a burst behind it or with none
-one_more : (i : ℕ) (d : Draw) (there : Bool) (rest : List Frame) → requests_in ((frames.Request (request_of i d) ∷ (if there then burst d.c else [])) ++ rest) ≡ suc (requests_in rest)
+one_more : (i : ℕ) (d : Draw) (there : Bool) (rest : List Frame) → requests_in ((frames.Request (request_drawn i d) ∷ (if there then burst d.c else [])) ++ rest) ≡ suc (requests_in rest)
 one_more i d true rest = omega arith
 one_more i d false rest = omega arith
 

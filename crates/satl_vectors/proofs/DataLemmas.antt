@@ -3,11 +3,11 @@ use Rattle.std.proofs.Common.{◌≡◌, refl, ap, ◌∙◌, ℕ, true, false, 
 use Rattle.satl_base.specs.Identify.{has_trim}
 use Rattle.satl_base.specs.Lists.{is_in}
 use Rattle.satl_disk.specs.Bench.{MayReword, fitting_words}
-use Rattle.satl_disk.specs.Data.{identify_data}
+use Rattle.satl_disk.specs.Data.{drive_data}
 use Rattle.satl_disk.specs.Disk.{Disk, fresh}
 use Rattle.satl_disk.proofs.IdentifyLemmas.{word-identify_data}
 
-new_trims : (n : ℕ) → has_trim (identify_data n) ≡ true
+new_trims : (n : ℕ) → has_trim (drive_data n) ≡ true
 new_trims n = rw (word-identify_data n 169 (omega arith), word-identify_data n 69 (omega arith)) refl
 
 -- any word but those that have to fit may be changed

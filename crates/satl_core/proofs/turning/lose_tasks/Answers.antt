@@ -2,7 +2,7 @@ use Rattle.std.proofs.Common.{◌≤◌, refl, arith, sym, ap, ◌∙◌, Some, 
 use Rattle.satl_core.specs.Turning.{data_in, ended_reply}
 use Rattle.satl_base.specs.declared.reply.Reply.{Reply}
 use Rattle.satl_line.specs.declared.entry.Entry.{Entry}
-use Rattle.satl_flight.specs.Flown.{holds}
+use Rattle.satl_flight.specs.Flown.{is_outstanding}
 use Rattle.satl_core.proofs.HeldLemmas.{first_all, first_count, first_lost, first_of, first_pages, pushed}
 use Rattle.satl_core.proofs.turning.lose_tasks.Goals as goal
 
@@ -26,4 +26,4 @@ loop-preserved c =
     }
 
 pub remove-requires-clause-waits : goal.remove-requires-clause-waits
-remove-requires-clause-waits c = λ h stands. ap (λ fs. holds fs h.slot) c.loop.invariant.idle
+remove-requires-clause-waits c = λ h stands. ap (λ fs. is_outstanding fs h.slot) c.loop.invariant.idle

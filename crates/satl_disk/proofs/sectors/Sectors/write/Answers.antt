@@ -1,5 +1,5 @@
 use Rattle.std.proofs.Common.{arith, ap, ◌∙◌, length}
-use Rattle.satl_disk.specs.Sectors.{Sector, written}
+use Rattle.satl_disk.specs.Sectors.{Sector, written_sector}
 use Rattle.satl_disk.proofs.InsideLemmas.{size_is, write_is}
 use Rattle.satl_disk.proofs.SectorsLemmas.{changed_at-length, changed_none}
 use Rattle.satl_disk.proofs.sectors.Sectors.write.Goals as goal
@@ -11,9 +11,9 @@ returns-then-place-len-clause-value c =
     c.index_mut.result.now c.overwrite.new.self c.index_mut.ensures.value c.overwrite.ensures c.at.ensures c.write.ensures c.set.ensures
 
 pub returns-then-place-len-clause-size : goal.returns-then-place-len-clause-size
-returns-then-place-len-clause-size c = ap length (returns-then-place-len-clause-value c) ∙ changed_at-length (λ (s : Sector). written s c.args.block.now c.args.cached) c.args.self.now c.args.place
+returns-then-place-len-clause-size c = ap length (returns-then-place-len-clause-value c) ∙ changed_at-length (λ (s : Sector). written_sector s c.args.block.now c.args.cached) c.args.self.now c.args.place
 
 pub returns-else-place-len-clause-value : goal.returns-else-place-len-clause-value
 returns-else-place-len-clause-value c =
     let i = c.self.inside in
-    changed_none (λ (s : Sector). written s c.args.block.now c.args.cached) c.args.self.now c.args.place (omega (arith, i.flaws.ok.0, size_is i.blocks i.stables i.flaws.items c.args.self.now c.self.view_is c.self.invariant))
+    changed_none (λ (s : Sector). written_sector s c.args.block.now c.args.cached) c.args.self.now c.args.place (omega (arith, i.flaws.ok.0, size_is i.blocks i.stables i.flaws.items c.args.self.now c.self.view_is c.self.invariant))
