@@ -15,7 +15,6 @@ use Rattle.satl_base.specs.Blocks.{is_used}
 use Rattle.satl_identify.specs.declared.identity.Identity.{Identity}
 use Rattle.satl_identify.specs.Refusals.{IsIdentity}
 use Rattle.satl_identify.proofs.Judging.{capacity_bounds}
-use Rattle.satl_regs.specs.Trim as trims
 use Rattle.satl_regs.specs.Trim.{IsTrimList, IsTrimmable, addresses, entries, split, trim_block, trimmed}
 use Rattle.satl_regs.specs.Effects.{payload_ranges}
 use Rattle.satl_regs.proofs.Addresses.{addresses-entries}

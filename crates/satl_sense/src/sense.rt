@@ -3,14 +3,14 @@
 /// The registers that an ATA command ended with (SAT-3 12.2.2.6, ATA Status Return).
 #[derive(Clone, Copy, Debug, PartialEq, Eq)]
 pub struct AtaReturn {
+    /// The LBA registers at the end, 48 bits. The widest field stands first, which makes sense data 8 bytes smaller.
+    pub lba: u64,
+    /// The COUNT register at the end, 16 bits.
+    pub count: u16,
     /// EXTEND: the command had 48-bit registers.
     pub extend: bool,
     /// The ERROR register at the end.
     pub error: u8,
-    /// The COUNT register at the end, 16 bits.
-    pub count: u16,
-    /// 48 bits.
-    pub lba: u64,
     /// The DEVICE register at the end.
     pub device: u8,
     /// The STATUS register at the end.
