@@ -10,7 +10,7 @@ use Rattle.std.proofs.lemmas.List.{get_or-set_same, get_or-set_other, append-nil
 use Rattle.std.proofs.lemmas.List.Folds.{list_any-append}
 use Rattle.std.proofs.lemmas.Nat.Bits.{bit_at_set_same, bit_at_set_other, bit_at_clear_same, bit_at_clear_other, same_from_bits_below, bit_at-zero}
 use Rattle.satl_line.specs.Conflict.{Access, accesses_conflict}
-use Rattle.satl_line.specs.Layout.{SlotAccess, is_marked, IsMask, HaveMasks, clear_bit, cleared}
+use Rattle.satl_line.specs.Layout.{SlotAccess, is_marked, IsMask, HaveMasks, clear_bit, cleared, with_slot}
 
 abbrev pub bit : Bool → ℕ
 bit b = if b then 1 else 0
@@ -170,7 +170,7 @@ unstruck (u ∷ us) s small h =
     here true d e k = k
     here false d e k = absurd cc
 
-bit_is_zero : (b : Bool) → bit b ≡ 0 → b ≡ false
+pub bit_is_zero : (b : Bool) → bit b ≡ 0 → b ≡ false
 bit_is_zero true h = absurd (omega arith)
 bit_is_zero false h = refl
 
@@ -183,3 +183,13 @@ zero_mask earlier s mask small h fits =
           cc)
       | false ↦ λ e. eq-eqb mask 0 (same_from_bits_below 64 mask 0 fits (omega arith) (λ q lt. h q lt ∙ ap bit (unmarked earlier s e q) ∙ sym (bit_at-zero q)))
     ]) refl
+
+-- ---- a slot that is noted where it is to be
+
+pub with_slot_here : (noted : Bool) (s number : ℕ) → s < 64 → bit_at number s ≡ 0 → bit_at (with_slot noted s number) s ≡ bit noted
+with_slot_here true s number small vacant = bit_at_set_same w64 number s small
+with_slot_here false s number small vacant = vacant
+
+pub with_slot_other : (noted : Bool) (s number q : ℕ) → s < 64 → (q == s) ≡ false → bit_at (with_slot noted s number) q ≡ bit_at number q
+with_slot_other true s number q small other = bit_at_set_other w64 number s small q (eqb-false q s other)
+with_slot_other false s number q small other = refl

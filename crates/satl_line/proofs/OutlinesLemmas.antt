@@ -13,7 +13,7 @@ use Rattle.satl_line.specs.Blank.{no_entry}
 use Rattle.satl_line.specs.Conflict.{accesses_conflict, any_meet, conflicts, is_alone, is_write, ranges_meet}
 use Rattle.satl_line.specs.Tasks.{is_named}
 use Rattle.satl_line.specs.Layout.{held_in, tasks_in}
-use Rattle.satl_line.specs.Outlines.{IsOutline, LiesIn, Widens, is_of_name, may_meet, outline_in, outlines_in, spans_meet}
+use Rattle.satl_line.specs.Outlines.{IsOutline, LiesIn, Widens, is_active, is_of_name, may_meet, outline_in, outlines_in, spans_meet}
 
 -- ---- spans
 
@@ -86,6 +86,22 @@ told_by_outlines a b o p is is' =
     (subst (λ (w : Bool). ((is_alone a.kind a.ordered || is_alone b.kind b.ordered) || (((is_write a.kind || w) && spans_meet o.span p.span) && conflicts a b)) ≡ conflicts a b) (sym is'.write)
     (decided (is_alone a.kind a.ordered) (is_alone b.kind b.ordered) (is_write a.kind || is_write b.kind) (spans_meet o.span p.span) (any_meet a.ranges.items b.ranges.items)
     (λ apart. lists_apart o.span p.span is.small is'.small apart a.ranges.items b.ranges.items is.within is'.within)))))
+
+quiet_both : (x y w v m : Bool) → (x || w) ≡ false → (y || v) ≡ false → (x || y || ((w || v) && m)) ≡ false
+quiet_both true y w v m h k = absurd cc
+quiet_both false true w v m h k = absurd cc
+quiet_both false false true v m h k = absurd cc
+quiet_both false false false true m h k = absurd cc
+quiet_both false false false false m h k = refl
+
+-- tasks that neither write nor stand alone do not conflict
+pub apart_where_quiet : (a b : Entry) (o p : Outline) → IsOutline a o → IsOutline b p → is_active o ≡ false → is_active p ≡ false → conflicts a b ≡ false
+unfolding accesses_conflict
+apart_where_quiet a b o p is is' quiet quiet' =
+    quiet_both (is_alone a.kind a.ordered) (is_alone b.kind b.ordered) (is_write a.kind) (is_write b.kind) (any_meet a.ranges.items b.ranges.items) (told a o is quiet) (told b p is' quiet')
+  where
+    told : (a : Entry) (o : Outline) → IsOutline a o → is_active o ≡ false → (is_alone a.kind a.ordered || is_write a.kind) ≡ false
+    told a o is quiet = ap (λ x. x || is_write a.kind) (sym is.alone) ∙ ap (λ w. o.alone || w) (sym is.write) ∙ quiet
 
 -- ---- names
 

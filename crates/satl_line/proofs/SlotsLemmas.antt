@@ -5,24 +5,24 @@ use Rattle.std.specs.Option.{option_map}
 use Rattle.std.specs.List.{list_any, AllByRecursion, remove, position_from}
 use Rattle.std.specs.Int.Bits.{and_zero_l}
 use Rattle.std.specs.Int.{bit_at, bit_not, w64}
-use Rattle.std.proofs.lemmas.Nat.Bits.{bit_at_set_same, bit_at_set_other}
-use Rattle.satl_base.proofs.ListsLemmas.{All-weaken}
+use Rattle.std.proofs.lemmas.Nat.Bits.{bit_at_set_same, bit_at_set_other, bit_at_clear_same, bit_at_clear_other, bit_at-zero}
+use Rattle.satl_base.proofs.ListsLemmas.{All-both, All-weaken}
 use Rattle.satl_base.specs.declared.block.Block.{Block}
 use Rattle.std.proofs.Math.ListN.{length-set, get_or-map}
 use Rattle.std.proofs.Math.Seq.{take-suc}
 use Rattle.std.proofs.lemmas.Option.{slice_get-get_or, slice_get_past}
-use Rattle.std.proofs.lemmas.Bool.{eq-eqb, eqb-true, eqb-false, ltb-true, ltb-false, lt-ltb, le-ltb, and_right, ne_eqb}
+use Rattle.std.proofs.lemmas.Bool.{eq-eqb, eqb-true, eqb-false, ltb-true, ltb-false, lt-ltb, le-ltb, and_right, ne_eqb, or_from}
 use Rattle.std.proofs.lemmas.List.{get_or-set_same, get_or-set_other, length-append, length-map, map-append, append-nil, get_or_default}
 use Rattle.satl_line.specs.declared.entry.Entry.{Entry}
 use Rattle.satl_line.specs.declared.outline.Outline.{Outline}
 use Rattle.satl_line.specs.Blank.{no_entry}
-use Rattle.satl_line.specs.Outlines.{IsOutline, no_outline, outline_in}
+use Rattle.satl_line.specs.Outlines.{IsOutline, is_active, no_outline, outline_in}
 use Rattle.satl_line.specs.Conflict.{access_of, accesses_conflict, conflicts}
 use Rattle.satl_line.specs.Eligible.{eligible_at, is_clear_by}
 use Rattle.satl_line.specs.Tasks.{AreOwnSlots, AreMasks, is_barred_from, entries_of, Held, count_of, slots_of, total_blocks, entry_at, Adds, with_body, change_task}
-use Rattle.satl_line.specs.Layout.{SlotAccess, mark_of, is_marked, IsMask, HaveMasks, IsMasked, clear_bit, cleared, held_in, tasks_in, FitTogether, is_unbarred_at}
-use Rattle.satl_line.proofs.OutlinesLemmas.{EachIs, outline_with}
-use Rattle.satl_line.proofs.MasksLemmas.{bit, HasNot, AreSmall, is_struck, zero_mask, are_removed, are_added, get_or-cleared, mask_more_yes, mask_more_no}
+use Rattle.satl_line.specs.Layout.{SlotAccess, mark_of, is_marked, IsMask, HaveMasks, IsMasked, clear_bit, cleared, held_in, tasks_in, AreNoted, IsNoted, with_slot, FitTogether, is_unbarred_at}
+use Rattle.satl_line.proofs.OutlinesLemmas.{EachIs, apart_where_quiet, outline_with}
+use Rattle.satl_line.proofs.MasksLemmas.{bit, bit_is_zero, with_slot_here, with_slot_other, unmarked, HasNot, AreSmall, is_struck, zero_mask, are_removed, are_added, get_or-cleared, mask_more_yes, mask_more_no}
 
 -- ---- counts
 
@@ -32,6 +32,9 @@ count-append q (x ∷ xs) ys = omega (arith, count-append q xs ys)
 
 pub count_one : (q : ℕ) → count_of q (q ∷ []) ≡ 1
 count_one q = rw (eq-eqb q q refl) (omega arith)
+
+count_of-first : (q : ℕ) (qs : List ℕ) → count_of q (q ∷ qs) ≡ 1 + count_of q qs
+count_of-first q qs = rw (eq-eqb q q refl) (omega arith)
 
 pub count_other : (q s : ℕ) → (q == s) ≡ false → count_of q (s ∷ []) ≡ 0
 count_other q s other =
@@ -157,22 +160,68 @@ eligible_is slots order seen masks tasks k same is taken are fits lt =
     ∙ eligible_from [] tasks masks k tt (subst (λ l. AreSmall (map mark_of l)) is (are_small slots order taken)) (subst (λ l. HaveMasks [] (map mark_of l) masks) is are.full)
     (subst (λ l. get_or masks (get_or l k 0) 0 < 2 ^ 64) seen_is fits) lt
 
+-- ---- the slots whose task writes or stands alone
+
+-- the bits of the other slots stay as a slot is left
+noted_without : (outlines : List Outline) (front : List ℕ) (s : ℕ) (back free : List ℕ) (active : ℕ) → s < 64 → count_of s front ≡ 0 → count_of s back ≡ 0 → count_of s free ≡ 0 → AllByRecursion (λ q. q < 64) (front ++ s ∷ back) → AllByRecursion (λ q. q < 64) free → AreNoted outlines (front ++ s ∷ back) free active →
+    AreNoted outlines (front ++ back) (free ++ s ∷ []) (clear_bit s active)
+noted_without outlines front s back free active small no_front no_back no_free are_small free_small h = record {
+  held = All-append (IsNoted outlines (clear_bit s active)) front back
+      (others (λ q. bit (is_active (outline_in outlines q))) front no_front (All-left (λ q. q < 64) front (s ∷ back) are_small) (All-left (IsNoted outlines active) front (s ∷ back) h.held))
+      (others (λ q. bit (is_active (outline_in outlines q))) back no_back (All-right (λ q. q < 64) front (s ∷ back) are_small).1 (All-right (IsNoted outlines active) front (s ∷ back) h.held).1);
+  vacant = All-append (λ q. bit_at (clear_bit s active) q ≡ 0) free (s ∷ []) (others (λ q. 0) free no_free free_small h.vacant) (bit_at_clear_same w64 active s small, tt);
+}
+  where
+    others : (f : ℕ → ℕ) (qs : List ℕ) → count_of s qs ≡ 0 → AllByRecursion (λ q. q < 64) qs → AllByRecursion (λ q. bit_at active q ≡ f q) qs → AllByRecursion (λ q. bit_at (clear_bit s active) q ≡ f q) qs
+    others f qs none are_small are =
+        All-other (λ q. (q < 64) × (bit_at active q ≡ f q)) (λ q. bit_at (clear_bit s active) q ≡ f q) s
+        (λ q other is. bit_at_clear_other w64 active s small q is.0 (eqb-false q s other) ∙ is.1)
+        qs none (All-both (λ q. q < 64) (λ q. bit_at active q ≡ f q) qs are_small are)
+
+-- and as one is taken, whose own bit is told by the new outline
+noted_with : (outlines : List Outline) (order free : List ℕ) (s active : ℕ) (o : Outline) → s < 64 → s < length outlines → count_of s order ≡ 0 → count_of s free ≡ 0 → AreNoted outlines order (free ++ s ∷ []) active →
+    AreNoted (set outlines s o) (order ++ s ∷ []) free (with_slot (is_active o) s active)
+noted_with outlines order free s active o small within no_order no_free h = record {
+  held = All-append (IsNoted (set outlines s o) (with_slot (is_active o) s active)) order (s ∷ [])
+      (All-other (IsNoted outlines active) (IsNoted (set outlines s o) (with_slot (is_active o) s active)) s
+      (λ q other is. with_slot_other (is_active o) s active q small other ∙ is ∙ ap (λ p. bit (is_active p)) (sym (get_or-set_other outlines s q o no_outline (eqb-false q s other))))
+      order no_order h.held)
+      (with_slot_here (is_active o) s active small (All-right (λ q. bit_at active q ≡ 0) free (s ∷ []) h.vacant).0 ∙ ap (λ p. bit (is_active p)) (sym (get_or-set_same outlines s o no_outline within)), tt);
+  vacant = All-other (λ q. bit_at active q ≡ 0) (λ q. bit_at (with_slot (is_active o) s active) q ≡ 0) s
+      (λ q other is. with_slot_other (is_active o) s active q small other ∙ is)
+      free no_free (All-left (λ q. bit_at active q ≡ 0) free (s ∷ []) h.vacant);
+}
+
+-- where no task writes or stands alone, none conflicts with one that does neither
+pub none_conflicts : (slots : List Entry) (outlines : List Outline) (order free : List ℕ) (active : ℕ) (tasks : List Held) (e : Entry) (o : Outline) → EachIs slots outlines order → AreNoted outlines order free active → tasks_in slots order ≡ tasks → active ≡ 0 → IsOutline e o → is_active o ≡ false →
+    IsMask (map mark_of tasks) (access_of e) 0
+none_conflicts slots outlines order free active tasks e o each noted is zero_is own quiet =
+    subst (λ l. IsMask (map mark_of l) (access_of e) 0) is
+    (λ q lt. bit_at-zero q ∙ ap bit (sym (unmarked (map mark_of (tasks_in slots order)) (access_of e) (none order each (subst (λ n. AreNoted outlines order free n) zero_is noted).held) q)))
+  where
+    none : (qs : List ℕ) → EachIs slots outlines qs → AllByRecursion (IsNoted outlines 0) qs → is_struck (map mark_of (tasks_in slots qs)) (access_of e) ≡ false
+    none [] are is = refl
+    none (q ∷ qs) are is =
+        or_from (conflicts (get_or slots q no_entry) e) (is_struck (map mark_of (tasks_in slots qs)) (access_of e))
+        (apart_where_quiet (get_or slots q no_entry) e (outline_in outlines q) o are.0 own (bit_is_zero (is_active (outline_in outlines q)) (sym is.0 ∙ bit_at-zero q)) quiet)
+        (none qs are.1 is.1)
+
 -- ---- a task leaves
 
 -- the counts of the slot of a task
-alone : (slots : List Entry) (outlines : List Outline) (front : List ℕ) (s : ℕ) (back free masks : List ℕ) (blocks : ℕ) → FitTogether slots outlines (front ++ s ∷ back) free masks blocks → s < 64 → (count_of s front ≡ 0) × (count_of s back ≡ 0)
-alone slots outlines front s back free masks blocks h small =
+alone : (slots : List Entry) (outlines : List Outline) (front : List ℕ) (s : ℕ) (back free masks : List ℕ) (blocks active : ℕ) → FitTogether slots outlines (front ++ s ∷ back) free masks blocks active → s < 64 → (count_of s front ≡ 0) × (count_of s back ≡ 0)
+alone slots outlines front s back free masks blocks active h small =
     let e = count-append s front (s ∷ back) in
     let o = h.once s small in
     let one : count_of s (s ∷ back) ≡ 1 + count_of s back = rw (eq-eqb s s refl) (omega arith) in
     (omega (arith, e, o, one), omega (arith, e, o, one))
 
-pub sound_without : (slots : List Entry) (outlines : List Outline) (front : List ℕ) (s : ℕ) (back free masks : List ℕ) (blocks : ℕ) (e other : Entry) → FitTogether slots outlines (front ++ s ∷ back) free masks blocks → get_or slots s no_entry ≡ e →
-    FitTogether (set slots s other) outlines (front ++ back) (free ++ s ∷ []) (cleared masks s) (blocks - e.blocks)
+pub sound_without : (slots : List Entry) (outlines : List Outline) (front : List ℕ) (s : ℕ) (back free masks : List ℕ) (blocks active : ℕ) (e other : Entry) → FitTogether slots outlines (front ++ s ∷ back) free masks blocks active → get_or slots s no_entry ≡ e →
+    FitTogether (set slots s other) outlines (front ++ back) (free ++ s ∷ []) (cleared masks s) (blocks - e.blocks) (clear_bit s active)
     × (tasks_in (set slots s other) (front ++ back) ≡ tasks_in slots (front ++ back)) × (e.blocks ≤ blocks)
-sound_without slots outlines front s back free masks blocks e other h is =
+sound_without slots outlines front s back free masks blocks active e other h is =
     let at : s < 64 = (All-right (λ q. q < 64) front (s ∷ back) h.taken).0 in
-    let out = alone slots outlines front s back free masks blocks h at in
+    let out = alone slots outlines front s back free masks blocks active h at in
     let none : count_of s (front ++ back) ≡ 0 = omega (arith, count-append s front back, out.0, out.1) in
     let same : tasks_in (set slots s other) (front ++ back) ≡ tasks_in slots (front ++ back) = tasks_set_other slots s other (front ++ back) none in
     let taken : AllByRecursion (λ q. q < 64) (front ++ back) = All-append (λ q. q < 64) front back (All-left (λ q. q < 64) front (s ∷ back) h.taken) (All-right (λ q. q < 64) front (s ∷ back) h.taken).1 in
@@ -205,6 +254,7 @@ sound_without slots outlines front s back free masks blocks e other h is =
         };
         total = ap total_blocks same ∙ omega (arith, blocks_is);
         few = omega (arith, h.few);
+        noted = noted_without outlines front s back free active at out.0 out.1 (omega (arith, h.once s at, count-append s front (s ∷ back), count_of-first s back)) h.taken h.small h.noted;
       },
       same,
       omega (arith, blocks_is),
@@ -229,10 +279,10 @@ sound_without slots outlines front s back free masks blocks e other h is =
 
 -- ---- a task comes
 
-pub sound_with : (slots : List Entry) (outlines : List Outline) (order free : List ℕ) (s : ℕ) (masks : List ℕ) (blocks mask : ℕ) (e : Entry) (o : Outline) → IsOutline e o → FitTogether slots outlines order (free ++ s ∷ []) masks blocks → blocks + e.blocks ≤ 32768 → IsMask (map mark_of (tasks_in slots order)) (access_of e) mask →
-    FitTogether (set slots s e) (set outlines s o) (order ++ s ∷ []) free (set masks s mask) (blocks + e.blocks)
+pub sound_with : (slots : List Entry) (outlines : List Outline) (order free : List ℕ) (s : ℕ) (masks : List ℕ) (blocks active mask : ℕ) (e : Entry) (o : Outline) → IsOutline e o → FitTogether slots outlines order (free ++ s ∷ []) masks blocks active → blocks + e.blocks ≤ 32768 → IsMask (map mark_of (tasks_in slots order)) (access_of e) mask →
+    FitTogether (set slots s e) (set outlines s o) (order ++ s ∷ []) free (set masks s mask) (blocks + e.blocks) (with_slot (is_active o) s active)
     × (tasks_in (set slots s e) (order ++ s ∷ []) ≡ tasks_in slots order ++ record { slot = s; entry = e } ∷ []) × (s < 64) × (count_of s order ≡ 0)
-sound_with slots outlines order free s masks blocks mask e o own h fits is =
+sound_with slots outlines order free s masks blocks active mask e o own h fits is =
     let small : s < 64 = (All-right (λ q. q < 64) free (s ∷ []) h.small).0 in
     let none : count_of s order ≡ 0 = omega (arith, h.once s small, count-append s free (s ∷ []), count_one s) in
     let here : get_or (set slots s e) s no_entry ≡ e = get_or-set_same slots s e no_entry (omega (arith, h.room)) in
@@ -264,6 +314,7 @@ sound_with slots outlines order free s masks blocks mask e o own h fits is =
         };
         total = ap total_blocks tasks ∙ omega (arith, total-append (tasks_in slots order) (record { slot = s; entry = e } ∷ []), h.total);
         few = fits;
+        noted = noted_with outlines order free s active o small (omega (arith, h.outlined.room)) none (omega (arith, h.once s small, count-append s free (s ∷ []), count_one s)) h.noted;
       },
       tasks,
       small,
@@ -279,8 +330,8 @@ sound_with slots outlines order free s masks blocks mask e o own h fits is =
 
 -- ---- the steps as the code takes them
 
-pub record Leaves (tasks : List Held) (place : ℕ) (e : Entry) (slots' : List Entry) (outlines : List Outline) (order' free' masks' : List ℕ) (blocks : ℕ) : Type 0 where
-  pub sound : FitTogether slots' outlines order' free' masks' (blocks - e.blocks)
+pub record Leaves (tasks : List Held) (place : ℕ) (e : Entry) (slots' : List Entry) (outlines : List Outline) (order' free' masks' : List ℕ) (blocks active : ℕ) : Type 0 where
+  pub sound : FitTogether slots' outlines order' free' masks' (blocks - e.blocks) active
   pub rest : tasks_in slots' order' ≡ remove tasks place
   pub value : entry_at tasks place ≡ Some e
   pub less : e.blocks ≤ blocks
@@ -293,38 +344,36 @@ entry_at_is slots order place s e lt at is =
     ∙ ap (λ q. Some (get_or slots q no_entry)) (sym at)
     ∙ ap Some is
 
-pub leaves : (slots : List Entry) (outlines : List Outline) (order free masks : List ℕ) (blocks : ℕ) (tasks : List Held) (place s : ℕ) (seen other e : Entry) (order' free' masks' : List ℕ) →
-    FitTogether slots outlines order free masks blocks → tasks_in slots order ≡ tasks → place < length tasks → s ≡ get_or order place s → seen ≡ get_or slots s seen → e ≡ seen →
-    order' ≡ remove order place → free' ≡ free ++ s ∷ [] → masks' ≡ cleared masks s → Leaves tasks place e (set slots s other) outlines order' free' masks' blocks
-leaves slots outlines order free masks blocks tasks place s seen other e order' free' masks' sound is lt at seen_is e_is order_is free_is masks_is =
+pub leaves : (slots : List Entry) (outlines : List Outline) (order free masks : List ℕ) (blocks active : ℕ) (tasks : List Held) (place s : ℕ) (seen other e : Entry) (order' free' masks' : List ℕ) →
+    FitTogether slots outlines order free masks blocks active → tasks_in slots order ≡ tasks → place < length tasks → s ≡ get_or order place s → seen ≡ get_or slots s seen → e ≡ seen →
+    order' ≡ remove order place → free' ≡ free ++ s ∷ [] → masks' ≡ cleared masks s → Leaves tasks place e (set slots s other) outlines order' free' masks' blocks (clear_bit s active)
+leaves slots outlines order free masks blocks active tasks place s seen other e order' free' masks' sound is lt at seen_is e_is order_is free_is masks_is =
     let within : place < length order = omega (arith, length-map order (held_in slots), ap length is) in
     let small : s < 64 = subst (λ q. q < 64) (sym at) (All-at (λ q. q < 64) order place s within sound.taken) in
     let here : get_or slots s no_entry ≡ e = get_or_default slots s no_entry seen (omega (arith, small, sound.room)) ∙ sym seen_is ∙ sym e_is in
     let order_parts : order ≡ take place order ++ s ∷ drop (suc place) order = parted order place s within ∙ ap (λ q. take place order ++ q ∷ drop (suc place) order) (sym at) in
-    let r = sound_without slots outlines (take place order) s (drop (suc place) order) free masks blocks e other (subst (λ l. FitTogether slots outlines l free masks blocks) order_parts sound) here in
+    let r = sound_without slots outlines (take place order) s (drop (suc place) order) free masks blocks active e other (subst (λ l. FitTogether slots outlines l free masks blocks active) order_parts sound) here in
     let tasks_is : tasks_in (set slots s other) (remove order place) ≡ remove tasks place = r.1 ∙ remove-map (held_in slots) order place ∙ ap (λ l. remove l place) is in
     record {
-      sound = subst (λ l. FitTogether (set slots s other) outlines l free' masks' (blocks - e.blocks)) (sym order_is)
-          (subst (λ l. FitTogether (set slots s other) outlines (remove order place) l masks' (blocks - e.blocks)) (sym free_is)
-          (subst (λ l. FitTogether (set slots s other) outlines (remove order place) (free ++ s ∷ []) l (blocks - e.blocks)) (sym masks_is) r.0));
+      sound = subst (λ l. FitTogether (set slots s other) outlines l free' masks' (blocks - e.blocks) (clear_bit s active)) (sym order_is)
+          (subst (λ l. FitTogether (set slots s other) outlines (remove order place) l masks' (blocks - e.blocks) (clear_bit s active)) (sym free_is)
+          (subst (λ l. FitTogether (set slots s other) outlines (remove order place) (free ++ s ∷ []) l (blocks - e.blocks) (clear_bit s active)) (sym masks_is) r.0));
       rest = ap (tasks_in (set slots s other)) order_is ∙ tasks_is;
       value = ap (λ l. entry_at l place) (sym is) ∙ entry_at_is slots order place s e within at here;
       less = r.2;
     }
 
-pub record Comes (old : List Held) (e : Entry) (slots' : List Entry) (outlines : List Outline) (order' free' masks' : List ℕ) (blocks : ℕ) : Type 0 where
-  pub sound : FitTogether slots' outlines order' free' masks' blocks
+pub record Comes (old : List Held) (e : Entry) (slots' : List Entry) (outlines : List Outline) (order' free' masks' : List ℕ) (blocks active : ℕ) : Type 0 where
+  pub sound : FitTogether slots' outlines order' free' masks' blocks active
   pub adds : Adds old e (tasks_in slots' order')
 
-comes : (slots seen : List Entry) (outlines : List Outline) (order seen_order free freed : List ℕ) (s : ℕ) (masks : List ℕ) (blocks mask : ℕ) (e : Entry) (o : Outline) (old : List Held) (order' : List ℕ) → IsOutline e o →
-    FitTogether slots outlines order free masks blocks → tasks_in slots order ≡ old → free ≡ freed ++ s ∷ [] → seen ≡ slots → seen_order ≡ order → IsMask (map mark_of (tasks_in seen seen_order)) (access_of e) mask → order' ≡ order ++ s ∷ [] → blocks + e.blocks ≤ 32768 →
-    Comes old e (set slots s e) (set outlines s o) order' freed (set masks s mask) (blocks + e.blocks)
-comes slots seen outlines order seen_order free freed s masks blocks mask e o old order' own sound is free_is seen_is seen_order_is mask_is order_is fits =
-    let masked : IsMask (map mark_of (tasks_in slots order)) (access_of e) mask
-    = subst (λ l. IsMask (map mark_of (tasks_in slots l)) (access_of e) mask) seen_order_is (subst (λ l. IsMask (map mark_of (tasks_in l seen_order)) (access_of e) mask) seen_is mask_is) in
-    let r = sound_with slots outlines order freed s masks blocks mask e o own (subst (λ l. FitTogether slots outlines order l masks blocks) free_is sound) fits masked in
+comes : (slots : List Entry) (outlines : List Outline) (order free freed : List ℕ) (s : ℕ) (masks : List ℕ) (blocks active mask : ℕ) (e : Entry) (o : Outline) (old : List Held) (order' : List ℕ) → IsOutline e o →
+    FitTogether slots outlines order free masks blocks active → tasks_in slots order ≡ old → free ≡ freed ++ s ∷ [] → IsMask (map mark_of old) (access_of e) mask → order' ≡ order ++ s ∷ [] → blocks + e.blocks ≤ 32768 →
+    Comes old e (set slots s e) (set outlines s o) order' freed (set masks s mask) (blocks + e.blocks) (with_slot (is_active o) s active)
+comes slots outlines order free freed s masks blocks active mask e o old order' own sound is free_is mask_is order_is fits =
+    let r = sound_with slots outlines order freed s masks blocks active mask e o own (subst (λ l. FitTogether slots outlines order l masks blocks active) free_is sound) fits (subst (λ l. IsMask (map mark_of l) (access_of e) mask) (sym is) mask_is) in
     record {
-      sound = subst (λ l. FitTogether (set slots s e) (set outlines s o) l freed (set masks s mask) (blocks + e.blocks)) (sym order_is) r.0;
+      sound = subst (λ l. FitTogether (set slots s e) (set outlines s o) l freed (set masks s mask) (blocks + e.blocks) (with_slot (is_active o) s active)) (sym order_is) r.0;
       adds = record {
         slot = s;
         small = r.2;
@@ -337,14 +386,15 @@ comes slots seen outlines order seen_order free freed s masks blocks mask e o ol
     vacant_is i h = ap (λ l. count_of s (slots_of l)) (sym i) ∙ ap (count_of s) (slots_of_tasks slots order) ∙ h
 
 -- the same where the task is read from one place, and lies in another
-pub comes_from : (slots seen : List Entry) (outlines : List Outline) (order seen_order free freed : List ℕ) (s : ℕ) (masks : List ℕ) (blocks mask : ℕ) (e read put : Entry) (o : Outline) (old : List Held) (order' : List ℕ) → IsOutline read o →
-    FitTogether slots outlines order free masks blocks → tasks_in slots order ≡ old → free ≡ freed ++ s ∷ [] → seen ≡ slots → seen_order ≡ order → IsMask (map mark_of (tasks_in seen seen_order)) (access_of read) mask → order' ≡ order ++ s ∷ [] → blocks + read.blocks ≤ 32768 → read ≡ e → put ≡ e →
-    Comes old e (set slots s put) (set outlines s o) order' freed (set masks s mask) (blocks + read.blocks)
-comes_from slots seen outlines order seen_order free freed s masks blocks mask e read put o old order' own sound is free_is seen_is seen_order_is mask_is order_is fits read_is put_is =
-    subst (λ x. Comes old e (set slots s x) (set outlines s o) order' freed (set masks s mask) (blocks + read.blocks)) (sym put_is)
-    (subst (λ (r : Entry). Comes old e (set slots s e) (set outlines s o) order' freed (set masks s mask) (blocks + r.blocks)) (sym read_is)
-    (comes slots seen outlines order seen_order free freed s masks blocks mask e o old order' (subst (λ (r : Entry). IsOutline r o) read_is own) sound is free_is seen_is seen_order_is
-    (subst (λ (r : Entry). IsMask (map mark_of (tasks_in seen seen_order)) (access_of r) mask) read_is mask_is) order_is (subst (λ (r : Entry). blocks + r.blocks ≤ 32768) read_is fits)))
+pub comes_from : (slots : List Entry) (outlines : List Outline) (order free freed : List ℕ) (s : ℕ) (masks : List ℕ) (blocks active active' mask : ℕ) (e read put : Entry) (o : Outline) (old : List Held) (order' : List ℕ) → IsOutline read o →
+    FitTogether slots outlines order free masks blocks active → tasks_in slots order ≡ old → free ≡ freed ++ s ∷ [] → IsMask (map mark_of old) (access_of read) mask → order' ≡ order ++ s ∷ [] → blocks + read.blocks ≤ 32768 → read ≡ e → put ≡ e → active' ≡ with_slot (is_active o) s active →
+    Comes old e (set slots s put) (set outlines s o) order' freed (set masks s mask) (blocks + read.blocks) active'
+comes_from slots outlines order free freed s masks blocks active active' mask e read put o old order' own sound is free_is mask_is order_is fits read_is put_is active_is =
+    subst (λ n. Comes old e (set slots s put) (set outlines s o) order' freed (set masks s mask) (blocks + read.blocks) n) (sym active_is)
+    (subst (λ x. Comes old e (set slots s x) (set outlines s o) order' freed (set masks s mask) (blocks + read.blocks) (with_slot (is_active o) s active)) (sym put_is)
+    (subst (λ (r : Entry). Comes old e (set slots s e) (set outlines s o) order' freed (set masks s mask) (blocks + r.blocks) (with_slot (is_active o) s active)) (sym read_is)
+    (comes slots outlines order free freed s masks blocks active mask e o old order' (subst (λ (r : Entry). IsOutline r o) read_is own) sound is free_is
+    (subst (λ (r : Entry). IsMask (map mark_of old) (access_of r) mask) read_is mask_is) order_is (subst (λ (r : Entry). blocks + r.blocks ≤ 32768) read_is fits))))
 
 -- one more slot is looked at
 module _ (slots : List Entry) (order : List ℕ) (i : ℕ) (u e : Entry) (mask new : ℕ) (within : i < length order) (is : u ≡ get_or slots (get_or order i 0) no_entry) (so_far : IsMask (map mark_of (tasks_in slots (take i order))) (access_of e) mask) where
@@ -378,9 +428,9 @@ walk_step f xs init i d is lt =
     go (x ∷ xs) (suc i) lt = ap (λ l. f x ∷ l) (go xs i (omega arith))
 
 -- slots with nothing in them
-pub sound_new : (slots : List Entry) (outlines : List Outline) (free masks order : List ℕ) → length outlines ≡ 64 → length slots ≡ 64 → order ≡ [] → masks ≡ replicate 64 0 → length free ≡ 64 → AllByRecursion (λ q. q < 64) free → ((q : ℕ) → q < 64 → count_of q free ≡ 1) → FitTogether slots outlines order free masks 0
+pub sound_new : (slots : List Entry) (outlines : List Outline) (free masks order : List ℕ) → length outlines ≡ 64 → length slots ≡ 64 → order ≡ [] → masks ≡ replicate 64 0 → length free ≡ 64 → AllByRecursion (λ q. q < 64) free → ((q : ℕ) → q < 64 → count_of q free ≡ 1) → FitTogether slots outlines order free masks 0 0
 sound_new slots outlines free masks order wide room none zeros long small once =
-    subst (λ l. FitTogether slots outlines l free masks 0) (sym none) (record {
+    subst (λ l. FitTogether slots outlines l free masks 0 0) (sym none) (record {
       room = room;
       wide = ap length zeros;
       taken = tt;
@@ -391,6 +441,7 @@ sound_new slots outlines free masks order wide room none zeros long small once =
       outlined = record { room = wide; each = tt };
       total = refl;
       few = omega arith;
+      noted = record { held = tt; vacant = All-weaken (λ q. q < 64) (λ q. bit_at 0 q ≡ 0) (λ q lt. bit_at-zero q) free small };
     })
   where
     get_or-replicate_same : (n q : ℕ) → ◌≡◌ {A = ℕ} (get_or {A = ℕ} (replicate {A = ℕ} n 0) q 0) 0
@@ -480,8 +531,8 @@ count_at [] k s lt is = absurd (omega arith)
 count_at (q ∷ qs) zero s lt is = let e = eq-eqb q s is in rw e (omega arith)
 count_at (q ∷ qs) (suc k) s lt is = let r = count_at qs k s (omega arith) is in omega arith
 
-pub record Changes (tasks : List Held) (place : ℕ) (body : List Block) (slots' : List Entry) (outlines : List Outline) (order free masks : List ℕ) (blocks : ℕ) : Type 0 where
-  pub sound : FitTogether slots' outlines order free masks blocks
+pub record Changes (tasks : List Held) (place : ℕ) (body : List Block) (slots' : List Entry) (outlines : List Outline) (order free masks : List ℕ) (blocks active : ℕ) : Type 0 where
+  pub sound : FitTogether slots' outlines order free masks blocks active
   pub rest : tasks_in slots' order ≡ change_task (with_body body) tasks place
 
 module _ (slots : List Entry) (s : ℕ) (body : List Block) (within : s < length slots) where
@@ -534,15 +585,15 @@ module _ (slots : List Entry) (s : ℕ) (body : List Block) (within : s < length
       apart : (q n : ℕ) → (if q == s then 1 else 0) + n ≤ 1 → 1 ≤ n → ((q == s) ≡ false) × (n ≤ 1)
       apart q n h some = (elim (q == s) as (λ b. (if b then 1 else 0) + n ≤ 1 → (b ≡ false) × (n ≤ 1)) [ true ↦ λ e. absurd (omega arith) | false ↦ λ e. (refl, omega arith) ]) h
 
-pub changes : (slots : List Entry) (outlines : List Outline) (order free masks : List ℕ) (blocks : ℕ) (tasks : List Held) (place : ℕ) (seen : List ℕ) (body : List Block) (slots' : List Entry) → FitTogether slots outlines order free masks blocks → tasks_in slots order ≡ tasks → place < length tasks → seen ≡ order →
-    slots' ≡ set slots (get_or seen place 0) (with_body body (held_in slots (get_or seen place 0))).entry → Changes tasks place body slots' outlines order free masks blocks
-changes slots outlines order free masks blocks tasks place seen body slots' sound is lt same slots_is =
+pub changes : (slots : List Entry) (outlines : List Outline) (order free masks : List ℕ) (blocks active : ℕ) (tasks : List Held) (place : ℕ) (seen : List ℕ) (body : List Block) (slots' : List Entry) → FitTogether slots outlines order free masks blocks active → tasks_in slots order ≡ tasks → place < length tasks → seen ≡ order →
+    slots' ≡ set slots (get_or seen place 0) (with_body body (held_in slots (get_or seen place 0))).entry → Changes tasks place body slots' outlines order free masks blocks active
+changes slots outlines order free masks blocks active tasks place seen body slots' sound is lt same slots_is =
     let s : ℕ = get_or order place 0 in
     let within : place < length order = omega (arith, length-map order (held_in slots), ap length is) in
     let small : s < 64 = All-at (λ q. q < 64) order place 0 within sound.taken in
     let room : s < length slots = omega (arith, small, sound.room) in
     let slots_are : slots' ≡ changed slots s body room = slots_is ∙ ap (λ l. set slots (get_or l place 0) (with_body body (held_in slots (get_or l place 0))).entry) same in
-    let new_sound : FitTogether (changed slots s body room) outlines order free masks blocks = record {
+    let new_sound : FitTogether (changed slots s body room) outlines order free masks blocks active = record {
       room = length-set slots s (with_body body (held_in slots s)).entry ∙ sound.room;
       wide = sound.wide;
       taken = sound.taken;
@@ -560,10 +611,11 @@ changes slots outlines order free masks blocks tasks place seen body slots' soun
       };
       total = blocks_same slots s body room order ∙ sound.total;
       few = sound.few;
+      noted = sound.noted;
     } in
     let once : count_of s order ≤ 1 = omega (arith, sound.once s small) in
     record {
-      sound = subst (λ l. FitTogether l outlines order free masks blocks) (sym slots_are) new_sound;
+      sound = subst (λ l. FitTogether l outlines order free masks blocks active) (sym slots_are) new_sound;
       rest = ap (λ l. tasks_in l order) slots_are ∙ change_is slots s body room order place within once refl ∙ ap (λ l. change_task (with_body body) l place) is;
     }
 
@@ -576,9 +628,9 @@ body_is slots order tasks place seen taken is lt same taken_is =
     ∙ ap Some (sym taken_is)
 
 -- no other task lies in the slot of a task
-pub slot_alone : (slots : List Entry) (outlines : List Outline) (order free masks : List ℕ) (blocks : ℕ) (tasks : List Held) (place : ℕ) (seen : List ℕ) → FitTogether slots outlines order free masks blocks → tasks_in slots order ≡ tasks → place < length tasks → seen ≡ order →
+pub slot_alone : (slots : List Entry) (outlines : List Outline) (order free masks : List ℕ) (blocks active : ℕ) (tasks : List Held) (place : ℕ) (seen : List ℕ) → FitTogether slots outlines order free masks blocks active → tasks_in slots order ≡ tasks → place < length tasks → seen ≡ order →
     (get_or seen place 0 < 64) × (count_of (get_or seen place 0) (slots_of tasks) ≡ 1)
-slot_alone slots outlines order free masks blocks tasks place seen sound is lt same =
+slot_alone slots outlines order free masks blocks active tasks place seen sound is lt same =
     let within : place < length order = omega (arith, length-map order (held_in slots), ap length is) in
     let small : get_or order place 0 < 64 = All-at (λ q. q < 64) order place 0 within sound.taken in
     let once = sound.once (get_or order place 0) small in
@@ -604,8 +656,8 @@ own_slots slots (q ∷ qs) once =
     fewer : (s : ℕ) (b : Bool) → (if q == s then 1 else 0) + count_of s qs ≤ 1 → count_of s qs ≤ 1
     fewer s b few = omega (arith, few)
 
-pub own_of : (slots : List Entry) (outlines : List Outline) (order free masks : List ℕ) (blocks : ℕ) (tasks : List Held) → FitTogether slots outlines order free masks blocks → tasks_in slots order ≡ tasks → AreOwnSlots tasks
-own_of slots outlines order free masks blocks tasks sound is =
+pub own_of : (slots : List Entry) (outlines : List Outline) (order free masks : List ℕ) (blocks active : ℕ) (tasks : List Held) → FitTogether slots outlines order free masks blocks active → tasks_in slots order ≡ tasks → AreOwnSlots tasks
+own_of slots outlines order free masks blocks active tasks sound is =
     subst AreOwnSlots is (own_slots slots order (All-weaken (λ s. s < 64) (λ s. count_of s order ≤ 1) (λ s small. omega (arith, sound.once s small)) order sound.taken))
 
 -- ---- the masks of the tasks, place by place

@@ -1,5 +1,5 @@
 -- How a set of tasks lies in memory: slots, the order of arrival, the free slots, and the masks (profile, all of it).
-use Rattle.std.specs.Prelude.{◌≡◌, ℕ, ◌+◌, ◌*◌, ◌%◌, ◌^◌, ◌<◌, ◌≤◌, ◌==◌, Bool, ◌&&◌, if◌then◌else◌, nat_lt, List, [], ◌∷◌, ◌++◌, map, length, slice_index_or, slice_set, bit_and}
+use Rattle.std.specs.Prelude.{◌≡◌, ℕ, ◌+◌, ◌*◌, ◌%◌, ◌^◌, ◌<◌, ◌≤◌, ◌==◌, Bool, ◌&&◌, if◌then◌else◌, nat_lt, List, [], ◌∷◌, ◌++◌, map, length, slice_index_or, slice_set, bit_and, bit_or}
 use Rattle.std.specs.Int.{bit_at, bit_not, w64}
 use Rattle.std.specs.List.{list_any, AllByRecursion}
 use Rattle.satl_base.specs.Limits.{most_held}
@@ -8,7 +8,7 @@ use Rattle.satl_line.specs.Blank.{no_entry}
 use Rattle.satl_line.specs.Conflict.{Access, access_of, accesses_conflict}
 use Rattle.satl_line.specs.Tasks.{Held, count_of, slots_of, total_blocks}
 use Rattle.satl_line.specs.declared.outline.Outline.{Outline}
-use Rattle.satl_line.specs.Outlines.{AreOutlines}
+use Rattle.satl_line.specs.Outlines.{AreOutlines, is_active, outline_in}
 
 -- the task in a slot
 abbrev pub held_in : List Entry → ℕ → Held
@@ -58,9 +58,22 @@ cleared masks slot = slice_set (map (clear_bit slot) masks) slot 0
 abbrev pub is_unbarred_at : List ℕ → List ℕ → ℕ → Bool
 is_unbarred_at masks order place = nat_lt place (length order) && (slice_index_or masks (slice_index_or order place 0) 0 == 0)
 
--- the slots, the outlines of their tasks, the slots that are taken in order of arrival, those that are free, the masks and the
--- number of blocks fit together
-pub record FitTogether (slots : List Entry) (outlines : List Outline) (order free masks : List ℕ) (blocks : ℕ) : Type 0 where
+-- a number, with the bit of a slot where that is to be noted
+abbrev pub with_slot : Bool → ℕ → ℕ → ℕ
+with_slot noted slot number = if noted then bit_or number (1 * 2 ^ slot % 2 ^ 64) else number
+
+-- the bit of a slot says whether its task writes or stands alone
+abbrev pub IsNoted : List Outline → ℕ → ℕ → Type 0
+IsNoted outlines active slot = bit_at active slot ≡ (if is_active (outline_in outlines slot) then 1 else 0)
+
+-- the bits of the slots that are taken say so of their tasks, and those of the free slots are 0
+pub record AreNoted (outlines : List Outline) (order free : List ℕ) (active : ℕ) : Type 0 where
+  pub held : AllByRecursion (IsNoted outlines active) order
+  pub vacant : AllByRecursion (λ slot. bit_at active slot ≡ 0) free
+
+-- the slots, the outlines of their tasks, the slots that are taken in order of arrival, those that are free, the masks, the
+-- number of blocks, and the slots whose task writes or stands alone, as the bits of a number, fit together
+pub record FitTogether (slots : List Entry) (outlines : List Outline) (order free masks : List ℕ) (blocks active : ℕ) : Type 0 where
   pub room : length slots ≡ 64
   pub wide : length masks ≡ 64
   pub taken : AllByRecursion (λ slot. slot < 64) order
@@ -71,3 +84,4 @@ pub record FitTogether (slots : List Entry) (outlines : List Outline) (order fre
   pub outlined : AreOutlines slots outlines order
   pub total : total_blocks (tasks_in slots order) ≡ blocks
   pub few : blocks ≤ most_held
+  pub noted : AreNoted outlines order free active

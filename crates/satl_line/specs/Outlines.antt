@@ -42,6 +42,10 @@ no_outline = record {
   span = record { first = 2 ^ 64 - 1; last = 0 };
 }
 
+-- whether it is the outline of a task that writes or stands alone: two tasks of which neither does so do not conflict
+abbrev pub is_active : Outline → Bool
+is_active outline = outline.alone || outline.write
+
 -- whether one of the two writes, and their spans meet
 abbrev pub may_meet : Outline → Outline → Bool
 may_meet a b = (a.write || b.write) && spans_meet a.span b.span

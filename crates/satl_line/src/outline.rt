@@ -1,7 +1,7 @@
 // What is kept of a task beside it, to be asked before the task itself.
 ghost use Rattle.std.specs.Prelude.{◌≡◌, ◌==◌, ◌&&◌, ◌||◌};
 ghost use Rattle.std.specs.List.{AllByRecursion};
-ghost use Rattle.satl_line.specs.Outlines.{IsOutline, Widens, LiesIn, may_meet, no_outline, spans_meet};
+ghost use Rattle.satl_line.specs.Outlines.{IsOutline, Widens, LiesIn, is_active, may_meet, no_outline, spans_meet};
 
 use crate::conflict::{stands_alone, writes};
 use crate::entry::Entry;
@@ -102,6 +102,13 @@ impl Outline {
         ensures { result ≡ (self.now.nexus == nexus && self.now.tag.0 == tag.0) }
     {
         self.nexus == nexus && self.tag == tag
+    }
+
+    /// Whether the task writes or stands alone. Two tasks of which neither does so do not conflict.
+    pub(crate) fn is_active(&self) -> bool
+        ensures { result ≡ is_active self.now }
+    {
+        self.alone || self.write
     }
 
     /// Whether one of the two is a barrier or ORDERED: then they conflict.

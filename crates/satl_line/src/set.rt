@@ -7,7 +7,7 @@ ghost use Rattle.satl_base.specs.Limits.{most_held, most_tasks};
 ghost use Rattle.satl_line.specs.Conflict.{access_of, conflicts};
 ghost use Rattle.satl_line.specs.Eligible.{eligible_at};
 ghost use Rattle.satl_line.specs.Tasks.{Adds, AreMasks, AreOwnSlots, IsReadyMask, change_task, count_of, entries_of, entry_at, is_named, is_too_much, slots_of, total_blocks, with_body};
-ghost use Rattle.satl_line.specs.Layout.{IsMask, cleared, held_in, is_unbarred_at, mark_of, tasks_in};
+ghost use Rattle.satl_line.specs.Layout.{IsMask, cleared, held_in, is_unbarred_at, mark_of, tasks_in, with_slot};
 ghost use Rattle.satl_line.specs.Outlines.{AreOutlines, IsOutline, is_of_name, no_outline, outline_in, outlines_in};
 
 use crate::boxed::TaskBox;
@@ -37,6 +37,8 @@ pub struct TaskSet {
     free: ArrayVec<u8, 64>,
     masks: [u64; 64],
     blocks: u32,
+    // The slots whose task writes or stands alone, as the bits of a number.
+    active: u64,
 }
 
 impl Model for TaskSet {
@@ -48,7 +50,7 @@ impl Model for TaskSet {
 
     ghost view = { λ s. tasks_in s.slots.items s.order.items };
 
-    ghost invariant = { λ s. FitTogether s.slots.items s.outlines s.order.items s.free.items s.masks s.blocks };
+    ghost invariant = { λ s. FitTogether s.slots.items s.outlines s.order.items s.free.items s.masks s.blocks s.active };
 }
 
 impl TaskSet {
@@ -71,6 +73,7 @@ impl TaskSet {
             free,
             masks: no_masks(),
             blocks: 0,
+            active: 0,
         })
     }
 
@@ -107,12 +110,13 @@ impl TaskSet {
         {
             return Err(TaskSetFull);
         }
+        let outline = Outline::of(entry);
+        let mask = self.mask_for(entry, &outline);
         let Some(slot) = self.free.pop() else {
             unreachable!();
         };
-        let outline = Outline::of(entry);
-        let mask = mask_against(&self.slots, &self.outlines, &self.order, entry, &outline);
         self.masks[slot as usize] = mask;
+        self.active = with_slot(self.active, slot, outline.is_active());
         self.outlines[slot as usize] = outline;
         self.blocks += blocks;
         mem::swap(&mut self.slots[slot as usize], task);
@@ -129,6 +133,7 @@ impl TaskSet {
         let slot = self.order.remove(place);
         mem::swap(&mut self.slots[slot as usize], task);
         clear_slot(&mut self.masks, slot);
+        self.active &= !(1 << slot);
         self.free.push(slot);
         self.blocks -= task.entry().blocks;
     }
@@ -219,6 +224,18 @@ impl TaskSet {
     {
         &self.masks
     }
+
+    /// The slots of the tasks that conflict with a new one, as the bits of a number. Among READs alone, the usual case, no task
+    /// and no outline is looked at.
+    fn mask_for(&self, entry: &Entry, outline: &Outline) -> u64
+        requires { IsOutline entry.now outline.now }
+        ensures { IsMask (map mark_of self.now) (access_of entry.now) result }
+    {
+        if self.active == 0 && !outline.is_active() {
+            return 0;
+        }
+        mask_against(&self.slots, &self.outlines, &self.order, entry, outline)
+    }
 }
 
 fn no_outlines() -> [Outline; 64]
@@ -240,6 +257,14 @@ fn mask_at(masks: &[u64], slot: u8) -> u64
     ensures fits { slice_index masks.now slot < 2 ^ 64 }
 {
     masks[slot as usize]
+}
+
+/// A number with the bit of a slot, where that is to be noted.
+fn with_slot(number: u64, slot: u8, noted: bool) -> u64
+    requires { slot < 64 }
+    ensures { result ≡ with_slot noted slot number }
+{
+    if noted { number | 1 << slot } else { number }
 }
 
 /// The slots of the tasks that conflict with this one, as the bits of a number.
