@@ -8,12 +8,12 @@ use Rattle.satl_step.proofs.TallyLemmas.{depth_covered, stays_on, tallied, tied_
 use Rattle.satl_step.proofs.events.serve_bench.Goals as goal
 
 -- the page of order bytes that came back changes no other part of the layer
-recycled : (g : _) (c : goal.After-recycle g) → c.recycle.new.self ≡ record c.bench.new.self { free = c.recycle.new.self.free; out = c.recycle.new.self.out }
+recycled : (g : _) (c : goal.After-tell_replies g) → c.recycle.new.self ≡ record c.bench.new.self { free = c.recycle.new.self.free; out = c.recycle.new.self.out }
 recycled g c = stays_on c.bench.new.self c.bench.new.self c.recycle.new.self _ _ refl c.recycle.ensures.given
 
 -- nor do the pages of the replies
 told_alone : (g : _) (c : goal.After-tell_replies g) → c.tell_replies.new.satl ≡ record c.bench.new.self { free = c.tell_replies.new.satl.free; out = c.tell_replies.new.satl.out }
-told_alone g c = stays_on c.bench.new.self c.recycle.new.self c.tell_replies.new.satl _ _ (recycled g c.before) c.tell_replies.ensures.stays
+told_alone g c = stays_on c.bench.new.self c.recycle.new.self c.tell_replies.new.satl _ _ (recycled g c) c.tell_replies.ensures.stays
 
 pub returns-clause-done : goal.returns-clause-done
 returns-clause-done g c =
@@ -21,7 +21,7 @@ returns-clause-done g c =
     let d = g.D.Drive.state c.bench.new.drive in
     let stays = told_alone g c in
     let same = view_same c.bench.new.self c.tell_replies.new.satl d stays in
-    let tied = tied_same c.bench.new.self c.recycle.new.self d (recycled g c.before) c.bench.ensures.tied in
+    let tied = tied_same c.bench.new.self c.recycle.new.self d (recycled g c) c.bench.ensures.tied in
     replies_end g.T.Teller.told g.T.Teller.behind (frames.Bench c.args.event) _ _ c.bench.new.replies c.tell_replies.result
     (carried_bench c.args.event _ _ c.bench.new.replies (subst (λ x. Around (Happens c.args.event) s c.bench.new.replies x) (sym same) c.bench.ensures.happens)
     (depth_covered c.args.satl.now c.recycle.new.self c.tell_replies.new.satl (g.D.Drive.state c.args.drive.now) d c.tell_replies.ensures.stays c.bench.ensures.deep (c.see_queue.ensures.deep d tied)))
