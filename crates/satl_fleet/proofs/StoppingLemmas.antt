@@ -1,7 +1,6 @@
 -- What a run of the units is, once it stops, from the magic on.
 use Rattle.std.proofs.Common.{◌≡◌, inl, inr, refl, sym, ap, subst, arith, ◌∙◌, ℕ, List, []}
-use Rattle.std.specs.Prelude.{Option, Result, Ok, Err, IfErr}
-use Rattle.std.specs.Result.{IsErrAnd}
+use Rattle.std.specs.Prelude.{Option}
 use Rattle.std.specs.List.{AllByRecursion}
 use Rattle.satl_io.specs.Known.{Wrote, WrotePart}
 use Rattle.satl_io.proofs.Joined.{Wrote-more, Wrote-none}
@@ -13,18 +12,17 @@ use Rattle.satl_frame.specs.Output.{fault_bytes, out_magic}
 use Rattle.satl_frame.specs.Progress.{ReadTo}
 use Rattle.satl_serve.specs.Forms.{told_of}
 use Rattle.satl_serve.specs.Moments.{SinkState}
-use Rattle.satl_serve.specs.Runs.{input_limit}
+use Rattle.satl_serve.specs.Runs.{ReadBefore, input_limit}
 use Rattle.satl_serve.specs.Stopping.{Tells, TellsStop}
 use Rattle.satl_serve.specs.declared.telling.Form.TheVariants.{Frames}
 use Rattle.satl_serve.proofs.RunLemmas.{read_to}
 use Rattle.satl_step.specs.declared.frames_loop.Stop.{Stop}
 use Rattle.satl_step.specs.declared.frames_loop.Stop.TheVariants as stops
-use Rattle.satl_fleet.specs.Headline.{ReadBefore}
 use Rattle.satl_fleet.specs.Loop.{LoopState, ReachedEnd, Refused, StoppedInRound, StoppedSo}
 use Rattle.satl_fleet.specs.Output.{Round, all_told, frames_of, output}
 use Rattle.satl_fleet.specs.Runs.{HasNoTask}
 use Rattle.satl_fleet.specs.Serving.{Target}
-use Rattle.satl_fleet.specs.Stopping.{RanBefore, RanInPart, RanTo, RanWhole, Spot, StoppedInAnswers, StoppedInFault, StoppedInMagic}
+use Rattle.satl_fleet.specs.Stopping.{RanBefore, RanTo, RanWhole, Spot, StoppedInAnswers, StoppedInFault, StoppedInMagic}
 use Rattle.satl_serve.specs.declared.serving.ServeFault.{ServeFault}
 use Rattle.satl_serve.specs.declared.serving.ServeFault.TheVariants as faults
 use Rattle.satl_fleet.proofs.RunLemmas.{run_none}
@@ -55,7 +53,7 @@ module _ (units : ℕ) (written : Option (List ℕ)) (a : LoopState) (begins : B
       }
 
   module _ (b : LoopState) where
-    read_before : (why : FrameFault) → (r : Refused units why a b) → ReadBefore input_limit a.left b.left (frames_of r.going.rounds) why
+    read_before : (why : FrameFault) → (r : Refused units why a b) → ReadBefore One input_limit a.left b.left (frames_of r.going.rounds) why
     read_before why r = record {
       reader = r.reader;
       mid = r.mid;
@@ -123,8 +121,3 @@ module _ (units : ℕ) (written : Option (List ℕ)) (a : LoopState) (begins : B
 -- nothing was read, and the magic was written in part
 pub in_magic : (units : ℕ) (left written written' : Option (List ℕ)) (t : Target) (calls : ℕ) → AllByRecursion HasNoTask t.units → WrotePart written written' out_magic → StoppedInMagic units (record { left = left; stage = record { target = t; written = written }; calls = calls }) (record { left = left; stage = record { target = t; written = written' }; calls = calls })
 in_magic units left written written' t calls idle part = record { breaks = record { read = refl; part = part }; run = run_none units 0 t.units idle; calls = omega arith }
-
--- a write failed before anything was read
-pub any_write : (limit units : ℕ) (before after : Spot) (r : Result (Unit {0}) ServeFault) (P : ServeFault → Type 0) → IsErrAnd r P → ((e : ServeFault) → P e → e ≡ faults.Write) → RanInPart limit units before after → IfErr r (RanTo limit units before after)
-any_write limit units before after (Ok u) P is same part = tt
-any_write limit units before after (Err e) P is same part = subst (RanTo limit units before after) (sym (same e is)) part

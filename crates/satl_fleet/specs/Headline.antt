@@ -12,13 +12,14 @@ use Rattle.satl_frame.specs.declared.frames.Version.TheVariants.{One}
 use Rattle.satl_frame.specs.Inputs.{NoneEnds}
 use Rattle.satl_frame.specs.Output.{fault_bytes, out_magic}
 use Rattle.satl_frame.specs.Progress.{HasRead, ReadTo}
-use Rattle.satl_frame.specs.Reading.{Blames, Reading}
+use Rattle.satl_frame.specs.Reading.{Reading}
 use Rattle.satl_fleet.specs.Moments.{FleetMoment, Streams, Terms, streams_at, terms}
 use Rattle.satl_fleet.specs.Opening.{IsLeftAlone}
 use Rattle.satl_fleet.specs.Output.{Round, frames_of, output, round_told}
 use Rattle.satl_fleet.specs.Rounds.{calls_for}
 use Rattle.satl_fleet.specs.Runs.{AreServed, AreServedInPart}
 use Rattle.satl_serve.specs.Forms.{told_of}
+use Rattle.satl_serve.specs.Runs.{ReadBefore}
 use Rattle.satl_serve.specs.declared.telling.Form.TheVariants.{Frames}
 use Rattle.satl_serve.specs.declared.serving.ServeFault.{ServeFault}
 use Rattle.satl_serve.specs.declared.serving.ServeFault.TheVariants as faults
@@ -26,16 +27,6 @@ use Rattle.satl_serve.specs.declared.serving.ServeFault.TheVariants as faults
 -- the drives were called once each for their identity, and then as often at most as these frames allow (profile)
 abbrev pub HasFewCalls : List Frame → FleetMoment → FleetMoment → Type 0
 HasFewCalls frames before after = after.calls ≤ before.calls + length before.drives + calls_for (length before.drives) frames
-
--- frames of version 1, none of which is END, were read, and what follows them was refused or not read (profile)
-pub record ReadBefore (limit : ℕ) (left left' : Option (List ℕ)) (fs : List Frame) (why : FrameFault) : Type 0 where
-  pub reader : Reading
-  pub mid : Option (List ℕ)
-  pub limit_is : reader.limit ≡ limit
-  pub newest_is : reader.newest ≡ One
-  pub none_ends : NoneEnds fs
-  pub read : HasRead reader left mid fs
-  pub blames : Blames reader mid left' why
 
 -- ---- what was read and written
 
@@ -50,7 +41,7 @@ pub record IsToldWhole (on : Terms) (before after : Streams) (rounds : List Roun
 
 -- the same of frames none of which is END, and what follows was refused or not read, which was told (profile)
 pub record IsToldBefore (on : Terms) (why : FrameFault) (before after : Streams) (rounds : List Round) : Type 0 where
-  pub read : ReadBefore on.limit before.left after.left (frames_of rounds) why
+  pub read : ReadBefore One on.limit before.left after.left (frames_of rounds) why
   pub wrote : Wrote before.written after.written (output on.units rounds ++ told_of Frames why)
 
 -- nothing was read, and a front of the magic was written (profile)
@@ -76,7 +67,7 @@ pub record BreaksInFault (on : Terms) (before after : Streams) (rounds : List Ro
   pub reason : Reason
   pub offset : ℕ
   pub behind : Option (List ℕ)
-  pub read : ReadBefore on.limit before.left after.left (frames_of rounds) (Bad reason offset)
+  pub read : ReadBefore One on.limit before.left after.left (frames_of rounds) (Bad reason offset)
   pub wrote : Wrote before.written behind (output on.units rounds)
   pub part : WrotePart behind after.written (fault_bytes reason offset)
 

@@ -37,7 +37,7 @@ read_all limit place input rest (Some behind) fs events whole read =
     ap (λ (xs : List ℕ). Some xs) (sym (one_end limit Two input fs events rest behind whole (record { place = place; read = read })).1)
 
 -- no frame of a good input is refused
-never_refused : (limit : ℕ) (left left' : Option (List ℕ)) (events : List Frame) (reason : Reason) (offset : ℕ) (fs : List Frame) (rest : List ℕ) → IsGoodInput limit left fs rest → ReadBefore limit left left' events (Bad reason offset) → ⊥
+never_refused : (limit : ℕ) (left left' : Option (List ℕ)) (events : List Frame) (reason : Reason) (offset : ℕ) (fs : List Frame) (rest : List ℕ) → IsGoodInput limit left fs rest → ReadBefore Two limit left left' events (Bad reason offset) → ⊥
 never_refused limit left left' events reason offset fs rest good n =
     let whole : ReadsToEnd n.reader.limit n.reader.newest good.input fs rest =
     subst (λ (v : Version). ReadsToEnd n.reader.limit v good.input fs rest) (sym n.newest_is) (subst (λ m. ReadsToEnd m Two good.input fs rest) (sym n.limit_is) good.whole) in

@@ -104,7 +104,7 @@ module _ {T : Type 0} (by : T → Answer → List ℕ) (behind : T → Answer �
     told_so = record { requests_are = counted n e.so_far.events e.earlier e.ends e.so_far.requests_are; teller = e.so_far.told_so.teller };
   }
 
-  read_before : (form : Form) (written : Option (List ℕ)) (a b : LoopState T) (why : FrameFault) → Begins form written a → (r : Refused by behind a b why) → ReadBefore input_limit a.left b.left r.going.so_far.events why
+  read_before : (form : Form) (written : Option (List ℕ)) (a b : LoopState T) (why : FrameFault) → Begins form written a → (r : Refused by behind a b why) → ReadBefore Two input_limit a.left b.left r.going.so_far.events why
   read_before form written a b why begins r =
       let given = r.going.so_far.given in
       record {

@@ -142,10 +142,10 @@ module _ (form : Form) (limit : ℕ) (before after : Moment) (mid : DriveState) 
   stops faults.Read r = serves_before ReadFault r
   stops faults.Write r = serves_part r
 
--- a write failed before anything was read
-pub any_write : {A : Type 0} (form : Form) (limit : ℕ) (before after : Spot) (r : Result A ServeFault) (P : ServeFault → Type 0) → IsErrAnd r P → ((e : ServeFault) → P e → e ≡ faults.Write) → RanInPart form limit before after → IfErr r (RanTo form limit before after)
-any_write form limit before after (Ok u) P is same part = tt
-any_write form limit before after (Err e) P is same part = subst (RanTo form limit before after) (sym (same e is)) part
+-- what holds of a write that failed holds of a result that has no other fault
+pub any_write : {A : Type 0} (Holds : ServeFault → Type 0) (r : Result A ServeFault) (P : ServeFault → Type 0) → IsErrAnd r P → ((e : ServeFault) → P e → e ≡ faults.Write) → Holds faults.Write → IfErr r Holds
+any_write Holds (Ok u) P is same held = tt
+any_write Holds (Err e) P is same held = subst Holds (sym (same e is)) held
 
 -- what was served up to END has totals, whether they were counted or not
 pub with_totals : (form : Form) (limit : ℕ) (before after : Moment) → IsServedToEnd form limit before after → (summary : Summary) × IsServedWhole form limit summary before after

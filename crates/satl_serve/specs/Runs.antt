@@ -9,6 +9,7 @@ use Rattle.satl_frame.specs.declared.frames.FrameFault.{FrameFault}
 use Rattle.satl_frame.specs.declared.frames.FrameFault.TheVariants.{Bad}
 use Rattle.satl_frame.specs.declared.frames.Place.{Place}
 use Rattle.satl_frame.specs.declared.frames.Reason.{Reason}
+use Rattle.satl_frame.specs.declared.frames.Version.{Version}
 use Rattle.satl_frame.specs.declared.frames.Version.TheVariants.{Two}
 use Rattle.satl_frame.specs.Inputs.{NoneEnds}
 use Rattle.satl_frame.specs.Output.{Answer}
@@ -70,12 +71,14 @@ pub record Serves (Run : Spot → Spot → Type 0) (before after : Moment) : Typ
   pub ends : IsLeftAs last after.drive
   pub queue : KeepsQueue last after.drive
 
--- frames, none of which is END, were read, and what follows them was refused or not read (profile)
-pub record ReadBefore (limit : ℕ) (left left' : Option (List ℕ)) (events : List Frame) (why : FrameFault) : Type 0 where
+-- frames of a version up to the newest one, none of which is END, were read, and what follows them was refused or not read
+-- (profile)
+pub record ReadBefore (newest : Version) (limit : ℕ) (left left' : Option (List ℕ)) (events : List Frame)
+    (why : FrameFault) : Type 0 where
   pub reader : Reading
   pub mid : Option (List ℕ)
   pub limit_is : reader.limit ≡ limit
-  pub newest_is : reader.newest ≡ Two
+  pub newest_is : reader.newest ≡ newest
   pub none_ends : NoneEnds events
   pub read : HasRead reader left mid events
   pub blames : Blames reader mid left' why
@@ -96,7 +99,7 @@ pub record RanWhole (form : Form) (limit : ℕ) (before after : Spot) : Type 0 w
 pub record RanBefore (form : Form) (limit : ℕ) (why : FrameFault) (before after : Spot) : Type 0 where
   pub events : List Frame
   pub groups : List (List Answer)
-  pub read : ReadBefore limit before.left after.left events why
+  pub read : ReadBefore Two limit before.left after.left events why
   pub wrote : Wrote before.written after.written (output form (joined groups) ++ told_of form why)
   pub run : RunSoFar before.stand after.stand events groups
 
@@ -131,7 +134,7 @@ pub record BrokeInFault (form : Form) (limit : ℕ) (before after : Spot) : Type
   pub reason : Reason
   pub offset : ℕ
   pub behind : Option (List ℕ)
-  pub read : ReadBefore limit before.left after.left events (Bad reason offset)
+  pub read : ReadBefore Two limit before.left after.left events (Bad reason offset)
   pub wrote : Wrote before.written behind (output form (joined groups))
   pub part : WrotePart behind after.written (fault_told form reason offset)
   pub run : RunSoFar before.stand after.stand events groups

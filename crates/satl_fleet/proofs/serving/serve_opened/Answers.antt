@@ -3,16 +3,18 @@ use Rattle.satl_frame.specs.Reading.{Reading}
 use Rattle.satl_serve.specs.Moments.{sink_state, source_state}
 use Rattle.satl_serve.specs.declared.telling.Form.TheVariants.{Frames}
 use Rattle.satl_serve.proofs.RunLemmas.{stop_cause}
+use Rattle.satl_serve.proofs.ServingLemmas.{any_write}
 use Rattle.satl_fleet.specs.Loop.{loop_state}
 use Rattle.satl_fleet.specs.Rounds.{stage}
+use Rattle.satl_fleet.specs.Stopping.{RanTo}
 use Rattle.satl_fleet.specs.Serving.{target}
-use Rattle.satl_fleet.proofs.StoppingLemmas.{any_write, in_magic, stopped, whole}
+use Rattle.satl_fleet.proofs.StoppingLemmas.{in_magic, stopped, whole}
 use Rattle.satl_fleet.proofs.TargetLemmas.{keeps_same}
 use Rattle.satl_fleet.proofs.serving.serve_opened.Goals as goal
 
 pub returns-in_err-write_frame-clause-stopped : goal.returns-in_err-write_frame-clause-stopped
 returns-in_err-write_frame-clause-stopped g c =
-    any_write _ _ _ _ c.from_residual.result _ c.from_residual.ensures.1 (λ e is. is)
+    any_write (RanTo _ _ _ _) c.from_residual.result _ c.from_residual.ensures.1 (λ e is. is)
     (inl (in_magic (vec_len c.args.units.now) (g.S.Source.left c.args.source.now) (g.K.Sink.written c.args.sink.now) _ (target g.D.Drive.state c.args.units.now c.args.drives.now) c.args.steps.now c.requires.opened.idle c.in_err-write_frame.ensures.part))
 
 pub returns-in_err-write_frame-clause-keeps : goal.returns-in_err-write_frame-clause-keeps

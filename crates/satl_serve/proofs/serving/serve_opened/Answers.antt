@@ -3,13 +3,14 @@ use Rattle.satl_frame.specs.Reading.{Reading}
 use Rattle.satl_step.specs.Events.{scene_of}
 use Rattle.satl_step.specs.Runs.{stand_of}
 use Rattle.satl_serve.specs.Moments.{sink_state, source_state}
+use Rattle.satl_serve.specs.Stopping.{RanTo}
 use Rattle.satl_serve.proofs.RunLemmas.{in_magic, stop_cause, stopped, whole}
 use Rattle.satl_serve.proofs.ServingLemmas.{any_write}
 use Rattle.satl_serve.proofs.serving.serve_opened.Goals as goal
 
 pub returns-in_err-tell_beginning-clause-stopped : goal.returns-in_err-tell_beginning-clause-stopped
 returns-in_err-tell_beginning-clause-stopped g c =
-    any_write c.args.form _ _ _ c.from_residual.result _ c.from_residual.ensures.1 (λ e is. is)
+    any_write (RanTo c.args.form _ _ _) c.from_residual.result _ c.from_residual.ensures.1 (λ e is. is)
     (inl (in_magic c.args.form (g.S.Source.left c.args.source.now) _ _ c.args.satl.now (stand_of c.args.satl.now (g.D.Drive.state c.args.drive.now) c.args.steps.now) c.requires.idle refl c.in_err-tell_beginning.ensures.part))
 
 pub returns-in-Ok-clause-whole : goal.returns-in-Ok-clause-whole
