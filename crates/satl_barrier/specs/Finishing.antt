@@ -24,7 +24,7 @@ piece_behind range done = record { lba = range.lba + done; count = min piece (ra
 abbrev pub most_pieces : ℕ
 most_pieces = 1024
 
--- a read of a range, for its flaws or to compare its blocks: it writes nothing (SBC-3 5.33)
+-- a read of a range, for its flaws or to compare its blocks: it writes nothing (SBC-3, VERIFY commands)
 abbrev pub verifying : Range → Transfer
 verifying range =
     record { ext = true; dma = true; stopped_by = flaws.Read; lba = range.lba; sectors = range.count; writes = []; reads = [] }
@@ -42,7 +42,7 @@ writing range blocks d =
       reads = [];
     }
 
--- the same block at each address of a range, through the cache where it is on (SBC-3 5.42)
+-- the same block at each address of a range, through the cache where it is on (SBC-3, WRITE SAME commands)
 abbrev pub writing_same : Range → Block → DriveState → Transfer
 writing_same range block d = writing range (replicate range.count block) d
 
@@ -107,12 +107,12 @@ FinishesAs t first finishes.Done old new = IsDone t old new
 FinishesAs t first (finishes.Flawed at) old new = StopsAtFlaw t at old new
 FinishesAs t first finishes.Garbled old new = StopsAtCrc t first old new
 
--- a range was verified: the lowest address that reads stop at, or all of it was read (SBC-3 5.33)
+-- a range was verified: the lowest address that reads stop at, or all of it was read (SBC-3, VERIFY commands)
 abbrev pub IsVerified : Range → Option ℕ → DriveState → DriveState → Type 0
 IsVerified range flaw old new =
     MatchOption flaw (IsDone (verifying range) old new) (λ at. StopsAtFlaw (verifying range) at old new)
 
--- a range was compared with these blocks: reads give them, or others; or it ended before (SBC-3 5.33, BYTCHK)
+-- a range was compared with these blocks: reads give them, or others; or it ended before (SBC-3, VERIFY commands, BYTCHK)
 abbrev pub ComparesAs : Range → List Block → Comparison → DriveState → DriveState → Type 0
 ComparesAs range blocks comparisons.Same old new =
     (nows old.cells range.lba range.count ≡ blocks) × IsDone (verifying range) old new

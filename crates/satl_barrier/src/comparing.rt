@@ -15,7 +15,7 @@ use satl_drive::{Drive, LinkDown};
 use satl_regs::{AtaCommand, How, Taskfile};
 use std::sync::ledger::Ledger;
 
-/// How a range compares with the data-out of a VERIFY (SBC-3 5.33, BYTCHK).
+/// How a range compares with the data-out of a VERIFY (SBC-3, VERIFY commands, BYTCHK).
 #[derive(Clone, Copy, Debug, PartialEq, Eq)]
 pub enum Comparison {
     Same,

@@ -86,7 +86,7 @@ pub record AreTrimmed (identity : Identity) (ranges : List Range) : Type 0 where
   pub list : IsTrimList ranges
   pub within : AllByRecursion (λ range. range.lba + range.count ≤ identity.capacity) ranges
 
--- what a task trims can be trimmed (SBC-3 5.28, 5.42)
+-- what a task trims can be trimmed (SBC-3, UNMAP and WRITE SAME commands)
 abbrev pub CanTrim : Identity → Command → List Range → Type 0
 CanTrim identity (WriteSame form lba count true) ranges = AreTrimmed identity (over lba count ∷ [])
 CanTrim identity (Unmap size) ranges = AreTrimmed identity ranges

@@ -36,12 +36,12 @@ use Rattle.satl_core.specs.declared.turning.Ending.TheVariants as endings
 abbrev pub flawed : Bool → ℕ → Ending
 flawed writes lba = endings.Check (if writes then write_error lba else read_error lba)
 
--- how a VERIFY without comparison ends (SBC-3 5.33)
+-- how a VERIFY without comparison ends (SBC-3, VERIFY commands)
 abbrev pub ending_of_verify : Option ℕ → Ending
 ending_of_verify None = endings.Good
 ending_of_verify (Some lba) = flawed false lba
 
--- how a VERIFY with comparison ends (SBC-3 5.33, BYTCHK)
+-- how a VERIFY with comparison ends (SBC-3, VERIFY commands, BYTCHK)
 abbrev pub ending_of_comparison : Comparison → Ending
 ending_of_comparison comparisons.Same = endings.Good
 ending_of_comparison comparisons.Differs = endings.Check miscompare
@@ -54,20 +54,21 @@ ending_of_finish finishes.Done = endings.Good
 ending_of_finish (finishes.Flawed lba) = flawed true lba
 ending_of_finish finishes.Garbled = endings.Check crc_error
 
--- a range was verified, and the task ends so (SBC-3 5.33)
+-- a range was verified, and the task ends so (SBC-3, VERIFY commands)
 pub record HasVerified (range : Range) (old : DriveState) (ending : Ending) (new : DriveState) : Type 0 where
   pub flaw : Option ℕ
   pub is : IsVerified range flaw old new
   pub told : ending ≡ ending_of_verify flaw
 
--- a range was compared with these blocks, and the task ends so (SBC-3 5.33, BYTCHK)
+-- a range was compared with these blocks, and the task ends so (SBC-3, VERIFY commands, BYTCHK)
 pub record HasCompared (range : Range) (blocks : List Block) (old : DriveState) (ending : Ending)
     (new : DriveState) : Type 0 where
   pub comparison : Comparison
   pub is : ComparesAs range blocks comparison old new
   pub told : ending ≡ ending_of_comparison comparison
 
--- a WRITE SAME or a trim was carried out, whose first piece has so many blocks, and the task ends so (SBC-3 5.28, 5.42)
+-- a WRITE SAME or a trim was carried out, whose first piece has so many blocks, and the task ends so (SBC-3, UNMAP and WRITE
+-- SAME commands)
 pub record HasFinished (t : Transfer) (first : ℕ) (old : DriveState) (ending : Ending) (new : DriveState) : Type 0 where
   pub finish : Finish
   pub is : FinishesAs t first finish old new
@@ -126,7 +127,7 @@ abbrev pub HasWhole : Alone → Entry → Type 0
 HasWhole (alones.Through cdb) t = AreWhole t.body
 HasWhole _ t = Unit {0}
 
--- what a command that runs alone writes (SBC-3 5.28, 5.42; SAT-3 12.2)
+-- what a command that runs alone writes (SBC-3, UNMAP and WRITE SAME commands; SAT-3 12.2)
 abbrev pub written_alone : Alone → Entry → DriveState → List Pair
 written_alone (alones.WriteSame range) t d = (writing_same range (get_or t.body 0 no_block) d).writes
 written_alone (alones.TrimRange range) t d = (trimming (range ∷ []) d).writes

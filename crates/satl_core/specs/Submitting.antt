@@ -134,11 +134,11 @@ HasListUnlessEmpty _ body capacity = Unit {0}
 abbrev pub unmap_list_fault : List Block → ℕ → ℕ → Option Illegal
 unmap_list_fault body size capacity = if size == 0 then None else unmap.list_fault body size capacity
 
--- the refusal of the block of a WRITE SAME that unmaps: it has to be zeros (SBC-3 5.42; profile)
+-- the refusal of the block of a WRITE SAME that unmaps: it has to be zeros (SBC-3, WRITE SAME commands; profile)
 abbrev pub fault_of_block : Block → Option Illegal
 fault_of_block block = if list_all (λ byte. byte == 0) block.bytes then None else Some (invalid_field 1)
 
--- whether a command trims: an UNMAP, and a WRITE SAME that unmaps (SBC-3 5.28, 5.42)
+-- whether a command trims: an UNMAP, and a WRITE SAME that unmaps (SBC-3, UNMAP and WRITE SAME commands)
 abbrev pub trims : Command → Bool
 trims (commands.Unmap size) = true
 trims (commands.WriteSame form lba count unmap) = unmap

@@ -27,7 +27,7 @@ const UNC: u8 = 0x40;
 /// ERROR at a CRC error: ICRC and ABRT (ACS-3).
 const ICRC: u8 = 0x84;
 
-/// A VERIFY without comparison of a range of 1 to 65,536 blocks (SBC-3 5.33).
+/// A VERIFY without comparison of a range of 1 to 65,536 blocks (SBC-3, VERIFY commands).
 pub fn verify_range<D: Drive, L: Ledger>(
     range: Range,
     drive: &mut D,
@@ -44,7 +44,7 @@ pub fn verify_range<D: Drive, L: Ledger>(
     Ok(verified(flaw))
 }
 
-/// A VERIFY that compares a range of 1 to 4,096 blocks with as many pages (SBC-3 5.33, BYTCHK).
+/// A VERIFY that compares a range of 1 to 4,096 blocks with as many pages (SBC-3, VERIFY commands, BYTCHK).
 pub fn compare_range<D: Drive, L: Ledger>(
     range: Range,
     blocks: &Pages,
@@ -69,7 +69,7 @@ pub fn compare_range<D: Drive, L: Ledger>(
     Ok(compared(comparison?))
 }
 
-/// A WRITE SAME of the first page to a range of 1 to 65,536 blocks (SBC-3 5.42).
+/// A WRITE SAME of the first page to a range of 1 to 65,536 blocks (SBC-3, WRITE SAME commands).
 pub fn write_range<D: Drive, L: Ledger>(
     range: Range,
     body: &Pages,
@@ -95,7 +95,7 @@ pub fn write_range<D: Drive, L: Ledger>(
     Ok(finished(finish?))
 }
 
-/// A trim of ranges that one block of entries can name (SBC-3 5.28, 5.42).
+/// A trim of ranges that one block of entries can name (SBC-3, UNMAP and WRITE SAME commands).
 pub fn trim_ranges<D: Drive, L: Ledger>(
     ranges: &[Range],
     pool: &mut Pool,
@@ -132,7 +132,7 @@ fn scratch_pages(pool: &mut Pool) -> Pages
     pages
 }
 
-/// How a VERIFY without comparison ends: with GOOD, or at the lowest flawed address (SBC-3 5.33).
+/// How a VERIFY without comparison ends: with GOOD, or at the lowest flawed address (SBC-3, VERIFY commands).
 fn verified(flaw: Option<u64>) -> Ending
     ensures { result ≡ medium.ending_of_verify flaw }
 {
@@ -142,7 +142,8 @@ fn verified(flaw: Option<u64>) -> Ending
     }
 }
 
-/// How a VERIFY with comparison ends; MISCOMPARE DURING VERIFY OPERATION where the blocks differ (SBC-3 5.33; SPC-4 4.5.6).
+/// How a VERIFY with comparison ends; MISCOMPARE DURING VERIFY OPERATION where the blocks differ (SBC-3, VERIFY commands;
+/// SPC-4 4.5.6).
 fn compared(comparison: Comparison) -> Ending
     ensures { result ≡ medium.ending_of_comparison comparison }
 {

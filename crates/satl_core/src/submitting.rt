@@ -150,7 +150,7 @@ fn judge_data(satl: &Satl, request: &Request, command: Command) -> Result<Comman
 }
 
 /// The refusal of the data-out: that of a MODE SELECT list, of a block that is not zeros where a WRITE SAME unmaps, and of the
-/// list of an UNMAP (SPC-4, MODE SELECT commands; SBC-3 5.28, 5.42).
+/// list of an UNMAP (SPC-4, MODE SELECT commands; SBC-3, UNMAP and WRITE SAME commands).
 fn data_fault(satl: &Satl, request: &Request, command: &Command) -> Option<Illegal>
     requires holds { HoldsList request.now }
     requires header { (asks command.now).length_fault ≡ None }
@@ -165,7 +165,7 @@ fn data_fault(satl: &Satl, request: &Request, command: &Command) -> Option<Illeg
     }
 }
 
-/// The refusal of the block of a WRITE SAME that unmaps: it has to be zeros (SBC-3 5.42; profile).
+/// The refusal of the block of a WRITE SAME that unmaps: it has to be zeros (SBC-3, WRITE SAME commands; profile).
 fn block_fault(block: &Block) -> Option<Illegal>
     ensures { result ≡ fault_of_block block.now }
 {

@@ -189,7 +189,7 @@ other_arrival s r =
     else if asks_for 0x03 r then answered (good_with_data r (bytes 4 4 r.cdb) (sense_spelled (bit 1 0 r.cdb) unknown_unit))
     else answered (check s r unknown_unit)
 
--- the first that holds: another logical unit, unless LUNs are asked for; a task of that nexus and tag; a unit attention; an
+-- the first that holds: another logical unit, unless it is REPORT LUNS; a task of that nexus and tag; a unit attention; an
 -- operation code that is not served; a bad field; a range that is outside; bad data-out; and then the command itself (profile)
 abbrev pub arrival : Device → Request → Arrival
 arrival s r = if is_unit_0 r.lun || asks_for 0xA0 r then unit_arrival s r else other_arrival s r

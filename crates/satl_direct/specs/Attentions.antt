@@ -15,7 +15,7 @@ posted_for for what nexus (conditions ∷ rest) =
 abbrev pub post : (ℕ → Bool) → Attention → List (List Attention) → List (List Attention)
 post for what attentions = posted_for for what 0 attentions
 
--- whether two flags, or two sets of mode values, are the same (profile)
+-- whether two flags are the same (profile)
 abbrev pub are_same : Bool → Bool → Bool
 are_same a b = if a then b else not b
 

@@ -17,8 +17,8 @@ pub record IsUnanswered (after : Device) (answers : List Reply) (new : Device) :
   pub new_is : new ≡ after
 
 -- a power cycle: the tasks go without an answer, each sector has one of the blocks that it might be left with, flaws and
--- glitches stay, the unit is started, up and active, the mode values are the defaults, and each nexus is told that the power
--- was on (SAM-5 6.3; SBC-3 4.15; profile)
+-- glitches stay, the unit is started, up and active, the mode values are the defaults, and each nexus has one condition
+-- alone, POWER ON OCCURRED (SAM-5 6.3; SBC-3 4.15; profile)
 pub record IsPowered (old : Device) (answers : List Reply) (new : Device) : Type 0 where
   pub none : answers ≡ []
   pub cells : AllZip IsLeftBehind old.cells new.cells

@@ -69,7 +69,8 @@ outcome_reply s t ranged (ends_done blocks) = task_reply t Good [] blocks
 outcome_reply s t ranged (ends_flawed lba) = task_check s t (medium_error ranged lba)
 outcome_reply s t ranged ends_glitched = task_check s t crc_error
 
--- what the end of a ranged task changes of the device (profile)
+-- the sectors of the device and its glitches, CRC errors that are still to come: what the outcome of a ranged task is judged
+-- by (profile)
 abbrev pub surface_of : Device → Surface
 surface_of s = surface s.cells s.glitches
 
@@ -98,13 +99,14 @@ pub record IsPartlyWritten (writes : List Pair) (s : Device) (t : Entry) (new : 
   pub part : Part s.cells writes new.cells
   pub stays : new ≡ record s { cells = new.cells; tasks = without t s.tasks }
 
--- the block of a WRITE SAME at each address (SBC-3 5.42)
+-- the block of a WRITE SAME at each address (SBC-3, WRITE SAME commands)
 abbrev pub same_pairs : ℕ → ℕ → List Block → Bool → List Pair
 same_pairs lba count [] cached = []
 same_pairs lba count (block ∷ blocks) cached = pairs_from lba (replicate count block) cached
 
--- a WRITE SAME goes over pieces of 64 blocks upwards, so a CRC error may come where the first piece has no flaw; else the
--- lowest flaw of all decides, and is named (SBC-3 5.42; SPC-4 4.5.6; the pieces: profile)
+-- a WRITE SAME goes over pieces of 64 blocks upwards. It may end with a CRC error where the first piece has no flaw; else it
+-- names the lowest flaw of all, with a part written, or is done where there is none (SBC-3, WRITE SAME commands;
+-- SPC-4 4.5.6; pieces: profile)
 abbrev pub EndsInPieces : Range → Device → Entry → Reply → Device → Type 0
 EndsInPieces range s t reply new =
     let writes : List Pair = same_pairs range.lba range.count t.body s.modes.wce in
@@ -113,20 +115,21 @@ EndsInPieces range s t reply new =
     (IsTaskDone (record s { cells = whole s.cells writes; active = true }) t reply new)
     (λ at. (reply ≡ task_check s t (write_error at)) × IsPartlyWritten writes s t new)
 
--- VERIFY: a read flaw in its range, or it is done (SBC-3 5.33)
+-- VERIFY: a read flaw in its range, or it is done (SBC-3, VERIFY commands)
 abbrev pub EndsVerified : Range → Device → Entry → Reply → Device → Type 0
 EndsVerified range s t reply new =
     MatchOption (first_flaw flaws.Read s.cells range.lba range.count)
     (IsTaskDone (record s { active = true }) t reply new)
     (λ at. IsChecked (read_error at) s t reply new)
 
--- the data-out are what reads give, and it is done; or they differ (SBC-3 5.33, BYTCHK)
+-- the data-out are what reads give, and it is done; or they differ (SBC-3, VERIFY commands, BYTCHK)
 abbrev pub IsCompared : Range → Device → Entry → Reply → Device → Type 0
 IsCompared range s t reply new =
     ((t.body ≡ nows s.cells range.lba range.count) × IsTaskDone (record s { active = true }) t reply new)
     ⊎ ((t.body ≡ nows s.cells range.lba range.count → ⊥) × IsChecked miscompare s t reply new)
 
--- VERIFY with comparison: a read flaw in its range; a CRC error; or it is compared (SBC-3 5.33; of CRC errors: profile)
+-- VERIFY with comparison: a read flaw in its range; a CRC error; or it is compared (SBC-3, VERIFY commands; of CRC errors:
+-- profile)
 abbrev pub EndsCompared : Range → Device → Entry → Reply → Device → Type 0
 EndsCompared range s t reply new =
     MatchOption (first_flaw flaws.Read s.cells range.lba range.count)
@@ -181,7 +184,7 @@ abbrev pub pass_sense : Modes → Option Sense → List ℕ
 pass_sense modes None = []
 pass_sense modes (Some sense) = sense_text modes sense
 
--- its data-in: none at a bad end (SAT-3 12.2)
+-- its data-in: none at a bad end or where T_DIR is 0 (SAT-3 12.2)
 abbrev pub pass_data : Pass → Taskfile → List Block → List ℕ
 pass_data pass ended taken = if is_bad ended || pass.out then [] else first_bytes pass.length taken
 

@@ -14,7 +14,7 @@ use Rattle.satl_direct.specs.Device.{Device, is_called, is_of}
 use Rattle.satl_direct.specs.Attentions.{post}
 use Rattle.satl_direct.specs.Arrival.{is_unit_0}
 
--- what a function does: which tasks go, which condition it posts for which nexuses, and its response (SAM-5 7)
+-- what a function does: which tasks go, the conditions of all nexuses after it, and its response (SAM-5 7)
 pub record Effect : Type 0 where
   pub goes : Entry → Bool
   pub attentions : List (List Attention)
@@ -51,7 +51,7 @@ effect_of QueryTaskSet m s =
 abbrev pub only : Response → Device → Effect
 only response s = record { goes = λ t. false; attentions = s.attentions; response = response }
 
--- I_T NEXUS RESET is not sent to a logical unit (SAM-5 7.6)
+-- whether the LUN of a function is judged: not of I_T NEXUS RESET, which names none; of unknown codes too (SAM-5 7.6; profile)
 abbrev pub has_unit : Option Function → Bool
 has_unit (Some NexusReset) = false
 has_unit (Some AbortTask) = true

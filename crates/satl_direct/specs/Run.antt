@@ -76,11 +76,11 @@ Does (frames.Bench event) s answers new deep =
 Does frames.End s answers new deep =
     (replies : List Reply) × (answers ≡ map replied replies ++ ended ∷ []) × Drains s replies new deep
 
--- whether the link was lost between the two (profile)
+-- how often the link was lost between the two: once where it was up and is down, else not (profile)
 abbrev pub losses_of : Device → Device → ℕ
 losses_of old new = if old.down then 0 else (if new.down then 1 else 0)
 
--- whether a bench event is a loss of the link: UNPLUG is one, also where the link was lost before (profile)
+-- how many losses of the link a bench event is: UNPLUG one, also where the link was lost before (profile)
 abbrev pub bench_losses : BenchEvent → ℕ
 bench_losses (events.Strike which lba) = 0
 bench_losses (events.Mend lba) = 0
@@ -118,7 +118,7 @@ pub record Run (first : Device) (events : List Frame) (losses : ℕ) (answers : 
   pub answer : answers ≡ joined groups
   pub run : RunDeep first events groups losses last deep
 
--- the turns that an event asks for, where it asks for some (profile)
+-- so many turns an event may have made where it is cut short: a TURN at most its own, END any number, others none (profile)
 abbrev pub CutTurns : Frame → ℕ → Type 0
 CutTurns (frames.Request r) count = ⊥
 CutTurns (frames.Manage m) count = ⊥
@@ -126,7 +126,8 @@ CutTurns (frames.Turn n) count = count ≤ n
 CutTurns (frames.Bench event) count = ⊥
 CutTurns frames.End count = Unit {0}
 
--- a run whose last event has made as many turns as this, and not all that it asks for, and has no END (profile)
+-- a run whose last event is TURN or END and has made as many turns as this: of a TURN not more than it asks for, perhaps all;
+-- the end is not told (profile)
 pub record CutShort (first : Device) (events : List Frame) (losses : ℕ) (answers : List Answer) (last : Device) : Type 0 where
   pub before : List Frame
   pub event : Frame
@@ -142,8 +143,3 @@ pub record CutShort (first : Device) (events : List Frame) (losses : ℕ) (answe
   pub turns : TurnsOf count mid replies last deep
   pub answer : answers ≡ earlier ++ map replied replies
   pub losses_are : losses ≡ lost + losses_of mid last
-
--- a run, or one that was cut short in its last event (profile)
-pub data RunCut (first : Device) (events : List Frame) (losses : ℕ) (answers : List Answer) (last : Device) : Type 0 where
-  whole_run : Run first events losses answers last → RunCut first events losses answers last
-  cut_run : CutShort first events losses answers last → RunCut first events losses answers last

@@ -14,7 +14,7 @@ use Rattle.satl_sense.specs.Fixed.{fixed_form}
 abbrev pub plain : ℕ → ℕ → ℕ → Sense
 plain key asc ascq = record { key = key; asc = asc; ascq = ascq; extra = extras.None }
 
--- at an address (SPC-4 4.5, INFORMATION)
+-- sense data of a key and codes, with an address (SPC-4 4.5, INFORMATION)
 abbrev pub at : ℕ → ℕ → ℕ → ℕ → Sense
 at key asc ascq lba = record { key = key; asc = asc; ascq = ascq; extra = extras.Information lba }
 
@@ -71,7 +71,7 @@ abbrev pub pointer_to : Bool → Option ℕ → Extra
 pointer_to in_cdb None = extras.None
 pointer_to in_cdb (Some byte) = extras.Pointer in_cdb byte
 
--- a command or a list that is refused (SPC-4 4.5.6)
+-- ILLEGAL REQUEST: a command or a list is refused, with its codes, and a pointer where a byte is at fault (SPC-4 4.5.6)
 abbrev pub refusal : Illegal → Sense
 refusal why = record { key = 0x5; asc = why.asc; ascq = why.ascq; extra = pointer_to why.in_cdb why.pointer }
 

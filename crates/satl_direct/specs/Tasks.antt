@@ -49,7 +49,8 @@ pub record Asks : Type 0 where
 abbrev pub over : ℕ → ℕ → Range
 over lba count = record { lba = lba; count = count }
 
--- it goes over no block, has no data-out, holds nothing, and needs no started unit (profile)
+-- it goes over no block, has no data-out, holds nothing, and its task, if it has one, is carried out on a stopped unit too
+-- (profile)
 abbrev pub nothing : Asks
 nothing = record {
   fields_fault = None;
@@ -86,7 +87,7 @@ asks_unmap length = record nothing {
   starts = true;
 }
 
--- the refusal of the block of a WRITE SAME that unmaps: it has to be zeros (SBC-3 5.42; profile)
+-- the refusal of the block of a WRITE SAME that unmaps: it has to be zeros (SBC-3, WRITE SAME commands; profile)
 abbrev pub block_fault : List Block → Option Illegal
 block_fault body = if list_all (λ byte. byte == 0) (get_or body 0 no_block).bytes then None else Some (invalid_field 1)
 
@@ -159,8 +160,8 @@ abbrev pub held_by : List Entry → ℕ
 held_by [] = 0
 held_by (t ∷ ts) = t.blocks + held_by ts
 
--- the task set has no place for a command: 64 tasks, or more than 32,768 blocks (SAM-5 5.3.1, TASK SET FULL; the figures:
--- profile)
+-- the task set has no place for a command: it has 64 tasks, or its blocks and those of the command exceed 32,768 (SAM-5 5.3.1,
+-- TASK SET FULL; the figures: profile)
 abbrev pub is_full : List Entry → Command → Bool
 is_full tasks command = (length tasks == most_tasks) || nat_lt most_held (held_by tasks + held_blocks command)
 

@@ -30,12 +30,13 @@ pub record TurnLoss (old : Device) (answers : List Reply) (new : Device) : Type 
   pub glitches : (new.glitches ≡ old.glitches) ⊎ (new.glitches + 1 ≡ old.glitches)
   pub stays : new ≡ record old { tasks = []; down = true; glitches = new.glitches; active = new.active }
 
--- the tasks of which one may end: the first where the unit is down or stopped, else each that is eligible (profile)
+-- the task is the first of the list (profile)
 abbrev pub IsFirst : List Entry → Entry → Type 0
 IsFirst [] t = ⊥
 IsFirst (u ∷ us) t = u ≡ t
 
--- the task may end: the first one there, or any that is eligible (profile)
+-- the task may end: where the unit is down or stopped the first one alone, else each that is eligible, which is in conflict
+-- with no earlier one (profile)
 abbrev pub MayEnd : Device → Entry → Type 0
 MayEnd s t = MatchBool (s.down || not s.started) (IsFirst s.tasks t) (IsEligible s.tasks t)
 

@@ -30,9 +30,9 @@ pub record HasCome (identity : Identity) (t : Entry) : Type 0 where
   pub modes : AreModesOf identity at.modes
   pub became : code_arrival at request ≡ waits t
 
--- a device that there can be: what its drive says of itself; as many sound sectors as its capacity; at most 64 tasks with at
--- most 32,768 blocks, each with a nexus and tag of its own, and come by a request; mode values that its drive can have; and for
--- each of the four nexuses its conditions (SAM-5 4.8; profile)
+-- a device that there can be: what its drive says of itself is not refused; as many sound sectors as its capacity; at most 64
+-- tasks with at most 32,768 blocks, each with a nexus and tag of its own, and come by a request; mode values that its drive can
+-- have; and for each of the four nexuses its conditions (SAM-5 4.8; profile)
 pub record IsValid (s : Device) : Type 0 where
   pub identity : IsIdentity s.identity
   pub cells : length s.cells ≡ s.identity.capacity

@@ -95,7 +95,8 @@ pub fn a_read_names_the_lowest_flaw_or_gives_its_blocks()
         EndsBy (commands.Read form lba count fua) s t reply new → reply.status ≡ Good → reply.body ≡ nows s.cells lba count }
 {}
 
-/// Law of WRITE SAME: with a flaw in its first 64 blocks it takes no glitch, for it meets no CRC error (SBC-3 5.42; profile).
+/// Law of WRITE SAME: with a flaw in its first 64 blocks it takes no glitch, for it meets no CRC error (SBC-3, WRITE SAME
+/// commands; profile).
 pub fn a_flaw_in_the_first_piece_comes_before_a_glitch()
     ensures { (s new : Device) (t : Entry) (reply : Reply) (form : Form) (lba count at : ℕ) →
         EndsBy (commands.WriteSame form lba count false) s t reply new →

@@ -40,7 +40,7 @@ is_done r ended = false
 abbrev pub was_done : List Answer → Request → Bool
 was_done answers r = list_any (is_done r) answers
 
--- the block that a WRITE brings to a sector of its range, and else what was there (SBC-3 5.31)
+-- the block that a WRITE brings to a sector of its range, and else what was there (SBC-3, WRITE commands)
 abbrev pub brought : Result Command Illegal → List Block → ℕ → Block → Block
 brought (Ok (commands.Write form lba count fua)) body x was =
     if nat_le lba x && nat_lt x (lba + count) then get_or body (x - lba) was else was
@@ -64,7 +64,7 @@ content acted trim x (event ∷ events) was = content acted trim x events (block
 abbrev pub read_at : List Cell → ℕ → Block
 read_at cells x = get_or (map (λ c. c.now) cells) x no_block
 
--- a READ of a range (SBC-3 5.10)
+-- a READ of a range (SBC-3, READ commands)
 abbrev pub IsReadOf : Result Command Illegal → ℕ → ℕ → Type 0
 IsReadOf (Ok (commands.Read form from number fua)) lba count = (from ≡ lba) × (number ≡ count)
 IsReadOf (Ok command) lba count = ⊥

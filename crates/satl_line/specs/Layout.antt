@@ -73,7 +73,8 @@ pub record AreNoted (outlines : List Outline) (order free : List ℕ) (active : 
 
 -- the slots, the outlines of their tasks, the slots that are taken in order of arrival, those that are free, the masks, the
 -- number of blocks, and the slots whose task writes or stands alone, as the bits of a number, fit together
-pub record FitTogether (slots : List Entry) (outlines : List Outline) (order free masks : List ℕ) (blocks active : ℕ) : Type 0 where
+pub record FitTogether (slots : List Entry) (outlines : List Outline) (order free masks : List ℕ)
+    (blocks active : ℕ) : Type 0 where
   pub room : length slots ≡ 64
   pub wide : length masks ≡ 64
   pub taken : AllByRecursion (λ slot. slot < 64) order

@@ -67,8 +67,8 @@ other_unit = record {
   last = record (never_written 2) { attentions = (UnitReset ∷ []) ∷ [] ∷ [] ∷ [] ∷ [] };
 }
 
--- a READ and a WRITE of no block are done at once, also right behind the last sector, and further on there is no address (SBC-3
--- 5.10, 5.31)
+-- a READ and a WRITE of no block are done at once, also right behind the last sector, and further on there is no address
+-- (SBC-3, READ and WRITE commands)
 abbrev pub nothing_moved : Scenario
 nothing_moved = record {
   first = never_written 2;

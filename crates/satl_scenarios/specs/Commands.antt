@@ -50,20 +50,21 @@ started_unit = record {
   last = device written;
 }
 
--- VERIFY with comparison: the data-out are what reads give, or they are not: MISCOMPARE DURING VERIFY OPERATION (SBC-3 5.33)
+-- VERIFY with comparison: the data-out are what reads give, or they are not: MISCOMPARE DURING VERIFY OPERATION (SBC-3, VERIFY
+-- commands)
 abbrev pub same_blocks : Scenario
 same_blocks = ends_with (Verify Ten 0 2 true) (aa ∷ zeros ∷ []) written (good 1 []) (device written)
 
 abbrev pub miscompared : Scenario
 miscompared = ends_with (Verify Ten 0 2 true) (aa ∷ bb ∷ []) written (check 1 (sense 0xE 0x1D 0x00)) (device written)
 
--- VERIFY without comparison meets a flaw (SBC-3 5.33)
+-- VERIFY without comparison meets a flaw (SBC-3, VERIFY commands)
 abbrev pub verify_failed : Scenario
 verify_failed =
     ends_with (Verify Ten 0 2 false) [] (lasts zeros ∷ unreadable zeros ∷ []) (check 1 (sense_at 0x3 0x11 0x00 1))
     (device (lasts zeros ∷ unreadable zeros ∷ []))
 
--- WRITE SAME: the block at each address (SBC-3 5.42)
+-- WRITE SAME: the block at each address (SBC-3, WRITE SAME commands)
 abbrev pub same_written : Scenario
 same_written =
     ends_with (WriteSame Ten 0 2 false) (bb ∷ []) written (good 1 [])

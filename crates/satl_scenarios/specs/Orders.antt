@@ -75,7 +75,8 @@ pub record IsOfOrderUnderErrors (scenario : Scenario) : Type 0 where
   pub mild : AllByRecursion (λ f. is_mild scenario.first.identity.trim f ≡ true) (events_of scenario)
   pub once : AskOnce (events_of scenario)
 
--- a READ of two sectors, a READ of the second of them, a WRITE of that one, and a WRITE of a third (SBC-3 5.10, 5.31)
+-- a READ of two sectors, a READ of the second of them, a WRITE of that one, and a WRITE of a third (SBC-3, READ and WRITE
+-- commands)
 abbrev pub reads_two : Entry
 reads_two = task 1 (Read Ten 0 2 false) []
 

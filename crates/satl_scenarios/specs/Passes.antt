@@ -87,7 +87,7 @@ abbrev pub written_through : Scenario
 written_through =
     ends_with (Pass write_block) (bb ∷ []) written (good 1 []) (device (cached_over zeros aa ∷ cached_over zeros bb ∷ []))
 
--- it arrives with its data-out, and a READ behind it waits for it and gives the block (SAT-3 12.2; SBC-3 5.10)
+-- it arrives with its data-out, and a READ behind it waits for it and gives the block (SAT-3 12.2; SBC-3, READ commands)
 abbrev pub read_behind_it : Scenario
 read_behind_it = record {
   first = device written;

@@ -26,11 +26,11 @@ request tag cdb body = record {
   expected = None;
 }
 
--- an operation code with an address and a number of blocks below 256 (SBC-3 5.10, 5.31)
+-- an operation code with an address and a number of blocks below 256 (SBC-3, READ and WRITE commands)
 abbrev pub cdb_10 : ℕ → ℕ → ℕ → List ℕ
 cdb_10 code lba count = (code ∷ 0 ∷ 0 ∷ 0 ∷ 0 ∷ lba ∷ 0 ∷ 0 ∷ count ∷ []) ++ replicate 7 0
 
--- a READ(10), and a WRITE(10) of these blocks (SBC-3 5.10, 5.31)
+-- a READ(10), and a WRITE(10) of these blocks (SBC-3, READ and WRITE commands)
 abbrev pub read : ℕ → ℕ → ℕ → Frame
 read tag lba count = frames.Request (request tag (cdb_10 0x28 lba count) [])
 

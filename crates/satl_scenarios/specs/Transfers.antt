@@ -9,7 +9,8 @@ use Rattle.satl_scenarios.specs.Devices.{aa, bb, never_written, cached_over, dev
 use Rattle.satl_scenarios.specs.Replies.{check, good, sense}
 use Rattle.satl_scenarios.specs.Requests.{cdb_10, read, request, write}
 
--- a block is written through the cache and read: power may still bring the old one back (SBC-3 4.15, 5.10, 5.31)
+-- a block is written through the cache and read: power may still bring the old one back (SBC-3 4.15, READ and
+-- WRITE commands)
 abbrev pub written_then_read : Scenario
 written_then_read = record {
   first = never_written 3;
@@ -69,7 +70,7 @@ waking_read = record {
   last = never_written 2;
 }
 
--- a write past the cache: nothing else is left to a loss of power (SBC-3 5.31, FUA)
+-- a write past the cache: nothing else is left to a loss of power (SBC-3, WRITE commands, FUA)
 abbrev pub written_past_the_cache : Scenario
 written_past_the_cache = record {
   first = never_written 2;

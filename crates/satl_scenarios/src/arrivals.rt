@@ -19,7 +19,7 @@ pub fn another_logical_unit()
     ensures { CanHappen other_unit }
 {}
 
-/// A command over no block is done at once (SBC-3 5.10, 5.31).
+/// A command over no block is done at once (SBC-3, READ and WRITE commands).
 pub fn commands_over_no_block()
     ensures { CanHappen nothing_moved }
 {}

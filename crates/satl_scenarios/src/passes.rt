@@ -33,7 +33,7 @@ pub fn a_drive_identified_on_request()
     ensures { CanHappen identified_on_request }
 {}
 
-/// A READ behind an ATA command that writes waits for it, and gives its block (SAT-3 12.2; SBC-3 5.10).
+/// A READ behind an ATA command that writes waits for it, and gives its block (SAT-3 12.2; SBC-3, READ commands).
 pub fn a_read_behind_an_ata_command()
     ensures { CanHappen read_behind_it }
 {}

@@ -4,7 +4,7 @@ ghost use Rattle.satl_scenarios.specs.Scenario.{CanBeCut, CanHappen};
 ghost use Rattle.satl_scenarios.specs.Transfers.{ordered_read, reads_in_order, reads_in_reverse, waking_read, written_past_the_cache, written_then_read};
 ghost use Rattle.satl_scenarios.specs.Waiting.{one_turn_left, one_too_many, overlapped_reads};
 
-/// A block that was written is read (SBC-3 5.10, 5.31).
+/// A block that was written is read (SBC-3, READ and WRITE commands).
 pub fn write_then_read()
     ensures { CanHappen written_then_read }
 {}
@@ -29,7 +29,7 @@ pub fn a_read_in_standby()
     ensures { CanHappen waking_read }
 {}
 
-/// A write past the cache leaves nothing else to a loss of power (SBC-3 5.31, FUA).
+/// A write past the cache leaves nothing else to a loss of power (SBC-3, WRITE commands, FUA).
 pub fn a_write_past_the_cache()
     ensures { CanHappen written_past_the_cache }
 {}

@@ -95,8 +95,8 @@ pub fn program<S: Source, K: Sink, D: Bench, L: Ledger>(
     satl(alloc, words, source, sink, first, steps)
 }
 
-/// The same, and the drive calls are counted from none on a blank page of a ledger, which is given up: how many there were is not
-/// told (profile).
+/// The same, and the drive calls are counted from none on a blank page of a ledger, which is given up: how many there were is
+/// not told (profile).
 pub fn counted_program<S: Source, K: Sink, D: Bench, L: Ledger>(
     alloc: Global,
     words: &[RcStr],
