@@ -11,10 +11,10 @@ use Rattle.std.specs.Prelude.{if◌then◌else◌, is_some}
 use Rattle.satl_frame.proofs.Stopping.{fewer_after, fewer_weaker}
 use Rattle.satl_frame.specs.Frames.{frame_rows, has_code, allows, payload_bytes, spelled}
 use Rattle.satl_frame.specs.Magic.{magic, magic_fault, names_version, version_code, version_of}
-use Rattle.satl_frame.specs.Faults.{told_length, head_fault, frame_fault}
+use Rattle.satl_frame.specs.Faults.{told_length, has_bad_field, head_fault, frame_fault}
 use Rattle.satl_frame.specs.Pulls.{Lacks, FewerThan, TookBadField}
 use Rattle.satl_frame.specs.Reading.{Reading, Blames, at_offset, where_refused, asked, asked_of_frame}
-use Rattle.satl_frame.specs.Steps.{Began, BlamesMagic, BlamesAt, BlamesPayload, StoodBehind, StoodAt}
+use Rattle.satl_frame.specs.Steps.{Began, BlamesMagic, BlamesAt, BlamesPayload, StoodBehind, StoodAt, head_in}
 use Rattle.satl_frame.specs.declared.frames.Version.{Version}
 use Rattle.satl_frame.specs.declared.frames.Version.TheVariants.{One, Two}
 use Rattle.satl_frame.specs.declared.frames.Frame.{Frame}
@@ -105,7 +105,7 @@ short_at version limit offset (Some input) (Some rest) c h took five f lacks =
 
 -- a field of the payload is bad
 field_at : (version : Version) (limit offset : ℕ) (a b c : Option (List ℕ)) (h : List ℕ) → Took a b h → length h ≡ 5 →
-    head_fault version limit offset h ≡ None → TookBadField b c version (slice_index h 0) (told_length h) →
+    head_fault version limit offset h ≡ None → TookBadField b c (head_in version h) →
     IfSome a (λ input. (frame_fault version limit offset input ≡ Some BadField) × Took a c (take (asked_of_frame version limit offset input) input))
 field_at version limit offset None b c h took five f bad = tt
 field_at version limit offset (Some input) None c h took five f bad = absurd took.known
@@ -113,17 +113,19 @@ field_at version limit offset (Some input) (Some rest) None h took five f bad = 
 field_at version limit offset (Some input) (Some rest) (Some more) h took five f bad =
     let whole : take 5 input ≡ h = front 5 input h rest took.known (omega arith) (λ l. absurd (omega arith)) in
     let told : told_length input ≡ told_length h = ap (λ i. told_length i) took.known ∙ told_front h rest five in
+    let size : length bad.taken ≡ told_length h = bad.length_is in
+    let is_bad : has_bad_field version (slice_index h 0) bad.taken ≡ true = bad.bad in
     let enough : 5 + told_length h ≤ length input =
-    omega (arith, ap length took.known, length-append h rest, ap length bad.took.known, length-append bad.taken more, bad.length_is) in
+    omega (arith, ap length took.known, length-append h rest, ap length bad.took.known, length-append bad.taken more, size) in
     let test : nat_lt (length input) (5 + told_length h) ≡ false = le-ltb _ _ enough in
     let behind : drop 5 input ≡ rest = ap (λ xs. drop 5 xs) took.known ∙ drop_at h rest 5 five in
     let bytes_are : take (told_length h) (drop 5 input) ≡ bad.taken =
-    ap (λ xs. take (told_length h) xs) (behind ∙ bad.took.known) ∙ take_at bad.taken more (told_length h) bad.length_is in
+    ap (λ xs. take (told_length h) xs) (behind ∙ bad.took.known) ∙ take_at bad.taken more (told_length h) size in
     let first : slice_index input 0 ≡ slice_index h 0 = ap (λ xs. slice_index xs 0) took.known ∙ get_or-append h rest 0 0 (omega arith) in
     let parts : input ≡ (h ++ bad.taken) ++ more = took.known ∙ ap (λ xs. h ++ xs) bad.took.known ∙ sym (append_assoc h bad.taken more) in
     let all : take (5 + told_length h) input ≡ h ++ bad.taken =
-    ap (λ xs. take (5 + told_length h) xs) parts ∙ take_at (h ++ bad.taken) more (5 + told_length h) (length-append h bad.taken ∙ omega (arith, bad.length_is)) in
-    (rw (whole, f, told, test, bytes_are, first, bad.bad) refl, rw (whole, f, told, all) (Took-more took bad.took))
+    ap (λ xs. take (5 + told_length h) xs) parts ∙ take_at (h ++ bad.taken) more (5 + told_length h) (length-append h bad.taken ∙ omega (arith, size)) in
+    (rw (whole, f, told, test, bytes_are, first, is_bad) refl, rw (whole, f, told, all) (Took-more took bad.took))
 
 -- behind a good head the payload is asked for
 payload_asked : (version : Version) (limit offset : ℕ) (h rest : List ℕ) → length h ≡ 5 → head_fault version limit offset h ≡ None →
@@ -147,7 +149,7 @@ head_stopped limit place a b fewer = fewer_weaker (asked_of_frame place.version 
 
 -- the refusal of a payload is that of the bytes at the place
 blames_all : (limit : ℕ) (place : Place) (a b c : Option (List ℕ)) (h : List ℕ) (e : FrameFault) → Took a b h → length h ≡ 5 →
-    head_fault place.version limit place.offset h ≡ None → BlamesPayload place.version h place.offset b c e → BlamesAt limit place a c e
+    head_fault place.version limit place.offset h ≡ None → BlamesPayload (head_in place.version h) place.offset b c e → BlamesAt limit place a c e
 blames_all limit place a b c h (Bad BadMagic o) took five f (is, never) = absurd never
 blames_all limit place a b c h (Bad BadKind o) took five f (is, never) = absurd never
 blames_all limit place a b c h (Bad BadLength o) took five f (is, never) = absurd never
@@ -167,7 +169,7 @@ head_refused version limit offset a b buf n r five within took ends f =
 
 -- the refusal behind a good head is that of the bytes at the place
 pub payload_refused : (limit : ℕ) (place : Place) (a b c : Option (List ℕ)) (buf : List ℕ) (n : ℕ) (e : FrameFault) → length buf ≡ 5 → n ≤ length buf → Took a b (take n buf) →
-    None ≡ head_fault place.version limit place.offset (take n buf) → BlamesPayload place.version buf place.offset b c e → BlamesAt limit place a c e
+    None ≡ head_fault place.version limit place.offset (take n buf) → BlamesPayload (head_in place.version buf) place.offset b c e → BlamesAt limit place a c e
 payload_refused limit place a b c buf n e five within took f blames =
     let good = head_read place.version limit place.offset buf n five within f in
     blames_all limit place a b c buf e (rw good.1 at took) five good.0.none blames
@@ -175,7 +177,7 @@ payload_refused limit place a b c buf n e five within took f blames =
 -- a frame behind a good head stands at the place
 pub frame_stood : (limit : ℕ) (place : Place) (a b c : Option (List ℕ)) (buf : List ℕ) (n room next : ℕ) (frame : Frame) → length buf ≡ 5 → n ≤ length buf → Took a b (take n buf) →
     None ≡ head_fault place.version limit place.offset (take n buf) → StoodBehind place.version buf b c room frame → next ≡ place.offset + 5 + told_length buf →
-    StoodAt limit place a c room frame next
+    StoodAt limit (record { place = place; left = a }) (record { place = record place { offset = next }; left = c }) room frame
 frame_stood limit place a b c buf n room next frame five within took f behind is =
     let good = head_read place.version limit place.offset buf n five within f in
     let size : length (spelled behind.whole) ≡ 5 + told_length buf =
@@ -185,7 +187,8 @@ frame_stood limit place a b c buf n room next frame five within took f behind is
       is_frame = behind.is_frame;
       cut = behind.cut;
       took = rw behind.spelled_is (Took-more (rw good.1 at took) behind.took);
-      next_is = omega (arith, size);
+      version_is = refl;
+      offset_is = omega (arith, size);
       within = omega (arith, good.0.within);
     }
 

@@ -86,18 +86,24 @@ pub record SpellsFrame (version : Version) (k : ℕ) (payload : List ℕ) (room 
   pub kind_is : kind whole ≡ k
   pub payload_is : payload_bytes whole ≡ payload
 
--- the payload of a whole frame of this kind and length was taken, and this is the frame with the pages that were free
-pub record TookPayload (left left' : Option (List ℕ)) (version : Version) (k len room : ℕ) (frame : Frame) : Type 0 where
+-- what is known of a frame before its payload: the version of the input, the kind, and how many bytes of payload it has
+pub record Head : Type 0 where
+  pub version : Version
+  pub code : ℕ
+  pub len : ℕ
+
+-- the head of a request
+abbrev pub request_head : Version → ℕ → Head
+request_head version len = record { version = version; code = 1; len = len }
+
+-- the payload of a whole frame with this head was taken, and this is the frame with the pages that were free
+pub record TookPayload (left left' : Option (List ℕ)) (head : Head) (room : ℕ) (frame : Frame) : Type 0 where
   pub whole : Frame
-  pub is_frame : IsFrame version whole
+  pub is_frame : IsFrame head.version whole
   pub cut : frame ≡ cut_to room whole
   pub took : Took left left' (payload_bytes whole)
-  pub kind_is : kind whole ≡ k
-  pub length_is : length (payload_bytes whole) ≡ len
-
--- the payload of a whole request of this length was taken, and this is the request with the pages that were free
-abbrev pub TookRequest : Option (List ℕ) → Option (List ℕ) → Version → ℕ → ℕ → Request → Type 0
-TookRequest left left' version len room request = TookPayload left left' version 1 len room (frames.Request request)
+  pub kind_is : kind whole ≡ head.code
+  pub length_is : length (payload_bytes whole) ≡ head.len
 
 -- the data-out of a request was taken, and this is the request with the pages that were free
 pub record TookRest (left left' : Option (List ℕ)) (request : Request) (len room : ℕ) (filled : Request) : Type 0 where
@@ -106,12 +112,12 @@ pub record TookRest (left left' : Option (List ℕ)) (request : Request) (len ro
   pub size : length taken ≡ len
   pub filled_is : filled ≡ record request { body = take room (pages_of taken); data_len = len }
 
--- a payload of this kind and length was taken, and a field of it is bad
-pub record TookBadField (left left' : Option (List ℕ)) (version : Version) (k len : ℕ) : Type 0 where
+-- the payload behind this head was taken, and a field of it is bad
+pub record TookBadField (left left' : Option (List ℕ)) (head : Head) : Type 0 where
   pub taken : List ℕ
   pub took : Took left left' taken
-  pub length_is : length taken ≡ len
-  pub bad : has_bad_field version k taken ≡ true
+  pub length_is : length taken ≡ head.len
+  pub bad : has_bad_field head.version head.code taken ≡ true
 
 -- the pages of a frame
 abbrev pub frame_pages : Frame → ℕ

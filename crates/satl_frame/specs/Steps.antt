@@ -4,7 +4,7 @@ use Rattle.satl_io.specs.Known.{Took}
 use Rattle.satl_frame.specs.Frames.{payload_bytes, spelled, IsFrame}
 use Rattle.satl_frame.specs.Magic.{magic, version_code, names_version, magic_fault}
 use Rattle.satl_frame.specs.Faults.{told_length, frame_fault}
-use Rattle.satl_frame.specs.Pulls.{cut_to, Lacks, FewerThan, TookBadField}
+use Rattle.satl_frame.specs.Pulls.{cut_to, Head, Lacks, FewerThan, TookBadField}
 use Rattle.satl_frame.specs.Reading.{asked_of_frame}
 use Rattle.satl_frame.specs.declared.frames.Version.{Version}
 use Rattle.satl_frame.specs.declared.frames.Frame.{Frame}
@@ -26,15 +26,20 @@ BlamesMagic newest left left' (Bad reason offset) =
     (offset ≡ 0) × IfSome left (λ input. (magic_fault newest (take 8 input) ≡ Some reason) × Took left left' (take 8 input))
 BlamesMagic newest left left' ReadFault = FewerThan left left' (λ _. 8)
 
--- a whole frame stood at the place, and was taken
-pub record StoodAt (limit : ℕ) (place : Place) (left left' : Option (List ℕ)) (room : ℕ) (frame : Frame)
-    (next : ℕ) : Type 0 where
+-- how far an input was read: the place of the next frame, and the bytes that are left from there on
+pub record Spot : Type 0 where
+  pub place : Place
+  pub left : Option (List ℕ)
+
+-- a whole frame stood at the old spot and was taken, and behind it is the new one; no more pages are kept than were free
+pub record StoodAt (limit : ℕ) (old new : Spot) (room : ℕ) (frame : Frame) : Type 0 where
   pub whole : Frame
-  pub is_frame : IsFrame place.version whole
+  pub is_frame : IsFrame old.place.version whole
   pub cut : frame ≡ cut_to room whole
-  pub took : Took left left' (spelled whole)
-  pub next_is : next ≡ place.offset + length (spelled whole)
-  pub within : next ≤ limit
+  pub took : Took old.left new.left (spelled whole)
+  pub version_is : new.place.version ≡ old.place.version
+  pub offset_is : new.place.offset ≡ old.place.offset + length (spelled whole)
+  pub within : new.place.offset ≤ limit
 
 -- the payload behind a good head was taken, and the two spell the frame
 pub record StoodBehind (version : Version) (head : List ℕ) (left left' : Option (List ℕ)) (room : ℕ)
@@ -53,13 +58,17 @@ BlamesAt limit place left left' (Bad reason offset) =
     × Took left left' (take (asked_of_frame place.version limit place.offset input) input))
 BlamesAt limit place left left' ReadFault = FewerThan left left' (asked_of_frame place.version limit place.offset)
 
--- the payload behind a good head is cut short, or a field of it is bad
-abbrev pub PayloadFault : Version → List ℕ → Option (List ℕ) → Option (List ℕ) → Reason → Type 0
-PayloadFault version head left left' Truncated = Lacks left left' (told_length head)
-PayloadFault version head left left' BadField = TookBadField left left' version (slice_index head 0) (told_length head)
-PayloadFault version head left left' _ = ⊥
+-- what the five bytes of a good head tell
+abbrev pub head_in : Version → List ℕ → Head
+head_in version bytes = record { version = version; code = slice_index bytes 0; len = told_length bytes }
 
--- a refusal of what stands behind a good head, or a read that failed before all was taken
-abbrev pub BlamesPayload : Version → List ℕ → ℕ → Option (List ℕ) → Option (List ℕ) → FrameFault → Type 0
-BlamesPayload version head offset left left' (Bad reason o) = (o ≡ offset) × PayloadFault version head left left' reason
-BlamesPayload version head offset left left' ReadFault = FewerThan left left' (λ _. told_length head)
+-- the payload behind a good head is cut short, or a field of it is bad
+abbrev pub PayloadFault : Head → Option (List ℕ) → Option (List ℕ) → Reason → Type 0
+PayloadFault head left left' Truncated = Lacks left left' head.len
+PayloadFault head left left' BadField = TookBadField left left' head
+PayloadFault head left left' _ = ⊥
+
+-- a refusal, at this offset, of what stands behind a good head; or a read failed before all was taken
+abbrev pub BlamesPayload : Head → ℕ → Option (List ℕ) → Option (List ℕ) → FrameFault → Type 0
+BlamesPayload head offset left left' (Bad reason o) = (o ≡ offset) × PayloadFault head left left' reason
+BlamesPayload head offset left left' ReadFault = FewerThan left left' (λ _. head.len)

@@ -1,10 +1,11 @@
 // The reader of frames.
 ghost use Rattle.std.specs.Prelude.{◌≡◌, ◌<◌, ◌≤◌, ◌+◌, ◌^◌, ℕ, true, IfOk, IfErr, IfSome, IfNone, Some, None, Err, length, slice_index};
+ghost use Rattle.satl_frame.specs.declared.frames.Frame.TheVariants as frames;
 ghost use Rattle.satl_frame.specs.Faults.{told_length};
 ghost use Rattle.satl_frame.specs.Frames.{frame_rows, has_code, allows};
-ghost use Rattle.satl_frame.specs.Pulls.{PullCauses, Stopped, TookPayload, TookRequest, TookRest, TookBadField, asked_pages, found_pages, frame_pages, given_pages, request_pages};
+ghost use Rattle.satl_frame.specs.Pulls.{PullCauses, Stopped, TookPayload, TookRest, TookBadField, asked_pages, found_pages, frame_pages, given_pages, request_head, request_pages};
 ghost use Rattle.satl_frame.specs.Reading.{Reading, Gave, Blames, ReadCauses};
-ghost use Rattle.satl_frame.specs.Steps.{Began, BlamesMagic, StoodAt, StoodBehind, BlamesAt, BlamesPayload};
+ghost use Rattle.satl_frame.specs.Steps.{Began, BlamesMagic, StoodAt, StoodBehind, BlamesAt, BlamesPayload, head_in};
 
 use crate::frames::{Frame, FrameFault, Place, Reason, Version};
 use crate::judge::{head_fault, head_size, magic_fault, told_length, version_of};
@@ -50,9 +51,11 @@ fn pull_request<S: Source, P: Lender>(
     len: u32,
 ) -> Result<Option<Request>, PullError>
     requires { allows (frame_rows version) 1 len ≡ true }
-    ensures request { IfOk result (λ found. IfSome found
-        (TookRequest (S.left source.old) (S.left source.new) version len (P.free lender.old))) }
-    ensures none { IfOk result (λ found. IfNone found (TookBadField (S.left source.old) (S.left source.new) version 1 len)) }
+    ensures request { IfOk result (λ found. IfSome found (λ request.
+        TookPayload (S.left source.old) (S.left source.new) (request_head version len) (P.free lender.old)
+            (frames.Request request))) }
+    ensures none { IfOk result (λ found. IfNone found
+        (TookBadField (S.left source.old) (S.left source.new) (request_head version len))) }
     ensures stopped { Stopped (S.left source.old) (S.left source.new) len result }
     ensures causes { PullCauses (S.left source.old) (S.left source.new) len (S.faults source.old) (S.faults source.new) result }
     ensures free { P.free lender.new + given_pages asked_pages result ≡ P.free lender.old }
@@ -87,9 +90,10 @@ fn pull_small<S: Source, P: Lender>(
     requires known { has_code (frame_rows version) code ≡ true }
     requires allowed { allows (frame_rows version) code len ≡ true }
     requires other { 1 < code }
-    ensures frame { IfOk result (λ found. IfSome found
-        (TookPayload (S.left source.old) (S.left source.new) version code len (P.free lender.old))) }
-    ensures none { IfOk result (λ found. IfNone found (TookBadField (S.left source.old) (S.left source.new) version code len)) }
+    ensures frame { IfOk result (λ found. IfSome found (TookPayload (S.left source.old) (S.left source.new)
+        (record { version = version; code = code; len = len }) (P.free lender.old))) }
+    ensures none { IfOk result (λ found. IfNone found (TookBadField (S.left source.old) (S.left source.new)
+        (record { version = version; code = code; len = len }))) }
     ensures stopped { Stopped (S.left source.old) (S.left source.new) len result }
     ensures causes { PullCauses (S.left source.old) (S.left source.new) len (S.faults source.old) (S.faults source.new) result }
     ensures free { P.free lender.new + given_pages found_pages result ≡ P.free lender.old }
@@ -112,9 +116,10 @@ fn pull_payload<S: Source, P: Lender>(
 ) -> Result<Option<Frame>, PullError>
     requires known { has_code (frame_rows version) code ≡ true }
     requires allowed { allows (frame_rows version) code len ≡ true }
-    ensures frame { IfOk result (λ found. IfSome found
-        (TookPayload (S.left source.old) (S.left source.new) version code len (P.free lender.old))) }
-    ensures none { IfOk result (λ found. IfNone found (TookBadField (S.left source.old) (S.left source.new) version code len)) }
+    ensures frame { IfOk result (λ found. IfSome found (TookPayload (S.left source.old) (S.left source.new)
+        (record { version = version; code = code; len = len }) (P.free lender.old))) }
+    ensures none { IfOk result (λ found. IfNone found (TookBadField (S.left source.old) (S.left source.new)
+        (record { version = version; code = code; len = len }))) }
     ensures stopped { Stopped (S.left source.old) (S.left source.new) len result }
     ensures causes { PullCauses (S.left source.old) (S.left source.new) len (S.faults source.old) (S.faults source.new) result }
     ensures free { P.free lender.new + given_pages found_pages result ≡ P.free lender.old }
@@ -144,7 +149,8 @@ fn read_payload<S: Source, P: Lender>(
     requires allowed { allows (frame_rows place.version) (slice_index head.now 0) (told_length head.now) ≡ true }
     ensures frame { IfOk result
         (StoodBehind place.version head.now (S.left source.old) (S.left source.new) (P.free lender.old)) }
-    ensures fault { IfErr result (BlamesPayload place.version head.now place.offset (S.left source.old) (S.left source.new)) }
+    ensures fault { IfErr result
+        (BlamesPayload (head_in place.version head.now) place.offset (S.left source.old) (S.left source.new)) }
     ensures causes { ReadCauses (S.faults source.old) (S.faults source.new) result }
     ensures free { P.free lender.new + given_pages frame_pages result ≡ P.free lender.old }
     ensures out { P.out lender.new ≡ P.out lender.old + given_pages frame_pages result }
@@ -180,7 +186,8 @@ fn read_frame<S: Source, P: Lender>(
     limit: u64,
     place: Place,
 ) -> Result<(Frame, u64), FrameFault>
-    ensures frame { IfOk result (λ x. StoodAt limit place (S.left source.old) (S.left source.new) (P.free lender.old) x.0 x.1) }
+    ensures frame { IfOk result (λ x. StoodAt limit (record { place = place; left = S.left source.old })
+        (record { place = record place { offset = x.1 }; left = S.left source.new }) (P.free lender.old) x.0) }
     ensures fault { IfErr result (BlamesAt limit place (S.left source.old) (S.left source.new)) }
     ensures causes { ReadCauses (S.faults source.old) (S.faults source.new) result }
     ensures free { P.free lender.new + given_pages (λ x. frame_pages x.0) result ≡ P.free lender.old }
@@ -316,8 +323,8 @@ impl FrameReader {
 
     /// The next frame, and before the first one the magic (profile). Exactly its bytes are taken from the source. Its data-out
     /// or its order bytes stand in the first pages that the lender has free: bytes that do not fit are taken and dropped, and
-    /// `data_len` is the length of all. `Bad` says why and where the input is refused; `ReadFault` that a read failed. Either is answered again
-    /// from then on, and nothing more is read.
+    /// `data_len` is the length of all. `Bad` says why and where the input is refused; `ReadFault` that a read failed. Either
+    /// is answered again from then on, and nothing more is read.
     pub fn next<S: Source, P: Lender>(
         &mut self,
         source: &mut S,
