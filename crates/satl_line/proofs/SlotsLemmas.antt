@@ -20,7 +20,7 @@ use Rattle.satl_line.specs.Outlines.{IsOutline, is_active, no_outline, outline_i
 use Rattle.satl_line.specs.Conflict.{access_of, accesses_conflict, conflicts}
 use Rattle.satl_line.specs.Eligible.{eligible_at, is_clear_by}
 use Rattle.satl_line.specs.Tasks.{AreOwnSlots, AreMasks, is_barred_from, entries_of, Held, count_of, slots_of, total_blocks, entry_at, Adds, with_body, change_task}
-use Rattle.satl_line.specs.Layout.{SlotAccess, mark_of, is_marked, IsMask, HaveMasks, IsMasked, clear_bit, cleared, held_in, tasks_in, AreNoted, IsNoted, with_slot, FitTogether, is_unbarred_at}
+use Rattle.satl_line.specs.Layout.{SlotAccess, mark_of, is_marked, IsMask, HaveMasks, IsMasked, clear_bit, cleared, held_in, tasks_in, AreNoted, IsNoted, with_slot, Layout, FitTogether, is_unbarred_at}
 use Rattle.satl_line.proofs.OutlinesLemmas.{EachIs, apart_where_quiet, outline_with}
 use Rattle.satl_line.proofs.MasksLemmas.{bit, bit_is_zero, with_slot_here, with_slot_other, unmarked, HasNot, AreSmall, is_struck, zero_mask, are_removed, are_added, get_or-cleared, mask_more_yes, mask_more_no}
 
@@ -209,52 +209,63 @@ none_conflicts slots outlines order free active tasks e o each noted is zero_is 
 -- ---- a task leaves
 
 -- the counts of the slot of a task
-alone : (slots : List Entry) (outlines : List Outline) (front : List ℕ) (s : ℕ) (back free masks : List ℕ) (blocks active : ℕ) → FitTogether slots outlines (front ++ s ∷ back) free masks blocks active → s < 64 → (count_of s front ≡ 0) × (count_of s back ≡ 0)
-alone slots outlines front s back free masks blocks active h small =
+alone : (layout : Layout) (front : List ℕ) (s : ℕ) (back : List ℕ) → FitTogether (record layout { order = front ++ s ∷ back }) → s < 64 → (count_of s front ≡ 0) × (count_of s back ≡ 0)
+alone layout front s back h small =
     let e = count-append s front (s ∷ back) in
     let o = h.once s small in
     let one : count_of s (s ∷ back) ≡ 1 + count_of s back = rw (eq-eqb s s refl) (omega arith) in
     (omega (arith, e, o, one), omega (arith, e, o, one))
 
-pub sound_without : (slots : List Entry) (outlines : List Outline) (front : List ℕ) (s : ℕ) (back free masks : List ℕ) (blocks active : ℕ) (e other : Entry) → FitTogether slots outlines (front ++ s ∷ back) free masks blocks active → get_or slots s no_entry ≡ e →
-    FitTogether (set slots s other) outlines (front ++ back) (free ++ s ∷ []) (cleared masks s) (blocks - e.blocks) (clear_bit s active)
-    × (tasks_in (set slots s other) (front ++ back) ≡ tasks_in slots (front ++ back)) × (e.blocks ≤ blocks)
-sound_without slots outlines front s back free masks blocks active e other h is =
+-- what is kept once the task in a slot was taken out, and another entry lies there
+abbrev without : Layout → ℕ → Entry → Entry → List ℕ → Layout
+without layout s e other order = record layout {
+  slots = set layout.slots s other;
+  order = order;
+  free = layout.free ++ s ∷ [];
+  masks = cleared layout.masks s;
+  blocks = layout.blocks - e.blocks;
+  active = clear_bit s layout.active;
+}
+
+pub sound_without : (layout : Layout) (front : List ℕ) (s : ℕ) (back : List ℕ) (e other : Entry) → FitTogether (record layout { order = front ++ s ∷ back }) → get_or layout.slots s no_entry ≡ e →
+    FitTogether (without layout s e other (front ++ back))
+    × (tasks_in (set layout.slots s other) (front ++ back) ≡ tasks_in layout.slots (front ++ back)) × (e.blocks ≤ layout.blocks)
+sound_without layout front s back e other h is =
     let at : s < 64 = (All-right (λ q. q < 64) front (s ∷ back) h.taken).0 in
-    let out = alone slots outlines front s back free masks blocks active h at in
+    let out = alone layout front s back h at in
     let none : count_of s (front ++ back) ≡ 0 = omega (arith, count-append s front back, out.0, out.1) in
-    let same : tasks_in (set slots s other) (front ++ back) ≡ tasks_in slots (front ++ back) = tasks_set_other slots s other (front ++ back) none in
+    let same : tasks_in (set layout.slots s other) (front ++ back) ≡ tasks_in layout.slots (front ++ back) = tasks_set_other layout.slots s other (front ++ back) none in
     let taken : AllByRecursion (λ q. q < 64) (front ++ back) = All-append (λ q. q < 64) front back (All-left (λ q. q < 64) front (s ∷ back) h.taken) (All-right (λ q. q < 64) front (s ∷ back) h.taken).1 in
-    let parts : map mark_of (tasks_in slots (front ++ s ∷ back)) ≡ map mark_of (tasks_in slots front) ++ mark_of (held_in slots s) ∷ map mark_of (tasks_in slots back)
-    = ap (map mark_of) (map-append (held_in slots) front (s ∷ back)) ∙ map-append mark_of (tasks_in slots front) (tasks_in slots (s ∷ back)) in
-    let whole : map mark_of (tasks_in slots (front ++ back)) ≡ map mark_of (tasks_in slots front) ++ map mark_of (tasks_in slots back)
-    = ap (map mark_of) (map-append (held_in slots) front back) ∙ map-append mark_of (tasks_in slots front) (tasks_in slots back) in
-    let full : HaveMasks [] (map mark_of (tasks_in slots front) ++ map mark_of (tasks_in slots back)) (cleared masks s)
-    = are_removed (map mark_of (tasks_in slots front)) (mark_of (held_in slots s)) (map mark_of (tasks_in slots back)) masks at (has_not slots s front out.0) (has_not slots s back out.1)
-    (subst (λ l. HaveMasks [] l masks) parts h.masked.full) in
-    let blocks_is : total_blocks (tasks_in slots (front ++ back)) + e.blocks ≡ blocks
-    = sum_out (tasks_in slots front) (held_in slots s) (tasks_in slots back) (tasks_in slots (front ++ back)) (tasks_in slots (front ++ s ∷ back)) e blocks
-    (map-append (held_in slots) front back) (map-append (held_in slots) front (s ∷ back)) is h.total in (
+    let parts : map mark_of (tasks_in layout.slots (front ++ s ∷ back)) ≡ map mark_of (tasks_in layout.slots front) ++ mark_of (held_in layout.slots s) ∷ map mark_of (tasks_in layout.slots back)
+    = ap (map mark_of) (map-append (held_in layout.slots) front (s ∷ back)) ∙ map-append mark_of (tasks_in layout.slots front) (tasks_in layout.slots (s ∷ back)) in
+    let whole : map mark_of (tasks_in layout.slots (front ++ back)) ≡ map mark_of (tasks_in layout.slots front) ++ map mark_of (tasks_in layout.slots back)
+    = ap (map mark_of) (map-append (held_in layout.slots) front back) ∙ map-append mark_of (tasks_in layout.slots front) (tasks_in layout.slots back) in
+    let full : HaveMasks [] (map mark_of (tasks_in layout.slots front) ++ map mark_of (tasks_in layout.slots back)) (cleared layout.masks s)
+    = are_removed (map mark_of (tasks_in layout.slots front)) (mark_of (held_in layout.slots s)) (map mark_of (tasks_in layout.slots back)) layout.masks at (has_not layout.slots s front out.0) (has_not layout.slots s back out.1)
+    (subst (λ l. HaveMasks [] l layout.masks) parts h.masked.full) in
+    let blocks_is : total_blocks (tasks_in layout.slots (front ++ back)) + e.blocks ≡ layout.blocks
+    = sum_out (tasks_in layout.slots front) (held_in layout.slots s) (tasks_in layout.slots back) (tasks_in layout.slots (front ++ back)) (tasks_in layout.slots (front ++ s ∷ back)) e layout.blocks
+    (map-append (held_in layout.slots) front back) (map-append (held_in layout.slots) front (s ∷ back)) is h.total in (
       record {
-        room = length-set slots s other ∙ h.room;
-        wide = length-set (map (clear_bit s) masks) s 0 ∙ length-map masks (clear_bit s) ∙ h.wide;
+        room = length-set layout.slots s other ∙ h.room;
+        wide = length-set (map (clear_bit s) layout.masks) s 0 ∙ length-map layout.masks (clear_bit s) ∙ h.wide;
         taken = taken;
-        small = All-append (λ q. q < 64) free (s ∷ []) h.small (at, tt);
-        once = λ q lt. omega (arith, h.once q lt, count-append q front (s ∷ back), count-append q front back, count-append q free (s ∷ []));
-        count = omega (arith, h.count, length-append front (s ∷ back), length-append front back, length-append free (s ∷ []));
+        small = All-append (λ q. q < 64) layout.free (s ∷ []) h.small (at, tt);
+        once = λ q lt. omega (arith, h.once q lt, count-append q front (s ∷ back), count-append q front back, count-append q layout.free (s ∷ []));
+        count = omega (arith, h.count, length-append front (s ∷ back), length-append front back, length-append layout.free (s ∷ []));
         masked = record {
-          full = subst (λ l. HaveMasks [] (map mark_of l) (cleared masks s)) (sym same) (subst (λ l. HaveMasks [] l (cleared masks s)) (sym whole) full);
-          empty = λ q gone. empty_out q (ap (count_of q) (sym (slots_of_tasks (set slots s other) (front ++ back))) ∙ gone);
+          full = subst (λ l. HaveMasks [] (map mark_of l) (cleared layout.masks s)) (sym same) (subst (λ l. HaveMasks [] l (cleared layout.masks s)) (sym whole) full);
+          empty = λ q gone. empty_out q (ap (count_of q) (sym (slots_of_tasks (set layout.slots s other) (front ++ back))) ∙ gone);
         };
         outlined = record {
           room = h.outlined.room;
-          each = entry_other slots outlines s other (front ++ back) none (All-append (λ q. IsOutline (get_or slots q no_entry) (outline_in outlines q)) front back
-              (All-left (λ q. IsOutline (get_or slots q no_entry) (outline_in outlines q)) front (s ∷ back) h.outlined.each)
-              (All-right (λ q. IsOutline (get_or slots q no_entry) (outline_in outlines q)) front (s ∷ back) h.outlined.each).1);
+          each = entry_other layout.slots layout.outlines s other (front ++ back) none (All-append (λ q. IsOutline (get_or layout.slots q no_entry) (outline_in layout.outlines q)) front back
+              (All-left (λ q. IsOutline (get_or layout.slots q no_entry) (outline_in layout.outlines q)) front (s ∷ back) h.outlined.each)
+              (All-right (λ q. IsOutline (get_or layout.slots q no_entry) (outline_in layout.outlines q)) front (s ∷ back) h.outlined.each).1);
         };
         total = ap total_blocks same ∙ omega (arith, blocks_is);
         few = omega (arith, h.few);
-        noted = noted_without outlines front s back free active at out.0 out.1 (omega (arith, h.once s at, count-append s front (s ∷ back), count_of-first s back)) h.taken h.small h.noted;
+        noted = noted_without layout.outlines front s back layout.free layout.active at out.0 out.1 (omega (arith, h.once s at, count-append s front (s ∷ back), count_of-first s back)) h.taken h.small h.noted;
       },
       same,
       omega (arith, blocks_is),
@@ -267,74 +278,86 @@ sound_without slots outlines front s back free masks blocks active e other h is 
         let third : x.entry.blocks ≡ e.blocks = ap (λ v. v.blocks) k in
         omega (arith, first, second, third, t)
 
-    empty_out : (q : ℕ) → count_of q (front ++ back) ≡ 0 → get_or (cleared masks s) q 0 ≡ 0
+    empty_out : (q : ℕ) → count_of q (front ++ back) ≡ 0 → get_or (cleared layout.masks s) q 0 ≡ 0
     empty_out q gone =
-        (elim (q == s) as (λ b. (q == s) ≡ b → get_or (cleared masks s) q 0 ≡ 0) [
-          | true ↦ λ i. subst (λ r. get_or (cleared masks s) r 0 ≡ 0) (sym (eqb-true q s i)) (get_or-set_same (map (clear_bit s) masks) s 0 0
-              (let at : s < 64 = (All-right (λ q. q < 64) front (s ∷ back) h.taken).0 in omega (arith, at, length-map masks (clear_bit s), h.wide)))
-          | false ↦ λ i. get_or-cleared masks s q i ∙ ap (clear_bit s) (h.masked.empty q (
-              ap (count_of q) (slots_of_tasks slots (front ++ s ∷ back)) ∙ (let o : count_of q (s ∷ []) ≡ 0 = count_other q s i in
+        (elim (q == s) as (λ b. (q == s) ≡ b → get_or (cleared layout.masks s) q 0 ≡ 0) [
+          | true ↦ λ i. subst (λ r. get_or (cleared layout.masks s) r 0 ≡ 0) (sym (eqb-true q s i)) (get_or-set_same (map (clear_bit s) layout.masks) s 0 0
+              (let at : s < 64 = (All-right (λ q. q < 64) front (s ∷ back) h.taken).0 in omega (arith, at, length-map layout.masks (clear_bit s), h.wide)))
+          | false ↦ λ i. get_or-cleared layout.masks s q i ∙ ap (clear_bit s) (h.masked.empty q (
+              ap (count_of q) (slots_of_tasks layout.slots (front ++ s ∷ back)) ∙ (let o : count_of q (s ∷ []) ≡ 0 = count_other q s i in
               omega (arith, gone, o, count-append q front (s ∷ back), count-append q front back)))) ∙ and_zero_l (bit_not w64 (1 * 2 ^ s % 2 ^ 64))
         ]) refl
 
 -- ---- a task comes
 
-pub sound_with : (slots : List Entry) (outlines : List Outline) (order free : List ℕ) (s : ℕ) (masks : List ℕ) (blocks active mask : ℕ) (e : Entry) (o : Outline) → IsOutline e o → FitTogether slots outlines order (free ++ s ∷ []) masks blocks active → blocks + e.blocks ≤ 32768 → IsMask (map mark_of (tasks_in slots order)) (access_of e) mask →
-    FitTogether (set slots s e) (set outlines s o) (order ++ s ∷ []) free (set masks s mask) (blocks + e.blocks) (with_slot (is_active o) s active)
-    × (tasks_in (set slots s e) (order ++ s ∷ []) ≡ tasks_in slots order ++ record { slot = s; entry = e } ∷ []) × (s < 64) × (count_of s order ≡ 0)
-sound_with slots outlines order free s masks blocks active mask e o own h fits is =
+-- what is kept once a task with this outline and mask lies in a slot, which was the last free one behind these
+abbrev with_task : Layout → ℕ → Entry → Outline → ℕ → List ℕ → Layout
+with_task layout s e o mask free = record {
+  slots = set layout.slots s e;
+  outlines = set layout.outlines s o;
+  order = layout.order ++ s ∷ [];
+  free = free;
+  masks = set layout.masks s mask;
+  blocks = layout.blocks + e.blocks;
+  active = with_slot (is_active o) s layout.active;
+}
+
+pub sound_with : (layout : Layout) (free : List ℕ) (s mask : ℕ) (e : Entry) (o : Outline) → IsOutline e o → FitTogether (record layout { free = free ++ s ∷ [] }) → layout.blocks + e.blocks ≤ 32768 → IsMask (map mark_of (tasks_in layout.slots layout.order)) (access_of e) mask →
+    FitTogether (with_task layout s e o mask free)
+    × (tasks_in (set layout.slots s e) (layout.order ++ s ∷ []) ≡ tasks_in layout.slots layout.order ++ record { slot = s; entry = e } ∷ []) × (s < 64) × (count_of s layout.order ≡ 0)
+sound_with layout free s mask e o own h fits is =
     let small : s < 64 = (All-right (λ q. q < 64) free (s ∷ []) h.small).0 in
-    let none : count_of s order ≡ 0 = omega (arith, h.once s small, count-append s free (s ∷ []), count_one s) in
-    let here : get_or (set slots s e) s no_entry ≡ e = get_or-set_same slots s e no_entry (omega (arith, h.room)) in
-    let before : tasks_in (set slots s e) order ≡ tasks_in slots order = tasks_set_other slots s e order none in
-    let last : held_in (set slots s e) s ≡ record { slot = s; entry = e } = ap (λ o. record { slot = s; entry = o }) here in
-    let tasks : tasks_in (set slots s e) (order ++ s ∷ []) ≡ tasks_in slots order ++ record { slot = s; entry = e } ∷ []
-    = map-append (held_in (set slots s e)) order (s ∷ []) ∙ ap (λ l. l ++ held_in (set slots s e) s ∷ []) before ∙ ap (λ x. tasks_in slots order ++ x ∷ []) last in
-    let marks : map mark_of (tasks_in slots order ++ record { slot = s; entry = e } ∷ []) ≡ map mark_of (tasks_in slots order) ++ record { slot = s; access = access_of e } ∷ []
-    = map-append mark_of (tasks_in slots order) (record { slot = s; entry = e } ∷ []) in (
+    let none : count_of s layout.order ≡ 0 = omega (arith, h.once s small, count-append s free (s ∷ []), count_one s) in
+    let here : get_or (set layout.slots s e) s no_entry ≡ e = get_or-set_same layout.slots s e no_entry (omega (arith, h.room)) in
+    let before : tasks_in (set layout.slots s e) layout.order ≡ tasks_in layout.slots layout.order = tasks_set_other layout.slots s e layout.order none in
+    let last : held_in (set layout.slots s e) s ≡ record { slot = s; entry = e } = ap (λ o. record { slot = s; entry = o }) here in
+    let tasks : tasks_in (set layout.slots s e) (layout.order ++ s ∷ []) ≡ tasks_in layout.slots layout.order ++ record { slot = s; entry = e } ∷ []
+    = map-append (held_in (set layout.slots s e)) layout.order (s ∷ []) ∙ ap (λ l. l ++ held_in (set layout.slots s e) s ∷ []) before ∙ ap (λ x. tasks_in layout.slots layout.order ++ x ∷ []) last in
+    let marks : map mark_of (tasks_in layout.slots layout.order ++ record { slot = s; entry = e } ∷ []) ≡ map mark_of (tasks_in layout.slots layout.order) ++ record { slot = s; access = access_of e } ∷ []
+    = map-append mark_of (tasks_in layout.slots layout.order) (record { slot = s; entry = e } ∷ []) in (
       record {
-        room = length-set slots s e ∙ h.room;
-        wide = length-set masks s mask ∙ h.wide;
-        taken = All-append (λ q. q < 64) order (s ∷ []) h.taken (small, tt);
+        room = length-set layout.slots s e ∙ h.room;
+        wide = length-set layout.masks s mask ∙ h.wide;
+        taken = All-append (λ q. q < 64) layout.order (s ∷ []) h.taken (small, tt);
         small = All-left (λ q. q < 64) free (s ∷ []) h.small;
-        once = λ q lt. omega (arith, h.once q lt, count-append q order (s ∷ []), count-append q free (s ∷ []));
-        count = omega (arith, h.count, length-append order (s ∷ []), length-append free (s ∷ []));
+        once = λ q lt. omega (arith, h.once q lt, count-append q layout.order (s ∷ []), count-append q free (s ∷ []));
+        count = omega (arith, h.count, length-append layout.order (s ∷ []), length-append free (s ∷ []));
         masked = record {
-          full = subst (λ l. HaveMasks [] (map mark_of l) (set masks s mask)) (sym tasks) (subst (λ l. HaveMasks [] l (set masks s mask)) (sym marks)
-              (are_added (map mark_of (tasks_in slots order)) (record { slot = s; access = access_of e }) masks mask (omega (arith, h.wide)) (has_not slots s order none) h.masked.full is));
-          empty = λ q gone. empty_in q (ap (count_of q) (sym (slots_of_tasks (set slots s e) (order ++ s ∷ []))) ∙ gone);
+          full = subst (λ l. HaveMasks [] (map mark_of l) (set layout.masks s mask)) (sym tasks) (subst (λ l. HaveMasks [] l (set layout.masks s mask)) (sym marks)
+              (are_added (map mark_of (tasks_in layout.slots layout.order)) (record { slot = s; access = access_of e }) layout.masks mask (omega (arith, h.wide)) (has_not layout.slots s layout.order none) h.masked.full is));
+          empty = λ q gone. empty_in q (ap (count_of q) (sym (slots_of_tasks (set layout.slots s e) (layout.order ++ s ∷ []))) ∙ gone);
         };
         outlined = record {
-          room = length-set outlines s o ∙ h.outlined.room;
-          each = All-append (λ q. IsOutline (get_or (set slots s e) q no_entry) (outline_in (set outlines s o) q)) order (s ∷ []) (outline_other slots outlines s e o order none h.outlined.each) (
-            subst (λ x. IsOutline x (outline_in (set outlines s o) s)) (sym here)
-                (subst (λ p. IsOutline e p) (sym (get_or-set_same outlines s o no_outline (omega (arith, h.outlined.room)))) own),
+          room = length-set layout.outlines s o ∙ h.outlined.room;
+          each = All-append (λ q. IsOutline (get_or (set layout.slots s e) q no_entry) (outline_in (set layout.outlines s o) q)) layout.order (s ∷ []) (outline_other layout.slots layout.outlines s e o layout.order none h.outlined.each) (
+            subst (λ x. IsOutline x (outline_in (set layout.outlines s o) s)) (sym here)
+                (subst (λ p. IsOutline e p) (sym (get_or-set_same layout.outlines s o no_outline (omega (arith, h.outlined.room)))) own),
             tt,
           );
         };
-        total = ap total_blocks tasks ∙ omega (arith, total-append (tasks_in slots order) (record { slot = s; entry = e } ∷ []), h.total);
+        total = ap total_blocks tasks ∙ omega (arith, total-append (tasks_in layout.slots layout.order) (record { slot = s; entry = e } ∷ []), h.total);
         few = fits;
-        noted = noted_with outlines order free s active o small (omega (arith, h.outlined.room)) none (omega (arith, h.once s small, count-append s free (s ∷ []), count_one s)) h.noted;
+        noted = noted_with layout.outlines layout.order free s layout.active o small (omega (arith, h.outlined.room)) none (omega (arith, h.once s small, count-append s free (s ∷ []), count_one s)) h.noted;
       },
       tasks,
       small,
       none,
     )
   where
-    empty_in : (q : ℕ) → count_of q (order ++ s ∷ []) ≡ 0 → get_or (set masks s mask) q 0 ≡ 0
+    empty_in : (q : ℕ) → count_of q (layout.order ++ s ∷ []) ≡ 0 → get_or (set layout.masks s mask) q 0 ≡ 0
     empty_in q gone =
-        let gone_order : count_of q order ≡ 0 = omega (arith, gone, count-append q order (s ∷ [])) in
-        let gone_last : count_of q (s ∷ []) ≡ 0 = omega (arith, gone, count-append q order (s ∷ [])) in
+        let gone_order : count_of q layout.order ≡ 0 = omega (arith, gone, count-append q layout.order (s ∷ [])) in
+        let gone_last : count_of q (s ∷ []) ≡ 0 = omega (arith, gone, count-append q layout.order (s ∷ [])) in
         let other = head_out q s 0 gone_last in
-        get_or-set_other masks s q mask 0 (λ same. eqb-false s q other.0 (sym same)) ∙ h.masked.empty q (ap (count_of q) (slots_of_tasks slots order) ∙ gone_order)
+        get_or-set_other layout.masks s q mask 0 (λ same. eqb-false s q other.0 (sym same)) ∙ h.masked.empty q (ap (count_of q) (slots_of_tasks layout.slots layout.order) ∙ gone_order)
 
 -- ---- the steps as the code takes them
 
-pub record Leaves (tasks : List Held) (place : ℕ) (e : Entry) (slots' : List Entry) (outlines : List Outline) (order' free' masks' : List ℕ) (blocks active : ℕ) : Type 0 where
-  pub sound : FitTogether slots' outlines order' free' masks' (blocks - e.blocks) active
-  pub rest : tasks_in slots' order' ≡ remove tasks place
+pub record Leaves (tasks : List Held) (place : ℕ) (e : Entry) (old new : Layout) : Type 0 where
+  pub sound : FitTogether new
+  pub rest : tasks_in new.slots new.order ≡ remove tasks place
   pub value : entry_at tasks place ≡ Some e
-  pub less : e.blocks ≤ blocks
+  pub less : e.blocks ≤ old.blocks
 
 -- the entry at a place lies in the slot of that place
 pub entry_at_is : (slots : List Entry) (order : List ℕ) (place s : ℕ) (e : Entry) → place < length order → s ≡ get_or order place s → get_or slots s no_entry ≡ e → entry_at (tasks_in slots order) place ≡ Some e
@@ -344,57 +367,58 @@ entry_at_is slots order place s e lt at is =
     ∙ ap (λ q. Some (get_or slots q no_entry)) (sym at)
     ∙ ap Some is
 
-pub leaves : (slots : List Entry) (outlines : List Outline) (order free masks : List ℕ) (blocks active : ℕ) (tasks : List Held) (place s : ℕ) (seen other e : Entry) (order' free' masks' : List ℕ) →
-    FitTogether slots outlines order free masks blocks active → tasks_in slots order ≡ tasks → place < length tasks → s ≡ get_or order place s → seen ≡ get_or slots s seen → e ≡ seen →
-    order' ≡ remove order place → free' ≡ free ++ s ∷ [] → masks' ≡ cleared masks s → Leaves tasks place e (set slots s other) outlines order' free' masks' blocks (clear_bit s active)
-leaves slots outlines order free masks blocks active tasks place s seen other e order' free' masks' sound is lt at seen_is e_is order_is free_is masks_is =
-    let within : place < length order = omega (arith, length-map order (held_in slots), ap length is) in
-    let small : s < 64 = subst (λ q. q < 64) (sym at) (All-at (λ q. q < 64) order place s within sound.taken) in
-    let here : get_or slots s no_entry ≡ e = get_or_default slots s no_entry seen (omega (arith, small, sound.room)) ∙ sym seen_is ∙ sym e_is in
-    let order_parts : order ≡ take place order ++ s ∷ drop (suc place) order = parted order place s within ∙ ap (λ q. take place order ++ q ∷ drop (suc place) order) (sym at) in
-    let r = sound_without slots outlines (take place order) s (drop (suc place) order) free masks blocks active e other (subst (λ l. FitTogether slots outlines l free masks blocks active) order_parts sound) here in
-    let tasks_is : tasks_in (set slots s other) (remove order place) ≡ remove tasks place = r.1 ∙ remove-map (held_in slots) order place ∙ ap (λ l. remove l place) is in
+pub leaves : (layout : Layout) (tasks : List Held) (place s : ℕ) (seen other e : Entry) (order' free' masks' : List ℕ) →
+    FitTogether layout → tasks_in layout.slots layout.order ≡ tasks → place < length tasks → s ≡ get_or layout.order place s → seen ≡ get_or layout.slots s seen → e ≡ seen →
+    order' ≡ remove layout.order place → free' ≡ layout.free ++ s ∷ [] → masks' ≡ cleared layout.masks s →
+    Leaves tasks place e layout (record (without layout s e other order') { free = free'; masks = masks' })
+leaves layout tasks place s seen other e order' free' masks' sound is lt at seen_is e_is order_is free_is masks_is =
+    let within : place < length layout.order = omega (arith, length-map layout.order (held_in layout.slots), ap length is) in
+    let small : s < 64 = subst (λ q. q < 64) (sym at) (All-at (λ q. q < 64) layout.order place s within sound.taken) in
+    let here : get_or layout.slots s no_entry ≡ e = get_or_default layout.slots s no_entry seen (omega (arith, small, sound.room)) ∙ sym seen_is ∙ sym e_is in
+    let order_parts : layout.order ≡ take place layout.order ++ s ∷ drop (suc place) layout.order = parted layout.order place s within ∙ ap (λ q. take place layout.order ++ q ∷ drop (suc place) layout.order) (sym at) in
+    let r = sound_without layout (take place layout.order) s (drop (suc place) layout.order) e other (subst (λ l. FitTogether (record layout { order = l })) order_parts sound) here in
+    let tasks_is : tasks_in (set layout.slots s other) (remove layout.order place) ≡ remove tasks place = r.1 ∙ remove-map (held_in layout.slots) layout.order place ∙ ap (λ l. remove l place) is in
     record {
-      sound = subst (λ l. FitTogether (set slots s other) outlines l free' masks' (blocks - e.blocks) (clear_bit s active)) (sym order_is)
-          (subst (λ l. FitTogether (set slots s other) outlines (remove order place) l masks' (blocks - e.blocks) (clear_bit s active)) (sym free_is)
-          (subst (λ l. FitTogether (set slots s other) outlines (remove order place) (free ++ s ∷ []) l (blocks - e.blocks) (clear_bit s active)) (sym masks_is) r.0));
-      rest = ap (tasks_in (set slots s other)) order_is ∙ tasks_is;
-      value = ap (λ l. entry_at l place) (sym is) ∙ entry_at_is slots order place s e within at here;
+      sound = subst (λ l. FitTogether (record (without layout s e other l) { free = free'; masks = masks' })) (sym order_is)
+          (subst (λ l. FitTogether (record (without layout s e other (remove layout.order place)) { free = l; masks = masks' })) (sym free_is)
+          (subst (λ l. FitTogether (record (without layout s e other (remove layout.order place)) { masks = l })) (sym masks_is) r.0));
+      rest = ap (tasks_in (set layout.slots s other)) order_is ∙ tasks_is;
+      value = ap (λ l. entry_at l place) (sym is) ∙ entry_at_is layout.slots layout.order place s e within at here;
       less = r.2;
     }
 
-pub record Comes (old : List Held) (e : Entry) (slots' : List Entry) (outlines : List Outline) (order' free' masks' : List ℕ) (blocks active : ℕ) : Type 0 where
-  pub sound : FitTogether slots' outlines order' free' masks' blocks active
-  pub adds : Adds old e (tasks_in slots' order')
+pub record Comes (old : List Held) (e : Entry) (layout : Layout) : Type 0 where
+  pub sound : FitTogether layout
+  pub adds : Adds old e (tasks_in layout.slots layout.order)
 
-comes : (slots : List Entry) (outlines : List Outline) (order free freed : List ℕ) (s : ℕ) (masks : List ℕ) (blocks active mask : ℕ) (e : Entry) (o : Outline) (old : List Held) (order' : List ℕ) → IsOutline e o →
-    FitTogether slots outlines order free masks blocks active → tasks_in slots order ≡ old → free ≡ freed ++ s ∷ [] → IsMask (map mark_of old) (access_of e) mask → order' ≡ order ++ s ∷ [] → blocks + e.blocks ≤ 32768 →
-    Comes old e (set slots s e) (set outlines s o) order' freed (set masks s mask) (blocks + e.blocks) (with_slot (is_active o) s active)
-comes slots outlines order free freed s masks blocks active mask e o old order' own sound is free_is mask_is order_is fits =
-    let r = sound_with slots outlines order freed s masks blocks active mask e o own (subst (λ l. FitTogether slots outlines order l masks blocks active) free_is sound) fits (subst (λ l. IsMask (map mark_of l) (access_of e) mask) (sym is) mask_is) in
+comes : (layout : Layout) (freed : List ℕ) (s mask : ℕ) (e : Entry) (o : Outline) (old : List Held) (order' : List ℕ) → IsOutline e o →
+    FitTogether layout → tasks_in layout.slots layout.order ≡ old → layout.free ≡ freed ++ s ∷ [] → IsMask (map mark_of old) (access_of e) mask → order' ≡ layout.order ++ s ∷ [] → layout.blocks + e.blocks ≤ 32768 →
+    Comes old e (record (with_task layout s e o mask freed) { order = order' })
+comes layout freed s mask e o old order' own sound is free_is mask_is order_is fits =
+    let r = sound_with layout freed s mask e o own (subst (λ l. FitTogether (record layout { free = l })) free_is sound) fits (subst (λ l. IsMask (map mark_of l) (access_of e) mask) (sym is) mask_is) in
     record {
-      sound = subst (λ l. FitTogether (set slots s e) (set outlines s o) l freed (set masks s mask) (blocks + e.blocks) (with_slot (is_active o) s active)) (sym order_is) r.0;
+      sound = subst (λ l. FitTogether (record (with_task layout s e o mask freed) { order = l })) (sym order_is) r.0;
       adds = record {
         slot = s;
         small = r.2;
         vacant = vacant_is is r.3;
-        last = ap (tasks_in (set slots s e)) order_is ∙ r.1 ∙ ap (λ l. l ++ record { slot = s; entry = e } ∷ []) is;
+        last = ap (tasks_in (set layout.slots s e)) order_is ∙ r.1 ∙ ap (λ l. l ++ record { slot = s; entry = e } ∷ []) is;
       };
     }
   where
-    vacant_is : tasks_in slots order ≡ old → count_of s order ≡ 0 → count_of s (slots_of old) ≡ 0
-    vacant_is i h = ap (λ l. count_of s (slots_of l)) (sym i) ∙ ap (count_of s) (slots_of_tasks slots order) ∙ h
+    vacant_is : tasks_in layout.slots layout.order ≡ old → count_of s layout.order ≡ 0 → count_of s (slots_of old) ≡ 0
+    vacant_is i h = ap (λ l. count_of s (slots_of l)) (sym i) ∙ ap (count_of s) (slots_of_tasks layout.slots layout.order) ∙ h
 
 -- the same where the task is read from one place, and lies in another
-pub comes_from : (slots : List Entry) (outlines : List Outline) (order free freed : List ℕ) (s : ℕ) (masks : List ℕ) (blocks active active' mask : ℕ) (e read put : Entry) (o : Outline) (old : List Held) (order' : List ℕ) → IsOutline read o →
-    FitTogether slots outlines order free masks blocks active → tasks_in slots order ≡ old → free ≡ freed ++ s ∷ [] → IsMask (map mark_of old) (access_of read) mask → order' ≡ order ++ s ∷ [] → blocks + read.blocks ≤ 32768 → read ≡ e → put ≡ e → active' ≡ with_slot (is_active o) s active →
-    Comes old e (set slots s put) (set outlines s o) order' freed (set masks s mask) (blocks + read.blocks) active'
-comes_from slots outlines order free freed s masks blocks active active' mask e read put o old order' own sound is free_is mask_is order_is fits read_is put_is active_is =
-    subst (λ n. Comes old e (set slots s put) (set outlines s o) order' freed (set masks s mask) (blocks + read.blocks) n) (sym active_is)
-    (subst (λ x. Comes old e (set slots s x) (set outlines s o) order' freed (set masks s mask) (blocks + read.blocks) (with_slot (is_active o) s active)) (sym put_is)
-    (subst (λ (r : Entry). Comes old e (set slots s e) (set outlines s o) order' freed (set masks s mask) (blocks + r.blocks) (with_slot (is_active o) s active)) (sym read_is)
-    (comes slots outlines order free freed s masks blocks active mask e o old order' (subst (λ (r : Entry). IsOutline r o) read_is own) sound is free_is
-    (subst (λ (r : Entry). IsMask (map mark_of old) (access_of r) mask) read_is mask_is) order_is (subst (λ (r : Entry). blocks + r.blocks ≤ 32768) read_is fits))))
+pub comes_from : (layout : Layout) (freed : List ℕ) (s active' mask : ℕ) (e read put : Entry) (o : Outline) (old : List Held) (order' : List ℕ) → IsOutline read o →
+    FitTogether layout → tasks_in layout.slots layout.order ≡ old → layout.free ≡ freed ++ s ∷ [] → IsMask (map mark_of old) (access_of read) mask → order' ≡ layout.order ++ s ∷ [] → layout.blocks + read.blocks ≤ 32768 → read ≡ e → put ≡ e → active' ≡ with_slot (is_active o) s layout.active →
+    Comes old e (record (with_task layout s put o mask freed) { order = order'; blocks = layout.blocks + read.blocks; active = active' })
+comes_from layout freed s active' mask e read put o old order' own sound is free_is mask_is order_is fits read_is put_is active_is =
+    subst (λ n. Comes old e (record (with_task layout s put o mask freed) { order = order'; blocks = layout.blocks + read.blocks; active = n })) (sym active_is)
+    (subst (λ x. Comes old e (record (with_task layout s x o mask freed) { order = order'; blocks = layout.blocks + read.blocks })) (sym put_is)
+    (subst (λ (r : Entry). Comes old e (record (with_task layout s e o mask freed) { order = order'; blocks = layout.blocks + r.blocks })) (sym read_is)
+    (comes layout freed s mask e o old order' (subst (λ (r : Entry). IsOutline r o) read_is own) sound is free_is
+    (subst (λ (r : Entry). IsMask (map mark_of old) (access_of r) mask) read_is mask_is) order_is (subst (λ (r : Entry). layout.blocks + r.blocks ≤ 32768) read_is fits))))
 
 -- one more slot is looked at
 module _ (slots : List Entry) (order : List ℕ) (i : ℕ) (u e : Entry) (mask new : ℕ) (within : i < length order) (is : u ≡ get_or slots (get_or order i 0) no_entry) (so_far : IsMask (map mark_of (tasks_in slots (take i order))) (access_of e) mask) where
@@ -428,9 +452,10 @@ walk_step f xs init i d is lt =
     go (x ∷ xs) (suc i) lt = ap (λ l. f x ∷ l) (go xs i (omega arith))
 
 -- slots with nothing in them
-pub sound_new : (slots : List Entry) (outlines : List Outline) (free masks order : List ℕ) → length outlines ≡ 64 → length slots ≡ 64 → order ≡ [] → masks ≡ replicate 64 0 → length free ≡ 64 → AllByRecursion (λ q. q < 64) free → ((q : ℕ) → q < 64 → count_of q free ≡ 1) → FitTogether slots outlines order free masks 0 0
+pub sound_new : (slots : List Entry) (outlines : List Outline) (free masks order : List ℕ) → length outlines ≡ 64 → length slots ≡ 64 → order ≡ [] → masks ≡ replicate 64 0 → length free ≡ 64 → AllByRecursion (λ q. q < 64) free → ((q : ℕ) → q < 64 → count_of q free ≡ 1) →
+    FitTogether (record { slots = slots; outlines = outlines; order = order; free = free; masks = masks; blocks = 0; active = 0 })
 sound_new slots outlines free masks order wide room none zeros long small once =
-    subst (λ l. FitTogether slots outlines l free masks 0 0) (sym none) (record {
+    subst (λ l. FitTogether (record { slots = slots; outlines = outlines; order = l; free = free; masks = masks; blocks = 0; active = 0 })) (sym none) (record {
       room = room;
       wide = ap length zeros;
       taken = tt;
@@ -531,9 +556,9 @@ count_at [] k s lt is = absurd (omega arith)
 count_at (q ∷ qs) zero s lt is = let e = eq-eqb q s is in rw e (omega arith)
 count_at (q ∷ qs) (suc k) s lt is = let r = count_at qs k s (omega arith) is in omega arith
 
-pub record Changes (tasks : List Held) (place : ℕ) (body : List Block) (slots' : List Entry) (outlines : List Outline) (order free masks : List ℕ) (blocks active : ℕ) : Type 0 where
-  pub sound : FitTogether slots' outlines order free masks blocks active
-  pub rest : tasks_in slots' order ≡ change_task (with_body body) tasks place
+pub record Changes (tasks : List Held) (place : ℕ) (body : List Block) (layout : Layout) : Type 0 where
+  pub sound : FitTogether layout
+  pub rest : tasks_in layout.slots layout.order ≡ change_task (with_body body) tasks place
 
 module _ (slots : List Entry) (s : ℕ) (body : List Block) (within : s < length slots) where
   abbrev changed : List Entry
@@ -585,38 +610,38 @@ module _ (slots : List Entry) (s : ℕ) (body : List Block) (within : s < length
       apart : (q n : ℕ) → (if q == s then 1 else 0) + n ≤ 1 → 1 ≤ n → ((q == s) ≡ false) × (n ≤ 1)
       apart q n h some = (elim (q == s) as (λ b. (if b then 1 else 0) + n ≤ 1 → (b ≡ false) × (n ≤ 1)) [ true ↦ λ e. absurd (omega arith) | false ↦ λ e. (refl, omega arith) ]) h
 
-pub changes : (slots : List Entry) (outlines : List Outline) (order free masks : List ℕ) (blocks active : ℕ) (tasks : List Held) (place : ℕ) (seen : List ℕ) (body : List Block) (slots' : List Entry) → FitTogether slots outlines order free masks blocks active → tasks_in slots order ≡ tasks → place < length tasks → seen ≡ order →
-    slots' ≡ set slots (get_or seen place 0) (with_body body (held_in slots (get_or seen place 0))).entry → Changes tasks place body slots' outlines order free masks blocks active
-changes slots outlines order free masks blocks active tasks place seen body slots' sound is lt same slots_is =
-    let s : ℕ = get_or order place 0 in
-    let within : place < length order = omega (arith, length-map order (held_in slots), ap length is) in
-    let small : s < 64 = All-at (λ q. q < 64) order place 0 within sound.taken in
-    let room : s < length slots = omega (arith, small, sound.room) in
-    let slots_are : slots' ≡ changed slots s body room = slots_is ∙ ap (λ l. set slots (get_or l place 0) (with_body body (held_in slots (get_or l place 0))).entry) same in
-    let new_sound : FitTogether (changed slots s body room) outlines order free masks blocks active = record {
-      room = length-set slots s (with_body body (held_in slots s)).entry ∙ sound.room;
+pub changes : (layout : Layout) (tasks : List Held) (place : ℕ) (seen : List ℕ) (body : List Block) (slots' : List Entry) → FitTogether layout → tasks_in layout.slots layout.order ≡ tasks → place < length tasks → seen ≡ layout.order →
+    slots' ≡ set layout.slots (get_or seen place 0) (with_body body (held_in layout.slots (get_or seen place 0))).entry → Changes tasks place body (record layout { slots = slots' })
+changes layout tasks place seen body slots' sound is lt same slots_is =
+    let s : ℕ = get_or layout.order place 0 in
+    let within : place < length layout.order = omega (arith, length-map layout.order (held_in layout.slots), ap length is) in
+    let small : s < 64 = All-at (λ q. q < 64) layout.order place 0 within sound.taken in
+    let room : s < length layout.slots = omega (arith, small, sound.room) in
+    let slots_are : slots' ≡ changed layout.slots s body room = slots_is ∙ ap (λ l. set layout.slots (get_or l place 0) (with_body body (held_in layout.slots (get_or l place 0))).entry) same in
+    let new_sound : FitTogether (record layout { slots = changed layout.slots s body room }) = record {
+      room = length-set layout.slots s (with_body body (held_in layout.slots s)).entry ∙ sound.room;
       wide = sound.wide;
       taken = sound.taken;
       small = sound.small;
       once = sound.once;
       count = sound.count;
       masked = record {
-        full = subst (λ l. HaveMasks [] l masks) (sym (marks_same slots s body room order)) sound.masked.full;
-        empty = λ q gone. sound.masked.empty q (ap (count_of q) (slots_of_tasks slots order ∙ sym (slots_of_tasks (changed slots s body room) order)) ∙ gone);
+        full = subst (λ l. HaveMasks [] l layout.masks) (sym (marks_same layout.slots s body room layout.order)) sound.masked.full;
+        empty = λ q gone. sound.masked.empty q (ap (count_of q) (slots_of_tasks layout.slots layout.order ∙ sym (slots_of_tasks (changed layout.slots s body room) layout.order)) ∙ gone);
       };
       outlined = record {
         room = sound.outlined.room;
-        each = All-weaken (λ q. IsOutline (get_or slots q no_entry) (outline_in outlines q)) (λ q. IsOutline (get_or (changed slots s body room) q no_entry) (outline_in outlines q))
-            (λ q. outline_same slots s body room (outline_in outlines q) q) order sound.outlined.each;
+        each = All-weaken (λ q. IsOutline (get_or layout.slots q no_entry) (outline_in layout.outlines q)) (λ q. IsOutline (get_or (changed layout.slots s body room) q no_entry) (outline_in layout.outlines q))
+            (λ q. outline_same layout.slots s body room (outline_in layout.outlines q) q) layout.order sound.outlined.each;
       };
-      total = blocks_same slots s body room order ∙ sound.total;
+      total = blocks_same layout.slots s body room layout.order ∙ sound.total;
       few = sound.few;
       noted = sound.noted;
     } in
-    let once : count_of s order ≤ 1 = omega (arith, sound.once s small) in
+    let once : count_of s layout.order ≤ 1 = omega (arith, sound.once s small) in
     record {
-      sound = subst (λ l. FitTogether l outlines order free masks blocks active) (sym slots_are) new_sound;
-      rest = ap (λ l. tasks_in l order) slots_are ∙ change_is slots s body room order place within once refl ∙ ap (λ l. change_task (with_body body) l place) is;
+      sound = subst (λ l. FitTogether (record layout { slots = l })) (sym slots_are) new_sound;
+      rest = ap (λ l. tasks_in l layout.order) slots_are ∙ change_is layout.slots s body room layout.order place within once refl ∙ ap (λ l. change_task (with_body body) l place) is;
     }
 
 pub body_is : (slots : List Entry) (order : List ℕ) (tasks : List Held) (place : ℕ) (seen : List ℕ) (taken : List Block) → tasks_in slots order ≡ tasks → place < length tasks → seen ≡ order → taken ≡ (get_or slots (get_or seen place 0) no_entry).body →
@@ -628,16 +653,16 @@ body_is slots order tasks place seen taken is lt same taken_is =
     ∙ ap Some (sym taken_is)
 
 -- no other task lies in the slot of a task
-pub slot_alone : (slots : List Entry) (outlines : List Outline) (order free masks : List ℕ) (blocks active : ℕ) (tasks : List Held) (place : ℕ) (seen : List ℕ) → FitTogether slots outlines order free masks blocks active → tasks_in slots order ≡ tasks → place < length tasks → seen ≡ order →
+pub slot_alone : (layout : Layout) (tasks : List Held) (place : ℕ) (seen : List ℕ) → FitTogether layout → tasks_in layout.slots layout.order ≡ tasks → place < length tasks → seen ≡ layout.order →
     (get_or seen place 0 < 64) × (count_of (get_or seen place 0) (slots_of tasks) ≡ 1)
-slot_alone slots outlines order free masks blocks active tasks place seen sound is lt same =
-    let within : place < length order = omega (arith, length-map order (held_in slots), ap length is) in
-    let small : get_or order place 0 < 64 = All-at (λ q. q < 64) order place 0 within sound.taken in
-    let once = sound.once (get_or order place 0) small in
-    let some = count_at order place (get_or order place 0) within refl in
-    let one : count_of (get_or order place 0) order ≡ 1 = omega arith in
+slot_alone layout tasks place seen sound is lt same =
+    let within : place < length layout.order = omega (arith, length-map layout.order (held_in layout.slots), ap length is) in
+    let small : get_or layout.order place 0 < 64 = All-at (λ q. q < 64) layout.order place 0 within sound.taken in
+    let once = sound.once (get_or layout.order place 0) small in
+    let some = count_at layout.order place (get_or layout.order place 0) within refl in
+    let one : count_of (get_or layout.order place 0) layout.order ≡ 1 = omega arith in
     subst (λ l. (get_or l place 0 < 64) × (count_of (get_or l place 0) (slots_of tasks) ≡ 1)) (sym same)
-    (small, ap (count_of (get_or order place 0)) (sym (sym (slots_of_tasks slots order) ∙ ap slots_of is)) ∙ one)
+    (small, ap (count_of (get_or layout.order place 0)) (sym (sym (slots_of_tasks layout.slots layout.order) ∙ ap slots_of is)) ∙ one)
 
 -- a slot that none of these has
 not_in : (slots : List Entry) (s : ℕ) (order : List ℕ) → count_of s order ≡ 0 → AllByRecursion (λ (other : Held). (s == other.slot) ≡ false) (tasks_in slots order)
@@ -656,9 +681,9 @@ own_slots slots (q ∷ qs) once =
     fewer : (s : ℕ) (b : Bool) → (if q == s then 1 else 0) + count_of s qs ≤ 1 → count_of s qs ≤ 1
     fewer s b few = omega (arith, few)
 
-pub own_of : (slots : List Entry) (outlines : List Outline) (order free masks : List ℕ) (blocks active : ℕ) (tasks : List Held) → FitTogether slots outlines order free masks blocks active → tasks_in slots order ≡ tasks → AreOwnSlots tasks
-own_of slots outlines order free masks blocks active tasks sound is =
-    subst AreOwnSlots is (own_slots slots order (All-weaken (λ s. s < 64) (λ s. count_of s order ≤ 1) (λ s small. omega (arith, sound.once s small)) order sound.taken))
+pub own_of : (layout : Layout) (tasks : List Held) → FitTogether layout → tasks_in layout.slots layout.order ≡ tasks → AreOwnSlots tasks
+own_of layout tasks sound is =
+    subst AreOwnSlots is (own_slots layout.slots layout.order (All-weaken (λ s. s < 64) (λ s. count_of s layout.order ≤ 1) (λ s small. omega (arith, sound.once s small)) layout.order sound.taken))
 
 -- ---- the masks of the tasks, place by place
 

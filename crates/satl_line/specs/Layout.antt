@@ -71,18 +71,31 @@ pub record AreNoted (outlines : List Outline) (order free : List ℕ) (active : 
   pub held : AllByRecursion (IsNoted outlines active) order
   pub vacant : AllByRecursion (λ slot. bit_at active slot ≡ 0) free
 
--- the slots, the outlines of their tasks, the slots that are taken in order of arrival, those that are free, the masks, the
--- number of blocks, and the slots whose task writes or stands alone, as the bits of a number, fit together
-pub record FitTogether (slots : List Entry) (outlines : List Outline) (order free masks : List ℕ)
-    (blocks active : ℕ) : Type 0 where
-  pub room : length slots ≡ 64
-  pub wide : length masks ≡ 64
-  pub taken : AllByRecursion (λ slot. slot < 64) order
-  pub small : AllByRecursion (λ slot. slot < 64) free
-  pub once : (slot : ℕ) → slot < 64 → count_of slot order + count_of slot free ≡ 1
-  pub count : length order + length free ≡ 64
-  pub masked : IsMasked (tasks_in slots order) masks
-  pub outlined : AreOutlines slots outlines order
-  pub total : total_blocks (tasks_in slots order) ≡ blocks
-  pub few : blocks ≤ most_held
-  pub noted : AreNoted outlines order free active
+-- how a set of tasks lies in memory
+pub record Layout : Type 0 where
+  -- what lies in each of the 64 slots, and its outline
+  pub slots : List Entry
+  pub outlines : List Outline
+  -- the slots that are taken, in order of arrival, and those that are free
+  pub order : List ℕ
+  pub free : List ℕ
+  -- for each slot the earlier tasks that its task conflicts with
+  pub masks : List ℕ
+  -- the number of blocks of all tasks
+  pub blocks : ℕ
+  -- the slots whose task writes or stands alone, as the bits of a number
+  pub active : ℕ
+
+-- each slot is taken or free, and what is kept beside the slots is right of the tasks in them
+pub record FitTogether (layout : Layout) : Type 0 where
+  pub room : length layout.slots ≡ 64
+  pub wide : length layout.masks ≡ 64
+  pub taken : AllByRecursion (λ slot. slot < 64) layout.order
+  pub small : AllByRecursion (λ slot. slot < 64) layout.free
+  pub once : (slot : ℕ) → slot < 64 → count_of slot layout.order + count_of slot layout.free ≡ 1
+  pub count : length layout.order + length layout.free ≡ 64
+  pub masked : IsMasked (tasks_in layout.slots layout.order) layout.masks
+  pub outlined : AreOutlines layout.slots layout.outlines layout.order
+  pub total : total_blocks (tasks_in layout.slots layout.order) ≡ layout.blocks
+  pub few : layout.blocks ≤ most_held
+  pub noted : AreNoted layout.outlines layout.order layout.free layout.active

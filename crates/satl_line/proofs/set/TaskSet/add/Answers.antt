@@ -5,10 +5,10 @@ use Rattle.satl_line.proofs.set.TaskSet.add.Goals as goal
 
 pub invariant_of-self : goal.invariant_of-self
 invariant_of-self c =
-    (comes_from c.self.inside.slots.items c.self.inside.outlines c.self.inside.order.items c.self.inside.free.items c.pop.new.self.items c.in-Some.slot c.self.inside.masks c.self.inside.blocks c.self.inside.active c.with_slot-self-inside.result c.mask_for-mask.result c.args.task.now c.entry-entry.result.now c.swap.new.x c.of-outline.result c.args.self.now
+    (comes_from _ c.pop.new.self.items c.in-Some.slot c.with_slot-self-inside.result c.mask_for-mask.result c.args.task.now c.entry-entry.result.now c.swap.new.x c.of-outline.result c.args.self.now
     c.push.new.self.items c.of-outline.ensures c.self.invariant c.self.view_is c.in-Some.ensures.items c.mask_for-mask.ensures c.push.ensures.items (omega arith) c.entry-entry.ensures c.swap.ensures.x_after (c.with_slot-self-inside.ensures ∙ ap (λ b. with_slot b c.in-Some.slot c.self.inside.active) c.is_active.ensures)).sound
 
 pub returns-clause-ok : goal.returns-clause-ok
 returns-clause-ok c =
-    (comes_from c.self.inside.slots.items c.self.inside.outlines c.self.inside.order.items c.self.inside.free.items c.pop.new.self.items c.in-Some.slot c.self.inside.masks c.self.inside.blocks c.self.inside.active c.with_slot-self-inside.result c.mask_for-mask.result c.args.task.now c.entry-entry.result.now c.swap.new.x c.of-outline.result c.args.self.now
+    (comes_from _ c.pop.new.self.items c.in-Some.slot c.with_slot-self-inside.result c.mask_for-mask.result c.args.task.now c.entry-entry.result.now c.swap.new.x c.of-outline.result c.args.self.now
     c.push.new.self.items c.of-outline.ensures c.self.invariant c.self.view_is c.in-Some.ensures.items c.mask_for-mask.ensures c.push.ensures.items (omega arith) c.entry-entry.ensures c.swap.ensures.x_after (c.with_slot-self-inside.ensures ∙ ap (λ b. with_slot b c.in-Some.slot c.self.inside.active) c.is_active.ensures)).adds

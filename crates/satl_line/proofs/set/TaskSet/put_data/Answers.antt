@@ -3,10 +3,10 @@ use Rattle.satl_line.proofs.set.TaskSet.put_data.Goals as goal
 
 pub invariant_of-self : goal.invariant_of-self
 invariant_of-self c =
-    (changes c.self.inside.slots.items c.self.inside.outlines c.self.inside.order.items c.self.inside.free.items c.self.inside.masks c.self.inside.blocks c.self.inside.active c.args.self.now c.args.place c.deref.result.now c.args.body c.swap_body.new.slots.items
+    (changes _ c.args.self.now c.args.place c.deref.result.now c.args.body c.swap_body.new.slots.items
     c.self.invariant c.self.view_is c.requires.within c.deref.ensures.0 c.swap_body.ensures.items).sound
 
 pub returns : goal.returns
 returns c =
-    (changes c.self.inside.slots.items c.self.inside.outlines c.self.inside.order.items c.self.inside.free.items c.self.inside.masks c.self.inside.blocks c.self.inside.active c.args.self.now c.args.place c.deref.result.now c.args.body c.swap_body.new.slots.items
+    (changes _ c.args.self.now c.args.place c.deref.result.now c.args.body c.swap_body.new.slots.items
     c.self.invariant c.self.view_is c.requires.within c.deref.ensures.0 c.swap_body.ensures.items).rest

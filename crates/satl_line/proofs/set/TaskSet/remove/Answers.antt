@@ -4,24 +4,24 @@ use Rattle.satl_line.proofs.set.TaskSet.remove.Goals as goal
 
 pub overflow_sub-self : goal.overflow_sub-self
 overflow_sub-self c =
-    (leaves c.self.inside.slots.items c.self.inside.outlines c.self.inside.order.items c.self.inside.free.items c.self.inside.masks c.self.inside.blocks c.self.inside.active c.args.self.now c.args.place c.remove-slot.result c.index_mut.result.now c.swap.new.x c.entry.result.now
+    (leaves _ c.args.self.now c.args.place c.remove-slot.result c.index_mut.result.now c.swap.new.x c.entry.result.now
     c.remove-slot.new.self.items c.push.new.self.items c.clear_slot.new.masks c.self.invariant c.self.view_is c.requires c.remove-slot.ensures.value c.index_mut.ensures.value (c.entry.ensures ∙ c.swap.ensures.y_after)
     c.remove-slot.ensures.items c.push.ensures.items c.clear_slot.ensures).less
 
 pub invariant_of-self : goal.invariant_of-self
 invariant_of-self c =
-    (leaves c.self.inside.slots.items c.self.inside.outlines c.self.inside.order.items c.self.inside.free.items c.self.inside.masks c.self.inside.blocks c.self.inside.active c.args.self.now c.args.place c.remove-slot.result c.index_mut.result.now c.swap.new.x c.entry.result.now
+    (leaves _ c.args.self.now c.args.place c.remove-slot.result c.index_mut.result.now c.swap.new.x c.entry.result.now
     c.remove-slot.new.self.items c.push.new.self.items c.clear_slot.new.masks c.self.invariant c.self.view_is c.requires c.remove-slot.ensures.value c.index_mut.ensures.value (c.entry.ensures ∙ c.swap.ensures.y_after)
     c.remove-slot.ensures.items c.push.ensures.items c.clear_slot.ensures).sound
 
 pub returns-clause-value : goal.returns-clause-value
 returns-clause-value c =
-    (leaves c.self.inside.slots.items c.self.inside.outlines c.self.inside.order.items c.self.inside.free.items c.self.inside.masks c.self.inside.blocks c.self.inside.active c.args.self.now c.args.place c.remove-slot.result c.index_mut.result.now c.swap.new.x c.swap.new.y
+    (leaves _ c.args.self.now c.args.place c.remove-slot.result c.index_mut.result.now c.swap.new.x c.swap.new.y
     c.remove-slot.new.self.items c.push.new.self.items c.clear_slot.new.masks c.self.invariant c.self.view_is c.requires c.remove-slot.ensures.value c.index_mut.ensures.value c.swap.ensures.y_after
     c.remove-slot.ensures.items c.push.ensures.items c.clear_slot.ensures).value
 
 pub returns-clause-others : goal.returns-clause-others
 returns-clause-others c =
-    (leaves c.self.inside.slots.items c.self.inside.outlines c.self.inside.order.items c.self.inside.free.items c.self.inside.masks c.self.inside.blocks c.self.inside.active c.args.self.now c.args.place c.remove-slot.result c.index_mut.result.now c.swap.new.x c.entry.result.now
+    (leaves _ c.args.self.now c.args.place c.remove-slot.result c.index_mut.result.now c.swap.new.x c.entry.result.now
     c.remove-slot.new.self.items c.push.new.self.items c.clear_slot.new.masks c.self.invariant c.self.view_is c.requires c.remove-slot.ensures.value c.index_mut.ensures.value (c.entry.ensures ∙ c.swap.ensures.y_after)
     c.remove-slot.ensures.items c.push.ensures.items c.clear_slot.ensures).rest

@@ -13,8 +13,8 @@ returns-clause-value c =
 
 pub returns-clause-small : goal.returns-clause-small
 returns-clause-small c =
-    (slot_alone c.self.inside.slots.items c.self.inside.outlines c.self.inside.order.items c.self.inside.free.items c.self.inside.masks c.self.inside.blocks c.self.inside.active c.args.self.now c.args.place c.deref.result.now c.self.invariant c.self.view_is c.requires c.deref.ensures.0).0
+    (slot_alone _ c.args.self.now c.args.place c.deref.result.now c.self.invariant c.self.view_is c.requires c.deref.ensures.0).0
 
 pub returns-clause-alone : goal.returns-clause-alone
 returns-clause-alone c =
-    (slot_alone c.self.inside.slots.items c.self.inside.outlines c.self.inside.order.items c.self.inside.free.items c.self.inside.masks c.self.inside.blocks c.self.inside.active c.args.self.now c.args.place c.deref.result.now c.self.invariant c.self.view_is c.requires c.deref.ensures.0).1
+    (slot_alone _ c.args.self.now c.args.place c.deref.result.now c.self.invariant c.self.view_is c.requires c.deref.ensures.0).1

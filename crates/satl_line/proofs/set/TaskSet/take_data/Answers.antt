@@ -6,7 +6,7 @@ use Rattle.satl_line.proofs.set.TaskSet.take_data.Goals as goal
 
 pub invariant_of-self : goal.invariant_of-self
 invariant_of-self c =
-    (changes c.self.inside.slots.items c.self.inside.outlines c.self.inside.order.items c.self.inside.free.items c.self.inside.masks c.self.inside.blocks c.self.inside.active c.args.self.now c.args.place c.deref.result.now c.default.result c.swap_body.new.slots.items
+    (changes _ c.args.self.now c.args.place c.deref.result.now c.default.result c.swap_body.new.slots.items
     c.self.invariant c.self.view_is c.requires c.deref.ensures.0 c.swap_body.ensures.items).sound
 
 pub returns-clause-value : goal.returns-clause-value
@@ -15,14 +15,14 @@ returns-clause-value c =
 
 pub returns-clause-others : goal.returns-clause-others
 returns-clause-others c =
-    (changes c.self.inside.slots.items c.self.inside.outlines c.self.inside.order.items c.self.inside.free.items c.self.inside.masks c.self.inside.blocks c.self.inside.active c.args.self.now c.args.place c.deref.result.now c.default.result c.swap_body.new.slots.items
+    (changes _ c.args.self.now c.args.place c.deref.result.now c.default.result c.swap_body.new.slots.items
     c.self.invariant c.self.view_is c.requires c.deref.ensures.0 c.swap_body.ensures.items).rest
     ∙ ap (λ b. change_task (with_body b) c.args.self.now c.args.place) c.default.ensures
 
 pub returns-clause-emptied : goal.returns-clause-emptied
 returns-clause-emptied c =
     ap (λ l. option_map (λ e. e.body) (entry_at l c.args.place))
-    ((changes c.self.inside.slots.items c.self.inside.outlines c.self.inside.order.items c.self.inside.free.items c.self.inside.masks c.self.inside.blocks c.self.inside.active c.args.self.now c.args.place c.deref.result.now c.default.result c.swap_body.new.slots.items
+    ((changes _ c.args.self.now c.args.place c.deref.result.now c.default.result c.swap_body.new.slots.items
     c.self.invariant c.self.view_is c.requires c.deref.ensures.0 c.swap_body.ensures.items).rest
     ∙ ap (λ b. change_task (with_body b) c.args.self.now c.args.place) c.default.ensures)
     ∙ body-changed c.args.self.now c.args.place [] c.requires
