@@ -8,13 +8,15 @@ use Rattle.std.proofs.lemmas.Bool.{cases_lt, le-ltb, lt-ltb, ltb-false, not-fals
 use Rattle.satl_io.specs.Known.{Took}
 use Rattle.satl_io.proofs.Joined.{Took-more}
 use Rattle.std.specs.Prelude.{if◌then◌else◌, is_some}
+use Rattle.byteorder.specs.Endian.{big_bytes}
+use Rattle.satl_frame.proofs.FieldBytes.{first_of}
 use Rattle.satl_frame.proofs.Stopping.{fewer_after, fewer_weaker}
-use Rattle.satl_frame.specs.Frames.{frame_rows, has_code, allows, payload_bytes, spelled}
+use Rattle.satl_frame.specs.Frames.{frame_rows, has_code, allows, kind, payload_bytes, spelled}
 use Rattle.satl_frame.specs.Magic.{magic, magic_fault, names_version, version_code, version_of}
 use Rattle.satl_frame.specs.Faults.{told_length, has_bad_field, head_fault, frame_fault}
-use Rattle.satl_frame.specs.Pulls.{Lacks, FewerThan, TookBadField}
+use Rattle.satl_frame.specs.Pulls.{Lacks, FewerThan, TookPayload, TookBadField}
 use Rattle.satl_frame.specs.Reading.{Reading, Blames, at_offset, where_refused, asked, asked_of_frame}
-use Rattle.satl_frame.specs.Steps.{Began, BlamesMagic, BlamesAt, BlamesPayload, StoodBehind, StoodAt, head_in}
+use Rattle.satl_frame.specs.Steps.{Began, BlamesMagic, BlamesAt, BlamesPayload, StoodAt, head_in}
 use Rattle.satl_frame.specs.declared.frames.Version.{Version}
 use Rattle.satl_frame.specs.declared.frames.Version.TheVariants.{One, Two}
 use Rattle.satl_frame.specs.declared.frames.Frame.{Frame}
@@ -176,17 +178,22 @@ payload_refused limit place a b c buf n e five within took f blames =
 
 -- a frame behind a good head stands at the place
 pub frame_stood : (limit : ℕ) (place : Place) (a b c : Option (List ℕ)) (buf : List ℕ) (n room next : ℕ) (frame : Frame) → length buf ≡ 5 → n ≤ length buf → Took a b (take n buf) →
-    None ≡ head_fault place.version limit place.offset (take n buf) → StoodBehind place.version buf b c room frame → next ≡ place.offset + 5 + told_length buf →
+    None ≡ head_fault place.version limit place.offset (take n buf) → big_bytes 4 (told_length buf) ≡ drop 1 buf → TookPayload b c (head_in place.version buf) room frame → next ≡ place.offset + 5 + told_length buf →
     StoodAt limit (record { place = place; left = a }) (record { place = record place { offset = next }; left = c }) room frame
-frame_stood limit place a b c buf n room next frame five within took f behind is =
+frame_stood limit place a b c buf n room next frame five within took f four behind is =
     let good = head_read place.version limit place.offset buf n five within f in
-    let size : length (spelled behind.whole) ≡ 5 + told_length buf =
-    ap length behind.spelled_is ∙ length-append buf (payload_bytes behind.whole) ∙ omega (arith, behind.length_is) in
+    let payload = payload_bytes behind.whole in
+    let count : length payload ≡ told_length buf = behind.length_is in
+    let kind_is : kind behind.whole ≡ slice_index buf 0 = behind.kind_is in
+    let spelled_is : spelled behind.whole ≡ buf ++ payload =
+    ap (λ (k : ℕ). (k ∷ big_bytes 4 (length payload)) ++ payload) kind_is ∙ ap (λ (n : ℕ). (slice_index buf 0 ∷ big_bytes 4 n) ++ payload) count
+    ∙ ap (λ (q : List ℕ). (slice_index buf 0 ∷ q) ++ payload) four ∙ ap (λ (q : List ℕ). q ++ payload) (first_of buf (omega arith)) in
+    let size : length (spelled behind.whole) ≡ 5 + told_length buf = ap length spelled_is ∙ length-append buf payload ∙ omega (arith, count) in
     record {
       whole = behind.whole;
       is_frame = behind.is_frame;
       cut = behind.cut;
-      took = rw behind.spelled_is (Took-more (rw good.1 at took) behind.took);
+      took = rw spelled_is (Took-more (rw good.1 at took) behind.took);
       version_is = refl;
       offset_is = omega (arith, size);
       within = omega (arith, good.0.within);

@@ -1,7 +1,7 @@
 -- What the steps of a reader do, one after another.
-use Rattle.std.specs.Prelude.{ℕ, ◌+◌, ◌≤◌, ◌≡◌, true, List, ◌++◌, length, take, slice_index, IfSome, Option, Some, None}
+use Rattle.std.specs.Prelude.{ℕ, ◌+◌, ◌≤◌, ◌≡◌, true, List, length, take, slice_index, IfSome, Option, Some, None}
 use Rattle.satl_io.specs.Known.{Took}
-use Rattle.satl_frame.specs.Frames.{payload_bytes, spelled, IsFrame}
+use Rattle.satl_frame.specs.Frames.{spelled, IsFrame}
 use Rattle.satl_frame.specs.Magic.{magic, version_code, names_version, magic_fault}
 use Rattle.satl_frame.specs.Faults.{told_length, frame_fault}
 use Rattle.satl_frame.specs.Pulls.{cut_to, Head, Lacks, FewerThan, TookBadField}
@@ -40,16 +40,6 @@ pub record StoodAt (limit : ℕ) (old new : Spot) (room : ℕ) (frame : Frame) :
   pub version_is : new.place.version ≡ old.place.version
   pub offset_is : new.place.offset ≡ old.place.offset + length (spelled whole)
   pub within : new.place.offset ≤ limit
-
--- the payload behind a good head was taken, and the two spell the frame
-pub record StoodBehind (version : Version) (head : List ℕ) (left left' : Option (List ℕ)) (room : ℕ)
-    (frame : Frame) : Type 0 where
-  pub whole : Frame
-  pub is_frame : IsFrame version whole
-  pub cut : frame ≡ cut_to room whole
-  pub took : Took left left' (payload_bytes whole)
-  pub spelled_is : spelled whole ≡ head ++ payload_bytes whole
-  pub length_is : length (payload_bytes whole) ≡ told_length head
 
 -- the bytes at the place are refused, or a read failed before they were taken
 abbrev pub BlamesAt : ℕ → Place → Option (List ℕ) → Option (List ℕ) → FrameFault → Type 0

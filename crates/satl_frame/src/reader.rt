@@ -5,7 +5,7 @@ ghost use Rattle.satl_frame.specs.Faults.{told_length};
 ghost use Rattle.satl_frame.specs.Frames.{frame_rows, has_code, allows};
 ghost use Rattle.satl_frame.specs.Pulls.{PullCauses, Stopped, TookPayload, TookRest, TookBadField, asked_pages, found_pages, frame_pages, given_pages, request_head, request_pages};
 ghost use Rattle.satl_frame.specs.Reading.{Reading, Gave, Blames, ReadCauses};
-ghost use Rattle.satl_frame.specs.Steps.{Began, BlamesMagic, StoodAt, StoodBehind, BlamesAt, BlamesPayload, head_in};
+ghost use Rattle.satl_frame.specs.Steps.{Began, BlamesMagic, StoodAt, BlamesAt, BlamesPayload, head_in};
 
 use crate::frames::{Frame, FrameFault, Place, Reason, Version};
 use crate::judge::{head_fault, head_size, magic_fault, told_length, version_of};
@@ -148,7 +148,7 @@ fn read_payload<S: Source, P: Lender>(
     requires known { has_code (frame_rows place.version) (slice_index head.now 0) ≡ true }
     requires allowed { allows (frame_rows place.version) (slice_index head.now 0) (told_length head.now) ≡ true }
     ensures frame { IfOk result
-        (StoodBehind place.version head.now (S.left source.old) (S.left source.new) (P.free lender.old)) }
+        (TookPayload (S.left source.old) (S.left source.new) (head_in place.version head.now) (P.free lender.old)) }
     ensures fault { IfErr result
         (BlamesPayload (head_in place.version head.now) place.offset (S.left source.old) (S.left source.new)) }
     ensures causes { ReadCauses (S.faults source.old) (S.faults source.new) result }

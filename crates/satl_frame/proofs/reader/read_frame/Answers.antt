@@ -1,4 +1,5 @@
-use Rattle.std.proofs.Common.{◌≡◌, ◌+◌, refl, arith}
+use Rattle.std.proofs.Common.{◌≡◌, ◌+◌, refl, sym, ap, ◌∙◌, drop, arith}
+use Rattle.byteorder.specs.Endian.{big_bytes}
 use Rattle.satl_frame.specs.Faults.{told_length}
 use Rattle.satl_frame.proofs.Refusals.{head_stopped, head_refused, payload_refused, frame_stood, head_read}
 use Rattle.satl_frame.proofs.reader.read_frame.Goals as goal
@@ -17,7 +18,8 @@ pub returns-in-Ok-read_payload-clause-frame : goal.returns-in-Ok-read_payload-cl
 returns-in-Ok-read_payload-clause-frame g c =
     let known = c.in-Ok.ensures in
     let next : c.args.place.offset + 5 + c.from.result ≡ c.args.place.offset + 5 + told_length c.fill.new.buf = omega (arith, c.from.ensures, c.told_length.ensures.value) in
-    frame_stood c.args.limit c.args.place _ _ _ c.fill.new.buf c.in-Ok.count _ _ _ c.fill.auto.buf known.bound.0 known.bytes c.in-None.ensures c.in-Ok-read_payload.ensures.frame next
+    let four : big_bytes 4 (told_length c.fill.new.buf) ≡ drop 1 c.fill.new.buf = ap (big_bytes 4) (sym c.told_length.ensures.value) ∙ c.told_length.ensures.bytes in
+    frame_stood c.args.limit c.args.place _ _ _ c.fill.new.buf c.in-Ok.count _ _ _ c.fill.auto.buf known.bound.0 known.bytes c.in-None.ensures four c.in-Ok-read_payload.ensures.frame next
 
 pub returns-in-Err-read_payload-clause-fault : goal.returns-in-Err-read_payload-clause-fault
 returns-in-Err-read_payload-clause-fault g c =
