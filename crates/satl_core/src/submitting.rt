@@ -1,5 +1,5 @@
 // A command arrives.
-ghost use Rattle.std.specs.Prelude.{◌≡◌, ◌≤◌, ◌+◌, ◌*◌, ◌==◌, ◌∷◌, [], IfOk, None, true, length, take, ◌⊎◌};
+ghost use Rattle.std.specs.Prelude.{◌≡◌, ◌≤◌, ◌+◌, ◌*◌, ◌==◌, ◌∷◌, [], IfNone, IfOk, None, true, length, take, ◌⊎◌};
 ghost use Rattle.std.specs.List.{AllByRecursion, list_all};
 ghost use Rattle.satl_frame.specs.Output.{IsWritable};
 ghost use Rattle.satl_cdb.specs.Unmap as unmap;
@@ -155,7 +155,8 @@ fn data_fault(satl: &Satl, request: &Request, command: &Command) -> Option<Illeg
     requires holds { HoldsList request.now }
     requires header { (asks command.now).length_fault ≡ None }
     requires long { needed command.now ≤ request.now.data_len }
-    ensures { result ≡ (asks command.now).data_fault satl.now.identity satl.now.modes request.now.body }
+    ensures fault { result ≡ (asks command.now).data_fault satl.now.identity satl.now.modes request.now.body }
+    ensures list { IfNone result (HasListUnlessEmpty command.now request.now.body satl.now.identity.capacity) }
 {
     match *command {
         Command::ModeSelect { ten, length } => list_fault(satl, request, length, ten),
