@@ -1,5 +1,5 @@
 // A command arrives.
-ghost use Rattle.std.specs.Prelude.{◌≡◌, ◌≤◌, ◌+◌, ◌*◌, ◌==◌, ◌∷◌, [], IfOk, None, true, length, take, ◌⊎◌};
+ghost use Rattle.std.specs.Prelude.{◌≡◌, ◌≤◌, ◌+◌, ◌*◌, ◌==◌, ◌∷◌, [], IfNone, IfOk, None, true, length, take, ◌⊎◌};
 ghost use Rattle.std.specs.List.{AllByRecursion, list_all};
 ghost use Rattle.satl_frame.specs.Output.{IsWritable};
 ghost use Rattle.satl_cdb.specs.Unmap as unmap;
@@ -111,21 +111,21 @@ pub fn judge_code(satl: &Satl, request: &Request) -> Result<Command, AtOnce>
     ensures can { IfOk result CanPass }
 {
     match read_cdb(&request.cdb, satl.identity.trim) {
-        Ok(command) => judge_command(satl, request, command),
+        Ok(command) => judge_command(satl, request, &command),
         Err(why) => Err(AtOnce::Check(refusal(why))),
     }
 }
 
 /// Judges a command by its fields, its range and its data-out.
-fn judge_command(satl: &Satl, request: &Request, command: Command) -> Result<Command, AtOnce>
+fn judge_command(satl: &Satl, request: &Request, command: &Command) -> Result<Command, AtOnce>
     requires holds { HoldsList request.now }
-    ensures answer { result ≡ command_answer satl.now request.now command }
+    ensures answer { result ≡ command_answer satl.now request.now command.now }
     ensures can { IfOk result CanPass }
 {
-    if let Some(why) = fields_fault(&command) {
+    if let Some(why) = fields_fault(command) {
         return Err(AtOnce::Check(refusal(why)));
     }
-    let range = range_of(&command);
+    let range = range_of(command);
     if is_outside(range, satl.identity.capacity) {
         return Err(AtOnce::Check(plain(0x5, 0x21, 0x00)));
     }
@@ -133,17 +133,17 @@ fn judge_command(satl: &Satl, request: &Request, command: Command) -> Result<Com
 }
 
 /// Judges the data-out of a command: the length of its list, fewer bytes than it needs, and what is in them.
-fn judge_data(satl: &Satl, request: &Request, command: Command) -> Result<Command, AtOnce>
+fn judge_data(satl: &Satl, request: &Request, command: &Command) -> Result<Command, AtOnce>
     requires holds { HoldsList request.now }
-    ensures { result ≡ data_answer satl.now request.now command }
+    ensures { result ≡ data_answer satl.now request.now command.now }
 {
-    if let Some(why) = length_fault(&command) {
+    if let Some(why) = length_fault(command) {
         return Err(AtOnce::Check(refusal(why)));
     }
-    if u64::from(request.data_len) < needed(&command) {
+    if u64::from(request.data_len) < needed(command) {
         return Err(AtOnce::Check(plain(0xB, 0x4B, 0x00)));
     }
-    match data_fault(satl, request, &command) {
+    match data_fault(satl, request, command) {
         Some(why) => Err(AtOnce::Check(refusal(why))),
         None => answer_to(satl, request, command),
     }
@@ -155,7 +155,8 @@ fn data_fault(satl: &Satl, request: &Request, command: &Command) -> Option<Illeg
     requires holds { HoldsList request.now }
     requires header { (asks command.now).length_fault ≡ None }
     requires long { needed command.now ≤ request.now.data_len }
-    ensures { result ≡ (asks command.now).data_fault satl.now.identity satl.now.modes request.now.body }
+    ensures fault { result ≡ (asks command.now).data_fault satl.now.identity satl.now.modes request.now.body }
+    ensures list { IfNone result (HasListUnlessEmpty command.now request.now.body satl.now.identity.capacity) }
 {
     match *command {
         Command::ModeSelect { ten, length } => list_fault(satl, request, length, ten),
@@ -210,11 +211,11 @@ fn list_fault(satl: &Satl, request: &Request, length: u16, ten: bool) -> Option<
 
 /// Answers a command from what the device says of itself, or lets it become a task, unless it has nothing to do: then it
 /// answers as TEST UNIT READY does (profile).
-fn answer_to(satl: &Satl, request: &Request, command: Command) -> Result<Command, AtOnce>
-    requires list { HasListUnlessEmpty command request.now.body satl.now.identity.capacity }
-    ensures { result ≡ answer_to satl.now request.now.body command }
+fn answer_to(satl: &Satl, request: &Request, command: &Command) -> Result<Command, AtOnce>
+    requires list { HasListUnlessEmpty command.now request.now.body satl.now.identity.capacity }
+    ensures { result ≡ answer_to satl.now request.now.body command.now }
 {
-    let (what, alloc) = match command {
+    let (what, alloc) = match *command {
         Command::TestUnitReady => return Err(readiness(satl)),
         Command::Inquiry { page, alloc } => (Data::Inquiry(page), u32::from(alloc)),
         Command::ModeSense {
@@ -247,14 +248,14 @@ fn answer_to(satl: &Satl, request: &Request, command: Command) -> Result<Command
 }
 
 /// A command that may become a task does, unless it has nothing to do.
-fn unless_idle(satl: &Satl, request: &Request, command: Command) -> Result<Command, AtOnce>
-    requires list { HasListUnlessEmpty command request.now.body satl.now.identity.capacity }
-    ensures { result ≡ unless_idle satl.now request.now.body command }
+fn unless_idle(satl: &Satl, request: &Request, command: &Command) -> Result<Command, AtOnce>
+    requires list { HasListUnlessEmpty command.now request.now.body satl.now.identity.capacity }
+    ensures { result ≡ unless_idle satl.now request.now.body command.now }
 {
-    if is_idle(&command, &request.body, satl.identity.capacity) {
+    if is_idle(command, &request.body, satl.identity.capacity) {
         Err(readiness(satl))
     } else {
-        Ok(command)
+        Ok(*command)
     }
 }
 

@@ -1,14 +1,15 @@
 -- Issuing, as the code does it.
-use Rattle.std.proofs.Common.{◌≡◌, ◌⊎◌, refl, sym, ◌∙◌, ap, subst, inl, inr, ⊎_elim, ℕ, zero, suc, ◌<◌, Bool, true, false, List, [], ◌∷◌, ◌++◌, Option, Some, None, arith, length, length-append, eq-eqb}
-use Rattle.std.specs.Prelude.{◌==◌, ◌||◌, slice_get, slice_set, take, unwrap_or}
+use Rattle.std.proofs.Common.{◌≡◌, ◌⊎◌, refl, sym, ◌∙◌, ap, subst, inl, inr, ⊎_elim, ℕ, zero, suc, ◌<◌, Bool, true, false, List, [], ◌∷◌, ◌++◌, Option, Some, None, arith, length, length-append, eqb-true, eq-eqb, cond}
+use Rattle.std.specs.Prelude.{◌==◌, ◌||◌, if◌then◌else◌, slice_get, slice_set, take, unwrap_or}
 use Rattle.std.specs.Option.{option_and_then, option_map}
-use Rattle.std.specs.List.{find, list_any}
+use Rattle.std.specs.List.{AllByRecursion, AllZip, find, list_any}
 use Rattle.std.proofs.lemmas.Bool.{cases_eq}
 use Rattle.std.proofs.lemmas.List.{append-nil, length-map}
 use Rattle.std.proofs.lemmas.Option.{slice_get_within}
 use Rattle.satl_base.specs.declared.block.Block.{Block}
+use Rattle.satl_base.specs.Lists.{remove_first}
 use Rattle.satl_base.specs.Identify.{has_queued_trim}
-use Rattle.satl_base.proofs.ListsLemmas.{All-find}
+use Rattle.satl_base.proofs.ListsLemmas.{All-both, All-find, All-weaken, length-remove_first}
 use Rattle.satl_regs.specs.declared.values.Registers.{Registers}
 use Rattle.satl_regs.specs.declared.values.Queued.{Queued}
 use Rattle.satl_regs.specs.QueuedCommands.{QueuedFits, queued_registers}
@@ -19,11 +20,11 @@ use Rattle.satl_line.specs.Ranged.{RangedTask, ranged_of}
 use Rattle.satl_line.specs.Ranged.RangedTask.{ranged_read}
 use Rattle.satl_line.specs.Tasks.{Held, change_task, count_of, entries_of, entry_at, slots_of, with_body}
 use Rattle.satl_line.proofs.EligibleLemmas.{eligible_by-formed, eligible_passes, eligible_stands}
-use Rattle.satl_drive.specs.State.{DriveState}
+use Rattle.satl_drive.specs.State.{DriveState, Outstanding}
 use Rattle.satl_drive.specs.Queue.{CanIssue, IsIssueCutOff, IsIssued, Slots}
 use Rattle.satl_pages.specs.Slots.{pages_at}
 use Rattle.satl_flight.specs.declared.flight.Flying.{Flying}
-use Rattle.satl_flight.specs.Flown.{IsInFlight, clash, is_outstanding, is_in_slot, queued_for}
+use Rattle.satl_flight.specs.Flown.{AreApart, IsFlown, IsInFlight, clash, is_outstanding, is_in_slot, queued_for}
 use Rattle.satl_flight.specs.Lending.{IsLending, Waiting, has_tag, is_of_slot, waiting, whole_task, whole_tasks, with_own_pages}
 use Rattle.satl_flight.specs.Settled.{IsFilled, IsIssuedIfItMay, IsLaunched, IsLostQuietly, OnDrive, on_drive}
 use Rattle.satl_flight.proofs.FlownLemmas.{FitsOn}
@@ -187,6 +188,60 @@ filled flying tasks covered = go (cases_eq (length flying) 32)
     go : (length flying ≡ 32) ⊎ (length flying ≡ 32 → ⊥) → IsFilled flying tasks
     go (inl full) = inl full
     go (inr room) = inr (λ h task e ranged. let r = eligible_stands clash tasks h e in ⊎_elim (λ full. absurd (room full)) (λ each. each h task r.1 r.2 ranged) (covered r.0 (slice_get_within tasks r.0 h r.1)))
+
+-- ---- as many outstanding as there are tasks
+
+-- the task in a slot is still found where that of another slot was taken out
+found_still : (slot other : ℕ) (hs : List Held) (h : Held) → (slot == other) ≡ false → find (is_in_slot other) hs ≡ Some h → find (is_in_slot other) (remove_first (is_in_slot slot) hs) ≡ Some h
+found_still slot other [] h apart is = is
+found_still slot other (k ∷ hs) h apart is =
+    (elim (k.slot == slot) as (λ b. (k.slot == slot) ≡ b → find (is_in_slot other) (if b then hs else k ∷ remove_first (is_in_slot slot) hs) ≡ Some h) [
+      | true ↦ λ here. not_here (k.slot == other) refl here is
+      | false ↦ λ there. (elim (k.slot == other) as (λ b. cond b (Some k) (find (is_in_slot other) hs) ≡ Some h → cond b (Some k) (find (is_in_slot other) (remove_first (is_in_slot slot) hs)) ≡ Some h)
+          [ true ↦ λ e. e | false ↦ λ e. found_still slot other hs h apart e ]) is
+    ]) refl
+  where
+    not_here : (b : Bool) → (k.slot == other) ≡ b → (k.slot == slot) ≡ true → cond b (Some k) (find (is_in_slot other) hs) ≡ Some h → find (is_in_slot other) hs ≡ Some h
+    not_here true ko ki e = let a = eqb-true k.slot other ko in let b = eqb-true k.slot slot ki in let no : (slot == other) ≡ true = eq-eqb slot other (sym b ∙ a) in absurd cc
+    not_here false ko ki e = e
+
+-- with the task in a slot put back, each is outstanding
+put_back : (f : Flying) (fs : List Flying) (hs : List Held) → AllByRecursion (λ (h : Held). is_outstanding fs h.slot ≡ true) (remove_first (is_in_slot f.slot) hs) → AllByRecursion (λ (h : Held). is_outstanding (f ∷ fs) h.slot ≡ true) hs
+put_back f fs [] all = tt
+put_back f fs (h ∷ hs) all =
+    (elim (h.slot == f.slot) as (λ b. (h.slot == f.slot) ≡ b → AllByRecursion (λ (k : Held). is_outstanding fs k.slot ≡ true) (if b then hs else h ∷ remove_first (is_in_slot f.slot) hs) → AllByRecursion (λ (k : Held). is_outstanding (f ∷ fs) k.slot ≡ true) (h ∷ hs)) [
+      | true ↦ λ e rest. (ap (λ b. b || is_outstanding fs h.slot) (eq-eqb f.slot h.slot (sym (eqb-true h.slot f.slot e))), All-weaken (λ (k : Held). is_outstanding fs k.slot ≡ true) (λ (k : Held). is_outstanding (f ∷ fs) k.slot ≡ true) (λ k. more k.slot) hs rest)
+      | false ↦ λ e rest. (more h.slot rest.0, put_back f fs hs rest.1)
+    ]) refl all
+  where
+    more : (slot : ℕ) → is_outstanding fs slot ≡ true → is_outstanding (f ∷ fs) slot ≡ true
+    more slot held = elim (f.slot == slot) as (λ b. (b || is_outstanding fs slot) ≡ true) [ true ↦ refl | false ↦ held ]
+
+-- where each that is outstanding is of a task of its own, and they are as many as the tasks, all tasks are outstanding
+all_outstanding : (fs : List Flying) (hs : List Held) → AreApart fs → AllByRecursion (λ (f : Flying). (h : Held) × (find (is_in_slot f.slot) hs ≡ Some h)) fs → length fs ≡ length hs → AllByRecursion (λ (h : Held). is_outstanding fs h.slot ≡ true) hs
+all_outstanding [] [] apart each many = tt
+all_outstanding [] (h ∷ hs) apart each many = absurd cc
+all_outstanding (f ∷ fs) hs apart each many =
+    put_back f fs hs
+    (all_outstanding fs (remove_first (is_in_slot f.slot) hs) apart.1
+    (All-weaken (λ (g : Flying). (((f.slot == g.slot) ≡ false) × ((f.tag == g.tag) ≡ false)) × ((h : Held) × (find (is_in_slot g.slot) hs ≡ Some h))) (λ (g : Flying). (h : Held) × (find (is_in_slot g.slot) (remove_first (is_in_slot f.slot) hs) ≡ Some h))
+    (λ g both. (both.1.0, found_still f.slot g.slot hs both.1.0 both.0.0 both.1.1)) fs (All-both _ _ fs apart.0 each.1))
+    (omega (arith, many, length-remove_first (is_in_slot f.slot) hs each.0.0 each.0.1)))
+
+each_found : (tasks : List Held) (fs : List Flying) (qs : List Outstanding) → AllZip (IsFlown tasks) fs qs → AllByRecursion (λ (f : Flying). (h : Held) × (find (is_in_slot f.slot) tasks ≡ Some h)) fs
+each_found tasks [] qs each = tt
+each_found tasks (f ∷ fs) [] each = absurd each
+each_found tasks (f ∷ fs) (q ∷ qs) each = ((each.0.held, each.0.found), each_found tasks fs qs each.1)
+
+eligible_has : (P : Held → Type 0) (tasks : List Held) (h : Held) → AllByRecursion P tasks → IsEligibleBy clash tasks h → P h
+eligible_has P [] h all e = absurd e
+eligible_has P (k ∷ tasks) h all e = ⊎_elim (λ same. subst P same all.0) (λ behind. eligible_has P tasks h all.1 behind.1) e
+
+-- where as many are outstanding as there are tasks, the queue is used
+pub filled_by_all : (flying : List Flying) (tasks : List Held) (d : DriveState) → IsInFlight flying tasks d → length flying ≡ length tasks → IsFilled flying tasks
+filled_by_all flying tasks d tie many =
+    let all = all_outstanding flying tasks tie.apart (each_found tasks flying d.outstanding tie.each) many in
+    inr (λ h task e ranged. eligible_has (λ (k : Held). is_outstanding flying k.slot ≡ true) tasks h all e)
 
 -- ---- one more task
 

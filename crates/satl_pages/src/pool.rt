@@ -1,28 +1,34 @@
 // A pool of pages.
-ghost use Rattle.std.specs.Prelude.{◌≡◌, ◌≤◌, ◌<◌, ◌+◌, ◌↔◌, IfOk, IfSome, IfNone, IsNone, OnSome, length};
+ghost use Rattle.std.specs.Prelude.{◌≡◌, ◌≤◌, ◌<◌, ◌+◌, ◌^◌, ◌↔◌, IfOk, IfSome, IfNone, IsNone, OnSome, length};
 ghost use Rattle.satl_pages.specs.Counts.{number_of};
 
 use satl_base::{Lender, NoMemory, Pages};
 use std::alloc::Global;
 use std::marker::Model;
+use std::mem;
 
 /// A fixed number of pages of 512 bytes, each of which is free or out (profile). Clauses see how many are free and
 /// how many are out; their sum is the pool's number, which no call changes.
 #[derive(Drop)]
 pub struct Pool {
-    free: Pages,
+    others: Pages,
+    // What came back last, in one piece: who takes as many pages gets it without a walk along them.
+    last: Pages,
     number: u32,
 }
 
 impl Model for Pool {
-    ghost use Rattle.std.specs.Prelude.{◌≤◌, ◌<◌, ◌-◌, ◌^◌, length};
+    ghost use Rattle.std.specs.Prelude.{◌≤◌, ◌<◌, ◌+◌, ◌-◌, ◌^◌, length};
     ghost use Rattle.satl_pages.specs.Counts.{Counts};
 
     ghost Value = { Counts };
 
-    ghost view = { λ p. record { free = length p.free; out = p.number - length p.free } };
+    ghost view = { λ p. record {
+      free = length p.others + length p.last;
+      out = p.number - (length p.others + length p.last);
+    } };
 
-    ghost invariant = { λ p. (length p.free ≤ p.number) × (p.number < 2 ^ 32) };
+    ghost invariant = { λ p. (length p.others + length p.last ≤ p.number) × (p.number < 2 ^ 32) };
 }
 
 impl Pool {
@@ -32,7 +38,8 @@ impl Pool {
         ensures out { IfOk result (λ pool. pool.out ≡ 0) }
     {
         Ok(Pool {
-            free: Pages::zeroed(alloc, n)?,
+            others: Pages::zeroed(alloc, n)?,
+            last: Pages::default(),
             number: n,
         })
     }
@@ -48,7 +55,7 @@ impl Pool {
     pub fn free(&self) -> u32
         ensures { result ≡ self.now.free }
     {
-        self.free.blocks()
+        self.others.blocks() + self.last.blocks()
     }
 
     /// Takes `n` pages, with whatever they hold. None exactly where fewer are free. It takes no memory (profile).
@@ -64,9 +71,11 @@ impl Pool {
         if self.free() < n {
             return None;
         }
-        let mut pages = Pages::default();
-        self.free.move_first(n, &mut pages);
-        Some(pages)
+        if n <= self.last.blocks() {
+            return Some(take_first(&mut self.last, n));
+        }
+        put_by(&mut self.last, &mut self.others);
+        Some(take_first(&mut self.others, n))
     }
 
     /// Takes pages back, at most as many as are out. It takes no memory (profile).
@@ -76,9 +85,34 @@ impl Pool {
         ensures out { self.new.out + length pages ≡ self.old.out }
         ensures none_lost { number_of self.new ≡ number_of self.old }
     {
-        let mut pages = pages;
-        pages.move_first(pages.blocks(), &mut self.free);
+        if pages.blocks() > 0 {
+            put_by(&mut self.last, &mut self.others);
+            self.last = pages;
+        }
     }
+}
+
+/// Takes the first pages off: all of them without a walk.
+fn take_first(pages: &mut Pages, n: u32) -> Pages
+    requires { n ≤ length pages.old }
+    ensures taken { length result ≡ n }
+    ensures rest { length pages.new + n ≡ length pages.old }
+{
+    if n == pages.blocks() {
+        return mem::take(pages);
+    }
+    let mut first = Pages::default();
+    pages.move_first(n, &mut first);
+    first
+}
+
+/// Puts the last pages to the others.
+fn put_by(last: &mut Pages, others: &mut Pages)
+    requires { length others.old + length last.old < 2 ^ 32 }
+    ensures none { length last.new ≡ 0 }
+    ensures all { length others.new ≡ length others.old + length last.old }
+{
+    last.move_first(last.blocks(), others);
 }
 
 /// A pool keeps nothing beside its pages (profile).
