@@ -1,5 +1,6 @@
 -- How the pages of a pool are counted.
-use Rattle.std.specs.Prelude.{ℕ, ◌+◌}
+use Rattle.std.specs.Prelude.{ℕ, ◌+◌, List, [], ◌∷◌, length}
+use Rattle.satl_base.specs.declared.block.Block.{Block}
 
 -- how many pages of a pool are free, and how many are out (profile)
 pub record Counts : Type 0 where
@@ -9,3 +10,8 @@ pub record Counts : Type 0 where
 -- the number of a pool: each of its pages is free or out (profile)
 abbrev pub number_of : Counts → ℕ
 number_of counts = counts.free + counts.out
+
+-- how many pages lists of pages have together (profile)
+abbrev pub total : List (List Block) → ℕ
+total [] = 0
+total (pages ∷ more) = length pages + total more

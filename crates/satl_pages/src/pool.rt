@@ -1,34 +1,32 @@
 // A pool of pages.
 ghost use Rattle.std.specs.Prelude.{◌≡◌, ◌≤◌, ◌<◌, ◌+◌, ◌^◌, ◌↔◌, IfOk, IfSome, IfNone, IsNone, OnSome, length};
-ghost use Rattle.satl_pages.specs.Counts.{number_of};
+ghost use Rattle.satl_pages.specs.Counts.{number_of, total};
 
+use arrayvec::ArrayVec;
 use satl_base::{Lender, NoMemory, Pages};
 use std::alloc::Global;
 use std::marker::Model;
-use std::mem;
 
 /// A fixed number of pages of 512 bytes, each of which is free or out (profile). Clauses see how many are free and
 /// how many are out; their sum is the pool's number, which no call changes.
 #[derive(Drop)]
 pub struct Pool {
+    // What came back, each in one piece: who takes as many pages as the last has gets it without a walk along them.
+    pieces: ArrayVec<Pages, 64>,
     others: Pages,
-    // What came back last, in one piece: who takes as many pages gets it without a walk along them.
-    last: Pages,
+    free: u32,
     number: u32,
 }
 
 impl Model for Pool {
-    ghost use Rattle.std.specs.Prelude.{◌≤◌, ◌<◌, ◌+◌, ◌-◌, ◌^◌, length};
-    ghost use Rattle.satl_pages.specs.Counts.{Counts};
+    ghost use Rattle.std.specs.Prelude.{◌≡◌, ◌≤◌, ◌<◌, ◌+◌, ◌-◌, ◌^◌, length};
+    ghost use Rattle.satl_pages.specs.Counts.{Counts, total};
 
     ghost Value = { Counts };
 
-    ghost view = { λ p. record {
-      free = length p.others + length p.last;
-      out = p.number - (length p.others + length p.last);
-    } };
+    ghost view = { λ p. record { free = p.free; out = p.number - p.free } };
 
-    ghost invariant = { λ p. (length p.others + length p.last ≤ p.number) × (p.number < 2 ^ 32) };
+    ghost invariant = { λ p. (total p.pieces.items + length p.others ≡ p.free) × (p.free ≤ p.number) × (p.number < 2 ^ 32) };
 }
 
 impl Pool {
@@ -38,8 +36,9 @@ impl Pool {
         ensures out { IfOk result (λ pool. pool.out ≡ 0) }
     {
         Ok(Pool {
+            pieces: ArrayVec::new(),
             others: Pages::zeroed(alloc, n)?,
-            last: Pages::default(),
+            free: n,
             number: n,
         })
     }
@@ -55,7 +54,7 @@ impl Pool {
     pub fn free(&self) -> u32
         ensures { result ≡ self.now.free }
     {
-        self.others.blocks() + self.last.blocks()
+        self.free
     }
 
     /// Takes `n` pages, with whatever they hold. None exactly where fewer are free. It takes no memory (profile).
@@ -68,51 +67,78 @@ impl Pool {
         ensures out { OnSome result (self.new.out ≡ self.old.out + n) }
         ensures none_lost { number_of self.new ≡ number_of self.old }
     {
-        if self.free() < n {
+        if self.free < n {
             return None;
         }
-        if n <= self.last.blocks() {
-            return Some(take_first(&mut self.last, n));
+        self.free -= n;
+        if let Some(piece) = take_piece(&mut self.pieces, n) {
+            return Some(piece);
         }
-        put_by(&mut self.last, &mut self.others);
+        if self.others.blocks() < n {
+            join(&mut self.pieces, &mut self.others);
+        }
         Some(take_first(&mut self.others, n))
     }
 
     /// Takes pages back, at most as many as are out. It takes no memory (profile).
+    #[tactic(auto, using(crate::proofs::CountsLemmas::total_push))]
     pub fn give(&mut self, pages: Pages)
         requires { length pages ≤ self.old.out }
         ensures free { self.new.free ≡ self.old.free + length pages }
         ensures out { self.new.out + length pages ≡ self.old.out }
         ensures none_lost { number_of self.new ≡ number_of self.old }
     {
-        if pages.blocks() > 0 {
-            put_by(&mut self.last, &mut self.others);
-            self.last = pages;
+        self.free += pages.blocks();
+        if self.pieces.is_full() {
+            put_by(pages, &mut self.others);
+        } else if pages.blocks() > 0 {
+            self.pieces.push(pages);
         }
     }
 }
 
-/// Takes the first pages off: all of them without a walk.
+/// Takes the last piece, if it has so many pages.
+#[tactic(auto, using(crate::proofs::CountsLemmas::total_push))]
+fn take_piece(pieces: &mut ArrayVec<Pages, 64>, n: u32) -> Option<Pages>
+    ensures some { IfSome result (λ piece. (length piece ≡ n) × (total pieces.new.items + n ≡ total pieces.old.items)) }
+    ensures none { IfNone result (pieces.new ≡ pieces.old) }
+{
+    match pieces.last() {
+        Some(piece) if piece.blocks() == n => pieces.pop(),
+        _ => None,
+    }
+}
+
+/// Takes the first pages off.
 fn take_first(pages: &mut Pages, n: u32) -> Pages
     requires { n ≤ length pages.old }
     ensures taken { length result ≡ n }
     ensures rest { length pages.new + n ≡ length pages.old }
 {
-    if n == pages.blocks() {
-        return mem::take(pages);
-    }
     let mut first = Pages::default();
     pages.move_first(n, &mut first);
     first
 }
 
-/// Puts the last pages to the others.
-fn put_by(last: &mut Pages, others: &mut Pages)
-    requires { length others.old + length last.old < 2 ^ 32 }
-    ensures none { length last.new ≡ 0 }
-    ensures all { length others.new ≡ length others.old + length last.old }
+/// Puts these pages to the others.
+fn put_by(pages: Pages, others: &mut Pages)
+    requires { length pages + length others.old < 2 ^ 32 }
+    ensures { length others.new ≡ length pages + length others.old }
 {
-    last.move_first(last.blocks(), others);
+    let mut pages = pages;
+    pages.move_first(pages.blocks(), others);
+}
+
+/// Puts the pages of all pieces to the others.
+#[tactic(auto, using(crate::proofs::CountsLemmas::total_push))]
+fn join(pieces: &mut ArrayVec<Pages, 64>, others: &mut Pages)
+    requires { total pieces.old.items + length others.old < 2 ^ 32 }
+    ensures none { total pieces.new.items ≡ 0 }
+    ensures all { length others.new ≡ total pieces.old.items + length others.old }
+{
+    while let Some(piece) = pieces.pop() {
+        put_by(piece, others);
+    }
 }
 
 /// A pool keeps nothing beside its pages (profile).
@@ -162,6 +188,20 @@ mod tests {
             assert_eq!(rt; pool.free(), number);
             drop(pool.lend(number));
         }
+        Ok(())
+    }
+
+    #[test]
+    fn pieces_that_came_back(rt: HostRuntime) -> Result<(), Fail> {
+        let mut pool = Pool::new(rt.alloc(), 6)?;
+        let two = pool.take(2).expect(&rt, "two pages");
+        let three = pool.take(3).expect(&rt, "three pages");
+        pool.give(two);
+        pool.give(three);
+        // The last piece as it is, and then the other one with what never went out.
+        assert_eq!(rt; pool.take(3).expect(&rt, "the last piece").blocks(), 3);
+        assert_eq!(rt; pool.take(3).expect(&rt, "all others").blocks(), 3);
+        assert!(rt; pool.take(1).is_none());
         Ok(())
     }
 }
