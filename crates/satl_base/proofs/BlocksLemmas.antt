@@ -1,6 +1,8 @@
 -- The bytes of whole blocks.
-use Rattle.std.proofs.Common.{◌≡◌, refl, ◌∙◌, ap, arith, ℕ, zero, suc, ◌+◌, ◌*◌, List, [], ◌∷◌, ◌++◌, length, take, drop, reverse}
+use Rattle.std.proofs.Common.{◌≡◌, refl, ◌∙◌, ap, arith, ℕ, zero, suc, ◌+◌, ◌*◌, ◌<◌, List, [], ◌∷◌, ◌++◌, length, take, drop, reverse}
 use Rattle.std.proofs.lemmas.List.{drop-drop, length-append, reverse-append}
+use Rattle.std.specs.Prelude.{get_or}
+use Rattle.std.specs.Simd.{first_chunks}
 use Rattle.satl_base.specs.declared.block.Block.{Block}
 use Rattle.satl_base.specs.Blocks.{AreWhole, bytes_of, blocks_from}
 
@@ -25,3 +27,9 @@ pub blocks_from-turned : (n : ℕ) (bytes : List ℕ) → reverse (blocks_from (
 blocks_from-turned n bytes =
     let next : n + 1 ≡ suc n = omega arith in
     rw (next, blocks_from-more n bytes) (reverse-append (blocks_from n bytes) (record { bytes = take 512 (drop (512 * n) bytes) } ∷ []))
+
+-- a chunk of 512 bytes at its place
+pub chunk_at : (i k : ℕ) (bytes : List ℕ) → i < k → get_or (first_chunks 512 k bytes) i [] ≡ take 512 (drop (512 * i) bytes)
+chunk_at i zero bytes less = absurd (omega arith)
+chunk_at zero (suc k) bytes less = refl
+chunk_at (suc i) (suc k) bytes less = chunk_at i k (drop 512 bytes) (omega arith) ∙ ap (take 512) (drop-drop (512 * i) 512 bytes ∙ ap (λ m. drop m bytes) (omega arith))

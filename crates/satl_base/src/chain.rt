@@ -105,12 +105,13 @@ pub(crate) fn shift_filled(from: &mut Chain, onto: &mut Chain, bytes: &[u8], n: 
 {
     let mut rest = mem::replace(from, Chain::End);
     let mut done = mem::replace(onto, Chain::End);
+    // Arrays are copied whole: the copy of a slice looks first whether the two overlap.
+    let (blocks, _) = bytes.as_chunks::<512>();
     for i in 0..n {
         let Some(mut node) = rest.into_node() else {
             unreachable!();
         };
-        let first = 512 * i as usize;
-        node.block.bytes.copy_from_slice(&bytes[first..first + 512]);
+        node.block.bytes = blocks[i as usize];
         rest = mem::replace(&mut node.next, done);
         done = Chain::More(node);
     }

@@ -1,7 +1,7 @@
 -- Bytes in pages.
 use Rattle.std.proofs.Common.{◌≡◌, ℕ, zero, suc, ◌+◌, ◌-◌, ◌*◌, ◌/◌, ◌%◌, ◌<◌, ◌≤◌, min, List, [], ◌∷◌, ◌++◌, length, take, drop, reverse, replicate, refl, ◌∙◌, ap, sym, arith, append_assoc, inl, inr}
 use Rattle.std.proofs.lemmas.Bool.{cases_lt}
-use Rattle.std.proofs.lemmas.List.{take-append-drop, drop-drop, length-drop, length-append, length-take-le, length-replicate, length-reverse, reverse-append, reverse-reverse, take-append-le, drop-append-le, take_all, take_at, append-nil, replicate-append-replicate, drop-replicate, take-replicate, nil_from_length, length-take, drop_all}
+use Rattle.std.proofs.lemmas.List.{take-append-drop, length-drop, length-append, length-take-le, length-replicate, length-reverse, reverse-append, reverse-reverse, take-append-le, drop-append-le, take_all, take_at, append-nil, replicate-append-replicate, drop-replicate, take-replicate, nil_from_length, length-take, drop_all}
 use Rattle.std.proofs.Math.Seq.{take-append-add, drop-append-add}
 use Rattle.std.specs.List.{AllByRecursion}
 use Rattle.satl_base.specs.declared.block.Block.{Block}
