@@ -1,5 +1,5 @@
 -- Blocks of 512 bytes, and the bytes of a list of them.
-use Rattle.std.specs.Prelude.{ℕ, ◌+◌, ◌*◌, ◌/◌, ◌%◌, ◌≡◌, ◌≤◌, ◌<◌, ◌==◌, not, Bool, List, [], ◌∷◌, ◌++◌, replicate, slice_index, get_or, take, length}
+use Rattle.std.specs.Prelude.{ℕ, zero, suc, ◌+◌, ◌*◌, ◌/◌, ◌%◌, ◌≡◌, ◌≤◌, ◌<◌, ◌==◌, not, Bool, List, [], ◌∷◌, ◌++◌, replicate, slice_index, get_or, take, drop, length}
 use Rattle.std.specs.List.{AllByRecursion}
 use Rattle.satl_base.specs.declared.block.Block.{Block}
 use Rattle.satl_base.specs.declared.block.Range.{Range}
@@ -23,6 +23,11 @@ zero_block = record { bytes = replicate 512 0 }
 abbrev pub bytes_of : List Block → List ℕ
 bytes_of [] = []
 bytes_of (b ∷ bs) = b.bytes ++ bytes_of bs
+
+-- n blocks of the bytes, 512 in each (profile)
+abbrev pub blocks_from : ℕ → List ℕ → List Block
+blocks_from zero bytes = []
+blocks_from (suc n) bytes = record { bytes = take 512 bytes } ∷ blocks_from n (drop 512 bytes)
 
 -- the first n bytes of the blocks (profile)
 abbrev pub first_bytes : ℕ → List Block → List ℕ

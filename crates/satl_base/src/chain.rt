@@ -1,5 +1,6 @@
 // A chain of boxed nodes: how pages are linked.
-ghost use Rattle.std.specs.Prelude.{◌≡◌, ◌∷◌, ◌++◌, ◌+◌, ◌≤◌, ◌<◌, [], MatchOption, length, reverse, slice_index_or, slice_set, drop};
+ghost use Rattle.std.specs.Prelude.{◌≡◌, ◌∷◌, ◌++◌, ◌+◌, ◌*◌, ◌≤◌, ◌<◌, [], MatchOption, length, reverse, slice_index_or, slice_set, drop};
+ghost use Rattle.satl_base.specs.Blocks.{blocks_from};
 ghost use Rattle.satl_base.specs.Chains.{blocks_of};
 
 use crate::block::Block;
@@ -88,6 +89,29 @@ pub(crate) fn shift_many(from: &mut Chain, onto: &mut Chain, n: u32)
         let Some(mut node) = rest.into_node() else {
             unreachable!();
         };
+        rest = mem::replace(&mut node.next, done);
+        done = Chain::More(node);
+    }
+    *from = rest;
+    *onto = done;
+}
+
+/// Moves the first n nodes of one chain before the first of the other, one by one, each filled with the next 512 of the bytes.
+pub(crate) fn shift_filled(from: &mut Chain, onto: &mut Chain, bytes: &[u8], n: u32)
+    requires enough { n ≤ length (blocks_of from.old) }
+    requires long { 512 * n ≤ length bytes.now }
+    ensures filled { blocks_of onto.new ≡ reverse (blocks_from n bytes.now) ++ blocks_of onto.old }
+    ensures rest { blocks_of from.new ≡ drop n (blocks_of from.old) }
+{
+    let mut rest = mem::replace(from, Chain::End);
+    let mut done = mem::replace(onto, Chain::End);
+    // Arrays are copied whole: the copy of a slice looks first whether the two overlap.
+    let (blocks, _) = bytes.as_chunks::<512>();
+    for i in 0..n {
+        let Some(mut node) = rest.into_node() else {
+            unreachable!();
+        };
+        node.block.bytes = blocks[i as usize];
         rest = mem::replace(&mut node.next, done);
         done = Chain::More(node);
     }

@@ -1,9 +1,9 @@
 // Pages of one block each.
-ghost use Rattle.std.specs.Prelude.{◌≡◌, ◌<◌, ◌≤◌, ◌+◌, ◌^◌, ℕ, List, [], ◌∷◌, ◌++◌, IfOk, IsSome, ◌↔◌, length, take, drop, replicate, slice_index_or, slice_set, option_to_list, reverse};
-ghost use Rattle.satl_base.specs.Blocks.{zero_block};
+ghost use Rattle.std.specs.Prelude.{◌≡◌, ◌<◌, ◌≤◌, ◌+◌, ◌*◌, ◌^◌, ℕ, List, [], ◌∷◌, ◌++◌, IfOk, IsSome, ◌↔◌, length, take, drop, replicate, slice_index_or, slice_set, option_to_list, reverse};
+ghost use Rattle.satl_base.specs.Blocks.{zero_block, blocks_from};
 
 use crate::block::Block;
-use crate::chain::{Chain, Node, shift_many};
+use crate::chain::{Chain, Node, shift_filled, shift_many};
 use std::alloc::{AllocError, AllocFailed, Global};
 use std::marker::Model;
 use std::mem;
@@ -78,14 +78,6 @@ impl Page {
         ensures { self.new ≡ block.now }
     {
         self.node.block = *block;
-    }
-
-    /// Writes 512 bytes as the block in the page, with one copy (profile).
-    pub fn set_bytes(&mut self, bytes: &[u8])
-        requires { length bytes.now ≡ 512 }
-        ensures { self.new.bytes ≡ bytes.now }
-    {
-        self.node.block.bytes.copy_from_slice(bytes);
     }
 }
 
@@ -220,6 +212,20 @@ impl Pages {
             return;
         }
         shift_many(&mut self.first, &mut others.first, n);
+        self.count -= n;
+        others.count += n;
+    }
+
+    /// Fills the first n pages with 512 bytes each, in order, and moves them before the others' first, one by one, so that
+    /// their order turns round (profile).
+    pub fn move_filled(&mut self, n: u32, bytes: &[u8], others: &mut Pages)
+        requires enough { n ≤ length self.old }
+        requires few { length others.old + n < 2 ^ 32 }
+        requires long { 512 * n ≤ length bytes.now }
+        ensures moved { others.new ≡ reverse (blocks_from n bytes.now) ++ others.old }
+        ensures rest { self.new ≡ drop n self.old }
+    {
+        shift_filled(&mut self.first, &mut others.first, bytes, n);
         self.count -= n;
         others.count += n;
     }

@@ -1,11 +1,11 @@
 -- Bytes in pages.
 use Rattle.std.proofs.Common.{◌≡◌, ℕ, zero, suc, ◌+◌, ◌-◌, ◌*◌, ◌/◌, ◌%◌, ◌<◌, ◌≤◌, min, List, [], ◌∷◌, ◌++◌, length, take, drop, reverse, replicate, refl, ◌∙◌, ap, sym, arith, append_assoc, inl, inr}
 use Rattle.std.proofs.lemmas.Bool.{cases_lt}
-use Rattle.std.proofs.lemmas.List.{take-append-drop, drop-drop, length-drop, length-append, length-take-le, length-replicate, length-reverse, reverse-append, take-append-le, drop-append-le, take_all, take_at, append-nil, replicate-append-replicate, drop-replicate, take-replicate, nil_from_length, length-take, drop_all}
+use Rattle.std.proofs.lemmas.List.{take-append-drop, length-drop, length-append, length-take-le, length-replicate, length-reverse, reverse-append, reverse-reverse, take-append-le, drop-append-le, take_all, take_at, append-nil, replicate-append-replicate, drop-replicate, take-replicate, nil_from_length, length-take, drop_all}
 use Rattle.std.proofs.Math.Seq.{take-append-add, drop-append-add}
 use Rattle.std.specs.List.{AllByRecursion}
 use Rattle.satl_base.specs.declared.block.Block.{Block}
-use Rattle.satl_base.specs.Blocks.{bytes_of, zero_bytes}
+use Rattle.satl_base.specs.Blocks.{blocks_from, bytes_of, zero_bytes}
 use Rattle.satl_frame.specs.DataPages.{page_count, padded_block, pages_from, pages_of}
 
 -- 512 bytes are a block
@@ -16,13 +16,12 @@ whole_block xs bytes l e =
     let same : bytes ≡ take 512 xs ++ replicate (512 - length xs) 0 = e ∙ sym (append-nil (take 512 xs)) ∙ ap (λ k. take 512 xs ++ replicate k 0) (sym none) in
     ap (λ (b : List ℕ). record { bytes = b }) same
 
--- one page more
-pub pages_from-more : (n : ℕ) (xs : List ℕ) → pages_from (suc n) xs ≡ pages_from n xs ++ padded_block (drop (512 * n) xs) ∷ []
+-- whole blocks of the bytes are pages of them
+pub pages_from-blocks : (n : ℕ) (xs : List ℕ) → 512 * n ≤ length xs → blocks_from n xs ≡ pages_from n xs
 unfolding pages_from
-pages_from-more zero xs = refl
-pages_from-more (suc n) xs =
-    let further : drop (512 * n) (drop 512 xs) ≡ drop (512 * suc n) xs = drop-drop (512 * n) 512 xs ∙ ap (λ k. drop k xs) (omega arith) in
-    ap (λ bs. padded_block xs ∷ bs) (pages_from-more n (drop 512 xs) ∙ ap (λ d. pages_from n (drop 512 xs) ++ padded_block d ∷ []) further)
+pages_from-blocks zero xs l = refl
+pages_from-blocks (suc n) xs l =
+    rw (whole_block xs (take 512 xs) (omega arith) refl, pages_from-blocks n (drop 512 xs) (omega (arith, length-drop 512 xs))) refl
 
 pub length-pages_from : (n : ℕ) (xs : List ℕ) → length (pages_from n xs) ≡ n
 unfolding pages_from
@@ -112,18 +111,12 @@ pages_of-append q xs ys l =
     let all : page_count (length (xs ++ ys)) ≡ q + page_count (length ys) = omega (arith, length-append xs ys) in
     rw (all, front) (pages_from-append q (page_count (length ys)) xs ys l)
 
--- one block more in the pages that are done
-pub placed_block : (n : ℕ) (buffer : List ℕ) (start done done' : List Block) (b : Block) → reverse done ≡ reverse start ++ pages_from n buffer →
-    done' ≡ b ∷ done → b ≡ padded_block (drop (512 * n) buffer) → reverse done' ≡ reverse start ++ pages_from (n + 1) buffer
-placed_block n buffer start done done' b before put is =
-    let next : n + 1 ≡ suc n = omega arith in
-    rw (put, next, pages_from-more n buffer, is)
-    (reverse-append (padded_block (drop (512 * n) buffer) ∷ []) done
-    ∙ ap (λ bs. bs ++ padded_block (drop (512 * n) buffer) ∷ []) before ∙ append_assoc (reverse start) (pages_from n buffer) (padded_block (drop (512 * n) buffer) ∷ []))
-
-pub none_placed : (buffer : List ℕ) (start : List Block) → reverse start ≡ reverse start ++ pages_from 0 buffer
-unfolding pages_from
-none_placed buffer start = sym (append-nil (reverse start))
+-- pages that were filled and put in reverse before others
+pub pages_placed : (n : ℕ) (buffer : List ℕ) (done done' : List Block) → 512 * n ≤ length buffer →
+    done' ≡ reverse (blocks_from n buffer) ++ done → reverse done' ≡ reverse done ++ pages_from n buffer
+pages_placed n buffer done done' long put =
+    rw put (reverse-append (reverse (blocks_from n buffer)) done
+    ∙ ap (λ bs. reverse done ++ bs) (reverse-reverse (blocks_from n buffer) ∙ pages_from-blocks n buffer long))
 
 -- a chunk whose front was filled, with zeros up to the end of its last page
 pub chunk_placed : (count m : ℕ) (chunk behind buffer : List ℕ) → length chunk ≡ count →

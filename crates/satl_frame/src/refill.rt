@@ -1,41 +1,15 @@
 // Data-out from the source into pages, in large reads.
 ghost use Rattle.std.specs.Prelude.{◌≡◌, ◌<◌, ◌≤◌, ◌+◌, ◌-◌, ◌*◌, ◌^◌, ◌++◌, [], IfOk, OnOk, length, take, drop, reverse};
 ghost use Rattle.satl_base.specs.Blocks.{zero_block, zero_bytes};
-ghost use Rattle.satl_frame.specs.DataPages.{page_count, padded_block, pages_from};
+ghost use Rattle.satl_frame.specs.DataPages.{page_count};
 ghost use Rattle.satl_frame.specs.Pulls.{PullCauses, Stopped, TookCount, TookPages, FilledInReverse, given_pages};
 
 use crate::pulling::{PullError, pull};
-use satl_base::{Lender, Page, Pages};
+use satl_base::{Lender, Pages};
 use satl_io::Source;
 
 /// The most bytes that one pull asks for: eight pages.
 pub const CHUNK: usize = 4096;
-
-/// Fills a page with the block at a place of a buffer.
-fn fill_page(page: &mut Page, buffer: &[u8], i: u32)
-    requires { 512 * i + 512 ≤ length buffer.now }
-    ensures { page.new ≡ padded_block (drop (512 * i) buffer.now) }
-{
-    let first = 512 * i as usize;
-    page.set_bytes(&buffer[first..first + 512]);
-}
-
-/// Fills n pages from a buffer, and moves them from the front of `todo` to that of `done`.
-fn place_blocks(buffer: &[u8], n: u32, todo: &mut Pages, done: &mut Pages)
-    requires long { 512 * n ≤ length buffer.now }
-    requires room { n ≤ length todo.old }
-    requires few { length todo.old + length done.old < 2 ^ 32 }
-    ensures placed { reverse done.new ≡ reverse done.old ++ pages_from n buffer.now }
-    ensures left { length todo.new + n ≡ length todo.old }
-{
-    for i in 0..n {
-        let Some(mut page) = todo.pop_first() else {
-            unreachable!();
-        };
-        fill_page(&mut page, buffer, i);
-        done.push_first(page);
-    }
-}
 
 /// Blanks what stands behind so many bytes, up to the end of their last page.
 fn blank_rest(buffer: &mut [u8; CHUNK], count: usize)
@@ -66,7 +40,7 @@ fn pull_chunk<S: Source>(
     pull(source, &mut buffer[..count])?;
     blank_rest(buffer, count);
     let pages = count.div_ceil(512) as u32;
-    place_blocks(buffer, pages.min(todo.blocks()), todo, done);
+    todo.move_filled(pages.min(todo.blocks()), buffer, done);
     Ok(())
 }
 
