@@ -81,17 +81,29 @@ impl Pool {
     }
 
     /// Takes pages back, at most as many as are out. It takes no memory (profile).
-    #[tactic(auto, using(crate::proofs::CountsLemmas::total_push))]
     pub fn give(&mut self, pages: Pages)
         requires { length pages ≤ self.old.out }
         ensures free { self.new.free ≡ self.old.free + length pages }
         ensures out { self.new.out + length pages ≡ self.old.out }
         ensures none_lost { number_of self.new ≡ number_of self.old }
     {
+        if pages.blocks() > 0 {
+            self.put_back(pages);
+        }
+    }
+
+    /// The same. Apart from `give`, which is short without it: often there is no page to give.
+    #[inline(never)]
+    #[tactic(auto, using(crate::proofs::CountsLemmas::total_push))]
+    fn put_back(&mut self, pages: Pages)
+        requires { length pages ≤ self.old.out }
+        ensures free { self.new.free ≡ self.old.free + length pages }
+        ensures out { self.new.out + length pages ≡ self.old.out }
+    {
         self.free += pages.blocks();
         if self.pieces.is_full() {
             put_by(pages, &mut self.others);
-        } else if pages.blocks() > 0 {
+        } else {
             self.pieces.push(pages);
         }
     }
