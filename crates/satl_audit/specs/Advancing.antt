@@ -37,10 +37,7 @@ Advances r event old new false = CannotGoOn r event old
 -- a request may arrive: its data-out stands at a place of the input (SAM-5 5; profile)
 abbrev pub MayHappen : List ℕ → ℕ → List Placed → Frame → Type 0
 MayHappen input at waiting (frames.Request r) = IsSent input at r waiting
-MayHappen input at waiting (frames.Manage m) = Unit {0}
-MayHappen input at waiting (frames.Turn count) = Unit {0}
-MayHappen input at waiting (frames.Bench event) = Unit {0}
-MayHappen input at waiting frames.End = Unit {0}
+MayHappen input at waiting _ = Unit {0}
 
 -- a request is of one of the four nexuses and of version 1, and its data-out ends within so many bytes from a place on
 -- (profile)
@@ -51,7 +48,4 @@ pub record IsGood (size at : ℕ) (r : Request) : Type 0 where
 
 abbrev pub IsGoodFrame : ℕ → ℕ → Frame → Type 0
 IsGoodFrame size at (frames.Request r) = IsGood size at r
-IsGoodFrame size at (frames.Manage m) = Unit {0}
-IsGoodFrame size at (frames.Turn count) = Unit {0}
-IsGoodFrame size at (frames.Bench event) = Unit {0}
-IsGoodFrame size at frames.End = Unit {0}
+IsGoodFrame size at _ = Unit {0}

@@ -1,6 +1,5 @@
 -- One ATA command on a drive with nothing outstanding and in no error state.
-use Rattle.std.specs.Prelude.{◌≡◌, ◌∷◌, false, List, [], drop, length}
-use Rattle.std.specs.List.{AllByRecursion}
+use Rattle.std.specs.Prelude.{◌≡◌, ◌∷◌, false, List, [], drop}
 use Rattle.satl_base.specs.declared.block.Block.{Block}
 use Rattle.satl_base.specs.Cells.{Pair}
 use Rattle.satl_base.specs.Losses.{Loses}
@@ -14,19 +13,8 @@ use Rattle.satl_drive.specs.Rules.{IsCutOff, MaySet}
 
 -- a command by its name, not by a code alone (ACS-3 section 7; which commands there are: profile)
 abbrev pub IsNamed : AtaCommand → Type 0
-IsNamed (commands.Read how lba sectors) = Unit {0}
-IsNamed (commands.Write how lba sectors) = Unit {0}
-IsNamed (commands.Verify ext lba sectors) = Unit {0}
-IsNamed (commands.Flush ext) = Unit {0}
-IsNamed commands.Identify = Unit {0}
-IsNamed (commands.SetFeatures what) = Unit {0}
-IsNamed commands.Standby = Unit {0}
-IsNamed commands.Idle = Unit {0}
-IsNamed commands.CheckPower = Unit {0}
-IsNamed (commands.ReadLog log page blocks) = Unit {0}
-IsNamed (commands.Trim blocks) = Unit {0}
-IsNamed commands.SmartStatus = Unit {0}
 IsNamed (commands.Other code) = ⊥
+IsNamed _ = Unit {0}
 
 -- what goes to a drive with this command and comes back: the command is spelled in its registers (ACS-3, inputs and outputs of
 -- a command)

@@ -48,12 +48,9 @@ pub record LosesLink (old : Layer) (replies : List Reply) (new : Layer) : Type 0
 
 -- what follows from an event for the layer, and what it answers (profile)
 abbrev pub FollowsEvent : BenchEvent → Layer → List Reply → Layer → Type 0
-FollowsEvent (Strike which lba) old replies new = StaysSame old replies new
-FollowsEvent (Mend lba) old replies new = StaysSame old replies new
-FollowsEvent (Glitch count) old replies new = StaysSame old replies new
-FollowsEvent (Order order) old replies new = StaysSame old replies new
 FollowsEvent Power old replies new = StartsAnew old replies new
 FollowsEvent Unplug old replies new = LosesLink old replies new
+FollowsEvent _ old replies new = StaysSame old replies new
 
 -- how often the drive was unplugged after an event: once more at UNPLUG, or still so often where the number is at its last
 -- value (profile)

@@ -51,18 +51,12 @@ pub record Round : Type 0 where
 -- what the target itself answers, which stands under unit 0 (profile)
 abbrev pub target_told : ℕ → Frame → List ℕ
 target_told units (frames.Request r) = if is_report r then named 0 (replied (target_reply units r) ∷ []) else []
-target_told units (frames.Manage m) = []
-target_told units (frames.Turn count) = []
-target_told units (frames.Bench event) = []
-target_told units frames.End = []
+target_told units _ = []
 
 -- the end of the output (profile)
 abbrev pub end_told : Frame → List ℕ
-end_told (frames.Request r) = []
-end_told (frames.Manage m) = []
-end_told (frames.Turn count) = []
-end_told (frames.Bench event) = []
 end_told frames.End = end_bytes
+end_told _ = []
 
 -- what is written for a round (profile)
 abbrev pub round_told : ℕ → Round → List ℕ

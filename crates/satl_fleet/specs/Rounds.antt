@@ -116,18 +116,13 @@ pub record RoundInPart (units : ℕ) (frame : Frame) (before after : Stage) : Ty
 -- the pages of a frame that can be routed hold all of its data-out (profile)
 abbrev pub CanRoute : Frame → Type 0
 CanRoute (frames.Request r) = (r.data_len ≤ 512 * length r.body) × IsExpectable r.expected
-CanRoute (frames.Manage m) = Unit {0}
-CanRoute (frames.Turn count) = Unit {0}
-CanRoute (frames.Bench event) = Unit {0}
-CanRoute frames.End = Unit {0}
+CanRoute _ = Unit {0}
 
 -- the most calls of drives that a frame takes, and a turn for each task that it leaves (profile)
 abbrev pub frame_calls : ℕ → Frame → ℕ
 frame_calls units (frames.Request r) = if is_report r then 0 else turn_calls + off_calls
 frame_calls units (frames.Manage m) = if is_for_all m then units * off_calls else off_calls
-frame_calls units (frames.Turn count) = 0
-frame_calls units (frames.Bench event) = 0
-frame_calls units frames.End = 0
+frame_calls units _ = 0
 
 -- the most calls of drives that frames take (profile)
 abbrev pub calls_for : ℕ → List Frame → ℕ
@@ -136,8 +131,6 @@ calls_for units (frame ∷ others) = frame_calls units frame + calls_for units o
 
 -- turns, or an event of the bench (profile)
 abbrev pub IsTurnOrBench : Frame → Type 0
-IsTurnOrBench (frames.Request r) = ⊥
-IsTurnOrBench (frames.Manage m) = ⊥
 IsTurnOrBench (frames.Turn count) = Unit {0}
 IsTurnOrBench (frames.Bench event) = Unit {0}
-IsTurnOrBench frames.End = ⊥
+IsTurnOrBench _ = ⊥

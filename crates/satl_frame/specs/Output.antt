@@ -102,8 +102,5 @@ pub record IsWritable (r : Reply) : Type 0 where
 
 -- a reply can be written where that holds; all other frames always can
 abbrev pub CanWrite : OutFrame → Type 0
-CanWrite written.Magic = Unit {0}
 CanWrite (written.Reply r) = IsWritable r.now
-CanWrite (written.Managed nexus function response tag) = Unit {0}
-CanWrite written.End = Unit {0}
-CanWrite (written.Fault reason offset) = Unit {0}
+CanWrite _ = Unit {0}

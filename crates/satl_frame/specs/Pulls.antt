@@ -122,10 +122,8 @@ pub record TookBadField (left left' : Option (List ℕ)) (head : Head) : Type 0 
 -- the pages of a frame
 abbrev pub frame_pages : Frame → ℕ
 frame_pages (frames.Request r) = length r.body
-frame_pages (frames.Manage m) = 0
-frame_pages (frames.Turn count) = 0
 frame_pages (frames.Bench event) = event_pages event
-frame_pages frames.End = 0
+frame_pages _ = 0
 
 abbrev pub found_pages : Option Frame → ℕ
 found_pages None = 0

@@ -57,32 +57,11 @@ own_protocols (commands.Other code) = protocols
 
 -- a command that writes: its data go to the drive
 abbrev pub is_writing : AtaCommand → Bool
-is_writing (commands.Read how lba sectors) = false
 is_writing (commands.Write how lba sectors) = true
-is_writing (commands.Verify ext lba sectors) = false
-is_writing (commands.Flush ext) = false
-is_writing commands.Identify = false
-is_writing (commands.SetFeatures what) = false
-is_writing commands.Standby = false
-is_writing commands.Idle = false
-is_writing commands.CheckPower = false
-is_writing (commands.ReadLog log page blocks) = false
 is_writing (commands.Trim blocks) = true
-is_writing commands.SmartStatus = false
-is_writing (commands.Other code) = false
+is_writing _ = false
 
 -- the profile does not have the command
 abbrev pub is_other : AtaCommand → Bool
-is_other (commands.Read how lba sectors) = false
-is_other (commands.Write how lba sectors) = false
-is_other (commands.Verify ext lba sectors) = false
-is_other (commands.Flush ext) = false
-is_other commands.Identify = false
-is_other (commands.SetFeatures what) = false
-is_other commands.Standby = false
-is_other commands.Idle = false
-is_other commands.CheckPower = false
-is_other (commands.ReadLog log page blocks) = false
-is_other (commands.Trim blocks) = false
-is_other commands.SmartStatus = false
 is_other (commands.Other code) = true
+is_other _ = false

@@ -285,17 +285,10 @@ trimming blocks given m =
 abbrev pub own_blocks : AtaCommand → ℕ
 own_blocks (commands.Read how lba sectors) = sectors
 own_blocks (commands.Write how lba sectors) = sectors
-own_blocks (commands.Verify ext lba sectors) = 0
-own_blocks (commands.Flush ext) = 0
 own_blocks commands.Identify = 1
-own_blocks (commands.SetFeatures what) = 0
-own_blocks commands.Standby = 0
-own_blocks commands.Idle = 0
-own_blocks commands.CheckPower = 0
 own_blocks (commands.ReadLog log page blocks) = blocks
 own_blocks (commands.Trim blocks) = blocks
-own_blocks commands.SmartStatus = 0
-own_blocks (commands.Other code) = 0
+own_blocks _ = 0
 
 -- the effect of a command: what goes to the drive with it and comes back, and the medium before it and after it (ACS-3 section
 -- 7)
@@ -324,34 +317,16 @@ Ata x old new = HasEffect (command_in x.registers) x old new
 -- the pairs that a command may write, also where it is cut short: none where its range or its entries are refused (ACS-3;
 -- profile)
 abbrev pub pairs_of : AtaCommand → Medium → List Block → List Pair
-pairs_of (commands.Read how lba sectors) m given = []
 pairs_of (commands.Write how lba sectors) m given =
     if nat_lt (length m.cells) (lba + sectors) then [] else pairs_from lba (take sectors given) m.cache
-pairs_of (commands.Verify ext lba sectors) m given = []
-pairs_of (commands.Flush ext) m given = []
-pairs_of commands.Identify m given = []
-pairs_of (commands.SetFeatures what) m given = []
-pairs_of commands.Standby m given = []
-pairs_of commands.Idle m given = []
-pairs_of commands.CheckPower m given = []
-pairs_of (commands.ReadLog log page blocks) m given = []
 pairs_of (commands.Trim blocks) m given =
     if is_no_trim blocks given m then [] else zeros_at m.cache (addresses (payload_ranges blocks given))
-pairs_of commands.SmartStatus m given = []
-pairs_of (commands.Other code) m given = []
+pairs_of _ m given = []
 
 -- the commands that go over the medium: reads, writes, verifies and trims, which wake a drive (ACS-3 4, power modes)
 abbrev pub goes_over_medium : AtaCommand → Bool
 goes_over_medium (commands.Read how lba sectors) = true
 goes_over_medium (commands.Write how lba sectors) = true
 goes_over_medium (commands.Verify ext lba sectors) = true
-goes_over_medium (commands.Flush ext) = false
-goes_over_medium commands.Identify = false
-goes_over_medium (commands.SetFeatures what) = false
-goes_over_medium commands.Standby = false
-goes_over_medium commands.Idle = false
-goes_over_medium commands.CheckPower = false
-goes_over_medium (commands.ReadLog log page blocks) = false
 goes_over_medium (commands.Trim blocks) = true
-goes_over_medium commands.SmartStatus = false
-goes_over_medium (commands.Other code) = false
+goes_over_medium _ = false

@@ -30,10 +30,8 @@ scene_of l d calls teller written =
 -- the pages that are out are those of a request or of order bytes, or none (profile)
 abbrev pub CanTake : Frame → ℕ → ℕ → Type 0
 CanTake (frames.Request r) free out = CanSubmit r free out
-CanTake (frames.Manage m) free out = out ≡ 0
-CanTake (frames.Turn count) free out = out ≡ 0
 CanTake (frames.Bench event) free out = out ≡ event_pages event
-CanTake frames.End free out = out ≡ 0
+CanTake _ free out = out ≡ 0
 
 -- a whole event, of which this one has the pages that were free (profile)
 pub record IsWholeOf (event whole : Frame) : Type 0 where
@@ -49,11 +47,8 @@ pub record Carried (event : Frame) (before : Stand) (answers : List Answer) (aft
 
 -- how often the drive was unplugged behind an event (profile)
 abbrev pub unplugs_behind : Frame → ℕ → ℕ
-unplugs_behind (frames.Request r) before = before
-unplugs_behind (frames.Manage m) before = before
-unplugs_behind (frames.Turn count) before = before
 unplugs_behind (frames.Bench event) before = unplugs_after event before
-unplugs_behind frames.End before = before
+unplugs_behind _ before = before
 
 -- an event raised the count of faults by its losses; the drive was unplugged by it alone; and it was called as often at most as
 -- it allows, and a turn for each task that is gone; its deepest queue did not fall (profile)

@@ -19,11 +19,8 @@ use Rattle.satl_step.specs.Telling.{IsTold, IsToldInPart}
 
 -- whether a frame is END (profile)
 abbrev pub is_end : Frame → Bool
-is_end (frames.Request r) = false
-is_end (frames.Manage m) = false
-is_end (frames.Turn count) = false
-is_end (frames.Bench event) = false
 is_end frames.End = true
+is_end _ = false
 
 -- how many bytes of the input stand before the next frame; none where the magic was not read yet (profile)
 abbrev pub place_offset : Option Place → ℕ

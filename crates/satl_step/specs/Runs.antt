@@ -50,10 +50,7 @@ stand_of l d calls = record { device = view l d; tally = tally_of d calls }
 -- whether an event is a request (profile)
 abbrev pub is_request : Frame → Bool
 is_request (frames.Request r) = true
-is_request (frames.Manage m) = false
-is_request (frames.Turn count) = false
-is_request (frames.Bench event) = false
-is_request frames.End = false
+is_request _ = false
 
 -- how many of the events are requests (profile)
 abbrev pub requests_in : List Frame → ℕ
@@ -61,11 +58,8 @@ requests_in events = how_many is_request events
 
 -- whether an event is a task management function (profile)
 abbrev pub is_manage : Frame → Bool
-is_manage (frames.Request r) = false
 is_manage (frames.Manage m) = true
-is_manage (frames.Turn count) = false
-is_manage (frames.Bench event) = false
-is_manage frames.End = false
+is_manage _ = false
 
 -- the most calls of a drive that events take: a request those of its turn, and those of taking tasks off where it overlaps one;
 -- a task management function those of taking tasks off (profile)
@@ -74,20 +68,13 @@ calls_allowed events = (turn_calls + off_calls) * requests_in events + off_calls
 
 -- whether a bench event unplugs the drive (profile)
 abbrev pub unplugs : BenchEvent → Bool
-unplugs (events.Strike which lba) = false
-unplugs (events.Mend lba) = false
-unplugs (events.Glitch count) = false
-unplugs (events.Order order) = false
-unplugs events.Power = false
 unplugs events.Unplug = true
+unplugs _ = false
 
 -- whether an event unplugs the drive (profile)
 abbrev pub is_unplug : Frame → Bool
-is_unplug (frames.Request r) = false
-is_unplug (frames.Manage m) = false
-is_unplug (frames.Turn count) = false
 is_unplug (frames.Bench event) = unplugs event
-is_unplug frames.End = false
+is_unplug _ = false
 
 -- how many of the events unplug the drive (profile)
 abbrev pub unplugs_in : List Frame → ℕ
