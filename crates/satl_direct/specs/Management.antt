@@ -54,13 +54,7 @@ only response s = record { goes = λ t. false; attentions = s.attentions; respon
 -- whether the LUN of a function is judged: not of I_T NEXUS RESET, which names none; of unknown codes too (SAM-5 7.6; profile)
 abbrev pub has_unit : Option Function → Bool
 has_unit (Some NexusReset) = false
-has_unit (Some AbortTask) = true
-has_unit (Some AbortTaskSet) = true
-has_unit (Some ClearTaskSet) = true
-has_unit (Some UnitReset) = true
-has_unit (Some QueryTask) = true
-has_unit (Some QueryTaskSet) = true
-has_unit None = true
+has_unit _ = true
 
 -- the effect of a function, and that of a code without one (SAM-5 7; profile)
 abbrev pub effect_or_none : Option Function → Manage → Device → Effect

@@ -82,20 +82,13 @@ losses_of old new = if old.down then 0 else (if new.down then 1 else 0)
 
 -- how many losses of the link a bench event is: UNPLUG one, also where the link was lost before (profile)
 abbrev pub bench_losses : BenchEvent → ℕ
-bench_losses (events.Strike which lba) = 0
-bench_losses (events.Mend lba) = 0
-bench_losses (events.Glitch count) = 0
-bench_losses (events.Order order) = 0
-bench_losses events.Power = 0
 bench_losses events.Unplug = 1
+bench_losses _ = 0
 
 -- how often the link was lost in an event (profile)
 abbrev pub losses_in : Frame → Device → Device → ℕ
-losses_in (frames.Request r) old new = losses_of old new
-losses_in (frames.Manage m) old new = losses_of old new
-losses_in (frames.Turn n) old new = losses_of old new
 losses_in (frames.Bench event) old new = bench_losses event
-losses_in frames.End old new = losses_of old new
+losses_in _ old new = losses_of old new
 
 -- the events one after the other, with quiet moves before the first: a group of answers for each, the number of losses, the
 -- last device, and the greatest depth after an event or a turn (profile)
@@ -120,11 +113,9 @@ pub record Run (first : Device) (events : List Frame) (losses : ℕ) (answers : 
 
 -- so many turns an event may have made where it is cut short: a TURN at most its own, END any number, others none (profile)
 abbrev pub CutTurns : Frame → ℕ → Type 0
-CutTurns (frames.Request r) count = ⊥
-CutTurns (frames.Manage m) count = ⊥
 CutTurns (frames.Turn n) count = count ≤ n
-CutTurns (frames.Bench event) count = ⊥
 CutTurns frames.End count = Unit {0}
+CutTurns _ count = ⊥
 
 -- a run whose last event is TURN or END and has made as many turns as this: of a TURN not more than it asks for, perhaps all;
 -- the end is not told (profile)

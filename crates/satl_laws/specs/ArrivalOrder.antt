@@ -50,10 +50,7 @@ brought (Err why) body x was = was
 -- a sector's block after an event, where these requests have acted on it (SBC-3 5)
 abbrev pub block_after : (Request → Bool) → Bool → ℕ → Frame → Block → Block
 block_after acted trim x (frames.Request r) was = if acted r then brought (says r.cdb trim) r.body x was else was
-block_after acted trim x (frames.Manage m) was = was
-block_after acted trim x (frames.Turn count) was = was
-block_after acted trim x (frames.Bench event) was = was
-block_after acted trim x frames.End was = was
+block_after acted trim x _ was = was
 
 -- a sector's block by the WRITEs that have acted on it, in the order of the input (SBC-3 5)
 abbrev pub content : (Request → Bool) → Bool → ℕ → List Frame → Block → Block

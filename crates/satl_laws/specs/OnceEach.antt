@@ -25,10 +25,7 @@ answers_to nexus tag ended = false
 -- whether an event is a request of this nexus and tag (SAM-5 4.7)
 abbrev pub asks_by : ℕ → ℕ → Frame → Bool
 asks_by nexus tag (frames.Request r) = (r.nexus == nexus) && ((r.tag).0 == tag)
-asks_by nexus tag (frames.Manage m) = false
-asks_by nexus tag (frames.Turn count) = false
-asks_by nexus tag (frames.Bench event) = false
-asks_by nexus tag frames.End = false
+asks_by nexus tag _ = false
 
 -- the tasks that an arrival takes off without an answer: those of the nexus of an overlapped command (SAM-5 5.1)
 abbrev pub cleared_by : Arrival → Request → Device → List Entry
@@ -39,12 +36,8 @@ cleared_by (waits task) r s = []
 
 -- the tasks that a bench event takes off without an answer: all at a loss of power (profile)
 abbrev pub cut_by : BenchEvent → Device → List Entry
-cut_by (events.Strike which lba) s = []
-cut_by (events.Mend lba) s = []
-cut_by (events.Glitch count) s = []
-cut_by (events.Order order) s = []
 cut_by events.Power s = s.tasks
-cut_by events.Unplug s = []
+cut_by _ s = []
 
 -- the tasks that an event takes off without an answer (SAM-5 5, 7)
 abbrev pub taken_off : Frame → Device → List Entry

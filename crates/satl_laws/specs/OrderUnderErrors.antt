@@ -16,11 +16,8 @@ use Rattle.satl_laws.specs.ArrivalOrder.{AskOnce, IsInOrder, was_done, writes_pl
 -- whether an event is neither a loss of power nor a request that changes blocks other than as a WRITE does (profile)
 abbrev pub is_mild : Bool → Frame → Bool
 is_mild trim (frames.Request r) = writes_plainly (says r.cdb trim)
-is_mild trim (frames.Manage m) = true
-is_mild trim (frames.Turn count) = true
 is_mild trim (frames.Bench events.Power) = false
-is_mild trim (frames.Bench event) = true
-is_mild trim frames.End = true
+is_mild trim _ = true
 
 -- on each sector each WRITE has acted or not, once and for all; one that was answered with GOOD has (SBC-3 5)
 pub record HasOutcomes (first : Device) (all : List Frame) (answers : List Answer) (last : Device) : Type 0 where

@@ -48,8 +48,6 @@ DifferInNexusOrTag a b = ((a.nexus == b.nexus) && ((a.tag).0 == (b.tag).0)) ≡ 
 
 -- TURN, or END, which takes turns until no task is left (profile)
 abbrev pub AreTurns : Frame → Type 0
-AreTurns (frames.Request r) = ⊥
-AreTurns (frames.Manage m) = ⊥
 AreTurns (frames.Turn count) = Unit {0}
-AreTurns (frames.Bench event) = ⊥
 AreTurns frames.End = Unit {0}
+AreTurns _ = ⊥

@@ -39,10 +39,7 @@ SparedByNew x s (waits task) = Spares x (writes s task)
 -- nor a task that comes in an event (profile)
 abbrev pub SparedIn : ℕ → Frame → Device → Type 0
 SparedIn x (frames.Request r) s = SparedByNew x s (arrival s r)
-SparedIn x (frames.Manage m) s = Unit {0}
-SparedIn x (frames.Turn count) s = Unit {0}
-SparedIn x (frames.Bench event) s = Unit {0}
-SparedIn x frames.End s = Unit {0}
+SparedIn x _ s = Unit {0}
 
 -- no task of a run writes a sector (profile)
 abbrev pub SparedThrough : ℕ → {first last : Device} {events : List Frame} {groups : List (List Answer)} {losses deep : ℕ}
@@ -53,12 +50,8 @@ SparedThrough x (step {s = s} {new = new} event now d so_far does) =
 
 -- a loss of power (profile)
 abbrev pub is_power : Frame → Bool
-is_power (frames.Request r) = false
-is_power (frames.Manage m) = false
-is_power (frames.Turn count) = false
 is_power (frames.Bench events.Power) = true
-is_power (frames.Bench event) = false
-is_power frames.End = false
+is_power _ = false
 
 -- no event is a loss of power (profile)
 abbrev pub WithoutPower : List Frame → Type 0

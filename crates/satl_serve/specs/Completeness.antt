@@ -30,7 +30,4 @@ pub record GoesWell (before after : Moment) : Type 0 where
 abbrev pub MayStop : Moment → Moment → ServeFault → Type 0
 MayStop before after (faults.Open opening.NoMemory) = Unit {0}
 MayStop before after (faults.Open opening.LinkDown) = Rose before.drive.faults after.drive.faults
-MayStop before after (faults.Open (opening.Identity fault)) = ⊥
-MayStop before after (faults.BadInput reason offset) = ⊥
-MayStop before after faults.Read = ⊥
-MayStop before after faults.Write = ⊥
+MayStop before after _ = ⊥

@@ -2,8 +2,6 @@
 use Rattle.std.specs.Prelude.{◌≡◌, ◌↔◌, ℕ, List, [], ◌∷◌, codes}
 use Rattle.clap.specs.Words.{Text}
 use Rattle.satl_io.specs.Causes.{Rose}
-use Rattle.satl_identify.specs.declared.identity.IdentityFault.{IdentityFault}
-use Rattle.satl_identify.specs.Refusals.{identity_of}
 use Rattle.satl_frame.specs.declared.frames.FrameFault.TheVariants.{Bad, ReadFault}
 use Rattle.satl_frame.specs.declared.frames.Reason.{Reason}
 use Rattle.satl_drive.specs.State.{DriveState}
@@ -38,16 +36,11 @@ FleetEnds limit before after statuses.NotCovered = ⊥
 -- a read or a write fault comes only where the source's or the sink's count of faults rose, and a drive is refused only for a
 -- cause of one of them (profile)
 abbrev pub HasFleetStatusCause : FleetMoment → FleetMoment → Status → Type 0
-HasFleetStatusCause before after statuses.Done = Unit {0}
-HasFleetStatusCause before after statuses.Usage = Unit {0}
-HasFleetStatusCause before after statuses.BadInput = Unit {0}
 HasFleetStatusCause before after statuses.ReadFault = Rose before.source.faults after.source.faults
 HasFleetStatusCause before after statuses.WriteFault = Rose before.sink.faults after.sink.faults
-HasFleetStatusCause before after statuses.NoMemory = Unit {0}
 HasFleetStatusCause before after statuses.DriveRefused =
     (fault : OpenFault) × (status_of_open fault ≡ statuses.DriveRefused) × IsCauseOfOne fault before.drives after.drives
-HasFleetStatusCause before after statuses.No = Unit {0}
-HasFleetStatusCause before after statuses.NotCovered = Unit {0}
+HasFleetStatusCause before after _ = Unit {0}
 
 -- what `satl` does with the first drive; the others stay as they are (profile)
 pub record OnFirst (words : List Text) (limit : ℕ) (before after : FleetMoment) (status : Status) : Type 0 where

@@ -40,16 +40,11 @@ exit_number statuses.NotCovered = 10
 -- a read or a write fault comes only where the source's or the sink's count of faults rose, and a drive is refused only for its
 -- IDENTIFY DEVICE data or where its own count rose (profile)
 abbrev pub HasStatusCause : Moment → Moment → Status → Type 0
-HasStatusCause before after statuses.Done = Unit {0}
-HasStatusCause before after statuses.Usage = Unit {0}
-HasStatusCause before after statuses.BadInput = Unit {0}
 HasStatusCause before after statuses.ReadFault = Rose before.source.faults after.source.faults
 HasStatusCause before after statuses.WriteFault = Rose before.sink.faults after.sink.faults
-HasStatusCause before after statuses.NoMemory = Unit {0}
 HasStatusCause before after statuses.DriveRefused =
     ((fault : IdentityFault) × (identity_of before.drive.identify ≡ Err fault)) ⊎ Rose before.drive.faults after.drive.faults
-HasStatusCause before after statuses.No = Unit {0}
-HasStatusCause before after statuses.NotCovered = Unit {0}
+HasStatusCause before after _ = Unit {0}
 
 -- what holds of the input, the output in a form and the drive, by the status (profile): a whole input was served; or it was
 -- served up to a frame that was refused or not read, or up to a write that failed; or it was not served
@@ -69,14 +64,9 @@ ServeEnds form limit before after statuses.NotCovered = ⊥
 -- begin, or the link was lost before the layer was open, where the drive's count of faults rose
 abbrev pub Completes : List ℕ → Moment → Moment → Status → Type 0
 Completes rest before after statuses.Done = after.source.left ≡ Some rest
-Completes rest before after statuses.Usage = ⊥
-Completes rest before after statuses.BadInput = ⊥
-Completes rest before after statuses.ReadFault = ⊥
-Completes rest before after statuses.WriteFault = ⊥
 Completes rest before after statuses.NoMemory = Unit {0}
 Completes rest before after statuses.DriveRefused = Rose before.drive.faults after.drive.faults
-Completes rest before after statuses.No = ⊥
-Completes rest before after statuses.NotCovered = ⊥
+Completes rest before after _ = ⊥
 
 -- a drive whose IDENTIFY DEVICE data are refused is told so, unless there was no memory (profile)
 abbrev pub TellsRefused : Moment → Moment → Status → Type 0

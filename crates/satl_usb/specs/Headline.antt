@@ -83,7 +83,4 @@ pub record IsItemInput (limit : ℕ) (left : Option (List ℕ)) (items : List It
 abbrev pub MayStop : DriveState → DriveState → UsbFault → Type 0
 MayStop old new (faults.Open opening.NoMemory) = Unit {0}
 MayStop old new (faults.Open opening.LinkDown) = Rose old.faults new.faults
-MayStop old new (faults.Open (opening.Identity fault)) = ⊥
-MayStop old new (faults.BadInput offset) = ⊥
-MayStop old new faults.Read = ⊥
-MayStop old new faults.Write = ⊥
+MayStop old new _ = ⊥

@@ -23,8 +23,5 @@ ArePlain words mode = (name : Text) × (words ≡ name ∷ plain_words mode)
 
 -- a seed has 64 bits, and there are at most 100,000 requests (profile)
 abbrev pub IsInRange : Mode → Type 0
-IsInRange modes.Replay = Unit {0}
-IsInRange modes.Show = Unit {0}
-IsInRange modes.Usb = Unit {0}
-IsInRange modes.Audit = Unit {0}
 IsInRange (modes.Generate seed requests) = (seed < 2 ^ 64) × (requests ≤ 100000)
+IsInRange _ = Unit {0}
