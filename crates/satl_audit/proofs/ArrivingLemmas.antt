@@ -20,7 +20,7 @@ use Rattle.satl_direct.specs.Arrival.Arrival.{answered, attended, overlaps, wait
 use Rattle.satl_direct.specs.Senses.{attention_sense, overlapped}
 use Rattle.satl_direct.specs.Tasks.{held_blocks, needed, task_for}
 use Rattle.satl_cover.specs.Known.{is_known}
-use Rattle.satl_audit.specs.Arriving.{ArrivesOn, CannotArrive, IsServing, StandsAt, attention_told, attentions_after, bare_task, device_of}
+use Rattle.satl_audit.specs.Arriving.{ArrivesOn, CannotArrive, IsServing, StandsAt, attention_told, attentions_after, bare_task, device_without_sectors}
 use Rattle.satl_audit.specs.Waiting.{Placed, device_tasks, has_no_room, task_in}
 use Rattle.satl_audit.proofs.ArrivingTask.{full_same, task_same}
 
@@ -60,13 +60,13 @@ attended_sticks r s reply output is other replies new left arrives e =
 -- a command that makes a task
 module _ (i : Identity) (input : List ℕ) (ps : List Placed) (attentions : List (List Attention)) (r : Request) (c : Command) where
   abbrev before : Device
-  before = device_of i input ps attentions
+  before = device_without_sectors i input ps attentions
 
   placed_as : (b : Bool) → has_no_room ps (held_blocks c) ≡ b → placed before r c ≡ (if b then answered (reply_to r TaskSetFull []) else waits (task_for i.queued_trim r c))
   placed_as b e = ap (λ (x : Bool). if x then answered (reply_to r TaskSetFull []) else waits (task_for i.queued_trim r c)) (full_same input ps c ∙ e)
 
   pub placed_goes : (at : ℕ) (output : List ℕ) → arrival before r ≡ placed before r c → has_no_room ps (held_blocks c) ≡ false → is_known (Ok c) ≡ true → needed c ≤ r.data_len → StandsAt input at r.data_len r.body →
-      ArrivesOn r before (device_of i input (ps ++ record { entry = bare_task i.queued_trim r c; at = at } ∷ []) attentions) output output
+      ArrivesOn r before (device_without_sectors i input (ps ++ record { entry = bare_task i.queued_trim r c; at = at } ∷ []) attentions) output output
   placed_goes at output is room k le st = record {
     replies = [];
     arrives = subst (λ a. ArrivesAs a r before [] after) (sym (is ∙ placed_as false room)) (refl, ap (λ (l : List Entry). record before { tasks = l }) tasks);
@@ -77,7 +77,7 @@ module _ (i : Identity) (input : List ℕ) (ps : List Placed) (attentions : List
       last = record { entry = bare_task i.queued_trim r c; at = at }
 
       after : Device
-      after = device_of i input (ps ++ last ∷ []) attentions
+      after = device_without_sectors i input (ps ++ last ∷ []) attentions
 
       tasks : device_tasks input (ps ++ last ∷ []) ≡ device_tasks input ps ++ task_for i.queued_trim r c ∷ []
       tasks = map-append (task_in input) ps (last ∷ []) ∙ ap (λ (t : Entry). device_tasks input ps ++ t ∷ []) (task_same input at i.queued_trim r c k le st)
@@ -94,14 +94,14 @@ attention_first s r unit alone =
 -- a unit attention is told, or there is none
 module _ (i : Identity) (input : List ℕ) (ps : List Placed) (attentions : List (List Attention)) (r : Request) (unit : is_unit_0 r.lun ≡ true) (alone : list_any (is_called r.nexus (r.tag).0) (device_tasks input ps) ≡ false) where
   abbrev begun : Device
-  begun = device_of i input ps attentions
+  begun = device_without_sectors i input ps attentions
 
   attends : (what : Attention) (sense : Sense) → Some what ≡ attention_told attentions r → sense ≡ attention_sense what → arrival begun r ≡ attended (check begun r sense)
   attends what sense next is = attention_first begun r unit alone ∙ ap (λ (o : Option Attention). attention_arrival o begun r) (sym next) ∙ ap (λ (x : Sense). attended (check begun r x)) (sym is)
 
   pub attention_goes : (new : List (List Attention)) (what : Attention) (sense : Sense) (output left : List ℕ) → Some what ≡ attention_told attentions r → new ≡ attentions_after (Some what) r.nexus attentions → sense ≡ attention_sense what →
-      output ≡ reply_bytes (reply_to r CheckCondition (fixed_form sense)) ++ left → ArrivesOn r begun (device_of i input ps new) output left
-  attention_goes new what sense output left next told is e = attended_goes r begun (device_of i input ps new) (check begun r sense) output left (attends what sense next is) (refl, ap (device_of i input ps) told) e
+      output ≡ reply_bytes (reply_to r CheckCondition (fixed_form sense)) ++ left → ArrivesOn r begun (device_without_sectors i input ps new) output left
+  attention_goes new what sense output left next told is e = attended_goes r begun (device_without_sectors i input ps new) (check begun r sense) output left (attends what sense next is) (refl, ap (device_without_sectors i input ps) told) e
 
   pub attention_sticks : (what : Attention) (sense : Sense) (output : List ℕ) → Some what ≡ attention_told attentions r → sense ≡ attention_sense what →
       ((rest : List ℕ) → output ≡ reply_bytes (reply_to r CheckCondition (fixed_form sense)) ++ rest → ⊥) → CannotArrive r begun output
@@ -110,5 +110,5 @@ module _ (i : Identity) (input : List ℕ) (ps : List Placed) (attentions : List
   pub code_next : None ≡ attention_told attentions r → arrival begun r ≡ code_arrival begun r
   code_next next = attention_first begun r unit alone ∙ ap (λ (o : Option Attention). attention_arrival o begun r) (sym next)
 
-pub serving : (i : Identity) (input : List ℕ) (ps : List Placed) (attentions : List (List Attention)) → IsServing i (device_of i input ps attentions)
+pub serving : (i : Identity) (input : List ℕ) (ps : List Placed) (attentions : List (List Attention)) → IsServing i (device_without_sectors i input ps attentions)
 serving i input ps attentions = record { same = refl; started = refl; up = refl }

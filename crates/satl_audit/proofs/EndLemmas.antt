@@ -22,7 +22,7 @@ use Rattle.satl_direct.specs.Device.{Device, without}
 use Rattle.satl_direct.specs.Ending.{task_reply}
 use Rattle.satl_direct.specs.Quiet.{written_by}
 use Rattle.satl_direct.specs.Tasks.{over}
-use Rattle.satl_audit.specs.Arriving.{device_at, device_of}
+use Rattle.satl_audit.specs.Arriving.{device_at, device_without_sectors}
 use Rattle.satl_audit.specs.Deciding.{GivesWhole}
 use Rattle.satl_audit.specs.Deeds.{Deed}
 use Rattle.satl_audit.specs.Deeds.Deed.{gives, puts, settles}
@@ -67,7 +67,7 @@ module _ (identity : Identity) (input : List ℕ) (old : Steps) (place : ℕ) (p
   expected = all_of (λ u. u.expected ≡ None) (device_tasks input old.waiting) t tasks.expected (eligible_there (device_tasks input old.waiting) t is_eligible)
 
   stays : device_at identity input new ≡ record s { tasks = without t s.tasks }
-  stays = ap (λ (l : List Placed). device_of identity input l old.attentions) is ∙ ap (λ (l : List Entry). record s { tasks = l }) (removed_at input old.waiting place p tasks.own at)
+  stays = ap (λ (l : List Placed). device_without_sectors identity input l old.attentions) is ∙ ap (λ (l : List Entry). record s { tasks = l }) (removed_at input old.waiting place p tasks.own at)
 
   ends_by : (blocks : List Block) (deed : Deed) → DoneAs t.command s t blocks deed → TaskDone s (task_reply t Good [] blocks) deed (device_at identity input new)
   ends_by blocks deed d = record { task = t; eligible = is_eligible; blocks = blocks; done = d; answer = refl; stays = stays }

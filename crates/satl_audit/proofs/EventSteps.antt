@@ -23,7 +23,7 @@ use Rattle.satl_direct.specs.Run.{Does, MayLose, TurnsOf, losses_in}
 use Rattle.satl_audit.specs.Deeds.{Deed, DoneBy, Walks}
 use Rattle.satl_audit.specs.Deeds.Deed.{shows, powers}
 use Rattle.satl_cover.specs.Known.{is_known, is_known_frame}
-use Rattle.satl_audit.specs.Skeleton.{Stepped, bare, pairs_shown, cycled}
+use Rattle.satl_audit.specs.Skeleton.{Stepped, after_power_cycle, bare, pairs_shown}
 use Rattle.satl_audit.proofs.Coming.{arrival_comes}
 use Rattle.satl_audit.proofs.Keeping.{IsSane, sane_on}
 use Rattle.satl_audit.proofs.Stepping.{Behind, behind_now, not_lost, quiet_bare, quiet_behind, quiet_down, quiet_sane, walks_on}
@@ -74,7 +74,7 @@ module _ (first : List Cell) (ds : List Deed) (s new : Device) (now : List Answe
       walks_on ds more first behind_u.mid v.cells behind_u.walk (u.cells, subst (λ d. Moves (λ p. IsIn p (pairs_shown d)) behind_u.mid u.cells) same behind_u.moves, (v.cells, p.cells, refl)) in
       record {
         deeds = more;
-        stepped = (is ∙ ap (map replied) p.none, (refl, quiet_bare v new a.quiet_after ∙ ap bare p.stays ∙ ap cycled same));
+        stepped = (is ∙ ap (map replied) p.none, (refl, quiet_bare v new a.quiet_after ∙ ap bare p.stays ∙ ap after_power_cycle same));
         behind = quiet_behind first (ds ++ more) v new sane_v a.quiet_after (behind_now first (ds ++ more) v w);
         sane = quiet_sane v new sane_v a.quiet_after;
       }

@@ -15,7 +15,7 @@ use Rattle.satl_line.specs.declared.entry.Entry.{Entry}
 use Rattle.satl_direct.specs.Device.{Device}
 use Rattle.satl_direct.specs.Quiet.{writes, written_by}
 use Rattle.satl_direct.specs.Tasks.{held_blocks, over}
-use Rattle.satl_audit.specs.Arriving.{device_of}
+use Rattle.satl_audit.specs.Arriving.{device_without_sectors}
 use Rattle.satl_audit.specs.Following.{Follows, pairs_in}
 use Rattle.satl_audit.specs.Kept.{Keeping, blank_keeping, kept_power, known_sector, known_sector_at}
 use Rattle.satl_audit.specs.Powering.{PendsAll, power_deeds}
@@ -35,9 +35,9 @@ placed_of None entry e = absurd cc
 placed_of (Some q) entry e = let same : q.entry ≡ entry = cc in record { placed = q; at = refl; is = same }
 
 pub write_pairs : (identity : Identity) (input : List ℕ) (waiting : List Placed) (p : Placed) (form : Form) (lba count : ℕ) (fua : Bool) → p.entry.command ≡ commands.Write form lba count fua → p.entry.blocks ≡ held_blocks p.entry.command →
-    writes (device_of identity input waiting []) (task_in input p) ≡ pairs_in input (over lba count) p.at (identity.cache && not fua)
+    writes (device_without_sectors identity input waiting []) (task_in input p) ≡ pairs_in input (over lba count) p.at (identity.cache && not fua)
 write_pairs identity input waiting p form lba count fua c held =
-    ap (λ (k : Command). written_by k (device_of identity input waiting []) (task_in input p)) c
+    ap (λ (k : Command). written_by k (device_without_sectors identity input waiting []) (task_in input p)) c
     ∙ ap (λ (l : List Block). pairs_from lba l (identity.cache && not fua))
     (write_body input p form lba count fua c held)
 
@@ -49,8 +49,8 @@ none_by capacity bytes (commands.Pass cdb) s t w other = absurd w
 none_by capacity bytes _ s t w other = refl
 
 pub writes_none : (identity : Identity) (input : List ℕ) (waiting : List Placed) (capacity bytes : ℕ) (p : Placed) → MayWait capacity bytes p.entry.command → ((form : Form) (lba count : ℕ) (fua : Bool) → p.entry.command ≡ commands.Write form lba count fua → ⊥) →
-    writes (device_of identity input waiting []) (task_in input p) ≡ []
-writes_none identity input waiting capacity bytes p w other = none_by capacity bytes p.entry.command (device_of identity input waiting []) (task_in input p) w other
+    writes (device_without_sectors identity input waiting []) (task_in input p) ≡ []
+writes_none identity input waiting capacity bytes p w other = none_by capacity bytes p.entry.command (device_without_sectors identity input waiting []) (task_in input p) w other
 
 pub some_at : (ps : List Placed) (n : ℕ) → n < length ps → (p : Placed) × (slice_get ps n ≡ Some p)
 some_at [] n less = absurd (omega (arith, less))
@@ -60,7 +60,7 @@ some_at (p ∷ ps) (suc n) less = some_at ps n (omega (arith, less))
 -- ---- the power is lost
 
 pub power_follows : (identity : Identity) (input : List ℕ) (waiting : List Placed) (old mid new : List Keeping) → length mid ≡ length old → PendsAll identity input waiting old mid → new ≡ map kept_power mid →
-    Follows input (power_deeds (device_of identity input waiting [])) old new
+    Follows input (power_deeds (device_without_sectors identity input waiting [])) old new
 power_follows identity input waiting old mid new size pends is = (
   ap (λ (l : List Keeping). length l) is ∙ length-map mid kept_power ∙ size,
   λ x less.

@@ -13,7 +13,7 @@ use Rattle.satl_line.specs.Eligible.{eligible_at, is_clear_by}
 use Rattle.satl_direct.specs.Device.{Device}
 use Rattle.satl_direct.specs.Quiet.{writes}
 use Rattle.satl_direct.specs.Run.{eligibles}
-use Rattle.satl_audit.specs.Arriving.{device_of}
+use Rattle.satl_audit.specs.Arriving.{device_without_sectors}
 use Rattle.satl_audit.specs.Guesses.{blocks_at}
 use Rattle.satl_audit.specs.Kept.{Keeping, known_sector_at}
 use Rattle.satl_audit.specs.Powering.{PendsUpTo, picks, shown_from}
@@ -68,13 +68,13 @@ picks_same f g same n [] = refl
 picks_same f g same n (t ∷ ts) = ap (λ (b : Bool). if b then t ∷ picks f (suc n) ts else picks f (suc n) ts) (same n) ∙ ap (λ (l : List Entry). if g n then t ∷ l else l) (picks_same f g same (suc n) ts)
 
 module _ (identity : Identity) (input : List ℕ) (waiting : List Placed) where
-  pub shown_all : pairs_shown (device_of identity input waiting []) ≡ shown_from identity input waiting 0
+  pub shown_all : pairs_shown (device_without_sectors identity input waiting []) ≡ shown_from identity input waiting 0
   shown_all =
-      ap (pairs_of_tasks (device_of identity input waiting []))
+      ap (pairs_of_tasks (device_without_sectors identity input waiting []))
       (eligibles_are (device_tasks input waiting) ∙ picks_same (eligible_at (device_tasks input waiting)) (eligible_at (entries_in waiting)) (eligible_same input waiting) 0 (device_tasks input waiting))
 
   pub shown_none : (n : ℕ) → length waiting ≤ n → shown_from identity input waiting n ≡ []
-  shown_none n le = ap (λ (l : List Entry). pairs_of_tasks (device_of identity input waiting []) (picks (eligible_at (entries_in waiting)) n l)) (drop_all n (device_tasks input waiting) (omega (arith, le, length-map waiting (task_in input))))
+  shown_none n le = ap (λ (l : List Entry). pairs_of_tasks (device_without_sectors identity input waiting []) (picks (eligible_at (entries_in waiting)) n l)) (drop_all n (device_tasks input waiting) (omega (arith, le, length-map waiting (task_in input))))
 
   drop_at : (ps : List Placed) (n : ℕ) (p : Placed) → slice_get ps n ≡ Some p → drop n (device_tasks input ps) ≡ task_in input p ∷ drop (n + 1) (device_tasks input ps)
   drop_at [] n p h = absurd cc
@@ -85,7 +85,7 @@ module _ (identity : Identity) (input : List ℕ) (waiting : List Placed) where
       later n = let e : suc n + 1 ≡ suc (n + 1) = omega arith in sym (ap (λ k. drop k (device_tasks input (q ∷ ps))) e)
 
   step_of : (b : Bool) (n : ℕ) (p : Placed) → slice_get waiting n ≡ Some p → eligible_at (entries_in waiting) n ≡ b →
-      shown_from identity input waiting n ≡ (if b then writes (device_of identity input waiting []) (task_in input p) ++ shown_from identity input waiting (n + 1) else shown_from identity input waiting (n + 1))
+      shown_from identity input waiting n ≡ (if b then writes (device_without_sectors identity input waiting []) (task_in input p) ++ shown_from identity input waiting (n + 1) else shown_from identity input waiting (n + 1))
   step_of b n p at is =
       let next : suc n ≡ n + 1 = omega arith in
       ap (λ (l : List Entry). pairs_of_tasks d (picks (eligible_at (entries_in waiting)) n l)) (drop_at waiting n p at)
@@ -94,7 +94,7 @@ module _ (identity : Identity) (input : List ℕ) (waiting : List Placed) where
       ∙ either b
     where
       d : Device
-      d = device_of identity input waiting []
+      d = device_without_sectors identity input waiting []
 
       rest : List Entry
       rest = drop (n + 1) (device_tasks input waiting)
@@ -104,15 +104,15 @@ module _ (identity : Identity) (input : List ℕ) (waiting : List Placed) where
       either false = refl
 
   -- a task that is not eligible, or writes nothing
-  pub still : (n : ℕ) (p : Placed) (b : Bool) (ks : List Keeping) → slice_get waiting n ≡ Some p → eligible_at (entries_in waiting) n ≡ b → (b ≡ true → writes (device_of identity input waiting []) (task_in input p) ≡ []) → PendsUpTo input (shown_from identity input waiting n) (shown_from identity input waiting (n + 1)) ks ks
+  pub still : (n : ℕ) (p : Placed) (b : Bool) (ks : List Keeping) → slice_get waiting n ≡ Some p → eligible_at (entries_in waiting) n ≡ b → (b ≡ true → writes (device_without_sectors identity input waiting []) (task_in input p) ≡ []) → PendsUpTo input (shown_from identity input waiting n) (shown_from identity input waiting (n + 1)) ks ks
   still n p false ks at is none = λ x less. ap (λ l. (known_sector_at input ks x).may ++ blocks_at x l) (step_of false n p at is)
   still n p true ks at is none = λ x less. ap (λ l. (known_sector_at input ks x).may ++ blocks_at x l) (step_of true n p at is ∙ ap (λ l. l ++ shown_from identity input waiting (n + 1)) (none refl))
 
   -- a WRITE that is eligible
   pub moved : (n : ℕ) (p : Placed) (ks ms : List Keeping) → slice_get waiting n ≡ Some p → eligible_at (entries_in waiting) n ≡ true →
-      ((x : ℕ) → x < length ks → (known_sector_at input ms x).may ≡ (known_sector_at input ks x).may ++ blocks_at x (writes (device_of identity input waiting []) (task_in input p))) → PendsUpTo input (shown_from identity input waiting n) (shown_from identity input waiting (n + 1)) ks ms
+      ((x : ℕ) → x < length ks → (known_sector_at input ms x).may ≡ (known_sector_at input ks x).may ++ blocks_at x (writes (device_without_sectors identity input waiting []) (task_in input p))) → PendsUpTo input (shown_from identity input waiting n) (shown_from identity input waiting (n + 1)) ks ms
   moved n p ks ms at is h = λ x less.
       ap (λ l. (known_sector_at input ks x).may ++ blocks_at x l) (step_of true n p at is)
-      ∙ ap (λ l. (known_sector_at input ks x).may ++ l) (blocks-append x (writes (device_of identity input waiting []) (task_in input p)) (shown_from identity input waiting (n + 1)))
-      ∙ sym (append_assoc (known_sector_at input ks x).may (blocks_at x (writes (device_of identity input waiting []) (task_in input p))) (blocks_at x (shown_from identity input waiting (n + 1))))
+      ∙ ap (λ l. (known_sector_at input ks x).may ++ l) (blocks-append x (writes (device_without_sectors identity input waiting []) (task_in input p)) (shown_from identity input waiting (n + 1)))
+      ∙ sym (append_assoc (known_sector_at input ks x).may (blocks_at x (writes (device_without_sectors identity input waiting []) (task_in input p))) (blocks_at x (shown_from identity input waiting (n + 1))))
       ∙ ap (λ l. l ++ blocks_at x (shown_from identity input waiting (n + 1))) (sym (h x less))

@@ -22,7 +22,7 @@ use Rattle.satl_direct.proofs.Quieting.{quiet_none}
 use Rattle.satl_audit.specs.Deeds.{Deed, DoneBy, Walks}
 use Rattle.satl_audit.specs.Deeds.Deed.{shows, powers}
 use Rattle.satl_cover.specs.Known.{is_known, is_known_frame}
-use Rattle.satl_audit.specs.Skeleton.{Benched, Stepped, bare, pairs_shown, cycled}
+use Rattle.satl_audit.specs.Skeleton.{Benched, Stepped, after_power_cycle, bare, pairs_shown}
 use Rattle.satl_audit.proofs.Coming.{arrival_comes}
 use Rattle.satl_audit.proofs.Keeping.{IsSane, sane_on}
 use Rattle.satl_audit.proofs.ArrivalSplit.{arrival_bare, arrives_made}
@@ -66,13 +66,13 @@ module _ (s bared : Device) (now : List Answer) (cells : List Cell) (h : IsSane 
     sane = h;
   }
 
-  power_made : now ≡ [] → bared ≡ cycled (bare s) → Walks DoneBy (shows (pairs_shown (bare s)) ∷ powers ∷ []) s.cells cells → EventMade (frames.Bench events.Power) s now cells bared
+  power_made : now ≡ [] → bared ≡ after_power_cycle (bare s) → Walks DoneBy (shows (pairs_shown (bare s)) ∷ powers ∷ []) s.cells cells → EventMade (frames.Bench events.Power) s now cells bared
   power_made is e w =
       let u : Device = record s { cells = w.0 } in
       let q : Quiet s u = quiet_made s w.0 h w.1 in
       let sane_u : IsSane u = quiet_sane s u h q in
       let rest = w.2 in
-      let new : Device = record (cycled u) { cells = rest.0 } in
+      let new : Device = record (after_power_cycle u) { cells = rest.0 } in
       record {
         new = new;
         deep = depth new;

@@ -35,14 +35,15 @@ answers_at_once s r at_once.Good = answered (reply_to r Good [])
 answers_at_once s r (at_once.Check sense) = answered (check s r sense)
 
 -- a command that makes a task where there is room, or an answer at once (SAM-5 5.3.1)
-abbrev pub judged : Device → Request → Result Command AtOnce → Arrival
-judged s r (Err answer) = answers_at_once s r answer
-judged s r (Ok command) = placed s r command
+abbrev pub placed_or_answered : Device → Request → Result Command AtOnce → Arrival
+placed_or_answered s r (Err answer) = answers_at_once s r answer
+placed_or_answered s r (Ok command) = placed s r command
 
 -- so does a device that is started and up take a command whose fields, range and data-out are good (SPC-4 6, SBC-3 5)
 abbrev pub BecomesJudged : Command → Result Command AtOnce → Type 0
 BecomesJudged command result =
-    (identity : Identity) (s : Device) (r : Request) → IsServing identity s → becomes s r command ≡ judged s r result
+    (identity : Identity) (s : Device) (r : Request) → IsServing identity s
+    → becomes s r command ≡ placed_or_answered s r result
 
 -- the task of a request and its command, without its pages (profile)
 abbrev pub bare_task : Bool → Request → Command → Entry
@@ -58,8 +59,8 @@ attentions_after None nexus attentions = attentions
 attentions_after (Some what) nexus attentions = slice_set attentions nexus (drop 1 (slice_index_or attentions nexus []))
 
 -- the device of a record but for its sectors (profile)
-abbrev pub device_of : Identity → List ℕ → List Placed → List (List Attention) → Device
-device_of identity input waiting attentions = record {
+abbrev pub device_without_sectors : Identity → List ℕ → List Placed → List (List Attention) → Device
+device_without_sectors identity input waiting attentions = record {
   cells = [];
   tasks = device_tasks input waiting;
   modes = defaults identity;
@@ -95,7 +96,7 @@ CannotArrive r s output = (replies : List Reply) (new : Device) (left : List ℕ
 
 -- the device as these steps have left it (profile)
 abbrev pub device_at : Identity → List ℕ → Steps → Device
-device_at identity input steps = device_of identity input steps.waiting steps.attentions
+device_at identity input steps = device_without_sectors identity input steps.waiting steps.attentions
 
 -- the device makes a task of a request with this command, where there is room (SAM-5 5.3.1)
 abbrev pub IsPlacedBy : Identity → List ℕ → Steps → Request → Command → Type 0

@@ -5,7 +5,7 @@ use Rattle.satl_identify.specs.declared.identity.Identity.{Identity}
 use Rattle.satl_line.specs.declared.entry.Entry.{Entry}
 use Rattle.satl_line.specs.Eligible.{eligible_at}
 use Rattle.satl_direct.specs.Device.{Device}
-use Rattle.satl_audit.specs.Arriving.{device_of}
+use Rattle.satl_audit.specs.Arriving.{device_without_sectors}
 use Rattle.satl_audit.specs.Deeds.{Deed}
 use Rattle.satl_audit.specs.Deeds.Deed.{shows, powers}
 use Rattle.satl_audit.specs.Guesses.{blocks_at}
@@ -20,7 +20,7 @@ picks passes place (t ∷ ts) = if passes place then t ∷ picks passes (suc pla
 
 -- the pairs of the eligible tasks from a place on (SBC-3 5)
 abbrev pub shown_from : Identity → List ℕ → List Placed → ℕ → List Pair
-shown_from identity input waiting place = pairs_of_tasks (device_of identity input waiting [])
+shown_from identity input waiting place = pairs_of_tasks (device_without_sectors identity input waiting [])
     (picks (eligible_at (entries_in waiting)) place (drop place (device_tasks input waiting)))
 
 -- of the pairs that show, all but the later ones are now among what a loss of power may leave (SBC-3 4.15)
@@ -32,7 +32,7 @@ PendsUpTo input pairs later old new = (x : ℕ) → x < length old →
 abbrev pub PendsAll : Identity → List ℕ → List Placed → List Keeping → List Keeping → Type 0
 PendsAll identity input waiting old new = (x : ℕ) → x < length old →
     (known_sector_at input new x).may
-    ≡ (known_sector_at input old x).may ++ blocks_at x (pairs_shown (device_of identity input waiting []))
+    ≡ (known_sector_at input old x).may ++ blocks_at x (pairs_shown (device_without_sectors identity input waiting []))
 
 -- what a loss of power does: the pairs of the eligible tasks might show before it (SBC-3 4.15)
 abbrev pub power_deeds : Device → List Deed

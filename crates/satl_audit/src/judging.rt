@@ -6,7 +6,7 @@ ghost use Rattle.satl_direct.specs.Arrival.{code_arrival, command_arrival};
 ghost use Rattle.satl_direct.specs.Device.{Device};
 ghost use Rattle.satl_direct.specs.Tasks.{asks};
 ghost use Rattle.satl_cover.specs.Known.{is_known};
-ghost use Rattle.satl_audit.specs.Arriving.{BecomesJudged, IsServing, bare_task, judged};
+ghost use Rattle.satl_audit.specs.Arriving.{BecomesJudged, IsServing, bare_task, placed_or_answered};
 ghost use Rattle.satl_audit.specs.Waiting.{IsTransfer, MayWait};
 
 use arrayvec::ArrayVec;
@@ -60,7 +60,7 @@ fn judge_command(
     ensures waits { IfOk result (MayWait identity.now.capacity request.now.data_len) }
     ensures judged { (s : Device) → (body : List Block) → IsServing identity.now s
         → command_arrival s (record request.now { body = body }) command
-        ≡ judged s (record request.now { body = body }) result }
+        ≡ placed_or_answered s (record request.now { body = body }) result }
 {
     if is_outside(range_of(&command), identity.capacity) {
         return Err(AtOnce::Check(plain(0x5, 0x21, 0x00)));
@@ -76,7 +76,8 @@ pub fn judge(identity: &Identity, request: &Request) -> Result<Command, AtOnce>
     requires { is_known (says request.now.cdb identity.now.trim) ≡ true }
     ensures waits { IfOk result (MayWait identity.now.capacity request.now.data_len) }
     ensures judged { (s : Device) → (body : List Block) → IsServing identity.now s
-        → code_arrival s (record request.now { body = body }) ≡ judged s (record request.now { body = body }) result }
+        → code_arrival s (record request.now { body = body })
+        ≡ placed_or_answered s (record request.now { body = body }) result }
 {
     match read_cdb(&request.cdb, identity.trim) {
         Ok(command) => judge_command(identity, request, command),

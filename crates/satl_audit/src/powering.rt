@@ -5,7 +5,7 @@ ghost use Rattle.satl_frame.specs.declared.frames.Frame.TheVariants as frames;
 ghost use Rattle.satl_identify.specs.declared.identity.Identity.{Identity};
 ghost use Rattle.satl_unit.specs.declared.attention.Attention.TheVariants as attentions;
 ghost use Rattle.satl_audit.specs.Advancing.{GoesOn};
-ghost use Rattle.satl_audit.specs.Arriving.{device_of};
+ghost use Rattle.satl_audit.specs.Arriving.{device_without_sectors};
 ghost use Rattle.satl_audit.specs.Following.{Follows};
 ghost use Rattle.satl_audit.specs.Powering.{PendsAll, PendsUpTo, power_deeds, shown_from};
 ghost use Rattle.satl_audit.specs.Waiting.{AllFit};
@@ -60,7 +60,8 @@ fn power_sectors(waiting: &Waiting, sectors: &mut Sectors) -> Result<(), NoMemor
     requires capacity { length sectors.old < 2 ^ 64 }
     ensures length { OnOk result (length sectors.new ≡ length sectors.old) }
     ensures follows { (identity : Identity) → (input : List ℕ)
-        → OnOk result (Follows input (power_deeds (device_of identity input waiting.now [])) sectors.old sectors.new) }
+        → OnOk result
+            (Follows input (power_deeds (device_without_sectors identity input waiting.now [])) sectors.old sectors.new) }
 {
     pend_tasks(waiting, sectors)?;
     sectors.power()

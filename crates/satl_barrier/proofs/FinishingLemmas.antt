@@ -15,7 +15,7 @@ use Rattle.satl_regs.specs.Effects.{Carries, pairs_of, EndsInFull, IsFlawed as I
 use Rattle.satl_drive.specs.State.{DriveState, medium_of, with_medium}
 use Rattle.satl_barrier.specs.declared.finishing.Finish.{Finish}
 use Rattle.satl_barrier.specs.declared.finishing.Finish.TheVariants as finishes
-use Rattle.satl_barrier.specs.Finishing.{FinishesAs, IsDone, StopsAtFlaw, StopsAtCrc, IsReached, finish_of, verifying, writing}
+use Rattle.satl_barrier.specs.Finishing.{FinishesAs, IsDone, StopsAtFlaw, StopsAtCrc, IsReached, finish_of, verifying_range, writing_range}
 
 -- what follows from a good end and from a lost link
 pub either_way : {T E : Type 0} {Q : T → Type 0} {P R : Type 0} (r : Result T E) → ((x : T) → Q x → P) → (R → P) → IfOk r Q → OnErr r R → P
@@ -115,7 +115,7 @@ pages_kept dma which lba count writes x old new gone =
 
 -- the pairs of a write
 abbrev pub pairs_in : Range → List Block → DriveState → List Pair
-pairs_in range given old = (writing range (take range.count given) old).writes
+pairs_in range given old = (writing_range range (take range.count given) old).writes
 
 pub write_pairs : (range : Range) (old : DriveState) (given : List Block) → IsReached range old → pairs_of (commands.Write DmaExt range.lba range.count) (medium_of old) given ≡ pairs_in range given old
 write_pairs range old given reached = ap (λ b. if b then [] else pairs_in range given old) (le-ltb (length old.cells) (range.lba + range.count) reached.within)
@@ -124,7 +124,7 @@ module _ (range : Range) (x : Traffic) (old new : DriveState) (reached : IsReach
   write_gone : HasGone (over true flaws.Write range.lba range.count (pairs_in range x.given old) []) x old new
   write_gone = record { was_up = run.was_up; within = reached.within; after = run.after; carries = run.does; lost = run.lost; stays = run.stays }
 
-  pub written : FinishesAs (writing range (take range.count x.given) old) range.count (finish_of x.ended) old new
+  pub written : FinishesAs (writing_range range (take range.count x.given) old) range.count (finish_of x.ended) old new
   written = finishes_as true flaws.Write range.lba range.count (pairs_in range x.given old) [] x old new write_gone
 
   pub write_keeps : x.taken ≡ x.given
@@ -137,7 +137,7 @@ module _ (range : Range) (x : Traffic) (old new : DriveState) (reached : IsReach
   read_gone : HasGone (over true flaws.Read range.lba range.count [] read) x old new
   read_gone = record { was_up = run.was_up; within = reached.within; after = run.after; carries = run.does; lost = run.lost; stays = run.stays }
 
-  pub read_in : FinishesAs (verifying range) range.count (finish_of x.ended) old new
+  pub read_in : FinishesAs (verifying_range range) range.count (finish_of x.ended) old new
   read_in = finishes_as true flaws.Read range.lba range.count [] read x old new read_gone
 
   -- where all was carried out, the blocks stand in front

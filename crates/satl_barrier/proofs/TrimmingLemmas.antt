@@ -15,7 +15,7 @@ use Rattle.satl_regs.specs.Trim.{addresses, entries, split, trimmed}
 use Rattle.satl_base.specs.Blocks.{is_used}
 use Rattle.satl_drive.specs.State.{DriveState, medium_of}
 use Rattle.satl_barrier.specs.Commands.{HasRun}
-use Rattle.satl_barrier.specs.Finishing.{FinishesAs, finish_of, trimming}
+use Rattle.satl_barrier.specs.Finishing.{FinishesAs, finish_of, trimming_ranges}
 use Rattle.satl_barrier.proofs.FinishingLemmas.{HasGone, finishes_as, over}
 
 abbrev IsInside : Medium → Range → Type 0
@@ -73,7 +73,7 @@ module _ (ranges : List Range) (block : Block) (pages given : List Block) (m : M
 pub trim_finishes : (ranges : List Range) (block : Block) (pages : List Block) (x : Traffic) (old new : DriveState) →
     trimmed block.bytes ≡ filter is_used (entries ranges) → addresses (trimmed block.bytes) ≡ addresses ranges → 1 ≤ length pages → x.given ≡ slice_set pages 0 block →
     AllByRecursion (λ range. range.lba + range.count ≤ length old.cells) ranges → has_trim old.identify ≡ true → 1 ≤ trim_blocks old.identify →
-    HasRun (commands.Trim 1) x old new → FinishesAs (trimming ranges old) 0 (finish_of x.ended) old new
+    HasRun (commands.Trim 1) x old new → FinishesAs (trimming_ranges ranges old) 0 (finish_of x.ended) old new
 trim_finishes ranges block pages x old new again same room set inside has takes run =
     subst (λ lbas. FinishesAs (over true flaws.Write 0 0 (zeros_at old.cache lbas) []) 0 (finish_of x.ended) old new)
     (addresses_are ranges block pages x.given (medium_of old) again same room set)

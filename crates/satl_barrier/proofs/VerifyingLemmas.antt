@@ -13,14 +13,14 @@ use Rattle.satl_drive.specs.State.{DriveState}
 use Rattle.satl_barrier.specs.declared.comparing.Comparison.{Comparison}
 use Rattle.satl_barrier.specs.declared.comparing.Comparison.TheVariants as comparisons
 use Rattle.satl_barrier.specs.Commands.{IsCutShort}
-use Rattle.satl_barrier.specs.Finishing.{ComparesAs, IsDone, StopsAtFlaw, StopsAtCrc, IsVerified, piece_behind, verifying}
+use Rattle.satl_barrier.specs.Finishing.{ComparesAs, IsDone, StopsAtFlaw, StopsAtCrc, IsVerified, piece_behind, verifying_range}
 use Rattle.satl_barrier.specs.Leaving.{IsLostIn, Stays}
 use Rattle.satl_barrier.proofs.FinishingLemmas.{over}
 use Rattle.satl_barrier.proofs.ComparingLemmas.{loses-nows_at, nows_part, same_all}
 use Rattle.satl_barrier.proofs.PiecesLemmas.{IsBegun, IsSoFar, all_done, begun, begun-nows, begun-read_flaws, head, next_done, next_flawed, next_garbled, next_lost, stays_so_far}
 
 -- without flaws, a garbled piece garbles all
-pub all_garbled : (range : Range) (most : ℕ) (old new : DriveState) → first_flaw flaws.Read old.cells range.lba range.count ≡ None → StopsAtCrc (verifying range) most old new → StopsAtCrc (verifying range) range.count old new
+pub all_garbled : (range : Range) (most : ℕ) (old new : DriveState) → first_flaw flaws.Read old.cells range.lba range.count ≡ None → StopsAtCrc (verifying_range range) most old new → StopsAtCrc (verifying_range range) range.count old new
 all_garbled range most old new clean x = record { no_flaw = clean; torn = x.torn; one = x.one; stays = x.stays }
 
 -- a part of a range behind its first blocks
@@ -33,50 +33,50 @@ behind range next done more is =
     let count : next.count ≡ min 64 (range.count - done) = ap (λ (r : Range). r.count) is in
     record { lba = ap (λ (r : Range). r.lba) is; within = omega arith }
 
-module _ (range next : Range) (done : ℕ) (old mid new : DriveState) (next_is : IsBehind range done next) (so_far : IsSoFar (verifying (head range done)) old mid) where
-  first : IsBegun (verifying (head range done)) old mid
-  first = begun (verifying (head range done)) old mid so_far
+module _ (range next : Range) (done : ℕ) (old mid new : DriveState) (next_is : IsBehind range done next) (so_far : IsSoFar (verifying_range (head range done)) old mid) where
+  first : IsBegun (verifying_range (head range done)) old mid
+  first = begun (verifying_range (head range done)) old mid so_far
 
-  piece_is : verifying next ≡ over true flaws.Read (range.lba + done) next.count [] []
+  piece_is : verifying_range next ≡ over true flaws.Read (range.lba + done) next.count [] []
   piece_is = ap (λ k. over true flaws.Read k next.count [] []) next_is.lba
 
-  whole_is : verifying range ≡ over true flaws.Read range.lba (done + (next.count + (range.count - (done + next.count)))) [] []
+  whole_is : verifying_range range ≡ over true flaws.Read range.lba (done + (next.count + (range.count - (done + next.count)))) [] []
   whole_is = let count : range.count ≡ done + (next.count + (range.count - (done + next.count))) = omega (arith, next_is.within) in ap (λ k. over true flaws.Read range.lba k [] []) count
 
-  pub read_done : IsDone (verifying next) mid new → Stays mid new → IsSoFar (verifying (head range (done + next.count))) old new
+  pub read_done : IsDone (verifying_range next) mid new → Stays mid new → IsSoFar (verifying_range (head range (done + next.count))) old new
   read_done x stays = inr (record {
-    is_done = next_done flaws.Read range.lba done next.count [] [] old mid new first (begun-read_flaws (verifying (head range done)) old mid refl first) (subst (λ t. IsDone t mid new) piece_is x);
-    stays = stays_so_far (verifying (head range done)) old mid new so_far stays;
+    is_done = next_done flaws.Read range.lba done next.count [] [] old mid new first (begun-read_flaws (verifying_range (head range done)) old mid refl first) (subst (λ t. IsDone t mid new) piece_is x);
+    stays = stays_so_far (verifying_range (head range done)) old mid new so_far stays;
   })
 
   pub read_stays : Stays mid new → Stays old new
-  read_stays stays = stays_so_far (verifying (head range done)) old mid new so_far stays
+  read_stays stays = stays_so_far (verifying_range (head range done)) old mid new so_far stays
 
-  pub read_flawed : (at : ℕ) → StopsAtFlaw (verifying next) at mid new → StopsAtFlaw (verifying range) at old new
+  pub read_flawed : (at : ℕ) → StopsAtFlaw (verifying_range next) at mid new → StopsAtFlaw (verifying_range range) at old new
   read_flawed at x = subst (λ t. StopsAtFlaw t at old new) (sym whole_is)
-      (next_flawed flaws.Read range.lba done next.count [] [] old mid new first (begun-read_flaws (verifying (head range done)) old mid refl first) (range.count - (done + next.count)) [] at (subst (λ t. StopsAtFlaw t at mid new) piece_is x))
+      (next_flawed flaws.Read range.lba done next.count [] [] old mid new first (begun-read_flaws (verifying_range (head range done)) old mid refl first) (range.count - (done + next.count)) [] at (subst (λ t. StopsAtFlaw t at mid new) piece_is x))
 
-  pub read_garbled : first_flaw flaws.Read old.cells range.lba range.count ≡ None → StopsAtCrc (verifying next) next.count mid new → StopsAtCrc (verifying range) range.count old new
+  pub read_garbled : first_flaw flaws.Read old.cells range.lba range.count ≡ None → StopsAtCrc (verifying_range next) next.count mid new → StopsAtCrc (verifying_range range) range.count old new
   read_garbled clean x = all_garbled range 0 old new clean (subst (λ t. StopsAtCrc t 0 old new) (sym whole_is)
-      (next_garbled flaws.Read range.lba done next.count [] [] old mid new first (begun-read_flaws (verifying (head range done)) old mid refl first) (range.count - (done + next.count)) [] 0 (omega arith) (subst (λ t. StopsAtCrc t next.count mid new) piece_is x)))
+      (next_garbled flaws.Read range.lba done next.count [] [] old mid new first (begun-read_flaws (verifying_range (head range done)) old mid refl first) (range.count - (done + next.count)) [] 0 (omega arith) (subst (λ t. StopsAtCrc t next.count mid new) piece_is x)))
 
   pub read_lost : IsCutShort [] mid new → IsLostIn [] old new
-  read_lost cut = next_lost flaws.Read range.lba done next.count [] [] old mid new first (begun-read_flaws (verifying (head range done)) old mid refl first) [] cut
+  read_lost cut = next_lost flaws.Read range.lba done next.count [] [] old mid new first (begun-read_flaws (verifying_range (head range done)) old mid refl first) [] cut
 
   -- reads of the piece give a part of the blocks of the range
   pub read_part : nows mid.cells next.lba next.count ≡ take next.count (drop done (nows old.cells range.lba range.count))
-  read_part = nows_part old.cells mid.cells range.lba next.lba done next.count range.count (begun-nows (verifying (head range done)) old mid refl first) next_is.lba next_is.within
+  read_part = nows_part old.cells mid.cells range.lba next.lba done next.count range.count (begun-nows (verifying_range (head range done)) old mid refl first) next_is.lba next_is.within
 
   -- the first blocks of a range without flaws are done, and no more is done of it
-  pub read_all : first_flaw flaws.Read old.cells range.lba range.count ≡ None → IsDone (verifying next) mid new → IsDone (verifying range) old new
+  pub read_all : first_flaw flaws.Read old.cells range.lba range.count ≡ None → IsDone (verifying_range next) mid new → IsDone (verifying_range range) old new
   read_all clean x =
-      let d = next_done flaws.Read range.lba done next.count [] [] old mid new first (begun-read_flaws (verifying (head range done)) old mid refl first) (subst (λ t. IsDone t mid new) piece_is x) in
+      let d = next_done flaws.Read range.lba done next.count [] [] old mid new first (begun-read_flaws (verifying_range (head range done)) old mid refl first) (subst (λ t. IsDone t mid new) piece_is x) in
       record { was_up = d.was_up; no_flaw = clean; lost = d.lost; stays = d.stays }
 
-pub all_same : (range : Range) (blocks : List Block) (done : ℕ) (old new : DriveState) → 1 ≤ range.count → range.lba + range.count ≤ length old.cells → length blocks ≡ range.count → done ≡ range.count → IsSoFar (verifying (head range done)) old new → take done (nows old.cells range.lba range.count) ≡ take done blocks → ComparesAs range blocks comparisons.Same old new
+pub all_same : (range : Range) (blocks : List Block) (done : ℕ) (old new : DriveState) → 1 ≤ range.count → range.lba + range.count ≤ length old.cells → length blocks ≡ range.count → done ≡ range.count → IsSoFar (verifying_range (head range done)) old new → take done (nows old.cells range.lba range.count) ≡ take done blocks → ComparesAs range blocks comparisons.Same old new
 all_same range blocks done old new some within all is so_far same = (
   same_all range.count done (nows old.cells range.lba range.count) blocks is (nows-length old.cells range.lba range.count within) all same,
-  subst (λ n. IsDone (over true flaws.Read range.lba n [] []) old new) is (all_done (verifying (head range done)) old new (omega (arith, is, some)) so_far),
+  subst (λ n. IsDone (over true flaws.Read range.lba n [] []) old new) is (all_done (verifying_range (head range done)) old new (omega (arith, is, some)) so_far),
 )
 
 -- a piece that differs from the blocks that are wanted there
@@ -89,8 +89,8 @@ all_differ blocks done k read wanted seen pages taken seen_is wanted_is differ s
 pub all_of : (range : Range) → IsBehind range 0 range
 all_of range = record { lba = omega arith; within = omega arith }
 
-module _ (range : Range) (old mid new : DriveState) (verified : IsDone (verifying range) old mid) (stays : Stays old mid) where
-  resumed : IsSoFar (verifying (head range 0)) old mid
+module _ (range : Range) (old mid new : DriveState) (verified : IsDone (verifying_range range) old mid) (stays : Stays old mid) where
+  resumed : IsSoFar (verifying_range (head range 0)) old mid
   resumed = inr (record { is_done = record { was_up = verified.was_up; no_flaw = refl; lost = verified.lost; stays = verified.stays }; stays = stays })
 
   pub compares_on : (blocks : List Block) (it : Comparison) → ComparesAs range blocks it mid new → ComparesAs range blocks it old new
@@ -107,8 +107,8 @@ module _ (range : Range) (old mid new : DriveState) (verified : IsDone (verifyin
     down = x.down;
   }
 
-pub still_clean : (range : Range) (old mid : DriveState) → IsDone (verifying range) old mid → first_flaw flaws.Read mid.cells range.lba range.count ≡ None
+pub still_clean : (range : Range) (old mid : DriveState) → IsDone (verifying_range range) old mid → first_flaw flaws.Read mid.cells range.lba range.count ≡ None
 still_clean range old mid verified = ap (λ fs. first_set fs range.lba range.count) (loses-flaws flaws.Read old.cells mid.cells verified.lost) ∙ verified.no_flaw
 
-pub verified_done : (range : Range) (flaw : Option ℕ) (old mid : DriveState) → flaw ≡ None → IsVerified range flaw old mid → IsDone (verifying range) old mid
+pub verified_done : (range : Range) (flaw : Option ℕ) (old mid : DriveState) → flaw ≡ None → IsVerified range flaw old mid → IsDone (verifying_range range) old mid
 verified_done range flaw old mid none x = subst (λ o. IsVerified range o old mid) none x

@@ -12,7 +12,7 @@ use Rattle.satl_drive.specs.State.{DriveState}
 use Rattle.satl_barrier.specs.declared.finishing.Finish.{Finish}
 use Rattle.satl_barrier.specs.declared.finishing.Finish.TheVariants as finishes
 use Rattle.satl_barrier.specs.Commands.{IsCutShort}
-use Rattle.satl_barrier.specs.Finishing.{FinishesAs, IsDone, piece_behind, writing, writing_same}
+use Rattle.satl_barrier.specs.Finishing.{FinishesAs, IsDone, piece_behind, writing_range, writing_same}
 use Rattle.satl_barrier.specs.Leaving.{IsLostIn, Stays}
 use Rattle.satl_barrier.proofs.FinishingLemmas.{over}
 use Rattle.satl_barrier.proofs.PiecesLemmas.{IsBegun, IsSoFar, begun, begun-write_flaws, head, next_done, next_flawed, next_garbled, next_lost, stays_so_far}
@@ -47,7 +47,7 @@ module _ (range : Range) (block : Block) (next : Range) (pages : List Block) (n 
   rest : ℕ
   rest = range.count - (done + next.count)
 
-  piece_is : writing next (take next.count pages) mid ≡ over true flaws.Write (range.lba + done) next.count (same_from range block old done next.count) []
+  piece_is : writing_range next (take next.count pages) mid ≡ over true flaws.Write (range.lba + done) next.count (same_from range block old done next.count) []
   piece_is =
       ap (λ k. over true flaws.Write k next.count (pairs_from k (take next.count pages) mid.cache) []) lba_is
       ∙ (ap (λ vs. over true flaws.Write (range.lba + done) next.count (pairs_from (range.lba + done) vs mid.cache) []) (ap (take next.count) filled ∙ take-replicate next.count n block (omega (arith, count_is, room)))
@@ -61,7 +61,7 @@ module _ (range : Range) (block : Block) (next : Range) (pages : List Block) (n 
       ∙ ap (λ ps. over true flaws.Write range.lba (done + (next.count + rest)) ps [])
       (same_pairs done (next.count + rest) range.lba block old.cache ∙ ap (λ ps. pairs_from range.lba (replicate done block) old.cache ++ ps) (same_pairs next.count rest (range.lba + done) block old.cache))
 
-  pub piece_done : IsDone (writing next (take next.count pages) mid) mid new → Stays mid new → IsSoFar (writing_same (head range (done + next.count)) block old) old new
+  pub piece_done : IsDone (writing_range next (take next.count pages) mid) mid new → Stays mid new → IsSoFar (writing_same (head range (done + next.count)) block old) old new
   piece_done x stays = inr (record {
     is_done = subst (λ ps. IsDone (over true flaws.Write range.lba (done + next.count) ps []) old new) (sym (same_pairs done next.count range.lba block old.cache))
         (next_done flaws.Write range.lba done next.count (pairs_from range.lba (replicate done block) old.cache) (same_from range block old done next.count) old mid new first
@@ -83,11 +83,11 @@ module _ (range : Range) (block : Block) (next : Range) (pages : List Block) (n 
       (begun-write_flaws (writing_same (head range done) block old) old mid first) rest (pairs_from (range.lba + done + next.count) (replicate rest block) old.cache) (min piece range.count) (omega (arith, count_is, more)) x
 
   -- a bad end stopped it there
-  pub piece_stopped : (it : Finish) → (it ≡ finishes.Done → ⊥) → FinishesAs (writing next (take next.count pages) mid) next.count it mid new → FinishesAs (writing_same range block old) (min piece range.count) it old new
+  pub piece_stopped : (it : Finish) → (it ≡ finishes.Done → ⊥) → FinishesAs (writing_range next (take next.count pages) mid) next.count it mid new → FinishesAs (writing_same range block old) (min piece range.count) it old new
   piece_stopped it not_done x = subst (λ t. FinishesAs t (min piece range.count) it old new) (sym whole_is) (stopped_at it not_done (subst (λ t. FinishesAs t next.count it mid new) piece_is x))
 
   -- the link was lost there
-  pub piece_lost : IsCutShort (writing next (take next.count pages) mid).writes mid new → IsLostIn (writing_same range block old).writes old new
+  pub piece_lost : IsCutShort (writing_range next (take next.count pages) mid).writes mid new → IsLostIn (writing_same range block old).writes old new
   piece_lost cut = subst (λ (t : Transfer). IsLostIn t.writes old new) (sym whole_is)
       (next_lost flaws.Write range.lba done next.count (pairs_from range.lba (replicate done block) old.cache) (same_from range block old done next.count) old mid new first
       (begun-write_flaws (writing_same (head range done) block old) old mid first) (pairs_from (range.lba + done + next.count) (replicate rest block) old.cache) (subst (λ (t : Transfer). IsCutShort t.writes mid new) piece_is cut))

@@ -25,13 +25,13 @@ abbrev pub most_pieces : ℕ
 most_pieces = 1024
 
 -- a read of a range, for its flaws or to compare its blocks: it writes nothing (SBC-3, VERIFY commands)
-abbrev pub verifying : Range → Transfer
-verifying range =
+abbrev pub verifying_range : Range → Transfer
+verifying_range range =
     record { ext = true; dma = true; stopped_by = flaws.Read; lba = range.lba; sectors = range.count; writes = []; reads = [] }
 
 -- blocks at the addresses of a range, through the cache where it is on (SBC-3, WRITE commands)
-abbrev pub writing : Range → List Block → DriveState → Transfer
-writing range blocks d =
+abbrev pub writing_range : Range → List Block → DriveState → Transfer
+writing_range range blocks d =
     record {
       ext = true;
       dma = true;
@@ -44,11 +44,11 @@ writing range blocks d =
 
 -- the same block at each address of a range, through the cache where it is on (SBC-3, WRITE SAME commands)
 abbrev pub writing_same : Range → Block → DriveState → Transfer
-writing_same range block d = writing range (replicate range.count block) d
+writing_same range block d = writing_range range (replicate range.count block) d
 
 -- zeros at each address of some ranges, through the cache where it is on; no flaw stops it (SBC-3 5.28; of flaws: profile)
-abbrev pub trimming : List Range → DriveState → Transfer
-trimming ranges d =
+abbrev pub trimming_ranges : List Range → DriveState → Transfer
+trimming_ranges ranges d =
     record {
       ext = true;
       dma = true;
@@ -110,16 +110,16 @@ FinishesAs t first finishes.Garbled old new = StopsAtCrc t first old new
 -- a range was verified: the lowest address that reads stop at, or all of it was read (SBC-3, VERIFY commands)
 abbrev pub IsVerified : Range → Option ℕ → DriveState → DriveState → Type 0
 IsVerified range flaw old new =
-    MatchOption flaw (IsDone (verifying range) old new) (λ at. StopsAtFlaw (verifying range) at old new)
+    MatchOption flaw (IsDone (verifying_range range) old new) (λ at. StopsAtFlaw (verifying_range range) at old new)
 
 -- a range was compared with these blocks: reads give them, or others; or it ended before (SBC-3, VERIFY commands, BYTCHK)
 abbrev pub ComparesAs : Range → List Block → Comparison → DriveState → DriveState → Type 0
 ComparesAs range blocks comparisons.Same old new =
-    (nows old.cells range.lba range.count ≡ blocks) × IsDone (verifying range) old new
+    (nows old.cells range.lba range.count ≡ blocks) × IsDone (verifying_range range) old new
 ComparesAs range blocks comparisons.Differs old new =
-    (nows old.cells range.lba range.count ≡ blocks → ⊥) × IsDone (verifying range) old new
-ComparesAs range blocks (comparisons.Flawed at) old new = StopsAtFlaw (verifying range) at old new
-ComparesAs range blocks comparisons.Garbled old new = StopsAtCrc (verifying range) range.count old new
+    (nows old.cells range.lba range.count ≡ blocks → ⊥) × IsDone (verifying_range range) old new
+ComparesAs range blocks (comparisons.Flawed at) old new = StopsAtFlaw (verifying_range range) at old new
+ComparesAs range blocks comparisons.Garbled old new = StopsAtCrc (verifying_range range) range.count old new
 
 -- a range that one command may go over: some blocks, at most 65,536, within the capacity and the 48 bits of an address (ACS-3)
 pub record IsReached (range : Range) (d : DriveState) : Type 0 where

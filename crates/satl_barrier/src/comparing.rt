@@ -1,7 +1,7 @@
 // VERIFY: a range is read for its flaws, or compared.
 ghost use Rattle.std.specs.Prelude.{◌≡◌, ◌≤◌, ◌+◌, ◌↔◌, [], None, IfOk, OnErr, IsTrue, length, take, drop};
 ghost use Rattle.satl_base.specs.Limits.{most_moved, piece};
-ghost use Rattle.satl_barrier.specs.Finishing.{ComparesAs, FinishesAs, IsReached, IsVerified, told_flaw, verifying};
+ghost use Rattle.satl_barrier.specs.Finishing.{ComparesAs, FinishesAs, IsReached, IsVerified, told_flaw, verifying_range};
 ghost use Rattle.satl_base.specs.declared.bench.Which.TheVariants as flaws;
 ghost use Rattle.satl_base.specs.Cells.{first_flaw, nows};
 ghost use Rattle.satl_barrier.specs.declared.finishing.Finish.TheVariants as finishes;
@@ -70,7 +70,8 @@ fn read_piece<D: Drive, L: Ledger>(
     requires free { IsFree (D.state drive.old) }
     requires reached { IsReached range (D.state drive.old) }
     requires room { range.count ≤ length pages.old }
-    ensures finishes { IfOk result (λ it. FinishesAs (verifying range) range.count it (D.state drive.old) (D.state drive.new)) }
+    ensures finishes { IfOk result (λ it. FinishesAs (verifying_range range) range.count it (D.state drive.old)
+        (D.state drive.new)) }
     ensures blocks { IfOk result (λ it. it ≡ finishes.Done
         → take range.count pages.new ≡ nows (D.state drive.old).cells range.lba range.count) }
     ensures lost { OnErr result (IsCutShort [] (D.state drive.old) (D.state drive.new)) }

@@ -3,7 +3,7 @@ ghost use Rattle.std.specs.Prelude.{◌≡◌, ◌≤◌, ◌+◌, IfOk, OnErr, 
 ghost use Rattle.std.specs.List.{AllByRecursion};
 ghost use Rattle.satl_base.specs.Identify.{has_trim, trim_blocks};
 ghost use Rattle.satl_regs.specs.Trim.{IsTrimList};
-ghost use Rattle.satl_barrier.specs.Finishing.{FinishesAs, trimming};
+ghost use Rattle.satl_barrier.specs.Finishing.{FinishesAs, trimming_ranges};
 ghost use Rattle.satl_barrier.specs.Leaving.{IsFree, IsLostIn, Stays};
 
 use crate::commands::run;
@@ -27,9 +27,9 @@ pub fn trim<D: Drive, L: Ledger>(
     requires has { has_trim (D.state drive.old).identify ≡ true }
     requires takes { 1 ≤ trim_blocks (D.state drive.old).identify }
     requires room { 1 ≤ length scratch.old }
-    ensures finishes { IfOk result (λ it. FinishesAs (trimming ranges.now (D.state drive.old)) 0 it (D.state drive.old)
+    ensures finishes { IfOk result (λ it. FinishesAs (trimming_ranges ranges.now (D.state drive.old)) 0 it (D.state drive.old)
         (D.state drive.new)) }
-    ensures lost { OnErr result (IsLostIn (trimming ranges.now (D.state drive.old)).writes (D.state drive.old)
+    ensures lost { OnErr result (IsLostIn (trimming_ranges ranges.now (D.state drive.old)).writes (D.state drive.old)
         (D.state drive.new)) }
     ensures stays { Stays (D.state drive.old) (D.state drive.new) }
     ensures size { length scratch.new ≡ length scratch.old }

@@ -1,7 +1,7 @@
 // WRITE SAME: one block at each address of a range.
 ghost use Rattle.std.specs.Prelude.{◌≡◌, ◌≤◌, ◌+◌, IfOk, OnErr, OnOk, length, min, replicate, take};
 ghost use Rattle.satl_base.specs.Limits.{piece};
-ghost use Rattle.satl_barrier.specs.Finishing.{FinishesAs, IsReached, most_pieces, writing, writing_same};
+ghost use Rattle.satl_barrier.specs.Finishing.{FinishesAs, IsReached, most_pieces, writing_range, writing_same};
 ghost use Rattle.satl_barrier.specs.Commands.{IsCutShort};
 ghost use Rattle.satl_barrier.specs.Leaving.{IsFree, IsLostIn, Stays};
 
@@ -38,9 +38,9 @@ fn write_piece<D: Drive, L: Ledger>(
     requires reached { IsReached range (D.state drive.old) }
     requires room { range.count ≤ length pages.old }
     ensures finishes { IfOk result (λ it. FinishesAs
-        (writing range (take range.count pages.old) (D.state drive.old)) range.count it
+        (writing_range range (take range.count pages.old) (D.state drive.old)) range.count it
         (D.state drive.old) (D.state drive.new)) }
-    ensures lost { OnErr result (IsCutShort (writing range (take range.count pages.old) (D.state drive.old)).writes
+    ensures lost { OnErr result (IsCutShort (writing_range range (take range.count pages.old) (D.state drive.old)).writes
         (D.state drive.old) (D.state drive.new)) }
     ensures stays { Stays (D.state drive.old) (D.state drive.new) }
     ensures same { OnOk result (pages.new ≡ pages.old) }

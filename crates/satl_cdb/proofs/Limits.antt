@@ -14,7 +14,7 @@ use Rattle.satl_cdb.specs.declared.command.Command.TheVariants as commands
 use Rattle.satl_cdb.specs.Rows.{Rule, Row, unless_broken, format_says, format_of, found_says}
 use Rattle.satl_cdb.specs.PrimaryCommands.{inquiry, mode_sense, report_luns, vital_pages, mode_pages}
 use Rattle.satl_cdb.specs.BlockCommands.{six, ten, twelve, sixteen, verify, write_same}
-use Rattle.satl_cdb.specs.Spelling.{spelled}
+use Rattle.satl_cdb.specs.Spelling.{cdb_bytes}
 use Rattle.satl_cdb.specs.Table.{says, table, pass_through_12, pass_through_16}
 
 abbrev pub FitsTransfer : Form → ℕ → ℕ → Bool → Type 0
@@ -74,7 +74,7 @@ Fits (commands.Verify form lba count compare) = FitsVerify form (verify_limit co
 Fits (commands.Flush form lba count) = FitsFlush form lba count
 Fits (commands.WriteSame form lba count unmap) = FitsWriteSame form lba count
 Fits (commands.Unmap length) = length < 2 ^ 16
-Fits (commands.Pass cdb) = says (spelled (commands.Pass cdb)) true ≡ Ok (commands.Pass cdb)
+Fits (commands.Pass cdb) = says (cdb_bytes (commands.Pass cdb)) true ≡ Ok (commands.Pass cdb)
 
 -- no rule is broken
 abbrev pub Kept : List Rule → List ℕ → Type 0
@@ -174,11 +174,11 @@ luns_fits : (cdb : List ℕ) → IsBytes cdb → Kept report_luns.rules cdb → 
 luns_fits cdb b k = (ltb-false _ _ k.0, big_from-lt 6 4 cdb b)
 
 pass_16_fits : (cdb : List ℕ) → slice_index cdb 0 ≡ 0x85 → Fits (pass_through_16.command cdb)
-unfolding says spelled
+unfolding says cdb_bytes
 pass_16_fits cdb is = rw is refl
 
 pass_12_fits : (cdb : List ℕ) → slice_index cdb 0 ≡ 0xA1 → Fits (pass_through_12.command cdb)
-unfolding says spelled
+unfolding says cdb_bytes
 pass_12_fits cdb is = let e : slice_index cdb 1 / 2 % 128 * 2 / 2 % 128 * 2 ≡ slice_index cdb 1 / 2 % 128 * 2 = omega arith in rw (is, e) refl
 
 rows_fit : (cdb : List ℕ) (trim : Bool) → IsBytes cdb → AllByRecursion (RowFits cdb) (table trim)

@@ -12,17 +12,17 @@ bit_of place set = if set then 2 ^ place else 0
 
 -- The layouts of 6, 10, 12 and 16 bytes: operation code, byte 1, address and count; that of 6 has the address's high bits in
 -- byte 1.
-abbrev pub short : ℕ → ℕ → ℕ → List Line
-short code lba count = byte 0 code ∷ byte 1 (lba / 2 ^ 16 % 2 ^ 5) ∷ number 2 3 lba ∷ byte 4 (count % 256) ∷ []
+abbrev pub lines_6 : ℕ → ℕ → ℕ → List Line
+lines_6 code lba count = byte 0 code ∷ byte 1 (lba / 2 ^ 16 % 2 ^ 5) ∷ number 2 3 lba ∷ byte 4 (count % 256) ∷ []
 
-abbrev pub ten : ℕ → ℕ → ℕ → ℕ → List Line
-ten code one lba count = byte 0 code ∷ byte 1 one ∷ number 2 5 lba ∷ number 7 8 count ∷ []
+abbrev pub lines_10 : ℕ → ℕ → ℕ → ℕ → List Line
+lines_10 code one lba count = byte 0 code ∷ byte 1 one ∷ number 2 5 lba ∷ number 7 8 count ∷ []
 
-abbrev pub twelve : ℕ → ℕ → ℕ → ℕ → List Line
-twelve code one lba count = byte 0 code ∷ byte 1 one ∷ number 2 5 lba ∷ number 6 9 count ∷ []
+abbrev pub lines_12 : ℕ → ℕ → ℕ → ℕ → List Line
+lines_12 code one lba count = byte 0 code ∷ byte 1 one ∷ number 2 5 lba ∷ number 6 9 count ∷ []
 
-abbrev pub sixteen : ℕ → ℕ → ℕ → ℕ → List Line
-sixteen code one lba count = byte 0 code ∷ byte 1 one ∷ number 2 9 lba ∷ number 10 13 count ∷ []
+abbrev pub lines_16 : ℕ → ℕ → ℕ → ℕ → List Line
+lines_16 code one lba count = byte 0 code ∷ byte 1 one ∷ number 2 9 lba ∷ number 10 13 count ∷ []
 
 -- PC and PAGE CODE of MODE SENSE
 abbrev pub page_code_byte : ℕ → ℕ → ℕ
@@ -45,29 +45,29 @@ lines_of (commands.StartStop start no_flush) = byte 0 0x1B ∷ byte 4 (bit_of 2 
 lines_of commands.ReadCapacity10 = byte 0 0x25 ∷ []
 lines_of (commands.ReadCapacity16 alloc) = byte 0 0x9E ∷ byte 1 0x10 ∷ number 10 13 alloc ∷ []
 lines_of (commands.ReportLuns select alloc) = byte 0 0xA0 ∷ byte 2 select ∷ number 6 9 alloc ∷ []
-lines_of (commands.Read Six lba count fua) = short 0x08 lba count
-lines_of (commands.Read Ten lba count fua) = ten 0x28 (bit_of 3 fua) lba count
-lines_of (commands.Read Twelve lba count fua) = twelve 0xA8 (bit_of 3 fua) lba count
-lines_of (commands.Read Sixteen lba count fua) = sixteen 0x88 (bit_of 3 fua) lba count
-lines_of (commands.Write Six lba count fua) = short 0x0A lba count
-lines_of (commands.Write Ten lba count fua) = ten 0x2A (bit_of 3 fua) lba count
-lines_of (commands.Write Twelve lba count fua) = twelve 0xAA (bit_of 3 fua) lba count
-lines_of (commands.Write Sixteen lba count fua) = sixteen 0x8A (bit_of 3 fua) lba count
-lines_of (commands.Verify Six lba count compare) = sixteen 0x8F (bit_of 1 compare) lba count
-lines_of (commands.Verify Ten lba count compare) = ten 0x2F (bit_of 1 compare) lba count
-lines_of (commands.Verify Twelve lba count compare) = twelve 0xAF (bit_of 1 compare) lba count
-lines_of (commands.Verify Sixteen lba count compare) = sixteen 0x8F (bit_of 1 compare) lba count
-lines_of (commands.Flush Six lba count) = sixteen 0x91 0 lba count
-lines_of (commands.Flush Ten lba count) = ten 0x35 0 lba count
-lines_of (commands.Flush Twelve lba count) = sixteen 0x91 0 lba count
-lines_of (commands.Flush Sixteen lba count) = sixteen 0x91 0 lba count
-lines_of (commands.WriteSame Six lba count unmap) = sixteen 0x93 (bit_of 3 unmap) lba count
-lines_of (commands.WriteSame Ten lba count unmap) = ten 0x41 (bit_of 3 unmap) lba count
-lines_of (commands.WriteSame Twelve lba count unmap) = sixteen 0x93 (bit_of 3 unmap) lba count
-lines_of (commands.WriteSame Sixteen lba count unmap) = sixteen 0x93 (bit_of 3 unmap) lba count
+lines_of (commands.Read Six lba count fua) = lines_6 0x08 lba count
+lines_of (commands.Read Ten lba count fua) = lines_10 0x28 (bit_of 3 fua) lba count
+lines_of (commands.Read Twelve lba count fua) = lines_12 0xA8 (bit_of 3 fua) lba count
+lines_of (commands.Read Sixteen lba count fua) = lines_16 0x88 (bit_of 3 fua) lba count
+lines_of (commands.Write Six lba count fua) = lines_6 0x0A lba count
+lines_of (commands.Write Ten lba count fua) = lines_10 0x2A (bit_of 3 fua) lba count
+lines_of (commands.Write Twelve lba count fua) = lines_12 0xAA (bit_of 3 fua) lba count
+lines_of (commands.Write Sixteen lba count fua) = lines_16 0x8A (bit_of 3 fua) lba count
+lines_of (commands.Verify Six lba count compare) = lines_16 0x8F (bit_of 1 compare) lba count
+lines_of (commands.Verify Ten lba count compare) = lines_10 0x2F (bit_of 1 compare) lba count
+lines_of (commands.Verify Twelve lba count compare) = lines_12 0xAF (bit_of 1 compare) lba count
+lines_of (commands.Verify Sixteen lba count compare) = lines_16 0x8F (bit_of 1 compare) lba count
+lines_of (commands.Flush Six lba count) = lines_16 0x91 0 lba count
+lines_of (commands.Flush Ten lba count) = lines_10 0x35 0 lba count
+lines_of (commands.Flush Twelve lba count) = lines_16 0x91 0 lba count
+lines_of (commands.Flush Sixteen lba count) = lines_16 0x91 0 lba count
+lines_of (commands.WriteSame Six lba count unmap) = lines_16 0x93 (bit_of 3 unmap) lba count
+lines_of (commands.WriteSame Ten lba count unmap) = lines_10 0x41 (bit_of 3 unmap) lba count
+lines_of (commands.WriteSame Twelve lba count unmap) = lines_16 0x93 (bit_of 3 unmap) lba count
+lines_of (commands.WriteSame Sixteen lba count unmap) = lines_16 0x93 (bit_of 3 unmap) lba count
 lines_of (commands.Unmap length) = byte 0 0x42 ∷ number 7 8 length ∷ []
 lines_of (commands.Pass cdb) = text 0 cdb ∷ []
 
 -- the 16 bytes of a command
-unfoldable pub spelled : Command → List ℕ
-spelled command = laid 16 (lines_of command)
+unfoldable pub cdb_bytes : Command → List ℕ
+cdb_bytes command = laid 16 (lines_of command)

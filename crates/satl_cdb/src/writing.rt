@@ -4,7 +4,7 @@ ghost use Rattle.std.specs.Prelude.{◌≡◌, ◌<◌, ℕ, Bool, true, false, 
 ghost use Rattle.satl_base.specs.Fields.{IsBytes};
 ghost use Rattle.satl_base.specs.Places.{laid, text};
 ghost use Rattle.satl_cdb.specs.Table.{says};
-ghost use Rattle.satl_cdb.specs.Spelling.{bit_of, page_code_byte, short, sixteen, spelled, ten, twelve};
+ghost use Rattle.satl_cdb.specs.Spelling.{bit_of, cdb_bytes, lines_10, lines_12, lines_16, lines_6, page_code_byte};
 
 use crate::command::{Command, Form};
 use byteorder::{BigEndian, ByteOrder};
@@ -23,7 +23,7 @@ fn six_bytes(code: u8, one: u8, two: u8, three: u8, four: u8) -> [u8; 16]
 }
 
 fn short_bytes(code: u8, lba: u64, count: u32) -> [u8; 16]
-    ensures { result ≡ laid 16 (short code lba count) }
+    ensures { result ≡ laid 16 (lines_6 code lba count) }
 {
     let [.., high, middle, low] = lba.to_be_bytes();
     let [.., count] = count.to_be_bytes();
@@ -31,7 +31,7 @@ fn short_bytes(code: u8, lba: u64, count: u32) -> [u8; 16]
 }
 
 fn ten_bytes(code: u8, one: u8, lba: u64, count: u32) -> [u8; 16]
-    ensures { result ≡ laid 16 (ten code one lba count) }
+    ensures { result ≡ laid 16 (lines_10 code one lba count) }
 {
     let mut cdb = [0u8; 16];
     cdb[0] = code;
@@ -42,7 +42,7 @@ fn ten_bytes(code: u8, one: u8, lba: u64, count: u32) -> [u8; 16]
 }
 
 fn twelve_bytes(code: u8, one: u8, lba: u64, count: u32) -> [u8; 16]
-    ensures { result ≡ laid 16 (twelve code one lba count) }
+    ensures { result ≡ laid 16 (lines_12 code one lba count) }
 {
     let mut cdb = [0u8; 16];
     cdb[0] = code;
@@ -53,7 +53,7 @@ fn twelve_bytes(code: u8, one: u8, lba: u64, count: u32) -> [u8; 16]
 }
 
 fn sixteen_bytes(code: u8, one: u8, lba: u64, count: u32) -> [u8; 16]
-    ensures { result ≡ laid 16 (sixteen code one lba count) }
+    ensures { result ≡ laid 16 (lines_16 code one lba count) }
 {
     let mut cdb = [0u8; 16];
     cdb[0] = code;
@@ -63,9 +63,9 @@ fn sixteen_bytes(code: u8, one: u8, lba: u64, count: u32) -> [u8; 16]
     cdb
 }
 
-#[tactic(auto, unfolding(crate::specs::Spelling::spelled))]
+#[tactic(auto, unfolding(crate::specs::Spelling::cdb_bytes))]
 fn inquiry_bytes(page: Option<u8>, alloc: u16) -> [u8; 16]
-    ensures { result ≡ spelled (Command.Inquiry page alloc) }
+    ensures { result ≡ cdb_bytes (Command.Inquiry page alloc) }
 {
     let [high, low] = alloc.to_be_bytes();
     match page {
@@ -80,7 +80,7 @@ fn page_byte(control: u8, page: u8) -> u8
     (control & 3) << 6 | page & 0x3F
 }
 
-#[tactic(auto, unfolding(crate::specs::Spelling::spelled))]
+#[tactic(auto, unfolding(crate::specs::Spelling::cdb_bytes))]
 fn mode_sense_bytes(
     ten: bool,
     long_lba: bool,
@@ -89,7 +89,7 @@ fn mode_sense_bytes(
     page: u8,
     alloc: u16,
 ) -> [u8; 16]
-    ensures { result ≡ spelled (Command.ModeSense ten long_lba no_descriptor control page alloc) }
+    ensures { result ≡ cdb_bytes (Command.ModeSense ten long_lba no_descriptor control page alloc) }
 {
     let two = page_byte(control, page);
     let [_, low] = alloc.to_be_bytes();
@@ -102,9 +102,9 @@ fn mode_sense_bytes(
     cdb
 }
 
-#[tactic(auto, unfolding(crate::specs::Spelling::spelled))]
+#[tactic(auto, unfolding(crate::specs::Spelling::cdb_bytes))]
 fn mode_select_bytes(ten: bool, length: u16) -> [u8; 16]
-    ensures { result ≡ spelled (Command.ModeSelect ten length) }
+    ensures { result ≡ cdb_bytes (Command.ModeSelect ten length) }
 {
     let [_, low] = length.to_be_bytes();
     if ten {
@@ -114,18 +114,18 @@ fn mode_select_bytes(ten: bool, length: u16) -> [u8; 16]
     }
 }
 
-#[tactic(auto, unfolding(crate::specs::Spelling::spelled))]
+#[tactic(auto, unfolding(crate::specs::Spelling::cdb_bytes))]
 fn report_luns_bytes(select: u8, alloc: u32) -> [u8; 16]
-    ensures { result ≡ spelled (Command.ReportLuns select alloc) }
+    ensures { result ≡ cdb_bytes (Command.ReportLuns select alloc) }
 {
     let mut cdb = twelve_bytes(0xA0, 0, 0, alloc);
     cdb[2] = select;
     cdb
 }
 
-#[tactic(auto, unfolding(crate::specs::Spelling::spelled))]
+#[tactic(auto, unfolding(crate::specs::Spelling::cdb_bytes))]
 fn read_bytes(form: Form, lba: u64, count: u32, fua: bool) -> [u8; 16]
-    ensures { result ≡ spelled (Command.Read form lba count fua) }
+    ensures { result ≡ cdb_bytes (Command.Read form lba count fua) }
 {
     let one = flag_byte(3, fua);
     match form {
@@ -136,9 +136,9 @@ fn read_bytes(form: Form, lba: u64, count: u32, fua: bool) -> [u8; 16]
     }
 }
 
-#[tactic(auto, unfolding(crate::specs::Spelling::spelled))]
+#[tactic(auto, unfolding(crate::specs::Spelling::cdb_bytes))]
 fn write_bytes(form: Form, lba: u64, count: u32, fua: bool) -> [u8; 16]
-    ensures { result ≡ spelled (Command.Write form lba count fua) }
+    ensures { result ≡ cdb_bytes (Command.Write form lba count fua) }
 {
     let one = flag_byte(3, fua);
     match form {
@@ -149,9 +149,9 @@ fn write_bytes(form: Form, lba: u64, count: u32, fua: bool) -> [u8; 16]
     }
 }
 
-#[tactic(auto, unfolding(crate::specs::Spelling::spelled))]
+#[tactic(auto, unfolding(crate::specs::Spelling::cdb_bytes))]
 fn verify_bytes(form: Form, lba: u64, count: u32, compare: bool) -> [u8; 16]
-    ensures { result ≡ spelled (Command.Verify form lba count compare) }
+    ensures { result ≡ cdb_bytes (Command.Verify form lba count compare) }
 {
     let one = flag_byte(1, compare);
     match form {
@@ -161,9 +161,9 @@ fn verify_bytes(form: Form, lba: u64, count: u32, compare: bool) -> [u8; 16]
     }
 }
 
-#[tactic(auto, unfolding(crate::specs::Spelling::spelled))]
+#[tactic(auto, unfolding(crate::specs::Spelling::cdb_bytes))]
 fn synchronize_cache_bytes(form: Form, lba: u64, count: u32) -> [u8; 16]
-    ensures { result ≡ spelled (Command.Flush form lba count) }
+    ensures { result ≡ cdb_bytes (Command.Flush form lba count) }
 {
     match form {
         Form::Ten => ten_bytes(0x35, 0, lba, count),
@@ -171,9 +171,9 @@ fn synchronize_cache_bytes(form: Form, lba: u64, count: u32) -> [u8; 16]
     }
 }
 
-#[tactic(auto, unfolding(crate::specs::Spelling::spelled))]
+#[tactic(auto, unfolding(crate::specs::Spelling::cdb_bytes))]
 fn write_same_bytes(form: Form, lba: u64, count: u32, unmap: bool) -> [u8; 16]
-    ensures { result ≡ spelled (Command.WriteSame form lba count unmap) }
+    ensures { result ≡ cdb_bytes (Command.WriteSame form lba count unmap) }
 {
     let one = flag_byte(3, unmap);
     match form {
@@ -188,9 +188,9 @@ fn pass_bytes(cdb: &[u8; 16]) -> [u8; 16]
     *cdb
 }
 
-#[tactic(auto, unfolding(crate::specs::Spelling::spelled))]
+#[tactic(auto, unfolding(crate::specs::Spelling::cdb_bytes))]
 fn bytes_of(command: &Command) -> [u8; 16]
-    ensures { result ≡ spelled command.now }
+    ensures { result ≡ cdb_bytes command.now }
 {
     match *command {
         Command::TestUnitReady => [0; 16],
@@ -248,7 +248,7 @@ fn bytes_of(command: &Command) -> [u8; 16]
 /// PF is 1; a number is cut to its field, and a form that the command does not have is written as the one of 16 bytes. Each
 /// command that `read_cdb` gives is read back as it was (SPC-4, SBC-3, SAT-3).
 pub fn write_cdb(command: &Command) -> [u8; 16]
-    ensures written { result ≡ spelled command.now }
+    ensures written { result ≡ cdb_bytes command.now }
     ensures read_back { (cdb : List ℕ) (trim : Bool) → IsBytes cdb → says cdb trim ≡ Ok command.now
         → says result true ≡ Ok command.now }
 {

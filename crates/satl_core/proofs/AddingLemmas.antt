@@ -18,7 +18,7 @@ use Rattle.satl_line.specs.Kinds.{kind_of}
 use Rattle.satl_mode.specs.Changes.{IsChangeOf}
 use Rattle.satl_line.specs.Tasks.{Adds, Held, change_task, entries_of, is_too_much, total_blocks, with_body}
 use Rattle.satl_line.proofs.SlotsLemmas.{All-append}
-use Rattle.satl_direct.specs.Tasks.{asks, data_out, held_blocks, needed, pass_of, task_for, task_of}
+use Rattle.satl_direct.specs.Tasks.{asks, data_out_kept, held_blocks, needed, pass_of, task_for, task_of}
 use Rattle.satl_core.specs.Layer.{CanTrim, FitsCapacity, IsKept, IsTask, Layer, entry_pages, held_pages}
 use Rattle.satl_base.specs.Limits.{IsExpectable}
 use Rattle.satl_core.specs.Refilling.{Comes}
@@ -102,10 +102,10 @@ push_tasks [] h = refl
 push_tasks (x ∷ old) h = ap (λ l. task_of x.entry ∷ l) (push_tasks old h)
 
 -- the task without its pages, and then with its data-out, is that of the device
-task_is : (r : Request) (c : Command) (queued_trim : Bool) → record (task_without_pages r c queued_trim) { body = data_out c (take (held_blocks c) r.body) } ≡ task_for queued_trim r c
+task_is : (r : Request) (c : Command) (queued_trim : Bool) → record (task_without_pages r c queued_trim) { body = data_out_kept c (take (held_blocks c) r.body) } ≡ task_for queued_trim r c
 task_is r c queued_trim = refl
 
-pub tasks_with : (old new : List Held) (r : Request) (c : Command) (queued_trim : Bool) (body : List Block) → data_out c body ≡ data_out c (take (held_blocks c) r.body) → HasPages old (task_without_pages r c queued_trim) body new
+pub tasks_with : (old new : List Held) (r : Request) (c : Command) (queued_trim : Bool) (body : List Block) → data_out_kept c body ≡ data_out_kept c (take (held_blocks c) r.body) → HasPages old (task_without_pages r c queued_trim) body new
     → map task_of (entries_of new) ≡ map task_of (entries_of old) ++ task_for queued_trim r c ∷ []
 tasks_with old new r c queued_trim body same h =
     ap (λ t. map task_of (entries_of t)) h.are ∙ (push_tasks old (record { slot = h.slot; entry = record (task_without_pages r c queued_trim) { body = body } })
@@ -122,12 +122,12 @@ take_take (suc m) (suc n) [] h = refl
 take_take (suc m) (suc n) (x ∷ xs) h = ap (λ l. x ∷ l) (take_take m n xs (omega (arith, h)))
 
 -- the data-out of a task is that of the whole request
-whole_data : (capacity n count : ℕ) (c : Command) (body : List Block) → IsTask capacity c n → needed c ≤ 512 * length (take count body) → data_out c (take (held_blocks c) (take count body)) ≡ data_out c (take (held_blocks c) body)
+whole_data : (capacity n count : ℕ) (c : Command) (body : List Block) → IsTask capacity c n → needed c ≤ 512 * length (take count body) → data_out_kept c (take (held_blocks c) (take count body)) ≡ data_out_kept c (take (held_blocks c) body)
 whole_data capacity n count c body t long =
-    of_task (λ c. needed c ≤ 512 * length (take count body) → data_out c (take (held_blocks c) (take count body)) ≡ data_out c (take (held_blocks c) body)) capacity n c (λ form lba blocks fua t long. refl)
+    of_task (λ c. needed c ≤ 512 * length (take count body) → data_out_kept c (take (held_blocks c) (take count body)) ≡ data_out_kept c (take (held_blocks c) body)) capacity n c (λ form lba blocks fua t long. refl)
     (λ form lba blocks fua t long. take_take blocks count body (omega (arith, long))) (λ form lba blocks none long. refl) (λ start no_flush none long. refl) (λ ten size none long. refl)
     (λ form lba blocks t long. refl) (λ form lba blocks t long. take_take blocks count body (omega (arith, long)))
-    (λ form lba blocks unmap. elim unmap as (λ b. (n ≡ 1) × FitsCapacity capacity lba blocks → needed (cdbs.WriteSame form lba blocks b) ≤ 512 * length (take count body) → data_out (cdbs.WriteSame form lba blocks b) (take (held_blocks (cdbs.WriteSame form lba blocks b)) (take count body)) ≡ data_out (cdbs.WriteSame form lba blocks b) (take (held_blocks (cdbs.WriteSame form lba blocks b)) body)) [ true ↦ λ t long. take_take 1 count body (omega (arith, long)) | false ↦ λ t long. take_take 1 count body (omega (arith, long)) ])
+    (λ form lba blocks unmap. elim unmap as (λ b. (n ≡ 1) × FitsCapacity capacity lba blocks → needed (cdbs.WriteSame form lba blocks b) ≤ 512 * length (take count body) → data_out_kept (cdbs.WriteSame form lba blocks b) (take (held_blocks (cdbs.WriteSame form lba blocks b)) (take count body)) ≡ data_out_kept (cdbs.WriteSame form lba blocks b) (take (held_blocks (cdbs.WriteSame form lba blocks b)) body)) [ true ↦ λ t long. take_take 1 count body (omega (arith, long)) | false ↦ λ t long. take_take 1 count body (omega (arith, long)) ])
     (λ size t long. refl) (λ cdb t long. through (pass_of cdb).out (pass_of cdb).length long) t long
   where
     through : (out : Bool) (n : ℕ) → (if out then n else 0) ≤ 512 * length (take count body)
@@ -170,4 +170,4 @@ becomes_whole w r count capacity c old replies new is t list long b =
         let same = whole_data capacity (held_blocks c) count c w.body t room in
         let kept = same_kept capacity (held_blocks c) c count w.body room (subst (λ (x : Request). HasList c x.body capacity) is list) t in
         ap (λ b. made (task_for old.identity.queued_trim w c) b ((asks c).ranges cut.body) ((asks c).change cut.body)) same
-        ∙ (ap (λ r. made (task_for old.identity.queued_trim w c) (data_out c (take (held_blocks c) w.body)) r ((asks c).change cut.body)) kept.0 ∙ ap (made (task_for old.identity.queued_trim w c) (data_out c (take (held_blocks c) w.body)) ((asks c).ranges w.body)) kept.1)
+        ∙ (ap (λ r. made (task_for old.identity.queued_trim w c) (data_out_kept c (take (held_blocks c) w.body)) r ((asks c).change cut.body)) kept.0 ∙ ap (made (task_for old.identity.queued_trim w c) (data_out_kept c (take (held_blocks c) w.body)) ((asks c).ranges w.body)) kept.1)

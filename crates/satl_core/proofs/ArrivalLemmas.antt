@@ -51,11 +51,11 @@ kept c = Ok c
 err_is : (x y : AtOnce) → refused x ≡ refused y → x ≡ y
 err_is x y e = cc
 
-readiness_is : (l : Layer) (d : DriveState) (r : Request) → l.down ≡ d.down → direct.readiness (view l d) r ≡ reply_at_once l.identity l.modes r (readiness l)
+readiness_is : (l : Layer) (d : DriveState) (r : Request) → l.down ≡ d.down → direct.ready_reply (view l d) r ≡ reply_at_once l.identity l.modes r (readiness l)
 readiness_is l d r mark =
-    (elim l.down as (λ b. l.down ≡ b → direct.readiness (view l d) r ≡ reply_at_once l.identity l.modes r (readiness l)) [
+    (elim l.down as (λ b. l.down ≡ b → direct.ready_reply (view l d) r ≡ reply_at_once l.identity l.modes r (readiness l)) [
       | true ↦ λ is. rw (sym mark, is) refl
-      | false ↦ λ is. (elim l.started as (λ b. l.started ≡ b → direct.readiness (view l d) r ≡ reply_at_once l.identity l.modes r (readiness l)) [
+      | false ↦ λ is. (elim l.started as (λ b. l.started ≡ b → direct.ready_reply (view l d) r ≡ reply_at_once l.identity l.modes r (readiness l)) [
         | true ↦ λ on. rw (sym mark, is, on) refl
         | false ↦ λ on. rw (sym mark, is, on) refl
       ]) refl

@@ -23,7 +23,7 @@ use Rattle.satl_core.specs.declared.submitting.AtOnce.{AtOnce}
 use Rattle.satl_core.specs.declared.submitting.AtOnce.TheVariants as at_once
 use Rattle.satl_core.specs.Layer.{Layer}
 use Rattle.satl_asks.specs.Requests.{is_for_unit}
-use Rattle.satl_core.specs.Submitting.{CanSubmit, answer_to, other_answer, attention_answer, attention_of, cdb_answer, code_answer, command_answer, judged, overlaps, readiness, HasLengths, HoldsList, is_idle, unless_refused, unmap_list_fault}
+use Rattle.satl_core.specs.Submitting.{CanSubmit, answer_to, other_answer, attention_answer, attention_of, cdb_answer, code_answer, command_answer, judged, overlaps, readiness, HasLengths, HoldsList, is_idle, unless_illegal, unmap_list_fault}
 use Rattle.satl_core.proofs.SayingLemmas.{IsSaid, said_of}
 use Rattle.satl_core.proofs.JudgingLemmas.{has_header, list_held, of_command, of_told}
 
@@ -78,24 +78,24 @@ module _ (l : Layer) (w : Request) (count : ℕ) (bytes : HasLengths w.cdb) (hol
 
   command_same : (c : Command) → IsSaid w.cdb l.identity.trim c → command_answer l (record w { body = take count w.body }) c ≡ command_answer l w c
   command_same c said =
-      ap (λ x. unless_refused (asks c).fields_fault (cond (nat_lt l.identity.capacity ((range_of c).lba + (range_of c).count)) (Err (at_once.Check out_of_range)) x))
+      ap (λ x. unless_illegal (asks c).fields_fault (cond (nat_lt l.identity.capacity ((range_of c).lba + (range_of c).count)) (Err (at_once.Check out_of_range)) x))
       (listed (asks c).length_fault refl)
     where
       -- what follows the tests of the data-out
       last : List Block → Result Command AtOnce
-      last body = unless_refused ((asks c).data_fault l.identity l.modes body) (answer_to l body c)
+      last body = unless_illegal ((asks c).data_fault l.identity l.modes body) (answer_to l body c)
 
-      refused_or : (o : Option Illegal) → (asks c).data_fault l.identity l.modes w.body ≡ o → (asks c).length_fault ≡ None → needed c ≤ w.data_len → unless_refused o (answer_to l (take count w.body) c) ≡ unless_refused o (answer_to l w.body c)
+      refused_or : (o : Option Illegal) → (asks c).data_fault l.identity l.modes w.body ≡ o → (asks c).length_fault ≡ None → needed c ≤ w.data_len → unless_illegal o (answer_to l (take count w.body) c) ≡ unless_illegal o (answer_to l w.body c)
       refused_or None is header long = answer_same c said header long is
       refused_or (Some why) is header long = refl
 
       last_same : (asks c).length_fault ≡ None → needed c ≤ w.data_len → last (take count w.body) ≡ last w.body
       last_same header long =
-          ap (λ o. unless_refused o (answer_to l (take count w.body) c)) (fault_same c said header long)
+          ap (λ o. unless_illegal o (answer_to l (take count w.body) c)) (fault_same c said header long)
           ∙ refused_or ((asks c).data_fault l.identity l.modes w.body) refl header long
 
       listed : (o : Option Illegal) → (asks c).length_fault ≡ o
-          → unless_refused o (cond (nat_lt w.data_len (needed c)) (Err (at_once.Check short_data)) (last (take count w.body))) ≡ unless_refused o (cond (nat_lt w.data_len (needed c)) (Err (at_once.Check short_data)) (last w.body))
+          → unless_illegal o (cond (nat_lt w.data_len (needed c)) (Err (at_once.Check short_data)) (last (take count w.body))) ≡ unless_illegal o (cond (nat_lt w.data_len (needed c)) (Err (at_once.Check short_data)) (last w.body))
       listed (Some why) header = refl
       listed None header =
           (elim (nat_lt w.data_len (needed c)) as (λ b. nat_lt w.data_len (needed c) ≡ b → cond b (Err (at_once.Check short_data)) (last (take count w.body)) ≡ cond b (Err (at_once.Check short_data)) (last w.body)) [

@@ -103,7 +103,7 @@ rest_lost s (h ∷ rest) = ap (λ l. task_check s (task_of h.entry) link_lost �
 
 -- the answer to the first task and those to the others are those of the device
 pub all_lost : (s : Device) (entry : Entry) (rest : List Held) (given pushed all : List Reply) (reply : Reply) (ending : Ending) → s.tasks ≡ task_of entry ∷ map task_of (entries_of rest) → given ≡ []
-    → pushed ≡ given ++ reply ∷ [] → all ≡ pushed ++ core.lost_replies s.modes.d_sense rest → reply ≡ ended_reply entry ending s.modes.d_sense → ending ≡ endings.Check link_lost → all ≡ turns.lost_replies s
+    → pushed ≡ given ++ reply ∷ [] → all ≡ pushed ++ core.lost_replies s.modes.d_sense rest → reply ≡ ended_reply entry ending s.modes.d_sense → ending ≡ endings.Check link_lost → all ≡ turns.device_lost_replies s
 all_lost s entry rest given pushed all reply ending first none push is one lost =
     is
     ∙ ap (λ l. l ++ core.lost_replies s.modes.d_sense rest) (push ∙ ap (λ l. l ++ reply ∷ []) none)

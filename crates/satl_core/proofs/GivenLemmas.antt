@@ -22,7 +22,7 @@ use Rattle.satl_line.specs.Ranged.RangedTask.{ranged_read, ranged_write, ranged_
 use Rattle.satl_line.specs.Tasks.{Held, entries_of}
 use Rattle.satl_drive.specs.State.{DriveState, Outstanding}
 use Rattle.satl_direct.specs.Device.{is_called}
-use Rattle.satl_direct.specs.Tasks.{data_out, task_of}
+use Rattle.satl_direct.specs.Tasks.{data_out_kept, task_of}
 use Rattle.satl_direct.specs.Valid.{AreOwn}
 use Rattle.satl_direct.proofs.Naming.{called-sym, called_same}
 use Rattle.satl_flight.specs.declared.flight.Flying.{Flying}
@@ -37,7 +37,7 @@ use Rattle.satl_core.proofs.DeviceLemmas.{seen}
 use Rattle.satl_core.proofs.QueuedLemmas.{eligible_seen}
 
 -- a task is the same ranged task to the device
-seen_by : (command : Command) (e : Entry) (ranged : RangedTask) → ranged_by command e.ranges.items e.body ≡ Some ranged → ranged_by command e.ranges.items (data_out command e.body) ≡ Some ranged
+seen_by : (command : Command) (e : Entry) (ranged : RangedTask) → ranged_by command e.ranges.items e.body ≡ Some ranged → ranged_by command e.ranges.items (data_out_kept command e.body) ≡ Some ranged
 seen_by (commands.Read form lba count fua) e ranged h = h
 seen_by (commands.Write form lba count fua) e ranged h = h
 seen_by (commands.Unmap a) e ranged h = h

@@ -29,7 +29,7 @@ use Rattle.satl_core.specs.declared.submitting.AtOnce.TheVariants as at_once
 use Rattle.satl_core.specs.Layer.{FitsCapacity, IsTask, IsWithin, Layer}
 use Rattle.satl_asks.specs.Commands.{CanPass, HasList}
 use Rattle.satl_asks.specs.Requests.{is_for_unit}
-use Rattle.satl_core.specs.Submitting.{answer_to, other_answer, attention_answer, attention_of, cdb_answer, code_answer, command_answer, judged, overlaps, readiness, untold, HasLengths, HoldsList, is_idle, trims, unless_idle, unless_refused, unmap_list_fault}
+use Rattle.satl_core.specs.Submitting.{answer_to, other_answer, attention_answer, attention_of, cdb_answer, code_answer, command_answer, judged, overlaps, readiness, untold, HasLengths, HoldsList, is_idle, trims, unless_idle, unless_illegal, unmap_list_fault}
 use Rattle.satl_core.proofs.SayingLemmas.{IsSaid, said_of}
 
 -- a command that is answered from what the device says of itself
@@ -75,7 +75,7 @@ pub record IsGood (l : Layer) (r : Request) (c : Command) : Type 0 where
 -- them
 abbrev pub tested : Option Illegal → Bool → Option Illegal → Bool → Option Illegal → Result Command AtOnce → Result Command AtOnce
 tested fields outside header short sound next =
-    unless_refused fields (cond outside (Err (at_once.Check out_of_range)) (unless_refused header (cond short (Err (at_once.Check short_data)) (unless_refused sound next))))
+    unless_illegal fields (cond outside (Err (at_once.Check out_of_range)) (unless_illegal header (cond short (Err (at_once.Check short_data)) (unless_illegal sound next))))
 
 tests_ok : (fields : Option Illegal) (outside : Bool) (header : Option Illegal) (short : Bool) (sound : Option Illegal) (next : Result Command AtOnce) (d : Command) → tested fields outside header short sound next ≡ Ok d
     → (fields ≡ None) × (outside ≡ false) × (header ≡ None) × (short ≡ false) × (sound ≡ None) × (next ≡ Ok d)

@@ -31,7 +31,7 @@ use Rattle.satl_core.specs.declared.managing.Posting.{Posting}
 use Rattle.satl_core.specs.declared.managing.Posting.TheVariants as postings
 use Rattle.satl_core.specs.Layer.{Layer, Tied, view}
 use Rattle.satl_core.specs.Leaving.{is_within, left_by}
-use Rattle.satl_core.specs.Managing.{effect, effect_of, effect_or_none, is_told, once_posted, only}
+use Rattle.satl_core.specs.Managing.{effect, effect_of, effect_or_none, is_told, once_posted, response_alone}
 use Rattle.satl_core.specs.Refilling.{Removes}
 use Rattle.satl_core.proofs.ComposeLemmas.{map_step}
 use Rattle.satl_core.proofs.QuietLemmas.{quiet_posted}
@@ -99,7 +99,7 @@ code_mirrors (Some f) m s tasks lists = function_mirrors f m s tasks lists
 
 effect_mirrors : (m : Manage) (s : Device) (tasks : List Held) (lists : List (List Attention)) → Mirrors tasks lists (effect m tasks) (direct.effect m (with_these s tasks lists))
 effect_mirrors m s tasks lists =
-    elim (has_unit (function_of m.function) && not (is_unit_0 m.lun)) as (λ b. Mirrors tasks lists (cond b (only IncorrectLun) (effect_or_none (function_of m.function) m tasks)) (cond b (direct.only IncorrectLun (with_these s tasks lists)) (direct.effect_or_none (function_of m.function) m (with_these s tasks lists)))) [
+    elim (has_unit (function_of m.function) && not (is_unit_0 m.lun)) as (λ b. Mirrors tasks lists (cond b (response_alone IncorrectLun) (effect_or_none (function_of m.function) m tasks)) (cond b (direct.nothing_but IncorrectLun (with_these s tasks lists)) (direct.effect_or_none (function_of m.function) m (with_these s tasks lists)))) [
       | true ↦ record { goes = λ t. refl; posts = refl; response = refl }
       | false ↦ code_mirrors (function_of m.function) m s tasks lists
     ]

@@ -32,7 +32,7 @@ use Rattle.satl_barrier.specs.declared.finishing.Finish.TheVariants as finishes
 use Rattle.satl_barrier.specs.declared.comparing.Comparison.{Comparison}
 use Rattle.satl_barrier.specs.declared.comparing.Comparison.TheVariants as comparisons
 use Rattle.satl_barrier.specs.Finishing as barrier
-use Rattle.satl_barrier.specs.Finishing.{ComparesAs, FinishesAs, IsVerified, IsTorn, trimming, verifying, writing_same}
+use Rattle.satl_barrier.specs.Finishing.{ComparesAs, FinishesAs, IsVerified, IsTorn, trimming_ranges, verifying_range, writing_same}
 use Rattle.satl_direct.specs.Device.{Device, without}
 use Rattle.satl_direct.specs.Tasks.{asks, over, task_of}
 use Rattle.satl_direct.specs.Ending.{EndsBy, EndsCompared, EndsGarbled, EndsInPieces, EndsOnMedium, EndsVerified, IsChecked, IsCompared, IsTaskDone, IsPartlyWritten, same_pairs, task_check, task_reply}
@@ -196,10 +196,10 @@ module _ (identity : Identity) (modes : Modes) (started : Bool) (attentions : Li
     where
       by : (flaw : Option ℕ) → IsVerified (over lba count) flaw d d' → EndsSo (cdbs.Verify form lba count false) (medium.ending_of_verify flaw)
       by None x =
-          done_turn identity modes started attentions (asking (cdbs.Verify form lba count false)) others d d' ready refl (verifying (over lba count)) x refl
+          done_turn identity modes started attentions (asking (cdbs.Verify form lba count false)) others d d' ready refl (verifying_range (over lba count)) x refl
           (λ reply new e. verified_by (with_it (cdbs.Verify form lba count false)) (task_of (asking (cdbs.Verify form lba count false))) reply new (over lba count) None x.no_flaw e)
       by (Some at) x =
-          flawed_turn (cdbs.Verify form lba count false) (verifying (over lba count)) at ready refl refl x
+          flawed_turn (cdbs.Verify form lba count false) (verifying_range (over lba count)) at ready refl refl x
           (λ reply new e. verified_by (roused (cdbs.Verify form lba count false)) (task_of (asking (cdbs.Verify form lba count false))) reply new (over lba count) (Some at) x.flaw e)
 
   pub compare_turn : (form : Form) (lba count : ℕ) (ending : Ending) → (not started && true) ≡ false → HasCompared (over lba count) entry.body d ending d' → EndsSo (cdbs.Verify form lba count true) ending
@@ -207,10 +207,10 @@ module _ (identity : Identity) (modes : Modes) (started : Bool) (attentions : Li
     where
       by : (it : Comparison) → ComparesAs (over lba count) entry.body it d d' → EndsSo (cdbs.Verify form lba count true) (medium.ending_of_comparison it)
       by comparisons.Same x =
-          done_turn identity modes started attentions (asking (cdbs.Verify form lba count true)) others d d' ready refl (verifying (over lba count)) x.1 refl
+          done_turn identity modes started attentions (asking (cdbs.Verify form lba count true)) others d d' ready refl (verifying_range (over lba count)) x.1 refl
           (λ reply new e. compared_by (with_it (cdbs.Verify form lba count true)) (task_of (asking (cdbs.Verify form lba count true))) reply new (over lba count) None x.1.no_flaw (inr (inl (sym x.0, e))))
       by comparisons.Differs x =
-          torn_turn identity modes started attentions (asking (cdbs.Verify form lba count true)) others d d' ready refl (verifying (over lba count)) miscompare
+          torn_turn identity modes started attentions (asking (cdbs.Verify form lba count true)) others d d' ready refl (verifying_range (over lba count)) miscompare
           (record { was_up = x.1.was_up; torn = d.cells; part = refl; lost = x.1.lost; active = inr (ap (λ (y : DriveState). y.active) x.1.stays) }) (ap (λ (y : DriveState). y.down) x.1.stays)
           (λ reply new answer same. compared_by (roused (cdbs.Verify form lba count true)) (task_of (asking (cdbs.Verify form lba count true))) reply new (over lba count) None x.1.no_flaw (inr (inr (
             (λ is. x.0 (sym is)),
@@ -220,10 +220,10 @@ module _ (identity : Identity) (modes : Modes) (started : Bool) (attentions : Li
             },
           ))))
       by (comparisons.Flawed at) x =
-          flawed_turn (cdbs.Verify form lba count true) (verifying (over lba count)) at ready refl refl x
+          flawed_turn (cdbs.Verify form lba count true) (verifying_range (over lba count)) at ready refl refl x
           (λ reply new e. compared_by (roused (cdbs.Verify form lba count true)) (task_of (asking (cdbs.Verify form lba count true))) reply new (over lba count) (Some at) x.flaw e)
       by comparisons.Garbled x =
-          torn_turn identity modes started attentions (asking (cdbs.Verify form lba count true)) others d d' ready refl (verifying (over lba count)) crc_error x.torn (ap (λ (y : DriveState). y.down) x.stays)
+          torn_turn identity modes started attentions (asking (cdbs.Verify form lba count true)) others d d' ready refl (verifying_range (over lba count)) crc_error x.torn (ap (λ (y : DriveState). y.down) x.stays)
           (λ reply new answer same. compared_by (roused (cdbs.Verify form lba count true)) (task_of (asking (cdbs.Verify form lba count true))) reply new (over lba count) None x.no_flaw (inl (garbled (roused (cdbs.Verify form lba count true)) (task_of (asking (cdbs.Verify form lba count true))) reply new x.torn.torn [] d'.glitches answer same x.torn.part x.one)))
 
   module _ (cache : d.cache ≡ modes.wce) where
@@ -248,28 +248,28 @@ module _ (identity : Identity) (modes : Modes) (started : Bool) (attentions : Li
 
     -- a trim of these ranges, by whichever command
     trimmed_turn : (c : Command) (ranges : List Range) (ending : Ending) → (not started && (asks c).starts) ≡ false → wakes c ≡ true → read_pages c entry.body ≡ []
-        → ((s : Device) (reply : Reply) (new : Device) → EndsOnMedium (ranged_trim ranges) s (task_of (asking c)) reply new → EndsBy c s (task_of (asking c)) reply new) → HasFinished (trimming ranges d) 0 d ending d' → EndsSo c ending
+        → ((s : Device) (reply : Reply) (new : Device) → EndsOnMedium (ranged_trim ranges) s (task_of (asking c)) reply new → EndsBy c s (task_of (asking c)) reply new) → HasFinished (trimming_ranges ranges d) 0 d ending d' → EndsSo c ending
     trimmed_turn c ranges ending ready wake none how h = subst (EndsSo c) (sym h.told) (by h.finish h.is)
       where
-        pairs : (trimming ranges d).writes ≡ zeros_over ranges modes.wce
+        pairs : (trimming_ranges ranges d).writes ≡ zeros_over ranges modes.wce
         pairs = zeros_of_ranges d.cache ranges ∙ ap (zeros_over ranges) cache
 
-        by : (it : Finish) → FinishesAs (trimming ranges d) 0 it d d' → EndsSo c (medium.ending_of_finish it)
+        by : (it : Finish) → FinishesAs (trimming_ranges ranges d) 0 it d d' → EndsSo c (medium.ending_of_finish it)
         by finishes.Done x =
-            done_turn identity modes started attentions (asking c) others d d' ready wake (trimming ranges d) x none
-            (λ reply new e. how (with_it c) reply new (trim_done (with_it c) (task_of (asking c)) reply new ranges (trimming ranges d).writes pairs e))
+            done_turn identity modes started attentions (asking c) others d d' ready wake (trimming_ranges ranges d) x none
+            (λ reply new e. how (with_it c) reply new (trim_done (with_it c) (task_of (asking c)) reply new ranges (trimming_ranges ranges d).writes pairs e))
         by (finishes.Flawed at) x = absurd (no_flaw x.flaw)
           where
             no_flaw : first_flaw flaws.Write d.cells 0 0 ≡ Some at → ⊥
             no_flaw e = absurd cc
         by finishes.Garbled x =
-            torn_turn identity modes started attentions (asking c) others d d' ready wake (trimming ranges d) crc_error x.torn (ap (λ (y : DriveState). y.down) x.stays)
+            torn_turn identity modes started attentions (asking c) others d d' ready wake (trimming_ranges ranges d) crc_error x.torn (ap (λ (y : DriveState). y.down) x.stays)
             (λ reply new answer same. how (roused c) reply new (trim_garbled (roused c) (task_of (asking c)) reply new x.torn.torn ranges d'.glitches answer same (subst (λ ps. Part d.cells ps x.torn.torn) pairs x.torn.part) x.one))
 
-    pub zero_turn : (form : Form) (lba count : ℕ) (ending : Ending) → (not started && true) ≡ false → HasFinished (trimming (over lba count ∷ []) d) 0 d ending d' → EndsSo (cdbs.WriteSame form lba count true) ending
+    pub zero_turn : (form : Form) (lba count : ℕ) (ending : Ending) → (not started && true) ≡ false → HasFinished (trimming_ranges (over lba count ∷ []) d) 0 d ending d' → EndsSo (cdbs.WriteSame form lba count true) ending
     zero_turn form lba count ending ready h = trimmed_turn (cdbs.WriteSame form lba count true) (over lba count ∷ []) ending ready refl refl (λ s reply new e. e) h
 
-    pub unmap_turn : (size : ℕ) (ending : Ending) → (not started && true) ≡ false → HasFinished (trimming entry.ranges.items d) 0 d ending d' → EndsSo (cdbs.Unmap size) ending
+    pub unmap_turn : (size : ℕ) (ending : Ending) → (not started && true) ≡ false → HasFinished (trimming_ranges entry.ranges.items d) 0 d ending d' → EndsSo (cdbs.Unmap size) ending
     unmap_turn size ending ready h = trimmed_turn (cdbs.Unmap size) entry.ranges.items ending ready refl refl (λ s reply new e. e) h
 
 -- ---- a task that is kept

@@ -9,7 +9,7 @@ use Rattle.satl_base.proofs.Booleans.{not-not}
 use Rattle.satl_identify.specs.declared.identity.Identity.{Identity}
 use Rattle.satl_identify.specs.declared.identity.IdentityFault.{IdentityFault}
 use Rattle.satl_identify.specs.Data.{identity_data}
-use Rattle.satl_identify.specs.Refusals.{identity_of, rules}
+use Rattle.satl_identify.specs.Refusals.{identity_of, identity_rules}
 use Rattle.satl_identify.proofs.Judging.{Unbroken, capacity_bounds, unbroken}
 use Rattle.satl_unit.specs.declared.attention.Attention.{Attention}
 use Rattle.satl_drive.specs.State.{DriveState, IsFit}
@@ -40,7 +40,7 @@ off true has must none = let has_it = must refl in absurd cc
 off false has must none = refl
 
 -- the data of a drive that fits them are those of themselves, with its settings in them
-own : (old new : DriveState) → new ≡ record old { cells = new.cells } → IsFit old → Unbroken rules old.identify → TellsOf old.identify new
+own : (old new : DriveState) → new ≡ record old { cells = new.cells } → IsFit old → Unbroken identity_rules old.identify → TellsOf old.identify new
 own old new stays fit right =
     ap (λ (d : DriveState). d.identify) stays
     ∙ (own_data old.identify fit.size (all_bytes old.identify fit.bytes) (right_sum old.identify right.1.0)

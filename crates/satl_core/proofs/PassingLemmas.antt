@@ -36,14 +36,14 @@ use Rattle.satl_drive.specs.State.{DriveState, with_medium}
 use Rattle.satl_barrier.specs.Leaving.{TellsOf}
 use Rattle.satl_barrier.specs.Settings.{IsSetBy}
 use Rattle.satl_direct.specs.Device.{Device}
-use Rattle.satl_direct.specs.Ending.{EndsPassed, medium_of, pass_reply}
+use Rattle.satl_direct.specs.Ending.{EndsPassed, device_medium, pass_reply}
 use Rattle.satl_direct.specs.Tasks.{pass_of, task_of}
 use Rattle.satl_direct.proofs.Passing.{writes_none}
 use Rattle.satl_direct.proofs.Quieting.{quiet_none}
 use Rattle.satl_core.specs.declared.turning.Ending.{Ending}
 use Rattle.satl_core.specs.Medium.{PagesOnDrive, PassesThrough, pages_on, passed}
 use Rattle.satl_core.specs.Refilling.{EndsOne}
-use Rattle.satl_core.specs.Turning.{ended_reply, modes_after, set_by, where_done, with_setting}
+use Rattle.satl_core.specs.Turning.{ended_reply, modes_after, modes_with_setting, set_by, where_done}
 use Rattle.satl_core.proofs.DeviceLemmas.{ends_around, ends_by, first_gone, seen}
 
 -- the length of a command of the profile is its own
@@ -113,7 +113,7 @@ module _ (x : Traffic) (modes : Modes) (old new : Medium) (set : AreSet modes ol
       subst (λ (e : Taskfile). AreSet (bad_modes (is_bad e)) new) (sym does.ends)
       (subst (λ (m : Modes). AreSet m new) (sym is) (keeps modes old new true set (same_so old new _ does.medium refl refl)))
 
-  made : (s : Setting) → effects.IsSet s x old new → AreSet (with_setting (Some s) modes) new
+  made : (s : Setting) → effects.IsSet s x old new → AreSet (modes_with_setting (Some s) modes) new
   made (sets_cache true) does = record { cache = ap (λ (m : Medium). m.cache) does.medium; look = ap (λ (m : Medium). m.look) does.medium ∙ set.look }
   made (sets_cache false) does = record { cache = ap (λ (m : Medium). m.cache) does.medium; look = ap (λ (m : Medium). m.look) does.medium ∙ set.look }
   made (sets_look true) does = record { cache = ap (λ (m : Medium). m.cache) does.medium ∙ set.cache; look = ap (λ (m : Medium). m.look) does.medium }
@@ -121,13 +121,13 @@ module _ (x : Traffic) (modes : Modes) (old new : Medium) (set : AreSet modes ol
 
   -- SET FEATURES: a setting that the drive has, or it is refused
   features : (o : Option Setting) → MatchOption (settable old.identify o) (EndsBad abrt 0 x old new) (λ s. effects.IsSet s x old new)
-      → AreSet (if is_bad x.ended then modes else with_setting o modes) new
+      → AreSet (if is_bad x.ended then modes else modes_with_setting o modes) new
   features None does = refused_keeps does (λ b. if b then modes else modes) refl
   features (Some s) does = by (has_setting old.identify s) does
     where
-      by : (has : Bool) → MatchOption (if has then Some s else None) (EndsBad abrt 0 x old new) (λ s. effects.IsSet s x old new) → AreSet (if is_bad x.ended then modes else with_setting (Some s) modes) new
-      by true does = subst (λ (e : Taskfile). AreSet (if is_bad e then modes else with_setting (Some s) modes) new) (sym does.ends) (made s does)
-      by false does = refused_keeps does (λ b. if b then modes else with_setting (Some s) modes) refl
+      by : (has : Bool) → MatchOption (if has then Some s else None) (EndsBad abrt 0 x old new) (λ s. effects.IsSet s x old new) → AreSet (if is_bad x.ended then modes else modes_with_setting (Some s) modes) new
+      by true does = subst (λ (e : Taskfile). AreSet (if is_bad e then modes else modes_with_setting (Some s) modes) new) (sym does.ends) (made s does)
+      by false does = refused_keeps does (λ b. if b then modes else modes_with_setting (Some s) modes) refl
 
   -- what an ATA command leaves is set as the mode values behind it say
   pub set_after : (c : AtaCommand) → HasEffect c x old new → AreSet (modes_by c (is_bad x.ended) modes) new
@@ -152,7 +152,7 @@ same_form : (c : AtaCommand) (bad : Bool) (modes : Modes) → (modes_by c bad mo
 same_form c true modes = refl
 same_form (ata.SetFeatures what) false modes = by (setting_of what)
   where
-    by : (o : Option Setting) → (with_setting o modes).d_sense ≡ modes.d_sense
+    by : (o : Option Setting) → (modes_with_setting o modes).d_sense ≡ modes.d_sense
     by None = refl
     by (Some (sets_cache on)) = refl
     by (Some (sets_look on)) = refl
@@ -232,7 +232,7 @@ module _ (identity : Identity) (modes : Modes) (started : Bool) (attentions : Li
   abbrev before : Device
   before = seen identity modes started attentions (task_of task ∷ others) d
 
-  same_medium : IsSetBy modes d → TellsOf identity.bytes d → drive.medium_of d ≡ medium_of before
+  same_medium : IsSetBy modes d → TellsOf identity.bytes d → drive.medium_of d ≡ device_medium before
   same_medium set told =
       ap (λ i. record (drive.medium_of d) { identify = i }) told
       ∙ (ap (λ b. record { cells = d.cells; cache = b; look = d.look; active = d.active; glitches = d.glitches; identify = identity_data identity.bytes b d.look }) set.cache
@@ -246,15 +246,15 @@ module _ (identity : Identity) (modes : Modes) (started : Bool) (attentions : Li
 
   -- what it writes is what the device says that it writes
   pub pass_pairs : (pair : Pair) → IsSetBy modes d → TellsOf identity.bytes d → CanGoToDrive pass → length entry.body ≡ page_count pass.length → AreWhole entry.body → IsIn pair (pairs_of command (drive.medium_of d) entry.body)
-      → IsIn pair (pairs_of command (medium_of before) (task_of task).body)
+      → IsIn pair (pairs_of command (device_medium before) (task_of task).body)
   pass_pairs pair set told can count whole among = ⊎_elim (λ named. by named pass.out refl) (λ none. absurd (subst (IsIn pair) (none (drive.medium_of d) entry.body) among)) (named_or_none command)
     where
       named_or_none : (c : AtaCommand) → (is_other c ≡ false) ⊎ ((m : Medium) (given : List Block) → pairs_of c m given ≡ [])
       named_or_none (ata.Other code) = inr (λ m given. refl)
       named_or_none c = inl refl
 
-      by : is_other command ≡ false → (b : Bool) → pass.out ≡ b → IsIn pair (pairs_of command (medium_of before) (task_of task).body)
-      by named true out = subst (λ g. IsIn pair (pairs_of command (medium_of before) g)) (sym (out_is can named count whole out)) (subst (λ m. IsIn pair (pairs_of command m entry.body)) (same_medium set told) among)
+      by : is_other command ≡ false → (b : Bool) → pass.out ≡ b → IsIn pair (pairs_of command (device_medium before) (task_of task).body)
+      by named true out = subst (λ g. IsIn pair (pairs_of command (device_medium before) g)) (sym (out_is can named count whole out)) (subst (λ m. IsIn pair (pairs_of command m entry.body)) (same_medium set told) among)
       by named false out = absurd (subst (IsIn pair) (writes_none command pass can.own_length can.own_direction out (drive.medium_of d) entry.body) among)
 
   module _ (d' : DriveState) (ending : Ending) (taken : List Block) (set : IsSetBy modes d) (told : TellsOf identity.bytes d) (can : CanGoToDrive pass) (count : length entry.body ≡ page_count pass.length) (through : PassesThrough pass (pages_on entry.body d) ending (pages_on taken d')) where
@@ -270,18 +270,18 @@ module _ (identity : Identity) (modes : Modes) (started : Bool) (attentions : Li
     abbrev reply : Reply
     reply = ended_reply (record task { body = taken }) (passed pass through.ended) modes.d_sense
 
-    does : HasEffect command x (medium_of before) through.is.after
+    does : HasEffect command x (device_medium before) through.is.after
     does = subst (λ m. HasEffect command x m through.is.after) (same_medium set told) through.is.does
 
     left_is : left ≡ where_done (passed pass through.ended) (set_by command modes) modes
     left_is =
-        modes_of modes (modes_by command (is_bad through.ended) modes) through.is.after (set_after x modes (medium_of before) through.is.after (record { cache = refl; look = refl }) command does) (same_form command (is_bad through.ended) modes)
+        modes_of modes (modes_by command (is_bad through.ended) modes) through.is.after (set_after x modes (device_medium before) through.is.after (record { cache = refl; look = refl }) command does) (same_form command (is_bad through.ended) modes)
         ∙ sym (modes_behind pass through.ended command modes)
 
     goes : mid ≡ record before { cells = through.is.after.cells; tasks = Rattle.satl_direct.specs.Device.without (task_of task) before.tasks; modes = left; active = through.is.after.active; glitches = through.is.after.glitches }
     goes = first_gone identity left started attentions (task_of task) others (with_medium d through.is.after)
 
-    passes : (is_other command ≡ false) ⊎ ((other : List Block) → HasEffect command (record x { given = other; taken = other }) (medium_of before) through.is.after × (is_bad through.ended ≡ true)) → EndsPassed pass before (task_of task) reply mid
+    passes : (is_other command ≡ false) ⊎ ((other : List Block) → HasEffect command (record x { given = other; taken = other }) (device_medium before) through.is.after × (is_bad through.ended ≡ true)) → EndsPassed pass before (task_of task) reply mid
     passes (inl named) =
         let size = own_length pass named can in
         record {
@@ -317,7 +317,7 @@ module _ (identity : Identity) (modes : Modes) (started : Bool) (attentions : Li
         subst (λ e. EndsOne before (ended_reply (record task { body = taken }) e modes.d_sense) (seen identity (where_done e (set_by command modes) modes) started attentions others d')) (sym through.told)
         (subst (λ m. EndsOne before reply (seen identity m started attentions others d')) left_is
         (ends_around before before mid (seen identity left started attentions others d') (task_of task) others reply (quiet_none before) refl
-        (ends_by before (task_of task) reply mid set.up (and_right (not started) false refl) (passes (refused_all command x (medium_of before) through.is.after does)))
+        (ends_by before (task_of task) reply mid set.up (and_right (not started) false refl) (passes (refused_all command x (device_medium before) through.is.after does)))
         (record {
           cells = lose_once through.is.lost;
           active = inl (ap (λ (y : DriveState). y.active) through.is.stays);

@@ -90,7 +90,7 @@ switched_turn identity modes started false false attentions entry others d d' en
 -- the device after a MODE SELECT, whether all was written back or not
 selected_so : (settles : Bool) (modes wanted : Modes) (attentions : List (List Attention)) (identity : Identity) (started : Bool) (tasks : List Entry) (d : DriveState) (t : Entry) (reply : Reply) (new : Device)
     → IsTaskDone (record (seen identity modes started attentions tasks d) { cells = settled_if settles d.cells; modes = wanted; attentions = with_modes_changed modes wanted t.nexus attentions }) t reply new
-    → IsTaskDone (record (direct.settled_if settles (seen identity modes started attentions tasks d)) { modes = wanted; attentions = with_modes_changed modes wanted t.nexus attentions }) t reply new
+    → IsTaskDone (record (direct.device_settled_if settles (seen identity modes started attentions tasks d)) { modes = wanted; attentions = with_modes_changed modes wanted t.nexus attentions }) t reply new
 selected_so true modes wanted attentions identity started tasks d t reply new e = e
 selected_so false modes wanted attentions identity started tasks d t reply new e = e
 
@@ -185,7 +185,7 @@ task_turn identity modes started attentions entry left others d d' ending kept s
 -- the pairs of the first task may show
 lost_turn : (identity : Identity) (modes : Modes) (started : Bool) (attentions : List (List Attention)) (entry : Entry) (others : List Entry) (d d' : DriveState) (pairs : List Pair) (answers : List Reply) → IsSetBy modes d → TellsOf identity.bytes d
     → WritesAlone entry d pairs entry.command → (not started && (asks entry.command).starts) ≡ false → IsKeptEntry identity entry
-    → IsLostIn pairs d d' → answers ≡ turns.lost_replies (seen identity modes started attentions (task_of entry ∷ others) d) → Around Turn (seen identity modes started attentions (task_of entry ∷ others) d) answers (seen identity modes started attentions [] d')
+    → IsLostIn pairs d d' → answers ≡ turns.device_lost_replies (seen identity modes started attentions (task_of entry ∷ others) d) → Around Turn (seen identity modes started attentions (task_of entry ∷ others) d) answers (seen identity modes started attentions [] d')
 lost_turn identity modes started attentions entry others d d' pairs answers set told written ready kept x is =
     let s : Device = seen identity modes started attentions (task_of entry ∷ others) d in
     let new : Device = seen identity modes started attentions [] d' in

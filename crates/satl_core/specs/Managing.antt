@@ -28,8 +28,8 @@ abbrev pub complete : Scope → Option Posting → Effect
 complete goes posts = record { goes = goes; posts = posts; response = Complete }
 
 -- nothing but a response (SAM-5 7)
-abbrev pub only : Response → Effect
-only response = record { goes = scopes.Nothing; posts = None; response = response }
+abbrev pub response_alone : Response → Effect
+response_alone response = record { goes = scopes.Nothing; posts = None; response = response }
 
 -- the effect of a function that was asked for by a nexus with a tag (SAM-5 7.2 to 7.9)
 abbrev pub effect_of : Function → Manage → List Held → Effect
@@ -38,18 +38,18 @@ effect_of AbortTaskSet m tasks = complete (scopes.OfNexus m.nexus) None
 effect_of ClearTaskSet m tasks = complete scopes.All (Some (postings.ClearedBy m.nexus))
 effect_of UnitReset m tasks = complete scopes.All (Some postings.UnitReset)
 effect_of NexusReset m tasks = complete (scopes.OfNexus m.nexus) (Some (postings.NexusLoss m.nexus))
-effect_of QueryTask m tasks = only (found (list_any (is_within (scopes.OneTask m.nexus m.tag)) (entries_of tasks)))
-effect_of QueryTaskSet m tasks = only (found (list_any (is_within (scopes.OfNexus m.nexus)) (entries_of tasks)))
+effect_of QueryTask m tasks = response_alone (found (list_any (is_within (scopes.OneTask m.nexus m.tag)) (entries_of tasks)))
+effect_of QueryTaskSet m tasks = response_alone (found (list_any (is_within (scopes.OfNexus m.nexus)) (entries_of tasks)))
 
 -- the effect of a function, and that of a code without one (profile)
 abbrev pub effect_or_none : Option Function → Manage → List Held → Effect
-effect_or_none None m tasks = only Rejected
+effect_or_none None m tasks = response_alone Rejected
 effect_or_none (Some function) m tasks = effect_of function m tasks
 
 -- another logical unit is judged first, then the function (profile)
 abbrev pub effect : Manage → List Held → Effect
 effect m tasks =
-    if has_unit (function_of m.function) && not (is_unit_0 m.lun) then only IncorrectLun
+    if has_unit (function_of m.function) && not (is_unit_0 m.lun) then response_alone IncorrectLun
     else effect_or_none (function_of m.function) m tasks
 
 -- ---- what it posts

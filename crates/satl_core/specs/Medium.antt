@@ -23,7 +23,7 @@ use Rattle.satl_barrier.specs.declared.finishing.Finish.{Finish}
 use Rattle.satl_barrier.specs.declared.finishing.Finish.TheVariants as finishes
 use Rattle.satl_barrier.specs.declared.comparing.Comparison.{Comparison}
 use Rattle.satl_barrier.specs.declared.comparing.Comparison.TheVariants as comparisons
-use Rattle.satl_barrier.specs.Finishing.{ComparesAs, FinishesAs, IsVerified, trimming, writing_same}
+use Rattle.satl_barrier.specs.Finishing.{ComparesAs, FinishesAs, IsVerified, trimming_ranges, writing_same}
 use Rattle.satl_direct.specs.Senses.{crc_error, miscompare, read_error, write_error}
 use Rattle.satl_direct.specs.Tasks.{pass_of}
 use Rattle.satl_core.specs.Layer.{FitsCapacity}
@@ -130,7 +130,7 @@ HasWhole _ t = Unit {0}
 -- what a command that runs alone writes (SBC-3, UNMAP and WRITE SAME commands; SAT-3 12.2)
 abbrev pub written_alone : Alone → Entry → DriveState → List Pair
 written_alone (alones.WriteSame range) t d = (writing_same range (get_or t.body 0 no_block) d).writes
-written_alone (alones.TrimRange range) t d = (trimming (range ∷ []) d).writes
-written_alone alones.TrimList t d = (trimming t.ranges.items d).writes
+written_alone (alones.TrimRange range) t d = (trimming_ranges (range ∷ []) d).writes
+written_alone alones.TrimList t d = (trimming_ranges t.ranges.items d).writes
 written_alone (alones.Through cdb) t d = pairs_of (command_in (pass_of cdb).regs) (medium_of d) t.body
 written_alone _ t d = []

@@ -90,21 +90,21 @@ answer_to l body (commands.ReportLuns select alloc) = Err (at_once.Tell (datas.L
 answer_to l body command = unless_idle l body command
 
 -- refused with this, if there is something, and else what follows (SPC-4 4.5.6)
-abbrev pub unless_refused : Option Illegal → Result Command AtOnce → Result Command AtOnce
-unless_refused None next = next
-unless_refused (Some why) next = Err (at_once.Check (refusal why))
+abbrev pub unless_illegal : Option Illegal → Result Command AtOnce → Result Command AtOnce
+unless_illegal None next = next
+unless_illegal (Some why) next = Err (at_once.Check (refusal why))
 
 -- why a command whose fields and range are good is answered at once, but for a full task set (profile)
 abbrev pub data_answer : Layer → Request → Command → Result Command AtOnce
 data_answer l r command =
-    unless_refused (asks command).length_fault
+    unless_illegal (asks command).length_fault
     (if nat_lt r.data_len (needed command) then Err (at_once.Check short_data)
-    else unless_refused ((asks command).data_fault l.identity l.modes r.body) (answer_to l r.body command))
+    else unless_illegal ((asks command).data_fault l.identity l.modes r.body) (answer_to l r.body command))
 
 -- the fields, the range, and then the data-out (profile)
 abbrev pub command_answer : Layer → Request → Command → Result Command AtOnce
 command_answer l r command =
-    unless_refused (asks command).fields_fault
+    unless_illegal (asks command).fields_fault
     (if nat_lt l.identity.capacity ((range_of command).lba + (range_of command).count) then Err (at_once.Check out_of_range)
     else data_answer l r command)
 

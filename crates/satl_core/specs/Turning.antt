@@ -29,7 +29,7 @@ use Rattle.satl_direct.specs.Tasks.{asks, pass_of}
 use Rattle.satl_pass.specs.Status.{error_sense_at}
 use Rattle.satl_direct.specs.Senses.{link_lost, not_ready}
 use Rattle.satl_drive.specs.State.{DriveState}
-use Rattle.satl_barrier.specs.Finishing.{most_pieces, trimming, writing_same}
+use Rattle.satl_barrier.specs.Finishing.{most_pieces, trimming_ranges, writing_same}
 use Rattle.satl_barrier.specs.Leaving.{IsLostIn}
 use Rattle.satl_barrier.specs.Settings.{IsTuned}
 use Rattle.satl_barrier.specs.Flushing.{IsLeftWith, IsSwitched}
@@ -145,9 +145,9 @@ CarriedOut wanted (alones.WriteSame range) ending old new =
     HasFinished (writing_same range (get_or old.task.body 0 no_block) old.drive) (min piece range.count) old.drive ending
     new.drive
 CarriedOut wanted (alones.TrimRange range) ending old new =
-    HasFinished (trimming (range ∷ []) old.drive) 0 old.drive ending new.drive
+    HasFinished (trimming_ranges (range ∷ []) old.drive) 0 old.drive ending new.drive
 CarriedOut wanted alones.TrimList ending old new =
-    HasFinished (trimming old.task.ranges.items old.drive) 0 old.drive ending new.drive
+    HasFinished (trimming_ranges old.task.ranges.items old.drive) 0 old.drive ending new.drive
 CarriedOut wanted (alones.Through cdb) ending old new =
     PassesThrough (pass_of cdb) (pages_on old.task.body old.drive) ending (pages_on new.task.body new.drive)
 
@@ -188,14 +188,14 @@ abbrev pub wanted_by : Modes → Option ModeChange → Modes
 wanted_by modes change = applied modes (unwrap_or change no_change)
 
 -- the mode values with what a SET FEATURES sets (ACS-3, SET FEATURES; SAT-3)
-abbrev pub with_setting : Option Setting → Modes → Modes
-with_setting None modes = modes
-with_setting (Some (sets_cache on)) modes = record modes { wce = on }
-with_setting (Some (sets_look on)) modes = record modes { dra = not on }
+abbrev pub modes_with_setting : Option Setting → Modes → Modes
+modes_with_setting None modes = modes
+modes_with_setting (Some (sets_cache on)) modes = record modes { wce = on }
+modes_with_setting (Some (sets_look on)) modes = record modes { dra = not on }
 
 -- the mode values that an ATA command of a host sets: a SET FEATURES that is done sets the drive (SAT-3 12.2)
 abbrev pub set_by : AtaCommand → Modes → Modes
-set_by (ata.SetFeatures what) modes = with_setting (setting_of what) modes
+set_by (ata.SetFeatures what) modes = modes_with_setting (setting_of what) modes
 set_by _ modes = modes
 
 -- the mode values once a command has ended that runs alone (SPC-4, MODE SELECT commands; SAT-3 12.2)

@@ -2,7 +2,7 @@
 ghost use Rattle.std.specs.Prelude.{◌≡◌, Some};
 ghost use Rattle.satl_unit.specs.Conditions.{posted};
 ghost use Rattle.satl_direct.specs.Management.{found, has_unit};
-ghost use Rattle.satl_core.specs.Managing.{condition_of, effect, effect_of, is_told, once_posted, only, with_posted};
+ghost use Rattle.satl_core.specs.Managing.{condition_of, effect, effect_of, is_told, once_posted, response_alone, with_posted};
 
 use crate::leaving::{Scope, has_any};
 use satl_asks::is_unit_0;
@@ -41,11 +41,11 @@ pub fn decide(manage: &Manage, queue: &Queue) -> Effect
 {
     let function = Function::of(manage.function);
     if has_unit(function) && !is_unit_0(&manage.lun) {
-        return only(Response::IncorrectLun);
+        return response_alone(Response::IncorrectLun);
     }
     match function {
         Some(function) => effect_of(function, manage, queue),
-        None => only(Response::Rejected),
+        None => response_alone(Response::Rejected),
     }
 }
 
@@ -59,8 +59,8 @@ fn effect_of(function: Function, manage: &Manage, queue: &Queue) -> Effect
         Function::ClearTaskSet => complete(Scope::All, Some(Posting::ClearedBy(nexus))),
         Function::UnitReset => complete(Scope::All, Some(Posting::UnitReset)),
         Function::NexusReset => complete(Scope::OfNexus(nexus), Some(Posting::NexusLoss(nexus))),
-        Function::QueryTask => only(found(has_any(queue, &Scope::OneTask(nexus, tag)))),
-        Function::QueryTaskSet => only(found(has_any(queue, &Scope::OfNexus(nexus)))),
+        Function::QueryTask => response_alone(found(has_any(queue, &Scope::OneTask(nexus, tag)))),
+        Function::QueryTaskSet => response_alone(found(has_any(queue, &Scope::OfNexus(nexus)))),
     }
 }
 
@@ -75,8 +75,8 @@ fn complete(goes: Scope, posts: Option<Posting>) -> Effect
 }
 
 /// Nothing but a response.
-fn only(response: Response) -> Effect
-    ensures { result ≡ only response }
+fn response_alone(response: Response) -> Effect
+    ensures { result ≡ response_alone response }
 {
     Effect {
         goes: Scope::Nothing,

@@ -2,7 +2,7 @@
 ghost use Rattle.std.specs.Prelude.{◌≡◌, ◌≤◌, ◌+◌, ◌∷◌, [], IfOk, OnErr, false, if◌then◌else◌, length, min, get_or, slice_index_or};
 ghost use Rattle.satl_base.specs.Blocks.{no_block};
 ghost use Rattle.satl_base.specs.Limits.{most_moved, piece};
-ghost use Rattle.satl_barrier.specs.Finishing.{IsReached, trimming, verifying, writing_same};
+ghost use Rattle.satl_barrier.specs.Finishing.{IsReached, trimming_ranges, verifying_range, writing_same};
 ghost use Rattle.satl_barrier.specs.Leaving.{IsFree, IsLostIn, Stays};
 ghost use Rattle.satl_direct.specs.Senses;
 ghost use Rattle.satl_core.specs.Medium as medium;
@@ -105,9 +105,9 @@ pub fn trim_ranges<D: Drive, L: Ledger>(
     requires free { IsFree (D.state drive.old) }
     requires takes { TakesTrim ranges.now (D.state drive.old) }
     requires room { piece ≤ pool.old.free }
-    ensures ends { IfOk result (λ ending. HasFinished (trimming ranges.now (D.state drive.old)) 0 (D.state drive.old) ending
-        (D.state drive.new)) }
-    ensures lost { OnErr result (IsLostIn (trimming ranges.now (D.state drive.old)).writes (D.state drive.old)
+    ensures ends { IfOk result (λ ending. HasFinished (trimming_ranges ranges.now (D.state drive.old)) 0 (D.state drive.old)
+        ending (D.state drive.new)) }
+    ensures lost { OnErr result (IsLostIn (trimming_ranges ranges.now (D.state drive.old)).writes (D.state drive.old)
         (D.state drive.new)) }
     ensures stays { Stays (D.state drive.old) (D.state drive.new) }
     ensures pool { pool.new ≡ pool.old }

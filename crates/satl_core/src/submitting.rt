@@ -7,7 +7,7 @@ ghost use Rattle.satl_regs.specs.Trim.{IsTrimList, trim_block};
 ghost use Rattle.satl_direct.specs.Arrival.{reply_to};
 ghost use Rattle.satl_identify.specs.Refusals.{IsIdentity};
 ghost use Rattle.satl_mode.specs.SelectList.{select_fault};
-ghost use Rattle.satl_direct.specs.Tasks.{asks, data_out, held_blocks, needed};
+ghost use Rattle.satl_direct.specs.Tasks.{asks, data_out_kept, held_blocks, needed};
 ghost use Rattle.satl_core.specs.Layer.{entry_pages, reply_pages};
 ghost use Rattle.satl_base.specs.Limits.{IsExpectable};
 ghost use Rattle.satl_asks.specs.Commands.{CanPass, HasList, IsList};
@@ -322,7 +322,7 @@ pub fn own_pages(pool: &mut Pool, command: &Command, identity: &Identity, body: 
     requires identity { IsIdentity identity.now }
     requires trim { trims command.now ≡ true → identity.now.trim ≡ true }
     ensures size { length result ≡ held_blocks command.now + entry_pages command.now identity.now.queued_trim }
-    ensures data { data_out command.now result ≡ data_out command.now (take (held_blocks command.now) body) }
+    ensures data { data_out_kept command.now result ≡ data_out_kept command.now (take (held_blocks command.now) body) }
     ensures entries { HasEntries command.now identity.now.queued_trim body result }
     ensures free { pool.new.free + length result ≡ pool.old.free + length body }
     ensures out { pool.new.out + length body ≡ pool.old.out + length result }

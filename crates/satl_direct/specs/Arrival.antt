@@ -77,8 +77,8 @@ pub data Arrival : Type 0 where
   waits : Entry → Arrival
 
 -- TEST UNIT READY, and commands that go over no block or have an empty list (SPC-4 6.47; profile)
-abbrev pub readiness : Device → Request → Reply
-readiness s r =
+abbrev pub ready_reply : Device → Request → Reply
+ready_reply s r =
     if s.down then check s r link_lost
     else if not s.started then check s r not_ready
     else reply_to r Good []
@@ -90,7 +90,7 @@ placed s r command =
 
 -- a command that makes a task, unless it has nothing to do (profile)
 abbrev pub placed_unless : Bool → Device → Request → Command → Arrival
-placed_unless idle s r command = if idle then answered (readiness s r) else placed s r command
+placed_unless idle s r command = if idle then answered (ready_reply s r) else placed s r command
 
 -- REQUEST SENSE: the first condition of the nexus as data, which is told by that, or NO SENSE (SPC-4 6.39)
 abbrev pub sense_told : Option Attention → Request → Bool → ℕ → Arrival
@@ -114,7 +114,7 @@ sense_asked ten long_lba no_descriptor control page = record {
 
 -- a command whose fields and data-out are good: answered from what the device says of itself, or a task (SPC-4 6, SBC-3 5)
 abbrev pub becomes : Device → Request → Command → Arrival
-becomes s r commands.TestUnitReady = answered (readiness s r)
+becomes s r commands.TestUnitReady = answered (ready_reply s r)
 becomes s r (commands.RequestSense descriptor alloc) = sense_told (slice_get (attentions_of r.nexus s) 0) r descriptor alloc
 becomes s r (commands.Inquiry page alloc) = answered (good_with_data r alloc (inquiry_text s page))
 becomes s r (commands.ModeSense ten long_lba no_descriptor control page alloc) =

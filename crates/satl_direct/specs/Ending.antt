@@ -141,13 +141,13 @@ abbrev pub settled : Device → Device
 settled s = record s { cells = map settle s.cells }
 
 -- the same where this holds (SBC-3, SYNCHRONIZE CACHE)
-abbrev pub settled_if : Bool → Device → Device
-settled_if settles s = if settles then settled s else s
+abbrev pub device_settled_if : Bool → Device → Device
+device_settled_if settles s = if settles then settled s else s
 
 -- START STOP UNIT: stopped and in standby, with all written back unless NO_FLUSH; or started and active (SBC-3, START STOP
 -- UNIT; SAT-3)
 abbrev pub after_start_stop : Bool → Bool → Device → Device
-after_start_stop false no_flush s = record (settled_if (not no_flush) s) { active = false; started = false }
+after_start_stop false no_flush s = record (device_settled_if (not no_flush) s) { active = false; started = false }
 after_start_stop true no_flush s = record s { active = true; started = true }
 
 -- the mode values after a MODE SELECT (SPC-4, MODE SELECT commands)
@@ -158,14 +158,14 @@ selected s t = applied s.modes (unwrap_or t.modes no_change)
 -- MODE SELECT commands; SBC-3 6.4.5)
 abbrev pub after_select : Device → Entry → Device
 after_select s t =
-    record (settled_if (s.modes.wce && not (selected s t).wce) s) {
+    record (device_settled_if (s.modes.wce && not (selected s t).wce) s) {
       modes = selected s t;
       attentions = with_modes_changed s.modes (selected s t) t.nexus s.attentions;
     }
 
 -- what ATA commands see of the device (ACS-3; SAT-3)
-abbrev pub medium_of : Device → Medium
-medium_of s = record {
+abbrev pub device_medium : Device → Medium
+device_medium s = record {
   cells = s.cells;
   cache = s.modes.wce;
   look = not s.modes.dra;
@@ -209,7 +209,7 @@ pub record EndsPassed (pass : Pass) (s : Device) (t : Entry) (reply : Reply) (ne
   pub ended : Taskfile
   pub taken : List Block
   pub after : Medium
-  pub does : Ata (record { registers = pass.regs; given = given; ended = ended; taken = taken }) (medium_of s) after
+  pub does : Ata (record { registers = pass.regs; given = given; ended = ended; taken = taken }) (device_medium s) after
   pub answer : reply ≡ pass_reply s t pass ended taken
   pub stays : new ≡ record s {
     cells = after.cells;

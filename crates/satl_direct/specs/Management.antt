@@ -48,8 +48,8 @@ effect_of QueryTaskSet m s =
     record { goes = λ t. false; attentions = s.attentions; response = found (list_any (is_of m.nexus) s.tasks) }
 
 -- nothing happens but this response (profile)
-abbrev pub only : Response → Device → Effect
-only response s = record { goes = λ t. false; attentions = s.attentions; response = response }
+abbrev pub nothing_but : Response → Device → Effect
+nothing_but response s = record { goes = λ t. false; attentions = s.attentions; response = response }
 
 -- whether the LUN of a function is judged: not of I_T NEXUS RESET, which names none; of unknown codes too (SAM-5 7.6; profile)
 abbrev pub has_unit : Option Function → Bool
@@ -58,13 +58,13 @@ has_unit _ = true
 
 -- the effect of a function, and that of a code without one (SAM-5 7; profile)
 abbrev pub effect_or_none : Option Function → Manage → Device → Effect
-effect_or_none None m s = only Rejected s
+effect_or_none None m s = nothing_but Rejected s
 effect_or_none (Some function) m s = effect_of function m s
 
 -- another logical unit is judged first, then the function (profile)
 abbrev pub effect : Manage → Device → Effect
 effect m s =
-    if has_unit (function_of m.function) && not (is_unit_0 m.lun) then only IncorrectLun s
+    if has_unit (function_of m.function) && not (is_unit_0 m.lun) then nothing_but IncorrectLun s
     else effect_or_none (function_of m.function) m s
 
 -- a task management function is carried out: the tasks that go have no answer (SAM-5 7)

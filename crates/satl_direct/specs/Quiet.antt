@@ -12,7 +12,7 @@ use Rattle.satl_line.specs.Eligible.{IsEligible}
 use Rattle.satl_line.specs.Ranged.{written_pairs}
 use Rattle.satl_line.specs.Ranged.RangedTask.{ranged_write, ranged_trim}
 use Rattle.satl_direct.specs.Device.{Device}
-use Rattle.satl_direct.specs.Ending.{medium_of, same_pairs}
+use Rattle.satl_direct.specs.Ending.{device_medium, same_pairs}
 use Rattle.satl_direct.specs.Tasks.{over, pass_of}
 
 -- what a command of a task writes, through the cache where WCE is on and FUA is 0 (SBC-3 5, 6.4.5; SAT-3 12.2)
@@ -21,7 +21,7 @@ written_by (commands.Write form lba count fua) s t = written_pairs s.modes.wce (
 written_by (commands.WriteSame form lba count false) s t = same_pairs lba count t.body s.modes.wce
 written_by (commands.WriteSame form lba count true) s t = written_pairs s.modes.wce (ranged_trim (over lba count ∷ []))
 written_by (commands.Unmap size) s t = written_pairs s.modes.wce (ranged_trim t.ranges.items)
-written_by (commands.Pass cdb) s t = pairs_of (command_in (pass_of cdb).regs) (medium_of s) t.body
+written_by (commands.Pass cdb) s t = pairs_of (command_in (pass_of cdb).regs) (device_medium s) t.body
 written_by _ s t = []
 
 -- what a task writes (SBC-3 5)

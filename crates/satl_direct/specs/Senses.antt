@@ -15,8 +15,8 @@ abbrev pub plain : ℕ → ℕ → ℕ → Sense
 plain key asc ascq = record { key = key; asc = asc; ascq = ascq; extra = extras.None }
 
 -- sense data of a key and codes, with an address (SPC-4 4.5, INFORMATION)
-abbrev pub at : ℕ → ℕ → ℕ → ℕ → Sense
-at key asc ascq lba = record { key = key; asc = asc; ascq = ascq; extra = extras.Information lba }
+abbrev pub at_address : ℕ → ℕ → ℕ → ℕ → Sense
+at_address key asc ascq lba = record { key = key; asc = asc; ascq = ascq; extra = extras.Information lba }
 
 -- LOGICAL UNIT NOT READY, INITIALIZING COMMAND REQUIRED (SPC-4 4.5.6)
 abbrev pub not_ready : Sense
@@ -24,11 +24,11 @@ not_ready = plain 0x2 0x04 0x02
 
 -- UNRECOVERED READ ERROR (SPC-4 4.5.6)
 abbrev pub read_error : ℕ → Sense
-read_error lba = at 0x3 0x11 0x00 lba
+read_error lba = at_address 0x3 0x11 0x00 lba
 
 -- WRITE ERROR - AUTO REALLOCATION FAILED (SPC-4 4.5.6)
 abbrev pub write_error : ℕ → Sense
-write_error lba = at 0x3 0x0C 0x02 lba
+write_error lba = at_address 0x3 0x0C 0x02 lba
 
 -- NO SENSE: REQUEST SENSE where nothing is to be told (SPC-4 4.5.6)
 abbrev pub no_sense : Sense

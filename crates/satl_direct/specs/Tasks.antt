@@ -152,8 +152,8 @@ abbrev pub held_blocks : Command → ℕ
 held_blocks command = (asks command).held
 
 -- the data-out of a command in the pages that it holds (SBC-3 5)
-abbrev pub data_out : Command → List Block → List Block
-data_out command body = (asks command).kept body
+abbrev pub data_out_kept : Command → List Block → List Block
+data_out_kept command body = (asks command).kept body
 
 -- the blocks held by tasks (profile)
 abbrev pub held_by : List Entry → ℕ
@@ -179,7 +179,7 @@ task_for queued_trim r command = record {
   ordered = is_ordered r.attr;
   blocks = held_blocks command;
   command = command;
-  body = data_out command (take (held_blocks command) r.body);
+  body = data_out_kept command (take (held_blocks command) r.body);
   ranges = record { items = (asks command).ranges r.body };
   modes = (asks command).change r.body;
   expected = r.expected;
@@ -187,4 +187,4 @@ task_for queued_trim r command = record {
 
 -- a task as the device sees it: with its data-out alone in its pages (SAM-5 4.8)
 abbrev pub task_of : Entry → Entry
-task_of entry = record entry { body = data_out entry.command entry.body }
+task_of entry = record entry { body = data_out_kept entry.command entry.body }

@@ -9,24 +9,24 @@ use Rattle.satl_direct.specs.Quiet.{Quiet}
 use Rattle.satl_direct.specs.Senses.{link_lost}
 
 -- each task in order of arrival is answered that the link is lost (profile)
-abbrev pub lost_replies : Device → List Reply
-lost_replies s = map (λ t. task_check s t link_lost) s.tasks
+abbrev pub device_lost_replies : Device → List Reply
+device_lost_replies s = map (λ t. task_check s t link_lost) s.tasks
 
 -- the link is lost, or lost again: all tasks are answered, and none is left (profile)
 pub record IsLost (old : Device) (answers : List Reply) (new : Device) : Type 0 where
-  pub answer : answers ≡ lost_replies old
+  pub answer : answers ≡ device_lost_replies old
   pub stays : new ≡ record old { tasks = []; down = true }
 
 -- the link is lost at a device that was up (profile)
 pub record Loss (old : Device) (answers : List Reply) (new : Device) : Type 0 where
   pub was_up : old.down ≡ false
-  pub answer : answers ≡ lost_replies old
+  pub answer : answers ≡ device_lost_replies old
   pub stays : new ≡ record old { tasks = []; down = true }
 
 -- in a turn a glitch may go with the link, and the drive may be active or not (profile)
 pub record TurnLoss (old : Device) (answers : List Reply) (new : Device) : Type 0 where
   pub was_up : old.down ≡ false
-  pub answer : answers ≡ lost_replies old
+  pub answer : answers ≡ device_lost_replies old
   pub glitches : (new.glitches ≡ old.glitches) ⊎ (new.glitches + 1 ≡ old.glitches)
   pub stays : new ≡ record old { tasks = []; down = true; glitches = new.glitches; active = new.active }
 

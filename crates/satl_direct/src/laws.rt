@@ -19,7 +19,7 @@ ghost use Rattle.satl_unit.specs.declared.attention.Attention.{Attention};
 ghost use Rattle.satl_unit.specs.declared.attention.Attention.TheVariants.{PowerOn};
 ghost use Rattle.satl_unit.specs.declared.function.Function.TheVariants as functions;
 ghost use Rattle.satl_unit.specs.Functions.{function_of};
-ghost use Rattle.satl_direct.specs.Arrival.{Arrives, attention_for, becomes, check, code_arrival, is_unit_0, operation_code, placed, readiness, reply_to};
+ghost use Rattle.satl_direct.specs.Arrival.{Arrives, attention_for, becomes, check, code_arrival, is_unit_0, operation_code, placed, ready_reply, reply_to};
 ghost use Rattle.satl_direct.specs.Arrival.Arrival.{answered, waits};
 ghost use Rattle.satl_direct.specs.Bench.{Happens};
 ghost use Rattle.satl_direct.specs.Device.{Device, attentions_of, is_called, of_others};
@@ -73,9 +73,9 @@ pub fn three_commands_come_before_a_unit_attention()
 /// profile).
 pub fn a_transfer_of_no_block_makes_no_task()
     ensures read { (s : Device) (r : Request) (form : Form) (lba : ℕ) (fua : Bool) →
-        becomes s r (commands.Read form lba 0 fua) ≡ answered (readiness s r) }
+        becomes s r (commands.Read form lba 0 fua) ≡ answered (ready_reply s r) }
     ensures write { (s : Device) (r : Request) (form : Form) (lba : ℕ) (fua : Bool) →
-        becomes s r (commands.Write form lba 0 fua) ≡ answered (readiness s r) }
+        becomes s r (commands.Write form lba 0 fua) ≡ answered (ready_reply s r) }
 {}
 
 /// Law of lost links: at an unplug each task is answered with LOGICAL UNIT COMMUNICATION FAILURE, in order of arrival, and none

@@ -8,7 +8,7 @@ use Rattle.satl_base.specs.Lists.{is_in}
 use Rattle.satl_identify.specs.Data.{settings_byte, with_integrity, with_settings}
 use Rattle.satl_drive.specs.State.{IsFit}
 use Rattle.satl_disk.specs.Bench.{MayReword, with_word}
-use Rattle.satl_disk.specs.Data.{at, integrity_kept, set_word}
+use Rattle.satl_disk.specs.Data.{integrity_kept, set_word, word_is}
 use Rattle.satl_disk.specs.Disk.{Disk, TellsSettings, state_of}
 use Rattle.satl_disk.proofs.BytesLemmas.{IsByte, all_set, set_word_bytes, integrity_bytes}
 use Rattle.satl_disk.proofs.IdentifyLemmas.{set_word-length, word-set_word, word-with_integrity}
@@ -16,16 +16,16 @@ use Rattle.satl_disk.proofs.SettingsLemmas.{byte_small, reworded_told}
 
 -- ---- words that are not changed
 
-word-set_word_other : (place value i : ℕ) (d : List ℕ) → length d ≡ 512 → place < 256 → (i ≡ place → ⊥) → word i (set_word (at place value) d) ≡ word i d
+word-set_word_other : (place value i : ℕ) (d : List ℕ) → length d ≡ 512 → place < 256 → (i ≡ place → ⊥) → word i (set_word (word_is place value) d) ≡ word i d
 word-set_word_other place value i d long small other =
-    word-set_word (at place value) d i long small ∙ ap (λ b. if b then value else word i d) (eqb-differs (i == place) refl)
+    word-set_word (word_is place value) d i long small ∙ ap (λ b. if b then value else word i d) (eqb-differs (i == place) refl)
   where
     eqb-differs : (b : Bool) → (i == place) ≡ b → (i == place) ≡ false
     eqb-differs true e = absurd (other (eqb-true i place e))
     eqb-differs false e = e
 
-word-set_word_same : (place value : ℕ) (d : List ℕ) → length d ≡ 512 → place < 256 → word place (set_word (at place value) d) ≡ value
-word-set_word_same place value d long small = word-set_word (at place value) d place long small ∙ ap (λ b. if b then value else word place d) (eq-eqb place place refl)
+word-set_word_same : (place value : ℕ) (d : List ℕ) → length d ≡ 512 → place < 256 → word place (set_word (word_is place value) d) ≡ value
+word-set_word_same place value d long small = word-set_word (word_is place value) d place long small ∙ ap (λ b. if b then value else word place d) (eq-eqb place place refl)
 
 word-settings : (d : List ℕ) (c l : Bool) (i : ℕ) → (i ≡ 85 → ⊥) → word i (with_settings d c l) ≡ word i d
 word-settings d c l i other =
@@ -53,7 +53,7 @@ not_in place x xs none =
 
 module _ (place value : ℕ) (d : Disk) (small : place < 256) (wide : value < 2 ^ 16) (told : TellsSettings d.cache d.look d.identify) (may : MayReword place value d) (f : IsFit (state_of d)) where
   abbrev set_so : List ℕ
-  set_so = set_word (at place value) d.identify
+  set_so = set_word (word_is place value) d.identify
 
   abbrev cache_on : Bool
   cache_on = d.cache && has_cache set_so
@@ -68,7 +68,7 @@ module _ (place value : ℕ) (d : Disk) (small : place < 256) (wide : value < 2 
   others i other not_85 low = word-kept place i (with_settings set_so cache_on look_on) low ∙ (word-settings set_so cache_on look_on i not_85 ∙ word-set_word_other place value i d.identify told.size small other)
 
   told_now : TellsSettings cache_on look_on new
-  told_now = reworded_told place d.cache d.look set_so (set_word-length (at place value) d.identify ∙ told.size)
+  told_now = reworded_told place d.cache d.look set_so (set_word-length (word_is place value) d.identify ∙ told.size)
 
   queued_by : (b : Bool) → (place == 77) ≡ b → word_bit 77 6 new ≡ true → has_trim d.identify ≡ true
   queued_by true is set =
@@ -99,5 +99,5 @@ module _ (place value : ℕ) (d : Disk) (small : place < 256) (wide : value < 2 
         trim = λ has. let same = others 105 j.0 (λ e. omega (arith, e)) (omega arith) in omega (arith, same, f.trim (sym trims ∙ has));
         queued_trim = λ set. trims ∙ queued_by (place == 77) refl set;
         size = told_now.size;
-        bytes = kept_bytes place (with_settings set_so cache_on look_on) (all_set set_so 170 (settings_byte (slice_index set_so 170) cache_on look_on) (byte_small (slice_index set_so 170) cache_on look_on) (set_word_bytes (at place value) d.identify wide f.bytes));
+        bytes = kept_bytes place (with_settings set_so cache_on look_on) (all_set set_so 170 (settings_byte (slice_index set_so 170) cache_on look_on) (byte_small (slice_index set_so 170) cache_on look_on) (set_word_bytes (word_is place value) d.identify wide f.bytes));
       }

@@ -16,28 +16,31 @@ abbrev pub set_words : List Word → List ℕ → List ℕ
 set_words [] d = d
 set_words (w ∷ ws) d = set_words ws (set_word w d)
 
-abbrev pub at : ℕ → ℕ → Word
-at place value = (place, value)
+abbrev pub word_is : ℕ → ℕ → Word
+word_is place value = (place, value)
 
 -- the words that are not 0 and do not depend on the number of sectors; words 10 to 19 are the serial number
 -- SATL0000000000000001, 23 to 26 the firmware revision FW010203, 27 to 46 the model number MODEL NCQ DISK and spaces
 abbrev pub fixed_words : List Word
 fixed_words =
-    at 0 0x0040
-    ∷ at 10 0x5341 ∷ at 11 0x544C ∷ at 12 0x3030 ∷ at 13 0x3030 ∷ at 14 0x3030 ∷ at 15 0x3030 ∷ at 16 0x3030 ∷ at 17 0x3030
-    ∷ at 18 0x3030 ∷ at 19 0x3031
-    ∷ at 23 0x4657 ∷ at 24 0x3031 ∷ at 25 0x3032 ∷ at 26 0x3033
-    ∷ at 27 0x4D4F ∷ at 28 0x4445 ∷ at 29 0x4C20 ∷ at 30 0x4E43 ∷ at 31 0x5120 ∷ at 32 0x4449 ∷ at 33 0x534B ∷ at 34 0x2020
-    ∷ at 35 0x2020 ∷ at 36 0x2020 ∷ at 37 0x2020 ∷ at 38 0x2020 ∷ at 39 0x2020 ∷ at 40 0x2020 ∷ at 41 0x2020 ∷ at 42 0x2020
-    ∷ at 43 0x2020 ∷ at 44 0x2020 ∷ at 45 0x2020 ∷ at 46 0x2020
-    ∷ at 49 0x0300 ∷ at 69 0x4020 ∷ at 75 0x001F ∷ at 76 0x0100 ∷ at 77 0x0040
-    ∷ at 82 0x0061 ∷ at 83 0x7400 ∷ at 84 0x4120 ∷ at 85 0x0061 ∷ at 86 0x3400 ∷ at 87 0x4120
-    ∷ at 105 0x0008 ∷ at 106 0x6003 ∷ at 108 0x5000 ∷ at 111 0x0001
-    ∷ at 168 0x0003 ∷ at 169 0x0001 ∷ at 217 0x0001 ∷ at 255 0x00A5 ∷ []
+    word_is 0 0x0040
+    ∷ word_is 10 0x5341 ∷ word_is 11 0x544C ∷ word_is 12 0x3030 ∷ word_is 13 0x3030
+    ∷ word_is 14 0x3030 ∷ word_is 15 0x3030 ∷ word_is 16 0x3030 ∷ word_is 17 0x3030
+    ∷ word_is 18 0x3030 ∷ word_is 19 0x3031
+    ∷ word_is 23 0x4657 ∷ word_is 24 0x3031 ∷ word_is 25 0x3032 ∷ word_is 26 0x3033
+    ∷ word_is 27 0x4D4F ∷ word_is 28 0x4445 ∷ word_is 29 0x4C20 ∷ word_is 30 0x4E43
+    ∷ word_is 31 0x5120 ∷ word_is 32 0x4449 ∷ word_is 33 0x534B ∷ word_is 34 0x2020
+    ∷ word_is 35 0x2020 ∷ word_is 36 0x2020 ∷ word_is 37 0x2020 ∷ word_is 38 0x2020
+    ∷ word_is 39 0x2020 ∷ word_is 40 0x2020 ∷ word_is 41 0x2020 ∷ word_is 42 0x2020
+    ∷ word_is 43 0x2020 ∷ word_is 44 0x2020 ∷ word_is 45 0x2020 ∷ word_is 46 0x2020
+    ∷ word_is 49 0x0300 ∷ word_is 69 0x4020 ∷ word_is 75 0x001F ∷ word_is 76 0x0100 ∷ word_is 77 0x0040
+    ∷ word_is 82 0x0061 ∷ word_is 83 0x7400 ∷ word_is 84 0x4120 ∷ word_is 85 0x0061 ∷ word_is 86 0x3400 ∷ word_is 87 0x4120
+    ∷ word_is 105 0x0008 ∷ word_is 106 0x6003 ∷ word_is 108 0x5000 ∷ word_is 111 0x0001
+    ∷ word_is 168 0x0003 ∷ word_is 169 0x0001 ∷ word_is 217 0x0001 ∷ word_is 255 0x00A5 ∷ []
 
 -- the number of sectors, for 28-bit commands in words 60 and 61, and in words 100 to 103
 abbrev pub size_words : ℕ → List Word
-size_words n = at 60 (n % 2 ^ 16) ∷ at 61 (n / 2 ^ 16) ∷ at 100 (n % 2 ^ 16) ∷ at 101 (n / 2 ^ 16) ∷ []
+size_words n = word_is 60 (n % 2 ^ 16) ∷ word_is 61 (n / 2 ^ 16) ∷ word_is 100 (n % 2 ^ 16) ∷ word_is 101 (n / 2 ^ 16) ∷ []
 
 -- the data of a drive of n sectors whose write cache and look-ahead are on
 unfoldable pub drive_data : ℕ → List ℕ

@@ -25,7 +25,7 @@ use Rattle.satl_core.specs.Turning.{turn_calls}
 use Rattle.satl_step.specs.Loop.{is_end}
 use Rattle.satl_step.proofs.LoopLemmas.{expectable, holds, not_end, the_end}
 use Rattle.satl_fleet.specs.Loop.{Going, HasGiven, LoopState, ReachedEnd, SoFar, StoppedInRound}
-use Rattle.satl_fleet.specs.Output.{Round, all_told, frames_of, round_told}
+use Rattle.satl_fleet.specs.Output.{Round, frames_of, round_told, rounds_told}
 use Rattle.satl_fleet.specs.Rounds.{CanRoute, EachDid, RoundDone, RoundInPart, Stops, calls_for, frame_calls, round_of}
 use Rattle.satl_fleet.specs.Runs.{HasNoTask, HaveRun, HaveRunInPart}
 use Rattle.satl_fleet.specs.Serving.{calls_due}
@@ -78,9 +78,9 @@ frames_push : (rounds : List Round) (round : Round) → frames_of (rounds ++ rou
 frames_push [] round = refl
 frames_push (r ∷ rounds) round = ap (λ fs. r.frame ∷ fs) (frames_push rounds round)
 
-told_push : (units : ℕ) (rounds : List Round) (round : Round) → all_told units (rounds ++ round ∷ []) ≡ all_told units rounds ++ round_told units round
+told_push : (units : ℕ) (rounds : List Round) (round : Round) → rounds_told units (rounds ++ round ∷ []) ≡ rounds_told units rounds ++ round_told units round
 told_push units [] round = append-nil (round_told units round)
-told_push units (r ∷ rounds) round = ap (λ l. round_told units r ++ l) (told_push units rounds round) ∙ sym (append_assoc (round_told units r) (all_told units rounds) (round_told units round))
+told_push units (r ∷ rounds) round = ap (λ l. round_told units r ++ l) (told_push units rounds round) ∙ sym (append_assoc (round_told units r) (rounds_told units rounds) (round_told units round))
 
 calls_push : (units : ℕ) (fs : List Frame) (frame : Frame) → calls_for units (fs ++ frame ∷ []) ≡ calls_for units fs + frame_calls units frame
 calls_push units [] frame = omega arith

@@ -20,7 +20,7 @@ use Rattle.satl_fleet.specs.Rounds.{EachDid, Stops, round_of}
 use Rattle.satl_fleet.specs.Rounds.EachDid.{none as no_unit, passes as unit_passes, serves as unit_serves}
 use Rattle.satl_fleet.specs.Rounds.Stops.{here as stop_here, passes as stop_passes, serves as stop_serves}
 use Rattle.satl_fleet.specs.Routing.{project, seen}
-use Rattle.satl_fleet.specs.Runs.{HasNoTask, HaveRun, HaveRunInPart, RanRounds, RanRoundsInPart, UnitCounted, UnitRan, UnitRanInPart, UnitStand, stand_of}
+use Rattle.satl_fleet.specs.Runs.{HasNoTask, HaveRun, HaveRunInPart, RanRounds, RanRoundsInPart, UnitCounted, UnitRan, UnitRanInPart, UnitStand, unit_stand_of}
 use Rattle.satl_fleet.specs.Runs.HaveRunInPart.{here as run_here, later as run_later}
 use Rattle.satl_fleet.specs.Units.{Did, DidInPart, UnitState, device_of}
 
@@ -38,8 +38,8 @@ counted_more events losses lost old mid new event counted faults unplugged queue
       covers = queue.covers counted.covers;
     }
 
-module _ (first : UnitStand) (events : List Frame) (groups : List (List Answer)) (s new : UnitState) (event : Frame) (answers : List Answer) (r : UnitRan first events groups (stand_of s)) where
-  ran_more : Did event s answers new → UnitRan first (events ++ event ∷ []) (groups ++ answers ∷ []) (stand_of new)
+module _ (first : UnitStand) (events : List Frame) (groups : List (List Answer)) (s new : UnitState) (event : Frame) (answers : List Answer) (r : UnitRan first events groups (unit_stand_of s)) where
+  ran_more : Did event s answers new → UnitRan first (events ++ event ∷ []) (groups ++ answers ∷ []) (unit_stand_of new)
   ran_more did = record {
     losses = r.losses + losses_in event (device_of s) (device_of new);
     deep = max r.deep did.deep;
@@ -48,7 +48,7 @@ module _ (first : UnitStand) (events : List Frame) (groups : List (List Answer))
     counted = counted_more events r.losses (losses_in event (device_of s) (device_of new)) first.drive s.drive new.drive event r.counted did.faults did.unplugs did.queue;
   }
 
-  ran_in_part : DidInPart event s answers new → UnitRanInPart first (events ++ event ∷ []) (groups ++ answers ∷ []) (stand_of new)
+  ran_in_part : DidInPart event s answers new → UnitRanInPart first (events ++ event ∷ []) (groups ++ answers ∷ []) (unit_stand_of new)
   ran_in_part did = record {
     losses = r.losses + losses_in event (device_of s) (device_of new);
     run = last event answers r.run did.does;
@@ -90,16 +90,16 @@ module _ (units k : ℕ) (rounds : List Round) (round : Round) where
   groups_one : (event : Frame) (answers : List Answer) → seen units k round.frame ≡ event ∷ [] → slice_index_or round.groups k [] ≡ answers → old_groups ++ answers ∷ [] ≡ groups_for units k (rounds ++ round ∷ [])
   groups_one event answers sees here = sym (groups_push units k rounds round ∙ (ap (λ l. old_groups ++ group_of k round l) sees ∙ ap (λ g. old_groups ++ g ∷ []) here))
 
-  module _ (first : UnitStand) (s : UnitState) (r : RanRounds units k rounds first (stand_of s)) where
-    ran_past : seen units k round.frame ≡ [] → RanRounds units k (rounds ++ round ∷ []) first (stand_of s)
-    ran_past unseen = subst (λ gs. UnitRan first (project units k (frames_of (rounds ++ round ∷ []))) gs (stand_of s)) (groups_same unseen) (subst (λ es. UnitRan first es old_groups (stand_of s)) (events_same unseen) r)
+  module _ (first : UnitStand) (s : UnitState) (r : RanRounds units k rounds first (unit_stand_of s)) where
+    ran_past : seen units k round.frame ≡ [] → RanRounds units k (rounds ++ round ∷ []) first (unit_stand_of s)
+    ran_past unseen = subst (λ gs. UnitRan first (project units k (frames_of (rounds ++ round ∷ []))) gs (unit_stand_of s)) (groups_same unseen) (subst (λ es. UnitRan first es old_groups (unit_stand_of s)) (events_same unseen) r)
 
     module _ (event : Frame) (answers : List Answer) (new : UnitState) (sees : seen units k round.frame ≡ event ∷ []) (here : slice_index_or round.groups k [] ≡ answers) where
-      ran_on : Did event s answers new → RanRounds units k (rounds ++ round ∷ []) first (stand_of new)
-      ran_on did = subst (λ gs. UnitRan first (project units k (frames_of (rounds ++ round ∷ []))) gs (stand_of new)) (groups_one event answers sees here) (subst (λ es. UnitRan first es (old_groups ++ answers ∷ []) (stand_of new)) (events_one event sees) (ran_more first old_events old_groups s new event answers r did))
+      ran_on : Did event s answers new → RanRounds units k (rounds ++ round ∷ []) first (unit_stand_of new)
+      ran_on did = subst (λ gs. UnitRan first (project units k (frames_of (rounds ++ round ∷ []))) gs (unit_stand_of new)) (groups_one event answers sees here) (subst (λ es. UnitRan first es (old_groups ++ answers ∷ []) (unit_stand_of new)) (events_one event sees) (ran_more first old_events old_groups s new event answers r did))
 
-      ran_cut : DidInPart event s answers new → RanRoundsInPart units k (rounds ++ round ∷ []) first (stand_of new)
-      ran_cut did = subst (λ gs. UnitRanInPart first (project units k (frames_of (rounds ++ round ∷ []))) gs (stand_of new)) (groups_one event answers sees here) (subst (λ es. UnitRanInPart first es (old_groups ++ answers ∷ []) (stand_of new)) (events_one event sees) (ran_in_part first old_events old_groups s new event answers r did))
+      ran_cut : DidInPart event s answers new → RanRoundsInPart units k (rounds ++ round ∷ []) first (unit_stand_of new)
+      ran_cut did = subst (λ gs. UnitRanInPart first (project units k (frames_of (rounds ++ round ∷ []))) gs (unit_stand_of new)) (groups_one event answers sees here) (subst (λ es. UnitRanInPart first es (old_groups ++ answers ∷ []) (unit_stand_of new)) (events_one event sees) (ran_in_part first old_events old_groups s new event answers r did))
 
 -- the group of a unit
 group_at : (before : List (List Answer)) (answers : List Answer) (behind : List (List Answer)) (k : ℕ) → length before ≡ k → slice_index_or (before ++ answers ∷ behind) k [] ≡ answers
@@ -124,21 +124,21 @@ module _ (units : ℕ) (rounds : List Round) (frame : Frame) (groups : List (Lis
   run_round k before (a ∷ starts) is long run no_unit = absurd run
   run_round k before [] is long run (unit_passes unseen others) = absurd run
   run_round k before {behind = g ∷ gs} (a ∷ starts) {olds = s ∷ ss} is long run (unit_passes unseen others) =
-      (ran_past units k rounds whole (stand_of a) s run.0 unseen, run_round (suc k) (before ++ g ∷ []) starts (next_split before g gs is) (next_length before g k long) run.1 others)
+      (ran_past units k rounds whole (unit_stand_of a) s run.0 unseen, run_round (suc k) (before ++ g ∷ []) starts (next_split before g gs is) (next_length before g k long) run.1 others)
   run_round k before [] is long run (unit_serves event sees did others) = absurd run
   run_round k before {behind = g ∷ gs} (a ∷ starts) {olds = s ∷ ss} {news = w ∷ ws} is long run (unit_serves event sees did others) =
-      (ran_on units k rounds whole (stand_of a) s run.0 event g w sees (here_is before g gs k is long) did, run_round (suc k) (before ++ g ∷ []) starts (next_split before g gs is) (next_length before g k long) run.1 others)
+      (ran_on units k rounds whole (unit_stand_of a) s run.0 event g w sees (here_is before g gs k is long) did, run_round (suc k) (before ++ g ∷ []) starts (next_split before g gs is) (next_length before g k long) run.1 others)
 
   pub run_round_part : (k : ℕ) (before : List (List Answer)) {behind : List (List Answer)} (starts : List UnitState) {olds news : List UnitState} → groups ≡ before ++ behind → length before ≡ k → HaveRun units k rounds starts olds → Stops units frame k behind olds news → HaveRunInPart units rounds whole k starts news
   run_round_part k before [] is long run (stop_here event sees did) = absurd run
   run_round_part k before {behind = g ∷ gs} (a ∷ starts) {olds = s ∷ ss} {news = w ∷ ws} is long run (stop_here event sees did) =
-      run_here (ran_cut units k rounds whole (stand_of a) s run.0 event g w sees (here_is before g gs k is long) did) run.1
+      run_here (ran_cut units k rounds whole (unit_stand_of a) s run.0 event g w sees (here_is before g gs k is long) did) run.1
   run_round_part k before [] is long run (stop_passes unseen others) = absurd run
   run_round_part k before {behind = g ∷ gs} (a ∷ starts) {olds = s ∷ ss} is long run (stop_passes unseen others) =
-      run_later (ran_past units k rounds whole (stand_of a) s run.0 unseen) (run_round_part (suc k) (before ++ g ∷ []) starts (next_split before g gs is) (next_length before g k long) run.1 others)
+      run_later (ran_past units k rounds whole (unit_stand_of a) s run.0 unseen) (run_round_part (suc k) (before ++ g ∷ []) starts (next_split before g gs is) (next_length before g k long) run.1 others)
   run_round_part k before [] is long run (stop_serves event sees did others) = absurd run
   run_round_part k before {behind = g ∷ gs} (a ∷ starts) {olds = s ∷ ss} {news = w ∷ ws} is long run (stop_serves event sees did others) =
-      run_later (ran_on units k rounds whole (stand_of a) s run.0 event g w sees (here_is before g gs k is long) did) (run_round_part (suc k) (before ++ g ∷ []) starts (next_split before g gs is) (next_length before g k long) run.1 others)
+      run_later (ran_on units k rounds whole (unit_stand_of a) s run.0 event g w sees (here_is before g gs k is long) did) (run_round_part (suc k) (before ++ g ∷ []) starts (next_split before g gs is) (next_length before g k long) run.1 others)
   run_round_part k before {behind = []} (a ∷ starts) {olds = olds} {news = news} is long run each = elim each [ ]
   run_round_part k before {behind = g ∷ gs} (a ∷ starts) {olds = []} {news = news} is long run each = absurd run
 

@@ -19,7 +19,7 @@ use Rattle.satl_serve.proofs.RunLemmas.{read_to}
 use Rattle.satl_step.specs.declared.frames_loop.Stop.{Stop}
 use Rattle.satl_step.specs.declared.frames_loop.Stop.TheVariants as stops
 use Rattle.satl_fleet.specs.Loop.{LoopState, ReachedEnd, Refused, StoppedInRound, StoppedSo}
-use Rattle.satl_fleet.specs.Output.{Round, all_told, frames_of, output}
+use Rattle.satl_fleet.specs.Output.{Round, frames_of, output, rounds_told}
 use Rattle.satl_fleet.specs.Runs.{HasNoTask}
 use Rattle.satl_fleet.specs.Serving.{Target}
 use Rattle.satl_fleet.specs.Stopping.{RanBefore, RanTo, RanWhole, Spot, StoppedInAnswers, StoppedInFault, StoppedInMagic}
@@ -38,7 +38,7 @@ pub record Begins (written : Option (List ℕ)) (a : LoopState) : Type 0 where
   pub magic : Wrote written a.stage.written out_magic
 
 module _ (units : ℕ) (written : Option (List ℕ)) (a : LoopState) (begins : Begins written a) where
-  printed : (rounds : List Round) (now : Option (List ℕ)) → Wrote a.stage.written now (all_told units rounds) → Wrote written now (output units rounds)
+  printed : (rounds : List Round) (now : Option (List ℕ)) → Wrote a.stage.written now (rounds_told units rounds) → Wrote written now (output units rounds)
   printed rounds now wrote = Wrote-more begins.magic wrote
 
   pub whole : (b : LoopState) → ReachedEnd units a b → RanWhole input_limit units (place_of written a) (place_of b.stage.written b)

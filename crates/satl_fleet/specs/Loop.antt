@@ -9,7 +9,7 @@ use Rattle.satl_frame.specs.Progress.{HasRead}
 use Rattle.satl_frame.specs.Reading.{Blames, Reading}
 use Rattle.satl_step.specs.declared.frames_loop.Stop.{Stop}
 use Rattle.satl_step.specs.declared.frames_loop.Stop.TheVariants as stops
-use Rattle.satl_fleet.specs.Output.{Round, all_told, frames_of, round_told}
+use Rattle.satl_fleet.specs.Output.{Round, frames_of, round_told, rounds_told}
 use Rattle.satl_fleet.specs.Rounds.{Stage, calls_for}
 use Rattle.satl_fleet.specs.Runs.{HaveRun, HaveRunInPart}
 use Rattle.satl_fleet.specs.Serving.{calls_due}
@@ -35,7 +35,7 @@ pub record HasGiven (units : ℕ) (before after : LoopState) (fs : List Frame) :
 -- rounds were served, and their answers told (profile)
 pub record SoFar (units : ℕ) (before after : LoopState) (rounds : List Round) : Type 0 where
   pub given : HasGiven units before after (frames_of rounds)
-  pub wrote : Wrote before.stage.written after.stage.written (all_told units rounds)
+  pub wrote : Wrote before.stage.written after.stage.written (rounds_told units rounds)
   pub run : HaveRun units 0 rounds before.stage.target.units after.stage.target.units
 
 -- the same, and none of the frames is END (profile)

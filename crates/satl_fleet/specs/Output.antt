@@ -62,13 +62,13 @@ end_told _ = []
 abbrev pub round_told : ℕ → Round → List ℕ
 round_told units round = target_told units round.frame ++ (told_from 0 round.groups ++ end_told round.frame)
 
-abbrev pub all_told : ℕ → List Round → List ℕ
-all_told units [] = []
-all_told units (round ∷ rounds) = round_told units round ++ all_told units rounds
+abbrev pub rounds_told : ℕ → List Round → List ℕ
+rounds_told units [] = []
+rounds_told units (round ∷ rounds) = round_told units round ++ rounds_told units rounds
 
 -- the output of rounds: the magic, and what is written for each (profile)
 abbrev pub output : ℕ → List Round → List ℕ
-output units rounds = out_magic ++ all_told units rounds
+output units rounds = out_magic ++ rounds_told units rounds
 
 -- the frames of rounds
 abbrev pub frames_of : List Round → List Frame

@@ -21,8 +21,8 @@ abbrev pub unit_stand : Device → DriveState → UnitStand
 unit_stand device drive = record { device = device; drive = drive }
 
 -- where a unit stands (profile)
-abbrev pub stand_of : UnitState → UnitStand
-stand_of s = unit_stand (device_of s) s.drive
+abbrev pub unit_stand_of : UnitState → UnitStand
+unit_stand_of s = unit_stand (device_of s) s.drive
 
 -- events with so many losses were counted: the drive's count of faults rose by the losses at least, or stands at its last
 -- value; its number of unplugs rose by the events that unplug it, or stands at its last value; its deepest queue did not fall
@@ -95,15 +95,15 @@ HaveRun units k rounds [] [] = Unit {0}
 HaveRun units k rounds [] (s ∷ ss) = ⊥
 HaveRun units k rounds (a ∷ starts) [] = ⊥
 HaveRun units k rounds (a ∷ starts) (s ∷ ss) =
-    RanRounds units k rounds (stand_of a) (stand_of s) × HaveRun units (suc k) rounds starts ss
+    RanRounds units k rounds (unit_stand_of a) (unit_stand_of s) × HaveRun units (suc k) rounds starts ss
 
 -- the same, and in one round more, up to a unit that did it in whole or in part (profile)
 pub data HaveRunInPart (units : ℕ) (rounds : List Round) (round : Round) : ℕ → List UnitState → List UnitState → Type 0 where
   here : {k : ℕ} {a s : UnitState} {starts ss : List UnitState}
-      → RanRoundsInPart units k (rounds ++ round ∷ []) (stand_of a) (stand_of s)
+      → RanRoundsInPart units k (rounds ++ round ∷ []) (unit_stand_of a) (unit_stand_of s)
       → HaveRun units (suc k) rounds starts ss → HaveRunInPart units rounds round k (a ∷ starts) (s ∷ ss)
   later : {k : ℕ} {a s : UnitState} {starts ss : List UnitState}
-      → RanRounds units k (rounds ++ round ∷ []) (stand_of a) (stand_of s)
+      → RanRounds units k (rounds ++ round ∷ []) (unit_stand_of a) (unit_stand_of s)
       → HaveRunInPart units rounds round (suc k) starts ss → HaveRunInPart units rounds round k (a ∷ starts) (s ∷ ss)
 
 -- a unit has no task, and its deepest queue is what its drive has at least (profile)

@@ -20,13 +20,13 @@ use Rattle.satl_frame.specs.declared.frames.Frame.{Frame}
 use Rattle.satl_frame.specs.declared.frames.Frame.TheVariants as frames
 
 -- a kind of frame or of event by its code, with the shortest and the longest length
-pub record Row : Type 0 where
+pub record FrameRow : Type 0 where
   pub code : ℕ
   pub shortest : ℕ
   pub longest : ℕ
 
-abbrev pub row : ℕ → ℕ → ℕ → Row
-row code shortest longest = record { code = code; shortest = shortest; longest = longest }
+abbrev pub frame_row : ℕ → ℕ → ℕ → FrameRow
+frame_row code shortest longest = record { code = code; shortest = shortest; longest = longest }
 
 -- the bytes of a request before its data-out
 abbrev pub head_size : Version → ℕ
@@ -34,25 +34,25 @@ head_size One = 30
 head_size Two = 34
 
 -- REQUEST with at most 2,097,152 bytes of data-out, MANAGE, TURN, BENCH and END, with the lengths of their payloads
-abbrev pub frame_rows : Version → List Row
+abbrev pub frame_rows : Version → List FrameRow
 frame_rows version =
-    row 0x01 (head_size version) (head_size version + longest_data) ∷
-    row 0x02 14 14 ∷
-    row 0x03 2 2 ∷
-    row 0x04 1 257 ∷
-    row 0x05 0 0 ∷ []
+    frame_row 0x01 (head_size version) (head_size version + longest_data) ∷
+    frame_row 0x02 14 14 ∷
+    frame_row 0x03 2 2 ∷
+    frame_row 0x04 1 257 ∷
+    frame_row 0x05 0 0 ∷ []
 
 -- the events of BENCH: STRIKE, MEND, GLITCH, ORDER, POWER and UNPLUG, with the lengths of the whole payload
-abbrev pub event_rows : List Row
-event_rows = row 1 10 10 ∷ row 2 9 9 ∷ row 3 3 3 ∷ row 4 2 257 ∷ row 5 1 1 ∷ row 6 1 1 ∷ []
+abbrev pub event_rows : List FrameRow
+event_rows = frame_row 1 10 10 ∷ frame_row 2 9 9 ∷ frame_row 3 3 3 ∷ frame_row 4 2 257 ∷ frame_row 5 1 1 ∷ frame_row 6 1 1 ∷ []
 
 -- whether a code is in a table
-abbrev pub has_code : List Row → ℕ → Bool
+abbrev pub has_code : List FrameRow → ℕ → Bool
 has_code [] code = false
 has_code (r ∷ rows) code = (code == r.code) || has_code rows code
 
 -- whether a table allows a length for a code
-abbrev pub allows : List Row → ℕ → ℕ → Bool
+abbrev pub allows : List FrameRow → ℕ → ℕ → Bool
 allows [] code len = false
 allows (r ∷ rows) code len = if code == r.code then nat_le r.shortest len && nat_le len r.longest else allows rows code len
 

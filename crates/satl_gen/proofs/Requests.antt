@@ -11,16 +11,16 @@ use Rattle.satl_frame.specs.declared.frames.Frame.TheVariants as frames
 use Rattle.satl_frame.specs.declared.frames.Version.TheVariants.{One}
 use Rattle.satl_frame.proofs.FieldSizes.{length-request_fields}
 use Rattle.satl_gen.specs.Coming.{request_head}
-use Rattle.satl_gen.specs.Generated.{is_write, sent_blocks, drawn_command, request_drawn, rising_blocks}
+use Rattle.satl_gen.specs.Generated.{draws_write, sent_blocks, drawn_command, request_drawn, rising_blocks}
 use Rattle.satl_gen.specs.declared.draw.Draw.{Draw}
 use Rattle.satl_gen.proofs.Blocks.{length-blocks, first_blocks, blocks_are_pages}
 
-length-cdb : (command : Command) → length (cdbs.spelled command) ≡ 16
-unfolding cdbs.spelled
+length-cdb : (command : Command) → length (cdbs.cdb_bytes command) ≡ 16
+unfolding cdbs.cdb_bytes
 length-cdb command = refl
 
 pub sent_blocks-le : (d : Draw) → sent_blocks d ≤ 32
-sent_blocks-le d = by_case (is_write d)
+sent_blocks-le d = by_case (draws_write d)
   where
     by_case : (write : Bool) → (if write then 1 + d.c % 32 else 0) ≤ 32
     by_case true = omega arith

@@ -8,7 +8,7 @@ use Rattle.satl_base.specs.declared.bench.BenchEvent.TheVariants as events
 use Rattle.satl_base.specs.declared.block.Block.{Block}
 use Rattle.satl_base.specs.declared.request.Attr.TheVariants.{Simple, Ordered}
 use Rattle.satl_base.specs.declared.request.Request.{Request}
-use Rattle.satl_cdb.specs.Spelling.{spelled as cdb_bytes}
+use Rattle.satl_cdb.specs.Spelling.{cdb_bytes}
 use Rattle.satl_cdb.specs.declared.command.Command.{Command}
 use Rattle.satl_cdb.specs.declared.command.Command.TheVariants as commands
 use Rattle.satl_cdb.specs.declared.command.Form.TheVariants.{Ten}
@@ -35,21 +35,21 @@ unfoldable pub after_draw : Lcg → Lcg
 after_draw g = (pcg32 (pcg32 (pcg32 g).1).1).1
 
 -- whether a request is a WRITE (profile)
-abbrev pub is_write : Draw → Bool
-is_write d = nat_le 3 (d.a % 8) && nat_lt (d.a % 8) 6
+abbrev pub draws_write : Draw → Bool
+draws_write d = nat_le 3 (d.a % 8) && nat_lt (d.a % 8) 6
 
 -- the command: READ(10) and WRITE(10) of 1 to 32 blocks below address 8,032, SYNCHRONIZE CACHE(10) of all, TEST UNIT READY
 -- (profile)
 abbrev pub drawn_command : Draw → Command
 drawn_command d =
     if nat_lt (d.a % 8) 3 then commands.Read Ten (d.b % 8000) (1 + d.c % 32) false
-    else if is_write d then commands.Write Ten (d.b % 8000) (1 + d.c % 32) false
+    else if draws_write d then commands.Write Ten (d.b % 8000) (1 + d.c % 32) false
     else if d.a % 8 == 6 then commands.Flush Ten 0 0
     else commands.TestUnitReady
 
 -- the number of blocks of data-out (profile)
 abbrev pub sent_blocks : Draw → ℕ
-sent_blocks d = if is_write d then 1 + d.c % 32 else 0
+sent_blocks d = if draws_write d then 1 + d.c % 32 else 0
 
 -- a block whose bytes are all the same (profile)
 unfoldable pub block_full_of : ℕ → Block

@@ -1,7 +1,7 @@
 // Random numbers, and what they ask for.
 ghost use Rattle.std.specs.Prelude.{◌≡◌};
 ghost use Rattle.satl_gen.specs.Coming.{burst_behind};
-ghost use Rattle.satl_gen.specs.Generated.{seeded, draw, after_draw, is_write, drawn_command, sent_blocks};
+ghost use Rattle.satl_gen.specs.Generated.{seeded, draw, after_draw, draws_write, drawn_command, sent_blocks};
 
 use rand_core::SeedableRng;
 use rand_core::utils::NextWord;
@@ -40,8 +40,8 @@ pub fn drawn(generator: &mut Pcg32) -> Draw
 }
 
 impl Draw {
-    fn is_write(self) -> bool
-        ensures { result ≡ is_write self }
+    fn draws_write(self) -> bool
+        ensures { result ≡ draws_write self }
     {
         3 <= self.a % 8 && self.a % 8 < 6
     }
@@ -50,7 +50,7 @@ impl Draw {
     pub fn sent_blocks(self) -> u32
         ensures { result ≡ sent_blocks self }
     {
-        if self.is_write() { 1 + self.c % 32 } else { 0 }
+        if self.draws_write() { 1 + self.c % 32 } else { 0 }
     }
 
     /// The number that the ORDER behind the request of this number has, where one stands there.
@@ -76,7 +76,7 @@ impl Draw {
                 count,
                 fua: false,
             }
-        } else if self.is_write() {
+        } else if self.draws_write() {
             Command::Write {
                 form: Form::Ten,
                 lba,

@@ -5,7 +5,7 @@ use Rattle.std.proofs.lemmas.Bool.{eqb-false, ltb-false}
 use Rattle.satl_base.specs.Identify.{capacity}
 use Rattle.satl_identify.specs.declared.identity.Identity.{Identity}
 use Rattle.satl_identify.specs.declared.identity.IdentityFault.{IdentityFault}
-use Rattle.satl_identify.specs.Refusals.{Rule, rules, first_refused, identity_in, identity_of, IsIdentity}
+use Rattle.satl_identify.specs.Refusals.{IdentityRule, identity_rules, first_refused, identity_in, identity_of, IsIdentity}
 
 capacity_within : (n : ℕ) → not (not (eqb n 0) && not (nat_lt (2 ^ 48 - 1) n)) ≡ false → (1 ≤ n) × (n < 2 ^ 48)
 capacity_within n e =
@@ -18,11 +18,11 @@ capacity_within n e =
     ]) refl e
 
 -- no rule refuses the data
-abbrev pub Unbroken : List Rule → List ℕ → Type 0
+abbrev pub Unbroken : List IdentityRule → List ℕ → Type 0
 Unbroken [] d = Unit {0}
 Unbroken (rule ∷ more) d = (rule.breaks d ≡ false) × Unbroken more d
 
-pub judged_ok : (some : List Rule) (d : List ℕ) (made i : Identity) → first_refused some d made ≡ Ok i → Unbroken some d × (made ≡ i)
+pub judged_ok : (some : List IdentityRule) (d : List ℕ) (made i : Identity) → first_refused some d made ≡ Ok i → Unbroken some d × (made ≡ i)
 judged_ok [] d made i e = (tt, cc)
 judged_ok (rule ∷ more) d made i e =
     (elim (rule.breaks d) as (λ b. rule.breaks d ≡ b → cond b (Err rule.fault) (first_refused more d made) ≡ Ok i → ((rule.breaks d ≡ false) × Unbroken more d) × (made ≡ i)) [
@@ -30,13 +30,13 @@ judged_ok (rule ∷ more) d made i e =
       | false ↦ λ is f. let rest = judged_ok more d made i f in ((is, rest.0), rest.1)
     ]) refl e
 
-pub judged_unbroken : (some : List Rule) (d : List ℕ) (made : Identity) → Unbroken some d → first_refused some d made ≡ Ok made
+pub judged_unbroken : (some : List IdentityRule) (d : List ℕ) (made : Identity) → Unbroken some d → first_refused some d made ≡ Ok made
 judged_unbroken [] d made u = refl
 judged_unbroken (rule ∷ more) d made u = rw u.0 (judged_unbroken more d made u.1)
 
-pub unbroken : (d : List ℕ) (i : Identity) → identity_of d ≡ Ok i → Unbroken rules d × (identity_in d ≡ i)
+pub unbroken : (d : List ℕ) (i : Identity) → identity_of d ≡ Ok i → Unbroken identity_rules d × (identity_in d ≡ i)
 unfolding identity_of
-unbroken d i e = judged_ok rules d (identity_in d) i e
+unbroken d i e = judged_ok identity_rules d (identity_in d) i e
 
 pub identity_is_one : (d : List ℕ) (i : Identity) → identity_of d ≡ Ok i → IsIdentity i
 identity_is_one d i e = ap identity_of (sym (ap (λ (j : Identity). j.bytes) (unbroken d i e).1)) ∙ e

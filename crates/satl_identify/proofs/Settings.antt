@@ -6,7 +6,7 @@ use Rattle.std.proofs.lemmas.List.{length-set}
 use Rattle.satl_base.specs.Identify.{checksum, word_bits, is_not_ata, has_bad_sum, has_lba48, has_queue, has_capacity, is_other_block, capacity, exponent, has_trim, has_queued_trim, has_cache, has_look, cache_is_on, look_is_on}
 use Rattle.satl_identify.specs.declared.identity.Identity.{Identity}
 use Rattle.satl_identify.specs.Data.{settings_byte, with_integrity, integrity_byte}
-use Rattle.satl_identify.specs.Refusals.{rules, identity_in, identity_of, IsIdentity}
+use Rattle.satl_identify.specs.Refusals.{identity_rules, identity_in, identity_of, IsIdentity}
 use Rattle.satl_identify.proofs.Sums.{checksum-integrity}
 use Rattle.satl_identify.proofs.Judging.{Unbroken, judged_unbroken, unbroken}
 
@@ -81,7 +81,7 @@ module _ (d new : List ℕ) (byte : ℕ) (len : length new ≡ 512) (made : new 
         | false ↦ λ is. rw (mark_same, is) refl
       ]) refl
 
-  unbroken_same : Unbroken rules d → Unbroken rules new
+  unbroken_same : Unbroken identity_rules d → Unbroken identity_rules new
   unbroken_same u = (
     is_not_ata_same ∙ u.0,
     (
@@ -133,7 +133,7 @@ passes_again i new byte c l len put made is =
     (has_queued_trim_same i.bytes new byte len made ∙ ap (λ (j : Identity). j.queued_trim) from)
     (has_cache_same i.bytes new byte len made ∙ ap (λ (j : Identity). j.cache) from)
     (has_look_same i.bytes new byte len made ∙ ap (λ (j : Identity). j.look) from) in
-    judged_unbroken rules new (identity_in new) (unbroken_same i.bytes new byte len made given.0) ∙ ap Ok rest
+    judged_unbroken identity_rules new (identity_in new) (unbroken_same i.bytes new byte len made given.0) ∙ ap Ok rest
 
 pub sum_again : (d new : List ℕ) (byte : ℕ) → length new ≡ 512 → new ≡ with_integrity (set d 170 byte) → eqb (word_bits 255 7 0 d) 0xA5 ≡ true → checksum new ≡ 0
 sum_again d new byte len made is = sum_is_0 d new byte len made (eqb-true _ _ is)

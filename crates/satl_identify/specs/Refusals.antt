@@ -6,13 +6,13 @@ use Rattle.satl_identify.specs.declared.identity.IdentityFault.{IdentityFault}
 use Rattle.satl_identify.specs.declared.identity.IdentityFault.TheVariants.{NotAta, BadIntegrity, NoLba48, NoNcq, NoCapacity, NotBlock512}
 
 -- a refusal, and the data that call for it
-pub record Rule : Type 0 where
+pub record IdentityRule : Type 0 where
   pub fault : IdentityFault
   pub breaks : List ℕ → Bool
 
 -- the refusals, in the order in which they are judged
-abbrev pub rules : List Rule
-rules =
+abbrev pub identity_rules : List IdentityRule
+identity_rules =
     record { fault = NotAta; breaks = is_not_ata }
     ∷ record { fault = BadIntegrity; breaks = has_bad_sum }
     ∷ record { fault = NoLba48; breaks = λ d. not (has_lba48 d) }
@@ -22,7 +22,7 @@ rules =
     ∷ []
 
 -- the first refusal that the data call for, else the identity
-abbrev pub first_refused : List Rule → List ℕ → Identity → Result Identity IdentityFault
+abbrev pub first_refused : List IdentityRule → List ℕ → Identity → Result Identity IdentityFault
 first_refused [] d identity = Ok identity
 first_refused (rule ∷ rules) d identity = if rule.breaks d then Err rule.fault else first_refused rules d identity
 
@@ -42,7 +42,7 @@ identity_in d = record {
 
 -- the identity of a drive with these data, or the first refusal
 unfoldable pub identity_of : List ℕ → Result Identity IdentityFault
-identity_of d = first_refused rules d (identity_in d)
+identity_of d = first_refused identity_rules d (identity_in d)
 
 -- an identity that data give
 abbrev pub IsIdentity : Identity → Type 0

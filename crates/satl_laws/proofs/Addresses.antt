@@ -18,7 +18,7 @@ use Rattle.satl_regs.specs.Trim.{addresses}
 use Rattle.satl_line.specs.declared.entry.Entry.{Entry}
 use Rattle.satl_line.specs.Ranged.{zeros_over}
 use Rattle.satl_direct.specs.Device.{Device}
-use Rattle.satl_direct.specs.Ending.{medium_of, same_pairs}
+use Rattle.satl_direct.specs.Ending.{device_medium, same_pairs}
 use Rattle.satl_direct.specs.Quiet.{writes, written_by}
 use Rattle.satl_direct.specs.Tasks.{over, pass_of}
 use Rattle.satl_laws.proofs.TrimWords.{blocks_kept, trim_kept}
@@ -72,28 +72,28 @@ module _ (x : ℕ) where
 
   module _ (s u : Device) (a : Alike s u) where
     -- the drives of like devices have trims, or both have none
-    trims_alike : has_trim (medium_of u).identify ≡ has_trim (medium_of s).identify
+    trims_alike : has_trim (device_medium u).identify ≡ has_trim (device_medium s).identify
     trims_alike =
         trim_kept u.identity.bytes u.modes.wce (not u.modes.dra)
         ∙ ap (λ i. has_trim i.bytes) a.identity
         ∙ sym (trim_kept s.identity.bytes s.modes.wce (not s.modes.dra))
 
     -- of the same length at most
-    blocks_alike : trim_blocks (medium_of u).identify ≡ trim_blocks (medium_of s).identify
+    blocks_alike : trim_blocks (device_medium u).identify ≡ trim_blocks (device_medium s).identify
     blocks_alike =
         blocks_kept u.identity.bytes u.modes.wce (not u.modes.dra)
         ∙ ap (λ i. trim_blocks i.bytes) a.identity
         ∙ sym (blocks_kept s.identity.bytes s.modes.wce (not s.modes.dra))
 
     -- and abort the same trims
-    no_trim_alike : (blocks : ℕ) (given : List Block) → is_no_trim blocks given (medium_of u) ≡ is_no_trim blocks given (medium_of s)
+    no_trim_alike : (blocks : ℕ) (given : List Block) → is_no_trim blocks given (device_medium u) ≡ is_no_trim blocks given (device_medium s)
     no_trim_alike blocks given =
-        ap (λ b. not b || nat_lt (trim_blocks (medium_of u).identify) blocks || list_any (is_outside (medium_of u)) (payload_ranges blocks given)) trims_alike
-        ∙ ap (λ n. not (has_trim (medium_of s).identify) || nat_lt n blocks || list_any (is_outside (medium_of u)) (payload_ranges blocks given)) blocks_alike
-        ∙ ap (λ b. not (has_trim (medium_of s).identify) || nat_lt (trim_blocks (medium_of s).identify) blocks || b) (outside_same (medium_of s) (medium_of u) (payload_ranges blocks given) a.size)
+        ap (λ b. not b || nat_lt (trim_blocks (device_medium u).identify) blocks || list_any (is_outside (device_medium u)) (payload_ranges blocks given)) trims_alike
+        ∙ ap (λ n. not (has_trim (device_medium s).identify) || nat_lt n blocks || list_any (is_outside (device_medium u)) (payload_ranges blocks given)) blocks_alike
+        ∙ ap (λ b. not (has_trim (device_medium s).identify) || nat_lt (trim_blocks (device_medium s).identify) blocks || b) (outside_same (device_medium s) (device_medium u) (payload_ranges blocks given) a.size)
 
     -- an ATA command names the same sectors at both
-    ata_named : (c : AtaCommand) (given : List Block) → named (pairs_of c (medium_of u) given) ≡ named (pairs_of c (medium_of s) given)
+    ata_named : (c : AtaCommand) (given : List Block) → named (pairs_of c (device_medium u) given) ≡ named (pairs_of c (device_medium s) given)
     ata_named (ata.Write how lba sectors) given =
         ap (λ n. named (if nat_lt n (lba + sectors) then [] else pairs_from lba (take sectors given) u.modes.wce)) a.size ∙ either (nat_lt (length s.cells) (lba + sectors))
       where
@@ -101,7 +101,7 @@ module _ (x : ℕ) where
         either true = refl
         either false = from_named lba (take sectors given) u.modes.wce s.modes.wce
     ata_named (ata.Trim blocks) given =
-        ap (λ b. named (if b then [] else zeros_at u.modes.wce (addresses (payload_ranges blocks given)))) (no_trim_alike blocks given) ∙ either (is_no_trim blocks given (medium_of s))
+        ap (λ b. named (if b then [] else zeros_at u.modes.wce (addresses (payload_ranges blocks given)))) (no_trim_alike blocks given) ∙ either (is_no_trim blocks given (device_medium s))
       where
         either : (b : Bool) → named (if b then [] else zeros_at u.modes.wce (addresses (payload_ranges blocks given))) ≡ named (if b then [] else zeros_at s.modes.wce (addresses (payload_ranges blocks given)))
         either true = refl

@@ -14,7 +14,7 @@ use Rattle.satl_unit.specs.declared.attention.Attention.{Attention}
 use Rattle.satl_line.specs.declared.entry.Entry.{Entry}
 use Rattle.satl_direct.specs.Device.{Device, attentions_of, is_called}
 use Rattle.satl_direct.specs.Tasks.{asks, is_full, needed, range_of}
-use Rattle.satl_direct.specs.Arrival.{Arrival, arrival, asks_for, attention_arrival, attention_for, becomes, cdb_arrival, code_arrival, command_arrival, is_unit_0, placed, placed_unless, readiness, sense_told, unless_refused}
+use Rattle.satl_direct.specs.Arrival.{Arrival, arrival, asks_for, attention_arrival, attention_for, becomes, cdb_arrival, code_arrival, command_arrival, is_unit_0, placed, placed_unless, ready_reply, sense_told, unless_refused}
 use Rattle.satl_direct.specs.Arrival.Arrival.{answered, attended, overlaps, waits}
 use Rattle.satl_laws.proofs.Cases.{chosen}
 use Rattle.satl_laws.proofs.Coming.{WritesItsOwn, fields_own}
@@ -39,7 +39,7 @@ IsFor r (waits task) = IsOf r task
 
 module _ (s : Device) (r : Request) where
   -- the steps of an arrival, from the last to the first
-  ready_to : IsTo r (readiness s r)
+  ready_to : IsTo r (ready_reply s r)
   ready_to = chosen (IsTo r) s.down (record { nexus = refl; tag = refl }) (chosen (IsTo r) (not s.started) (record { nexus = refl; tag = refl }) (record { nexus = refl; tag = refl }))
 
   placed_for : (c : Command) → WritesItsOwn c → IsFor r (placed s r c)

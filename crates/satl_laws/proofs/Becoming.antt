@@ -12,7 +12,7 @@ use Rattle.satl_cdb.specs.declared.command.Illegal.{Illegal}
 use Rattle.satl_unit.specs.declared.attention.Attention.{Attention}
 use Rattle.satl_direct.specs.Device.{Device, attentions_of, is_called}
 use Rattle.satl_direct.specs.Tasks.{is_full, range_of, task_for}
-use Rattle.satl_direct.specs.Arrival.{Arrival, becomes, placed, placed_unless, readiness, sense_told}
+use Rattle.satl_direct.specs.Arrival.{Arrival, becomes, placed, placed_unless, ready_reply, sense_told}
 use Rattle.satl_direct.specs.Arrival.Arrival.{waits}
 use Rattle.satl_laws.specs.ArrivalOrder.{writes_plainly}
 use Rattle.satl_laws.proofs.Cases.{chosen}
@@ -35,15 +35,15 @@ module _ (s : Device) (r : Request) where
   either_gets said b x y p q = by_test (λ t. Gets n has said r.body (if t then x else y)) b p q
 
   -- TEST UNIT READY has no data
-  ready_empty : (readiness s r).body ≡ []
+  ready_empty : (ready_reply s r).body ≡ []
   ready_empty = chosen (λ (reply : Reply). reply.body ≡ []) s.down refl (chosen (λ (reply : Reply). reply.body ≡ []) (not s.started) refl refl)
 
   -- a READ of no block
-  idle_read : (form : _) (lba count : ℕ) (fua : Bool) → count ≡ 0 → Answers (Ok (commands.Read form lba count fua)) r.body (readiness s r)
+  idle_read : (form : _) (lba count : ℕ) (fua : Bool) → count ≡ 0 → Answers (Ok (commands.Read form lba count fua)) r.body (ready_reply s r)
   idle_read form lba count fua none = record { writes_none = λ good x v. refl; reads_none = λ good from number is. (sym is.1 ∙ none, ready_empty) }
 
   -- a WRITE of no block
-  idle_write : (form : _) (lba count : ℕ) (fua : Bool) → count ≡ 0 → Answers (Ok (commands.Write form lba count fua)) r.body (readiness s r)
+  idle_write : (form : _) (lba count : ℕ) (fua : Bool) → count ≡ 0 → Answers (Ok (commands.Write form lba count fua)) r.body (ready_reply s r)
   idle_write form lba count fua none = record {
     writes_none = λ good x v. by_test (λ b. (if b then get_or r.body (x - lba) v else v) ≡ v) (lies_in lba count x)
         (λ t. absurd (let k = within_from lba count x t in omega (arith, k.0, k.1, none)))

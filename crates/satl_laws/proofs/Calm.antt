@@ -17,7 +17,7 @@ use Rattle.satl_line.specs.Ranged.RangedTask.{ranged_read, ranged_write}
 use Rattle.satl_line.specs.Ending.{EndsAs, Outcome, flaw_met}
 use Rattle.satl_line.specs.Ending.Outcome.{ends_done, ends_flawed, ends_glitched}
 use Rattle.satl_direct.specs.Device.{Device}
-use Rattle.satl_direct.specs.Ending.{Ends, EndsBy, EndsCompared, EndsOnMedium, EndsVerified, IsChecked, IsTaskDone, outcome_reply, selected, settled, settled_if, surface_of}
+use Rattle.satl_direct.specs.Ending.{Ends, EndsBy, EndsCompared, EndsOnMedium, EndsVerified, IsChecked, IsTaskDone, device_settled_if, outcome_reply, selected, settled, surface_of}
 use Rattle.satl_laws.specs.ArrivalOrder.{is_good, stops_or_starts, writes_plainly}
 use Rattle.satl_direct.specs.Quiet.{Quiet}
 use Rattle.satl_direct.specs.Senses.{link_lost, not_ready}
@@ -46,7 +46,7 @@ settle_clean : (cells : List Cell) → AllByRecursion IsClean cells → AllByRec
 settle_clean [] all = tt
 settle_clean (c ∷ cs) all = (all.0, settle_clean cs all.1)
 
-settled_calm : (b : Bool) (s : Device) → IsCalm s → IsCalm (settled_if b s)
+settled_calm : (b : Bool) (s : Device) → IsCalm s → IsCalm (device_settled_if b s)
 settled_calm true s c = record { started = c.started; no_glitches = c.no_glitches; clean = settle_clean s.cells c.clean }
 settled_calm false s c = c
 
@@ -103,7 +103,7 @@ module _ (s new : Device) (t : Entry) (reply : Reply) (calm : IsCalm s) where
   command_calm (commands.ModeSelect ten size) plain steady e =
       let k = settled_calm (s.modes.wce && not (selected s t).wce) s calm in
       record {
-        calm_still = same_calm (settled_if (s.modes.wce && not (selected s t).wce) s) k (ap (λ d. d.started) e.stays) (ap (λ d. d.glitches) e.stays) (ap (λ d. d.cells) e.stays);
+        calm_still = same_calm (device_settled_if (s.modes.wce && not (selected s t).wce) s) k (ap (λ d. d.started) e.stays) (ap (λ d. d.glitches) e.stays) (ap (λ d. d.cells) e.stays);
         whole_write = λ b. absurd cc;
       }
   command_calm (commands.StartStop start no_flush) plain steady e = absurd cc

@@ -17,7 +17,7 @@ use Rattle.satl_line.specs.Ending.{Outcome}
 use Rattle.satl_line.specs.Ending.Outcome.{ends_done}
 use Rattle.satl_direct.specs.Device.{Device, without}
 use Rattle.satl_direct.specs.Tasks.{asks, over}
-use Rattle.satl_direct.specs.Ending.{Ends, EndsBy, EndsCompared, EndsGarbled, EndsInPieces, EndsOnMedium, EndsPassed, EndsVerified, IsChecked, IsTaskDone, IsPartlyWritten, after_select, after_start_stop, outcome_reply, settled, settled_if, selected, task_check}
+use Rattle.satl_direct.specs.Ending.{Ends, EndsBy, EndsCompared, EndsGarbled, EndsInPieces, EndsOnMedium, EndsPassed, EndsVerified, IsChecked, IsTaskDone, IsPartlyWritten, after_select, after_start_stop, outcome_reply, settled, device_settled_if, selected, task_check}
 use Rattle.satl_direct.specs.Senses.{write_error}
 use Rattle.satl_direct.specs.Turn.{IsFirst, MayEnd}
 use Rattle.satl_laws.proofs.Cases.{by_bool, by_option}
@@ -29,7 +29,7 @@ pub record Leaves (s : Device) (t : Entry) (reply : Reply) (new : Device) : Type
   pub tag : reply.tag ≡ t.tag
 
 -- writing back leaves the tasks
-settled_tasks : (b : Bool) (s : Device) → (settled_if b s).tasks ≡ s.tasks
+settled_tasks : (b : Bool) (s : Device) → (device_settled_if b s).tasks ≡ s.tasks
 settled_tasks true s = refl
 settled_tasks false s = refl
 

@@ -17,7 +17,7 @@ use Rattle.satl_direct.specs.Ending.{task_check}
 use Rattle.satl_laws.specs.ArrivalOrder.{is_done}
 use Rattle.satl_laws.specs.OnceEach.{asks_by}
 use Rattle.satl_direct.specs.Senses.{link_lost}
-use Rattle.satl_direct.specs.Turn.{lost_replies}
+use Rattle.satl_direct.specs.Turn.{device_lost_replies}
 use Rattle.satl_laws.proofs.InOrder.{InOrder}
 use Rattle.satl_laws.proofs.InOrderPlace.{dropped_in_order}
 use Rattle.satl_laws.proofs.InOrderSteps.{AreSteady, InOrderAt, lowered, not_both}
@@ -55,13 +55,13 @@ module _ (first : Device) (exact : Bool) where
 
   -- a lost link
   pub lost_at : (events : List Frame) (answers : List Answer) (s new : Device) (said : List Reply) → ((nexus tag : ℕ) → how_many (asks_by nexus tag) events < 2)
-      → said ≡ lost_replies s → new.cells ≡ s.cells → new.tasks ≡ [] → new.down ≡ true → new.identity ≡ s.identity → InOrderAt first exact events answers s → InOrderAt first exact events (answers ++ map replied said) new
+      → said ≡ device_lost_replies s → new.cells ≡ s.cells → new.tasks ≡ [] → new.down ≡ true → new.identity ≡ s.identity → InOrderAt first exact events answers s → InOrderAt first exact events (answers ++ map replied said) new
   lost_at events answers s new said once is cells tasks down identity o = record {
     identity = identity ∙ o.identity;
     order = subst (λ c. InOrder first events (answers ++ map replied said) c new.tasks (exact && not new.down)) (sym cells)
         (subst (λ ts. InOrder first events (answers ++ map replied said) s.cells ts (exact && not new.down)) (sym tasks)
         (subst (λ l. InOrder first events (answers ++ map replied l) s.cells [] (exact && not new.down)) (sym is)
-        (lowered first exact events (answers ++ map replied (lost_replies s)) s.cells [] false (exact && not new.down) (λ f. absurd (not_both exact new.down down f))
+        (lowered first exact events (answers ++ map replied (device_lost_replies s)) s.cells [] false (exact && not new.down) (λ f. absurd (not_both exact new.down down f))
         (lost_in_order events s.cells once s answers s.tasks (exact && not s.down) o.order))));
     calm = λ x up. absurd (both_ways new.down up down);
     steady = λ x. subst (AreSteady first exact) (sym tasks) tt;

@@ -12,7 +12,7 @@ use Rattle.satl_direct.specs.Arrival.Arrival.{answered, attended, overlaps, wait
 use Rattle.satl_direct.specs.Ending.{task_check}
 use Rattle.satl_direct.specs.Quiet.{Around, Quiet}
 use Rattle.satl_direct.specs.Senses.{link_lost}
-use Rattle.satl_direct.specs.Turn.{OneEnds, Turn, lost_replies}
+use Rattle.satl_direct.specs.Turn.{OneEnds, Turn, device_lost_replies}
 use Rattle.satl_direct.specs.Turn.Turn.{ends, ends_and_loses, idle, loses}
 use Rattle.satl_direct.specs.Run.{MayLose}
 use Rattle.satl_direct.specs.Run.MayLose.{keeps, keeps_and_loses}
@@ -37,7 +37,7 @@ half_quiet : (s s' : Device) (replies : List Reply) → Quiet s s' → Half repl
 half_quiet s s' replies q h = subst (Half replies) (sym (quiet_tasks s s' q)) h
 
 -- all tasks are answered at a loss
-half_lost : (s new : Device) (replies more : List Reply) → Half replies s.tasks → more ≡ lost_replies s → new.tasks ≡ [] → Half (replies ++ more) new.tasks
+half_lost : (s new : Device) (replies more : List Reply) → Half replies s.tasks → more ≡ device_lost_replies s → new.tasks ≡ [] → Half (replies ++ more) new.tasks
 half_lost s new replies more (given reply is none) lost empty =
     let no : more ≡ [] = lost ∙ ap (map (λ t. task_check s t link_lost)) none in
     given reply (ap (λ l. l ++ more) is ∙ ap (λ l. reply ∷ l) no) empty

@@ -18,7 +18,7 @@ use Rattle.satl_direct.specs.Device.{Device, is_called}
 use Rattle.satl_direct.specs.Tasks.{asks, needed, range_of}
 use Rattle.satl_direct.specs.Arrival.{Arrival, arrival, asks_for, attention_arrival, attention_for, becomes, cdb_arrival, check, command_arrival, is_unit_0, other_arrival, unless_refused}
 use Rattle.satl_direct.specs.Arrival.Arrival.{answered, overlaps}
-use Rattle.satl_direct.specs.Management.{Effect, effect, effect_or_none, has_unit, only}
+use Rattle.satl_direct.specs.Management.{Effect, effect, effect_or_none, has_unit, nothing_but}
 use Rattle.satl_direct.specs.Senses.{out_of_range, overlapped, short_data}
 
 -- cells, and whether the drive is active, have no part in an arrival
@@ -76,4 +76,4 @@ module _ (s : Device) (cells : List Cell) (active : Bool) where
   -- its effect at both devices
   pub effect_quiet : (m : Manage) → effect m same_but ≡ effect m s
   effect_quiet m =
-      ap (λ (e : Effect). if has_unit (function_of m.function) && not (is_unit_0 m.lun) then only IncorrectLun s else e) (function_same (function_of m.function) m)
+      ap (λ (e : Effect). if has_unit (function_of m.function) && not (is_unit_0 m.lun) then nothing_but IncorrectLun s else e) (function_same (function_of m.function) m)

@@ -18,7 +18,7 @@ use Rattle.satl_line.specs.Ending.{EndsAs, Outcome}
 use Rattle.satl_line.specs.Ending.Outcome.{ends_done}
 use Rattle.satl_direct.specs.Device.{Device}
 use Rattle.satl_direct.specs.Tasks.{asks, over, pass_of}
-use Rattle.satl_direct.specs.Ending.{Ends, EndsBy, EndsCompared, EndsInPieces, EndsOnMedium, EndsPassed, EndsVerified, IsChecked, IsTaskDone, after_select, after_start_stop, medium_of, selected, settled, settled_if, surface_of}
+use Rattle.satl_direct.specs.Ending.{Ends, EndsBy, EndsCompared, EndsInPieces, EndsOnMedium, EndsPassed, EndsVerified, IsChecked, IsTaskDone, after_select, after_start_stop, device_medium, device_settled_if, selected, settled, surface_of}
 use Rattle.satl_direct.specs.Quiet.{written_by}
 use Rattle.satl_laws.specs.Untouched.{Spares}
 use Rattle.satl_laws.proofs.Cases.{by_bool, by_option}
@@ -47,12 +47,12 @@ module _ (s new : Device) (t : Entry) (reply : Reply) where
   done c after steps same e = nothing_put c (subst (Steps [] s.cells) (sym (ap (λ d. d.cells) e.stays)) steps) (ap (λ d. d.identity) e.stays ∙ same)
 
   -- what was written back where a flag is set
-  flushed : (b : Bool) → Steps [] s.cells (settled_if b s).cells
+  flushed : (b : Bool) → Steps [] s.cells (device_settled_if b s).cells
   flushed true = settles refl
   flushed false = stays s.cells s.cells refl
 
   -- the drive says the same of itself
-  flushed_identity : (b : Bool) → (settled_if b s).identity ≡ s.identity
+  flushed_identity : (b : Bool) → (device_settled_if b s).identity ≡ s.identity
   flushed_identity true = refl
   flushed_identity false = refl
 
@@ -109,13 +109,13 @@ module _ (s new : Device) (t : Entry) (reply : Reply) where
     identity = ap (λ d. d.identity) e.stays;
   }
     where
-      effect : Carried (command_in (pass_of cdb).regs) e.given (medium_of s) e.after
-      effect = carried_out (record { registers = (pass_of cdb).regs; given = e.given; ended = e.ended; taken = e.taken }) (medium_of s) e.after (command_in (pass_of cdb).regs) e.does
+      effect : Carried (command_in (pass_of cdb).regs) e.given (device_medium s) e.after
+      effect = carried_out (record { registers = (pass_of cdb).regs; given = e.given; ended = e.ended; taken = e.taken }) (device_medium s) e.after (command_in (pass_of cdb).regs) e.does
 
-      handed_in : (x : ℕ) → WritesItsOwn (commands.Pass cdb) → Spares x (pairs_of (command_in (pass_of cdb).regs) (medium_of s) t.body) → (b : Bool) → (pass_of cdb).out ≡ b
-          → Spares x (pairs_of (command_in (pass_of cdb).regs) (medium_of s) e.given)
-      handed_in x own h true out = subst (λ g. Spares x (pairs_of (command_in (pass_of cdb).regs) (medium_of s) g)) (sym (e.data_out out)) h
-      handed_in x own h false out = ap (list_any (λ p. p.lba == x)) (own out (medium_of s) e.given)
+      handed_in : (x : ℕ) → WritesItsOwn (commands.Pass cdb) → Spares x (pairs_of (command_in (pass_of cdb).regs) (device_medium s) t.body) → (b : Bool) → (pass_of cdb).out ≡ b
+          → Spares x (pairs_of (command_in (pass_of cdb).regs) (device_medium s) e.given)
+      handed_in x own h true out = subst (λ g. Spares x (pairs_of (command_in (pass_of cdb).regs) (device_medium s) g)) (sym (e.data_out out)) h
+      handed_in x own h false out = ap (list_any (λ p. p.lba == x)) (own out (device_medium s) e.given)
 
   -- by the command
   by_command : (c : Command) → EndsBy c s t reply new → Reaches c s t new

@@ -13,7 +13,7 @@ use Rattle.satl_line.specs.Ending.{EndsAs, Outcome}
 use Rattle.satl_line.specs.Ending.Outcome.{ends_done}
 use Rattle.satl_direct.specs.Device.{Device}
 use Rattle.satl_direct.specs.Tasks.{asks, over}
-use Rattle.satl_direct.specs.Ending.{Ends, EndsBy, EndsOnMedium, outcome_reply, selected, settled_if, surface_of}
+use Rattle.satl_direct.specs.Ending.{Ends, EndsBy, EndsOnMedium, device_settled_if, outcome_reply, selected, surface_of}
 use Rattle.satl_direct.specs.Quiet.{written_by}
 use Rattle.satl_laws.specs.Durable.{secures}
 use Rattle.satl_laws.proofs.Cases.{by_bool}
@@ -25,7 +25,7 @@ module _ (x : ℕ) (s mid : Device) (t : Entry) (reply : Reply) (good : reply.st
   not_good h = absurd (let clash : Good ≡ CheckCondition = sym good ∙ h in cc)
 
   -- what is written back where a flag is set is single
-  flushed_single : (b : Bool) → b ≡ true → mid.cells ≡ (settled_if b s).cells → IsSingle x mid.cells
+  flushed_single : (b : Bool) → b ≡ true → mid.cells ≡ (device_settled_if b s).cells → IsSingle x mid.cells
   flushed_single true h is = settled_single x s.cells mid.cells is
   flushed_single false h is = absurd cc
 

@@ -12,7 +12,7 @@ use Rattle.satl_direct.specs.Device.{Device, is_called, without}
 use Rattle.satl_direct.specs.Ending.{task_check}
 use Rattle.satl_direct.specs.Quiet.{Quiet}
 use Rattle.satl_direct.specs.Senses.{link_lost}
-use Rattle.satl_direct.specs.Turn.{OneEnds, Turn, lost_replies}
+use Rattle.satl_direct.specs.Turn.{OneEnds, Turn, device_lost_replies}
 use Rattle.satl_direct.specs.Turn.Turn.{idle, ends, loses, ends_and_loses}
 use Rattle.satl_direct.specs.Run.{TurnsOf}
 use Rattle.satl_direct.specs.Run.TurnsOf.{none, more}
@@ -76,7 +76,7 @@ module _ (nexus tag : ℕ) where
       omega (arith, to, gone, without_counts e.task s.tasks (may_end_in s e.task e.may))
 
   -- at a lost link: the answers are those to the tasks, and none is left
-  pub loss_counts : (s new : Device) (answers : List Reply) → answers ≡ lost_replies s → new.tasks ≡ [] → replies answers + mine new.tasks ≡ mine s.tasks
+  pub loss_counts : (s new : Device) (answers : List Reply) → answers ≡ device_lost_replies s → new.tasks ≡ [] → replies answers + mine new.tasks ≡ mine s.tasks
   loss_counts s new answers a t = omega (arith, ap replies a, lost_counts s s.tasks, ap mine t)
 
   -- a turn answers as many as it takes

@@ -11,13 +11,13 @@ use Rattle.satl_mode.specs.declared.page.Shown.{Shown}
 
 -- a page: PAGE CODE, PAGE LENGTH, which counts the bytes from byte 2 on, the bytes that never change, and those with the
 -- bits that a host can change; each byte that neither names is 0
-pub record Row : Type 0 where
+pub record ModePageRow : Type 0 where
   pub code : ℕ
   pub length : ℕ
   pub fixed : List Line
   pub settings : Modes → List Line
 
-abbrev pub row_of : ModePage → Row
+abbrev pub row_of : ModePage → ModePageRow
 -- SBC-3, Read-Write Error Recovery mode page: AWRE
 row_of ErrorRecovery = record { code = 0x01; length = 0x0A; fixed = byte 2 0x80 ∷ []; settings = λ m. [] }
 -- SBC-3, Caching mode page: WCE byte 2 bit 2, DRA byte 12 bit 5

@@ -8,7 +8,7 @@ use Rattle.satl_regs.specs.declared.values.How.TheVariants.{Pio, PioExt, Dma, Dm
 use Rattle.satl_regs.specs.declared.values.AtaCommand.{AtaCommand}
 use Rattle.satl_regs.specs.declared.values.AtaCommand.TheVariants as commands
 use Rattle.satl_regs.specs.Fields.{count_8, count_16}
-use Rattle.satl_regs.specs.Commands.{Row, table, first_row, row_of, command_by, command_in}
+use Rattle.satl_regs.specs.Commands.{CommandRow, command_rows, first_row, command_row, command_by, command_in}
 use Rattle.satl_regs.specs.Spelling.{command_registers, plain_registers, CommandFits}
 
 -- fields are read back
@@ -39,14 +39,14 @@ page_back : (log page : ℕ) → log < 256 → page < 65536 → (log + page / 1 
 page_back log page h k = omega arith
 
 -- no row gives `Other`
-abbrev AreNamed : List Row → Registers → Type 0
+abbrev AreNamed : List CommandRow → Registers → Type 0
 AreNamed [] r = Unit {0}
 AreNamed (row ∷ rows) r = ((code : ℕ) → row.command r ≡ commands.Other code → ⊥) × AreNamed rows r
 
-table_named : (r : Registers) → AreNamed table r
+table_named : (r : Registers) → AreNamed command_rows r
 table_named r = (λ n e. cc, (λ n e. cc, (λ n e. cc, (λ n e. cc, (λ n e. cc, (λ n e. cc, (λ n e. cc, (λ n e. cc, (λ n e. cc, (λ n e. cc, (λ n e. cc, (λ n e. cc, (λ n e. cc, (λ n e. cc, (λ n e. cc, (λ n e. cc, (λ n e. cc, (λ n e. cc, (λ n e. cc, (λ n e. cc, tt))))))))))))))))))))
 
-row_is_named : (rows : List Row) (r : Registers) (code : ℕ) → AreNamed rows r → command_by (first_row rows r) r ≡ commands.Other code → first_row rows r ≡ None
+row_is_named : (rows : List CommandRow) (r : Registers) (code : ℕ) → AreNamed rows r → command_by (first_row rows r) r ≡ commands.Other code → first_row rows r ≡ None
 row_is_named [] r code named e = refl
 row_is_named (row ∷ rows) r code named e =
     (elim (eqb r.command row.code && row.needs r) as (λ b. command_by (cond b (Some row) (first_row rows r)) r ≡ commands.Other code → cond b (Some row) (first_row rows r) ≡ None) [
@@ -55,30 +55,30 @@ row_is_named (row ∷ rows) r code named e =
     ]) e
 
 -- a command is `Other` exactly where the table has no row
-pub other_has_no_row : (r : Registers) → command_in r ≡ commands.Other r.command → IsNone (row_of r)
-unfolding command_in row_of
-other_has_no_row r e = ap is_some (row_is_named table r r.command (table_named r) e)
+pub other_has_no_row : (r : Registers) → command_in r ≡ commands.Other r.command → IsNone (command_row r)
+unfolding command_in command_row
+other_has_no_row r e = ap is_some (row_is_named command_rows r r.command (table_named r) e)
 
-without_row : (row : Option Row) (r : Registers) → IsNone row → command_by row r ≡ commands.Other r.command
+without_row : (row : Option CommandRow) (r : Registers) → IsNone row → command_by row r ≡ commands.Other r.command
 without_row None r e = refl
 without_row (Some row) r e = absurd cc
 
-pub no_row_is_other : (r : Registers) → IsNone (row_of r) → command_in r ≡ commands.Other r.command
+pub no_row_is_other : (r : Registers) → IsNone (command_row r) → command_in r ≡ commands.Other r.command
 unfolding command_in
-no_row_is_other r e = without_row (row_of r) r e
+no_row_is_other r e = without_row (command_row r) r e
 
 abbrev IsBack : AtaCommand → Type 0
 IsBack c = command_in (command_registers c) ≡ c
 
 reads_back : (how : How) (lba sectors : ℕ) → CommandFits (commands.Read how lba sectors) → IsBack (commands.Read how lba sectors)
-unfolding command_in command_registers row_of
+unfolding command_in command_registers command_row
 reads_back Pio lba sectors f = rw (lba_28_back lba f.address, count_8_back sectors f.some f.most) refl
 reads_back PioExt lba sectors f = rw (lba_48_back lba f.address, count_16_back sectors f.some f.most) refl
 reads_back Dma lba sectors f = rw (lba_28_back lba f.address, count_8_back sectors f.some f.most) refl
 reads_back DmaExt lba sectors f = rw (lba_48_back lba f.address, count_16_back sectors f.some f.most) refl
 
 writes_back : (how : How) (lba sectors : ℕ) → CommandFits (commands.Write how lba sectors) → IsBack (commands.Write how lba sectors)
-unfolding command_in command_registers row_of
+unfolding command_in command_registers command_row
 writes_back Pio lba sectors f = rw (lba_28_back lba f.address, count_8_back sectors f.some f.most) refl
 writes_back PioExt lba sectors f = rw (lba_48_back lba f.address, count_16_back sectors f.some f.most) refl
 writes_back Dma lba sectors f = rw (lba_28_back lba f.address, count_8_back sectors f.some f.most) refl
@@ -89,7 +89,7 @@ unfolding command_registers
 other_back code f = no_row_is_other (plain_registers 0 0 0 code) f
 
 pub command_back : (c : AtaCommand) → CommandFits c → IsBack c
-unfolding command_in command_registers row_of
+unfolding command_in command_registers command_row
 command_back (commands.Read how lba sectors) f = reads_back how lba sectors f
 command_back (commands.Write how lba sectors) f = writes_back how lba sectors f
 command_back (commands.Verify false lba sectors) f = rw (lba_28_back lba f.address, count_8_back sectors f.some f.most) refl

@@ -30,68 +30,68 @@ is_ext Dma = false
 is_ext DmaExt = true
 
 -- A row of the table: the code of a command, what registers with that code need beside it, and the command that they then hold.
-pub record Row : Type 0 where
+pub record CommandRow : Type 0 where
   pub code : ℕ
   pub needs : Registers → Bool
   pub command : Registers → AtaCommand
 
-abbrev pub always : ℕ → (Registers → AtaCommand) → Row
+abbrev pub always : ℕ → (Registers → AtaCommand) → CommandRow
 always code command = record { code = code; needs = λ r. true; command = command }
 
-abbrev pub read_row : How → Row
+abbrev pub read_row : How → CommandRow
 read_row how = always (read_code how) (λ r. commands.Read how (lba_of (is_ext how) r) (sectors_of (is_ext how) r))
 
-abbrev pub write_row : How → Row
+abbrev pub write_row : How → CommandRow
 write_row how = always (write_code how) (λ r. commands.Write how (lba_of (is_ext how) r) (sectors_of (is_ext how) r))
 
 -- READ VERIFY SECTOR(S), READ VERIFY SECTOR(S) EXT
-abbrev pub verify_row : Bool → Row
+abbrev pub verify_row : Bool → CommandRow
 verify_row ext = always (if ext then 0x42 else 0x40) (λ r. commands.Verify ext (lba_of ext r) (sectors_of ext r))
 
 -- FLUSH CACHE, FLUSH CACHE EXT
-abbrev pub flush_row : Bool → Row
+abbrev pub flush_row : Bool → CommandRow
 flush_row ext = always (if ext then 0xEA else 0xE7) (λ r. commands.Flush ext)
 
 -- IDENTIFY DEVICE
-abbrev pub identify_row : Row
+abbrev pub identify_row : CommandRow
 identify_row = always 0xEC (λ r. commands.Identify)
 
 -- SET FEATURES: its subcommand in FEATURES(7:0).
-abbrev pub set_features_row : Row
+abbrev pub set_features_row : CommandRow
 set_features_row = always 0xEF (λ r. commands.SetFeatures (bits_of 7 0 r.features))
 
 -- STANDBY IMMEDIATE
-abbrev pub standby_row : Row
+abbrev pub standby_row : CommandRow
 standby_row = always 0xE0 (λ r. commands.Standby)
 
 -- IDLE IMMEDIATE
-abbrev pub idle_row : Row
+abbrev pub idle_row : CommandRow
 idle_row = always 0xE1 (λ r. commands.Idle)
 
 -- CHECK POWER MODE
-abbrev pub check_power_row : Row
+abbrev pub check_power_row : CommandRow
 check_power_row = always 0xE5 (λ r. commands.CheckPower)
 
 -- READ LOG EXT: the log in LBA(7:0), the page in LBA(15:8) and above it LBA(39:32).
-abbrev pub read_log_row : Row
+abbrev pub read_log_row : CommandRow
 read_log_row =
     always 0x2F (λ r. commands.ReadLog (bits_of 7 0 r.lba) (bits_of 15 8 r.lba + bits_of 39 32 r.lba * 2 ^ 8)
     (count_16 r.count))
 
 -- DATA SET MANAGEMENT: TRIM is FEATURES(0).
-abbrev pub trim_row : Row
+abbrev pub trim_row : CommandRow
 trim_row = record { code = 0x06; needs = λ r. bits_of 0 0 r.features == 1; command = λ r. commands.Trim (count_16 r.count) }
 
 -- SMART RETURN STATUS: its subcommand in FEATURES(7:0), and the two signature bytes in LBA(23:8).
-abbrev pub smart_row : Row
+abbrev pub smart_row : CommandRow
 smart_row = record {
   code = 0xB0;
   needs = λ r. bits_of 7 0 r.features == 0xDA && bits_of 23 8 r.lba == 0xC24F;
   command = λ r. commands.SmartStatus;
 }
 
-abbrev pub table : List Row
-table =
+abbrev pub command_rows : List CommandRow
+command_rows =
     read_row Pio ∷ read_row PioExt ∷ read_row Dma ∷ read_row DmaExt
     ∷ write_row Pio ∷ write_row PioExt ∷ write_row Dma ∷ write_row DmaExt
     ∷ verify_row false ∷ verify_row true ∷ flush_row false ∷ flush_row true
@@ -115,19 +115,19 @@ code_of commands.SmartStatus = smart_row.code
 code_of (commands.Other code) = code
 
 -- The first of the rows whose code and needs the registers meet.
-abbrev pub first_row : List Row → Registers → Option Row
+abbrev pub first_row : List CommandRow → Registers → Option CommandRow
 first_row [] r = None
 first_row (row ∷ rows) r = if (r.command == row.code) && row.needs r then Some row else first_row rows r
 
 -- The row of the table for the registers, if it has one.
-unfoldable pub row_of : Registers → Option Row
-row_of r = first_row table r
+unfoldable pub command_row : Registers → Option CommandRow
+command_row r = first_row command_rows r
 
 -- The command by a row; without one it is `Other`.
-abbrev pub command_by : Option Row → Registers → AtaCommand
+abbrev pub command_by : Option CommandRow → Registers → AtaCommand
 command_by None r = commands.Other r.command
 command_by (Some row) r = row.command r
 
 -- The command in the registers.
 unfoldable pub command_in : Registers → AtaCommand
-command_in r = command_by (row_of r) r
+command_in r = command_by (command_row r) r

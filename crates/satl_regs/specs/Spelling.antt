@@ -4,7 +4,7 @@ use Rattle.satl_base.specs.Fields.{bits_of}
 use Rattle.satl_regs.specs.declared.values.Registers.{Registers}
 use Rattle.satl_regs.specs.declared.values.AtaCommand.{AtaCommand}
 use Rattle.satl_regs.specs.declared.values.AtaCommand.TheVariants as commands
-use Rattle.satl_regs.specs.Commands.{code_of, is_ext, row_of}
+use Rattle.satl_regs.specs.Commands.{code_of, command_row, is_ext}
 
 -- A command without an address of its own. DEVICE(6) is 1 in each.
 abbrev pub plain_registers : ℕ → ℕ → ℕ → ℕ → Registers
@@ -68,4 +68,4 @@ CommandFits commands.CheckPower = Unit {0}
 CommandFits (commands.ReadLog log page blocks) = (log < 2 ^ 8) × (page < 2 ^ 16) × IsBlockCount blocks
 CommandFits (commands.Trim blocks) = IsBlockCount blocks
 CommandFits commands.SmartStatus = Unit {0}
-CommandFits (commands.Other code) = IsNone (row_of (plain_registers 0 0 0 code))
+CommandFits (commands.Other code) = IsNone (command_row (plain_registers 0 0 0 code))

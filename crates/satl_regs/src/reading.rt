@@ -2,7 +2,7 @@
 
 ghost use Rattle.std.specs.Prelude.{◌≡◌, ◌↔◌, ◌+◌, ◌*◌, ◌^◌, ◌==◌, ◌&&◌, IsNone};
 ghost use Rattle.satl_base.specs.Fields.{bits_of};
-ghost use Rattle.satl_regs.specs.Commands.{command_in, is_ext, read_row, read_log_row, row_of, smart_row, trim_row, verify_row, write_row};
+ghost use Rattle.satl_regs.specs.Commands.{command_in, command_row, is_ext, read_row, read_log_row, smart_row, trim_row, verify_row, write_row};
 
 use crate::fields::{count_16_of, lba_in, sectors_in};
 use crate::values::{AtaCommand, How, Registers};
@@ -72,7 +72,7 @@ fn is_smart_status(regs: &Registers) -> bool
     regs.features & 0xFF == 0xDA && regs.lba >> 8 & 0xFFFF == 0xC24F
 }
 
-#[tactic(auto, unfolding(crate::specs::Commands::command_in, crate::specs::Commands::row_of))]
+#[tactic(auto, unfolding(crate::specs::Commands::command_in, crate::specs::Commands::command_row))]
 fn listed_or_other(regs: &Registers) -> AtaCommand
     ensures { result ≡ command_in regs.now }
 {
@@ -111,7 +111,7 @@ fn listed_or_other(regs: &Registers) -> AtaCommand
 /// TRIM bit, and SMART with other values than those of RETURN STATUS.
 pub fn command_of(regs: &Registers) -> AtaCommand
     ensures value { result ≡ command_in regs.now }
-    ensures other { (result ≡ AtaCommand.Other regs.now.command) ↔ IsNone (row_of regs.now) }
+    ensures other { (result ≡ AtaCommand.Other regs.now.command) ↔ IsNone (command_row regs.now) }
 {
     listed_or_other(regs)
 }

@@ -8,7 +8,7 @@ use Rattle.satl_line.specs.Conflict.{accesses_conflict}
 use Rattle.satl_line.specs.declared.entry.Entry.{Entry}
 use Rattle.satl_direct.specs.Device.{Device}
 use Rattle.satl_direct.specs.Turn.Turn.{ends_and_loses, loses}
-use Rattle.satl_direct.specs.Turn.{lost_replies}
+use Rattle.satl_direct.specs.Turn.{device_lost_replies}
 use Rattle.satl_direct.specs.Tasks.{over}
 use Rattle.satl_direct.specs.Quiet.{Quiet}
 use Rattle.satl_direct.specs.Run.TurnsOf.{none}
@@ -95,7 +95,7 @@ unfolding says fixed_form
 link_lost_on_arrival =
     it_can_happen lost_on_arrival
     (next (arrives [] (record (never_written 2) { tasks = task 1 (Read Ten 0 1 false) [] ∷ [] }) (refl, refl))
-    (next (arrives_and_loses [] (lost_replies two_reads) two_reads unplugged (refl, refl) (record { was_up = refl; answer = refl; stays = refl }))
+    (next (arrives_and_loses [] (device_lost_replies two_reads) two_reads unplugged (refl, refl) (record { was_up = refl; answer = refl; stays = refl }))
     (next (arrives [] (record unplugged { tasks = late_read ∷ [] }) (refl, refl))
     (next (drained (turn_more unplugged none (ended late_read refl (record { answer = refl; stays = refl }))) refl)
     ends_here))))

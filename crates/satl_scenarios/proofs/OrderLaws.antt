@@ -11,7 +11,7 @@ use Rattle.satl_direct.specs.Valid.{IsValid}
 use Rattle.satl_direct.proofs.Conditions.{valid_attended}
 use Rattle.satl_scenarios.specs.Orders.{IsOfArrivalOrder, IsOfOrderUnderErrors, torn_out_of_order, written_out_of_order}
 use Rattle.satl_scenarios.specs.Devices.{aa, bb, device}
-use Rattle.satl_scenarios.specs.Requests.{cdb_10, read, request, write}
+use Rattle.satl_scenarios.specs.Requests.{cdb_10, read_10, request, write_10}
 use Rattle.satl_scenarios.proofs.Validity.{blank_valid}
 
 -- ---- each nexus and tag asks once
@@ -58,7 +58,7 @@ powered_valid = valid_attended _ _ refl (power_told, (power_told, (power_told, (
 pub of_arrival_order : IsOfArrivalOrder written_out_of_order
 unfolding says
 of_arrival_order = record {
-  all = Request (request 1 (cdb_10 0x00 0 0) []) ∷ write 2 0 (aa ∷ []) ∷ write 3 1 (bb ∷ []) ∷ read 4 0 2 ∷ Request (request 5 (cdb_10 0x35 0 0) []) ∷ [];
+  all = Request (request 1 (cdb_10 0x00 0 0) []) ∷ write_10 2 0 (aa ∷ []) ∷ write_10 3 1 (bb ∷ []) ∷ read_10 4 0 2 ∷ Request (request 5 (cdb_10 0x35 0 0) []) ∷ [];
   to_end = refl;
   without_loss = refl;
   valid = powered_valid;

@@ -3,7 +3,7 @@ use Rattle.std.proofs.Common.{inl, refl, false, [], ◌∷◌}
 use Rattle.satl_cdb.specs.declared.command.Command.TheVariants.{Pass, Read}
 use Rattle.satl_cdb.specs.declared.command.Form.TheVariants.{Ten}
 use Rattle.satl_cdb.specs.Table.{says}
-use Rattle.satl_regs.specs.Commands.{command_in, row_of}
+use Rattle.satl_regs.specs.Commands.{command_in, command_row}
 use Rattle.satl_regs.specs.Effects.{good_end}
 use Rattle.satl_pass.specs.Reading.{pass_says}
 use Rattle.satl_frame.specs.DataPages.{padded_block, pages_from, pages_of}
@@ -11,7 +11,7 @@ use Rattle.satl_line.specs.declared.entry.Entry.{Entry}
 use Rattle.satl_line.specs.Conflict.{accesses_conflict}
 use Rattle.satl_line.specs.Ranged.RangedTask.{ranged_read}
 use Rattle.satl_direct.specs.Device.{Device}
-use Rattle.satl_direct.specs.Ending.{medium_of}
+use Rattle.satl_direct.specs.Ending.{device_medium}
 use Rattle.satl_direct.specs.Run.TurnsOf.{none}
 use Rattle.satl_direct.specs.Tasks.{over, pass_of}
 use Rattle.satl_scenarios.specs.Commands.{written}
@@ -28,7 +28,7 @@ abbrev identifying : Device
 identifying = with_task 1 (Pass identify) [] written
 
 pub identified_from_its_arrival : CanHappen identified_on_request
-unfolding says pass_says command_in row_of pages_of pages_from padded_block identify_data
+unfolding says pass_says command_in command_row pages_of pages_from padded_block identify_data
 identified_from_its_arrival =
     it_can_happen identified_on_request
     (next (arrives [] identifying (refl, refl))
@@ -39,7 +39,7 @@ identified_from_its_arrival =
       size = refl;
       ended = good_end (pass_of identify).regs 0 0;
       taken = record { bytes = identify_data 2 } ∷ [];
-      after = medium_of identifying;
+      after = device_medium identifying;
       does = record { ends = refl; data_in = refl; medium = refl };
       answer = refl;
       stays = refl;
@@ -57,7 +57,7 @@ abbrev still_to_read : Device
 still_to_read = record read_behind_it.last { tasks = waiting_read ∷ [] }
 
 pub read_from_its_arrival : CanHappen read_behind_it
-unfolding says pass_says command_in row_of pages_of pages_from padded_block full_of accesses_conflict
+unfolding says pass_says command_in command_row pages_of pages_from padded_block full_of accesses_conflict
 read_from_its_arrival =
     it_can_happen read_behind_it
     (next (arrives [] (with_task 1 (Pass write_block) (bb ∷ []) written) (refl, refl))
@@ -71,7 +71,7 @@ read_from_its_arrival =
       size = refl;
       ended = good_end (pass_of write_block).regs 0 0;
       taken = bb ∷ [];
-      after = medium_of still_to_read;
+      after = device_medium still_to_read;
       does = inl (record { ends = refl; data_in = refl; medium = refl });
       answer = refl;
       stays = refl;

@@ -5,12 +5,12 @@ use Rattle.std.proofs.lemmas.List.{get_or-set_other}
 use Rattle.satl_base.specs.declared.block.Block.{Block}
 use Rattle.satl_cdb.specs.declared.command.Command.TheVariants.{Pass}
 use Rattle.satl_sense.specs.Fixed.{fixed_form}
-use Rattle.satl_regs.specs.Commands.{command_in, row_of}
+use Rattle.satl_regs.specs.Commands.{command_in, command_row}
 use Rattle.satl_regs.specs.Effects.{IsTelling, flawed_end, good_end}
 use Rattle.satl_pass.specs.Status.{error_sense}
 use Rattle.satl_identify.specs.Data.{identity_data}
 use Rattle.satl_frame.specs.DataPages.{padded_block, pages_from, pages_of}
-use Rattle.satl_direct.specs.Ending.{medium_of}
+use Rattle.satl_direct.specs.Ending.{device_medium}
 use Rattle.satl_direct.specs.Tasks.{pass_of}
 use Rattle.satl_scenarios.specs.Commands.{written}
 use Rattle.satl_scenarios.specs.Passes.{cache_disabled, cache_off, check_power, identified, identify, power_checked, read_block, unreadable_through, write_block, written_through}
@@ -22,7 +22,7 @@ abbrev identify_data_2 : Block
 identify_data_2 = record { bytes = identify_data 2 }
 
 pub drive_identified : CanHappen identified
-unfolding command_in row_of pages_of pages_from padded_block identify_data
+unfolding command_in command_row pages_of pages_from padded_block identify_data
 drive_identified =
     turn_ends (Pass identify) [] written _ identified.last
     (record {
@@ -31,14 +31,14 @@ drive_identified =
       size = refl;
       ended = good_end (pass_of identify).regs 0 0;
       taken = identify_data_2 ∷ [];
-      after = medium_of identified.first;
+      after = device_medium identified.first;
       does = record { ends = refl; data_in = refl; medium = refl };
       answer = refl;
       stays = refl;
     }) refl refl
 
 pub power_mode_checked : CanHappen power_checked
-unfolding command_in row_of pages_of pages_from padded_block fixed_form
+unfolding command_in command_row pages_of pages_from padded_block fixed_form
 power_mode_checked =
     turn_ends (Pass check_power) [] written _ power_checked.last
     (record {
@@ -47,14 +47,14 @@ power_mode_checked =
       size = refl;
       ended = good_end (pass_of check_power).regs 0xFF 0;
       taken = [];
-      after = medium_of power_checked.first;
+      after = device_medium power_checked.first;
       does = record { ends = refl; data_in = refl; medium = refl };
       answer = refl;
       stays = refl;
     }) refl refl
 
 pub block_written : CanHappen written_through
-unfolding command_in row_of pages_of pages_from padded_block full_of
+unfolding command_in command_row pages_of pages_from padded_block full_of
 block_written =
     turn_ends (Pass write_block) (bb ∷ []) written _ written_through.last
     (record {
@@ -63,14 +63,14 @@ block_written =
       size = refl;
       ended = good_end (pass_of write_block).regs 0 0;
       taken = bb ∷ [];
-      after = medium_of (device written_through.last.cells);
+      after = device_medium (device written_through.last.cells);
       does = inl (record { ends = refl; data_in = refl; medium = refl });
       answer = refl;
       stays = refl;
     }) refl refl
 
 pub block_unreadable : CanHappen unreadable_through
-unfolding command_in row_of pages_of pages_from padded_block fixed_form error_sense
+unfolding command_in command_row pages_of pages_from padded_block fixed_form error_sense
 block_unreadable =
     turn_ends (Pass read_block) [] (lasts zeros ∷ unreadable zeros ∷ []) _ unreadable_through.last
     (record {
@@ -79,7 +79,7 @@ block_unreadable =
       size = refl;
       ended = flawed_end (pass_of read_block).regs true 1;
       taken = zeros ∷ [];
-      after = medium_of unreadable_through.first;
+      after = device_medium unreadable_through.first;
       does = record { ends = refl; data_in = refl; part = refl; medium = refl };
       answer = refl;
       stays = refl;
@@ -106,7 +106,7 @@ tells_disabled = record {
 }
 
 pub features_set : CanHappen cache_disabled
-unfolding command_in row_of pages_of pages_from padded_block identify_data
+unfolding command_in command_row pages_of pages_from padded_block identify_data
 features_set =
     turn_ends (Pass cache_off) [] written _ cache_disabled.last
     (record {
@@ -115,7 +115,7 @@ features_set =
       size = refl;
       ended = good_end (pass_of cache_off).regs 0 0;
       taken = [];
-      after = record (medium_of (device cache_disabled.last.cells)) { cache = false; identify = disabled_data };
+      after = record (device_medium (device cache_disabled.last.cells)) { cache = false; identify = disabled_data };
       does = record { ends = refl; data_in = refl; tells = tells_disabled; medium = refl };
       answer = refl;
       stays = refl;

@@ -8,12 +8,12 @@ use Rattle.satl_cdb.specs.declared.command.Command.TheVariants.{Pass}
 use Rattle.satl_frame.specs.DataPages.{padded_block, pages_from, pages_of}
 use Rattle.satl_frame.specs.Output.Answer.{replied}
 use Rattle.satl_mode.specs.Changes.{change_from}
-use Rattle.satl_regs.specs.Commands.{command_in, row_of}
+use Rattle.satl_regs.specs.Commands.{command_in, command_row}
 use Rattle.satl_regs.specs.Effects.{good_end}
 use Rattle.satl_sense.specs.Fixed.{fixed_form}
 use Rattle.satl_unit.specs.Conditions.{posted}
 use Rattle.satl_direct.specs.Device.{Device}
-use Rattle.satl_direct.specs.Ending.{Ends, medium_of}
+use Rattle.satl_direct.specs.Ending.{Ends, device_medium}
 use Rattle.satl_direct.specs.Run.{depth}
 use Rattle.satl_direct.specs.Tasks.{pass_of}
 use Rattle.satl_scenarios.specs.Commands.{written}
@@ -34,7 +34,7 @@ rest_turn command body cells reply last e none up =
     it_can_happen (ends_at_rest command body cells (replied reply) last) (next (one_turn last (ended (task 1 command body) refl e)) (rw (none, up) ends_here))
 
 pub block_read_through : CanHappen read_through
-unfolding command_in row_of pages_of pages_from padded_block full_of
+unfolding command_in command_row pages_of pages_from padded_block full_of
 block_read_through =
     rest_turn (Pass read_block) [] (lasts zeros ∷ lasts aa ∷ []) _ read_through.last
     (record {
@@ -43,14 +43,14 @@ block_read_through =
       size = refl;
       ended = good_end (pass_of read_block).regs 0 0;
       taken = aa ∷ [];
-      after = record (medium_of read_through.first) { active = true };
+      after = record (device_medium read_through.first) { active = true };
       does = inl (record { ends = refl; data_in = refl; medium = refl });
       answer = refl;
       stays = refl;
     }) refl refl
 
 pub standby_checked : CanHappen standby_told
-unfolding command_in row_of pages_of pages_from padded_block fixed_form
+unfolding command_in command_row pages_of pages_from padded_block fixed_form
 standby_checked =
     rest_turn (Pass check_power) [] written _ standby_told.last
     (record {
@@ -59,7 +59,7 @@ standby_checked =
       size = refl;
       ended = good_end (pass_of check_power).regs 0 0;
       taken = [];
-      after = medium_of standby_told.first;
+      after = device_medium standby_told.first;
       does = record { ends = refl; data_in = refl; medium = refl };
       answer = refl;
       stays = refl;

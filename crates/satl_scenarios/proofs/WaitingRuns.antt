@@ -17,7 +17,7 @@ use Rattle.satl_direct.specs.Run.TurnsOf.{none}
 use Rattle.satl_scenarios.specs.Scenario.{CanBeCut, CanHappen, Scenario, events_of, silent}
 use Rattle.satl_scenarios.specs.Waiting.{aborted_half_done, overlapped_reads, full, one_too_many, one_turn_left}
 use Rattle.satl_scenarios.specs.Devices.{aa, never_written, device, cached_over, lasts, zeros}
-use Rattle.satl_scenarios.specs.Requests.{read, task}
+use Rattle.satl_scenarios.specs.Requests.{read_10, task}
 use Rattle.satl_scenarios.proofs.Building.{it_can_happen, arrives, drained, manages, turn_more}
 use Rattle.satl_scenarios.proofs.Building.Follows.{next, ends_here}
 use Rattle.satl_scenarios.proofs.Endings.{ended, done}
@@ -71,7 +71,7 @@ set_full = it_can_happen one_too_many (next (arrives _ full (refl, refl)) ends_h
 abbrev arrived : Scenario
 arrived = record {
   first = never_written 2;
-  steps = silent (read 1 0 1) ∷ silent (read 2 1 1) ∷ [];
+  steps = silent (read_10 1 0 1) ∷ silent (read_10 2 1 1) ∷ [];
   losses = 0;
   depth = 2;
   last = both_wait;

@@ -12,20 +12,20 @@ use Rattle.satl_frame.specs.Output.Answer.{replied}
 use Rattle.satl_direct.specs.Device.{Device}
 use Rattle.satl_scenarios.specs.Scenario.{Scenario, answered, silent}
 use Rattle.satl_scenarios.specs.Devices.{never_written, zeros}
-use Rattle.satl_scenarios.specs.Replies.{check, good, reply, sense}
-use Rattle.satl_scenarios.specs.Requests.{cdb_10, read, request, task}
+use Rattle.satl_scenarios.specs.Replies.{check_condition, good, reply, sense}
+use Rattle.satl_scenarios.specs.Requests.{cdb_10, read_10, request, task}
 
 -- another logical unit (SAM-5 4.6.4)
 abbrev pub unit_1 : List ℕ
 unit_1 = 0 ∷ 1 ∷ replicate 6 0
 
 -- a command with a CDB of six bytes
-abbrev pub six : ℕ → List ℕ → Asked
-six tag cdb = request tag (cdb ++ replicate 10 0) []
+abbrev pub request_6 : ℕ → List ℕ → Asked
+request_6 tag cdb = request tag (cdb ++ replicate 10 0) []
 
 -- REQUEST SENSE, for data in the fixed form (0) or in the descriptor form (1), with an allocation length (SPC-4 6.39)
-abbrev pub request_sense : ℕ → ℕ → ℕ → Asked
-request_sense tag form alloc = six tag (0x03 ∷ form ∷ 0 ∷ 0 ∷ alloc ∷ 0 ∷ [])
+abbrev pub request_for_sense : ℕ → ℕ → ℕ → Asked
+request_for_sense tag form alloc = request_6 tag (0x03 ∷ form ∷ 0 ∷ 0 ∷ alloc ∷ 0 ∷ [])
 
 -- GOOD with data-in of fewer bytes than a page has: they are its first (SAM-5 5.3.1)
 abbrev pub good_with : ℕ → List ℕ → Answer
@@ -44,9 +44,9 @@ abbrev pub sense_requested : Scenario
 sense_requested = record {
   first = record (never_written 2) { attentions = (UnitReset ∷ ModeChanged ∷ []) ∷ [] ∷ [] ∷ [] ∷ [] };
   steps =
-      answered (Request (request_sense 1 0 18)) (good_with 1 (sense 0x6 0x29 0x03) ∷ [])
-      ∷ answered (Request (request_sense 2 0 18)) (good_with 2 (sense 0x6 0x2A 0x01) ∷ [])
-      ∷ answered (Request (request_sense 3 0 18)) (good_with 3 (sense 0x0 0x00 0x00) ∷ [])
+      answered (Request (request_for_sense 1 0 18)) (good_with 1 (sense 0x6 0x29 0x03) ∷ [])
+      ∷ answered (Request (request_for_sense 2 0 18)) (good_with 2 (sense 0x6 0x2A 0x01) ∷ [])
+      ∷ answered (Request (request_for_sense 3 0 18)) (good_with 3 (sense 0x0 0x00 0x00) ∷ [])
       ∷ [];
   losses = 0;
   depth = 0;
@@ -59,8 +59,9 @@ abbrev pub other_unit : Scenario
 other_unit = record {
   first = record (never_written 2) { attentions = (UnitReset ∷ []) ∷ [] ∷ [] ∷ [] ∷ [] };
   steps =
-      answered (Request (record (request_sense 1 1 4) { lun = unit_1 })) (good_with 1 (0x72 ∷ 0x5 ∷ 0x25 ∷ 0x00 ∷ []) ∷ [])
-      ∷ answered (Request (record (six 2 (replicate 6 0)) { lun = unit_1 })) (check 2 (sense 0x5 0x25 0x00) ∷ [])
+      answered (Request (record (request_for_sense 1 1 4) { lun = unit_1 })) (good_with 1 (0x72 ∷ 0x5 ∷ 0x25 ∷ 0x00 ∷ []) ∷ [])
+      ∷ answered (Request (record (request_6 2 (replicate 6 0)) { lun = unit_1 }))
+      (check_condition 2 (sense 0x5 0x25 0x00) ∷ [])
       ∷ [];
   losses = 0;
   depth = 0;
@@ -73,9 +74,9 @@ abbrev pub nothing_moved : Scenario
 nothing_moved = record {
   first = never_written 2;
   steps =
-      answered (read 1 2 0) (good 1 [] ∷ [])
+      answered (read_10 1 2 0) (good 1 [] ∷ [])
       ∷ answered (Request (request 2 (cdb_10 0x2A 0 0) [])) (good 2 [] ∷ [])
-      ∷ answered (read 3 3 0) (check 3 (sense 0x5 0x21 0x00) ∷ [])
+      ∷ answered (read_10 3 3 0) (check_condition 3 (sense 0x5 0x21 0x00) ∷ [])
       ∷ [];
   losses = 0;
   depth = 0;
@@ -86,7 +87,7 @@ nothing_moved = record {
 abbrev pub no_block_at_rest : Scenario
 no_block_at_rest = record {
   first = record (never_written 2) { started = false; active = false };
-  steps = answered (read 1 2 0) (check 1 (sense 0x2 0x04 0x02) ∷ []) ∷ [];
+  steps = answered (read_10 1 2 0) (check_condition 1 (sense 0x2 0x04 0x02) ∷ []) ∷ [];
   losses = 0;
   depth = 0;
   last = record (never_written 2) { started = false; active = false };
@@ -104,7 +105,7 @@ full_of_blocks = record (never_written 2) { tasks = map (λ tag. task tag (Pass 
 abbrev pub one_block_too_many : Scenario
 one_block_too_many = record {
   first = full_of_blocks;
-  steps = answered (read 9 0 1) (reply 9 TaskSetFull [] [] ∷ []) ∷ [];
+  steps = answered (read_10 9 0 1) (reply 9 TaskSetFull [] [] ∷ []) ∷ [];
   losses = 0;
   depth = 0;
   last = full_of_blocks;

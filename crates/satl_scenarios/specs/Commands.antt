@@ -11,7 +11,7 @@ use Rattle.satl_frame.specs.Output.{Answer}
 use Rattle.satl_direct.specs.Device.{Device}
 use Rattle.satl_scenarios.specs.Scenario.{Scenario, answered}
 use Rattle.satl_scenarios.specs.Devices.{aa, bb, cached_over, device, lasts, unreadable, zeros}
-use Rattle.satl_scenarios.specs.Replies.{check, good, sense, sense_at}
+use Rattle.satl_scenarios.specs.Replies.{check_condition, good, sense, sense_at}
 use Rattle.satl_scenarios.specs.Requests.{with_task}
 
 -- a command of tag 1 that waits at a device with these sectors ends in a turn with this answer, and leaves this device
@@ -56,12 +56,12 @@ abbrev pub same_blocks : Scenario
 same_blocks = ends_with (Verify Ten 0 2 true) (aa ∷ zeros ∷ []) written (good 1 []) (device written)
 
 abbrev pub miscompared : Scenario
-miscompared = ends_with (Verify Ten 0 2 true) (aa ∷ bb ∷ []) written (check 1 (sense 0xE 0x1D 0x00)) (device written)
+miscompared = ends_with (Verify Ten 0 2 true) (aa ∷ bb ∷ []) written (check_condition 1 (sense 0xE 0x1D 0x00)) (device written)
 
 -- VERIFY without comparison meets a flaw (SBC-3, VERIFY commands)
 abbrev pub verify_failed : Scenario
 verify_failed =
-    ends_with (Verify Ten 0 2 false) [] (lasts zeros ∷ unreadable zeros ∷ []) (check 1 (sense_at 0x3 0x11 0x00 1))
+    ends_with (Verify Ten 0 2 false) [] (lasts zeros ∷ unreadable zeros ∷ []) (check_condition 1 (sense_at 0x3 0x11 0x00 1))
     (device (lasts zeros ∷ unreadable zeros ∷ []))
 
 -- WRITE SAME: the block at each address (SBC-3, WRITE SAME commands)

@@ -6,8 +6,8 @@ use Rattle.satl_frame.specs.declared.frames.Frame.TheVariants.{Bench, End, Turn}
 use Rattle.satl_frame.specs.Output.Answer.{ended}
 use Rattle.satl_scenarios.specs.Scenario.{Scenario, answered, silent}
 use Rattle.satl_scenarios.specs.Devices.{aa, bb, never_written, cached_over, device, lasts, unreadable, unwritable, zeros}
-use Rattle.satl_scenarios.specs.Replies.{check, good, sense, sense_at}
-use Rattle.satl_scenarios.specs.Requests.{read, write}
+use Rattle.satl_scenarios.specs.Replies.{check_condition, good, sense, sense_at}
+use Rattle.satl_scenarios.specs.Requests.{read_10, write_10}
 
 -- of three commands that wait, the read in the middle fails first, and the writes about it are done: UNRECOVERED READ ERROR at
 -- its address (SPC-4 4.5.6)
@@ -16,10 +16,10 @@ flaw_among_writes = record {
   first = never_written 3;
   steps =
       silent (Bench (Strike flaws.Read 1))
-      ∷ silent (write 1 0 (aa ∷ []))
-      ∷ silent (read 2 1 1)
-      ∷ silent (write 3 2 (bb ∷ []))
-      ∷ answered End (check 2 (sense_at 0x3 0x11 0x00 1) ∷ good 1 [] ∷ good 3 [] ∷ ended ∷ [])
+      ∷ silent (write_10 1 0 (aa ∷ []))
+      ∷ silent (read_10 2 1 1)
+      ∷ silent (write_10 3 2 (bb ∷ []))
+      ∷ answered End (check_condition 2 (sense_at 0x3 0x11 0x00 1) ∷ good 1 [] ∷ good 3 [] ∷ ended ∷ [])
       ∷ [];
   losses = 0;
   depth = 3;
@@ -33,8 +33,8 @@ torn_write = record {
   first = never_written 2;
   steps =
       silent (Bench (Strike flaws.Write 1))
-      ∷ silent (write 1 0 (aa ∷ bb ∷ []))
-      ∷ answered (Turn 1) (check 1 (sense_at 0x3 0x0C 0x02 1) ∷ [])
+      ∷ silent (write_10 1 0 (aa ∷ bb ∷ []))
+      ∷ answered (Turn 1) (check_condition 1 (sense_at 0x3 0x0C 0x02 1) ∷ [])
       ∷ [];
   losses = 0;
   depth = 1;
@@ -47,9 +47,9 @@ garbled_read = record {
   first = never_written 2;
   steps =
       silent (Bench (Glitch 1))
-      ∷ silent (read 1 0 1)
-      ∷ answered (Turn 1) (check 1 (sense 0xB 0x47 0x03) ∷ [])
-      ∷ silent (read 2 0 1)
+      ∷ silent (read_10 1 0 1)
+      ∷ answered (Turn 1) (check_condition 1 (sense 0xB 0x47 0x03) ∷ [])
+      ∷ silent (read_10 2 0 1)
       ∷ answered (Turn 1) (good 2 (zeros ∷ []) ∷ [])
       ∷ [];
   losses = 0;
@@ -63,7 +63,7 @@ spared_read = record {
   first = never_written 2;
   steps =
       silent (Bench (Glitch 1))
-      ∷ silent (read 1 0 1)
+      ∷ silent (read_10 1 0 1)
       ∷ answered (Turn 1) (good 1 (zeros ∷ []) ∷ [])
       ∷ [];
   losses = 0;
@@ -76,9 +76,10 @@ abbrev pub described : Scenario
 described = record {
   first = record (device (lasts zeros ∷ unreadable zeros ∷ [])) { modes = record { wce = true; dra = false; d_sense = true } };
   steps =
-      silent (read 1 0 2)
+      silent (read_10 1 0 2)
       ∷ answered (Turn 1) (
-      check 1 ((0x72 ∷ 0x3 ∷ 0x11 ∷ 0x00 ∷ 0 ∷ 0 ∷ 0 ∷ 0x0C ∷ []) ++ (0 ∷ 0x0A ∷ 0x80 ∷ 0 ∷ 0 ∷ 0 ∷ 0 ∷ 0 ∷ 0 ∷ 0 ∷ 0 ∷ 1 ∷ []))
+      check_condition 1
+      ((0x72 ∷ 0x3 ∷ 0x11 ∷ 0x00 ∷ 0 ∷ 0 ∷ 0 ∷ 0x0C ∷ []) ++ (0 ∷ 0x0A ∷ 0x80 ∷ 0 ∷ 0 ∷ 0 ∷ 0 ∷ 0 ∷ 0 ∷ 0 ∷ 0 ∷ 1 ∷ []))
       ∷ []
       )
       ∷ [];

@@ -8,8 +8,8 @@ use Rattle.satl_frame.specs.declared.frames.Frame.TheVariants.{End, Manage, Requ
 use Rattle.satl_frame.specs.Output.Answer.{ended}
 use Rattle.satl_scenarios.specs.Scenario.{Scenario, answered, silent}
 use Rattle.satl_scenarios.specs.Devices.{never_written}
-use Rattle.satl_scenarios.specs.Replies.{check, response, sense}
-use Rattle.satl_scenarios.specs.Requests.{cdb_10, manage, read, request, task}
+use Rattle.satl_scenarios.specs.Replies.{check_condition, response, sense}
+use Rattle.satl_scenarios.specs.Requests.{cdb_10, manage, read_10, request, task}
 
 -- QUERY TASK of a task that waits and of one that does not, a code that stands for no function, and another logical unit (SAM-5
 -- 7.1, 7.9)
@@ -17,7 +17,7 @@ abbrev pub queried : Scenario
 queried = record {
   first = never_written 2;
   steps =
-      silent (read 1 0 1)
+      silent (read_10 1 0 1)
       ∷ answered (Manage (manage 0 0x80 1)) (response 0 0x80 1 Succeeded ∷ [])
       ∷ answered (Manage (manage 0 0x80 2)) (response 0 0x80 2 Complete ∷ [])
       ∷ answered (Manage (manage 0 0x03 1)) (response 0 0x03 1 Rejected ∷ [])
@@ -33,9 +33,9 @@ abbrev pub tasks_cleared : Scenario
 tasks_cleared = record {
   first = never_written 2;
   steps =
-      silent (read 1 0 1)
+      silent (read_10 1 0 1)
       ∷ answered (Manage (manage 1 0x04 0)) (response 1 0x04 0 Complete ∷ [])
-      ∷ answered (read 2 0 1) (check 2 (sense 0x6 0x2F 0x00) ∷ [])
+      ∷ answered (read_10 2 0 1) (check_condition 2 (sense 0x6 0x2F 0x00) ∷ [])
       ∷ answered End (ended ∷ [])
       ∷ [];
   losses = 0;
@@ -48,9 +48,9 @@ abbrev pub all_reset : Scenario
 all_reset = record {
   first = never_written 2;
   steps =
-      silent (read 1 0 1)
+      silent (read_10 1 0 1)
       ∷ answered (Manage (manage 1 0x08 0)) (response 1 0x08 0 Complete ∷ [])
-      ∷ answered (read 2 0 1) (check 2 (sense 0x6 0x29 0x03) ∷ [])
+      ∷ answered (read_10 2 0 1) (check_condition 2 (sense 0x6 0x29 0x03) ∷ [])
       ∷ [];
   losses = 0;
   depth = 1;
@@ -63,8 +63,8 @@ abbrev pub set_aborted : Scenario
 set_aborted = record {
   first = never_written 2;
   steps =
-      silent (read 1 0 1)
-      ∷ silent (read 2 1 1)
+      silent (read_10 1 0 1)
+      ∷ silent (read_10 2 1 1)
       ∷ answered (Manage (manage 0 0x81 0)) (response 0 0x81 0 Succeeded ∷ [])
       ∷ answered (Manage (manage 1 0x81 0)) (response 1 0x81 0 Complete ∷ [])
       ∷ answered (Manage (manage 0 0x02 0)) (response 0 0x02 0 Complete ∷ [])
@@ -81,10 +81,10 @@ abbrev pub nexus_reset : Scenario
 nexus_reset = record {
   first = never_written 2;
   steps =
-      silent (read 1 0 1)
+      silent (read_10 1 0 1)
       ∷ silent (Request (record (request 2 (cdb_10 0x28 1 1) []) { nexus = 1 }))
       ∷ answered (Manage (record (manage 0 0x10 0) { lun = 0 ∷ 1 ∷ replicate 6 0 })) (response 0 0x10 0 Complete ∷ [])
-      ∷ answered (read 3 0 1) (check 3 (sense 0x6 0x29 0x07) ∷ [])
+      ∷ answered (read_10 3 0 1) (check_condition 3 (sense 0x6 0x29 0x07) ∷ [])
       ∷ [];
   losses = 0;
   depth = 2;

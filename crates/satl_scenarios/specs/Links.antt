@@ -6,17 +6,17 @@ use Rattle.satl_frame.specs.declared.frames.Frame.TheVariants.{Bench, End, Manag
 use Rattle.satl_frame.specs.Output.Answer.{ended}
 use Rattle.satl_scenarios.specs.Scenario.{Scenario, answered, silent}
 use Rattle.satl_scenarios.specs.Devices.{aa, never_written, cached_over, device, lasts, zeros}
-use Rattle.satl_scenarios.specs.Replies.{check, good, response, sense}
-use Rattle.satl_scenarios.specs.Requests.{manage, read, write}
+use Rattle.satl_scenarios.specs.Replies.{check_condition, good, response, sense}
+use Rattle.satl_scenarios.specs.Requests.{manage, read_10, write_10}
 
 -- the link is lost in a turn: all that waits is answered in order, with LOGICAL UNIT COMMUNICATION FAILURE (SPC-4 4.5.6)
 abbrev pub lost_in_turn : Scenario
 lost_in_turn = record {
   first = never_written 3;
   steps =
-      silent (write 1 0 (aa ∷ []))
-      ∷ silent (read 2 1 1)
-      ∷ answered (Turn 1) (check 1 (sense 0x4 0x08 0x00) ∷ check 2 (sense 0x4 0x08 0x00) ∷ [])
+      silent (write_10 1 0 (aa ∷ []))
+      ∷ silent (read_10 2 1 1)
+      ∷ answered (Turn 1) (check_condition 1 (sense 0x4 0x08 0x00) ∷ check_condition 2 (sense 0x4 0x08 0x00) ∷ [])
       ∷ [];
   losses = 1;
   depth = 2;
@@ -29,8 +29,8 @@ unplugged_again = record {
   first = never_written 2;
   steps =
       silent (Bench Unplug)
-      ∷ silent (read 1 0 1)
-      ∷ answered (Bench Unplug) (check 1 (sense 0x4 0x08 0x00) ∷ [])
+      ∷ silent (read_10 1 0 1)
+      ∷ answered (Bench Unplug) (check_condition 1 (sense 0x4 0x08 0x00) ∷ [])
       ∷ [];
   losses = 2;
   depth = 0;
@@ -42,9 +42,9 @@ abbrev pub done_and_lost : Scenario
 done_and_lost = record {
   first = never_written 3;
   steps =
-      silent (write 1 0 (aa ∷ []))
-      ∷ silent (read 2 1 1)
-      ∷ answered (Turn 1) (good 2 (zeros ∷ []) ∷ check 1 (sense 0x4 0x08 0x00) ∷ [])
+      silent (write_10 1 0 (aa ∷ []))
+      ∷ silent (read_10 2 1 1)
+      ∷ answered (Turn 1) (good 2 (zeros ∷ []) ∷ check_condition 1 (sense 0x4 0x08 0x00) ∷ [])
       ∷ [];
   losses = 1;
   depth = 2;
@@ -56,10 +56,10 @@ abbrev pub lost_on_arrival : Scenario
 lost_on_arrival = record {
   first = never_written 2;
   steps =
-      silent (read 1 0 1)
-      ∷ answered (read 2 1 1) (check 1 (sense 0x4 0x08 0x00) ∷ check 2 (sense 0x4 0x08 0x00) ∷ [])
-      ∷ silent (read 3 0 1)
-      ∷ answered End (check 3 (sense 0x4 0x08 0x00) ∷ ended ∷ [])
+      silent (read_10 1 0 1)
+      ∷ answered (read_10 2 1 1) (check_condition 1 (sense 0x4 0x08 0x00) ∷ check_condition 2 (sense 0x4 0x08 0x00) ∷ [])
+      ∷ silent (read_10 3 0 1)
+      ∷ answered End (check_condition 3 (sense 0x4 0x08 0x00) ∷ ended ∷ [])
       ∷ [];
   losses = 1;
   depth = 1;
@@ -71,9 +71,9 @@ abbrev pub lost_at_an_abort : Scenario
 lost_at_an_abort = record {
   first = never_written 2;
   steps =
-      silent (read 1 0 1)
-      ∷ silent (read 2 1 1)
-      ∷ answered (Manage (manage 0 0x01 1)) (check 2 (sense 0x4 0x08 0x00) ∷ response 0 0x01 1 Complete ∷ [])
+      silent (read_10 1 0 1)
+      ∷ silent (read_10 2 1 1)
+      ∷ answered (Manage (manage 0 0x01 1)) (check_condition 2 (sense 0x4 0x08 0x00) ∷ response 0 0x01 1 Complete ∷ [])
       ∷ [];
   losses = 1;
   depth = 2;
@@ -84,7 +84,7 @@ lost_at_an_abort = record {
 abbrev pub glitch_lost : Scenario
 glitch_lost = record {
   first = record (never_written 2) { glitches = 2 };
-  steps = silent (read 1 0 1) ∷ answered (Turn 1) (check 1 (sense 0x4 0x08 0x00) ∷ []) ∷ [];
+  steps = silent (read_10 1 0 1) ∷ answered (Turn 1) (check_condition 1 (sense 0x4 0x08 0x00) ∷ []) ∷ [];
   losses = 1;
   depth = 1;
   last = record (never_written 2) { down = true; active = false; glitches = 1 };
@@ -95,9 +95,9 @@ abbrev pub lost_at_the_end : Scenario
 lost_at_the_end = record {
   first = never_written 2;
   steps =
-      silent (read 1 0 1)
-      ∷ silent (read 2 1 1)
-      ∷ answered End (good 2 (zeros ∷ []) ∷ check 1 (sense 0x4 0x08 0x00) ∷ ended ∷ [])
+      silent (read_10 1 0 1)
+      ∷ silent (read_10 2 1 1)
+      ∷ answered End (good 2 (zeros ∷ []) ∷ check_condition 1 (sense 0x4 0x08 0x00) ∷ ended ∷ [])
       ∷ [];
   losses = 1;
   depth = 2;

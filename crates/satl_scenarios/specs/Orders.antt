@@ -16,8 +16,8 @@ use Rattle.satl_direct.specs.Device.{Device}
 use Rattle.satl_direct.specs.Valid.{IsValid}
 use Rattle.satl_scenarios.specs.Scenario.{Scenario, answered, events_of, silent}
 use Rattle.satl_scenarios.specs.Devices.{aa, bb, never_written, cached_over, device, lasts, just_powered, zeros}
-use Rattle.satl_scenarios.specs.Replies.{check, good, sense}
-use Rattle.satl_scenarios.specs.Requests.{cdb_10, read, request, task, write}
+use Rattle.satl_scenarios.specs.Replies.{check_condition, good, sense}
+use Rattle.satl_scenarios.specs.Requests.{cdb_10, read_10, request, task, write_10}
 
 -- just after the power came back: TEST UNIT READY is told so; then two WRITEs, a READ over both and SYNCHRONIZE CACHE, sent
 -- without waiting. The second WRITE ends first, and the READ gives both blocks (SAM-5 5.14, 8; SBC-3 5)
@@ -25,10 +25,10 @@ abbrev pub written_out_of_order : Scenario
 written_out_of_order = record {
   first = just_powered (never_written 3).cells;
   steps =
-      answered (Request (request 1 (cdb_10 0x00 0 0) [])) (check 1 (sense 0x6 0x29 0x01) ∷ [])
-      ∷ silent (write 2 0 (aa ∷ []))
-      ∷ silent (write 3 1 (bb ∷ []))
-      ∷ silent (read 4 0 2)
+      answered (Request (request 1 (cdb_10 0x00 0 0) [])) (check_condition 1 (sense 0x6 0x29 0x01) ∷ [])
+      ∷ silent (write_10 2 0 (aa ∷ []))
+      ∷ silent (write_10 3 1 (bb ∷ []))
+      ∷ silent (read_10 4 0 2)
       ∷ silent (Request (request 5 (cdb_10 0x35 0 0) []))
       ∷ answered End (good 3 [] ∷ good 2 [] ∷ good 4 (aa ∷ bb ∷ []) ∷ good 5 [] ∷ ended ∷ [])
       ∷ [];
@@ -46,12 +46,12 @@ torn_out_of_order = record {
   first = never_written 3;
   steps =
       silent (Bench (bench.Glitch 1))
-      ∷ silent (write 1 0 (aa ∷ bb ∷ []))
-      ∷ silent (write 2 2 (aa ∷ []))
-      ∷ silent (read 3 0 3)
-      ∷ answered (Turn 3) (good 2 [] ∷ check 1 (sense 0xB 0x47 0x03) ∷ good 3 (zeros ∷ bb ∷ aa ∷ []) ∷ [])
-      ∷ silent (write 4 1 (aa ∷ []))
-      ∷ answered (Bench bench.Unplug) (check 4 (sense 0x4 0x08 0x00) ∷ [])
+      ∷ silent (write_10 1 0 (aa ∷ bb ∷ []))
+      ∷ silent (write_10 2 2 (aa ∷ []))
+      ∷ silent (read_10 3 0 3)
+      ∷ answered (Turn 3) (good 2 [] ∷ check_condition 1 (sense 0xB 0x47 0x03) ∷ good 3 (zeros ∷ bb ∷ aa ∷ []) ∷ [])
+      ∷ silent (write_10 4 1 (aa ∷ []))
+      ∷ answered (Bench bench.Unplug) (check_condition 4 (sense 0x4 0x08 0x00) ∷ [])
       ∷ [];
   losses = 1;
   depth = 2;

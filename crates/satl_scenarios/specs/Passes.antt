@@ -6,8 +6,8 @@ use Rattle.satl_frame.specs.Output.{Answer}
 use Rattle.satl_scenarios.specs.Commands.{ends_with, written}
 use Rattle.satl_scenarios.specs.Scenario.{Scenario, answered, silent}
 use Rattle.satl_scenarios.specs.Devices.{aa, bb, cached_over, device, identify_data, lasts, unreadable, zeros}
-use Rattle.satl_scenarios.specs.Replies.{check, good}
-use Rattle.satl_scenarios.specs.Requests.{read, request}
+use Rattle.satl_scenarios.specs.Replies.{check_condition, good}
+use Rattle.satl_scenarios.specs.Requests.{read_10, request}
 
 -- bytes of an ATA PASS-THROUGH (16): byte 1 with PROTOCOL and EXTEND, byte 2 with the flags, and the low bytes of FEATURES,
 -- COUNT, LBA, DEVICE and COMMAND (SAT-3 12.2.2.3)
@@ -68,7 +68,7 @@ identified_on_request = record {
 abbrev pub power_checked : Scenario
 power_checked =
     ends_with (Pass check_power) [] written
-    (check 1 (0xF0 ∷ 0 ∷ 0x1 ∷ 0 ∷ 0x40 ∷ 0 ∷ 0xFF ∷ 0x0A ∷ 0 ∷ 0 ∷ 0 ∷ 0 ∷ 0x00 ∷ 0x1D ∷ 0 ∷ 0 ∷ 0 ∷ 0 ∷ []))
+    (check_condition 1 (0xF0 ∷ 0 ∷ 0x1 ∷ 0 ∷ 0x40 ∷ 0 ∷ 0xFF ∷ 0x0A ∷ 0 ∷ 0 ∷ 0 ∷ 0 ∷ 0x00 ∷ 0x1D ∷ 0 ∷ 0 ∷ 0 ∷ 0 ∷ []))
     (device written)
 
 -- SET FEATURES turns the write cache off: all is written back, and WCE is 0 (ACS-3, SET FEATURES; SAT-3)
@@ -93,7 +93,7 @@ read_behind_it = record {
   first = device written;
   steps =
       silent (Request (request 1 write_block (bb ∷ [])))
-      ∷ silent (read 2 1 1)
+      ∷ silent (read_10 2 1 1)
       ∷ answered (Turn 2) (good 1 [] ∷ good 2 (bb ∷ []) ∷ [])
       ∷ [];
   losses = 0;
@@ -106,5 +106,5 @@ read_behind_it = record {
 abbrev pub unreadable_through : Scenario
 unreadable_through =
     ends_with (Pass read_block) [] (lasts zeros ∷ unreadable zeros ∷ [])
-    (check 1 (0xF0 ∷ 0 ∷ 0x3 ∷ 0x40 ∷ 0x41 ∷ 0x40 ∷ 0 ∷ 0x0A ∷ 0x80 ∷ 1 ∷ 0 ∷ 0 ∷ 0x11 ∷ 0x00 ∷ 0 ∷ 0 ∷ 0 ∷ 0 ∷ []))
+    (check_condition 1 (0xF0 ∷ 0 ∷ 0x3 ∷ 0x40 ∷ 0x41 ∷ 0x40 ∷ 0 ∷ 0x0A ∷ 0x80 ∷ 1 ∷ 0 ∷ 0 ∷ 0x11 ∷ 0x00 ∷ 0 ∷ 0 ∷ 0 ∷ 0 ∷ []))
     (device (lasts zeros ∷ unreadable zeros ∷ []))

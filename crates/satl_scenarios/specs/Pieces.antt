@@ -11,7 +11,7 @@ use Rattle.satl_direct.specs.Device.{Device}
 use Rattle.satl_scenarios.specs.Commands.{ends_with, written}
 use Rattle.satl_scenarios.specs.Scenario.{Scenario}
 use Rattle.satl_scenarios.specs.Devices.{aa, bb, cached_over, device, lasts, unreadable, unwritable, zeros}
-use Rattle.satl_scenarios.specs.Replies.{check, good, sense, sense_at}
+use Rattle.satl_scenarios.specs.Replies.{check_condition, good, sense, sense_at}
 use Rattle.satl_scenarios.specs.Requests.{with_task}
 
 -- such a device with a command that waits, and with one glitch left
@@ -27,7 +27,7 @@ glitchy_ends command body cells answer last =
 -- (SBC-3, WRITE SAME commands; SPC-4 4.5.6)
 abbrev pub same_garbled : Scenario
 same_garbled =
-    glitchy_ends (WriteSame Ten 0 2 false) (bb ∷ []) written (check 1 (sense 0xB 0x47 0x03))
+    glitchy_ends (WriteSame Ten 0 2 false) (bb ∷ []) written (check_condition 1 (sense 0xB 0x47 0x03))
     (device (record (lasts bb) { may = zeros ∷ aa ∷ bb ∷ [] } ∷ lasts zeros ∷ []))
 
 -- 65 sectors, the last with a write flaw: it is in the second piece of a WRITE SAME over all (the pieces: profile)
@@ -38,13 +38,15 @@ flawed_at_the_end cell = replicate 64 cell ++ unwritable zeros ∷ []
 -- FAILED at its address (SBC-3, WRITE SAME commands; SPC-4 4.5.6)
 abbrev pub same_torn : Scenario
 same_torn =
-    glitchy_ends (WriteSame Ten 0 65 false) (bb ∷ []) (flawed_at_the_end (lasts zeros)) (check 1 (sense_at 0x3 0x0C 0x02 64))
+    glitchy_ends (WriteSame Ten 0 65 false) (bb ∷ []) (flawed_at_the_end (lasts zeros))
+    (check_condition 1 (sense_at 0x3 0x0C 0x02 64))
     (record (device (flawed_at_the_end (cached_over zeros bb))) { glitches = 1 })
 
 -- or it fails by the CRC error in its first piece, before it comes to the flaw (SBC-3, WRITE SAME commands; profile)
 abbrev pub same_garbled_before_the_flaw : Scenario
 same_garbled_before_the_flaw =
-    glitchy_ends (WriteSame Ten 0 65 false) (bb ∷ []) (flawed_at_the_end (lasts zeros)) (check 1 (sense 0xB 0x47 0x03))
+    glitchy_ends (WriteSame Ten 0 65 false) (bb ∷ []) (flawed_at_the_end (lasts zeros))
+    (check_condition 1 (sense 0xB 0x47 0x03))
     (device (flawed_at_the_end (lasts zeros)))
 
 -- WRITE SAME with UNMAP: its blocks read as zeros (SBC-3, WRITE SAME commands, LBPRZ)
@@ -56,9 +58,11 @@ same_unmapped =
 -- VERIFY with comparison meets a flaw: that decides, and neither the data-out nor the glitch (SBC-3, VERIFY commands)
 abbrev pub compare_flawed : Scenario
 compare_flawed =
-    glitchy_ends (Verify Ten 0 2 true) (aa ∷ bb ∷ []) (lasts zeros ∷ unreadable zeros ∷ []) (check 1 (sense_at 0x3 0x11 0x00 1))
+    glitchy_ends (Verify Ten 0 2 true) (aa ∷ bb ∷ []) (lasts zeros ∷ unreadable zeros ∷ [])
+    (check_condition 1 (sense_at 0x3 0x11 0x00 1))
     (record (device (lasts zeros ∷ unreadable zeros ∷ [])) { glitches = 1 })
 
 -- VERIFY with comparison fails by a CRC error (SBC-3, VERIFY commands; SPC-4 4.5.6)
 abbrev pub compare_garbled : Scenario
-compare_garbled = glitchy_ends (Verify Ten 0 2 true) (aa ∷ zeros ∷ []) written (check 1 (sense 0xB 0x47 0x03)) (device written)
+compare_garbled =
+    glitchy_ends (Verify Ten 0 2 true) (aa ∷ zeros ∷ []) written (check_condition 1 (sense 0xB 0x47 0x03)) (device written)

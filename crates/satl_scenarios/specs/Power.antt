@@ -10,8 +10,8 @@ use Rattle.satl_frame.specs.declared.frames.Frame.TheVariants.{Bench, Turn}
 use Rattle.satl_direct.specs.Device.{Device}
 use Rattle.satl_scenarios.specs.Scenario.{Scenario, answered, silent}
 use Rattle.satl_scenarios.specs.Devices.{aa, bb, never_written, cached_over, device, lasts, just_powered, unreadable, zeros}
-use Rattle.satl_scenarios.specs.Replies.{check, good, sense}
-use Rattle.satl_scenarios.specs.Requests.{read, with_task, write}
+use Rattle.satl_scenarios.specs.Replies.{check_condition, good, sense}
+use Rattle.satl_scenarios.specs.Requests.{read_10, with_task, write_10}
 
 -- a device whose first sector was written through the cache, with a command of tag 1 that waits
 abbrev pub cached_with : Command → List Block → Device
@@ -36,7 +36,7 @@ abbrev pub flushed_then_written : Block → Scenario
 flushed_then_written left = record {
   first = cached_with flush [];
   steps =
-      silent (write 2 0 (bb ∷ []))
+      silent (write_10 2 0 (bb ∷ []))
       ∷ answered (Turn 2) (good 1 [] ∷ good 2 [] ∷ [])
       ∷ silent (Bench bench.Power)
       ∷ [];
@@ -81,8 +81,8 @@ told_once = record {
   first = never_written 2;
   steps =
       silent (Bench bench.Power)
-      ∷ answered (read 1 0 1) (check 1 (sense 0x6 0x29 0x01) ∷ [])
-      ∷ silent (read 2 0 1)
+      ∷ answered (read_10 1 0 1) (check_condition 1 (sense 0x6 0x29 0x01) ∷ [])
+      ∷ silent (read_10 2 0 1)
       ∷ answered (Turn 1) (good 2 (zeros ∷ []) ∷ [])
       ∷ [];
   losses = 0;

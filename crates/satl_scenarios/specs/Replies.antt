@@ -27,8 +27,8 @@ reply tag status sense blocks = replied (record {
 abbrev pub good : ℕ → List Block → Answer
 good tag blocks = reply tag Good [] blocks
 
-abbrev pub check : ℕ → List ℕ → Answer
-check tag sense = reply tag CheckCondition sense []
+abbrev pub check_condition : ℕ → List ℕ → Answer
+check_condition tag sense = reply tag CheckCondition sense []
 
 -- sense data in the fixed form: a sense key with its codes (SPC-4 4.5.3)
 abbrev pub sense : ℕ → ℕ → ℕ → List ℕ

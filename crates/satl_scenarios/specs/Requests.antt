@@ -31,11 +31,11 @@ abbrev pub cdb_10 : ℕ → ℕ → ℕ → List ℕ
 cdb_10 code lba count = (code ∷ 0 ∷ 0 ∷ 0 ∷ 0 ∷ lba ∷ 0 ∷ 0 ∷ count ∷ []) ++ replicate 7 0
 
 -- a READ(10), and a WRITE(10) of these blocks (SBC-3, READ and WRITE commands)
-abbrev pub read : ℕ → ℕ → ℕ → Frame
-read tag lba count = frames.Request (request tag (cdb_10 0x28 lba count) [])
+abbrev pub read_10 : ℕ → ℕ → ℕ → Frame
+read_10 tag lba count = frames.Request (request tag (cdb_10 0x28 lba count) [])
 
-abbrev pub write : ℕ → ℕ → List Block → Frame
-write tag lba blocks = frames.Request (request tag (cdb_10 0x2A lba (length blocks)) blocks)
+abbrev pub write_10 : ℕ → ℕ → List Block → Frame
+write_10 tag lba blocks = frames.Request (request tag (cdb_10 0x2A lba (length blocks)) blocks)
 
 -- a task management function of a nexus, to the logical unit 0 (SAM-5 7; the codes: profile)
 abbrev pub manage : ℕ → ℕ → ℕ → Manage

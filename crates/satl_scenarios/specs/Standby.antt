@@ -12,7 +12,7 @@ use Rattle.satl_scenarios.specs.Passes.{check_power, read_block}
 use Rattle.satl_scenarios.specs.Power.{caching_list, select}
 use Rattle.satl_scenarios.specs.Scenario.{Scenario}
 use Rattle.satl_scenarios.specs.Devices.{aa, device, lasts, zeros}
-use Rattle.satl_scenarios.specs.Replies.{check, good}
+use Rattle.satl_scenarios.specs.Replies.{check_condition, good}
 use Rattle.satl_scenarios.specs.Requests.{with_task}
 
 -- a device that is stopped and in standby
@@ -35,7 +35,7 @@ read_through =
 abbrev pub standby_told : Scenario
 standby_told =
     ends_at_rest (Pass check_power) [] written
-    (check 1 (0xF0 ∷ 0 ∷ 0x1 ∷ 0 ∷ 0x40 ∷ 0 ∷ 0x00 ∷ 0x0A ∷ 0 ∷ 0 ∷ 0 ∷ 0 ∷ 0x00 ∷ 0x1D ∷ 0 ∷ 0 ∷ 0 ∷ 0 ∷ []))
+    (check_condition 1 (0xF0 ∷ 0 ∷ 0x1 ∷ 0 ∷ 0x40 ∷ 0 ∷ 0x00 ∷ 0x0A ∷ 0 ∷ 0 ∷ 0 ∷ 0 ∷ 0x00 ∷ 0x1D ∷ 0 ∷ 0 ∷ 0 ∷ 0 ∷ []))
     (at_rest (device written))
 
 -- MODE SELECT turns the cache off: all is written back, the other nexuses are told, and the drive stays in standby (SBC-3

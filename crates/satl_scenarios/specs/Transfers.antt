@@ -6,8 +6,8 @@ use Rattle.satl_frame.specs.Output.{Answer}
 use Rattle.satl_frame.specs.Output.Answer.{ended}
 use Rattle.satl_scenarios.specs.Scenario.{Scenario, answered, silent}
 use Rattle.satl_scenarios.specs.Devices.{aa, bb, never_written, cached_over, device, lasts, zeros}
-use Rattle.satl_scenarios.specs.Replies.{check, good, sense}
-use Rattle.satl_scenarios.specs.Requests.{cdb_10, read, request, write}
+use Rattle.satl_scenarios.specs.Replies.{check_condition, good, sense}
+use Rattle.satl_scenarios.specs.Requests.{cdb_10, read_10, request, write_10}
 
 -- a block is written through the cache and read: power may still bring the old one back (SBC-3 4.15, READ and
 -- WRITE commands)
@@ -15,9 +15,9 @@ abbrev pub written_then_read : Scenario
 written_then_read = record {
   first = never_written 3;
   steps =
-      silent (write 1 0 (aa ∷ []))
+      silent (write_10 1 0 (aa ∷ []))
       ∷ answered (Turn 1) (good 1 [] ∷ [])
-      ∷ silent (read 2 0 1)
+      ∷ silent (read_10 2 0 1)
       ∷ answered (Turn 1) (good 2 (aa ∷ []) ∷ [])
       ∷ [];
   losses = 0;
@@ -30,8 +30,8 @@ abbrev pub two_reads : List Answer → Scenario
 two_reads answers = record {
   first = never_written 2;
   steps =
-      silent (read 1 0 1)
-      ∷ silent (read 2 1 1)
+      silent (read_10 1 0 1)
+      ∷ silent (read_10 2 1 1)
       ∷ answered End (answers ++ ended ∷ [])
       ∷ [];
   losses = 0;
@@ -51,7 +51,7 @@ abbrev pub ordered_read : Scenario
 ordered_read = record {
   first = never_written 2;
   steps =
-      silent (read 1 0 1)
+      silent (read_10 1 0 1)
       ∷ silent (Request (record (request 2 (cdb_10 0x28 1 1) []) { attr = Ordered }))
       ∷ answered End (good 1 (zeros ∷ []) ∷ good 2 (zeros ∷ []) ∷ ended ∷ [])
       ∷ [];
@@ -64,7 +64,7 @@ ordered_read = record {
 abbrev pub waking_read : Scenario
 waking_read = record {
   first = record (never_written 2) { active = false };
-  steps = silent (read 1 0 1) ∷ answered (Turn 1) (good 1 (zeros ∷ []) ∷ []) ∷ [];
+  steps = silent (read_10 1 0 1) ∷ answered (Turn 1) (good 1 (zeros ∷ []) ∷ []) ∷ [];
   losses = 0;
   depth = 1;
   last = never_written 2;
@@ -88,8 +88,8 @@ abbrev pub garbled_write : Scenario
 garbled_write = record {
   first = record (never_written 2) { glitches = 1 };
   steps =
-      silent (write 1 0 (aa ∷ bb ∷ []))
-      ∷ answered (Turn 1) (check 1 (sense 0xB 0x47 0x03) ∷ [])
+      silent (write_10 1 0 (aa ∷ bb ∷ []))
+      ∷ answered (Turn 1) (check_condition 1 (sense 0xB 0x47 0x03) ∷ [])
       ∷ [];
   losses = 0;
   depth = 1;

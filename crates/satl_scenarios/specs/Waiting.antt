@@ -10,15 +10,15 @@ use Rattle.satl_frame.specs.declared.frames.Frame.TheVariants.{End, Manage, Turn
 use Rattle.satl_frame.specs.Output.Answer.{ended}
 use Rattle.satl_scenarios.specs.Scenario.{Scenario, answered, silent}
 use Rattle.satl_scenarios.specs.Devices.{aa, bb, never_written, cached_over, device, lasts, zeros}
-use Rattle.satl_scenarios.specs.Replies.{check, good, reply, response, sense}
-use Rattle.satl_scenarios.specs.Requests.{manage, read, task, write}
+use Rattle.satl_scenarios.specs.Replies.{check_condition, good, reply, response, sense}
+use Rattle.satl_scenarios.specs.Requests.{manage, read_10, task, write_10}
 
 -- a write of two blocks is aborted when the first of them is on the medium: it is not answered (SAM-5 7.2)
 abbrev pub aborted_half_done : Scenario
 aborted_half_done = record {
   first = never_written 2;
   steps =
-      silent (write 1 0 (aa ∷ bb ∷ []))
+      silent (write_10 1 0 (aa ∷ bb ∷ []))
       ∷ answered (Manage (manage 0 0x01 1)) (response 0 0x01 1 Complete ∷ [])
       ∷ answered End (ended ∷ [])
       ∷ [];
@@ -32,8 +32,8 @@ abbrev pub overlapped_reads : Scenario
 overlapped_reads = record {
   first = never_written 2;
   steps =
-      silent (read 1 0 1)
-      ∷ answered (read 1 1 1) (check 1 (sense 0xB 0x4E 0x00) ∷ [])
+      silent (read_10 1 0 1)
+      ∷ answered (read_10 1 1 1) (check_condition 1 (sense 0xB 0x4E 0x00) ∷ [])
       ∷ answered End (ended ∷ [])
       ∷ [];
   losses = 0;
@@ -49,7 +49,7 @@ full = record (never_written 2) { tasks = map (λ tag. task tag (commands.Read T
 abbrev pub one_too_many : Scenario
 one_too_many = record {
   first = full;
-  steps = answered (read 65 0 1) (reply 65 TaskSetFull [] [] ∷ []) ∷ [];
+  steps = answered (read_10 65 0 1) (reply 65 TaskSetFull [] [] ∷ []) ∷ [];
   losses = 0;
   depth = 32;
   last = full;
@@ -66,8 +66,8 @@ abbrev pub one_turn_left : Scenario
 one_turn_left = record {
   first = never_written 2;
   steps =
-      silent (read 1 0 1)
-      ∷ silent (read 2 1 1)
+      silent (read_10 1 0 1)
+      ∷ silent (read_10 2 1 1)
       ∷ answered (Turn 3) (good 1 (zeros ∷ []) ∷ [])
       ∷ [];
   losses = 0;

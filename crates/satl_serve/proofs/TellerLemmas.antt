@@ -1,9 +1,9 @@
 -- A teller that tells in a form.
 use Rattle.std.proofs.Common.{◌≡◌, refl, sym, ap, ◌∙◌, ℕ, List, [], ◌∷◌, ◌++◌}
 use Rattle.satl_frame.specs.Output.{Answer}
-use Rattle.satl_step.specs.Telling.{all_behind, all_told as all_told_by}
+use Rattle.satl_step.specs.Telling.{all_behind, all_told}
 use Rattle.satl_step.proofs.TellingLemmas.{all_behind-append}
-use Rattle.satl_serve.specs.Forms.{all_told}
+use Rattle.satl_serve.specs.Forms.{answers_told}
 use Rattle.satl_serve.specs.Tellers.{TellsIn}
 use Rattle.satl_serve.specs.declared.telling.Form.{Form}
 
@@ -13,7 +13,7 @@ module _ {T : Type 0} (by : T → Answer → List ℕ) (behind : T → Answer �
   tells_on t answers tells earlier answer = ap (λ x. by x answer) (sym (all_behind-append by behind t answers earlier)) ∙ tells (answers ++ earlier) answer
 
   -- and tells them all in the form
-  pub all_told_in : (t : T) (answers : List Answer) → TellsIn by behind form t → all_told_by by behind t answers ≡ all_told form answers
+  pub all_told_in : (t : T) (answers : List Answer) → TellsIn by behind form t → all_told by behind t answers ≡ answers_told form answers
   all_told_in t [] tells = refl
   all_told_in t (x ∷ answers) tells =
-      ap (λ l. by t x ++ l) (all_told_in (behind t x) answers (λ earlier answer. tells (x ∷ earlier) answer)) ∙ ap (λ l. l ++ all_told form answers) (tells [] x)
+      ap (λ l. by t x ++ l) (all_told_in (behind t x) answers (λ earlier answer. tells (x ∷ earlier) answer)) ∙ ap (λ l. l ++ answers_told form answers) (tells [] x)

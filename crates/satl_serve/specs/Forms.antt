@@ -32,10 +32,10 @@ told_of form (Bad reason offset) = fault_told form reason offset
 told_of form ReadFault = []
 
 -- answers, one after the other (profile)
-abbrev pub all_told : Form → List Answer → List ℕ
-all_told form [] = []
-all_told form (answer ∷ answers) = told form answer ++ all_told form answers
+abbrev pub answers_told : Form → List Answer → List ℕ
+answers_told form [] = []
+answers_told form (answer ∷ answers) = told form answer ++ answers_told form answers
 
 -- the output of a run (profile)
 abbrev pub output : Form → List Answer → List ℕ
-output form answers = begun form ++ all_told form answers
+output form answers = begun form ++ answers_told form answers

@@ -21,7 +21,7 @@ use Rattle.satl_direct.specs.Valid.{IsValid}
 use Rattle.satl_direct.specs.Run.{joined}
 use Rattle.satl_core.specs.Tie.{Given, IsTiedQueue}
 use Rattle.satl_step.specs.Runs.{RunCutSoFar, RunSoFar}
-use Rattle.satl_serve.specs.Forms.{all_told, begun, fault_told, output, told_of}
+use Rattle.satl_serve.specs.Forms.{answers_told, begun, fault_told, output, told_of}
 use Rattle.satl_serve.specs.Moments.{Moment, Spot, spot_at}
 use Rattle.satl_serve.specs.declared.telling.Form.{Form}
 
@@ -123,7 +123,7 @@ pub record BrokeInAnswers (form : Form) (limit : ℕ) (before after : Spot) : Ty
   pub none_ends : NoneEnds events
   pub read : HasRead reader before.left after.left (events ++ event ∷ [])
   pub wrote : Wrote before.written behind (output form (joined groups))
-  pub part : WrotePart behind after.written (all_told form answers)
+  pub part : WrotePart behind after.written (answers_told form answers)
   pub run : RunCutSoFar before.stand after.stand (events ++ event ∷ []) (groups ++ answers ∷ [])
 
 -- frames were read and carried out, none of which is END; the output of a run over these was written whole; and what follows

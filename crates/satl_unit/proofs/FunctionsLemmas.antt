@@ -5,7 +5,7 @@ use Rattle.std.specs.List.{find, AllByRecursion}
 use Rattle.std.proofs.lemmas.Bool.{eqb-true}
 use Rattle.satl_unit.specs.declared.function.Function.{Function}
 use Rattle.satl_unit.specs.declared.function.Function.TheVariants.{AbortTask, AbortTaskSet, ClearTaskSet, UnitReset, NexusReset, QueryTask, QueryTaskSet}
-use Rattle.satl_unit.specs.Functions.{Row, function_of, function_table}
+use Rattle.satl_unit.specs.Functions.{FunctionRow, function_of, function_table}
 
 -- the code that a line of the table has for a function
 abbrev pub code_in : Function → ℕ
@@ -17,13 +17,13 @@ code_in NexusReset = 0x10
 code_in QueryTask = 0x80
 code_in QueryTaskSet = 0x81
 
-abbrev found : List Row → ℕ → Function → Type 0
-found lines code function = option_map (λ (l : Row). l.function) (find (λ (l : Row). eqb l.code code) lines) ≡ Some function
+abbrev found : List FunctionRow → ℕ → Function → Type 0
+found lines code function = option_map (λ (l : FunctionRow). l.function) (find (λ (l : FunctionRow). eqb l.code code) lines) ≡ Some function
 
-found_code : (lines : List Row) (code : ℕ) (function : Function) → AllByRecursion (λ (l : Row). code_in l.function ≡ l.code) lines → found lines code function → code ≡ code_in function
+found_code : (lines : List FunctionRow) (code : ℕ) (function : Function) → AllByRecursion (λ (l : FunctionRow). code_in l.function ≡ l.code) lines → found lines code function → code ≡ code_in function
 found_code [] code function all h = absurd cc
 found_code (l ∷ lines) code function all h =
-    (elim (eqb l.code code) as (λ b. eqb l.code code ≡ b → option_map (λ (k : Row). k.function) (cond b (Some l) (find (λ (k : Row). eqb k.code code) lines)) ≡ Some function → code ≡ code_in function) [
+    (elim (eqb l.code code) as (λ b. eqb l.code code ≡ b → option_map (λ (k : FunctionRow). k.function) (cond b (Some l) (find (λ (k : FunctionRow). eqb k.code code) lines)) ≡ Some function → code ≡ code_in function) [
       | true ↦ λ is f. let same : l.function ≡ function = cc in sym (eqb-true l.code code is) ∙ sym all.0 ∙ ap code_in same
       | false ↦ λ is f. found_code lines code function all.1 f
     ]) refl h

@@ -6,17 +6,17 @@ use Rattle.satl_unit.specs.declared.attention.AdditionalSense.{AdditionalSense}
 use Rattle.satl_unit.specs.declared.attention.Attention.{Attention}
 use Rattle.satl_unit.specs.declared.attention.Attention.TheVariants.{PowerOn, UnitReset, NexusLoss, Cleared, ModeChanged}
 
-abbrev sense : ℕ → ℕ → AdditionalSense
-sense asc ascq = record { asc = asc; ascq = ascq }
+abbrev sense_codes : ℕ → ℕ → AdditionalSense
+sense_codes asc ascq = record { asc = asc; ascq = ascq }
 
 -- POWER ON OCCURRED, BUS DEVICE RESET FUNCTION OCCURRED, I_T NEXUS LOSS OCCURRED, COMMANDS CLEARED BY ANOTHER INITIATOR and
 -- MODE PARAMETERS CHANGED (SPC-4 4.5.6)
 abbrev pub additional_sense_of : Attention → AdditionalSense
-additional_sense_of PowerOn = sense 0x29 0x01
-additional_sense_of UnitReset = sense 0x29 0x03
-additional_sense_of NexusLoss = sense 0x29 0x07
-additional_sense_of Cleared = sense 0x2F 0x00
-additional_sense_of ModeChanged = sense 0x2A 0x01
+additional_sense_of PowerOn = sense_codes 0x29 0x01
+additional_sense_of UnitReset = sense_codes 0x29 0x03
+additional_sense_of NexusLoss = sense_codes 0x29 0x07
+additional_sense_of Cleared = sense_codes 0x2F 0x00
+additional_sense_of ModeChanged = sense_codes 0x2A 0x01
 
 -- the conditions in the order in which they are reported (profile)
 abbrev pub report_order : List Attention

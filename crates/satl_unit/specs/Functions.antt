@@ -6,23 +6,24 @@ use Rattle.satl_unit.specs.declared.function.Function.{Function}
 use Rattle.satl_unit.specs.declared.function.Function.TheVariants.{AbortTask, AbortTaskSet, ClearTaskSet, UnitReset, NexusReset, QueryTask, QueryTaskSet}
 
 -- a code, and the function that it stands for
-pub record Row : Type 0 where
+pub record FunctionRow : Type 0 where
   pub code : ℕ
   pub function : Function
 
-abbrev row : ℕ → Function → Row
-row code function = record { code = code; function = function }
+abbrev function_row : ℕ → Function → FunctionRow
+function_row code function = record { code = code; function = function }
 
 -- the functions that are listed (profile)
-abbrev pub function_table : List Row
+abbrev pub function_table : List FunctionRow
 function_table =
-    row 0x01 AbortTask ∷ row 0x02 AbortTaskSet ∷ row 0x04 ClearTaskSet ∷ row 0x08 UnitReset ∷ row 0x10 NexusReset
-    ∷ row 0x80 QueryTask ∷ row 0x81 QueryTaskSet ∷ []
+    function_row 0x01 AbortTask ∷ function_row 0x02 AbortTaskSet ∷ function_row 0x04 ClearTaskSet
+    ∷ function_row 0x08 UnitReset ∷ function_row 0x10 NexusReset ∷ function_row 0x80 QueryTask
+    ∷ function_row 0x81 QueryTaskSet ∷ []
 
 -- the codes that are listed
 abbrev pub function_codes : List ℕ
-function_codes = map (λ (l : Row). l.code) function_table
+function_codes = map (λ (l : FunctionRow). l.code) function_table
 
 -- the function of a code
 unfoldable pub function_of : ℕ → Option Function
-function_of code = option_map (λ (l : Row). l.function) (find (λ (l : Row). l.code == code) function_table)
+function_of code = option_map (λ (l : FunctionRow). l.function) (find (λ (l : FunctionRow). l.code == code) function_table)

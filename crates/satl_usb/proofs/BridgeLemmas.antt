@@ -19,7 +19,7 @@ use Rattle.satl_usb.specs.Answering.{Answered, AnsweredInPart, desk, point, requ
 use Rattle.satl_usb.specs.Bridge.{Bridged, BridgedInPart, BridgedWhole, HasTaken, Talk, talk_of}
 use Rattle.satl_usb.specs.Exchanges.{Exchange, is_told_kept, request_of}
 use Rattle.satl_usb.specs.Exchanges.Exchange.{start, asked, sent}
-use Rattle.satl_usb.specs.Items.{AreItems, IsItem, Item, all_spelled, sent_length, spelled}
+use Rattle.satl_usb.specs.Items.{AreItems, IsItem, Item, bytes_of_items, item_bytes, sent_length}
 use Rattle.satl_usb.specs.Reading.{TookItem, WasAtEnd}
 use Rattle.satl_usb.specs.Serving.{BothCarried}
 use Rattle.satl_usb.specs.Wire.{kept_of, kept_on_wire, reply_on_wire}
@@ -27,22 +27,22 @@ use Rattle.satl_usb.specs.declared.items.Taken.{Taken}
 
 -- ---- items that were taken
 
-pub all_spelled-push : (items : List Item) (i : Item) → all_spelled (items ++ i ∷ []) ≡ all_spelled items ++ spelled i
-all_spelled-push [] i = append-nil (spelled i)
-all_spelled-push (x ∷ items) i = ap (λ l. spelled x ++ l) (all_spelled-push items i) ∙ sym (append_assoc (spelled x) (all_spelled items) (spelled i))
+pub bytes_of_items-push : (items : List Item) (i : Item) → bytes_of_items (items ++ i ∷ []) ≡ bytes_of_items items ++ item_bytes i
+bytes_of_items-push [] i = append-nil (item_bytes i)
+bytes_of_items-push (x ∷ items) i = ap (λ l. item_bytes x ++ l) (bytes_of_items-push items i) ∙ sym (append_assoc (item_bytes x) (bytes_of_items items) (item_bytes i))
 
-are_items-push : (limit offset : ℕ) (items : List Item) (i : Item) → AreItems limit offset items → IsItem i → offset + length (all_spelled items) + length (spelled i) ≤ limit → AreItems limit offset (items ++ i ∷ [])
+are_items-push : (limit offset : ℕ) (items : List Item) (i : Item) → AreItems limit offset items → IsItem i → offset + length (bytes_of_items items) + length (item_bytes i) ≤ limit → AreItems limit offset (items ++ i ∷ [])
 are_items-push limit offset [] i each is fits = (is, omega (arith, fits), tt)
-are_items-push limit offset (x ∷ items) i (a, b, c) is fits = (a, b, are_items-push limit (offset + length (spelled x)) items i c is (let long = length-append (spelled x) (all_spelled items) in omega (arith, long, fits)))
+are_items-push limit offset (x ∷ items) i (a, b, c) is fits = (a, b, are_items-push limit (offset + length (item_bytes x)) items i c is (let long = length-append (item_bytes x) (bytes_of_items items) in omega (arith, long, fits)))
 
-taken_more : (limit offset room : ℕ) (left mid left' : Option (List ℕ)) (items : List Item) (taken : Taken) → offset ≡ length (all_spelled items) → HasTaken limit left mid items → (t : TookItem limit offset room mid left' taken) → HasTaken limit left left' (items ++ t.item ∷ [])
+taken_more : (limit offset room : ℕ) (left mid left' : Option (List ℕ)) (items : List Item) (taken : Taken) → offset ≡ length (bytes_of_items items) → HasTaken limit left mid items → (t : TookItem limit offset room mid left' taken) → HasTaken limit left left' (items ++ t.item ∷ [])
 taken_more limit offset room left mid left' items taken at h t = record {
-  took = subst (Took left left') (sym (all_spelled-push items t.item)) (Took-more h.took t.took);
+  took = subst (Took left left') (sym (bytes_of_items-push items t.item)) (Took-more h.took t.took);
   each = are_items-push limit 0 items t.item h.each t.is_item (let within = t.within in omega (arith, within, at));
 }
 
 taken_none : (limit : ℕ) (left mid left' : Option (List ℕ)) (items : List Item) → HasTaken limit left mid items → Took mid left' [] → HasTaken limit left left' items
-taken_none limit left mid left' items h none = record { took = subst (Took left left') (append-nil (all_spelled items)) (Took-more h.took none); each = h.each }
+taken_none limit left mid left' items h none = record { took = subst (Took left left') (append-nil (bytes_of_items items)) (Took-more h.took none); each = h.each }
 
 -- ---- a request of an item
 
@@ -97,7 +97,7 @@ pub record Going (limit : ℕ) (before now : Spot) (kept : Option (ArrayVec ℕ)
   pub items : List Item
   pub wire : List ℕ
   pub bridged : Bridged limit before now (talk_of items wire kept)
-  pub at : offset ≡ length (all_spelled items)
+  pub at : offset ≡ length (bytes_of_items items)
   pub wrote : Wrote before.written now.written wire
 
 pub going_start : (limit : ℕ) (a : Spot) → a.stand.device.tasks ≡ [] → Going limit a a None 0
@@ -120,9 +120,9 @@ module _ (limit offset room : ℕ) (a b c : Spot) (kept : Option (ArrayVec ℕ))
   all_taken : HasTaken limit a.left c.left (g.items ++ t.item ∷ [])
   all_taken = taken_more limit offset room a.left b.left c.left g.items taken g.at g.bridged.taken t
 
-  further : (end : ℕ) → end ≡ offset + 31 + sent_length taken.command → end ≡ length (all_spelled (g.items ++ t.item ∷ []))
+  further : (end : ℕ) → end ≡ offset + 31 + sent_length taken.command → end ≡ length (bytes_of_items (g.items ++ t.item ∷ []))
   further end is =
-      let all = ap length (all_spelled-push g.items t.item) ∙ length-append (all_spelled g.items) (spelled t.item) in
+      let all = ap length (bytes_of_items-push g.items t.item) ∙ length-append (bytes_of_items g.items) (item_bytes t.item) in
       let one = length-append t.item.head t.item.body in
       let size = t.is_item.size in
       let sent = t.is_item.sent ∙ ap sent_length (sym t.command) in

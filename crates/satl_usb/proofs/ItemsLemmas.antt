@@ -9,7 +9,7 @@ use Rattle.satl_base.specs.declared.block.Block.{Block}
 use Rattle.satl_frame.specs.Pulls.{FewerThan, Lacks, TookPages}
 use Rattle.satl_io.specs.Known.{Took}
 use Rattle.satl_io.proofs.Joined.{Took-more}
-use Rattle.satl_usb.specs.Items.{HasNoItem, IsTruncated, Stands, TookFront, sent_length, spelled}
+use Rattle.satl_usb.specs.Items.{HasNoItem, IsTruncated, ItemStands, TookFront, item_bytes, sent_length}
 use Rattle.satl_usb.specs.Reading.{TookHead, TookItem}
 
 -- fronts that are equally long are the same, and so are the rests
@@ -20,26 +20,26 @@ pub rests : (a b c d : List ℕ) → length a ≡ length b → a ++ c ≡ b ++ d
 rests a b c d long is = sym (drop-append_seam a c) ∙ (ap (λ l. drop (length a) l) is ∙ (ap (λ n. drop n (b ++ d)) long ∙ drop-append_seam b d))
 
 -- an item is as long as its wrapper and what this tells
-pub spelled_length : (limit offset : ℕ) (bytes : List ℕ) (s : Stands limit offset bytes) → length (spelled s.item) ≡ 31 + sent_length s.item.command
+pub spelled_length : (limit offset : ℕ) (bytes : List ℕ) (s : ItemStands limit offset bytes) → length (item_bytes s.item) ≡ 31 + sent_length s.item.command
 spelled_length limit offset bytes s = let all = length-append s.item.head s.item.body in let size = s.is_item.size in let sent = s.is_item.sent in omega (arith, all, size, sent)
 
 -- bytes begin with a wrapper
 module _ (limit offset : ℕ) (bytes head behind : List ℕ) (long : length head ≡ 31) (is : bytes ≡ head ++ behind) where
   -- and so does the item that stands there
-  same_head : (s : Stands limit offset bytes) → head ≡ s.item.head
+  same_head : (s : ItemStands limit offset bytes) → head ≡ s.item.head
   same_head s = fronts head s.item.head behind (s.item.body ++ s.rest) (long ∙ sym s.is_item.size) (sym is ∙ (s.split ∙ append_assoc s.item.head s.item.body s.rest))
 
-  same_rest : (s : Stands limit offset bytes) → behind ≡ s.item.body ++ s.rest
+  same_rest : (s : ItemStands limit offset bytes) → behind ≡ s.item.body ++ s.rest
   same_rest s = rests head s.item.head behind (s.item.body ++ s.rest) (long ∙ sym s.is_item.size) (sym is ∙ (s.split ∙ append_assoc s.item.head s.item.body s.rest))
 
   not_empty : bytes ≡ [] → ⊥
   not_empty none = let all = ap length is ∙ length-append head behind in let no = ap length none in absurd (omega (arith, all, no, long))
 
   -- no item stands behind a wrapper that is none
-  none_stands : cbw_of head ≡ None → Stands limit offset bytes → ⊥
+  none_stands : cbw_of head ≡ None → ItemStands limit offset bytes → ⊥
   none_stands bad s = let both : None ≡ Some s.item.command = sym bad ∙ (ap cbw_of (same_head s) ∙ s.is_item.says) in absurd cc
 
-  same_length : (command : Cbw) → cbw_of head ≡ Some command → (s : Stands limit offset bytes) → length (spelled s.item) ≡ 31 + sent_length command
+  same_length : (command : Cbw) → cbw_of head ≡ Some command → (s : ItemStands limit offset bytes) → length (item_bytes s.item) ≡ 31 + sent_length command
   same_length command says s =
       let both : Some s.item.command ≡ Some command = sym s.is_item.says ∙ (ap cbw_of (sym (same_head s)) ∙ says) in
       let same : s.item.command ≡ command = cc in
@@ -77,7 +77,7 @@ too_short limit offset (Some bytes) (Some behind) left' command t lacks =
     let few = lacks.known.0 in
     let all : length bytes ≡ 31 + length behind = let both = ap length is ∙ length-append t.head behind in let size = t.size in omega (arith, both, size) in
     let whole : take (length behind) behind ≡ behind = take_whole behind in (
-      (not_empty limit offset bytes t.head behind t.size is, λ s. let size = same_length limit offset bytes t.head behind t.size is command t.says s in let fits = ap length s.split ∙ length-append (spelled s.item) s.rest in absurd (omega (arith, size, fits, all, few))),
+      (not_empty limit offset bytes t.head behind t.size is, λ s. let size = same_length limit offset bytes t.head behind t.size is command t.says s in let fits = ap length s.split ∙ length-append (item_bytes s.item) s.rest in absurd (omega (arith, size, fits, all, few))),
       (length t.head + length behind, front_more (Some bytes) (Some behind) left' bytes t.head behind (length behind) refl is t.took (subst (Took (Some behind) left') (sym whole) lacks.known.1)),
     )
   where

@@ -7,12 +7,12 @@ use Rattle.satl_frame.specs.declared.frames.Frame.{Frame}
 use Rattle.satl_frame.specs.Output.{Answer}
 use Rattle.satl_step.specs.Runs.{RunSoFar}
 use Rattle.satl_serve.specs.Moments.{Spot}
-use Rattle.satl_usb.specs.Items.{AreItems, HasNoItem, IsTruncated, Item, TookFront, all_spelled}
+use Rattle.satl_usb.specs.Items.{AreItems, HasNoItem, IsTruncated, Item, TookFront, bytes_of_items}
 use Rattle.satl_usb.specs.Exchanges.{Exchange}
 
 -- these items were taken from the source (profile)
 pub record HasTaken (limit : ℕ) (left left' : Option (List ℕ)) (items : List Item) : Type 0 where
-  pub took : Took left left' (all_spelled items)
+  pub took : Took left left' (bytes_of_items items)
   pub each : AreItems limit 0 items
 
 -- what became of items: which they are, what they are on the wire, and the sense data that is then kept (profile)
@@ -50,7 +50,7 @@ pub record BridgedBefore (limit offset : ℕ) (before after : Spot) : Type 0 whe
   pub talk : Talk
   pub mid : Option (List ℕ)
   pub bridged : Bridged limit before (record after { left = mid }) talk
-  pub offset_is : offset ≡ length (all_spelled talk.items)
+  pub offset_is : offset ≡ length (bytes_of_items talk.items)
   pub refused : HasNoItem limit offset mid
   pub front : TookFront mid after.left
   pub wrote : Wrote before.written after.written talk.wire
@@ -60,7 +60,7 @@ pub record BridgedUpTo (limit : ℕ) (before after : Spot) : Type 0 where
   pub talk : Talk
   pub mid : Option (List ℕ)
   pub bridged : Bridged limit before (record after { left = mid }) talk
-  pub cut_off : IsTruncated limit (length (all_spelled talk.items)) mid after.left
+  pub cut_off : IsTruncated limit (length (bytes_of_items talk.items)) mid after.left
   pub wrote : Wrote before.written after.written talk.wire
 
 -- items were taken and carried out, and a front of what they are on the wire was written (profile)

@@ -32,8 +32,8 @@ request_of i = record {
 }
 
 -- a request arrives, and one turn is taken (profile)
-abbrev pub events_of : Item → List Frame
-events_of i = frames.Request (request_of i) ∷ frames.Turn 1 ∷ []
+abbrev pub item_events : Item → List Frame
+item_events i = frames.Request (request_of i) ∷ frames.Turn 1 ∷ []
 
 -- items one after the other: the events that they are, the answers to each of these, what is written, and the sense data that
 -- is then kept. An item is answered with what is kept, and is no event; or it is a request and a turn, to which exactly one
@@ -47,7 +47,7 @@ pub data Exchange : List Item → List Frame → List (List Answer) → List ℕ
   sent : {items : List Item} {events : List Frame} {groups : List (List Answer)} {wire : List ℕ} {kept : Option (ArrayVec ℕ)}
       (i : Item) (reply : Reply) (first second : List Answer)
       → Exchange items events groups wire kept → is_told_kept kept i.command ≡ false → first ++ second ≡ replied reply ∷ []
-      → Exchange (items ++ i ∷ []) (events ++ events_of i) (groups ++ first ∷ second ∷ [])
+      → Exchange (items ++ i ∷ []) (events ++ item_events i) (groups ++ first ∷ second ∷ [])
       (wire ++ reply_on_wire i.command reply) (kept_of reply)
 
 -- ---- who tells the answers to one item

@@ -9,7 +9,7 @@ use Rattle.satl_serve.specs.Headline.{IsNotServed}
 use Rattle.satl_serve.specs.Moments.{Moment, SinkState, SourceState, Spot}
 use Rattle.satl_serve.specs.Runs.{Serves}
 use Rattle.satl_usb.specs.Bridge.{BridgedBefore, BridgedInPart, BridgedUpTo, BridgedWhole}
-use Rattle.satl_usb.specs.Items.{AreItems, Item, all_spelled}
+use Rattle.satl_usb.specs.Items.{AreItems, Item, bytes_of_items}
 use Rattle.satl_usb.specs.declared.fault.UsbFault.{UsbFault}
 use Rattle.satl_usb.specs.declared.items.ItemFault.{ItemFault}
 use Rattle.satl_usb.specs.declared.items.ItemFault.TheVariants as missed
@@ -75,7 +75,7 @@ TellsRefusal refusal fault = (fault ≡ faults.Open (opening.Identity refusal)) 
 
 -- the source tells its bytes, which are these items, within the limit (profile)
 pub record IsItemInput (limit : ℕ) (left : Option (List ℕ)) (items : List Item) : Type 0 where
-  pub told : left ≡ Some (all_spelled items)
+  pub told : left ≡ Some (bytes_of_items items)
   pub each : AreItems limit 0 items
 
 -- the faults that are left to such an input where all goes well, before anything is read: want of memory, and a link that was

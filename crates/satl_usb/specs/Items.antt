@@ -25,26 +25,26 @@ pub record IsItem (i : Item) : Type 0 where
   pub says : cbw_of i.head ≡ Some i.command
   pub sent : length i.body ≡ sent_length i.command
 
-abbrev pub spelled : Item → List ℕ
-spelled i = i.head ++ i.body
+abbrev pub item_bytes : Item → List ℕ
+item_bytes i = i.head ++ i.body
 
-abbrev pub all_spelled : List Item → List ℕ
-all_spelled [] = []
-all_spelled (i ∷ items) = spelled i ++ all_spelled items
+abbrev pub bytes_of_items : List Item → List ℕ
+bytes_of_items [] = []
+bytes_of_items (i ∷ items) = item_bytes i ++ bytes_of_items items
 
 -- each is an item that ends within the limit, and the first one begins at the offset (profile)
 abbrev pub AreItems : ℕ → ℕ → List Item → Type 0
 AreItems limit offset [] = Unit {0}
 AreItems limit offset (i ∷ items) =
-    IsItem i × (offset + length (spelled i) ≤ limit) × AreItems limit (offset + length (spelled i)) items
+    IsItem i × (offset + length (item_bytes i) ≤ limit) × AreItems limit (offset + length (item_bytes i)) items
 
 -- an item that ends within the limit stands at the offset, before these bytes (profile)
-pub record Stands (limit offset : ℕ) (bytes : List ℕ) : Type 0 where
+pub record ItemStands (limit offset : ℕ) (bytes : List ℕ) : Type 0 where
   pub item : Item
   pub rest : List ℕ
   pub is_item : IsItem item
-  pub split : bytes ≡ spelled item ++ rest
-  pub within : offset + length (spelled item) ≤ limit
+  pub split : bytes ≡ item_bytes item ++ rest
+  pub within : offset + length (item_bytes item) ≤ limit
 
 -- some front of what was left was taken
 abbrev pub TookFront : Option (List ℕ) → Option (List ℕ) → Type 0
@@ -52,10 +52,10 @@ TookFront left left' = IfSome left (λ bytes. (count : ℕ) × Took left left' (
 
 -- what stands at the offset is refused: there is a byte, and no item (profile)
 abbrev pub HasNoItem : ℕ → ℕ → Option (List ℕ) → Type 0
-HasNoItem limit offset left = IfSome left (λ bytes. (bytes ≡ [] → ⊥) × (Stands limit offset bytes → ⊥))
+HasNoItem limit offset left = IfSome left (λ bytes. (bytes ≡ [] → ⊥) × (ItemStands limit offset bytes → ⊥))
 
 -- a front was taken that has no whole item
 abbrev pub IsTruncated : ℕ → ℕ → Option (List ℕ) → Option (List ℕ) → Type 0
 IsTruncated limit offset left left' =
     IfSome left (λ bytes. (count : ℕ) × Took left left' (take count bytes)
-    × ((s : Stands limit offset bytes) → count < length (spelled s.item)))
+    × ((s : ItemStands limit offset bytes) → count < length (item_bytes s.item)))

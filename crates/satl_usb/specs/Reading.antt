@@ -10,7 +10,7 @@ use Rattle.satl_io.specs.Known.{Took}
 use Rattle.satl_usb.specs.declared.items.ItemFault.{ItemFault}
 use Rattle.satl_usb.specs.declared.items.ItemFault.TheVariants as faults
 use Rattle.satl_usb.specs.declared.items.Taken.{Taken}
-use Rattle.satl_usb.specs.Items.{HasNoItem, IsItem, IsTruncated, Item, TookFront, spelled}
+use Rattle.satl_usb.specs.Items.{HasNoItem, IsItem, IsTruncated, Item, TookFront, item_bytes}
 
 -- nothing was left to take
 pub record WasAtEnd (left left' : Option (List ℕ)) : Type 0 where
@@ -28,8 +28,8 @@ pub record TookHead (left left' : Option (List ℕ)) (command : Cbw) : Type 0 wh
 pub record TookItem (limit offset room : ℕ) (left left' : Option (List ℕ)) (taken : Taken) : Type 0 where
   pub item : Item
   pub is_item : IsItem item
-  pub within : offset + length (spelled item) ≤ limit
-  pub took : Took left left' (spelled item)
+  pub within : offset + length (item_bytes item) ≤ limit
+  pub took : Took left left' (item_bytes item)
   pub command : taken.command ≡ item.command
   pub body : taken.body ≡ take room (pages_of item.body)
 

@@ -99,10 +99,10 @@ abbrev pub supported_pages : PageRow
 supported_pages = record { code = 0x00; rest = λ i. page_codes }
 
 -- PERIPHERAL QUALIFIER and DEVICE TYPE, PAGE CODE, PAGE LENGTH, and the rest (SPC-4, Vital product data parameters)
-abbrev pub page_bytes : PageRow → Identity → List ℕ
-page_bytes p i = 0x00 ∷ p.code ∷ (bytes_high_first 2 (length (p.rest i)) ++ p.rest i)
+abbrev pub vpd_page_bytes : PageRow → Identity → List ℕ
+vpd_page_bytes p i = 0x00 ∷ p.code ∷ (bytes_high_first 2 (length (p.rest i)) ++ p.rest i)
 
 -- the page of a code
 unfoldable pub vpd_page : ℕ → Identity → Option (List ℕ)
 vpd_page code i =
-    option_map (λ (p : PageRow). page_bytes p i) (find (λ (p : PageRow). p.code == code) (supported_pages ∷ vpd_pages))
+    option_map (λ (p : PageRow). vpd_page_bytes p i) (find (λ (p : PageRow). p.code == code) (supported_pages ∷ vpd_pages))

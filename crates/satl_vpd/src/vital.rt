@@ -3,7 +3,7 @@ ghost use Rattle.std.specs.Prelude.{◌≡◌, ◌↔◌, ◌≤◌, ◌∷◌, 
 ghost use Rattle.std.specs.Int.{bytes_high_first};
 ghost use Rattle.std.specs.Option.{option_map};
 ghost use Rattle.satl_base.specs.Lists.{is_in};
-ghost use Rattle.satl_vpd.specs.Vital.{ata_information, block_characteristics, block_limits, has_world_wide_name, identification, page_bytes, page_codes, provisioning, serial_number, vpd_page};
+ghost use Rattle.satl_vpd.specs.Vital.{ata_information, block_characteristics, block_limits, has_world_wide_name, identification, page_codes, provisioning, serial_number, vpd_page, vpd_page_bytes};
 
 use crate::text::characters;
 use arrayvec::ArrayVec;
@@ -35,7 +35,7 @@ fn supported_pages() -> VitalPage
 
 /// SPC-4, Unit Serial Number: the drive's.
 fn serial_number(identity: &Identity) -> VitalPage
-    ensures { result.items ≡ page_bytes serial_number identity.now }
+    ensures { result.items ≡ vpd_page_bytes serial_number identity.now }
 {
     let mut page = begun(0x80, 0x14);
     append(&mut page, &characters(&identity.bytes, 10, 19));
@@ -62,7 +62,7 @@ fn identification_length(identity: &Identity) -> u16
 
 /// SPC-4, Device Identification: vendor, model and serial number, and the world wide name where there is one.
 fn identification(identity: &Identity) -> VitalPage
-    ensures { result.items ≡ page_bytes identification identity.now }
+    ensures { result.items ≡ vpd_page_bytes identification identity.now }
 {
     let mut page = begun(0x83, identification_length(identity));
     append(&mut page, &[0x02, 0x01, 0x00, 0x44]);
@@ -78,7 +78,7 @@ fn identification(identity: &Identity) -> VitalPage
 
 /// SAT-3, ATA Information: names of this layer, and the IDENTIFY DEVICE data.
 fn ata_information(identity: &Identity) -> VitalPage
-    ensures { result.items ≡ page_bytes ata_information identity.now }
+    ensures { result.items ≡ vpd_page_bytes ata_information identity.now }
 {
     let mut page = begun(0x89, 0x0238);
     append(&mut page, &[0; 4]);
@@ -93,7 +93,7 @@ fn ata_information(identity: &Identity) -> VitalPage
 
 /// SBC-3, Block Limits.
 fn block_limits(identity: &Identity) -> VitalPage
-    ensures { result.items ≡ page_bytes block_limits identity.now }
+    ensures { result.items ≡ vpd_page_bytes block_limits identity.now }
 {
     let mut bytes = [0; 64];
     bytes[4] = 0x01; // WSNZ
@@ -110,7 +110,7 @@ fn block_limits(identity: &Identity) -> VitalPage
 
 /// SBC-3, Block Device Characteristics.
 fn block_characteristics(identity: &Identity) -> VitalPage
-    ensures { result.items ≡ page_bytes block_characteristics identity.now }
+    ensures { result.items ≡ vpd_page_bytes block_characteristics identity.now }
 {
     let rotation_rate = LittleEndian::read_u16(&identity.bytes[2 * 217..]);
     let form_factor = LittleEndian::read_u16(&identity.bytes[2 * 168..]) & 0x0F;
@@ -124,7 +124,7 @@ fn block_characteristics(identity: &Identity) -> VitalPage
 
 /// SBC-3, Logical Block Provisioning.
 fn provisioning(identity: &Identity) -> VitalPage
-    ensures { result.items ≡ page_bytes provisioning identity.now }
+    ensures { result.items ≡ vpd_page_bytes provisioning identity.now }
 {
     let mut page = begun(0xB2, 0x04);
     let flags = if identity.trim { 0xE4 } else { 0x00 };

@@ -1,6 +1,6 @@
 use Rattle.std.proofs.Common.{◌≡◌, ◌+◌, ◌*◌, ◌-◌, ◌<◌, ◌≤◌, drop, length, take}
 use Rattle.satl_base.specs.Cells.{nows}
-use Rattle.satl_barrier.specs.Finishing.{verifying}
+use Rattle.satl_barrier.specs.Finishing.{verifying_range}
 use Rattle.satl_barrier.specs.Leaving.{IsFree}
 use Rattle.satl_barrier.proofs.PiecesLemmas.{IsSoFar, head}
 use Rattle.satl_barrier.proofs.comparing.compare_pieces.Given as goal
@@ -12,7 +12,7 @@ invariant-loop-done g l =
     record {
       within : l.done ≤ l.range.count;
       free : IsFree now;
-      so_far : IsSoFar (verifying (head l.range l.done)) old now;
+      so_far : IsSoFar (verifying_range (head l.range l.done)) old now;
       same : take l.done (nows old.cells l.range.lba l.range.count) ≡ take l.done l.blocks;
       wanted : l.wanted ≡ drop l.done l.blocks;
       room : length l.scratch ≡ length l.fn.scratch;

@@ -1,5 +1,5 @@
 use Rattle.std.proofs.Common.{sym, subst, ◌∙◌}
-use Rattle.satl_barrier.specs.Finishing.{FinishesAs, verifying}
+use Rattle.satl_barrier.specs.Finishing.{FinishesAs, verifying_range}
 use Rattle.satl_barrier.proofs.ComparingLemmas.{first_read}
 use Rattle.satl_barrier.proofs.FinishingLemmas.{blocks_read, read_in}
 use Rattle.satl_barrier.proofs.comparing.read_piece.Goals as goal
@@ -8,7 +8,7 @@ pub returns-clause-finishes : goal.returns-clause-finishes
 returns-clause-finishes g c =
     let old = g.D.Drive.state c.args.drive.now in
     let new = g.D.Drive.state c.run.new.drive in
-    subst (λ it. FinishesAs (verifying c.args.range) c.args.range.count it old new) (sym c.from.ensures)
+    subst (λ it. FinishesAs (verifying_range c.args.range) c.args.range.count it old new) (sym c.from.ensures)
     (read_in c.args.range _ old new c.requires.reached c.in_ok-ended.ensures.ok)
 
 pub returns-clause-blocks : goal.returns-clause-blocks

@@ -1,7 +1,7 @@
 use Rattle.std.proofs.Common.{sym, subst}
 use Rattle.std.proofs.lemmas.Result.{err_from_is_err_and}
 use Rattle.satl_drive.specs.State.{medium_of}
-use Rattle.satl_barrier.specs.Finishing.{FinishesAs, trimming}
+use Rattle.satl_barrier.specs.Finishing.{FinishesAs, trimming_ranges}
 use Rattle.satl_barrier.proofs.CommandsLemmas.{among, lost_first}
 use Rattle.satl_barrier.proofs.TrimmingLemmas.{trim_finishes, trim_pairs}
 use Rattle.satl_barrier.proofs.trimming.trim.Goals as goal
@@ -16,5 +16,5 @@ pub returns-clause-finishes : goal.returns-clause-finishes
 returns-clause-finishes g c =
     let old = g.D.Drive.state c.args.drive.now in
     let new = g.D.Drive.state c.run.new.drive in
-    subst (λ it. FinishesAs (trimming c.args.ranges.now old) 0 it old new) (sym c.from.ensures)
+    subst (λ it. FinishesAs (trimming_ranges c.args.ranges.now old) 0 it old new) (sym c.from.ensures)
     (trim_finishes c.args.ranges.now c.trim_bytes.result c.args.scratch.now _ old new c.trim_bytes.ensures.again c.trim_bytes.ensures.same c.requires.room c.set_block.ensures c.requires.within c.requires.has c.requires.takes c.in_ok-ended.ensures.ok)

@@ -1,7 +1,7 @@
 use Rattle.std.proofs.Common.{sym, subst, take}
 use Rattle.std.proofs.lemmas.Result.{err_from_is_err_and}
 use Rattle.satl_barrier.specs.Commands.{IsCutShort}
-use Rattle.satl_barrier.specs.Finishing.{FinishesAs, writing}
+use Rattle.satl_barrier.specs.Finishing.{FinishesAs, writing_range}
 use Rattle.satl_barrier.proofs.FinishingLemmas.{write_keeps, write_pairs, written}
 use Rattle.satl_barrier.proofs.writing_same.write_piece.Goals as goal
 
@@ -15,7 +15,7 @@ pub returns-clause-finishes : goal.returns-clause-finishes
 returns-clause-finishes g c =
     let old = g.D.Drive.state c.args.drive.now in
     let new = g.D.Drive.state c.run.new.drive in
-    subst (λ it. FinishesAs (writing c.args.range (take c.args.range.count c.args.pages.now) old) c.args.range.count it old new) (sym c.from.ensures)
+    subst (λ it. FinishesAs (writing_range c.args.range (take c.args.range.count c.args.pages.now) old) c.args.range.count it old new) (sym c.from.ensures)
     (written c.args.range _ old new c.requires.reached c.in_ok-ended.ensures.ok)
 
 pub returns-clause-same : goal.returns-clause-same
