@@ -1,6 +1,6 @@
 -- One block more that a pending WRITE may have left.
 use Rattle.std.proofs.Common.{arith, ◌≡◌, refl, sym, ap, ◌∙◌, ℕ, suc, ◌+◌, ◌-◌, ◌*◌, ◌<◌, Bool, true, false, List, [], ◌∷◌, ◌++◌, length, map, append_assoc}
-use Rattle.std.specs.Prelude.{◌==◌, ◌≤◌, if◌then◌else◌, slice_set, ◌-◌}
+use Rattle.std.specs.Prelude.{◌==◌, ◌≤◌, if◌then◌else◌, slice_set}
 use Rattle.std.proofs.lemmas.Bool.{eqb-true}
 use Rattle.std.proofs.lemmas.List.{append-nil, map-append}
 use Rattle.satl_base.specs.declared.block.Block.{Block}

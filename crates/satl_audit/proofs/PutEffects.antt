@@ -1,6 +1,6 @@
 -- One block more that a WRITE puts.
 use Rattle.std.proofs.Common.{arith, ◌≡◌, refl, sym, ap, ◌∙◌, ℕ, suc, ◌+◌, ◌-◌, ◌*◌, ◌<◌, Bool, true, false, List, [], ◌∷◌, length}
-use Rattle.std.specs.Prelude.{◌==◌, ◌≤◌, if◌then◌else◌, Some, slice_set, ◌-◌}
+use Rattle.std.specs.Prelude.{◌==◌, ◌≤◌, if◌then◌else◌, Some, slice_set}
 use Rattle.std.proofs.lemmas.Bool.{eqb-true, eqb-false}
 use Rattle.std.proofs.lemmas.List.{get_or-set_other, get_or-set_same, map-append}
 use Rattle.satl_base.specs.declared.block.Block.{Block}

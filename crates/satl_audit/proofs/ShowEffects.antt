@@ -1,6 +1,6 @@
 -- One block more that a READ shows.
 use Rattle.std.proofs.Common.{arith, ◌≡◌, refl, sym, ap, ◌∙◌, subst, ℕ, ◌+◌, ◌-◌, ◌*◌, ◌<◌, Bool, true, false, List, [], ◌∷◌, length, drop}
-use Rattle.std.specs.Prelude.{◌==◌, ◌≤◌, if◌then◌else◌, Option, Some, None, ◌-◌}
+use Rattle.std.specs.Prelude.{◌==◌, ◌≤◌, if◌then◌else◌, Option, Some, None}
 use Rattle.std.proofs.lemmas.Bool.{eqb-true}
 use Rattle.satl_base.specs.declared.block.Block.{Block}
 use Rattle.satl_frame.specs.DataPages.{page_count, pages_from, pages_of}

@@ -1,5 +1,5 @@
 // Pages of one block each.
-ghost use Rattle.std.specs.Prelude.{◌≡◌, ◌<◌, ◌≤◌, ◌+◌, ◌*◌, ◌^◌, ℕ, List, [], ◌∷◌, ◌++◌, IfOk, IsSome, ◌↔◌, length, take, drop, replicate, slice_index_or, slice_set, option_to_list, reverse};
+ghost use Rattle.std.specs.Prelude.{◌≡◌, ◌<◌, ◌≤◌, ◌+◌, ◌*◌, ◌^◌, List, [], ◌∷◌, ◌++◌, IfOk, IsSome, ◌↔◌, length, take, drop, replicate, slice_index_or, slice_set, option_to_list, reverse};
 ghost use Rattle.satl_base.specs.Blocks.{zero_block, blocks_from};
 
 use crate::block::Block;

@@ -1,6 +1,6 @@
 // Data-out from the source into pages, in large reads.
 ghost use Rattle.std.specs.Prelude.{◌≡◌, ◌<◌, ◌≤◌, ◌+◌, ◌-◌, ◌*◌, ◌^◌, ◌++◌, [], IfOk, OnOk, length, take, drop, reverse};
-ghost use Rattle.satl_base.specs.Blocks.{zero_block, zero_bytes};
+ghost use Rattle.satl_base.specs.Blocks.{zero_bytes};
 ghost use Rattle.satl_frame.specs.DataPages.{page_count};
 ghost use Rattle.satl_frame.specs.Pulls.{PullCauses, Stopped, TookCount, TookPages, FilledInReverse, given_pages};
 

@@ -1,5 +1,5 @@
 -- The payload of a trim: a block of 64 entries of 8 bytes, the lowest byte first (ACS-3 section 7, DATA SET MANAGEMENT).
-use Rattle.std.specs.Prelude.{ℕ, zero, suc, ◌+◌, ◌-◌, ◌*◌, ◌^◌, ◌<◌, ◌≤◌, ◌==◌, not, Bool, List, [], ◌∷◌, ◌++◌, length, map, drop, replicate, if◌then◌else◌}
+use Rattle.std.specs.Prelude.{ℕ, zero, suc, ◌+◌, ◌-◌, ◌*◌, ◌^◌, ◌<◌, ◌≤◌, ◌==◌, List, [], ◌∷◌, ◌++◌, length, map, drop, if◌then◌else◌}
 use Rattle.std.specs.List.{filter, flat_map, AllByRecursion}
 use Rattle.byteorder.specs.Endian.{little_bytes, little_number}
 use Rattle.satl_base.specs.Blocks.{is_used, zero_bytes}

@@ -6,11 +6,10 @@ use Rattle.satl_cdb.specs.Table.{says}
 use Rattle.satl_unit.specs.declared.attention.Attention.TheVariants.{PowerOn}
 use Rattle.satl_unit.specs.Conditions.{IsInReportOrder}
 use Rattle.satl_frame.specs.declared.frames.Frame.TheVariants.{Request}
-use Rattle.satl_direct.specs.Run.TurnsOf.{none}
 use Rattle.satl_direct.specs.Valid.{IsValid}
 use Rattle.satl_direct.proofs.Conditions.{valid_attended}
 use Rattle.satl_scenarios.specs.Orders.{IsOfArrivalOrder, IsOfOrderUnderErrors, torn_out_of_order, written_out_of_order}
-use Rattle.satl_scenarios.specs.Devices.{aa, bb, device}
+use Rattle.satl_scenarios.specs.Devices.{aa, bb}
 use Rattle.satl_scenarios.specs.Requests.{cdb_10, read_10, request, write_10}
 use Rattle.satl_scenarios.proofs.Validity.{blank_valid}
 

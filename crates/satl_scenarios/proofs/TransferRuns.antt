@@ -1,6 +1,5 @@
 -- Reads and writes that end in their turns.
 use Rattle.std.proofs.Common.{inl, inr, refl, true, false, [], ◌∷◌}
-use Rattle.satl_base.specs.Moves.{write}
 use Rattle.satl_cdb.specs.declared.command.Command.TheVariants.{Read, Write}
 use Rattle.satl_cdb.specs.declared.command.Form.TheVariants.{Ten}
 use Rattle.satl_cdb.specs.Table.{says}
@@ -14,7 +13,7 @@ use Rattle.satl_direct.specs.Run.TurnsOf.{none}
 use Rattle.satl_scenarios.specs.Scenario.{CanHappen}
 use Rattle.satl_scenarios.specs.Transfers.{waking_read, ordered_read, written_then_read, reads_in_order, reads_in_reverse, written_past_the_cache, garbled_write}
 use Rattle.satl_scenarios.specs.Devices.{aa, bb, never_written, device, cached_over, lasts, zeros}
-use Rattle.satl_scenarios.specs.Requests.{read_10, task}
+use Rattle.satl_scenarios.specs.Requests.{task}
 use Rattle.satl_scenarios.proofs.Building.{it_can_happen, arrives, drained, one_turn, turn_more}
 use Rattle.satl_scenarios.proofs.Building.Follows.{next, ends_here}
 use Rattle.satl_scenarios.proofs.Endings.{ended, done, glitched}

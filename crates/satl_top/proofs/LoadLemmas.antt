@@ -14,14 +14,14 @@ use Rattle.satl_serve.specs.Completeness.{GoesWell, IsGoodInput, MayStop}
 use Rattle.satl_serve.specs.Headline.{IsServedWhole, IsStopped}
 use Rattle.satl_serve.specs.Moments.{Moment, SinkState, SourceState, moment, source_state}
 use Rattle.satl_serve.specs.Runs.{input_limit}
-use Rattle.satl_serve.specs.Stopping.{HasServeCause, IsDriveRefused, TellsRefusal}
+use Rattle.satl_serve.specs.Stopping.{HasServeCause, TellsRefusal}
 use Rattle.satl_serve.specs.declared.serving.ServeFault.{ServeFault}
 use Rattle.satl_serve.specs.declared.serving.ServeFault.TheVariants as faults
 use Rattle.satl_serve.specs.declared.telling.Form.TheVariants as forms
 use Rattle.satl_top.specs.Faults.{status_of}
-use Rattle.satl_top.specs.Load.{IsLoaded, Load, LoadEnds, LoadStops, input_of, load_of, nowhere}
+use Rattle.satl_top.specs.Load.{IsLoaded, Load, LoadEnds, LoadStops, input_of, nowhere}
 use Rattle.satl_words.specs.declared.modes.Mode.TheVariants as modes
-use Rattle.satl_top.specs.Top.{HasCarriedOut, HasStatusCause}
+use Rattle.satl_top.specs.Top.{HasStatusCause}
 use Rattle.satl_top.proofs.RequestLemmas.{frames_read, total_is}
 use Rattle.satl_top.specs.declared.status.Status.{Status}
 use Rattle.satl_top.specs.declared.status.Status.TheVariants as statuses

@@ -1,8 +1,8 @@
-use Rattle.std.proofs.Common.{arith, refl, ap, subst, ◌∙◌, ◌∷◌, [], map}
+use Rattle.std.proofs.Common.{arith, refl, ◌∙◌, ◌∷◌, [], map}
 use Rattle.std.proofs.Common.{add-mul}
 use Rattle.satl_step.specs.Runs.{calls_allowed}
 use Rattle.satl_base.proofs.OutcomeLemmas.{any_err}
-use Rattle.satl_fleet.specs.Rounds.{DidAt, DidAtInPart, stage}
+use Rattle.satl_fleet.specs.Rounds.{stage}
 use Rattle.satl_fleet.specs.Serving.{target}
 use Rattle.satl_fleet.specs.Shared.{frame_of}
 use Rattle.satl_fleet.specs.Units.{unit_states}
