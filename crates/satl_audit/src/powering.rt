@@ -61,7 +61,7 @@ fn power_sectors(waiting: &Waiting, sectors: &mut Sectors) -> Result<(), NoMemor
     ensures length { OnOk result (length sectors.new ≡ length sectors.old) }
     ensures follows { (identity : Identity) → (input : List ℕ)
         → OnOk result
-            (Follows input (power_deeds (device_without_sectors identity input waiting.now [])) sectors.old sectors.new) }
+        (Follows input (power_deeds (device_without_sectors identity input waiting.now [])) sectors.old sectors.new) }
 {
     pend_tasks(waiting, sectors)?;
     sectors.power()

@@ -53,7 +53,7 @@ fn pull_request<S: Source, P: Lender>(
     requires { allows (frame_rows version) 1 len ≡ true }
     ensures request { IfOk result (λ found. IfSome found (λ request.
         TookPayload (S.left source.old) (S.left source.new) (request_head version len) (P.free lender.old)
-            (frames.Request request))) }
+        (frames.Request request))) }
     ensures none { IfOk result (λ found. IfNone found
         (TookBadField (S.left source.old) (S.left source.new) (request_head version len))) }
     ensures stopped { Stopped (S.left source.old) (S.left source.new) len result }

@@ -50,7 +50,11 @@ impl Draw {
     pub fn sent_blocks(self) -> u32
         ensures { result ≡ sent_blocks self }
     {
-        if self.draws_write() { 1 + self.c % 32 } else { 0 }
+        if self.draws_write() {
+            1 + self.c % 32
+        } else {
+            0
+        }
     }
 
     /// The number that the ORDER behind the request of this number has, where one stands there.

@@ -51,8 +51,13 @@ impl Model for TaskSet {
     ghost view = { λ s. tasks_in s.slots.items s.order.items };
 
     ghost invariant = { λ s. FitTogether (record {
-        slots = s.slots.items; outlines = s.outlines; order = s.order.items; free = s.free.items;
-        masks = s.masks; blocks = s.blocks; active = s.active
+      slots = s.slots.items;
+      outlines = s.outlines;
+      order = s.order.items;
+      free = s.free.items;
+      masks = s.masks;
+      blocks = s.blocks;
+      active = s.active;
     }) };
 }
 
