@@ -12,7 +12,7 @@ use Rattle.satl_audit.specs.Deeds.{Deed}
 use Rattle.satl_audit.specs.Finishing.{AreTasks}
 use Rattle.satl_audit.specs.Skeleton.{DoneAs}
 use Rattle.satl_audit.specs.Waiting.{Fits, MayWait, Placed, task_in}
-use Rattle.satl_audit.specs.Following.{blocks_from}
+use Rattle.satl_audit.specs.Following.{input_blocks}
 use Rattle.satl_direct.specs.Device.{Device}
 use Rattle.satl_direct.specs.Tasks.{data_out_kept, held_blocks}
 use Rattle.std.proofs.lemmas.Option.{same_Some}
@@ -27,8 +27,8 @@ write_within capacity size p f form lba count fua c =
     (w.0, omega (arith, w.1, f.stands))
 
 -- the data-out of a WRITE that waits
-pub write_body : (input : List ℕ) (p : Placed) (form : Form) (lba count : ℕ) (fua : Bool) → p.entry.command ≡ commands.Write form lba count fua → p.entry.blocks ≡ held_blocks p.entry.command → (task_in input p).body ≡ blocks_from input p.at count
-write_body input p form lba count fua c held = ap (λ (k : Command). data_out_kept k (blocks_from input p.at p.entry.blocks)) c ∙ ap (blocks_from input p.at) (held ∙ ap (λ (k : Command). held_blocks k) c)
+pub write_body : (input : List ℕ) (p : Placed) (form : Form) (lba count : ℕ) (fua : Bool) → p.entry.command ≡ commands.Write form lba count fua → p.entry.blocks ≡ held_blocks p.entry.command → (task_in input p).body ≡ input_blocks input p.at count
+write_body input p form lba count fua c held = ap (λ (k : Command). data_out_kept k (input_blocks input p.at p.entry.blocks)) c ∙ ap (input_blocks input p.at) (held ∙ ap (λ (k : Command). held_blocks k) c)
 
 pub fits_at : (identity : Identity) (input : List ℕ) (ps : List Placed) (place : ℕ) (p : Placed) → AreTasks identity input ps → slice_get ps place ≡ Some p → Fits identity.capacity (length input) p
 fits_at identity input ps place p tasks at = all_at (Fits identity.capacity (length input)) ps place p tasks.fit at

@@ -7,7 +7,7 @@ use Rattle.satl_base.specs.declared.block.Block.{Block}
 use Rattle.satl_base.specs.Cells.{pairs_from}
 use Rattle.satl_audit.specs.declared.content.Content.{Content}
 use Rattle.satl_audit.specs.declared.content.Content.TheVariants.{Input}
-use Rattle.satl_audit.specs.Following.{blocks_from}
+use Rattle.satl_audit.specs.Following.{input_blocks}
 use Rattle.satl_audit.specs.Kept.{Keeping, block_of, blank_keeping, kept_at, kept_put, known_sector_at, known_sector}
 use Rattle.satl_audit.specs.Sectors.{KnownSector, sector_put, sector_puts}
 
@@ -22,11 +22,11 @@ put_sector input v false k = refl
 
 -- what is left to put
 abbrev pub left_puts : List ℕ → Bool → ℕ → ℕ → ℕ → ℕ → ℕ → List Keeping → KnownSector
-left_puts input cached x lba at i count ks = sector_puts x (pairs_from (lba + i) (blocks_from input (at + 512 * i) (count - i)) cached) (known_sector_at input ks x)
+left_puts input cached x lba at i count ks = sector_puts x (pairs_from (lba + i) (input_blocks input (at + 512 * i) (count - i)) cached) (known_sector_at input ks x)
 
 puts_one : (input : List ℕ) (cached : Bool) (x lba at n : ℕ) (ks ms : List Keeping) → lba < length ks → ms ≡ slice_set ks lba (kept_put (Input at) cached (kept_at ks lba)) →
-    sector_puts x (pairs_from lba (blocks_from input at (suc n)) cached) (known_sector_at input ks x) ≡ sector_puts x (pairs_from (lba + 1) (blocks_from input (at + 512) n) cached) (known_sector_at input ms x)
-puts_one input cached x lba at n ks ms less e = ap (sector_puts x (pairs_from (lba + 1) (blocks_from input (at + 512) n) cached)) (one (lba == x) refl)
+    sector_puts x (pairs_from lba (input_blocks input at (suc n)) cached) (known_sector_at input ks x) ≡ sector_puts x (pairs_from (lba + 1) (input_blocks input (at + 512) n) cached) (known_sector_at input ms x)
+puts_one input cached x lba at n ks ms less e = ap (sector_puts x (pairs_from (lba + 1) (input_blocks input (at + 512) n) cached)) (one (lba == x) refl)
   where
     one : (b : Bool) → (lba == x) ≡ b → (if b then sector_put (block_of input (Input at)) cached (known_sector_at input ks x) else known_sector_at input ks x) ≡ known_sector_at input ms x
     one true h =
@@ -51,13 +51,13 @@ pub puts_turn : (input : List ℕ) (cached : Bool) (x lba at i count : ℕ) (ks 
     left_puts input cached x lba at i count ks ≡ left_puts input cached x lba at (i + 1) count ms
 puts_turn input cached x lba at i count ks ms less within e =
     let size : count - i ≡ suc (count - (i + 1)) = omega (arith, less) in
-    ap (λ n. sector_puts x (pairs_from (lba + i) (blocks_from input (at + 512 * i) n) cached) (known_sector_at input ks x)) size
+    ap (λ n. sector_puts x (pairs_from (lba + i) (input_blocks input (at + 512 * i) n) cached) (known_sector_at input ks x)) size
     ∙ puts_one input cached x (lba + i) (at + 512 * i) (count - (i + 1)) ks ms within e
-    ∙ further (λ a b n. sector_puts x (pairs_from a (blocks_from input b n) cached) (known_sector_at input ms x)) lba at i count
+    ∙ further (λ a b n. sector_puts x (pairs_from a (input_blocks input b n) cached) (known_sector_at input ms x)) lba at i count
 
-pub puts_begin : (input : List ℕ) (cached : Bool) (x lba at count : ℕ) (ks : List Keeping) → sector_puts x (pairs_from lba (blocks_from input at count) cached) (known_sector_at input ks x) ≡ left_puts input cached x lba at 0 count ks
+pub puts_begin : (input : List ℕ) (cached : Bool) (x lba at count : ℕ) (ks : List Keeping) → sector_puts x (pairs_from lba (input_blocks input at count) cached) (known_sector_at input ks x) ≡ left_puts input cached x lba at 0 count ks
 puts_begin input cached x lba at count ks =
-    from_none (λ a b n. sector_puts x (pairs_from a (blocks_from input b n) cached) (known_sector_at input ks x)) lba at count
+    from_none (λ a b n. sector_puts x (pairs_from a (input_blocks input b n) cached) (known_sector_at input ks x)) lba at count
 
 pub puts_end : (input : List ℕ) (cached : Bool) (x lba at i count : ℕ) (ks : List Keeping) → count ≤ i → left_puts input cached x lba at i count ks ≡ known_sector_at input ks x
-puts_end input cached x lba at i count ks le = let none : count - i ≡ 0 = omega (arith, le) in ap (λ n. sector_puts x (pairs_from (lba + i) (blocks_from input (at + 512 * i) n) cached) (known_sector_at input ks x)) none
+puts_end input cached x lba at i count ks le = let none : count - i ≡ 0 = omega (arith, le) in ap (λ n. sector_puts x (pairs_from (lba + i) (input_blocks input (at + 512 * i) n) cached) (known_sector_at input ks x)) none

@@ -19,12 +19,12 @@ use Rattle.satl_frame.proofs.ProgressLemmas.{all_spelled-append}
 use Rattle.satl_cover.specs.Covered.{place_behind}
 use Rattle.satl_audit.specs.declared.content.Content.TheVariants.{Input}
 use Rattle.satl_audit.specs.Arriving.{StandsAt}
-use Rattle.satl_audit.specs.Following.{blocks_from}
+use Rattle.satl_audit.specs.Following.{input_blocks}
 use Rattle.satl_audit.specs.Kept.{block_of}
 
 -- whole pages of bytes that stand at a place are the blocks from there on
 module _ (input : List ℕ) where
-  blocks_stand : (n count at : ℕ) (given post : List ℕ) → count ≤ n → 512 * count ≤ length given → drop at input ≡ given ++ post → take count (pages_from n given) ≡ blocks_from input at count
+  blocks_stand : (n count at : ℕ) (given post : List ℕ) → count ≤ n → 512 * count ≤ length given → drop at input ≡ given ++ post → take count (pages_from n given) ≡ input_blocks input at count
   unfolding pages_from
   blocks_stand zero zero at given post le size is = refl
   blocks_stand zero (suc count) at given post le size is = absurd (omega (arith, le))
@@ -38,7 +38,7 @@ module _ (input : List ℕ) where
       ap (λ (b : Block). b ∷ take count (pages_from n (drop 512 given))) (sym first)
       ∙ ap (λ (l : List Block). block_of input (Input at) ∷ l) (blocks_stand n count (at + 512) (drop 512 given) post (omega (arith, le)) (omega (arith, size, length-drop 512 given)) place)
 
-  pub pages_stand : (count at : ℕ) (given post : List ℕ) → 512 * count ≤ length given → drop at input ≡ given ++ post → take count (pages_of given) ≡ blocks_from input at count
+  pub pages_stand : (count at : ℕ) (given post : List ℕ) → 512 * count ≤ length given → drop at input ≡ given ++ post → take count (pages_of given) ≡ input_blocks input at count
   unfolding pages_of
   pages_stand count at given post size is = blocks_stand (page_count (length given)) count at given post (omega (arith, size)) size is
 

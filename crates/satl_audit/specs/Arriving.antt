@@ -17,7 +17,7 @@ use Rattle.satl_direct.specs.Device.{Device, is_called}
 use Rattle.satl_direct.specs.Arrival.{Arrival, Arrives, arrival, becomes, check, is_unit_0, operation_code, placed, reply_to, untold_codes}
 use Rattle.satl_direct.specs.Arrival.Arrival.{answered}
 use Rattle.satl_direct.specs.Tasks.{task_for}
-use Rattle.satl_audit.specs.Following.{blocks_from}
+use Rattle.satl_audit.specs.Following.{input_blocks}
 use Rattle.satl_audit.specs.Waiting.{Placed, device_tasks}
 use Rattle.satl_audit.specs.declared.arriving.Steps.{Steps}
 use Rattle.satl_audit.specs.declared.judging.AtOnce.{AtOnce}
@@ -74,7 +74,7 @@ device_without_sectors identity input waiting attentions = record {
 
 -- the blocks of the data-out, so many bytes, stand in the input from a place on (SBC-3 5; profile)
 abbrev pub StandsAt : List ℕ → ℕ → ℕ → List Block → Type 0
-StandsAt input at bytes body = (count : ℕ) → 512 * count ≤ bytes → take count body ≡ blocks_from input at count
+StandsAt input at bytes body = (count : ℕ) → 512 * count ≤ bytes → take count body ≡ input_blocks input at count
 
 -- a request goes to logical unit 0 with a name that no task has, and its data-out stands in the input (SAM-5 4.6.4, 4.7;
 -- profile)

@@ -13,13 +13,13 @@ use Rattle.satl_audit.specs.Kept.{Keeping, block_of, known_sector_at}
 use Rattle.satl_audit.specs.Sectors.{KnownSector, sector_gives, sector_power, sector_puts, settled_in}
 
 -- so many blocks of the input from a place on (profile)
-abbrev pub blocks_from : List ℕ → ℕ → ℕ → List Block
-blocks_from input at zero = []
-blocks_from input at (suc count) = block_of input (Input at) ∷ blocks_from input (at + 512) count
+abbrev pub input_blocks : List ℕ → ℕ → ℕ → List Block
+input_blocks input at zero = []
+input_blocks input at (suc count) = block_of input (Input at) ∷ input_blocks input (at + 512) count
 
 -- the pairs of a WRITE over a range whose data-out stands at this place of the input (SBC-3, WRITE commands)
 abbrev pub pairs_in : List ℕ → Range → ℕ → Bool → List Pair
-pairs_in input range at cached = pairs_from range.lba (blocks_from input at range.count) cached
+pairs_in input range at cached = pairs_from range.lba (input_blocks input at range.count) cached
 
 -- the blocks of a WRITE were put (SBC-3, WRITE commands)
 abbrev pub PutsBlocks : List ℕ → Put → List Keeping → List Keeping → Type 0

@@ -8,7 +8,7 @@ use Rattle.satl_line.specs.declared.entry.Entry.{Entry}
 use Rattle.satl_line.specs.Tasks.{Held}
 use Rattle.satl_direct.specs.Device.{is_called}
 use Rattle.satl_direct.specs.Tasks.{data_out_kept, held_blocks, held_by}
-use Rattle.satl_audit.specs.Following.{blocks_from}
+use Rattle.satl_audit.specs.Following.{input_blocks}
 
 -- a task without its pages, and where its data-out stands in the input (profile)
 pub record Placed : Type 0 where
@@ -34,7 +34,7 @@ has_no_room tasks blocks = (length tasks == most_tasks) || nat_lt most_held (hel
 -- the task with its data-out, which stands in the input (SBC-3 5)
 abbrev pub task_in : List ℕ → Placed → Entry
 task_in input placed =
-    record placed.entry { body = data_out_kept placed.entry.command (blocks_from input placed.at placed.entry.blocks) }
+    record placed.entry { body = data_out_kept placed.entry.command (input_blocks input placed.at placed.entry.blocks) }
 
 -- the tasks of the device (SAM-5, task set)
 abbrev pub device_tasks : List ℕ → List Placed → List Entry

@@ -9,7 +9,7 @@ use Rattle.satl_io.proofs.Joined.{Took-more}
 use Rattle.satl_frame.specs.DataPages.{pages_of}
 use Rattle.satl_frame.specs.Frames.{head_size, frame_rows, allows, payload_bytes, request_fields, HasFields}
 use Rattle.satl_frame.specs.Faults.{has_bad_field}
-use Rattle.satl_frame.specs.Pulls.{SpellsFrame, TookPayload, TookRest, TookCount, TookBadField, request_head}
+use Rattle.satl_frame.specs.Pulls.{SpellsFrame, TookPayload, TookRest, TookCount, TookBadField, head_of_request}
 use Rattle.satl_frame.specs.declared.frames.Version.{Version}
 use Rattle.satl_frame.specs.declared.frames.Version.TheVariants.{One, Two}
 use Rattle.satl_frame.specs.declared.frames.Frame.{Frame}
@@ -27,7 +27,7 @@ at_most_34 Two = omega arith
 -- head and data-out make the request
 pub request_taken : {a b c : Option (List ℕ)} {version : Version} {len room size : ℕ} {head : List ℕ} {r filled : Request} → allows (frame_rows version) 1 len ≡ true →
     size ≡ head_size version → Took a b head → length head ≡ size → (request_fields r ≡ head) × HasFields version r → TookRest b c r (len - size) room filled →
-    TookPayload a c (request_head version len) room (frames.Request filled)
+    TookPayload a c (head_of_request version len) room (frames.Request filled)
 request_taken {a} {b} {c} {version} {len} {room} {size} {head} {r} {filled} allowed is took counted (spelled_is, fields) rest =
     let sizes = request_lengths version len allowed in
     let whole = record r { body = pages_of rest.taken; data_len = len - size } in
@@ -49,7 +49,7 @@ request_taken {a} {b} {c} {version} {len} {room} {size} {head} {r} {filled} allo
 -- a head with a bad field makes none
 pub request_bad : {a b c : Option (List ℕ)} {version : Version} {len size : ℕ} {head : List ℕ} → allows (frame_rows version) 1 len ≡ true →
     size ≡ head_size version → Took a b head → length head ≡ size → ((rest : List ℕ) → has_bad_field version 1 (head ++ rest) ≡ true) → TookCount b c (len - size) →
-    TookBadField a c (request_head version len)
+    TookBadField a c (head_of_request version len)
 request_bad {a} {b} {c} {version} {len} {size} {head} allowed is took counted bad rest =
     let sizes = request_lengths version len allowed in
     record {

@@ -93,8 +93,8 @@ pub record Head : Type 0 where
   pub len : ℕ
 
 -- the head of a request
-abbrev pub request_head : Version → ℕ → Head
-request_head version len = record { version = version; code = 1; len = len }
+abbrev pub head_of_request : Version → ℕ → Head
+head_of_request version len = record { version = version; code = 1; len = len }
 
 -- the payload of a whole frame with this head was taken, and this is the frame with the pages that were free
 pub record TookPayload (left left' : Option (List ℕ)) (head : Head) (room : ℕ) (frame : Frame) : Type 0 where

@@ -27,12 +27,12 @@ BlamesMagic newest left left' (Bad reason offset) =
 BlamesMagic newest left left' ReadFault = FewerThan left left' (λ _. 8)
 
 -- how far an input was read: the place of the next frame, and the bytes that are left from there on
-pub record Spot : Type 0 where
+pub record Position : Type 0 where
   pub place : Place
   pub left : Option (List ℕ)
 
 -- a whole frame stood at the old spot and was taken, and behind it is the new one; no more pages are kept than were free
-pub record StoodAt (limit : ℕ) (old new : Spot) (room : ℕ) (frame : Frame) : Type 0 where
+pub record StoodAt (limit : ℕ) (old new : Position) (room : ℕ) (frame : Frame) : Type 0 where
   pub whole : Frame
   pub is_frame : IsFrame old.place.version whole
   pub cut : frame ≡ cut_to room whole

@@ -3,7 +3,7 @@ ghost use Rattle.std.specs.Prelude.{◌≡◌, ◌<◌, ◌≤◌, ◌+◌, ◌^
 ghost use Rattle.satl_frame.specs.declared.frames.Frame.TheVariants as frames;
 ghost use Rattle.satl_frame.specs.Faults.{told_length};
 ghost use Rattle.satl_frame.specs.Frames.{frame_rows, has_code, allows};
-ghost use Rattle.satl_frame.specs.Pulls.{PullCauses, Stopped, TookPayload, TookRest, TookBadField, asked_pages, found_pages, frame_pages, given_pages, request_head, request_pages};
+ghost use Rattle.satl_frame.specs.Pulls.{PullCauses, Stopped, TookPayload, TookRest, TookBadField, asked_pages, found_pages, frame_pages, given_pages, head_of_request, request_pages};
 ghost use Rattle.satl_frame.specs.Reading.{Reading, Gave, Blames, ReadCauses};
 ghost use Rattle.satl_frame.specs.Steps.{Began, BlamesMagic, StoodAt, BlamesAt, BlamesPayload, head_in};
 
@@ -52,10 +52,10 @@ fn pull_request<S: Source, P: Lender>(
 ) -> Result<Option<Request>, PullError>
     requires { allows (frame_rows version) 1 len ≡ true }
     ensures request { IfOk result (λ found. IfSome found (λ request.
-        TookPayload (S.left source.old) (S.left source.new) (request_head version len) (P.free lender.old)
+        TookPayload (S.left source.old) (S.left source.new) (head_of_request version len) (P.free lender.old)
         (frames.Request request))) }
     ensures none { IfOk result (λ found. IfNone found
-        (TookBadField (S.left source.old) (S.left source.new) (request_head version len))) }
+        (TookBadField (S.left source.old) (S.left source.new) (head_of_request version len))) }
     ensures stopped { Stopped (S.left source.old) (S.left source.new) len result }
     ensures causes { PullCauses (S.left source.old) (S.left source.new) len (S.faults source.old) (S.faults source.new) result }
     ensures free { P.free lender.new + given_pages asked_pages result ≡ P.free lender.old }

@@ -64,7 +64,8 @@ pub fn gather_data<K: Sink>(
     requires { len ≤ 512 * length pages.now }
     ensures all { OnOk result (Gathers (K.written sink.old) (K.written sink.new) buffer.old buffer.new
         (first_bytes len pages.now)) }
-    ensures part { OnErr result (WrotePart (K.written sink.old) (K.written sink.new) (buffer.old ++ first_bytes len pages.now)) }
+    ensures part { OnErr result (WrotePart (K.written sink.old) (K.written sink.new)
+        (buffer.old ++ first_bytes len pages.now)) }
     ensures cause { HasCause (K.faults sink.old) (K.faults sink.new) result }
 {
     let mut left = len as usize;

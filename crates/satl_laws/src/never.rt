@@ -51,8 +51,8 @@ pub fn no_neighbour_is_answered_twice()
 pub fn no_flush_leaves_the_old_block()
     ensures { (flush : Request) (old new : Block) (b : Cell) (s last : Device) (losses : ℕ) (answers : List Answer)
         (reply : Reply) → old ≢ new →
-        Run (at_work (cached old new) b (flushes_all_sectors flush ∷ []) s) (frames.Turn 1 ∷ frames.Bench events.Power ∷ []) losses
-        answers last →
+        Run (at_work (cached old new) b (flushes_all_sectors flush ∷ []) s)
+        (frames.Turn 1 ∷ frames.Bench events.Power ∷ []) losses answers last →
         IsGoodReply flush reply answers → now_at last.cells 0 ≡ Some old → ⊥ }
 {}
 

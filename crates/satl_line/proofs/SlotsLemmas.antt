@@ -20,7 +20,7 @@ use Rattle.satl_line.specs.Outlines.{IsOutline, is_active, no_outline, outline_i
 use Rattle.satl_line.specs.Conflict.{access_of, accesses_conflict, conflicts}
 use Rattle.satl_line.specs.Eligible.{eligible_at, is_clear_by}
 use Rattle.satl_line.specs.Tasks.{AreOwnSlots, AreMasks, is_barred_from, entries_of, Held, count_of, slots_of, total_blocks, entry_at, Adds, with_body, change_task}
-use Rattle.satl_line.specs.Layout.{SlotAccess, mark_of, is_marked, IsMask, HaveMasks, IsMasked, clear_bit, cleared, held_in, tasks_in, AreNoted, IsNoted, with_slot, Layout, FitTogether, is_unbarred_at}
+use Rattle.satl_line.specs.Layout.{SlotAccess, mark_of, is_marked, IsMask, HaveMasks, IsMasked, clear_bit, cleared, held_in, tasks_in, AreNoted, IsNoted, with_slot, SetInMemory, FitTogether, is_unbarred_at}
 use Rattle.satl_line.proofs.OutlinesLemmas.{EachIs, apart_where_quiet, outline_with}
 use Rattle.satl_line.proofs.MasksLemmas.{bit, bit_is_zero, with_slot_here, with_slot_other, unmarked, HasNot, AreSmall, is_struck, zero_mask, are_removed, are_added, get_or-cleared, mask_more_yes, mask_more_no}
 
@@ -209,7 +209,7 @@ none_conflicts slots outlines order free active tasks e o each noted is zero_is 
 -- ---- a task leaves
 
 -- the counts of the slot of a task
-alone : (layout : Layout) (front : List ℕ) (s : ℕ) (back : List ℕ) → FitTogether (record layout { order = front ++ s ∷ back }) → s < 64 → (count_of s front ≡ 0) × (count_of s back ≡ 0)
+alone : (layout : SetInMemory) (front : List ℕ) (s : ℕ) (back : List ℕ) → FitTogether (record layout { order = front ++ s ∷ back }) → s < 64 → (count_of s front ≡ 0) × (count_of s back ≡ 0)
 alone layout front s back h small =
     let e = count-append s front (s ∷ back) in
     let o = h.once s small in
@@ -217,7 +217,7 @@ alone layout front s back h small =
     (omega (arith, e, o, one), omega (arith, e, o, one))
 
 -- what is kept once the task in a slot was taken out, and another entry lies there
-abbrev without : Layout → ℕ → Entry → Entry → List ℕ → Layout
+abbrev without : SetInMemory → ℕ → Entry → Entry → List ℕ → SetInMemory
 without layout s e other order = record layout {
   slots = set layout.slots s other;
   order = order;
@@ -227,7 +227,7 @@ without layout s e other order = record layout {
   active = clear_bit s layout.active;
 }
 
-pub sound_without : (layout : Layout) (front : List ℕ) (s : ℕ) (back : List ℕ) (e other : Entry) → FitTogether (record layout { order = front ++ s ∷ back }) → get_or layout.slots s no_entry ≡ e →
+pub sound_without : (layout : SetInMemory) (front : List ℕ) (s : ℕ) (back : List ℕ) (e other : Entry) → FitTogether (record layout { order = front ++ s ∷ back }) → get_or layout.slots s no_entry ≡ e →
     FitTogether (without layout s e other (front ++ back))
     × (tasks_in (set layout.slots s other) (front ++ back) ≡ tasks_in layout.slots (front ++ back)) × (e.blocks ≤ layout.blocks)
 sound_without layout front s back e other h is =
@@ -291,7 +291,7 @@ sound_without layout front s back e other h is =
 -- ---- a task comes
 
 -- what is kept once a task with this outline and mask lies in a slot, which was the last free one behind these
-abbrev with_task : Layout → ℕ → Entry → Outline → ℕ → List ℕ → Layout
+abbrev with_task : SetInMemory → ℕ → Entry → Outline → ℕ → List ℕ → SetInMemory
 with_task layout s e o mask free = record {
   slots = set layout.slots s e;
   outlines = set layout.outlines s o;
@@ -302,7 +302,7 @@ with_task layout s e o mask free = record {
   active = with_slot (is_active o) s layout.active;
 }
 
-pub sound_with : (layout : Layout) (free : List ℕ) (s mask : ℕ) (e : Entry) (o : Outline) → IsOutline e o → FitTogether (record layout { free = free ++ s ∷ [] }) → layout.blocks + e.blocks ≤ 32768 → IsMask (map mark_of (tasks_in layout.slots layout.order)) (access_of e) mask →
+pub sound_with : (layout : SetInMemory) (free : List ℕ) (s mask : ℕ) (e : Entry) (o : Outline) → IsOutline e o → FitTogether (record layout { free = free ++ s ∷ [] }) → layout.blocks + e.blocks ≤ 32768 → IsMask (map mark_of (tasks_in layout.slots layout.order)) (access_of e) mask →
     FitTogether (with_task layout s e o mask free)
     × (tasks_in (set layout.slots s e) (layout.order ++ s ∷ []) ≡ tasks_in layout.slots layout.order ++ record { slot = s; entry = e } ∷ []) × (s < 64) × (count_of s layout.order ≡ 0)
 sound_with layout free s mask e o own h fits is =
@@ -353,7 +353,7 @@ sound_with layout free s mask e o own h fits is =
 
 -- ---- the steps as the code takes them
 
-pub record Leaves (tasks : List Held) (place : ℕ) (e : Entry) (old new : Layout) : Type 0 where
+pub record Leaves (tasks : List Held) (place : ℕ) (e : Entry) (old new : SetInMemory) : Type 0 where
   pub sound : FitTogether new
   pub rest : tasks_in new.slots new.order ≡ remove tasks place
   pub value : entry_at tasks place ≡ Some e
@@ -367,7 +367,7 @@ entry_at_is slots order place s e lt at is =
     ∙ ap (λ q. Some (get_or slots q no_entry)) (sym at)
     ∙ ap Some is
 
-pub leaves : (layout : Layout) (tasks : List Held) (place s : ℕ) (seen other e : Entry) (order' free' masks' : List ℕ) →
+pub leaves : (layout : SetInMemory) (tasks : List Held) (place s : ℕ) (seen other e : Entry) (order' free' masks' : List ℕ) →
     FitTogether layout → tasks_in layout.slots layout.order ≡ tasks → place < length tasks → s ≡ get_or layout.order place s → seen ≡ get_or layout.slots s seen → e ≡ seen →
     order' ≡ remove layout.order place → free' ≡ layout.free ++ s ∷ [] → masks' ≡ cleared layout.masks s →
     Leaves tasks place e layout (record (without layout s e other order') { free = free'; masks = masks' })
@@ -387,11 +387,11 @@ leaves layout tasks place s seen other e order' free' masks' sound is lt at seen
       less = r.2;
     }
 
-pub record Comes (old : List Held) (e : Entry) (layout : Layout) : Type 0 where
+pub record Comes (old : List Held) (e : Entry) (layout : SetInMemory) : Type 0 where
   pub sound : FitTogether layout
   pub adds : Adds old e (tasks_in layout.slots layout.order)
 
-comes : (layout : Layout) (freed : List ℕ) (s mask : ℕ) (e : Entry) (o : Outline) (old : List Held) (order' : List ℕ) → IsOutline e o →
+comes : (layout : SetInMemory) (freed : List ℕ) (s mask : ℕ) (e : Entry) (o : Outline) (old : List Held) (order' : List ℕ) → IsOutline e o →
     FitTogether layout → tasks_in layout.slots layout.order ≡ old → layout.free ≡ freed ++ s ∷ [] → IsMask (map mark_of old) (access_of e) mask → order' ≡ layout.order ++ s ∷ [] → layout.blocks + e.blocks ≤ 32768 →
     Comes old e (record (with_task layout s e o mask freed) { order = order' })
 comes layout freed s mask e o old order' own sound is free_is mask_is order_is fits =
@@ -410,7 +410,7 @@ comes layout freed s mask e o old order' own sound is free_is mask_is order_is f
     vacant_is i h = ap (λ l. count_of s (slots_of l)) (sym i) ∙ ap (count_of s) (slots_of_tasks layout.slots layout.order) ∙ h
 
 -- the same where the task is read from one place, and lies in another
-pub comes_from : (layout : Layout) (freed : List ℕ) (s active' mask : ℕ) (e read put : Entry) (o : Outline) (old : List Held) (order' : List ℕ) → IsOutline read o →
+pub comes_from : (layout : SetInMemory) (freed : List ℕ) (s active' mask : ℕ) (e read put : Entry) (o : Outline) (old : List Held) (order' : List ℕ) → IsOutline read o →
     FitTogether layout → tasks_in layout.slots layout.order ≡ old → layout.free ≡ freed ++ s ∷ [] → IsMask (map mark_of old) (access_of read) mask → order' ≡ layout.order ++ s ∷ [] → layout.blocks + read.blocks ≤ 32768 → read ≡ e → put ≡ e → active' ≡ with_slot (is_active o) s layout.active →
     Comes old e (record (with_task layout s put o mask freed) { order = order'; blocks = layout.blocks + read.blocks; active = active' })
 comes_from layout freed s active' mask e read put o old order' own sound is free_is mask_is order_is fits read_is put_is active_is =
@@ -556,7 +556,7 @@ count_at [] k s lt is = absurd (omega arith)
 count_at (q ∷ qs) zero s lt is = let e = eq-eqb q s is in rw e (omega arith)
 count_at (q ∷ qs) (suc k) s lt is = let r = count_at qs k s (omega arith) is in omega arith
 
-pub record Changes (tasks : List Held) (place : ℕ) (body : List Block) (layout : Layout) : Type 0 where
+pub record Changes (tasks : List Held) (place : ℕ) (body : List Block) (layout : SetInMemory) : Type 0 where
   pub sound : FitTogether layout
   pub rest : tasks_in layout.slots layout.order ≡ change_task (with_body body) tasks place
 
@@ -610,7 +610,7 @@ module _ (slots : List Entry) (s : ℕ) (body : List Block) (within : s < length
       apart : (q n : ℕ) → (if q == s then 1 else 0) + n ≤ 1 → 1 ≤ n → ((q == s) ≡ false) × (n ≤ 1)
       apart q n h some = (elim (q == s) as (λ b. (if b then 1 else 0) + n ≤ 1 → (b ≡ false) × (n ≤ 1)) [ true ↦ λ e. absurd (omega arith) | false ↦ λ e. (refl, omega arith) ]) h
 
-pub changes : (layout : Layout) (tasks : List Held) (place : ℕ) (seen : List ℕ) (body : List Block) (slots' : List Entry) → FitTogether layout → tasks_in layout.slots layout.order ≡ tasks → place < length tasks → seen ≡ layout.order →
+pub changes : (layout : SetInMemory) (tasks : List Held) (place : ℕ) (seen : List ℕ) (body : List Block) (slots' : List Entry) → FitTogether layout → tasks_in layout.slots layout.order ≡ tasks → place < length tasks → seen ≡ layout.order →
     slots' ≡ set layout.slots (get_or seen place 0) (with_body body (held_in layout.slots (get_or seen place 0))).entry → Changes tasks place body (record layout { slots = slots' })
 changes layout tasks place seen body slots' sound is lt same slots_is =
     let s : ℕ = get_or layout.order place 0 in
@@ -653,7 +653,7 @@ body_is slots order tasks place seen taken is lt same taken_is =
     ∙ ap Some (sym taken_is)
 
 -- no other task lies in the slot of a task
-pub slot_alone : (layout : Layout) (tasks : List Held) (place : ℕ) (seen : List ℕ) → FitTogether layout → tasks_in layout.slots layout.order ≡ tasks → place < length tasks → seen ≡ layout.order →
+pub slot_alone : (layout : SetInMemory) (tasks : List Held) (place : ℕ) (seen : List ℕ) → FitTogether layout → tasks_in layout.slots layout.order ≡ tasks → place < length tasks → seen ≡ layout.order →
     (get_or seen place 0 < 64) × (count_of (get_or seen place 0) (slots_of tasks) ≡ 1)
 slot_alone layout tasks place seen sound is lt same =
     let within : place < length layout.order = omega (arith, length-map layout.order (held_in layout.slots), ap length is) in
@@ -681,7 +681,7 @@ own_slots slots (q ∷ qs) once =
     fewer : (s : ℕ) (b : Bool) → (if q == s then 1 else 0) + count_of s qs ≤ 1 → count_of s qs ≤ 1
     fewer s b few = omega (arith, few)
 
-pub own_of : (layout : Layout) (tasks : List Held) → FitTogether layout → tasks_in layout.slots layout.order ≡ tasks → AreOwnSlots tasks
+pub own_of : (layout : SetInMemory) (tasks : List Held) → FitTogether layout → tasks_in layout.slots layout.order ≡ tasks → AreOwnSlots tasks
 own_of layout tasks sound is =
     subst AreOwnSlots is (own_slots layout.slots layout.order (All-weaken (λ s. s < 64) (λ s. count_of s layout.order ≤ 1) (λ s small. omega (arith, sound.once s small)) layout.order sound.taken))
 

@@ -72,7 +72,7 @@ pub record AreNoted (outlines : List Outline) (order free : List ℕ) (active : 
   pub vacant : AllByRecursion (λ slot. bit_at active slot ≡ 0) free
 
 -- how a set of tasks lies in memory
-pub record Layout : Type 0 where
+pub record SetInMemory : Type 0 where
   -- what lies in each of the 64 slots, and its outline
   pub slots : List Entry
   pub outlines : List Outline
@@ -87,7 +87,7 @@ pub record Layout : Type 0 where
   pub active : ℕ
 
 -- each slot is taken or free, and what is kept beside the slots is right of the tasks in them
-pub record FitTogether (layout : Layout) : Type 0 where
+pub record FitTogether (layout : SetInMemory) : Type 0 where
   pub room : length layout.slots ≡ 64
   pub wide : length layout.masks ≡ 64
   pub taken : AllByRecursion (λ slot. slot < 64) layout.order

@@ -12,6 +12,6 @@ abbrev pub number_of : Counts → ℕ
 number_of counts = counts.free + counts.out
 
 -- how many pages lists of pages have together (profile)
-abbrev pub total : List (List Block) → ℕ
-total [] = 0
-total (pages ∷ more) = length pages + total more
+abbrev pub pages_in : List (List Block) → ℕ
+pages_in [] = 0
+pages_in (pages ∷ more) = length pages + pages_in more

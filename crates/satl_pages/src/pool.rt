@@ -1,6 +1,6 @@
 // A pool of pages.
 ghost use Rattle.std.specs.Prelude.{◌≡◌, ◌≤◌, ◌<◌, ◌+◌, ◌^◌, ◌↔◌, IfOk, IfSome, IfNone, IsNone, OnSome, length};
-ghost use Rattle.satl_pages.specs.Counts.{number_of, total};
+ghost use Rattle.satl_pages.specs.Counts.{number_of, pages_in};
 
 use arrayvec::ArrayVec;
 use satl_base::{Lender, NoMemory, Pages};
@@ -20,13 +20,13 @@ pub struct Pool {
 
 impl Model for Pool {
     ghost use Rattle.std.specs.Prelude.{◌≡◌, ◌≤◌, ◌<◌, ◌+◌, ◌-◌, ◌^◌, length};
-    ghost use Rattle.satl_pages.specs.Counts.{Counts, total};
+    ghost use Rattle.satl_pages.specs.Counts.{Counts, pages_in};
 
     ghost Value = { Counts };
 
     ghost view = { λ p. record { free = p.free; out = p.number - p.free } };
 
-    ghost invariant = { λ p. (total p.pieces.items + length p.others ≡ p.free) × (p.free ≤ p.number) × (p.number < 2 ^ 32) };
+    ghost invariant = { λ p. (pages_in p.pieces.items + length p.others ≡ p.free) × (p.free ≤ p.number) × (p.number < 2 ^ 32) };
 }
 
 impl Pool {
@@ -94,7 +94,7 @@ impl Pool {
 
     /// The same. Apart from `give`, which is short without it: often there is no page to give.
     #[inline(never)]
-    #[tactic(auto, using(crate::proofs::CountsLemmas::total_push))]
+    #[tactic(auto, using(crate::proofs::CountsLemmas::pages_in_push))]
     fn put_back(&mut self, pages: Pages)
         requires { length pages ≤ self.old.out }
         ensures free { self.new.free ≡ self.old.free + length pages }
@@ -110,9 +110,9 @@ impl Pool {
 }
 
 /// Takes the last piece, if it has so many pages.
-#[tactic(auto, using(crate::proofs::CountsLemmas::total_push))]
+#[tactic(auto, using(crate::proofs::CountsLemmas::pages_in_push))]
 fn take_piece(pieces: &mut ArrayVec<Pages, 64>, n: u32) -> Option<Pages>
-    ensures some { IfSome result (λ piece. (length piece ≡ n) × (total pieces.new.items + n ≡ total pieces.old.items)) }
+    ensures some { IfSome result (λ piece. (length piece ≡ n) × (pages_in pieces.new.items + n ≡ pages_in pieces.old.items)) }
     ensures none { IfNone result (pieces.new ≡ pieces.old) }
 {
     match pieces.last() {
@@ -142,11 +142,11 @@ fn put_by(pages: Pages, others: &mut Pages)
 }
 
 /// Puts the pages of all pieces to the others.
-#[tactic(auto, using(crate::proofs::CountsLemmas::total_push))]
+#[tactic(auto, using(crate::proofs::CountsLemmas::pages_in_push))]
 fn join(pieces: &mut ArrayVec<Pages, 64>, others: &mut Pages)
-    requires { total pieces.old.items + length others.old < 2 ^ 32 }
-    ensures none { total pieces.new.items ≡ 0 }
-    ensures all { length others.new ≡ total pieces.old.items + length others.old }
+    requires { pages_in pieces.old.items + length others.old < 2 ^ 32 }
+    ensures none { pages_in pieces.new.items ≡ 0 }
+    ensures all { length others.new ≡ pages_in pieces.old.items + length others.old }
 {
     while let Some(piece) = pieces.pop() {
         put_by(piece, others);
