@@ -31,7 +31,7 @@ pairs_same _ m cells active given same = refl
 written_same : (c : Command) (s : Device) (cells : List Cell) (active : Bool) (lists : List (List Attention)) (t : Entry) → length cells ≡ length s.cells → written_by c (record s { cells = cells; active = active; attentions = lists }) t ≡ written_by c s t
 written_same (cdbs.WriteSame a b d false) s cells active lists t same = refl
 written_same (cdbs.WriteSame a b d true) s cells active lists t same = refl
-written_same (cdbs.Pass cdb) s cells active lists t same = pairs_same (command_in (pass_of cdb).regs) (Rattle.satl_direct.specs.Ending.medium_of s) cells active t.body same
+written_same (cdbs.Pass cdb) s cells active lists t same = pairs_same (command_in (pass_of cdb).regs) (Rattle.satl_direct.specs.Ending.device_medium s) cells active t.body same
 written_same _ s cells active lists t same = refl
 
 -- quiet moves after quiet moves are quiet moves
