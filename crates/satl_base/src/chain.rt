@@ -96,7 +96,8 @@ pub(crate) fn shift_many(from: &mut Chain, onto: &mut Chain, n: u32)
     *onto = done;
 }
 
-/// Moves the first n nodes of one chain before the first of the other, one by one, each filled with the next 512 of the bytes.
+/// Moves the first n nodes of one chain before the first of the other, one by one, so that their order turns round, and fills
+/// each on the way with the next 512 of the bytes.
 pub(crate) fn shift_filled(from: &mut Chain, onto: &mut Chain, bytes: &[u8], n: u32)
     requires enough { n ≤ length (blocks_of from.old) }
     requires long { 512 * n ≤ length bytes.now }
@@ -105,7 +106,7 @@ pub(crate) fn shift_filled(from: &mut Chain, onto: &mut Chain, bytes: &[u8], n: 
 {
     let mut rest = mem::replace(from, Chain::End);
     let mut done = mem::replace(onto, Chain::End);
-    // Arrays are copied whole: the copy of a slice looks first whether the two overlap.
+    // A block is copied as an array: as a slice, its copy would first test whether the two overlap.
     let (blocks, _) = bytes.as_chunks::<512>();
     for i in 0..n {
         let Some(mut node) = rest.into_node() else {

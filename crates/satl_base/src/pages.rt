@@ -216,8 +216,8 @@ impl Pages {
         others.count += n;
     }
 
-    /// Fills the first n pages with 512 bytes each, in order, and moves them before the others' first, one by one, so that
-    /// their order turns round (profile).
+    /// Fills the first n pages from the front of the bytes, 512 in each, in order, and moves them before the others' first, one
+    /// by one, so that their order turns round (profile).
     pub fn move_filled(&mut self, n: u32, bytes: &[u8], others: &mut Pages)
         requires enough { n ≤ length self.old }
         requires few { length others.old + n < 2 ^ 32 }

@@ -13,6 +13,7 @@ use std::marker::Model;
 pub struct Pool {
     // What came back, each in one piece: who takes as many pages as the last has gets it without a walk along them.
     pieces: ArrayVec<Pages, 64>,
+    // All other free pages: those that never went out, and those that found no room among the pieces.
     others: Pages,
     free: u32,
     number: u32,
@@ -92,7 +93,7 @@ impl Pool {
         }
     }
 
-    /// The same. Apart from `give`, which is short without it: often there is no page to give.
+    /// What `give` does where there are pages. Apart from it, so that it is short where there are none, as is often so.
     #[inline(never)]
     #[tactic(auto, using(crate::proofs::CountsLemmas::pages_in_push))]
     fn put_back(&mut self, pages: Pages)
@@ -109,7 +110,7 @@ impl Pool {
     }
 }
 
-/// Takes the last piece, if it has so many pages.
+/// Takes the last piece, if it has exactly n pages.
 #[tactic(auto, using(crate::proofs::CountsLemmas::pages_in_push))]
 fn take_piece(pieces: &mut ArrayVec<Pages, 64>, n: u32) -> Option<Pages>
     ensures some { IfSome result (λ piece. (length piece ≡ n) × (pages_in pieces.new.items + n ≡ pages_in pieces.old.items)) }
@@ -121,7 +122,7 @@ fn take_piece(pieces: &mut ArrayVec<Pages, 64>, n: u32) -> Option<Pages>
     }
 }
 
-/// Takes the first pages off.
+/// Takes the first n pages off, one by one.
 fn take_first(pages: &mut Pages, n: u32) -> Pages
     requires { n ≤ length pages.old }
     ensures taken { length result ≡ n }
@@ -132,7 +133,7 @@ fn take_first(pages: &mut Pages, n: u32) -> Pages
     first
 }
 
-/// Puts these pages to the others.
+/// Puts these pages before the others, one by one.
 fn put_by(pages: Pages, others: &mut Pages)
     requires { length pages + length others.old < 2 ^ 32 }
     ensures { length others.new ≡ length pages + length others.old }
@@ -141,7 +142,7 @@ fn put_by(pages: Pages, others: &mut Pages)
     pages.move_first(pages.blocks(), others);
 }
 
-/// Puts the pages of all pieces to the others.
+/// Puts the pages of all pieces before the others, so that no piece is left.
 #[tactic(auto, using(crate::proofs::CountsLemmas::pages_in_push))]
 fn join(pieces: &mut ArrayVec<Pages, 64>, others: &mut Pages)
     requires { pages_in pieces.old.items + length others.old < 2 ^ 32 }
