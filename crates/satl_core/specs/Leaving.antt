@@ -1,4 +1,4 @@
--- Tasks that go without an answer (SAM-5 5.1, 7).
+-- Tasks that go without an answer (SAM-5 7; SAM-5, overlapped commands).
 use Rattle.std.specs.Prelude.{◌≡◌, not, Bool, true, false, List, filter}
 use Rattle.std.specs.List.{AllByRecursion}
 use Rattle.satl_line.specs.declared.entry.Entry.{Entry}

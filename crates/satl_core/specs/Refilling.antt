@@ -32,7 +32,7 @@ EndsOrLoses old answers new =
 abbrev pub Refills : Device → List Reply → Device → Type 0
 Refills old answers new = ((answers ≡ []) × Quiet old new) ⊎ ((mid : Device) × Quiet old mid × Loss mid answers new)
 
--- the tasks that pass a test go without an answer (SAM-5 5.1, 7)
+-- the tasks that pass a test go without an answer (SAM-5 7; SAM-5, overlapped commands)
 pub record Removes (goes : Entry → Bool) (old : Device) (answers : List Reply) (new : Device) : Type 0 where
   pub none : answers ≡ []
   pub stays : new ≡ record old { tasks = filter (λ t. not (goes t)) old.tasks }

@@ -149,11 +149,11 @@ abbrev pub HasEntries : Command → Bool → List Block → List Block → Type 
 HasEntries (commands.Unmap size) true list pages = pages ≡ record { bytes = trim_block (unmap.ranges_of list) } ∷ []
 HasEntries _ queued_trim list pages = Unit {0}
 
--- whether a task has the nexus and tag of a request (SAM-5 5.1, overlapped commands)
+-- whether a task has the nexus and tag of a request (SAM-5, overlapped commands)
 abbrev pub overlaps : List Held → Request → Bool
 overlaps tasks r = is_some (position_from (is_named r.nexus r.tag) 0 tasks)
 
--- whether it is for logical unit 0 and has the nexus and tag of a task (SAM-5 5.1, overlapped commands)
+-- whether it is for logical unit 0 and has the nexus and tag of a task (SAM-5, overlapped commands)
 abbrev pub is_overlapping : List Held → Request → Bool
 is_overlapping tasks r = is_for_unit r && overlaps tasks r
 
@@ -187,7 +187,8 @@ abbrev pub attention_answer : Option Attention → List ℕ → Result Command A
 attention_answer (Some what) cdb next = Err (tell_attention what cdb)
 attention_answer None cdb next = next
 
--- the answer of a LUN at which there is no logical unit (SPC-4 6.6, 6.39; SAM-5 5.3; profile)
+-- the answer of a LUN at which there is no logical unit (SPC-4 6.6, 6.39; SAM-5, incorrect logical unit numbers;
+-- profile)
 abbrev pub other_answer : Request → AtOnce
 other_answer r =
     if asks_for 0x12 r && not (bit 1 0 r.cdb) then at_once.Tell datas.NoUnit (bytes 3 4 r.cdb)

@@ -56,7 +56,7 @@ pub fn has_outstanding(queue: &Queue, scope: &Scope) -> bool
     false
 }
 
-/// Takes these tasks out, of which none is outstanding, and gives their pages back. They have no answer (SAM-5 5.1, overlapped
+/// Takes these tasks out, of which none is outstanding, and gives their pages back. They have no answer (SAM-5, overlapped
 /// commands, and 7). The desk is where each lies meanwhile.
 pub fn drop_tasks(queue: &mut Queue, pool: &mut Pool, desk: &mut TaskBox, scope: &Scope)
     requires waiting { AreWaiting (is_within scope.now) queue.old.flying queue.old.tasks }

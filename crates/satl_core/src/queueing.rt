@@ -109,7 +109,7 @@ impl Satl {
     }
 
     /// Takes these tasks off, without an answer: where one of them is outstanding the drive is reset, and the others are issued
-    /// again (SAM-5 5.1, overlapped commands, and 7; ACS-3, software reset).
+    /// again (SAM-5, overlapped commands, and 7; ACS-3, software reset).
     pub(crate) fn take_off<D: Drive, L: Ledger>(
         &mut self,
         scope: &Scope,

@@ -219,7 +219,7 @@ impl Satl {
         }
     }
 
-    /// Whether a request has the nexus and tag of a task, at logical unit 0 (SAM-5 5.1, overlapped commands). Its pages hold
+    /// Whether a request has the nexus and tag of a task, at logical unit 0 (SAM-5, overlapped commands). Its pages hold
     /// what a parameter list needs of them.
     fn overlaps(&self, request: &Request) -> bool
         ensures value { result ≡ is_overlapping self.now.tasks request.now }
@@ -229,7 +229,8 @@ impl Satl {
         is_for_unit(request) && self.queue.find(request.nexus, request.tag).is_some()
     }
 
-    /// A request that has the nexus and tag of a task is refused, and all tasks of its nexus go without an answer (SAM-5 5.1).
+    /// A request that has the nexus and tag of a task is refused, and all tasks of its nexus go without an answer (SAM-5,
+    /// overlapped commands).
     fn overlap<D: Drive, L: Ledger>(
         &mut self,
         request: Request,

@@ -76,19 +76,20 @@ pub data Arrival : Type 0 where
   overlaps : Reply → Arrival
   waits : Entry → Arrival
 
--- TEST UNIT READY, and commands that go over no block or have an empty list (SPC-4 6.47; profile)
+-- the answer to TEST UNIT READY, to a READ, WRITE or VERIFY of no block, to a MODE SELECT with an empty list, and to an UNMAP
+-- that gives no range: that the link is lost; else that the unit is stopped; else GOOD (SPC-4 6.47; profile)
 abbrev pub ready_reply : Device → Request → Reply
 ready_reply s r =
     if s.down then check s r link_lost
     else if not s.started then check s r not_ready
     else reply_to r Good []
 
--- a command that makes a task, where the task set has a place for it (SAM-5 5.3.1)
+-- a command becomes a task where the task set has a place for it, and else is answered with TASK SET FULL (SAM-5 5.3.1)
 abbrev pub placed : Device → Request → Command → Arrival
 placed s r command =
     if is_full s.tasks command then answered (reply_to r TaskSetFull []) else waits (task_for s.identity.queued_trim r command)
 
--- a command that makes a task, unless it has nothing to do (profile)
+-- the same, unless the command has nothing to do: then it is answered as TEST UNIT READY is (profile)
 abbrev pub placed_unless : Bool → Device → Request → Command → Arrival
 placed_unless idle s r command = if idle then answered (ready_reply s r) else placed s r command
 
@@ -112,7 +113,8 @@ sense_asked ten long_lba no_descriptor control page = record {
   page = page;
 }
 
--- a command whose fields and data-out are good: answered from what the device says of itself, or a task (SPC-4 6, SBC-3 5)
+-- what becomes of a command whose fields and data-out are good: it is answered from what the device says of itself, or placed;
+-- a SYNCHRONIZE CACHE is placed whatever its count is (SPC-4 6, SBC-3 5)
 abbrev pub becomes : Device → Request → Command → Arrival
 becomes s r commands.TestUnitReady = answered (ready_reply s r)
 becomes s r (commands.RequestSense descriptor alloc) = sense_told (slice_get (attentions_of r.nexus s) 0) r descriptor alloc
@@ -174,14 +176,14 @@ abbrev pub attention_arrival : Option Attention → Device → Request → Arriv
 attention_arrival (Some what) s r = attended (check s r (attention_sense what))
 attention_arrival None s r = code_arrival s r
 
--- to the logical unit: a task of the same nexus and tag, and then the unit attentions (SAM-5 5.1, overlapped commands)
+-- to the logical unit: a task of the same nexus and tag, and then the unit attentions (SAM-5, overlapped commands)
 abbrev pub unit_arrival : Device → Request → Arrival
 unit_arrival s r =
     if list_any (is_called r.nexus (r.tag).0) s.tasks then overlaps (check s r overlapped)
     else attention_arrival (attention_for s r) s r
 
 -- to another logical unit: INQUIRY without EVPD says that there is none, REQUEST SENSE says so as data, and all else is refused
--- (SPC-4 6.6, 6.39; SAM-5 5.3; profile)
+-- (SPC-4 6.6, 6.39; SAM-5, incorrect logical unit numbers; profile)
 abbrev pub other_arrival : Device → Request → Arrival
 other_arrival s r =
     if asks_for 0x12 r && not (bit 1 0 r.cdb)

@@ -1,8 +1,9 @@
--- The direct device: a SCSI block device as a host sees it (SAM-5 4.6, logical unit; SBC-3 4).
--- Words of the crates below: a glitch is a CRC error that is still to come; a pair is a block for an address, with whether it
--- goes through the cache; a ranged task is a READ, a WRITE or a queued UNMAP, and all others are barriers; two tasks conflict
--- where one is ORDERED or a barrier, or where their ranges meet and one writes; a task is eligible that conflicts with no
--- earlier one; a piece is 64 blocks.
+-- The direct device: a SCSI block device as a host sees it (SAM-5 4.6, logical unit; SBC-3 4). Words of the crates below: the
+-- drive is the ATA disk behind the device; a sector is a block of the drive, and a page is 512 bytes of memory, room for one
+-- block; the device is down while the link to its drive is lost, and else up; a glitch is a CRC error that is still to come; a
+-- pair is a block for an address, with whether it goes through the cache; a ranged task is a READ, a WRITE or a queued UNMAP,
+-- and all others are barriers; two tasks conflict where one is ORDERED or a barrier, or where their ranges meet and one writes;
+-- a task is eligible that conflicts with no earlier one; a piece is 64 blocks.
 use Rattle.std.specs.Prelude.{ℕ, ◌==◌, not, Bool, ◌&&◌, List, [], slice_index_or, slice_set, drop, filter}
 use Rattle.satl_base.specs.declared.modes.Modes.{Modes}
 use Rattle.satl_base.specs.Cells.{Cell}

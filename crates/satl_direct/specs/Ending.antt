@@ -74,8 +74,9 @@ outcome_reply s t ranged ends_glitched = task_check s t crc_error
 abbrev pub surface_of : Device → Surface
 surface_of s = surface s.cells s.glitches
 
--- a READ, a WRITE or a trim ends by its outcome on the medium: at a flaw of its kind with the lowest flawed address; while
--- glitches are left it may end with a CRC error, which takes one; else it is done (SBC-3 5; of CRC errors: profile)
+-- a READ, a WRITE or a trim ends by its outcome on the medium. At a flaw of its kind it fails with the lowest flawed address; a
+-- trim meets none. Where it meets no flaw and glitches are left, it may end with a CRC error, which takes one. What it writes
+-- is then written in part. Else it is done, and the drive is active (SBC-3 5; of CRC errors: profile)
 pub record EndsOnMedium (ranged : RangedTask) (s : Device) (t : Entry) (reply : Reply) (new : Device) : Type 0 where
   pub outcome : Outcome
   pub ends : EndsAs s.modes.wce ranged outcome (surface_of s) (surface_of new)
@@ -104,9 +105,9 @@ abbrev pub same_pairs : ℕ → ℕ → List Block → Bool → List Pair
 same_pairs lba count [] cached = []
 same_pairs lba count (block ∷ blocks) cached = pairs_from lba (replicate count block) cached
 
--- a WRITE SAME goes over pieces of 64 blocks upwards. It may end with a CRC error where the first piece has no flaw; else it
--- names the lowest flaw of all, with a part written, or is done where there is none (SBC-3, WRITE SAME commands;
--- SPC-4 4.5.6; pieces: profile)
+-- a WRITE SAME that does not unmap goes over pieces of 64 blocks upwards. It may end with a CRC error where the first piece has
+-- no flaw and a glitch is left; else it names the lowest flaw of all, with a part written, or is done where there is none
+-- (SBC-3, WRITE SAME commands; SPC-4 4.5.6; pieces: profile)
 abbrev pub EndsInPieces : Range → Device → Entry → Reply → Device → Type 0
 EndsInPieces range s t reply new =
     let writes : List Pair = same_pairs range.lba range.count t.body s.modes.wce in
@@ -122,14 +123,14 @@ EndsVerified range s t reply new =
     (IsTaskDone (record s { active = true }) t reply new)
     (λ at. IsChecked (read_error at) s t reply new)
 
--- the data-out are what reads give, and it is done; or they differ (SBC-3, VERIFY commands, BYTCHK)
+-- the data-out are what reads give, and it is done; or they differ, which is a MISCOMPARE (SBC-3, VERIFY commands, BYTCHK)
 abbrev pub IsCompared : Range → Device → Entry → Reply → Device → Type 0
 IsCompared range s t reply new =
     ((t.body ≡ nows s.cells range.lba range.count) × IsTaskDone (record s { active = true }) t reply new)
     ⊎ ((t.body ≡ nows s.cells range.lba range.count → ⊥) × IsChecked miscompare s t reply new)
 
--- VERIFY with comparison: a read flaw in its range; a CRC error; or it is compared (SBC-3, VERIFY commands; of CRC errors:
--- profile)
+-- VERIFY with comparison: a read flaw in its range; else a CRC error, where a glitch is left; or it is compared (SBC-3, VERIFY
+-- commands; of CRC errors: profile)
 abbrev pub EndsCompared : Range → Device → Entry → Reply → Device → Type 0
 EndsCompared range s t reply new =
     MatchOption (first_flaw flaws.Read s.cells range.lba range.count)
@@ -140,7 +141,7 @@ EndsCompared range s t reply new =
 abbrev pub settled : Device → Device
 settled s = record s { cells = map settle s.cells }
 
--- the same where this holds (SBC-3, SYNCHRONIZE CACHE)
+-- every sector is written back where a condition holds, and else the device stays as it is (SBC-3, SYNCHRONIZE CACHE)
 abbrev pub device_settled_if : Bool → Device → Device
 device_settled_if settles s = if settles then settled s else s
 
@@ -174,7 +175,7 @@ device_medium s = record {
   identify = identity_data s.identity.bytes s.modes.wce (not s.modes.dra);
 }
 
--- the status and sense data of an ATA PASS-THROUGH (SAT-3 12.2)
+-- the status of an ATA PASS-THROUGH: CHECK CONDITION where it has sense data, else GOOD (SAT-3 12.2)
 abbrev pub pass_status : Option Sense → Scsi
 pass_status None = Good
 pass_status (Some sense) = CheckCondition

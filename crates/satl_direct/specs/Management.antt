@@ -25,7 +25,10 @@ abbrev pub found : Bool → Response
 found true = Succeeded
 found false = Complete
 
--- the effect of a function that was asked for by a nexus with a tag (SAM-5 7.2 to 7.9)
+-- the effect of a function that was asked for by a nexus with a tag. ABORT TASK: the task of this nexus and tag goes. ABORT
+-- TASK SET: all tasks of the nexus go. CLEAR TASK SET: all tasks go, and each other nexus that had one is told. LOGICAL UNIT
+-- RESET: all tasks go, and each nexus is told. I_T NEXUS RESET: all tasks of the nexus go, and it is told. QUERY TASK and QUERY
+-- TASK SET: the response says whether there is such a task (SAM-5 7.2 to 7.9)
 abbrev pub effect_of : Function → Manage → Device → Effect
 effect_of AbortTask m s = record { goes = is_called m.nexus (m.tag).0; attentions = s.attentions; response = Complete }
 effect_of AbortTaskSet m s = record { goes = is_of m.nexus; attentions = s.attentions; response = Complete }

@@ -66,7 +66,7 @@ abbrev pub StaysOrWakes : Device → Bool → Type 0
 StaysOrWakes s active = (active ≡ s.active) ⊎ ((active ≡ true) × MayWake s)
 
 -- quiet moves: a loss of power may leave fewer blocks than before, for a cache may write back at any time; blocks that tasks
--- under way write show; and the drive wakes (SBC-3 4.15; profile)
+-- under way write may show; and the drive may become active (SBC-3 4.15; profile)
 pub record Quiet (old new : Device) : Type 0 where
   pub cells : Moves (MayShow old) old.cells new.cells
   pub active : StaysOrWakes old new.active

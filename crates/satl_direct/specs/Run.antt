@@ -49,7 +49,7 @@ pub record Drains (s : Device) (answers : List Reply) (new : Device) (deep : ℕ
   pub turns : TurnsOf count s answers new deep
   pub empty : new.tasks ≡ []
 
--- a management function, whose response has no part in a loss after it (SAM-5 7)
+-- a management function, which gives no answer to any task; its response comes after the answers of a loss (SAM-5 7)
 abbrev pub Manages : Manage → Response → Device → List Reply → Device → Type 0
 Manages m response s answers new = (answers ≡ []) × IsManaged m s response new
 
@@ -62,8 +62,9 @@ pub record ManagedAnswers (m : Manage) (s : Device) (answers : List Answer) (new
   pub answer : answers ≡ map replied replies ++ managed m.nexus m.function response m.tag ∷ []
 
 -- what an event does: its answers, the device after it, and the greatest depth after it or after one of its turns. A request
--- arrives; a task management function is carried out; so many turns are taken; something happens to the drive; at the end turns
--- are taken until no task is left. (profile)
+-- arrives, and the link may be lost after it; a task management function is carried out, and the link may be lost after it; so
+-- many turns are taken; something happens to the drive; at the end turns are taken until no task is left, and then the end is
+-- told. (profile)
 abbrev pub Does : Frame → Device → List Answer → Device → ℕ → Type 0
 Does (frames.Request r) s answers new deep =
     (replies : List Reply) × (answers ≡ map replied replies) × Around (MayLose (Arrives r)) s replies new × (deep ≡ depth new)
@@ -111,14 +112,15 @@ pub record Run (first : Device) (events : List Frame) (losses : ℕ) (answers : 
   pub answer : answers ≡ joined groups
   pub run : RunDeep first events groups losses last deep
 
--- so many turns an event may have made where it is cut short: a TURN at most its own, END any number, others none (profile)
+-- how many turns an event may have made where it is cut short: a TURN at most its own, END any number; no other event can be
+-- cut short (profile)
 abbrev pub CutTurns : Frame → ℕ → Type 0
 CutTurns (frames.Turn n) count = count ≤ n
 CutTurns frames.End count = Unit {0}
 CutTurns _ count = ⊥
 
 -- a run whose last event is TURN or END and has made as many turns as this: of a TURN not more than it asks for, perhaps all;
--- the end is not told (profile)
+-- of END the end is not told (profile)
 pub record CutShort (first : Device) (events : List Frame) (losses : ℕ) (answers : List Answer) (last : Device) : Type 0 where
   pub before : List Frame
   pub event : Frame

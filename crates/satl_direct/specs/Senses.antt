@@ -66,7 +66,7 @@ crc_error = plain 0xB 0x47 0x03
 abbrev pub short_data : Sense
 short_data = plain 0xB 0x4B 0x00
 
--- what a pointer points to (SPC-4 4.5.2.4.2)
+-- the field pointer to a byte of the CDB or else of the data-out, or none (SPC-4 4.5.2.4.2)
 abbrev pub pointer_to : Bool → Option ℕ → Extra
 pointer_to in_cdb None = extras.None
 pointer_to in_cdb (Some byte) = extras.Pointer in_cdb byte

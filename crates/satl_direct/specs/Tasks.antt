@@ -31,8 +31,9 @@ pass_of cdb = pass_in (form_of cdb) cdb
 
 -- what a command asks of the device: the refusal of its fields, where the table of commands has not judged them; the range that
 -- it goes over; the refusal of its list length; the bytes of data-out that it needs; the refusal of its data-out; the blocks
--- that its task holds; what its task keeps of the data-out; the ranges that its task reads, writes or trims; the mode values
--- that it sets; and whether a started unit alone carries it out (SBC-3 5, SPC-4 6, SAT-3 12.2; the blocks held: profile)
+-- that its task holds; what its task keeps of the data-out, which of a MODE SELECT and an UNMAP is nothing; the ranges of a
+-- READ, a WRITE or an UNMAP, and of no other command; the mode values that it sets; and whether it needs the unit started
+-- (SBC-3 5, SPC-4 6, SAT-3 12.2; the blocks held: profile)
 pub record Asks : Type 0 where
   pub fields_fault : Option Illegal
   pub range : Range

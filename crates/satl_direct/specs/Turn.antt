@@ -23,7 +23,8 @@ pub record Loss (old : Device) (answers : List Reply) (new : Device) : Type 0 wh
   pub answer : answers ≡ device_lost_replies old
   pub stays : new ≡ record old { tasks = []; down = true }
 
--- in a turn a glitch may go with the link, and the drive may be active or not (profile)
+-- the link is lost in a turn at a device that was up: all tasks are answered and none is left, one glitch may be used up, and
+-- the drive may be active or not (profile)
 pub record TurnLoss (old : Device) (answers : List Reply) (new : Device) : Type 0 where
   pub was_up : old.down ≡ false
   pub answer : answers ≡ device_lost_replies old

@@ -51,7 +51,7 @@ pub fn a_full_task_set_takes_nothing()
         placed s r command ≡ waits t → length (s.tasks ++ t ∷ []) ≤ 64 }
 {}
 
-/// Law of overlap: a request with the nexus and tag of a task is refused, and all tasks of its nexus go (SAM-5 5.1, overlapped
+/// Law of overlap: a request with the nexus and tag of a task is refused, and all tasks of its nexus go (SAM-5, overlapped
 /// commands).
 pub fn an_overlap_takes_all_tasks_of_its_nexus()
     ensures { (s new : Device) (r : Request) (answers : List Reply) → is_unit_0 r.lun ≡ true →

@@ -21,8 +21,8 @@ abbrev pub MayRun : Option NcqError → AtaCommand → Type 0
 MayRun None command = Unit {0}
 MayRun (Some e) command = command ≡ ReadLog 0x10 0 1
 
--- `run` may be called: nothing is outstanding, the command is not a queued one, and the pages hold its own length (ACS-3;
--- profile)
+-- `run` may be called: nothing is outstanding, the command is not a queued one, in the error state it reads the error log, and
+-- there are at least as many pages as its data have blocks (ACS-3; profile)
 pub record CanRun (d : DriveState) (r : Registers) (pages : List Block) : Type 0 where
   pub idle : d.outstanding ≡ []
   pub not_queued : is_in r.command queued_codes ≡ false
@@ -54,8 +54,8 @@ IsRunBy (Some e) x old new = IsLogRead e x old new
 abbrev pub IsRun : Traffic → DriveState → DriveState → Type 0
 IsRun x old new = IsRunBy old.error x old new
 
--- the link was lost while these pairs were under way: each is written or not, nothing is outstanding, and the count rose
--- (profile)
+-- the link was lost while these pairs were under way: each is written or not, nothing is outstanding, the error state ends, the
+-- drive is active or not, and the count of faults rose or stands at its last value (profile)
 pub record IsCutOff (old : DriveState) (pairs : List Pair) (new : DriveState) : Type 0 where
   pub mid : List Cell
   pub part : Part old.cells pairs mid

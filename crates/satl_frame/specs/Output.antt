@@ -33,7 +33,7 @@ sent_data r = first_bytes (sent_len r.expected r.data_len) r.body
 abbrev pub residual : ℕ → ℕ → ℕ
 residual expected len = cast_unsigned w32 (pos expected -ℤ pos len)
 
--- residual 4, where the host said what it expects
+-- four bytes of residual, where the host said what it expects
 abbrev pub residual_field : Option ℕ → ℕ → List ℕ
 residual_field None len = []
 residual_field (Some expected) len = big_bytes 4 (residual expected len)
@@ -43,7 +43,7 @@ abbrev pub reply_kind : Option ℕ → ℕ
 reply_kind None = 0x81
 reply_kind (Some expected) = 0x83
 
--- nexus 1, status 1, tag 4, residual 4, sense length 1
+-- one byte of nexus, one of status, four of tag, four of residual where the host said what it expects, and one of sense length
 abbrev pub reply_fields : Reply → List ℕ
 reply_fields r =
     (r.nexus ∷ scsi_code r.status ∷ big_bytes 4 (r.tag).0)

@@ -49,7 +49,7 @@ pub record TookPages (left left' : Option (List ℕ)) (n room : ℕ) (pages : Li
   pub size : length taken ≡ n
   pub pages_are : pages ≡ take room (pages_of taken)
 
--- pages were filled from the front of some and put in reverse before others
+-- so many bytes were taken; the pages with them, as many as were free, stand before the old ones, the last of them first
 pub record FilledInReverse (left left' : Option (List ℕ)) (n room : ℕ) (old new : List Block) : Type 0 where
   pub taken : List ℕ
   pub took : Took left left' taken

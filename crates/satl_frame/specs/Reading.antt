@@ -71,8 +71,8 @@ asked limit newest None left =
     if is_some (magic_fault newest (take 8 left)) then 8 else 8 + asked_of_frame (version_of left) limit 8 (drop 8 left)
 asked limit newest (Some place) left = asked_of_frame place.version limit place.offset left
 
--- a refusal is that of the bytes that are left, and no more of them was taken than it needs; where a read failed fewer were
--- taken than the next frame has, so no whole one
+-- a refusal is that of the bytes that are left; of these as many were taken as are asked for, or all where there are fewer.
+-- Where a read failed, fewer were taken than are asked for, so no whole frame
 abbrev pub Blames : Reading → Option (List ℕ) → Option (List ℕ) → FrameFault → Type 0
 Blames old left left' (Bad reason offset) =
     IfSome left (λ input. (where_refused old.limit old.newest old.place input ≡ Some (reason, offset))

@@ -31,7 +31,7 @@ pub record Position : Type 0 where
   pub place : Place
   pub left : Option (List ℕ)
 
--- a whole frame stood at the old spot and was taken, and behind it is the new one; no more pages are kept than were free
+-- a whole frame stood at the old position and was taken, and behind it is the new one; no more pages are kept than were free
 pub record StoodAt (limit : ℕ) (old new : Position) (room : ℕ) (frame : Frame) : Type 0 where
   pub whole : Frame
   pub is_frame : IsFrame old.place.version whole

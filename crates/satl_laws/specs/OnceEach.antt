@@ -27,7 +27,8 @@ abbrev pub asks_by : ℕ → ℕ → Frame → Bool
 asks_by nexus tag (frames.Request r) = (r.nexus == nexus) && ((r.tag).0 == tag)
 asks_by nexus tag _ = false
 
--- the tasks that an arrival takes off without an answer: those of the nexus of an overlapped command (SAM-5 5.1)
+-- the tasks that an arrival takes off without an answer: those of the nexus of an overlapped command (SAM-5,
+-- overlapped commands)
 abbrev pub cleared_by : Arrival → Request → Device → List Entry
 cleared_by (answered reply) r s = []
 cleared_by (attended reply) r s = []

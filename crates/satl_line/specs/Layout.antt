@@ -86,7 +86,8 @@ pub record SetInMemory : Type 0 where
   -- the slots whose task writes or stands alone, as the bits of a number
   pub active : ℕ
 
--- each slot is taken or free, and what is kept beside the slots is right of the tasks in them
+-- there are 64 slots, each taken or free; what is kept beside them is right of the tasks in them, which hold at most 32,768
+-- blocks
 pub record FitTogether (layout : SetInMemory) : Type 0 where
   pub room : length layout.slots ≡ 64
   pub wide : length layout.masks ≡ 64

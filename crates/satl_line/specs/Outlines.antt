@@ -9,7 +9,8 @@ use Rattle.satl_line.specs.declared.outline.Span.{Span}
 use Rattle.satl_line.specs.Conflict.{is_alone, is_write}
 use Rattle.satl_line.specs.Blank.{no_entry}
 
--- the range has no block, or it begins within the span, and ends there or past the last address of 64 bits
+-- the range has no block, or it begins and ends within the span; where it goes past the last address of 64 bits, the span ends
+-- at that address
 abbrev pub LiesIn : Span → Range → Type 0
 LiesIn span range = 0 < range.count →
     (span.first ≤ range.lba) × (range.lba ≤ span.last) × (min (range.lba + range.count) (2 ^ 64) ≤ span.last + 1)

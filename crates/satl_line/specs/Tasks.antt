@@ -46,7 +46,8 @@ entry_at tasks place = option_map (λ held. held.entry) (slice_get tasks place)
 abbrev pub is_named : ℕ → Tag → Held → Bool
 is_named nexus tag held = held.entry.nexus == nexus && held.entry.tag.0 == tag.0
 
--- whether 64 tasks are held, or its blocks and theirs would exceed 32,768 (SAM-5 5.3.1, TASK SET FULL; figures of the profile)
+-- whether 64 tasks are held, or their blocks with those of a new task exceed 32,768 (SAM-5 5.3.1, TASK SET FULL; figures of the
+-- profile)
 abbrev pub is_too_much : List Held → Entry → Bool
 is_too_much tasks entry = length tasks == most_tasks || nat_lt most_held (total_blocks tasks + entry.blocks)
 

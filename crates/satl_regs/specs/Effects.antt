@@ -36,7 +36,7 @@ pub record Traffic : Type 0 where
   pub ended : Taskfile
   pub taken : List Block
 
--- STATUS: DRDY, and with it ERR (ACS-3, STATUS field)
+-- STATUS at a good end: DRDY (ACS-3, STATUS field)
 abbrev pub good_status : ℕ
 good_status = 0x40
 
@@ -44,19 +44,19 @@ good_status = 0x40
 abbrev pub bad_status : ℕ
 bad_status = 0x41
 
--- ERROR: ICRC with ABRT, UNC, IDNF and ABRT (ACS-3, ERROR field)
+-- ERROR at a CRC error: ICRC and ABRT (ACS-3, ERROR field)
 abbrev pub icrc : ℕ
 icrc = 0x84
 
--- UNC (ACS-3, ERROR field)
+-- ERROR at a flaw: UNC (ACS-3, ERROR field)
 abbrev pub unc : ℕ
 unc = 0x40
 
--- IDNF (ACS-3, ERROR field)
+-- ERROR at an address outside the capacity: IDNF (ACS-3, ERROR field)
 abbrev pub idnf : ℕ
 idnf = 0x10
 
--- ABRT (ACS-3, ERROR field)
+-- ERROR of a command that is refused: ABRT (ACS-3, ERROR field)
 abbrev pub abrt : ℕ
 abrt = 0x04
 
@@ -136,7 +136,8 @@ pub record EndsInFull (t : Transfer) (x : Traffic) (old new : Medium) : Type 0 w
   pub data_in : x.taken ≡ t.reads ++ drop (length t.reads) x.given
   pub medium : new ≡ record old { cells = whole old.cells t.writes; active = true }
 
--- a CRC error stops it: what it writes is written in part (ACS-3, ICRC; profile)
+-- a CRC error stops it, only where its data go by DMA and while such errors are still to come, of which it uses up one: what it
+-- writes is written in part (ACS-3, ICRC; profile)
 pub record IsGarbled (t : Transfer) (x : Traffic) (old new : Medium) : Type 0 where
   pub by_dma : t.dma ≡ true
   pub some : 0 < old.glitches
@@ -168,7 +169,7 @@ pub record IsIdentified (x : Traffic) (old new : Medium) : Type 0 where
   pub data_in : x.taken ≡ record { bytes = old.identify } ∷ drop 1 x.given
   pub medium : new ≡ old
 
--- it ends good with what COUNT and LBA tell, moves no data, and leaves the medium so (ACS-3, normal outputs)
+-- it ends good with what COUNT and LBA tell, moves no data, and the medium is the one that is stated (ACS-3, normal outputs)
 pub record EndsGood (count lba : ℕ) (x : Traffic) (after new : Medium) : Type 0 where
   pub ends : x.ended ≡ good_end x.registers count lba
   pub data_in : x.taken ≡ x.given

@@ -27,7 +27,7 @@ aborted_half_done = record {
   last = device (cached_over zeros aa ∷ lasts zeros ∷ []);
 }
 
--- a read with the tag of one that waits: both go, and one answer says so (SAM-5 5.1, overlapped commands)
+-- a read with the tag of one that waits: both go, and one answer says so (SAM-5, overlapped commands)
 abbrev pub overlapped_reads : Scenario
 overlapped_reads = record {
   first = never_written 2;

@@ -14,7 +14,7 @@ pub fn conditions_told_by_request_sense()
     ensures { CanHappen sense_requested }
 {}
 
-/// There is no other logical unit (SAM-5 5.3; SPC-4 6.39).
+/// There is no other logical unit (SAM-5, incorrect logical unit numbers; SPC-4 6.39).
 pub fn another_logical_unit()
     ensures { CanHappen other_unit }
 {}

@@ -34,7 +34,7 @@ pub fn a_write_past_the_cache()
     ensures { CanHappen written_past_the_cache }
 {}
 
-/// A command that has the tag of one that waits ends both (SAM-5 5.1).
+/// A command that has the tag of one that waits ends both (SAM-5, overlapped commands).
 pub fn an_overlapped_command()
     ensures { CanHappen overlapped_reads }
 {}
