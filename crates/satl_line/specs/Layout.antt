@@ -1,8 +1,10 @@
 -- How a set of tasks lies in memory: slots, the order of arrival, the free slots, and the masks (profile, all of it).
-use Rattle.std.specs.Prelude.{◌≡◌, ℕ, ◌+◌, ◌*◌, ◌%◌, ◌^◌, ◌<◌, ◌≤◌, ◌==◌, Bool, ◌&&◌, if◌then◌else◌, nat_lt, List, [], ◌∷◌, ◌++◌, map, length, slice_index_or, slice_set, bit_and, bit_or}
+use Rattle.std.specs.Prelude.{◌≡◌, ℕ, ◌+◌, ◌-◌, ◌*◌, ◌%◌, ◌^◌, ◌<◌, ◌≤◌, ◌==◌, Bool, ◌&&◌, if◌then◌else◌, nat_lt, List, [], ◌∷◌, ◌++◌, map, length, slice_index, slice_index_or, slice_set, bit_and, bit_or}
 use Rattle.std.specs.Int.{bit_at, bit_not, w64}
 use Rattle.std.specs.List.{list_any, AllByRecursion}
+use Rattle.satl_base.specs.declared.request.Tag.{Tag}
 use Rattle.satl_base.specs.Limits.{most_held}
+use Rattle.satl_base.specs.Lists.{how_many}
 use Rattle.satl_line.specs.declared.entry.Entry.{Entry}
 use Rattle.satl_line.specs.Blank.{no_entry}
 use Rattle.satl_line.specs.Conflict.{Access, access_of, accesses_conflict}
@@ -71,6 +73,27 @@ pub record AreNoted (outlines : List Outline) (order free : List ℕ) (active : 
   pub held : AllByRecursion (IsNoted outlines active) order
   pub vacant : AllByRecursion (λ slot. bit_at active slot ≡ 0) free
 
+-- the low byte of a tag
+abbrev pub low_byte : Tag → ℕ
+low_byte tag = tag.0 % 256
+
+-- whether the tag of a task has this low byte
+abbrev pub has_low_byte : ℕ → Held → Bool
+has_low_byte low held = low_byte held.entry.tag == low
+
+-- for each low byte of a tag, how many of these tasks have it
+pub record AreCounted (tasks : List Held) (tag_counts : List ℕ) : Type 0 where
+  pub wide : length tag_counts ≡ 256
+  pub each : (low : ℕ) → low < 256 → slice_index tag_counts low ≡ how_many (has_low_byte low) tasks
+
+-- the counts with one more task of this tag
+abbrev pub one_more : List ℕ → Tag → List ℕ
+one_more tag_counts tag = slice_set tag_counts (low_byte tag) (slice_index tag_counts (low_byte tag) + 1)
+
+-- the counts with one task of this tag fewer
+abbrev pub one_fewer : List ℕ → Tag → List ℕ
+one_fewer tag_counts tag = slice_set tag_counts (low_byte tag) (slice_index tag_counts (low_byte tag) - 1)
+
 -- how a set of tasks lies in memory
 pub record SetInMemory : Type 0 where
   -- what lies in each of the 64 slots, and its outline
@@ -85,6 +108,8 @@ pub record SetInMemory : Type 0 where
   pub blocks : ℕ
   -- the slots whose task writes or stands alone, as the bits of a number
   pub active : ℕ
+  -- for each low byte of a tag the number of tasks that have it
+  pub tag_counts : List ℕ
 
 -- each slot is taken or free, and what is kept beside the slots is right of the tasks in them
 pub record FitTogether (layout : SetInMemory) : Type 0 where
@@ -99,3 +124,4 @@ pub record FitTogether (layout : SetInMemory) : Type 0 where
   pub total : total_blocks (tasks_in layout.slots layout.order) ≡ layout.blocks
   pub few : layout.blocks ≤ most_held
   pub noted : AreNoted layout.outlines layout.order layout.free layout.active
+  pub counted : AreCounted (tasks_in layout.slots layout.order) layout.tag_counts

@@ -7,7 +7,7 @@ ghost use Rattle.satl_base.specs.Limits.{most_held, most_tasks};
 ghost use Rattle.satl_line.specs.Conflict.{access_of, conflicts};
 ghost use Rattle.satl_line.specs.Eligible.{eligible_at};
 ghost use Rattle.satl_line.specs.Tasks.{Adds, AreMasks, AreOwnSlots, IsReadyMask, change_task, count_of, entries_of, entry_at, is_named, is_too_much, slots_of, total_blocks, with_body};
-ghost use Rattle.satl_line.specs.Layout.{IsMask, cleared, held_in, is_unbarred_at, mark_of, tasks_in, with_slot};
+ghost use Rattle.satl_line.specs.Layout.{IsMask, cleared, held_in, is_unbarred_at, low_byte, mark_of, one_fewer, one_more, tasks_in, with_slot};
 ghost use Rattle.satl_line.specs.Outlines.{AreOutlines, IsOutline, is_of_name, no_outline, outline_in, outlines_in};
 
 use crate::boxed::TaskBox;
@@ -39,6 +39,8 @@ pub struct TaskSet {
     blocks: u32,
     // The slots whose task writes or stands alone, as the bits of a number.
     active: u64,
+    // For each low byte of a tag the number of tasks that have it: mostly 0 for the tag of a task that comes.
+    tag_counts: [u8; 256],
 }
 
 impl Model for TaskSet {
@@ -58,6 +60,7 @@ impl Model for TaskSet {
       masks = s.masks;
       blocks = s.blocks;
       active = s.active;
+      tag_counts = s.tag_counts;
     }) };
 }
 
@@ -82,6 +85,7 @@ impl TaskSet {
             masks: no_masks(),
             blocks: 0,
             active: 0,
+            tag_counts: no_counts(),
         })
     }
 
@@ -126,6 +130,7 @@ impl TaskSet {
         self.masks[slot as usize] = mask;
         self.active = with_slot(self.active, slot, outline.is_active());
         self.outlines[slot as usize] = outline;
+        count_up(&mut self.tag_counts, entry.tag);
         self.blocks += blocks;
         mem::swap(&mut self.slots[slot as usize], task);
         self.order.push(slot);
@@ -143,7 +148,9 @@ impl TaskSet {
         clear_slot(&mut self.masks, slot);
         self.active &= !(1 << slot);
         self.free.push(slot);
-        self.blocks -= task.entry().blocks;
+        let entry = task.entry();
+        count_down(&mut self.tag_counts, entry.tag);
+        self.blocks -= entry.blocks;
     }
 
     /// Whether no earlier task conflicts with the one at a place (profile).
@@ -162,9 +169,13 @@ impl TaskSet {
     }
 
     /// The place of the first task of this nexus and tag. None exactly where there is none (profile).
+    // In the usual case no task has even the low byte of the tag, and no outline is looked at.
     pub fn find(&self, nexus: Nexus, tag: Tag) -> Option<usize>
         ensures { result ≡ position_from (is_named nexus tag) 0 self.now }
     {
+        if count_at(&self.tag_counts, tag) == 0 {
+            return None;
+        }
         find_in(&self.outlines, &self.order, nexus, tag)
     }
 
@@ -258,6 +269,12 @@ fn no_masks() -> [u64; 64]
     [0; 64]
 }
 
+fn no_counts() -> [u8; 256]
+    ensures { result ≡ replicate 256 0 }
+{
+    [0; 256]
+}
+
 fn mask_at(masks: &[u64], slot: u8) -> u64
     requires small { slot < 64 }
     requires room { length masks.now ≡ 64 }
@@ -273,6 +290,38 @@ fn with_slot(number: u64, slot: u8, noted: bool) -> u64
     ensures { result ≡ with_slot noted slot number }
 {
     if noted { number | 1 << slot } else { number }
+}
+
+fn low_byte(tag: Tag) -> usize
+    ensures { result ≡ low_byte tag }
+{
+    (tag.0 % 256) as usize
+}
+
+/// How many tasks have the low byte of this tag.
+fn count_at(tag_counts: &[u8], tag: Tag) -> u8
+    requires room { length tag_counts.now ≡ 256 }
+    ensures { result ≡ slice_index tag_counts.now (low_byte tag) }
+{
+    tag_counts[low_byte(tag)]
+}
+
+/// Counts one more task of this tag.
+fn count_up(tag_counts: &mut [u8], tag: Tag)
+    requires room { length tag_counts.old ≡ 256 }
+    requires few { slice_index tag_counts.old (low_byte tag) ≤ 64 }
+    ensures { tag_counts.new ≡ one_more tag_counts.old tag }
+{
+    tag_counts[low_byte(tag)] += 1;
+}
+
+/// Counts one task of this tag fewer.
+fn count_down(tag_counts: &mut [u8], tag: Tag)
+    requires room { length tag_counts.old ≡ 256 }
+    requires some { 1 ≤ slice_index tag_counts.old (low_byte tag) }
+    ensures { tag_counts.new ≡ one_fewer tag_counts.old tag }
+{
+    tag_counts[low_byte(tag)] -= 1;
 }
 
 /// The slots of the tasks that conflict with this one, as the bits of a number.
