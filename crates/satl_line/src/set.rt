@@ -1,13 +1,13 @@
 // The tasks in order of arrival, each in a slot of its own.
-ghost use Rattle.std.specs.Prelude.{◌≡◌, ◌≤◌, ◌<◌, ◌==◌, ◌^◌, if◌then◌else◌, ℕ, [], map, length, remove, replicate, Some, IfOk, OnOk, OnErr, is_err, slice_get, slice_index, slice_set};
+ghost use Rattle.std.specs.Prelude.{◌≡◌, ◌≤◌, ◌<◌, ◌==◌, ◌^◌, if◌then◌else◌, ℕ, false, [], map, length, remove, replicate, Some, IfOk, OnOk, OnErr, is_err, slice_get, slice_index, slice_set};
 ghost use Rattle.std.specs.Int.{bit_at};
 ghost use Rattle.std.specs.Option.{option_copied, option_map};
-ghost use Rattle.std.specs.List.{AllByRecursion, position_from};
+ghost use Rattle.std.specs.List.{All, AllByRecursion, position_from};
 ghost use Rattle.satl_base.specs.Limits.{most_held, most_tasks};
 ghost use Rattle.satl_line.specs.Conflict.{access_of, conflicts};
 ghost use Rattle.satl_line.specs.Eligible.{eligible_at};
 ghost use Rattle.satl_line.specs.Tasks.{Adds, AreMasks, AreOwnSlots, IsReadyMask, change_task, count_of, entries_of, entry_at, is_named, is_too_much, slots_of, total_blocks, with_body};
-ghost use Rattle.satl_line.specs.Layout.{IsMask, cleared, held_in, is_unbarred_at, low_byte, mark_of, one_fewer, one_more, tasks_in, with_slot};
+ghost use Rattle.satl_line.specs.Layout.{IsMask, IsWithin, clear_bit, cleared, held_in, is_unbarred_at, low_byte, mark_of, one_fewer, one_more, tasks_in, with_slot};
 ghost use Rattle.satl_line.specs.Outlines.{AreOutlines, IsOutline, is_of_name, no_outline, outline_in, outlines_in};
 
 use crate::boxed::TaskBox;
@@ -36,6 +36,8 @@ pub struct TaskSet {
     order: ArrayVec<u8, 64>,
     free: ArrayVec<u8, 64>,
     masks: [u64; 64],
+    // The slots that masks may have, as the bits of a number: mostly none.
+    marked: u64,
     blocks: u32,
     // The slots whose task writes or stands alone, as the bits of a number.
     active: u64,
@@ -58,6 +60,7 @@ impl Model for TaskSet {
       order = s.order.items;
       free = s.free.items;
       masks = s.masks;
+      marked = s.marked;
       blocks = s.blocks;
       active = s.active;
       tag_counts = s.tag_counts;
@@ -83,6 +86,7 @@ impl TaskSet {
             order: ArrayVec::new(),
             free,
             masks: no_masks(),
+            marked: 0,
             blocks: 0,
             active: 0,
             tag_counts: no_counts(),
@@ -128,6 +132,7 @@ impl TaskSet {
             unreachable!();
         };
         self.masks[slot as usize] = mask;
+        self.marked |= mask;
         self.active = with_slot(self.active, slot, outline.is_active());
         self.outlines[slot as usize] = outline;
         count_up(&mut self.tag_counts, entry.tag);
@@ -145,7 +150,8 @@ impl TaskSet {
     {
         let slot = self.order.remove(place);
         mem::swap(&mut self.slots[slot as usize], task);
-        clear_slot(&mut self.masks, slot);
+        clear_slot(&mut self.masks, slot, self.marked);
+        self.marked &= !(1 << slot);
         self.active &= !(1 << slot);
         self.free.push(slot);
         let entry = task.entry();
@@ -367,16 +373,35 @@ fn conflicts_in(
         || (other.may_meet(outline) && conflict(entry_in(slots, slot), entry))
 }
 
-/// Takes a slot out of all masks, and makes its own 0.
-fn clear_slot(masks: &mut [u64], slot: u8)
+/// Whether a mask may have a slot. Where none has it, to take it out changes none.
+fn may_have(masks: &[u64], slot: u8, marked: u64) -> bool
+    requires small { slot < 64 }
+    requires within { All (IsWithin marked) masks.now }
+    ensures { result ≡ false → masks.now ≡ map (clear_bit slot) masks.now }
+{
+    marked >> slot & 1 == 1
+}
+
+/// Takes a slot out of all masks, and makes its own 0. They are looked at only where they may have it.
+fn clear_slot(masks: &mut [u64], slot: u8, marked: u64)
     requires small { slot < 64 }
     requires room { length masks.old ≡ 64 }
+    requires within { All (IsWithin marked) masks.old }
     ensures { masks.new ≡ cleared masks.old slot }
+{
+    if may_have(masks, slot, marked) {
+        clear_in_all(masks, slot);
+    }
+    masks[slot as usize] = 0;
+}
+
+fn clear_in_all(masks: &mut [u64], slot: u8)
+    requires { slot < 64 }
+    ensures { masks.new ≡ map (clear_bit slot) masks.old }
 {
     for mask in masks.iter_mut() {
         *mask &= !(1 << slot);
     }
-    masks[slot as usize] = 0;
 }
 
 /// The places whose task has a mask of 0, as the bits of a number.
