@@ -1,3 +1,4 @@
+pub mod CountsLemmas
 pub mod MasksLemmas
 pub mod OutlinesLemmas
 pub mod SlotsLemmas

@@ -2,17 +2,19 @@
 use Rattle.std.proofs.Common.{◌≡◌, refl, sym, ◌∙◌, ap, subst, ℕ, zero, suc, ◌+◌, ◌-◌, ◌*◌, ◌%◌, ◌<◌, ◌≤◌, ◌^◌, Bool, true, false, cond, List, [], ◌∷◌, ◌++◌, Some, map, length, take, drop, get_or, set, arith, append_assoc, add-one, ◌⊎◌, ⊎_elim, inl, inr, bit_or}
 use Rattle.std.specs.Prelude.{not, nat_lt, ◌==◌, ◌||◌, ◌&&◌, if◌then◌else◌, slice_get, unwrap_or, replicate}
 use Rattle.std.specs.Option.{option_map}
-use Rattle.std.specs.List.{list_any, AllByRecursion, remove, position_from}
+use Rattle.std.specs.List.{list_any, All, AllByRecursion, remove, position_from}
 use Rattle.std.specs.Int.Bits.{and_zero_l}
 use Rattle.std.specs.Int.{bit_at, bit_not, w64}
 use Rattle.std.proofs.lemmas.Nat.Bits.{bit_at_set_same, bit_at_set_other, bit_at_clear_same, bit_at_clear_other, bit_at-zero}
 use Rattle.satl_base.proofs.ListsLemmas.{All-both, All-weaken}
 use Rattle.satl_base.specs.declared.block.Block.{Block}
+use Rattle.satl_base.specs.declared.request.Tag.{Tag}
+use Rattle.satl_base.specs.Lists.{how_many}
 use Rattle.std.proofs.Math.ListN.{length-set, get_or-map}
 use Rattle.std.proofs.Math.Seq.{take-suc}
 use Rattle.std.proofs.lemmas.Option.{slice_get-get_or, slice_get_past}
 use Rattle.std.proofs.lemmas.Bool.{eq-eqb, eqb-true, eqb-false, ltb-true, ltb-false, lt-ltb, le-ltb, and_right, ne_eqb, or_from}
-use Rattle.std.proofs.lemmas.List.{get_or-set_same, get_or-set_other, length-append, length-map, map-append, append-nil, get_or_default}
+use Rattle.std.proofs.lemmas.List.{get_or-set_same, get_or-set_other, length-append, length-map, length-replicate, map-append, append-nil, get_or_default}
 use Rattle.satl_line.specs.declared.entry.Entry.{Entry}
 use Rattle.satl_line.specs.declared.outline.Outline.{Outline}
 use Rattle.satl_line.specs.Blank.{no_entry}
@@ -20,9 +22,10 @@ use Rattle.satl_line.specs.Outlines.{IsOutline, is_active, no_outline, outline_i
 use Rattle.satl_line.specs.Conflict.{access_of, accesses_conflict, conflicts}
 use Rattle.satl_line.specs.Eligible.{eligible_at, is_clear_by}
 use Rattle.satl_line.specs.Tasks.{AreOwnSlots, AreMasks, is_barred_from, entries_of, Held, count_of, slots_of, total_blocks, entry_at, Adds, with_body, change_task}
-use Rattle.satl_line.specs.Layout.{SlotAccess, mark_of, is_marked, IsMask, HaveMasks, IsMasked, clear_bit, cleared, held_in, tasks_in, AreNoted, IsNoted, with_slot, SetInMemory, FitTogether, is_unbarred_at}
+use Rattle.satl_line.specs.Layout.{SlotAccess, mark_of, is_marked, IsMask, HaveMasks, IsMasked, clear_bit, cleared, held_in, tasks_in, AreNoted, IsNoted, IsWithin, with_slot, AreCounted, has_low_byte, low_byte, one_fewer, one_more, SetInMemory, FitTogether, is_unbarred_at}
+use Rattle.satl_line.proofs.CountsLemmas.{counted_few, counted_more, counted_out}
 use Rattle.satl_line.proofs.OutlinesLemmas.{EachIs, apart_where_quiet, outline_with}
-use Rattle.satl_line.proofs.MasksLemmas.{bit, bit_is_zero, with_slot_here, with_slot_other, unmarked, HasNot, AreSmall, is_struck, zero_mask, are_removed, are_added, get_or-cleared, mask_more_yes, mask_more_no}
+use Rattle.satl_line.proofs.MasksLemmas.{bit, bit_is_zero, with_slot_here, with_slot_other, unmarked, HasNot, AreSmall, is_struck, zero_mask, are_removed, are_added, within_none, within_more, within_fewer, get_or-cleared, mask_more_yes, mask_more_no}
 
 -- ---- counts
 
@@ -223,13 +226,15 @@ without layout s e other order = record layout {
   order = order;
   free = layout.free ++ s ∷ [];
   masks = cleared layout.masks s;
+  marked = clear_bit s layout.marked;
   blocks = layout.blocks - e.blocks;
   active = clear_bit s layout.active;
+  tag_counts = one_fewer layout.tag_counts e.tag;
 }
 
 pub sound_without : (layout : SetInMemory) (front : List ℕ) (s : ℕ) (back : List ℕ) (e other : Entry) → FitTogether (record layout { order = front ++ s ∷ back }) → get_or layout.slots s no_entry ≡ e →
     FitTogether (without layout s e other (front ++ back))
-    × (tasks_in (set layout.slots s other) (front ++ back) ≡ tasks_in layout.slots (front ++ back)) × (e.blocks ≤ layout.blocks)
+    × (tasks_in (set layout.slots s other) (front ++ back) ≡ tasks_in layout.slots (front ++ back)) × (e.blocks ≤ layout.blocks) × (1 ≤ get_or layout.tag_counts (low_byte e.tag) 0)
 sound_without layout front s back e other h is =
     let at : s < 64 = (All-right (λ q. q < 64) front (s ∷ back) h.taken).0 in
     let out = alone layout front s back h at in
@@ -245,7 +250,8 @@ sound_without layout front s back e other h is =
     (subst (λ l. HaveMasks [] l layout.masks) parts h.masked.full) in
     let blocks_is : total_blocks (tasks_in layout.slots (front ++ back)) + e.blocks ≡ layout.blocks
     = sum_out (tasks_in layout.slots front) (held_in layout.slots s) (tasks_in layout.slots back) (tasks_in layout.slots (front ++ back)) (tasks_in layout.slots (front ++ s ∷ back)) e layout.blocks
-    (map-append (held_in layout.slots) front back) (map-append (held_in layout.slots) front (s ∷ back)) is h.total in (
+    (map-append (held_in layout.slots) front back) (map-append (held_in layout.slots) front (s ∷ back)) is h.total in
+    let counted = counted_out layout.slots front s back e (tasks_in (set layout.slots s other) (front ++ back)) layout.tag_counts h.counted is same in (
       record {
         room = length-set layout.slots s other ∙ h.room;
         wide = length-set (map (clear_bit s) layout.masks) s 0 ∙ length-map layout.masks (clear_bit s) ∙ h.wide;
@@ -257,6 +263,7 @@ sound_without layout front s back e other h is =
           full = subst (λ l. HaveMasks [] (map mark_of l) (cleared layout.masks s)) (sym same) (subst (λ l. HaveMasks [] l (cleared layout.masks s)) (sym whole) full);
           empty = λ q gone. empty_out q (ap (count_of q) (sym (slots_of_tasks (set layout.slots s other) (front ++ back))) ∙ gone);
         };
+        within = within_fewer layout.marked s layout.masks at h.within;
         outlined = record {
           room = h.outlined.room;
           each = entry_other layout.slots layout.outlines s other (front ++ back) none (All-append (λ q. IsOutline (get_or layout.slots q no_entry) (outline_in layout.outlines q)) front back
@@ -266,9 +273,11 @@ sound_without layout front s back e other h is =
         total = ap total_blocks same ∙ omega (arith, blocks_is);
         few = omega (arith, h.few);
         noted = noted_without layout.outlines front s back layout.free layout.active at out.0 out.1 (omega (arith, h.once s at, count-append s front (s ∷ back), count_of-first s back)) h.taken h.small h.noted;
+        counted = counted.0;
       },
       same,
       omega (arith, blocks_is),
+      counted.1,
     )
   where
     sum_out : (a : List Held) (x : Held) (b ab axb : List Held) (e : Entry) (n : ℕ) → ab ≡ a ++ b → axb ≡ a ++ x ∷ b → x.entry ≡ e → total_blocks axb ≡ n → total_blocks ab + e.blocks ≡ n
@@ -298,8 +307,10 @@ with_task layout s e o mask free = record {
   order = layout.order ++ s ∷ [];
   free = free;
   masks = set layout.masks s mask;
+  marked = bit_or layout.marked mask;
   blocks = layout.blocks + e.blocks;
   active = with_slot (is_active o) s layout.active;
+  tag_counts = one_more layout.tag_counts e.tag;
 }
 
 pub sound_with : (layout : SetInMemory) (free : List ℕ) (s mask : ℕ) (e : Entry) (o : Outline) → IsOutline e o → FitTogether (record layout { free = free ++ s ∷ [] }) → layout.blocks + e.blocks ≤ 32768 → IsMask (map mark_of (tasks_in layout.slots layout.order)) (access_of e) mask →
@@ -327,6 +338,7 @@ sound_with layout free s mask e o own h fits is =
               (are_added (map mark_of (tasks_in layout.slots layout.order)) (record { slot = s; access = access_of e }) layout.masks mask (omega (arith, h.wide)) (has_not layout.slots s layout.order none) h.masked.full is));
           empty = λ q gone. empty_in q (ap (count_of q) (sym (slots_of_tasks (set layout.slots s e) (layout.order ++ s ∷ []))) ∙ gone);
         };
+        within = within_more layout.marked mask s layout.masks h.within;
         outlined = record {
           room = length-set layout.outlines s o ∙ h.outlined.room;
           each = All-append (λ q. IsOutline (get_or (set layout.slots s e) q no_entry) (outline_in (set layout.outlines s o) q)) layout.order (s ∷ []) (outline_other layout.slots layout.outlines s e o layout.order none h.outlined.each) (
@@ -338,6 +350,7 @@ sound_with layout free s mask e o own h fits is =
         total = ap total_blocks tasks ∙ omega (arith, total-append (tasks_in layout.slots layout.order) (record { slot = s; entry = e } ∷ []), h.total);
         few = fits;
         noted = noted_with layout.outlines layout.order free s layout.active o small (omega (arith, h.outlined.room)) none (omega (arith, h.once s small, count-append s free (s ∷ []), count_one s)) h.noted;
+        counted = subst (λ l. AreCounted l (one_more layout.tag_counts e.tag)) (sym tasks) (counted_more (tasks_in layout.slots layout.order) (record { slot = s; entry = e }) layout.tag_counts h.counted);
       },
       tasks,
       small,
@@ -358,6 +371,7 @@ pub record Leaves (tasks : List Held) (place : ℕ) (e : Entry) (old new : SetIn
   pub rest : tasks_in new.slots new.order ≡ remove tasks place
   pub value : entry_at tasks place ≡ Some e
   pub less : e.blocks ≤ old.blocks
+  pub some : 1 ≤ get_or old.tag_counts (low_byte e.tag) 0
 
 -- the entry at a place lies in the slot of that place
 pub entry_at_is : (slots : List Entry) (order : List ℕ) (place s : ℕ) (e : Entry) → place < length order → s ≡ get_or order place s → get_or slots s no_entry ≡ e → entry_at (tasks_in slots order) place ≡ Some e
@@ -367,11 +381,11 @@ entry_at_is slots order place s e lt at is =
     ∙ ap (λ q. Some (get_or slots q no_entry)) (sym at)
     ∙ ap Some is
 
-pub leaves : (layout : SetInMemory) (tasks : List Held) (place s : ℕ) (seen other e : Entry) (order' free' masks' : List ℕ) →
+pub leaves : (layout : SetInMemory) (tasks : List Held) (place s : ℕ) (seen other e : Entry) (order' free' masks' tag_counts' : List ℕ) →
     FitTogether layout → tasks_in layout.slots layout.order ≡ tasks → place < length tasks → s ≡ get_or layout.order place s → seen ≡ get_or layout.slots s seen → e ≡ seen →
-    order' ≡ remove layout.order place → free' ≡ layout.free ++ s ∷ [] → masks' ≡ cleared layout.masks s →
-    Leaves tasks place e layout (record (without layout s e other order') { free = free'; masks = masks' })
-leaves layout tasks place s seen other e order' free' masks' sound is lt at seen_is e_is order_is free_is masks_is =
+    order' ≡ remove layout.order place → free' ≡ layout.free ++ s ∷ [] → masks' ≡ cleared layout.masks s → tag_counts' ≡ one_fewer layout.tag_counts e.tag →
+    Leaves tasks place e layout (record (without layout s e other order') { free = free'; masks = masks'; tag_counts = tag_counts' })
+leaves layout tasks place s seen other e order' free' masks' tag_counts' sound is lt at seen_is e_is order_is free_is masks_is counts_are =
     let within : place < length layout.order = omega (arith, length-map layout.order (held_in layout.slots), ap length is) in
     let small : s < 64 = subst (λ q. q < 64) (sym at) (All-at (λ q. q < 64) layout.order place s within sound.taken) in
     let here : get_or layout.slots s no_entry ≡ e = get_or_default layout.slots s no_entry seen (omega (arith, small, sound.room)) ∙ sym seen_is ∙ sym e_is in
@@ -379,12 +393,14 @@ leaves layout tasks place s seen other e order' free' masks' sound is lt at seen
     let r = sound_without layout (take place layout.order) s (drop (suc place) layout.order) e other (subst (λ l. FitTogether (record layout { order = l })) order_parts sound) here in
     let tasks_is : tasks_in (set layout.slots s other) (remove layout.order place) ≡ remove tasks place = r.1 ∙ remove-map (held_in layout.slots) layout.order place ∙ ap (λ l. remove l place) is in
     record {
-      sound = subst (λ l. FitTogether (record (without layout s e other l) { free = free'; masks = masks' })) (sym order_is)
-          (subst (λ l. FitTogether (record (without layout s e other (remove layout.order place)) { free = l; masks = masks' })) (sym free_is)
-          (subst (λ l. FitTogether (record (without layout s e other (remove layout.order place)) { masks = l })) (sym masks_is) r.0));
+      sound = subst (λ l. FitTogether (record (without layout s e other l) { free = free'; masks = masks'; tag_counts = tag_counts' })) (sym order_is)
+          (subst (λ l. FitTogether (record (without layout s e other (remove layout.order place)) { free = l; masks = masks'; tag_counts = tag_counts' })) (sym free_is)
+          (subst (λ l. FitTogether (record (without layout s e other (remove layout.order place)) { masks = l; tag_counts = tag_counts' })) (sym masks_is)
+          (subst (λ l. FitTogether (record (without layout s e other (remove layout.order place)) { tag_counts = l })) (sym counts_are) r.0)));
       rest = ap (tasks_in (set layout.slots s other)) order_is ∙ tasks_is;
       value = ap (λ l. entry_at l place) (sym is) ∙ entry_at_is layout.slots layout.order place s e within at here;
       less = r.2;
+      some = r.3;
     }
 
 pub record Comes (old : List Held) (e : Entry) (layout : SetInMemory) : Type 0 where
@@ -410,15 +426,20 @@ comes layout freed s mask e o old order' own sound is free_is mask_is order_is f
     vacant_is i h = ap (λ l. count_of s (slots_of l)) (sym i) ∙ ap (count_of s) (slots_of_tasks layout.slots layout.order) ∙ h
 
 -- the same where the task is read from one place, and lies in another
-pub comes_from : (layout : SetInMemory) (freed : List ℕ) (s active' mask : ℕ) (e read put : Entry) (o : Outline) (old : List Held) (order' : List ℕ) → IsOutline read o →
-    FitTogether layout → tasks_in layout.slots layout.order ≡ old → layout.free ≡ freed ++ s ∷ [] → IsMask (map mark_of old) (access_of read) mask → order' ≡ layout.order ++ s ∷ [] → layout.blocks + read.blocks ≤ 32768 → read ≡ e → put ≡ e → active' ≡ with_slot (is_active o) s layout.active →
-    Comes old e (record (with_task layout s put o mask freed) { order = order'; blocks = layout.blocks + read.blocks; active = active' })
-comes_from layout freed s active' mask e read put o old order' own sound is free_is mask_is order_is fits read_is put_is active_is =
-    subst (λ n. Comes old e (record (with_task layout s put o mask freed) { order = order'; blocks = layout.blocks + read.blocks; active = n })) (sym active_is)
-    (subst (λ x. Comes old e (record (with_task layout s x o mask freed) { order = order'; blocks = layout.blocks + read.blocks })) (sym put_is)
-    (subst (λ (r : Entry). Comes old e (record (with_task layout s e o mask freed) { order = order'; blocks = layout.blocks + r.blocks })) (sym read_is)
+pub comes_from : (layout : SetInMemory) (freed : List ℕ) (s active' mask : ℕ) (e read put : Entry) (o : Outline) (old : List Held) (order' tag_counts' : List ℕ) → IsOutline read o →
+    FitTogether layout → tasks_in layout.slots layout.order ≡ old → layout.free ≡ freed ++ s ∷ [] → IsMask (map mark_of old) (access_of read) mask → order' ≡ layout.order ++ s ∷ [] → layout.blocks + read.blocks ≤ 32768 → read ≡ e → put ≡ e → active' ≡ with_slot (is_active o) s layout.active → tag_counts' ≡ one_more layout.tag_counts read.tag →
+    Comes old e (record (with_task layout s put o mask freed) { order = order'; blocks = layout.blocks + read.blocks; active = active'; tag_counts = tag_counts' })
+comes_from layout freed s active' mask e read put o old order' tag_counts' own sound is free_is mask_is order_is fits read_is put_is active_is counts_are =
+    subst (λ n. Comes old e (record (with_task layout s put o mask freed) { order = order'; blocks = layout.blocks + read.blocks; active = n; tag_counts = tag_counts' })) (sym active_is)
+    (subst (λ l. Comes old e (record (with_task layout s put o mask freed) { order = order'; blocks = layout.blocks + read.blocks; tag_counts = l })) (sym counts_are)
+    (subst (λ x. Comes old e (record (with_task layout s x o mask freed) { order = order'; blocks = layout.blocks + read.blocks; tag_counts = one_more layout.tag_counts read.tag })) (sym put_is)
+    (subst (λ (r : Entry). Comes old e (record (with_task layout s e o mask freed) { order = order'; blocks = layout.blocks + r.blocks; tag_counts = one_more layout.tag_counts r.tag })) (sym read_is)
     (comes layout freed s mask e o old order' (subst (λ (r : Entry). IsOutline r o) read_is own) sound is free_is
-    (subst (λ (r : Entry). IsMask (map mark_of old) (access_of r) mask) read_is mask_is) order_is (subst (λ (r : Entry). layout.blocks + r.blocks ≤ 32768) read_is fits))))
+    (subst (λ (r : Entry). IsMask (map mark_of old) (access_of r) mask) read_is mask_is) order_is (subst (λ (r : Entry). layout.blocks + r.blocks ≤ 32768) read_is fits)))))
+
+-- no count is greater than 64
+pub counts_few : (layout : SetInMemory) (tag : Tag) → FitTogether layout → get_or layout.tag_counts (low_byte tag) 0 ≤ 64
+counts_few layout tag h = omega (arith, counted_few (tasks_in layout.slots layout.order) layout.tag_counts tag h.counted, length-map layout.order (held_in layout.slots), h.count)
 
 -- one more slot is looked at
 module _ (slots : List Entry) (order : List ℕ) (i : ℕ) (u e : Entry) (mask new : ℕ) (within : i < length order) (is : u ≡ get_or slots (get_or order i 0) no_entry) (so_far : IsMask (map mark_of (tasks_in slots (take i order))) (access_of e) mask) where
@@ -452,10 +473,10 @@ walk_step f xs init i d is lt =
     go (x ∷ xs) (suc i) lt = ap (λ l. f x ∷ l) (go xs i (omega arith))
 
 -- slots with nothing in them
-pub sound_new : (slots : List Entry) (outlines : List Outline) (free masks order : List ℕ) → length outlines ≡ 64 → length slots ≡ 64 → order ≡ [] → masks ≡ replicate 64 0 → length free ≡ 64 → AllByRecursion (λ q. q < 64) free → ((q : ℕ) → q < 64 → count_of q free ≡ 1) →
-    FitTogether (record { slots = slots; outlines = outlines; order = order; free = free; masks = masks; blocks = 0; active = 0 })
-sound_new slots outlines free masks order wide room none zeros long small once =
-    subst (λ l. FitTogether (record { slots = slots; outlines = outlines; order = l; free = free; masks = masks; blocks = 0; active = 0 })) (sym none) (record {
+pub sound_new : (slots : List Entry) (outlines : List Outline) (free masks order tag_counts : List ℕ) → length outlines ≡ 64 → length slots ≡ 64 → order ≡ [] → masks ≡ replicate 64 0 → tag_counts ≡ replicate 256 0 → length free ≡ 64 → AllByRecursion (λ q. q < 64) free → ((q : ℕ) → q < 64 → count_of q free ≡ 1) →
+    FitTogether (record { slots = slots; outlines = outlines; order = order; free = free; masks = masks; marked = 0; blocks = 0; active = 0; tag_counts = tag_counts })
+sound_new slots outlines free masks order tag_counts wide room none zeros nothing long small once =
+    subst (λ l. FitTogether (record { slots = slots; outlines = outlines; order = l; free = free; masks = masks; marked = 0; blocks = 0; active = 0; tag_counts = tag_counts })) (sym none) (record {
       room = room;
       wide = ap length zeros;
       taken = tt;
@@ -463,10 +484,12 @@ sound_new slots outlines free masks order wide room none zeros long small once =
       once = λ q lt. omega (arith, once q lt);
       count = omega (arith, long);
       masked = record { full = tt; empty = λ q gone. ap (λ l. get_or l q 0) zeros ∙ get_or-replicate_same 64 q };
+      within = subst (All (IsWithin 0)) (sym zeros) within_none;
       outlined = record { room = wide; each = tt };
       total = refl;
       few = omega arith;
       noted = record { held = tt; vacant = All-weaken (λ q. q < 64) (λ q. bit_at 0 q ≡ 0) (λ q lt. bit_at-zero q) free small };
+      counted = record { wide = ap length nothing ∙ length-replicate {A = ℕ} 256 0; each = λ low lt. ap (λ l. get_or l low 0) nothing ∙ get_or-replicate_same 256 low };
     })
   where
     get_or-replicate_same : (n q : ℕ) → ◌≡◌ {A = ℕ} (get_or {A = ℕ} (replicate {A = ℕ} n 0) q 0) 0
@@ -587,6 +610,12 @@ module _ (slots : List Entry) (s : ℕ) (body : List Block) (within : s < length
   marks_same [] = refl
   marks_same (q ∷ qs) = ap (λ m. m ∷ map mark_of (tasks_in changed qs)) (same_of (λ r o. record { slot = r; access = access_of o }) refl q) ∙ ap (λ l. mark_of (held_in slots q) ∷ l) (marks_same qs)
 
+  counts_same : (low : ℕ) (order : List ℕ) → how_many (has_low_byte low) (tasks_in changed order) ≡ how_many (has_low_byte low) (tasks_in slots order)
+  counts_same low [] = refl
+  counts_same low (q ∷ qs) =
+      ap (λ n. n + how_many (has_low_byte low) (tasks_in changed qs)) (same_of (λ r o. if low_byte o.tag == low then 1 else 0) refl q)
+      ∙ ap (λ n. (if has_low_byte low (held_in slots q) then 1 else 0) + n) (counts_same low qs)
+
   blocks_same : (order : List ℕ) → total_blocks (tasks_in changed order) ≡ total_blocks (tasks_in slots order)
   blocks_same [] = refl
   blocks_same (q ∷ qs) = ap (λ n. n + total_blocks (tasks_in changed qs)) (same_of (λ r o. o.blocks) refl q) ∙ ap (λ n. (held_in slots q).entry.blocks + n) (blocks_same qs)
@@ -629,6 +658,7 @@ changes layout tasks place seen body slots' sound is lt same slots_is =
         full = subst (λ l. HaveMasks [] l layout.masks) (sym (marks_same layout.slots s body room layout.order)) sound.masked.full;
         empty = λ q gone. sound.masked.empty q (ap (count_of q) (slots_of_tasks layout.slots layout.order ∙ sym (slots_of_tasks (changed layout.slots s body room) layout.order)) ∙ gone);
       };
+      within = sound.within;
       outlined = record {
         room = sound.outlined.room;
         each = All-weaken (λ q. IsOutline (get_or layout.slots q no_entry) (outline_in layout.outlines q)) (λ q. IsOutline (get_or (changed layout.slots s body room) q no_entry) (outline_in layout.outlines q))
@@ -637,6 +667,10 @@ changes layout tasks place seen body slots' sound is lt same slots_is =
       total = blocks_same layout.slots s body room layout.order ∙ sound.total;
       few = sound.few;
       noted = sound.noted;
+      counted = record {
+        wide = sound.counted.wide;
+        each = λ low lt. sound.counted.each low lt ∙ sym (counts_same layout.slots s body room low layout.order);
+      };
     } in
     let once : count_of s layout.order ≤ 1 = omega (arith, sound.once s small) in
     record {

@@ -1,8 +1,10 @@
 -- How a set of tasks lies in memory: slots, the order of arrival, the free slots, and the masks (profile, all of it).
-use Rattle.std.specs.Prelude.{◌≡◌, ℕ, ◌+◌, ◌*◌, ◌%◌, ◌^◌, ◌<◌, ◌≤◌, ◌==◌, Bool, ◌&&◌, if◌then◌else◌, nat_lt, List, [], ◌∷◌, ◌++◌, map, length, slice_index_or, slice_set, bit_and, bit_or}
+use Rattle.std.specs.Prelude.{◌≡◌, ℕ, ◌+◌, ◌-◌, ◌*◌, ◌%◌, ◌^◌, ◌<◌, ◌≤◌, ◌==◌, Bool, ◌&&◌, if◌then◌else◌, nat_lt, List, [], ◌∷◌, ◌++◌, map, length, slice_index, slice_index_or, slice_set, bit_and, bit_or}
 use Rattle.std.specs.Int.{bit_at, bit_not, w64}
-use Rattle.std.specs.List.{list_any, AllByRecursion}
+use Rattle.std.specs.List.{list_any, All, AllByRecursion}
+use Rattle.satl_base.specs.declared.request.Tag.{Tag}
 use Rattle.satl_base.specs.Limits.{most_held}
+use Rattle.satl_base.specs.Lists.{how_many}
 use Rattle.satl_line.specs.declared.entry.Entry.{Entry}
 use Rattle.satl_line.specs.Blank.{no_entry}
 use Rattle.satl_line.specs.Conflict.{Access, access_of, accesses_conflict}
@@ -54,6 +56,10 @@ clear_bit slot mask = bit_and mask (bit_not w64 (1 * 2 ^ slot % 2 ^ 64))
 abbrev pub cleared : List ℕ → ℕ → List ℕ
 cleared masks slot = slice_set (map (clear_bit slot) masks) slot 0
 
+-- the mask has no slot but those whose bit in a number is 1
+abbrev pub IsWithin : ℕ → ℕ → Type 0
+IsWithin marked mask = (slot : ℕ) → slot < 64 → bit_at marked slot ≡ 0 → bit_at mask slot ≡ 0
+
 -- whether the mask of the task at a place is 0
 abbrev pub is_unbarred_at : List ℕ → List ℕ → ℕ → Bool
 is_unbarred_at masks order place = nat_lt place (length order) && (slice_index_or masks (slice_index_or order place 0) 0 == 0)
@@ -71,6 +77,27 @@ pub record AreNoted (outlines : List Outline) (order free : List ℕ) (active : 
   pub held : AllByRecursion (IsNoted outlines active) order
   pub vacant : AllByRecursion (λ slot. bit_at active slot ≡ 0) free
 
+-- the low byte of a tag
+abbrev pub low_byte : Tag → ℕ
+low_byte tag = tag.0 % 256
+
+-- whether the tag of a task has this low byte
+abbrev pub has_low_byte : ℕ → Held → Bool
+has_low_byte low held = low_byte held.entry.tag == low
+
+-- for each low byte of a tag, how many of these tasks have it
+pub record AreCounted (tasks : List Held) (tag_counts : List ℕ) : Type 0 where
+  pub wide : length tag_counts ≡ 256
+  pub each : (low : ℕ) → low < 256 → slice_index tag_counts low ≡ how_many (has_low_byte low) tasks
+
+-- the counts with one more task of this tag
+abbrev pub one_more : List ℕ → Tag → List ℕ
+one_more tag_counts tag = slice_set tag_counts (low_byte tag) (slice_index tag_counts (low_byte tag) + 1)
+
+-- the counts with one task of this tag fewer
+abbrev pub one_fewer : List ℕ → Tag → List ℕ
+one_fewer tag_counts tag = slice_set tag_counts (low_byte tag) (slice_index tag_counts (low_byte tag) - 1)
+
 -- how a set of tasks lies in memory
 pub record SetInMemory : Type 0 where
   -- what lies in each of the 64 slots, and its outline
@@ -85,6 +112,10 @@ pub record SetInMemory : Type 0 where
   pub blocks : ℕ
   -- the slots whose task writes or stands alone, as the bits of a number
   pub active : ℕ
+  -- the slots that masks may have, as the bits of a number
+  pub marked : ℕ
+  -- for each low byte of a tag the number of tasks that have it
+  pub tag_counts : List ℕ
 
 -- there are 64 slots, each taken or free; what is kept beside them is right of the tasks in them, which hold at most 32,768
 -- blocks
@@ -96,7 +127,9 @@ pub record FitTogether (layout : SetInMemory) : Type 0 where
   pub once : (slot : ℕ) → slot < 64 → count_of slot layout.order + count_of slot layout.free ≡ 1
   pub count : length layout.order + length layout.free ≡ 64
   pub masked : IsMasked (tasks_in layout.slots layout.order) layout.masks
+  pub within : All (IsWithin layout.marked) layout.masks
   pub outlined : AreOutlines layout.slots layout.outlines layout.order
   pub total : total_blocks (tasks_in layout.slots layout.order) ≡ layout.blocks
   pub few : layout.blocks ≤ most_held
   pub noted : AreNoted layout.outlines layout.order layout.free layout.active
+  pub counted : AreCounted (tasks_in layout.slots layout.order) layout.tag_counts

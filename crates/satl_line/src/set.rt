@@ -1,13 +1,13 @@
 // The tasks in order of arrival, each in a slot of its own.
-ghost use Rattle.std.specs.Prelude.{◌≡◌, ◌≤◌, ◌<◌, ◌==◌, ◌^◌, if◌then◌else◌, ℕ, [], map, length, remove, replicate, Some, IfOk, OnOk, OnErr, is_err, slice_get, slice_index, slice_set};
+ghost use Rattle.std.specs.Prelude.{◌≡◌, ◌≤◌, ◌<◌, ◌==◌, ◌^◌, if◌then◌else◌, ℕ, false, [], map, length, remove, replicate, Some, IfOk, OnOk, OnErr, is_err, slice_get, slice_index, slice_set};
 ghost use Rattle.std.specs.Int.{bit_at};
 ghost use Rattle.std.specs.Option.{option_copied, option_map};
-ghost use Rattle.std.specs.List.{AllByRecursion, position_from};
+ghost use Rattle.std.specs.List.{All, AllByRecursion, position_from};
 ghost use Rattle.satl_base.specs.Limits.{most_held, most_tasks};
 ghost use Rattle.satl_line.specs.Conflict.{access_of, conflicts};
 ghost use Rattle.satl_line.specs.Eligible.{eligible_at};
 ghost use Rattle.satl_line.specs.Tasks.{Adds, AreMasks, AreOwnSlots, IsReadyMask, change_task, count_of, entries_of, entry_at, is_named, is_too_much, slots_of, total_blocks, with_body};
-ghost use Rattle.satl_line.specs.Layout.{IsMask, cleared, held_in, is_unbarred_at, mark_of, tasks_in, with_slot};
+ghost use Rattle.satl_line.specs.Layout.{IsMask, IsWithin, clear_bit, cleared, held_in, is_unbarred_at, low_byte, mark_of, one_fewer, one_more, tasks_in, with_slot};
 ghost use Rattle.satl_line.specs.Outlines.{AreOutlines, IsOutline, is_of_name, no_outline, outline_in, outlines_in};
 
 use crate::boxed::TaskBox;
@@ -36,9 +36,13 @@ pub struct TaskSet {
     order: ArrayVec<u8, 64>,
     free: ArrayVec<u8, 64>,
     masks: [u64; 64],
+    // The slots that masks may have, as the bits of a number: mostly none.
+    marked: u64,
     blocks: u32,
     // The slots whose task writes or stands alone, as the bits of a number.
     active: u64,
+    // For each low byte of a tag the number of tasks that have it: mostly 0 for the tag of a task that comes.
+    tag_counts: [u8; 256],
 }
 
 impl Model for TaskSet {
@@ -56,8 +60,10 @@ impl Model for TaskSet {
       order = s.order.items;
       free = s.free.items;
       masks = s.masks;
+      marked = s.marked;
       blocks = s.blocks;
       active = s.active;
+      tag_counts = s.tag_counts;
     }) };
 }
 
@@ -80,8 +86,10 @@ impl TaskSet {
             order: ArrayVec::new(),
             free,
             masks: no_masks(),
+            marked: 0,
             blocks: 0,
             active: 0,
+            tag_counts: no_counts(),
         })
     }
 
@@ -124,8 +132,10 @@ impl TaskSet {
             unreachable!();
         };
         self.masks[slot as usize] = mask;
+        self.marked |= mask;
         self.active = with_slot(self.active, slot, outline.is_active());
         self.outlines[slot as usize] = outline;
+        count_up(&mut self.tag_counts, entry.tag);
         self.blocks += blocks;
         mem::swap(&mut self.slots[slot as usize], task);
         self.order.push(slot);
@@ -140,10 +150,13 @@ impl TaskSet {
     {
         let slot = self.order.remove(place);
         mem::swap(&mut self.slots[slot as usize], task);
-        clear_slot(&mut self.masks, slot);
+        clear_slot(&mut self.masks, slot, self.marked);
+        self.marked &= !(1 << slot);
         self.active &= !(1 << slot);
         self.free.push(slot);
-        self.blocks -= task.entry().blocks;
+        let entry = task.entry();
+        count_down(&mut self.tag_counts, entry.tag);
+        self.blocks -= entry.blocks;
     }
 
     /// Whether no earlier task conflicts with the one at a place (profile).
@@ -162,9 +175,13 @@ impl TaskSet {
     }
 
     /// The place of the first task of this nexus and tag. None exactly where there is none (profile).
+    // In the usual case no task has even the low byte of the tag, and no outline is looked at.
     pub fn find(&self, nexus: Nexus, tag: Tag) -> Option<usize>
         ensures { result ≡ position_from (is_named nexus tag) 0 self.now }
     {
+        if count_at(&self.tag_counts, tag) == 0 {
+            return None;
+        }
         find_in(&self.outlines, &self.order, nexus, tag)
     }
 
@@ -258,6 +275,12 @@ fn no_masks() -> [u64; 64]
     [0; 64]
 }
 
+fn no_counts() -> [u8; 256]
+    ensures { result ≡ replicate 256 0 }
+{
+    [0; 256]
+}
+
 fn mask_at(masks: &[u64], slot: u8) -> u64
     requires small { slot < 64 }
     requires room { length masks.now ≡ 64 }
@@ -273,6 +296,38 @@ fn with_slot(number: u64, slot: u8, noted: bool) -> u64
     ensures { result ≡ with_slot noted slot number }
 {
     if noted { number | 1 << slot } else { number }
+}
+
+fn low_byte(tag: Tag) -> usize
+    ensures { result ≡ low_byte tag }
+{
+    (tag.0 % 256) as usize
+}
+
+/// How many tasks have the low byte of this tag.
+fn count_at(tag_counts: &[u8], tag: Tag) -> u8
+    requires room { length tag_counts.now ≡ 256 }
+    ensures { result ≡ slice_index tag_counts.now (low_byte tag) }
+{
+    tag_counts[low_byte(tag)]
+}
+
+/// Counts one more task of this tag.
+fn count_up(tag_counts: &mut [u8], tag: Tag)
+    requires room { length tag_counts.old ≡ 256 }
+    requires few { slice_index tag_counts.old (low_byte tag) ≤ 64 }
+    ensures { tag_counts.new ≡ one_more tag_counts.old tag }
+{
+    tag_counts[low_byte(tag)] += 1;
+}
+
+/// Counts one task of this tag fewer.
+fn count_down(tag_counts: &mut [u8], tag: Tag)
+    requires room { length tag_counts.old ≡ 256 }
+    requires some { 1 ≤ slice_index tag_counts.old (low_byte tag) }
+    ensures { tag_counts.new ≡ one_fewer tag_counts.old tag }
+{
+    tag_counts[low_byte(tag)] -= 1;
 }
 
 /// The slots of the tasks that conflict with this one, as the bits of a number.
@@ -318,16 +373,35 @@ fn conflicts_in(
         || (other.may_meet(outline) && conflict(entry_in(slots, slot), entry))
 }
 
-/// Takes a slot out of all masks, and makes its own 0.
-fn clear_slot(masks: &mut [u64], slot: u8)
+/// Whether a mask may have a slot. Where none has it, to take it out changes none.
+fn may_have(masks: &[u64], slot: u8, marked: u64) -> bool
+    requires small { slot < 64 }
+    requires within { All (IsWithin marked) masks.now }
+    ensures { result ≡ false → masks.now ≡ map (clear_bit slot) masks.now }
+{
+    marked >> slot & 1 == 1
+}
+
+/// Takes a slot out of all masks, and makes its own 0. They are looked at only where they may have it.
+fn clear_slot(masks: &mut [u64], slot: u8, marked: u64)
     requires small { slot < 64 }
     requires room { length masks.old ≡ 64 }
+    requires within { All (IsWithin marked) masks.old }
     ensures { masks.new ≡ cleared masks.old slot }
+{
+    if may_have(masks, slot, marked) {
+        clear_in_all(masks, slot);
+    }
+    masks[slot as usize] = 0;
+}
+
+fn clear_in_all(masks: &mut [u64], slot: u8)
+    requires { slot < 64 }
+    ensures { masks.new ≡ map (clear_bit slot) masks.old }
 {
     for mask in masks.iter_mut() {
         *mask &= !(1 << slot);
     }
-    masks[slot as usize] = 0;
 }
 
 /// The places whose task has a mask of 0, as the bits of a number.

@@ -1,6 +1,10 @@
-use Rattle.satl_line.specs.Layout.{clear_bit}
-use Rattle.satl_line.proofs.SlotsLemmas.{walk_step}
+use Rattle.std.proofs.Common.{ap, set, ◌∙◌}
 use Rattle.satl_line.proofs.set.clear_slot.Goals as goal
+use Rattle.satl_line.proofs.set.clear_slot.Goals.{then-may_have, else-may_have}
 
-pub loop-mask-preserved : goal.loop-mask-preserved
-loop-mask-preserved c = walk_step (clear_bit c.args.slot) c.loop-mask.masks c.args.masks.now c.loop-mask.mask-index 0 c.loop-mask.invariant c.loop-mask-test.true
+pub returns : goal.returns
+returns c =
+    elim c.if-may_have.branch [
+      | then-may_have w ↦ ap (λ l. set l c.args.slot 0) (w.masks-is ∙ w.clear_in_all.ensures)
+      | else-may_have w ↦ ap (λ l. set l c.args.slot 0) (w.masks-is ∙ c.may_have.ensures w.if-may_have.false)
+    ]
