@@ -204,3 +204,9 @@ get-map f (y ∷ ys) (suc k) x h = get-map f ys k x h
 pub push_not_empty : {X : Type 0} (xs : List X) (x : X) → xs ++ x ∷ [] ≡ [] → ⊥
 push_not_empty [] x h = cc
 push_not_empty (y ∷ ys) x h = cc
+
+pub remove-map : {X Y : Type 0} (f : X → Y) (xs : List X) (i : ℕ) → map f (remove xs i) ≡ remove (map f xs) i
+remove-map f [] zero = refl
+remove-map f [] (suc i) = refl
+remove-map f (x ∷ xs) zero = refl
+remove-map f (x ∷ xs) (suc i) = ap (λ ys. f x ∷ ys) (remove-map f xs i)
