@@ -1,6 +1,7 @@
 -- Blocks of 512 bytes, and the bytes of a list of them.
-use Rattle.std.specs.Prelude.{ℕ, zero, suc, ◌+◌, ◌*◌, ◌/◌, ◌%◌, ◌≡◌, ◌≤◌, ◌<◌, ◌==◌, not, Bool, List, [], ◌∷◌, ◌++◌, replicate, slice_index, get_or, take, drop, length}
+use Rattle.std.specs.Prelude.{ℕ, ◌+◌, ◌*◌, ◌/◌, ◌%◌, ◌≡◌, ◌≤◌, ◌<◌, ◌==◌, not, Bool, List, [], ◌∷◌, ◌++◌, map, replicate, slice_index, get_or, take, length}
 use Rattle.std.specs.List.{AllByRecursion}
+use Rattle.std.specs.Simd.{first_chunks}
 use Rattle.satl_base.specs.declared.block.Block.{Block}
 use Rattle.satl_base.specs.declared.block.Range.{Range}
 
@@ -26,8 +27,7 @@ bytes_of (b ∷ bs) = b.bytes ++ bytes_of bs
 
 -- n blocks of the bytes, 512 in each (profile)
 abbrev pub blocks_from : ℕ → List ℕ → List Block
-blocks_from zero bytes = []
-blocks_from (suc n) bytes = record { bytes = take 512 bytes } ∷ blocks_from n (drop 512 bytes)
+blocks_from n bytes = map (λ chunk. record { bytes = chunk }) (first_chunks 512 n bytes)
 
 -- the first n bytes of the blocks (profile)
 abbrev pub first_bytes : ℕ → List Block → List ℕ

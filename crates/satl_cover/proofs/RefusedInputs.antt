@@ -2,6 +2,7 @@
 use Rattle.std.proofs.Common.{arith, ◌≡◌, refl, sym, ap, ◌∙◌, subst, ℕ, Bool, true, false, List, [], ◌∷◌, ◌++◌, length, take, drop, Option, Some, None}
 use Rattle.std.specs.Prelude.{◌≤◌, ◌==◌, ◌||◌, not, nat_eq, nat_lt, slice_index, if◌then◌else◌}
 use Rattle.std.specs.List.{starts_with}
+use Rattle.std.specs.Option.{option_or}
 use Rattle.std.proofs.lemmas.Bool.{eqb-true, ltb-false, not-false}
 use Rattle.std.proofs.lemmas.Option.{same_Some}
 use Rattle.std.proofs.Math.Bool.{or-false}
@@ -18,7 +19,7 @@ use Rattle.satl_frame.specs.Faults.{frame_fault}
 use Rattle.satl_frame.specs.Inputs.{NoneEnds, Reads}
 use Rattle.satl_frame.specs.Magic.{magic, magic_fault, magic_name, names_version, version_code, version_of}
 use Rattle.satl_frame.specs.Progress.{HasRead, ReadUpTo}
-use Rattle.satl_frame.specs.Reading.{Blames, Reading, at_offset, first_refusal, where_refused}
+use Rattle.satl_frame.specs.Reading.{Blames, Reading, at_offset, where_refused}
 use Rattle.satl_frame.proofs.ProgressLemmas.{has_read_all}
 use Rattle.satl_cover.specs.Covered.{IsBadInput, limit}
 use Rattle.satl_cover.specs.Covered.IsBadInput.{bad_magic, bad_frame}
@@ -68,7 +69,7 @@ refused_is_bad r input left left' given reason offset is_limit is_newest read no
         let both : ◌≡◌ {A = Reason × ℕ} (x, m) (reason, offset) = same_Some (x, m) (reason, offset) e in
         (ap (λ (p : Reason × ℕ). Some p.0) both, ap (λ (p : Reason × ℕ). p.1) (sym both))
 
-    by_magic : (o : Option Reason) → magic_fault Two (take 8 input) ≡ o → first_refusal (at_offset 0 o) (at_offset 8 (frame_fault (version_of input) limit 8 (drop 8 input))) ≡ Some (reason, offset) → IsBadInput input reason offset
+    by_magic : (o : Option Reason) → magic_fault Two (take 8 input) ≡ o → option_or (at_offset 0 o) (at_offset 8 (frame_fault (version_of input) limit 8 (drop 8 input))) ≡ Some (reason, offset) → IsBadInput input reason offset
     by_magic None e refused =
         let x = at_offset_is (frame_fault (version_of input) limit 8 (drop 8 input)) 8 refused in
         bad_frame [] (record { split = begins input e; each = tt }) tt x.0 x.1

@@ -1,5 +1,6 @@
 -- A reader that gives one frame more, and one that refuses.
 use Rattle.std.proofs.Common.{◌≡◌, ℕ, suc, ◌+◌, ◌≤◌, List, [], ◌∷◌, ◌++◌, length, take, drop, Option, Some, None, refl, ◌∙◌, ap, sym, subst, arith, append_assoc, ◌⊎◌, inl, inr}
+use Rattle.std.specs.Option.{option_or}
 use Rattle.std.proofs.lemmas.List.{length-append, append-nil, drop_at}
 use Rattle.std.proofs.lemmas.Option.{same_Some}
 use Rattle.satl_io.specs.Known.{Took}
@@ -9,7 +10,7 @@ use Rattle.satl_frame.specs.Faults.{fault, frame_fault}
 use Rattle.satl_frame.specs.Inputs.{all_spelled, AreFrames, NoneEnds, Reads}
 use Rattle.satl_frame.specs.Magic.{magic, magic_fault, version_of}
 use Rattle.satl_frame.specs.Progress.{ReadTo, ReadUpTo, HasRead}
-use Rattle.satl_frame.specs.Reading.{Reading, Gave, IsNext, opening, at_offset, first_refusal, where_refused}
+use Rattle.satl_frame.specs.Reading.{Reading, Gave, IsNext, opening, at_offset, where_refused}
 use Rattle.satl_frame.specs.declared.frames.Version.{Version}
 use Rattle.satl_frame.specs.declared.frames.Reason.{Reason}
 use Rattle.satl_frame.specs.declared.frames.Frame.{Frame}
@@ -77,7 +78,7 @@ at_some (Some x) m reason n e =
     let both : ◌≡◌ {A = Reason × ℕ} (x, m) (reason, n) = same_Some (x, m) (reason, n) e in
     (ap (λ (p : Reason × ℕ). Some p.0) both, sym (ap (λ (p : Reason × ℕ). p.1) both))
 
-first_some : (o : Option Reason) (later : Option (Reason × ℕ)) (reason : Reason) (n : ℕ) → first_refusal (at_offset 0 o) later ≡ Some (reason, n) →
+first_some : (o : Option Reason) (later : Option (Reason × ℕ)) (reason : Reason) (n : ℕ) → option_or (at_offset 0 o) later ≡ Some (reason, n) →
     ((o ≡ Some reason) × (n ≡ 0)) ⊎ (later ≡ Some (reason, n))
 first_some None later reason n e = inr e
 first_some (Some x) later reason n e = inl (at_some (Some x) 0 reason n e)

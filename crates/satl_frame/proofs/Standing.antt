@@ -1,5 +1,6 @@
 -- A frame stands exactly where no reason refuses the bytes.
 use Rattle.std.proofs.Common.{◌≡◌, ℕ, zero, suc, ◌+◌, ◌<◌, ◌≤◌, ◌^◌, ◌⊎◌, true, false, not, ◌&&◌, ◌||◌, nat_le, nat_lt, ◌==◌, List, [], ◌∷◌, ◌++◌, length, take, drop, get_or, slice_index, Option, Some, None, refl, ◌∙◌, ap, sym, subst, arith, append_assoc, inl, inr}
+use Rattle.std.specs.Option.{option_or}
 use Rattle.std.proofs.lemmas.List.{length-append, length-take-le, length-drop, take_at, take-append-drop, take_all, get_or-take, get_or-drop, append-nil, nil_from_length}
 use Rattle.std.proofs.lemmas.Bool.{le-ltb, ltb-false, leb-true, and_parts, or_parts, eq-eqb, ne_eqb, cases_eq, cases_lt, false≢true, not-false, le-leb}
 use Rattle.std.proofs.lemmas.Nat.{be_bytes_2}
@@ -15,7 +16,7 @@ use Rattle.satl_base.specs.declared.bench.BenchEvent.{BenchEvent}
 use Rattle.satl_base.specs.declared.bench.BenchEvent.TheVariants.{Strike, Mend, Glitch, Order, Power, Unplug}
 use Rattle.satl_frame.specs.DataPages.{pages_of}
 use Rattle.satl_frame.specs.Frames.{head_size, frame_rows, event_rows, has_code, allows, attr_code, which_code, expected_in, is_expectable, request_fields, data_out, event_fields, kind, payload_bytes, spelled, IsFrame, IsEvent}
-use Rattle.satl_frame.specs.Faults.{told_length, head_fault, payload_fault, frame_fault, has_bad_field, has_bad_request, has_bad_event, or_else}
+use Rattle.satl_frame.specs.Faults.{told_length, head_fault, payload_fault, frame_fault, has_bad_field, has_bad_request, has_bad_event}
 use Rattle.satl_frame.specs.Inputs.{Stands, IsRefused}
 use Rattle.satl_frame.specs.declared.frames.Version.{Version}
 use Rattle.satl_frame.specs.declared.frames.Version.TheVariants.{One, Two}
@@ -279,7 +280,7 @@ decode version (suc (suc (suc (suc (suc (suc k)))))) p b known allowed good =
     absurd (false≢true (sym (beyond_kinds version (suc (suc (suc (suc (suc (suc k)))))) (omega arith)) ∙ known))
 
 -- the two halves of a verdict without a reason
-no_reason : (a b : Option Reason) → or_else a b ≡ None → (a ≡ None) × (b ≡ None)
+no_reason : (a b : Option Reason) → option_or a b ≡ None → (a ≡ None) × (b ≡ None)
 no_reason None b e = (refl, e)
 no_reason (Some r) b e = cc
 

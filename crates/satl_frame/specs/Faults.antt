@@ -1,5 +1,6 @@
 -- Why bytes are refused (profile). The rules stand in their order: of two that hold the first one counts.
 use Rattle.std.specs.Prelude.{ℕ, zero, suc, ◌+◌, Bool, false, not, ◌||◌, ◌&&◌, ◌==◌, if◌then◌else◌, nat_lt, List, length, take, drop, slice_index, Option, Some, None}
+use Rattle.std.specs.Option.{option_or}
 use Rattle.satl_base.specs.Fields.{bytes}
 use Rattle.satl_base.specs.Limits.{longest_data}
 use Rattle.satl_frame.specs.Frames.{frame_rows, event_rows, has_code, allows}
@@ -59,13 +60,9 @@ payload_fault version frame =
     else if has_bad_field version (slice_index frame 0) (take (told_length frame) (drop 5 frame)) then Some BadField
     else None
 
-abbrev pub or_else : Option Reason → Option Reason → Option Reason
-or_else None later = later
-or_else (Some reason) later = Some reason
-
 -- why the bytes from an offset on begin no frame
 abbrev pub frame_fault : Version → ℕ → ℕ → List ℕ → Option Reason
-frame_fault version limit offset frame = or_else (head_fault version limit offset (take 5 frame)) (payload_fault version frame)
+frame_fault version limit offset frame = option_or (head_fault version limit offset (take 5 frame)) (payload_fault version frame)
 
 -- why an input is refused at an offset: at 0 its magic, further on the frame there, in the version that the magic names
 abbrev pub fault : Version → ℕ → List ℕ → ℕ → Option Reason

@@ -1,6 +1,7 @@
 -- Frames of the input and their bytes (profile). A frame is its kind, the length of its payload in four bytes, and its
 -- payload. Of a number the highest byte stands first.
-use Rattle.std.specs.Prelude.{ℕ, ◌+◌, ◌≤◌, ◌<◌, ◌^◌, ◌≡◌, Bool, true, false, ◌||◌, ◌&&◌, if◌then◌else◌, nat_le, ◌==◌, List, [], ◌∷◌, ◌++◌, length, Option, Some, None}
+use Rattle.std.specs.Prelude.{ℕ, ◌+◌, ◌≤◌, ◌<◌, ◌^◌, ◌≡◌, Bool, true, false, ◌&&◌, if◌then◌else◌, nat_le, ◌==◌, List, [], ◌∷◌, ◌++◌, length, Option, Some, None}
+use Rattle.std.specs.List.{list_any}
 use Rattle.byteorder.specs.Endian.{big_bytes}
 use Rattle.satl_base.specs.Blocks.{first_bytes}
 use Rattle.satl_base.specs.Limits.{longest_data}
@@ -48,8 +49,7 @@ event_rows = frame_row 1 10 10 ∷ frame_row 2 9 9 ∷ frame_row 3 3 3 ∷ frame
 
 -- whether a code is in a table
 abbrev pub has_code : List FrameRow → ℕ → Bool
-has_code [] code = false
-has_code (r ∷ rows) code = (code == r.code) || has_code rows code
+has_code rows code = list_any (λ row. code == row.code) rows
 
 -- whether a table allows a length for a code
 abbrev pub allows : List FrameRow → ℕ → ℕ → Bool

@@ -1,7 +1,7 @@
 -- What a reader of frames gives, and what it takes from its source (profile).
 use Rattle.std.specs.Prelude.{ℕ, ◌+◌, ◌≤◌, ◌≡◌, true, if◌then◌else◌, is_some, List, [], ◌++◌, length, take, drop, IfSome, IsErrOf, Option, Some, None}
 use Rattle.std.specs.declared.result.Result.{Result}
-use Rattle.std.specs.Option.{option_map}
+use Rattle.std.specs.Option.{option_map, option_or}
 use Rattle.satl_io.specs.Causes.{Rose}
 use Rattle.satl_io.specs.Known.{Took}
 use Rattle.satl_frame.specs.Frames.{spelled, IsFrame}
@@ -48,15 +48,10 @@ pub record Gave (old : Reading) (room : ℕ) (frame : Frame) (new : Reading) (le
 abbrev pub at_offset : ℕ → Option Reason → Option (Reason × ℕ)
 at_offset offset reason = option_map (λ x. (x, offset)) reason
 
--- the first that there is
-abbrev pub first_refusal : Option (Reason × ℕ) → Option (Reason × ℕ) → Option (Reason × ℕ)
-first_refusal None later = later
-first_refusal (Some x) later = Some x
-
 -- why, and where, the bytes that are left are refused: the magic at 0, or the frame at the place
 abbrev pub where_refused : ℕ → Version → Option Place → List ℕ → Option (Reason × ℕ)
 where_refused limit newest None left =
-    first_refusal (at_offset 0 (magic_fault newest (take 8 left)))
+    option_or (at_offset 0 (magic_fault newest (take 8 left)))
     (at_offset 8 (frame_fault (version_of left) limit 8 (drop 8 left)))
 where_refused limit newest (Some place) left = at_offset place.offset (frame_fault place.version limit place.offset left)
 

@@ -1,5 +1,5 @@
 -- How the pages of a pool are counted.
-use Rattle.std.specs.Prelude.{ℕ, ◌+◌, List, [], ◌∷◌, length}
+use Rattle.std.specs.Prelude.{ℕ, ◌+◌, List, length, sum_by}
 use Rattle.satl_base.specs.declared.block.Block.{Block}
 
 -- how many pages of a pool are free, and how many are out (profile)
@@ -13,5 +13,4 @@ number_of counts = counts.free + counts.out
 
 -- how many pages lists of pages have together (profile)
 abbrev pub pages_in : List (List Block) → ℕ
-pages_in [] = 0
-pages_in (pages ∷ more) = length pages + pages_in more
+pages_in lists = sum_by length lists

@@ -95,7 +95,6 @@ impl Pool {
 
     /// What `give` does where there are pages. Apart from it, so that it is short where there are none, as is often so.
     #[inline(never)]
-    #[tactic(auto, using(crate::proofs::CountsLemmas::pages_in_push))]
     fn put_back(&mut self, pages: Pages)
         requires { length pages ≤ self.old.out }
         ensures free { self.new.free ≡ self.old.free + length pages }
@@ -111,7 +110,6 @@ impl Pool {
 }
 
 /// Takes the last piece, if it has exactly n pages.
-#[tactic(auto, using(crate::proofs::CountsLemmas::pages_in_push))]
 fn take_piece(pieces: &mut ArrayVec<Pages, 64>, n: u32) -> Option<Pages>
     ensures some { IfSome result (λ piece. (length piece ≡ n) × (pages_in pieces.new.items + n ≡ pages_in pieces.old.items)) }
     ensures none { IfNone result (pieces.new ≡ pieces.old) }
@@ -143,7 +141,6 @@ fn put_by(pages: Pages, others: &mut Pages)
 }
 
 /// Puts the pages of all pieces before the others, so that no piece is left.
-#[tactic(auto, using(crate::proofs::CountsLemmas::pages_in_push))]
 fn join(pieces: &mut ArrayVec<Pages, 64>, others: &mut Pages)
     requires { pages_in pieces.old.items + length others.old < 2 ^ 32 }
     ensures none { pages_in pieces.new.items ≡ 0 }
