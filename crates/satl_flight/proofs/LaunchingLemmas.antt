@@ -28,7 +28,6 @@ use Rattle.satl_flight.specs.Flown.{AreApart, IsFlown, IsInFlight, clash, is_out
 use Rattle.satl_flight.specs.Lending.{IsLending, Waiting, has_tag, is_of_slot, waiting, whole_task, whole_tasks, with_own_pages}
 use Rattle.satl_flight.specs.Settled.{IsFilled, IsIssuedIfItMay, IsLaunched, IsLostQuietly, OnDrive, on_drive}
 use Rattle.satl_flight.proofs.FlownLemmas.{FitsOn}
-use Rattle.satl_flight.proofs.TagsLemmas.{weigh}
 use Rattle.satl_flight.proofs.LendingLemmas.{at_found, find-none, get-set, lend_lending, lend_same, whole_get, whole-slots, slots-get}
 use Rattle.satl_flight.proofs.LaunchedLemmas.{can_issue, deepens_same, launched_one, lost_issue, queued_fits}
 
@@ -171,15 +170,6 @@ covered_still tasks old new place step covered =
 pub covered_held : (flying : List Flying) (slots : Slots) (tasks : List Held) (place slot : ℕ) → slice_get (slots_of tasks) place ≡ Some slot → is_outstanding flying slot ≡ true → IsIssuedIfItMay flying (whole_tasks flying slots tasks) place
 covered_held flying slots tasks place slot is held =
     inr (λ h task at passes ranged. ap (is_outstanding flying) (slots-get (whole_tasks flying slots tasks) place h slot at (ap (λ l. slice_get l place) (whole-slots flying slots tasks) ∙ is)) ∙ held)
-
--- what was outstanding stays so, as tasks are issued
-pub still_held : (old new : OnDrive) (slot : ℕ) → IsLaunched old new → is_outstanding old.queue.flying slot ≡ true → is_outstanding new.queue.flying slot ≡ true
-still_held old new slot step held = ap (λ fs. is_outstanding fs slot) step.more ∙ holds_append old.queue.flying step.rest slot held
-
--- a bit that is found 1 is that of a task which is outstanding
-pub held_by_bit : (bit : ℕ) (held seen : Bool) → bit ≡ weigh held → bit ≡ weigh seen → seen ≡ true → held ≡ true
-held_by_bit bit true seen is told set = refl
-held_by_bit bit false seen is told set = absurd (omega (arith, is, told, ap weigh set))
 
 -- where each place is covered the queue is used
 pub filled : (flying : List Flying) (tasks : List Held) → ((k : ℕ) → k < length tasks → IsIssuedIfItMay flying tasks k) → IsFilled flying tasks
