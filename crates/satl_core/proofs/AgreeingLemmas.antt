@@ -20,7 +20,7 @@ use Rattle.satl_line.specs.Kinds.{kind_of}
 use Rattle.satl_line.specs.Ranged.{ranged_by, ranged_of}
 use Rattle.satl_line.specs.Ranged.RangedTask.{ranged_read, ranged_trim, ranged_write}
 use Rattle.satl_line.specs.Tasks.{Held, entries_of}
-use Rattle.satl_line.proofs.SlotsLemmas.{remove-map}
+use Rattle.satl_base.proofs.ListsLemmas.{remove-map}
 use Rattle.satl_line.proofs.EndingLemmas.{ends-sound}
 use Rattle.satl_drive.specs.State.{DriveState, IsFit}
 use Rattle.satl_drive.specs.Rules.{MaySet}

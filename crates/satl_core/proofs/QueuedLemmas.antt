@@ -12,7 +12,7 @@ use Rattle.satl_base.specs.Cells.{Cell, Pair}
 use Rattle.satl_base.specs.Moves.{Moves}
 use Rattle.satl_base.proofs.MovesLemmas.{moves_weaker}
 use Rattle.satl_base.proofs.Booleans.{eqb-sym}
-use Rattle.satl_base.proofs.ListsLemmas.{get-map}
+use Rattle.satl_base.proofs.ListsLemmas.{get-map, remove-map}
 use Rattle.satl_cdb.specs.declared.command.Command.{Command}
 use Rattle.satl_cdb.specs.declared.command.Command.TheVariants as commands
 use Rattle.satl_errlog.specs.declared.entry.NcqError.{NcqError}
@@ -29,7 +29,6 @@ use Rattle.satl_line.specs.Ranged.{MayPut, RangedTask, ranged_by, ranged_of, wri
 use Rattle.satl_line.specs.Ranged.RangedTask.{ranged_read, ranged_write, ranged_trim}
 use Rattle.satl_line.specs.Tasks.{Held, entries_of}
 use Rattle.satl_line.proofs.EligibleLemmas.{eligible_formed}
-use Rattle.satl_line.proofs.SlotsLemmas.{remove-map}
 use Rattle.satl_drive.specs.State.{DriveState}
 use Rattle.satl_direct.specs.Device.{Device, is_called, without}
 use Rattle.satl_direct.specs.Ending.{EndsBy, EndsOnMedium, medium_error, outcome_reply, task_check, task_reply}

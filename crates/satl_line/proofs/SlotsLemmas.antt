@@ -6,7 +6,7 @@ use Rattle.std.specs.List.{list_any, All, AllByRecursion, remove, position_from}
 use Rattle.std.specs.Int.Bits.{and_zero_l}
 use Rattle.std.specs.Int.{bit_at, bit_not, w64}
 use Rattle.std.proofs.lemmas.Nat.Bits.{bit_at_set_same, bit_at_set_other, bit_at_clear_same, bit_at_clear_other, bit_at-zero}
-use Rattle.satl_base.proofs.ListsLemmas.{All-both, All-weaken}
+use Rattle.satl_base.proofs.ListsLemmas.{All-both, All-weaken, remove-map}
 use Rattle.satl_base.specs.declared.block.Block.{Block}
 use Rattle.satl_base.specs.declared.request.Tag.{Tag}
 use Rattle.satl_base.specs.Lists.{how_many}
@@ -76,12 +76,6 @@ pub parted : {X : Type 0} (xs : List X) (i : ℕ) (d : X) → i < length xs → 
 parted [] i d h = absurd (omega arith)
 parted (x ∷ xs) zero d h = refl
 parted (x ∷ xs) (suc i) d h = ap (λ ys. x ∷ ys) (parted xs i d (omega arith))
-
-pub remove-map : {X Y : Type 0} (f : X → Y) (xs : List X) (i : ℕ) → map f (remove xs i) ≡ remove (map f xs) i
-remove-map f [] zero = refl
-remove-map f [] (suc i) = refl
-remove-map f (x ∷ xs) zero = refl
-remove-map f (x ∷ xs) (suc i) = ap (λ ys. f x ∷ ys) (remove-map f xs i)
 
 pub position_from-map : {X Y : Type 0} (f : X → Y) (p : Y → Bool) (i : ℕ) (xs : List X) → position_from p i (map f xs) ≡ position_from (λ x. p (f x)) i xs
 position_from-map f p i [] = refl

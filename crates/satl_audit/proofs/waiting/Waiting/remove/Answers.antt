@@ -1,6 +1,6 @@
 use Rattle.std.proofs.Common.{ap, ◌∙◌, List}
 use Rattle.std.specs.Prelude.{remove}
-use Rattle.satl_line.proofs.SlotsLemmas.{remove-map}
+use Rattle.satl_base.proofs.ListsLemmas.{remove-map}
 use Rattle.satl_audit.specs.Waiting.{Placed, placed_in}
 use Rattle.satl_audit.proofs.WaitingLemmas.{place_held}
 use Rattle.satl_audit.proofs.waiting.Waiting.remove.Goals as goal
