@@ -1,9 +1,12 @@
 -- The bytes of whole blocks.
-use Rattle.std.proofs.Common.{◌≡◌, refl, ◌∙◌, ap, arith, ℕ, zero, suc, ◌+◌, ◌*◌, ◌<◌, ◌≤◌, List, [], ◌∷◌, ◌++◌, length, take, drop, reverse, get_or}
-use Rattle.std.proofs.lemmas.List.{length-append, length-map, map_more, reverse-append}
+use Rattle.std.proofs.Common.{◌≡◌, refl, ◌∙◌, ap, sym, arith, inl, inr, ℕ, zero, suc, ◌+◌, ◌-◌, ◌*◌, ◌<◌, ◌≤◌, min, List, [], ◌∷◌, ◌++◌, length, take, drop, reverse, get_or}
+use Rattle.std.proofs.lemmas.Bool.{cases_lt}
+use Rattle.std.proofs.lemmas.List.{append-nil, length-append, length-map, length-take, length-take-le, map_more, reverse-append, take-append-le, take_all}
+use Rattle.std.proofs.Math.Seq.{take-append-add}
 use Rattle.std.specs.Simd.{first_chunks}
 use Rattle.satl_base.specs.declared.block.Block.{Block}
-use Rattle.satl_base.specs.Blocks.{AreWhole, bytes_of, blocks_from}
+use Rattle.satl_base.specs.Blocks.{AreWhole, bytes_of, blocks_from, first_bytes}
+use Rattle.satl_base.specs.Pieces.{IsPiece}
 
 pub length-bytes_of : (vs : List Block) → AreWhole vs → length (bytes_of vs) ≡ 512 * length vs
 length-bytes_of [] whole = refl
@@ -32,3 +35,33 @@ blocks_from-turned i k bytes less =
     rw (← take-first_chunks (i + 1) 512 k bytes (omega arith), ← take-first_chunks i 512 k bytes (omega arith))
     (map_more _ chunks i [] (omega (arith, length-first_chunks 512 k bytes))) in
     rw more (reverse-append (blocks_from i bytes) (record { bytes = get_or chunks i [] } ∷ []))
+
+-- the first bytes of blocks stand in the first one and in those behind it
+first_bytes-cons : (n : ℕ) (b : Block) (bs : List Block) → length b.bytes ≡ 512 → first_bytes n (b ∷ bs) ≡ take (min n 512) b.bytes ++ first_bytes (n - min n 512) bs
+first_bytes-cons n b bs size = elim (cases_lt n 512) [
+  | inl l ↦
+      let e : min n 512 ≡ n = omega arith in
+      let none : n - n ≡ 0 = omega arith in
+      rw (e, none) (take-append-le n b.bytes (bytes_of bs) (omega arith) ∙ sym (append-nil (take n b.bytes)))
+  | inr g ↦
+      let e : min n 512 ≡ 512 = omega arith in
+      let sum : n ≡ length b.bytes + (n - 512) = omega arith in
+      rw e (ap (λ (k : ℕ). take k (b.bytes ++ bytes_of bs)) sum ∙ take-append-add b.bytes (bytes_of bs) (n - 512)
+      ∙ ap (λ xs. xs ++ take (n - 512) (bytes_of bs)) (sym (take_all 512 b.bytes (omega arith))))
+]
+
+-- a piece is as long as it can be
+piece_size : (n : ℕ) (bytes rest : List ℕ) → 0 < n → length bytes ≡ 512 → length rest ≤ n - min n 512 →
+    (length (take (min n 512) bytes) ≡ min 512 (length (take (min n 512) bytes ++ rest))) × (0 < length (take (min n 512) bytes))
+piece_size n bytes rest some size few =
+    let long = length-take-le (min n 512) bytes (omega arith) in
+    let all = length-append (take (min n 512) bytes) rest in
+    (omega arith, omega arith)
+
+-- the first block gives a piece of the bytes that are left, and the others hold the rest
+pub block_gives_piece : (n count : ℕ) (all bytes : List ℕ) (b : Block) (bs it : List Block) → first_bytes n it ≡ all → it ≡ b ∷ bs → bytes ≡ b.bytes → length b.bytes ≡ 512 → count ≡ min n 512 → 0 < n →
+    IsPiece all (take count bytes) (first_bytes (n - count) bs)
+block_gives_piece n count all bytes b bs it whole is same size counted some =
+    let joins : all ≡ take (min n 512) b.bytes ++ first_bytes (n - min n 512) bs = sym whole ∙ ap (λ (l : List Block). first_bytes n l) is ∙ first_bytes-cons n b bs size in
+    let sizes = piece_size n b.bytes (first_bytes (n - min n 512) bs) some size (omega (arith, length-take (n - min n 512) (bytes_of bs))) in
+    rw (same, counted) (joins, rw joins sizes.0, sizes.1)

@@ -10,4 +10,5 @@ pub mod Limits
 pub mod Lists
 pub mod Losses
 pub mod Moves
+pub mod Pieces
 pub mod Places

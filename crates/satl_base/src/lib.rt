@@ -21,7 +21,7 @@ pub use bytes::{append, checksum_of};
 pub use lender::Lender;
 pub use limits::{LONGEST_DATA, MOST_COVERED, MOST_HELD, MOST_MOVED, MOST_RANGES, MOST_TASKS};
 pub use modes::{ModeChange, Modes};
-pub use pages::{Blocks, NoMemory, Page, Pages};
+pub use pages::{Blocks, NoMemory, Page, Pages, Pieces};
 pub use reply::{Replies, Reply, Response, Scsi, SenseBytes};
 pub use request::{Attr, Manage, Nexus, Request, Tag};
 pub use steps::Steps;

@@ -1,6 +1,6 @@
 // Pages of one block each.
 ghost use Rattle.std.specs.Prelude.{◌≡◌, ◌<◌, ◌≤◌, ◌+◌, ◌*◌, ◌^◌, List, [], ◌∷◌, ◌++◌, IfOk, IsSome, ◌↔◌, length, take, drop, replicate, slice_index_or, slice_set, option_to_list, reverse};
-ghost use Rattle.satl_base.specs.Blocks.{zero_block, blocks_from};
+ghost use Rattle.satl_base.specs.Blocks.{zero_block, blocks_from, first_bytes};
 
 use crate::block::Block;
 use crate::chain::{Chain, Node, shift_filled, shift_many};
@@ -169,6 +169,16 @@ impl Pages {
         Blocks { rest: &self.first }
     }
 
+    /// The first len bytes of the blocks, in order, in pieces of 512 bytes and a shorter one at the end (profile).
+    pub fn pieces(&self, len: u32) -> Pieces<'_>
+        ensures { result ≡ first_bytes len self.now }
+    {
+        Pieces {
+            blocks: self.iter(),
+            left: len as usize,
+        }
+    }
+
     /// Puts a page before the others (profile). It takes no memory.
     pub fn push_first(&mut self, page: Page)
         requires { length self.old + 1 < 2 ^ 32 }
@@ -292,5 +302,43 @@ impl<'a> Iterator for Blocks<'a> {
                 Some(&node.block)
             }
         }
+    }
+}
+
+/// The bytes that are left to read, in order (profile). Each item is a piece of 512 bytes; the last may be shorter.
+#[derive(Drop)]
+pub struct Pieces<'a> {
+    blocks: Blocks<'a>,
+    left: usize,
+}
+
+impl<'a> Model for Pieces<'a> {
+    ghost use Rattle.std.specs.Prelude.{List, ℕ};
+
+    ghost Value = { List ℕ };
+
+    ghost use Rattle.satl_base.specs.Blocks.{first_bytes};
+
+    ghost view = { λ p. first_bytes p.left p.blocks };
+}
+
+impl<'a> Iterator for Pieces<'a> {
+    type Item = &'a [u8];
+
+    ghost use Rattle.std.specs.Iterator.{item_count};
+    ghost use Rattle.satl_base.specs.Pieces.{GivesPiece};
+
+    ghost next_gives = { GivesPiece };
+
+    ghost remaining = { item_count (λ s. s) };
+
+    fn next(&mut self) -> Option<&'a [u8]> {
+        if self.left == 0 {
+            return None;
+        }
+        let bytes = self.blocks.next()?.as_bytes();
+        let count = self.left.min(512);
+        self.left -= count;
+        Some(&bytes[..count])
     }
 }

@@ -1,10 +1,7 @@
 -- Bytes that are gathered, and then written.
-use Rattle.std.proofs.Common.{◌≡◌, ℕ, ◌+◌, ◌-◌, min, List, [], ◌∷◌, ◌++◌, length, take, Option, ◌∙◌, ap, sym, arith, append_assoc, inl, inr}
-use Rattle.std.proofs.lemmas.Bool.{cases_lt}
-use Rattle.std.proofs.lemmas.List.{append-nil, take-append-le, take_all}
-use Rattle.std.proofs.Math.Seq.{take-append-add}
-use Rattle.satl_base.specs.declared.block.Block.{Block}
-use Rattle.satl_base.specs.Blocks.{bytes_of, first_bytes}
+use Rattle.std.proofs.Common.{◌≡◌, ℕ, List, [], ◌∷◌, ◌++◌, Option, ◌∙◌, ap, sym, append_assoc}
+use Rattle.std.proofs.lemmas.List.{append-nil}
+use Rattle.satl_base.specs.Blocks.{first_bytes}
 use Rattle.satl_io.specs.Known.{Wrote, WrotePart}
 use Rattle.satl_io.proofs.Joined.{Wrote-more, Wrote-none, WrotePart-more, WrotePart-front}
 use Rattle.byteorder.specs.Endian.{big_bytes}
@@ -41,32 +38,14 @@ gathers_end p wrote = rw (← p.split) (Wrote-more p.wrote wrote)
 pub gathers_end_part : {a b c : Option (List ℕ)} {g g' xs : List ℕ} → Gathers a b g g' xs → WrotePart b c g' → WrotePart a c (g ++ xs)
 gathers_end_part p part = rw (← p.split) (WrotePart-more p.wrote part)
 
--- the first bytes of blocks stand in the first one and in those behind it
-pub first_bytes-cons : (n : ℕ) (b : Block) (bs : List Block) → length b.bytes ≡ 512 → first_bytes n (b ∷ bs) ≡ take (min n 512) b.bytes ++ first_bytes (n - min n 512) bs
-first_bytes-cons n b bs size = elim (cases_lt n 512) [
-  | inl l ↦
-      let e : min n 512 ≡ n = omega arith in
-      let none : n - n ≡ 0 = omega arith in
-      rw (e, none) (take-append-le n b.bytes (bytes_of bs) (omega arith) ∙ sym (append-nil (take n b.bytes)))
-  | inr g ↦
-      let e : min n 512 ≡ 512 = omega arith in
-      let sum : n ≡ length b.bytes + (n - 512) = omega arith in
-      rw e (ap (λ (k : ℕ). take k (b.bytes ++ bytes_of bs)) sum ∙ take-append-add b.bytes (bytes_of bs) (n - 512)
-      ∙ ap (λ xs. xs ++ take (n - 512) (bytes_of bs)) (sym (take_all 512 b.bytes (omega arith))))
-]
+-- one piece more: what was gathered, and what is left
+pub piece_gathered : {it : List ℕ} (front piece rest all : List ℕ) → it ≡ piece ++ rest → front ++ it ≡ all → (front ++ piece) ++ rest ≡ all
+piece_gathered front piece rest all is whole = append_assoc front piece rest ∙ ap (λ (xs : List ℕ). front ++ xs) (sym is) ∙ whole
 
--- one block more: what was gathered, and what is left
-pub block_gathered : (n left count : ℕ) (front bytes : List ℕ) (b : Block) (bs it all : List Block) → bytes ≡ b.bytes → length b.bytes ≡ 512 → count ≡ min left 512 → it ≡ b ∷ bs →
-    front ++ first_bytes left it ≡ first_bytes n all → (front ++ take count bytes) ++ first_bytes (left - count) bs ≡ first_bytes n all
-block_gathered n left count front bytes b bs it all same size counted is rest =
-    let whole : front ++ first_bytes left (b ∷ bs) ≡ first_bytes n all = ap (λ (l : List Block). front ++ first_bytes left l) (sym is) ∙ rest in
-    rw (same, counted) (append_assoc front (take (min left 512) b.bytes) (first_bytes (left - min left 512) bs)
-    ∙ ap (λ (xs : List ℕ). front ++ xs) (sym (first_bytes-cons left b bs size)) ∙ whole)
-
--- a failure at a block is one of all
-pub block_failed : {a b c : Option (List ℕ)} {g g' front : List ℕ} (piece rest all : List ℕ) → Gathers a b g g' front → WrotePart b c (g' ++ piece) → (front ++ piece) ++ rest ≡ all →
+-- a failure at a piece is one of all
+pub piece_failed : {a b c : Option (List ℕ)} {g g' front : List ℕ} (piece rest all : List ℕ) → Gathers a b g g' front → WrotePart b c (g' ++ piece) → (front ++ piece) ++ rest ≡ all →
     WrotePart a c (g ++ all)
-block_failed {a} {b} {c} {g} {g'} {front} piece rest all p part is =
+piece_failed {a} {b} {c} {g} {g'} {front} piece rest all p part is =
     part_of_front rest (append_assoc g (front ++ piece) rest ∙ ap (λ (xs : List ℕ). g ++ xs) is) (gathers_part piece p part)
 
 -- head, sense and data make the reply

@@ -61,19 +61,15 @@ pub fn gather_data<K: Sink>(
     pages: &Pages,
     len: u32,
 ) -> Result<(), Failed>
-    requires { len ≤ 512 * length pages.now }
     ensures all { OnOk result (Gathers (K.written sink.old) (K.written sink.new) buffer.old buffer.new
         (first_bytes len pages.now)) }
     ensures part { OnErr result (WrotePart (K.written sink.old) (K.written sink.new)
         (buffer.old ++ first_bytes len pages.now)) }
     ensures cause { HasCause (K.faults sink.old) (K.faults sink.new) result }
 {
-    let mut left = len as usize;
-    for block in pages.iter() {
-        let bytes = block.as_bytes();
-        let count = left.min(512);
-        match gather(sink, buffer, &bytes[..count]) {
-            Ok(()) => left -= count,
+    for piece in pages.pieces(len) {
+        match gather(sink, buffer, piece) {
+            Ok(()) => {}
             Err(Failed) => return Err(Failed),
         }
     }
@@ -162,7 +158,6 @@ fn write_with_data<K: Sink>(
     pages: &Pages,
     len: u32,
 ) -> Result<(), Failed>
-    requires { len ≤ 512 * length pages.now }
     ensures all { OnOk result (Wrote (K.written sink.old) (K.written sink.new) (front.now.items ++ first_bytes len pages.now)) }
     ensures part { OnErr result (WrotePart (K.written sink.old) (K.written sink.new)
         (front.now.items ++ first_bytes len pages.now)) }

@@ -1,11 +1,11 @@
 -- Hexadecimal digits of bytes that come piece by piece.
-use Rattle.std.proofs.Common.{◌≡◌, ◌≤◌, ℕ, ◌+◌, ◌-◌, ◌/◌, ◌%◌, List, [], ◌∷◌, ◌++◌, length, take, slice_index, Option, refl, ◌∙◌, ap, sym, arith}
-use Rattle.std.proofs.lemmas.List.{append-nil, length-append, length-take-le}
+use Rattle.std.proofs.Common.{◌≡◌, ℕ, ◌/◌, ◌%◌, List, [], ◌∷◌, ◌++◌, slice_index, Option, refl, ◌∙◌, ap, sym}
+use Rattle.std.proofs.lemmas.List.{append-nil}
 use Rattle.hex.specs.Hex.{encode_with, encode_lower, lower_digits}
 use Rattle.satl_io.specs.Known.{WrotePart}
 use Rattle.satl_io.proofs.Joined.{WrotePart-front}
 use Rattle.satl_frame.specs.Gathering.{Gathers}
-use Rattle.satl_frame.proofs.GatheringLemmas.{Gathers-more, block_failed}
+use Rattle.satl_frame.proofs.GatheringLemmas.{Gathers-more, piece_failed}
 use Rattle.satl_text.specs.Lines.{hex_bytes}
 
 encode_with-append : (t xs ys : List ℕ) → encode_with t (xs ++ ys) ≡ encode_with t xs ++ encode_with t ys
@@ -29,13 +29,8 @@ digits_more front piece p q = rw (encode_lower-append front piece) (Gathers-more
 pub digits_failed : {a b c : Option (List ℕ)} {g g' : List ℕ} (front piece rest all : List ℕ) → Gathers a b g g' (encode_lower front) → WrotePart b c (g' ++ encode_lower piece) →
     (front ++ piece) ++ rest ≡ all → WrotePart a c (g ++ encode_lower all)
 digits_failed front piece rest all p part is =
-    block_failed (encode_lower piece) (encode_lower rest) (encode_lower all) p part
+    piece_failed (encode_lower piece) (encode_lower rest) (encode_lower all) p part
     (ap (λ (xs : List ℕ). xs ++ encode_lower rest) (sym (encode_lower-append front piece)) ∙ sym (encode_lower-append (front ++ piece) rest) ∙ ap encode_lower is)
-
--- a piece more, counted
-pub piece_counted : (front bytes : List ℕ) (n left count : ℕ) → length bytes ≡ 512 → count ≤ left → count ≤ 512 → length front + left ≡ n → length (front ++ take count bytes) + (left - count) ≡ n
-piece_counted front bytes n left count size some few before =
-    omega (arith, length-append front (take count bytes), length-take-le count bytes (omega arith))
 
 -- a failure at digits
 pub digits_part : {a b : Option (List ℕ)} (g bytes : List ℕ) → WrotePart a b (g ++ encode_lower bytes) → WrotePart a b (g ++ hex_bytes bytes)

@@ -12,7 +12,7 @@ use satl_frame::{WriteBuffer, gather};
 use satl_io::{Failed, Sink};
 
 /// Gathers the digits of at most 512 bytes.
-fn gather_block<K: Sink>(
+fn gather_piece<K: Sink>(
     sink: &mut K,
     gathered: &mut WriteBuffer,
     bytes: &[u8],
@@ -39,20 +39,15 @@ fn gather_digits<K: Sink>(
     pages: &Pages,
     len: u32,
 ) -> Result<(), Failed>
-    requires { len ≤ 512 * length pages.now }
     ensures all { OnOk result (Gathers (K.written sink.old) (K.written sink.new) gathered.old gathered.new
         (encode_lower (first_bytes len pages.now))) }
     ensures part { OnErr result (WrotePart (K.written sink.old) (K.written sink.new)
         (gathered.old ++ encode_lower (first_bytes len pages.now))) }
     ensures cause { HasCause (K.faults sink.old) (K.faults sink.new) result }
-    ensures size { OnOk result (length (first_bytes len pages.now) ≡ len) }
 {
-    let mut left = len as usize;
-    for block in pages.iter() {
-        let bytes = block.as_bytes();
-        let count = left.min(512);
-        match gather_block(sink, gathered, &bytes[..count]) {
-            Ok(()) => left -= count,
+    for piece in pages.pieces(len) {
+        match gather_piece(sink, gathered, piece) {
+            Ok(()) => {}
             Err(Failed) => return Err(Failed),
         }
     }
@@ -66,14 +61,13 @@ pub fn gather_bytes<K: Sink>(
     pages: &Pages,
     len: u32,
 ) -> Result<(), Failed>
-    requires { len ≤ 512 * length pages.now }
     ensures all { OnOk result (Gathers (K.written sink.old) (K.written sink.new) gathered.old gathered.new
         (hex_bytes (first_bytes len pages.now))) }
     ensures part { OnErr result (WrotePart (K.written sink.old) (K.written sink.new)
         (gathered.old ++ hex_bytes (first_bytes len pages.now))) }
     ensures cause { HasCause (K.faults sink.old) (K.faults sink.new) result }
 {
-    if len == 0 {
+    if pages.pieces(len).next().is_none() {
         gather(sink, gathered, b"-")
     } else {
         match gather_digits(sink, gathered, pages, len) {

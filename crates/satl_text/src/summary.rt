@@ -32,16 +32,11 @@ fn sum_of(bytes: &[u8]) -> u32
 
 /// The sum of the values of the first bytes that the pages hold.
 fn data_sum(pages: &Pages, len: u32) -> u64
-    requires { len ≤ 512 * length pages.now }
     ensures { result ≡ sum (first_bytes len pages.now) }
 {
     let mut total: u64 = 0;
-    let mut left = len as usize;
-    for block in pages.iter() {
-        let bytes = block.as_bytes();
-        let count = left.min(512);
-        total += u64::from(sum_of(&bytes[..count]));
-        left -= count;
+    for piece in pages.pieces(len) {
+        total += u64::from(sum_of(piece));
     }
     total
 }

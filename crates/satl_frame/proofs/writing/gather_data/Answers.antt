@@ -1,36 +1,29 @@
-use Rattle.std.proofs.Common.{◌-◌, ◌++◌, [], ◌∙◌, ap, arith, length, take}
+use Rattle.std.proofs.Common.{◌++◌, [], ◌∙◌, arith}
 use Rattle.satl_base.specs.Blocks.{first_bytes}
-use Rattle.satl_frame.proofs.GatheringLemmas.{gathers_nothing, Gathers-more, block_gathered, block_failed}
+use Rattle.satl_frame.proofs.GatheringLemmas.{gathers_nothing, Gathers-more, piece_gathered, piece_failed}
 use Rattle.satl_frame.proofs.writing.gather_data.Goals as goal
 
-pub loop-block-init : goal.loop-block-init
-loop-block-init g c =
-    let is = c.into_iter-block-iterator.ensures.into_iter_gives ∙ c.iter-block-items.ensures in
-    record {
-      front = [];
-      gathers = gathers_nothing _ _;
-      rest = ap (λ bs. first_bytes c.args.len bs) is;
-      holds = omega (arith, ap length is);
-      later = omega arith;
-    }
+pub loop-piece-init : goal.loop-piece-init
+loop-piece-init g c = record {
+  front = [];
+  gathers = gathers_nothing _ _;
+  rest = c.into_iter-piece-iterator.ensures.into_iter_gives ∙ c.pieces-piece-items.ensures;
+  later = omega arith;
+}
 
-pub loop-block-preserved : goal.loop-block-preserved
-loop-block-preserved g c =
+pub loop-piece-preserved : goal.loop-piece-preserved
+loop-piece-preserved g c =
     let known = c.in-Ok.ensures in
-    let before = c.loop-block.invariant in
+    let before = c.loop-piece.invariant in
     record {
-      front = before.front ++ take c.min-count.result c.as_bytes-bytes.result.now;
+      front = before.front ++ c.in-Some.piece.now;
       gathers = Gathers-more before.gathers known.all;
-      rest = block_gathered c.args.len c.loop-block.left c.min-count.result before.front c.as_bytes-bytes.result.now c.in-Some.block.now c.next.new.self c.loop-block.block-iterator c.args.pages.now
-          c.as_bytes-bytes.ensures.value c.as_bytes-bytes.ensures.size c.min-count.ensures c.in-Some.ensures.steps before.rest;
-      holds = omega (arith, ap length c.in-Some.ensures.steps, c.min-count.ensures);
+      rest = piece_gathered before.front c.in-Some.piece.now c.next.new.self (first_bytes c.args.len c.args.pages.now) c.in-Some.ensures.steps.0 before.rest;
       later = omega (arith, known.cause.later);
     }
 
 pub returns-in-Err-clause-part : goal.returns-in-Err-clause-part
 returns-in-Err-clause-part g c =
-    let before = c.loop-block.invariant in
-    block_failed (take c.min-count.result c.as_bytes-bytes.result.now) (first_bytes (c.loop-block.left - c.min-count.result) c.next.new.self) (first_bytes c.args.len c.args.pages.now)
-    before.gathers c.in-Err.ensures.part
-    (block_gathered c.args.len c.loop-block.left c.min-count.result before.front c.as_bytes-bytes.result.now c.in-Some.block.now c.next.new.self c.loop-block.block-iterator c.args.pages.now
-    c.as_bytes-bytes.ensures.value c.as_bytes-bytes.ensures.size c.min-count.ensures c.in-Some.ensures.steps before.rest)
+    let before = c.loop-piece.invariant in
+    piece_failed c.in-Some.piece.now c.next.new.self (first_bytes c.args.len c.args.pages.now) before.gathers c.in-Err.ensures.part
+    (piece_gathered before.front c.in-Some.piece.now c.next.new.self (first_bytes c.args.len c.args.pages.now) c.in-Some.ensures.steps.0 before.rest)

@@ -1,39 +1,31 @@
-use Rattle.std.proofs.Common.{◌-◌, ◌++◌, [], ◌∙◌, ap, arith, length, take}
+use Rattle.std.proofs.Common.{◌++◌, [], ◌∙◌, arith}
 use Rattle.satl_base.specs.Blocks.{first_bytes}
-use Rattle.satl_frame.proofs.GatheringLemmas.{gathers_nothing, block_gathered}
-use Rattle.satl_text.proofs.DigitLemmas.{encode_lower-nil, digits_more, digits_failed, piece_counted}
+use Rattle.satl_frame.proofs.GatheringLemmas.{gathers_nothing, piece_gathered}
+use Rattle.satl_text.proofs.DigitLemmas.{encode_lower-nil, digits_more, digits_failed}
 use Rattle.satl_text.proofs.digits.gather_digits.Goals as goal
 
-pub loop-block-init : goal.loop-block-init
-loop-block-init g c =
-    let is = c.into_iter-block-iterator.ensures.into_iter_gives ∙ c.iter-block-items.ensures in
-    record {
-      front = [];
-      gathers = rw encode_lower-nil (gathers_nothing _ _);
-      rest = ap (λ bs. first_bytes c.args.len bs) is;
-      holds = omega (arith, ap length is);
-      counted = omega arith;
-      later = omega arith;
-    }
+pub loop-piece-init : goal.loop-piece-init
+loop-piece-init g c = record {
+  front = [];
+  gathers = rw encode_lower-nil (gathers_nothing _ _);
+  rest = c.into_iter-piece-iterator.ensures.into_iter_gives ∙ c.pieces-piece-items.ensures;
+  later = omega arith;
+}
 
-pub loop-block-preserved : goal.loop-block-preserved
-loop-block-preserved g c =
+pub loop-piece-preserved : goal.loop-piece-preserved
+loop-piece-preserved g c =
     let known = c.in-Ok.ensures in
-    let before = c.loop-block.invariant in
+    let before = c.loop-piece.invariant in
     record {
-      front = before.front ++ take c.min-count.result c.as_bytes-bytes.result.now;
-      gathers = digits_more before.front (take c.min-count.result c.as_bytes-bytes.result.now) before.gathers known.all;
-      rest = block_gathered c.args.len c.loop-block.left c.min-count.result before.front c.as_bytes-bytes.result.now c.in-Some.block.now c.next.new.self c.loop-block.block-iterator c.args.pages.now
-          c.as_bytes-bytes.ensures.value c.as_bytes-bytes.ensures.size c.min-count.ensures c.in-Some.ensures.steps before.rest;
-      holds = omega (arith, ap length c.in-Some.ensures.steps, c.min-count.ensures);
-      counted = piece_counted before.front c.as_bytes-bytes.result.now c.args.len c.loop-block.left c.min-count.result (omega (arith, c.as_bytes-bytes.ensures.size, ap length c.as_bytes-bytes.ensures.value)) (omega (arith, c.min-count.ensures)) (omega (arith, c.min-count.ensures)) before.counted;
+      front = before.front ++ c.in-Some.piece.now;
+      gathers = digits_more before.front c.in-Some.piece.now before.gathers known.all;
+      rest = piece_gathered before.front c.in-Some.piece.now c.next.new.self (first_bytes c.args.len c.args.pages.now) c.in-Some.ensures.steps.0 before.rest;
       later = omega (arith, known.cause.later);
     }
 
 pub returns-in-Err-clause-part : goal.returns-in-Err-clause-part
 returns-in-Err-clause-part g c =
-    let before = c.loop-block.invariant in
-    digits_failed before.front (take c.min-count.result c.as_bytes-bytes.result.now) (first_bytes (c.loop-block.left - c.min-count.result) c.next.new.self) (first_bytes c.args.len c.args.pages.now)
-    before.gathers c.in-Err.ensures.part
-    (block_gathered c.args.len c.loop-block.left c.min-count.result before.front c.as_bytes-bytes.result.now c.in-Some.block.now c.next.new.self c.loop-block.block-iterator c.args.pages.now
-    c.as_bytes-bytes.ensures.value c.as_bytes-bytes.ensures.size c.min-count.ensures c.in-Some.ensures.steps before.rest)
+    let before = c.loop-piece.invariant in
+    let all = first_bytes c.args.len c.args.pages.now in
+    digits_failed before.front c.in-Some.piece.now c.next.new.self all before.gathers c.in-Err.ensures.part
+    (piece_gathered before.front c.in-Some.piece.now c.next.new.self all c.in-Some.ensures.steps.0 before.rest)

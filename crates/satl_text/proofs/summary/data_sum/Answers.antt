@@ -1,16 +1,23 @@
-use Rattle.std.proofs.Common.{ap, arith, length}
-use Rattle.std.proofs.lemmas.List.{length-take-le}
+use Rattle.std.proofs.Common.{◌∙◌, ap, arith, length}
+use Rattle.std.specs.Prelude.{sum}
+use Rattle.std.proofs.lemmas.List.{length-append, length-take}
+use Rattle.satl_base.specs.Blocks.{bytes_of}
 use Rattle.satl_text.proofs.SumLemmas.{sum_more}
 use Rattle.satl_text.proofs.summary.data_sum.Goals as goal
 
-pub loop-block-preserved : goal.loop-block-preserved
-loop-block-preserved c =
-    let before = c.loop-block.invariant in
-    let more = sum_more c.loop-block.left c.min-count.result c.as_bytes-bytes.result.now c.in-Some.block.now c.next.new.self c.loop-block.block-iterator
-    c.as_bytes-bytes.ensures.value c.as_bytes-bytes.ensures.size c.min-count.ensures c.in-Some.ensures.steps in
-    let counted = length-take-le c.min-count.result c.as_bytes-bytes.result.now (omega (arith, c.min-count.ensures, ap length c.as_bytes-bytes.ensures.value, c.as_bytes-bytes.ensures.size)) in
+pub loop-piece-init : goal.loop-piece-init
+loop-piece-init c =
+    let is = c.into_iter-piece-iterator.ensures.into_iter_gives ∙ c.pieces-piece-items.ensures in
     record {
-      value = omega (arith, before.value, more, c.sum_of.ensures.value, c.from-total.ensures);
-      holds = omega (arith, ap length c.in-Some.ensures.steps, c.min-count.ensures);
-      small = omega (arith, before.small, c.sum_of.ensures.small, c.from-total.ensures, counted, c.min-count.ensures);
+      value = omega (arith, ap sum is);
+      small = omega (arith, ap length is, length-take c.args.len (bytes_of c.args.pages.now));
+    }
+
+pub loop-piece-preserved : goal.loop-piece-preserved
+loop-piece-preserved c =
+    let before = c.loop-piece.invariant in
+    let joins = c.in-Some.ensures.steps.0 in
+    record {
+      value = omega (arith, before.value, sum_more c.in-Some.piece.now c.next.new.self joins, c.sum_of.ensures.value, c.from-total.ensures);
+      small = omega (arith, before.small, ap length joins, length-append c.in-Some.piece.now c.next.new.self, c.sum_of.ensures.small, c.from-total.ensures);
     }
