@@ -12,15 +12,15 @@ unfolding block_full_of
 length-block_of value = length-replicate 512 (value % 256)
 
 -- the first block, and the others
-pub blocks_from-next : (n value : ℕ) → 0 < n → rising_blocks n value ≡ block_full_of value ∷ rising_blocks (n - 1) (value + 1)
+pub rising_blocks-next : (n value : ℕ) → 0 < n → rising_blocks n value ≡ block_full_of value ∷ rising_blocks (n - 1) (value + 1)
 unfolding rising_blocks
-blocks_from-next zero value some = absurd (omega arith)
-blocks_from-next (suc n) value some = let less : suc n - 1 ≡ n = omega arith in rw less refl
+rising_blocks-next zero value some = absurd (omega arith)
+rising_blocks-next (suc n) value some = let less : suc n - 1 ≡ n = omega arith in rw less refl
 
-pub blocks_from-none : (n value : ℕ) → n ≡ 0 → rising_blocks n value ≡ []
+pub rising_blocks-none : (n value : ℕ) → n ≡ 0 → rising_blocks n value ≡ []
 unfolding rising_blocks
-blocks_from-none zero value none = refl
-blocks_from-none (suc n) value none = absurd (omega arith)
+rising_blocks-none zero value none = refl
+rising_blocks-none (suc n) value none = absurd (omega arith)
 
 pub length-blocks : (n value : ℕ) → length (bytes_of (rising_blocks n value)) ≡ 512 * n
 unfolding rising_blocks

@@ -14,18 +14,18 @@ use Rattle.satl_frame.specs.Magic.{magic}
 use Rattle.satl_frame.specs.declared.frames.Version.TheVariants.{One}
 use Rattle.satl_frame.proofs.ProgressLemmas.{all_spelled-append}
 use Rattle.satl_gen.specs.declared.draw.Draw.{Draw}
-use Rattle.satl_gen.proofs.Blocks.{blocks_from-next, blocks_from-none}
+use Rattle.satl_gen.proofs.Blocks.{rising_blocks-next, rising_blocks-none}
 use Rattle.satl_gen.proofs.Requests.{request_spelled}
 
 -- a block more
 pub block_taken : (n value : ℕ) (piece rest : List ℕ) → 0 < n → piece ≡ (block_full_of value).bytes →
     bytes_of (rising_blocks n value) ++ rest ≡ piece ++ (bytes_of (rising_blocks (n - 1) (value + 1)) ++ rest)
 block_taken n value piece rest some is =
-    rw is (ap (λ (bs : List Block). bytes_of bs ++ rest) (blocks_from-next n value some) ∙ append_assoc (block_full_of value).bytes (bytes_of (rising_blocks (n - 1) (value + 1))) rest)
+    rw is (ap (λ (bs : List Block). bytes_of bs ++ rest) (rising_blocks-next n value some) ∙ append_assoc (block_full_of value).bytes (bytes_of (rising_blocks (n - 1) (value + 1))) rest)
 
 -- no block
 pub no_block_left : (n value : ℕ) (rest : List ℕ) → n ≡ 0 → bytes_of (rising_blocks n value) ++ rest ≡ rest
-no_block_left n value rest none = ap (λ (bs : List Block). bytes_of bs ++ rest) (blocks_from-none n value none)
+no_block_left n value rest none = ap (λ (bs : List Block). bytes_of bs ++ rest) (rising_blocks-none n value none)
 
 -- a burst
 pub burst_taken : (n value c : ℕ) (b : Option ℕ) (piece rest : List ℕ) → n ≡ 0 → b ≡ Some c → piece ≡ all_spelled (burst c) →
@@ -82,7 +82,7 @@ pub end_taken : (blocks value : ℕ) (b : Option ℕ) (ended : Bool) (n i : ℕ)
     bytes_of (rising_blocks blocks value) ++ (burst_bytes b ++ behind ended n i g) ≡ piece ++ (bytes_of (rising_blocks blocks value) ++ (burst_bytes b ++ []))
 end_taken blocks value b ended n i g piece none no_burst going last is =
     no_block_left blocks value (burst_bytes b ++ behind ended n i g) none
-    ∙ rw (no_burst, going, is, frames_from-none n i g last, blocks_from-none blocks value none) refl
+    ∙ rw (no_burst, going, is, frames_from-none n i g last, rising_blocks-none blocks value none) refl
 
 -- nothing is to come
 pub nothing_left : (blocks value : ℕ) (b : Option ℕ) (ended : Bool) (rest : List ℕ) → blocks ≡ 0 → b ≡ None → ended ≡ true →
@@ -92,4 +92,4 @@ nothing_left blocks value b ended rest none no_burst done = no_block_left blocks
 -- all is to come
 pub all_ahead : (piece : List ℕ) (seed requests : ℕ) (g : Lcg) → piece ≡ magic One → g ≡ seeded seed →
     drop 0 piece ++ (bytes_of (rising_blocks 0 0) ++ (burst_bytes None ++ behind false requests 0 g)) ≡ generated seed requests
-all_ahead piece seed requests g is start = rw (is, start, blocks_from-none 0 0 refl) refl
+all_ahead piece seed requests g is start = rw (is, start, rising_blocks-none 0 0 refl) refl
