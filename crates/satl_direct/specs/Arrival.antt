@@ -69,7 +69,8 @@ abbrev pub is_unit_0 : List ℕ → Bool
 is_unit_0 lun = list_all (λ byte. byte == 0) lun
 
 -- what becomes of a request: it is answered at once and nothing changes; or with the first unit attention condition of its
--- nexus, which is told by that; or it overlaps a task, and all tasks of its nexus go; or it is a task from now on (SAM-5 5)
+-- nexus, which is told by that; or it overlaps a task, and all tasks of its nexus go without an answer; or it is a task from
+-- now on (SAM-5 5)
 pub data Arrival : Type 0 where
   answered : Reply → Arrival
   attended : Reply → Arrival
@@ -139,8 +140,8 @@ abbrev pub unless_refused : Option Illegal → Device → Request → Arrival �
 unless_refused None s r next = next
 unless_refused (Some why) s r next = answered (check s r (refusal why))
 
--- the data-out: the length of the list, fewer bytes than the command needs, and what is in them; more bytes are ignored (SBC-3
--- 5; profile)
+-- the data-out is judged: whether the list has a good length, whether there are as many bytes as the command needs, and what is
+-- in them; bytes beyond those are ignored. Where all is good, the command becomes what `becomes` says (SBC-3 5; profile)
 abbrev pub data_arrival : Device → Request → Command → Arrival
 data_arrival s r command =
     unless_refused (asks command).length_fault s r
@@ -158,12 +159,12 @@ abbrev pub cdb_arrival : Device → Request → Result Command Illegal → Arriv
 cdb_arrival s r (Err why) = answered (check s r (refusal why))
 cdb_arrival s r (Ok command) = unless_refused (asks command).fields_fault s r (command_arrival s r command)
 
--- the codes of commands that are carried out before a unit attention is told: INQUIRY, REPORT LUNS and REQUEST SENSE (SAM-5
--- 5.14)
+-- the codes of commands that are carried out though a unit attention condition is posted: INQUIRY, REPORT LUNS and REQUEST
+-- SENSE (SAM-5 5.14)
 abbrev pub untold_codes : List ℕ
 untold_codes = 0x12 ∷ 0xA0 ∷ 0x03 ∷ []
 
--- the unit attention condition that a request is answered with (SAM-5 5.14)
+-- the unit attention condition that a request is answered with, if any (SAM-5 5.14)
 abbrev pub attention_for : Device → Request → Option Attention
 attention_for s r = if is_in (operation_code r) untold_codes then None else slice_get (attentions_of r.nexus s) 0
 

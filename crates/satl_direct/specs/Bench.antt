@@ -32,8 +32,9 @@ pub record IsPowered (old : Device) (answers : List Reply) (new : Device) : Type
     attentions = map (λ conditions. PowerOn ∷ []) old.attentions;
   }
 
--- what an event does: flaws are set or cleared, outside the capacity nothing changes; so many glitches are left; the drive is
--- told how to choose, which changes nothing here; a power cycle; or the link is lost, also where it was lost before (profile)
+-- what a bench event does: STRIKE gives a sector a read flaw or a write flaw, and MEND takes both away (outside the capacity
+-- nothing changes); GLITCH sets how many glitches are left; ORDER tells the drive how to choose, which changes nothing here;
+-- POWER is a power cycle; UNPLUG loses the link, also where it was lost before (profile)
 abbrev pub Happens : BenchEvent → Device → List Reply → Device → Type 0
 Happens (Strike which lba) s answers new =
     IsUnanswered (record s { cells = change_at s.cells lba (with_flaw which) }) answers new

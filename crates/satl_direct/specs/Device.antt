@@ -1,9 +1,23 @@
--- The direct device: a SCSI block device as a host sees it (SAM-5 4.6, logical unit; SBC-3 4). Words of the crates below: the
--- drive is the ATA disk behind the device; a sector is a block of the drive, and a page is 512 bytes of memory, room for one
--- block; the device is down while the link to its drive is lost, and else up; a glitch is a CRC error that is still to come; a
--- pair is a block for an address, with whether it goes through the cache; a ranged task is a READ, a WRITE or a queued UNMAP,
--- and all others are barriers; two tasks conflict where one is ORDERED or a barrier, or where their ranges meet and one writes;
--- a task is eligible that conflicts with no earlier one; a piece is 64 blocks.
+-- The direct device: a SCSI block device as a host sees it (SAM-5 4.6, logical unit; SBC-3 4). Words of the crates below:
+--
+-- drive            the ATA disk behind the device; a sector is one of its blocks, and a page is 512 bytes of memory, room for
+--                  one block
+-- unit             the device, as commands name it
+-- down, up         while the link to its drive is lost, the device is down, and else up
+-- glitch           a CRC error that is still to come
+-- pair             a block for an address, with whether it goes through the cache; a write takes the sector's read flaw away
+--                  and leaves its write flaw
+-- written whole    all pairs are, in order (`whole`)
+-- written in part  each pair, in order, is written or left out (`Part`)
+-- written back     a loss of power can leave only the block that a read gives (`settle`); a sector is sound when it can leave
+--                  that one
+-- ranged task      a READ, a WRITE or a queued UNMAP; all others are barriers
+-- conflict         of two tasks, where one is ORDERED or a barrier, or where their ranges meet and one writes
+-- eligible         of a task, where it conflicts with no earlier one
+-- piece            64 blocks
+-- posted, told     a unit attention condition is posted for a nexus, and is told, by which it goes, in one answer. There are
+--                  five, in this order of report: POWER ON OCCURRED, BUS DEVICE RESET FUNCTION OCCURRED, I_T NEXUS LOSS
+--                  OCCURRED, COMMANDS CLEARED BY ANOTHER INITIATOR, MODE PARAMETERS CHANGED
 use Rattle.std.specs.Prelude.{ℕ, ◌==◌, not, Bool, ◌&&◌, List, [], slice_index_or, slice_set, drop, filter}
 use Rattle.satl_base.specs.declared.modes.Modes.{Modes}
 use Rattle.satl_base.specs.Cells.{Cell}
@@ -12,10 +26,13 @@ use Rattle.satl_identify.specs.declared.identity.Identity.{Identity}
 use Rattle.satl_unit.specs.declared.attention.Attention.{Attention}
 use Rattle.satl_line.specs.declared.entry.Entry.{Entry}
 
--- the device: its sectors; its tasks in order of arrival, each with its data-out alone in its pages; its mode values; whether
--- it is started, and active and not in standby; whether its drive's link is lost; the unit attention conditions of each nexus,
--- from nexus 0 on, in the order of report; how many transfers may still end with a CRC error; and what its drive says of itself
--- (SAM-5 4.8, task set, and 5.14, unit attentions; SBC-3; glitches and lost links: profile)
+-- the device: its sectors; its tasks in order of arrival, each with its data-out alone in its pages; its mode values, WCE, DRA
+-- and D_SENSE; whether it is started, and active and not in standby; whether its drive's link is lost; the unit attention
+-- conditions of each nexus, from nexus 0 on, in the order of report; how many transfers may still end with a CRC error; and
+-- what its drive says of itself. A task (`Entry`) has its nexus, tag, kind and attribute; its command; how many blocks it holds
+-- room for, of data-out or of data-in (`blocks`); its data-out (`body`; room for data-in is not seen here); its ranges; what a
+-- MODE SELECT changes (`modes`); and how many bytes of data-in its host takes, where it says so (`expected`) (SAM-5 4.8, task
+-- set, and 5.14, unit attentions; SBC-3; glitches and lost links: profile)
 pub record Device : Type 0 where
   pub cells : List Cell
   pub tasks : List Entry

@@ -69,14 +69,15 @@ outcome_reply s t ranged (ends_done blocks) = task_reply t Good [] blocks
 outcome_reply s t ranged (ends_flawed lba) = task_check s t (medium_error ranged lba)
 outcome_reply s t ranged ends_glitched = task_check s t crc_error
 
--- the sectors of the device and its glitches, CRC errors that are still to come: what the outcome of a ranged task is judged
--- by (profile)
+-- the sectors of the device and its glitches: what a READ, a WRITE or a trim ends by, and changes. A trim is an UNMAP, queued
+-- or not, or a WRITE SAME that unmaps: all end alike, so a `RangedTask` stands for these barriers too (profile)
 abbrev pub surface_of : Device → Surface
 surface_of s = surface s.cells s.glitches
 
--- a READ, a WRITE or a trim ends by its outcome on the medium. At a flaw of its kind it fails with the lowest flawed address; a
--- trim meets none. Where it meets no flaw and glitches are left, it may end with a CRC error, which takes one. What it writes
--- is then written in part. Else it is done, and the drive is active (SBC-3 5; of CRC errors: profile)
+-- a READ, a WRITE or a trim ends by its outcome on the medium (`EndsAs`). Where a sector of a READ has a read flaw, or one of a
+-- WRITE a write flaw, it fails with the lowest such address; a trim meets none. Else it is done, and the drive is active; or,
+-- where a glitch is left, it may end with a CRC error, which uses up one. At a flaw or a CRC error what it writes is written in
+-- part (SBC-3 5; of CRC errors: profile)
 pub record EndsOnMedium (ranged : RangedTask) (s : Device) (t : Entry) (reply : Reply) (new : Device) : Type 0 where
   pub outcome : Outcome
   pub ends : EndsAs s.modes.wce ranged outcome (surface_of s) (surface_of new)
@@ -105,9 +106,10 @@ abbrev pub same_pairs : ℕ → ℕ → List Block → Bool → List Pair
 same_pairs lba count [] cached = []
 same_pairs lba count (block ∷ blocks) cached = pairs_from lba (replicate count block) cached
 
--- a WRITE SAME that does not unmap goes over pieces of 64 blocks upwards. It may end with a CRC error where the first piece has
--- no flaw and a glitch is left; else it names the lowest flaw of all, with a part written, or is done where there is none
--- (SBC-3, WRITE SAME commands; SPC-4 4.5.6; pieces: profile)
+-- a WRITE SAME that does not unmap goes over its range upwards, in pieces of 64 blocks. Where the first piece has no write flaw
+-- and a glitch is left, it may end with a CRC error. Else it is done, or, where its range has a write flaw, fails with the
+-- lowest such address. At a CRC error or a flaw what it writes is written in part (SBC-3, WRITE SAME commands; SPC-4 4.5.6;
+-- pieces: profile)
 abbrev pub EndsInPieces : Range → Device → Entry → Reply → Device → Type 0
 EndsInPieces range s t reply new =
     let writes : List Pair = same_pairs range.lba range.count t.body s.modes.wce in
@@ -155,8 +157,8 @@ after_start_stop true no_flush s = record s { active = true; started = true }
 abbrev pub selected : Device → Entry → Modes
 selected s t = applied s.modes (unwrap_or t.modes no_change)
 
--- MODE SELECT: all is written back where WCE is turned off, and where a value has changed the other nexuses are told (SPC-4,
--- MODE SELECT commands; SBC-3 6.4.5)
+-- MODE SELECT: the mode values are those selected; all is written back where that turns WCE off; and where a value has changed,
+-- MODE PARAMETERS CHANGED is posted for the other nexuses (SPC-4, MODE SELECT commands; SBC-3 6.4.5)
 abbrev pub after_select : Device → Entry → Device
 after_select s t =
     record (device_settled_if (s.modes.wce && not (selected s t).wce) s) {
@@ -202,7 +204,9 @@ pass_reply s t pass ended taken = record {
 }
 
 -- ATA PASS-THROUGH: its command is carried out on the medium, with its data-out or with as many pages as its data-in needs;
--- what it sets are the mode values from then on (SAT-3 12.2)
+-- what it sets are the mode values from then on. Of the command `given` are the pages handed to the drive, `ended` its
+-- registers at the end, `taken` the pages after it, and `after` the medium; `Ata` is the effect of the command in the registers
+-- (satl_regs). No unit attention is posted (SAT-3 12.2)
 pub record EndsPassed (pass : Pass) (s : Device) (t : Entry) (reply : Reply) (new : Device) : Type 0 where
   pub given : List Block
   pub data_out : pass.out ≡ true → given ≡ t.body
@@ -220,8 +224,8 @@ pub record EndsPassed (pass : Pass) (s : Device) (t : Entry) (reply : Reply) (ne
     glitches = after.glitches;
   }
 
--- how a command of a task ends on a device that is up and ready for it (SBC-3 5, SPC-4 6, SAT-3); all others are answered on
--- arrival, and are no tasks
+-- how a command of a task ends on a device that is up, and started where the command needs that (SBC-3 5, SPC-4 6, SAT-3); all
+-- others are answered on arrival, and are no tasks
 abbrev pub EndsBy : Command → Device → Entry → Reply → Device → Type 0
 EndsBy (commands.ModeSelect ten size) s t reply new = IsTaskDone (after_select s t) t reply new
 EndsBy (commands.StartStop start no_flush) s t reply new = IsTaskDone (after_start_stop start no_flush s) t reply new

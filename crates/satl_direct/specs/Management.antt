@@ -14,7 +14,7 @@ use Rattle.satl_direct.specs.Device.{Device, is_called, is_of}
 use Rattle.satl_direct.specs.Attentions.{post}
 use Rattle.satl_direct.specs.Arrival.{is_unit_0}
 
--- what a function does: which tasks go, the conditions of all nexuses after it, and its response (SAM-5 7)
+-- what a function does: which tasks go, without an answer; the conditions of all nexuses after it; and its response (SAM-5 7)
 pub record Effect : Type 0 where
   pub goes : Entry → Bool
   pub attentions : List (List Attention)
@@ -26,9 +26,11 @@ found true = Succeeded
 found false = Complete
 
 -- the effect of a function that was asked for by a nexus with a tag. ABORT TASK: the task of this nexus and tag goes. ABORT
--- TASK SET: all tasks of the nexus go. CLEAR TASK SET: all tasks go, and each other nexus that had one is told. LOGICAL UNIT
--- RESET: all tasks go, and each nexus is told. I_T NEXUS RESET: all tasks of the nexus go, and it is told. QUERY TASK and QUERY
--- TASK SET: the response says whether there is such a task (SAM-5 7.2 to 7.9)
+-- TASK SET: all tasks of the nexus go. CLEAR TASK SET: all tasks go, and COMMANDS CLEARED BY ANOTHER INITIATOR is posted for
+-- each other nexus that had one. LOGICAL UNIT RESET: all tasks go, and BUS DEVICE RESET FUNCTION OCCURRED is posted for each
+-- nexus. I_T NEXUS RESET: all tasks of the nexus go, and I_T NEXUS LOSS OCCURRED is posted for it. These five answer FUNCTION
+-- COMPLETE, also where no task went. QUERY TASK and QUERY TASK SET change nothing, and answer FUNCTION SUCCEEDED where there is
+-- such a task, else FUNCTION COMPLETE (SAM-5 7.2 to 7.9)
 abbrev pub effect_of : Function → Manage → Device → Effect
 effect_of AbortTask m s = record { goes = is_called m.nexus (m.tag).0; attentions = s.attentions; response = Complete }
 effect_of AbortTaskSet m s = record { goes = is_of m.nexus; attentions = s.attentions; response = Complete }
@@ -54,7 +56,8 @@ effect_of QueryTaskSet m s =
 abbrev pub nothing_but : Response → Device → Effect
 nothing_but response s = record { goes = λ t. false; attentions = s.attentions; response = response }
 
--- whether the LUN of a function is judged: not of I_T NEXUS RESET, which names none; of unknown codes too (SAM-5 7.6; profile)
+-- whether the LUN of a function is judged: with every code, also an unknown one, but I_T NEXUS RESET, which names no logical
+-- unit (SAM-5 7.6; profile)
 abbrev pub has_unit : Option Function → Bool
 has_unit (Some NexusReset) = false
 has_unit _ = true

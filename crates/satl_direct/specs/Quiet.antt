@@ -43,19 +43,21 @@ abbrev pub is_pass : Command → Bool
 is_pass (commands.Pass cdb) = true
 is_pass _ = false
 
--- an eligible task of a device that is up (profile)
+-- a task under way: an eligible task of a device that is up (profile)
 pub record IsUnderWay (s : Device) (task : Entry) : Type 0 where
   pub up : s.down ≡ false
   pub eligible : IsEligible s.tasks task
 
--- a pair that a task under way writes may show, where the unit is started or the task is an ATA PASS-THROUGH (profile)
+-- a pair that may show, which is to be written before its task ends: a task under way writes it, and the unit is started or the
+-- task is an ATA PASS-THROUGH (profile)
 pub record MayShow (s : Device) (pair : Pair) : Type 0 where
   pub task : Entry
   pub under_way : IsUnderWay s task
   pub started : s.started || is_pass task.command ≡ true
   pub among : IsIn pair (writes s task)
 
--- a task under way that goes over the medium (ACS-3, power modes; profile)
+-- a task that may make the drive active before it ends: one under way that goes over the medium, also on a stopped unit (ACS-3,
+-- power modes; profile)
 pub record MayWake (s : Device) : Type 0 where
   pub task : Entry
   pub under_way : IsUnderWay s task
@@ -65,8 +67,9 @@ pub record MayWake (s : Device) : Type 0 where
 abbrev pub StaysOrWakes : Device → Bool → Type 0
 StaysOrWakes s active = (active ≡ s.active) ⊎ ((active ≡ true) × MayWake s)
 
--- quiet moves: a loss of power may leave fewer blocks than before, for a cache may write back at any time; blocks that tasks
--- under way write may show; and the drive may become active (SBC-3 4.15; profile)
+-- quiet moves, none or any number of them in any order (`Moves`): a loss of power may leave fewer blocks of a sector than
+-- before, for a cache may write back at any time; a pair that may show is written; and besides the drive may become active
+-- (SBC-3 4.15; profile)
 pub record Quiet (old new : Device) : Type 0 where
   pub cells : Moves (MayShow old) old.cells new.cells
   pub active : StaysOrWakes old new.active

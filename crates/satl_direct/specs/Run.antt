@@ -1,4 +1,5 @@
--- Runs of the device over the frames of an input (profile).
+-- Runs of the device over the frames of an input (profile). An event is one of these frames: REQUEST, MANAGE, TURN, BENCH or
+-- END; a bench event is what a BENCH frame carries.
 use Rattle.std.specs.Prelude.{◌≡◌, ◌≤◌, ℕ, suc, ◌+◌, max, min, not, ◌||◌, if◌then◌else◌, List, [], ◌∷◌, ◌++◌, map, length}
 use Rattle.std.specs.List.{filter}
 use Rattle.satl_base.specs.declared.bench.BenchEvent.{BenchEvent}
@@ -25,12 +26,13 @@ abbrev pub eligibles : List Entry → List Entry
 eligibles [] = []
 eligibles (t ∷ ts) = t ∷ filter (λ u. not (conflicts t u)) (eligibles ts)
 
--- how many commands the device lets a drive hold at once: its eligible ranged tasks, 32 at most, and none while it is down or
--- stopped (ACS-3, native command queuing; profile)
+-- how many queued commands the device lets a drive hold at once: one for each of its eligible ranged tasks, 32 at most, and
+-- none while it is down or stopped; the command of a barrier, which runs alone, is not counted (ACS-3, native command queuing;
+-- profile)
 abbrev pub depth : Device → ℕ
 depth s = if s.down || not s.started then 0 else min 32 (length (filter is_ranged (eligibles s.tasks)))
 
--- a step, or a step and then a loss of the link (profile)
+-- a step, or a step, then quiet moves, and then a loss of the link that was up (profile)
 pub data MayLose (Step : Device → List Reply → Device → Type 0) (old : Device) : List Reply → Device → Type 0 where
   keeps : {answers : List Reply} {new : Device} → Step old answers new → MayLose Step old answers new
   keeps_and_loses : {answers more : List Reply} {mid after new : Device} → Step old answers mid → Quiet mid after
@@ -64,7 +66,7 @@ pub record ManagedAnswers (m : Manage) (s : Device) (answers : List Answer) (new
 -- what an event does: its answers, the device after it, and the greatest depth after it or after one of its turns. A request
 -- arrives, and the link may be lost after it; a task management function is carried out, and the link may be lost after it; so
 -- many turns are taken; something happens to the drive; at the end turns are taken until no task is left, and then the end is
--- told. (profile)
+-- told. Around each of these, and around each turn, there are quiet moves (profile)
 abbrev pub Does : Frame → Device → List Answer → Device → ℕ → Type 0
 Does (frames.Request r) s answers new deep =
     (replies : List Reply) × (answers ≡ map replied replies) × Around (MayLose (Arrives r)) s replies new × (deep ≡ depth new)
@@ -119,8 +121,8 @@ CutTurns (frames.Turn n) count = count ≤ n
 CutTurns frames.End count = Unit {0}
 CutTurns _ count = ⊥
 
--- a run whose last event is TURN or END and has made as many turns as this: of a TURN not more than it asks for, perhaps all;
--- of END the end is not told (profile)
+-- a run that is cut short in its last event, a TURN or END, once `count` turns of it were made: of a TURN at most as many as it
+-- asks for, perhaps all; of END any number, and the end is not told (profile)
 pub record CutShort (first : Device) (events : List Frame) (losses : ℕ) (answers : List Answer) (last : Device) : Type 0 where
   pub before : List Frame
   pub event : Frame

@@ -1,4 +1,5 @@
--- What commands ask of the device, and the tasks that they become (SBC-3 5, SPC-4 6, SAT-3).
+-- What commands ask of the device, and the tasks that they become (SBC-3 5, SPC-4 6, SAT-3). `Illegal` is a refusal: its
+-- additional sense codes, and the byte at fault where there is one.
 use Rattle.std.specs.Prelude.{ℕ, ◌+◌, ◌*◌, ◌==◌, ◌||◌, ◌&&◌, not, nat_lt, Bool, true, false, if◌then◌else◌, List, [], ◌∷◌, length, take, get_or, Option, Some, None, Result, Ok, Err}
 use Rattle.std.specs.List.{list_all}
 use Rattle.satl_base.specs.declared.block.Block.{Block}
@@ -78,7 +79,7 @@ asks_select ten length = record nothing {
   change = λ body. Some (change_in body length ten);
 }
 
--- an UNMAP: a list is empty, or has its header of 8 bytes, and is judged (SBC-3 5.28)
+-- an UNMAP: its list is empty, or has at least its header of 8 bytes and is judged (SBC-3 5.28)
 abbrev pub asks_unmap : ℕ → Asks
 asks_unmap length = record nothing {
   length_fault = if not (length == 0) && nat_lt length 8 then Some list_length_error else None;
@@ -97,7 +98,9 @@ abbrev pub fault_in : Result Pass Illegal → Option Illegal
 fault_in (Ok pass) = None
 fault_in (Err why) = Some why
 
--- an ATA PASS-THROUGH: its data-out where T_DIR is 0, with zeros in what is left of the last page (SAT-3 12.2)
+-- an ATA PASS-THROUGH: its fields are judged by rules of its own; where T_DIR is 0 it needs its data-out and keeps it, with
+-- zeros in what is left of the last page; it holds as many pages as its transfer length fills, in either direction (SAT-3 12.2;
+-- the blocks held: profile)
 abbrev pub asks_through : List ℕ → Pass → Asks
 asks_through cdb pass = record nothing {
   fields_fault = fault_in (pass_says cdb);

@@ -47,8 +47,8 @@ pub record OneEnds (s : Device) (reply : Reply) (new : Device) : Type 0 where
   pub may : MayEnd s task
   pub ends : Ends s task reply new
 
--- a turn: with no task nothing happens; else one ends, or the link is lost, or one ends and then the link is lost (SAM-5 8;
--- profile)
+-- a turn: with no task nothing happens; else one ends; or, where the link is up, it is lost; or one ends and then, after quiet
+-- moves, the link is lost (SAM-5 8; profile)
 pub data Turn (s : Device) : List Reply → Device → Type 0 where
   idle : s.tasks ≡ [] → Turn s [] s
   ends : {new : Device} (reply : Reply) → OneEnds s reply new → Turn s (reply ∷ []) new
