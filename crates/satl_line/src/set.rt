@@ -1,5 +1,5 @@
 // The tasks in order of arrival, each in a slot of its own.
-ghost use Rattle.std.specs.Prelude.{◌≡◌, ◌≤◌, ◌<◌, ◌==◌, ◌^◌, if◌then◌else◌, ℕ, [], map, length, remove, replicate, Some, IfOk, OnOk, OnErr, is_err, slice_get, slice_index, slice_set};
+ghost use Rattle.std.specs.Prelude.{◌≡◌, ◌≤◌, ◌<◌, ◌==◌, ◌^◌, if◌then◌else◌, ℕ, [], drop, map, length, remove, replicate, Some, IfOk, OnOk, OnErr, is_err, slice_get, slice_index, slice_set};
 ghost use Rattle.std.specs.Int.{bit_at};
 ghost use Rattle.std.specs.Option.{option_copied, option_map};
 ghost use Rattle.std.specs.List.{AllByRecursion, position_from};
@@ -14,6 +14,7 @@ use crate::boxed::TaskBox;
 use crate::conflict::conflict;
 use crate::entry::Entry;
 use crate::outline::Outline;
+use crate::slots::first_outside;
 use arrayvec::ArrayVec;
 use satl_base::{MOST_HELD, MOST_TASKS, Nexus, NoMemory, Pages, Tag};
 use std::alloc::Global;
@@ -223,6 +224,15 @@ impl TaskSet {
         ensures { result ≡ position_from (λ held. held.slot == slot) 0 self.now }
     {
         place_in(&self.order, slot)
+    }
+
+    /// The first place, from this one on, of a task whose slot is not among these, the bits of a number. None exactly where
+    /// there is none (profile).
+    pub fn first_outside(&self, from: usize, slots: u64) -> Option<usize>
+        requires { from ≤ length self.now }
+        ensures { result ≡ position_from (λ slot. bit_at slots slot == 0) from (drop from (slots_of self.now)) }
+    {
+        first_outside(&self.order, from, slots)
     }
 
     /// For each slot the slots of the earlier tasks that its task conflicts with, as the bits of a number; 0 for an
@@ -508,6 +518,7 @@ mod tests {
         let (first, second) = (set.slot_of(0), set.slot_of(1));
         assert_eq!(rt; set.masks()[second as usize], 1 << first);
         assert_eq!(rt; set.place_of(second), Some(1));
+        assert_eq!(rt; set.first_outside(0, 1 << first), Some(1));
         assert_eq!(rt; set.take_data(1).blocks(), 0);
         set.put_data(1, Pages::zeroed(rt.alloc(), 2)?);
         assert_eq!(rt; set.len(), 2);
