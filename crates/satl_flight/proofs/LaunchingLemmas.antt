@@ -1,15 +1,15 @@
 -- Issuing, as the code does it.
-use Rattle.std.proofs.Common.{◌≡◌, ◌⊎◌, refl, sym, ◌∙◌, ap, subst, inl, inr, ⊎_elim, ℕ, zero, suc, ◌<◌, Bool, true, false, List, [], ◌∷◌, ◌++◌, Option, Some, None, arith, length, length-append, eqb-true, eq-eqb, cond}
+use Rattle.std.proofs.Common.{◌≡◌, ◌⊎◌, refl, sym, ◌∙◌, ap, subst, inl, inr, ⊎_elim, ℕ, zero, suc, ◌<◌, ◌≤◌, not, drop, Bool, true, false, List, [], ◌∷◌, ◌++◌, Option, Some, None, arith, length, length-append, eqb-true, eq-eqb, cond}
 use Rattle.std.specs.Prelude.{◌==◌, ◌||◌, if◌then◌else◌, slice_get, slice_set, take, unwrap_or}
 use Rattle.std.specs.Option.{option_and_then, option_map}
-use Rattle.std.specs.List.{AllByRecursion, AllZip, find, list_any}
-use Rattle.std.proofs.lemmas.Bool.{cases_eq}
+use Rattle.std.specs.List.{AllByRecursion, AllZip, find, list_any, position_from}
+use Rattle.std.proofs.lemmas.Bool.{cases_eq, cases_lt, not-false}
 use Rattle.std.proofs.lemmas.List.{append-nil, length-map}
 use Rattle.std.proofs.lemmas.Option.{slice_get_within}
 use Rattle.satl_base.specs.declared.block.Block.{Block}
 use Rattle.satl_base.specs.Lists.{remove_first}
 use Rattle.satl_base.specs.Identify.{has_queued_trim}
-use Rattle.satl_base.proofs.ListsLemmas.{All-both, All-find, All-weaken, length-remove_first}
+use Rattle.satl_base.proofs.ListsLemmas.{All-both, All-find, All-weaken, get-map, length-remove_first}
 use Rattle.satl_regs.specs.declared.values.Registers.{Registers}
 use Rattle.satl_regs.specs.declared.values.Queued.{Queued}
 use Rattle.satl_regs.specs.QueuedCommands.{QueuedFits, queued_registers}
@@ -27,8 +27,9 @@ use Rattle.satl_flight.specs.declared.flight.Flying.{Flying}
 use Rattle.satl_flight.specs.Flown.{AreApart, IsFlown, IsInFlight, clash, is_outstanding, is_in_slot, queued_for}
 use Rattle.satl_flight.specs.Lending.{IsLending, Waiting, has_tag, is_of_slot, waiting, whole_task, whole_tasks, with_own_pages}
 use Rattle.satl_flight.specs.Settled.{IsFilled, IsIssuedIfItMay, IsLaunched, IsLostQuietly, OnDrive, on_drive}
+use Rattle.satl_flight.proofs.ZipLemmas.{IsBefore, found_within, passed_from}
 use Rattle.satl_flight.proofs.FlownLemmas.{FitsOn}
-use Rattle.satl_flight.proofs.LendingLemmas.{at_found, find-none, get-set, lend_lending, lend_same, whole_get, whole-slots, slots-get}
+use Rattle.satl_flight.proofs.LendingLemmas.{at_found, find-none, get-set, lend_lending, lend_same, whole_get, whole-slots}
 use Rattle.satl_flight.proofs.LaunchedLemmas.{can_issue, deepens_same, launched_one, lost_issue, queued_fits}
 
 -- the task at a place, from what the set tells
@@ -166,10 +167,24 @@ covered_still tasks old new place step covered =
     (λ each. inr (λ h task at passes ranged. ap (λ fs. is_outstanding fs h.slot) step.more ∙ holds_append old.queue.flying step.rest h.slot (each h task at passes ranged)))
     covered
 
--- one that is outstanding is covered
-pub covered_held : (flying : List Flying) (slots : Slots) (tasks : List Held) (place slot : ℕ) → slice_get (slots_of tasks) place ≡ Some slot → is_outstanding flying slot ≡ true → IsIssuedIfItMay flying (whole_tasks flying slots tasks) place
-covered_held flying slots tasks place slot is held =
-    inr (λ h task at passes ranged. ap (is_outstanding flying) (slots-get (whole_tasks flying slots tasks) place h slot at (ap (λ l. slice_get l place) (whole-slots flying slots tasks) ∙ is)) ∙ held)
+-- tasks that are the same with their own pages are as many
+pub as_many : (flying flying' : List Flying) (slots slots' : Slots) (tasks tasks' : List Held) → whole_tasks flying slots tasks ≡ whole_tasks flying' slots' tasks' → length tasks ≡ length tasks'
+as_many flying flying' slots slots' tasks tasks' same = sym (length-whole flying slots tasks) ∙ ap length same ∙ length-whole flying' slots' tasks'
+
+-- the next task that is not outstanding stands behind, and among the tasks
+pub next_within : (flying : List Flying) (tasks : List Held) (from place : ℕ) (next : Option ℕ) → next ≡ position_from (λ slot. not (is_outstanding flying slot)) from (drop from (slots_of tasks)) → next ≡ Some place → (from ≤ place) × (place < length tasks)
+next_within flying tasks from place next is found =
+    let within = found_within (λ slot. not (is_outstanding flying slot)) (slots_of tasks) from place next is found in
+    (within.0, omega (arith, within.1, length-map tasks (λ (h : Held). h.slot)))
+
+-- where each place up to this one is covered, so is each before the next task that is not outstanding
+pub covered_before : (flying : List Flying) (slots : Slots) (tasks whole : List Held) → whole_tasks flying slots tasks ≡ whole → (from : ℕ) (next : Option ℕ) → next ≡ position_from (λ slot. not (is_outstanding flying slot)) from (drop from (slots_of tasks))
+    → ((k : ℕ) → k < from → IsIssuedIfItMay flying whole k) → (k : ℕ) → IsBefore k next → IsIssuedIfItMay flying whole k
+covered_before flying slots tasks whole same from next is covered k before =
+    ⊎_elim (λ below. covered k below) (λ behind. inr (λ h task at passes ranged. not-false (is_outstanding flying h.slot) (passed_from (λ slot. not (is_outstanding flying slot)) (slots_of tasks) from next is k h.slot behind (in_slot h at) before))) (cases_lt k from)
+  where
+    in_slot : (h : Held) → slice_get whole k ≡ Some h → slice_get (slots_of tasks) k ≡ Some h.slot
+    in_slot h at = ap (λ l. slice_get l k) (sym (whole-slots flying slots tasks) ∙ ap slots_of same) ∙ get-map (λ (x : Held). x.slot) whole k h at
 
 -- where each place is covered the queue is used
 pub filled : (flying : List Flying) (tasks : List Held) → ((k : ℕ) → k < length tasks → IsIssuedIfItMay flying tasks k) → IsFilled flying tasks

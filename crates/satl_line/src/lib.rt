@@ -7,7 +7,9 @@ mod entry;
 pub mod laws;
 mod outline;
 mod set;
+mod slots;
 
 pub use boxed::TaskBox;
 pub use entry::{Entry, Kind};
 pub use set::{TaskSet, TaskSetFull};
+pub use slots::has_slot;

@@ -1,5 +1,5 @@
 // The tasks in order of arrival, each in a slot of its own.
-ghost use Rattle.std.specs.Prelude.{◌≡◌, ◌≤◌, ◌<◌, ◌==◌, ◌^◌, if◌then◌else◌, ℕ, false, [], map, length, remove, replicate, Some, IfOk, OnOk, OnErr, is_err, slice_get, slice_index, slice_set};
+ghost use Rattle.std.specs.Prelude.{◌≡◌, ◌≤◌, ◌<◌, ◌==◌, ◌^◌, if◌then◌else◌, ℕ, false, [], drop, map, length, remove, replicate, Some, IfOk, OnOk, OnErr, is_err, slice_get, slice_index, slice_set};
 ghost use Rattle.std.specs.Int.{bit_at};
 ghost use Rattle.std.specs.Option.{option_copied, option_map};
 ghost use Rattle.std.specs.List.{All, AllByRecursion, position_from};
@@ -14,6 +14,7 @@ use crate::boxed::TaskBox;
 use crate::conflict::conflict;
 use crate::entry::Entry;
 use crate::outline::Outline;
+use crate::slots::{first_outside, has_slot};
 use arrayvec::ArrayVec;
 use satl_base::{MOST_HELD, MOST_TASKS, Nexus, NoMemory, Pages, Tag};
 use std::alloc::Global;
@@ -242,6 +243,15 @@ impl TaskSet {
         place_in(&self.order, slot)
     }
 
+    /// The first place, from this one on, of a task whose slot is not among these, the bits of a number. None exactly where
+    /// there is none (profile).
+    pub fn first_outside(&self, from: usize, slots: u64) -> Option<usize>
+        requires { from ≤ length self.now }
+        ensures { result ≡ position_from (λ slot. bit_at slots slot == 0) from (drop from (slots_of self.now)) }
+    {
+        first_outside(&self.order, from, slots)
+    }
+
     /// For each slot the slots of the earlier tasks that its task conflicts with, as the bits of a number; 0 for an
     /// empty slot (profile).
     pub fn masks(&self) -> &[u64; 64]
@@ -379,7 +389,7 @@ fn may_have(masks: &[u64], slot: u8, marked: u64) -> bool
     requires within { All (IsWithin marked) masks.now }
     ensures { result ≡ false → masks.now ≡ map (clear_bit slot) masks.now }
 {
-    marked >> slot & 1 == 1
+    has_slot(marked, slot)
 }
 
 /// Takes a slot out of all masks, and makes its own 0. They are looked at only where they may have it.
@@ -582,6 +592,7 @@ mod tests {
         let (first, second) = (set.slot_of(0), set.slot_of(1));
         assert_eq!(rt; set.masks()[second as usize], 1 << first);
         assert_eq!(rt; set.place_of(second), Some(1));
+        assert_eq!(rt; set.first_outside(0, 1 << first), Some(1));
         assert_eq!(rt; set.take_data(1).blocks(), 0);
         set.put_data(1, Pages::zeroed(rt.alloc(), 2)?);
         assert_eq!(rt; set.len(), 2);

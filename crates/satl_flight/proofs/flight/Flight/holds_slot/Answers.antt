@@ -5,7 +5,7 @@ use Rattle.satl_flight.proofs.flight.Flight.holds_slot.Goals as goal
 
 pub returns-then-slot-lt64 : goal.returns-then-slot-lt64
 returns-then-slot-lt64 c =
-    told_by_bit c.self.inside.held c.self.inside.flying.items c.args.slot c.has_bit.result c.self.invariant.3 c.has_bit.ensures ∙ ap (λ fs. is_outstanding fs c.args.slot) c.self.view_is
+    told_by_bit c.self.inside.held c.self.inside.flying.items c.args.slot c.has_slot.result c.self.invariant.3 c.has_slot.ensures ∙ ap (λ fs. is_outstanding fs c.args.slot) c.self.view_is
 
 pub returns-else-slot-lt64 : goal.returns-else-slot-lt64
 returns-else-slot-lt64 c =
