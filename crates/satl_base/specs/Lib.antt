@@ -12,3 +12,4 @@ pub mod Losses
 pub mod Moves
 pub mod Pieces
 pub mod Places
+pub mod Stocks

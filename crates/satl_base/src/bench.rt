@@ -1,6 +1,7 @@
 // What a test bench does to the drive.
 ghost use Rattle.std.specs.Prelude.{◌≡◌, ◌≤◌, ◌+◌, ◌*◌, length, take};
 ghost use Rattle.satl_base.specs.Bench.{event_pages, order_pages};
+ghost use Rattle.satl_base.specs.Stocks.{HasLent};
 
 use crate::block::Block;
 use crate::lender::Lender;
@@ -50,10 +51,8 @@ impl OrderBytes {
     /// These bytes, at most 512, in a page of the lender; where it has none free, no byte (profile). It takes no memory.
     pub fn lend<P: Lender>(lender: &mut P, bytes: &[u8]) -> OrderBytes
         requires { length bytes.now ≤ 512 }
-        ensures bytes { result ≡ take (512 * P.free lender.old) bytes.now }
-        ensures free { P.free lender.new + order_pages result ≡ P.free lender.old }
-        ensures out { P.out lender.new ≡ P.out lender.old + order_pages result }
-        ensures rest { P.rest lender.new ≡ P.rest lender.old }
+        ensures bytes { result ≡ take (512 * (P.stock lender.old).free) bytes.now }
+        ensures lent { HasLent (order_pages result) (P.stock lender.old) (P.stock lender.new) }
     {
         if bytes.is_empty() || lender.room() == 0 {
             return OrderBytes {

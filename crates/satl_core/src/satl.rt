@@ -489,11 +489,7 @@ impl Satl {
 impl Lender for Satl {
     type Rest = Satl;
 
-    ghost free = { λ s. s.free };
-
-    ghost out = { λ s. s.out };
-
-    ghost rest = { λ s. record s { free = 0; out = 0 } };
+    ghost stock = { λ s. record { free = s.free; out = s.out; rest = record s { free = 0; out = 0 } } };
 
     fn room(&self) -> u32 {
         self.pool.free()

@@ -9,11 +9,7 @@ pub struct NoPages;
 impl Lender for NoPages {
     type Rest = ();
 
-    ghost free = { λ _. 0 };
-
-    ghost out = { λ _. 0 };
-
-    ghost rest = { λ _. tt };
+    ghost stock = { λ _. record { free = 0; out = 0; rest = tt } };
 
     fn room(&self) -> u32 {
         0

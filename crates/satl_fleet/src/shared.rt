@@ -1,6 +1,7 @@
 // What goes to each unit of a target.
 ghost use Rattle.std.specs.Prelude.{◌≡◌, ◌+◌};
 ghost use Rattle.satl_base.specs.Bench.{cut_event, event_pages};
+ghost use Rattle.satl_base.specs.Stocks.{HasLent};
 
 use satl_base::{BenchEvent, Lender, Manage, OrderBytes, Pages};
 use satl_frame::Frame;
@@ -21,10 +22,8 @@ impl Shared {
 
     /// The frame, for one unit more, whose order bytes stand in a page of that unit, where it has one free (profile).
     pub fn again<P: Lender>(&self, lender: &mut P) -> Frame
-        ensures cut { result ≡ cut_to (P.free lender.old) (frame_of self.now) }
-        ensures free { P.free lender.new + frame_pages result ≡ P.free lender.old }
-        ensures out { P.out lender.new ≡ P.out lender.old + frame_pages result }
-        ensures rest { P.rest lender.new ≡ P.rest lender.old }
+        ensures cut { result ≡ cut_to (P.stock lender.old).free (frame_of self.now) }
+        ensures lent { HasLent (frame_pages result) (P.stock lender.old) (P.stock lender.new) }
     {
         match self {
             Shared::Manage(manage) => Frame::Manage(*manage),
@@ -46,10 +45,8 @@ impl Shared {
 }
 
 fn bench_again<P: Lender>(event: &BenchEvent, lender: &mut P) -> BenchEvent
-    ensures cut { result ≡ cut_event (P.free lender.old) event.now }
-    ensures free { P.free lender.new + event_pages result ≡ P.free lender.old }
-    ensures out { P.out lender.new ≡ P.out lender.old + event_pages result }
-    ensures rest { P.rest lender.new ≡ P.rest lender.old }
+    ensures cut { result ≡ cut_event (P.stock lender.old).free event.now }
+    ensures lent { HasLent (event_pages result) (P.stock lender.old) (P.stock lender.new) }
 {
     match event {
         BenchEvent::Strike { which, lba } => BenchEvent::Strike {

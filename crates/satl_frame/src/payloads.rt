@@ -1,6 +1,7 @@
 // Payloads of frames, field by field.
 ghost use Rattle.std.specs.Prelude.{◌≡◌, ◌<◌, ◌≤◌, ◌+◌, ◌++◌, [], true, ℕ, List, IfSome, IfNone, MatchOption, length, slice_index};
 ghost use Rattle.byteorder.specs.Endian.{big_bytes};
+ghost use Rattle.satl_base.specs.Stocks.{HasLent};
 ghost use Rattle.satl_frame.specs.Faults.{has_bad_event, has_bad_field};
 ghost use Rattle.satl_frame.specs.Frames.{attr_code, expected_in, is_expectable, which_code, head_size, request_fields, manage_fields, event_fields, frame_rows, has_code, allows, kind, payload_bytes, HasFields, IsManage, IsEvent, IsFrame};
 ghost use Rattle.satl_frame.specs.Pulls.{SpellsFrame, SpellsEvent, SpellsPlain, found_event_pages, found_pages};
@@ -147,11 +148,9 @@ fn glitch_of(payload: &[u8]) -> Option<BenchEvent>
 fn order_of<P: Lender>(lender: &mut P, payload: &[u8]) -> Option<BenchEvent>
     requires some { 0 < length payload.now }
     requires event { slice_index payload.now 0 ≡ 4 }
-    ensures found { IfSome result (SpellsEvent payload.now (P.free lender.old)) }
+    ensures found { IfSome result (SpellsEvent payload.now (P.stock lender.old).free) }
     ensures none { IfNone result (has_bad_event payload.now ≡ true) }
-    ensures free { P.free lender.new + found_event_pages result ≡ P.free lender.old }
-    ensures out { P.out lender.new ≡ P.out lender.old + found_event_pages result }
-    ensures rest { P.rest lender.new ≡ P.rest lender.old }
+    ensures lent { HasLent (found_event_pages result) (P.stock lender.old) (P.stock lender.new) }
 {
     if payload.len() < 2 || payload.len() > 257 {
         return None;
@@ -180,11 +179,9 @@ fn plain_of(payload: &[u8]) -> Option<BenchEvent>
 
 fn event_of<P: Lender>(lender: &mut P, payload: &[u8]) -> Option<BenchEvent>
     requires some { 0 < length payload.now }
-    ensures found { IfSome result (SpellsEvent payload.now (P.free lender.old)) }
+    ensures found { IfSome result (SpellsEvent payload.now (P.stock lender.old).free) }
     ensures none { IfNone result (has_bad_event payload.now ≡ true) }
-    ensures free { P.free lender.new + found_event_pages result ≡ P.free lender.old }
-    ensures out { P.out lender.new ≡ P.out lender.old + found_event_pages result }
-    ensures rest { P.rest lender.new ≡ P.rest lender.old }
+    ensures lent { HasLent (found_event_pages result) (P.stock lender.old) (P.stock lender.new) }
 {
     if payload[0] == 4 {
         order_of(lender, payload)
@@ -203,11 +200,9 @@ pub fn small_frame<P: Lender>(
     requires known { has_code (frame_rows version) code ≡ true }
     requires allowed { allows (frame_rows version) code (length payload.now) ≡ true }
     requires other { 1 < code }
-    ensures found { IfSome result (SpellsFrame version code payload.now (P.free lender.old)) }
+    ensures found { IfSome result (SpellsFrame version code payload.now (P.stock lender.old).free) }
     ensures none { IfNone result (has_bad_field version code payload.now ≡ true) }
-    ensures free { P.free lender.new + found_pages result ≡ P.free lender.old }
-    ensures out { P.out lender.new ≡ P.out lender.old + found_pages result }
-    ensures rest { P.rest lender.new ≡ P.rest lender.old }
+    ensures lent { HasLent (found_pages result) (P.stock lender.old) (P.stock lender.new) }
 {
     match code {
         2 => Some(Frame::Manage(manage_of(payload)?)),

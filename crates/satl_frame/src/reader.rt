@@ -1,5 +1,6 @@
 // The reader of frames.
 ghost use Rattle.std.specs.Prelude.{◌≡◌, ◌<◌, ◌≤◌, ◌+◌, ◌^◌, ℕ, true, IfOk, IfErr, IfSome, IfNone, Some, None, Err, length, slice_index};
+ghost use Rattle.satl_base.specs.Stocks.{HasLent};
 ghost use Rattle.satl_frame.specs.declared.frames.Frame.TheVariants as frames;
 ghost use Rattle.satl_frame.specs.Faults.{told_length};
 ghost use Rattle.satl_frame.specs.Frames.{frame_rows, has_code, allows};
@@ -25,12 +26,10 @@ fn pull_rest<S: Source, P: Lender>(
     request: Request,
     len: u32,
 ) -> Result<Request, PullError>
-    ensures filled { IfOk result (TookRest (S.left source.old) (S.left source.new) request len (P.free lender.old)) }
+    ensures filled { IfOk result (TookRest (S.left source.old) (S.left source.new) request len (P.stock lender.old).free) }
     ensures stopped { Stopped (S.left source.old) (S.left source.new) len result }
     ensures causes { PullCauses (S.left source.old) (S.left source.new) len (S.faults source.old) (S.faults source.new) result }
-    ensures free { P.free lender.new + given_pages request_pages result ≡ P.free lender.old }
-    ensures out { P.out lender.new ≡ P.out lender.old + given_pages request_pages result }
-    ensures rest { P.rest lender.new ≡ P.rest lender.old }
+    ensures lent { HasLent (given_pages request_pages result) (P.stock lender.old) (P.stock lender.new) }
 {
     match pull_by(source, buffer, lender, len) {
         Ok(body) => Ok(Request {
@@ -52,15 +51,13 @@ fn pull_request<S: Source, P: Lender>(
 ) -> Result<Option<Request>, PullError>
     requires { allows (frame_rows version) 1 len ≡ true }
     ensures request { IfOk result (λ found. IfSome found (λ request.
-        TookPayload (S.left source.old) (S.left source.new) (head_of_request version len) (P.free lender.old)
+        TookPayload (S.left source.old) (S.left source.new) (head_of_request version len) (P.stock lender.old).free
         (frames.Request request))) }
     ensures none { IfOk result (λ found. IfNone found
         (TookBadField (S.left source.old) (S.left source.new) (head_of_request version len))) }
     ensures stopped { Stopped (S.left source.old) (S.left source.new) len result }
     ensures causes { PullCauses (S.left source.old) (S.left source.new) len (S.faults source.old) (S.faults source.new) result }
-    ensures free { P.free lender.new + given_pages asked_pages result ≡ P.free lender.old }
-    ensures out { P.out lender.new ≡ P.out lender.old + given_pages asked_pages result }
-    ensures rest { P.rest lender.new ≡ P.rest lender.old }
+    ensures lent { HasLent (given_pages asked_pages result) (P.stock lender.old) (P.stock lender.new) }
 {
     let size = head_size(version);
     let mut room = [0; 34];
@@ -91,14 +88,12 @@ fn pull_small<S: Source, P: Lender>(
     requires allowed { allows (frame_rows version) code len ≡ true }
     requires other { 1 < code }
     ensures frame { IfOk result (λ found. IfSome found (TookPayload (S.left source.old) (S.left source.new)
-        (record { version = version; code = code; len = len }) (P.free lender.old))) }
+        (record { version = version; code = code; len = len }) (P.stock lender.old).free)) }
     ensures none { IfOk result (λ found. IfNone found (TookBadField (S.left source.old) (S.left source.new)
         (record { version = version; code = code; len = len }))) }
     ensures stopped { Stopped (S.left source.old) (S.left source.new) len result }
     ensures causes { PullCauses (S.left source.old) (S.left source.new) len (S.faults source.old) (S.faults source.new) result }
-    ensures free { P.free lender.new + given_pages found_pages result ≡ P.free lender.old }
-    ensures out { P.out lender.new ≡ P.out lender.old + given_pages found_pages result }
-    ensures rest { P.rest lender.new ≡ P.rest lender.old }
+    ensures lent { HasLent (given_pages found_pages result) (P.stock lender.old) (P.stock lender.new) }
 {
     let payload = &mut buffer[..len as usize];
     pull(source, payload)?;
@@ -117,14 +112,12 @@ fn pull_payload<S: Source, P: Lender>(
     requires known { has_code (frame_rows version) code ≡ true }
     requires allowed { allows (frame_rows version) code len ≡ true }
     ensures frame { IfOk result (λ found. IfSome found (TookPayload (S.left source.old) (S.left source.new)
-        (record { version = version; code = code; len = len }) (P.free lender.old))) }
+        (record { version = version; code = code; len = len }) (P.stock lender.old).free)) }
     ensures none { IfOk result (λ found. IfNone found (TookBadField (S.left source.old) (S.left source.new)
         (record { version = version; code = code; len = len }))) }
     ensures stopped { Stopped (S.left source.old) (S.left source.new) len result }
     ensures causes { PullCauses (S.left source.old) (S.left source.new) len (S.faults source.old) (S.faults source.new) result }
-    ensures free { P.free lender.new + given_pages found_pages result ≡ P.free lender.old }
-    ensures out { P.out lender.new ≡ P.out lender.old + given_pages found_pages result }
-    ensures rest { P.rest lender.new ≡ P.rest lender.old }
+    ensures lent { HasLent (given_pages found_pages result) (P.stock lender.old) (P.stock lender.new) }
 {
     if code > 1 {
         return pull_small(source, buffer, lender, version, code, len);
@@ -148,13 +141,11 @@ fn read_payload<S: Source, P: Lender>(
     requires known { has_code (frame_rows place.version) (slice_index head.now 0) ≡ true }
     requires allowed { allows (frame_rows place.version) (slice_index head.now 0) (told_length head.now) ≡ true }
     ensures frame { IfOk result
-        (TookPayload (S.left source.old) (S.left source.new) (head_in place.version head.now) (P.free lender.old)) }
+        (TookPayload (S.left source.old) (S.left source.new) (head_in place.version head.now) (P.stock lender.old).free) }
     ensures fault { IfErr result
         (BlamesPayload (head_in place.version head.now) place.offset (S.left source.old) (S.left source.new)) }
     ensures causes { ReadCauses (S.faults source.old) (S.faults source.new) result }
-    ensures free { P.free lender.new + given_pages frame_pages result ≡ P.free lender.old }
-    ensures out { P.out lender.new ≡ P.out lender.old + given_pages frame_pages result }
-    ensures rest { P.rest lender.new ≡ P.rest lender.old }
+    ensures lent { HasLent (given_pages frame_pages result) (P.stock lender.old) (P.stock lender.new) }
 {
     let offset = place.offset;
     match pull_payload(
@@ -187,12 +178,10 @@ fn read_frame<S: Source, P: Lender>(
     place: Place,
 ) -> Result<(Frame, u64), FrameFault>
     ensures frame { IfOk result (λ x. StoodAt limit (record { place = place; left = S.left source.old })
-        (record { place = record place { offset = x.1 }; left = S.left source.new }) (P.free lender.old) x.0) }
+        (record { place = record place { offset = x.1 }; left = S.left source.new }) (P.stock lender.old).free x.0) }
     ensures fault { IfErr result (BlamesAt limit place (S.left source.old) (S.left source.new)) }
     ensures causes { ReadCauses (S.faults source.old) (S.faults source.new) result }
-    ensures free { P.free lender.new + given_pages (λ x. frame_pages x.0) result ≡ P.free lender.old }
-    ensures out { P.out lender.new ≡ P.out lender.old + given_pages (λ x. frame_pages x.0) result }
-    ensures rest { P.rest lender.new ≡ P.rest lender.old }
+    ensures lent { HasLent (given_pages (λ x. frame_pages x.0) result) (P.stock lender.old) (P.stock lender.new) }
 {
     let mut head = [0; 5];
     let count = match fill(source, &mut head) {
@@ -301,12 +290,10 @@ impl FrameReader {
         source: &mut S,
         lender: &mut P,
     ) -> Result<Frame, FrameFault>
-        ensures gave { IfOk result (λ f. Gave self.old (P.free lender.old) f self.new (S.left source.old) (S.left source.new)) }
+        ensures gave { IfOk result (λ f. Gave self.old (P.stock lender.old).free f self.new (S.left source.old) (S.left source.new)) }
         ensures blames { IfErr result (λ e. Blames self.old (S.left source.old) (S.left source.new) e × (self.new ≡ self.old)) }
         ensures causes { ReadCauses (S.faults source.old) (S.faults source.new) result }
-        ensures free { P.free lender.new + given_pages frame_pages result ≡ P.free lender.old }
-        ensures out { P.out lender.new ≡ P.out lender.old + given_pages frame_pages result }
-        ensures rest { P.rest lender.new ≡ P.rest lender.old }
+        ensures lent { HasLent (given_pages frame_pages result) (P.stock lender.old) (P.stock lender.new) }
     {
         let place = match begin(source, self.newest, self.place) {
             Ok(place) => place,
@@ -330,7 +317,7 @@ impl FrameReader {
         source: &mut S,
         lender: &mut P,
     ) -> Result<Frame, FrameFault>
-        ensures gave { IfOk result (λ f. Gave self.old (P.free lender.old) f self.new (S.left source.old) (S.left source.new)) }
+        ensures gave { IfOk result (λ f. Gave self.old (P.stock lender.old).free f self.new (S.left source.old) (S.left source.new)) }
 
         // A refusal is repeated; a first one is that of the bytes left, or a read has failed.
         ensures repeats { IfSome self.old.refused
@@ -340,9 +327,7 @@ impl FrameReader {
         ensures causes { self.old.refused ≡ None → ReadCauses (S.faults source.old) (S.faults source.new) result }
 
         // As many pages are lent as the frame has.
-        ensures free { P.free lender.new + given_pages frame_pages result ≡ P.free lender.old }
-        ensures out { P.out lender.new ≡ P.out lender.old + given_pages frame_pages result }
-        ensures rest { P.rest lender.new ≡ P.rest lender.old }
+        ensures lent { HasLent (given_pages frame_pages result) (P.stock lender.old) (P.stock lender.new) }
     {
         if let Some(fault) = self.refused {
             return Err(fault);

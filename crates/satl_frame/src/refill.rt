@@ -1,6 +1,7 @@
 // Data-out from the source into pages, in large reads.
 ghost use Rattle.std.specs.Prelude.{◌≡◌, ◌<◌, ◌≤◌, ◌+◌, ◌-◌, ◌*◌, ◌^◌, ◌++◌, [], IfOk, OnOk, length, take, drop, reverse};
 ghost use Rattle.satl_base.specs.Blocks.{zero_bytes};
+ghost use Rattle.satl_base.specs.Stocks.{HasLent};
 ghost use Rattle.satl_frame.specs.DataPages.{page_count};
 ghost use Rattle.satl_frame.specs.Pulls.{PullCauses, Stopped, TookCount, TookPages, FilledInReverse, given_pages};
 
@@ -94,12 +95,10 @@ pub fn pull_by<S: Source, P: Lender>(
     lender: &mut P,
     len: u32,
 ) -> Result<Pages, PullError>
-    ensures filled { IfOk result (TookPages (S.left source.old) (S.left source.new) len (P.free lender.old)) }
+    ensures filled { IfOk result (TookPages (S.left source.old) (S.left source.new) len (P.stock lender.old).free) }
     ensures stopped { Stopped (S.left source.old) (S.left source.new) len result }
     ensures causes { PullCauses (S.left source.old) (S.left source.new) len (S.faults source.old) (S.faults source.new) result }
-    ensures free { P.free lender.new + given_pages length result ≡ P.free lender.old }
-    ensures out { P.out lender.new ≡ P.out lender.old + given_pages length result }
-    ensures rest { P.rest lender.new ≡ P.rest lender.old }
+    ensures lent { HasLent (given_pages length result) (P.stock lender.old) (P.stock lender.new) }
 {
     if len == 0 {
         return Ok(Pages::default());
@@ -127,12 +126,10 @@ pub fn pull_data<S: Source, P: Lender>(
     lender: &mut P,
     len: u32,
 ) -> Result<Pages, PullError>
-    ensures filled { IfOk result (TookPages (S.left source.old) (S.left source.new) len (P.free lender.old)) }
+    ensures filled { IfOk result (TookPages (S.left source.old) (S.left source.new) len (P.stock lender.old).free) }
     ensures stopped { Stopped (S.left source.old) (S.left source.new) len result }
     ensures causes { PullCauses (S.left source.old) (S.left source.new) len (S.faults source.old) (S.faults source.new) result }
-    ensures free { P.free lender.new + given_pages length result ≡ P.free lender.old }
-    ensures out { P.out lender.new ≡ P.out lender.old + given_pages length result }
-    ensures rest { P.rest lender.new ≡ P.rest lender.old }
+    ensures lent { HasLent (given_pages length result) (P.stock lender.old) (P.stock lender.new) }
 {
     pull_by(source, &mut [0; CHUNK], lender, len)
 }

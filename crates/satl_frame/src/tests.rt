@@ -44,11 +44,7 @@ fn put_before(pages: Pages, others: &mut Pages)
 impl Lender for Shelf {
     type Rest = ();
 
-    ghost free = { λ s. length s.free };
-
-    ghost out = { λ s. s.out };
-
-    ghost rest = { λ _. tt };
+    ghost stock = { λ s. record { free = length s.free; out = s.out; rest = tt } };
 
     fn room(&self) -> u32 {
         self.free.blocks()

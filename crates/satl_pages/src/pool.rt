@@ -155,11 +155,7 @@ fn join(pieces: &mut ArrayVec<Pages, 64>, others: &mut Pages)
 impl Lender for Pool {
     type Rest = ();
 
-    ghost free = { λ p. p.free };
-
-    ghost out = { λ p. p.out };
-
-    ghost rest = { λ _. tt };
+    ghost stock = { λ p. record { free = p.free; out = p.out; rest = tt } };
 
     fn room(&self) -> u32 {
         self.free()

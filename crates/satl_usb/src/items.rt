@@ -1,5 +1,6 @@
 // Items are read, however the reads are cut.
 ghost use Rattle.std.specs.Prelude.{◌≡◌, ◌≤◌, ◌+◌, IfErr, IfOk};
+ghost use Rattle.satl_base.specs.Stocks.{HasLent};
 ghost use Rattle.satl_frame.specs.Pulls.{given_pages};
 ghost use Rattle.satl_usb.specs.Items.{item_limit, sent_length};
 ghost use Rattle.satl_usb.specs.Reading.{HeadMissed, HeadRead, ItemCauses, ItemMissed, ItemRead, pages_read};
@@ -75,12 +76,10 @@ pub fn next_item<S: Source, P: Lender>(
     offset: u64,
 ) -> Result<Option<Taken>, ItemFault>
     requires near { offset ≤ item_limit }
-    ensures read { IfOk result (ItemRead item_limit offset (P.free lender.old) (S.left source.old) (S.left source.new)) }
+    ensures read { IfOk result (ItemRead item_limit offset (P.stock lender.old).free (S.left source.old) (S.left source.new)) }
     ensures missed { IfErr result (ItemMissed item_limit offset (S.left source.old) (S.left source.new)) }
     ensures causes { ItemCauses (S.faults source.old) (S.faults source.new) result }
-    ensures free { P.free lender.new + given_pages pages_read result ≡ P.free lender.old }
-    ensures out { P.out lender.new ≡ P.out lender.old + given_pages pages_read result }
-    ensures rest { P.rest lender.new ≡ P.rest lender.old }
+    ensures lent { HasLent (given_pages pages_read result) (P.stock lender.old) (P.stock lender.new) }
 {
     let Some(command) = read_head(source)? else {
         return Ok(None);

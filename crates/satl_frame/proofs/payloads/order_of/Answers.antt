@@ -11,6 +11,6 @@ returns-clause-found g c =
     record {
       whole = Order (drop 1 p);
       is_event = (omega (arith, size), omega (arith, size));
-      cut = ap Order (c.lend.ensures.bytes ∙ ap (λ (xs : List ℕ). take (512 * g.P.Lender.free c.args.lender.now) xs) (take_all (length p - 1) (drop 1 p) (omega (arith, size))));
+      cut = ap Order (c.lend.ensures.bytes ∙ ap (λ (xs : List ℕ). take (512 * (g.P.Lender.stock c.args.lender.now).free) xs) (take_all (length p - 1) (drop 1 p) (omega (arith, size))));
       fields_are = ap (λ (x : ℕ). x ∷ drop 1 p) (sym c.requires.event) ∙ first_of p c.requires.some;
     }

@@ -23,8 +23,8 @@ frames-init g c = record {
 pub serve_event-requires : goal.serve_event-requires
 serve_event-requires g c = record {
   can = record {
-    tied = tied_lent c.frames.satl c.next.new.lender (g.D.Drive.state c.frames.drive) c.in-Ok.ensures.rest c.frames.invariant.tied;
-    can = can_take _ _ _ c.next.new.lender.free c.frames.satl.out c.next.new.lender.out c.in-Ok.frame _ _ c.in-Ok.ensures.gave c.frames.invariant.all_in c.in-Ok.ensures.free c.in-Ok.ensures.out;
+    tied = tied_lent c.frames.satl c.next.new.lender (g.D.Drive.state c.frames.drive) c.in-Ok.ensures.lent.rest c.frames.invariant.tied;
+    can = can_take _ _ _ c.next.new.lender.free c.frames.satl.out c.next.new.lender.out c.in-Ok.frame _ _ c.in-Ok.ensures.gave c.frames.invariant.all_in c.in-Ok.ensures.lent.free c.in-Ok.ensures.lent.out;
     none = c.frames.invariant.none;
   };
 }
@@ -34,7 +34,7 @@ frames-smaller g c = nearer c.in-Ok.ensures.gave
 
 pub returns-in-Err-serve_event-clause-ran : goal.returns-in-Err-serve_event-clause-ran
 returns-in-Err-serve_event-clause-ran g c =
-    let same = ap (λ (l : Layer). view l (g.D.Drive.state c.frames.drive)) c.in-Ok.ensures.rest in
+    let same = ap (λ (l : Layer). view l (g.D.Drive.state c.frames.drive)) c.in-Ok.ensures.lent.rest in
     record {
       ended = tt;
       stopped = part_more g.T.Teller.told g.T.Teller.behind (loop_state c.args.reader.now (g.S.Source.left c.args.source.now) (scene_of c.args.satl.now (g.D.Drive.state c.args.drive.now) c.args.steps.now c.args.teller.now (g.K.Sink.written c.args.sink.now))) (loop_state c.frames.reader (g.S.Source.left c.frames.source) (scene_of c.next.new.lender (g.D.Drive.state c.frames.drive) c.frames.steps c.frames.teller (g.K.Sink.written c.frames.sink))) _ c.frames.requests 0 _ c.in-Ok.frame
@@ -44,7 +44,7 @@ returns-in-Err-serve_event-clause-ran g c =
 
 pub returns-then-last-clause-ran : goal.returns-then-last-clause-ran
 returns-then-last-clause-ran g c =
-    let same = ap (λ (l : Layer). view l (g.D.Drive.state c.frames.drive)) c.in-Ok.ensures.rest in
+    let same = ap (λ (l : Layer). view l (g.D.Drive.state c.frames.drive)) c.in-Ok.ensures.lent.rest in
     record {
       ended = ended g.T.Teller.told g.T.Teller.behind (loop_state c.args.reader.now (g.S.Source.left c.args.source.now) (scene_of c.args.satl.now (g.D.Drive.state c.args.drive.now) c.args.steps.now c.args.teller.now (g.K.Sink.written c.args.sink.now))) (loop_state c.frames.reader (g.S.Source.left c.frames.source) (scene_of c.next.new.lender (g.D.Drive.state c.frames.drive) c.frames.steps c.frames.teller (g.K.Sink.written c.frames.sink))) _ c.frames.requests c.count_request-counted.result _ c.in-Ok.frame (sym c.is_end-last.ensures ∙ c.if-last.true)
           (lent g.T.Teller.told g.T.Teller.behind (loop_state c.args.reader.now (g.S.Source.left c.args.source.now) (scene_of c.args.satl.now (g.D.Drive.state c.args.drive.now) c.args.steps.now c.args.teller.now (g.K.Sink.written c.args.sink.now))) (loop_state c.frames.reader (g.S.Source.left c.frames.source) (scene_of c.frames.satl (g.D.Drive.state c.frames.drive) c.frames.steps c.frames.teller (g.K.Sink.written c.frames.sink))) (view c.next.new.lender (g.D.Drive.state c.frames.drive)) c.frames.requests same c.frames.invariant.going)
@@ -54,7 +54,7 @@ returns-then-last-clause-ran g c =
 
 pub frames-preserved : goal.frames-preserved
 frames-preserved g c =
-    let same = ap (λ (l : Layer). view l (g.D.Drive.state c.frames.drive)) c.in-Ok.ensures.rest in
+    let same = ap (λ (l : Layer). view l (g.D.Drive.state c.frames.drive)) c.in-Ok.ensures.lent.rest in
     let new = c.in-Ok.ensures.gave.new_is in
     record {
       tied = c.serve_event.ensures.leaves.tied;
@@ -69,4 +69,4 @@ frames-preserved g c =
     }
 
 pub returns-in-Err-clause-tied : goal.returns-in-Err-clause-tied
-returns-in-Err-clause-tied g c = tied_lent c.frames.satl c.next.new.lender (g.D.Drive.state c.frames.drive) c.in-Err.ensures.rest c.frames.invariant.tied
+returns-in-Err-clause-tied g c = tied_lent c.frames.satl c.next.new.lender (g.D.Drive.state c.frames.drive) c.in-Err.ensures.lent.rest c.frames.invariant.tied

@@ -13,9 +13,9 @@ returns-then-offset-from-clause-missed g c =
 
 pub returns-in-Ok-clause-read : goal.returns-in-Ok-clause-read
 returns-in-Ok-clause-read g c =
-    took_item item_limit c.args.offset (g.P.Lender.free c.args.lender.now) (g.S.Source.left c.args.source.now) (g.S.Source.left c.read_head.new.source) (g.S.Source.left c.pull_data.new.source) c.in-Some.command c.in-Ok.body
+    took_item item_limit c.args.offset (g.P.Lender.stock c.args.lender.now).free (g.S.Source.left c.args.source.now) (g.S.Source.left c.read_head.new.source) (g.S.Source.left c.pull_data.new.source) c.in-Some.command c.in-Ok.body
     (subst (HeadRead (g.S.Source.left c.args.source.now) (g.S.Source.left c.read_head.new.source)) c.in-Some.is c.in_ok-command.ensures.read)
-    (subst (λ n. TookPages (g.S.Source.left c.read_head.new.source) (g.S.Source.left c.pull_data.new.source) n (g.P.Lender.free c.args.lender.now) c.in-Ok.body) c.sent_length-length.ensures c.in-Ok.ensures.filled)
+    (subst (λ n. TookPages (g.S.Source.left c.read_head.new.source) (g.S.Source.left c.pull_data.new.source) n (g.P.Lender.stock c.args.lender.now).free c.in-Ok.body) c.sent_length-length.ensures c.in-Ok.ensures.filled)
     c.requires.near (omega (arith, c.if-offset-from.false, c.from.ensures, c.sent_length-length.ensures))
 
 pub returns-in-Err-Short-clause-missed : goal.returns-in-Err-Short-clause-missed

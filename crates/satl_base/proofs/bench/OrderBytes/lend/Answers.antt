@@ -19,10 +19,10 @@ invariant_of-result-2 g c = (c.requires, (placed g c).1 ∙ sym (paged g c))
 
 pub returns-clause-bytes : goal.returns-clause-bytes
 returns-clause-bytes g c =
-    (placed g c).0 ∙ sym (none_cut (g.P.Lender.free c.args.lender.now) c.args.bytes.now (omega (arith, c.lend-pages.ensures.free)) c.requires)
+    (placed g c).0 ∙ sym (none_cut (g.P.Lender.stock c.args.lender.now).free c.args.bytes.now (omega (arith, c.lend-pages.ensures.lent.free)) c.requires)
 
-pub returns-clause-free : goal.returns-clause-free
-returns-clause-free g c = let one = paged g c in let free = c.lend-pages.ensures.free in omega (arith, one, free)
-
-pub returns-clause-out : goal.returns-clause-out
-returns-clause-out g c = let one = paged g c in let out = c.lend-pages.ensures.out in omega (arith, one, out)
+pub returns-clause-lent : goal.returns-clause-lent
+returns-clause-lent g c =
+    let one = paged g c in
+    let lent = c.lend-pages.ensures.lent in
+    record { free = omega (arith, one, lent.free); out = omega (arith, one, lent.out); rest = lent.rest }
