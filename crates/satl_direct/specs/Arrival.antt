@@ -114,8 +114,9 @@ sense_asked ten long_lba no_descriptor control page = record {
   page = page;
 }
 
--- what becomes of a command whose fields and data-out are good: it is answered from what the device says of itself, or placed;
--- a SYNCHRONIZE CACHE is placed whatever its count is (SPC-4 6, SBC-3 5)
+-- what becomes of a command whose fields and data-out are good: it is answered from what the device says of itself; or, where
+-- it is TEST UNIT READY or has nothing to do, as `ready_reply` says; or it is placed. A SYNCHRONIZE CACHE is placed whatever
+-- its count is (SPC-4 6, SBC-3 5)
 abbrev pub becomes : Device → Request → Command → Arrival
 becomes s r commands.TestUnitReady = answered (ready_reply s r)
 becomes s r (commands.RequestSense descriptor alloc) = sense_told (slice_get (attentions_of r.nexus s) 0) r descriptor alloc
@@ -168,7 +169,8 @@ untold_codes = 0x12 ∷ 0xA0 ∷ 0x03 ∷ []
 abbrev pub attention_for : Device → Request → Option Attention
 attention_for s r = if is_in (operation_code r) untold_codes then None else slice_get (attentions_of r.nexus s) 0
 
--- what the CDB says, or that its operation code is unknown (SPC-4 4.3)
+-- what the CDB says, or that its operation code is not served, as that of UNMAP is not where the drive does not trim (SPC-4
+-- 4.3)
 abbrev pub code_arrival : Device → Request → Arrival
 code_arrival s r = cdb_arrival s r (says r.cdb s.identity.trim)
 

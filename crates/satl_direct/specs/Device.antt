@@ -29,10 +29,11 @@ use Rattle.satl_line.specs.declared.entry.Entry.{Entry}
 -- the device: its sectors; its tasks in order of arrival, each with its data-out alone in its pages; its mode values, WCE, DRA
 -- and D_SENSE; whether it is started, and active and not in standby; whether its drive's link is lost; the unit attention
 -- conditions of each nexus, from nexus 0 on, in the order of report; how many transfers may still end with a CRC error; and
--- what its drive says of itself. A task (`Entry`) has its nexus, tag, kind and attribute; its command; how many blocks it holds
--- room for, of data-out or of data-in (`blocks`); its data-out (`body`; room for data-in is not seen here); its ranges; what a
--- MODE SELECT changes (`modes`); and how many bytes of data-in its host takes, where it says so (`expected`) (SAM-5 4.8, task
--- set, and 5.14, unit attentions; SBC-3; glitches and lost links: profile)
+-- what its drive says of itself. A task (`Entry`) has its nexus, tag, kind (ranged, and whether it writes, or a barrier) and
+-- attribute; its command; how many blocks it holds room for, of data-out or of data-in (`blocks`); its data-out (`body`; room
+-- for data-in is not seen here); its ranges; what a MODE SELECT changes (`modes`); and how many bytes of data-in its host
+-- takes, where it says so (`expected`) (SAM-5 4.8, task set, and 5.14, unit attentions; SBC-3; glitches and lost links:
+-- profile)
 pub record Device : Type 0 where
   pub cells : List Cell
   pub tasks : List Entry

@@ -118,7 +118,7 @@ EndsInPieces range s t reply new =
     (IsTaskDone (record s { cells = whole s.cells writes; active = true }) t reply new)
     (λ at. (reply ≡ task_check s t (write_error at)) × IsPartlyWritten writes s t new)
 
--- VERIFY: a read flaw in its range, or it is done (SBC-3, VERIFY commands)
+-- VERIFY without comparison: a read flaw in its range, or it is done (SBC-3, VERIFY commands)
 abbrev pub EndsVerified : Range → Device → Entry → Reply → Device → Type 0
 EndsVerified range s t reply new =
     MatchOption (first_flaw flaws.Read s.cells range.lba range.count)

@@ -30,7 +30,7 @@ found false = Complete
 -- each other nexus that had one. LOGICAL UNIT RESET: all tasks go, and BUS DEVICE RESET FUNCTION OCCURRED is posted for each
 -- nexus. I_T NEXUS RESET: all tasks of the nexus go, and I_T NEXUS LOSS OCCURRED is posted for it. These five answer FUNCTION
 -- COMPLETE, also where no task went. QUERY TASK and QUERY TASK SET change nothing, and answer FUNCTION SUCCEEDED where there is
--- such a task, else FUNCTION COMPLETE (SAM-5 7.2 to 7.9)
+-- a task of this nexus and tag, or for QUERY TASK SET any task of the nexus, else FUNCTION COMPLETE (SAM-5 7.2 to 7.9)
 abbrev pub effect_of : Function → Manage → Device → Effect
 effect_of AbortTask m s = record { goes = is_called m.nexus (m.tag).0; attentions = s.attentions; response = Complete }
 effect_of AbortTaskSet m s = record { goes = is_of m.nexus; attentions = s.attentions; response = Complete }

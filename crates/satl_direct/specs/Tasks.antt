@@ -1,5 +1,5 @@
 -- What commands ask of the device, and the tasks that they become (SBC-3 5, SPC-4 6, SAT-3). `Illegal` is a refusal: its
--- additional sense codes, and the byte at fault where there is one.
+-- additional sense codes, the byte at fault where there is one, and whether that byte is of the CDB or of the data-out.
 use Rattle.std.specs.Prelude.{ℕ, ◌+◌, ◌*◌, ◌==◌, ◌||◌, ◌&&◌, not, nat_lt, Bool, true, false, if◌then◌else◌, List, [], ◌∷◌, length, take, get_or, Option, Some, None, Result, Ok, Err}
 use Rattle.std.specs.List.{list_all}
 use Rattle.satl_base.specs.declared.block.Block.{Block}
@@ -71,7 +71,8 @@ nothing = record {
 abbrev pub over_range : ℕ → ℕ → Asks
 over_range lba count = record nothing { range = over lba count; starts = true }
 
--- a MODE SELECT: its list is judged, and what it sets is kept (SPC-4, MODE SELECT commands)
+-- a MODE SELECT: its list is judged, and what it sets is its change; of the list itself nothing is kept (SPC-4, MODE SELECT
+-- commands)
 abbrev pub asks_select : Bool → ℕ → Asks
 asks_select ten length = record nothing {
   needed = length;
