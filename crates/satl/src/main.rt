@@ -8,7 +8,7 @@
 ghost use Rattle.std.specs.Prelude.{◌≡◌, IfOk, map, vec_len};
 ghost use Rattle.std.specs.List.{AllByRecursion};
 ghost use Rattle.satl_disk.specs.Disk.{state_of};
-ghost use Rattle.satl_fleet.specs.Opening.{IsServable};
+ghost use Rattle.satl_barrier.specs.Leaving.{IsFree};
 
 use satl_base::NoMemory;
 use satl_disk::ModelDrive;
@@ -48,7 +48,7 @@ fn words_of(rt: &HostRuntime) -> Result<Option<Vec<RcStr>>, NoMemory> {
 /// The modelled drives.
 fn modelled(alloc: Global) -> Result<Vec<ModelDrive>, NoMemory>
     ensures count { IfOk result (λ drives. vec_len drives ≡ 4) }
-    ensures servable { IfOk result (λ drives. AllByRecursion IsServable (map state_of drives.items)) }
+    ensures free { IfOk result (λ drives. AllByRecursion IsFree (map state_of drives.items)) }
 {
     let mut drives = Vec::new(alloc);
     for _ in 0..DRIVES {

@@ -1,5 +1,5 @@
 -- What becomes of a request that the auditor knows.
-use Rattle.std.specs.Prelude.{◌≡◌, ℕ, ◌*◌, ◌≤◌, Bool, true, false, if◌then◌else◌, List, [], ◌++◌, map, take, drop, Option, Some, None, Result, Ok, Err, slice_get, slice_index_or, slice_set}
+use Rattle.std.specs.Prelude.{◌≡◌, ℕ, ◌*◌, ◌≤◌, Bool, true, false, if◌then◌else◌, List, [], ◌++◌, map, take, Option, None, Result, Ok, Err, slice_get, slice_index_or}
 use Rattle.std.specs.List.{list_any}
 use Rattle.satl_base.specs.declared.block.Block.{Block}
 use Rattle.satl_base.specs.declared.request.Request.{Request}
@@ -49,14 +49,10 @@ BecomesJudged command result =
 abbrev pub bare_task : Bool → Request → Command → Entry
 bare_task queued_trim r command = record (task_for queued_trim r command) { body = [] }
 
--- the unit attention condition that a request is answered with, and the conditions once that was told (SAM-5 5.14)
+-- the unit attention condition that a request is answered with (SAM-5 5.14)
 abbrev pub attention_told : List (List Attention) → Request → Option Attention
 attention_told attentions r =
     if is_in (operation_code r) untold_codes then None else slice_get (slice_index_or attentions r.nexus []) 0
-
-abbrev pub attentions_after : Option Attention → ℕ → List (List Attention) → List (List Attention)
-attentions_after None nexus attentions = attentions
-attentions_after (Some what) nexus attentions = slice_set attentions nexus (drop 1 (slice_index_or attentions nexus []))
 
 -- the device of a record but for its sectors (profile)
 abbrev pub device_without_sectors : Identity → List ℕ → List Placed → List (List Attention) → Device

@@ -2,7 +2,8 @@
 ghost use Rattle.std.specs.Prelude.{◌≡◌, ◌+◌, ◌≤◌, ℕ, [], true, false, None, IfOk, replicate};
 ghost use Rattle.satl_cdb.specs.Table.{says};
 ghost use Rattle.satl_cover.specs.Known.{is_known};
-ghost use Rattle.satl_audit.specs.Arriving.{CannotPlace, Goes, Places, Sticks, attention_told, attentions_after};
+ghost use Rattle.satl_audit.specs.Arriving.{CannotPlace, Goes, Places, Sticks, attention_told};
+ghost use Rattle.satl_direct.specs.Device.{untold};
 ghost use Rattle.satl_audit.specs.Waiting.{AllFit, MayWait};
 
 use crate::cursor::Cursor;
@@ -51,7 +52,7 @@ impl<'a> Steps<'a> {
 /// The unit attention that a request is answered with, which is told by that (SAM-5 5.14).
 fn next_attention(attentions: &mut [Attentions; 4], request: &Request) -> Option<Attention>
     ensures next { result ≡ attention_told attentions.old request.now }
-    ensures left { attentions.new ≡ attentions_after result request.now.nexus attentions.old }
+    ensures left { attentions.new ≡ untold result request.now.nexus attentions.old }
 {
     if is_untold(request.cdb[0]) {
         return None;

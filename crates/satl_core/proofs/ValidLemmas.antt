@@ -23,7 +23,7 @@ use Rattle.satl_drive.specs.State.{DriveState, IsFit}
 use Rattle.satl_base.specs.Identify.{has_cache, has_look}
 use Rattle.satl_sense.specs.declared.sense.Sense.{Sense}
 use Rattle.satl_direct.specs.Arrival.{waits}
-use Rattle.satl_direct.specs.Device.{Device, is_called, is_of, once_told}
+use Rattle.satl_direct.specs.Device.{Device, is_called, is_of, once_told, untold}
 use Rattle.satl_direct.specs.Tasks.{held_blocks, held_by, is_full, task_for, task_of}
 use Rattle.satl_direct.specs.Valid.{HasCome, IsValid}
 use Rattle.satl_direct.proofs.Conditions.{valid_attended}
@@ -38,7 +38,7 @@ use Rattle.satl_base.specs.Limits.{IsExpectable}
 use Rattle.satl_core.proofs.AgreeingLemmas.{agrees_by, capacity_is, idle_in_flight, valid_fewer}
 use Rattle.satl_core.specs.Leaving.{left_by}
 use Rattle.satl_asks.specs.Requests.{is_for_unit}
-use Rattle.satl_core.specs.Submitting.{Becomes, FindsSetFull, IsAdded, attention_of, code_answer, judged, once_judged, overlaps, task_without_pages, untold}
+use Rattle.satl_core.specs.Submitting.{Becomes, FindsSetFull, IsAdded, attention_of, code_answer, judged, once_judged, overlaps, task_without_pages}
 use Rattle.satl_barrier.specs.Leaving.{Stays}
 use Rattle.satl_core.proofs.TieLemmas.{bytes_long, has_as_noted, queue_alike}
 use Rattle.satl_core.proofs.ArrivalLemmas.{code_waits, full_is, full_or_waits}

@@ -1,5 +1,5 @@
 -- What the layer is asked with, and what becomes of it.
-use Rattle.std.specs.Prelude.{◌≡◌, ◌⊎◌, ℕ, ◌*◌, ◌+◌, ◌≤◌, ◌<◌, ◌==◌, ◌||◌, ◌&&◌, not, nat_lt, Bool, true, false, if◌then◌else◌, Option, Some, None, Result, Ok, Err, List, [], ◌∷◌, ◌++◌, length, map, take, drop, is_some, slice_get, slice_index, slice_index_or, slice_set, MatchBool}
+use Rattle.std.specs.Prelude.{◌≡◌, ◌⊎◌, ℕ, ◌*◌, ◌+◌, ◌≤◌, ◌<◌, ◌==◌, ◌||◌, ◌&&◌, not, nat_lt, Bool, true, false, if◌then◌else◌, Option, Some, None, Result, Ok, Err, List, [], ◌∷◌, ◌++◌, length, map, take, is_some, slice_get, slice_index, slice_index_or, MatchBool}
 use Rattle.std.specs.List.{list_all, position_from}
 use Rattle.satl_base.specs.declared.block.Block.{Block}
 use Rattle.satl_base.specs.declared.request.Request.{Request}
@@ -20,7 +20,7 @@ use Rattle.satl_regs.specs.Trim.{trim_block}
 use Rattle.satl_line.specs.declared.entry.Entry.{Entry}
 use Rattle.satl_unit.specs.declared.attention.Attention.{Attention}
 use Rattle.satl_direct.specs.Arrival.{asks_for, good_with_data, operation_code, reply_to, sense_asked, untold_codes}
-use Rattle.satl_direct.specs.Device.{is_of}
+use Rattle.satl_direct.specs.Device.{is_of, untold}
 use Rattle.satl_direct.specs.Senses.{attention_sense, link_lost, no_sense, not_ready, out_of_range, overlapped, refusal, sense_text, short_data, unknown_unit}
 use Rattle.satl_direct.specs.Tasks.{asks, needed, range_of, task_for, task_of}
 use Rattle.satl_asks.specs.Commands.{IsList}
@@ -176,11 +176,6 @@ sense_data cdb sense = at_once.Tell (datas.Sense (bit 1 0 cdb) sense) (bytes 4 4
 abbrev pub tell_attention : Attention → List ℕ → AtOnce
 tell_attention what cdb =
     if slice_index cdb 0 == 0x03 then sense_data cdb (attention_sense what) else at_once.Check (attention_sense what)
-
--- the conditions once a nexus was told one, if it was (SAM-5 5.14)
-abbrev pub untold : Option Attention → ℕ → List (List Attention) → List (List Attention)
-untold None nexus attentions = attentions
-untold (Some what) nexus attentions = slice_set attentions nexus (drop 1 (slice_index_or attentions nexus []))
 
 -- a unit attention, and without one what follows (profile)
 abbrev pub attention_answer : Option Attention → List ℕ → Result Command AtOnce → Result Command AtOnce

@@ -5,7 +5,8 @@ ghost use Rattle.satl_base.specs.declared.request.Request.{Request};
 ghost use Rattle.satl_base.specs.Bench.{event_pages};
 ghost use Rattle.satl_io.specs.Causes.{Rose, RoseBy};
 ghost use Rattle.satl_regs.specs.Sectors.{IsLeftBehind};
-ghost use Rattle.satl_drive.specs.State.{DriveState, IsFit};
+ghost use Rattle.satl_drive.specs.State.{DriveState};
+ghost use Rattle.satl_barrier.specs.Leaving.{IsFree};
 ghost use Rattle.satl_frame.specs.Output.{IsWritable};
 ghost use Rattle.satl_direct.specs.Arrival.{Arrives};
 ghost use Rattle.satl_direct.specs.Tasks.{asks, held_blocks, needed};
@@ -124,9 +125,7 @@ impl Satl {
         drive: &mut D,
         steps: &mut Steps<L>,
     ) -> Result<Satl, OpenFault>
-        requires idle { (D.state drive.old).outstanding ≡ [] }
-        requires no_error { (D.state drive.old).error ≡ None }
-        requires fit { IsFit (D.state drive.old) }
+        requires { IsFree (D.state drive.old) }
         ensures opened { IfOk result (λ s. IsOpened (D.state drive.old) s (D.state drive.new)) }
         ensures cause { IfErr result (IsCause (D.state drive.old) (D.state drive.new)) }
         ensures alone { OnErr result (IsUndisturbed (D.state drive.old) (D.state drive.new)) }

@@ -11,7 +11,8 @@ ghost use Rattle.satl_direct.specs.Tasks.{asks, data_out_kept, held_blocks, need
 ghost use Rattle.satl_core.specs.Layer.{entry_pages, reply_pages};
 ghost use Rattle.satl_base.specs.Limits.{IsExpectable};
 ghost use Rattle.satl_asks.specs.Commands.{CanPass, HasList, IsList};
-ghost use Rattle.satl_core.specs.Submitting.{HasEntries, HasLengths, HasListUnlessEmpty, HoldsList, answer_to, attention_of, code_answer, command_answer, data_answer, fault_of_block, is_idle, other_answer, readiness, reply_at_once, sense_data, task_without_pages, tell_attention, trims, unless_idle, unmap_list_fault, untold};
+ghost use Rattle.satl_core.specs.Submitting.{HasEntries, HasLengths, HasListUnlessEmpty, HoldsList, answer_to, attention_of, code_answer, command_answer, data_answer, fault_of_block, is_idle, other_answer, readiness, reply_at_once, sense_data, task_without_pages, tell_attention, trims, unless_idle, unmap_list_fault};
+ghost use Rattle.satl_direct.specs.Device.{untold};
 
 use crate::satl::Satl;
 use satl_asks::{

@@ -18,7 +18,7 @@
 -- posted, told     a unit attention condition is posted for a nexus, and is told, by which it goes, in one answer. There are
 --                  five, in this order of report: POWER ON OCCURRED, BUS DEVICE RESET FUNCTION OCCURRED, I_T NEXUS LOSS
 --                  OCCURRED, COMMANDS CLEARED BY ANOTHER INITIATOR, MODE PARAMETERS CHANGED
-use Rattle.std.specs.Prelude.{ℕ, ◌==◌, not, Bool, ◌&&◌, List, [], slice_index_or, slice_set, drop, filter}
+use Rattle.std.specs.Prelude.{ℕ, ◌==◌, not, Bool, ◌&&◌, List, [], Option, Some, None, slice_index_or, slice_set, drop, filter}
 use Rattle.satl_base.specs.declared.modes.Modes.{Modes}
 use Rattle.satl_base.specs.Cells.{Cell}
 use Rattle.satl_base.specs.Lists.{remove_first}
@@ -68,3 +68,8 @@ attentions_of nexus s = slice_index_or s.attentions nexus []
 -- the device once the first condition of a nexus is told (SAM-5 5.14)
 abbrev pub once_told : ℕ → Device → Device
 once_told nexus s = record s { attentions = slice_set s.attentions nexus (drop 1 (attentions_of nexus s)) }
+
+-- the conditions of all nexuses once one of them was told its first, if it was (SAM-5 5.14)
+abbrev pub untold : Option Attention → ℕ → List (List Attention) → List (List Attention)
+untold None nexus attentions = attentions
+untold (Some what) nexus attentions = slice_set attentions nexus (drop 1 (slice_index_or attentions nexus []))

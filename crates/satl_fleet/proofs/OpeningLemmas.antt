@@ -9,7 +9,8 @@ use Rattle.satl_core.specs.Layer.{Layer}
 use Rattle.satl_core.specs.Opening.{IsCause}
 use Rattle.satl_core.specs.Opening.IsUndisturbed.{untouched, written_back}
 use Rattle.satl_core.specs.declared.satl.OpenFault.{OpenFault}
-use Rattle.satl_fleet.specs.Opening.{IsCauseOfOne, IsLeftAlone, IsServable, Opens, OpensTo}
+use Rattle.satl_barrier.specs.Leaving.{IsFree}
+use Rattle.satl_fleet.specs.Opening.{IsCauseOfOne, IsLeftAlone, Opens, OpensTo}
 use Rattle.satl_fleet.specs.Opening.OpensTo.{rest, more}
 use Rattle.satl_fleet.specs.Runs.{HasNoTask}
 use Rattle.satl_fleet.specs.Units.{IsReady, unit_states}
@@ -71,8 +72,8 @@ module _ {D : Type 0} (f : D → DriveState) (olds : List DriveState) (ls : List
   there : slice_get (map f ds) k ≡ Some (f d)
   there = get-map f ds k d (some_at ds k d small is)
 
-  pub able : AllByRecursion IsServable olds → IsServable (f d)
-  able all = all_at IsServable olds k (f d) all (next_is (f d) k to long there)
+  pub able : AllByRecursion IsFree olds → IsFree (f d)
+  able all = all_at IsFree olds k (f d) all (next_is (f d) k to long there)
 
   pub opened_more : (new : D) (l : Layer) → Opens (f d) l (f new) → OpensTo olds (ls ++ l ∷ []) (map f (slice_set ds k new))
   opened_more new l o = subst (OpensTo olds (ls ++ l ∷ [])) (sym (map-set f ds k new)) (opens_push (f d) (f new) l k to long there o)
@@ -89,7 +90,7 @@ pub all_ready : {olds news : List DriveState} {ls : List Layer} → OpensTo olds
 all_ready rest = tt
 all_ready (more o os) = (record { tied = record { tied = o.opened.tied; queue = o.queue }; all_in = o.opened.out }, all_ready os)
 
-pub all_idle : {olds news : List DriveState} {ls : List Layer} → AllByRecursion IsServable olds → OpensTo olds ls news → AllByRecursion HasNoTask (unit_states ls news)
+pub all_idle : {olds news : List DriveState} {ls : List Layer} → AllByRecursion IsFree olds → OpensTo olds ls news → AllByRecursion HasNoTask (unit_states ls news)
 all_idle able rest = tt
 all_idle {olds = d ∷ ds} {news = w ∷ ws} able (more o os) =
     (record { tasks = o.opened.tasks; covers = let none = ap length (ap (λ (x : DriveState). x.outstanding) o.opened.stays ∙ able.0.idle) in omega (arith, none) }, all_idle able.1 os)

@@ -1,16 +1,10 @@
 -- The units of a target are opened, each on its drive (SAT-3 8.1, IDENTIFY DEVICE; profile).
-use Rattle.std.specs.Prelude.{◌≡◌, ◌⊎◌, List, [], ◌∷◌, None, map}
-use Rattle.satl_drive.specs.State.{DriveState, IsFit}
+use Rattle.std.specs.Prelude.{◌≡◌, ◌⊎◌, List, [], ◌∷◌, map}
+use Rattle.satl_drive.specs.State.{DriveState}
 use Rattle.satl_core.specs.Layer.{Layer}
 use Rattle.satl_core.specs.Opening.{IsCause, IsOpened, IsUndisturbed}
 use Rattle.satl_core.specs.Tie.{TiesQueue}
 use Rattle.satl_core.specs.declared.satl.OpenFault.{OpenFault}
-
--- a drive has nothing outstanding and is in no error state, and its IDENTIFY DEVICE data fit it (profile)
-pub record IsServable (d : DriveState) : Type 0 where
-  pub idle : d.outstanding ≡ []
-  pub no_error : d.error ≡ None
-  pub fit : IsFit d
 
 -- a drive was at most asked for its IDENTIFY DEVICE data: it stays as it was, but for entries that its sectors may be left
 -- with, and, where its link was lost meanwhile, for what that does; each sector reads as before; it was not unplugged (profile)

@@ -1,7 +1,8 @@
 // The units of a target are opened.
 ghost use Rattle.std.specs.Prelude.{◌≡◌, ◌≤◌, ◌+◌, [], IfErr, IfOk, OnErr, map, vec_len};
 ghost use Rattle.std.specs.List.{AllByRecursion, AllZip};
-ghost use Rattle.satl_fleet.specs.Opening.{IsCauseOfOne, IsLeftAlone, IsServable, OpensTo};
+ghost use Rattle.satl_barrier.specs.Leaving.{IsFree};
+ghost use Rattle.satl_fleet.specs.Opening.{IsCauseOfOne, IsLeftAlone, OpensTo};
 
 use satl_base::Steps;
 use satl_core::{OpenFault, Satl};
@@ -17,7 +18,7 @@ pub fn open_units<D: Bench, L: Ledger>(
     drives: &mut Vec<D>,
     steps: &mut Steps<L>,
 ) -> Result<Vec<Satl>, OpenFault>
-    requires servable { AllByRecursion IsServable (map D.state drives.old.items) }
+    requires free { AllByRecursion IsFree (map D.state drives.old.items) }
     requires few { vec_len drives.old ≤ 4 }
     ensures opened { IfOk result (λ units. OpensTo (map D.state drives.old.items) units.items (map D.state drives.new.items)) }
     ensures each { IfOk result (λ units. vec_len units ≡ vec_len drives.old) }

@@ -7,7 +7,7 @@ ghost use Rattle.satl_serve.specs.Runs.{input_limit};
 ghost use Rattle.satl_serve.specs.Stopping.{HasStreamCause};
 ghost use Rattle.satl_fleet.specs.Headline.{IsFleetStopped, IsFleetWhole};
 ghost use Rattle.satl_fleet.specs.Moments.{fleet_moment};
-ghost use Rattle.satl_fleet.specs.Opening.{IsServable};
+ghost use Rattle.satl_barrier.specs.Leaving.{IsFree};
 ghost use Rattle.satl_fleet.specs.Rounds.{stage};
 ghost use Rattle.satl_fleet.specs.Serving.{CanBegin, KeepsUnits, target};
 ghost use Rattle.satl_fleet.specs.Stopping.{HasFleetCause, RanTo, RanWhole, spot};
@@ -49,7 +49,7 @@ pub fn serve_fleet<S: Source, K: Sink, D: Bench, L: Ledger>(
 ) -> Result<(), ServeFault>
     requires some { 1 ≤ vec_len drives.old }
     requires few { vec_len drives.old ≤ 4 }
-    requires servable { AllByRecursion IsServable (map D.state drives.old.items) }
+    requires free { AllByRecursion IsFree (map D.state drives.old.items) }
     ensures served { OnOk result (IsFleetWhole input_limit
         (fleet_moment (source_state (S.left source.old) (S.faults source.old))
         (sink_state (K.written sink.old) (K.faults sink.old))

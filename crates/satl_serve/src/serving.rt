@@ -1,7 +1,7 @@
 // An input is served.
 ghost use Rattle.std.specs.Prelude.{◌≡◌, ◌≤◌, [], None, IfErr, IfOk};
 ghost use Rattle.satl_io.specs.Causes.{Rose};
-ghost use Rattle.satl_drive.specs.State.{IsFit};
+ghost use Rattle.satl_barrier.specs.Leaving.{IsFree};
 ghost use Rattle.satl_core.specs.Layer.{Tied};
 ghost use Rattle.satl_step.specs.Runs.{IsDeep, stand_of, tally_of};
 ghost use Rattle.satl_serve.specs.Headline.{IsServedToEnd, IsServedWhole, ResultSays};
@@ -79,9 +79,7 @@ pub fn serve<S: Source, K: Sink, D: Bench, L: Ledger>(
     drive: &mut D,
     steps: &mut Steps<L>,
 ) -> Result<Summary, ServeFault>
-    requires idle { (D.state drive.old).outstanding ≡ [] }
-    requires no_error { (D.state drive.old).error ≡ None }
-    requires fit { IsFit (D.state drive.old) }
+    requires { IsFree (D.state drive.old) }
     ensures served { IfOk result (λ summary. IsServedWhole form input_limit summary
         (moment (source_state (S.left source.old) (S.faults source.old)) (sink_state (K.written sink.old) (K.faults sink.old))
         steps.old (D.state drive.old))
@@ -107,9 +105,7 @@ pub fn serve_uncounted<S: Source, K: Sink, D: Bench, L: Ledger>(
     drive: &mut D,
     steps: &mut Steps<L>,
 ) -> Result<(), ServeFault>
-    requires idle { (D.state drive.old).outstanding ≡ [] }
-    requires no_error { (D.state drive.old).error ≡ None }
-    requires fit { IsFit (D.state drive.old) }
+    requires { IsFree (D.state drive.old) }
     ensures served { IfOk result (λ _. IsServedToEnd form input_limit
         (moment (source_state (S.left source.old) (S.faults source.old)) (sink_state (K.written sink.old) (K.faults sink.old))
         steps.old (D.state drive.old))
@@ -144,9 +140,7 @@ fn serve_by<T: Teller, S: Source, K: Sink, D: Bench, L: Ledger>(
     steps: &mut Steps<L>,
 ) -> Result<u64, ServeFault>
     requires tells { TellsIn T.told T.behind form teller.old }
-    requires idle { (D.state drive.old).outstanding ≡ [] }
-    requires no_error { (D.state drive.old).error ≡ None }
-    requires fit { IsFit (D.state drive.old) }
+    requires free { IsFree (D.state drive.old) }
     ensures served { IfOk result (λ requests. IsServedBy T.behind form input_limit teller.old teller.new requests
         (moment (source_state (S.left source.old) (S.faults source.old)) (sink_state (K.written sink.old) (K.faults sink.old))
         steps.old (D.state drive.old))

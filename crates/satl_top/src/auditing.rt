@@ -1,6 +1,6 @@
 // A record that is handed in.
 ghost use Rattle.std.specs.Prelude.{◌≡◌, [], None};
-ghost use Rattle.satl_drive.specs.State.{IsFit};
+ghost use Rattle.satl_barrier.specs.Leaving.{IsFree};
 ghost use Rattle.satl_serve.specs.Moments.{moment, sink_state, source_state};
 ghost use Rattle.satl_top.specs.Auditing.{status_of_record};
 ghost use Rattle.satl_top.specs.Top.{HasJudged};
@@ -38,9 +38,7 @@ pub fn judge_record<S: Source, K: Sink, D: Drive, L: Ledger>(
     drive: &mut D,
     steps: &mut Steps<L>,
 ) -> Status
-    requires idle { (D.state drive.old).outstanding ≡ [] }
-    requires no_error { (D.state drive.old).error ≡ None }
-    requires fit { IsFit (D.state drive.old) }
+    requires { IsFree (D.state drive.old) }
     ensures { HasJudged
         (moment (source_state (S.left source.old) (S.faults source.old)) (sink_state (K.written sink.old) (K.faults sink.old))
         steps.old (D.state drive.old))

@@ -2,7 +2,7 @@
 ghost use Rattle.std.specs.Prelude.{◌≡◌, ◌≤◌, [], IfErr, IfOk, None};
 ghost use Rattle.std.specs.Result.{IsErrAnd};
 ghost use Rattle.satl_identify.specs.declared.identity.IdentityFault.{IdentityFault};
-ghost use Rattle.satl_drive.specs.State.{IsFit};
+ghost use Rattle.satl_barrier.specs.Leaving.{IsFree};
 ghost use Rattle.satl_serve.specs.Moments.{SinkState, SourceState, moment, sink_state};
 ghost use Rattle.satl_serve.specs.Runs.{input_limit};
 ghost use Rattle.satl_serve.specs.Stopping.{IsDriveRefused, TellsRefusal};
@@ -43,9 +43,7 @@ fn serve_generated<D: Bench, L: Ledger>(
     steps: &mut Steps<L>,
 ) -> Result<Summary, ServeFault>
     requires few { requests ≤ 100000 }
-    requires idle { (D.state drive.old).outstanding ≡ [] }
-    requires no_error { (D.state drive.old).error ≡ None }
-    requires fit { IsFit (D.state drive.old) }
+    requires free { IsFree (D.state drive.old) }
     ensures loaded { IfOk result (λ summary. (source : SourceState) (sink sink' : SinkState)
         → IsLoaded input_limit (load_of seed requests) summary (moment source sink steps.old (D.state drive.old))
         (moment source sink' steps.new (D.state drive.new))) }
@@ -73,9 +71,7 @@ pub fn load<K: Sink, D: Bench, L: Ledger>(
     steps: &mut Steps<L>,
 ) -> Status
     requires few { requests ≤ 100000 }
-    requires idle { (D.state drive.old).outstanding ≡ [] }
-    requires no_error { (D.state drive.old).error ≡ None }
-    requires fit { IsFit (D.state drive.old) }
+    requires free { IsFree (D.state drive.old) }
     ensures { (source : SourceState) → HasLoaded input_limit (load_of seed requests)
         (moment source (sink_state (K.written sink.old) (K.faults sink.old)) steps.old (D.state drive.old))
         (moment source (sink_state (K.written sink.new) (K.faults sink.new)) steps.new (D.state drive.new)) result }

@@ -3,7 +3,7 @@ ghost use Rattle.std.specs.Prelude.{◌≡◌, ◌≤◌, ◌<◌, ◌↔◌, �
 ghost use Rattle.std.specs.List.{AllByRecursion};
 ghost use Rattle.std.specs.Rc.{rc_str_bytes};
 ghost use Rattle.satl_fleet.specs.Moments.{fleet_moment};
-ghost use Rattle.satl_fleet.specs.Opening.{IsServable};
+ghost use Rattle.satl_barrier.specs.Leaving.{IsFree};
 ghost use Rattle.satl_serve.specs.Moments.{sink_state, source_state};
 ghost use Rattle.satl_serve.specs.Runs.{input_limit};
 ghost use Rattle.satl_top.specs.Fleet.{AskForFleet, HasDone, HasServedFleet};
@@ -48,7 +48,7 @@ pub fn fleet<S: Source, K: Sink, D: Bench, L: Ledger>(
 ) -> Status
     requires some { 1 ≤ vec_len drives.old }
     requires few { vec_len drives.old ≤ 4 }
-    requires servable { AllByRecursion IsServable (map D.state drives.old.items) }
+    requires free { AllByRecursion IsFree (map D.state drives.old.items) }
     ensures { HasServedFleet (map rc_str_bytes words.now) input_limit
         (fleet_moment (source_state (S.left source.old) (S.faults source.old))
         (sink_state (K.written sink.old) (K.faults sink.old))
@@ -79,7 +79,7 @@ pub fn program<S: Source, K: Sink, D: Bench, L: Ledger>(
 ) -> Status
     requires some { 1 ≤ vec_len drives.old }
     requires few { vec_len drives.old ≤ 4 }
-    requires servable { AllByRecursion IsServable (map D.state drives.old.items) }
+    requires free { AllByRecursion IsFree (map D.state drives.old.items) }
     ensures { HasDone (map rc_str_bytes words.now) input_limit
         (fleet_moment (source_state (S.left source.old) (S.faults source.old))
         (sink_state (K.written sink.old) (K.faults sink.old))
@@ -107,7 +107,7 @@ pub fn counted_program<S: Source, K: Sink, D: Bench, L: Ledger>(
 ) -> Status
     requires some { 1 ≤ vec_len drives.old }
     requires few { vec_len drives.old ≤ 4 }
-    requires servable { AllByRecursion IsServable (map D.state drives.old.items) }
+    requires free { AllByRecursion IsFree (map D.state drives.old.items) }
     requires name { blank.name ≡ L.name }
     requires parts { blank.parts ≡ L.parts }
     requires enough { 0 < blank.parts }

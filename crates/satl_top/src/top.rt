@@ -2,7 +2,7 @@
 ghost use Rattle.std.specs.Prelude.{◌≡◌, ◌⊎◌, [], None, map, true};
 ghost use Rattle.std.specs.Rc.{rc_str_bytes};
 ghost use Rattle.clap.specs.Words.{takes};
-ghost use Rattle.satl_drive.specs.State.{IsFit};
+ghost use Rattle.satl_barrier.specs.Leaving.{IsFree};
 ghost use Rattle.satl_serve.specs.Moments.{moment, sink_state, source_state};
 ghost use Rattle.satl_serve.specs.Runs.{input_limit};
 ghost use Rattle.satl_top.specs.Top.{HasCarriedOut, HasServed, OutcomeByWords};
@@ -37,9 +37,7 @@ pub fn satl<S: Source, K: Sink, D: Bench, L: Ledger>(
     drive: &mut D,
     steps: &mut Steps<L>,
 ) -> Status
-    requires idle { (D.state drive.old).outstanding ≡ [] }
-    requires no_error { (D.state drive.old).error ≡ None }
-    requires fit { IsFit (D.state drive.old) }
+    requires { IsFree (D.state drive.old) }
     ensures plain { (mode : Mode) → IsInRange mode → ArePlain (map rc_str_bytes words.now) mode
         → HasCarriedOut mode input_limit
         (moment (source_state (S.left source.old) (S.faults source.old)) (sink_state (K.written sink.old) (K.faults sink.old))
@@ -72,9 +70,7 @@ fn carry_out<S: Source, K: Sink, D: Bench, L: Ledger>(
     steps: &mut Steps<L>,
 ) -> Status
     requires range { IsInRange mode }
-    requires idle { (D.state drive.old).outstanding ≡ [] }
-    requires no_error { (D.state drive.old).error ≡ None }
-    requires fit { IsFit (D.state drive.old) }
+    requires free { IsFree (D.state drive.old) }
     ensures { HasCarriedOut mode input_limit
         (moment (source_state (S.left source.old) (S.faults source.old)) (sink_state (K.written sink.old) (K.faults sink.old))
         steps.old (D.state drive.old))
@@ -99,9 +95,7 @@ fn serve_input<S: Source, K: Sink, D: Bench, L: Ledger>(
     drive: &mut D,
     steps: &mut Steps<L>,
 ) -> Status
-    requires idle { (D.state drive.old).outstanding ≡ [] }
-    requires no_error { (D.state drive.old).error ≡ None }
-    requires fit { IsFit (D.state drive.old) }
+    requires { IsFree (D.state drive.old) }
     ensures { HasServed form input_limit
         (moment (source_state (S.left source.old) (S.faults source.old)) (sink_state (K.written sink.old) (K.faults sink.old))
         steps.old (D.state drive.old))

@@ -3,7 +3,7 @@ ghost use Rattle.std.specs.Prelude.{◌≡◌, ◌≤◌, List, [], None, Some, 
 ghost use Rattle.std.specs.Io.KnownBytes.{IsAtEnd};
 ghost use Rattle.std.specs.Result.{IsErrAnd};
 ghost use Rattle.satl_identify.specs.declared.identity.IdentityFault.{IdentityFault};
-ghost use Rattle.satl_drive.specs.State.{IsFit};
+ghost use Rattle.satl_barrier.specs.Leaving.{IsFree};
 ghost use Rattle.satl_core.specs.Layer.{Tied};
 ghost use Rattle.satl_step.specs.Runs.{IsDeep, stand_of, tally_of};
 ghost use Rattle.satl_serve.specs.Completeness.{GoesWell};
@@ -40,9 +40,7 @@ pub fn serve_usb<S: Source, K: Sink, D: Bench, L: Ledger>(
     drive: &mut D,
     steps: &mut Steps<L>,
 ) -> Result<(), UsbFault>
-    requires idle { (D.state drive.old).outstanding ≡ [] }
-    requires no_error { (D.state drive.old).error ≡ None }
-    requires fit { IsFit (D.state drive.old) }
+    requires { IsFree (D.state drive.old) }
     ensures bridged { OnOk result (IsBridgedWhole item_limit
         (moment (source_state (S.left source.old) (S.faults source.old)) (sink_state (K.written sink.old) (K.faults sink.old))
         steps.old (D.state drive.old))

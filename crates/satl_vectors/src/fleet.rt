@@ -2,7 +2,7 @@
 ghost use Rattle.std.specs.Prelude.{◌≡◌, IfOk, map, vec_len};
 ghost use Rattle.std.specs.List.{AllByRecursion};
 ghost use Rattle.satl_disk.specs.Disk.{state_of};
-ghost use Rattle.satl_fleet.specs.Opening.{IsServable};
+ghost use Rattle.satl_barrier.specs.Leaving.{IsFree};
 
 use crate::replaying::{pieces, run_on};
 use satl_base::{NoMemory, Which};
@@ -41,14 +41,14 @@ const FLAW_TOLD: &[u8] = b"\x84\0\0\0\x01\x01\
 
 /// A fresh drive.
 fn fresh(alloc: Global) -> Result<ModelDrive, NoMemory>
-    ensures servable { IfOk result (λ d. IsServable (state_of d)) }
+    ensures free { IfOk result (λ d. IsFree (state_of d)) }
 {
     ModelDrive::new(alloc, 8192)
 }
 
 /// A drive whose block at address 0 cannot be read.
 fn flawed(alloc: Global) -> Result<ModelDrive, NoMemory>
-    ensures servable { IfOk result (λ d. IsServable (state_of d)) }
+    ensures free { IfOk result (λ d. IsFree (state_of d)) }
 {
     let mut drive = fresh(alloc)?;
     drive.strike(Which::Read, 0);
@@ -58,7 +58,7 @@ fn flawed(alloc: Global) -> Result<ModelDrive, NoMemory>
 /// A fresh drive and a flawed one.
 fn modelled(alloc: Global) -> Result<Vec<ModelDrive>, NoMemory>
     ensures count { IfOk result (λ drives. vec_len drives ≡ 2) }
-    ensures servable { IfOk result (λ drives. AllByRecursion IsServable (map state_of drives.items)) }
+    ensures free { IfOk result (λ drives. AllByRecursion IsFree (map state_of drives.items)) }
 {
     let mut drives = Vec::new(alloc);
     drives.push(fresh(alloc)?)?;

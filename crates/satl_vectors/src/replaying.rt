@@ -4,7 +4,7 @@ ghost use Rattle.std.specs.List.{AllByRecursion};
 ghost use Rattle.satl_base.specs.Lists.{is_in};
 ghost use Rattle.satl_disk.specs.Bench.{fitting_words};
 ghost use Rattle.satl_disk.specs.Disk.{state_of};
-ghost use Rattle.satl_fleet.specs.Opening.{IsServable};
+ghost use Rattle.satl_barrier.specs.Leaving.{IsFree};
 
 use crate::frames::{END, ENDED};
 use satl_base::NoMemory;
@@ -74,7 +74,7 @@ fn run_over(
 ) -> Result<(Status, Vec<u8>), NoMemory>
     requires some { 1 ≤ vec_len drives.old }
     requires few { vec_len drives.old ≤ 4 }
-    requires servable { AllByRecursion IsServable (map state_of drives.old.items) }
+    requires free { AllByRecursion IsFree (map state_of drives.old.items) }
 {
     let words = words(alloc, given)?;
     let failing = calls(alloc, streams.failing_write)?;
@@ -100,7 +100,7 @@ pub fn run_on(
 ) -> Result<(Status, Vec<u8>), NoMemory>
     requires some { 1 ≤ vec_len drives.old }
     requires few { vec_len drives.old ≤ 4 }
-    requires servable { AllByRecursion IsServable (map state_of drives.old.items) }
+    requires free { AllByRecursion IsFree (map state_of drives.old.items) }
 {
     let failing = calls(alloc, streams.failing_read)?;
     let mut source = MemorySource::new(input, streams.piece.max(1), failing);
@@ -109,9 +109,9 @@ pub fn run_on(
 
 /// This drive alone.
 fn alone(alloc: Global, drive: ModelDrive) -> Result<Vec<ModelDrive>, NoMemory>
-    requires { IsServable (state_of drive) }
+    requires { IsFree (state_of drive) }
     ensures count { IfOk result (λ drives. vec_len drives ≡ 1) }
-    ensures servable { IfOk result (λ drives. AllByRecursion IsServable (map state_of drives.items)) }
+    ensures free { IfOk result (λ drives. AllByRecursion IsFree (map state_of drives.items)) }
 {
     let mut drives = Vec::new(alloc);
     drives.push(drive)?;

@@ -1,6 +1,6 @@
 // The totals of an input that is served.
 ghost use Rattle.std.specs.Prelude.{◌≡◌, ◌<◌, [], None};
-ghost use Rattle.satl_drive.specs.State.{IsFit};
+ghost use Rattle.satl_barrier.specs.Leaving.{IsFree};
 
 use crate::frames::{END, TURN, input, read, request, write};
 use satl_base::Steps;
@@ -22,9 +22,7 @@ fn served<S: Source, K: Sink, D: Bench, L: Ledger>(
     drive: &mut D,
     blank: Blank,
 ) -> Result<Summary, ServeFault>
-    requires idle { (D.state drive.old).outstanding ≡ [] }
-    requires no_error { (D.state drive.old).error ≡ None }
-    requires fit { IsFit (D.state drive.old) }
+    requires free { IsFree (D.state drive.old) }
     requires name { blank.name ≡ L.name }
     requires parts { blank.parts ≡ L.parts }
     requires some { 0 < blank.parts }

@@ -31,7 +31,7 @@ serve_opened-requires-clause-opened g c = record {
     few = omega (arith, c.in_ok-units.ensures.each, c.requires.few);
     ready = all_ready c.in_ok-units.ensures.opened;
   };
-  idle = all_idle c.requires.servable c.in_ok-units.ensures.opened;
+  idle = all_idle c.requires.free c.in_ok-units.ensures.opened;
 }
 
 pub returns-in_default-clause-stopped : goal.returns-in_default-clause-stopped
