@@ -1,5 +1,5 @@
 // What goes to each unit of a target.
-ghost use Rattle.std.specs.Prelude.{◌≡◌, ◌+◌};
+ghost use Rattle.std.specs.Prelude.{◌≡◌};
 ghost use Rattle.satl_base.specs.Bench.{cut_event, event_pages};
 ghost use Rattle.satl_base.specs.Stocks.{HasLent};
 

@@ -1,5 +1,5 @@
 // Items are read, however the reads are cut.
-ghost use Rattle.std.specs.Prelude.{◌≡◌, ◌≤◌, ◌+◌, IfErr, IfOk};
+ghost use Rattle.std.specs.Prelude.{◌≡◌, ◌≤◌, IfErr, IfOk};
 ghost use Rattle.satl_base.specs.Stocks.{HasLent};
 ghost use Rattle.satl_frame.specs.Pulls.{given_pages};
 ghost use Rattle.satl_usb.specs.Items.{item_limit, sent_length};
