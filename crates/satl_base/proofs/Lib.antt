@@ -1,4 +1,3 @@
-pub mod BenchLemmas
 pub mod BlocksLemmas
 pub mod Booleans
 pub mod CellsLemmas

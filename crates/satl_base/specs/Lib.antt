@@ -1,4 +1,3 @@
-pub mod Bench
 pub mod Blocks
 pub mod Cells
 pub mod Chains

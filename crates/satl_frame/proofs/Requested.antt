@@ -9,7 +9,7 @@ use Rattle.satl_io.proofs.Joined.{Took-more}
 use Rattle.satl_frame.specs.DataPages.{pages_of}
 use Rattle.satl_frame.specs.Frames.{head_size, frame_rows, allows, payload_bytes, request_fields, HasFields}
 use Rattle.satl_frame.specs.Faults.{has_bad_field}
-use Rattle.satl_frame.specs.Pulls.{SpellsFrame, TookPayload, TookRest, TookCount, TookBadField, head_of_request}
+use Rattle.satl_frame.specs.Pulls.{found_pages, SpellsFrame, TookPayload, TookRest, TookCount, TookBadField, head_of_request}
 use Rattle.satl_frame.specs.declared.frames.Version.{Version}
 use Rattle.satl_frame.specs.declared.frames.Version.TheVariants.{One, Two}
 use Rattle.satl_frame.specs.declared.frames.Frame.{Frame}
@@ -69,15 +69,20 @@ pub small_bad : {a b : Option (List ℕ)} (version : Version) (code : ℕ) {len 
 small_bad version code {payload} None took size bad = record { taken = payload; took = took; length_is = size; bad = bad }
 small_bad version code (Some frame) took size bad = bad
 
--- a payload of which a frame is made
-pub small_taken : {a b : Option (List ℕ)} (version : Version) (code room : ℕ) {len : ℕ} {payload : List ℕ} (found : Option Frame) → Took a b payload → length payload ≡ len →
-    IfSome found (SpellsFrame version code payload room) → IfSome found (TookPayload a b (record { version = version; code = code; len = len }) room)
-small_taken version code room None took size s = s
-small_taken {a} {b} version code room (Some frame) took size s = record {
-  whole = s.whole;
+-- a payload of which a frame is made, however many pages are free
+pub small_taken : {a b : Option (List ℕ)} (version : Version) (code : ℕ) {len : ℕ} {payload : List ℕ} (found : Option Frame) → Took a b payload → length payload ≡ len →
+    IfSome found (SpellsFrame version code payload) → (room : ℕ) → IfSome found (TookPayload a b (record { version = version; code = code; len = len }) room)
+small_taken version code None took size s room = s
+small_taken {a} {b} version code (Some frame) took size s room = record {
+  whole = frame;
   is_frame = s.is_frame;
-  cut = s.cut;
+  cut = sym (s.uncut room);
   took = subst (Took a b) (sym s.payload_is) took;
   kind_is = s.kind_is;
   length_is = ap length s.payload_is ∙ size;
 }
+
+-- and such a frame has no page
+pub small_pages : (version : Version) (code : ℕ) (payload : List ℕ) (found : Option Frame) → IfSome found (SpellsFrame version code payload) → found_pages found ≡ 0
+small_pages version code payload None s = refl
+small_pages version code payload (Some frame) s = s.no_page

@@ -7,7 +7,6 @@ use Rattle.satl_io.specs.Known.{Took}
 use Rattle.satl_base.specs.declared.bench.BenchEvent.{BenchEvent}
 use Rattle.satl_base.specs.declared.block.Block.{Block}
 use Rattle.satl_base.specs.declared.request.Request.{Request}
-use Rattle.satl_base.specs.Bench.{cut_event, event_pages}
 use Rattle.satl_frame.specs.DataPages.{pages_of}
 use Rattle.satl_frame.specs.Faults.{has_bad_field}
 use Rattle.satl_frame.specs.Frames.{event_fields, kind, payload_bytes, IsEvent, IsFrame}
@@ -61,30 +60,26 @@ abbrev pub cut_to : ℕ → Frame → Frame
 cut_to room (frames.Request r) = frames.Request (record r { body = take room r.body })
 cut_to room (frames.Manage m) = frames.Manage m
 cut_to room (frames.Turn count) = frames.Turn count
-cut_to room (frames.Bench event) = frames.Bench (cut_event room event)
+cut_to room (frames.Bench event) = frames.Bench event
 cut_to room frames.End = frames.End
 
--- a payload is that of this event, which needs no page
-pub record SpellsPlain (payload : List ℕ) (event : BenchEvent) : Type 0 where
+-- the pages of a frame: those of a request's data-out
+abbrev pub frame_pages : Frame → ℕ
+frame_pages (frames.Request r) = length r.body
+frame_pages _ = 0
+
+-- a payload is that of this event
+pub record SpellsEvent (payload : List ℕ) (event : BenchEvent) : Type 0 where
   pub is_event : IsEvent event
   pub fields_are : event_fields event ≡ payload
-  pub no_page : event_pages event ≡ 0
-  pub uncut : (room : ℕ) → cut_event room event ≡ event
 
--- a payload is that of a whole event, and this is the event with the page that was free, if there was one
-pub record SpellsEvent (payload : List ℕ) (room : ℕ) (event : BenchEvent) : Type 0 where
-  pub whole : BenchEvent
-  pub is_event : IsEvent whole
-  pub cut : event ≡ cut_event room whole
-  pub fields_are : event_fields whole ≡ payload
-
--- a payload is that of a whole frame of this kind, and this is the frame with the pages that were free
-pub record SpellsFrame (version : Version) (k : ℕ) (payload : List ℕ) (room : ℕ) (frame : Frame) : Type 0 where
-  pub whole : Frame
-  pub is_frame : IsFrame version whole
-  pub cut : frame ≡ cut_to room whole
-  pub kind_is : kind whole ≡ k
-  pub payload_is : payload_bytes whole ≡ payload
+-- a payload is that of this frame, which is of this kind and has no page
+pub record SpellsFrame (version : Version) (k : ℕ) (payload : List ℕ) (frame : Frame) : Type 0 where
+  pub is_frame : IsFrame version frame
+  pub kind_is : kind frame ≡ k
+  pub payload_is : payload_bytes frame ≡ payload
+  pub no_page : frame_pages frame ≡ 0
+  pub uncut : (room : ℕ) → cut_to room frame ≡ frame
 
 -- what is known of a frame before its payload: the version of the input, the kind, and how many bytes of payload it has
 pub record Head : Type 0 where
@@ -119,19 +114,9 @@ pub record TookBadField (left left' : Option (List ℕ)) (head : Head) : Type 0 
   pub length_is : length taken ≡ head.len
   pub bad : has_bad_field head.version head.code taken ≡ true
 
--- the pages of a frame
-abbrev pub frame_pages : Frame → ℕ
-frame_pages (frames.Request r) = length r.body
-frame_pages (frames.Bench event) = event_pages event
-frame_pages _ = 0
-
 abbrev pub found_pages : Option Frame → ℕ
 found_pages None = 0
 found_pages (Some f) = frame_pages f
-
-abbrev pub found_event_pages : Option BenchEvent → ℕ
-found_event_pages None = 0
-found_event_pages (Some event) = event_pages event
 
 -- the pages of a request
 abbrev pub request_pages : Request → ℕ

@@ -4,6 +4,10 @@ ghost use Rattle.satl_frame.specs.Faults.{reason_code};
 
 use satl_base::{BenchEvent, Manage, Nexus, Reply, Request, Response, Tag};
 
+/// The most bytes of an event of the test bench, and so of the payload of each frame but a request: those of an ORDER with 256
+/// bytes (profile).
+pub const LONGEST_EVENT: usize = 257;
+
 /// The version of an input, which its magic names (profile). In version 2 each request says how many bytes of
 /// data-in the host takes.
 #[derive(Clone, Copy, Debug, PartialEq, Eq)]
@@ -12,9 +16,9 @@ pub enum Version {
     Two,
 }
 
-/// A frame of the input (profile).
+/// A frame of the input (profile). Order bytes stand in the room that it was read to.
 #[derive(Drop)]
-pub enum Frame {
+pub enum Frame<'a> {
     /// A SCSI command arrives.
     Request(Request),
     /// A task management function arrives.
@@ -22,7 +26,7 @@ pub enum Frame {
     /// So many turns of the device.
     Turn(u16),
     /// Something happens to the drive.
-    Bench(BenchEvent),
+    Bench(BenchEvent<'a>),
     /// The end of the input.
     End,
 }

@@ -14,7 +14,7 @@ mod tests;
 mod writing;
 
 pub use buffer::WriteBuffer;
-pub use frames::{Frame, FrameFault, OutFrame, Place, Reason, Version, WriteFault};
+pub use frames::{Frame, FrameFault, LONGEST_EVENT, OutFrame, Place, Reason, Version, WriteFault};
 pub use pulling::{PullError, fill, pull};
 pub use reader::FrameReader;
 pub use refill::pull_data;

@@ -1,16 +1,15 @@
 // Payloads of frames, field by field.
-ghost use Rattle.std.specs.Prelude.{◌≡◌, ◌<◌, ◌≤◌, ◌+◌, ◌++◌, [], true, ℕ, List, IfSome, IfNone, MatchOption, length, slice_index};
+ghost use Rattle.std.specs.Prelude.{◌≡◌, ◌<◌, ◌++◌, [], true, ℕ, List, IfSome, IfNone, MatchOption, length, slice_index};
 ghost use Rattle.byteorder.specs.Endian.{big_bytes};
-ghost use Rattle.satl_base.specs.Stocks.{HasLent};
 ghost use Rattle.satl_frame.specs.Faults.{has_bad_event, has_bad_field};
 ghost use Rattle.satl_frame.specs.Frames.{attr_code, expected_in, is_expectable, which_code, head_size, request_fields, manage_fields, event_fields, frame_rows, has_code, allows, kind, payload_bytes, HasFields, IsManage, IsEvent, IsFrame};
-ghost use Rattle.satl_frame.specs.Pulls.{SpellsFrame, SpellsEvent, SpellsPlain, found_event_pages, found_pages};
+ghost use Rattle.satl_frame.specs.Pulls.{SpellsFrame, SpellsEvent};
 
-use crate::frames::{Frame, Version};
+use crate::frames::{Frame, LONGEST_EVENT, Version};
 use crate::judge::{number_4, number_8};
 use byteorder::{BigEndian, ByteOrder};
 use satl_base::{
-    Attr, BenchEvent, LONGEST_DATA, Lender, Manage, Nexus, OrderBytes, Pages, Request, Tag, Which,
+    Attr, BenchEvent, LONGEST_DATA, Manage, Nexus, OrderBytes, Pages, Request, Tag, Which,
 };
 
 fn attr_of(code: u8) -> Option<Attr>
@@ -105,10 +104,10 @@ fn which_of(code: u8) -> Option<Which>
     }
 }
 
-fn strike_of(payload: &[u8]) -> Option<BenchEvent>
+fn strike_of<'a>(payload: &[u8]) -> Option<BenchEvent<'a>>
     requires some { 0 < length payload.now }
     requires event { slice_index payload.now 0 ≡ 1 }
-    ensures found { IfSome result (SpellsPlain payload.now) }
+    ensures found { IfSome result (SpellsEvent payload.now) }
     ensures none { IfNone result (has_bad_event payload.now ≡ true) }
 {
     if payload.len() != 10 {
@@ -119,10 +118,10 @@ fn strike_of(payload: &[u8]) -> Option<BenchEvent>
     Some(BenchEvent::Strike { which, lba })
 }
 
-fn mend_of(payload: &[u8]) -> Option<BenchEvent>
+fn mend_of<'a>(payload: &[u8]) -> Option<BenchEvent<'a>>
     requires some { 0 < length payload.now }
     requires event { slice_index payload.now 0 ≡ 2 }
-    ensures found { IfSome result (SpellsPlain payload.now) }
+    ensures found { IfSome result (SpellsEvent payload.now) }
     ensures none { IfNone result (has_bad_event payload.now ≡ true) }
 {
     if payload.len() != 9 {
@@ -132,10 +131,10 @@ fn mend_of(payload: &[u8]) -> Option<BenchEvent>
     Some(BenchEvent::Mend { lba })
 }
 
-fn glitch_of(payload: &[u8]) -> Option<BenchEvent>
+fn glitch_of<'a>(payload: &[u8]) -> Option<BenchEvent<'a>>
     requires some { 0 < length payload.now }
     requires event { slice_index payload.now 0 ≡ 3 }
-    ensures found { IfSome result (SpellsPlain payload.now) }
+    ensures found { IfSome result (SpellsEvent payload.now) }
     ensures none { IfNone result (has_bad_event payload.now ≡ true) }
 {
     if payload.len() != 3 {
@@ -145,69 +144,48 @@ fn glitch_of(payload: &[u8]) -> Option<BenchEvent>
     Some(BenchEvent::Glitch { count })
 }
 
-fn order_of<P: Lender>(lender: &mut P, payload: &[u8]) -> Option<BenchEvent>
+fn order_of<'a>(payload: &'a [u8]) -> Option<BenchEvent<'a>>
     requires some { 0 < length payload.now }
     requires event { slice_index payload.now 0 ≡ 4 }
-    ensures found { IfSome result (SpellsEvent payload.now (P.stock lender.old).free) }
+    ensures found { IfSome result (SpellsEvent payload.now) }
     ensures none { IfNone result (has_bad_event payload.now ≡ true) }
-    ensures lent { HasLent (found_event_pages result) (P.stock lender.old) (P.stock lender.new) }
 {
-    if payload.len() < 2 || payload.len() > 257 {
+    if payload.len() < 2 || payload.len() > LONGEST_EVENT {
         return None;
     }
     Some(BenchEvent::Order {
-        bytes: OrderBytes::lend(lender, &payload[1..]),
+        bytes: OrderBytes::new(&payload[1..]),
     })
 }
 
-/// The event of a payload that is no ORDER.
-fn plain_of(payload: &[u8]) -> Option<BenchEvent>
+fn event_of<'a>(payload: &'a [u8]) -> Option<BenchEvent<'a>>
     requires some { 0 < length payload.now }
-    requires other { slice_index payload.now 0 ≡ 4 → ⊥ }
-    ensures found { IfSome result (SpellsPlain payload.now) }
+    ensures found { IfSome result (SpellsEvent payload.now) }
     ensures none { IfNone result (has_bad_event payload.now ≡ true) }
 {
     match payload[0] {
         1 => strike_of(payload),
         2 => mend_of(payload),
         3 => glitch_of(payload),
+        4 => order_of(payload),
         5 if payload.len() == 1 => Some(BenchEvent::Power),
         6 if payload.len() == 1 => Some(BenchEvent::Unplug),
         _ => None,
     }
 }
 
-fn event_of<P: Lender>(lender: &mut P, payload: &[u8]) -> Option<BenchEvent>
-    requires some { 0 < length payload.now }
-    ensures found { IfSome result (SpellsEvent payload.now (P.stock lender.old).free) }
-    ensures none { IfNone result (has_bad_event payload.now ≡ true) }
-    ensures lent { HasLent (found_event_pages result) (P.stock lender.old) (P.stock lender.new) }
-{
-    if payload[0] == 4 {
-        order_of(lender, payload)
-    } else {
-        plain_of(payload)
-    }
-}
-
-/// The frame of a payload of another kind than REQUEST, with order bytes in a page of the lender. None where a field is bad.
-pub fn small_frame<P: Lender>(
-    lender: &mut P,
-    version: Version,
-    code: u8,
-    payload: &[u8],
-) -> Option<Frame>
+/// The frame of a payload of another kind than REQUEST; order bytes stay where the payload stands. None where a field is bad.
+pub fn small_frame<'a>(version: Version, code: u8, payload: &'a [u8]) -> Option<Frame<'a>>
     requires known { has_code (frame_rows version) code ≡ true }
     requires allowed { allows (frame_rows version) code (length payload.now) ≡ true }
     requires other { 1 < code }
-    ensures found { IfSome result (SpellsFrame version code payload.now (P.stock lender.old).free) }
+    ensures found { IfSome result (SpellsFrame version code payload.now) }
     ensures none { IfNone result (has_bad_field version code payload.now ≡ true) }
-    ensures lent { HasLent (found_pages result) (P.stock lender.old) (P.stock lender.new) }
 {
     match code {
         2 => Some(Frame::Manage(manage_of(payload)?)),
         3 => Some(Frame::Turn(turn_of(payload))),
-        4 => Some(Frame::Bench(event_of(lender, payload)?)),
+        4 => Some(Frame::Bench(event_of(payload)?)),
         _ => Some(Frame::End),
     }
 }

@@ -8,7 +8,7 @@ ghost use Rattle.satl_frame.specs.Pulls.{PullCauses, Stopped, TookPayload, TookR
 ghost use Rattle.satl_frame.specs.Reading.{Reading, Gave, Blames, ReadCauses};
 ghost use Rattle.satl_frame.specs.Steps.{Began, BlamesMagic, StoodAt, BlamesAt, BlamesPayload, head_in};
 
-use crate::frames::{Frame, FrameFault, Place, Reason, Version};
+use crate::frames::{Frame, FrameFault, LONGEST_EVENT, Place, Reason, Version};
 use crate::judge::{head_fault, head_size, magic_fault, told_length, version_of};
 use crate::payloads::{request_of, small_frame};
 use crate::pulling::{PullError, fill, pull};
@@ -76,39 +76,39 @@ fn pull_request<S: Source, P: Lender>(
 }
 
 /// Pulls the payload of a frame of another kind. None where a field of it is bad.
-fn pull_small<S: Source, P: Lender>(
+fn pull_small<'a, S: Source>(
     source: &mut S,
-    buffer: &mut [u8; CHUNK],
-    lender: &mut P,
+    room: &'a mut [u8; LONGEST_EVENT],
     version: Version,
     code: u8,
     len: u32,
-) -> Result<Option<Frame>, PullError>
+) -> Result<Option<Frame<'a>>, PullError>
     requires known { has_code (frame_rows version) code ≡ true }
     requires allowed { allows (frame_rows version) code len ≡ true }
     requires other { 1 < code }
-    ensures frame { IfOk result (λ found. IfSome found (TookPayload (S.left source.old) (S.left source.new)
-        (record { version = version; code = code; len = len }) (P.stock lender.old).free)) }
+    ensures frame { (free : ℕ) → IfOk result (λ found. IfSome found (TookPayload (S.left source.old) (S.left source.new)
+        (record { version = version; code = code; len = len }) free)) }
     ensures none { IfOk result (λ found. IfNone found (TookBadField (S.left source.old) (S.left source.new)
         (record { version = version; code = code; len = len }))) }
     ensures stopped { Stopped (S.left source.old) (S.left source.new) len result }
     ensures causes { PullCauses (S.left source.old) (S.left source.new) len (S.faults source.old) (S.faults source.new) result }
-    ensures lent { HasLent (given_pages found_pages result) (P.stock lender.old) (P.stock lender.new) }
+    ensures pages { given_pages found_pages result ≡ 0 }
 {
-    let payload = &mut buffer[..len as usize];
+    let payload = &mut room[..len as usize];
     pull(source, payload)?;
-    Ok(small_frame(lender, version, code, payload))
+    Ok(small_frame(version, code, payload))
 }
 
 /// Pulls the payload of a frame of this kind and length. None where a field of it is bad.
-fn pull_payload<S: Source, P: Lender>(
+fn pull_payload<'a, S: Source, P: Lender>(
     source: &mut S,
     buffer: &mut [u8; CHUNK],
     lender: &mut P,
+    room: &'a mut [u8; LONGEST_EVENT],
     version: Version,
     code: u8,
     len: u32,
-) -> Result<Option<Frame>, PullError>
+) -> Result<Option<Frame<'a>>, PullError>
     requires known { has_code (frame_rows version) code ≡ true }
     requires allowed { allows (frame_rows version) code len ≡ true }
     ensures frame { IfOk result (λ found. IfSome found (TookPayload (S.left source.old) (S.left source.new)
@@ -120,7 +120,7 @@ fn pull_payload<S: Source, P: Lender>(
     ensures lent { HasLent (given_pages found_pages result) (P.stock lender.old) (P.stock lender.new) }
 {
     if code > 1 {
-        return pull_small(source, buffer, lender, version, code, len);
+        return pull_small(source, room, version, code, len);
     }
     match pull_request(source, buffer, lender, version, len) {
         Ok(Some(request)) => Ok(Some(Frame::Request(request))),
@@ -130,13 +130,14 @@ fn pull_payload<S: Source, P: Lender>(
 }
 
 /// Reads the payload behind a good head.
-fn read_payload<S: Source, P: Lender>(
+fn read_payload<'a, S: Source, P: Lender>(
     source: &mut S,
     buffer: &mut [u8; CHUNK],
     lender: &mut P,
+    room: &'a mut [u8; LONGEST_EVENT],
     head: &[u8],
     place: Place,
-) -> Result<Frame, FrameFault>
+) -> Result<Frame<'a>, FrameFault>
     requires long { length head.now ≡ 5 }
     requires known { has_code (frame_rows place.version) (slice_index head.now 0) ≡ true }
     requires allowed { allows (frame_rows place.version) (slice_index head.now 0) (told_length head.now) ≡ true }
@@ -152,6 +153,7 @@ fn read_payload<S: Source, P: Lender>(
         source,
         buffer,
         lender,
+        room,
         place.version,
         head[0],
         told_length(head),
@@ -170,13 +172,14 @@ fn read_payload<S: Source, P: Lender>(
 }
 
 /// Reads the frame at a place, and gives the offset behind it too.
-fn read_frame<S: Source, P: Lender>(
+fn read_frame<'a, S: Source, P: Lender>(
     source: &mut S,
     buffer: &mut [u8; CHUNK],
     lender: &mut P,
+    room: &'a mut [u8; LONGEST_EVENT],
     limit: u64,
     place: Place,
-) -> Result<(Frame, u64), FrameFault>
+) -> Result<(Frame<'a>, u64), FrameFault>
     ensures frame { IfOk result (λ x. StoodAt limit (record { place = place; left = S.left source.old })
         (record { place = record place { offset = x.1 }; left = S.left source.new }) (P.stock lender.old).free x.0) }
     ensures fault { IfErr result (BlamesAt limit place (S.left source.old) (S.left source.new)) }
@@ -191,7 +194,7 @@ fn read_frame<S: Source, P: Lender>(
     let offset = place.offset;
     match head_fault(place.version, limit, offset, &head, count) {
         Some(reason) => Err(FrameFault::Bad { reason, offset }),
-        None => match read_payload(source, buffer, lender, &head, place) {
+        None => match read_payload(source, buffer, lender, room, &head, place) {
             Ok(frame) => Ok((frame, offset + 5 + u64::from(told_length(&head)))),
             Err(fault) => Err(fault),
         },
@@ -285,11 +288,12 @@ impl FrameReader {
     }
 
     /// The next frame of a reader that has refused none.
-    fn advance<S: Source, P: Lender>(
+    fn advance<'a, S: Source, P: Lender>(
         &mut self,
         source: &mut S,
         lender: &mut P,
-    ) -> Result<Frame, FrameFault>
+        room: &'a mut [u8; LONGEST_EVENT],
+    ) -> Result<Frame<'a>, FrameFault>
         ensures gave { IfOk result (λ f. Gave self.old (P.stock lender.old).free f self.new (S.left source.old) (S.left source.new)) }
         ensures blames { IfErr result (λ e. Blames self.old (S.left source.old) (S.left source.new) e × (self.new ≡ self.old)) }
         ensures causes { ReadCauses (S.faults source.old) (S.faults source.new) result }
@@ -299,7 +303,7 @@ impl FrameReader {
             Ok(place) => place,
             Err(fault) => return Err(fault),
         };
-        match read_frame(source, &mut self.buffer, lender, self.limit, place) {
+        match read_frame(source, &mut self.buffer, lender, room, self.limit, place) {
             Ok((frame, offset)) => {
                 self.place = Some(Place { offset, ..place });
                 Ok(frame)
@@ -308,15 +312,16 @@ impl FrameReader {
         }
     }
 
-    /// The next frame, and before the first one the magic (profile). Exactly its bytes are taken from the source. Its data-out
-    /// or its order bytes stand in the first pages that the lender has free: bytes that do not fit are taken and dropped, and
-    /// `data_len` is the length of all. `Bad` says why and where the input is refused; `ReadFault` that a read failed. Either
-    /// is answered again from then on, and nothing more is read.
-    pub fn next<S: Source, P: Lender>(
+    /// The next frame, and before the first one the magic (profile). Exactly its bytes are taken from the source. Its order
+    /// bytes stay in the room. Its data-out stands in the first pages that the lender has free: bytes that do not fit are taken
+    /// and dropped, and `data_len` is the length of all. `Bad` says why and where the input is refused; `ReadFault` that a read
+    /// failed. Either is answered again from then on, and nothing more is read.
+    pub fn next<'a, S: Source, P: Lender>(
         &mut self,
         source: &mut S,
         lender: &mut P,
-    ) -> Result<Frame, FrameFault>
+        room: &'a mut [u8; LONGEST_EVENT],
+    ) -> Result<Frame<'a>, FrameFault>
         ensures gave { IfOk result (λ f. Gave self.old (P.stock lender.old).free f self.new (S.left source.old) (S.left source.new)) }
 
         // A refusal is repeated; a first one is that of the bytes left, or a read has failed.
@@ -332,7 +337,7 @@ impl FrameReader {
         if let Some(fault) = self.refused {
             return Err(fault);
         }
-        match self.advance(source, lender) {
+        match self.advance(source, lender, room) {
             Ok(frame) => Ok(frame),
             Err(fault) => {
                 self.refused = Some(fault);

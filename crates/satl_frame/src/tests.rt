@@ -72,8 +72,9 @@ fn outcome(
     let mut reader = reader;
     let mut source = MemorySource::new(input.to_vec(alloc)?, piece.max(1), Vec::new(alloc));
     let mut shelf = Shelf::new(alloc)?;
+    let mut room = [0; LONGEST_EVENT];
     for count in 0..9u32 {
-        match reader.next(&mut source, &mut shelf) {
+        match reader.next(&mut source, &mut shelf, &mut room) {
             Ok(Frame::End) => return Ok((count, None)),
             Ok(_) => {}
             Err(fault) => return Ok((count, Some(fault))),
@@ -234,7 +235,8 @@ fn expect_frames(rt: &impl Abort, alloc: Global, piece: usize) -> Result<(), Fai
     let mut source = MemorySource::new(input, piece.max(1), Vec::new(alloc));
     let mut shelf = Shelf::new(alloc)?;
     let mut reader = FrameReader::new(alloc, 1 << 40);
-    match reader.next(&mut source, &mut shelf) {
+    let mut room = [0; LONGEST_EVENT];
+    match reader.next(&mut source, &mut shelf, &mut room) {
         Ok(Frame::Request(request)) => {
             assert_eq!(rt; request.tag, Tag(1));
             assert_eq!(rt; request.expected, None);
@@ -244,10 +246,30 @@ fn expect_frames(rt: &impl Abort, alloc: Global, piece: usize) -> Result<(), Fai
         }
         _ => panic!(rt; "no request"),
     }
-    assert!(rt; matches!(reader.next(&mut source, &mut shelf), Ok(Frame::Turn(1))));
-    assert!(rt; matches!(reader.next(&mut source, &mut shelf), Ok(Frame::Request(_))));
-    assert!(rt; matches!(reader.next(&mut source, &mut shelf), Ok(Frame::Turn(1))));
-    assert!(rt; matches!(reader.next(&mut source, &mut shelf), Ok(Frame::End)));
+    assert!(rt;
+        matches!(
+            reader.next(&mut source, &mut shelf, &mut room),
+            Ok(Frame::Turn(1))
+        )
+    );
+    assert!(rt;
+        matches!(
+            reader.next(&mut source, &mut shelf, &mut room),
+            Ok(Frame::Request(_))
+        )
+    );
+    assert!(rt;
+        matches!(
+            reader.next(&mut source, &mut shelf, &mut room),
+            Ok(Frame::Turn(1))
+        )
+    );
+    assert!(rt;
+        matches!(
+            reader.next(&mut source, &mut shelf, &mut room),
+            Ok(Frame::End)
+        )
+    );
     Ok(())
 }
 
