@@ -5,8 +5,6 @@ use Rattle.satl_base.specs.declared.bench.BenchEvent.TheVariants as events
 use Rattle.satl_base.specs.declared.block.Block.{Block}
 use Rattle.satl_base.specs.declared.request.Request.{Request}
 use Rattle.satl_identify.specs.declared.identity.Identity.{Identity}
-use Rattle.satl_base.proofs.BenchLemmas.{holds_whole}
-use Rattle.satl_base.specs.Bench.{cut_event}
 use Rattle.satl_frame.specs.declared.frames.Frame.{Frame}
 use Rattle.satl_frame.specs.declared.frames.Frame.TheVariants as frames
 use Rattle.satl_frame.specs.Output.{all_answered}
@@ -45,17 +43,11 @@ cut_turn n (frames.Turn k) e = sym e
 cut_turn n (frames.Bench event) e = absurd cc
 cut_turn n frames.End e = absurd cc
 
--- an event without its page, and the whole one
-record WholeEvent (event : BenchEvent) (whole : Frame) : Type 0 where
-  pub of : BenchEvent
-  pub whole_is : whole ≡ frames.Bench of
-  pub cut : event ≡ cut_event 0 of
-
-cut_bench : (event : BenchEvent) (whole : Frame) → frames.Bench event ≡ cut_to 0 whole → WholeEvent event whole
+cut_bench : (event : BenchEvent) (whole : Frame) → frames.Bench event ≡ cut_to 0 whole → whole ≡ frames.Bench event
 cut_bench event (frames.Request r) e = absurd cc
 cut_bench event (frames.Manage m) e = absurd cc
 cut_bench event (frames.Turn k) e = absurd cc
-cut_bench event (frames.Bench other) e = record { of = other; whole_is = refl; cut = cc }
+cut_bench event (frames.Bench other) e = sym e
 cut_bench event frames.End e = absurd cc
 
 -- ---- events
@@ -103,13 +95,4 @@ module _ (identity : Identity) (input : List ℕ) (old new : Steps) (sectors aft
       by false t = turns_stick identity input old sectors count t
 
   pub bench_advances : (event : BenchEvent) (result : Bool) → Advances (recorded identity input) (frames.Bench event) (progress old sectors) (progress new after) result → (whole : Frame) → frames.Bench event ≡ cut_to 0 whole → Advances (recorded identity input) whole (progress old sectors) (progress new after) result
-  bench_advances event result advances whole cut =
-      let w = cut_bench event whole cut in
-      subst (λ (f : Frame). Advances (recorded identity input) f (progress old sectors) (progress new after) result) (sym w.whole_is)
-      (holds_whole (λ e. Advances (recorded identity input) (frames.Bench e) (progress old sectors) (progress new after) result) (alike result) 0 w.of
-      (subst (λ e. Advances (recorded identity input) (frames.Bench e) (progress old sectors) (progress new after) result) w.cut advances))
-    where
-      alike : (b : Bool) (some others : List ℕ) → Advances (recorded identity input) (frames.Bench (events.Order some)) (progress old sectors) (progress new after) b →
-          Advances (recorded identity input) (frames.Bench (events.Order others)) (progress old sectors) (progress new after) b
-      alike true some others g = record { answers = g.answers; deeds = g.deeds; stepped = g.stepped; whole = g.whole; said = g.said; follows = g.follows }
-      alike false some others cannot = cannot
+  bench_advances event result advances whole cut = subst (λ (f : Frame). Advances (recorded identity input) f (progress old sectors) (progress new after) result) (sym (cut_bench event whole cut)) advances

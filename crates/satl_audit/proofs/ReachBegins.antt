@@ -4,7 +4,6 @@ use Rattle.std.specs.Prelude.{◌<◌, ◌^◌, None, replicate}
 use Rattle.std.specs.List.{AllByRecursion}
 use Rattle.satl_identify.specs.declared.identity.Identity.{Identity}
 use Rattle.satl_line.specs.declared.entry.Entry.{Entry}
-use Rattle.satl_base.proofs.BenchLemmas.{told_alike}
 use Rattle.satl_frame.specs.declared.frames.Frame.{Frame}
 use Rattle.satl_frame.specs.declared.frames.Frame.TheVariants as frames
 use Rattle.satl_frame.specs.Output.{Answer, out, out_magic}
@@ -70,7 +69,7 @@ pub known_cut : (trim : Bool) (f : Frame) → is_known_frame trim f ≡ true →
 known_cut trim (frames.Request r) h = h
 known_cut trim (frames.Manage m) h = h
 known_cut trim (frames.Turn n) h = h
-known_cut trim (frames.Bench event) h = told_alike (λ e. is_known_frame trim (frames.Bench e)) (λ some others. refl) 0 event ∙ h
+known_cut trim (frames.Bench event) h = h
 known_cut trim frames.End h = h
 
 pub good_cut : (size at : ℕ) (f : Frame) → IsGoodFrame size at f → IsGoodFrame size at (cut_to 0 f)

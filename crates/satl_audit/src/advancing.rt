@@ -47,7 +47,11 @@ fn end(
 
 /// An event of the bench happens: the power is lost, or the drive is told an order, which changes nothing. No run that can be
 /// audited has another (profile).
-fn bench(steps: &mut Steps<'_>, sectors: &mut Sectors, event: &BenchEvent) -> Result<bool, NoMemory>
+fn bench(
+    steps: &mut Steps<'_>,
+    sectors: &mut Sectors,
+    event: &BenchEvent<'_>,
+) -> Result<bool, NoMemory>
     requires fit { (size : ℕ) × (size < 2 ^ 63) × AllFit (length sectors.old) size steps.old.waiting }
     requires capacity { length sectors.old < 2 ^ 64 }
     ensures fit { (capacity size : ℕ) → AllFit capacity size steps.old.waiting
@@ -75,7 +79,7 @@ pub fn advance(
     sectors: &mut Sectors,
     identity: &Identity,
     input: &[u8],
-    frame: &Frame,
+    frame: &Frame<'_>,
     at: usize,
 ) -> Result<bool, NoMemory>
     requires tasks { AreTasks identity.now input.now steps.old.waiting }

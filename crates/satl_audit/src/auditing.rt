@@ -12,7 +12,7 @@ use crate::sectors::Sectors;
 use crate::verdict::Verdict;
 use satl_base::NoMemory;
 use satl_cover::{AuditFault, LIMIT, NoPages, Slice, cover};
-use satl_frame::{Frame, FrameFault, FrameReader};
+use satl_frame::{Frame, FrameFault, FrameReader, LONGEST_EVENT};
 use satl_identify::Identity;
 use std::alloc::Global;
 
@@ -40,9 +40,10 @@ fn follow(
     let mut source = Slice::new(input);
     let mut reader = FrameReader::new(alloc, LIMIT);
     let mut lender = NoPages;
+    let mut room = [0; LONGEST_EVENT];
     loop {
         let at = (input.len() - source.left()).max(8);
-        let frame = match reader.next(&mut source, &mut lender) {
+        let frame = match reader.next(&mut source, &mut lender, &mut room) {
             Ok(frame) => frame,
             Err(FrameFault::Bad { .. }) => unreachable!(),
             Err(FrameFault::ReadFault) => unreachable!(),

@@ -9,7 +9,7 @@ use satl_drive::Bench;
 use satl_unit::{Attention, Attentions};
 
 /// An event happens to the drive (profile).
-pub fn act_on<D: Bench>(drive: &mut D, event: &BenchEvent)
+pub fn act_on<D: Bench>(drive: &mut D, event: &BenchEvent<'_>)
     ensures acted { IsActedOn event.now (D.state drive.old) (D.state drive.new) }
     ensures fit { IsFit (D.state drive.old) → IsFit (D.state drive.new) }
 {

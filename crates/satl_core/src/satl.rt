@@ -2,7 +2,6 @@
 ghost use Rattle.std.specs.Prelude.{◌≡◌, ◌≤◌, ◌+◌, ◌-◌, ◌<◌, ◌↔◌, ◌≢◌, ◌*◌, [], Ok, None, true, false, IfOk, IfErr, IfSome, IfNone, IsNone, OnOk, OnErr, OnSome, map, length};
 ghost use Rattle.std.specs.List.{AllByRecursion, AllZip};
 ghost use Rattle.satl_base.specs.declared.request.Request.{Request};
-ghost use Rattle.satl_base.specs.Bench.{event_pages};
 ghost use Rattle.satl_io.specs.Causes.{Rose, RoseBy};
 ghost use Rattle.satl_regs.specs.Sectors.{IsLeftBehind};
 ghost use Rattle.satl_drive.specs.State.{DriveState};
@@ -387,22 +386,21 @@ impl Satl {
     }
 
     /// An event of the test bench happens to the drive, and the layer to what follows from it: at a power cycle the tasks go
-    /// without an answer, the modes are the defaults and each nexus is told; at a lost link all tasks are answered. The page of
-    /// order bytes, the only one that may be out, stays with who hands them in (profile).
+    /// without an answer, the modes are the defaults and each nexus is told; at a lost link all tasks are answered (profile).
     pub fn bench<D: Bench, L: Ledger>(
         &mut self,
-        event: &BenchEvent,
+        event: &BenchEvent<'_>,
         drive: &mut D,
         replies: &mut Replies,
         steps: &mut Steps<L>,
     )
         requires empty { replies.old ≡ [] }
-        requires lent { self.old.out ≡ event_pages event.now }
+        requires all_in { self.old.out ≡ 0 }
         requires tied { Tied self.old (D.state drive.old) }
         ensures happens { Around (Happens event.now) (view self.old (D.state drive.old)) replies.new
             (view self.new (D.state drive.new)) }
         ensures tied { Tied self.new (D.state drive.new) }
-        ensures pages { self.new.out ≡ reply_pages replies.new + event_pages event.now }
+        ensures pages { self.new.out ≡ reply_pages replies.new }
         ensures writable { AllByRecursion IsWritable replies.new }
         ensures fewer { length self.new.tasks ≤ length self.old.tasks }
         ensures counted { RoseBy (bench_losses event.now) (D.state drive.old).faults (D.state drive.new).faults }
@@ -417,12 +415,12 @@ impl Satl {
     }
 
     /// What follows from an event of the test bench (profile).
-    fn follow(&mut self, event: &BenchEvent, replies: &mut Replies)
+    fn follow(&mut self, event: &BenchEvent<'_>, replies: &mut Replies)
         requires empty { replies.old ≡ [] }
-        requires lent { self.old.out ≡ event_pages event.now }
+        requires all_in { self.old.out ≡ 0 }
         requires few { length self.old.tasks ≤ most_tasks }
         ensures follows { FollowsEvent event.now self.old replies.new self.new }
-        ensures pages { self.new.out ≡ reply_pages replies.new + event_pages event.now }
+        ensures pages { self.new.out ≡ reply_pages replies.new }
         ensures writable { AllByRecursion IsWritable replies.new }
     {
         match event {

@@ -8,7 +8,6 @@ use Rattle.std.specs.Ordering.{is_eq, nat_cmp}
 use Rattle.std.proofs.lemmas.List.{append-nil}
 use Rattle.std.proofs.lemmas.List.Folds.{list_any-append}
 use Rattle.satl_base.specs.declared.request.Request.{Request}
-use Rattle.satl_base.proofs.BenchLemmas.{told_alike}
 use Rattle.satl_frame.specs.declared.frames.Frame.{Frame}
 use Rattle.satl_frame.specs.declared.frames.Frame.TheVariants as frames
 use Rattle.satl_frame.specs.Pulls.{cut_to}
@@ -20,7 +19,7 @@ covered_cut : (trim : Bool) (earlier : List Frame) (whole : Frame) → is_covere
 covered_cut trim earlier (frames.Request r) = refl
 covered_cut trim earlier (frames.Manage m) = refl
 covered_cut trim earlier (frames.Turn count) = refl
-covered_cut trim earlier (frames.Bench event) = told_alike (λ e. is_covered trim earlier (frames.Bench e)) (λ some others. refl) 0 event
+covered_cut trim earlier (frames.Bench event) = refl
 covered_cut trim earlier frames.End = refl
 
 asks_cut : (nexus tag : ℕ) (whole : Frame) → asks_by nexus tag (cut_to 0 whole) ≡ asks_by nexus tag whole

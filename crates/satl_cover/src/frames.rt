@@ -6,7 +6,7 @@ use crate::fault::AuditFault;
 use crate::nothing::NoPages;
 use crate::noting::Noted;
 use crate::slice::Slice;
-use satl_frame::{Frame, FrameFault, FrameReader};
+use satl_frame::{Frame, FrameFault, FrameReader, LONGEST_EVENT};
 use std::alloc::Global;
 
 /// The number of bytes within which each frame of an input ends: 2^40 (profile).
@@ -20,10 +20,11 @@ pub fn read_to_end(alloc: Global, trim: bool, source: &mut Slice<'_>) -> Result<
     let mut reader = FrameReader::new(alloc, LIMIT);
     let mut lender = NoPages;
     let mut noted = Noted::new(alloc, trim);
+    let mut room = [0; LONGEST_EVENT];
     let len = source.left();
     loop {
         let at = (len - source.left()).max(8) as u64;
-        let frame = match reader.next(source, &mut lender) {
+        let frame = match reader.next(source, &mut lender, &mut room) {
             Ok(frame) => frame,
             Err(FrameFault::Bad { reason, offset }) => {
                 return Err(AuditFault::BadInput { reason, offset });

@@ -31,7 +31,7 @@ fn is_unit_0(lun: &[u8; 8]) -> bool
 }
 
 /// Whether the auditor knows a frame, on a drive that trims or not (profile).
-pub fn is_known_frame(trim: bool, frame: &Frame) -> bool
+pub fn is_known_frame(trim: bool, frame: &Frame<'_>) -> bool
     ensures { result ≡ is_known_frame trim frame.now }
 {
     match frame {

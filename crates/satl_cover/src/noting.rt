@@ -23,7 +23,7 @@ pub struct Noted {
 }
 
 /// Adds the name of a request to those that frames before have asked with. False where it is one of them.
-fn add_name(names: &mut BTreeSet<(u8, u32)>, frame: &Frame) -> Result<bool, NoMemory>
+fn add_name(names: &mut BTreeSet<(u8, u32)>, frame: &Frame<'_>) -> Result<bool, NoMemory>
     ensures fresh { (earlier : List Frame) → AreNames earlier names.old
         → IfOk result (λ fresh. fresh ≡ not (is_repeated earlier frame.now)) }
     ensures names { (earlier : List Frame) → AreNames earlier names.old
@@ -42,7 +42,11 @@ fn add_name(names: &mut BTreeSet<(u8, u32)>, frame: &Frame) -> Result<bool, NoMe
 }
 
 /// Whether a frame is covered behind the earlier ones; then its name is added to theirs.
-fn add_covered(names: &mut BTreeSet<(u8, u32)>, trim: bool, frame: &Frame) -> Result<bool, NoMemory>
+fn add_covered(
+    names: &mut BTreeSet<(u8, u32)>,
+    trim: bool,
+    frame: &Frame<'_>,
+) -> Result<bool, NoMemory>
     ensures covered { (earlier : List Frame) → AreNames earlier names.old
         → IfOk result (λ covered. covered ≡ is_covered trim earlier frame.now) }
     ensures names { (earlier : List Frame) → AreNames earlier names.old → is_covered trim earlier frame.now ≡ true
@@ -68,7 +72,7 @@ impl Noted {
     }
 
     /// Takes note of the frame behind the earlier ones, at its offset.
-    pub fn note(&mut self, at: u64, frame: &Frame) -> Result<(), NoMemory>
+    pub fn note(&mut self, at: u64, frame: &Frame<'_>) -> Result<(), NoMemory>
         ensures trim { self.new.trim ≡ self.old.trim }
         ensures knows { (earlier : List Frame) → (whole : Frame) → frame.now ≡ cut_to 0 whole → at ≡ place_behind earlier
             → Knows self.old.trim earlier self.old.names self.old.uncovered

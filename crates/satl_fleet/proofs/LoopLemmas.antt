@@ -3,14 +3,10 @@ use Rattle.std.proofs.Common.{◌≡◌, ◌⊎◌, append_assoc, inl, inr, refl
 use Rattle.std.proofs.lemmas.List.{append-nil, take_all}
 use Rattle.std.specs.Prelude.{Option, None}
 use Rattle.std.specs.List.{AllByRecursion}
-use Rattle.satl_base.specs.declared.bench.BenchEvent.{BenchEvent}
-use Rattle.satl_base.specs.declared.bench.BenchEvent.TheVariants.{Strike, Mend, Glitch, Order, Power, Unplug}
 use Rattle.satl_base.specs.declared.request.Request.{Request}
-use Rattle.satl_base.specs.Bench.{cut_event}
-use Rattle.satl_base.proofs.BenchLemmas.{none_cut}
 use Rattle.satl_io.specs.Known.{Wrote}
 use Rattle.satl_io.proofs.Joined.{Wrote-more, Wrote-none}
-use Rattle.satl_frame.specs.Frames.{IsEvent, IsFrame, IsRequest, data_out}
+use Rattle.satl_frame.specs.Frames.{IsFrame, IsRequest, data_out}
 use Rattle.satl_frame.specs.Inputs.{NoneEnds}
 use Rattle.satl_frame.specs.Progress.{HasRead}
 use Rattle.satl_frame.specs.Pulls.{cut_to}
@@ -42,20 +38,11 @@ few_pages version w is =
     let short = is.sent.short in
     omega (arith, pages, size, short)
 
--- one page has room for all order bytes
-uncut_event : (event : BenchEvent) → IsEvent event → cut_event 4096 event ≡ event
-uncut_event (Strike which lba) is = refl
-uncut_event (Mend lba) is = refl
-uncut_event (Glitch count) is = refl
-uncut_event (Order order) is = ap Order (none_cut 4096 order (omega arith) (omega (arith, is.1)))
-uncut_event Power is = refl
-uncut_event Unplug is = refl
-
 uncut : (version : Version) (whole : Frame) → IsFrame version whole → cut_to 4096 whole ≡ whole
 uncut version (frames.Request w) is = ap (λ pages. frames.Request (record w { body = pages })) (take_all 4096 w.body (few_pages version w is))
 uncut version (frames.Manage m) is = refl
 uncut version (frames.Turn n) is = refl
-uncut version (frames.Bench event) is = ap frames.Bench (uncut_event event is)
+uncut version (frames.Bench event) is = refl
 uncut version frames.End is = refl
 
 routable : (version : Version) (whole : Frame) → IsFrame version whole → CanRoute whole

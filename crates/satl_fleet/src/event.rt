@@ -19,12 +19,12 @@ use satl_io::Sink;
 use satl_pages::Pool;
 use std::sync::ledger::Ledger;
 
-/// Carries out what goes to each unit on the unit of this number, with a page of that unit for order bytes.
+/// Carries out what goes to each unit on the unit of this number.
 pub fn serve_at<K: Sink, D: Bench, L: Ledger>(
     units: &mut Vec<Satl>,
     drives: &mut Vec<D>,
     k: u8,
-    event: &Shared,
+    event: &Shared<'_>,
     sink: &mut K,
     replies: &mut Replies,
     steps: &mut Steps<L>,
@@ -45,8 +45,8 @@ pub fn serve_at<K: Sink, D: Bench, L: Ledger>(
 {
     let satl = &mut units[k as usize];
     let drive = &mut drives[k as usize];
-    let lent = event.again(satl);
-    serve_unit(satl, k, lent, sink, drive, replies, steps)
+    let frame = event.again();
+    serve_unit(satl, k, frame, sink, drive, replies, steps)
 }
 
 /// Carries out a request on the unit of this number, with pages of that unit. Those of the fleet's pool come back to it.

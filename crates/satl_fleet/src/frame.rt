@@ -26,7 +26,7 @@ use std::sync::ledger::Ledger;
 fn serve_all<K: Sink, D: Bench, L: Ledger>(
     units: &mut Vec<Satl>,
     drives: &mut Vec<D>,
-    event: &Shared,
+    event: &Shared<'_>,
     sink: &mut K,
     replies: &mut Replies,
     steps: &mut Steps<L>,
@@ -154,7 +154,7 @@ pub fn serve_frame<K: Sink, D: Bench, L: Ledger>(
     units: &mut Vec<Satl>,
     drives: &mut Vec<D>,
     pool: &mut Pool,
-    frame: Frame,
+    frame: Frame<'_>,
     sink: &mut K,
     replies: &mut Replies,
     steps: &mut Steps<L>,
@@ -186,10 +186,7 @@ pub fn serve_frame<K: Sink, D: Bench, L: Ledger>(
             serve_shared(units, drives, &Shared::Turn(count), sink, replies, steps)
         }
         Frame::Bench(event) => {
-            let event = Shared::Bench(event);
-            let served = serve_shared(units, drives, &event, sink, replies, steps);
-            pool.give(event.into_pages());
-            served
+            serve_shared(units, drives, &Shared::Bench(event), sink, replies, steps)
         }
         Frame::End => serve_end(units, drives, sink, replies, steps),
     }
@@ -199,7 +196,7 @@ pub fn serve_frame<K: Sink, D: Bench, L: Ledger>(
 fn serve_shared<K: Sink, D: Bench, L: Ledger>(
     units: &mut Vec<Satl>,
     drives: &mut Vec<D>,
-    event: &Shared,
+    event: &Shared<'_>,
     sink: &mut K,
     replies: &mut Replies,
     steps: &mut Steps<L>,

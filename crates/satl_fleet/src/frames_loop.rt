@@ -10,7 +10,7 @@ use crate::frame::serve_frame;
 use satl_base::{Replies, Steps};
 use satl_core::Satl;
 use satl_drive::Bench;
-use satl_frame::FrameReader;
+use satl_frame::{FrameReader, LONGEST_EVENT};
 use satl_io::{Sink, Source};
 use satl_pages::Pool;
 use satl_step::{Stop, is_end};
@@ -50,8 +50,9 @@ pub fn serve_frames<S: Source, K: Sink, D: Bench, L: Ledger>(
     ensures later { K.faults sink.old ≤ K.faults sink.new }
 {
     let mut replies = Replies::new(alloc);
+    let mut room = [0; LONGEST_EVENT];
     'frames: loop {
-        let frame = match reader.next(source, pool) {
+        let frame = match reader.next(source, pool, &mut room) {
             Ok(frame) => frame,
             Err(fault) => return Err(Stop::Refused(fault)),
         };

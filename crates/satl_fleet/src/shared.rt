@@ -1,52 +1,37 @@
 // What goes to each unit of a target.
 ghost use Rattle.std.specs.Prelude.{◌≡◌};
-ghost use Rattle.satl_base.specs.Bench.{cut_event, event_pages};
-ghost use Rattle.satl_base.specs.Stocks.{HasLent};
 
-use satl_base::{BenchEvent, Lender, Manage, OrderBytes, Pages};
+use satl_base::{BenchEvent, Manage, OrderBytes};
 use satl_frame::Frame;
 
-/// A frame that may go to each unit of a target: all but a request (profile).
+/// A frame that may go to each unit of a target: all but a request. It has no page (profile).
 #[derive(Drop)]
-pub enum Shared {
+pub enum Shared<'a> {
     Manage(Manage),
     Turn(u16),
-    Bench(BenchEvent),
+    Bench(BenchEvent<'a>),
     End,
 }
 
-impl Shared {
-    ghost use Rattle.std.specs.Prelude.{◌≡◌, ◌+◌, length};
-    ghost use Rattle.satl_frame.specs.Pulls.{cut_to, frame_pages};
+impl<'a> Shared<'a> {
+    ghost use Rattle.std.specs.Prelude.{◌≡◌};
     ghost use Rattle.satl_fleet.specs.Shared.{frame_of};
 
-    /// The frame, for one unit more, whose order bytes stand in a page of that unit, where it has one free (profile).
-    pub fn again<P: Lender>(&self, lender: &mut P) -> Frame
-        ensures cut { result ≡ cut_to (P.stock lender.old).free (frame_of self.now) }
-        ensures lent { HasLent (frame_pages result) (P.stock lender.old) (P.stock lender.new) }
+    /// The frame, for one unit more.
+    pub fn again(&self) -> Frame<'_>
+        ensures { result ≡ frame_of self.now }
     {
         match self {
             Shared::Manage(manage) => Frame::Manage(*manage),
             Shared::Turn(count) => Frame::Turn(*count),
-            Shared::Bench(event) => Frame::Bench(bench_again(event, lender)),
+            Shared::Bench(event) => Frame::Bench(bench_again(event)),
             Shared::End => Frame::End,
-        }
-    }
-
-    /// The pages of the frame, for the lender (profile).
-    pub fn into_pages(self) -> Pages
-        ensures { length result ≡ frame_pages (frame_of self) }
-    {
-        match self {
-            Shared::Bench(event) => event.into_pages(),
-            _ => Pages::default(),
         }
     }
 }
 
-fn bench_again<P: Lender>(event: &BenchEvent, lender: &mut P) -> BenchEvent
-    ensures cut { result ≡ cut_event (P.stock lender.old).free event.now }
-    ensures lent { HasLent (event_pages result) (P.stock lender.old) (P.stock lender.new) }
+fn bench_again<'a>(event: &'a BenchEvent<'_>) -> BenchEvent<'a>
+    ensures { result ≡ event.now }
 {
     match event {
         BenchEvent::Strike { which, lba } => BenchEvent::Strike {
@@ -56,7 +41,7 @@ fn bench_again<P: Lender>(event: &BenchEvent, lender: &mut P) -> BenchEvent
         BenchEvent::Mend { lba } => BenchEvent::Mend { lba: *lba },
         BenchEvent::Glitch { count } => BenchEvent::Glitch { count: *count },
         BenchEvent::Order { bytes } => BenchEvent::Order {
-            bytes: OrderBytes::lend(lender, bytes.as_slice()),
+            bytes: OrderBytes::new(bytes.as_slice()),
         },
         BenchEvent::Power => BenchEvent::Power,
         BenchEvent::Unplug => BenchEvent::Unplug,

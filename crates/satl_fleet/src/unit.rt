@@ -50,7 +50,7 @@ pub fn lend(satl: &mut Satl, pool: &mut Pool, mut request: Request) -> Request
 pub fn serve_unit<K: Sink, D: Bench, L: Ledger>(
     satl: &mut Satl,
     unit: u8,
-    event: Frame,
+    event: Frame<'_>,
     sink: &mut K,
     drive: &mut D,
     replies: &mut Replies,

@@ -4,10 +4,7 @@ use Rattle.std.specs.Prelude.{Result, OnErr, OnOk}
 use Rattle.std.proofs.lemmas.List.{length-append, length-map}
 use Rattle.std.proofs.lemmas.Result.{on_err_weaker, on_ok_weaker}
 use Rattle.satl_base.proofs.OutcomeLemmas.{on_both, on_both_err}
-use Rattle.satl_base.proofs.BenchLemmas.{holds_whole}
-use Rattle.satl_base.specs.Bench.{cut_event}
 use Rattle.satl_base.specs.declared.bench.BenchEvent.{BenchEvent}
-use Rattle.satl_base.specs.declared.bench.BenchEvent.TheVariants.{Order}
 use Rattle.satl_base.specs.declared.reply.Reply.{Reply}
 use Rattle.satl_base.specs.declared.reply.Response.{Response}
 use Rattle.satl_base.specs.declared.request.Manage.{Manage}
@@ -96,26 +93,12 @@ whole_manage room m (frames.Turn k) e = absurd cc
 whole_manage room m (frames.Bench event) e = absurd cc
 whole_manage room m frames.End e = absurd cc
 
--- an event of which this one is the cut form
-record WholeEvent (room : ℕ) (whole : Frame) (event : BenchEvent) : Type 0 where
-  pub of : BenchEvent
-  pub is : whole ≡ frames.Bench of
-  pub cut : event ≡ cut_event room of
-
-whole_bench : (room : ℕ) (event : BenchEvent) (whole : Frame) → frames.Bench event ≡ cut_to room whole → WholeEvent room whole event
+whole_bench : (room : ℕ) (event : BenchEvent) (whole : Frame) → frames.Bench event ≡ cut_to room whole → whole ≡ frames.Bench event
 whole_bench room event (frames.Request w) e = absurd cc
 whole_bench room event (frames.Manage m) e = absurd cc
 whole_bench room event (frames.Turn k) e = absurd cc
-whole_bench room event (frames.Bench k) e = record { of = k; is = refl; cut = cc }
+whole_bench room event (frames.Bench k) e = cc
 whole_bench room event frames.End e = absurd cc
-
--- what happens at the cut form happens at the whole event
-happens_whole : (room : ℕ) (event of : BenchEvent) (s new : Device) (replies : List Reply) → event ≡ cut_event room of → Around (Happens event) s replies new → Around (Happens of) s replies new
-happens_whole room event of s new replies cut h =
-    holds_whole (λ e. Around (Happens e) s replies new) alike room of (subst (λ e. Around (Happens e) s replies new) cut h)
-  where
-    alike : (some others : List ℕ) → Around (Happens (Order some)) s replies new → Around (Happens (Order others)) s replies new
-    alike some others x = record { before = x.before; after = x.after; quiet_before = x.quiet_before; step = x.step; quiet_after = x.quiet_after }
 
 -- ---- what they do
 
@@ -139,9 +122,7 @@ carried_manage m response a c replies step covered = record {
 pub carried_bench : (event : BenchEvent) (a c : Stand) (replies : List Reply) → Around (Happens event) a.device replies c.device → (IsDeep a.tally → depth c.device ≤ c.tally.deepest) → Carried (frames.Bench event) a (map replied replies) c
 carried_bench event a c replies step covered = record {
   deep = depth c.device;
-  does = λ whole is.
-      let found = whole_bench is.room event whole is.cut in
-      subst (λ f. Does f a.device (map replied replies) c.device (depth c.device)) (sym found.is) (replies, refl, happens_whole is.room event found.of a.device c.device replies found.cut step, refl);
+  does = λ whole is. subst (λ f. Does f a.device (map replied replies) c.device (depth c.device)) (sym (whole_bench is.room event whole is.cut)) (replies, refl, step, refl);
   covered = covered;
 }
 

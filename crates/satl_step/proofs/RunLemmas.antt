@@ -1,8 +1,5 @@
 -- A run that grows by one event.
 use Rattle.std.proofs.Common.{◌≡◌, ◌⊎◌, sym, ap, subst, arith, ℕ, ◌+◌, ◌≤◌, max, inl, inr, List, [], ◌∷◌, ◌++◌, length}
-use Rattle.satl_base.proofs.BenchLemmas.{holds_whole}
-use Rattle.satl_base.specs.Bench.{cut_event}
-use Rattle.satl_base.specs.declared.bench.BenchEvent.{BenchEvent}
 use Rattle.satl_base.specs.declared.bench.BenchEvent.TheVariants as events
 use Rattle.satl_base.proofs.ListsLemmas.{how_many-push}
 use Rattle.satl_io.specs.Causes.{RoseBy}
@@ -22,14 +19,11 @@ use Rattle.satl_step.specs.Runs.RunInPart.{last}
 
 -- ---- what an event counts of a whole one
 
-tallied_event : (room : ℕ) (a b : Stand) (e : BenchEvent) → IsTallied (frames.Bench (cut_event room e)) a b → IsTallied (frames.Bench e) a b
-tallied_event room a b = holds_whole (λ e. IsTallied (frames.Bench e) a b) (λ some others x. record { faults = x.faults; unplugs = x.unplugs; calls = x.calls; queue = x.queue }) room
-
 pub tallied_whole : (room : ℕ) (a b : Stand) (event whole : Frame) → event ≡ cut_to room whole → IsTallied event a b → IsTallied whole a b
 tallied_whole room a b event (frames.Request w) is tallied = let x = subst (λ f. IsTallied f a b) is tallied in record { faults = x.faults; unplugs = x.unplugs; calls = x.calls; queue = x.queue }
 tallied_whole room a b event (frames.Manage m) is tallied = subst (λ f. IsTallied f a b) is tallied
 tallied_whole room a b event (frames.Turn n) is tallied = subst (λ f. IsTallied f a b) is tallied
-tallied_whole room a b event (frames.Bench e) is tallied = tallied_event room a b e (subst (λ f. IsTallied f a b) is tallied)
+tallied_whole room a b event (frames.Bench e) is tallied = subst (λ f. IsTallied f a b) is tallied
 tallied_whole room a b event frames.End is tallied = subst (λ f. IsTallied f a b) is tallied
 
 pub asked_whole : (room count : ℕ) (event whole : Frame) → event ≡ cut_to room whole → CutTurns event count → CutTurns whole count

@@ -1,7 +1,6 @@
 -- One event on one unit: what it does, how its answers are told, and what is counted (profile).
 use Rattle.std.specs.Prelude.{◌≡◌, ◌⊎◌, ℕ, ◌+◌, ◌*◌, ◌≤◌, List, [], ◌∷◌, length, map, Option}
 use Rattle.satl_base.specs.declared.reply.Reply.{Reply}
-use Rattle.satl_base.specs.Bench.{event_pages}
 use Rattle.satl_io.specs.Causes.{RoseBy}
 use Rattle.satl_frame.specs.declared.frames.Frame.{Frame}
 use Rattle.satl_frame.specs.declared.frames.Frame.TheVariants as frames
@@ -27,10 +26,10 @@ abbrev pub scene_of : {T : Type 0} → Layer → DriveState → ℕ → T → Op
 scene_of l d calls teller written =
     record { stand = stand_of l d calls; telling = record { teller = teller; written = written } }
 
--- the pages that are out are those of a request or of order bytes, or none (profile)
+-- the pages that are out are those of a request, or none (profile)
 abbrev pub CanTake : Frame → ℕ → ℕ → Type 0
 CanTake (frames.Request r) free out = CanSubmit r free out
-CanTake (frames.Bench event) free out = out ≡ event_pages event
+CanTake (frames.Bench event) free out = out ≡ 0
 CanTake _ free out = out ≡ 0
 
 -- a whole event, of which this one has the pages that were free (profile)

@@ -10,7 +10,7 @@ use Rattle.satl_step.specs.Events.{CanTake}
 pub record CanServeEvent (event : Frame) (l : Layer) (d : DriveState) (waiting : List Reply) : Type 0 where
   -- the layer is tied to its drive
   pub tied : Tied l d
-  -- the pages that are out are those of a request or of order bytes, or none
+  -- the pages that are out are those of a request, or none
   pub can : CanTake event l.free l.out
   -- no reply waits
   pub none : waiting ≡ []

@@ -64,7 +64,7 @@ fn serve_manage<T: Teller, K: Sink, D: Drive, L: Ledger>(
 /// Something happens to the drive.
 fn serve_bench<T: Teller, K: Sink, D: Bench, L: Ledger>(
     satl: &mut Satl,
-    event: BenchEvent,
+    event: BenchEvent<'_>,
     teller: &mut T,
     sink: &mut K,
     drive: &mut D,
@@ -79,7 +79,6 @@ fn serve_bench<T: Teller, K: Sink, D: Bench, L: Ledger>(
     ensures cause { HasCause (K.faults sink.old) (K.faults sink.new) result }
 {
     satl.bench(&event, drive, replies, steps);
-    satl.recycle(event.into_pages());
     see_queue(satl);
     tell_replies(satl, teller, sink, replies)
 }
@@ -89,7 +88,7 @@ fn serve_bench<T: Teller, K: Sink, D: Bench, L: Ledger>(
 /// the event was carried out in whole, or was cut short between two of its turns (profile).
 pub fn serve_event<T: Teller, K: Sink, D: Bench, L: Ledger>(
     satl: &mut Satl,
-    event: Frame,
+    event: Frame<'_>,
     teller: &mut T,
     sink: &mut K,
     drive: &mut D,

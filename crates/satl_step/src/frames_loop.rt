@@ -10,7 +10,7 @@ use crate::teller::Teller;
 use satl_base::{Replies, Steps};
 use satl_core::Satl;
 use satl_drive::Bench;
-use satl_frame::{Frame, FrameFault, FrameReader};
+use satl_frame::{Frame, FrameFault, FrameReader, LONGEST_EVENT};
 use satl_io::{Sink, Source};
 use std::alloc::Global;
 use std::sync::ledger::Ledger;
@@ -25,7 +25,7 @@ pub enum Stop {
 }
 
 /// Whether a frame is END, which ends an input (profile).
-pub fn is_end(frame: &Frame) -> bool
+pub fn is_end(frame: &Frame<'_>) -> bool
     ensures { result ≡ is_end frame.now }
 {
     match frame {
@@ -35,7 +35,7 @@ pub fn is_end(frame: &Frame) -> bool
 }
 
 /// A count of requests behind a frame. It stands still at 2^64 - 1.
-fn count_request(requests: u64, frame: &Frame) -> u64
+fn count_request(requests: u64, frame: &Frame<'_>) -> u64
     ensures { result ≡ min (requests + requests_in (frame.now ∷ [])) (2 ^ 64 - 1) }
 {
     match frame {
@@ -75,8 +75,9 @@ pub fn serve_frames<S: Source, T: Teller, K: Sink, D: Bench, L: Ledger>(
 {
     let mut replies = Replies::new(alloc);
     let mut requests = 0;
+    let mut room = [0; LONGEST_EVENT];
     'frames: loop {
-        let frame = match reader.next(source, satl) {
+        let frame = match reader.next(source, satl, &mut room) {
             Ok(frame) => frame,
             Err(fault) => return Err(Stop::Refused(fault)),
         };

@@ -1,5 +1,4 @@
 use Rattle.std.proofs.Common.{arith, ap, ◌∙◌, ◌++◌}
-use Rattle.satl_base.specs.Bench.{event_pages}
 use Rattle.satl_core.specs.Layer.{Layer, held_pages, reply_pages}
 use Rattle.satl_core.specs.Turning.{lost_replies}
 use Rattle.satl_core.proofs.TurningLemmas.{lost_pages}
@@ -9,4 +8,4 @@ pub returns-in-Unplug-clause-pages : goal.returns-in-Unplug-clause-pages
 returns-in-Unplug-clause-pages c =
     let answers = ap reply_pages (c.lose.ensures.answers ∙ ap (λ r. r ++ lost_replies c.self.inside.modes.d_sense c.forget.new.self.tasks) c.requires.empty) in
     let lost = lost_pages c.self.inside.modes.d_sense c.forget.new.self.tasks in
-    omega (arith, answers, lost, ap held_pages c.forget.ensures.same, ap (λ (l : Layer). l.out) c.lose.ensures.stays, ap (λ (l : Layer). l.out) c.self.view_is, c.requires.lent, ap event_pages c.in-Unplug.is, c.self.invariant.held)
+    omega (arith, answers, lost, ap held_pages c.forget.ensures.same, ap (λ (l : Layer). l.out) c.lose.ensures.stays, ap (λ (l : Layer). l.out) c.self.view_is, c.requires.all_in, c.self.invariant.held)
