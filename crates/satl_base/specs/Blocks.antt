@@ -38,6 +38,10 @@ first_bytes n blocks = take n (bytes_of blocks)
 abbrev pub is_used : Range → Bool
 is_used range = not (range.count == 0)
 
+-- so many blocks from an address on (SBC-3, LOGICAL BLOCK ADDRESS; ACS-3, LBA and COUNT)
+abbrev pub over : ℕ → ℕ → Range
+over lba count = record { lba = lba; count = count }
+
 -- what stands past the last block (profile)
 abbrev pub no_block : Block
 no_block = record { bytes = [] }
