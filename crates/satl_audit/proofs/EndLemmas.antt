@@ -4,7 +4,7 @@ use Rattle.std.specs.Prelude.{◌&&◌, not, Option, Some, None, remove, slice_g
 use Rattle.satl_base.specs.declared.block.Block.{Block}
 use Rattle.satl_base.specs.declared.reply.Reply.{Reply}
 use Rattle.satl_base.specs.declared.reply.Scsi.TheVariants.{Good}
-use Rattle.satl_base.specs.Blocks.{bytes_of, AreWhole}
+use Rattle.satl_base.specs.Blocks.{bytes_of, AreWhole, over}
 use Rattle.satl_base.specs.Cells.{pairs_from}
 use Rattle.satl_base.proofs.BlocksLemmas.{length-bytes_of}
 use Rattle.satl_cdb.specs.declared.command.Command.TheVariants as commands
@@ -21,7 +21,6 @@ use Rattle.satl_line.proofs.EligibleLemmas.{eligible_passes}
 use Rattle.satl_direct.specs.Device.{Device, without}
 use Rattle.satl_direct.specs.Ending.{task_reply}
 use Rattle.satl_direct.specs.Quiet.{written_by}
-use Rattle.satl_direct.specs.Tasks.{over}
 use Rattle.satl_audit.specs.Arriving.{device_at, device_without_sectors}
 use Rattle.satl_audit.specs.Deciding.{GivesWhole}
 use Rattle.satl_audit.specs.Deeds.{Deed}

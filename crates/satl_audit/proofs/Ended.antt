@@ -6,6 +6,7 @@ use Rattle.satl_base.specs.declared.bench.Which.TheVariants as flaws
 use Rattle.satl_base.specs.declared.reply.Reply.{Reply}
 use Rattle.satl_base.specs.declared.reply.Scsi.TheVariants.{Good}
 use Rattle.satl_base.specs.Cells.{Cell, nows, settle, whole}
+use Rattle.satl_base.specs.Blocks.{over}
 use Rattle.satl_base.proofs.Booleans.{second_case}
 use Rattle.satl_cdb.specs.declared.command.Command.{Command}
 use Rattle.satl_cdb.specs.declared.command.Command.TheVariants as commands
@@ -15,7 +16,7 @@ use Rattle.satl_line.specs.Ending.Outcome.{ends_done}
 use Rattle.satl_line.specs.Ranged.RangedTask.{ranged_write}
 use Rattle.satl_line.specs.Ranged.{written_pairs}
 use Rattle.satl_direct.specs.Device.{Device, without}
-use Rattle.satl_direct.specs.Tasks.{asks, over}
+use Rattle.satl_direct.specs.Tasks.{asks}
 use Rattle.satl_direct.specs.Ending.{EndsBy, IsChecked, task_reply}
 use Rattle.satl_direct.specs.Quiet.{written_by}
 use Rattle.satl_direct.specs.Senses.{link_lost, not_ready}

@@ -3,6 +3,7 @@ use Rattle.std.proofs.Common.{arith, ◌≡◌, ap, ◌∙◌, ℕ, ◌+◌, tru
 use Rattle.std.specs.Prelude.{◌≤◌, ◌<◌, ◌&&◌, not, ◌||◌}
 use Rattle.satl_base.specs.Cells.{Pair}
 use Rattle.satl_base.specs.Lists.{IsIn}
+use Rattle.satl_base.specs.Blocks.{over}
 use Rattle.satl_cdb.specs.declared.command.Command.{Command}
 use Rattle.satl_cdb.specs.declared.command.Command.TheVariants as commands
 use Rattle.satl_line.specs.declared.entry.Entry.{Entry}
@@ -10,7 +11,6 @@ use Rattle.satl_line.specs.declared.entry.Kind.TheVariants.{Ranged}
 use Rattle.satl_line.specs.Conflict.{access_of, conflicts, is_alone, is_write, Access, accesses_conflict, any_meet, ranges_meet}
 use Rattle.satl_direct.specs.Device.{Device}
 use Rattle.satl_direct.specs.Quiet.{written_by}
-use Rattle.satl_direct.specs.Tasks.{over}
 use Rattle.satl_audit.proofs.Forming.{FormedBy}
 use Rattle.satl_audit.proofs.EarlyPairs.{from_within}
 use Rattle.std.proofs.lemmas.Bool.{lt-ltb, or_left, or_right}

@@ -5,6 +5,7 @@ use Rattle.std.specs.Option.{option_map}
 use Rattle.std.proofs.lemmas.List.{get_or-map, length-map}
 use Rattle.satl_base.specs.declared.block.Block.{Block}
 use Rattle.satl_base.specs.Cells.{pairs_from}
+use Rattle.satl_base.specs.Blocks.{over}
 use Rattle.satl_cdb.specs.declared.command.Command.{Command}
 use Rattle.satl_cdb.specs.declared.command.Command.TheVariants as commands
 use Rattle.satl_cdb.specs.declared.command.Form.{Form}
@@ -14,7 +15,7 @@ use Rattle.satl_unit.specs.declared.attention.Attention.TheVariants.{PowerOn}
 use Rattle.satl_line.specs.declared.entry.Entry.{Entry}
 use Rattle.satl_direct.specs.Device.{Device}
 use Rattle.satl_direct.specs.Quiet.{writes, written_by}
-use Rattle.satl_direct.specs.Tasks.{held_blocks, over}
+use Rattle.satl_direct.specs.Tasks.{held_blocks}
 use Rattle.satl_audit.specs.Arriving.{device_without_sectors}
 use Rattle.satl_audit.specs.Following.{Follows, pairs_in}
 use Rattle.satl_audit.specs.Kept.{Keeping, blank_keeping, kept_power, known_sector, known_sector_at}

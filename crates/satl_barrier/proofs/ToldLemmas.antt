@@ -5,14 +5,14 @@ use Rattle.std.proofs.lemmas.List.{length-set, set-get_or}
 use Rattle.std.specs.List.{AllByRecursion}
 use Rattle.std.specs.Prelude.{◌==◌, ◌&&◌, not, MatchBool, slice_index, slice_set, if◌then◌else◌}
 use Rattle.std.proofs.lemmas.List.Sums.{sum_by-set}
-use Rattle.satl_base.specs.Identify.{cache_is_on, checksum, has_bad_sum, has_queued_trim, has_trim, look_is_on, word, word_bits}
+use Rattle.satl_base.specs.Identify.{cache_is_on, checksum, checksum_byte, has_bad_sum, has_queued_trim, has_trim, look_is_on, word, word_bits}
 use Rattle.satl_base.specs.Fields.{IsBytes}
 use Rattle.satl_base.specs.Places.{places}
 use Rattle.satl_base.proofs.PlacesLemmas.{by_places, places_ext}
 use Rattle.satl_regs.specs.Effects.{IsTelling}
 use Rattle.satl_identify.proofs.Settings.{sum_again}
 use Rattle.satl_barrier.specs.Leaving.{SaysSo}
-use Rattle.satl_identify.specs.Data.{identity_data, integrity_byte, settings_byte}
+use Rattle.satl_identify.specs.Data.{identity_data, settings_byte}
 
 -- each of these is a byte, place by place
 pub all_bytes : (d : List ℕ) → AllByRecursion (λ byte. byte < 256) d → IsBytes d
@@ -42,7 +42,7 @@ setting_bits n m k j c l fits high low cache look = go c l (bit_of ((n + 256 * k
     go false false a b = omega (arith, a, b, high, low, fits)
 
 -- byte 511 by the sum
-integrity_is : (d : List ℕ) → length d ≡ 512 → slice_index d 511 < 256 → checksum d ≡ 0 → slice_index d 511 ≡ integrity_byte (slice_set d 511 0)
+integrity_is : (d : List ℕ) → length d ≡ 512 → slice_index d 511 < 256 → checksum d ≡ 0 → slice_index d 511 ≡ checksum_byte (slice_set d 511 0)
 unfolding checksum
 integrity_is d long fits sums =
     let s = sum_by-set (λ (x : ℕ). x) d 511 0 0 (omega (arith, long)) in
@@ -70,8 +70,8 @@ is_checked d = word_bits 255 7 0 d == 0xA5
 pub length-data : (b : List ℕ) (c l : Bool) → length (identity_data b c l) ≡ length b
 length-data b c l =
     let set_so = set b 170 (settings_byte (slice_index b 170) c l) in
-    elim (is_checked set_so) as (λ t. length (if t then set set_so 511 (integrity_byte (set set_so 511 0)) else set_so) ≡ length b) [
-      | true ↦ length-set set_so 511 (integrity_byte (set set_so 511 0)) ∙ length-set b 170 (settings_byte (slice_index b 170) c l)
+    elim (is_checked set_so) as (λ t. length (if t then set set_so 511 (checksum_byte (set set_so 511 0)) else set_so) ≡ length b) [
+      | true ↦ length-set set_so 511 (checksum_byte (set set_so 511 0)) ∙ length-set b 170 (settings_byte (slice_index b 170) c l)
       | false ↦ length-set b 170 (settings_byte (slice_index b 170) c l)
     ]
 
@@ -83,8 +83,8 @@ module _ (b : List ℕ) (long : length b ≡ 512) (c l : Bool) where
   checked_same = rw (get_or-set_other b 170 510 (settings_byte (slice_index b 170) c l) 0 (λ e. omega (arith, e)), get_or-set_other b 170 511 (settings_byte (slice_index b 170) c l) 0 (λ e. omega (arith, e))) refl
 
   data-not_511 : (i : ℕ) → (i ≡ 511 → ⊥) → slice_index (identity_data b c l) i ≡ slice_index set_so i
-  data-not_511 i other = elim (is_checked set_so) as (λ t. slice_index (if t then set set_so 511 (integrity_byte (set set_so 511 0)) else set_so) i ≡ slice_index set_so i)
-      [ true ↦ get_or-set_other set_so 511 i (integrity_byte (set set_so 511 0)) 0 other | false ↦ refl ]
+  data-not_511 i other = elim (is_checked set_so) as (λ t. slice_index (if t then set set_so 511 (checksum_byte (set set_so 511 0)) else set_so) i ≡ slice_index set_so i)
+      [ true ↦ get_or-set_other set_so 511 i (checksum_byte (set set_so 511 0)) 0 other | false ↦ refl ]
 
   data-other : (i : ℕ) → (i ≡ 170 → ⊥) → (i ≡ 511 → ⊥) → slice_index (identity_data b c l) i ≡ slice_index b i
   data-other i not_170 not_511 = data-not_511 i not_511 ∙ get_or-set_other b 170 i (settings_byte (slice_index b 170) c l) 0 not_170
@@ -92,11 +92,11 @@ module _ (b : List ℕ) (long : length b ≡ 512) (c l : Bool) where
   data-170 : slice_index (identity_data b c l) 170 ≡ settings_byte (slice_index b 170) c l
   data-170 = data-not_511 170 (λ e. omega (arith, e)) ∙ get_or-set_same b 170 (settings_byte (slice_index b 170) c l) 0 (omega (arith, long))
 
-  data-511_checked : is_checked b ≡ true → slice_index (identity_data b c l) 511 ≡ integrity_byte (set set_so 511 0)
-  data-511_checked is = ap (λ t. slice_index (if t then set set_so 511 (integrity_byte (set set_so 511 0)) else set_so) 511) (checked_same ∙ is) ∙ get_or-set_same set_so 511 (integrity_byte (set set_so 511 0)) 0 (omega (arith, long, length-set b 170 (settings_byte (slice_index b 170) c l)))
+  data-511_checked : is_checked b ≡ true → slice_index (identity_data b c l) 511 ≡ checksum_byte (set set_so 511 0)
+  data-511_checked is = ap (λ t. slice_index (if t then set set_so 511 (checksum_byte (set set_so 511 0)) else set_so) 511) (checked_same ∙ is) ∙ get_or-set_same set_so 511 (checksum_byte (set set_so 511 0)) 0 (omega (arith, long, length-set b 170 (settings_byte (slice_index b 170) c l)))
 
   data-511_plain : is_checked b ≡ false → slice_index (identity_data b c l) 511 ≡ slice_index b 511
-  data-511_plain is = ap (λ t. slice_index (if t then set set_so 511 (integrity_byte (set set_so 511 0)) else set_so) 511) (checked_same ∙ is) ∙ get_or-set_other b 170 511 (settings_byte (slice_index b 170) c l) 0 (λ e. omega (arith, e))
+  data-511_plain is = ap (λ t. slice_index (if t then set set_so 511 (checksum_byte (set set_so 511 0)) else set_so) 511) (checked_same ∙ is) ∙ get_or-set_other b 170 511 (settings_byte (slice_index b 170) c l) 0 (λ e. omega (arith, e))
 
   checked_data : is_checked (identity_data b c l) ≡ is_checked b
   checked_data = low (slice_index (identity_data b c l) 511) (slice_index b 511) (data-other 510 (λ e. omega (arith, e)) (λ e. omega (arith, e)))
@@ -149,7 +149,7 @@ retold b old new c0 l0 c l long new_bytes was tells = same_bytes new (identity_d
     new_511 true is =
         let kept : checksum new ≡ checksum old = subst (λ t. MatchBool t (checksum new ≡ checksum old) (slice_index new 511 ≡ slice_index old 511)) (checked ∙ is) tells.integrity in
         let sums = sum_again b old (settings_byte (slice_index b 170) c0 l0) old_long was is in
-        integrity_is new (tells.size ∙ old_long) (new_bytes 511) (kept ∙ sums) ∙ ap integrity_byte before ∙ sym (data-511_checked b long c l is)
+        integrity_is new (tells.size ∙ old_long) (new_bytes 511) (kept ∙ sums) ∙ ap checksum_byte before ∙ sym (data-511_checked b long c l is)
     new_511 false is =
         let kept : slice_index new 511 ≡ slice_index old 511 = subst (λ t. MatchBool t (checksum new ≡ checksum old) (slice_index new 511 ≡ slice_index old 511)) (checked ∙ is) tells.integrity in
         kept ∙ ap (λ d. slice_index d 511) was ∙ data-511_plain b long c0 l0 is ∙ sym (data-511_plain b long c l is)
@@ -181,7 +181,7 @@ own_data b long bytes sums = same_bytes b (identity_data b c l) (sym (length-dat
     set_same = ap (set b 170) (sym at_170) ∙ set-get_or b 170 0
 
     at_511 : (t : Bool) → is_checked b ≡ t → slice_index b 511 ≡ slice_index (identity_data b c l) 511
-    at_511 true is = integrity_is b long (bytes 511) (sums is) ∙ ap (λ d. integrity_byte (set d 511 0)) (sym set_same) ∙ sym (data-511_checked b long c l is)
+    at_511 true is = integrity_is b long (bytes 511) (sums is) ∙ ap (λ d. checksum_byte (set d 511 0)) (sym set_same) ∙ sym (data-511_checked b long c l is)
     at_511 false is = sym (data-511_plain b long c l is)
 
     at : (i : ℕ) → slice_index b i ≡ slice_index (identity_data b c l) i

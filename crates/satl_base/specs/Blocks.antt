@@ -1,6 +1,6 @@
 -- Blocks of 512 bytes, and the bytes of a list of them.
-use Rattle.std.specs.Prelude.{ℕ, ◌+◌, ◌*◌, ◌/◌, ◌%◌, ◌≡◌, ◌≤◌, ◌<◌, ◌==◌, not, Bool, List, [], ◌∷◌, ◌++◌, map, replicate, slice_index, get_or, take, length}
-use Rattle.std.specs.List.{AllByRecursion}
+use Rattle.std.specs.Prelude.{ℕ, ◌+◌, ◌*◌, ◌/◌, ◌%◌, ◌≡◌, ◌≤◌, ◌<◌, ◌==◌, not, Bool, List, [], map, replicate, slice_index, get_or, take, length}
+use Rattle.std.specs.List.{AllByRecursion, flat_map}
 use Rattle.std.specs.Simd.{first_chunks}
 use Rattle.satl_base.specs.declared.block.Block.{Block}
 use Rattle.satl_base.specs.declared.block.Range.{Range}
@@ -22,8 +22,7 @@ zero_block = record { bytes = replicate 512 0 }
 
 -- the bytes of the blocks, one after another (profile)
 abbrev pub bytes_of : List Block → List ℕ
-bytes_of [] = []
-bytes_of (b ∷ bs) = b.bytes ++ bytes_of bs
+bytes_of blocks = flat_map (λ b. b.bytes) blocks
 
 -- n blocks of the bytes, 512 in each (profile)
 abbrev pub blocks_from : ℕ → List ℕ → List Block
@@ -37,6 +36,10 @@ first_bytes n blocks = take n (bytes_of blocks)
 -- ACS-3 7.5)
 abbrev pub is_used : Range → Bool
 is_used range = not (range.count == 0)
+
+-- so many blocks from an address on (SBC-3, LOGICAL BLOCK ADDRESS; ACS-3, LBA and COUNT)
+abbrev pub over : ℕ → ℕ → Range
+over lba count = record { lba = lba; count = count }
 
 -- what stands past the last block (profile)
 abbrev pub no_block : Block

@@ -1,6 +1,6 @@
 -- Cells: the sectors of a medium, and what writing does to them (SBC-3 4.1, medium and cache).
 use Rattle.std.specs.Prelude.{◌≡◌, ◌⊎◌, ℕ, zero, suc, ◌+◌, Bool, false, if◌then◌else◌, List, [], ◌∷◌, ◌++◌, Option, Some, None, map, slice_index_or, slice_range}
-use Rattle.std.specs.List.{AllByRecursion}
+use Rattle.std.specs.List.{AllByRecursion, fold}
 use Rattle.satl_base.specs.declared.block.Block.{Block}
 use Rattle.satl_base.specs.declared.bench.Which.{Which}
 use Rattle.satl_base.specs.declared.bench.Which.TheVariants.{Read, Write}
@@ -49,8 +49,7 @@ put_at cells p = change_at cells p.lba (λ c. put c p.block p.cached)
 
 -- each pair is put, in order (SBC-3, WRITE commands)
 abbrev pub whole : List Cell → List Pair → List Cell
-whole cells [] = cells
-whole cells (p ∷ ps) = whole (put_at cells p) ps
+whole cells pairs = fold put_at cells pairs
 
 -- each pair, in order, is put or left out: a write that failed (profile)
 abbrev pub Part : List Cell → List Pair → List Cell → Type 0

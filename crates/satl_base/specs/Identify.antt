@@ -21,6 +21,10 @@ four_words i d = word i d + 2 ^ 16 * word (i + 1) d + 2 ^ 32 * word (i + 2) d + 
 unfoldable pub checksum : List ℕ → ℕ
 checksum d = sum d % 256
 
+-- the byte that, put in place of a 0, makes the sum of all bytes 0 modulo 256 (ACS-3 7.12.7, word 255, and annex A)
+abbrev pub checksum_byte : List ℕ → ℕ
+checksum_byte d = (256 - checksum d) % 256
+
 -- an ATAPI or other device (ACS-3 7.12.7, word 0)
 abbrev pub is_not_ata : List ℕ → Bool
 is_not_ata d = word_bit 0 15 d

@@ -1,5 +1,6 @@
 -- Words on lists.
-use Rattle.std.specs.Prelude.{◌≡◌, ◌⊎◌, ℕ, ◌+◌, ◌==◌, Bool, true, false, if◌then◌else◌, List, [], ◌∷◌}
+use Rattle.std.specs.Prelude.{◌≡◌, ◌⊎◌, ℕ, ◌+◌, ◌==◌, Bool, if◌then◌else◌, List, [], ◌∷◌}
+use Rattle.std.specs.List.{list_any}
 
 -- the list but for the first element that passes (profile)
 abbrev pub remove_first : {X : Type 0} → (X → Bool) → List X → List X
@@ -13,8 +14,7 @@ IsIn x (y ∷ ys) = (x ≡ y) ⊎ IsIn x ys
 
 -- whether a number is one of these (profile)
 abbrev pub is_in : ℕ → List ℕ → Bool
-is_in n [] = false
-is_in n (x ∷ xs) = if n == x then true else is_in n xs
+is_in n xs = list_any (λ x. n == x) xs
 
 -- how many pass (profile)
 abbrev pub how_many : {X : Type 0} → (X → Bool) → List X → ℕ

@@ -1,6 +1,7 @@
 -- Bytes as a table of place and value.
-use Rattle.std.specs.Prelude.{ℕ, zero, suc, ◌+◌, ◌-◌, nat_lt, nat_le, ◌&&◌, List, [], ◌∷◌, length, get_or, if◌then◌else◌}
+use Rattle.std.specs.Prelude.{ℕ, ◌+◌, ◌-◌, nat_lt, nat_le, ◌&&◌, List, [], ◌∷◌, map, length, get_or, if◌then◌else◌}
 use Rattle.std.specs.Int.{bytes_high_first}
+use Rattle.std.specs.List.{range_with_len}
 
 -- a line of a table: its first place, and the bytes from there on (profile)
 pub record Line : Type 0 where
@@ -27,8 +28,7 @@ at_place (l ∷ ls) i =
 
 -- the values of n places from the i-th on (profile)
 abbrev pub places : ℕ → ℕ → (ℕ → ℕ) → List ℕ
-places i zero f = []
-places i (suc n) f = f i ∷ places (i + 1) n f
+places i n f = map f (range_with_len i n)
 
 -- n bytes by a table (profile)
 abbrev pub laid : ℕ → List Line → List ℕ

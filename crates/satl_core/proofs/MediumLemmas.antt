@@ -10,7 +10,7 @@ use Rattle.satl_base.specs.declared.bench.Which.TheVariants as flaws
 use Rattle.satl_base.specs.declared.modes.Modes.{Modes}
 use Rattle.satl_base.specs.declared.reply.Reply.{Reply}
 use Rattle.satl_base.specs.declared.reply.Scsi.TheVariants.{Good}
-use Rattle.satl_base.specs.Blocks.{no_block}
+use Rattle.satl_base.specs.Blocks.{no_block, over}
 use Rattle.satl_base.specs.Cells.{Cell, Pair, Part, first_flaw, pairs_from, whole}
 use Rattle.satl_base.specs.Moves.{stay}
 use Rattle.satl_base.proofs.MovesLemmas.{lose_once}
@@ -34,7 +34,7 @@ use Rattle.satl_barrier.specs.declared.comparing.Comparison.TheVariants as compa
 use Rattle.satl_barrier.specs.Finishing as barrier
 use Rattle.satl_barrier.specs.Finishing.{ComparesAs, FinishesAs, IsVerified, IsTorn, trimming_ranges, verifying_range, writing_same}
 use Rattle.satl_direct.specs.Device.{Device, without}
-use Rattle.satl_direct.specs.Tasks.{asks, over, task_of}
+use Rattle.satl_direct.specs.Tasks.{asks, task_of}
 use Rattle.satl_direct.specs.Ending.{EndsBy, EndsCompared, EndsGarbled, EndsInPieces, EndsOnMedium, EndsVerified, IsChecked, IsCompared, IsTaskDone, IsPartlyWritten, same_pairs, task_check, task_reply}
 use Rattle.satl_direct.specs.Quiet.{MayShow, MayWake, Quiet, is_pass, wakes, writes}
 use Rattle.satl_direct.specs.Senses.{crc_error, miscompare, read_error, write_error}

@@ -5,6 +5,7 @@ use Rattle.satl_base.specs.declared.block.Range.{Range}
 use Rattle.satl_base.specs.declared.modes.Modes.{Modes}
 use Rattle.satl_base.specs.declared.reply.Reply.{Reply}
 use Rattle.satl_base.specs.Limits.{IsExpectable, most_covered, most_moved}
+use Rattle.satl_base.specs.Blocks.{over}
 use Rattle.satl_cdb.specs.declared.command.Command.{Command}
 use Rattle.satl_cdb.specs.declared.command.Command.TheVariants.{Flush, ModeSelect, Pass, Read, StartStop, Unmap, Verify, Write, WriteSame}
 use Rattle.satl_identify.specs.declared.identity.Identity.{Identity}
@@ -24,7 +25,7 @@ use Rattle.satl_flight.specs.Settled.{IsFilled}
 use Rattle.satl_unit.specs.declared.attention.Attention.{Attention}
 use Rattle.satl_barrier.specs.Leaving.{TellsOf}
 use Rattle.satl_direct.specs.Device.{Device}
-use Rattle.satl_direct.specs.Tasks.{over, pass_of, task_of}
+use Rattle.satl_direct.specs.Tasks.{pass_of, task_of}
 use Rattle.satl_direct.specs.Valid.{IsValid}
 
 -- the layer: what its drive says of itself, the mode values, whether the unit is started, its mark of a lost link, the unit

@@ -9,6 +9,7 @@ use Rattle.satl_base.specs.declared.reply.Reply.{Reply}
 use Rattle.satl_base.specs.declared.reply.Scsi.TheVariants.{Good, TaskSetFull}
 use Rattle.satl_base.specs.declared.request.Request.{Request}
 use Rattle.satl_base.specs.Cells.{Pair, first_flaw, nows, whole}
+use Rattle.satl_base.specs.Blocks.{over}
 use Rattle.satl_cdb.specs.declared.command.Command.{Command}
 use Rattle.satl_line.specs.declared.entry.Entry.{Entry}
 use Rattle.satl_line.specs.Eligible.{IsEligible}
@@ -20,7 +21,7 @@ use Rattle.satl_direct.specs.Arrival.Arrival.{answered, waits}
 use Rattle.satl_direct.specs.Device.{Device}
 use Rattle.satl_direct.specs.Ending.{EndsInPieces, IsTaskDone, IsPartlyWritten, outcome_reply, same_pairs, surface_of, task_check}
 use Rattle.satl_direct.specs.Senses.{read_error, write_error}
-use Rattle.satl_direct.specs.Tasks.{held_blocks, held_by, is_full, over}
+use Rattle.satl_direct.specs.Tasks.{held_blocks, held_by, is_full}
 use Rattle.satl_direct.specs.Turn.{IsFirst, OneEnds, Turn}
 use Rattle.satl_direct.specs.Turn.Turn.{idle, ends, loses, ends_and_loses}
 

@@ -8,7 +8,7 @@ use Rattle.satl_base.specs.declared.modes.Modes.{Modes}
 use Rattle.satl_base.specs.declared.reply.Reply.{Reply}
 use Rattle.satl_base.specs.declared.reply.Scsi.{Scsi}
 use Rattle.satl_base.specs.declared.reply.Scsi.TheVariants.{Good, CheckCondition}
-use Rattle.satl_base.specs.Blocks.{first_bytes}
+use Rattle.satl_base.specs.Blocks.{first_bytes, over}
 use Rattle.satl_base.specs.Cells.{Pair, Part, first_flaw, nows, pairs_from, settle, whole}
 use Rattle.satl_cdb.specs.declared.command.Command.{Command}
 use Rattle.satl_cdb.specs.declared.command.Command.TheVariants as commands
@@ -26,7 +26,7 @@ use Rattle.satl_line.specs.Ranged.RangedTask.{ranged_read, ranged_write, ranged_
 use Rattle.satl_line.specs.Ending.{Outcome, EndsAs, Surface, active_after, surface}
 use Rattle.satl_line.specs.Ending.Outcome.{ends_done, ends_flawed, ends_glitched}
 use Rattle.satl_direct.specs.Device.{Device, without}
-use Rattle.satl_direct.specs.Tasks.{asks, over, pass_of}
+use Rattle.satl_direct.specs.Tasks.{asks, pass_of}
 use Rattle.satl_direct.specs.Attentions.{with_modes_changed}
 use Rattle.satl_direct.specs.Senses.{sense_text, link_lost, miscompare, not_ready, read_error, write_error, crc_error}
 

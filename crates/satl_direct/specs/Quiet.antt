@@ -3,6 +3,7 @@ use Rattle.std.specs.Prelude.{◌≡◌, ◌⊎◌, ◌||◌, Bool, true, false,
 use Rattle.satl_base.specs.Cells.{Pair}
 use Rattle.satl_base.specs.Lists.{IsIn}
 use Rattle.satl_base.specs.Moves.{Moves}
+use Rattle.satl_base.specs.Blocks.{over}
 use Rattle.satl_cdb.specs.declared.command.Command.{Command}
 use Rattle.satl_cdb.specs.declared.command.Command.TheVariants as commands
 use Rattle.satl_regs.specs.Commands.{command_in}
@@ -13,7 +14,7 @@ use Rattle.satl_line.specs.Ranged.{written_pairs}
 use Rattle.satl_line.specs.Ranged.RangedTask.{ranged_write, ranged_trim}
 use Rattle.satl_direct.specs.Device.{Device}
 use Rattle.satl_direct.specs.Ending.{device_medium, same_pairs}
-use Rattle.satl_direct.specs.Tasks.{over, pass_of}
+use Rattle.satl_direct.specs.Tasks.{pass_of}
 
 -- what a command of a task writes, through the cache where WCE is on and FUA is 0 (SBC-3 5, 6.4.5; SAT-3 12.2)
 abbrev pub written_by : Command → Device → Entry → List Pair

@@ -9,7 +9,7 @@ use Rattle.satl_base.specs.declared.request.Request.{Request}
 use Rattle.satl_base.specs.declared.request.Attr.{Attr}
 use Rattle.satl_base.specs.declared.request.Attr.TheVariants.{Simple, Ordered}
 use Rattle.satl_base.specs.declared.modes.Modes.{Modes}
-use Rattle.satl_base.specs.Blocks.{first_bytes, no_block}
+use Rattle.satl_base.specs.Blocks.{first_bytes, no_block, over}
 use Rattle.satl_base.specs.Limits.{most_held, most_tasks}
 use Rattle.satl_cdb.specs.declared.command.Command.{Command}
 use Rattle.satl_cdb.specs.declared.command.Command.TheVariants as commands
@@ -46,10 +46,6 @@ pub record Asks : Type 0 where
   pub ranges : List Block → List Range
   pub change : List Block → Option ModeChange
   pub starts : Bool
-
--- so many blocks from an address on (SBC-3, LOGICAL BLOCK ADDRESS)
-abbrev pub over : ℕ → ℕ → Range
-over lba count = record { lba = lba; count = count }
 
 -- it goes over no block, has no data-out, holds nothing, and its task, if it has one, is carried out on a stopped unit too
 -- (profile)

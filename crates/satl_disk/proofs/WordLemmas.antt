@@ -2,6 +2,7 @@
 use Rattle.std.proofs.Common.{◌≡◌, refl, sym, ◌∙◌, ap, ℕ, ◌+◌, ◌*◌, ◌/◌, ◌%◌, ◌^◌, ◌<◌, Bool, true, false, List, [], ◌∷◌, arith, length, eqb-true, eq-eqb}
 use Rattle.std.specs.List.{AllByRecursion}
 use Rattle.std.specs.Prelude.{if◌then◌else◌, ◌==◌, ◌&&◌, slice_index}
+use Rattle.std.proofs.lemmas.Bool.{or_parts}
 use Rattle.std.proofs.lemmas.List.{get_or-set_other}
 use Rattle.satl_base.specs.Identify.{has_cache, has_look, has_trim, word, word_bit}
 use Rattle.satl_base.specs.Lists.{is_in}
@@ -46,10 +47,8 @@ kept_bytes place d all = elim (place == 255) as (λ b. AllByRecursion IsByte (if
 
 not_in : (place x : ℕ) (xs : List ℕ) → is_in place (x ∷ xs) ≡ false → (x ≡ place → ⊥) × (is_in place xs ≡ false)
 not_in place x xs none =
-    (elim (place == x) as (λ b. (place == x) ≡ b → (if b then true else is_in place xs) ≡ false → (x ≡ place → ⊥) × (is_in place xs ≡ false)) [
-      | true ↦ λ is e. absurd cc
-      | false ↦ λ is e. (λ same. let no : (place == x) ≡ true = eq-eqb place x (sym same) in absurd cc, e)
-    ]) refl none
+    let both = or_parts (place == x) (is_in place xs) none in
+    (λ same. let no : true ≡ false = sym (eq-eqb place x (sym same)) ∙ both.0 in absurd cc, both.1)
 
 module _ (place value : ℕ) (d : Disk) (small : place < 256) (wide : value < 2 ^ 16) (told : TellsSettings d.cache d.look d.identify) (may : MayReword place value d) (f : IsFit (state_of d)) where
   abbrev set_so : List ℕ

@@ -5,11 +5,11 @@ use Rattle.std.specs.Int.{byte_at, w16, from_be_bytes}
 use Rattle.std.proofs.Math.ListN.{get_or-append}
 use Rattle.std.proofs.lemmas.Bool.{ne_eqb}
 use Rattle.std.proofs.lemmas.List.Sums.{sum_by-set}
-use Rattle.satl_base.specs.Identify.{checksum}
+use Rattle.satl_base.specs.Identify.{checksum, checksum_byte}
 use Rattle.satl_base.specs.Places.{laid}
 use Rattle.satl_base.proofs.FieldsLemmas.{back_6}
 use Rattle.satl_errlog.specs.declared.entry.NcqError.{NcqError}
-use Rattle.satl_errlog.specs.Log.{fields, without_checksum, checksum_byte, log_of, log_says}
+use Rattle.satl_errlog.specs.Log.{fields, without_checksum, log_of, log_says}
 
 checksum_set : (d : List ℕ) (i : ℕ) → i < length d → slice_index d i ≡ 0 → checksum (set d i (checksum_byte d)) ≡ 0
 unfolding checksum

@@ -1,8 +1,8 @@
 -- The NCQ Command Error log, 512 bytes (ACS-3 annex A, log address 10h).
-use Rattle.std.specs.Prelude.{ℕ, ◌-◌, ◌%◌, ◌==◌, not, Bool, List, [], ◌∷◌, ◌++◌, map, replicate, slice_index, slice_set, Result, Ok, Err, if◌then◌else◌}
+use Rattle.std.specs.Prelude.{ℕ, ◌==◌, not, Bool, List, [], ◌∷◌, ◌++◌, map, replicate, slice_index, slice_set, Result, Ok, Err, if◌then◌else◌}
 use Rattle.std.specs.Int.{byte_at, w16, w64, from_be_bytes}
 use Rattle.satl_base.specs.Fields.{bit, bits, bits_of}
-use Rattle.satl_base.specs.Identify.{checksum}
+use Rattle.satl_base.specs.Identify.{checksum, checksum_byte}
 use Rattle.satl_base.specs.Places.{Line, byte, laid}
 use Rattle.satl_errlog.specs.declared.entry.NcqError.{NcqError}
 use Rattle.satl_errlog.specs.declared.entry.LogFault.{LogFault}
@@ -21,10 +21,6 @@ fields e =
 -- 512 bytes of which only the entry's are not 0
 unfoldable pub without_checksum : NcqError → List ℕ
 without_checksum e = laid 17 (fields e) ++ replicate 495 0
-
--- the byte that, put in place of a 0, makes the sum of all bytes 0 modulo 256
-abbrev pub checksum_byte : List ℕ → ℕ
-checksum_byte log = (256 - checksum log) % 256
 
 -- the log with an entry
 abbrev pub log_of : NcqError → List ℕ

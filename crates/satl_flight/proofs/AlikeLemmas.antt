@@ -3,7 +3,7 @@ use Rattle.std.proofs.Common.{◌≡◌, refl, sym, ◌∙◌, ap, ℕ, List, []
 use Rattle.std.proofs.lemmas.List.{length-map}
 use Rattle.std.proofs.lemmas.Option.{slice_get-map}
 use Rattle.std.specs.Prelude.{map, slice_get, unwrap_or}
-use Rattle.std.specs.Option.{option_and_then, option_map}
+use Rattle.std.specs.Option.{option_and_then, option_flatten, option_map}
 use Rattle.std.specs.List.{find}
 use Rattle.satl_base.specs.declared.block.Block.{Block}
 use Rattle.satl_base.proofs.ListsLemmas.{All-weaken}
@@ -22,7 +22,7 @@ slot_room : (slots taken : Slots) → HaveRoom slots taken → (tag : ℕ) → o
 slot_room slots taken room tag = sym (slice_get-map (option_map length) taken tag) ∙ (ap (λ l. slice_get l tag) room ∙ slice_get-map (option_map length) slots tag)
 
 -- what a slot had it has, and what it had not it has not
-pages_room : (o p : Option (Option (List Block))) → option_map (option_map length) p ≡ option_map (option_map length) o → option_map length (option_and_then (λ slot. slot) p) ≡ option_map length (option_and_then (λ slot. slot) o)
+pages_room : (o p : Option (Option (List Block))) → option_map (option_map length) p ≡ option_map (option_map length) o → option_map length (option_flatten p) ≡ option_map length (option_flatten o)
 pages_room (Some (Some x)) (Some (Some y)) e = cc
 pages_room (Some None) (Some None) e = refl
 pages_room None None e = refl

@@ -1,7 +1,7 @@
 -- Issuing, as the code does it.
 use Rattle.std.proofs.Common.{◌≡◌, ◌⊎◌, refl, sym, ◌∙◌, ap, subst, inl, inr, ⊎_elim, ℕ, zero, suc, ◌<◌, ◌≤◌, not, drop, Bool, true, false, List, [], ◌∷◌, ◌++◌, Option, Some, None, arith, length, length-append, eqb-true, eq-eqb, cond}
 use Rattle.std.specs.Prelude.{◌==◌, ◌||◌, if◌then◌else◌, slice_get, slice_set, take, unwrap_or}
-use Rattle.std.specs.Option.{option_and_then, option_map}
+use Rattle.std.specs.Option.{option_and_then, option_flatten, option_map}
 use Rattle.std.specs.List.{AllByRecursion, AllZip, find, list_any, position_from}
 use Rattle.std.proofs.lemmas.Bool.{cases_eq, cases_lt, not-false}
 use Rattle.std.proofs.lemmas.List.{append-nil, length-map}
@@ -125,7 +125,7 @@ module _ (flying : List Flying) (slots : Slots) (tasks : List Held) (lending : I
           subst (λ x. CanIssue old x slots' (queued_for tag task) entry.body) (sym spelled)
           (subst (λ x. CanIssue old (queued_registers (queued_for tag task)) x (queued_for tag task) entry.body) (sym slots_is)
           (can_issue flying (whole_tasks flying slots tasks) old tie tag (record { slot = slot; entry = entry }) task (slice_set slots tag (Some entry.body)) small free ranged fits
-          (ap (λ o. option_and_then (λ s. s) o) (get-set slots tag None (Some entry.body) (lending.others tag small free)))))
+          (ap option_flatten (get-set slots tag None (Some entry.body) (lending.others tag small free)))))
 
       pub lent_lending : (flown : List Flying) → flown ≡ flying ++ record { tag = tag; slot = slot } ∷ [] → IsLending flown slots' tasks'
       lent_lending flown is_flown =

@@ -1,6 +1,6 @@
 -- Whole inputs (profile).
 use Rattle.std.specs.Prelude.{ℕ, ◌+◌, ◌≤◌, ◌≡◌, ◌⊎◌, List, [], ◌∷◌, ◌++◌, length, Some}
-use Rattle.std.specs.List.{AllByRecursion}
+use Rattle.std.specs.List.{AllByRecursion, flat_map}
 use Rattle.satl_base.specs.Fields.{IsBytes}
 use Rattle.satl_frame.specs.Faults.{frame_fault}
 use Rattle.satl_frame.specs.Frames.{spelled, IsFrame}
@@ -12,8 +12,7 @@ use Rattle.satl_frame.specs.declared.frames.Frame.TheVariants as frames
 
 -- the bytes of frames, one after another
 abbrev pub all_spelled : List Frame → List ℕ
-all_spelled [] = []
-all_spelled (f ∷ fs) = spelled f ++ all_spelled fs
+all_spelled frames = flat_map spelled frames
 
 -- each is a frame of this version that ends within the limit, the first one begins at the offset, and END is the last one
 abbrev pub AreFrames : Version → ℕ → ℕ → List Frame → Type 0

@@ -2,6 +2,7 @@
 -- number the highest byte stands first.
 use Rattle.std.specs.Prelude.{ℕ, pos, ◌-ℤ◌, ◌+◌, ◌*◌, ◌≤◌, min, List, [], ◌∷◌, ◌++◌, length, Option, Some, None}
 use Rattle.std.specs.Int.{w32, cast_unsigned}
+use Rattle.std.specs.List.{flat_map}
 use Rattle.byteorder.specs.Endian.{big_bytes}
 use Rattle.satl_base.specs.Blocks.{first_bytes}
 use Rattle.satl_base.specs.Limits.{IsExpectable, longest_data}
@@ -79,8 +80,7 @@ answer_bytes (managed nexus function response tag) = managed_bytes nexus functio
 answer_bytes ended = end_bytes
 
 abbrev pub all_answered : List Answer → List ℕ
-all_answered [] = []
-all_answered (a ∷ answers) = answer_bytes a ++ all_answered answers
+all_answered answers = flat_map answer_bytes answers
 
 -- the output of a run: the magic and its answers
 abbrev pub out : List Answer → List ℕ

@@ -3,18 +3,18 @@ use Rattle.std.proofs.Common.{◌≡◌, ◌≢◌, ℕ, ◌+◌, ◌*◌, ◌/�
 use Rattle.std.specs.Prelude.{slice_index, Ok, ◌==◌, not}
 use Rattle.std.proofs.lemmas.Bool.{eqb-false, eqb-true, and_right}
 use Rattle.std.proofs.lemmas.List.{length-set}
-use Rattle.satl_base.specs.Identify.{checksum, word_bits, is_not_ata, has_bad_sum, has_lba48, has_queue, has_capacity, is_other_block, capacity, exponent, has_trim, has_queued_trim, has_cache, has_look, cache_is_on, look_is_on}
+use Rattle.satl_base.specs.Identify.{checksum, word_bits, is_not_ata, has_bad_sum, has_lba48, has_queue, has_capacity, is_other_block, capacity, exponent, has_trim, has_queued_trim, has_cache, has_look, cache_is_on, look_is_on, checksum_byte}
 use Rattle.satl_identify.specs.declared.identity.Identity.{Identity}
-use Rattle.satl_identify.specs.Data.{settings_byte, with_integrity, integrity_byte}
+use Rattle.satl_identify.specs.Data.{settings_byte, with_integrity}
 use Rattle.satl_identify.specs.Refusals.{identity_rules, identity_in, identity_of, IsIdentity}
 use Rattle.satl_identify.proofs.Sums.{checksum-integrity}
 use Rattle.satl_identify.proofs.Judging.{Unbroken, judged_unbroken, unbroken}
 
 pub length-integrity : (d : List ℕ) → length (with_integrity d) ≡ length d
-length-integrity d = elim (word_bits 255 7 0 d == 0xA5) as (λ b. length (cond b (set d 511 (integrity_byte (set d 511 0))) d) ≡ length d) [ true ↦ length-set d 511 _ | false ↦ refl ]
+length-integrity d = elim (word_bits 255 7 0 d == 0xA5) as (λ b. length (cond b (set d 511 (checksum_byte (set d 511 0))) d) ≡ length d) [ true ↦ length-set d 511 _ | false ↦ refl ]
 
 integrity_other : (d : List ℕ) (j : ℕ) → j ≢ 511 → slice_index (with_integrity d) j ≡ slice_index d j
-integrity_other d j ne = elim (word_bits 255 7 0 d == 0xA5) as (λ b. slice_index (cond b (set d 511 (integrity_byte (set d 511 0))) d) j ≡ slice_index d j) [ true ↦ get_or-set_other d 511 j _ 0 ne | false ↦ refl ]
+integrity_other d j ne = elim (word_bits 255 7 0 d == 0xA5) as (λ b. slice_index (cond b (set d 511 (checksum_byte (set d 511 0))) d) j ≡ slice_index d j) [ true ↦ get_or-set_other d 511 j _ 0 ne | false ↦ refl ]
 
 -- data with another byte 170, and their integrity byte
 module _ (d new : List ℕ) (byte : ℕ) (len : length new ≡ 512) (made : new ≡ with_integrity (set d 170 byte)) where

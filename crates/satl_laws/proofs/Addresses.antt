@@ -5,7 +5,7 @@ use Rattle.std.specs.List.{list_any}
 use Rattle.std.proofs.lemmas.List.Folds.{list_any-append}
 use Rattle.satl_base.specs.declared.block.Block.{Block}
 use Rattle.satl_base.specs.declared.block.Range.{Range}
-use Rattle.satl_base.specs.Blocks.{zero_block}
+use Rattle.satl_base.specs.Blocks.{over, zero_block}
 use Rattle.satl_base.specs.Cells.{Pair, pairs_from}
 use Rattle.satl_base.specs.Identify.{has_trim, trim_blocks}
 use Rattle.satl_cdb.specs.declared.command.Command.{Command}
@@ -20,7 +20,7 @@ use Rattle.satl_line.specs.Ranged.{zeros_over}
 use Rattle.satl_direct.specs.Device.{Device}
 use Rattle.satl_direct.specs.Ending.{device_medium, same_pairs}
 use Rattle.satl_direct.specs.Quiet.{writes, written_by}
-use Rattle.satl_direct.specs.Tasks.{over, pass_of}
+use Rattle.satl_direct.specs.Tasks.{pass_of}
 use Rattle.satl_laws.proofs.TrimWords.{blocks_kept, trim_kept}
 
 -- two devices of as many sectors, whose drives say the same of themselves

@@ -8,6 +8,7 @@ use Rattle.satl_base.specs.declared.block.Range.{Range}
 use Rattle.satl_base.specs.declared.reply.Reply.{Reply}
 use Rattle.satl_base.specs.Cells.{Cell, Pair, first_flaw, settle}
 use Rattle.satl_base.specs.Moves.{Moves, stay, lose, write}
+use Rattle.satl_base.specs.Blocks.{over}
 use Rattle.satl_cdb.specs.declared.command.Command.{Command}
 use Rattle.satl_cdb.specs.declared.command.Command.TheVariants as commands
 use Rattle.satl_sense.specs.declared.sense.Sense.{Sense}
@@ -21,7 +22,7 @@ use Rattle.satl_direct.specs.Ending.{Ends, EndsBy, EndsCompared, EndsOnMedium, E
 use Rattle.satl_laws.specs.ArrivalOrder.{is_good, stops_or_starts, writes_plainly}
 use Rattle.satl_direct.specs.Quiet.{Quiet}
 use Rattle.satl_direct.specs.Senses.{link_lost, not_ready}
-use Rattle.satl_direct.specs.Tasks.{asks, over}
+use Rattle.satl_direct.specs.Tasks.{asks}
 use Rattle.satl_laws.proofs.Cases.{by_option}
 use Rattle.satl_laws.proofs.Flawless.{IsClean}
 use Rattle.satl_laws.proofs.Flawless.{loses_clean, no_flaw, pair_clean, whole_clean}

@@ -6,6 +6,7 @@ use Rattle.satl_base.specs.declared.bench.Which.TheVariants as flaws
 use Rattle.satl_base.specs.declared.block.Range.{Range}
 use Rattle.satl_base.specs.Cells.{Pair, first_flaw}
 use Rattle.satl_base.specs.Lists.{IsIn}
+use Rattle.satl_base.specs.Blocks.{over}
 use Rattle.satl_cdb.specs.declared.command.Command.{Command}
 use Rattle.satl_cdb.specs.declared.command.Command.TheVariants as commands
 use Rattle.satl_sense.specs.declared.sense.Sense.{Sense}
@@ -16,7 +17,7 @@ use Rattle.satl_line.specs.Ranged.{RangedTask}
 use Rattle.satl_line.specs.Ending.{Outcome}
 use Rattle.satl_line.specs.Ending.Outcome.{ends_done}
 use Rattle.satl_direct.specs.Device.{Device, without}
-use Rattle.satl_direct.specs.Tasks.{asks, over}
+use Rattle.satl_direct.specs.Tasks.{asks}
 use Rattle.satl_direct.specs.Ending.{Ends, EndsBy, EndsCompared, EndsGarbled, EndsInPieces, EndsOnMedium, EndsPassed, EndsVerified, IsChecked, IsTaskDone, IsPartlyWritten, after_select, after_start_stop, outcome_reply, settled, device_settled_if, selected, task_check}
 use Rattle.satl_direct.specs.Senses.{write_error}
 use Rattle.satl_direct.specs.Turn.{IsFirst, MayEnd}

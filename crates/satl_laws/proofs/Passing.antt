@@ -4,6 +4,7 @@ use Rattle.std.specs.Prelude.{not, ◌&&◌, ◌||◌}
 use Rattle.std.specs.List.{AllByRecursion}
 use Rattle.satl_base.specs.declared.reply.Reply.{Reply}
 use Rattle.satl_base.specs.Cells.{whole}
+use Rattle.satl_base.specs.Blocks.{over}
 use Rattle.satl_base.proofs.CellsLemmas.{part_none}
 use Rattle.satl_base.proofs.Booleans.{second_case}
 use Rattle.satl_cdb.specs.declared.command.Command.{Command}
@@ -18,7 +19,7 @@ use Rattle.satl_line.specs.Ranged.RangedTask.{ranged_read, ranged_write, ranged_
 use Rattle.satl_direct.specs.Device.{Device, without}
 use Rattle.satl_direct.specs.Ending.{Ends, EndsBy, EndsOnMedium, IsChecked, outcome_reply}
 use Rattle.satl_direct.specs.Senses.{link_lost, not_ready}
-use Rattle.satl_direct.specs.Tasks.{asks, over}
+use Rattle.satl_direct.specs.Tasks.{asks}
 use Rattle.satl_direct.specs.Turn.{IsFirst, MayEnd}
 use Rattle.satl_direct.specs.Valid.{AreOwn, HasCome}
 use Rattle.satl_laws.specs.Passing.{CanEnd, ComesAfter, DoNotClash, NonePasses, NonePassesAlone, NoneShows, OthersPass, goes_alone, goes_with_others}

@@ -6,6 +6,7 @@ use Rattle.satl_base.specs.declared.bench.Which.TheVariants as flaws
 use Rattle.satl_base.specs.declared.block.Range.{Range}
 use Rattle.satl_base.specs.declared.reply.Reply.{Reply}
 use Rattle.satl_base.specs.Cells.{Pair, first_flaw}
+use Rattle.satl_base.specs.Blocks.{over}
 use Rattle.satl_cdb.specs.declared.command.Command.{Command}
 use Rattle.satl_cdb.specs.declared.command.Command.TheVariants as commands
 use Rattle.satl_cdb.specs.declared.command.Form.{Form}
@@ -17,7 +18,7 @@ use Rattle.satl_line.specs.Ranged.{RangedTask, written_pairs}
 use Rattle.satl_line.specs.Ending.{EndsAs, Outcome}
 use Rattle.satl_line.specs.Ending.Outcome.{ends_done}
 use Rattle.satl_direct.specs.Device.{Device}
-use Rattle.satl_direct.specs.Tasks.{asks, over, pass_of}
+use Rattle.satl_direct.specs.Tasks.{asks, pass_of}
 use Rattle.satl_direct.specs.Ending.{Ends, EndsBy, EndsCompared, EndsInPieces, EndsOnMedium, EndsPassed, EndsVerified, IsChecked, IsTaskDone, after_select, after_start_stop, device_medium, device_settled_if, selected, settled, surface_of}
 use Rattle.satl_direct.specs.Quiet.{written_by}
 use Rattle.satl_laws.specs.Untouched.{Spares}

@@ -5,6 +5,7 @@ use Rattle.std.specs.List.{list_any}
 use Rattle.satl_base.specs.declared.reply.Reply.{Reply}
 use Rattle.satl_base.specs.declared.reply.Scsi.TheVariants.{Good, CheckCondition}
 use Rattle.satl_base.specs.Cells.{pairs_from}
+use Rattle.satl_base.specs.Blocks.{over}
 use Rattle.satl_cdb.specs.declared.command.Command.{Command}
 use Rattle.satl_cdb.specs.declared.command.Command.TheVariants as commands
 use Rattle.satl_line.specs.declared.entry.Entry.{Entry}
@@ -12,7 +13,7 @@ use Rattle.satl_line.specs.Ranged.RangedTask.{ranged_write}
 use Rattle.satl_line.specs.Ending.{EndsAs, Outcome}
 use Rattle.satl_line.specs.Ending.Outcome.{ends_done}
 use Rattle.satl_direct.specs.Device.{Device}
-use Rattle.satl_direct.specs.Tasks.{asks, over}
+use Rattle.satl_direct.specs.Tasks.{asks}
 use Rattle.satl_direct.specs.Ending.{Ends, EndsBy, EndsOnMedium, device_settled_if, outcome_reply, selected, surface_of}
 use Rattle.satl_direct.specs.Quiet.{written_by}
 use Rattle.satl_laws.specs.Durable.{secures}

@@ -7,6 +7,7 @@ use Rattle.satl_base.specs.declared.block.Block.{Block}
 use Rattle.satl_base.specs.declared.reply.Reply.{Reply}
 use Rattle.satl_base.specs.Cells.{Cell, Pair, Part, nows, put_at, whole}
 use Rattle.satl_base.specs.Lists.{IsIn}
+use Rattle.satl_base.specs.Blocks.{over}
 use Rattle.satl_base.proofs.CellsLemmas.{change_at-length}
 use Rattle.satl_cdb.specs.declared.command.Command.{Command}
 use Rattle.satl_cdb.specs.declared.command.Command.TheVariants as commands
@@ -20,7 +21,7 @@ use Rattle.satl_direct.specs.Ending.{Ends, EndsBy, IsChecked, outcome_reply, sur
 use Rattle.satl_laws.specs.ArrivalOrder.{is_good, read_at, writes_plainly}
 use Rattle.satl_laws.specs.Untouched.{Spares}
 use Rattle.satl_direct.specs.Quiet.{writes, written_by}
-use Rattle.satl_direct.specs.Tasks.{asks, over, range_of}
+use Rattle.satl_direct.specs.Tasks.{asks, range_of}
 use Rattle.satl_laws.proofs.Cases.{by_bool}
 use Rattle.satl_laws.proofs.Kept.{at_now}
 use Rattle.satl_laws.proofs.PlainTasks.{none_written, own_alone, same_block}

@@ -2,8 +2,8 @@
 use Rattle.std.proofs.Common.{arith, ◌≡◌, refl, ap, ◌∙◌, ℕ, ◌+◌, ◌*◌, Bool, true, false, List}
 use Rattle.std.specs.Prelude.{◌/◌, ◌%◌, ◌^◌, ◌==◌, ◌&&◌, ◌≢◌, if◌then◌else◌, slice_index, slice_set}
 use Rattle.std.proofs.lemmas.List.{get_or-set_other}
-use Rattle.satl_base.specs.Identify.{has_trim, trim_blocks, word, word_bit, word_bits}
-use Rattle.satl_identify.specs.Data.{identity_data, integrity_byte, with_settings, settings_byte}
+use Rattle.satl_base.specs.Identify.{checksum_byte, has_trim, trim_blocks, word, word_bit, word_bits}
+use Rattle.satl_identify.specs.Data.{identity_data, with_settings, settings_byte}
 
 -- a byte other than the one that was set
 set_other : (d : List ℕ) (i j v : ℕ) → j ≢ i → slice_index (slice_set d i v) j ≡ slice_index d j
@@ -13,8 +13,8 @@ set_other d i j v apart = get_or-set_other d i j v 0 apart
 index_kept : (d : List ℕ) (cache look : Bool) (j : ℕ) → j ≢ 170 → j ≢ 511 → slice_index (identity_data d cache look) j ≡ slice_index d j
 index_kept d cache look j p q = sealed (word_bits 255 7 0 (with_settings d cache look) == 0xA5) ∙ set_other d 170 j (settings_byte (slice_index d 170) cache look) p
   where
-    sealed : (b : Bool) → slice_index (if b then slice_set (with_settings d cache look) 511 (integrity_byte (slice_set (with_settings d cache look) 511 0)) else with_settings d cache look) j ≡ slice_index (with_settings d cache look) j
-    sealed true = set_other (with_settings d cache look) 511 j (integrity_byte (slice_set (with_settings d cache look) 511 0)) q
+    sealed : (b : Bool) → slice_index (if b then slice_set (with_settings d cache look) 511 (checksum_byte (slice_set (with_settings d cache look) 511 0)) else with_settings d cache look) j ≡ slice_index (with_settings d cache look) j
+    sealed true = set_other (with_settings d cache look) 511 j (checksum_byte (slice_set (with_settings d cache look) 511 0)) q
     sealed false = refl
 
 -- a word of its two bytes (ACS-3 7.12.7)

@@ -11,7 +11,7 @@ use Rattle.satl_line.specs.Conflict.{accesses_conflict}
 use Rattle.satl_line.specs.declared.entry.Entry.{Entry}
 use Rattle.satl_line.specs.Ranged.RangedTask.{ranged_read}
 use Rattle.satl_direct.specs.Run.TurnsOf.{none}
-use Rattle.satl_direct.specs.Tasks.{over}
+use Rattle.satl_base.specs.Blocks.{over}
 use Rattle.satl_scenarios.specs.Arrivals.{full_of_blocks, lengths_expected, nothing_moved, no_block_at_rest, one_block_too_many, other_unit, sense_requested}
 use Rattle.satl_scenarios.specs.Scenario.{CanHappen}
 use Rattle.satl_scenarios.specs.Devices.{never_written}

@@ -3,6 +3,7 @@ use Rattle.std.proofs.Common.{◌≡◌, inl, inr, refl, arith, false, true, Lis
 use Rattle.satl_base.specs.declared.block.Block.{Block}
 use Rattle.satl_base.specs.declared.reply.Reply.{Reply}
 use Rattle.satl_base.specs.Cells.{Cell}
+use Rattle.satl_base.specs.Blocks.{over}
 use Rattle.satl_cdb.specs.declared.command.Command.{Command}
 use Rattle.satl_cdb.specs.declared.command.Command.TheVariants.{StartStop, Unmap, Verify, WriteSame}
 use Rattle.satl_cdb.specs.declared.command.Form.TheVariants.{Ten}
@@ -13,7 +14,6 @@ use Rattle.satl_line.specs.Ranged.RangedTask.{ranged_trim}
 use Rattle.satl_direct.specs.Device.{Device}
 use Rattle.satl_direct.specs.Ending.{Ends}
 use Rattle.satl_direct.specs.Run.{depth}
-use Rattle.satl_direct.specs.Tasks.{over}
 use Rattle.satl_scenarios.specs.Commands.{same_blocks, ends_with, miscompared, same_written, started_unit, stopped_unit, stopped_unflushed, unmap_list, unmapped, verify_failed, written}
 use Rattle.satl_scenarios.specs.Scenario.{CanHappen}
 use Rattle.satl_scenarios.specs.Devices.{aa, bb, lasts, unreadable, zeros}

@@ -9,7 +9,7 @@ use Rattle.satl_line.specs.Conflict.{accesses_conflict}
 use Rattle.satl_line.specs.declared.entry.Entry.{Entry}
 use Rattle.satl_line.specs.Ranged.RangedTask.{ranged_read, ranged_write}
 use Rattle.satl_direct.specs.Device.{Device}
-use Rattle.satl_direct.specs.Tasks.{over}
+use Rattle.satl_base.specs.Blocks.{over}
 use Rattle.satl_direct.specs.Run.TurnsOf.{none}
 use Rattle.satl_scenarios.specs.Scenario.{CanHappen}
 use Rattle.satl_scenarios.specs.Flaws.{flaw_among_writes, torn_write, garbled_read, spared_read, described}

@@ -9,10 +9,10 @@ use Rattle.satl_line.specs.declared.entry.Entry.{Entry}
 use Rattle.satl_direct.specs.Device.{Device}
 use Rattle.satl_direct.specs.Turn.Turn.{ends_and_loses, loses}
 use Rattle.satl_direct.specs.Turn.{device_lost_replies}
-use Rattle.satl_direct.specs.Tasks.{over}
 use Rattle.satl_direct.specs.Quiet.{Quiet}
 use Rattle.satl_direct.specs.Run.TurnsOf.{none}
 use Rattle.satl_base.specs.Moves.{stay, write}
+use Rattle.satl_base.specs.Blocks.{over}
 use Rattle.satl_base.specs.declared.reply.Response.TheVariants.{Complete}
 use Rattle.satl_unit.specs.Functions.{function_of}
 use Rattle.satl_line.specs.Ranged.RangedTask.{ranged_read}

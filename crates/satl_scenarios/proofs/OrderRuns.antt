@@ -1,6 +1,7 @@
 -- Transfers that end out of order, as if each had ended on arrival.
 use Rattle.std.proofs.Common.{inl, inr, refl, false, List, [], ◌∷◌}
 use Rattle.satl_base.specs.Cells.{Cell}
+use Rattle.satl_base.specs.Blocks.{over}
 use Rattle.satl_cdb.specs.declared.command.Command.TheVariants.{Flush, Read, Write}
 use Rattle.satl_cdb.specs.declared.command.Form.TheVariants.{Ten}
 use Rattle.satl_cdb.specs.Table.{says}
@@ -10,7 +11,6 @@ use Rattle.satl_line.specs.declared.entry.Entry.{Entry}
 use Rattle.satl_line.specs.Ranged.RangedTask.{ranged_read, ranged_write}
 use Rattle.satl_direct.specs.Device.{Device}
 use Rattle.satl_direct.specs.Ending.{settled}
-use Rattle.satl_direct.specs.Tasks.{over}
 use Rattle.satl_direct.specs.Run.TurnsOf.{none}
 use Rattle.satl_scenarios.specs.Orders.{torn_out_of_order, written_out_of_order}
 use Rattle.satl_scenarios.specs.Scenario.{CanHappen}

@@ -13,7 +13,8 @@ use Rattle.satl_line.specs.Ranged.RangedTask.{ranged_read}
 use Rattle.satl_direct.specs.Device.{Device}
 use Rattle.satl_direct.specs.Ending.{device_medium}
 use Rattle.satl_direct.specs.Run.TurnsOf.{none}
-use Rattle.satl_direct.specs.Tasks.{over, pass_of}
+use Rattle.satl_base.specs.Blocks.{over}
+use Rattle.satl_direct.specs.Tasks.{pass_of}
 use Rattle.satl_scenarios.specs.Commands.{written}
 use Rattle.satl_scenarios.specs.Passes.{identified_on_request, identify, read_behind_it, write_block}
 use Rattle.satl_scenarios.specs.Scenario.{CanHappen}

@@ -3,6 +3,7 @@ use Rattle.std.proofs.Common.{◌≡◌, inl, inr, refl, false, true, ℕ, ◌+�
 use Rattle.satl_base.specs.declared.block.Block.{Block}
 use Rattle.satl_base.specs.declared.reply.Reply.{Reply}
 use Rattle.satl_base.specs.Cells.{Cell, Pair, Part, pairs_from, put_at, whole}
+use Rattle.satl_base.specs.Blocks.{over}
 use Rattle.satl_cdb.specs.declared.command.Command.{Command}
 use Rattle.satl_cdb.specs.declared.command.Command.TheVariants.{Verify, WriteSame}
 use Rattle.satl_cdb.specs.declared.command.Form.TheVariants.{Ten}
@@ -14,7 +15,6 @@ use Rattle.satl_direct.specs.Device.{Device}
 use Rattle.satl_direct.specs.Ending.{Ends, EndsGarbled, IsPartlyWritten, task_check}
 use Rattle.satl_direct.specs.Run.{depth}
 use Rattle.satl_direct.specs.Senses.{crc_error}
-use Rattle.satl_direct.specs.Tasks.{over}
 use Rattle.satl_scenarios.specs.Commands.{written}
 use Rattle.satl_scenarios.specs.Pieces.{compare_flawed, compare_garbled, flawed_at_the_end, glitchy_ends, glitchy_with, same_garbled, same_garbled_before_the_flaw, same_torn, same_unmapped}
 use Rattle.satl_scenarios.specs.Scenario.{CanHappen}

@@ -3,6 +3,7 @@ use Rattle.std.proofs.Common.{inl, inr, refl, false, [], ◌∷◌}
 use Rattle.satl_base.specs.declared.block.Block.{Block}
 use Rattle.satl_base.specs.Cells.{Cell}
 use Rattle.satl_base.specs.Lists.{IsIn}
+use Rattle.satl_base.specs.Blocks.{over}
 use Rattle.satl_cdb.specs.declared.command.Command.TheVariants.{Read, Write}
 use Rattle.satl_cdb.specs.declared.command.Form.TheVariants.{Ten}
 use Rattle.satl_cdb.specs.Table.{says}
@@ -15,7 +16,6 @@ use Rattle.satl_line.specs.declared.entry.Entry.{Entry}
 use Rattle.satl_line.specs.Ranged.RangedTask.{ranged_read, ranged_write}
 use Rattle.satl_direct.specs.Device.{Device}
 use Rattle.satl_direct.specs.Ending.{after_select, settled}
-use Rattle.satl_direct.specs.Tasks.{over}
 use Rattle.satl_direct.specs.Run.TurnsOf.{none}
 use Rattle.satl_scenarios.specs.Scenario.{CanHappen}
 use Rattle.satl_scenarios.specs.Power.{caching_list, flush, written_back, flushed_then_written, select, power_with_a_task, told_once, turned_off, turned_off_then_power}

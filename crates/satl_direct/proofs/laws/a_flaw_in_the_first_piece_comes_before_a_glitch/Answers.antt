@@ -1,4 +1,4 @@
-use Rattle.satl_direct.specs.Tasks.{over}
+use Rattle.satl_base.specs.Blocks.{over}
 use Rattle.satl_direct.proofs.Steps.{flaw_first}
 use Rattle.satl_direct.proofs.laws.a_flaw_in_the_first_piece_comes_before_a_glitch.Goals as goal
 

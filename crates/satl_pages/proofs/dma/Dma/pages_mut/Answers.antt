@@ -1,6 +1,6 @@
 use Rattle.std.proofs.Common.{◌≡◌, Some, ap, inr, sym, ◌∙◌, refl}
 use Rattle.std.specs.Prelude.{slice_get, slice_set}
-use Rattle.std.specs.Option.{option_and_then, ghost_name_of}
+use Rattle.std.specs.Option.{ghost_name_of, option_flatten}
 use borrow.Follows.Closed.{read_of}
 use Rattle.std.proofs.lemmas.List.{set-get_or}
 use Rattle.std.proofs.lemmas.Option.{slice_get-get_or, slice_get_past}
@@ -11,7 +11,7 @@ returns-in-None c = (
   ap inr c.self.view_is,
   record {
     writes_back = tt;
-    value = sym (ap (option_and_then (λ o. o)) (ap (λ l. slice_get l c.args.tag) (sym c.self.view_is) ∙ slice_get_past c.self.inside.slots.items c.args.tag c.in-None.ensures.item.3));
+    value = sym (ap option_flatten (ap (λ l. slice_get l c.args.tag) (sym c.self.view_is) ∙ slice_get_past c.self.inside.slots.items c.args.tag c.in-None.ensures.item.3));
   },
 )
 
@@ -23,7 +23,7 @@ returns-in-Some c =
           ∙ ap (λ l. read_of (ghost_name_of c.as_mut.result) (λ w. slice_set l c.args.tag (Some w)) l) c.self.view_is,
       record {
         writes_back = tt;
-        value = c.as_mut.ensures.value ∙ sym (ap (option_and_then (λ o. o)) (ap (λ l. slice_get l c.args.tag) (sym c.self.view_is)
+        value = c.as_mut.ensures.value ∙ sym (ap option_flatten (ap (λ l. slice_get l c.args.tag) (sym c.self.view_is)
             ∙ slice_get-get_or c.self.inside.slots.items c.args.tag c.in-Some.slot.now (c.in-Some.ensures.variant.0 refl) ∙ ap Some (sym c.in-Some.ensures.value)));
       },
     )
