@@ -1,12 +1,14 @@
 -- The task of a request, and whether there is room for it.
-use Rattle.std.proofs.Common.{◌≡◌, refl, sym, ap, ◌∙◌, ℕ, ◌+◌, Bool, true, List, [], ◌∷◌, length}
+use Rattle.std.proofs.Common.{◌≡◌, refl, sym, ap, ◌∙◌, ℕ, ◌+◌, Bool, true, List, length}
 use Rattle.std.specs.Prelude.{◌≤◌, ◌==◌, ◌||◌, nat_lt, Ok}
 use Rattle.std.proofs.lemmas.List.{length-map}
 use Rattle.satl_base.specs.declared.block.Block.{Block}
 use Rattle.satl_base.specs.declared.request.Request.{Request}
 use Rattle.satl_base.specs.Limits.{most_held, most_tasks}
+use Rattle.satl_base.proofs.ListsLemmas.{sum_by-map}
 use Rattle.satl_cdb.specs.declared.command.Command.{Command}
 use Rattle.satl_cdb.specs.declared.command.Command.TheVariants as commands
+use Rattle.satl_line.specs.declared.entry.Entry.{Entry}
 use Rattle.satl_direct.specs.Tasks.{held_blocks, held_by, is_full, needed, task_for}
 use Rattle.satl_cover.specs.Known.{is_known}
 use Rattle.satl_audit.specs.Arriving.{StandsAt, bare_task}
@@ -15,8 +17,7 @@ use Rattle.satl_audit.specs.Waiting.{Placed, device_tasks, entries_in, has_no_ro
 -- ---- room
 
 held_same : (input : List ℕ) (ps : List Placed) → held_by (device_tasks input ps) ≡ held_by (entries_in ps)
-held_same input [] = refl
-held_same input (p ∷ ps) = ap (λ n. p.entry.blocks + n) (held_same input ps)
+held_same input ps = sum_by-map (task_in input) (λ (e : Entry). e.blocks) ps ∙ sym (sum_by-map (λ (p : Placed). p.entry) (λ (e : Entry). e.blocks) ps)
 
 pub full_same : (input : List ℕ) (ps : List Placed) (c : Command) → is_full (device_tasks input ps) c ≡ has_no_room ps (held_blocks c)
 full_same input ps c =

@@ -6,6 +6,7 @@ use Rattle.std.proofs.lemmas.Bool.{eqb-false}
 use Rattle.std.proofs.lemmas.List.{get_or-set_other, get_or-set_same, length-map, map-append}
 use Rattle.std.proofs.lemmas.Option.{same_Some}
 use Rattle.satl_base.specs.Limits.{most_held, most_tasks}
+use Rattle.satl_base.proofs.ListsLemmas.{sum_by-map}
 use Rattle.satl_line.specs.declared.entry.Entry.{Entry}
 use Rattle.satl_line.specs.Tasks.{Adds, Held, count_of, entries_of, is_too_much, slots_of, total_blocks}
 use Rattle.satl_line.proofs.SlotsLemmas.{head_out}
@@ -20,8 +21,9 @@ entries_same places [] = refl
 entries_same places (h ∷ tasks) = ap (λ (l : List Entry). h.entry ∷ l) (entries_same places tasks)
 
 pub blocks_same : (places : List ℕ) (tasks : List Held) → total_blocks tasks ≡ held_by (entries_in (placed_in places tasks))
-blocks_same places [] = refl
-blocks_same places (h ∷ tasks) = ap (λ n. h.entry.blocks + n) (blocks_same places tasks)
+blocks_same places tasks =
+    sym (sum_by-map (λ (p : Placed). p.entry) (λ (e : Entry). e.blocks) (placed_in places tasks)
+    ∙ sum_by-map (place_held places) (λ (p : Placed). p.entry.blocks) tasks)
 
 pub room_same : (places : List ℕ) (tasks : List Held) (entry : Entry) → is_too_much tasks entry ≡ has_no_room (placed_in places tasks) entry.blocks
 room_same places tasks entry =

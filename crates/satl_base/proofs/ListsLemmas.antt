@@ -2,8 +2,9 @@
 use Rattle.std.proofs.Common.{◌≡◌, ◌⊎◌, ⊎_elim, refl, sym, ◌∙◌, ap, subst, inl, inr, ℕ, zero, suc, Bool, true, false, cond, List, [], ◌∷◌, ◌++◌, Option, Some, None, arith, ◌+◌, ◌<◌, length}
 use Rattle.std.specs.Prelude.{map, if◌then◌else◌, slice_index_or, ◌||◌, filter, slice_get}
 use Rattle.std.specs.Option.{option_map}
-use Rattle.std.specs.List.{AllByRecursion, find, position_from, remove, list_any}
+use Rattle.std.specs.List.{AllByRecursion, find, position_from, remove, list_any, sum_by}
 use Rattle.std.proofs.lemmas.Bool.{or_parts}
+use Rattle.std.proofs.lemmas.List.Folds.{fold-map}
 use Rattle.satl_base.specs.Lists.{remove_first, IsIn, how_many, LeavesOut}
 
 pub find-map : {X Y : Type 0} (f : X → Y) (p : Y → Bool) (xs : List X) → find p (map f xs) ≡ option_map f (find (λ x. p (f x)) xs)
@@ -99,6 +100,9 @@ length-remove_first p (x ∷ xs) y h =
 pub how_many-push : {X : Type 0} (p : X → Bool) (xs : List X) (y : X) → how_many p (xs ++ y ∷ []) ≡ how_many p xs + how_many p (y ∷ [])
 how_many-push p [] y = omega arith
 how_many-push p (x ∷ xs) y = omega (arith, how_many-push p xs y)
+
+pub sum_by-map : {X Y : Type 0} (f : X → Y) (g : Y → ℕ) (xs : List X) → sum_by g (map f xs) ≡ sum_by (λ x. g (f x)) xs
+sum_by-map f g xs = fold-map (λ n y. n + g y) f 0 xs
 
 -- the place that a search gave
 module _ {X : Type 0} (p : X → Bool) (xs seen : List X) (o : Option ℕ) (place : ℕ) (same : seen ≡ xs) (is : o ≡ position_from p 0 seen) (some : o ≡ Some place) where

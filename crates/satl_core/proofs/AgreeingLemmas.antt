@@ -3,6 +3,7 @@ use Rattle.std.proofs.Common.{◌≡◌, ⊎_elim, refl, sym, ap, subst, ◌∙�
 use Rattle.std.specs.Prelude.{not, ◌||◌, ◌^◌, MatchBool}
 use Rattle.std.specs.List.{AllByRecursion, AllZip, list_any, remove}
 use Rattle.std.proofs.lemmas.Bool.{or_parts}
+use Rattle.std.proofs.lemmas.List.Sums.{sum_by-cons}
 use Rattle.satl_base.specs.declared.block.Block.{Block}
 use Rattle.satl_base.specs.declared.block.Range.{Range}
 use Rattle.satl_base.specs.declared.modes.Modes.{Modes}
@@ -76,8 +77,10 @@ own_removed (t ∷ ts) (suc place) own = (none_removed _ ts place own.0, own_rem
 fewer_removed : (ts : List Entry) (place : ℕ) → (length (remove ts place) ≤ length ts) × (held_by (remove ts place) ≤ held_by ts)
 fewer_removed [] zero = (omega arith, omega arith)
 fewer_removed [] (suc place) = (omega arith, omega arith)
-fewer_removed (t ∷ ts) zero = (omega arith, omega arith)
-fewer_removed (t ∷ ts) (suc place) = let rest = fewer_removed ts place in (omega (arith, rest.0), omega (arith, rest.1))
+fewer_removed (t ∷ ts) zero = (omega arith, omega (arith, sum_by-cons (λ (e : Entry). e.blocks) t ts))
+fewer_removed (t ∷ ts) (suc place) =
+    let rest = fewer_removed ts place in
+    (omega (arith, rest.0), omega (arith, rest.1, sum_by-cons (λ (e : Entry). e.blocks) t ts, sum_by-cons (λ (e : Entry). e.blocks) t (remove ts place)))
 
 -- fewer of the tasks are left
 pub valid_fewer : (ts : List Entry) (s : Device) → (length ts ≤ length s.tasks) × (held_by ts ≤ held_by s.tasks) → AreOwn ts → AllByRecursion (HasCome s.identity) ts → IsValid s → IsValid (record s { tasks = ts })

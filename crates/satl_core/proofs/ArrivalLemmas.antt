@@ -7,6 +7,7 @@ use Rattle.satl_base.specs.declared.reply.Scsi.TheVariants as statuses
 use Rattle.satl_base.specs.declared.request.Request.{Request}
 use Rattle.satl_base.specs.Fields.{bit, bytes}
 use Rattle.satl_base.specs.Lists.{is_in}
+use Rattle.satl_base.proofs.ListsLemmas.{sum_by-map}
 use Rattle.satl_cdb.specs.declared.command.Command.{Command}
 use Rattle.satl_cdb.specs.declared.command.Command.TheVariants as cdbs
 use Rattle.satl_cdb.specs.declared.command.Illegal.{Illegal}
@@ -16,6 +17,7 @@ use Rattle.satl_cdb.specs.PrimaryCommands.{inquiry}
 use Rattle.satl_cdb.specs.Table.{says, table}
 use Rattle.satl_vpd.specs.Standard.{standard_data}
 use Rattle.satl_line.specs.Tasks.{Held, entries_of, is_too_much, total_blocks}
+use Rattle.satl_line.specs.declared.entry.Entry.{Entry}
 use Rattle.satl_drive.specs.State.{DriveState}
 use Rattle.satl_unit.specs.declared.attention.Attention.{Attention}
 use Rattle.satl_direct.specs.Device.{Device, is_of, untold}
@@ -262,8 +264,7 @@ waits_arrival l d r c e =
     ∙ by_ok (λ unit over what. arrival_by unit over what (view l d) r ≡ full_or_waits l d r c) (is_for_unit r) (overlaps l.tasks r) (attention_of l.attentions r) l r c (code_waits l d r c) e
 
 pub held_by_is : (tasks : List Held) → held_by (map task_of (entries_of tasks)) ≡ total_blocks tasks
-held_by_is [] = refl
-held_by_is (h ∷ tasks) = ap (λ n. h.entry.blocks + n) (held_by_is tasks)
+held_by_is tasks = sum_by-map task_of (λ (e : Entry). e.blocks) (entries_of tasks) ∙ sum_by-map (λ (h : Held). h.entry) (λ (e : Entry). e.blocks) tasks
 
 pub full_is : (tasks : List Held) (r : Request) (c : Command) (queued_trim : Bool) → is_full (map task_of (entries_of tasks)) c ≡ is_too_much tasks (task_without_pages r c queued_trim)
 full_is tasks r c queued_trim = rw (tasks_seen tasks, held_by_is tasks) refl

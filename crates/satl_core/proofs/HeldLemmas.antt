@@ -4,7 +4,7 @@ use Rattle.std.specs.Prelude.{IfSome, Result, Ok, Err, OnOk, is_err, remove, sli
 use Rattle.std.specs.List.{AllByRecursion, filter}
 use Rattle.std.proofs.lemmas.List.{length_push}
 use Rattle.std.proofs.lemmas.Slice.Zip.{AllZip-long}
-use Rattle.std.proofs.lemmas.List.Sums.{count_by-le-length, length-filter}
+use Rattle.std.proofs.lemmas.List.Sums.{count_by-le-length, length-filter, sum_by-cons}
 use Rattle.satl_base.specs.declared.reply.Reply.{Reply}
 use Rattle.satl_line.specs.declared.entry.Entry.{Entry}
 use Rattle.satl_identify.specs.declared.identity.Identity.{Identity}
@@ -89,7 +89,7 @@ held_is identity (h ∷ tasks) all =
     let here = all.0.pages in
     let one = entries_few h.entry.command identity.queued_trim in
     let rest = held_is identity tasks all.1 in
-    omega (arith, here, one, rest)
+    omega (arith, here, one, rest, sum_by-cons (λ (h : Held). h.entry.blocks) h tasks)
 
 pub reply_pages-append : (xs ys : List Reply) → reply_pages (xs ++ ys) ≡ reply_pages xs + reply_pages ys
 reply_pages-append [] ys = omega arith

@@ -4,6 +4,7 @@ use Rattle.std.specs.Prelude.{Option, Ok, MatchBool, not, ◌==◌, ◌*◌, nat
 use Rattle.std.specs.List.{AllByRecursion, list_any}
 use Rattle.std.proofs.lemmas.Bool.{eqb-false, ltb-false, not-false, or_parts}
 use Rattle.std.proofs.lemmas.List.{length-append, length-replicate, length-set, length_push}
+use Rattle.std.proofs.lemmas.List.Sums.{sum_by-cons, sum_by_push}
 use Rattle.std.proofs.Math.Seq.{take-append_seam}
 use Rattle.satl_base.proofs.ListsLemmas.{All-filter, All-push_end}
 use Rattle.satl_base.specs.declared.modes.Modes.{Modes}
@@ -63,7 +64,9 @@ held_fewer : (p : Entry → Bool) (ts : List Entry) → held_by (filter p ts) �
 held_fewer p [] = omega arith
 held_fewer p (t ∷ ts) =
     let rest = held_fewer p ts in
-    elim (p t) as (λ b. held_by (cond b (t ∷ filter p ts) (filter p ts)) ≤ held_by (t ∷ ts)) [ true ↦ omega (arith, rest) | false ↦ omega (arith, rest) ]
+    let whole = sum_by-cons (λ (e : Entry). e.blocks) t ts in
+    elim (p t) as (λ b. held_by (cond b (t ∷ filter p ts) (filter p ts)) ≤ held_by (t ∷ ts))
+    [ true ↦ omega (arith, rest, whole, sum_by-cons (λ (e : Entry). e.blocks) t (filter p ts)) | false ↦ omega (arith, rest, whole) ]
 
 -- the tasks that pass a test are left
 pub valid_left : (p : Entry → Bool) (s : Device) → IsValid s → IsValid (record s { tasks = filter p s.tasks })
@@ -103,8 +106,7 @@ once_judged_valid l d r v =
 -- ---- a task that comes
 
 held_pushed : (ts : List Entry) (t : Entry) → held_by (ts ++ t ∷ []) ≡ held_by ts + t.blocks
-held_pushed [] t = omega arith
-held_pushed (u ∷ ts) t = let rest = held_pushed ts t in omega (arith, rest)
+held_pushed ts t = sum_by_push (λ (e : Entry). e.blocks) ts t
 
 -- a device with room for a task of its own nexus and tag, which has come
 valid_with : (s : Device) (t : Entry) → (length s.tasks == 64) ≡ false → nat_lt 32768 (held_by s.tasks + t.blocks) ≡ false → list_any (is_called t.nexus (t.tag).0) s.tasks ≡ false → HasCome s.identity t → IsValid s → IsValid (record s { tasks = s.tasks ++ t ∷ [] })
@@ -255,6 +257,9 @@ agrees_rest l new wanted posting rest entry ending d d' first kept unasked chang
     let fits : FitsOn d first.held × AllByRecursion (FitsOn d) rest = subst (AllByRecursion (FitsOn d)) first.are agrees.queue.fits in
     let tells = stays.tells l.identity.bytes (bytes_long l d agrees) agrees.told in
     let alike = queue_alike l.identity.bytes d d' (bytes_long l d agrees) agrees.told tells in
+    let all : held_by (task_of entry ∷ map task_of (entries_of rest)) ≤ 32768 = v.blocks in
+    let parts : held_by (task_of entry ∷ map task_of (entries_of rest)) ≡ (task_of entry).blocks + held_by (map task_of (entries_of rest)) = sum_by-cons (λ (e : Entry). e.blocks) (task_of entry) (map task_of (entries_of rest)) in
+    let fewer : held_by (map task_of (entries_of rest)) ≤ 32768 = omega (arith, parts, all) in
     subst (λ x. Agrees x d') (sym same) (record {
       mark = sym mark;
       queue = idle_in_flight rest d' stays.free.idle stays.free.no_error (fits_on rest d d' stays.capacity alike fits.1) (omega (arith, stays.capacity, agrees.queue.small));
@@ -267,7 +272,7 @@ agrees_rest l new wanted posting rest entry ending d d' first kept unasked chang
         cells = stays.free.fit.sectors ∙ (stays.capacity ∙ (sym agrees.fit.sectors ∙ v.cells));
         sound = stays.sound;
         few = omega (arith, v.few);
-        blocks = omega (arith, v.blocks);
+        blocks = fewer;
         own = v.own.1;
         come = v.come.1;
         modes = subst (AreModesOf l.identity) (sym changed) (valid_after l.down refl);

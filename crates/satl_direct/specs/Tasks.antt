@@ -1,7 +1,7 @@
 -- What commands ask of the device, and the tasks that they become (SBC-3 5, SPC-4 6, SAT-3). `Illegal` is a refusal: its
 -- additional sense codes, the byte at fault where there is one, and whether that byte is of the CDB or of the data-out.
 use Rattle.std.specs.Prelude.{ℕ, ◌+◌, ◌*◌, ◌==◌, ◌||◌, ◌&&◌, not, nat_lt, Bool, true, false, if◌then◌else◌, List, [], ◌∷◌, length, take, get_or, Option, Some, None, Result, Ok, Err}
-use Rattle.std.specs.List.{list_all}
+use Rattle.std.specs.List.{list_all, sum_by}
 use Rattle.satl_base.specs.declared.block.Block.{Block}
 use Rattle.satl_base.specs.declared.block.Range.{Range}
 use Rattle.satl_base.specs.declared.modes.ModeChange.{ModeChange}
@@ -158,8 +158,7 @@ data_out_kept command body = (asks command).kept body
 
 -- the blocks held by tasks (profile)
 abbrev pub held_by : List Entry → ℕ
-held_by [] = 0
-held_by (t ∷ ts) = t.blocks + held_by ts
+held_by tasks = sum_by (λ t. t.blocks) tasks
 
 -- the task set has no place for a command: it has 64 tasks, or its blocks and those of the command exceed 32,768 (SAM-5 5.3.1,
 -- TASK SET FULL; the figures: profile)

@@ -10,6 +10,7 @@ use Rattle.satl_base.proofs.ListsLemmas.{All-both, All-weaken, remove-map}
 use Rattle.satl_base.specs.declared.block.Block.{Block}
 use Rattle.satl_base.specs.declared.request.Tag.{Tag}
 use Rattle.satl_base.specs.Lists.{how_many}
+use Rattle.std.proofs.lemmas.List.Sums.{sum_by-append, sum_by-cons}
 use Rattle.std.proofs.Math.ListN.{length-set, get_or-map}
 use Rattle.std.proofs.Math.Seq.{take-suc}
 use Rattle.std.proofs.lemmas.Option.{slice_get-get_or, slice_get_past}
@@ -123,8 +124,7 @@ entry_other slots outlines s x order none each =
     order none each
 
 pub total-append : (xs ys : List Held) → total_blocks (xs ++ ys) ≡ total_blocks xs + total_blocks ys
-total-append [] ys = omega arith
-total-append (x ∷ xs) ys = omega (arith, total-append xs ys)
+total-append xs ys = sum_by-append (λ (h : Held). h.entry.blocks) xs ys
 
 -- ---- eligibility
 
@@ -277,7 +277,7 @@ sound_without layout front s back e other h is =
     sum_out : (a : List Held) (x : Held) (b ab axb : List Held) (e : Entry) (n : ℕ) → ab ≡ a ++ b → axb ≡ a ++ x ∷ b → x.entry ≡ e → total_blocks axb ≡ n → total_blocks ab + e.blocks ≡ n
     sum_out a x b ab axb e n i j k t =
         let first : total_blocks ab ≡ total_blocks a + total_blocks b = ap total_blocks i ∙ total-append a b in
-        let second : total_blocks axb ≡ total_blocks a + (x.entry.blocks + total_blocks b) = ap total_blocks j ∙ total-append a (x ∷ b) in
+        let second : total_blocks axb ≡ total_blocks a + (x.entry.blocks + total_blocks b) = ap total_blocks j ∙ total-append a (x ∷ b) ∙ ap (λ n. total_blocks a + n) (sum_by-cons (λ (h : Held). h.entry.blocks) x b) in
         let third : x.entry.blocks ≡ e.blocks = ap (λ v. v.blocks) k in
         omega (arith, first, second, third, t)
 
@@ -612,7 +612,11 @@ module _ (slots : List Entry) (s : ℕ) (body : List Block) (within : s < length
 
   blocks_same : (order : List ℕ) → total_blocks (tasks_in changed order) ≡ total_blocks (tasks_in slots order)
   blocks_same [] = refl
-  blocks_same (q ∷ qs) = ap (λ n. n + total_blocks (tasks_in changed qs)) (same_of (λ r o. o.blocks) refl q) ∙ ap (λ n. (held_in slots q).entry.blocks + n) (blocks_same qs)
+  blocks_same (q ∷ qs) =
+      sum_by-cons (λ (h : Held). h.entry.blocks) (held_in changed q) (tasks_in changed qs)
+      ∙ ap (λ n. n + total_blocks (tasks_in changed qs)) (same_of (λ r o. o.blocks) refl q)
+      ∙ ap (λ n. (held_in slots q).entry.blocks + n) (blocks_same qs)
+      ∙ sym (sum_by-cons (λ (h : Held). h.entry.blocks) (held_in slots q) (tasks_in slots qs))
 
   change_is : (order : List ℕ) (place : ℕ) → place < length order → count_of s order ≤ 1 → get_or order place 0 ≡ s → tasks_in changed order ≡ change_task (with_body body) (tasks_in slots order) place
   change_is [] place lt once is = absurd (omega arith)

@@ -2,7 +2,7 @@
 use Rattle.std.specs.Prelude.{◌≡◌, ℕ, zero, suc, ◌+◌, ◌<◌, ◌==◌, Bool, false, ◌&&◌, ◌||◌, if◌then◌else◌, nat_lt, List, [], ◌∷◌, ◌++◌, map, take, length, slice_get, slice_index, Option, Some}
 use Rattle.std.specs.Int.{bit_at}
 use Rattle.std.specs.Option.{option_map}
-use Rattle.std.specs.List.{AllByRecursion, list_any}
+use Rattle.std.specs.List.{AllByRecursion, list_any, sum_by}
 use Rattle.satl_base.specs.declared.block.Block.{Block}
 use Rattle.satl_base.specs.declared.request.Tag.{Tag}
 use Rattle.satl_base.specs.Limits.{most_held, most_tasks}
@@ -35,8 +35,7 @@ count_of n numbers = how_many (λ x. x == n) numbers
 
 -- the blocks that the tasks hold room for (profile)
 abbrev pub total_blocks : List Held → ℕ
-total_blocks [] = 0
-total_blocks (held ∷ rest) = held.entry.blocks + total_blocks rest
+total_blocks tasks = sum_by (λ held. held.entry.blocks) tasks
 
 -- the task at a place (SAM-5, task set)
 abbrev pub entry_at : List Held → ℕ → Option Entry
