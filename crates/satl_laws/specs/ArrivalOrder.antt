@@ -1,6 +1,6 @@
 -- The law of arrival order (SAM-5 8, command order; SBC-3 5).
 use Rattle.std.specs.Prelude.{◌≡◌, ℕ, ◌+◌, ◌-◌, ◌==◌, ◌&&◌, not, nat_le, nat_lt, ◌<◌, Bool, true, false, if◌then◌else◌, List, [], ◌∷◌, ◌++◌, Some, Result, Ok, Err, get_or, map, slice_get}
-use Rattle.std.specs.List.{AllByRecursion, list_any}
+use Rattle.std.specs.List.{AllByRecursion, list_any, range_with_len}
 use Rattle.satl_base.specs.declared.block.Block.{Block}
 use Rattle.satl_base.specs.declared.request.Request.{Request}
 use Rattle.satl_base.specs.declared.reply.Reply.{Reply}
@@ -14,7 +14,6 @@ use Rattle.satl_cdb.specs.declared.command.Command.{Command}
 use Rattle.satl_cdb.specs.declared.command.Command.TheVariants as commands
 use Rattle.satl_cdb.specs.declared.command.Illegal.{Illegal}
 use Rattle.satl_cdb.specs.Table.{says}
-use Rattle.satl_regs.specs.Trim.{addresses_from}
 use Rattle.satl_frame.specs.declared.frames.Frame.{Frame}
 use Rattle.satl_frame.specs.declared.frames.Frame.TheVariants as frames
 use Rattle.satl_frame.specs.Output.{Answer}
@@ -81,7 +80,7 @@ pub record IsInOrder (acted : ℕ → Request → Bool) (first : Device) (all : 
       → all ≡ before ++ frames.Request r ∷ after → IsReadOf (says r.cdb first.identity.trim) lba count →
       IsGoodReply r reply answers
       → reply.body ≡ map (λ x. content (acted x) first.identity.trim x before (read_at first.cells x))
-      (addresses_from lba count)
+      (range_with_len lba count)
   pub writes : (x : ℕ) (c : Cell) → slice_get last.cells x ≡ Some c
       → c.now ≡ content (acted x) first.identity.trim x all (read_at first.cells x)
 
