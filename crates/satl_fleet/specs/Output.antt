@@ -3,7 +3,8 @@ use Rattle.std.specs.Prelude.{ℕ, suc, ◌==◌, ◌&&◌, ◌||◌, not, Bool,
 use Rattle.std.specs.Prelude.{List, [], ◌∷◌, ◌++◌, map, slice_index_or}
 use Rattle.satl_frame.specs.declared.frames.Frame.{Frame}
 use Rattle.satl_frame.specs.declared.frames.Frame.TheVariants as frames
-use Rattle.satl_frame.specs.Output.{Answer, all_answered, answer_bytes, end_bytes, framed, out_magic}
+use Rattle.satl_frame.specs.Output.{Answer, all_answered, answer_bytes, end_bytes, out_magic}
+use Rattle.satl_frame.specs.Frames.{framed}
 use Rattle.satl_frame.specs.Output.Answer.{replied, managed, ended}
 use Rattle.satl_fleet.specs.Routing.{is_report, seen}
 use Rattle.satl_fleet.specs.Target.{target_reply}
