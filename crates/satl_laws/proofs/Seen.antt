@@ -9,7 +9,7 @@ use Rattle.satl_base.specs.Lists.{IsIn}
 use Rattle.satl_base.proofs.CellsLemmas.{change_at-length}
 use Rattle.std.specs.List.{range_with_len}
 use Rattle.satl_laws.specs.ArrivalOrder.{read_at}
-use Rattle.satl_laws.specs.Passing.{lies_in}
+use Rattle.satl_base.specs.Blocks.{lies_in}
 
 -- a block that was put is read
 pub put_seen : (cells : List Cell) (x : ℕ) (v : Block) (cached : Bool) → x < length cells → read_at (change_at cells x (λ c. put c v cached)) x ≡ v
