@@ -25,13 +25,14 @@ addresses-append (x ∷ xs) ys =
     ap (λ (xs : List ℕ). range_with_len x.lba x.count ++ xs) (addresses-append xs ys)
     ∙ sym (append_assoc (range_with_len x.lba x.count) (addresses xs) (addresses ys))
 
-two : (r : Range) → r.count ≡ 65536 → range_with_len r.lba 65535 ++ (range_with_len (r.lba + 65535) 1 ++ []) ≡ range_with_len r.lba r.count
-two r is = rw (append-nil, is) (sym (range_with_len-add 65535 1 r.lba))
+-- two entries in a row, of counts that are left open: a long list of addresses is not to be written out
+two : (m n : ℕ) (r : Range) → r.count ≡ m + n → range_with_len r.lba m ++ (range_with_len (r.lba + m) n ++ []) ≡ range_with_len r.lba r.count
+two m n r is = rw (append-nil, is) (sym (range_with_len-add m n r.lba))
 
 addresses-split : (r : Range) → addresses (split r) ≡ range_with_len r.lba r.count
 addresses-split r =
     (elim (eqb r.count 65536) as (λ b. eqb r.count 65536 ≡ b → addresses (cond b (record { lba = r.lba; count = 65535 } ∷ record { lba = r.lba + 65535; count = 1 } ∷ []) (r ∷ [])) ≡ range_with_len r.lba r.count) [
-      | true ↦ λ e. two r (eqb-true _ _ e)
+      | true ↦ λ e. two 65535 1 r (eqb-true _ _ e)
       | false ↦ λ e. simp append-nil
     ]) refl
 
