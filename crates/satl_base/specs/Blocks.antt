@@ -18,7 +18,7 @@ zero_bytes n = replicate n 0
 
 -- 512 bytes of zero (profile)
 abbrev pub zero_block : Block
-zero_block = record { bytes = replicate 512 0 }
+zero_block = record { bytes = zero_bytes 512 }
 
 -- the bytes of the blocks, one after another (profile)
 abbrev pub bytes_of : List Block → List ℕ
