@@ -24,8 +24,7 @@ entries ranges = flat_map split ranges
 
 -- The bytes of entries, one after the other.
 abbrev pub payload : List Range → List ℕ
-payload [] = []
-payload (r ∷ rs) = little_bytes 8 (entry_number r) ++ payload rs
+payload ranges = flat_map (λ r. little_bytes 8 (entry_number r)) ranges
 
 -- A block that begins with these bytes; all others are 0.
 abbrev pub padded_bytes : List ℕ → List ℕ
