@@ -9,7 +9,8 @@ use Rattle.satl_base.specs.declared.reply.Scsi.{Scsi}
 use Rattle.satl_base.specs.declared.reply.Scsi.TheVariants.{Good}
 use Rattle.satl_base.specs.Codes.{scsi_code}
 use Rattle.satl_identify.specs.declared.identity.Identity.{Identity}
-use Rattle.satl_frame.specs.Output.{all_answered, framed, reply_bytes}
+use Rattle.satl_frame.specs.Output.{all_answered, reply_bytes}
+use Rattle.satl_frame.specs.Frames.{framed}
 use Rattle.satl_frame.specs.Output.Answer.{replied}
 use Rattle.satl_direct.specs.Device.{Device}
 use Rattle.satl_direct.specs.Valid.{AreOwn}

@@ -1,5 +1,5 @@
 -- Blocks of 512 bytes, and the bytes of a list of them.
-use Rattle.std.specs.Prelude.{ℕ, ◌+◌, ◌*◌, ◌/◌, ◌%◌, ◌≡◌, ◌≤◌, ◌<◌, ◌==◌, not, Bool, List, [], map, replicate, slice_index, get_or, take, length}
+use Rattle.std.specs.Prelude.{ℕ, ◌+◌, ◌*◌, ◌/◌, ◌%◌, ◌≡◌, ◌≤◌, ◌<◌, ◌==◌, ◌&&◌, not, nat_le, nat_lt, Bool, List, [], map, replicate, slice_index, get_or, take, length}
 use Rattle.std.specs.List.{AllByRecursion, flat_map}
 use Rattle.std.specs.Simd.{first_chunks}
 use Rattle.satl_base.specs.declared.block.Block.{Block}
@@ -18,7 +18,7 @@ zero_bytes n = replicate n 0
 
 -- 512 bytes of zero (profile)
 abbrev pub zero_block : Block
-zero_block = record { bytes = replicate 512 0 }
+zero_block = record { bytes = zero_bytes 512 }
 
 -- the bytes of the blocks, one after another (profile)
 abbrev pub bytes_of : List Block → List ℕ
@@ -40,6 +40,10 @@ is_used range = not (range.count == 0)
 -- so many blocks from an address on (SBC-3, LOGICAL BLOCK ADDRESS; ACS-3, LBA and COUNT)
 abbrev pub over : ℕ → ℕ → Range
 over lba count = record { lba = lba; count = count }
+
+-- whether a place is one of so many from a first one on: a sector of a range (SBC-3, LOGICAL BLOCK ADDRESS and TRANSFER LENGTH)
+abbrev pub lies_in : ℕ → ℕ → ℕ → Bool
+lies_in first count x = nat_le first x && nat_lt x (first + count)
 
 -- what stands past the last block (profile)
 abbrev pub no_block : Block

@@ -1,5 +1,6 @@
 -- Fields of bytes, as the standards' tables name them.
 use Rattle.std.specs.Prelude.{ℕ, ◌+◌, ◌-◌, ◌/◌, ◌%◌, ◌^◌, ◌<◌, Bool, ◌==◌, List, slice_index}
+use Rattle.std.specs.Int.{bit_at}
 use Rattle.byteorder.specs.Endian.{big_from}
 
 -- a number read from bytes, and a test of bytes (profile)
@@ -13,17 +14,21 @@ Flag = List ℕ → Bool
 abbrev pub bytes : ℕ → ℕ → Field
 bytes first last b = big_from first (last + 1 - first) b
 
--- bits high to low of a byte (profile)
-abbrev pub bits : ℕ → ℕ → ℕ → Field
-bits place high low b = slice_index b place / 2 ^ low % 2 ^ (high + 1 - low)
-
--- one bit of a byte (profile)
-abbrev pub bit : ℕ → ℕ → Flag
-bit place low b = slice_index b place / 2 ^ low % 2 == 1
-
 -- bits high to low of a number (profile)
 abbrev pub bits_of : ℕ → ℕ → ℕ → ℕ
 bits_of high low n = n / 2 ^ low % 2 ^ (high + 1 - low)
+
+-- whether one bit of a number is 1 (profile)
+abbrev pub bit_of : ℕ → ℕ → Bool
+bit_of low n = bit_at n low == 1
+
+-- bits high to low of a byte (profile)
+abbrev pub bits : ℕ → ℕ → ℕ → Field
+bits place high low b = bits_of high low (slice_index b place)
+
+-- one bit of a byte (profile)
+abbrev pub bit : ℕ → ℕ → Flag
+bit place low b = bit_of low (slice_index b place)
 
 -- each of these is a byte (profile)
 abbrev pub IsBytes : List ℕ → Type 0

@@ -1,5 +1,6 @@
 -- The words of IDENTIFY DEVICE data, and what they say (ACS-3 7.12.7).
-use Rattle.std.specs.Prelude.{ℕ, ◌+◌, ◌-◌, ◌*◌, ◌/◌, ◌%◌, ◌^◌, ◌==◌, ◌&&◌, not, nat_lt, Bool, List, sum, slice_index, if◌then◌else◌}
+use Rattle.std.specs.Prelude.{ℕ, ◌+◌, ◌-◌, ◌*◌, ◌%◌, ◌^◌, ◌==◌, ◌&&◌, not, nat_lt, Bool, List, sum, slice_index, if◌then◌else◌}
+use Rattle.satl_base.specs.Fields.{bit_of, bits_of}
 
 -- a word: two bytes, the low one first (ACS-3 7.12.7)
 abbrev pub word : ℕ → List ℕ → ℕ
@@ -7,11 +8,11 @@ word i data_bytes = slice_index data_bytes (2 * i) + 256 * slice_index data_byte
 
 -- bits high to low of a word (ACS-3 7.12.7)
 abbrev pub word_bits : ℕ → ℕ → ℕ → List ℕ → ℕ
-word_bits i high low d = word i d / 2 ^ low % 2 ^ (high + 1 - low)
+word_bits i high low d = bits_of high low (word i d)
 
 -- one bit of a word (ACS-3 7.12.7)
 abbrev pub word_bit : ℕ → ℕ → List ℕ → Bool
-word_bit i place d = word i d / 2 ^ place % 2 == 1
+word_bit i place d = bit_of place (word i d)
 
 -- a number in four words, the lowest first (ACS-3 7.12.7)
 abbrev pub four_words : ℕ → List ℕ → ℕ

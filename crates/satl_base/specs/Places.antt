@@ -1,7 +1,8 @@
 -- Bytes as a table of place and value.
-use Rattle.std.specs.Prelude.{ℕ, ◌+◌, ◌-◌, nat_lt, nat_le, ◌&&◌, List, [], ◌∷◌, map, length, get_or, if◌then◌else◌}
+use Rattle.std.specs.Prelude.{ℕ, ◌+◌, ◌-◌, List, [], ◌∷◌, map, length, get_or, if◌then◌else◌}
 use Rattle.std.specs.Int.{bytes_high_first}
 use Rattle.std.specs.List.{range_with_len}
+use Rattle.satl_base.specs.Blocks.{lies_in}
 
 -- a line of a table: its first place, and the bytes from there on (profile)
 pub record Line : Type 0 where
@@ -24,7 +25,7 @@ text first value = record { first = first; bytes = value }
 abbrev pub at_place : List Line → ℕ → ℕ
 at_place [] i = 0
 at_place (l ∷ ls) i =
-    if nat_le l.first i && nat_lt i (l.first + length l.bytes) then get_or l.bytes (i - l.first) 0 else at_place ls i
+    if lies_in l.first (length l.bytes) i then get_or l.bytes (i - l.first) 0 else at_place ls i
 
 -- the values of n places from the i-th on (profile)
 abbrev pub places : ℕ → ℕ → (ℕ → ℕ) → List ℕ

@@ -1,5 +1,6 @@
 -- What holds of every row of a table.
 use Rattle.std.specs.Prelude.{Bool, true, ◌&&◌, nat_lt, nat_le, List, [], ◌∷◌}
+use Rattle.std.specs.List.{list_all}
 use Rattle.satl_cdb.specs.Rows.{Rule, Row}
 
 -- the rules stand by ascending byte
@@ -10,8 +11,7 @@ rules_ascend (rule ∷ next ∷ rules) = nat_le rule.place next.place && rules_a
 
 -- the rules of each row do
 abbrev pub all_rules_ascend : List Row → Bool
-all_rules_ascend [] = true
-all_rules_ascend (row ∷ rows) = rules_ascend row.format.rules && all_rules_ascend rows
+all_rules_ascend rows = list_all (λ row. rules_ascend row.format.rules) rows
 
 -- each operation code is above the one before it
 abbrev pub codes_ascend : List Row → Bool

@@ -1,7 +1,7 @@
 -- Runs of the device over the frames of an input (profile). An event is one of these frames: REQUEST, MANAGE, TURN, BENCH or
 -- END; a bench event is what a BENCH frame carries.
 use Rattle.std.specs.Prelude.{◌≡◌, ◌≤◌, ℕ, suc, ◌+◌, max, min, not, ◌||◌, if◌then◌else◌, List, [], ◌∷◌, ◌++◌, map, length}
-use Rattle.std.specs.List.{filter}
+use Rattle.std.specs.List.{filter, flat_map}
 use Rattle.satl_base.specs.declared.bench.BenchEvent.{BenchEvent}
 use Rattle.satl_base.specs.declared.bench.BenchEvent.TheVariants as events
 use Rattle.satl_base.specs.declared.request.Manage.{Manage}
@@ -104,8 +104,7 @@ pub data RunDeep (first : Device) : List Frame → List (List Answer) → ℕ �
 
 -- the groups one after the other (profile)
 abbrev pub joined : List (List Answer) → List Answer
-joined [] = []
-joined (group ∷ groups) = group ++ joined groups
+joined groups = flat_map (λ group. group) groups
 
 -- a run: events, answers, losses and the last device (profile)
 pub record Run (first : Device) (events : List Frame) (losses : ℕ) (answers : List Answer) (last : Device) : Type 0 where

@@ -1,9 +1,11 @@
 -- How the answers of a target's units are written, in one output (profile).
 use Rattle.std.specs.Prelude.{ℕ, suc, ◌==◌, ◌&&◌, ◌||◌, not, Bool, true, false, if◌then◌else◌}
 use Rattle.std.specs.Prelude.{List, [], ◌∷◌, ◌++◌, map, slice_index_or}
+use Rattle.std.specs.List.{flat_map}
 use Rattle.satl_frame.specs.declared.frames.Frame.{Frame}
 use Rattle.satl_frame.specs.declared.frames.Frame.TheVariants as frames
-use Rattle.satl_frame.specs.Output.{Answer, all_answered, answer_bytes, end_bytes, framed, out_magic}
+use Rattle.satl_frame.specs.Output.{Answer, all_answered, answer_bytes, end_bytes, out_magic}
+use Rattle.satl_frame.specs.Frames.{framed}
 use Rattle.satl_frame.specs.Output.Answer.{replied, managed, ended}
 use Rattle.satl_fleet.specs.Routing.{is_report, seen}
 use Rattle.satl_fleet.specs.Target.{target_reply}
@@ -63,8 +65,7 @@ abbrev pub round_told : ℕ → Round → List ℕ
 round_told units round = target_told units round.frame ++ (told_from 0 round.groups ++ end_told round.frame)
 
 abbrev pub rounds_told : ℕ → List Round → List ℕ
-rounds_told units [] = []
-rounds_told units (round ∷ rounds) = round_told units round ++ rounds_told units rounds
+rounds_told units rounds = flat_map (round_told units) rounds
 
 -- the output of rounds: the magic, and what is written for each (profile)
 abbrev pub output : ℕ → List Round → List ℕ
@@ -81,8 +82,7 @@ group_of k round (event ∷ events) = slice_index_or round.groups k [] ∷ []
 
 -- the groups of answers of a unit, one for each frame that it sees (profile)
 abbrev pub groups_for : ℕ → ℕ → List Round → List (List Answer)
-groups_for units k [] = []
-groups_for units k (round ∷ rounds) = group_of k round (seen units k round.frame) ++ groups_for units k rounds
+groups_for units k rounds = flat_map (λ round. group_of k round (seen units k round.frame)) rounds
 
 -- ---- telling one answer after the other
 

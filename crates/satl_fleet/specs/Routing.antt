@@ -1,6 +1,6 @@
 -- Which unit of a target a frame goes to, and as what (SAM-5 4.7.2; the routing of other LUNs: profile).
-use Rattle.std.specs.Prelude.{ℕ, ◌==◌, ◌&&◌, nat_lt, Bool, List, [], ◌∷◌, ◌++◌, drop, replicate, slice_index, if◌then◌else◌}
-use Rattle.std.specs.List.{list_all}
+use Rattle.std.specs.Prelude.{ℕ, ◌==◌, ◌&&◌, nat_lt, Bool, List, [], ◌∷◌, drop, replicate, slice_index, if◌then◌else◌}
+use Rattle.std.specs.List.{flat_map, list_all}
 use Rattle.satl_base.specs.declared.request.Request.{Request}
 use Rattle.satl_base.specs.declared.request.Manage.{Manage}
 use Rattle.satl_frame.specs.declared.frames.Frame.{Frame}
@@ -46,5 +46,4 @@ seen units k frames.End = frames.End ∷ []
 
 -- what the frames of an input are to a unit (profile)
 abbrev pub project : ℕ → ℕ → List Frame → List Frame
-project units k [] = []
-project units k (frame ∷ rest) = seen units k frame ++ project units k rest
+project units k frames_of_input = flat_map (seen units k) frames_of_input

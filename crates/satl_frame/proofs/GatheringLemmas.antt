@@ -7,7 +7,8 @@ use Rattle.satl_io.proofs.Joined.{Wrote-more, Wrote-none, WrotePart-more, WroteP
 use Rattle.byteorder.specs.Endian.{big_bytes}
 use Rattle.satl_base.specs.declared.reply.Reply.{Reply}
 use Rattle.satl_frame.specs.Gathering.{Gathers}
-use Rattle.satl_frame.specs.Output.{framed, sent_len, sent_data, reply_kind, reply_len, reply_fields, reply_bytes}
+use Rattle.satl_frame.specs.Output.{sent_len, sent_data, reply_kind, reply_len, reply_fields, reply_bytes}
+use Rattle.satl_frame.specs.Frames.{framed}
 
 -- nothing came
 pub gathers_nothing : (a : Option (List ℕ)) (g : List ℕ) → Gathers a a g g []

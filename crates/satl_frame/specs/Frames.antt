@@ -113,9 +113,13 @@ payload_bytes (frames.Turn count) = big_bytes 2 count
 payload_bytes (frames.Bench event) = event_fields event
 payload_bytes frames.End = []
 
+-- the code of a kind, the length of a payload in four bytes, and bytes of the payload
+abbrev pub framed : ℕ → ℕ → List ℕ → List ℕ
+framed code len payload = (code ∷ big_bytes 4 len) ++ payload
+
 -- the bytes of a frame
 abbrev pub spelled : Frame → List ℕ
-spelled f = (kind f ∷ big_bytes 4 (length (payload_bytes f))) ++ payload_bytes f
+spelled f = framed (kind f) (length (payload_bytes f)) (payload_bytes f)
 
 -- a request has `expected` exactly in version 2, and it is at most 2,097,152
 abbrev pub HasExpected : Version → Option ℕ → Type 0

@@ -11,6 +11,7 @@ use Rattle.satl_base.specs.declared.reply.Reply.{Reply}
 use Rattle.satl_base.specs.declared.reply.Response.{Response}
 use Rattle.satl_base.specs.declared.request.Tag.{Tag}
 use Rattle.satl_frame.specs.Faults.{reason_code}
+use Rattle.satl_frame.specs.Frames.{framed}
 use Rattle.satl_frame.specs.declared.frames.Reason.{Reason}
 use Rattle.satl_frame.specs.declared.frames.OutFrame.{OutFrame}
 use Rattle.satl_frame.specs.declared.frames.OutFrame.TheVariants as written
@@ -18,9 +19,6 @@ use Rattle.satl_frame.specs.declared.frames.OutFrame.TheVariants as written
 -- "SATLRSP1"
 abbrev pub out_magic : List ℕ
 out_magic = 0x53 ∷ 0x41 ∷ 0x54 ∷ 0x4C ∷ 0x52 ∷ 0x53 ∷ 0x50 ∷ 0x31 ∷ []
-
-abbrev pub framed : ℕ → ℕ → List ℕ → List ℕ
-framed kind len payload = (kind ∷ big_bytes 4 len) ++ payload
 
 -- how much of the data the host takes: all of it, or at most as many bytes as it expects
 abbrev pub sent_len : Option ℕ → ℕ → ℕ

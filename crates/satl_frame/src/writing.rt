@@ -7,7 +7,8 @@ ghost use Rattle.satl_base.specs.Limits.{longest_data};
 ghost use Rattle.satl_io.specs.Causes.{HasCause};
 ghost use Rattle.satl_io.specs.Known.{Wrote, WrotePart};
 ghost use Rattle.satl_frame.specs.Gathering.{Gathers};
-ghost use Rattle.satl_frame.specs.Output.{sent_len, residual, reply_kind, reply_fields, reply_len, framed, reply_bytes, written_bytes, CanWrite, IsWritable};
+ghost use Rattle.satl_frame.specs.Output.{sent_len, residual, reply_kind, reply_fields, reply_len, reply_bytes, written_bytes, CanWrite, IsWritable};
+ghost use Rattle.satl_frame.specs.Frames.{framed};
 
 use crate::buffer::WriteBuffer;
 use crate::frames::{OutFrame, WriteFault};

@@ -1,8 +1,7 @@
 -- What is still to come of a generated input (profile).
 use Rattle.std.specs.Prelude.{ℕ, ◌+◌, ◌*◌, ◌%◌, ◌==◌, List, [], ◌∷◌, ◌++◌, if◌then◌else◌, Option, Some, None}
-use Rattle.byteorder.specs.Endian.{big_bytes}
 use Rattle.satl_base.specs.Blocks.{bytes_of}
-use Rattle.satl_frame.specs.Frames.{request_fields}
+use Rattle.satl_frame.specs.Frames.{framed, request_fields}
 use Rattle.satl_frame.specs.Inputs.{all_spelled}
 use Rattle.satl_frame.specs.declared.frames.Frame.TheVariants as frames
 use Rattle.satl_gen.specs.Generated.{request_drawn, sent_blocks, rising_blocks, burst, frames_from}
@@ -11,7 +10,7 @@ use Rattle.satl_gen.specs.declared.draw.Draw.{Draw}
 
 -- a REQUEST frame up to its data-out (profile)
 abbrev pub request_head : ℕ → Draw → List ℕ
-request_head i d = (0x01 ∷ big_bytes 4 (30 + 512 * sent_blocks d)) ++ request_fields (request_drawn i d)
+request_head i d = framed 0x01 (30 + 512 * sent_blocks d) (request_fields (request_drawn i d))
 
 -- the number of the burst behind request i, where one stands there (profile)
 abbrev pub burst_behind : ℕ → Draw → Option ℕ

@@ -2,13 +2,17 @@
 use Rattle.std.specs.Prelude.{ℕ, ◌+◌, ◌-◌, ◌^◌, ◌≤◌, min, OnErr}
 use Rattle.std.specs.declared.result.Result.{Result}
 
--- a count after one more; it stands still at its last value (profile)
+-- a count of so many stands still at 2^64 - 1 (profile)
+abbrev pub total : ℕ → ℕ
+total n = min n (2 ^ 64 - 1)
+
+-- a count after one more (profile)
 abbrev pub next_count : ℕ → ℕ
-next_count n = min (n + 1) (2 ^ 64 - 1)
+next_count n = total (n + 1)
 
 -- the count rose by so many, or stands at its last value (profile)
 abbrev pub RoseBy : ℕ → ℕ → ℕ → Type 0
-RoseBy n before now = min (before + n) (2 ^ 64 - 1) ≤ now
+RoseBy n before now = total (before + n) ≤ now
 
 -- the count rose, or stands at its last value (profile)
 abbrev pub Rose : ℕ → ℕ → Type 0

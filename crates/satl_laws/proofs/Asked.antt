@@ -18,7 +18,8 @@ use Rattle.satl_direct.specs.Arrival.Arrival.{waits}
 use Rattle.satl_direct.specs.Device.{Device, attentions_of}
 use Rattle.satl_direct.specs.Tasks.{asks, is_full, is_ordered, needed, range_of, task_for}
 use Rattle.satl_direct.specs.Valid.{HasCome}
-use Rattle.satl_laws.specs.Passing.{alters, goes_over, goes_with_others, lies_in}
+use Rattle.satl_base.specs.Blocks.{lies_in}
+use Rattle.satl_laws.specs.Passing.{alters, goes_over, goes_with_others}
 use Rattle.satl_laws.proofs.Cases.{chosen}
 
 -- a task by its command, on a drive that queues trims or does not

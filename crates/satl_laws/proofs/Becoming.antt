@@ -17,7 +17,7 @@ use Rattle.satl_direct.specs.Arrival.Arrival.{waits}
 use Rattle.satl_laws.specs.ArrivalOrder.{writes_plainly}
 use Rattle.satl_laws.proofs.Cases.{chosen}
 use Rattle.satl_laws.proofs.Transferring.{brings, gives}
-use Rattle.satl_laws.specs.Passing.{lies_in}
+use Rattle.satl_base.specs.Blocks.{lies_in}
 use Rattle.satl_laws.proofs.Seen.{by_test, within_from}
 use Rattle.satl_laws.proofs.Bringing.{Answers, Gets, none_brought, refused, silent}
 

@@ -1,12 +1,11 @@
 -- What READs were given, and what stays of it as requests come and settle.
 use Rattle.std.proofs.Common.{◌≡◌, sym, ap, ◌∙◌, ℕ, ◌+◌, ◌≤◌, ◌<◌, Bool, false, List, [], ◌∷◌, ◌++◌, None, map}
 use Rattle.std.specs.Prelude.{◌||◌}
-use Rattle.std.specs.List.{AllByRecursion}
+use Rattle.std.specs.List.{AllByRecursion, range_with_len}
 use Rattle.std.proofs.lemmas.Bool.{or_parts}
 use Rattle.satl_base.specs.declared.block.Block.{Block}
 use Rattle.satl_base.specs.declared.reply.Reply.{Reply}
 use Rattle.satl_cdb.specs.Table.{says}
-use Rattle.satl_regs.specs.Trim.{addresses_from}
 use Rattle.satl_frame.specs.Output.{Answer}
 use Rattle.satl_laws.specs.ArrivalOrder.{IsGoodReply, IsReadOf}
 use Rattle.satl_laws.proofs.Items.{Item, held, is_to_write, left}
@@ -16,7 +15,7 @@ use Rattle.satl_laws.proofs.Settling.{pending}
 module _ (trim : Bool) where
   -- a READ was given these blocks, and no task before it is still to write one of its sectors
   pub record GivesRight (holds : ℕ → Block) (p : ℕ → Bool) (reply : Reply) (lba count : ℕ) : Type 0 where
-    pub blocks : reply.body ≡ map holds (addresses_from lba count)
+    pub blocks : reply.body ≡ map holds (range_with_len lba count)
     pub settled : (x : ℕ) → lba ≤ x → x < lba + count → p x ≡ false
 
   abbrev pub ReadsRight : List Answer → (ℕ → Block) → (ℕ → Bool) → Item → Type 0

@@ -1,7 +1,7 @@
 -- A request that is answered as it arrives keeps the order of arrival.
 use Rattle.std.proofs.Common.{◌≡◌, ⊎_elim, refl, sym, ap, ◌∙◌, subst, ℕ, Bool, true, false, List, [], ◌∷◌, ◌++◌, None, arith, map}
 use Rattle.std.specs.Prelude.{◌||◌, if◌then◌else◌}
-use Rattle.std.specs.List.{AllByRecursion}
+use Rattle.std.specs.List.{AllByRecursion, range_with_len}
 use Rattle.std.proofs.lemmas.List.{append-nil, map-append}
 use Rattle.std.proofs.lemmas.List.Folds.{list_any-append}
 use Rattle.std.proofs.Math.Bool.{or-false}
@@ -12,7 +12,6 @@ use Rattle.satl_base.specs.Cells.{Cell}
 use Rattle.satl_base.specs.Lists.{how_many}
 use Rattle.satl_base.proofs.ListsLemmas.{All-push_end, All-weaken, in_either}
 use Rattle.satl_cdb.specs.Table.{says}
-use Rattle.satl_regs.specs.Trim.{addresses_from}
 use Rattle.satl_frame.specs.declared.frames.Frame.{Frame}
 use Rattle.satl_frame.specs.declared.frames.Frame.TheVariants as frames
 use Rattle.satl_frame.specs.Output.{Answer}
@@ -120,6 +119,6 @@ module _ (first : Device) where
             it same =
                 let k = says_so.reads_none (done_good r reply (ap (λ b. b || false) (ap (λ a. is_done r (replied a)) (sym same) ∙ g.done))) lba count reads in
                 record {
-                  blocks = ap (λ a. a.body) same ∙ k.1 ∙ sym (ap (λ m. map (holds first o.items) (addresses_from lba m)) k.0 ∙ range_none lba (holds first o.items));
+                  blocks = ap (λ a. a.body) same ∙ k.1 ∙ sym (ap (λ m. map (holds first o.items) (range_with_len lba m)) k.0 ∙ range_none lba (holds first o.items));
                   settled = λ x from to. absurd (omega (arith, from, to, k.0));
                 }

@@ -22,7 +22,7 @@ use Rattle.satl_laws.proofs.InOrderLeaves.{awaits, place}
 use Rattle.satl_laws.proofs.InOrderPlace.{back, free, front, it, one_item, plain, sorted_at, stands_at, tasks_at, well_front}
 use Rattle.satl_laws.proofs.Items.{AreSorted, Awaits, Item, covers, held, held-append}
 use Rattle.satl_laws.proofs.Rows.{in_all}
-use Rattle.satl_laws.specs.Passing.{lies_in}
+use Rattle.satl_base.specs.Blocks.{lies_in}
 use Rattle.satl_laws.proofs.Seen.{nows_seen, range_same, within_to}
 use Rattle.satl_laws.proofs.Settling.{none_to_write, pending, pending_none}
 use Rattle.satl_laws.proofs.Standing.{writes_at}

@@ -6,7 +6,7 @@ use Rattle.std.proofs.lemmas.Bool.{or_right}
 use Rattle.satl_base.specs.declared.block.Range.{Range}
 use Rattle.satl_base.specs.Lists.{IsIn}
 use Rattle.satl_line.specs.Conflict.{any_meet, ranges_meet}
-use Rattle.satl_laws.specs.Passing.{lies_in}
+use Rattle.satl_base.specs.Blocks.{lies_in}
 use Rattle.satl_laws.proofs.Seen.{by_test, within_from, within_to}
 
 -- one of a list that passes a test

@@ -7,9 +7,9 @@ use Rattle.satl_base.specs.declared.block.Block.{Block}
 use Rattle.satl_base.specs.Cells.{Cell, Pair, change_at, nows, pairs_from, put, put_at, whole}
 use Rattle.satl_base.specs.Lists.{IsIn}
 use Rattle.satl_base.proofs.CellsLemmas.{change_at-length}
-use Rattle.satl_regs.specs.Trim.{addresses_from}
+use Rattle.std.specs.List.{range_with_len}
 use Rattle.satl_laws.specs.ArrivalOrder.{read_at}
-use Rattle.satl_laws.specs.Passing.{lies_in}
+use Rattle.satl_base.specs.Blocks.{lies_in}
 
 -- a block that was put is read
 pub put_seen : (cells : List Cell) (x : ℕ) (v : Block) (cached : Bool) → x < length cells → read_at (change_at cells x (λ c. put c v cached)) x ≡ v
@@ -107,8 +107,7 @@ from (c ∷ cs) zero h = record { first = c; rest = refl; now = refl }
 from (c ∷ cs) (suc lba) h = let r = from cs lba (omega (arith, h)) in record { first = r.first; rest = r.rest; now = r.now }
 
 -- reads of a range, sector by sector
-taken_seen : (count lba : ℕ) (cells : List Cell) → lba + count ≤ length cells → map (λ c. c.now) (take count (drop lba cells)) ≡ map (read_at cells) (addresses_from lba count)
-unfolding addresses_from
+taken_seen : (count lba : ℕ) (cells : List Cell) → lba + count ≤ length cells → map (λ c. c.now) (take count (drop lba cells)) ≡ map (read_at cells) (range_with_len lba count)
 taken_seen zero lba cells h = refl
 taken_seen (suc count) lba cells h =
     let r = from cells lba (omega (arith, h)) in
@@ -117,20 +116,18 @@ taken_seen (suc count) lba cells h =
     ∙ ap (λ v. v ∷ map (λ c. c.now) (take count (drop (suc lba) cells))) r.now
     ∙ ap (λ vs. read_at cells lba ∷ vs) (ap (λ n. map (λ c. c.now) (take count (drop n cells))) next ∙ taken_seen count (lba + 1) cells (omega (arith, h)))
 
-pub nows_seen : (lba count : ℕ) (cells : List Cell) → lba + count ≤ length cells → nows cells lba count ≡ map (read_at cells) (addresses_from lba count)
+pub nows_seen : (lba count : ℕ) (cells : List Cell) → lba + count ≤ length cells → nows cells lba count ≡ map (read_at cells) (range_with_len lba count)
 nows_seen lba count cells h = let n : (lba + count) - lba ≡ count = omega arith in ap (λ k. map (λ c. c.now) (take k (drop lba cells))) n ∙ taken_seen count lba cells h
 
 -- two that agree on each sector of a range
-pub range_same : (count lba : ℕ) (f g : ℕ → Block) → ((x : ℕ) → lba ≤ x → x < lba + count → f x ≡ g x) → map f (addresses_from lba count) ≡ map g (addresses_from lba count)
-unfolding addresses_from
+pub range_same : (count lba : ℕ) (f g : ℕ → Block) → ((x : ℕ) → lba ≤ x → x < lba + count → f x ≡ g x) → map f (range_with_len lba count) ≡ map g (range_with_len lba count)
 range_same zero lba f g h = refl
 range_same (suc count) lba f g h =
-    ap (λ v. v ∷ map f (addresses_from (lba + 1) count)) (h lba (omega arith) (omega arith))
+    ap (λ v. v ∷ map f (range_with_len (lba + 1) count)) (h lba (omega arith) (omega arith))
     ∙ ap (λ vs. g lba ∷ vs) (range_same count (lba + 1) f g (λ x a b. h x (omega (arith, a)) (omega (arith, b))))
 
 -- a range of no sector
-pub range_none : (lba : ℕ) (f : ℕ → Block) → map f (addresses_from lba 0) ≡ []
-unfolding addresses_from
+pub range_none : (lba : ℕ) (f : ℕ → Block) → map f (range_with_len lba 0) ≡ []
 range_none lba f = refl
 
 -- a sector that there is

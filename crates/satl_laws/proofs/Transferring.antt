@@ -13,7 +13,7 @@ use Rattle.satl_direct.specs.Device.{Device}
 use Rattle.satl_laws.specs.ArrivalOrder.{IsReadOf, brought, read_at}
 use Rattle.satl_direct.specs.Quiet.{writes, written_by}
 use Rattle.satl_direct.specs.Tasks.{range_of}
-use Rattle.satl_laws.specs.Passing.{lies_in}
+use Rattle.satl_base.specs.Blocks.{lies_in}
 use Rattle.satl_laws.proofs.Meeting.{meets}
 use Rattle.satl_laws.proofs.Seen.{by_test, in_row, row_seen, within_to}
 

@@ -1,7 +1,8 @@
 -- What a drive says of trims is the same whatever its settings.
 use Rattle.std.proofs.Common.{arith, ◌≡◌, refl, ap, ◌∙◌, ℕ, ◌+◌, ◌*◌, Bool, true, false, List}
-use Rattle.std.specs.Prelude.{◌/◌, ◌%◌, ◌^◌, ◌==◌, ◌&&◌, ◌≢◌, if◌then◌else◌, slice_index, slice_set}
+use Rattle.std.specs.Prelude.{◌==◌, ◌&&◌, ◌≢◌, if◌then◌else◌, slice_index, slice_set}
 use Rattle.std.proofs.lemmas.List.{get_or-set_other}
+use Rattle.satl_base.specs.Fields.{bit_of}
 use Rattle.satl_base.specs.Identify.{checksum_byte, has_trim, trim_blocks, word, word_bit, word_bits}
 use Rattle.satl_identify.specs.Data.{identity_data, with_settings, settings_byte}
 
@@ -26,10 +27,6 @@ word_kept : (d : List ℕ) (cache look : Bool) (i j : ℕ) → i ≢ 170 → i �
     → word_from (slice_index (identity_data d cache look) i) (slice_index (identity_data d cache look) j) ≡ word_from (slice_index d i) (slice_index d j)
 word_kept d cache look i j p q r s = ap (λ n. word_from n (slice_index (identity_data d cache look) j)) (index_kept d cache look i p q) ∙ ap (word_from (slice_index d i)) (index_kept d cache look j r s)
 
--- a bit of a word (ACS-3 7.12.7)
-abbrev word_bit_of : ℕ → ℕ → Bool
-word_bit_of w place = w / 2 ^ place % 2 == 1
-
 module _ (d : List ℕ) (cache look : Bool) where
   -- the words that tell of trims are as before
   word_169 : word 169 (identity_data d cache look) ≡ word 169 d
@@ -45,5 +42,5 @@ module _ (d : List ℕ) (cache look : Bool) where
   -- and whether there are trims
   pub trim_kept : has_trim (identity_data d cache look) ≡ has_trim d
   trim_kept =
-      ap (λ (w : ℕ). word_bit_of w 0 && word_bit 69 14 (identity_data d cache look) && word_bit 69 5 (identity_data d cache look)) word_169
-      ∙ ap (λ (w : ℕ). word_bit 169 0 d && word_bit_of w 14 && word_bit_of w 5) word_69
+      ap (λ (w : ℕ). bit_of 0 w && word_bit 69 14 (identity_data d cache look) && word_bit 69 5 (identity_data d cache look)) word_169
+      ∙ ap (λ (w : ℕ). word_bit 169 0 d && bit_of 14 w && bit_of 5 w) word_69

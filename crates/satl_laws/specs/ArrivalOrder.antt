@@ -1,20 +1,19 @@
 -- The law of arrival order (SAM-5 8, command order; SBC-3 5).
-use Rattle.std.specs.Prelude.{◌≡◌, ℕ, ◌+◌, ◌-◌, ◌==◌, ◌&&◌, not, nat_le, nat_lt, ◌<◌, Bool, true, false, if◌then◌else◌, List, [], ◌∷◌, ◌++◌, Some, Result, Ok, Err, get_or, map, slice_get}
-use Rattle.std.specs.List.{AllByRecursion, list_any}
+use Rattle.std.specs.Prelude.{◌≡◌, ℕ, ◌-◌, ◌==◌, ◌&&◌, not, ◌<◌, Bool, true, false, if◌then◌else◌, List, [], ◌∷◌, ◌++◌, Some, Result, Ok, Err, get_or, map, slice_get}
+use Rattle.std.specs.List.{AllByRecursion, list_any, range_with_len}
 use Rattle.satl_base.specs.declared.block.Block.{Block}
 use Rattle.satl_base.specs.declared.request.Request.{Request}
 use Rattle.satl_base.specs.declared.reply.Reply.{Reply}
 use Rattle.satl_base.specs.declared.reply.Scsi.{Scsi}
 use Rattle.satl_base.specs.declared.reply.Scsi.TheVariants.{Good, CheckCondition, TaskSetFull}
 use Rattle.satl_base.specs.declared.bench.BenchEvent.TheVariants as events
-use Rattle.satl_base.specs.Blocks.{no_block}
+use Rattle.satl_base.specs.Blocks.{lies_in, no_block}
 use Rattle.satl_base.specs.Cells.{Cell}
 use Rattle.satl_base.specs.Lists.{how_many, IsIn}
 use Rattle.satl_cdb.specs.declared.command.Command.{Command}
 use Rattle.satl_cdb.specs.declared.command.Command.TheVariants as commands
 use Rattle.satl_cdb.specs.declared.command.Illegal.{Illegal}
 use Rattle.satl_cdb.specs.Table.{says}
-use Rattle.satl_regs.specs.Trim.{addresses_from}
 use Rattle.satl_frame.specs.declared.frames.Frame.{Frame}
 use Rattle.satl_frame.specs.declared.frames.Frame.TheVariants as frames
 use Rattle.satl_frame.specs.Output.{Answer}
@@ -43,7 +42,7 @@ was_done answers r = list_any (is_done r) answers
 -- the block that a WRITE brings to a sector of its range, and else what was there (SBC-3, WRITE commands)
 abbrev pub brought : Result Command Illegal → List Block → ℕ → Block → Block
 brought (Ok (commands.Write form lba count fua)) body x was =
-    if nat_le lba x && nat_lt x (lba + count) then get_or body (x - lba) was else was
+    if lies_in lba count x then get_or body (x - lba) was else was
 brought (Ok command) body x was = was
 brought (Err why) body x was = was
 
@@ -81,7 +80,7 @@ pub record IsInOrder (acted : ℕ → Request → Bool) (first : Device) (all : 
       → all ≡ before ++ frames.Request r ∷ after → IsReadOf (says r.cdb first.identity.trim) lba count →
       IsGoodReply r reply answers
       → reply.body ≡ map (λ x. content (acted x) first.identity.trim x before (read_at first.cells x))
-      (addresses_from lba count)
+      (range_with_len lba count)
   pub writes : (x : ℕ) (c : Cell) → slice_get last.cells x ≡ Some c
       → c.now ≡ content (acted x) first.identity.trim x all (read_at first.cells x)
 

@@ -1,8 +1,9 @@
 -- The law of passing: which tasks may end before tasks that came earlier (SAM-5 8, command order; SBC-3 5).
-use Rattle.std.specs.Prelude.{◌≡◌, ℕ, ◌+◌, ◌&&◌, ◌||◌, not, nat_le, nat_lt, Bool, true, false, List, ◌∷◌, ◌++◌}
+use Rattle.std.specs.Prelude.{◌≡◌, ℕ, ◌&&◌, ◌||◌, not, Bool, true, false, List, ◌∷◌, ◌++◌}
 use Rattle.std.specs.List.{AllByRecursion, list_any}
 use Rattle.satl_base.specs.declared.block.Range.{Range}
 use Rattle.satl_base.specs.declared.reply.Reply.{Reply}
+use Rattle.satl_base.specs.Blocks.{lies_in}
 use Rattle.satl_base.specs.Cells.{Pair}
 use Rattle.satl_cdb.specs.declared.command.Command.{Command}
 use Rattle.satl_cdb.specs.declared.command.Command.TheVariants as commands
@@ -11,10 +12,6 @@ use Rattle.satl_direct.specs.Device.{Device}
 use Rattle.satl_direct.specs.Quiet.{MayShow}
 use Rattle.satl_direct.specs.Turn.{OneEnds}
 use Rattle.satl_direct.specs.Valid.{IsValid}
-
--- whether a sector is one of so many from an address on (SBC-3, LOGICAL BLOCK ADDRESS and TRANSFER LENGTH)
-abbrev pub lies_in : ℕ → ℕ → ℕ → Bool
-lies_in lba count x = nat_le lba x && nat_lt x (lba + count)
 
 -- whether a command goes over a sector: it reads, verifies, writes or trims it. An UNMAP does so by its list of ranges, and an
 -- ATA PASS-THROUGH may do so anywhere (SBC-3 5; SAT-3 12.2)

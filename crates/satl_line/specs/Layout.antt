@@ -1,6 +1,6 @@
 -- How a set of tasks lies in memory: slots, the order of arrival, the free slots, and the masks (profile, all of it).
 use Rattle.std.specs.Prelude.{◌≡◌, ℕ, ◌+◌, ◌-◌, ◌*◌, ◌%◌, ◌^◌, ◌<◌, ◌≤◌, ◌==◌, Bool, ◌&&◌, if◌then◌else◌, nat_lt, List, [], ◌∷◌, ◌++◌, map, length, slice_index, slice_index_or, slice_set, bit_and, bit_or}
-use Rattle.std.specs.Int.{bit_at, bit_not, w64}
+use Rattle.std.specs.Int.{bit_at, bit_not, byte_at, w64}
 use Rattle.std.specs.List.{list_any, All, AllByRecursion}
 use Rattle.satl_base.specs.declared.request.Tag.{Tag}
 use Rattle.satl_base.specs.Limits.{most_held}
@@ -79,7 +79,7 @@ pub record AreNoted (outlines : List Outline) (order free : List ℕ) (active : 
 
 -- the low byte of a tag
 abbrev pub low_byte : Tag → ℕ
-low_byte tag = tag.0 % 256
+low_byte tag = byte_at 0 tag.0
 
 -- whether the tag of a task has this low byte
 abbrev pub has_low_byte : ℕ → Held → Bool

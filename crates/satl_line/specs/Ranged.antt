@@ -1,5 +1,6 @@
 -- Ranged tasks: what a drive sees of a READ, of a WRITE, and of an UNMAP whose trim is queued.
-use Rattle.std.specs.Prelude.{◌≡◌, Bool, not, ◌&&◌, List, [], ◌∷◌, ◌++◌, Option, Some, None, replicate}
+use Rattle.std.specs.Prelude.{◌≡◌, Bool, not, ◌&&◌, List, [], Option, Some, None, replicate}
+use Rattle.std.specs.List.{flat_map}
 use Rattle.satl_base.specs.declared.block.Block.{Block}
 use Rattle.satl_base.specs.declared.block.Range.{Range}
 use Rattle.satl_base.specs.Blocks.{zero_block}
@@ -36,8 +37,7 @@ ranged_of entry = by_kind entry.kind
 
 -- the zero block at each address of some ranges (SBC-3, UNMAP with LBPRZ)
 abbrev pub zeros_over : List Range → Bool → List Pair
-zeros_over [] cached = []
-zeros_over (range ∷ rest) cached = pairs_from range.lba (replicate range.count zero_block) cached ++ zeros_over rest cached
+zeros_over ranges cached = flat_map (λ range. pairs_from range.lba (replicate range.count zero_block) cached) ranges
 
 -- what a ranged task writes, where the drive's cache is on or not: through the cache where it is on and FUA is 0 (SBC-3 FUA,
 -- WCE)

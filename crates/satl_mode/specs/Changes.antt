@@ -1,10 +1,10 @@
 -- What a MODE SELECT list sets, and modes with it (SPC-4, MODE SELECT commands and 7.5).
-use Rattle.std.specs.Prelude.{◌≡◌, ℕ, zero, suc, ◌+◌, ◌/◌, ◌%◌, ◌^◌, ◌==◌, nat_lt, not, Bool, true, false, List, Option, Some, None, Result, Ok, Err, unwrap_or, if◌then◌else◌}
+use Rattle.std.specs.Prelude.{◌≡◌, ℕ, zero, suc, ◌+◌, ◌==◌, nat_lt, not, Bool, true, false, List, Option, Some, None, Result, Ok, Err, unwrap_or, if◌then◌else◌}
 use Rattle.satl_base.specs.declared.block.Block.{Block}
 use Rattle.satl_base.specs.declared.modes.Modes.{Modes}
 use Rattle.satl_base.specs.declared.modes.ModeChange.{ModeChange}
 use Rattle.satl_base.specs.Blocks.{byte_at}
-use Rattle.satl_base.specs.Fields.{bits_of}
+use Rattle.satl_base.specs.Fields.{bit_of, bits_of}
 use Rattle.satl_cdb.specs.declared.command.Illegal.{Illegal}
 use Rattle.satl_cdb.specs.Refusals.{list_length_error, invalid_list_field}
 use Rattle.satl_cdb.specs.Unmap.{number_at}
@@ -57,15 +57,15 @@ on_page (Ok page) there none = there page
 on_page (Err refusal) there none = none refusal
 
 -- one bit of the byte at a place
-abbrev pub bit_at : List Block → ℕ → ℕ → Bool
-bit_at list place low = byte_at list place / 2 ^ low % 2 == 1
+abbrev pub list_bit : List Block → ℕ → ℕ → Bool
+list_bit list place low = bit_of low (byte_at list place)
 
 -- a change with what the page at a place sets
 abbrev pub with_page : ModePage → List Block → ℕ → ModeChange → ModeChange
 with_page ErrorRecovery list place change = change
 with_page Caching list place change =
-    record change { wce = Some (bit_at list (place + 2) 2); dra = Some (bit_at list (place + 12) 5) }
-with_page Control list place change = record change { d_sense = Some (bit_at list (place + 2) 2) }
+    record change { wce = Some (list_bit list (place + 2) 2); dra = Some (list_bit list (place + 12) 5) }
+with_page Control list place change = record change { d_sense = Some (list_bit list (place + 2) 2) }
 with_page InformationalExceptions list place change = change
 
 -- the change with the pages from a place on, at most n, up to the end or to what is no page; of two pages that set a value

@@ -1,7 +1,7 @@
 -- The mode pages and their bytes (SPC-4 and SBC-3; the values that are not named there, and which bits a host can change:
 -- profile).
 use Rattle.std.specs.Prelude.{ℕ, ◌+◌, ◌==◌, not, true, false, List, [], ◌∷◌, ◌++◌, Option, if◌then◌else◌}
-use Rattle.std.specs.List.{find}
+use Rattle.std.specs.List.{find, flat_map}
 use Rattle.satl_base.specs.declared.modes.Modes.{Modes}
 use Rattle.satl_base.specs.Places.{Line, byte, at_place, laid}
 use Rattle.satl_identify.specs.declared.identity.Identity.{Identity}
@@ -79,5 +79,4 @@ page_bytes page s = laid (size_of page) (page_lines page s)
 
 -- pages one after the other
 abbrev pub pages_bytes : List ModePage → Shown → List ℕ
-pages_bytes [] s = []
-pages_bytes (page ∷ pages) s = page_bytes page s ++ pages_bytes pages s
+pages_bytes pages s = flat_map (λ page. page_bytes page s) pages

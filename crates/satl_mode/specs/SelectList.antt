@@ -14,7 +14,7 @@ use Rattle.satl_mode.specs.declared.descriptor.Descriptor.TheVariants.{Absent, S
 use Rattle.satl_mode.specs.declared.page.ModePage.{ModePage}
 use Rattle.satl_mode.specs.ModePages.{changeable_values, current_values, page_byte, page_coded, row_of, shown_by, size_of}
 use Rattle.satl_mode.specs.Descriptors.{BlockField, block_fields, descriptor_size}
-use Rattle.satl_mode.specs.Changes.{applied, bit_at, change_in, descriptor_length, first_page, header_size}
+use Rattle.satl_mode.specs.Changes.{applied, change_in, descriptor_length, first_page, header_size, list_bit}
 
 -- a value, or a fault where there is one
 abbrev pub unless_fault : {A : Type 0} → Option Illegal → A → Result A Illegal
@@ -23,7 +23,7 @@ unless_fault (Some fault) value = Err fault
 
 -- LONGLBA: byte 4 bit 0 of 10
 abbrev pub has_long_lba : Bool → List Block → Bool
-has_long_lba ten list = ten && bit_at list 4 0
+has_long_lba ten list = ten && list_bit list 4 0
 
 -- the place of BLOCK DESCRIPTOR LENGTH
 abbrev pub descriptor_length_place : Bool → ℕ

@@ -5,7 +5,7 @@ ghost use Rattle.satl_base.specs.Fields.{bits_of};
 ghost use Rattle.satl_base.specs.Blocks.{byte_at};
 ghost use Rattle.satl_identify.specs.declared.identity.Identity.{Identity as Drive};
 ghost use Rattle.satl_mode.specs.ModePages.{page_coded, size_of};
-ghost use Rattle.satl_mode.specs.Changes.{bit_at, applied, change_from, change_in, descriptor_length, first_page, header_size, no_change, page_at, whole_page, with_page, AreModesOf, IsChangeOf};
+ghost use Rattle.satl_mode.specs.Changes.{applied, change_from, change_in, descriptor_length, first_page, header_size, list_bit, no_change, page_at, whole_page, with_page, AreModesOf, IsChangeOf};
 
 use crate::page::{ModePage, page_coded};
 use satl_base::{ModeChange, Modes, Pages};
@@ -91,7 +91,7 @@ fn flag(list: &Pages, place: usize, low: u8) -> bool
     requires place { place < 2 ^ 16 }
     requires room { place < 512 * length list.now }
     requires low { low < 8 }
-    ensures { result ≡ bit_at list.now place low }
+    ensures { result ≡ list_bit list.now place low }
 {
     byte_of(list, place) >> low & 1 == 1
 }

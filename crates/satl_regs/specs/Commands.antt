@@ -1,5 +1,6 @@
 -- The ATA commands that are not queued, and their registers (ACS-3 section 7; which commands there are: profile).
 use Rattle.std.specs.Prelude.{ℕ, ◌+◌, ◌*◌, ◌^◌, ◌==◌, ◌&&◌, Bool, true, false, List, [], ◌∷◌, Option, Some, None, if◌then◌else◌}
+use Rattle.std.specs.List.{find}
 use Rattle.satl_base.specs.Fields.{bits_of}
 use Rattle.satl_regs.specs.declared.values.Registers.{Registers}
 use Rattle.satl_regs.specs.declared.values.How.{How}
@@ -116,8 +117,7 @@ code_of (commands.Other code) = code
 
 -- The first of the rows whose code and needs the registers meet.
 abbrev pub first_row : List CommandRow → Registers → Option CommandRow
-first_row [] r = None
-first_row (row ∷ rows) r = if (r.command == row.code) && row.needs r then Some row else first_row rows r
+first_row rows r = find (λ row. (r.command == row.code) && row.needs r) rows
 
 -- The row of the table for the registers, if it has one.
 unfoldable pub command_row : Registers → Option CommandRow

@@ -1,6 +1,6 @@
 -- The payload of a trim: a block of 64 entries of 8 bytes, the lowest byte first (ACS-3 section 7, DATA SET MANAGEMENT).
 use Rattle.std.specs.Prelude.{ℕ, zero, suc, ◌+◌, ◌-◌, ◌*◌, ◌^◌, ◌<◌, ◌≤◌, ◌==◌, List, [], ◌∷◌, ◌++◌, length, map, drop, if◌then◌else◌}
-use Rattle.std.specs.List.{filter, flat_map, AllByRecursion}
+use Rattle.std.specs.List.{filter, flat_map, range_with_len, AllByRecursion}
 use Rattle.byteorder.specs.Endian.{little_bytes, little_number}
 use Rattle.satl_base.specs.Blocks.{is_used, zero_bytes}
 use Rattle.satl_base.specs.Fields.{bits_of}
@@ -24,8 +24,7 @@ entries ranges = flat_map split ranges
 
 -- The bytes of entries, one after the other.
 abbrev pub payload : List Range → List ℕ
-payload [] = []
-payload (r ∷ rs) = little_bytes 8 (entry_number r) ++ payload rs
+payload ranges = flat_map (λ r. little_bytes 8 (entry_number r)) ranges
 
 -- A block that begins with these bytes; all others are 0.
 abbrev pub padded_bytes : List ℕ → List ℕ
@@ -59,12 +58,6 @@ pub record IsTrimList (ranges : List Range) : Type 0 where
 abbrev pub FitsEntry : Range → Type 0
 FitsEntry r = (r.lba < 2 ^ 48) × (r.count < 2 ^ 16)
 
--- The addresses from an LBA on, so many of them.
-unfoldable pub addresses_from : ℕ → ℕ → List ℕ
-addresses_from lba zero = []
-addresses_from lba (suc count) = lba ∷ addresses_from (lba + 1) count
-
 -- The addresses of ranges, one range after the other.
 abbrev pub addresses : List Range → List ℕ
-addresses [] = []
-addresses (r ∷ rs) = addresses_from r.lba r.count ++ addresses rs
+addresses ranges = flat_map (λ r. range_with_len r.lba r.count) ranges

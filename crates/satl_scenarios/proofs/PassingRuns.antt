@@ -6,11 +6,10 @@ use Rattle.satl_line.specs.Conflict.{accesses_conflict}
 use Rattle.satl_line.specs.Ranged.RangedTask.{ranged_read, ranged_write}
 use Rattle.satl_line.specs.declared.entry.Entry.{Entry}
 use Rattle.satl_base.specs.Cells.{Cell}
-use Rattle.satl_base.specs.Blocks.{over}
+use Rattle.satl_base.specs.Blocks.{lies_in, over}
 use Rattle.satl_direct.specs.Device.{Device}
 use Rattle.satl_direct.specs.Run.TurnsOf.{none}
 use Rattle.satl_direct.specs.Valid.{IsValid}
-use Rattle.satl_laws.specs.Passing.{lies_in}
 use Rattle.satl_laws.proofs.Seen.{by_test, within_from}
 use Rattle.satl_scenarios.specs.Orders.{IsOfPassing, four_waiting, passed_where_apart, reads_second, reads_two, writes_second, writes_third}
 use Rattle.satl_scenarios.specs.Scenario.{CanHappen}

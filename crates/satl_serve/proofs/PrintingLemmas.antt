@@ -6,7 +6,8 @@ use Rattle.std.proofs.lemmas.List.Sums.{sum_by_push}
 use Rattle.satl_base.specs.declared.reply.Scsi.TheVariants.{Good, CheckCondition, TaskSetFull}
 use Rattle.satl_frame.specs.Output.{Answer}
 use Rattle.satl_frame.specs.Output.Answer.{replied, managed, ended}
-use Rattle.satl_text.specs.Totals.{data_count, data_sum, one_with, summary_of, total}
+use Rattle.satl_io.specs.Causes.{total}
+use Rattle.satl_text.specs.Totals.{data_count, data_sum, one_with, summary_of}
 use Rattle.satl_text.specs.declared.summary.Summary.{Summary}
 use Rattle.satl_text.proofs.TotalsLemmas.{totals_grow}
 use Rattle.satl_direct.specs.Run.{joined}

@@ -16,7 +16,7 @@ use Rattle.satl_frame.specs.declared.frames.Version.TheVariants.{Two}
 use Rattle.satl_frame.specs.Output.{Answer}
 use Rattle.satl_frame.specs.Progress.{HasRead, ReadTo, ReadUpTo}
 use Rattle.satl_frame.specs.Reading.{Reading}
-use Rattle.satl_text.specs.Totals.{total}
+use Rattle.satl_io.specs.Causes.{total}
 use Rattle.satl_line.specs.Tasks.{entries_of}
 use Rattle.satl_direct.specs.Run.{RunDeep, joined}
 use Rattle.satl_direct.specs.Tasks.{task_of}

@@ -1,5 +1,6 @@
 -- How an output is told: as frames, as lines of text, or not at all but for a refused input (profile).
-use Rattle.std.specs.Prelude.{ℕ, List, [], ◌∷◌, ◌++◌}
+use Rattle.std.specs.Prelude.{ℕ, List, [], ◌++◌}
+use Rattle.std.specs.List.{flat_map}
 use Rattle.satl_frame.specs.declared.frames.FrameFault.{FrameFault}
 use Rattle.satl_frame.specs.declared.frames.FrameFault.TheVariants.{Bad, ReadFault}
 use Rattle.satl_frame.specs.declared.frames.Reason.{Reason}
@@ -33,8 +34,7 @@ told_of form ReadFault = []
 
 -- answers, one after the other (profile)
 abbrev pub answers_told : Form → List Answer → List ℕ
-answers_told form [] = []
-answers_told form (answer ∷ answers) = told form answer ++ answers_told form answers
+answers_told form answers = flat_map (told form) answers
 
 -- the output of a run (profile)
 abbrev pub output : Form → List Answer → List ℕ

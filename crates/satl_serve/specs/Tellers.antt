@@ -2,7 +2,7 @@
 use Rattle.std.specs.Prelude.{◌≡◌, ℕ, List}
 use Rattle.satl_frame.specs.declared.frames.Frame.{Frame}
 use Rattle.satl_frame.specs.Output.{Answer}
-use Rattle.satl_text.specs.Totals.{total}
+use Rattle.satl_io.specs.Causes.{total}
 use Rattle.satl_direct.specs.Run.{joined}
 use Rattle.satl_step.specs.Runs.{requests_in}
 use Rattle.satl_step.specs.Telling.{all_behind}

@@ -1,6 +1,6 @@
 -- The frames of an input, carried out on one unit (profile).
-use Rattle.std.specs.Prelude.{◌≡◌, ℕ, ◌-◌, ◌^◌, min, Bool, true, false, List, [], ◌∷◌, ◌++◌, Option, None, Some, Result, IfErr, IfOk}
-use Rattle.satl_io.specs.Causes.{Rose}
+use Rattle.std.specs.Prelude.{◌≡◌, ℕ, Bool, true, false, List, [], ◌∷◌, ◌++◌, Option, None, Some, Result, IfErr, IfOk}
+use Rattle.satl_io.specs.Causes.{Rose, total}
 use Rattle.satl_frame.specs.declared.frames.Frame.{Frame}
 use Rattle.satl_frame.specs.declared.frames.Frame.TheVariants as frames
 use Rattle.satl_frame.specs.declared.frames.Place.{Place}
@@ -36,10 +36,6 @@ pub record LoopState (T : Type 0) : Type 0 where
 abbrev pub loop_state : {T : Type 0} → Reading → Option (List ℕ) → Scene T → LoopState T
 loop_state reader left scene = record { reader = reader; left = left; scene = scene }
 
--- the number of requests, which stands still at 2^64 - 1 (profile)
-abbrev pub counted_requests : List Frame → ℕ
-counted_requests events = min (requests_in events) (2 ^ 64 - 1)
-
 -- the reader is the same but for where it stands, and has given these frames (profile)
 pub record HasGiven {T : Type 0} (before after : LoopState T) (events : List Frame) : Type 0 where
   pub limit : after.reader.limit ≡ before.reader.limit
@@ -54,7 +50,7 @@ pub record SoFar {T : Type 0} (told : T → Answer → List ℕ) (behind : T →
   pub given : HasGiven before after events
   pub told_so : IsTold told behind before.scene.telling after.scene.telling (joined groups)
   pub run : RunSoFar before.scene.stand after.scene.stand events groups
-  pub requests_are : requests ≡ counted_requests events
+  pub requests_are : requests ≡ total (requests_in events)
 
 -- the same, and none of them is END (profile)
 pub record Going {T : Type 0} (told : T → Answer → List ℕ) (behind : T → Answer → T) (before after : LoopState T)

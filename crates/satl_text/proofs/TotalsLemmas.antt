@@ -4,7 +4,8 @@ use Rattle.std.specs.Prelude.{sum_by}
 use Rattle.std.proofs.lemmas.List.Sums.{sum_by_push}
 use Rattle.satl_base.specs.declared.reply.Scsi.TheVariants.{Good, CheckCondition, TaskSetFull}
 use Rattle.satl_frame.specs.Output.{Answer}
-use Rattle.satl_text.specs.Totals.{TotalsGrow, data_count, data_sum, one_with, total}
+use Rattle.satl_io.specs.Causes.{total}
+use Rattle.satl_text.specs.Totals.{TotalsGrow, data_count, data_sum, one_with}
 
 one_more : (f : Answer → ℕ) (answers : List Answer) (answer : Answer) →
     total (sum_by f (answers ++ answer ∷ [])) ≡ total (total (sum_by f answers) + f answer)

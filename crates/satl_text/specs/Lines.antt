@@ -1,7 +1,7 @@
 -- The lines that are told of an output, and of a summary (profile).
 use Rattle.std.specs.Prelude.{ℕ, pos, ◌-ℤ◌, List, [], ◌∷◌, ◌++◌, Option, Some, None, codes, decimal}
 use Rattle.std.specs.Fmt.{signed_decimal}
-use Rattle.std.specs.List.{join_with_byte}
+use Rattle.std.specs.List.{flat_map, join_with_byte}
 use Rattle.byteorder.specs.Endian.{big_bytes}
 use Rattle.hex.specs.Hex.{encode_lower}
 use Rattle.satl_base.specs.Codes.{scsi_code, response_code}
@@ -62,8 +62,7 @@ answer_line ended = end_line
 
 -- the lines of answers, one after another (profile)
 abbrev pub lines : List Answer → List ℕ
-lines [] = []
-lines (a ∷ answers) = answer_line a ++ lines answers
+lines answers = flat_map answer_line answers
 
 -- the line of a frame of the output; the magic has none (profile)
 abbrev pub frame_line : OutFrame → List ℕ

@@ -1,16 +1,13 @@
 -- The totals of a replay (profile).
-use Rattle.std.specs.Prelude.{ℕ, ◌≡◌, ◌+◌, ◌-◌, ◌^◌, ◌==◌, if◌then◌else◌, min, sum, sum_by, List, [], ◌∷◌, ◌++◌}
+use Rattle.std.specs.Prelude.{ℕ, ◌≡◌, ◌+◌, ◌==◌, if◌then◌else◌, sum, sum_by, List, [], ◌∷◌, ◌++◌}
 use Rattle.satl_base.specs.Blocks.{first_bytes}
 use Rattle.satl_base.specs.Codes.{scsi_code}
 use Rattle.satl_base.specs.declared.reply.Scsi.{Scsi}
 use Rattle.satl_base.specs.declared.reply.Scsi.TheVariants.{Good, CheckCondition, TaskSetFull}
+use Rattle.satl_io.specs.Causes.{total}
 use Rattle.satl_frame.specs.Output.{Answer}
 use Rattle.satl_frame.specs.Output.Answer.{replied, managed, ended}
 use Rattle.satl_text.specs.declared.summary.Summary.{Summary}
-
--- a total stands still at 2^64 - 1 (profile)
-abbrev pub total : ℕ → ℕ
-total n = min n (2 ^ 64 - 1)
 
 -- one for a status that is this one, by the codes (profile)
 abbrev pub one_for : Scsi → Scsi → ℕ

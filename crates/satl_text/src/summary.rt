@@ -1,7 +1,8 @@
 // The totals of a replay.
 ghost use Rattle.std.specs.Prelude.{◌≡◌, ◌≤◌, ◌+◌, ◌*◌, ◌++◌, ◌∷◌, [], ℕ, List, length, sum};
 ghost use Rattle.satl_base.specs.Blocks.{first_bytes};
-ghost use Rattle.satl_text.specs.Totals.{one_for, total};
+ghost use Rattle.satl_io.specs.Causes.{total};
+ghost use Rattle.satl_text.specs.Totals.{one_for};
 
 use satl_base::{Pages, Reply, Scsi};
 

@@ -8,7 +8,7 @@ use Rattle.satl_frame.specs.declared.frames.Place.{Place}
 use Rattle.satl_frame.specs.declared.frames.Version.TheVariants.{Two}
 use Rattle.satl_frame.specs.Progress.{ReadTo}
 use Rattle.satl_frame.proofs.WholeInputs.{one_end}
-use Rattle.satl_text.specs.Totals.{total}
+use Rattle.satl_io.specs.Causes.{total}
 use Rattle.satl_gen.specs.Generated.{after_draw, burst, draw, frames_from, generated, generated_frames, request_drawn, seeded}
 use Rattle.satl_gen.specs.declared.draw.Draw.{Draw}
 use Rattle.satl_gen.proofs.WholeInput.{reads_whole}

@@ -1,6 +1,7 @@
 -- The input of the bridge: commands as they stand on the wire, each with the data that is sent with it (USB Mass Storage Class,
 -- Bulk-Only Transport 1.0, 5.3).
 use Rattle.std.specs.Prelude.{◌≡◌, ℕ, ◌+◌, ◌<◌, ◌≤◌, ◌^◌, List, [], ◌∷◌, ◌++◌, length, take, Option, Some, IfSome, if◌then◌else◌}
+use Rattle.std.specs.List.{flat_map}
 use Rattle.satl_io.specs.Known.{Took}
 use Rattle.satl_bot.specs.declared.command.Cbw.{Cbw}
 use Rattle.satl_bot.specs.Wrappers.{cbw_of}
@@ -29,8 +30,7 @@ abbrev pub item_bytes : Item → List ℕ
 item_bytes i = i.head ++ i.body
 
 abbrev pub bytes_of_items : List Item → List ℕ
-bytes_of_items [] = []
-bytes_of_items (i ∷ items) = item_bytes i ++ bytes_of_items items
+bytes_of_items items = flat_map item_bytes items
 
 -- each is an item that ends within the limit, and the first one begins at the offset (profile)
 abbrev pub AreItems : ℕ → ℕ → List Item → Type 0

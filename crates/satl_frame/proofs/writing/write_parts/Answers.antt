@@ -1,6 +1,7 @@
 use Rattle.std.proofs.Common.{◌≡◌, ◌++◌, ◌∙◌, ap, subst, arith, List, ℕ}
 use Rattle.satl_io.specs.Known.{Wrote, WrotePart}
-use Rattle.satl_frame.specs.Output.{framed, reply_kind, reply_len, reply_fields}
+use Rattle.satl_frame.specs.Output.{reply_kind, reply_len, reply_fields}
+use Rattle.satl_frame.specs.Frames.{framed}
 use Rattle.satl_frame.proofs.GatheringLemmas.{bare_reply}
 use Rattle.satl_frame.proofs.writing.write_parts.Goals as goal
 
