@@ -4,7 +4,7 @@ use Rattle.std.specs.List.{AllByRecursion, fold}
 use Rattle.satl_base.specs.declared.block.Block.{Block}
 use Rattle.satl_base.specs.declared.bench.Which.{Which}
 use Rattle.satl_base.specs.declared.bench.Which.TheVariants.{Read, Write}
-use Rattle.satl_base.specs.Lists.{IsIn}
+use Rattle.satl_base.specs.Lists.{IsIn, change_at}
 
 -- a sector: the block that a read gives, the blocks that a loss of power may leave, and whether reads or writes fail there
 -- (SBC-3 4.15)
@@ -36,12 +36,6 @@ pub record Pair : Type 0 where
   pub lba : ℕ
   pub block : Block
   pub cached : Bool
-
--- the cells with a change at one address (profile)
-abbrev pub change_at : List Cell → ℕ → (Cell → Cell) → List Cell
-change_at [] lba f = []
-change_at (c ∷ cs) zero f = f c ∷ cs
-change_at (c ∷ cs) (suc lba) f = c ∷ change_at cs lba f
 
 -- the cells after one block was written (SBC-3, WRITE commands)
 abbrev pub put_at : List Cell → Pair → List Cell

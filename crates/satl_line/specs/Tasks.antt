@@ -1,5 +1,5 @@
 -- The tasks of a set, each in its slot.
-use Rattle.std.specs.Prelude.{◌≡◌, ℕ, zero, suc, ◌+◌, ◌<◌, ◌==◌, Bool, false, ◌&&◌, ◌||◌, if◌then◌else◌, nat_lt, List, [], ◌∷◌, ◌++◌, map, take, length, slice_get, slice_index, Option, Some}
+use Rattle.std.specs.Prelude.{◌≡◌, ℕ, ◌+◌, ◌<◌, ◌==◌, Bool, false, ◌&&◌, ◌||◌, if◌then◌else◌, nat_lt, List, [], ◌∷◌, ◌++◌, map, take, length, slice_get, slice_index, Option, Some}
 use Rattle.std.specs.Int.{bit_at}
 use Rattle.std.specs.Option.{option_map}
 use Rattle.std.specs.List.{AllByRecursion, list_any}
@@ -61,12 +61,6 @@ pub record Adds (old : List Held) (entry : Entry) (new : List Held) : Type 0 whe
 -- the task with these pages (profile)
 abbrev pub with_body : List Block → Held → Held
 with_body body held = record { slot = held.slot; entry = record held.entry { body = body } }
-
--- the tasks with the one at a place changed (profile)
-abbrev pub change_task : (Held → Held) → List Held → ℕ → List Held
-change_task change [] place = []
-change_task change (held ∷ rest) zero = change held ∷ rest
-change_task change (held ∷ rest) (suc place) = held ∷ change_task change rest place
 
 -- bit p is 1 exactly where a task stands at place p and is eligible (profile)
 abbrev pub IsReadyMask : List Held → ℕ → Type 0
