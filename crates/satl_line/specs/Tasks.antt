@@ -7,6 +7,7 @@ use Rattle.satl_base.specs.declared.block.Block.{Block}
 use Rattle.satl_base.specs.declared.request.Tag.{Tag}
 use Rattle.satl_base.specs.Limits.{most_held, most_tasks}
 use Rattle.satl_base.specs.Lists.{how_many}
+use Rattle.satl_base.specs.Names.{is_name}
 use Rattle.satl_line.specs.declared.entry.Entry.{Entry}
 use Rattle.satl_line.specs.Conflict.{conflicts}
 use Rattle.satl_line.specs.Eligible.{eligible_at}
@@ -44,7 +45,7 @@ entry_at tasks place = option_map (λ held. held.entry) (slice_get tasks place)
 
 -- whether the task is the one of this nexus and tag (SAM-5, I_T_L_Q nexus)
 abbrev pub is_named : ℕ → Tag → Held → Bool
-is_named nexus tag held = held.entry.nexus == nexus && held.entry.tag.0 == tag.0
+is_named nexus tag held = is_name nexus tag.0 held.entry.nexus held.entry.tag.0
 
 -- whether 64 tasks are held, or their blocks with those of a new task exceed 32,768 (SAM-5 5.3.1, TASK SET FULL; figures of the
 -- profile)
