@@ -1,11 +1,11 @@
 -- The tasks of a set, each in its slot.
-use Rattle.std.specs.Prelude.{◌≡◌, ℕ, ◌+◌, ◌<◌, ◌==◌, Bool, false, ◌&&◌, ◌||◌, if◌then◌else◌, nat_lt, List, [], ◌∷◌, ◌++◌, map, take, length, slice_get, slice_index, Option, Some}
+use Rattle.std.specs.Prelude.{◌≡◌, ℕ, ◌+◌, ◌<◌, ◌==◌, Bool, false, ◌&&◌, if◌then◌else◌, List, [], ◌∷◌, ◌++◌, map, take, length, slice_get, slice_index, Option, Some}
 use Rattle.std.specs.Int.{bit_at}
 use Rattle.std.specs.Option.{option_map}
 use Rattle.std.specs.List.{AllByRecursion, list_any}
 use Rattle.satl_base.specs.declared.block.Block.{Block}
 use Rattle.satl_base.specs.declared.request.Tag.{Tag}
-use Rattle.satl_base.specs.Limits.{most_held, most_tasks}
+use Rattle.satl_base.specs.Limits.{leave_no_room}
 use Rattle.satl_base.specs.Lists.{how_many}
 use Rattle.satl_base.specs.Names.{is_name}
 use Rattle.satl_line.specs.declared.entry.Entry.{Entry}
@@ -50,7 +50,7 @@ is_named nexus tag held = is_name nexus tag.0 held.entry.nexus held.entry.tag.0
 -- whether 64 tasks are held, or their blocks with those of a new task exceed 32,768 (SAM-5 5.3.1, TASK SET FULL; figures of the
 -- profile)
 abbrev pub is_too_much : List Held → Entry → Bool
-is_too_much tasks entry = length tasks == most_tasks || nat_lt most_held (total_blocks tasks + entry.blocks)
+is_too_much tasks entry = leave_no_room (length tasks) (total_blocks tasks) entry.blocks
 
 -- the task comes last, in a slot of its own, and all others stay (profile)
 pub record Adds (old : List Held) (entry : Entry) (new : List Held) : Type 0 where
