@@ -9,8 +9,8 @@ use Rattle.satl_base.specs.Cells.{has_flaw}
 use Rattle.satl_base.specs.Lists.{change_at}
 use Rattle.satl_disk.specs.declared.sectors.Flaws.{Flaws}
 use Rattle.satl_disk.specs.Disk.{blank_sector}
-use Rattle.satl_disk.specs.Layout.{block_at, is_flawed, no_flaws, sector_at, sector_of, stable_at, struck_flaws, written_flaws, written_stable, zipped}
-use Rattle.satl_disk.specs.Sectors.{Sector, after_power_loss, cells_of, is_stuck, left_block, mended_sector, rest_by, struck_sector, write_at, written_sector}
+use Rattle.satl_disk.specs.Layout.{block_at, is_flawed, no_flaws, sector_at, sector_of, stable_at, struck_flaws, written_flaws, zipped}
+use Rattle.satl_disk.specs.Sectors.{Sector, after_power_loss, cells_of, is_stuck, left_block, mended_sector, rest_by, struck_sector, write_at, written_sector, written_stable}
 use Rattle.satl_disk.proofs.LayoutLemmas.{flawed_of, struck_of, zipped-at, zipped-length, zipped-set}
 use Rattle.satl_disk.proofs.SectorsLemmas.{changed_same, changed_set, flag_at, stuck_at}
 
