@@ -33,3 +33,9 @@ abbrev pub change_at : {X : Type 0} → List X → ℕ → (X → X) → List X
 change_at [] place f = []
 change_at (x ∷ xs) zero f = f x ∷ xs
 change_at (x ∷ xs) (suc place) f = x ∷ change_at xs place f
+
+-- two lists of one length that are read side by side (profile)
+abbrev pub paired : {A B C : Type 0} → (A → B → C) → List A → List B → List C
+paired f [] ys = []
+paired f (x ∷ xs) [] = []
+paired f (x ∷ xs) (y ∷ ys) = f x y ∷ paired f xs ys

@@ -26,12 +26,6 @@ zipped f (x ∷ xs) [] zs = []
 zipped f (x ∷ xs) (y ∷ ys) [] = []
 zipped f (x ∷ xs) (y ∷ ys) (z ∷ zs) = f x y z ∷ zipped f xs ys zs
 
--- two lists of one length that are read side by side
-abbrev pub paired : {A B C : Type 0} → (A → B → C) → List A → List B → List C
-paired f [] ys = []
-paired f (x ∷ xs) [] = []
-paired f (x ∷ xs) (y ∷ ys) = f x y ∷ paired f xs ys
-
 -- the slot of the sector at a place, none behind the end
 abbrev pub slot_at : List (Option ℕ) → ℕ → Option ℕ
 slot_at slots place = slice_index_or slots place None

@@ -30,7 +30,8 @@ impl Model for Stables {
     ghost use Rattle.std.specs.Prelude.{List, Option, ◌≡◌, length};
     ghost use Rattle.std.specs.List.{AllZip};
     ghost use Rattle.satl_base.specs.declared.block.Block.{Block};
-    ghost use Rattle.satl_disk.specs.Layout.{HasSlot, paired, stable_of};
+    ghost use Rattle.satl_base.specs.Lists.{paired};
+    ghost use Rattle.satl_disk.specs.Layout.{HasSlot, stable_of};
 
     ghost Value = { List (Option Block) };
 
