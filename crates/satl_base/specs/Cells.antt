@@ -31,6 +31,14 @@ put c v cached =
 abbrev pub settle : Cell → Cell
 settle c = record c { may = c.now ∷ [] }
 
+-- a sector without flaws, which a loss of power leaves as it is (profile)
+abbrev pub lasts : Block → Cell
+lasts block = record { now = block; may = block ∷ []; read_flaw = false; write_flaw = false }
+
+-- a sector that was written through the cache, over a block that a loss of power may bring back (SBC-3 4.15)
+abbrev pub cached_over : Block → Block → Cell
+cached_over old new = record (lasts new) { may = old ∷ new ∷ [] }
+
 -- a block for an address, written through the cache or past it (SBC-3, FUA)
 pub record Pair : Type 0 where
   pub lba : ℕ

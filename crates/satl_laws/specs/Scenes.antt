@@ -1,6 +1,5 @@
 -- Devices of two sectors that a run begins with.
 use Rattle.std.specs.Prelude.{◌≡◌, true, false, List, [], ◌∷◌}
-use Rattle.satl_base.specs.declared.block.Block.{Block}
 use Rattle.satl_base.specs.declared.request.Request.{Request}
 use Rattle.satl_base.specs.Cells.{Cell}
 use Rattle.satl_base.specs.Names.{is_name}
@@ -22,10 +21,6 @@ at_work sector_0 sector_1 tasks s =
       started = true;
       down = false;
     }
-
--- a sector whose new block is in the cache alone: a loss of power may leave the old one or the new one (SBC-3 4.15)
-abbrev pub cached : Block → Block → Cell
-cached old new = record { now = new; may = old ∷ new ∷ []; read_flaw = false; write_flaw = false }
 
 -- the task of a request for READ(10) of sector 0 (SBC-3, READ (10))
 abbrev pub reads_sector_0 : Request → Entry
