@@ -21,11 +21,15 @@ IsSound c = IsIn c.now c.may
 abbrev pub AreSound : List Cell → Type 0
 AreSound cells = AllByRecursion IsSound cells
 
+-- what a loss of power may leave once a block is written, by what it might leave before: through the cache that and the block,
+-- and else the block alone (SBC-3 4.15)
+abbrev pub may_after_put : {X : Type 0} → List X → X → Bool → List X
+may_after_put may v cached = if cached then may ++ v ∷ [] else v ∷ []
+
 -- a block is written (SBC-3 4.15): through the cache it may be left beside what was there, else it alone is left; the read flaw
 -- goes
 abbrev pub put : Cell → Block → Bool → Cell
-put c v cached =
-    record { now = v; may = (if cached then c.may ++ v ∷ [] else v ∷ []); read_flaw = false; write_flaw = c.write_flaw }
+put c v cached = record { now = v; may = may_after_put c.may v cached; read_flaw = false; write_flaw = c.write_flaw }
 
 -- only what a read gives is left by a loss of power (SBC-3, SYNCHRONIZE CACHE)
 abbrev pub settle : Cell → Cell
