@@ -1,5 +1,5 @@
 -- Fields of bytes, as the standards' tables name them.
-use Rattle.std.specs.Prelude.{ℕ, ◌+◌, ◌-◌, ◌/◌, ◌%◌, ◌^◌, ◌<◌, Bool, ◌==◌, List, slice_index}
+use Rattle.std.specs.Prelude.{ℕ, ◌+◌, ◌-◌, ◌/◌, ◌%◌, ◌^◌, ◌<◌, Bool, if◌then◌else◌, ◌==◌, List, slice_index}
 use Rattle.byteorder.specs.Endian.{big_from}
 
 -- a number read from bytes, and a test of bytes (profile)
@@ -24,6 +24,10 @@ bit place low b = slice_index b place / 2 ^ low % 2 == 1
 -- bits high to low of a number (profile)
 abbrev pub bits_of : ℕ → ℕ → ℕ → ℕ
 bits_of high low n = n / 2 ^ low % 2 ^ (high + 1 - low)
+
+-- a number of which 0 means the most (profile)
+abbrev pub or_if_zero : ℕ → ℕ → ℕ
+or_if_zero most n = if n == 0 then most else n
 
 -- each of these is a byte (profile)
 abbrev pub IsBytes : List ℕ → Type 0
