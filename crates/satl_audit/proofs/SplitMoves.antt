@@ -1,9 +1,10 @@
 -- Moves of all sectors are moves of each.
 use Rattle.std.proofs.Common.{arith, ◌≡◌, refl, sym, ap, ◌∙◌, subst, ℕ, suc, List, [], ◌∷◌, ◌++◌, length, append_assoc}
-use Rattle.satl_base.specs.Cells.{Cell, Pair, IsSound, AreSound, put, change_at}
+use Rattle.satl_base.specs.Cells.{Cell, Pair, IsSound, AreSound, put}
 use Rattle.satl_base.specs.Losses.{Lost, Loses}
 use Rattle.satl_base.specs.Moves.{Moves}
 use Rattle.satl_base.specs.Moves.{stay, lose, write}
+use Rattle.satl_base.specs.Lists.{change_at}
 use Rattle.satl_base.proofs.CellsLemmas.{put-sound}
 use Rattle.satl_base.proofs.LossesLemmas.{loses_none}
 use Rattle.satl_base.proofs.MovesLemmas.{moves_on}

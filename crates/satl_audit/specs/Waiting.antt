@@ -1,7 +1,7 @@
 -- The tasks that wait, without their pages, each with the place of its data-out in the input.
-use Rattle.std.specs.Prelude.{◌≡◌, ℕ, ◌+◌, ◌*◌, ◌≤◌, ◌==◌, Bool, ◌||◌, nat_lt, List, map, length, slice_index}
+use Rattle.std.specs.Prelude.{◌≡◌, ℕ, ◌+◌, ◌*◌, ◌≤◌, Bool, List, map, length, slice_index}
 use Rattle.std.specs.List.{AllByRecursion}
-use Rattle.satl_base.specs.Limits.{most_held, most_tasks}
+use Rattle.satl_base.specs.Limits.{leave_no_room}
 use Rattle.satl_cdb.specs.declared.command.Command.{Command}
 use Rattle.satl_cdb.specs.declared.command.Command.TheVariants as commands
 use Rattle.satl_line.specs.declared.entry.Entry.{Entry}
@@ -29,7 +29,7 @@ has_name nexus tag placed = is_called nexus tag placed.entry
 
 -- whether 64 tasks wait, or so many blocks more would exceed 32,768 (SAM-5 5.3.1, TASK SET FULL; the figures: profile)
 abbrev pub has_no_room : List Placed → ℕ → Bool
-has_no_room tasks blocks = (length tasks == most_tasks) || nat_lt most_held (held_by (entries_in tasks) + blocks)
+has_no_room tasks blocks = leave_no_room (length tasks) (held_by (entries_in tasks)) blocks
 
 -- the task with its data-out, which stands in the input (SBC-3 5)
 abbrev pub task_in : List ℕ → Placed → Entry

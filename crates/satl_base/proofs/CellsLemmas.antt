@@ -4,7 +4,8 @@ use Rattle.std.specs.Prelude.{◌≤◌, ◌-◌, drop, slice_range}
 use Rattle.std.proofs.lemmas.List.{length-drop, length-map, length-take}
 use Rattle.satl_base.specs.declared.block.Block.{Block}
 use Rattle.satl_base.specs.declared.bench.Which.TheVariants.{Write}
-use Rattle.satl_base.specs.Cells.{Cell, Pair, IsSound, AreSound, put, put_at, change_at, whole, Part, has_flaw, nows}
+use Rattle.satl_base.specs.Cells.{Cell, Pair, IsSound, AreSound, put, put_at, whole, Part, has_flaw, nows}
+use Rattle.satl_base.specs.Lists.{change_at}
 use Rattle.satl_base.proofs.ListsLemmas.{in_right}
 
 -- pairs after pairs
@@ -36,10 +37,10 @@ part_none cells [] = refl
 part_none cells (p ∷ ps) = inl (part_none cells ps)
 
 -- no write changes how many cells there are
-pub change_at-length : (cells : List Cell) (lba : ℕ) (f : Cell → Cell) → length (change_at cells lba f) ≡ length cells
-change_at-length [] lba f = refl
-change_at-length (c ∷ cs) zero f = refl
-change_at-length (c ∷ cs) (suc lba) f = ap suc (change_at-length cs lba f)
+pub change_at-length : {X : Type 0} (xs : List X) (place : ℕ) (f : X → X) → length (change_at xs place f) ≡ length xs
+change_at-length [] place f = refl
+change_at-length (x ∷ xs) zero f = refl
+change_at-length (x ∷ xs) (suc place) f = ap suc (change_at-length xs place f)
 
 pub whole-length : (cells : List Cell) (ps : List Pair) → length (whole cells ps) ≡ length cells
 whole-length cells [] = refl

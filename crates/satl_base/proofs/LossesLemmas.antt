@@ -4,8 +4,8 @@ use Rattle.std.specs.Prelude.{if◌then◌else◌}
 use Rattle.satl_base.specs.declared.block.Block.{Block}
 use Rattle.satl_base.specs.declared.bench.Which.{Which}
 use Rattle.satl_base.specs.declared.bench.Which.TheVariants.{Read, Write}
-use Rattle.satl_base.specs.Lists.{LeavesOut}
-use Rattle.satl_base.specs.Cells.{Cell, Pair, AreSound, put, put_at, change_at, whole, Part, has_flaw}
+use Rattle.satl_base.specs.Lists.{LeavesOut, change_at}
+use Rattle.satl_base.specs.Cells.{Cell, Pair, AreSound, put, put_at, whole, Part, has_flaw}
 use Rattle.satl_base.specs.Losses.{Lost, Loses}
 use Rattle.satl_base.proofs.ListsLemmas.{leaves_none, leaves_on, leaves_push}
 use Rattle.satl_base.proofs.CellsLemmas.{put-sound}

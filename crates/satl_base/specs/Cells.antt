@@ -4,7 +4,7 @@ use Rattle.std.specs.List.{AllByRecursion, fold}
 use Rattle.satl_base.specs.declared.block.Block.{Block}
 use Rattle.satl_base.specs.declared.bench.Which.{Which}
 use Rattle.satl_base.specs.declared.bench.Which.TheVariants.{Read, Write}
-use Rattle.satl_base.specs.Lists.{IsIn}
+use Rattle.satl_base.specs.Lists.{IsIn, change_at}
 
 -- a sector: the block that a read gives, the blocks that a loss of power may leave, and whether reads or writes fail there
 -- (SBC-3 4.15)
@@ -21,27 +21,33 @@ IsSound c = IsIn c.now c.may
 abbrev pub AreSound : List Cell → Type 0
 AreSound cells = AllByRecursion IsSound cells
 
+-- what a loss of power may leave once a block is written, by what it might leave before: through the cache that and the block,
+-- and else the block alone (SBC-3 4.15)
+abbrev pub may_after_put : {X : Type 0} → List X → X → Bool → List X
+may_after_put may v cached = if cached then may ++ v ∷ [] else v ∷ []
+
 -- a block is written (SBC-3 4.15): through the cache it may be left beside what was there, else it alone is left; the read flaw
 -- goes
 abbrev pub put : Cell → Block → Bool → Cell
-put c v cached =
-    record { now = v; may = (if cached then c.may ++ v ∷ [] else v ∷ []); read_flaw = false; write_flaw = c.write_flaw }
+put c v cached = record { now = v; may = may_after_put c.may v cached; read_flaw = false; write_flaw = c.write_flaw }
 
 -- only what a read gives is left by a loss of power (SBC-3, SYNCHRONIZE CACHE)
 abbrev pub settle : Cell → Cell
 settle c = record c { may = c.now ∷ [] }
+
+-- a sector without flaws, which a loss of power leaves as it is (profile)
+abbrev pub lasts : Block → Cell
+lasts block = record { now = block; may = block ∷ []; read_flaw = false; write_flaw = false }
+
+-- a sector that was written through the cache, over a block that a loss of power may bring back (SBC-3 4.15)
+abbrev pub cached_over : Block → Block → Cell
+cached_over old new = record (lasts new) { may = old ∷ new ∷ [] }
 
 -- a block for an address, written through the cache or past it (SBC-3, FUA)
 pub record Pair : Type 0 where
   pub lba : ℕ
   pub block : Block
   pub cached : Bool
-
--- the cells with a change at one address (profile)
-abbrev pub change_at : List Cell → ℕ → (Cell → Cell) → List Cell
-change_at [] lba f = []
-change_at (c ∷ cs) zero f = f c ∷ cs
-change_at (c ∷ cs) (suc lba) f = c ∷ change_at cs lba f
 
 -- the cells after one block was written (SBC-3, WRITE commands)
 abbrev pub put_at : List Cell → Pair → List Cell

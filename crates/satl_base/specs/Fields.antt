@@ -1,5 +1,5 @@
 -- Fields of bytes, as the standards' tables name them.
-use Rattle.std.specs.Prelude.{ℕ, ◌+◌, ◌-◌, ◌/◌, ◌%◌, ◌^◌, ◌<◌, Bool, ◌==◌, List, slice_index}
+use Rattle.std.specs.Prelude.{ℕ, ◌+◌, ◌-◌, ◌/◌, ◌%◌, ◌^◌, ◌<◌, Bool, ◌==◌, List, slice_index, if◌then◌else◌}
 use Rattle.std.specs.Int.{bit_at}
 use Rattle.byteorder.specs.Endian.{big_from}
 
@@ -29,6 +29,10 @@ bits place high low b = bits_of high low (slice_index b place)
 -- one bit of a byte (profile)
 abbrev pub bit : ℕ → ℕ → Flag
 bit place low b = bit_of low (slice_index b place)
+
+-- a number of which 0 means the most (profile)
+abbrev pub or_if_zero : ℕ → ℕ → ℕ
+or_if_zero most n = if n == 0 then most else n
 
 -- each of these is a byte (profile)
 abbrev pub IsBytes : List ℕ → Type 0

@@ -9,6 +9,7 @@ pub mod Limits
 pub mod Lists
 pub mod Losses
 pub mod Moves
+pub mod Names
 pub mod Pieces
 pub mod Places
 pub mod Stocks

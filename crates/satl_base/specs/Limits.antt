@@ -1,5 +1,5 @@
 -- Limits of the profile.
-use Rattle.std.specs.Prelude.{ℕ, ◌≤◌, Option, IfSome}
+use Rattle.std.specs.Prelude.{ℕ, ◌+◌, ◌≤◌, ◌==◌, ◌||◌, nat_lt, Bool, Option, IfSome}
 
 -- the most tasks that wait at once (SAM-5 5.3.1, TASK SET FULL; the figure: profile)
 abbrev pub most_tasks : ℕ
@@ -8,6 +8,11 @@ most_tasks = 64
 -- the most blocks that all waiting tasks hold together (SAM-5 5.3.1, TASK SET FULL; the figure: profile)
 abbrev pub most_held : ℕ
 most_held = 32768
+
+-- whether so many tasks, which hold so many blocks, leave no room for a task of so many more: there are 64 of them, or the
+-- blocks with those of the task exceed 32,768 (SAM-5 5.3.1, TASK SET FULL; the figures: profile)
+abbrev pub leave_no_room : ℕ → ℕ → ℕ → Bool
+leave_no_room tasks held blocks = (tasks == most_tasks) || nat_lt most_held (held + blocks)
 
 -- the most blocks that one command moves: READ, WRITE, VERIFY with comparison and ATA PASS-THROUGH (SBC-3, MAXIMUM TRANSFER
 -- LENGTH; the figure: profile)

@@ -1,5 +1,5 @@
 -- Words on lists.
-use Rattle.std.specs.Prelude.{◌≡◌, ◌⊎◌, ℕ, ◌+◌, ◌==◌, Bool, if◌then◌else◌, List, [], ◌∷◌}
+use Rattle.std.specs.Prelude.{◌≡◌, ◌⊎◌, ℕ, zero, suc, ◌+◌, ◌==◌, Bool, if◌then◌else◌, List, [], ◌∷◌}
 use Rattle.std.specs.List.{list_any}
 
 -- the list but for the first element that passes (profile)
@@ -27,3 +27,15 @@ LeavesOut [] [] = Unit {0}
 LeavesOut [] (y ∷ ys) = ⊥
 LeavesOut (x ∷ xs) [] = Unit {0}
 LeavesOut (x ∷ xs) (y ∷ ys) = LeavesOut xs (y ∷ ys) ⊎ ((x ≡ y) × LeavesOut xs ys)
+
+-- the list with a change at one place; past its end nothing changes (profile)
+abbrev pub change_at : {X : Type 0} → List X → ℕ → (X → X) → List X
+change_at [] place f = []
+change_at (x ∷ xs) zero f = f x ∷ xs
+change_at (x ∷ xs) (suc place) f = x ∷ change_at xs place f
+
+-- two lists of one length that are read side by side (profile)
+abbrev pub paired : {A B C : Type 0} → (A → B → C) → List A → List B → List C
+paired f [] ys = []
+paired f (x ∷ xs) [] = []
+paired f (x ∷ xs) (y ∷ ys) = f x y ∷ paired f xs ys

@@ -1,6 +1,6 @@
 -- The commands of block devices: fields, rules and commands (SBC-3; the values that are refused are the profile's).
-use Rattle.std.specs.Prelude.{ℕ, ◌+◌, ◌*◌, ◌^◌, Bool, false, ◌==◌, not, List, [], ◌∷◌, if◌then◌else◌}
-use Rattle.satl_base.specs.Fields.{Field, bytes, bits, bit}
+use Rattle.std.specs.Prelude.{ℕ, ◌+◌, ◌*◌, ◌^◌, Bool, false, not, List, [], ◌∷◌, if◌then◌else◌}
+use Rattle.satl_base.specs.Fields.{Field, bytes, bits, bit, or_if_zero}
 use Rattle.satl_base.specs.Limits.{most_moved, most_covered}
 use Rattle.satl_cdb.specs.declared.command.Form.{Form}
 use Rattle.satl_cdb.specs.declared.command.Form.TheVariants.{Six, Ten, Twelve, Sixteen}
@@ -17,7 +17,7 @@ pub record Layout : Type 0 where
 
 -- a count of which 0 means 256
 abbrev pub or_256 : Field → Field
-or_256 field cdb = if field cdb == 0 then 256 else field cdb
+or_256 field cdb = or_if_zero 256 (field cdb)
 
 abbrev pub six : Layout
 six = record { form = Six; lba = λ cdb. bits 1 4 0 cdb * 2 ^ 16 + bytes 2 3 cdb; count_place = 4; count = or_256 (bytes 4 4) }

@@ -16,11 +16,12 @@ use Rattle.satl_identify.specs.declared.identity.Identity.{Identity}
 use Rattle.satl_line.specs.declared.entry.Entry.{Entry}
 use Rattle.satl_line.specs.Kinds.{kind_of}
 use Rattle.satl_mode.specs.Changes.{IsChangeOf}
-use Rattle.satl_line.specs.Tasks.{Adds, Held, change_task, entries_of, is_too_much, total_blocks, with_body}
+use Rattle.satl_line.specs.Tasks.{Adds, Held, entries_of, is_too_much, total_blocks, with_body}
 use Rattle.satl_line.proofs.SlotsLemmas.{All-append}
 use Rattle.satl_direct.specs.Tasks.{asks, data_out_kept, held_blocks, needed, pass_of, task_for, task_of}
 use Rattle.satl_core.specs.Layer.{CanTrim, FitsCapacity, IsKept, IsTask, Layer, entry_pages, held_pages}
 use Rattle.satl_base.specs.Limits.{IsExpectable}
+use Rattle.satl_base.specs.Lists.{change_at}
 use Rattle.satl_core.specs.Refilling.{Comes}
 use Rattle.satl_asks.specs.Commands.{HasList}
 use Rattle.satl_core.specs.Submitting.{Becomes, FindsSetFull, HasEntries, IsAdded, task_without_pages, trims}
@@ -51,10 +52,10 @@ pub record HasPages (old : List Held) (entry : Entry) (body : List Block) (new :
   pub slot : ℕ
   pub are : new ≡ old ++ record { slot = slot; entry = record entry { body = body } } ∷ []
 
-pub given_pages : (old mid new : List Held) (entry : Entry) (body : List Block) (place : ℕ) → Adds old entry mid → place ≡ length old → new ≡ change_task (with_body body) mid place → HasPages old entry body new
+pub given_pages : (old mid new : List Held) (entry : Entry) (body : List Block) (place : ℕ) → Adds old entry mid → place ≡ length old → new ≡ change_at mid place (with_body body) → HasPages old entry body new
 given_pages old mid new entry body place a at is = record {
   slot = a.slot;
-  are = is ∙ (ap (λ t. change_task (with_body body) t place) a.last ∙ last_changed (with_body body) old (record { slot = a.slot; entry = entry }) place at);
+  are = is ∙ (ap (λ t. change_at t place (with_body body)) a.last ∙ last_changed (with_body body) old (record { slot = a.slot; entry = entry }) place at);
 }
 
 -- the task that came, with its pages, may be issued

@@ -10,7 +10,7 @@ use Rattle.satl_base.specs.declared.bench.Which.{Which}
 use Rattle.satl_base.specs.declared.bench.Which.TheVariants as flaws
 use Rattle.satl_base.specs.declared.modes.Modes.{Modes}
 use Rattle.satl_base.specs.declared.reply.Reply.{Reply}
-use Rattle.satl_base.specs.Cells.{AreSound, Cell, IsSound, Part, change_at}
+use Rattle.satl_base.specs.Cells.{AreSound, Cell, IsSound, Part}
 use Rattle.satl_base.specs.Identify.{has_cache}
 use Rattle.satl_base.specs.Losses.{Loses}
 use Rattle.satl_base.proofs.CellsLemmas.{change_at-length}
@@ -37,6 +37,7 @@ use Rattle.satl_direct.specs.Run.{bench_losses}
 use Rattle.satl_direct.specs.Valid.{IsValid}
 use Rattle.satl_core.specs.Benching.{FollowsEvent, IsActedOn, LosesLink, StartsAnew, StaysSame}
 use Rattle.satl_base.specs.Moves.{Moves}
+use Rattle.satl_base.specs.Lists.{change_at}
 use Rattle.satl_base.proofs.Booleans.{not-not}
 use Rattle.satl_direct.specs.Quiet.{MayShow}
 use Rattle.satl_direct.proofs.Quieting.{quiet_none, around_alone}

@@ -10,12 +10,13 @@ use Rattle.satl_line.specs.declared.entry.Entry.{Entry}
 use Rattle.satl_identify.specs.declared.identity.Identity.{Identity}
 use Rattle.satl_line.specs.Kinds.{kind_of}
 use Rattle.satl_mode.specs.Changes.{IsChangeOf}
-use Rattle.satl_line.specs.Tasks.{Held, change_task, entry_at, total_blocks}
+use Rattle.satl_line.specs.Tasks.{Held, entry_at, total_blocks}
 use Rattle.satl_core.specs.declared.turning.Ending.TheVariants as endings
 use Rattle.satl_direct.specs.Senses.{link_lost}
 use Rattle.satl_flight.specs.Lending.{AreAlike}
 use Rattle.satl_core.specs.Layer.{CanTrim, IsKept, IsTask, entry_pages, held_pages, reply_pages}
 use Rattle.satl_base.specs.Limits.{IsExpectable}
+use Rattle.satl_base.specs.Lists.{change_at}
 use Rattle.satl_core.specs.Turning.{ended_reply, lost_replies}
 use Rattle.satl_core.proofs.Transfers.{entries_few}
 
@@ -101,7 +102,7 @@ pub last_at : (tasks : List Held) (h : Held) (n : ℕ) → n ≡ length tasks �
 last_at [] h n e = rw e refl
 last_at (t ∷ tasks) h n e = rw e (last_at tasks h (length tasks) refl)
 
-pub last_changed : (change : Held → Held) (tasks : List Held) (h : Held) (n : ℕ) → n ≡ length tasks → change_task change (tasks ++ h ∷ []) n ≡ tasks ++ change h ∷ []
+pub last_changed : (change : Held → Held) (tasks : List Held) (h : Held) (n : ℕ) → n ≡ length tasks → change_at (tasks ++ h ∷ []) n change ≡ tasks ++ change h ∷ []
 last_changed change [] h n e = rw e refl
 last_changed change (t ∷ tasks) h n e = rw e (ap (λ l. t ∷ l) (last_changed change tasks h (length tasks) refl))
 

@@ -4,7 +4,7 @@ use Rattle.std.specs.List.{AllZip}
 use Rattle.satl_base.specs.declared.bench.BenchEvent.{BenchEvent}
 use Rattle.satl_base.specs.declared.bench.BenchEvent.TheVariants.{Strike, Mend, Glitch, Order, Power, Unplug}
 use Rattle.satl_base.specs.declared.reply.Reply.{Reply}
-use Rattle.satl_base.specs.Cells.{change_at}
+use Rattle.satl_base.specs.Lists.{change_at}
 use Rattle.satl_regs.specs.Sectors.{IsLeftBehind, with_flaw, without_flaws}
 use Rattle.satl_mode.specs.ModePages.{defaults}
 use Rattle.satl_unit.specs.declared.attention.Attention.TheVariants.{PowerOn}

@@ -18,10 +18,11 @@
 -- posted, told     a unit attention condition is posted for a nexus, and is told, by which it goes, in one answer. There are
 --                  five, in this order of report: POWER ON OCCURRED, BUS DEVICE RESET FUNCTION OCCURRED, I_T NEXUS LOSS
 --                  OCCURRED, COMMANDS CLEARED BY ANOTHER INITIATOR, MODE PARAMETERS CHANGED
-use Rattle.std.specs.Prelude.{ℕ, ◌==◌, not, Bool, ◌&&◌, List, [], Option, Some, None, slice_index_or, slice_set, drop, filter}
+use Rattle.std.specs.Prelude.{ℕ, ◌==◌, not, Bool, List, [], Option, Some, None, slice_index_or, slice_set, drop, filter}
 use Rattle.satl_base.specs.declared.modes.Modes.{Modes}
 use Rattle.satl_base.specs.Cells.{Cell}
 use Rattle.satl_base.specs.Lists.{remove_first}
+use Rattle.satl_base.specs.Names.{is_name}
 use Rattle.satl_identify.specs.declared.identity.Identity.{Identity}
 use Rattle.satl_unit.specs.declared.attention.Attention.{Attention}
 use Rattle.satl_line.specs.declared.entry.Entry.{Entry}
@@ -47,7 +48,7 @@ pub record Device : Type 0 where
 
 -- whether a task has this nexus and tag (SAM-5 4.7, I_T_L_Q nexus)
 abbrev pub is_called : ℕ → ℕ → Entry → Bool
-is_called nexus tag task = (task.nexus == nexus) && ((task.tag).0 == tag)
+is_called nexus tag task = is_name nexus tag task.nexus (task.tag).0
 
 -- the tasks but for one (SAM-5 4.8, task set)
 abbrev pub without : Entry → List Entry → List Entry

@@ -1,6 +1,6 @@
 -- What commands ask of the device, and the tasks that they become (SBC-3 5, SPC-4 6, SAT-3). `Illegal` is a refusal: its
 -- additional sense codes, the byte at fault where there is one, and whether that byte is of the CDB or of the data-out.
-use Rattle.std.specs.Prelude.{ℕ, ◌+◌, ◌*◌, ◌==◌, ◌||◌, ◌&&◌, not, nat_lt, Bool, true, false, if◌then◌else◌, List, [], ◌∷◌, length, take, get_or, Option, Some, None, Result, Ok, Err}
+use Rattle.std.specs.Prelude.{ℕ, ◌+◌, ◌*◌, ◌==◌, ◌&&◌, not, nat_lt, Bool, true, false, if◌then◌else◌, List, [], ◌∷◌, length, take, get_or, Option, Some, None, Result, Ok, Err}
 use Rattle.std.specs.List.{list_all, sum_by}
 use Rattle.satl_base.specs.declared.block.Block.{Block}
 use Rattle.satl_base.specs.declared.block.Range.{Range}
@@ -10,7 +10,7 @@ use Rattle.satl_base.specs.declared.request.Attr.{Attr}
 use Rattle.satl_base.specs.declared.request.Attr.TheVariants.{Simple, Ordered}
 use Rattle.satl_base.specs.declared.modes.Modes.{Modes}
 use Rattle.satl_base.specs.Blocks.{first_bytes, no_block, over}
-use Rattle.satl_base.specs.Limits.{most_held, most_tasks}
+use Rattle.satl_base.specs.Limits.{leave_no_room}
 use Rattle.satl_cdb.specs.declared.command.Command.{Command}
 use Rattle.satl_cdb.specs.declared.command.Command.TheVariants as commands
 use Rattle.satl_cdb.specs.declared.command.Illegal.{Illegal}
@@ -163,7 +163,7 @@ held_by tasks = sum_by (λ t. t.blocks) tasks
 -- the task set has no place for a command: it has 64 tasks, or its blocks and those of the command exceed 32,768 (SAM-5 5.3.1,
 -- TASK SET FULL; the figures: profile)
 abbrev pub is_full : List Entry → Command → Bool
-is_full tasks command = (length tasks == most_tasks) || nat_lt most_held (held_by tasks + held_blocks command)
+is_full tasks command = leave_no_room (length tasks) (held_by tasks) (held_blocks command)
 
 -- the attribute ORDERED (SAM-5 8.6)
 abbrev pub is_ordered : Attr → Bool

@@ -6,10 +6,11 @@ use Rattle.satl_base.specs.declared.block.Block.{Block}
 use Rattle.satl_base.specs.declared.bench.Which.{Which}
 use Rattle.satl_base.specs.Blocks.{zero_block}
 use Rattle.satl_base.specs.Cells.{has_flaw}
+use Rattle.satl_base.specs.Lists.{change_at}
 use Rattle.satl_disk.specs.declared.sectors.Flaws.{Flaws}
 use Rattle.satl_disk.specs.Disk.{blank_sector}
-use Rattle.satl_disk.specs.Layout.{block_at, is_flawed, no_flaws, sector_at, sector_of, stable_at, struck_flaws, written_flaws, written_stable, zipped}
-use Rattle.satl_disk.specs.Sectors.{Sector, after_power_loss, cells_of, changed_at, is_stuck, left_block, mended_sector, rest_by, struck_sector, write_at, written_sector}
+use Rattle.satl_disk.specs.Layout.{block_at, is_flawed, no_flaws, sector_at, sector_of, stable_at, struck_flaws, written_flaws, zipped}
+use Rattle.satl_disk.specs.Sectors.{Sector, after_power_loss, cells_of, is_stuck, left_block, mended_sector, rest_by, struck_sector, write_at, written_sector, written_stable}
 use Rattle.satl_disk.proofs.LayoutLemmas.{flawed_of, struck_of, zipped-at, zipped-length, zipped-set}
 use Rattle.satl_disk.proofs.SectorsLemmas.{changed_same, changed_set, flag_at, stuck_at}
 
@@ -49,23 +50,23 @@ module _ (bs : List Block) (os : List (Option Block)) (fs : List Flaws) (olds : 
     pub stuck_is : (n : Flaws) → n ≡ slice_index_or fs place n → n.write ≡ is_stuck olds place
     stuck_is n e = ap (λ (x : Flaws). x.write) (flaws_are n e) ∙ stuck_at olds place s within (at_place s)
 
-    changed_is : (g : Sector → Sector) (x : Block) (y : Option Block) (z : Flaws) → sector_of x y z ≡ g s → zipped sector_of (slice_set bs place x) (slice_set os place y) (slice_set fs place z) ≡ changed_at g olds place
+    changed_is : (g : Sector → Sector) (x : Block) (y : Option Block) (z : Flaws) → sector_of x y z ≡ g s → zipped sector_of (slice_set bs place x) (slice_set os place y) (slice_set fs place z) ≡ change_at olds place g
     changed_is g x y z is =
         zipped-set sector_of bs os fs place x y z
         ∙ ap (λ xs. slice_set xs place (sector_of x y z)) view
         ∙ ap (slice_set olds place) is
         ∙ changed_set g olds place s within (at_place s)
 
-    flawed_is : (g : Sector → Sector) (z : Flaws) → sector_of b o z ≡ g s → zipped sector_of bs os (slice_set fs place z) ≡ changed_at g olds place
+    flawed_is : (g : Sector → Sector) (z : Flaws) → sector_of b o z ≡ g s → zipped sector_of bs os (slice_set fs place z) ≡ change_at olds place g
     flawed_is g z is =
         ap (λ xs. zipped sector_of xs os (slice_set fs place z)) (sym (set-get_or bs place zero_block))
         ∙ ap (λ xs. zipped sector_of (slice_set bs place b) xs (slice_set fs place z)) (sym (set-get_or os place None))
         ∙ changed_is g b o z is
 
-    pub struck_is : (which : Which) (n z : Flaws) → n ≡ slice_index_or fs place n → z ≡ struck_flaws which n → zipped sector_of bs os (slice_set fs place z) ≡ changed_at (struck_sector which) olds place
+    pub struck_is : (which : Which) (n z : Flaws) → n ≡ slice_index_or fs place n → z ≡ struck_flaws which n → zipped sector_of bs os (slice_set fs place z) ≡ change_at olds place (struck_sector which)
     struck_is which n z e is = flawed_is (struck_sector which) z (ap (sector_of b o) (is ∙ ap (struck_flaws which) (flaws_are n e)) ∙ struck_of which b o f)
 
-    pub mended_is : (z : Flaws) → z ≡ no_flaws → zipped sector_of bs os (slice_set fs place z) ≡ changed_at mended_sector olds place
+    pub mended_is : (z : Flaws) → z ≡ no_flaws → zipped sector_of bs os (slice_set fs place z) ≡ change_at olds place mended_sector
     mended_is z is = flawed_is mended_sector z (ap (sector_of b o) is)
 
     pub write_is : (v old : Block) (cached : Bool) (bs2 : List Block) (os2 : List (Option Block)) (n z : Flaws) → n ≡ slice_index_or fs place n → z ≡ written_flaws n →
@@ -78,7 +79,7 @@ module _ (bs : List Block) (os : List (Option Block)) (fs : List Flaws) (olds : 
     -- a loss of power at a dirty sector
     module _ (x : Block) (dirty : Some x ≡ o) where
       pub left_is : (byte : ℕ) (bs2 : List Block) (os2 : List (Option Block)) → bs2 ≡ slice_set bs place (left_block byte (Some x) b) → os2 ≡ slice_set os place None →
-          zipped sector_of bs2 os2 fs ≡ changed_at (after_power_loss byte) olds place
+          zipped sector_of bs2 os2 fs ≡ change_at olds place (after_power_loss byte)
       left_is byte bs2 os2 blocks stables =
           ap (λ xs. zipped sector_of xs os2 fs) blocks
           ∙ ap (λ xs. zipped sector_of (slice_set bs place (left_block byte (Some x) b)) xs fs) stables
@@ -90,7 +91,7 @@ module _ (bs : List Block) (os : List (Option Block)) (fs : List Flaws) (olds : 
 
     -- and at a clean one
     module _ (clean : None ≡ o) where
-      pub clean_is : (byte : ℕ) → olds ≡ changed_at (after_power_loss byte) olds place
+      pub clean_is : (byte : ℕ) → olds ≡ change_at olds place (after_power_loss byte)
       clean_is byte = changed_same (after_power_loss byte) olds place s within (at_place s) (subst (λ y. after_power_loss byte (sector_of b y f) ≡ sector_of b y f) clean refl)
 
       pub clean_rest : (bytes : List ℕ) → bytes ≡ rest_by (sector_at olds place) bytes

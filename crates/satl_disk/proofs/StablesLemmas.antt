@@ -4,9 +4,11 @@ use Rattle.std.specs.Prelude.{◌^◌, IfSome, option_map, replicate, slice_inde
 use Rattle.std.specs.List.{AllZip}
 use Rattle.std.proofs.lemmas.List.{get_or-set_other, get_or-set_same, get_or_default, length-replicate, length-set, set-get_or}
 use Rattle.std.proofs.lemmas.Slice.Zip.{AllZip-long}
+use Rattle.satl_disk.specs.Sectors.{written_stable}
 use Rattle.satl_base.specs.declared.block.Block.{Block}
 use Rattle.satl_base.specs.Blocks.{zero_block}
-use Rattle.satl_disk.specs.Layout.{AreSlots, HasSlot, block_at, paired, slot_at, stable_at, stable_of, taken, written_stable}
+use Rattle.satl_base.specs.Lists.{paired}
+use Rattle.satl_disk.specs.Layout.{AreSlots, HasSlot, block_at, slot_at, stable_at, stable_of, taken}
 
 -- a list of which each item was replaced by the same one
 pub all_same : {A : Type 0} (x : A) (xs : List A) → map (λ (y : A). x) xs ≡ replicate (length xs) x

@@ -1,6 +1,6 @@
 -- How the modelled drive keeps its sectors: their blocks, the stable blocks of the dirty ones, in slots, and their flaws
 -- (profile).
-use Rattle.std.specs.Prelude.{◌≡◌, ℕ, zero, suc, ◌^◌, ◌<◌, Bool, true, false, if◌then◌else◌, List, [], ◌∷◌, Option, Some, None, option_map, unwrap_or, length, slice_index_or}
+use Rattle.std.specs.Prelude.{◌≡◌, ℕ, zero, suc, ◌^◌, ◌<◌, Bool, true, false, List, [], ◌∷◌, Option, Some, None, option_map, length, slice_index_or}
 use Rattle.satl_base.specs.declared.block.Block.{Block}
 use Rattle.satl_base.specs.declared.bench.Which.{Which}
 use Rattle.satl_base.specs.declared.bench.Which.TheVariants.{Read, Write}
@@ -25,12 +25,6 @@ zipped f [] ys zs = []
 zipped f (x ∷ xs) [] zs = []
 zipped f (x ∷ xs) (y ∷ ys) [] = []
 zipped f (x ∷ xs) (y ∷ ys) (z ∷ zs) = f x y z ∷ zipped f xs ys zs
-
--- two lists of one length that are read side by side
-abbrev pub paired : {A B C : Type 0} → (A → B → C) → List A → List B → List C
-paired f [] ys = []
-paired f (x ∷ xs) [] = []
-paired f (x ∷ xs) (y ∷ ys) = f x y ∷ paired f xs ys
 
 -- the slot of the sector at a place, none behind the end
 abbrev pub slot_at : List (Option ℕ) → ℕ → Option ℕ
@@ -63,10 +57,6 @@ stable_of kept true slot = option_map (block_at kept) slot
 -- the stable block of the sector at a place, none behind the end
 abbrev pub stable_at : List (Option Block) → ℕ → Option Block
 stable_at stables place = slice_index_or stables place None
-
--- the stable block of a sector that was written over an old block, through the cache or past it
-abbrev pub written_stable : Bool → Block → Option Block → Option Block
-written_stable cached old stable = if cached then Some (unwrap_or stable old) else None
 
 -- a sector by its block, its stable block and its flaws
 abbrev pub sector_of : Block → Option Block → Flaws → Sector

@@ -1,8 +1,9 @@
 // The blocks that a loss of power may bring back.
 ghost use Rattle.std.specs.Prelude.{◌≡◌, ◌<◌, false, None, Some, IfOk, length, replicate, slice_set, vec_len};
 ghost use Rattle.std.specs.Option.{option_copied};
+ghost use Rattle.satl_disk.specs.Sectors.{written_stable};
 ghost use Rattle.satl_base.specs.declared.block.Block.{Block};
-ghost use Rattle.satl_disk.specs.Layout.{stable_at, written_stable};
+ghost use Rattle.satl_disk.specs.Layout.{stable_at};
 
 use crate::blocks::Blocks;
 use crate::slots::Slots;
@@ -29,7 +30,8 @@ impl Model for Stables {
     ghost use Rattle.std.specs.Prelude.{List, Option, ◌≡◌, length};
     ghost use Rattle.std.specs.List.{AllZip};
     ghost use Rattle.satl_base.specs.declared.block.Block.{Block};
-    ghost use Rattle.satl_disk.specs.Layout.{HasSlot, paired, stable_of};
+    ghost use Rattle.satl_base.specs.Lists.{paired};
+    ghost use Rattle.satl_disk.specs.Layout.{HasSlot, stable_of};
 
     ghost Value = { List (Option Block) };
 

@@ -3,8 +3,8 @@ use Rattle.std.proofs.Common.{inl, inr, ◌≡◌, refl, ap, subst, arith, cond,
 use Rattle.std.proofs.lemmas.Bool.{eqb-true}
 use Rattle.std.specs.Prelude.{◌||◌}
 use Rattle.std.specs.List.{AllByRecursion, AllZip, find, list_any}
-use Rattle.satl_base.specs.Cells.{Cell, change_at}
-use Rattle.satl_base.specs.Lists.{IsIn, how_many, remove_first}
+use Rattle.satl_base.specs.Cells.{Cell}
+use Rattle.satl_base.specs.Lists.{IsIn, how_many, remove_first, change_at}
 use Rattle.satl_base.proofs.ListsLemmas.{count_removed, find_passes}
 use Rattle.satl_regs.specs.Sectors.{IsLeftBehind}
 use Rattle.satl_drive.specs.Queue.{is_tagged}

@@ -1,5 +1,6 @@
 -- The units of a target, and one event on one of them (profile).
 use Rattle.std.specs.Prelude.{◌≡◌, ℕ, ◌+◌, ◌≤◌, List, [], ◌∷◌, length, Option}
+use Rattle.satl_base.specs.Lists.{paired}
 use Rattle.satl_io.specs.Causes.{RoseBy}
 use Rattle.satl_io.specs.Known.{Wrote, WrotePart}
 use Rattle.satl_frame.specs.declared.frames.Frame.{Frame}
@@ -23,9 +24,7 @@ unit_state l d = record { layer = l; drive = d }
 
 -- layers and their drives, in order (profile)
 abbrev pub unit_states : List Layer → List DriveState → List UnitState
-unit_states [] ds = []
-unit_states (l ∷ ls) [] = []
-unit_states (l ∷ ls) (d ∷ ds) = unit_state l d ∷ unit_states ls ds
+unit_states layers drives = paired unit_state layers drives
 
 -- the direct device that a unit is (profile)
 abbrev pub device_of : UnitState → Device

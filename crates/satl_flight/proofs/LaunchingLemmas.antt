@@ -7,7 +7,7 @@ use Rattle.std.proofs.lemmas.Bool.{cases_eq, cases_lt, not-false}
 use Rattle.std.proofs.lemmas.List.{append-nil, length-map}
 use Rattle.std.proofs.lemmas.Option.{slice_get_within}
 use Rattle.satl_base.specs.declared.block.Block.{Block}
-use Rattle.satl_base.specs.Lists.{remove_first}
+use Rattle.satl_base.specs.Lists.{remove_first, change_at}
 use Rattle.satl_base.specs.Identify.{has_queued_trim}
 use Rattle.satl_base.proofs.ListsLemmas.{All-both, All-find, All-weaken, get-map, length-remove_first}
 use Rattle.satl_regs.specs.declared.values.Registers.{Registers}
@@ -18,7 +18,7 @@ use Rattle.satl_line.specs.Conflict.{conflicts}
 use Rattle.satl_line.specs.Eligible.{IsEligibleBy, eligible_at, eligible_by, is_clear_by}
 use Rattle.satl_line.specs.Ranged.{RangedTask, ranged_of}
 use Rattle.satl_line.specs.Ranged.RangedTask.{ranged_read}
-use Rattle.satl_line.specs.Tasks.{Held, change_task, count_of, entries_of, entry_at, slots_of, with_body}
+use Rattle.satl_line.specs.Tasks.{Held, count_of, entries_of, entry_at, slots_of, with_body}
 use Rattle.satl_line.proofs.EligibleLemmas.{eligible_by-formed, eligible_passes, eligible_stands}
 use Rattle.satl_drive.specs.State.{DriveState, Outstanding}
 use Rattle.satl_drive.specs.Queue.{CanIssue, IsIssueCutOff, IsIssued, Slots}
@@ -113,7 +113,7 @@ module _ (flying : List Flying) (slots : Slots) (tasks : List Held) (lending : I
     pub queued_does : QueuedFits (queued_for tag task)
     queued_does = queued_fits tag old.capacity (has_queued_trim old.identify) entry.body task small (fits task ranged)
 
-    module _ (slots' : Slots) (tasks' : List Held) (pages : List Block) (taken : option_map (λ (e : Entry). e.body) (entry_at tasks place) ≡ Some pages) (slots_are : slots' ≡ slice_set slots tag (Some pages)) (tasks_are : tasks' ≡ change_task (with_body []) tasks place) where
+    module _ (slots' : Slots) (tasks' : List Held) (pages : List Block) (taken : option_map (λ (e : Entry). e.body) (entry_at tasks place) ≡ Some pages) (slots_are : slots' ≡ slice_set slots tag (Some pages)) (tasks_are : tasks' ≡ change_at tasks place (with_body [])) where
       body_is : pages ≡ entry.body
       body_is = let same : Some pages ≡ Some entry.body = sym taken ∙ ap (option_map (λ (e : Entry). e.body)) is in cc
 

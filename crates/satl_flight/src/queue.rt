@@ -3,7 +3,8 @@ ghost use Rattle.std.specs.Option.{option_map};
 ghost use Rattle.std.specs.List.{position_from};
 ghost use Rattle.std.specs.Prelude.{◌≡◌, ◌≢◌, ◌≤◌, ◌<◌, ◌+◌, ◌-◌, ◌↔◌, [], length, Some, false, IfOk, IsTrue, OnOk, OnErr, is_err, remove, slice_get};
 ghost use Rattle.satl_base.specs.Limits.{most_held, most_tasks};
-ghost use Rattle.satl_line.specs.Tasks.{Adds, AreOwnSlots, Held, change_task, entry_at, is_named, is_too_much, total_blocks, with_body};
+ghost use Rattle.satl_base.specs.Lists.{change_at};
+ghost use Rattle.satl_line.specs.Tasks.{Adds, AreOwnSlots, Held, entry_at, is_named, is_too_much, total_blocks, with_body};
 ghost use Rattle.satl_flight.specs.Flown.{is_outstanding};
 ghost use Rattle.satl_drive.specs.State.{DriveState, IsFit};
 ghost use Rattle.satl_flight.specs.Lending.{AreAlike};
@@ -190,7 +191,7 @@ impl Queue {
         requires some { 0 < length self.old.tasks }
         requires waits { (h : Held) → slice_get self.old.tasks (length self.old.tasks - 1) ≡ Some h
             → (is_outstanding self.old.flying h.slot ≡ false) × (h.entry.body ≡ []) }
-        ensures filled { self.new.tasks ≡ change_task (with_body body) self.old.tasks (length self.old.tasks - 1) }
+        ensures filled { self.new.tasks ≡ change_at self.old.tasks (length self.old.tasks - 1) (with_body body) }
         ensures flying { self.new.flying ≡ self.old.flying }
         ensures slots { self.new.slots ≡ self.old.slots }
     {

@@ -6,8 +6,9 @@ use Rattle.satl_base.specs.declared.block.Block.{Block}
 use Rattle.satl_base.specs.declared.bench.Which.{Which}
 use Rattle.satl_base.specs.declared.bench.Which.TheVariants as flaws
 use Rattle.satl_base.specs.Blocks.{no_block}
-use Rattle.satl_base.specs.Cells.{Cell, Pair, change_at, first_flaw, first_set, has_flaw, put, put_at, whole}
+use Rattle.satl_base.specs.Cells.{Cell, Pair, first_flaw, first_set, has_flaw, put, put_at, whole}
 use Rattle.satl_base.specs.Losses.{Loses}
+use Rattle.satl_base.specs.Lists.{change_at}
 use Rattle.satl_base.proofs.ListsLemmas.{All-weaken}
 use Rattle.satl_base.proofs.LossesLemmas.{loses-nows}
 use Rattle.satl_laws.specs.ArrivalOrder.{read_at}

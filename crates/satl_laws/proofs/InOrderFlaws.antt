@@ -3,7 +3,8 @@ use Rattle.std.proofs.Common.{◌≡◌, refl, sym, ◌∙◌, subst, ℕ, zero,
 use Rattle.std.specs.Prelude.{◌&&◌, not}
 use Rattle.satl_base.specs.declared.bench.Which.{Which}
 use Rattle.satl_base.specs.declared.bench.Which.TheVariants as flaws
-use Rattle.satl_base.specs.Cells.{Cell, change_at}
+use Rattle.satl_base.specs.Cells.{Cell}
+use Rattle.satl_base.specs.Lists.{change_at}
 use Rattle.satl_base.proofs.CellsLemmas.{change_at-length}
 use Rattle.satl_regs.specs.Sectors.{with_flaw}
 use Rattle.satl_frame.specs.declared.frames.Frame.{Frame}

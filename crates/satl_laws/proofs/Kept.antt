@@ -5,8 +5,8 @@ use Rattle.std.specs.Option.{option_map}
 use Rattle.satl_base.specs.declared.bench.Which.{Which}
 use Rattle.satl_base.specs.declared.bench.Which.TheVariants as flaws
 use Rattle.satl_base.specs.declared.block.Block.{Block}
-use Rattle.satl_base.specs.Cells.{Cell, change_at, settle}
-use Rattle.satl_base.specs.Lists.{IsIn}
+use Rattle.satl_base.specs.Cells.{Cell, settle}
+use Rattle.satl_base.specs.Lists.{IsIn, change_at}
 use Rattle.satl_regs.specs.Sectors.{with_flaw, without_flaws}
 use Rattle.satl_laws.specs.Untouched.{now_at}
 

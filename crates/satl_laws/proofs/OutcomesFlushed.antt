@@ -6,7 +6,7 @@ use Rattle.satl_base.specs.declared.block.Block.{Block}
 use Rattle.satl_base.specs.declared.request.Request.{Request}
 use Rattle.satl_base.specs.declared.reply.Reply.{Reply}
 use Rattle.satl_base.specs.declared.reply.Scsi.TheVariants.{Good}
-use Rattle.satl_base.specs.Cells.{Cell}
+use Rattle.satl_base.specs.Cells.{Cell, cached_over}
 use Rattle.satl_base.specs.Lists.{IsIn}
 use Rattle.satl_frame.specs.declared.frames.Frame.TheVariants as frames
 use Rattle.satl_frame.specs.Output.{Answer}
@@ -18,7 +18,7 @@ use Rattle.satl_laws.specs.Durable.{secures}
 use Rattle.satl_laws.specs.Untouched.{now_at}
 use Rattle.satl_direct.specs.Quiet.{Around}
 use Rattle.satl_direct.specs.Run.{Run, joined}
-use Rattle.satl_laws.specs.Scenes.{at_work, cached, flushes_all_sectors}
+use Rattle.satl_laws.specs.Scenes.{at_work, flushes_all_sectors}
 use Rattle.satl_laws.proofs.PowerLoss.{power_keeps}
 use Rattle.satl_laws.proofs.Securing.{secured}
 use Rattle.satl_laws.proofs.Singles.{IsSingle}
@@ -62,7 +62,7 @@ module _ (flush : Request) (old new : Block) (b : Cell) (s last : Device) (losse
 
   -- what is read then is not the old block
   pub no_old_block : old ≢ new →
-      Run (at_work (cached old new) b (flushes_all_sectors flush ∷ []) s) (frames.Turn 1 ∷ frames.Bench bench.Power ∷ []) losses answers last →
+      Run (at_work (cached_over old new) b (flushes_all_sectors flush ∷ []) s) (frames.Turn 1 ∷ frames.Bench bench.Power ∷ []) losses answers last →
       IsGoodReply flush reply answers → now_at last.cells 0 ≡ Some old → ⊥
   no_old_block apart run good left =
       let d = done_by flush reply answers good in
@@ -71,4 +71,4 @@ module _ (flush : Request) (old new : Block) (b : Cell) (s last : Device) (losse
       let silent : parts.now ≡ [] = power.1 ∙ ap (map replied) ((power.2).step).none in
       let said : answers ≡ joined parts.earlier = run.answer ∙ parts.answers ∙ ap (λ l. joined parts.earlier ++ l) silent ∙ append-nil (joined parts.earlier) in
       let turn = good_turn reply parts.run (subst (IsIn (replied reply)) said good.among) d.good in
-      apart (of_some old new (sym left ∙ flush_then_power flush (cached old new) b s parts.mid last power.0 reply turn d.good power.2))
+      apart (of_some old new (sym left ∙ flush_then_power flush (cached_over old new) b s parts.mid last power.0 reply turn d.good power.2))

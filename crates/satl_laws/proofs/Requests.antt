@@ -1,10 +1,11 @@
 -- The requests of an input, as items with their names.
 use Rattle.std.proofs.Common.{◌≡◌, refl, sym, ap, ◌∙◌, ℕ, ◌+◌, ◌<◌, Bool, true, false, List, [], ◌∷◌, ◌++◌, map, arith, append_assoc}
-use Rattle.std.specs.Prelude.{if◌then◌else◌, ◌&&◌, ◌==◌}
+use Rattle.std.specs.Prelude.{if◌then◌else◌}
 use Rattle.std.specs.List.{AllByRecursion}
 use Rattle.satl_base.specs.declared.block.Block.{Block}
 use Rattle.satl_base.specs.declared.request.Request.{Request}
 use Rattle.satl_base.specs.Lists.{how_many}
+use Rattle.satl_base.specs.Names.{is_name}
 use Rattle.satl_base.proofs.ListsLemmas.{All-in, none_counted}
 use Rattle.satl_cdb.specs.Table.{says}
 use Rattle.satl_frame.specs.declared.frames.Frame.{Frame}
@@ -31,7 +32,7 @@ requests-append (event ∷ events) more = ap (λ l. asked_in event ++ l) (reques
 
 -- whether a request has this nexus and tag
 abbrev pub has_name : ℕ → ℕ → Request → Bool
-has_name nexus tag r = (r.nexus == nexus) && ((r.tag).0 == tag)
+has_name nexus tag r = is_name nexus tag r.nexus (r.tag).0
 
 -- as often as its events
 pub asked_as_often : (nexus tag : ℕ) (events : List Frame) → how_many (has_name nexus tag) (requests_of events) ≡ how_many (asks_by nexus tag) events

@@ -4,8 +4,8 @@ use Rattle.std.specs.Prelude.{◌-◌, if◌then◌else◌, get_or, nat_le, nat_
 use Rattle.std.proofs.lemmas.Bool.{cases_lt, le-leb, leb-true, lt-ltb, ltb-true, and_parts}
 use Rattle.std.proofs.lemmas.List.{get_or_past}
 use Rattle.satl_base.specs.declared.block.Block.{Block}
-use Rattle.satl_base.specs.Cells.{Cell, Pair, change_at, nows, pairs_from, put, put_at, whole}
-use Rattle.satl_base.specs.Lists.{IsIn}
+use Rattle.satl_base.specs.Cells.{Cell, Pair, nows, pairs_from, put, put_at, whole}
+use Rattle.satl_base.specs.Lists.{IsIn, change_at}
 use Rattle.satl_base.proofs.CellsLemmas.{change_at-length}
 use Rattle.std.specs.List.{range_with_len}
 use Rattle.satl_laws.specs.ArrivalOrder.{read_at}

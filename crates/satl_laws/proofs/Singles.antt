@@ -5,8 +5,8 @@ use Rattle.std.specs.List.{AllByRecursion, list_any}
 use Rattle.std.proofs.lemmas.Bool.{and_right, eqb-false}
 use Rattle.std.proofs.lemmas.Option.{same_Some}
 use Rattle.satl_base.specs.declared.block.Block.{Block}
-use Rattle.satl_base.specs.Cells.{Cell, Pair, change_at, pairs_from, put, put_at, settle, whole}
-use Rattle.satl_base.specs.Lists.{IsIn}
+use Rattle.satl_base.specs.Cells.{Cell, Pair, pairs_from, put, put_at, settle, whole}
+use Rattle.satl_base.specs.Lists.{IsIn, change_at}
 use Rattle.satl_laws.proofs.SparedCells.{elsewhere}
 
 -- a loss of power leaves what a read gives

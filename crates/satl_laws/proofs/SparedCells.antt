@@ -3,8 +3,8 @@ use Rattle.std.proofs.Common.{◌≡◌, ⊎_elim, inl, refl, sym, ap, ◌∙◌
 use Rattle.std.specs.Prelude.{◌≢◌, ◌==◌, slice_get}
 use Rattle.std.specs.List.{list_any}
 use Rattle.std.proofs.lemmas.Bool.{or_parts, eqb-false}
-use Rattle.satl_base.specs.Cells.{Cell, Pair, Part, change_at, put, put_at}
-use Rattle.satl_base.specs.Lists.{IsIn}
+use Rattle.satl_base.specs.Cells.{Cell, Pair, Part, put, put_at}
+use Rattle.satl_base.specs.Lists.{IsIn, change_at}
 use Rattle.satl_base.specs.Losses.{Lost, Loses}
 use Rattle.satl_base.specs.Moves.{Moves, stay, lose, write}
 use Rattle.satl_base.proofs.ListsLemmas.{leaves_in}

@@ -7,7 +7,8 @@ use Rattle.satl_base.specs.declared.request.Manage.{Manage}
 use Rattle.satl_base.specs.declared.request.Request.{Request}
 use Rattle.satl_base.specs.declared.reply.Reply.{Reply}
 use Rattle.satl_base.specs.declared.reply.Response.{Response}
-use Rattle.satl_base.specs.Cells.{Cell, change_at}
+use Rattle.satl_base.specs.Cells.{Cell}
+use Rattle.satl_base.specs.Lists.{change_at}
 use Rattle.satl_base.proofs.CellsLemmas.{change_at-length}
 use Rattle.satl_base.proofs.ListsLemmas.{All-push_end, All-filter}
 use Rattle.satl_regs.specs.Sectors.{with_flaw, without_flaws}

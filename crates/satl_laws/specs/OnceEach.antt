@@ -1,9 +1,10 @@
 -- The law of one answer (SAM-5 5).
-use Rattle.std.specs.Prelude.{◌≡◌, ℕ, ◌+◌, ◌==◌, ◌&&◌, Bool, false, List, [], filter}
+use Rattle.std.specs.Prelude.{◌≡◌, ℕ, ◌+◌, Bool, false, List, [], filter}
 use Rattle.satl_base.specs.declared.request.Request.{Request}
 use Rattle.satl_base.specs.declared.bench.BenchEvent.{BenchEvent}
 use Rattle.satl_base.specs.declared.bench.BenchEvent.TheVariants as events
 use Rattle.satl_base.specs.Lists.{how_many}
+use Rattle.satl_base.specs.Names.{is_name}
 use Rattle.satl_frame.specs.declared.frames.Frame.{Frame}
 use Rattle.satl_frame.specs.declared.frames.Frame.TheVariants as frames
 use Rattle.satl_frame.specs.Output.{Answer}
@@ -18,13 +19,13 @@ use Rattle.satl_direct.specs.Run.RunDeep.{start, step}
 
 -- whether an answer is a reply to this nexus and tag (SAM-5 4.7)
 abbrev pub answers_to : ℕ → ℕ → Answer → Bool
-answers_to nexus tag (replied r) = (r.nexus == nexus) && ((r.tag).0 == tag)
+answers_to nexus tag (replied r) = is_name nexus tag r.nexus (r.tag).0
 answers_to nexus tag (managed from function response named) = false
 answers_to nexus tag ended = false
 
 -- whether an event is a request of this nexus and tag (SAM-5 4.7)
 abbrev pub asks_by : ℕ → ℕ → Frame → Bool
-asks_by nexus tag (frames.Request r) = (r.nexus == nexus) && ((r.tag).0 == tag)
+asks_by nexus tag (frames.Request r) = is_name nexus tag r.nexus (r.tag).0
 asks_by nexus tag _ = false
 
 -- the tasks that an arrival takes off without an answer: those of the nexus of an overlapped command (SAM-5,

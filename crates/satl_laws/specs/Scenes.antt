@@ -1,8 +1,8 @@
 -- Devices of two sectors that a run begins with.
-use Rattle.std.specs.Prelude.{◌≡◌, ◌==◌, ◌&&◌, true, false, List, [], ◌∷◌}
-use Rattle.satl_base.specs.declared.block.Block.{Block}
+use Rattle.std.specs.Prelude.{◌≡◌, true, false, List, [], ◌∷◌}
 use Rattle.satl_base.specs.declared.request.Request.{Request}
 use Rattle.satl_base.specs.Cells.{Cell}
+use Rattle.satl_base.specs.Names.{is_name}
 use Rattle.satl_cdb.specs.declared.command.Command.TheVariants as commands
 use Rattle.satl_cdb.specs.declared.command.Form.TheVariants as forms
 use Rattle.satl_frame.specs.declared.frames.Frame.{Frame}
@@ -22,10 +22,6 @@ at_work sector_0 sector_1 tasks s =
       down = false;
     }
 
--- a sector whose new block is in the cache alone: a loss of power may leave the old one or the new one (SBC-3 4.15)
-abbrev pub cached : Block → Block → Cell
-cached old new = record { now = new; may = old ∷ new ∷ []; read_flaw = false; write_flaw = false }
-
 -- the task of a request for READ(10) of sector 0 (SBC-3, READ (10))
 abbrev pub reads_sector_0 : Request → Entry
 reads_sector_0 r = task_for false r (commands.Read forms.Ten 0 1 false)
@@ -44,7 +40,7 @@ flushes_all_sectors r = task_for false r (commands.Flush forms.Ten 0 0)
 
 -- two requests of different nexus or tag (SAM-5 4.7, I_T_L_Q nexus)
 abbrev pub DifferInNexusOrTag : Request → Request → Type 0
-DifferInNexusOrTag a b = ((a.nexus == b.nexus) && ((a.tag).0 == (b.tag).0)) ≡ false
+DifferInNexusOrTag a b = is_name b.nexus (b.tag).0 a.nexus (a.tag).0 ≡ false
 
 -- TURN, or END, which takes turns until no task is left (profile)
 abbrev pub AreTurns : Frame → Type 0

@@ -4,7 +4,7 @@ ghost use Rattle.satl_base.specs.declared.bench.BenchEvent.TheVariants as events
 ghost use Rattle.satl_base.specs.declared.block.Block.{Block};
 ghost use Rattle.satl_base.specs.declared.request.Request.{Request};
 ghost use Rattle.satl_base.specs.declared.reply.Reply.{Reply};
-ghost use Rattle.satl_base.specs.Cells.{Cell};
+ghost use Rattle.satl_base.specs.Cells.{Cell, cached_over};
 ghost use Rattle.satl_base.specs.Lists.{how_many};
 ghost use Rattle.satl_frame.specs.declared.frames.Frame.{Frame};
 ghost use Rattle.satl_frame.specs.declared.frames.Frame.TheVariants as frames;
@@ -14,7 +14,7 @@ ghost use Rattle.satl_laws.specs.ArrivalOrder.{IsGoodReply};
 ghost use Rattle.satl_laws.specs.OnceEach.{answers_to};
 ghost use Rattle.satl_laws.specs.Untouched.{now_at};
 ghost use Rattle.satl_direct.specs.Run.{Run};
-ghost use Rattle.satl_laws.specs.Scenes.{AreTurns, DifferInNexusOrTag, at_work, cached, flushes_all_sectors, reads_sector_0, writes_both_sectors, writes_sector_0};
+ghost use Rattle.satl_laws.specs.Scenes.{AreTurns, DifferInNexusOrTag, at_work, flushes_all_sectors, reads_sector_0, writes_both_sectors, writes_sector_0};
 
 /// Where a WRITE of a sector waits, and then a READ of it, one turn never ends the READ with GOOD (SAM-5 8; profile).
 pub fn no_read_passes_an_earlier_write()
@@ -51,7 +51,7 @@ pub fn no_neighbour_is_answered_twice()
 pub fn no_flush_leaves_the_old_block()
     ensures { (flush : Request) (old new : Block) (b : Cell) (s last : Device) (losses : ℕ) (answers : List Answer)
         (reply : Reply) → old ≢ new →
-        Run (at_work (cached old new) b (flushes_all_sectors flush ∷ []) s)
+        Run (at_work (cached_over old new) b (flushes_all_sectors flush ∷ []) s)
         (frames.Turn 1 ∷ frames.Bench events.Power ∷ []) losses answers last →
         IsGoodReply flush reply answers → now_at last.cells 0 ≡ Some old → ⊥ }
 {}

@@ -9,7 +9,7 @@ use Rattle.std.proofs.lemmas.Nat.Bits.{bit_at_set_same, bit_at_set_other, bit_at
 use Rattle.satl_base.proofs.ListsLemmas.{All-both, All-weaken, remove-map}
 use Rattle.satl_base.specs.declared.block.Block.{Block}
 use Rattle.satl_base.specs.declared.request.Tag.{Tag}
-use Rattle.satl_base.specs.Lists.{how_many}
+use Rattle.satl_base.specs.Lists.{how_many, change_at}
 use Rattle.std.proofs.lemmas.List.Sums.{sum_by-append, sum_by-cons}
 use Rattle.std.proofs.Math.ListN.{length-set, get_or-map}
 use Rattle.std.proofs.Math.Seq.{take-suc}
@@ -22,7 +22,7 @@ use Rattle.satl_line.specs.Blank.{no_entry}
 use Rattle.satl_line.specs.Outlines.{IsOutline, is_active, no_outline, outline_in}
 use Rattle.satl_line.specs.Conflict.{access_of, accesses_conflict, conflicts}
 use Rattle.satl_line.specs.Eligible.{eligible_at, is_clear_by}
-use Rattle.satl_line.specs.Tasks.{AreOwnSlots, AreMasks, is_barred_from, entries_of, Held, count_of, slots_of, total_blocks, entry_at, Adds, with_body, change_task}
+use Rattle.satl_line.specs.Tasks.{AreOwnSlots, AreMasks, is_barred_from, entries_of, Held, count_of, slots_of, total_blocks, entry_at, Adds, with_body}
 use Rattle.satl_line.specs.Layout.{SlotAccess, mark_of, is_marked, IsMask, HaveMasks, IsMasked, clear_bit, cleared, held_in, tasks_in, AreNoted, IsNoted, IsWithin, with_slot, AreCounted, has_low_byte, low_byte, one_fewer, one_more, SetInMemory, FitTogether, is_unbarred_at}
 use Rattle.satl_line.proofs.CountsLemmas.{counted_few, counted_more, counted_out}
 use Rattle.satl_line.proofs.OutlinesLemmas.{EachIs, apart_where_quiet, outline_with}
@@ -575,7 +575,7 @@ count_at (q ∷ qs) (suc k) s lt is = let r = count_at qs k s (omega arith) is i
 
 pub record Changes (tasks : List Held) (place : ℕ) (body : List Block) (layout : SetInMemory) : Type 0 where
   pub sound : FitTogether layout
-  pub rest : tasks_in layout.slots layout.order ≡ change_task (with_body body) tasks place
+  pub rest : tasks_in layout.slots layout.order ≡ change_at tasks place (with_body body)
 
 module _ (slots : List Entry) (s : ℕ) (body : List Block) (within : s < length slots) where
   abbrev changed : List Entry
@@ -618,7 +618,7 @@ module _ (slots : List Entry) (s : ℕ) (body : List Block) (within : s < length
       ∙ ap (λ n. (held_in slots q).entry.blocks + n) (blocks_same qs)
       ∙ sym (sum_by-cons (λ (h : Held). h.entry.blocks) (held_in slots q) (tasks_in slots qs))
 
-  change_is : (order : List ℕ) (place : ℕ) → place < length order → count_of s order ≤ 1 → get_or order place 0 ≡ s → tasks_in changed order ≡ change_task (with_body body) (tasks_in slots order) place
+  change_is : (order : List ℕ) (place : ℕ) → place < length order → count_of s order ≤ 1 → get_or order place 0 ≡ s → tasks_in changed order ≡ change_at (tasks_in slots order) place (with_body body)
   change_is [] place lt once is = absurd (omega arith)
   change_is (q ∷ qs) zero lt once is =
       let here = eq-eqb q s is in
@@ -673,7 +673,7 @@ changes layout tasks place seen body slots' sound is lt same slots_is =
     let once : count_of s layout.order ≤ 1 = omega (arith, sound.once s small) in
     record {
       sound = subst (λ l. FitTogether (record layout { slots = l })) (sym slots_are) new_sound;
-      rest = ap (λ l. tasks_in l layout.order) slots_are ∙ change_is layout.slots s body room layout.order place within once refl ∙ ap (λ l. change_task (with_body body) l place) is;
+      rest = ap (λ l. tasks_in l layout.order) slots_are ∙ change_is layout.slots s body room layout.order place within once refl ∙ ap (λ l. change_at l place (with_body body)) is;
     }
 
 pub body_is : (slots : List Entry) (order : List ℕ) (tasks : List Held) (place : ℕ) (seen : List ℕ) (taken : List Block) → tasks_in slots order ≡ tasks → place < length tasks → seen ≡ order → taken ≡ (get_or slots (get_or seen place 0) no_entry).body →
@@ -739,7 +739,7 @@ are_masks tasks tasks' masks is masked =
     subst (λ l. AreMasks l masks) is (record { held = λ place held. masks_from [] tasks masks place held masked.full; empty = masked.empty })
 
 -- the pages of the task at a place, once they were changed
-pub body-changed : (tasks : List Held) (place : ℕ) (body : List Block) → place < length tasks → option_map (λ e. e.body) (entry_at (change_task (with_body body) tasks place) place) ≡ Some body
+pub body-changed : (tasks : List Held) (place : ℕ) (body : List Block) → place < length tasks → option_map (λ e. e.body) (entry_at (change_at tasks place (with_body body)) place) ≡ Some body
 body-changed [] place body lt = absurd (omega arith)
 body-changed (h ∷ hs) zero body lt = refl
 body-changed (h ∷ hs) (suc place) body lt = body-changed hs place body (omega arith)

@@ -1,8 +1,9 @@
 -- What is kept of a task beside it, to be asked before it (profile, all of it).
-use Rattle.std.specs.Prelude.{◌≡◌, ℕ, ◌+◌, ◌-◌, ◌^◌, ◌<◌, ◌≤◌, ◌==◌, min, Bool, false, not, ◌&&◌, ◌||◌, nat_lt, List, length, map, slice_index_or}
+use Rattle.std.specs.Prelude.{◌≡◌, ℕ, ◌+◌, ◌-◌, ◌^◌, ◌<◌, ◌≤◌, min, Bool, false, not, ◌&&◌, ◌||◌, nat_lt, List, length, map, slice_index_or}
 use Rattle.std.specs.List.{AllByRecursion}
 use Rattle.satl_base.specs.declared.block.Range.{Range}
 use Rattle.satl_base.specs.declared.request.Tag.{Tag}
+use Rattle.satl_base.specs.Names.{is_name}
 use Rattle.satl_line.specs.declared.entry.Entry.{Entry}
 use Rattle.satl_line.specs.declared.outline.Outline.{Outline}
 use Rattle.satl_line.specs.declared.outline.Span.{Span}
@@ -61,7 +62,7 @@ outlines_in outlines order = map (outline_in outlines) order
 
 -- whether it is the outline of a task of this nexus and tag
 abbrev pub is_of_name : ℕ → Tag → Outline → Bool
-is_of_name nexus tag outline = outline.nexus == nexus && outline.tag.0 == tag.0
+is_of_name nexus tag outline = is_name nexus tag.0 outline.nexus outline.tag.0
 
 -- there are 64 outlines, and the one in each of these slots is that of the task there
 pub record AreOutlines (slots : List Entry) (outlines : List Outline) (order : List ℕ) : Type 0 where

@@ -1,12 +1,13 @@
 -- The tasks of a set, each in its slot.
-use Rattle.std.specs.Prelude.{◌≡◌, ℕ, zero, suc, ◌+◌, ◌<◌, ◌==◌, Bool, false, ◌&&◌, ◌||◌, if◌then◌else◌, nat_lt, List, [], ◌∷◌, ◌++◌, map, take, length, slice_get, slice_index, Option, Some}
+use Rattle.std.specs.Prelude.{◌≡◌, ℕ, ◌+◌, ◌<◌, ◌==◌, Bool, false, ◌&&◌, if◌then◌else◌, List, [], ◌∷◌, ◌++◌, map, take, length, slice_get, slice_index, Option, Some}
 use Rattle.std.specs.Int.{bit_at}
 use Rattle.std.specs.Option.{option_map}
 use Rattle.std.specs.List.{AllByRecursion, list_any, sum_by}
 use Rattle.satl_base.specs.declared.block.Block.{Block}
 use Rattle.satl_base.specs.declared.request.Tag.{Tag}
-use Rattle.satl_base.specs.Limits.{most_held, most_tasks}
+use Rattle.satl_base.specs.Limits.{leave_no_room}
 use Rattle.satl_base.specs.Lists.{how_many}
+use Rattle.satl_base.specs.Names.{is_name}
 use Rattle.satl_line.specs.declared.entry.Entry.{Entry}
 use Rattle.satl_line.specs.Conflict.{conflicts}
 use Rattle.satl_line.specs.Eligible.{eligible_at}
@@ -43,12 +44,12 @@ entry_at tasks place = option_map (λ held. held.entry) (slice_get tasks place)
 
 -- whether the task is the one of this nexus and tag (SAM-5, I_T_L_Q nexus)
 abbrev pub is_named : ℕ → Tag → Held → Bool
-is_named nexus tag held = held.entry.nexus == nexus && held.entry.tag.0 == tag.0
+is_named nexus tag held = is_name nexus tag.0 held.entry.nexus held.entry.tag.0
 
 -- whether 64 tasks are held, or their blocks with those of a new task exceed 32,768 (SAM-5 5.3.1, TASK SET FULL; figures of the
 -- profile)
 abbrev pub is_too_much : List Held → Entry → Bool
-is_too_much tasks entry = length tasks == most_tasks || nat_lt most_held (total_blocks tasks + entry.blocks)
+is_too_much tasks entry = leave_no_room (length tasks) (total_blocks tasks) entry.blocks
 
 -- the task comes last, in a slot of its own, and all others stay (profile)
 pub record Adds (old : List Held) (entry : Entry) (new : List Held) : Type 0 where
@@ -60,12 +61,6 @@ pub record Adds (old : List Held) (entry : Entry) (new : List Held) : Type 0 whe
 -- the task with these pages (profile)
 abbrev pub with_body : List Block → Held → Held
 with_body body held = record { slot = held.slot; entry = record held.entry { body = body } }
-
--- the tasks with the one at a place changed (profile)
-abbrev pub change_task : (Held → Held) → List Held → ℕ → List Held
-change_task change [] place = []
-change_task change (held ∷ rest) zero = change held ∷ rest
-change_task change (held ∷ rest) (suc place) = held ∷ change_task change rest place
 
 -- bit p is 1 exactly where a task stands at place p and is eligible (profile)
 abbrev pub IsReadyMask : List Held → ℕ → Type 0

@@ -4,9 +4,10 @@ ghost use Rattle.std.specs.Int.{bit_at};
 ghost use Rattle.std.specs.Option.{option_copied, option_map};
 ghost use Rattle.std.specs.List.{All, AllByRecursion, position_from};
 ghost use Rattle.satl_base.specs.Limits.{most_held, most_tasks};
+ghost use Rattle.satl_base.specs.Lists.{change_at};
 ghost use Rattle.satl_line.specs.Conflict.{access_of, conflicts};
 ghost use Rattle.satl_line.specs.Eligible.{eligible_at};
-ghost use Rattle.satl_line.specs.Tasks.{Adds, AreMasks, AreOwnSlots, IsReadyMask, change_task, count_of, entries_of, entry_at, is_named, is_too_much, slots_of, total_blocks, with_body};
+ghost use Rattle.satl_line.specs.Tasks.{Adds, AreMasks, AreOwnSlots, IsReadyMask, count_of, entries_of, entry_at, is_named, is_too_much, slots_of, total_blocks, with_body};
 ghost use Rattle.satl_line.specs.Layout.{IsMask, IsWithin, clear_bit, cleared, held_in, is_unbarred_at, low_byte, mark_of, one_fewer, one_more, tasks_in, with_slot};
 ghost use Rattle.satl_line.specs.Outlines.{AreOutlines, IsOutline, is_of_name, no_outline, outline_in, outlines_in};
 
@@ -210,7 +211,7 @@ impl TaskSet {
         requires { place < length self.old }
         ensures value { option_map (λ entry. entry.body) (entry_at self.old place) ≡ Some result }
         ensures emptied { option_map (λ entry. entry.body) (entry_at self.new place) ≡ Some [] }
-        ensures others { self.new ≡ change_task (with_body []) self.old place }
+        ensures others { self.new ≡ change_at self.old place (with_body []) }
     {
         let slot = self.order[place];
         swap_body(&mut self.slots, slot, Pages::default())
@@ -220,7 +221,7 @@ impl TaskSet {
     pub fn put_data(&mut self, place: usize, body: Pages)
         requires within { place < length self.old }
         requires none { option_map (λ entry. entry.body) (entry_at self.old place) ≡ Some [] }
-        ensures { self.new ≡ change_task (with_body body) self.old place }
+        ensures { self.new ≡ change_at self.old place (with_body body) }
     {
         let slot = self.order[place];
         swap_body(&mut self.slots, slot, body);

@@ -1,7 +1,7 @@
 -- The fields of ATA PASS-THROUGH (SAT-3 12.2).
 use Rattle.std.specs.Prelude.{ℕ, ◌*◌, ◌==◌, not, Bool, false, List, [], ◌∷◌, slice_index, if◌then◌else◌}
 use Rattle.byteorder.specs.Endian.{big_number}
-use Rattle.satl_base.specs.Fields.{Field, Flag, bits, bit}
+use Rattle.satl_base.specs.Fields.{Field, Flag, bits, bit, or_if_zero}
 use Rattle.satl_regs.specs.declared.values.Registers.{Registers}
 use Rattle.satl_pass.specs.declared.pass.Pass.{Pass}
 
@@ -65,7 +65,7 @@ form_of cdb = if slice_index cdb 0 == code_16 then form_16 else form_12
 
 -- COUNT as a number of blocks: 0 counts as 256, or with EXTEND as 65,536 (profile)
 abbrev pub blocks_counted : Bool → ℕ → ℕ
-blocks_counted extend count = if count == 0 then (if extend then 65536 else 256) else count
+blocks_counted extend count = or_if_zero (if extend then 65536 else 256) count
 
 -- FEATURES or COUNT as a transfer length in bytes: BYT_BLOK tells whether it counts blocks of 512 bytes
 abbrev pub features_length : Bool → Registers → ℕ

@@ -1,6 +1,6 @@
 -- Fields of the registers that several commands share (ACS-3 section 7, the inputs of each command).
-use Rattle.std.specs.Prelude.{ℕ, ◌+◌, ◌*◌, ◌^◌, ◌==◌, Bool, if◌then◌else◌}
-use Rattle.satl_base.specs.Fields.{bits_of}
+use Rattle.std.specs.Prelude.{ℕ, ◌+◌, ◌*◌, ◌^◌, Bool, if◌then◌else◌}
+use Rattle.satl_base.specs.Fields.{bits_of, or_if_zero}
 use Rattle.satl_regs.specs.declared.values.Registers.{Registers}
 
 -- The LBA of a 28-bit command: LBA(23:0), and above them DEVICE(3:0).
@@ -13,11 +13,11 @@ lba_48 r = bits_of 47 0 r.lba
 
 -- A count in COUNT(7:0), in which 0 means 256.
 abbrev pub count_8 : ℕ → ℕ
-count_8 count = if bits_of 7 0 count == 0 then 256 else bits_of 7 0 count
+count_8 count = or_if_zero 256 (bits_of 7 0 count)
 
 -- A count of 16 bits, in which 0 means 65,536.
 abbrev pub count_16 : ℕ → ℕ
-count_16 count = if count == 0 then 65536 else count
+count_16 count = or_if_zero 65536 count
 
 -- The LBA of a command of 48 bits (an EXT command) or of 28.
 abbrev pub lba_of : Bool → Registers → ℕ

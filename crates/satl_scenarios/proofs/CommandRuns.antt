@@ -2,7 +2,7 @@
 use Rattle.std.proofs.Common.{◌≡◌, inl, inr, refl, arith, false, true, List, [], ◌∷◌}
 use Rattle.satl_base.specs.declared.block.Block.{Block}
 use Rattle.satl_base.specs.declared.reply.Reply.{Reply}
-use Rattle.satl_base.specs.Cells.{Cell}
+use Rattle.satl_base.specs.Cells.{Cell, lasts}
 use Rattle.satl_base.specs.Blocks.{over}
 use Rattle.satl_cdb.specs.declared.command.Command.{Command}
 use Rattle.satl_cdb.specs.declared.command.Command.TheVariants.{StartStop, Unmap, Verify, WriteSame}
@@ -16,7 +16,7 @@ use Rattle.satl_direct.specs.Ending.{Ends}
 use Rattle.satl_direct.specs.Run.{depth}
 use Rattle.satl_scenarios.specs.Commands.{same_blocks, ends_with, miscompared, same_written, started_unit, stopped_unit, stopped_unflushed, unmap_list, unmapped, verify_failed, written}
 use Rattle.satl_scenarios.specs.Scenario.{CanHappen}
-use Rattle.satl_scenarios.specs.Devices.{aa, bb, lasts, unreadable, zeros}
+use Rattle.satl_scenarios.specs.Devices.{aa, bb, unreadable, zeros}
 use Rattle.satl_scenarios.specs.Requests.{task, with_task}
 use Rattle.satl_scenarios.proofs.Building.{it_can_happen, one_turn}
 use Rattle.satl_scenarios.proofs.Building.Follows.{next, ends_here}

@@ -10,10 +10,11 @@ use Rattle.satl_line.specs.declared.entry.Entry.{Entry}
 use Rattle.satl_line.specs.Ranged.RangedTask.{ranged_read, ranged_write}
 use Rattle.satl_direct.specs.Device.{Device}
 use Rattle.satl_base.specs.Blocks.{over}
+use Rattle.satl_base.specs.Cells.{lasts, cached_over}
 use Rattle.satl_direct.specs.Run.TurnsOf.{none}
 use Rattle.satl_scenarios.specs.Scenario.{CanHappen}
 use Rattle.satl_scenarios.specs.Flaws.{flaw_among_writes, torn_write, garbled_read, spared_read, described}
-use Rattle.satl_scenarios.specs.Devices.{aa, bb, never_written, device, cached_over, lasts, unreadable, unwritable, zeros}
+use Rattle.satl_scenarios.specs.Devices.{aa, bb, never_written, device, unreadable, unwritable, zeros}
 use Rattle.satl_scenarios.specs.Requests.{task}
 use Rattle.satl_scenarios.proofs.Building.{it_can_happen, arrives, drained, happens, one_turn, turn_more}
 use Rattle.satl_scenarios.proofs.Building.Follows.{next, ends_here}

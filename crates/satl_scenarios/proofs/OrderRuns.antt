@@ -1,6 +1,6 @@
 -- Transfers that end out of order, as if each had ended on arrival.
 use Rattle.std.proofs.Common.{inl, inr, refl, false, List, [], ◌∷◌}
-use Rattle.satl_base.specs.Cells.{Cell}
+use Rattle.satl_base.specs.Cells.{Cell, lasts, cached_over}
 use Rattle.satl_base.specs.Blocks.{over}
 use Rattle.satl_cdb.specs.declared.command.Command.TheVariants.{Flush, Read, Write}
 use Rattle.satl_cdb.specs.declared.command.Form.TheVariants.{Ten}
@@ -14,7 +14,7 @@ use Rattle.satl_direct.specs.Ending.{settled}
 use Rattle.satl_direct.specs.Run.TurnsOf.{none}
 use Rattle.satl_scenarios.specs.Orders.{torn_out_of_order, written_out_of_order}
 use Rattle.satl_scenarios.specs.Scenario.{CanHappen}
-use Rattle.satl_scenarios.specs.Devices.{aa, bb, never_written, cached_over, device, lasts, zeros}
+use Rattle.satl_scenarios.specs.Devices.{aa, bb, never_written, device, zeros}
 use Rattle.satl_scenarios.specs.Requests.{task}
 use Rattle.satl_scenarios.proofs.Building.{it_can_happen, arrives, drained, happens, turn_more, turns}
 use Rattle.satl_scenarios.proofs.Building.Follows.{next, ends_here}

@@ -3,6 +3,7 @@ use Rattle.std.proofs.Common.{◌≡◌, inl, refl, sym, ◌∙◌, false, true,
 use Rattle.std.specs.Prelude.{slice_index, slice_set}
 use Rattle.std.proofs.lemmas.List.{get_or-set_other}
 use Rattle.satl_base.specs.declared.block.Block.{Block}
+use Rattle.satl_base.specs.Cells.{lasts}
 use Rattle.satl_cdb.specs.declared.command.Command.TheVariants.{Pass}
 use Rattle.satl_sense.specs.Fixed.{fixed_form}
 use Rattle.satl_regs.specs.Commands.{command_in, command_row}
@@ -15,7 +16,7 @@ use Rattle.satl_direct.specs.Tasks.{pass_of}
 use Rattle.satl_scenarios.specs.Commands.{written}
 use Rattle.satl_scenarios.specs.Passes.{cache_disabled, cache_off, check_power, identified, identify, power_checked, read_block, unreadable_through, write_block, written_through}
 use Rattle.satl_scenarios.specs.Scenario.{CanHappen}
-use Rattle.satl_scenarios.specs.Devices.{bb, device, full_of, identify_data, lasts, unreadable, zeros}
+use Rattle.satl_scenarios.specs.Devices.{bb, device, full_of, identify_data, unreadable, zeros}
 use Rattle.satl_scenarios.proofs.CommandRuns.{turn_ends}
 
 abbrev identify_data_2 : Block

@@ -5,7 +5,7 @@ use Rattle.satl_cdb.specs.Table.{says}
 use Rattle.satl_line.specs.Conflict.{accesses_conflict}
 use Rattle.satl_line.specs.Ranged.RangedTask.{ranged_read, ranged_write}
 use Rattle.satl_line.specs.declared.entry.Entry.{Entry}
-use Rattle.satl_base.specs.Cells.{Cell}
+use Rattle.satl_base.specs.Cells.{Cell, lasts, cached_over}
 use Rattle.satl_base.specs.Blocks.{lies_in, over}
 use Rattle.satl_direct.specs.Device.{Device}
 use Rattle.satl_direct.specs.Run.TurnsOf.{none}
@@ -13,7 +13,7 @@ use Rattle.satl_direct.specs.Valid.{IsValid}
 use Rattle.satl_laws.proofs.Seen.{by_test, within_from}
 use Rattle.satl_scenarios.specs.Orders.{IsOfPassing, four_waiting, passed_where_apart, reads_second, reads_two, writes_second, writes_third}
 use Rattle.satl_scenarios.specs.Scenario.{CanHappen}
-use Rattle.satl_scenarios.specs.Devices.{aa, bb, never_written, cached_over, device, lasts, zeros}
+use Rattle.satl_scenarios.specs.Devices.{aa, bb, never_written, device, zeros}
 use Rattle.satl_scenarios.specs.Requests.{cdb_10, request}
 use Rattle.satl_scenarios.proofs.Building.{it_can_happen, turn_more, turns}
 use Rattle.satl_scenarios.proofs.Building.Follows.{next, ends_here}

@@ -2,7 +2,7 @@
 use Rattle.std.proofs.Common.{◌≡◌, inl, inr, refl, false, true, ℕ, ◌+◌, List, [], ◌∷◌, ◌++◌, replicate}
 use Rattle.satl_base.specs.declared.block.Block.{Block}
 use Rattle.satl_base.specs.declared.reply.Reply.{Reply}
-use Rattle.satl_base.specs.Cells.{Cell, Pair, Part, pairs_from, put_at, whole}
+use Rattle.satl_base.specs.Cells.{Cell, Pair, Part, pairs_from, put_at, whole, lasts}
 use Rattle.satl_base.specs.Blocks.{over}
 use Rattle.satl_cdb.specs.declared.command.Command.{Command}
 use Rattle.satl_cdb.specs.declared.command.Command.TheVariants.{Verify, WriteSame}
@@ -18,7 +18,7 @@ use Rattle.satl_direct.specs.Senses.{crc_error}
 use Rattle.satl_scenarios.specs.Commands.{written}
 use Rattle.satl_scenarios.specs.Pieces.{compare_flawed, compare_garbled, flawed_at_the_end, glitchy_ends, glitchy_with, same_garbled, same_garbled_before_the_flaw, same_torn, same_unmapped}
 use Rattle.satl_scenarios.specs.Scenario.{CanHappen}
-use Rattle.satl_scenarios.specs.Devices.{aa, bb, lasts, unreadable, zeros}
+use Rattle.satl_scenarios.specs.Devices.{aa, bb, unreadable, zeros}
 use Rattle.satl_scenarios.specs.Requests.{task}
 use Rattle.satl_scenarios.proofs.Building.{it_can_happen, one_turn}
 use Rattle.satl_scenarios.proofs.Building.Follows.{next, ends_here}

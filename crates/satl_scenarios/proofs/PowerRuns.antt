@@ -1,7 +1,7 @@
 -- Power cycles, and what is on the medium after them.
 use Rattle.std.proofs.Common.{inl, inr, refl, false, [], ◌∷◌}
 use Rattle.satl_base.specs.declared.block.Block.{Block}
-use Rattle.satl_base.specs.Cells.{Cell}
+use Rattle.satl_base.specs.Cells.{Cell, lasts, cached_over}
 use Rattle.satl_base.specs.Lists.{IsIn}
 use Rattle.satl_base.specs.Blocks.{over}
 use Rattle.satl_cdb.specs.declared.command.Command.TheVariants.{Read, Write}
@@ -19,7 +19,7 @@ use Rattle.satl_direct.specs.Ending.{after_select, settled}
 use Rattle.satl_direct.specs.Run.TurnsOf.{none}
 use Rattle.satl_scenarios.specs.Scenario.{CanHappen}
 use Rattle.satl_scenarios.specs.Power.{caching_list, flush, written_back, flushed_then_written, select, power_with_a_task, told_once, turned_off, turned_off_then_power}
-use Rattle.satl_scenarios.specs.Devices.{aa, bb, never_written, device, cached_over, lasts, just_powered, zeros, unreadable}
+use Rattle.satl_scenarios.specs.Devices.{aa, bb, never_written, device, just_powered, zeros, unreadable}
 use Rattle.satl_scenarios.specs.Requests.{task}
 use Rattle.satl_scenarios.proofs.Building.{it_can_happen, arrives, happens, one_turn, turn_more, turns}
 use Rattle.satl_scenarios.proofs.Building.Follows.{next, ends_here}

@@ -2,7 +2,7 @@
 use Rattle.std.proofs.Common.{◌≡◌, inl, refl, false, true, List, [], ◌∷◌}
 use Rattle.satl_base.specs.declared.block.Block.{Block}
 use Rattle.satl_base.specs.declared.reply.Reply.{Reply}
-use Rattle.satl_base.specs.Cells.{Cell}
+use Rattle.satl_base.specs.Cells.{Cell, lasts}
 use Rattle.satl_cdb.specs.declared.command.Command.{Command}
 use Rattle.satl_cdb.specs.declared.command.Command.TheVariants.{Pass}
 use Rattle.satl_frame.specs.DataPages.{padded_block, pages_from, pages_of}
@@ -21,7 +21,7 @@ use Rattle.satl_scenarios.specs.Passes.{check_power, read_block}
 use Rattle.satl_scenarios.specs.Power.{caching_list, select}
 use Rattle.satl_scenarios.specs.Scenario.{CanHappen}
 use Rattle.satl_scenarios.specs.Standby.{at_rest, ends_at_rest, read_through, selected_at_rest, standby_told}
-use Rattle.satl_scenarios.specs.Devices.{aa, full_of, lasts, zeros}
+use Rattle.satl_scenarios.specs.Devices.{aa, full_of, zeros}
 use Rattle.satl_scenarios.specs.Requests.{task, with_task}
 use Rattle.satl_scenarios.proofs.Building.{it_can_happen, one_turn}
 use Rattle.satl_scenarios.proofs.Building.Follows.{next, ends_here}

@@ -6,11 +6,11 @@ use Rattle.satl_identify.specs.Refusals.{IsIdentity, identity_of}
 use Rattle.std.proofs.lemmas.List.{length-replicate}
 use Rattle.std.proofs.lemmas.Bool.{le-ltb, ne_eqb}
 use Rattle.satl_base.specs.Identify.{capacity}
-use Rattle.satl_base.specs.Cells.{AreSound}
+use Rattle.satl_base.specs.Cells.{AreSound, lasts}
 use Rattle.satl_direct.specs.Valid.{IsValid}
 use Rattle.satl_cdb.specs.Table.{says}
 use Rattle.satl_scenarios.specs.Waiting.{two_waiting}
-use Rattle.satl_scenarios.specs.Devices.{aa, never_written, full_of, identify_data, identity, lasts, zeros}
+use Rattle.satl_scenarios.specs.Devices.{aa, never_written, full_of, identify_data, identity, zeros}
 use Rattle.satl_scenarios.specs.Requests.{cdb_10, request}
 
 pub all_sound : (count : ℕ) → AreSound (replicate count (lasts zeros))

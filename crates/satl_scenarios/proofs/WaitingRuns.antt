@@ -3,6 +3,7 @@ use Rattle.std.proofs.Common.{inl, refl, arith, true, false, [], ◌∷◌}
 use Rattle.satl_base.specs.declared.reply.Response.TheVariants.{Complete}
 use Rattle.satl_base.specs.Moves.{stay, write}
 use Rattle.satl_base.specs.Blocks.{over}
+use Rattle.satl_base.specs.Cells.{lasts, cached_over}
 use Rattle.satl_cdb.specs.declared.command.Command.TheVariants.{Read}
 use Rattle.satl_cdb.specs.declared.command.Form.TheVariants.{Ten}
 use Rattle.satl_cdb.specs.Table.{says}
@@ -16,7 +17,7 @@ use Rattle.satl_direct.specs.Quiet.{Quiet}
 use Rattle.satl_direct.specs.Run.TurnsOf.{none}
 use Rattle.satl_scenarios.specs.Scenario.{CanBeCut, CanHappen, Scenario, events_of, silent}
 use Rattle.satl_scenarios.specs.Waiting.{aborted_half_done, overlapped_reads, full, one_too_many, one_turn_left}
-use Rattle.satl_scenarios.specs.Devices.{aa, never_written, device, cached_over, lasts, zeros}
+use Rattle.satl_scenarios.specs.Devices.{aa, never_written, device, zeros}
 use Rattle.satl_scenarios.specs.Requests.{read_10, task}
 use Rattle.satl_scenarios.proofs.Building.{it_can_happen, arrives, drained, manages, turn_more}
 use Rattle.satl_scenarios.proofs.Building.Follows.{next, ends_here}

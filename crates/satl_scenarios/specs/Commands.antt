@@ -2,7 +2,7 @@
 use Rattle.std.specs.Prelude.{false, true, List, [], ◌∷◌, ◌++◌, replicate}
 use Rattle.satl_base.specs.declared.block.Block.{Block}
 use Rattle.satl_base.specs.Blocks.{zero_block}
-use Rattle.satl_base.specs.Cells.{Cell}
+use Rattle.satl_base.specs.Cells.{Cell, lasts, cached_over}
 use Rattle.satl_cdb.specs.declared.command.Command.{Command}
 use Rattle.satl_cdb.specs.declared.command.Command.TheVariants.{StartStop, Unmap, Verify, WriteSame}
 use Rattle.satl_cdb.specs.declared.command.Form.TheVariants.{Ten}
@@ -10,7 +10,7 @@ use Rattle.satl_frame.specs.declared.frames.Frame.TheVariants.{Turn}
 use Rattle.satl_frame.specs.Output.{Answer}
 use Rattle.satl_direct.specs.Device.{Device}
 use Rattle.satl_scenarios.specs.Scenario.{Scenario, answered}
-use Rattle.satl_scenarios.specs.Devices.{aa, bb, cached_over, device, lasts, unreadable, zeros}
+use Rattle.satl_scenarios.specs.Devices.{aa, bb, device, unreadable, zeros}
 use Rattle.satl_scenarios.specs.Replies.{check_condition, good, sense, sense_at}
 use Rattle.satl_scenarios.specs.Requests.{with_task}
 

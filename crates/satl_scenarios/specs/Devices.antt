@@ -1,7 +1,7 @@
 -- Blocks, sectors and small devices that the scenarios share.
 use Rattle.std.specs.Prelude.{ℕ, true, false, List, [], ◌∷◌, length, replicate}
 use Rattle.satl_base.specs.declared.block.Block.{Block}
-use Rattle.satl_base.specs.Cells.{Cell}
+use Rattle.satl_base.specs.Cells.{Cell, lasts}
 use Rattle.satl_base.specs.Places.{byte, laid}
 use Rattle.satl_identify.specs.declared.identity.Identity.{Identity}
 use Rattle.satl_unit.specs.declared.attention.Attention.TheVariants.{PowerOn}
@@ -20,14 +20,6 @@ aa = full_of 0xAA
 
 abbrev pub bb : Block
 bb = full_of 0xBB
-
--- a sector without flaws, which a loss of power leaves as it is (profile)
-abbrev pub lasts : Block → Cell
-lasts block = record { now = block; may = block ∷ []; read_flaw = false; write_flaw = false }
-
--- a sector that was written through the cache, over a block that a loss of power may bring back (SBC-3 4.15)
-abbrev pub cached_over : Block → Block → Cell
-cached_over old new = record (lasts new) { may = old ∷ new ∷ [] }
 
 -- a sector with a flaw at which reads fail, and one at which writes fail (profile)
 abbrev pub unreadable : Block → Cell

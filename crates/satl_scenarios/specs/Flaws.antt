@@ -2,10 +2,11 @@
 use Rattle.std.specs.Prelude.{false, true, [], ◌∷◌, ◌++◌}
 use Rattle.satl_base.specs.declared.bench.BenchEvent.TheVariants.{Glitch, Strike}
 use Rattle.satl_base.specs.declared.bench.Which.TheVariants as flaws
+use Rattle.satl_base.specs.Cells.{lasts, cached_over}
 use Rattle.satl_frame.specs.declared.frames.Frame.TheVariants.{Bench, End, Turn}
 use Rattle.satl_frame.specs.Output.Answer.{ended}
 use Rattle.satl_scenarios.specs.Scenario.{Scenario, answered, silent}
-use Rattle.satl_scenarios.specs.Devices.{aa, bb, never_written, cached_over, device, lasts, unreadable, unwritable, zeros}
+use Rattle.satl_scenarios.specs.Devices.{aa, bb, never_written, device, unreadable, unwritable, zeros}
 use Rattle.satl_scenarios.specs.Replies.{check_condition, good, sense, sense_at}
 use Rattle.satl_scenarios.specs.Requests.{read_10, write_10}
 

@@ -2,10 +2,11 @@
 use Rattle.std.specs.Prelude.{false, true, [], ◌∷◌}
 use Rattle.satl_base.specs.declared.bench.BenchEvent.TheVariants.{Unplug}
 use Rattle.satl_base.specs.declared.reply.Response.TheVariants.{Complete}
+use Rattle.satl_base.specs.Cells.{lasts, cached_over}
 use Rattle.satl_frame.specs.declared.frames.Frame.TheVariants.{Bench, End, Manage, Turn}
 use Rattle.satl_frame.specs.Output.Answer.{ended}
 use Rattle.satl_scenarios.specs.Scenario.{Scenario, answered, silent}
-use Rattle.satl_scenarios.specs.Devices.{aa, never_written, cached_over, device, lasts, zeros}
+use Rattle.satl_scenarios.specs.Devices.{aa, never_written, device, zeros}
 use Rattle.satl_scenarios.specs.Replies.{check_condition, good, response, sense}
 use Rattle.satl_scenarios.specs.Requests.{manage, read_10, write_10}
 

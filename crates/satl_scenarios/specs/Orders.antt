@@ -2,6 +2,7 @@
 use Rattle.std.specs.Prelude.{◌≡◌, true, false, List, [], ◌∷◌, ◌++◌}
 use Rattle.std.specs.List.{AllByRecursion}
 use Rattle.satl_base.specs.declared.bench.BenchEvent.TheVariants as bench
+use Rattle.satl_base.specs.Cells.{lasts, cached_over}
 use Rattle.satl_cdb.specs.declared.command.Command.TheVariants.{Read, Write}
 use Rattle.satl_cdb.specs.declared.command.Form.TheVariants.{Ten}
 use Rattle.satl_unit.specs.declared.attention.Attention.TheVariants.{PowerOn}
@@ -15,7 +16,7 @@ use Rattle.satl_laws.specs.Passing.{ComesAfter, DoNotClash, goes_alone}
 use Rattle.satl_direct.specs.Device.{Device}
 use Rattle.satl_direct.specs.Valid.{IsValid}
 use Rattle.satl_scenarios.specs.Scenario.{Scenario, answered, events_of, silent}
-use Rattle.satl_scenarios.specs.Devices.{aa, bb, never_written, cached_over, device, lasts, just_powered, zeros}
+use Rattle.satl_scenarios.specs.Devices.{aa, bb, never_written, device, just_powered, zeros}
 use Rattle.satl_scenarios.specs.Replies.{check_condition, good, sense}
 use Rattle.satl_scenarios.specs.Requests.{cdb_10, read_10, request, task, write_10}
 

@@ -1,11 +1,12 @@
 -- ATA commands that a host sends through the layer (SAT-3 12.2).
 use Rattle.std.specs.Prelude.{ℕ, false, List, [], ◌∷◌}
+use Rattle.satl_base.specs.Cells.{lasts, cached_over}
 use Rattle.satl_cdb.specs.declared.command.Command.TheVariants.{Pass}
 use Rattle.satl_frame.specs.declared.frames.Frame.TheVariants.{Request, Turn}
 use Rattle.satl_frame.specs.Output.{Answer}
 use Rattle.satl_scenarios.specs.Commands.{ends_with, written}
 use Rattle.satl_scenarios.specs.Scenario.{Scenario, answered, silent}
-use Rattle.satl_scenarios.specs.Devices.{aa, bb, cached_over, device, identify_data, lasts, unreadable, zeros}
+use Rattle.satl_scenarios.specs.Devices.{aa, bb, device, identify_data, unreadable, zeros}
 use Rattle.satl_scenarios.specs.Replies.{check_condition, good}
 use Rattle.satl_scenarios.specs.Requests.{read_10, request}
 

@@ -2,6 +2,7 @@
 use Rattle.std.specs.Prelude.{false, true, List, [], ◌∷◌, ◌++◌, replicate}
 use Rattle.satl_base.specs.declared.bench.BenchEvent.TheVariants as bench
 use Rattle.satl_base.specs.declared.block.Block.{Block}
+use Rattle.satl_base.specs.Cells.{lasts, cached_over}
 use Rattle.satl_cdb.specs.declared.command.Command.{Command}
 use Rattle.satl_cdb.specs.declared.command.Command.TheVariants as commands
 use Rattle.satl_cdb.specs.declared.command.Form.TheVariants.{Ten}
@@ -9,7 +10,7 @@ use Rattle.satl_unit.specs.declared.attention.Attention.TheVariants.{ModeChanged
 use Rattle.satl_frame.specs.declared.frames.Frame.TheVariants.{Bench, Turn}
 use Rattle.satl_direct.specs.Device.{Device}
 use Rattle.satl_scenarios.specs.Scenario.{Scenario, answered, silent}
-use Rattle.satl_scenarios.specs.Devices.{aa, bb, never_written, cached_over, device, lasts, just_powered, unreadable, zeros}
+use Rattle.satl_scenarios.specs.Devices.{aa, bb, never_written, device, just_powered, unreadable, zeros}
 use Rattle.satl_scenarios.specs.Replies.{check_condition, good, sense}
 use Rattle.satl_scenarios.specs.Requests.{read_10, with_task, write_10}
 

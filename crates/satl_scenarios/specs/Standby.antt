@@ -1,7 +1,7 @@
 -- Commands that a unit carries out while it is stopped and in standby.
 use Rattle.std.specs.Prelude.{false, List, [], ◌∷◌}
 use Rattle.satl_base.specs.declared.block.Block.{Block}
-use Rattle.satl_base.specs.Cells.{Cell}
+use Rattle.satl_base.specs.Cells.{Cell, lasts}
 use Rattle.satl_cdb.specs.declared.command.Command.{Command}
 use Rattle.satl_cdb.specs.declared.command.Command.TheVariants.{Pass}
 use Rattle.satl_unit.specs.declared.attention.Attention.TheVariants.{ModeChanged}
@@ -11,7 +11,7 @@ use Rattle.satl_scenarios.specs.Commands.{ends_with, written}
 use Rattle.satl_scenarios.specs.Passes.{check_power, read_block}
 use Rattle.satl_scenarios.specs.Power.{caching_list, select}
 use Rattle.satl_scenarios.specs.Scenario.{Scenario}
-use Rattle.satl_scenarios.specs.Devices.{aa, device, lasts, zeros}
+use Rattle.satl_scenarios.specs.Devices.{aa, device, zeros}
 use Rattle.satl_scenarios.specs.Replies.{check_condition, good}
 use Rattle.satl_scenarios.specs.Requests.{with_task}
 

@@ -1,11 +1,12 @@
 -- Reads and writes that end in their turns.
 use Rattle.std.specs.Prelude.{false, List, [], ◌∷◌, ◌++◌, drop}
 use Rattle.satl_base.specs.declared.request.Attr.TheVariants.{Ordered}
+use Rattle.satl_base.specs.Cells.{lasts, cached_over}
 use Rattle.satl_frame.specs.declared.frames.Frame.TheVariants.{End, Request, Turn}
 use Rattle.satl_frame.specs.Output.{Answer}
 use Rattle.satl_frame.specs.Output.Answer.{ended}
 use Rattle.satl_scenarios.specs.Scenario.{Scenario, answered, silent}
-use Rattle.satl_scenarios.specs.Devices.{aa, bb, never_written, cached_over, device, lasts, zeros}
+use Rattle.satl_scenarios.specs.Devices.{aa, bb, never_written, device, zeros}
 use Rattle.satl_scenarios.specs.Replies.{check_condition, good, sense}
 use Rattle.satl_scenarios.specs.Requests.{cdb_10, read_10, request, write_10}
 

@@ -6,10 +6,11 @@ use Rattle.satl_cdb.specs.declared.command.Command.TheVariants as commands
 use Rattle.satl_cdb.specs.declared.command.Form.TheVariants.{Ten}
 use Rattle.satl_direct.specs.Device.{Device}
 use Rattle.satl_base.specs.declared.reply.Response.TheVariants.{Complete}
+use Rattle.satl_base.specs.Cells.{lasts, cached_over}
 use Rattle.satl_frame.specs.declared.frames.Frame.TheVariants.{End, Manage, Turn}
 use Rattle.satl_frame.specs.Output.Answer.{ended}
 use Rattle.satl_scenarios.specs.Scenario.{Scenario, answered, silent}
-use Rattle.satl_scenarios.specs.Devices.{aa, bb, never_written, cached_over, device, lasts, zeros}
+use Rattle.satl_scenarios.specs.Devices.{aa, bb, never_written, device, zeros}
 use Rattle.satl_scenarios.specs.Replies.{check_condition, good, reply, response, sense}
 use Rattle.satl_scenarios.specs.Requests.{manage, read_10, task, write_10}
 

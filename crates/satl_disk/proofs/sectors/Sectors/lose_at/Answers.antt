@@ -1,8 +1,9 @@
 use Rattle.std.proofs.Common.{arith, ap, ◌∙◌, ℕ, List, length}
+use Rattle.satl_base.specs.Lists.{change_at}
+use Rattle.satl_base.proofs.CellsLemmas.{change_at-length}
 use Rattle.circular_buffer.specs.Buffer.{buffer}
-use Rattle.satl_disk.specs.Sectors.{after_power_loss, byte_of, changed_at}
+use Rattle.satl_disk.specs.Sectors.{after_power_loss, byte_of}
 use Rattle.satl_disk.proofs.InsideLemmas.{clean_is, clean_rest, dirty_rest, left_is, size_is}
-use Rattle.satl_disk.proofs.SectorsLemmas.{changed_at-length}
 use Rattle.satl_disk.proofs.sectors.Sectors.lose_at.Goals as goal
 
 pub get-requires : goal.get-requires
@@ -34,10 +35,10 @@ pub returns-clause-sector : goal.returns-clause-sector
 returns-clause-sector c =
     let i = c.self.inside in
     left_is i.blocks i.stables i.flaws.items c.args.self.now c.self.view_is c.self.invariant c.args.place (omega (arith, size_is i.blocks i.stables i.flaws.items c.args.self.now c.self.view_is c.self.invariant, c.requires)) c.in-Some.stable.now c.in-Some.ensures c.draw.result c.fall_back.new.blocks c.clear.new.self c.fall_back.ensures c.clear.ensures
-    ∙ ap (λ (byte : ℕ). changed_at (after_power_loss byte) c.args.self.now c.args.place) c.draw.ensures.byte
+    ∙ ap (λ (byte : ℕ). change_at c.args.self.now c.args.place (after_power_loss byte)) c.draw.ensures.byte
 
 pub returns-clause-size : goal.returns-clause-size
-returns-clause-size c = ap length (returns-clause-sector c) ∙ changed_at-length (after_power_loss (byte_of c.args.ring.now.items)) c.args.self.now c.args.place
+returns-clause-size c = ap length (returns-clause-sector c) ∙ change_at-length c.args.self.now c.args.place (after_power_loss (byte_of c.args.ring.now.items))
 
 pub returns-clause-ring : goal.returns-clause-ring
 returns-clause-ring c =

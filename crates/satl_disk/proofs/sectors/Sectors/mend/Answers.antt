@@ -1,7 +1,8 @@
 use Rattle.std.proofs.Common.{arith, ap, ◌∙◌, length}
+use Rattle.satl_base.proofs.CellsLemmas.{change_at-length}
 use Rattle.satl_disk.specs.Sectors.{mended_sector}
 use Rattle.satl_disk.proofs.InsideLemmas.{mended_is, size_is}
-use Rattle.satl_disk.proofs.SectorsLemmas.{changed_at-length, changed_none}
+use Rattle.satl_disk.proofs.SectorsLemmas.{changed_none}
 use Rattle.satl_disk.proofs.sectors.Sectors.mend.Goals as goal
 
 pub returns-then-lba-len-clause-value : goal.returns-then-lba-len-clause-value
@@ -10,7 +11,7 @@ returns-then-lba-len-clause-value c =
     mended_is i.blocks i.stables i.flaws.items c.args.self.now c.self.view_is c.self.invariant c.args.lba (omega (arith, i.flaws.ok.0)) c.mend.new.self c.mend.ensures
 
 pub returns-then-lba-len-clause-size : goal.returns-then-lba-len-clause-size
-returns-then-lba-len-clause-size c = ap length (returns-then-lba-len-clause-value c) ∙ changed_at-length mended_sector c.args.self.now c.args.lba
+returns-then-lba-len-clause-size c = ap length (returns-then-lba-len-clause-value c) ∙ change_at-length c.args.self.now c.args.lba mended_sector
 
 pub returns-else-lba-len-clause-value : goal.returns-else-lba-len-clause-value
 returns-else-lba-len-clause-value c =

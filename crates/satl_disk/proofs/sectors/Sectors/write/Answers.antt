@@ -1,7 +1,8 @@
 use Rattle.std.proofs.Common.{arith, ap, ◌∙◌, length}
+use Rattle.satl_base.proofs.CellsLemmas.{change_at-length}
 use Rattle.satl_disk.specs.Sectors.{Sector, written_sector}
 use Rattle.satl_disk.proofs.InsideLemmas.{size_is, write_is}
-use Rattle.satl_disk.proofs.SectorsLemmas.{changed_at-length, changed_none}
+use Rattle.satl_disk.proofs.SectorsLemmas.{changed_none}
 use Rattle.satl_disk.proofs.sectors.Sectors.write.Goals as goal
 
 pub returns-then-place-len-clause-value : goal.returns-then-place-len-clause-value
@@ -11,7 +12,7 @@ returns-then-place-len-clause-value c =
     c.index_mut.result.now c.overwrite.new.self c.index_mut.ensures.value c.overwrite.ensures c.at.ensures c.write.ensures c.set.ensures
 
 pub returns-then-place-len-clause-size : goal.returns-then-place-len-clause-size
-returns-then-place-len-clause-size c = ap length (returns-then-place-len-clause-value c) ∙ changed_at-length (λ (s : Sector). written_sector s c.args.block.now c.args.cached) c.args.self.now c.args.place
+returns-then-place-len-clause-size c = ap length (returns-then-place-len-clause-value c) ∙ change_at-length c.args.self.now c.args.place (λ (s : Sector). written_sector s c.args.block.now c.args.cached)
 
 pub returns-else-place-len-clause-value : goal.returns-else-place-len-clause-value
 returns-else-place-len-clause-value c =

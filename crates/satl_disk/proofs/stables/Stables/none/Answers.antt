@@ -2,7 +2,8 @@ use Rattle.std.proofs.Common.{◌≡◌, ℕ, Bool, List, Option, None, arith, a
 use Rattle.std.specs.List.{AllZip}
 use Rattle.std.proofs.lemmas.List.{length-replicate}
 use Rattle.satl_base.specs.Blocks.{zero_block}
-use Rattle.satl_disk.specs.Layout.{HasSlot, paired, stable_of}
+use Rattle.satl_base.specs.Lists.{paired}
+use Rattle.satl_disk.specs.Layout.{HasSlot, stable_of}
 use Rattle.satl_disk.proofs.StablesLemmas.{clean_have, clean_stables}
 use Rattle.satl_disk.proofs.stables.Stables.none.Goals as goal
 

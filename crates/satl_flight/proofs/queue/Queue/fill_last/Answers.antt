@@ -1,6 +1,7 @@
 use Rattle.std.proofs.Common.{ap, subst, sym, ◌∙◌, ◌-◌, ◌≡◌, ℕ, false, [], length, Some}
 use Rattle.std.specs.Prelude.{slice_get}
-use Rattle.satl_line.specs.Tasks.{Held, change_task, with_body}
+use Rattle.satl_base.specs.Lists.{change_at}
+use Rattle.satl_line.specs.Tasks.{Held, with_body}
 use Rattle.satl_flight.specs.Flown.{is_outstanding}
 use Rattle.satl_flight.specs.Lending.{Waiting, whole_tasks}
 use Rattle.satl_flight.proofs.LaunchingLemmas.{length-whole}
@@ -30,4 +31,4 @@ returns-clause-filled c =
     let there = last c.self.inside.flight c.self.inside.dma c.self.inside.set (c.len-place.result - 1) c.slot_of-alone.result c.slot_of-alone.ensures.value waits in
     ap (whole_tasks c.self.inside.flight c.self.inside.dma) c.put_data.ensures
     ∙ (fill_whole c.self.inside.flight c.self.inside.dma c.args.body c.self.inside.set (c.len-place.result - 1) there.0 there.1 (last_fresh c.self.inside.flight c.self.inside.dma c.self.inside.set (c.len-place.result - 1) c.slot_of-alone.result c.slot_of-alone.ensures.value waits)
-    ∙ (ap (λ (w : Waiting). change_task (with_body c.args.body) w.tasks (c.len-place.result - 1)) c.self.view_is ∙ ap (change_task (with_body c.args.body) c.args.self.now.tasks) same))
+    ∙ (ap (λ (w : Waiting). change_at w.tasks (c.len-place.result - 1) (with_body c.args.body)) c.self.view_is ∙ ap (λ (at : ℕ). change_at c.args.self.now.tasks at (with_body c.args.body)) same))

@@ -1,6 +1,7 @@
 use Rattle.std.proofs.Common.{ap, ◌∙◌, []}
 use Rattle.std.specs.Option.{option_map}
-use Rattle.satl_line.specs.Tasks.{change_task, entry_at, with_body}
+use Rattle.satl_base.specs.Lists.{change_at}
+use Rattle.satl_line.specs.Tasks.{entry_at, with_body}
 use Rattle.satl_line.proofs.SlotsLemmas.{changes, body-changed, body_is}
 use Rattle.satl_line.proofs.set.TaskSet.take_data.Goals as goal
 
@@ -17,12 +18,12 @@ pub returns-clause-others : goal.returns-clause-others
 returns-clause-others c =
     (changes _ c.args.self.now c.args.place c.deref.result.now c.default.result c.swap_body.new.slots.items
     c.self.invariant c.self.view_is c.requires c.deref.ensures.0 c.swap_body.ensures.items).rest
-    ∙ ap (λ b. change_task (with_body b) c.args.self.now c.args.place) c.default.ensures
+    ∙ ap (λ b. change_at c.args.self.now c.args.place (with_body b)) c.default.ensures
 
 pub returns-clause-emptied : goal.returns-clause-emptied
 returns-clause-emptied c =
     ap (λ l. option_map (λ e. e.body) (entry_at l c.args.place))
     ((changes _ c.args.self.now c.args.place c.deref.result.now c.default.result c.swap_body.new.slots.items
     c.self.invariant c.self.view_is c.requires c.deref.ensures.0 c.swap_body.ensures.items).rest
-    ∙ ap (λ b. change_task (with_body b) c.args.self.now c.args.place) c.default.ensures)
+    ∙ ap (λ b. change_at c.args.self.now c.args.place (with_body b)) c.default.ensures)
     ∙ body-changed c.args.self.now c.args.place [] c.requires
