@@ -17,12 +17,11 @@ use Rattle.satl_cdb.specs.Unmap as unmap
 use Rattle.satl_identify.specs.declared.identity.Identity.{Identity}
 use Rattle.satl_sense.specs.declared.sense.Sense.{Sense}
 use Rattle.satl_regs.specs.Trim.{trim_block}
-use Rattle.satl_line.specs.declared.entry.Entry.{Entry}
 use Rattle.satl_unit.specs.declared.attention.Attention.{Attention}
 use Rattle.satl_direct.specs.Arrival.{asks_for, good_with_data, operation_code, reply_to, sense_asked, untold_codes}
 use Rattle.satl_direct.specs.Device.{is_of, untold}
 use Rattle.satl_direct.specs.Senses.{attention_sense, link_lost, no_sense, not_ready, out_of_range, overlapped, refusal, sense_text, short_data, unknown_unit}
-use Rattle.satl_direct.specs.Tasks.{asks, needed, range_of, task_for, task_of}
+use Rattle.satl_direct.specs.Tasks.{asks, needed, range_of, task_for, task_of, task_without_pages}
 use Rattle.satl_asks.specs.Commands.{IsList}
 use Rattle.satl_asks.specs.Requests.{is_for_unit}
 use Rattle.satl_core.specs.declared.submitting.AtOnce.{AtOnce}
@@ -45,10 +44,6 @@ pub record CanSubmit (r : Request) (free out : ℕ) : Type 0 where
 pub record IsCutOf (whole cut : Request) : Type 0 where
   pub count : ℕ
   pub cut_is : cut ≡ record whole { body = take count whole.body }
-
--- the task that a request becomes, without its pages (profile)
-abbrev pub task_without_pages : Request → Command → Bool → Entry
-task_without_pages r command queued_trim = record (task_for queued_trim r command) { body = [] }
 
 -- the answer to a request that is answered at once (profile)
 abbrev pub reply_at_once : Identity → Modes → Request → AtOnce → Reply
@@ -220,6 +215,6 @@ pub record IsAdded (r : Request) (command : Command) (old : Layer) (replies : Li
 -- a command becomes a task, but for a full task set (profile)
 abbrev pub Becomes : Request → Command → Layer → List Reply → Layer → Type 0
 Becomes r command old replies new =
-    MatchBool (is_too_much old.tasks (task_without_pages r command old.identity.queued_trim))
+    MatchBool (is_too_much old.tasks (task_without_pages old.identity.queued_trim r command))
     (FindsSetFull r old replies new)
     (IsAdded r command old replies new)

@@ -7,11 +7,11 @@ ghost use Rattle.satl_regs.specs.Trim.{IsTrimList, trim_block};
 ghost use Rattle.satl_direct.specs.Arrival.{reply_to};
 ghost use Rattle.satl_identify.specs.Refusals.{IsIdentity};
 ghost use Rattle.satl_mode.specs.SelectList.{select_fault};
-ghost use Rattle.satl_direct.specs.Tasks.{asks, data_out_kept, held_blocks, needed};
+ghost use Rattle.satl_direct.specs.Tasks.{asks, data_out_kept, held_blocks, needed, task_without_pages};
 ghost use Rattle.satl_core.specs.Layer.{entry_pages, reply_pages};
 ghost use Rattle.satl_base.specs.Limits.{IsExpectable};
 ghost use Rattle.satl_asks.specs.Commands.{CanPass, HasList, IsList};
-ghost use Rattle.satl_core.specs.Submitting.{HasEntries, HasLengths, HasListUnlessEmpty, HoldsList, answer_to, attention_of, code_answer, command_answer, data_answer, fault_of_block, is_idle, other_answer, readiness, reply_at_once, sense_data, task_without_pages, tell_attention, trims, unless_idle, unmap_list_fault};
+ghost use Rattle.satl_core.specs.Submitting.{HasEntries, HasLengths, HasListUnlessEmpty, HoldsList, answer_to, attention_of, code_answer, command_answer, data_answer, fault_of_block, is_idle, other_answer, readiness, reply_at_once, sense_data, tell_attention, trims, unless_idle, unmap_list_fault};
 ghost use Rattle.satl_direct.specs.Device.{untold};
 
 use crate::satl::Satl;
@@ -299,7 +299,7 @@ fn readiness(satl: &Satl) -> AtOnce
 pub fn put_task(request: &Request, command: Command, identity: &Identity, task: &mut Entry)
     requires list { HasList command request.now.body identity.now.capacity }
     requires holds { needed command ≤ 512 * length request.now.body ⊎ needed command ≤ 512 * held_blocks command }
-    ensures { task.new ≡ task_without_pages request.now command identity.now.queued_trim }
+    ensures { task.new ≡ task_without_pages identity.now.queued_trim request.now command }
 {
     task.nexus = request.nexus;
     task.tag = request.tag;

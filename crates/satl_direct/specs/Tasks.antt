@@ -25,6 +25,7 @@ use Rattle.satl_pass.specs.Reading.{pass_says}
 use Rattle.satl_frame.specs.DataPages.{page_count, pages_of}
 use Rattle.satl_line.specs.declared.entry.Entry.{Entry}
 use Rattle.satl_line.specs.Kinds.{kind_of}
+use Rattle.satl_line.specs.Tasks.{without_pages}
 
 -- what an ATA PASS-THROUGH says (SAT-3 12.2)
 abbrev pub pass_of : List ℕ → Pass
@@ -185,6 +186,10 @@ task_for queued_trim r command = record {
   modes = (asks command).change r.body;
   expected = r.expected;
 }
+
+-- the same task without its pages (profile)
+abbrev pub task_without_pages : Bool → Request → Command → Entry
+task_without_pages queued_trim r command = without_pages (task_for queued_trim r command)
 
 -- a task as the device sees it: with its data-out alone in its pages (SAM-5 4.8)
 abbrev pub task_of : Entry → Entry
