@@ -13,8 +13,6 @@ use Rattle.satl_base.specs.Limits.{piece}
 use Rattle.satl_base.specs.Cells.{Pair, settle}
 use Rattle.satl_cdb.specs.declared.command.Command.TheVariants.{ModeSelect, Pass, Read, StartStop}
 use Rattle.satl_sense.specs.declared.sense.Sense.{Sense}
-use Rattle.satl_sense.specs.Descriptor.{descriptor_form}
-use Rattle.satl_sense.specs.Fixed.{fixed_form}
 use Rattle.satl_regs.specs.declared.values.AtaCommand.{AtaCommand}
 use Rattle.satl_regs.specs.declared.values.AtaCommand.TheVariants as ata
 use Rattle.satl_regs.specs.Commands.{command_in}
@@ -27,7 +25,7 @@ use Rattle.satl_mode.specs.Changes.{applied, no_change}
 use Rattle.satl_direct.specs.Attentions.{are_same_modes}
 use Rattle.satl_direct.specs.Tasks.{asks, pass_of}
 use Rattle.satl_pass.specs.Status.{error_sense_at}
-use Rattle.satl_direct.specs.Senses.{link_lost, not_ready}
+use Rattle.satl_direct.specs.Senses.{link_lost, not_ready, sense_spelled}
 use Rattle.satl_drive.specs.State.{DriveState}
 use Rattle.satl_barrier.specs.Finishing.{most_pieces, trimming_ranges, writing_same}
 use Rattle.satl_barrier.specs.Leaving.{IsLostIn}
@@ -48,15 +46,11 @@ ending_status endings.Good = statuses.Good
 ending_status (endings.Informed sense) = statuses.CheckCondition
 ending_status (endings.Check sense) = statuses.CheckCondition
 
--- sense data in the form that D_SENSE chooses (SPC-4 4.5)
-abbrev pub sense_form : Sense → Bool → List ℕ
-sense_form sense descriptor = if descriptor then descriptor_form sense else fixed_form sense
-
 -- its sense data (SPC-4 4.5)
 abbrev pub ending_sense : Ending → Bool → List ℕ
 ending_sense endings.Good descriptor = []
-ending_sense (endings.Informed sense) descriptor = sense_form sense descriptor
-ending_sense (endings.Check sense) descriptor = sense_form sense descriptor
+ending_sense (endings.Informed sense) descriptor = sense_spelled descriptor sense
+ending_sense (endings.Check sense) descriptor = sense_spelled descriptor sense
 
 -- the pages of a READ, and of an ATA PASS-THROUGH whose data come from the drive, are its data-in (SAT-3 12.2; profile)
 abbrev pub read_pages : Command → List Block → List Block
