@@ -15,12 +15,12 @@ use Rattle.satl_frame.specs.Output.{all_answered, reply_bytes}
 use Rattle.satl_frame.specs.Output.Answer.{replied}
 use Rattle.satl_line.specs.declared.entry.Entry.{Entry}
 use Rattle.satl_direct.specs.Device.{Device, is_called, untold}
-use Rattle.satl_direct.specs.Arrival.{Arrival, ArrivesAs, arrival, asks_for, attention_arrival, attention_for, check, code_arrival, is_unit_0, other_arrival, placed, reply_to}
+use Rattle.satl_direct.specs.Arrival.{Arrival, ArrivesAs, arrival, asks_for, attention_arrival, attention_for, attention_told, check, code_arrival, is_unit_0, other_arrival, placed, reply_to}
 use Rattle.satl_direct.specs.Arrival.Arrival.{answered, attended, overlaps, waits}
 use Rattle.satl_direct.specs.Senses.{attention_sense, overlapped}
 use Rattle.satl_direct.specs.Tasks.{held_blocks, needed, task_for, task_without_pages}
 use Rattle.satl_cover.specs.Known.{is_known}
-use Rattle.satl_audit.specs.Arriving.{ArrivesOn, CannotArrive, IsServing, StandsAt, attention_told, device_without_sectors}
+use Rattle.satl_audit.specs.Arriving.{ArrivesOn, CannotArrive, IsServing, StandsAt, device_without_sectors}
 use Rattle.satl_audit.specs.Waiting.{Placed, device_tasks, has_no_room, task_in}
 use Rattle.satl_audit.proofs.ArrivingTask.{full_same, task_same}
 
