@@ -47,8 +47,8 @@ use Rattle.satl_core.specs.declared.managing.Posting.{Posting}
 use Rattle.satl_core.specs.declared.turning.Ending.{Ending}
 use Rattle.satl_core.specs.declared.turning.Ending.TheVariants as endings
 use Rattle.satl_core.specs.Managing.{once_posted}
-use Rattle.satl_core.specs.Turning.{modes_after, wanted_by}
-use Rattle.satl_mode.specs.Changes.{AreModesOf, IsChangeOf}
+use Rattle.satl_core.specs.Turning.{modes_after}
+use Rattle.satl_mode.specs.Changes.{AreModesOf, IsChangeOf, wanted_by}
 use Rattle.satl_mode.proofs.Unchanged.{applied_of}
 use Rattle.satl_base.specs.declared.modes.ModeChange.{ModeChange}
 use Rattle.satl_core.proofs.DeviceLemmas.{first_tasks, seen}

@@ -2,7 +2,6 @@
 use Rattle.std.specs.Prelude.{◌≡◌, ℕ, ◌*◌, ◌+◌, ◌&&◌, not, Bool, true, false, if◌then◌else◌, List, [], ◌∷◌, length, map, min, get_or, MatchBool, IsSomeAnd, Option, Some, None, unwrap_or}
 use Rattle.std.specs.Option.{option_map}
 use Rattle.satl_base.specs.declared.block.Block.{Block}
-use Rattle.satl_base.specs.declared.modes.ModeChange.{ModeChange}
 use Rattle.satl_base.specs.declared.modes.Modes.{Modes}
 use Rattle.satl_base.specs.declared.reply.Reply.{Reply}
 use Rattle.satl_base.specs.declared.reply.Scsi.{Scsi}
@@ -21,7 +20,6 @@ use Rattle.satl_regs.specs.Effects.Setting.{sets_cache, sets_look}
 use Rattle.satl_errlog.specs.declared.entry.NcqError.{NcqError}
 use Rattle.satl_line.specs.declared.entry.Entry.{Entry}
 use Rattle.satl_line.specs.Tasks.{Held}
-use Rattle.satl_mode.specs.Changes.{applied, no_change}
 use Rattle.satl_direct.specs.Attentions.{are_same_modes}
 use Rattle.satl_direct.specs.Tasks.{asks, pass_of}
 use Rattle.satl_pass.specs.Status.{error_sense_at}
@@ -176,10 +174,6 @@ where_done (endings.Check sense) done kept = kept
 abbrev pub started_after : Command → Ending → Bool → Bool
 started_after (StartStop start no_flush) ending started = where_done ending start started
 started_after _ ending started = started
-
--- the mode values that a task wants: those that there are, with what it changes (SPC-4, MODE SELECT commands)
-abbrev pub wanted_by : Modes → Option ModeChange → Modes
-wanted_by modes change = applied modes (unwrap_or change no_change)
 
 -- the mode values with what a SET FEATURES sets (ACS-3, SET FEATURES; SAT-3)
 abbrev pub modes_with_setting : Option Setting → Modes → Modes
