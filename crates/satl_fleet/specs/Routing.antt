@@ -6,6 +6,7 @@ use Rattle.satl_base.specs.declared.request.Manage.{Manage}
 use Rattle.satl_frame.specs.declared.frames.Frame.{Frame}
 use Rattle.satl_frame.specs.declared.frames.Frame.TheVariants as frames
 use Rattle.satl_fleet.specs.declared.routing.Route.{Route}
+use Rattle.satl_direct.specs.Arrival.{asks_for}
 
 -- the LUN 0: eight bytes of zero (SAM-5 4.7.2)
 abbrev pub lun_0 : List ℕ
@@ -24,7 +25,7 @@ route_to units lun =
 
 -- whether it is REPORT LUNS, which the target itself answers (SPC-4 6.33; profile)
 abbrev pub is_report : Request → Bool
-is_report r = slice_index r.cdb 0 == 0xA0
+is_report r = asks_for 0xA0 r
 
 -- whether it is I_T NEXUS RESET, which goes to every unit (SAM-5 7.7)
 abbrev pub is_for_all : Manage → Bool
