@@ -1,6 +1,6 @@
 -- What the layer is asked with, and what becomes of it.
 use Rattle.std.specs.Prelude.{◌≡◌, ◌⊎◌, ℕ, ◌*◌, ◌+◌, ◌≤◌, ◌<◌, ◌==◌, ◌||◌, ◌&&◌, not, nat_lt, Bool, true, false, if◌then◌else◌, Option, Some, None, Result, Ok, Err, List, [], ◌∷◌, ◌++◌, length, map, take, is_some, slice_get, slice_index, slice_index_or, MatchBool}
-use Rattle.std.specs.List.{list_all, position_from}
+use Rattle.std.specs.List.{position_from}
 use Rattle.satl_base.specs.declared.block.Block.{Block}
 use Rattle.satl_base.specs.declared.request.Request.{Request}
 use Rattle.satl_base.specs.declared.reply.Reply.{Reply}
@@ -11,7 +11,6 @@ use Rattle.satl_base.specs.declared.modes.Modes.{Modes}
 use Rattle.satl_cdb.specs.declared.command.Command.{Command}
 use Rattle.satl_cdb.specs.declared.command.Command.TheVariants as commands
 use Rattle.satl_cdb.specs.declared.command.Illegal.{Illegal}
-use Rattle.satl_cdb.specs.Refusals.{invalid_field}
 use Rattle.satl_cdb.specs.Table.{says}
 use Rattle.satl_cdb.specs.Unmap as unmap
 use Rattle.satl_identify.specs.declared.identity.Identity.{Identity}
@@ -128,10 +127,6 @@ HasListUnlessEmpty _ body capacity = Unit {0}
 -- the refusal of a list of an UNMAP, if it is not empty (SBC-3 5.28)
 abbrev pub unmap_list_fault : List Block → ℕ → ℕ → Option Illegal
 unmap_list_fault body size capacity = if size == 0 then None else unmap.list_fault body size capacity
-
--- the refusal of the block of a WRITE SAME that unmaps: it has to be zeros (SBC-3, WRITE SAME commands; profile)
-abbrev pub fault_of_block : Block → Option Illegal
-fault_of_block block = if list_all (λ byte. byte == 0) block.bytes then None else Some (invalid_field 1)
 
 -- whether a command trims: an UNMAP, and a WRITE SAME that unmaps (SBC-3, UNMAP and WRITE SAME commands)
 abbrev pub trims : Command → Bool
