@@ -1,5 +1,5 @@
 -- Words on lists.
-use Rattle.std.specs.Prelude.{◌≡◌, ◌⊎◌, ℕ, ◌+◌, ◌==◌, Bool, if◌then◌else◌, List, [], ◌∷◌}
+use Rattle.std.specs.Prelude.{◌≡◌, ◌⊎◌, ℕ, ◌+◌, ◌==◌, Bool, if◌then◌else◌, List, [], ◌∷◌, suc}
 use Rattle.std.specs.List.{list_any}
 
 -- the list but for the first element that passes (profile)
@@ -27,3 +27,10 @@ LeavesOut [] [] = Unit {0}
 LeavesOut [] (y ∷ ys) = ⊥
 LeavesOut (x ∷ xs) [] = Unit {0}
 LeavesOut (x ∷ xs) (y ∷ ys) = LeavesOut xs (y ∷ ys) ⊎ ((x ≡ y) × LeavesOut xs ys)
+
+-- each of these and the one at its place are so, by their number from this one on (profile)
+abbrev pub EachAt : {X : Type 0} → (ℕ → X → X → Type 0) → ℕ → List X → List X → Type 0
+EachAt R n [] [] = Unit {0}
+EachAt R n [] (y ∷ ys) = ⊥
+EachAt R n (x ∷ xs) [] = ⊥
+EachAt R n (x ∷ xs) (y ∷ ys) = R n x y × EachAt R (suc n) xs ys
