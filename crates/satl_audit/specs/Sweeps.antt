@@ -16,11 +16,12 @@ abbrev pub caught_up : List Sweep → Keeping → Keeping
 caught_up [] k = k
 caught_up (s ∷ ss) k = caught_up ss (swept s k)
 
--- whether the power was lost, at one of these and at any of them (profile)
+-- whether it is a loss of power (profile)
 abbrev pub is_power : Sweep → Bool
 is_power Settled = false
 is_power Powered = true
 
+-- whether the power was lost (profile)
 abbrev pub has_power : List Sweep → Bool
 has_power ss = list_any is_power ss
 
