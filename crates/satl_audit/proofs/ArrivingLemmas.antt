@@ -15,12 +15,12 @@ use Rattle.satl_frame.specs.Output.{all_answered, reply_bytes}
 use Rattle.satl_frame.specs.Output.Answer.{replied}
 use Rattle.satl_line.specs.declared.entry.Entry.{Entry}
 use Rattle.satl_direct.specs.Device.{Device, is_called, untold}
-use Rattle.satl_direct.specs.Arrival.{Arrival, ArrivesAs, arrival, asks_for, attention_arrival, attention_for, check, code_arrival, is_unit_0, other_arrival, placed, reply_to}
+use Rattle.satl_direct.specs.Arrival.{Arrival, ArrivesAs, arrival, asks_for, attention_arrival, attention_for, attention_told, check, code_arrival, is_unit_0, other_arrival, placed, reply_to}
 use Rattle.satl_direct.specs.Arrival.Arrival.{answered, attended, overlaps, waits}
 use Rattle.satl_direct.specs.Senses.{attention_sense, overlapped}
-use Rattle.satl_direct.specs.Tasks.{held_blocks, needed, task_for}
+use Rattle.satl_direct.specs.Tasks.{held_blocks, needed, task_for, task_without_pages}
 use Rattle.satl_cover.specs.Known.{is_known}
-use Rattle.satl_audit.specs.Arriving.{ArrivesOn, CannotArrive, IsServing, StandsAt, attention_told, bare_task, device_without_sectors}
+use Rattle.satl_audit.specs.Arriving.{ArrivesOn, CannotArrive, IsServing, StandsAt, device_without_sectors}
 use Rattle.satl_audit.specs.Waiting.{Placed, device_tasks, has_no_room, task_in}
 use Rattle.satl_audit.proofs.ArrivingTask.{full_same, task_same}
 
@@ -66,7 +66,7 @@ module _ (i : Identity) (input : List ℕ) (ps : List Placed) (attentions : List
   placed_as b e = ap (λ (x : Bool). if x then answered (reply_to r TaskSetFull []) else waits (task_for i.queued_trim r c)) (full_same input ps c ∙ e)
 
   pub placed_goes : (at : ℕ) (output : List ℕ) → arrival before r ≡ placed before r c → has_no_room ps (held_blocks c) ≡ false → is_known (Ok c) ≡ true → needed c ≤ r.data_len → StandsAt input at r.data_len r.body →
-      ArrivesOn r before (device_without_sectors i input (ps ++ record { entry = bare_task i.queued_trim r c; at = at } ∷ []) attentions) output output
+      ArrivesOn r before (device_without_sectors i input (ps ++ record { entry = task_without_pages i.queued_trim r c; at = at } ∷ []) attentions) output output
   placed_goes at output is room k le st = record {
     replies = [];
     arrives = subst (λ a. ArrivesAs a r before [] after) (sym (is ∙ placed_as false room)) (refl, ap (λ (l : List Entry). record before { tasks = l }) tasks);
@@ -74,7 +74,7 @@ module _ (i : Identity) (input : List ℕ) (ps : List Placed) (attentions : List
   }
     where
       last : Placed
-      last = record { entry = bare_task i.queued_trim r c; at = at }
+      last = record { entry = task_without_pages i.queued_trim r c; at = at }
 
       after : Device
       after = device_without_sectors i input (ps ++ last ∷ []) attentions

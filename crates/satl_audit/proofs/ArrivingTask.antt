@@ -9,9 +9,9 @@ use Rattle.satl_base.proofs.ListsLemmas.{sum_by-map}
 use Rattle.satl_cdb.specs.declared.command.Command.{Command}
 use Rattle.satl_cdb.specs.declared.command.Command.TheVariants as commands
 use Rattle.satl_line.specs.declared.entry.Entry.{Entry}
-use Rattle.satl_direct.specs.Tasks.{held_blocks, held_by, is_full, needed, task_for}
+use Rattle.satl_direct.specs.Tasks.{held_blocks, held_by, is_full, needed, task_for, task_without_pages}
 use Rattle.satl_cover.specs.Known.{is_known}
-use Rattle.satl_audit.specs.Arriving.{StandsAt, bare_task}
+use Rattle.satl_audit.specs.Arriving.{StandsAt}
 use Rattle.satl_audit.specs.Waiting.{Placed, device_tasks, entries_in, has_no_room, task_in}
 
 -- ---- room
@@ -26,7 +26,7 @@ full_same input ps c =
 
 -- ---- the task
 
-pub task_same : (input : List ℕ) (at : ℕ) (q : Bool) (r : Request) (c : Command) → is_known (Ok c) ≡ true → needed c ≤ r.data_len → StandsAt input at r.data_len r.body → task_in input (record { entry = bare_task q r c; at = at }) ≡ task_for q r c
+pub task_same : (input : List ℕ) (at : ℕ) (q : Bool) (r : Request) (c : Command) → is_known (Ok c) ≡ true → needed c ≤ r.data_len → StandsAt input at r.data_len r.body → task_in input (record { entry = task_without_pages q r c; at = at }) ≡ task_for q r c
 task_same input at q r commands.TestUnitReady k le st = refl
 task_same input at q r (commands.Read form lba count fua) k le st = refl
 task_same input at q r (commands.Write form lba count fua) k le st =

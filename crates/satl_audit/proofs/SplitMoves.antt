@@ -8,7 +8,8 @@ use Rattle.satl_base.specs.Lists.{change_at}
 use Rattle.satl_base.proofs.CellsLemmas.{put-sound}
 use Rattle.satl_base.proofs.LossesLemmas.{loses_none}
 use Rattle.satl_base.proofs.MovesLemmas.{moves_on}
-use Rattle.satl_audit.specs.Deeds.{EachAt, MovesAt}
+use Rattle.satl_base.specs.Lists.{EachAt}
+use Rattle.satl_audit.specs.Deeds.{MovesAt}
 use Rattle.satl_audit.specs.Deeds.MovesAt.{still, fewer, gets}
 use Rattle.satl_audit.proofs.Each.{each_change, each_on, each_same}
 

@@ -5,7 +5,8 @@ use Rattle.std.proofs.lemmas.Bool.{ne_eqb}
 use Rattle.satl_audit.proofs.Each.{is_same}
 use Rattle.satl_base.specs.declared.block.Block.{Block}
 use Rattle.satl_base.specs.Cells.{Cell, Pair, put, put_at, whole, nows}
-use Rattle.satl_audit.specs.Deeds.{EachAt, GivesAt, put_at_one}
+use Rattle.satl_base.specs.Lists.{EachAt}
+use Rattle.satl_audit.specs.Deeds.{GivesAt, put_at_one}
 use Rattle.satl_audit.proofs.Each.{each_change, each_from, each_one, each_same, each_weaker}
 
 -- a pair that names the sector, and one that does not

@@ -4,9 +4,9 @@ use Rattle.std.specs.Prelude.{◌==◌, if◌then◌else◌, drop, slice_range}
 use Rattle.std.specs.List.{AllByRecursion}
 use Rattle.satl_base.specs.declared.block.Block.{Block}
 use Rattle.satl_base.specs.Cells.{Cell, Pair, put}
-use Rattle.satl_base.specs.Lists.{IsIn}
+use Rattle.satl_base.specs.Lists.{EachAt, IsIn}
 use Rattle.satl_base.proofs.ListsLemmas.{in_either, leaves_in}
-use Rattle.satl_audit.specs.Deeds.{Deed, DoneAt, DoneBy, EachAt, MovesAt, put_at_one}
+use Rattle.satl_audit.specs.Deeds.{Deed, DoneAt, DoneBy, MovesAt, put_at_one}
 use Rattle.satl_audit.specs.Deeds.Deed.{shows, puts, gives, settles, powers}
 use Rattle.satl_audit.specs.Deeds.MovesAt.{still, fewer, gets}
 use Rattle.satl_audit.proofs.Forming.{all_taken}

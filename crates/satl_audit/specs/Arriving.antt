@@ -1,22 +1,19 @@
 -- What becomes of a request that the auditor knows.
-use Rattle.std.specs.Prelude.{◌≡◌, ℕ, ◌*◌, ◌≤◌, Bool, true, false, if◌then◌else◌, List, [], ◌++◌, map, take, Option, None, Result, Ok, Err, slice_get, slice_index_or}
+use Rattle.std.specs.Prelude.{◌≡◌, ℕ, ◌*◌, ◌≤◌, true, false, if◌then◌else◌, List, [], ◌++◌, map, take, Result, Ok, Err}
 use Rattle.std.specs.List.{list_any}
 use Rattle.satl_base.specs.declared.block.Block.{Block}
 use Rattle.satl_base.specs.declared.request.Request.{Request}
 use Rattle.satl_base.specs.declared.reply.Reply.{Reply}
-use Rattle.satl_base.specs.Lists.{is_in}
 use Rattle.satl_base.specs.declared.reply.Scsi.TheVariants.{Good}
 use Rattle.satl_cdb.specs.declared.command.Command.{Command}
 use Rattle.satl_identify.specs.declared.identity.Identity.{Identity}
 use Rattle.satl_unit.specs.declared.attention.Attention.{Attention}
-use Rattle.satl_line.specs.declared.entry.Entry.{Entry}
 use Rattle.satl_mode.specs.ModePages.{defaults}
 use Rattle.satl_frame.specs.Output.{all_answered}
 use Rattle.satl_frame.specs.Output.Answer.{replied}
 use Rattle.satl_direct.specs.Device.{Device, is_called}
-use Rattle.satl_direct.specs.Arrival.{Arrival, Arrives, arrival, becomes, check, is_unit_0, operation_code, placed, reply_to, untold_codes}
+use Rattle.satl_direct.specs.Arrival.{Arrival, Arrives, arrival, becomes, check, is_unit_0, placed, reply_to}
 use Rattle.satl_direct.specs.Arrival.Arrival.{answered}
-use Rattle.satl_direct.specs.Tasks.{task_for}
 use Rattle.satl_audit.specs.Following.{input_blocks}
 use Rattle.satl_audit.specs.Waiting.{Placed, device_tasks}
 use Rattle.satl_audit.specs.declared.arriving.Steps.{Steps}
@@ -44,15 +41,6 @@ abbrev pub BecomesJudged : Command → Result Command AtOnce → Type 0
 BecomesJudged command result =
     (identity : Identity) (s : Device) (r : Request) → IsServing identity s
     → becomes s r command ≡ placed_or_answered s r result
-
--- the task of a request and its command, without its pages (profile)
-abbrev pub bare_task : Bool → Request → Command → Entry
-bare_task queued_trim r command = record (task_for queued_trim r command) { body = [] }
-
--- the unit attention condition that a request is answered with (SAM-5 5.14)
-abbrev pub attention_told : List (List Attention) → Request → Option Attention
-attention_told attentions r =
-    if is_in (operation_code r) untold_codes then None else slice_get (slice_index_or attentions r.nexus []) 0
 
 -- the device of a record but for its sectors (profile)
 abbrev pub device_without_sectors : Identity → List ℕ → List Placed → List (List Attention) → Device

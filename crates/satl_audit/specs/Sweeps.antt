@@ -1,5 +1,6 @@
 -- What is done to all sectors at once.
 use Rattle.std.specs.Prelude.{◌≡◌, ℕ, Bool, true, false, List, [], ◌∷◌, Option, Some, None}
+use Rattle.std.specs.List.{list_any}
 use Rattle.satl_audit.specs.Kept.{Keeping, kept_power, kept_settle, known_sector}
 use Rattle.satl_audit.specs.Sectors.{sector_show}
 use Rattle.satl_audit.specs.declared.sectors.Sweep.{Sweep}
@@ -15,11 +16,14 @@ abbrev pub caught_up : List Sweep → Keeping → Keeping
 caught_up [] k = k
 caught_up (s ∷ ss) k = caught_up ss (swept s k)
 
+-- whether it is a loss of power (profile)
+abbrev pub is_power : Sweep → Bool
+is_power Settled = false
+is_power Powered = true
+
 -- whether the power was lost (profile)
 abbrev pub has_power : List Sweep → Bool
-has_power [] = false
-has_power (Settled ∷ ss) = has_power ss
-has_power (Powered ∷ ss) = true
+has_power ss = list_any is_power ss
 
 -- a sector behind the first sweep that it missed, where that wrote it back (profile)
 abbrev pub after_first : Option Sweep → Keeping → Keeping

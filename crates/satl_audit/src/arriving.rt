@@ -2,8 +2,9 @@
 ghost use Rattle.std.specs.Prelude.{◌≡◌, ◌+◌, ◌≤◌, ℕ, [], true, false, None, IfOk, replicate};
 ghost use Rattle.satl_cdb.specs.Table.{says};
 ghost use Rattle.satl_cover.specs.Known.{is_known};
-ghost use Rattle.satl_audit.specs.Arriving.{CannotPlace, Goes, Places, Sticks, attention_told};
+ghost use Rattle.satl_audit.specs.Arriving.{CannotPlace, Goes, Places, Sticks};
 ghost use Rattle.satl_direct.specs.Device.{untold};
+ghost use Rattle.satl_direct.specs.Arrival.{attention_told};
 ghost use Rattle.satl_audit.specs.Waiting.{AllFit, MayWait};
 
 use crate::cursor::Cursor;

@@ -4,9 +4,9 @@ ghost use Rattle.satl_base.specs.declared.block.Block.{Block};
 ghost use Rattle.satl_cdb.specs.Table.{says};
 ghost use Rattle.satl_direct.specs.Arrival.{code_arrival, command_arrival};
 ghost use Rattle.satl_direct.specs.Device.{Device};
-ghost use Rattle.satl_direct.specs.Tasks.{asks};
+ghost use Rattle.satl_direct.specs.Tasks.{asks, task_without_pages};
 ghost use Rattle.satl_cover.specs.Known.{is_known};
-ghost use Rattle.satl_audit.specs.Arriving.{BecomesJudged, IsServing, bare_task, placed_or_answered};
+ghost use Rattle.satl_audit.specs.Arriving.{BecomesJudged, IsServing, placed_or_answered};
 ghost use Rattle.satl_audit.specs.Waiting.{IsTransfer, MayWait};
 
 use arrayvec::ArrayVec;
@@ -88,7 +88,7 @@ pub fn judge(identity: &Identity, request: &Request) -> Result<Command, AtOnce>
 /// The task of a request and its known command, without its pages.
 pub fn task_of(request: &Request, command: Command, queued_trim: bool) -> Entry
     requires { is_known (Ok command) ≡ true }
-    ensures { (body : List Block) → result ≡ bare_task queued_trim (record request.now { body = body }) command }
+    ensures { (body : List Block) → result ≡ task_without_pages queued_trim (record request.now { body = body }) command }
 {
     Entry {
         nexus: request.nexus,

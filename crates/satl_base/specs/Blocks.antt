@@ -1,6 +1,6 @@
 -- Blocks of 512 bytes, and the bytes of a list of them.
 use Rattle.std.specs.Prelude.{ℕ, ◌+◌, ◌*◌, ◌/◌, ◌%◌, ◌≡◌, ◌≤◌, ◌<◌, ◌==◌, ◌&&◌, not, nat_le, nat_lt, Bool, List, [], map, replicate, slice_index, get_or, take, length}
-use Rattle.std.specs.List.{AllByRecursion, flat_map}
+use Rattle.std.specs.List.{AllByRecursion, flat_map, list_all}
 use Rattle.std.specs.Simd.{first_chunks}
 use Rattle.satl_base.specs.declared.block.Block.{Block}
 use Rattle.satl_base.specs.declared.block.Range.{Range}
@@ -15,6 +15,10 @@ AreWhole blocks = AllByRecursion IsWhole blocks
 -- n bytes of zero (profile)
 abbrev pub zero_bytes : ℕ → List ℕ
 zero_bytes n = replicate n 0
+
+-- whether these bytes are zeros (profile)
+abbrev pub is_zeros : List ℕ → Bool
+is_zeros bytes = list_all (λ byte. byte == 0) bytes
 
 -- 512 bytes of zero (profile)
 abbrev pub zero_block : Block

@@ -17,6 +17,11 @@ byte place value = record { first = place; bytes = value ∷ [] }
 abbrev pub number : ℕ → ℕ → ℕ → Line
 number first last value = record { first = first; bytes = bytes_high_first (last + 1 - first) value }
 
+-- a number as 4 bytes show it: FFFFFFFFh where it is larger (SBC-3, READ CAPACITY (10) command and mode parameter block
+-- descriptors)
+abbrev pub shown_in_4_bytes : ℕ → ℕ
+shown_in_4_bytes n = if nat_lt 0xFFFFFFFF n then 0xFFFFFFFF else n
+
 -- some bytes from a place on (profile)
 abbrev pub text : ℕ → List ℕ → Line
 text first value = record { first = first; bytes = value }

@@ -18,13 +18,13 @@ use Rattle.satl_line.specs.Kinds.{kind_of}
 use Rattle.satl_mode.specs.Changes.{IsChangeOf}
 use Rattle.satl_line.specs.Tasks.{Adds, Held, entries_of, is_too_much, total_blocks, with_body}
 use Rattle.satl_line.proofs.SlotsLemmas.{All-append}
-use Rattle.satl_direct.specs.Tasks.{asks, data_out_kept, held_blocks, needed, pass_of, task_for, task_of}
+use Rattle.satl_direct.specs.Tasks.{asks, data_out_kept, held_blocks, needed, pass_of, task_for, task_of, task_without_pages}
 use Rattle.satl_core.specs.Layer.{CanTrim, FitsCapacity, IsKept, IsTask, Layer, entry_pages, held_pages}
 use Rattle.satl_base.specs.Limits.{IsExpectable}
 use Rattle.satl_base.specs.Lists.{change_at}
 use Rattle.satl_core.specs.Refilling.{Comes}
 use Rattle.satl_asks.specs.Commands.{HasList}
-use Rattle.satl_core.specs.Submitting.{Becomes, FindsSetFull, HasEntries, IsAdded, task_without_pages, trims}
+use Rattle.satl_core.specs.Submitting.{Becomes, FindsSetFull, HasEntries, IsAdded, trims}
 use Rattle.satl_identify.specs.Refusals.{IsIdentity}
 use Rattle.satl_core.proofs.AgreeingLemmas.{HasOwnEntries, fits_kept}
 use Rattle.std.proofs.lemmas.List.{length-take, length_push}
@@ -103,17 +103,17 @@ push_tasks [] h = refl
 push_tasks (x ∷ old) h = ap (λ l. task_of x.entry ∷ l) (push_tasks old h)
 
 -- the task without its pages, and then with its data-out, is that of the device
-task_is : (r : Request) (c : Command) (queued_trim : Bool) → record (task_without_pages r c queued_trim) { body = data_out_kept c (take (held_blocks c) r.body) } ≡ task_for queued_trim r c
+task_is : (r : Request) (c : Command) (queued_trim : Bool) → record (task_without_pages queued_trim r c) { body = data_out_kept c (take (held_blocks c) r.body) } ≡ task_for queued_trim r c
 task_is r c queued_trim = refl
 
-pub tasks_with : (old new : List Held) (r : Request) (c : Command) (queued_trim : Bool) (body : List Block) → data_out_kept c body ≡ data_out_kept c (take (held_blocks c) r.body) → HasPages old (task_without_pages r c queued_trim) body new
+pub tasks_with : (old new : List Held) (r : Request) (c : Command) (queued_trim : Bool) (body : List Block) → data_out_kept c body ≡ data_out_kept c (take (held_blocks c) r.body) → HasPages old (task_without_pages queued_trim r c) body new
     → map task_of (entries_of new) ≡ map task_of (entries_of old) ++ task_for queued_trim r c ∷ []
 tasks_with old new r c queued_trim body same h =
-    ap (λ t. map task_of (entries_of t)) h.are ∙ (push_tasks old (record { slot = h.slot; entry = record (task_without_pages r c queued_trim) { body = body } })
-    ∙ (ap (λ b. map task_of (entries_of old) ++ record (task_without_pages r c queued_trim) { body = b } ∷ []) same
+    ap (λ t. map task_of (entries_of t)) h.are ∙ (push_tasks old (record { slot = h.slot; entry = record (task_without_pages queued_trim r c) { body = body } })
+    ∙ (ap (λ b. map task_of (entries_of old) ++ record (task_without_pages queued_trim r c) { body = b } ∷ []) same
     ∙ ap (λ t. map task_of (entries_of old) ++ t ∷ []) (task_is r c queued_trim)))
 
-pub becomes_added : (r : Request) (c : Command) (old : Layer) (replies : List Reply) (new : Layer) → is_too_much old.tasks (task_without_pages r c old.identity.queued_trim) ≡ false → IsAdded r c old replies new → Becomes r c old replies new
+pub becomes_added : (r : Request) (c : Command) (old : Layer) (replies : List Reply) (new : Layer) → is_too_much old.tasks (task_without_pages old.identity.queued_trim r c) ≡ false → IsAdded r c old replies new → Becomes r c old replies new
 becomes_added r c old replies new fits added = rw fits added
 
 take_take : {X : Type 0} (m n : ℕ) (xs : List X) → m ≤ length (take n xs) → take m (take n xs) ≡ take m xs
@@ -154,7 +154,7 @@ same_kept capacity n c count body long list t =
 pub becomes_whole : (w r : Request) (count capacity : ℕ) (c : Command) (old : Layer) (replies : List Reply) (new : Layer) → r ≡ record w { body = take count w.body } → IsTask capacity c (held_blocks c) → HasList c r.body capacity → (replies ≡ [] → needed c ≤ 512 * length r.body)
     → Becomes r c old replies new → Becomes w c old replies new
 becomes_whole w r count capacity c old replies new is t list long b =
-    (elim (is_too_much old.tasks (task_without_pages w c old.identity.queued_trim)) as (λ f. MatchBool f (FindsSetFull cut old replies new) (IsAdded cut c old replies new) → MatchBool f (FindsSetFull w old replies new) (IsAdded w c old replies new)) [
+    (elim (is_too_much old.tasks (task_without_pages old.identity.queued_trim w c)) as (λ f. MatchBool f (FindsSetFull cut old replies new) (IsAdded cut c old replies new) → MatchBool f (FindsSetFull w old replies new) (IsAdded w c old replies new)) [
       | true ↦ λ a. record { reply = a.reply; stays = a.stays }
       | false ↦ λ a. record {
         none = a.none;

@@ -24,13 +24,13 @@ use Rattle.satl_direct.specs.Device.{Device, is_of, untold}
 use Rattle.satl_direct.specs.Senses.{attention_sense, no_sense, out_of_range, overlapped, refusal, sense_spelled, short_data, unknown_unit}
 use Rattle.satl_direct.specs.Arrival as direct
 use Rattle.satl_direct.specs.Arrival.{untold_codes, attended, Arrival, ArrivesAs, Arrives, answered, waits, arrival, asks_for, attention_arrival, cdb_arrival, check, code_arrival, operation_code, other_arrival, unit_arrival}
-use Rattle.satl_direct.specs.Tasks.{asks, held_by, is_full, needed, range_of, task_for, task_of}
+use Rattle.satl_direct.specs.Tasks.{asks, held_by, is_full, needed, range_of, task_for, task_of, task_without_pages}
 use Rattle.satl_core.specs.declared.submitting.AtOnce.{AtOnce}
 use Rattle.satl_core.specs.declared.submitting.AtOnce.TheVariants as at_once
 use Rattle.satl_core.specs.Layer.{Layer, view}
 use Rattle.satl_core.specs.Leaving.{left_by}
 use Rattle.satl_asks.specs.Requests.{is_for_unit}
-use Rattle.satl_core.specs.Submitting.{sense_data, tell_attention, answer_to, other_answer, Becomes, IsAdded, FindsSetFull, attention_of, cdb_answer, code_answer, judged, once_judged, overlaps, readiness, reply_at_once, task_without_pages, is_idle}
+use Rattle.satl_core.specs.Submitting.{sense_data, tell_attention, answer_to, other_answer, Becomes, IsAdded, FindsSetFull, attention_of, cdb_answer, code_answer, judged, once_judged, overlaps, readiness, reply_at_once, is_idle}
 use Rattle.satl_telling.specs.declared.telling.Data.TheVariants as datas
 use Rattle.satl_core.proofs.LeavingLemmas.{found_is, left_tasks}
 use Rattle.satl_core.proofs.SayingLemmas.{IsSaid, said_of}
@@ -266,13 +266,13 @@ waits_arrival l d r c e =
 pub held_by_is : (tasks : List Held) → held_by (map task_of (entries_of tasks)) ≡ total_blocks tasks
 held_by_is tasks = sum_by-map task_of (λ (e : Entry). e.blocks) (entries_of tasks) ∙ sum_by-map (λ (h : Held). h.entry) (λ (e : Entry). e.blocks) tasks
 
-pub full_is : (tasks : List Held) (r : Request) (c : Command) (queued_trim : Bool) → is_full (map task_of (entries_of tasks)) c ≡ is_too_much tasks (task_without_pages r c queued_trim)
+pub full_is : (tasks : List Held) (r : Request) (c : Command) (queued_trim : Bool) → is_full (map task_of (entries_of tasks)) c ≡ is_too_much tasks (task_without_pages queued_trim r c)
 full_is tasks r c queued_trim = rw (tasks_seen tasks, held_by_is tasks) refl
 
 pub becomes_arrives : (l new : Layer) (d : DriveState) (r : Request) (c : Command) (replies : List Reply) → judged l r ≡ Ok c → Becomes r c l replies new → Arrives r (view l d) replies (view new d)
 becomes_arrives l new d r c replies e b =
     subst (λ x. ArrivesAs x r (view l d) replies (view new d)) (sym (waits_arrival l d r c e))
-    ((elim (is_too_much l.tasks (task_without_pages r c l.identity.queued_trim)) as (λ t. is_full (map task_of (entries_of l.tasks)) c ≡ t → MatchBool t (FindsSetFull r l replies new) (IsAdded r c l replies new) → ArrivesAs (full_or_waits l d r c) r (view l d) replies (view new d)) [
+    ((elim (is_too_much l.tasks (task_without_pages l.identity.queued_trim r c)) as (λ t. is_full (map task_of (entries_of l.tasks)) c ≡ t → MatchBool t (FindsSetFull r l replies new) (IsAdded r c l replies new) → ArrivesAs (full_or_waits l d r c) r (view l d) replies (view new d)) [
       | true ↦ λ is a. rw is (a.reply, ap (λ x. view x d) a.stays)
       | false ↦ λ is a. rw is (a.none, ap (λ x. view x d) a.stays ∙ ap (λ t. record (view l d) { tasks = t }) a.last)
     ]) (full_is l.tasks r c l.identity.queued_trim) b)

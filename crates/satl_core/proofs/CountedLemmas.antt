@@ -9,14 +9,14 @@ use Rattle.satl_io.proofs.Counting.{RoseBy-fewer, RoseBy-more, RoseBy-none}
 use Rattle.satl_cdb.specs.declared.command.Command.{Command}
 use Rattle.satl_line.specs.Tasks.{Held, entries_of, is_too_much}
 use Rattle.satl_direct.specs.Device.{Device}
-use Rattle.satl_direct.specs.Tasks.{task_for, task_of}
+use Rattle.satl_direct.specs.Tasks.{task_for, task_of, task_without_pages}
 use Rattle.satl_direct.specs.Run.{losses_of}
 use Rattle.satl_drive.specs.State.{DriveState}
 use Rattle.satl_flight.specs.Settled.{Deepens}
 use Rattle.satl_flight.proofs.LaunchedLemmas.{deepens_on, deepens_same}
 use Rattle.satl_core.specs.Layer.{Layer, view}
 use Rattle.satl_core.specs.Refilling.{AreKept}
-use Rattle.satl_core.specs.Submitting.{Becomes, FindsSetFull, IsAdded, task_without_pages}
+use Rattle.satl_core.specs.Submitting.{Becomes, FindsSetFull, IsAdded}
 
 -- ---- losses
 
@@ -106,7 +106,7 @@ added_more r c old replies new a =
 -- a request adds one task at most, and leaves the modes
 pub becomes_more : (r : Request) (c : Command) (old : Layer) (replies : List Reply) (new : Layer) → Becomes r c old replies new → (length new.tasks ≤ length old.tasks + 1) × (new.modes ≡ old.modes)
 becomes_more r c old replies new b =
-    (elim (is_too_much old.tasks (task_without_pages r c old.identity.queued_trim)) as (λ f. MatchBool f (FindsSetFull r old replies new) (IsAdded r c old replies new) → (length new.tasks ≤ length old.tasks + 1) × (new.modes ≡ old.modes)) [
+    (elim (is_too_much old.tasks (task_without_pages old.identity.queued_trim r c)) as (λ f. MatchBool f (FindsSetFull r old replies new) (IsAdded r c old replies new) → (length new.tasks ≤ length old.tasks + 1) × (new.modes ≡ old.modes)) [
       | true ↦ λ a. let same = ap (λ (l : Layer). length l.tasks) a.stays in (omega (arith, same), ap (λ (l : Layer). l.modes) a.stays)
       | false ↦ λ a. (added_more r c old replies new a, ap (λ (l : Layer). l.modes) a.stays)
     ]) b

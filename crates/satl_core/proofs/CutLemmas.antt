@@ -1,7 +1,6 @@
 -- A request whose pages were cut is judged as the whole request is.
 use Rattle.std.proofs.Common.{inl, inr, ◌-◌, ◌≡◌, refl, sym, ap, subst, ◌∙◌, arith, cond, ℕ, ◌+◌, ◌<◌, ◌≤◌, Bool, true, false, List, length, ⊎_elim, take}
 use Rattle.std.specs.Prelude.{Option, Some, None, Result, Ok, Err, not, ◌==◌, ◌||◌, nat_lt}
-use Rattle.std.specs.List.{list_all}
 use Rattle.std.proofs.lemmas.Bool.{ltb-false}
 use Rattle.satl_base.specs.declared.request.Request.{Request}
 use Rattle.satl_base.specs.Fields.{bytes}
@@ -9,7 +8,6 @@ use Rattle.satl_cdb.specs.declared.command.Command.{Command}
 use Rattle.satl_cdb.specs.declared.command.Command.TheVariants as cdbs
 use Rattle.satl_cdb.specs.declared.command.Illegal.{Illegal}
 use Rattle.satl_base.specs.Blocks.{no_block}
-use Rattle.satl_cdb.specs.Refusals.{invalid_field}
 use Rattle.satl_cdb.specs.Unmap.{list_fault, ranges_of}
 use Rattle.satl_cdb.specs.Table.{says}
 use Rattle.satl_core.proofs.SelectLemmas.{Agree, select_same, taken_agrees}
@@ -18,7 +16,7 @@ use Rattle.std.proofs.lemmas.List.{get_or-take, length-take}
 use Rattle.satl_unit.specs.declared.attention.Attention.{Attention}
 use Rattle.satl_direct.specs.Senses.{out_of_range, overlapped, short_data}
 use Rattle.satl_base.specs.declared.block.Block.{Block}
-use Rattle.satl_direct.specs.Tasks.{asks, block_fault, needed, range_of}
+use Rattle.satl_direct.specs.Tasks.{asks, block_fault, fault_of_block, needed, range_of}
 use Rattle.satl_core.specs.declared.submitting.AtOnce.{AtOnce}
 use Rattle.satl_core.specs.declared.submitting.AtOnce.TheVariants as at_once
 use Rattle.satl_core.specs.Layer.{Layer}
@@ -42,7 +40,7 @@ module _ (l : Layer) (w : Request) (count : ℕ) (bytes : HasLengths w.cdb) (hol
 
   first_same : 512 ≤ w.data_len → block_fault (take count w.body) ≡ block_fault w.body
   first_same long =
-      ap (λ (b : Block). cond (list_all (λ byte. byte == 0) b.bytes) None (Some (invalid_field 1)))
+      ap fault_of_block
       (get_or-take count w.body 0 no_block (let held = list_held (record w { body = take count w.body }) 512 holds long (omega arith) in omega (arith, held, length-take count w.body)))
 
   unmap_same : (size : ℕ) → (asks (cdbs.Unmap size)).length_fault ≡ None → size ≤ w.data_len → size < 65536 → unmap_list_fault (take count w.body) size l.identity.capacity ≡ unmap_list_fault w.body size l.identity.capacity

@@ -6,13 +6,12 @@ use Rattle.std.specs.List.{AllByRecursion, list_any, position_from}
 use Rattle.std.proofs.lemmas.List.{take_all}
 use Rattle.satl_base.specs.declared.request.Tag.{Tag}
 use Rattle.satl_line.specs.declared.entry.Entry.{Entry}
-use Rattle.satl_line.specs.Tasks.{Held, entries_of, entry_at, is_named}
+use Rattle.satl_line.specs.Tasks.{Held, entries_of, entry_at, is_named, without_pages}
 use Rattle.satl_direct.specs.Device.{is_called}
 use Rattle.satl_direct.specs.Tasks.{task_of}
 use Rattle.satl_core.specs.Layer.{held_pages}
 use Rattle.satl_flight.specs.declared.flight.Flying.{Flying}
 use Rattle.satl_flight.specs.Flown.{is_outstanding}
-use Rattle.satl_flight.specs.Queueing.{without_pages}
 use Rattle.satl_core.specs.declared.leaving.Scope.{Scope}
 use Rattle.satl_core.specs.declared.leaving.Scope.TheVariants as scopes
 use Rattle.satl_core.specs.Leaving.{AreWaiting, is_within, left_by}

@@ -42,13 +42,14 @@ use Rattle.satl_core.specs.Managing.{once_posted}
 use Rattle.satl_core.specs.Layer.{Agrees, FitsCapacity, IsKept, IsTask, Layer}
 use Rattle.satl_core.specs.Refilling.{EndsOne}
 use Rattle.satl_core.specs.Turning as core
-use Rattle.satl_core.specs.Turning.{DoneAlone, IsLostInTask, IsUnasked, TaskEnds, TaskOnDrive, change_posting, ended_reply, modes_after, read_pages, started_after, task_on, wanted_by, where_done}
+use Rattle.satl_core.specs.Turning.{DoneAlone, IsLostInTask, IsUnasked, TaskEnds, TaskOnDrive, change_posting, ended_reply, modes_after, read_pages, started_after, task_on, where_done}
 use Rattle.satl_core.proofs.DeviceLemmas.{all_lost, ends_around, ends_by, ends_down, ends_stopped, first_checked, first_gone, first_tasks, quiet_same, seen}
 use Rattle.satl_core.proofs.HeldLemmas.{IsFirst, IsKeptEntry, first_kept}
 use Rattle.satl_core.specs.Medium.{CanCarry}
 use Rattle.satl_core.proofs.PassingLemmas.{pass_turn}
 use Rattle.satl_core.proofs.MediumLemmas.{WritesAlone, check_turn, compare_turn, same_turn, shows, unmap_turn, zero_turn}
 use Rattle.satl_core.proofs.Transfers.{of_task}
+use Rattle.satl_mode.specs.Changes.{wanted_by}
 
 -- a task that moves no has is done, and leaves these sectors
 left_turn : (identity : Identity) (modes modes' : Modes) (started started' : Bool) (attentions attentions' : List (List Attention)) (entry : Entry) (others : List Entry) (d d' : DriveState) (cells : List Cell) (active : Bool) (ending : Ending) → (not started && (asks entry.command).starts) ≡ false

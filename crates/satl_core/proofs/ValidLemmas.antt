@@ -25,7 +25,7 @@ use Rattle.satl_base.specs.Identify.{has_cache, has_look}
 use Rattle.satl_sense.specs.declared.sense.Sense.{Sense}
 use Rattle.satl_direct.specs.Arrival.{waits}
 use Rattle.satl_direct.specs.Device.{Device, is_called, is_of, once_told, untold}
-use Rattle.satl_direct.specs.Tasks.{held_blocks, held_by, is_full, task_for, task_of}
+use Rattle.satl_direct.specs.Tasks.{held_blocks, held_by, is_full, task_for, task_of, task_without_pages}
 use Rattle.satl_direct.specs.Valid.{HasCome, IsValid}
 use Rattle.satl_direct.proofs.Conditions.{valid_attended}
 use Rattle.satl_direct.proofs.Naming.{own_filtered, own_pushed}
@@ -39,7 +39,7 @@ use Rattle.satl_base.specs.Limits.{IsExpectable}
 use Rattle.satl_core.proofs.AgreeingLemmas.{agrees_by, capacity_is, idle_in_flight, valid_fewer}
 use Rattle.satl_core.specs.Leaving.{left_by}
 use Rattle.satl_asks.specs.Requests.{is_for_unit}
-use Rattle.satl_core.specs.Submitting.{Becomes, FindsSetFull, IsAdded, attention_of, code_answer, judged, once_judged, overlaps, task_without_pages}
+use Rattle.satl_core.specs.Submitting.{Becomes, FindsSetFull, IsAdded, attention_of, code_answer, judged, once_judged, overlaps}
 use Rattle.satl_barrier.specs.Leaving.{Stays}
 use Rattle.satl_core.proofs.TieLemmas.{bytes_long, has_as_noted, queue_alike}
 use Rattle.satl_core.proofs.ArrivalLemmas.{code_waits, full_is, full_or_waits}
@@ -48,8 +48,8 @@ use Rattle.satl_core.specs.declared.managing.Posting.{Posting}
 use Rattle.satl_core.specs.declared.turning.Ending.{Ending}
 use Rattle.satl_core.specs.declared.turning.Ending.TheVariants as endings
 use Rattle.satl_core.specs.Managing.{once_posted}
-use Rattle.satl_core.specs.Turning.{modes_after, wanted_by}
-use Rattle.satl_mode.specs.Changes.{AreModesOf, IsChangeOf}
+use Rattle.satl_core.specs.Turning.{modes_after}
+use Rattle.satl_mode.specs.Changes.{AreModesOf, IsChangeOf, wanted_by}
 use Rattle.satl_mode.proofs.Unchanged.{applied_of}
 use Rattle.satl_base.specs.declared.modes.ModeChange.{ModeChange}
 use Rattle.satl_core.proofs.DeviceLemmas.{first_tasks, seen}
@@ -128,7 +128,7 @@ valid_with s t room fits apart come v =
       attentions = v.attentions;
     }
 
-added_valid : (l new : Layer) (d : DriveState) (r : Request) (c : Command) (replies : List Reply) → judged l r ≡ Ok c → is_too_much l.tasks (task_without_pages r c l.identity.queued_trim) ≡ false → IsAdded r c l replies new → r.data_len ≤ 512 * length r.body → IsExpectable r.expected → IsValid (view l d) → IsValid (view new d)
+added_valid : (l new : Layer) (d : DriveState) (r : Request) (c : Command) (replies : List Reply) → judged l r ≡ Ok c → is_too_much l.tasks (task_without_pages l.identity.queued_trim r c) ≡ false → IsAdded r c l replies new → r.data_len ≤ 512 * length r.body → IsExpectable r.expected → IsValid (view l d) → IsValid (view new d)
 added_valid l new d r c replies e fits a pages expected v =
     let room : is_full (map task_of (entries_of l.tasks)) c ≡ false = full_is l.tasks r c l.identity.queued_trim ∙ fits in
     let both = or_parts (length (map task_of (entries_of l.tasks)) == 64) (nat_lt 32768 (held_by (map task_of (entries_of l.tasks)) + held_blocks c)) room in
@@ -150,7 +150,7 @@ added_valid l new d r c replies e fits a pages expected v =
 
 becomes_valid : (l new : Layer) (d : DriveState) (r : Request) (c : Command) (replies : List Reply) → judged l r ≡ Ok c → Becomes r c l replies new → r.data_len ≤ 512 * length r.body → IsExpectable r.expected → IsValid (view l d) → IsValid (view new d)
 becomes_valid l new d r c replies e b pages expected v =
-    (elim (is_too_much l.tasks (task_without_pages r c l.identity.queued_trim)) as (λ f. is_too_much l.tasks (task_without_pages r c l.identity.queued_trim) ≡ f → MatchBool f (FindsSetFull r l replies new) (IsAdded r c l replies new) → IsValid (view new d)) [
+    (elim (is_too_much l.tasks (task_without_pages l.identity.queued_trim r c)) as (λ f. is_too_much l.tasks (task_without_pages l.identity.queued_trim r c) ≡ f → MatchBool f (FindsSetFull r l replies new) (IsAdded r c l replies new) → IsValid (view new d)) [
       | true ↦ λ is a. subst IsValid (sym (ap (λ x. view x d) a.stays)) v
       | false ↦ λ is a. added_valid l new d r c replies e is a pages expected v
     ]) refl b
@@ -182,7 +182,7 @@ tied_told l new d same valid tied = record {
 -- what becomes of a request leaves the layer and its drive in agreement
 module _ (l new : Layer) (d : DriveState) (r : Request) (c : Command) (replies : List Reply) (b : Becomes r c l replies new) where
   becomes_same : new ≡ record l { tasks = new.tasks; free = new.free; out = new.out }
-  becomes_same = (elim (is_too_much l.tasks (task_without_pages r c l.identity.queued_trim)) as (λ f. MatchBool f (FindsSetFull r l replies new) (IsAdded r c l replies new) → new ≡ record l { tasks = new.tasks; free = new.free; out = new.out }) [
+  becomes_same = (elim (is_too_much l.tasks (task_without_pages l.identity.queued_trim r c)) as (λ f. MatchBool f (FindsSetFull r l replies new) (IsAdded r c l replies new) → new ≡ record l { tasks = new.tasks; free = new.free; out = new.out }) [
     | true ↦ λ a. a.stays ∙ ap (λ (x : Layer). record l { tasks = x.tasks; free = new.free; out = x.out }) (sym a.stays)
     | false ↦ λ a. a.stays ∙ ap (λ (x : Layer). record l { tasks = new.tasks; free = new.free; out = x.out }) (sym a.stays)
   ]) b
@@ -192,7 +192,7 @@ module _ (l new : Layer) (d : DriveState) (r : Request) (c : Command) (replies :
 
   -- a full set stays as it is
   full_same : (replies ≡ [] → ⊥) → new ≡ record l { free = new.free; out = new.out }
-  full_same some = (elim (is_too_much l.tasks (task_without_pages r c l.identity.queued_trim)) as (λ f. MatchBool f (FindsSetFull r l replies new) (IsAdded r c l replies new) → new ≡ record l { free = new.free; out = new.out }) [
+  full_same some = (elim (is_too_much l.tasks (task_without_pages l.identity.queued_trim r c)) as (λ f. MatchBool f (FindsSetFull r l replies new) (IsAdded r c l replies new) → new ≡ record l { free = new.free; out = new.out }) [
     | true ↦ λ a. a.stays ∙ ap (λ (x : Layer). record l { free = new.free; out = x.out }) (sym a.stays)
     | false ↦ λ a. absurd (some a.none)
   ]) b

@@ -1,6 +1,6 @@
 -- What the layer is asked with, and what becomes of it.
 use Rattle.std.specs.Prelude.{◌≡◌, ◌⊎◌, ℕ, ◌*◌, ◌+◌, ◌≤◌, ◌<◌, ◌==◌, ◌||◌, ◌&&◌, not, nat_lt, Bool, true, false, if◌then◌else◌, Option, Some, None, Result, Ok, Err, List, [], ◌∷◌, ◌++◌, length, map, take, is_some, slice_get, slice_index, slice_index_or, MatchBool}
-use Rattle.std.specs.List.{list_all, position_from}
+use Rattle.std.specs.List.{position_from}
 use Rattle.satl_base.specs.declared.block.Block.{Block}
 use Rattle.satl_base.specs.declared.request.Request.{Request}
 use Rattle.satl_base.specs.declared.reply.Reply.{Reply}
@@ -11,18 +11,16 @@ use Rattle.satl_base.specs.declared.modes.Modes.{Modes}
 use Rattle.satl_cdb.specs.declared.command.Command.{Command}
 use Rattle.satl_cdb.specs.declared.command.Command.TheVariants as commands
 use Rattle.satl_cdb.specs.declared.command.Illegal.{Illegal}
-use Rattle.satl_cdb.specs.Refusals.{invalid_field}
 use Rattle.satl_cdb.specs.Table.{says}
 use Rattle.satl_cdb.specs.Unmap as unmap
 use Rattle.satl_identify.specs.declared.identity.Identity.{Identity}
 use Rattle.satl_sense.specs.declared.sense.Sense.{Sense}
 use Rattle.satl_regs.specs.Trim.{trim_block}
-use Rattle.satl_line.specs.declared.entry.Entry.{Entry}
 use Rattle.satl_unit.specs.declared.attention.Attention.{Attention}
 use Rattle.satl_direct.specs.Arrival.{asks_for, good_with_data, operation_code, reply_to, sense_asked, untold_codes}
 use Rattle.satl_direct.specs.Device.{is_of, untold}
 use Rattle.satl_direct.specs.Senses.{attention_sense, link_lost, no_sense, not_ready, out_of_range, overlapped, refusal, sense_text, short_data, unknown_unit}
-use Rattle.satl_direct.specs.Tasks.{asks, needed, range_of, task_for, task_of}
+use Rattle.satl_direct.specs.Tasks.{asks, needed, range_of, task_for, task_of, task_without_pages}
 use Rattle.satl_asks.specs.Commands.{IsList}
 use Rattle.satl_asks.specs.Requests.{is_for_unit}
 use Rattle.satl_core.specs.declared.submitting.AtOnce.{AtOnce}
@@ -45,10 +43,6 @@ pub record CanSubmit (r : Request) (free out : ℕ) : Type 0 where
 pub record IsCutOf (whole cut : Request) : Type 0 where
   pub count : ℕ
   pub cut_is : cut ≡ record whole { body = take count whole.body }
-
--- the task that a request becomes, without its pages (profile)
-abbrev pub task_without_pages : Request → Command → Bool → Entry
-task_without_pages r command queued_trim = record (task_for queued_trim r command) { body = [] }
 
 -- the answer to a request that is answered at once (profile)
 abbrev pub reply_at_once : Identity → Modes → Request → AtOnce → Reply
@@ -134,10 +128,6 @@ HasListUnlessEmpty _ body capacity = Unit {0}
 abbrev pub unmap_list_fault : List Block → ℕ → ℕ → Option Illegal
 unmap_list_fault body size capacity = if size == 0 then None else unmap.list_fault body size capacity
 
--- the refusal of the block of a WRITE SAME that unmaps: it has to be zeros (SBC-3, WRITE SAME commands; profile)
-abbrev pub fault_of_block : Block → Option Illegal
-fault_of_block block = if list_all (λ byte. byte == 0) block.bytes then None else Some (invalid_field 1)
-
 -- whether a command trims: an UNMAP, and a WRITE SAME that unmaps (SBC-3, UNMAP and WRITE SAME commands)
 abbrev pub trims : Command → Bool
 trims (commands.Unmap size) = true
@@ -220,6 +210,6 @@ pub record IsAdded (r : Request) (command : Command) (old : Layer) (replies : Li
 -- a command becomes a task, but for a full task set (profile)
 abbrev pub Becomes : Request → Command → Layer → List Reply → Layer → Type 0
 Becomes r command old replies new =
-    MatchBool (is_too_much old.tasks (task_without_pages r command old.identity.queued_trim))
+    MatchBool (is_too_much old.tasks (task_without_pages old.identity.queued_trim r command))
     (FindsSetFull r old replies new)
     (IsAdded r command old replies new)

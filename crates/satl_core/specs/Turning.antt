@@ -2,7 +2,6 @@
 use Rattle.std.specs.Prelude.{◌≡◌, ℕ, ◌*◌, ◌+◌, ◌&&◌, not, Bool, true, false, if◌then◌else◌, List, [], ◌∷◌, length, map, min, get_or, MatchBool, IsSomeAnd, Option, Some, None, unwrap_or}
 use Rattle.std.specs.Option.{option_map}
 use Rattle.satl_base.specs.declared.block.Block.{Block}
-use Rattle.satl_base.specs.declared.modes.ModeChange.{ModeChange}
 use Rattle.satl_base.specs.declared.modes.Modes.{Modes}
 use Rattle.satl_base.specs.declared.reply.Reply.{Reply}
 use Rattle.satl_base.specs.declared.reply.Scsi.{Scsi}
@@ -13,8 +12,6 @@ use Rattle.satl_base.specs.Limits.{piece}
 use Rattle.satl_base.specs.Cells.{Pair, settle}
 use Rattle.satl_cdb.specs.declared.command.Command.TheVariants.{ModeSelect, Pass, Read, StartStop}
 use Rattle.satl_sense.specs.declared.sense.Sense.{Sense}
-use Rattle.satl_sense.specs.Descriptor.{descriptor_form}
-use Rattle.satl_sense.specs.Fixed.{fixed_form}
 use Rattle.satl_regs.specs.declared.values.AtaCommand.{AtaCommand}
 use Rattle.satl_regs.specs.declared.values.AtaCommand.TheVariants as ata
 use Rattle.satl_regs.specs.Commands.{command_in}
@@ -23,11 +20,10 @@ use Rattle.satl_regs.specs.Effects.Setting.{sets_cache, sets_look}
 use Rattle.satl_errlog.specs.declared.entry.NcqError.{NcqError}
 use Rattle.satl_line.specs.declared.entry.Entry.{Entry}
 use Rattle.satl_line.specs.Tasks.{Held}
-use Rattle.satl_mode.specs.Changes.{applied, no_change}
 use Rattle.satl_direct.specs.Attentions.{are_same_modes}
 use Rattle.satl_direct.specs.Tasks.{asks, pass_of}
 use Rattle.satl_pass.specs.Status.{error_sense_at}
-use Rattle.satl_direct.specs.Senses.{link_lost, not_ready}
+use Rattle.satl_direct.specs.Senses.{link_lost, not_ready, sense_spelled}
 use Rattle.satl_drive.specs.State.{DriveState}
 use Rattle.satl_barrier.specs.Finishing.{most_pieces, trimming_ranges, writing_same}
 use Rattle.satl_barrier.specs.Leaving.{IsLostIn}
@@ -48,15 +44,11 @@ ending_status endings.Good = statuses.Good
 ending_status (endings.Informed sense) = statuses.CheckCondition
 ending_status (endings.Check sense) = statuses.CheckCondition
 
--- sense data in the form that D_SENSE chooses (SPC-4 4.5)
-abbrev pub sense_form : Sense → Bool → List ℕ
-sense_form sense descriptor = if descriptor then descriptor_form sense else fixed_form sense
-
 -- its sense data (SPC-4 4.5)
 abbrev pub ending_sense : Ending → Bool → List ℕ
 ending_sense endings.Good descriptor = []
-ending_sense (endings.Informed sense) descriptor = sense_form sense descriptor
-ending_sense (endings.Check sense) descriptor = sense_form sense descriptor
+ending_sense (endings.Informed sense) descriptor = sense_spelled descriptor sense
+ending_sense (endings.Check sense) descriptor = sense_spelled descriptor sense
 
 -- the pages of a READ, and of an ATA PASS-THROUGH whose data come from the drive, are its data-in (SAT-3 12.2; profile)
 abbrev pub read_pages : Command → List Block → List Block
@@ -182,10 +174,6 @@ where_done (endings.Check sense) done kept = kept
 abbrev pub started_after : Command → Ending → Bool → Bool
 started_after (StartStop start no_flush) ending started = where_done ending start started
 started_after _ ending started = started
-
--- the mode values that a task wants: those that there are, with what it changes (SPC-4, MODE SELECT commands)
-abbrev pub wanted_by : Modes → Option ModeChange → Modes
-wanted_by modes change = applied modes (unwrap_or change no_change)
 
 -- the mode values with what a SET FEATURES sets (ACS-3, SET FEATURES; SAT-3)
 abbrev pub modes_with_setting : Option Setting → Modes → Modes

@@ -1,7 +1,8 @@
 // Mode values that a task sets.
 ghost use Rattle.std.specs.Prelude.{◌≡◌};
 ghost use Rattle.satl_direct.specs.Attentions.{are_same_modes};
-ghost use Rattle.satl_core.specs.Turning.{change_posting, modes_after, set_by, wanted_by};
+ghost use Rattle.satl_core.specs.Turning.{change_posting, modes_after, set_by};
+ghost use Rattle.satl_mode.specs.Changes.{wanted_by};
 
 use crate::alone::Alone;
 use crate::managing::Posting;

@@ -1,17 +1,18 @@
 // A command arrives.
 ghost use Rattle.std.specs.Prelude.{◌≡◌, ◌≤◌, ◌+◌, ◌*◌, ◌==◌, ◌∷◌, [], IfNone, IfOk, None, true, length, take, ◌⊎◌};
-ghost use Rattle.std.specs.List.{AllByRecursion, list_all};
+ghost use Rattle.std.specs.List.{AllByRecursion};
 ghost use Rattle.satl_frame.specs.Output.{IsWritable};
 ghost use Rattle.satl_cdb.specs.Unmap as unmap;
 ghost use Rattle.satl_regs.specs.Trim.{IsTrimList, trim_block};
 ghost use Rattle.satl_direct.specs.Arrival.{reply_to};
 ghost use Rattle.satl_identify.specs.Refusals.{IsIdentity};
 ghost use Rattle.satl_mode.specs.SelectList.{select_fault};
-ghost use Rattle.satl_direct.specs.Tasks.{asks, data_out_kept, held_blocks, needed};
+ghost use Rattle.satl_direct.specs.Tasks.{asks, data_out_kept, fault_of_block, held_blocks, needed, task_without_pages};
 ghost use Rattle.satl_core.specs.Layer.{entry_pages, reply_pages};
 ghost use Rattle.satl_base.specs.Limits.{IsExpectable};
+ghost use Rattle.satl_base.specs.Blocks.{is_zeros};
 ghost use Rattle.satl_asks.specs.Commands.{CanPass, HasList, IsList};
-ghost use Rattle.satl_core.specs.Submitting.{HasEntries, HasLengths, HasListUnlessEmpty, HoldsList, answer_to, attention_of, code_answer, command_answer, data_answer, fault_of_block, is_idle, other_answer, readiness, reply_at_once, sense_data, task_without_pages, tell_attention, trims, unless_idle, unmap_list_fault};
+ghost use Rattle.satl_core.specs.Submitting.{HasEntries, HasLengths, HasListUnlessEmpty, HoldsList, answer_to, attention_of, code_answer, command_answer, data_answer, is_idle, other_answer, readiness, reply_at_once, sense_data, tell_attention, trims, unless_idle, unmap_list_fault};
 ghost use Rattle.satl_direct.specs.Device.{untold};
 
 use crate::satl::Satl;
@@ -179,7 +180,7 @@ fn block_fault(block: &Block) -> Option<Illegal>
 }
 
 fn is_zero(block: &Block) -> bool
-    ensures { result ≡ list_all (λ byte. byte == 0) block.now.bytes }
+    ensures { result ≡ is_zeros block.now.bytes }
 {
     block.bytes.iter().all(|byte| *byte == 0)
 }
@@ -299,7 +300,7 @@ fn readiness(satl: &Satl) -> AtOnce
 pub fn put_task(request: &Request, command: Command, identity: &Identity, task: &mut Entry)
     requires list { HasList command request.now.body identity.now.capacity }
     requires holds { needed command ≤ 512 * length request.now.body ⊎ needed command ≤ 512 * held_blocks command }
-    ensures { task.new ≡ task_without_pages request.now command identity.now.queued_trim }
+    ensures { task.new ≡ task_without_pages identity.now.queued_trim request.now command }
 {
     task.nexus = request.nexus;
     task.tag = request.tag;

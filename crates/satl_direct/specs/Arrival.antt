@@ -1,12 +1,13 @@
 -- What a request does when it arrives (SAM-5 5, SPC-4, SBC-3; the order of the steps: profile).
-use Rattle.std.specs.Prelude.{◌≡◌, ℕ, ◌+◌, ◌==◌, not, ◌&&◌, ◌||◌, nat_lt, Bool, true, false, if◌then◌else◌, List, [], ◌∷◌, ◌++◌, length, take, slice_get, slice_index, unwrap_or, Option, Some, None, Result, Ok, Err}
-use Rattle.std.specs.List.{list_all, list_any}
+use Rattle.std.specs.Prelude.{◌≡◌, ℕ, ◌+◌, ◌==◌, not, ◌&&◌, ◌||◌, nat_lt, Bool, true, false, if◌then◌else◌, List, [], ◌∷◌, ◌++◌, length, take, slice_get, slice_index, unwrap_or, Option, Some, None, Result, Ok, Err, slice_index_or}
+use Rattle.std.specs.List.{list_any}
 use Rattle.satl_base.specs.declared.request.Request.{Request}
 use Rattle.satl_base.specs.declared.reply.Reply.{Reply}
 use Rattle.satl_base.specs.declared.reply.Scsi.{Scsi}
 use Rattle.satl_base.specs.declared.reply.Scsi.TheVariants.{Good, CheckCondition, TaskSetFull}
 use Rattle.satl_base.specs.Fields.{bit, bytes}
 use Rattle.satl_base.specs.Lists.{is_in}
+use Rattle.satl_base.specs.Blocks.{is_zeros}
 use Rattle.satl_cdb.specs.declared.command.Command.{Command}
 use Rattle.satl_cdb.specs.declared.command.Command.TheVariants as commands
 use Rattle.satl_cdb.specs.declared.command.Illegal.{Illegal}
@@ -66,7 +67,7 @@ good_with_data r alloc text =
 
 -- the logical unit 0: eight bytes of zero (SAM-5 4.6.4)
 abbrev pub is_unit_0 : List ℕ → Bool
-is_unit_0 lun = list_all (λ byte. byte == 0) lun
+is_unit_0 lun = is_zeros lun
 
 -- what becomes of a request: it is answered at once and nothing changes; or with the first unit attention condition of its
 -- nexus, which is told by that; or it overlaps a task, and all tasks of its nexus go without an answer; or it is a task from
@@ -165,9 +166,14 @@ cdb_arrival s r (Ok command) = unless_refused (asks command).fields_fault s r (c
 abbrev pub untold_codes : List ℕ
 untold_codes = 0x12 ∷ 0xA0 ∷ 0x03 ∷ []
 
--- the unit attention condition that a request is answered with, if any (SAM-5 5.14)
+-- the unit attention condition of those posted, by nexus, that a request is answered with, if any (SAM-5 5.14)
+abbrev pub attention_told : List (List Attention) → Request → Option Attention
+attention_told attentions r =
+    if is_in (operation_code r) untold_codes then None else slice_get (slice_index_or attentions r.nexus []) 0
+
+-- the same of a device's (SAM-5 5.14)
 abbrev pub attention_for : Device → Request → Option Attention
-attention_for s r = if is_in (operation_code r) untold_codes then None else slice_get (attentions_of r.nexus s) 0
+attention_for s r = attention_told s.attentions r
 
 -- what the CDB says, or that its operation code is not served, as that of UNMAP is not where the drive does not trim (SPC-4
 -- 4.3)

@@ -1,5 +1,5 @@
 -- How a task ends at its turn (SAT-3 11, error mapping; SBC-3 5; SPC-4 6).
-use Rattle.std.specs.Prelude.{◌≡◌, ◌⊎◌, ℕ, ◌+◌, ◌*◌, ◌&&◌, ◌||◌, not, min, Bool, true, false, if◌then◌else◌, List, [], ◌∷◌, Option, Some, None, MatchBool, MatchOption, length, map, replicate, unwrap_or}
+use Rattle.std.specs.Prelude.{◌≡◌, ◌⊎◌, ℕ, ◌+◌, ◌*◌, ◌&&◌, ◌||◌, not, min, Bool, true, false, if◌then◌else◌, List, [], ◌∷◌, Option, Some, None, MatchBool, MatchOption, length, map, replicate}
 use Rattle.satl_base.specs.Limits.{piece}
 use Rattle.satl_base.specs.declared.block.Block.{Block}
 use Rattle.satl_base.specs.declared.block.Range.{Range}
@@ -16,7 +16,7 @@ use Rattle.satl_sense.specs.declared.sense.Sense.{Sense}
 use Rattle.satl_identify.specs.Data.{identity_data}
 use Rattle.satl_regs.specs.declared.values.Taskfile.{Taskfile}
 use Rattle.satl_regs.specs.Effects.{Medium, Ata}
-use Rattle.satl_mode.specs.Changes.{applied, no_change}
+use Rattle.satl_mode.specs.Changes.{wanted_by}
 use Rattle.satl_pass.specs.declared.pass.Pass.{Pass}
 use Rattle.satl_pass.specs.Status.{is_bad, status_sense}
 use Rattle.satl_frame.specs.DataPages.{page_count, pages_of}
@@ -155,7 +155,7 @@ after_start_stop true no_flush s = record s { active = true; started = true }
 
 -- the mode values after a MODE SELECT (SPC-4, MODE SELECT commands)
 abbrev pub selected : Device → Entry → Modes
-selected s t = applied s.modes (unwrap_or t.modes no_change)
+selected s t = wanted_by s.modes t.modes
 
 -- MODE SELECT: the mode values are those selected; all is written back where that turns WCE off; and where a value has changed,
 -- MODE PARAMETERS CHANGED is posted for the other nexuses (SPC-4, MODE SELECT commands; SBC-3 6.4.5)

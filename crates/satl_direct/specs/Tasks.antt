@@ -1,7 +1,7 @@
 -- What commands ask of the device, and the tasks that they become (SBC-3 5, SPC-4 6, SAT-3). `Illegal` is a refusal: its
 -- additional sense codes, the byte at fault where there is one, and whether that byte is of the CDB or of the data-out.
 use Rattle.std.specs.Prelude.{ℕ, ◌+◌, ◌*◌, ◌==◌, ◌&&◌, not, nat_lt, Bool, true, false, if◌then◌else◌, List, [], ◌∷◌, length, take, get_or, Option, Some, None, Result, Ok, Err}
-use Rattle.std.specs.List.{list_all, sum_by}
+use Rattle.std.specs.List.{sum_by}
 use Rattle.satl_base.specs.declared.block.Block.{Block}
 use Rattle.satl_base.specs.declared.block.Range.{Range}
 use Rattle.satl_base.specs.declared.modes.ModeChange.{ModeChange}
@@ -9,7 +9,7 @@ use Rattle.satl_base.specs.declared.request.Request.{Request}
 use Rattle.satl_base.specs.declared.request.Attr.{Attr}
 use Rattle.satl_base.specs.declared.request.Attr.TheVariants.{Simple, Ordered}
 use Rattle.satl_base.specs.declared.modes.Modes.{Modes}
-use Rattle.satl_base.specs.Blocks.{first_bytes, no_block, over}
+use Rattle.satl_base.specs.Blocks.{first_bytes, no_block, over, is_zeros}
 use Rattle.satl_base.specs.Limits.{leave_no_room}
 use Rattle.satl_cdb.specs.declared.command.Command.{Command}
 use Rattle.satl_cdb.specs.declared.command.Command.TheVariants as commands
@@ -25,6 +25,7 @@ use Rattle.satl_pass.specs.Reading.{pass_says}
 use Rattle.satl_frame.specs.DataPages.{page_count, pages_of}
 use Rattle.satl_line.specs.declared.entry.Entry.{Entry}
 use Rattle.satl_line.specs.Kinds.{kind_of}
+use Rattle.satl_line.specs.Tasks.{without_pages}
 
 -- what an ATA PASS-THROUGH says (SAT-3 12.2)
 abbrev pub pass_of : List ℕ → Pass
@@ -87,8 +88,12 @@ asks_unmap length = record nothing {
 }
 
 -- the refusal of the block of a WRITE SAME that unmaps: it has to be zeros (SBC-3, WRITE SAME commands; profile)
+abbrev pub fault_of_block : Block → Option Illegal
+fault_of_block block = if is_zeros block.bytes then None else Some (invalid_field 1)
+
+-- the same of the first block of a data-out (SBC-3, WRITE SAME commands; profile)
 abbrev pub block_fault : List Block → Option Illegal
-block_fault body = if list_all (λ byte. byte == 0) (get_or body 0 no_block).bytes then None else Some (invalid_field 1)
+block_fault body = fault_of_block (get_or body 0 no_block)
 
 -- the refusal in what an ATA PASS-THROUGH says (SAT-3 12.2)
 abbrev pub fault_in : Result Pass Illegal → Option Illegal
@@ -184,6 +189,10 @@ task_for queued_trim r command = record {
   modes = (asks command).change r.body;
   expected = r.expected;
 }
+
+-- the same task without its pages (profile)
+abbrev pub task_without_pages : Bool → Request → Command → Entry
+task_without_pages queued_trim r command = without_pages (task_for queued_trim r command)
 
 -- a task as the device sees it: with its data-out alone in its pages (SAM-5 4.8)
 abbrev pub task_of : Entry → Entry

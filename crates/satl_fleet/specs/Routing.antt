@@ -1,11 +1,13 @@
 -- Which unit of a target a frame goes to, and as what (SAM-5 4.7.2; the routing of other LUNs: profile).
 use Rattle.std.specs.Prelude.{ℕ, ◌==◌, ◌&&◌, nat_lt, Bool, List, [], ◌∷◌, drop, replicate, slice_index, if◌then◌else◌}
-use Rattle.std.specs.List.{flat_map, list_all}
+use Rattle.std.specs.List.{flat_map}
 use Rattle.satl_base.specs.declared.request.Request.{Request}
 use Rattle.satl_base.specs.declared.request.Manage.{Manage}
+use Rattle.satl_base.specs.Blocks.{is_zeros}
 use Rattle.satl_frame.specs.declared.frames.Frame.{Frame}
 use Rattle.satl_frame.specs.declared.frames.Frame.TheVariants as frames
 use Rattle.satl_fleet.specs.declared.routing.Route.{Route}
+use Rattle.satl_direct.specs.Arrival.{asks_for}
 
 -- the LUN 0: eight bytes of zero (SAM-5 4.7.2)
 abbrev pub lun_0 : List ℕ
@@ -13,7 +15,7 @@ lun_0 = replicate 8 0
 
 -- whether a LUN of one level names one of so many units (SAM-5 4.7.2)
 abbrev pub names_unit : ℕ → List ℕ → Bool
-names_unit units lun = slice_index lun 0 == 0 && (nat_lt (slice_index lun 1) units && list_all (λ byte. byte == 0) (drop 2 lun))
+names_unit units lun = slice_index lun 0 == 0 && (nat_lt (slice_index lun 1) units && is_zeros (drop 2 lun))
 
 -- where a frame to this LUN goes: to the unit of that number, at LUN 0 there; or, where there is none, to unit 0 at the same
 -- LUN (profile)
@@ -24,7 +26,7 @@ route_to units lun =
 
 -- whether it is REPORT LUNS, which the target itself answers (SPC-4 6.33; profile)
 abbrev pub is_report : Request → Bool
-is_report r = slice_index r.cdb 0 == 0xA0
+is_report r = asks_for 0xA0 r
 
 -- whether it is I_T NEXUS RESET, which goes to every unit (SAM-5 7.7)
 abbrev pub is_for_all : Manage → Bool

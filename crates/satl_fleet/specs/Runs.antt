@@ -11,6 +11,7 @@ use Rattle.satl_step.specs.Runs.{RunInPart, unplugs_in}
 use Rattle.satl_fleet.specs.Output.{Round, frames_of, groups_for}
 use Rattle.satl_fleet.specs.Routing.{project}
 use Rattle.satl_fleet.specs.Units.{UnitState, device_of}
+use Rattle.satl_base.specs.Lists.{EachAt}
 
 -- a unit where a run begins or ends: the device that it is, and its drive (profile)
 pub record UnitStand : Type 0 where
@@ -70,11 +71,7 @@ pub record UnitServed (Run : UnitStand → UnitStand → Type 0) (old new : Driv
 
 -- each unit from this one on was served in rounds: to each LUN the answers are those of its own direct device alone (profile)
 abbrev pub AreServed : ℕ → ℕ → List Round → List DriveState → List DriveState → Type 0
-AreServed units k rounds [] [] = Unit {0}
-AreServed units k rounds [] (new ∷ news) = ⊥
-AreServed units k rounds (old ∷ olds) [] = ⊥
-AreServed units k rounds (old ∷ olds) (new ∷ news) =
-    UnitServed (RanRounds units k rounds) old new × AreServed units (suc k) rounds olds news
+AreServed units k rounds olds news = EachAt (λ n old new. UnitServed (RanRounds units n rounds) old new) k olds news
 
 -- units from this one on were served in rounds and in one more, the next one in the last round in whole or in part, and those
 -- behind it leave the last round out (profile)
@@ -91,11 +88,8 @@ pub data AreServedInPart (units : ℕ) (rounds : List Round) (round : Round)
 
 -- units from this one on have run in rounds since they stood there (profile)
 abbrev pub HaveRun : ℕ → ℕ → List Round → List UnitState → List UnitState → Type 0
-HaveRun units k rounds [] [] = Unit {0}
-HaveRun units k rounds [] (s ∷ ss) = ⊥
-HaveRun units k rounds (a ∷ starts) [] = ⊥
-HaveRun units k rounds (a ∷ starts) (s ∷ ss) =
-    RanRounds units k rounds (unit_stand_of a) (unit_stand_of s) × HaveRun units (suc k) rounds starts ss
+HaveRun units k rounds starts ss =
+    EachAt (λ n a s. RanRounds units n rounds (unit_stand_of a) (unit_stand_of s)) k starts ss
 
 -- the same, and in one round more, up to a unit that did it in whole or in part (profile)
 pub data HaveRunInPart (units : ℕ) (rounds : List Round) (round : Round) : ℕ → List UnitState → List UnitState → Type 0 where

@@ -1,7 +1,7 @@
 // Which unit of a target a frame goes to.
 ghost use Rattle.std.specs.Prelude.{◌≡◌, ◌==◌};
-ghost use Rattle.std.specs.List.{list_all};
 ghost use Rattle.satl_fleet.specs.Routing.{is_for_all, is_report, names_unit, route_to};
+ghost use Rattle.satl_base.specs.Blocks.{is_zeros};
 
 use satl_base::{Manage, Request};
 
@@ -18,7 +18,7 @@ pub struct Route {
 }
 
 fn are_zero(bytes: &[u8]) -> bool
-    ensures { result ≡ list_all (λ byte. byte == 0) bytes.now }
+    ensures { result ≡ is_zeros bytes.now }
 {
     bytes.iter().all(|byte| *byte == 0)
 }

@@ -11,8 +11,9 @@ use Rattle.satl_line.specs.Tasks.{Held}
 use Rattle.satl_drive.specs.Queue.{Slots}
 use Rattle.satl_pages.specs.Slots.{pages_at}
 use Rattle.satl_flight.specs.declared.flight.Flying.{Flying}
-use Rattle.satl_flight.specs.Lending.{AreAlike, IsLending, IsLent, is_of_slot, lent, whole_tasks}
+use Rattle.satl_flight.specs.Lending.{AreAlike, IsLending, IsLent, lent, whole_tasks}
 use Rattle.satl_flight.proofs.LendingLemmas.{lent_on}
+use Rattle.satl_flight.specs.Flown.{is_of_slot}
 
 -- each slot has as many pages as before
 abbrev pub HaveRoom : Slots → Slots → Type 0

@@ -24,8 +24,8 @@ use Rattle.satl_drive.specs.State.{DriveState, Outstanding}
 use Rattle.satl_drive.specs.Queue.{CanIssue, IsIssueCutOff, IsIssued, Slots}
 use Rattle.satl_pages.specs.Slots.{pages_at}
 use Rattle.satl_flight.specs.declared.flight.Flying.{Flying}
-use Rattle.satl_flight.specs.Flown.{AreApart, IsFlown, IsInFlight, clash, is_outstanding, is_in_slot, queued_for}
-use Rattle.satl_flight.specs.Lending.{IsLending, Waiting, has_tag, is_of_slot, waiting, whole_task, whole_tasks, with_own_pages}
+use Rattle.satl_flight.specs.Flown.{AreApart, IsFlown, IsInFlight, clash, is_outstanding, is_in_slot, queued_for, is_of_slot}
+use Rattle.satl_flight.specs.Lending.{IsLending, Waiting, has_tag, waiting, whole_task, whole_tasks, with_own_pages}
 use Rattle.satl_flight.specs.Settled.{IsFilled, IsIssuedIfItMay, IsLaunched, IsLostQuietly, OnDrive, on_drive}
 use Rattle.satl_flight.proofs.ZipLemmas.{IsBefore, found_within, passed_from}
 use Rattle.satl_flight.proofs.FlownLemmas.{FitsOn}

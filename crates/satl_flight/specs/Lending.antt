@@ -8,15 +8,11 @@ use Rattle.satl_line.specs.Tasks.{Held, count_of, slots_of, with_body}
 use Rattle.satl_drive.specs.Queue.{Slots}
 use Rattle.satl_pages.specs.Slots.{pages_at}
 use Rattle.satl_flight.specs.declared.flight.Flying.{Flying}
-use Rattle.satl_flight.specs.Flown.{AreApart, is_in_slot}
+use Rattle.satl_flight.specs.Flown.{AreApart, is_in_slot, is_of_slot}
 
 -- whether it has this tag (ACS-3, tags)
 abbrev pub has_tag : ℕ → Flying → Bool
 has_tag tag f = f.tag == tag
-
--- whether it is of the task in this slot (profile)
-abbrev pub is_of_slot : ℕ → Flying → Bool
-is_of_slot slot f = f.slot == slot
 
 -- the pages that the task in a slot has lent, if it has (profile)
 abbrev pub lent : List Flying → Slots → ℕ → Option (List Block)

@@ -4,11 +4,11 @@ ghost use Rattle.std.specs.List.{position_from};
 ghost use Rattle.std.specs.Prelude.{◌≡◌, ◌≢◌, ◌≤◌, ◌<◌, ◌+◌, ◌-◌, ◌↔◌, [], length, Some, false, IfOk, IsTrue, OnOk, OnErr, is_err, remove, slice_get};
 ghost use Rattle.satl_base.specs.Limits.{most_held, most_tasks};
 ghost use Rattle.satl_base.specs.Lists.{change_at};
-ghost use Rattle.satl_line.specs.Tasks.{Adds, AreOwnSlots, Held, entry_at, is_named, is_too_much, total_blocks, with_body};
+ghost use Rattle.satl_line.specs.Tasks.{Adds, AreOwnSlots, Held, entry_at, is_named, is_too_much, total_blocks, with_body, without_pages};
 ghost use Rattle.satl_flight.specs.Flown.{is_outstanding};
 ghost use Rattle.satl_drive.specs.State.{DriveState, IsFit};
 ghost use Rattle.satl_flight.specs.Lending.{AreAlike};
-ghost use Rattle.satl_flight.specs.Queueing.{EndsAndLeaves, IsQueued, IsSlotted, empty, without_pages};
+ghost use Rattle.satl_flight.specs.Queueing.{EndsAndLeaves, IsQueued, IsSlotted, empty};
 ghost use Rattle.satl_flight.specs.Settled.{IsCut, IsFilled, IsIssuedIfItMay, IsLaunched, IsLostInFlight, IsLostQuietly, on_drive};
 
 use crate::flight::Flight;

@@ -21,6 +21,10 @@ pub record Held : Type 0 where
 abbrev pub entries_of : List Held → List Entry
 entries_of tasks = map (λ held. held.entry) tasks
 
+-- a task but for its pages (profile)
+abbrev pub without_pages : Entry → Entry
+without_pages entry = record entry { body = [] }
+
 -- the slots of the tasks, in order of arrival (profile)
 abbrev pub slots_of : List Held → List ℕ
 slots_of tasks = map (λ held. held.slot) tasks

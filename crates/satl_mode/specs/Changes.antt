@@ -24,6 +24,10 @@ applied m change = record {
 abbrev pub no_change : ModeChange
 no_change = record { wce = None; dra = None; d_sense = None }
 
+-- the mode values that a task wants: those that there are, with what it changes, if it does
+abbrev pub wanted_by : Modes → Option ModeChange → Modes
+wanted_by modes change = applied modes (unwrap_or change no_change)
+
 -- the bytes of the header of a list
 abbrev pub header_size : Bool → ℕ
 header_size ten = if ten then 8 else 4

@@ -1,6 +1,6 @@
 -- The mode parameter block descriptors (SBC-3, mode parameter block descriptors).
-use Rattle.std.specs.Prelude.{ℕ, ◌+◌, ◌-◌, nat_lt, Bool, true, false, List, [], ◌∷◌, map, if◌then◌else◌}
-use Rattle.satl_base.specs.Places.{Line, number, laid}
+use Rattle.std.specs.Prelude.{ℕ, ◌+◌, ◌-◌, Bool, true, false, List, [], ◌∷◌, map, if◌then◌else◌}
+use Rattle.satl_base.specs.Places.{Line, number, laid, shown_in_4_bytes}
 use Rattle.satl_mode.specs.declared.descriptor.Descriptor.{Descriptor}
 use Rattle.satl_mode.specs.declared.descriptor.Descriptor.TheVariants.{Absent, Short, Long}
 
@@ -16,9 +16,9 @@ pub record BlockField : Type 0 where
   pub width : ℕ
   pub value : ℕ
 
--- a number of blocks in 4 bytes: FFFFFFFFh where it is larger
+-- a number of blocks in 4 bytes
 abbrev pub short_capacity : ℕ → ℕ
-short_capacity capacity = if nat_lt 0xFFFFFFFF capacity then 0xFFFFFFFF else capacity
+short_capacity capacity = shown_in_4_bytes capacity
 
 -- NUMBER OF LOGICAL BLOCKS and LOGICAL BLOCK LENGTH
 abbrev pub block_fields : Descriptor → ℕ → List BlockField

@@ -73,9 +73,8 @@ impl Summary {
         self.requests = self.requests.saturating_add(1);
     }
 
-    /// Counts a reply by its status, and its data-in (profile). The pages hold the data.
+    /// Counts a reply by its status, and its data-in (profile).
     pub fn add_reply(&mut self, reply: &Reply)
-        requires { reply.now.data_len ≤ 512 * length reply.now.body }
         ensures grown { self.new ≡ with_answer self.old (replied reply.now) }
         ensures counted { (requests : ℕ) (answers : List Answer) → self.old ≡ summary_of requests answers
             → self.new ≡ summary_of requests (answers ++ replied reply.now ∷ []) }

@@ -1,15 +1,15 @@
 -- The data of the READ CAPACITY commands.
-use Rattle.std.specs.Prelude.{ℕ, ◌-◌, nat_lt, List, [], ◌∷◌, if◌then◌else◌}
-use Rattle.satl_base.specs.Places.{byte, number, laid}
+use Rattle.std.specs.Prelude.{ℕ, ◌-◌, List, [], ◌∷◌, if◌then◌else◌}
+use Rattle.satl_base.specs.Places.{byte, number, laid, shown_in_4_bytes}
 use Rattle.satl_identify.specs.declared.identity.Identity.{Identity}
 
 -- the address of the last block
 abbrev pub last_lba : Identity → ℕ
 last_lba i = i.capacity - 1
 
--- that address in 32 bits, FFFFFFFFh where it is larger
+-- that address in 4 bytes
 abbrev pub shown_last_lba : Identity → ℕ
-shown_last_lba i = if nat_lt 0xFFFFFFFF (last_lba i) then 0xFFFFFFFF else last_lba i
+shown_last_lba i = shown_in_4_bytes (last_lba i)
 
 -- RETURNED LOGICAL BLOCK ADDRESS and LOGICAL BLOCK LENGTH IN BYTES (SBC-3, READ CAPACITY (10) command)
 unfoldable pub capacity_10 : Identity → List ℕ
