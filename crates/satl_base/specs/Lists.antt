@@ -34,7 +34,7 @@ change_at [] place f = []
 change_at (x ∷ xs) zero f = f x ∷ xs
 change_at (x ∷ xs) (suc place) f = x ∷ change_at xs place f
 
--- two lists of one length that are read side by side (profile)
+-- a value for each two at one place of two lists, as far as both have one (profile)
 abbrev pub paired : {A B C : Type 0} → (A → B → C) → List A → List B → List C
 paired f [] ys = []
 paired f (x ∷ xs) [] = []

@@ -171,7 +171,7 @@ abbrev pub attention_told : List (List Attention) → Request → Option Attenti
 attention_told attentions r =
     if is_in (operation_code r) untold_codes then None else slice_get (slice_index_or attentions r.nexus []) 0
 
--- the same of a device's (SAM-5 5.14)
+-- the same by the conditions that a device has (SAM-5 5.14)
 abbrev pub attention_for : Device → Request → Option Attention
 attention_for s r = attention_told s.attentions r
 

@@ -2,7 +2,7 @@
 use Rattle.std.specs.Prelude.{ℕ, ◌+◌, ◌-◌, ◌^◌, ◌≤◌, min, OnErr}
 use Rattle.std.specs.declared.result.Result.{Result}
 
--- a count of so many stands still at 2^64 - 1 (profile)
+-- a count, which stands still at 2^64 - 1 (profile)
 abbrev pub total : ℕ → ℕ
 total n = min n (2 ^ 64 - 1)
 
