@@ -1,8 +1,8 @@
 // Payloads of frames, field by field.
-ghost use Rattle.std.specs.Prelude.{◌≡◌, ◌<◌, ◌++◌, [], true, ℕ, List, IfSome, IfNone, MatchOption, length, slice_index};
+ghost use Rattle.std.specs.Prelude.{◌≡◌, ◌<◌, ◌++◌, true, ℕ, List, IfSome, IfNone, MatchOption, length, slice_index};
 ghost use Rattle.byteorder.specs.Endian.{big_bytes};
 ghost use Rattle.satl_frame.specs.Faults.{has_bad_event, has_bad_field};
-ghost use Rattle.satl_frame.specs.Frames.{attr_code, expected_in, is_expectable, which_code, head_size, request_fields, manage_fields, event_fields, frame_rows, has_code, allows, kind, payload_bytes, HasFields, IsManage, IsEvent, IsFrame};
+ghost use Rattle.satl_frame.specs.Frames.{attr_code, expected_in, is_expectable, which_code, head_size, request_fields, manage_fields, frame_rows, has_code, allows, HasFields, IsManage};
 ghost use Rattle.satl_frame.specs.Pulls.{SpellsFrame, SpellsEvent};
 
 use crate::frames::{Frame, LONGEST_EVENT, Version};

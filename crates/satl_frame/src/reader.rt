@@ -1,5 +1,5 @@
 // The reader of frames.
-ghost use Rattle.std.specs.Prelude.{◌≡◌, ◌<◌, ◌≤◌, ◌+◌, ◌^◌, ℕ, true, IfOk, IfErr, IfSome, IfNone, Some, None, Err, length, slice_index};
+ghost use Rattle.std.specs.Prelude.{◌≡◌, ◌<◌, ◌+◌, ℕ, true, IfOk, IfErr, IfSome, IfNone, Some, None, Err, length, slice_index};
 ghost use Rattle.satl_base.specs.Stocks.{HasLent};
 ghost use Rattle.satl_frame.specs.declared.frames.Frame.TheVariants as frames;
 ghost use Rattle.satl_frame.specs.Faults.{told_length};

@@ -1,6 +1,5 @@
 // Bytes of frames into a sink, in few writes.
-ghost use Rattle.std.specs.Prelude.{◌≡◌, ◌≤◌, ◌+◌, ◌*◌, ◌++◌, [], None, Some, OnOk, OnErr, is_ok, length};
-ghost use Rattle.byteorder.specs.Endian.{big_bytes};
+ghost use Rattle.std.specs.Prelude.{◌≡◌, ◌≤◌, ◌+◌, ◌++◌, [], None, Some, OnOk, OnErr, is_ok, length};
 ghost use Rattle.arrayvec.specs.ArrayVec.{array_vec_len};
 ghost use Rattle.satl_base.specs.Blocks.{first_bytes};
 ghost use Rattle.satl_base.specs.Limits.{longest_data};

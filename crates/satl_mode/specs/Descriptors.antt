@@ -1,5 +1,5 @@
 -- The mode parameter block descriptors (SBC-3, mode parameter block descriptors).
-use Rattle.std.specs.Prelude.{ℕ, ◌+◌, ◌-◌, Bool, true, false, List, [], ◌∷◌, map, if◌then◌else◌}
+use Rattle.std.specs.Prelude.{ℕ, ◌+◌, ◌-◌, Bool, true, false, List, [], ◌∷◌, map}
 use Rattle.satl_base.specs.Places.{Line, number, laid, shown_in_4_bytes}
 use Rattle.satl_mode.specs.declared.descriptor.Descriptor.{Descriptor}
 use Rattle.satl_mode.specs.declared.descriptor.Descriptor.TheVariants.{Absent, Short, Long}

@@ -1,5 +1,5 @@
 // The data of a reply in hexadecimal digits, gathered.
-ghost use Rattle.std.specs.Prelude.{◌≡◌, ◌≤◌, ◌*◌, ◌++◌, OnOk, OnErr, length};
+ghost use Rattle.std.specs.Prelude.{◌≤◌, ◌*◌, ◌++◌, OnOk, OnErr, length};
 ghost use Rattle.hex.specs.Hex.{encode_lower};
 ghost use Rattle.satl_base.specs.Blocks.{first_bytes};
 ghost use Rattle.satl_frame.specs.Gathering.{Gathers};
