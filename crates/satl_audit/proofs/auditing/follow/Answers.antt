@@ -74,18 +74,6 @@ loop-frame-preserved c = record {
   goes = next_goes (goal.at.loop-frame-preserved c).Else-not-branch c.in_default.not-End;
 }
 
-pub loop-frame-preserved-in_default-2 : goal.loop-frame-preserved-in_default-2
-loop-frame-preserved-in_default-2 c = record {
-  size = c.in_ok-advance.ensures.length ∙ c.loop-frame.invariant.size;
-  goes = next_goes (goal.at.loop-frame-preserved-in_default-2 c).Else-not-branch c.in_default.not-End;
-}
-
-pub loop-frame-preserved-in_default-3 : goal.loop-frame-preserved-in_default-3
-loop-frame-preserved-in_default-3 c = record {
-  size = c.in_ok-advance.ensures.length ∙ c.loop-frame.invariant.size;
-  goes = next_goes (goal.at.loop-frame-preserved-in_default-3 c).Else-not-branch c.in_default.not-End;
-}
-
 pub returns-then-is_empty : goal.returns-then-is_empty
 returns-then-is_empty c =
     says_yes c.args.identity.now c.requires.identity c.args.input.now (out_magic ++ c.args.output.now) c.requires.taken.0 c.requires.taken.1 c.loop-frame.reader c.loop-frame.source c.loop-frame.steps c.loop-frame.sectors c.loop-frame.invariant.goes c.next.new.self c.next.new.source c.in-Ok.frame c.in-Ok.ensures.gave

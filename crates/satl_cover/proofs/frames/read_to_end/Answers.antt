@@ -17,7 +17,7 @@ returns-in-End-clause-whole c =
     let i = c.loop-frame.invariant in
     goes_to_end _ _ c.max-at.result i.going c.in-Ok.ensures.gave i.trim (omega (arith, i.len, c.max-at.ensures, c.left-len.ensures, c.left.ensures)) c.in_ok-note.ensures.knows c.in-End.is
 
--- whatever the frame has to drop, the loop goes on
+-- whether the frame has anything to drop or not, the loop goes on
 pub loop-frame-preserved-in_default : goal.loop-frame-preserved-in_default
 loop-frame-preserved-in_default c =
     let i = c.loop-frame.invariant in
@@ -25,15 +25,5 @@ loop-frame-preserved-in_default c =
 
 pub loop-frame-preserved : goal.loop-frame-preserved
 loop-frame-preserved c =
-    let i = c.loop-frame.invariant in
-    record { len = i.len; trim = c.in_ok-note.ensures.trim ∙ i.trim; going = goes_on _ _ c.max-at.result i.going c.in-Ok.ensures.gave i.trim (omega (arith, i.len, c.max-at.ensures, c.left-len.ensures, c.left.ensures)) c.in_ok-note.ensures.knows c.in_default.not-End }
-
-pub loop-frame-preserved-in_default-2 : goal.loop-frame-preserved-in_default-2
-loop-frame-preserved-in_default-2 c =
-    let i = c.loop-frame.invariant in
-    record { len = i.len; trim = c.in_ok-note.ensures.trim ∙ i.trim; going = goes_on _ _ c.max-at.result i.going c.in-Ok.ensures.gave i.trim (omega (arith, i.len, c.max-at.ensures, c.left-len.ensures, c.left.ensures)) c.in_ok-note.ensures.knows c.in_default.not-End }
-
-pub loop-frame-preserved-in_default-3 : goal.loop-frame-preserved-in_default-3
-loop-frame-preserved-in_default-3 c =
     let i = c.loop-frame.invariant in
     record { len = i.len; trim = c.in_ok-note.ensures.trim ∙ i.trim; going = goes_on _ _ c.max-at.result i.going c.in-Ok.ensures.gave i.trim (omega (arith, i.len, c.max-at.ensures, c.left-len.ensures, c.left.ensures)) c.in_ok-note.ensures.knows c.in_default.not-End }
