@@ -1,6 +1,7 @@
 pub mod CountsLemmas
 pub mod MasksLemmas
 pub mod OutlinesLemmas
+pub mod PassedLemmas
 pub mod SlotsLemmas
 pub mod EligibleLemmas
 pub mod EndingLemmas

@@ -1,5 +1,5 @@
 -- How a set of tasks lies in memory: slots, the order of arrival, the free slots, and the masks (profile, all of it).
-use Rattle.std.specs.Prelude.{◌≡◌, ℕ, ◌+◌, ◌-◌, ◌*◌, ◌%◌, ◌^◌, ◌<◌, ◌≤◌, ◌==◌, Bool, ◌&&◌, if◌then◌else◌, nat_lt, List, [], ◌∷◌, ◌++◌, map, length, slice_index, slice_index_or, slice_set, bit_and, bit_or}
+use Rattle.std.specs.Prelude.{◌≡◌, ℕ, ◌+◌, ◌-◌, ◌*◌, ◌%◌, ◌^◌, ◌<◌, ◌≤◌, ◌==◌, Bool, false, ◌&&◌, if◌then◌else◌, nat_lt, List, [], ◌∷◌, ◌++◌, map, length, take, slice_index, slice_index_or, slice_set, bit_and, bit_or}
 use Rattle.std.specs.Int.{bit_at, bit_not, byte_at, w64}
 use Rattle.std.specs.List.{list_any, All, AllByRecursion}
 use Rattle.satl_base.specs.declared.request.Tag.{Tag}
@@ -10,6 +10,7 @@ use Rattle.satl_line.specs.Blank.{no_entry}
 use Rattle.satl_line.specs.Conflict.{Access, access_of, accesses_conflict}
 use Rattle.satl_line.specs.Tasks.{Held, count_of, slots_of, total_blocks}
 use Rattle.satl_line.specs.declared.outline.Outline.{Outline}
+use Rattle.satl_line.specs.declared.passed.Passed.{Passed}
 use Rattle.satl_line.specs.Outlines.{AreOutlines, is_active, outline_in}
 
 -- the task in a slot
@@ -97,6 +98,11 @@ one_more tag_counts tag = slice_set tag_counts (low_byte tag) (slice_index tag_c
 -- the counts with one task of this tag fewer
 abbrev pub one_fewer : List ℕ → Tag → List ℕ
 one_fewer tag_counts tag = slice_set tag_counts (low_byte tag) (slice_index tag_counts (low_byte tag) - 1)
+
+-- the slots at the first places, as many as a search has passed, are all among those that it keeps
+abbrev pub HasPassed : List ℕ → Passed → Type 0
+HasPassed order passed =
+    (passed.places ≤ length order) × AllByRecursion (λ slot. (bit_at passed.slots slot == 0) ≡ false) (take passed.places order)
 
 -- how a set of tasks lies in memory
 pub record SetInMemory : Type 0 where

@@ -6,6 +6,7 @@ mod conflict;
 mod entry;
 pub mod laws;
 mod outline;
+mod passed;
 mod set;
 mod slots;
 

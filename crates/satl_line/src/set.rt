@@ -15,6 +15,7 @@ use crate::boxed::TaskBox;
 use crate::conflict::conflict;
 use crate::entry::Entry;
 use crate::outline::Outline;
+use crate::passed::Passed;
 use crate::slots::{first_outside, has_slot};
 use arrayvec::ArrayVec;
 use satl_base::{MOST_HELD, MOST_TASKS, Nexus, NoMemory, Pages, Tag};
@@ -45,12 +46,14 @@ pub struct TaskSet {
     active: u64,
     // For each low byte of a tag the number of tasks that have it: mostly 0 for the tag of a task that comes.
     tag_counts: [u8; 256],
+    // The places before the first that was found outside some slots: mostly those of the outstanding tasks.
+    passed: Passed,
 }
 
 impl Model for TaskSet {
     ghost use Rattle.std.specs.Prelude.{List};
     ghost use Rattle.satl_line.specs.Tasks.{Held};
-    ghost use Rattle.satl_line.specs.Layout.{FitTogether, tasks_in};
+    ghost use Rattle.satl_line.specs.Layout.{FitTogether, HasPassed, tasks_in};
 
     ghost Value = { List Held };
 
@@ -66,7 +69,7 @@ impl Model for TaskSet {
       blocks = s.blocks;
       active = s.active;
       tag_counts = s.tag_counts;
-    }) };
+    }) × HasPassed s.order.items s.passed };
 }
 
 impl TaskSet {
@@ -92,6 +95,7 @@ impl TaskSet {
             blocks: 0,
             active: 0,
             tag_counts: no_counts(),
+            passed: Passed::none(),
         })
     }
 
@@ -155,6 +159,7 @@ impl TaskSet {
         clear_slot(&mut self.masks, slot, self.marked);
         self.marked &= !(1 << slot);
         self.active &= !(1 << slot);
+        self.passed = self.passed.without(place, slot);
         self.free.push(slot);
         let entry = task.entry();
         count_down(&mut self.tag_counts, entry.tag);
@@ -246,11 +251,18 @@ impl TaskSet {
 
     /// The first place, from this one on, of a task whose slot is not among these, the bits of a number. None exactly where
     /// there is none (profile).
-    pub fn first_outside(&self, from: usize, slots: u64) -> Option<usize>
-        requires { from ≤ length self.now }
-        ensures { result ≡ position_from (λ slot. bit_at slots slot == 0) from (drop from (slots_of self.now)) }
+    // Among the same slots, with those that came since, it begins where the last search from the first place on has ended.
+    pub fn first_outside(&mut self, from: usize, slots: u64) -> Option<usize>
+        requires { from ≤ length self.old }
+        ensures value { result ≡ position_from (λ slot. bit_at slots slot == 0) from (drop from (slots_of self.old)) }
+        ensures same { self.new ≡ self.old }
     {
-        first_outside(&self.order, from, slots)
+        let start = self.passed.start(&self.order, from, slots);
+        let found = first_outside(&self.order, start, slots);
+        if from == 0 {
+            self.passed = Passed::before(&self.order, found, slots);
+        }
+        found
     }
 
     /// For each slot the slots of the earlier tasks that its task conflicts with, as the bits of a number; 0 for an

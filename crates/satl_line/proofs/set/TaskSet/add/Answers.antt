@@ -1,17 +1,20 @@
 use Rattle.std.proofs.Common.{◌∙◌, ap, arith}
 use Rattle.satl_line.specs.Layout.{with_slot}
+use Rattle.satl_line.proofs.PassedLemmas.{with_place}
 use Rattle.satl_line.proofs.SlotsLemmas.{comes_from, counts_few}
 use Rattle.satl_line.proofs.set.TaskSet.add.Goals as goal
 
 pub invariant_of-self : goal.invariant_of-self
-invariant_of-self c =
-    (comes_from _ c.pop.new.self.items c.in-Some.slot c.with_slot-self-inside.result c.mask_for-mask.result c.args.task.now c.entry-entry.result.now c.swap.new.x c.of-outline.result c.args.self.now
-    c.push.new.self.items c.count_up.new.tag_counts c.of-outline.ensures c.self.invariant c.self.view_is c.in-Some.ensures.items c.mask_for-mask.ensures c.push.ensures.items (omega arith) c.entry-entry.ensures c.swap.ensures.x_after (c.with_slot-self-inside.ensures ∙ ap (λ b. with_slot b c.in-Some.slot c.self.inside.active) c.is_active.ensures) c.count_up.ensures).sound
+invariant_of-self c = (
+  (comes_from _ c.pop.new.self.items c.in-Some.slot c.with_slot-self-inside.result c.mask_for-mask.result c.args.task.now c.entry-entry.result.now c.swap.new.x c.of-outline.result c.args.self.now
+      c.push.new.self.items c.count_up.new.tag_counts c.of-outline.ensures c.self.invariant.0 c.self.view_is c.in-Some.ensures.items c.mask_for-mask.ensures c.push.ensures.items (omega arith) c.entry-entry.ensures c.swap.ensures.x_after (c.with_slot-self-inside.ensures ∙ ap (λ b. with_slot b c.in-Some.slot c.self.inside.active) c.is_active.ensures) c.count_up.ensures).sound,
+  with_place c.self.inside.order.items c.push.new.self.items c.in-Some.slot c.self.inside.passed c.push.ensures.items c.self.invariant.1,
+)
 
 pub returns-clause-ok : goal.returns-clause-ok
 returns-clause-ok c =
     (comes_from _ c.pop.new.self.items c.in-Some.slot c.with_slot-self-inside.result c.mask_for-mask.result c.args.task.now c.entry-entry.result.now c.swap.new.x c.of-outline.result c.args.self.now
-    c.push.new.self.items c.count_up.new.tag_counts c.of-outline.ensures c.self.invariant c.self.view_is c.in-Some.ensures.items c.mask_for-mask.ensures c.push.ensures.items (omega arith) c.entry-entry.ensures c.swap.ensures.x_after (c.with_slot-self-inside.ensures ∙ ap (λ b. with_slot b c.in-Some.slot c.self.inside.active) c.is_active.ensures) c.count_up.ensures).adds
+    c.push.new.self.items c.count_up.new.tag_counts c.of-outline.ensures c.self.invariant.0 c.self.view_is c.in-Some.ensures.items c.mask_for-mask.ensures c.push.ensures.items (omega arith) c.entry-entry.ensures c.swap.ensures.x_after (c.with_slot-self-inside.ensures ∙ ap (λ b. with_slot b c.in-Some.slot c.self.inside.active) c.is_active.ensures) c.count_up.ensures).adds
 
 pub count_up-requires-clause-few : goal.count_up-requires-clause-few
-count_up-requires-clause-few c = counts_few _ c.entry-entry.result.now.tag c.self.invariant
+count_up-requires-clause-few c = counts_few _ c.entry-entry.result.now.tag c.self.invariant.0

@@ -7,4 +7,4 @@ pub returns : goal.returns
 returns c =
     ap (λ v. v == 0) c.mask_at.ensures.value
     ∙ eligible_is c.self.inside.slots.items c.self.inside.order.items c.deref.result.now c.self.inside.masks c.args.self.now c.args.place c.deref.ensures.0 c.self.view_is
-    c.self.invariant.taken c.self.invariant.masked c.mask_at.ensures.fits c.requires
+    c.self.invariant.0.taken c.self.invariant.0.masked c.mask_at.ensures.fits c.requires

@@ -1,13 +1,15 @@
-use Rattle.std.proofs.Common.{ap, sym, ◌∙◌, drop}
-use Rattle.std.specs.Prelude.{◌==◌}
-use Rattle.std.specs.Int.{bit_at}
-use Rattle.std.specs.List.{position_from}
+use Rattle.std.proofs.Common.{ap, sym, ◌∙◌}
 use Rattle.satl_line.specs.Tasks.{slots_of}
+use Rattle.satl_line.proofs.PassedLemmas.{found_from}
 use Rattle.satl_line.proofs.SlotsLemmas.{slots_of_tasks}
 use Rattle.satl_line.proofs.set.TaskSet.first_outside.Goals as goal
 
-pub returns : goal.returns
-returns c =
-    c.first_outside.ensures
-    ∙ ap (λ order. position_from (λ slot. bit_at c.args.slots slot == 0) c.args.from (drop c.args.from order))
-    (c.deref.ensures.0 ∙ sym (slots_of_tasks c.self.inside.slots.items c.self.inside.order.items) ∙ ap slots_of c.self.view_is)
+pub returns-then-from-eq0-clause-value : goal.returns-then-from-eq0-clause-value
+returns-then-from-eq0-clause-value c =
+    found_from c.self.inside.order.items c.deref.result.now c.deref-2.result.now (slots_of c.args.self.now) c.args.from c.start-start.result c.args.slots c.first_outside-found.result c.first_outside-found.ensures c.deref.ensures.0 c.deref-2.ensures.0
+    (sym (slots_of_tasks c.self.inside.slots.items c.self.inside.order.items) ∙ ap slots_of c.self.view_is) c.start-start.ensures.same
+
+pub returns-else-from-eq0-clause-value : goal.returns-else-from-eq0-clause-value
+returns-else-from-eq0-clause-value c =
+    found_from c.self.inside.order.items c.deref.result.now c.deref-2.result.now (slots_of c.args.self.now) c.args.from c.start-start.result c.args.slots c.first_outside-found.result c.first_outside-found.ensures c.deref.ensures.0 c.deref-2.ensures.0
+    (sym (slots_of_tasks c.self.inside.slots.items c.self.inside.order.items) ∙ ap slots_of c.self.view_is) c.start-start.ensures.same

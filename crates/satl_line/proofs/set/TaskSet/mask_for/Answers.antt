@@ -7,4 +7,4 @@ pub returns-then-not-is_active : goal.returns-then-not-is_active
 returns-then-not-is_active c =
     let quiet : is_active c.args.outline.now ≡ false = sym c.is_active.ensures ∙ c.if-not-is_active.true in
     none_conflicts c.self.inside.slots.items c.self.inside.outlines c.self.inside.order.items c.self.inside.free.items c.self.inside.active c.args.self.now c.args.entry.now c.args.outline.now
-    c.self.invariant.outlined.each c.self.invariant.noted c.self.view_is c.if-self-eq0.true c.requires quiet
+    c.self.invariant.0.outlined.each c.self.invariant.0.noted c.self.view_is c.if-self-eq0.true c.requires quiet

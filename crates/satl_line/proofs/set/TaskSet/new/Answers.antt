@@ -11,6 +11,8 @@ loop-slot-preserved c = record {
 }
 
 pub invariant_of-result : goal.invariant_of-result
-invariant_of-result c =
-    sound_new c.loop-slot.slots.items c.no_outlines.result c.loop-slot.free.items c.no_masks.result c.new-2.result.items c.no_counts.result (ap length c.no_outlines.ensures) (omega (arith, c.loop-slot.invariant.slots)) c.new-2.ensures c.no_masks.ensures c.no_counts.ensures (omega (arith, c.loop-slot.invariant.free))
-    c.loop-slot.invariant.up_to.small (λ q lt. c.loop-slot.invariant.up_to.once q (omega arith))
+invariant_of-result c = (
+  sound_new c.loop-slot.slots.items c.no_outlines.result c.loop-slot.free.items c.no_masks.result c.new-2.result.items c.no_counts.result (ap length c.no_outlines.ensures) (omega (arith, c.loop-slot.invariant.slots)) c.new-2.ensures c.no_masks.ensures c.no_counts.ensures (omega (arith, c.loop-slot.invariant.free))
+      c.loop-slot.invariant.up_to.small (λ q lt. c.loop-slot.invariant.up_to.once q (omega arith)),
+  c.none.ensures c.new-2.result.items,
+)

@@ -2,11 +2,13 @@ use Rattle.satl_line.proofs.SlotsLemmas.{changes}
 use Rattle.satl_line.proofs.set.TaskSet.put_data.Goals as goal
 
 pub invariant_of-self : goal.invariant_of-self
-invariant_of-self c =
-    (changes _ c.args.self.now c.args.place c.deref.result.now c.args.body c.swap_body.new.slots.items
-    c.self.invariant c.self.view_is c.requires.within c.deref.ensures.0 c.swap_body.ensures.items).sound
+invariant_of-self c = (
+  (changes _ c.args.self.now c.args.place c.deref.result.now c.args.body c.swap_body.new.slots.items
+      c.self.invariant.0 c.self.view_is c.requires.within c.deref.ensures.0 c.swap_body.ensures.items).sound,
+  c.self.invariant.1,
+)
 
 pub returns : goal.returns
 returns c =
     (changes _ c.args.self.now c.args.place c.deref.result.now c.args.body c.swap_body.new.slots.items
-    c.self.invariant c.self.view_is c.requires.within c.deref.ensures.0 c.swap_body.ensures.items).rest
+    c.self.invariant.0 c.self.view_is c.requires.within c.deref.ensures.0 c.swap_body.ensures.items).rest

@@ -13,8 +13,8 @@ returns-clause-value c =
 
 pub returns-clause-small : goal.returns-clause-small
 returns-clause-small c =
-    (slot_alone _ c.args.self.now c.args.place c.deref.result.now c.self.invariant c.self.view_is c.requires c.deref.ensures.0).0
+    (slot_alone _ c.args.self.now c.args.place c.deref.result.now c.self.invariant.0 c.self.view_is c.requires c.deref.ensures.0).0
 
 pub returns-clause-alone : goal.returns-clause-alone
 returns-clause-alone c =
-    (slot_alone _ c.args.self.now c.args.place c.deref.result.now c.self.invariant c.self.view_is c.requires c.deref.ensures.0).1
+    (slot_alone _ c.args.self.now c.args.place c.deref.result.now c.self.invariant.0 c.self.view_is c.requires c.deref.ensures.0).1

@@ -6,9 +6,11 @@ use Rattle.satl_line.proofs.SlotsLemmas.{changes, body-changed, body_is}
 use Rattle.satl_line.proofs.set.TaskSet.take_data.Goals as goal
 
 pub invariant_of-self : goal.invariant_of-self
-invariant_of-self c =
-    (changes _ c.args.self.now c.args.place c.deref.result.now c.default.result c.swap_body.new.slots.items
-    c.self.invariant c.self.view_is c.requires c.deref.ensures.0 c.swap_body.ensures.items).sound
+invariant_of-self c = (
+  (changes _ c.args.self.now c.args.place c.deref.result.now c.default.result c.swap_body.new.slots.items
+      c.self.invariant.0 c.self.view_is c.requires c.deref.ensures.0 c.swap_body.ensures.items).sound,
+  c.self.invariant.1,
+)
 
 pub returns-clause-value : goal.returns-clause-value
 returns-clause-value c =
@@ -17,13 +19,13 @@ returns-clause-value c =
 pub returns-clause-others : goal.returns-clause-others
 returns-clause-others c =
     (changes _ c.args.self.now c.args.place c.deref.result.now c.default.result c.swap_body.new.slots.items
-    c.self.invariant c.self.view_is c.requires c.deref.ensures.0 c.swap_body.ensures.items).rest
+    c.self.invariant.0 c.self.view_is c.requires c.deref.ensures.0 c.swap_body.ensures.items).rest
     ∙ ap (λ b. change_at c.args.self.now c.args.place (with_body b)) c.default.ensures
 
 pub returns-clause-emptied : goal.returns-clause-emptied
 returns-clause-emptied c =
     ap (λ l. option_map (λ e. e.body) (entry_at l c.args.place))
     ((changes _ c.args.self.now c.args.place c.deref.result.now c.default.result c.swap_body.new.slots.items
-    c.self.invariant c.self.view_is c.requires c.deref.ensures.0 c.swap_body.ensures.items).rest
+    c.self.invariant.0 c.self.view_is c.requires c.deref.ensures.0 c.swap_body.ensures.items).rest
     ∙ ap (λ b. change_at c.args.self.now c.args.place (with_body b)) c.default.ensures)
     ∙ body-changed c.args.self.now c.args.place [] c.requires
