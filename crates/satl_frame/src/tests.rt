@@ -1,9 +1,11 @@
 ghost use Rattle.std.specs.Prelude.{◌≡◌, ◌≤◌, ◌<◌, ◌+◌, ◌^◌, IfOk, IfSome, length};
 ghost use Rattle.satl_frame.specs.Output.{IsWritable};
 
-use crate::{Frame, FrameFault, FrameReader, OutFrame, Reason, WriteFault, write_frame};
+use crate::{
+    Frame, FrameFault, FrameReader, LONGEST_EVENT, OutFrame, Reason, WriteFault, write_frame,
+};
 use arrayvec::ArrayVec;
-use satl_base::{Block, Lender, Nexus, NoMemory, Pages, Reply, Response, Scsi, Tag};
+use satl_base::{BenchEvent, Block, Lender, Nexus, NoMemory, Pages, Reply, Response, Scsi, Tag};
 use satl_io::{MemorySink, MemorySource, Sink};
 use std::alloc::Global;
 use std::mem;
@@ -273,6 +275,31 @@ fn expect_frames(rt: &impl Abort, alloc: Global, piece: usize) -> Result<(), Fai
     Ok(())
 }
 
+fn is_order_of(event: &BenchEvent<'_>, order: &[u8]) -> bool {
+    match event {
+        BenchEvent::Order { bytes } => bytes.as_slice() == order,
+        _ => false,
+    }
+}
+
+/// An ORDER of 256 bytes has them all where no page is free.
+fn expect_order(rt: &impl Abort, alloc: Global) -> Result<(), Fail> {
+    let mut input = b"SATLRPL1\x04\x00\x00\x01\x01\x04".to_vec(alloc)?;
+    input.extend_from_slice(&[0xA5; 256])?;
+    let mut source = MemorySource::new(input, 4096, Vec::new(alloc));
+    let mut shelf = Shelf {
+        free: Pages::default(),
+        out: 0,
+    };
+    let mut reader = FrameReader::new(alloc, 1 << 40);
+    let mut room = [0; LONGEST_EVENT];
+    match reader.next(&mut source, &mut shelf, &mut room) {
+        Ok(Frame::Bench(ref event)) => assert!(rt; is_order_of(event, &[0xA5; 256])),
+        _ => panic!(rt; "no event"),
+    }
+    Ok(())
+}
+
 /// Writes a reply to nexus 0.
 fn write_reply<K: Sink>(
     alloc: Global,
@@ -316,6 +343,7 @@ fn write_all<K: Sink>(alloc: Global, sink: &mut K) -> Result<(), Fail> {
 #[test]
 fn frames_are_read_and_written(rt: HostRuntime) -> Result<(), Fail> {
     let alloc = rt.alloc();
+    expect_order(&rt, alloc)?;
     for piece in [1, 2, 3, 7, 512] {
         expect_frames(&rt, alloc, piece)?;
     }
