@@ -8,5 +8,5 @@ use Rattle.satl_fleet.specs.declared.shared.Shared.TheVariants as shared
 abbrev pub frame_of : Shared → Frame
 frame_of (shared.Manage m) = frames.Manage m
 frame_of (shared.Turn count) = frames.Turn count
-frame_of (shared.Bench event) = frames.Bench event
+frame_of (shared.Bench event) = frames.Bench event.now
 frame_of shared.End = frames.End

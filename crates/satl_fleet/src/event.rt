@@ -24,7 +24,7 @@ pub fn serve_at<K: Sink, D: Bench, L: Ledger>(
     units: &mut Vec<Satl>,
     drives: &mut Vec<D>,
     k: u8,
-    event: &Shared<'_>,
+    event: &Shared<'_, '_>,
     sink: &mut K,
     replies: &mut Replies,
     steps: &mut Steps<L>,

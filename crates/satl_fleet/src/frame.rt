@@ -26,7 +26,7 @@ use std::sync::ledger::Ledger;
 fn serve_all<K: Sink, D: Bench, L: Ledger>(
     units: &mut Vec<Satl>,
     drives: &mut Vec<D>,
-    event: &Shared<'_>,
+    event: &Shared<'_, '_>,
     sink: &mut K,
     replies: &mut Replies,
     steps: &mut Steps<L>,
@@ -185,7 +185,7 @@ pub fn serve_frame<K: Sink, D: Bench, L: Ledger>(
         Frame::Turn(count) => {
             serve_shared(units, drives, &Shared::Turn(count), sink, replies, steps)
         }
-        Frame::Bench(event) => {
+        Frame::Bench(ref event) => {
             serve_shared(units, drives, &Shared::Bench(event), sink, replies, steps)
         }
         Frame::End => serve_end(units, drives, sink, replies, steps),
@@ -196,7 +196,7 @@ pub fn serve_frame<K: Sink, D: Bench, L: Ledger>(
 fn serve_shared<K: Sink, D: Bench, L: Ledger>(
     units: &mut Vec<Satl>,
     drives: &mut Vec<D>,
-    event: &Shared<'_>,
+    event: &Shared<'_, '_>,
     sink: &mut K,
     replies: &mut Replies,
     steps: &mut Steps<L>,

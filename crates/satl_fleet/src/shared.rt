@@ -6,14 +6,14 @@ use satl_frame::Frame;
 
 /// A frame that may go to each unit of a target: all but a request. It has no page (profile).
 #[derive(Drop)]
-pub enum Shared<'a> {
+pub enum Shared<'a, 'b> {
     Manage(Manage),
     Turn(u16),
-    Bench(BenchEvent<'a>),
+    Bench(&'a BenchEvent<'b>),
     End,
 }
 
-impl<'a> Shared<'a> {
+impl<'a, 'b> Shared<'a, 'b> {
     ghost use Rattle.std.specs.Prelude.{◌≡◌};
     ghost use Rattle.satl_fleet.specs.Shared.{frame_of};
 

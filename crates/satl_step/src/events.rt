@@ -64,21 +64,22 @@ fn serve_manage<T: Teller, K: Sink, D: Drive, L: Ledger>(
 /// Something happens to the drive.
 fn serve_bench<T: Teller, K: Sink, D: Bench, L: Ledger>(
     satl: &mut Satl,
-    event: BenchEvent<'_>,
+    event: &BenchEvent<'_>,
     teller: &mut T,
     sink: &mut K,
     drive: &mut D,
     replies: &mut Replies,
     steps: &mut Steps<L>,
 ) -> Result<(), WriteFault>
-    requires can { CanServeEvent (Frame.Bench event) satl.old (D.state drive.old) replies.old }
-    ensures done { WholeOrInPart (Done T.told T.behind (Frame.Bench event)) (DoneInPart T.told T.behind (Frame.Bench event))
+    requires can { CanServeEvent (Frame.Bench event.now) satl.old (D.state drive.old) replies.old }
+    ensures done { WholeOrInPart
+        (Done T.told T.behind (Frame.Bench event.now)) (DoneInPart T.told T.behind (Frame.Bench event.now))
         (scene_of satl.old (D.state drive.old) steps.old teller.old (K.written sink.old))
         (scene_of satl.new (D.state drive.new) steps.new teller.new (K.written sink.new)) result }
     ensures leaves { Leaves satl.new (D.state drive.new) replies.new result }
     ensures cause { HasCause (K.faults sink.old) (K.faults sink.new) result }
 {
-    satl.bench(&event, drive, replies, steps);
+    satl.bench(event, drive, replies, steps);
     see_queue(satl);
     tell_replies(satl, teller, sink, replies)
 }
@@ -108,7 +109,7 @@ pub fn serve_event<T: Teller, K: Sink, D: Bench, L: Ledger>(
         ),
         Frame::Manage(manage) => serve_manage(satl, manage, teller, sink, drive, replies, steps),
         Frame::Turn(count) => serve_turns(satl, count, teller, sink, drive, replies, steps),
-        Frame::Bench(event) => serve_bench(satl, event, teller, sink, drive, replies, steps),
+        Frame::Bench(ref event) => serve_bench(satl, event, teller, sink, drive, replies, steps),
         Frame::End => serve_end(satl, teller, sink, drive, replies, steps),
     }
 }
