@@ -1,6 +1,6 @@
 -- What the layer judges of a request is what the device does with it.
 use Rattle.std.proofs.Common.{◌≡◌, refl, sym, ap, subst, ◌∙◌, arith, cond, ℕ, ◌+◌, Bool, true, false, List, [], ◌∷◌, map}
-use Rattle.std.specs.Prelude.{Option, Some, None, Result, Ok, Err, not, ◌==◌, ◌&&◌, nat_lt, slice_get, slice_index, slice_index_or, MatchBool}
+use Rattle.std.specs.Prelude.{Option, Some, None, Result, Ok, Err, not, ◌==◌, ◌&&◌, ◌||◌, nat_lt, slice_get, slice_index, slice_index_or, MatchBool}
 use Rattle.std.proofs.lemmas.Bool.{eqb-true, le-ltb}
 use Rattle.satl_base.specs.declared.reply.Reply.{Reply}
 use Rattle.satl_base.specs.declared.reply.Scsi.TheVariants as statuses
@@ -161,7 +161,7 @@ sense_arrival s r what code first =
 
 -- whether a code is one of those that are carried out before a condition is told, by these tests
 abbrev untold_by : Bool → Bool → Bool → Bool
-untold_by inquiry luns sense = cond inquiry true (cond luns true (cond sense true false))
+untold_by inquiry luns sense = inquiry || (luns || (sense || false))
 
 -- the condition of another command
 attended_other : (inquiry luns : Bool) (first : Option Attention) (s : Device) (r : Request) → (operation_code r == 0x03) ≡ false
