@@ -163,16 +163,16 @@ pub fn serve_frame<K: Sink, D: Bench, L: Ledger>(
     requires pages { pool.old.out ≡ frame_pages frame }
     requires pool { 1 ≤ number_of pool.old }
     requires can { CanRoute frame }
-    ensures done { OnOk result (RoundDone (vec_len units.old) frame
+    ensures done { OnOk result (RoundDone (vec_len units.old) frame.entry
         (stage (target D.state units.old drives.old) (K.written sink.old))
         (stage (target D.state units.new drives.new) (K.written sink.new))) }
-    ensures part { OnErr result (RoundInPart (vec_len units.old) frame
+    ensures part { OnErr result (RoundInPart (vec_len units.old) frame.entry
         (stage (target D.state units.old drives.old) (K.written sink.old))
         (stage (target D.state units.new drives.new) (K.written sink.new))) }
     ensures ready { OnOk result (CanServe (target D.state units.new drives.new) replies.new) }
     ensures keeps { KeepsUnits (target D.state units.old drives.old) (target D.state units.new drives.new) }
     ensures calls { calls_due (target D.state units.new drives.new) steps.new
-        ≤ calls_due (target D.state units.old drives.old) steps.old + frame_calls (vec_len units.old) frame }
+        ≤ calls_due (target D.state units.old drives.old) steps.old + frame_calls (vec_len units.old) frame.entry }
     ensures all_in { OnOk result (pool.new.out ≡ 0) }
     ensures number { number_of pool.new ≡ number_of pool.old }
     ensures cause { HasCause (K.faults sink.old) (K.faults sink.new) result }

@@ -60,14 +60,14 @@ pub fn serve_unit<K: Sink, D: Bench, L: Ledger>(
     ensures tied { IsTiedUnit (unit_state satl.new (D.state drive.new)) }
     ensures all_in { OnOk result (satl.new.out ≡ 0) }
     ensures none { OnOk result (replies.new ≡ []) }
-    ensures done { (whole : Frame) → IsWholeOf event whole → OnOk result (UnitDid unit whole
+    ensures done { (whole : Frame) → IsWholeOf event.entry whole → OnOk result (UnitDid unit whole
         (unit_state satl.old (D.state drive.old)) (unit_state satl.new (D.state drive.new))
         (K.written sink.old) (K.written sink.new)) }
-    ensures part { (whole : Frame) → IsWholeOf event whole → OnErr result (UnitDidInPart unit whole
+    ensures part { (whole : Frame) → IsWholeOf event.entry whole → OnErr result (UnitDidInPart unit whole
         (unit_state satl.old (D.state drive.old)) (unit_state satl.new (D.state drive.new))
         (K.written sink.old) (K.written sink.new)) }
     ensures calls { steps.new + turn_calls * length satl.new.tasks
-        ≤ steps.old + turn_calls * length satl.old.tasks + calls_allowed (event ∷ []) }
+        ≤ steps.old + turn_calls * length satl.old.tasks + calls_allowed (event.entry ∷ []) }
     ensures cause { HasCause (K.faults sink.old) (K.faults sink.new) result }
 {
     let mut teller = UnitTeller { unit, named: false };

@@ -97,7 +97,7 @@ pub fn serve_event<T: Teller, K: Sink, D: Bench, L: Ledger>(
     steps: &mut Steps<L>,
 ) -> Result<(), WriteFault>
     requires can { CanServeEvent event satl.old (D.state drive.old) replies.old }
-    ensures done { WholeOrInPart (Done T.told T.behind event) (DoneInPart T.told T.behind event)
+    ensures done { WholeOrInPart (Done T.told T.behind event.entry) (DoneInPart T.told T.behind event.entry)
         (scene_of satl.old (D.state drive.old) steps.old teller.old (K.written sink.old))
         (scene_of satl.new (D.state drive.new) steps.new teller.new (K.written sink.new)) result }
     ensures leaves { Leaves satl.new (D.state drive.new) replies.new result }
