@@ -10,8 +10,8 @@ pub enum Which {
     Write,
 }
 
-/// Bytes that steer a drive's free choices, 1 to 256 in a frame, where whoever read them has them (profile). A clause sees the
-/// bytes.
+/// Bytes that steer a drive's free choices, 1 to 256 in a frame, in the room that they were read to (profile). A clause sees
+/// the bytes.
 #[derive(Drop)]
 pub struct OrderBytes<'a> {
     bytes: &'a [u8],

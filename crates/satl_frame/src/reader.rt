@@ -260,7 +260,7 @@ impl Model for FrameReader {
 impl FrameReader {
     ghost use Rattle.satl_frame.specs.declared.frames.Version.TheVariants.{One, Two};
 
-    /// Reads an input of version 1 or 2 whose data-out is at most `limit` bytes a frame (profile).
+    /// Reads an input of version 1 or 2, each of whose frames ends within `limit` bytes of it (profile).
     pub fn new(_alloc: Global, limit: u64) -> Self
         ensures { result ≡ record { limit = limit; newest = Two; place = None; refused = None } }
     {
@@ -273,7 +273,7 @@ impl FrameReader {
         }
     }
 
-    /// Reads an input of version 1 alone, with data-out of at most `limit` bytes a frame: the magic of version 2 is a bad
+    /// Reads an input of version 1 alone, each of whose frames ends within `limit` bytes of it: the magic of version 2 is a bad
     /// one (profile).
     pub fn first_only(_alloc: Global, limit: u64) -> Self
         ensures { result ≡ record { limit = limit; newest = One; place = None; refused = None } }
