@@ -1,8 +1,9 @@
 -- Where no rule is broken.
 use Rattle.std.proofs.Common.{◌≡◌, ◌∙◌, cond, sym, subst, ℕ, true, false, List, [], ◌∷◌}
-use Rattle.std.specs.Prelude.{Result, Ok, Err, IfOk}
+use Rattle.std.specs.Prelude.{Some, Result, Ok, Err, IfOk}
+use Rattle.std.specs.Option.{option_map_or}
 use Rattle.satl_cdb.specs.declared.command.Illegal.{Illegal}
-use Rattle.satl_cdb.specs.Rows.{Rule, unless_broken}
+use Rattle.satl_cdb.specs.Rows.{Rule, broken_rule, unless_broken}
 use Rattle.satl_pass.specs.declared.pass.Pass.{Pass}
 use Rattle.satl_pass.specs.Fields.{form_of, pass_in}
 use Rattle.satl_pass.specs.Reading.{CanGoToDrive, pass_says, rules}
@@ -12,7 +13,7 @@ use Rattle.satl_direct.specs.Tasks.{pass_of}
 pub unbroken : {A : Type 0} (rules : List Rule) (cdb : List ℕ) (c d : A) → unless_broken rules cdb c ≡ Ok d → c ≡ d
 unbroken [] cdb c d e = cc
 unbroken {A = A} (rule ∷ rules) cdb c d e =
-    (elim (rule.breaks cdb) as (λ b. cond b (Err rule.refusal) (unless_broken rules cdb c) ≡ Ok d → c ≡ d) [
+    (elim (rule.breaks cdb) as (λ b. option_map_or (λ (r : Rule). Err r.refusal) (cond b (Some rule) (broken_rule rules cdb)) (Ok c) ≡ Ok d → c ≡ d) [
       | true ↦ λ f. absurd cc
       | false ↦ λ f. unbroken rules cdb c d f
     ]) e

@@ -24,16 +24,16 @@ all_bytes (x ∷ xs) all (suc i) = all_bytes xs all.1 i
 pub same_bytes : (a b : List ℕ) → length a ≡ length b → ((i : ℕ) → slice_index a i ≡ slice_index b i) → a ≡ b
 same_bytes a b long each = by_places a ∙ ap (λ n. places 0 n (slice_index a)) long ∙ places_ext (length b) 0 (slice_index a) (slice_index b) each ∙ sym (by_places b)
 
-bit_of : (x : ℕ) (c : Bool) → x < 2 → (x == 1) ≡ c → x ≡ (if c then 1 else 0)
-bit_of x true small h = eqb-true x 1 h
-bit_of zero false small h = refl
-bit_of (suc zero) false small h = absurd cc
-bit_of (suc (suc x)) false small h = absurd (omega (arith, small))
+bit_as_number : (x : ℕ) (c : Bool) → x < 2 → (x == 1) ≡ c → x ≡ (if c then 1 else 0)
+bit_as_number x true small h = eqb-true x 1 h
+bit_as_number zero false small h = refl
+bit_as_number (suc zero) false small h = absurd cc
+bit_as_number (suc (suc x)) false small h = absurd (omega (arith, small))
 
 -- byte 170 by its bits, as the word tells them
 setting_bits : (n m k j : ℕ) (c l : Bool) → n < 256 → (n + 256 * k) / 2 ^ 7 % 2 ^ 1 ≡ (m + 256 * j) / 2 ^ 7 % 2 ^ 1 → (n + 256 * k) / 2 ^ 0 % 2 ^ 5 ≡ (m + 256 * j) / 2 ^ 0 % 2 ^ 5
     → ((n + 256 * k) / 2 ^ 5 % 2 == 1) ≡ c → ((n + 256 * k) / 2 ^ 6 % 2 == 1) ≡ l → n ≡ settings_byte m c l
-setting_bits n m k j c l fits high low cache look = go c l (bit_of ((n + 256 * k) / 2 ^ 5 % 2) c (omega arith) cache) (bit_of ((n + 256 * k) / 2 ^ 6 % 2) l (omega arith) look)
+setting_bits n m k j c l fits high low cache look = go c l (bit_as_number ((n + 256 * k) / 2 ^ 5 % 2) c (omega arith) cache) (bit_as_number ((n + 256 * k) / 2 ^ 6 % 2) l (omega arith) look)
   where
     go : (c l : Bool) → (n + 256 * k) / 2 ^ 5 % 2 ≡ (if c then 1 else 0) → (n + 256 * k) / 2 ^ 6 % 2 ≡ (if l then 1 else 0) → n ≡ settings_byte m c l
     go true true a b = omega (arith, a, b, high, low, fits)

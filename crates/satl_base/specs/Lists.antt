@@ -40,7 +40,7 @@ paired f [] ys = []
 paired f (x ∷ xs) [] = []
 paired f (x ∷ xs) (y ∷ ys) = f x y ∷ paired f xs ys
 
--- each of these and the one at its place are so, by their number from this one on (profile)
+-- two lists of one length: each element and the one at its place are so, by their number from this one on (profile)
 abbrev pub EachAt : {X : Type 0} → (ℕ → X → X → Type 0) → ℕ → List X → List X → Type 0
 EachAt R n [] [] = Unit {0}
 EachAt R n [] (y ∷ ys) = ⊥

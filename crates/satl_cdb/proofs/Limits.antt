@@ -3,7 +3,8 @@ use Rattle.std.proofs.Common.{◌≡◌, ℕ, zero, suc, ◌+◌, ◌*◌, ◌/�
 use Rattle.std.proofs.lemmas.Bool.{cases_lt, ne_eqb, ltb-false, eqb-true, not-false}
 use Rattle.std.proofs.Math.Nat.{mod-lt}
 use Rattle.std.specs.Prelude.{◌==◌, nat_lt, not, slice_index}
-use Rattle.std.specs.List.{AllByRecursion}
+use Rattle.std.specs.List.{AllByRecursion, find}
+use Rattle.std.specs.Option.{option_map, option_map_or}
 use Rattle.byteorder.specs.Numbers.{big_from-lt}
 use Rattle.satl_base.specs.Fields.{bytes, bits, bit, IsBytes}
 use Rattle.satl_base.specs.Lists.{is_in}
@@ -11,7 +12,7 @@ use Rattle.satl_cdb.specs.declared.command.Form.{Form}
 use Rattle.satl_cdb.specs.declared.command.Form.TheVariants.{Six, Ten, Twelve, Sixteen}
 use Rattle.satl_cdb.specs.declared.command.Command.{Command}
 use Rattle.satl_cdb.specs.declared.command.Command.TheVariants as commands
-use Rattle.satl_cdb.specs.Rows.{Rule, Row, unless_broken, format_says, format_of, found_says}
+use Rattle.satl_cdb.specs.Rows.{Rule, Row, broken_rule, unless_broken, format_says, format_of, found_says}
 use Rattle.satl_cdb.specs.PrimaryCommands.{inquiry, mode_sense, report_luns, vital_pages, mode_pages}
 use Rattle.satl_cdb.specs.BlockCommands.{six, ten, twelve, sixteen, verify, write_same}
 use Rattle.satl_cdb.specs.Spelling.{cdb_bytes}
@@ -84,7 +85,7 @@ Kept (rule ∷ rules) cdb = (rule.breaks cdb ≡ false) × Kept rules cdb
 kept : (rules : List Rule) (cdb : List ℕ) (c d : Command) → unless_broken rules cdb c ≡ Ok d → (c ≡ d) × Kept rules cdb
 kept [] cdb c d e = (cc, tt)
 kept (rule ∷ rules) cdb c d e =
-    (elim (rule.breaks cdb) as (λ b. cond b (Err rule.refusal) (unless_broken rules cdb c) ≡ Ok d → (c ≡ d) × ((b ≡ false) × Kept rules cdb)) [
+    (elim (rule.breaks cdb) as (λ b. option_map_or (λ (r : Rule). Err r.refusal) (cond b (Some rule) (broken_rule rules cdb)) (Ok c) ≡ Ok d → (c ≡ d) × ((b ≡ false) × Kept rules cdb)) [
       | true ↦ λ f. absurd cc
       | false ↦ λ f. let k = kept rules cdb c d f in (k.0, (refl, k.1))
     ]) e
@@ -99,7 +100,7 @@ fits_row row cdb c f code e = let k = kept row.format.rules cdb (row.format.comm
 found_fits : (cdb : List ℕ) (c : Command) (rows : List Row) → AllByRecursion (RowFits cdb) rows → found_says (format_of rows (slice_index cdb 0)) cdb ≡ Ok c → Fits c
 found_fits cdb c [] h e = absurd cc
 found_fits cdb c (row ∷ rows) h e =
-    (elim (eqb (slice_index cdb 0) row.code) as (λ b. (slice_index cdb 0 == row.code) ≡ b → found_says (cond b (Some row.format) (format_of rows (slice_index cdb 0))) cdb ≡ Ok c → Fits c) [
+    (elim (eqb (slice_index cdb 0) row.code) as (λ b. (slice_index cdb 0 == row.code) ≡ b → found_says (option_map (λ (r : Row). r.format) (cond b (Some row) (find (λ (r : Row). slice_index cdb 0 == r.code) rows))) cdb ≡ Ok c → Fits c) [
       | true ↦ λ is f. fits_row row cdb c h.0 (eqb-true _ _ is) f
       | false ↦ λ is f. found_fits cdb c rows h.1 f
     ]) refl e

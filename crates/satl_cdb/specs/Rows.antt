@@ -1,5 +1,7 @@
 -- The shape of the table of operation codes, and what a table says of a command descriptor block (SPC-4 4.3).
-use Rattle.std.specs.Prelude.{ℕ, false, ◌==◌, nat_lt, not, List, [], ◌∷◌, Option, Some, None, Result, Ok, Err, if◌then◌else◌}
+use Rattle.std.specs.Prelude.{ℕ, false, ◌==◌, nat_lt, not, List, Option, Some, None, Result, Ok, Err}
+use Rattle.std.specs.List.{find}
+use Rattle.std.specs.Option.{option_map, option_map_or}
 use Rattle.satl_base.specs.Fields.{Field, Flag, bits}
 use Rattle.satl_base.specs.Lists.{is_in}
 use Rattle.satl_cdb.specs.declared.command.Command.{Command}
@@ -41,10 +43,13 @@ pub record Format : Type 0 where
   pub rules : List Rule
   pub command : List ℕ → Command
 
+-- the first rule that is broken
+abbrev pub broken_rule : List Rule → List ℕ → Option Rule
+broken_rule rules cdb = find (λ rule. rule.breaks cdb) rules
+
 -- a value, or the refusal of the first rule that is broken
 abbrev pub unless_broken : {A : Type 0} → List Rule → List ℕ → A → Result A Illegal
-unless_broken [] cdb value = Ok value
-unless_broken (rule ∷ rules) cdb value = if rule.breaks cdb then Err rule.refusal else unless_broken rules cdb value
+unless_broken rules cdb value = option_map_or (λ rule. Err rule.refusal) (broken_rule rules cdb) (Ok value)
 
 abbrev pub format_says : Format → List ℕ → Result Command Illegal
 format_says format cdb = unless_broken format.rules cdb (format.command cdb)
@@ -59,8 +64,7 @@ row code format = record { code = code; format = format }
 
 -- the format of an operation code in a table
 abbrev pub format_of : List Row → ℕ → Option Format
-format_of [] code = None
-format_of (r ∷ rows) code = if code == r.code then Some r.format else format_of rows code
+format_of rows code = option_map (λ r. r.format) (find (λ r. code == r.code) rows)
 
 abbrev pub found_says : Option Format → List ℕ → Result Command Illegal
 found_says None cdb = Err invalid_operation_code

@@ -4,14 +4,14 @@ ghost use Rattle.std.specs.Prelude.{◌≡◌, ◌<◌, ℕ, Bool, true, false, 
 ghost use Rattle.satl_base.specs.Fields.{IsBytes};
 ghost use Rattle.satl_base.specs.Places.{laid, text};
 ghost use Rattle.satl_cdb.specs.Table.{says};
-ghost use Rattle.satl_cdb.specs.Spelling.{bit_of, cdb_bytes, lines_10, lines_12, lines_16, lines_6, page_code_byte};
+ghost use Rattle.satl_cdb.specs.Spelling.{bit_value, cdb_bytes, lines_10, lines_12, lines_16, lines_6, page_code_byte};
 
 use crate::command::{Command, Form};
 use byteorder::{BigEndian, ByteOrder};
 
 fn flag_byte(place: u8, set: bool) -> u8
     requires { place < 8 }
-    ensures { result ≡ bit_of place set }
+    ensures { result ≡ bit_value place set }
 {
     if set { 1 << place } else { 0 }
 }

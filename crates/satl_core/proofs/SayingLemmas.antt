@@ -1,13 +1,14 @@
 -- What is known of a command by the bytes of its CDB.
 use Rattle.std.proofs.Common.{◌≡◌, refl, subst, arith, cond, ℕ, ◌<◌, ◌≤◌, Bool, true, false, List, [], ◌∷◌}
 use Rattle.std.specs.Prelude.{Some, Ok, Err, not, ◌==◌, nat_lt, slice_index}
-use Rattle.std.specs.List.{AllByRecursion}
+use Rattle.std.specs.List.{AllByRecursion, find}
+use Rattle.std.specs.Option.{option_map, option_map_or}
 use Rattle.std.proofs.lemmas.Bool.{eqb-false, eqb-true, ltb-false, not-false}
 use Rattle.satl_base.specs.Fields.{bit, bits, bytes}
 use Rattle.satl_cdb.specs.declared.command.Command.{Command}
 use Rattle.satl_cdb.specs.declared.command.Command.TheVariants as cdbs
 use Rattle.satl_cdb.specs.Refusals.{invalid_field}
-use Rattle.satl_cdb.specs.Rows.{Format, Row, Rule, found_says, format_of, format_says, never, unless_broken}
+use Rattle.satl_cdb.specs.Rows.{Format, Row, Rule, broken_rule, found_says, format_of, format_says, never, unless_broken}
 use Rattle.satl_cdb.specs.BlockCommands.{Layout, read, read_6, read_capacity_10, read_capacity_16, six, sixteen, start_stop, synchronize_cache, ten, transfer_rules, twelve, unmap, verify, write, write_6, write_same}
 use Rattle.satl_cdb.specs.PrimaryCommands.{inquiry, mode_length, mode_select, mode_sense, report_luns, request_sense, test_unit_ready}
 use Rattle.satl_cdb.specs.Table.{pass_through_12, pass_through_16, says, table}
@@ -27,16 +28,21 @@ IsSaid cdb trim (cdbs.WriteSame form lba count unmap) = (1 ≤ count) × (count 
 IsSaid cdb trim (cdbs.Unmap size) = (HasLengths cdb → size < 65536) × (trim ≡ true)
 IsSaid cdb trim _ = Unit {0}
 
+-- no rule is broken
+pub rules_kept : (rules : List Rule) (cdb : List ℕ) (c d : Command) → unless_broken rules cdb c ≡ Ok d → AllByRecursion (λ (rule : Rule). rule.breaks cdb ≡ false) rules
+rules_kept [] cdb c d e = tt
+rules_kept (rule ∷ rules) cdb c d e =
+    (elim (rule.breaks cdb) as (λ b. rule.breaks cdb ≡ b → option_map_or (λ (r : Rule). Err r.refusal) (cond b (Some rule) (broken_rule rules cdb)) (Ok c) ≡ Ok d → AllByRecursion (λ (rule : Rule). rule.breaks cdb ≡ false) (rule ∷ rules)) [
+      | true ↦ λ is f. absurd cc
+      | false ↦ λ is f. (is, rules_kept rules cdb c d f)
+    ]) refl e
+
 -- a transfer's rules are kept
 of_rules : (long : Layout) (cdb : List ℕ) (c d : Command) → unless_broken (transfer_rules long) cdb c ≡ Ok d → (c ≡ d) × (long.count cdb ≤ 4096)
 of_rules long cdb c d e =
-    (elim (not (bits 1 7 5 cdb == 0)) as (λ b. cond b (Err (invalid_field 1)) (cond (nat_lt 4096 (long.count cdb)) (Err (invalid_field long.count_place)) (Ok c)) ≡ Ok d → (c ≡ d) × (long.count cdb ≤ 4096)) [
-      | true ↦ λ f. absurd cc
-      | false ↦ λ f. (elim (nat_lt 4096 (long.count cdb)) as (λ b. nat_lt 4096 (long.count cdb) ≡ b → cond b (Err (invalid_field long.count_place)) (Ok c) ≡ Ok d → (c ≡ d) × (long.count cdb ≤ 4096)) [
-        | true ↦ λ is g. absurd cc
-        | false ↦ λ is g. let most = ltb-false 4096 (long.count cdb) is in (cc, omega (arith, most))
-      ]) refl f
-    ]) e
+    let kept = rules_kept (transfer_rules long) cdb c d e in
+    let most = ltb-false 4096 (long.count cdb) kept.1.0 in
+    (unbroken (transfer_rules long) cdb c d e, omega (arith, most))
 
 said_read : (long : Layout) (cdb : List ℕ) (trim : Bool) (c : Command) → unless_broken (transfer_rules long) cdb ((read long).command cdb) ≡ Ok c → IsSaid cdb trim c
 said_read long cdb trim c e = let r = of_rules long cdb ((read long).command cdb) c e in subst (IsSaid cdb trim) r.0 (λ byte. r.1)
@@ -50,15 +56,6 @@ short_few n few = elim (n == 0) as (λ b. cond b 256 n ≤ 4096) [ true ↦ omeg
 
 short_count : (cdb : List ℕ) → slice_index cdb 4 < 256 → six.count cdb ≤ 4096
 short_count cdb byte = short_few (bytes 4 4 cdb) (omega (arith, byte))
-
--- no rule is broken
-pub rules_kept : (rules : List Rule) (cdb : List ℕ) (c d : Command) → unless_broken rules cdb c ≡ Ok d → AllByRecursion (λ (rule : Rule). rule.breaks cdb ≡ false) rules
-rules_kept [] cdb c d e = tt
-rules_kept (rule ∷ rules) cdb c d e =
-    (elim (rule.breaks cdb) as (λ b. rule.breaks cdb ≡ b → cond b (Err rule.refusal) (unless_broken rules cdb c) ≡ Ok d → AllByRecursion (λ (rule : Rule). rule.breaks cdb ≡ false) (rule ∷ rules)) [
-      | true ↦ λ is f. absurd cc
-      | false ↦ λ is f. (is, rules_kept rules cdb c d f)
-    ]) refl e
 
 -- a VERIFY goes over at most 65,536 blocks, and at most 4,096 where it compares
 verify_most : (mode count : ℕ) → nat_lt (cond (mode == 0) 65536 4096) count ≡ false → (count ≤ 65536) × ((mode == 1) ≡ true → count ≤ 4096)
@@ -97,7 +94,7 @@ said_in : (cdb : List ℕ) (trim : Bool) (c : Command) (rows : List Row) → All
     → found_says (format_of rows (slice_index cdb 0)) cdb ≡ Ok c → IsSaid cdb trim c
 said_in cdb trim c [] all e = absurd cc
 said_in cdb trim c (r ∷ rows) all e =
-    (elim (slice_index cdb 0 == r.code) as (λ b. (slice_index cdb 0 == r.code) ≡ b → found_says (cond b (Some r.format) (format_of rows (slice_index cdb 0))) cdb ≡ Ok c → IsSaid cdb trim c) [
+    (elim (slice_index cdb 0 == r.code) as (λ b. (slice_index cdb 0 == r.code) ≡ b → found_says (option_map (λ (r : Row). r.format) (cond b (Some r) (find (λ (r : Row). slice_index cdb 0 == r.code) rows))) cdb ≡ Ok c → IsSaid cdb trim c) [
       | true ↦ λ is f. all.0 (eqb-true (slice_index cdb 0) r.code is) f
       | false ↦ λ is f. said_in cdb trim c rows all.1 f
     ]) refl e

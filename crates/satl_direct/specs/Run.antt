@@ -1,5 +1,6 @@
 -- Runs of the device over the frames of an input (profile). An event is one of these frames: REQUEST, MANAGE, TURN, BENCH or
--- END; a bench event is what a BENCH frame carries.
+-- END; a bench event is what a BENCH frame carries. An answer is a frame of the output: `replied` a REPLY, `managed` a MANAGED,
+-- `ended` END.
 use Rattle.std.specs.Prelude.{◌≡◌, ◌≤◌, ℕ, suc, ◌+◌, max, min, not, ◌||◌, if◌then◌else◌, List, [], ◌∷◌, ◌++◌, map, length}
 use Rattle.std.specs.List.{filter, flat_map}
 use Rattle.satl_base.specs.declared.bench.BenchEvent.{BenchEvent}

@@ -1,5 +1,6 @@
 -- What commands ask of the device, and the tasks that they become (SBC-3 5, SPC-4 6, SAT-3). `Illegal` is a refusal: its
--- additional sense codes, the byte at fault where there is one, and whether that byte is of the CDB or of the data-out.
+-- additional sense codes, the byte at fault where there is one, and whether that byte is of the CDB or of the data-out. The
+-- `form` of a command is the length of its CDB.
 use Rattle.std.specs.Prelude.{ℕ, ◌*◌, ◌==◌, ◌&&◌, not, nat_lt, Bool, true, false, if◌then◌else◌, List, [], ◌∷◌, length, take, get_or, Option, Some, None, Result, Ok, Err}
 use Rattle.std.specs.List.{sum_by}
 use Rattle.satl_base.specs.declared.block.Block.{Block}

@@ -62,7 +62,8 @@ payload_fault version frame =
 
 -- why the bytes from an offset on begin no frame
 abbrev pub frame_fault : Version → ℕ → ℕ → List ℕ → Option Reason
-frame_fault version limit offset frame = option_or (head_fault version limit offset (take 5 frame)) (payload_fault version frame)
+frame_fault version limit offset frame =
+    option_or (head_fault version limit offset (take 5 frame)) (payload_fault version frame)
 
 -- why an input is refused at an offset: at 0 its magic, further on the frame there, in the version that the magic names
 abbrev pub fault : Version → ℕ → List ℕ → ℕ → Option Reason

@@ -1,6 +1,8 @@
 -- Data that are not refused, and the identity that they give.
 use Rattle.std.proofs.Common.{◌≡◌, ℕ, ◌-◌, ◌^◌, ◌<◌, ◌≤◌, true, false, cond, List, [], ◌∷◌, refl, sym, ap, ◌∙◌, arith, eqb}
-use Rattle.std.specs.Prelude.{Result, Ok, Err, IfOk, not, nat_lt, ◌&&◌}
+use Rattle.std.specs.Prelude.{Some, Result, Ok, Err, IfOk, not, nat_lt, ◌&&◌}
+use Rattle.std.specs.List.{find}
+use Rattle.std.specs.Option.{option_map_or}
 use Rattle.std.proofs.lemmas.Bool.{eqb-false, ltb-false}
 use Rattle.satl_base.specs.Identify.{capacity}
 use Rattle.satl_identify.specs.declared.identity.Identity.{Identity}
@@ -25,7 +27,7 @@ Unbroken (rule ∷ more) d = (rule.breaks d ≡ false) × Unbroken more d
 pub judged_ok : (some : List IdentityRule) (d : List ℕ) (made i : Identity) → first_refused some d made ≡ Ok i → Unbroken some d × (made ≡ i)
 judged_ok [] d made i e = (tt, cc)
 judged_ok (rule ∷ more) d made i e =
-    (elim (rule.breaks d) as (λ b. rule.breaks d ≡ b → cond b (Err rule.fault) (first_refused more d made) ≡ Ok i → ((rule.breaks d ≡ false) × Unbroken more d) × (made ≡ i)) [
+    (elim (rule.breaks d) as (λ b. rule.breaks d ≡ b → option_map_or (λ (r : IdentityRule). Err r.fault) (cond b (Some rule) (find (λ (r : IdentityRule). r.breaks d) more)) (Ok made) ≡ Ok i → ((rule.breaks d ≡ false) × Unbroken more d) × (made ≡ i)) [
       | true ↦ λ is f. absurd cc
       | false ↦ λ is f. let rest = judged_ok more d made i f in ((is, rest.0), rest.1)
     ]) refl e

@@ -1,5 +1,7 @@
 -- What IDENTIFY DEVICE data say, and which of them are refused (ACS-3 7.12.7; the refusals and their order: profile).
-use Rattle.std.specs.Prelude.{◌≡◌, ℕ, not, Bool, List, [], ◌∷◌, Result, Ok, Err, if◌then◌else◌}
+use Rattle.std.specs.Prelude.{◌≡◌, ℕ, not, Bool, List, [], ◌∷◌, Result, Ok, Err}
+use Rattle.std.specs.List.{find}
+use Rattle.std.specs.Option.{option_map_or}
 use Rattle.satl_base.specs.Identify.{is_not_ata, has_bad_sum, has_lba48, has_queue, has_capacity, is_other_block, capacity, exponent, has_trim, has_queued_trim, has_cache, has_look, cache_is_on, look_is_on}
 use Rattle.satl_identify.specs.declared.identity.Identity.{Identity}
 use Rattle.satl_identify.specs.declared.identity.IdentityFault.{IdentityFault}
@@ -23,8 +25,7 @@ identity_rules =
 
 -- the first refusal that the data call for, else the identity
 abbrev pub first_refused : List IdentityRule → List ℕ → Identity → Result Identity IdentityFault
-first_refused [] d identity = Ok identity
-first_refused (rule ∷ rules) d identity = if rule.breaks d then Err rule.fault else first_refused rules d identity
+first_refused rules d identity = option_map_or (λ rule. Err rule.fault) (find (λ rule. rule.breaks d) rules) (Ok identity)
 
 -- what the data say
 abbrev pub identity_in : List ℕ → Identity

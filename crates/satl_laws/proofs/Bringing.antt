@@ -1,12 +1,13 @@
 -- What an arrival may be of a request that changes no block but as a WRITE does.
-use Rattle.std.proofs.Common.{◌≡◌, refl, sym, ap, ◌∙◌, subst, ℕ, Bool, true, false, List, [], ◌∷◌, Some}
-use Rattle.std.specs.Prelude.{if◌then◌else◌, ◌||◌, slice_index, Result, Ok, Err}
+use Rattle.std.proofs.Common.{◌≡◌, refl, sym, ap, ◌∙◌, cond, subst, ℕ, Bool, true, false, List, [], ◌∷◌, Some}
+use Rattle.std.specs.Prelude.{◌||◌, slice_index, Result, Ok, Err}
+use Rattle.std.specs.Option.{option_map_or}
 use Rattle.satl_base.specs.declared.block.Block.{Block}
 use Rattle.satl_base.specs.declared.reply.Reply.{Reply}
 use Rattle.satl_cdb.specs.declared.command.Command.{Command}
 use Rattle.satl_cdb.specs.declared.command.Command.TheVariants as commands
 use Rattle.satl_cdb.specs.declared.command.Illegal.{Illegal}
-use Rattle.satl_cdb.specs.Rows.{Rule, format_of, found_says, unless_broken}
+use Rattle.satl_cdb.specs.Rows.{Rule, broken_rule, format_of, found_says, unless_broken}
 use Rattle.satl_cdb.specs.PrimaryCommands.{inquiry, request_sense}
 use Rattle.satl_cdb.specs.Table.{says, table}
 use Rattle.satl_line.specs.declared.entry.Entry.{Entry}
@@ -63,7 +64,7 @@ silent c h body reply = record { writes_none = λ good x v. none_brought c h bod
 pub found_unknown : (rules : List Rule) (cdb : List ℕ) (c : Command) → gives c || brings c ≡ false → (body : List Block) (reply : Reply) → Answers (unless_broken rules cdb c) body reply
 found_unknown [] cdb c other body reply = silent c other body reply
 found_unknown (rule ∷ rules) cdb c other body reply =
-    by_test (λ b. Answers (if b then Err rule.refusal else unless_broken rules cdb c) body reply) (rule.breaks cdb)
+    by_test (λ b. Answers (option_map_or (λ (r : Rule). Err r.refusal) (cond b (Some rule) (broken_rule rules cdb)) (Ok c)) body reply) (rule.breaks cdb)
     (λ broken. unknown rule.refusal body reply)
     (λ fine. found_unknown rules cdb c other body reply)
 

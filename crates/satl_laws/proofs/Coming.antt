@@ -1,12 +1,12 @@
 -- An ATA PASS-THROUGH that comes without data-out writes nothing.
-use Rattle.std.proofs.Common.{◌≡◌, refl, sym, ◌∙◌, ℕ, true, false, List, [], ◌∷◌, Option, Some, None, Result, Err}
-use Rattle.std.specs.Prelude.{if◌then◌else◌}
+use Rattle.std.proofs.Common.{◌≡◌, refl, sym, ◌∙◌, cond, ℕ, true, false, List, [], ◌∷◌, Option, Some, None, Result, Ok, Err}
 use Rattle.std.specs.List.{AllByRecursion}
+use Rattle.std.specs.Option.{option_map_or}
 use Rattle.satl_base.specs.declared.block.Block.{Block}
 use Rattle.satl_cdb.specs.declared.command.Command.{Command}
 use Rattle.satl_cdb.specs.declared.command.Command.TheVariants as commands
 use Rattle.satl_cdb.specs.declared.command.Illegal.{Illegal}
-use Rattle.satl_cdb.specs.Rows.{Rule, unless_broken}
+use Rattle.satl_cdb.specs.Rows.{Rule, broken_rule, unless_broken}
 use Rattle.satl_regs.specs.Commands.{command_in}
 use Rattle.satl_regs.specs.Effects.{Medium, pairs_of}
 use Rattle.satl_pass.specs.declared.pass.Pass.{Pass}
@@ -24,7 +24,7 @@ WritesItsOwn _ = Unit {0}
 unbroken : {A : Type 0} (all : List Rule) (cdb : List ℕ) (value : A) (of : Result A Illegal → Option Illegal) → ((why : Illegal) → of (Err why) ≡ Some why) → of (unless_broken all cdb value) ≡ None → AllByRecursion (λ rule. rule.breaks cdb ≡ false) all
 unbroken [] cdb value of errs h = tt
 unbroken (rule ∷ all) cdb value of errs h =
-    (elim (rule.breaks cdb) as (λ b. rule.breaks cdb ≡ b → of (if b then Err rule.refusal else unless_broken all cdb value) ≡ None → (rule.breaks cdb ≡ false) × AllByRecursion (λ r. r.breaks cdb ≡ false) all)
+    (elim (rule.breaks cdb) as (λ b. rule.breaks cdb ≡ b → of (option_map_or (λ (r : Rule). Err r.refusal) (cond b (Some rule) (broken_rule all cdb)) (Ok value)) ≡ None → (rule.breaks cdb ≡ false) × AllByRecursion (λ r. r.breaks cdb ≡ false) all)
     [ true ↦ λ is e. absurd (let clash : Some rule.refusal ≡ None = sym (errs rule.refusal) ∙ e in cc) | false ↦ λ is e. (is, unbroken all cdb value of errs e) ]) refl h
 
 -- where no rule is broken, length and direction are the command's own

@@ -1,6 +1,8 @@
 -- Which parameter lists of MODE SELECT are refused: their rules, in the order in which they are judged (SPC-4, MODE SELECT
 -- commands and 7.5; the refusals: profile).
 use Rattle.std.specs.Prelude.{ℕ, zero, suc, ◌+◌, ◌-◌, ◌==◌, ◌&&◌, nat_lt, nat_le, not, bit_and, Bool, true, List, [], ◌∷◌, ◌++◌, map, Option, Some, None, Result, Ok, Err, if◌then◌else◌}
+use Rattle.std.specs.List.{find}
+use Rattle.std.specs.Option.{option_map}
 use Rattle.satl_base.specs.declared.block.Block.{Block}
 use Rattle.satl_base.specs.declared.modes.Modes.{Modes}
 use Rattle.satl_base.specs.Blocks.{byte_at}
@@ -44,8 +46,7 @@ refuses breaks refusal = record { breaks = breaks; refusal = refusal }
 
 -- the refusal of the first rule that is broken
 abbrev pub first_broken : List ListRule → Option Illegal
-first_broken [] = None
-first_broken (rule ∷ rules) = if rule.breaks then Some rule.refusal else first_broken rules
+first_broken rules = option_map (λ rule. rule.refusal) (find (λ rule. rule.breaks) rules)
 
 -- a field of a descriptor at a place is 0 or what MODE SENSE shows
 abbrev pub field_rule : List Block → ℕ → BlockField → ListRule
