@@ -6,13 +6,14 @@ ghost use Rattle.satl_direct.specs.Tasks.{is_ordered};
 ghost use Rattle.satl_asks.specs.Requests.{is_for_unit};
 
 use satl_base::{Attr, Range, Request};
+use satl_cdb::{INQUIRY, REPORT_LUNS, REQUEST_SENSE};
 
 /// Whether a command of this operation code is carried out before a unit attention is told: INQUIRY, REPORT LUNS and REQUEST
 /// SENSE (SAM-5 5.14).
 pub fn is_untold(code: u8) -> bool
     ensures { result ≡ is_in code untold_codes }
 {
-    matches!(code, 0x12 | 0xA0 | 0x03)
+    matches!(code, INQUIRY | REPORT_LUNS | REQUEST_SENSE)
 }
 
 /// Whether a LUN is that of logical unit 0.
@@ -26,7 +27,7 @@ pub fn is_unit_0(lun: &[u8; 8]) -> bool
 pub fn is_for_unit(request: &Request) -> bool
     ensures { result ≡ is_for_unit request.now }
 {
-    is_unit_0(&request.lun) || request.cdb[0] == 0xA0
+    is_unit_0(&request.lun) || request.cdb[0] == REPORT_LUNS
 }
 
 /// Whether a task has the attribute ORDERED (SAM-5 8.6).

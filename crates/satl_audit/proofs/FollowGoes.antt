@@ -1,5 +1,6 @@
 -- Frames of an input that were given and have happened.
 use Rattle.std.proofs.Common.{◌≡◌, refl, sym, ap, subst, ℕ, ◌+◌, List, [], ◌∷◌, ◌++◌, length, Some, None}
+use Rattle.satl_base.specs.Limits.{input_limit}
 use Rattle.satl_identify.specs.declared.identity.Identity.{Identity}
 use Rattle.satl_frame.specs.declared.frames.Frame.{Frame}
 use Rattle.satl_frame.specs.declared.frames.Frame.TheVariants as frames
@@ -10,13 +11,12 @@ use Rattle.satl_frame.specs.Inputs.{AreFrames, NoneEnds}
 use Rattle.satl_frame.specs.Output.{out_magic}
 use Rattle.satl_frame.specs.Progress.{HasRead}
 use Rattle.satl_frame.specs.Reading.{Reading}
-use Rattle.satl_cover.specs.Covered.{limit}
 use Rattle.satl_audit.specs.Kept.{Keeping}
 use Rattle.satl_audit.specs.declared.arriving.Steps.{Steps}
 use Rattle.satl_audit.proofs.ReachBegins.{Reached}
 
 -- END is the last of frames
-pub ends_last : (version : Version) (offset : ℕ) (before later : List Frame) → AreFrames version limit offset (before ++ frames.End ∷ later) → later ≡ []
+pub ends_last : (version : Version) (offset : ℕ) (before later : List Frame) → AreFrames version input_limit offset (before ++ frames.End ∷ later) → later ≡ []
 ends_last version offset [] later each = each.2 refl
 ends_last version offset (f ∷ before) later each = ends_last version (offset + length (spelled f)) before later each.3
 
@@ -24,13 +24,13 @@ ends_last version offset (f ∷ before) later each = ends_last version (offset +
 pub record Goes (identity : Identity) (input output : List ℕ) (reader : Reading) (left : List ℕ) (steps : Steps) (sectors : List Keeping) : Type 0 where
   pub fresh : reader.refused ≡ None
   pub newest : reader.newest ≡ Two
-  pub limit_is : reader.limit ≡ limit
+  pub limit_is : reader.limit ≡ input_limit
   pub so_far : List Frame
   pub read : HasRead reader (Some input) (Some left) so_far
   pub none : NoneEnds so_far
   pub reached : Reached identity input output so_far steps sectors
 
-pub goes_none : (identity : Identity) (input left : List ℕ) (reader : Reading) (steps : Steps) (sectors : List Keeping) → reader ≡ record { limit = limit; newest = Two; place = None; refused = None } →
+pub goes_none : (identity : Identity) (input left : List ℕ) (reader : Reading) (steps : Steps) (sectors : List Keeping) → reader ≡ record { limit = input_limit; newest = Two; place = None; refused = None } →
     Reached identity input (out_magic ++ left) [] steps sectors → Goes identity input (out_magic ++ left) reader input steps sectors
 goes_none identity input left reader steps sectors is reached = record {
   fresh = ap (λ (r : Reading). r.refused) is;

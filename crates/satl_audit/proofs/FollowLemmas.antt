@@ -1,6 +1,7 @@
 -- The frames of a record, as a reader gives them.
 use Rattle.std.proofs.Common.{◌≡◌, refl, sym, ap, ◌∙◌, subst, ℕ, ◌+◌, ◌-◌, Bool, true, false, List, [], ◌∷◌, ◌++◌, length, append_assoc, Option, Some}
 use Rattle.std.specs.Prelude.{max, Ok}
+use Rattle.satl_base.specs.Limits.{input_limit}
 use Rattle.satl_identify.specs.declared.identity.Identity.{Identity}
 use Rattle.satl_identify.specs.Refusals.{IsIdentity}
 use Rattle.satl_frame.specs.declared.frames.Frame.{Frame}
@@ -16,7 +17,7 @@ use Rattle.satl_frame.specs.Pulls.{cut_to}
 use Rattle.satl_frame.specs.Reading.{Blames, Gave, Reading}
 use Rattle.satl_frame.proofs.ProgressLemmas.{has_read_more}
 use Rattle.satl_frame.proofs.WholeInputs.{next_given, none_refused}
-use Rattle.satl_cover.specs.Covered.{limit, place_behind}
+use Rattle.satl_cover.specs.Covered.{place_behind}
 use Rattle.satl_cover.proofs.ReadingLemmas.{next_place, none_ends, end_whole}
 use Rattle.satl_audit.specs.Advancing.{Advances, CannotGoOn, GoesOn, IsGoodFrame, MayHappen}
 use Rattle.satl_audit.specs.Finishing.{AreTasks}
@@ -37,7 +38,7 @@ module _ (identity : Identity) (is : IsIdentity identity) (input output : List �
   to_end : ReadsToEnd reader.limit reader.newest input taken.whole.before []
   to_end =
       subst (λ (n : ℕ). ReadsToEnd n reader.newest input taken.whole.before []) (sym going.limit_is)
-      (subst (λ (v : Version). ReadsToEnd limit v input taken.whole.before []) (sym going.newest)
+      (subst (λ (v : Version). ReadsToEnd input_limit v input taken.whole.before []) (sym going.newest)
       (record {
         place = record { version = One; offset = place_behind (taken.whole.before ++ frames.End ∷ []) };
         read = record {
@@ -48,8 +49,8 @@ module _ (identity : Identity) (is : IsIdentity identity) (input output : List �
         };
       }))
     where
-      reads : Reads limit input One (taken.whole.before ++ frames.End ∷ []) []
-      reads = subst (λ (l : List Frame). Reads limit input One l []) taken.whole.ends taken.whole.reads
+      reads : Reads input_limit input One (taken.whole.before ++ frames.End ∷ []) []
+      reads = subst (λ (l : List Frame). Reads input_limit input One l []) taken.whole.ends taken.whole.reads
 
   -- no frame is refused
   pub not_bad : (left' : Option (List ℕ)) (reason : Reason) (offset : ℕ) → Blames reader (Some left) left' (Bad reason offset) → ⊥
@@ -99,7 +100,7 @@ module _ (identity : Identity) (is : IsIdentity identity) (input output : List �
 
       all_is : frame ≡ frames.End → going.so_far ++ gave.whole ∷ [] ≡ all
       all_is is_end =
-          let each : AreFrames One limit 8 (going.so_far ++ frames.End ∷ ahead.0) = subst (AreFrames One limit 8) (ahead.1 ∙ ap (λ (f : Frame). going.so_far ++ f ∷ ahead.0) (whole_is is_end)) (taken.whole.reads).each in
+          let each : AreFrames One input_limit 8 (going.so_far ++ frames.End ∷ ahead.0) = subst (AreFrames One input_limit 8) (ahead.1 ∙ ap (λ (f : Frame). going.so_far ++ f ∷ ahead.0) (whole_is is_end)) (taken.whole.reads).each in
           ap (λ (l : List Frame). going.so_far ++ gave.whole ∷ l) (sym (ends_last One 8 going.so_far ahead.0 each)) ∙ sym ahead.1
 
       reached_all : frame ≡ frames.End → Reached identity input output all next after

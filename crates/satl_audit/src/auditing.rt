@@ -10,8 +10,8 @@ use crate::arriving::Steps;
 use crate::cursor::Cursor;
 use crate::sectors::Sectors;
 use crate::verdict::Verdict;
-use satl_base::NoMemory;
-use satl_cover::{AuditFault, LIMIT, NoPages, Slice, cover};
+use satl_base::{INPUT_LIMIT, NoMemory};
+use satl_cover::{AuditFault, NoPages, Slice, cover};
 use satl_frame::{Frame, FrameFault, FrameReader, LONGEST_EVENT};
 use satl_identify::Identity;
 use std::alloc::Global;
@@ -38,7 +38,7 @@ fn follow(
     let mut steps = Steps::new(alloc, output)?;
     let mut sectors = Sectors::new(alloc, identity.capacity as usize)?;
     let mut source = Slice::new(input);
-    let mut reader = FrameReader::new(alloc, LIMIT);
+    let mut reader = FrameReader::new(alloc, INPUT_LIMIT);
     let mut lender = NoPages;
     let mut room = [0; LONGEST_EVENT];
     loop {

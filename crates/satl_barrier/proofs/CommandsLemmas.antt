@@ -20,7 +20,8 @@ use Rattle.satl_regs.specs.declared.values.AtaCommand.TheVariants as commands
 use Rattle.satl_regs.specs.Commands.{command_in}
 use Rattle.satl_regs.specs.Spelling.{command_registers}
 use Rattle.satl_regs.specs.QueuedCommands.{queued_codes}
-use Rattle.satl_regs.specs.Effects.{Carries, HasEffect, EndsInFull, IsFlawed, IsGarbled, IsLogged, EndsBad, IsSet, IsTelling, Medium, Setting, Traffic, Transfer, abrt, has_setting, idnf, is_error_log, is_no_trim, no_error_log, own_blocks, pairs_of, reading, setting_of, settable, trimming, verifying, with_setting, writing}
+use Rattle.satl_regs.specs.declared.setting.Setting.{Setting}
+use Rattle.satl_regs.specs.Effects.{Carries, HasEffect, EndsInFull, IsFlawed, IsGarbled, IsLogged, EndsBad, IsSet, IsTelling, Medium, Traffic, Transfer, abrt, has_setting, idnf, is_error_log, is_no_trim, no_error_log, own_blocks, pairs_of, reading, setting_of, settable, trimming, verifying, with_setting, writing}
 use Rattle.satl_identify.specs.Data.{identity_data}
 use Rattle.satl_drive.specs.State.{DriveState, IsFit, medium_of, with_medium}
 use Rattle.satl_drive.specs.Rules.{CanRun, IsCarriedOut as IsRunOut, IsCutOff, IsRun, IsRunBy, IsRunCutOff, MayRun}

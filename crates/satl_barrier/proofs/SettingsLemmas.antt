@@ -6,7 +6,7 @@ use Rattle.satl_base.specs.Cells.{AreSound, Cell, settle}
 use Rattle.satl_base.specs.Losses.{Loses}
 use Rattle.satl_base.proofs.LossesLemmas.{loses_none, loses_on}
 use Rattle.satl_base.proofs.MovesLemmas.{lose_once}
-use Rattle.satl_regs.specs.Effects.Setting.{sets_cache, sets_look}
+use Rattle.satl_regs.specs.declared.setting.Setting.TheVariants.{WriteCache, LookAhead}
 use Rattle.satl_drive.specs.State.{DriveState}
 use Rattle.satl_barrier.specs.Commands.{IsCutShort}
 use Rattle.satl_barrier.specs.Leaving.{IsLostIn}
@@ -56,11 +56,11 @@ on_loses : (cache : Bool) (cells new : List Cell) → Loses cells new → Loses 
 on_loses true cells new lost = lost
 on_loses false cells new lost = lost
 
-pub cache_tuned : (old new : DriveState) (on : Bool) → AreSound old.cells → IsSetOn (sets_cache on) old new → IsTuned on old.look old new
+pub cache_tuned : (old new : DriveState) (on : Bool) → AreSound old.cells → IsSetOn (WriteCache on) old new → IsTuned on old.look old new
 cache_tuned old new true sound set = tuned_by old new true old.look set.was_up set.stays (on_loses old.cache old.cells new.cells set.lost)
 cache_tuned old new false sound set = tuned_by old new false old.look set.was_up set.stays (off_loses old.cache old.cells new.cells sound set.lost)
 
-pub look_tuned : (old new : DriveState) (on : Bool) → IsSetOn (sets_look on) old new → IsTuned old.cache on old new
+pub look_tuned : (old new : DriveState) (on : Bool) → IsSetOn (LookAhead on) old new → IsTuned old.cache on old new
 look_tuned old new on set = tuned_by old new old.cache on set.was_up set.stays (subst (λ b. Loses (settled_if b old.cells) new.cells) (sym (stays_cached old.cache)) set.lost)
 
 -- one after the other

@@ -1,14 +1,14 @@
 -- How a command ends that goes over a range of the medium, in one ATA command or in pieces of 64 blocks upwards.
-use Rattle.std.specs.Prelude.{◌≡◌, ◌⊎◌, ℕ, ◌+◌, ◌-◌, ◌^◌, ◌≤◌, ◌==◌, if◌then◌else◌, true, false, List, [], Option, Some, None, MatchOption, length, min, replicate}
+use Rattle.std.specs.Prelude.{◌≡◌, ◌⊎◌, ℕ, ◌+◌, ◌-◌, ◌^◌, ◌≤◌, not, if◌then◌else◌, true, false, List, [], Option, Some, None, MatchOption, length, min, replicate}
 use Rattle.satl_base.specs.Limits.{most_covered, piece}
 use Rattle.satl_base.specs.declared.block.Block.{Block}
 use Rattle.satl_base.specs.declared.block.Range.{Range}
 use Rattle.satl_base.specs.declared.bench.Which.TheVariants as flaws
 use Rattle.satl_base.specs.Cells.{Cell, Part, first_flaw, nows, pairs_from, whole}
 use Rattle.satl_base.specs.Losses.{Loses}
-use Rattle.satl_base.specs.Fields.{bits_of}
+use Rattle.satl_base.specs.Fields.{bit_of}
 use Rattle.satl_regs.specs.declared.values.Taskfile.{Taskfile}
-use Rattle.satl_regs.specs.Effects.{Transfer, zeros_at}
+use Rattle.satl_regs.specs.Effects.{Transfer, is_bad, zeros_at}
 use Rattle.satl_regs.specs.Trim.{addresses}
 use Rattle.satl_drive.specs.State.{DriveState}
 use Rattle.satl_barrier.specs.declared.finishing.Finish.{Finish}
@@ -59,18 +59,18 @@ trimming_ranges ranges d =
       reads = [];
     }
 
--- what a taskfile tells of the end: STATUS(0) is 1 at a bad end, and then ERROR(7) at a CRC error; else LBA is the flawed
--- address (ACS-3, error outputs)
+-- what a taskfile tells of the end: ERR of STATUS is 1 at a bad end, and then ICRC, bit 7 of ERROR, at a CRC error; else LBA is
+-- the flawed address (ACS-3, error outputs)
 abbrev pub finish_of : Taskfile → Finish
 finish_of ended =
-    if bits_of 0 0 ended.status == 0 then finishes.Done
-    else if bits_of 7 7 ended.error == 1 then finishes.Garbled
+    if not (is_bad ended) then finishes.Done
+    else if bit_of 7 ended.error then finishes.Garbled
     else finishes.Flawed ended.lba
 
 -- the flawed address that a taskfile tells of a read for flaws: that of a bad end (ACS-3, READ VERIFY SECTOR(S) EXT, error
 -- outputs)
 abbrev pub told_flaw : Taskfile → Option ℕ
-told_flaw ended = if bits_of 0 0 ended.status == 0 then None else Some ended.lba
+told_flaw ended = if is_bad ended then Some ended.lba else None
 
 -- all of it was carried out, sectors may have been written back since, and the drive is active (ACS-3, normal outputs)
 pub record IsDone (t : Transfer) (old new : DriveState) : Type 0 where

@@ -3,11 +3,9 @@ use Rattle.std.specs.Prelude.{◌≡◌, ◌&&◌, not, false, Bool}
 use Rattle.satl_base.specs.declared.modes.Modes.{Modes}
 use Rattle.satl_base.specs.Identify.{has_cache, has_look}
 use Rattle.satl_base.specs.Losses.{Loses}
-use Rattle.satl_regs.specs.Effects.{IsTelling, Setting, with_setting}
-use Rattle.satl_regs.specs.Effects.Setting.{sets_cache, sets_look}
+use Rattle.satl_regs.specs.declared.setting.Setting.{Setting}
+use Rattle.satl_regs.specs.Effects.{IsTelling, with_setting}
 use Rattle.satl_drive.specs.State.{DriveState, medium_of, with_medium}
-use Rattle.satl_barrier.specs.declared.settings.Feature.{Feature}
-use Rattle.satl_barrier.specs.declared.settings.Feature.TheVariants as features
 use Rattle.satl_barrier.specs.Flushing.{settled_if}
 
 -- the link is up, and the settings are as these mode values say: the cache by WCE, and look-ahead by DRA (SAT-3 10)
@@ -20,11 +18,6 @@ pub record IsSetBy (modes : Modes) (d : DriveState) : Type 0 where
 pub record CanSet (modes wanted : Modes) (d : DriveState) : Type 0 where
   pub cache : has_cache d.identify ≡ false → wanted.wce ≡ modes.wce
   pub look : has_look d.identify ≡ false → wanted.dra ≡ modes.dra
-
--- a setting on or off (ACS-3, SET FEATURES)
-abbrev pub setting : Feature → Bool → Setting
-setting features.WriteCache on = sets_cache on
-setting features.LookAhead on = sets_look on
 
 -- a setting was made: all sectors are written back where the write cache was turned off (ACS-3, SET FEATURES)
 pub record IsSetOn (what : Setting) (old new : DriveState) : Type 0 where

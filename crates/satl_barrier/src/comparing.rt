@@ -53,10 +53,10 @@ pub fn verify<D: Drive, L: Ledger>(
 fn told_flaw(ended: &Taskfile) -> Option<u64>
     ensures { result ≡ told_flaw ended.now }
 {
-    if ended.status & 0x01 == 0 {
-        None
-    } else {
+    if ended.is_bad() {
         Some(ended.lba)
+    } else {
+        None
     }
 }
 

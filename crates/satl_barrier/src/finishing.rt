@@ -25,15 +25,16 @@ impl From<&Taskfile> for Finish {
 
     ghost from_gives = { λ ended finish. finish ≡ finish_of ended.now };
 
-    /// Status bit 0 tells a bad end, and error bit 7 a CRC error; else the address at the end is the flawed one.
+    /// ERR of STATUS tells a bad end, and ICRC of ERROR a CRC error; else the address at the end is the flawed one.
     fn from(ended: &Taskfile) -> Finish {
-        if ended.status & 0x01 == 0 {
-            return Finish::Done;
+        let icrc = ended.error >> 7 & 1 == 1;
+        if !ended.is_bad() {
+            Finish::Done
+        } else if icrc {
+            Finish::Garbled
+        } else {
+            Finish::Flawed { lba: ended.lba }
         }
-        if ended.error & 0x80 != 0 {
-            return Finish::Garbled;
-        }
-        Finish::Flawed { lba: ended.lba }
     }
 }
 

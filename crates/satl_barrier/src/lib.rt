@@ -16,6 +16,6 @@ pub use comparing::{Comparison, compare, verify};
 pub use finishing::Finish;
 pub use flushing::{flush, switch};
 pub use passing::pass_through;
-pub use settings::{Feature, tune, turn_feature};
+pub use settings::{make_setting, tune};
 pub use trimming::trim;
 pub use writing_same::write_same;

@@ -1,52 +1,32 @@
 // The settings of a drive: its write cache, and read look-ahead.
-ghost use Rattle.std.specs.Prelude.{◌≡◌, ◌+◌, [], Some, true, OnOk, OnErr, ◌≤◌, not, false};
-ghost use Rattle.satl_regs.specs.Effects.{has_setting, setting_of};
+ghost use Rattle.std.specs.Prelude.{◌≡◌, ◌+◌, [], true, OnOk, OnErr, ◌≤◌, not, false};
+ghost use Rattle.satl_regs.specs.Effects.{has_setting};
 ghost use Rattle.satl_base.specs.Cells.{AreSound};
 ghost use Rattle.satl_base.specs.Identify.{has_cache, has_look};
 ghost use Rattle.satl_barrier.specs.Commands.{IsCutShort};
 ghost use Rattle.satl_barrier.specs.Leaving.{IsFree, IsLostIn, Stays};
-ghost use Rattle.satl_barrier.specs.Settings.{CanSet, IsSetBy, IsSetOn, IsTuned, setting};
+ghost use Rattle.satl_barrier.specs.Settings.{CanSet, IsSetBy, IsSetOn, IsTuned};
 
 use crate::commands::run_bare;
 use satl_base::{Modes, Steps};
 use satl_drive::{Drive, LinkDown};
-use satl_regs::AtaCommand;
+use satl_regs::{AtaCommand, Setting};
 use std::sync::ledger::Ledger;
 
-/// What SET FEATURES turns on and off (ACS-3, SET FEATURES).
-#[derive(Clone, Copy, Debug, PartialEq, Eq)]
-pub enum Feature {
-    WriteCache,
-    LookAhead,
-}
-
-/// The subcommand that turns it on or off (ACS-3, SET FEATURES).
-fn subcommand(feature: Feature, on: bool) -> u8
-    ensures { setting_of result ≡ Some (setting feature on) }
-{
-    match (feature, on) {
-        (Feature::WriteCache, true) => 0x02,
-        (Feature::WriteCache, false) => 0x82,
-        (Feature::LookAhead, true) => 0xAA,
-        (Feature::LookAhead, false) => 0x55,
-    }
-}
-
-/// Turns a feature that the drive has on or off. `LinkDown`: the link was lost (ACS-3, SET FEATURES).
-pub fn turn_feature<D: Drive, L: Ledger>(
+/// Makes a setting of a feature that the drive has. `LinkDown`: the link was lost (ACS-3, SET FEATURES).
+pub fn make_setting<D: Drive, L: Ledger>(
     drive: &mut D,
-    feature: Feature,
-    on: bool,
+    setting: Setting,
     steps: &mut Steps<L>,
 ) -> Result<(), LinkDown>
     requires free { IsFree (D.state drive.old) }
-    requires has { has_setting (D.state drive.old).identify (setting feature on) ≡ true }
-    ensures set { OnOk result (IsSetOn (setting feature on) (D.state drive.old) (D.state drive.new)) }
+    requires has { has_setting (D.state drive.old).identify setting ≡ true }
+    ensures set { OnOk result (IsSetOn setting (D.state drive.old) (D.state drive.new)) }
     ensures lost { OnErr result (IsCutShort [] (D.state drive.old) (D.state drive.new)) }
     ensures stays { Stays (D.state drive.old) (D.state drive.new) }
     ensures step { steps.new ≡ steps.old + 1 }
 {
-    let what = subcommand(feature, on);
+    let what = setting.subcommand();
     run_bare(drive, &AtaCommand::SetFeatures { what }, steps)
 }
 
@@ -70,7 +50,7 @@ fn set_cache<D: Drive, L: Ledger>(
     if is_on == on {
         return Ok(());
     }
-    turn_feature(drive, Feature::WriteCache, on, steps)
+    make_setting(drive, Setting::WriteCache { on }, steps)
 }
 
 /// Turns read look-ahead on or off, unless it is so.
@@ -93,7 +73,7 @@ fn set_look<D: Drive, L: Ledger>(
     if is_on == on {
         return Ok(());
     }
-    turn_feature(drive, Feature::LookAhead, on, steps)
+    make_setting(drive, Setting::LookAhead { on }, steps)
 }
 
 /// Sets the drive as the mode values are to be: its write cache by WCE, and read look-ahead by DRA. `LinkDown`: the link was

@@ -1,5 +1,5 @@
 -- Limits of the profile.
-use Rattle.std.specs.Prelude.{ℕ, ◌+◌, ◌≤◌, ◌==◌, ◌||◌, nat_lt, Bool, Option, IfSome}
+use Rattle.std.specs.Prelude.{ℕ, ◌+◌, ◌^◌, ◌≤◌, ◌==◌, ◌||◌, nat_lt, Bool, Option, IfSome}
 
 -- the most tasks that wait at once (SAM-5 5.3.1, TASK SET FULL; the figure: profile)
 abbrev pub most_tasks : ℕ
@@ -31,6 +31,10 @@ piece = 64
 -- the most ranges of one UNMAP (SBC-3, MAXIMUM UNMAP BLOCK DESCRIPTOR COUNT; the figure: profile)
 abbrev pub most_ranges : ℕ
 most_ranges = 64
+
+-- within how many bytes each frame, or each item of a bridge, ends in its input (profile)
+abbrev pub input_limit : ℕ
+input_limit = 2 ^ 40
 
 -- the most bytes of data of one command: those of 4,096 blocks (profile)
 abbrev pub longest_data : ℕ

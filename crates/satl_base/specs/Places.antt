@@ -1,7 +1,8 @@
 -- Bytes as a table of place and value.
 use Rattle.std.specs.Prelude.{ℕ, ◌+◌, ◌-◌, nat_lt, List, [], ◌∷◌, map, length, get_or, if◌then◌else◌}
 use Rattle.std.specs.Int.{bytes_high_first}
-use Rattle.std.specs.List.{range_with_len}
+use Rattle.std.specs.List.{find, range_with_len}
+use Rattle.std.specs.Option.{option_map_or}
 use Rattle.satl_base.specs.Blocks.{lies_in}
 
 -- a line of a table: its first place, and the bytes from there on (profile)
@@ -28,9 +29,8 @@ text first value = record { first = first; bytes = value }
 
 -- the byte at a place: that of the first line that has the place, and 0 where none has (profile)
 abbrev pub at_place : List Line → ℕ → ℕ
-at_place [] i = 0
-at_place (l ∷ ls) i =
-    if lies_in l.first (length l.bytes) i then get_or l.bytes (i - l.first) 0 else at_place ls i
+at_place lines i =
+    option_map_or (λ l. get_or l.bytes (i - l.first) 0) (find (λ l. lies_in l.first (length l.bytes) i) lines) 0
 
 -- the values of n places from the i-th on (profile)
 abbrev pub places : ℕ → ℕ → (ℕ → ℕ) → List ℕ

@@ -19,7 +19,9 @@ pub use bench::{BenchEvent, OrderBytes, Which};
 pub use block::{Block, Range};
 pub use bytes::{append, checksum_of};
 pub use lender::Lender;
-pub use limits::{LONGEST_DATA, MOST_COVERED, MOST_HELD, MOST_MOVED, MOST_RANGES, MOST_TASKS};
+pub use limits::{
+    INPUT_LIMIT, LONGEST_DATA, MOST_COVERED, MOST_HELD, MOST_MOVED, MOST_RANGES, MOST_TASKS,
+};
 pub use modes::{ModeChange, Modes};
 pub use pages::{Blocks, NoMemory, Page, Pages, Pieces};
 pub use reply::{Replies, Reply, Response, Scsi, SenseBytes};

@@ -16,5 +16,8 @@ pub const MOST_COVERED: u32 = 65_536;
 /// The most ranges of one UNMAP (profile).
 pub const MOST_RANGES: usize = 64;
 
+/// Within how many bytes each frame, or each item of a bridge, ends in its input (profile).
+pub const INPUT_LIMIT: u64 = 1 << 40;
+
 /// The most bytes of data of one command: those of 4,096 blocks (profile).
 pub const LONGEST_DATA: u32 = 2_097_152;

@@ -9,19 +9,39 @@ use Rattle.satl_cdb.specs.Rows.{Format, at, on, is, is_above, is_none_of, never}
 abbrev pub test_unit_ready : Format
 test_unit_ready = record { rules = []; command = λ cdb. commands.TestUnitReady }
 
--- SPC-4, REQUEST SENSE command: DESC byte 1 bit 0, ALLOCATION LENGTH byte 4
+-- the operation code of REQUEST SENSE, and of its CDB DESC, byte 1 bit 0, and ALLOCATION LENGTH, byte 4 (SPC-4 6.39)
+abbrev pub request_sense_code : ℕ
+request_sense_code = 0x03
+
+abbrev pub desc : Flag
+desc = bit 1 0
+
+abbrev pub sense_length : Field
+sense_length = bytes 4 4
+
+-- SPC-4, REQUEST SENSE command
 abbrev pub request_sense : Format
-request_sense = record { rules = []; command = λ cdb. commands.RequestSense (bit 1 0 cdb) (bytes 4 4 cdb) }
+request_sense = record { rules = []; command = λ cdb. commands.RequestSense (desc cdb) (sense_length cdb) }
 
 -- the pages of vital product data (profile)
 abbrev pub vital_pages : List ℕ
 vital_pages = 0x00 ∷ 0x80 ∷ 0x83 ∷ 0x89 ∷ 0xB0 ∷ 0xB1 ∷ 0xB2 ∷ []
 
--- SPC-4, INQUIRY command: EVPD byte 1 bit 0, PAGE CODE byte 2, ALLOCATION LENGTH bytes 3 to 4
+-- the operation code of INQUIRY, and of its CDB EVPD, byte 1 bit 0, and ALLOCATION LENGTH, bytes 3 to 4 (SPC-4 6.6)
+abbrev pub inquiry_code : ℕ
+inquiry_code = 0x12
+
+abbrev pub evpd : Flag
+evpd = bit 1 0
+
+abbrev pub inquiry_length : Field
+inquiry_length = bytes 3 4
+
+-- SPC-4, INQUIRY command: PAGE CODE byte 2
 abbrev pub inquiry : Format
 inquiry = record {
-  rules = at 2 (λ cdb. is_none_of (if bit 1 0 cdb then vital_pages else 0x00 ∷ []) (bytes 2 2) cdb) ∷ [];
-  command = λ cdb. commands.Inquiry (if bit 1 0 cdb then Some (bytes 2 2 cdb) else None) (bytes 3 4 cdb);
+  rules = at 2 (λ cdb. is_none_of (if evpd cdb then vital_pages else 0x00 ∷ []) (bytes 2 2) cdb) ∷ [];
+  command = λ cdb. commands.Inquiry (if evpd cdb then Some (bytes 2 2 cdb) else None) (inquiry_length cdb);
 }
 
 -- PARAMETER LIST LENGTH and ALLOCATION LENGTH of the mode commands: byte 4 of 6, bytes 7 to 8 of 10
@@ -58,9 +78,16 @@ mode_sense ten = record {
       (mode_length ten cdb);
 }
 
--- SPC-4, REPORT LUNS command: SELECT REPORT byte 2, ALLOCATION LENGTH bytes 6 to 9
+-- the operation code of REPORT LUNS, and of its CDB ALLOCATION LENGTH, bytes 6 to 9 (SPC-4 6.33)
+abbrev pub report_luns_code : ℕ
+report_luns_code = 0xA0
+
+abbrev pub luns_length : Field
+luns_length = bytes 6 9
+
+-- SPC-4, REPORT LUNS command: SELECT REPORT byte 2
 abbrev pub report_luns : Format
 report_luns = record {
   rules = at 2 (is_above 0x02 (bytes 2 2)) ∷ [];
-  command = λ cdb. commands.ReportLuns (bytes 2 2 cdb) (bytes 6 9 cdb);
+  command = λ cdb. commands.ReportLuns (bytes 2 2 cdb) (luns_length cdb);
 }

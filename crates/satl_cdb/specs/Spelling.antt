@@ -5,6 +5,7 @@ use Rattle.satl_base.specs.Places.{Line, byte, number, text, laid}
 use Rattle.satl_cdb.specs.declared.command.Form.TheVariants.{Six, Ten, Twelve, Sixteen}
 use Rattle.satl_cdb.specs.declared.command.Command.{Command}
 use Rattle.satl_cdb.specs.declared.command.Command.TheVariants as commands
+use Rattle.satl_cdb.specs.PrimaryCommands.{inquiry_code, report_luns_code, request_sense_code}
 
 -- a bit of a byte
 abbrev pub bit_value : ℕ → Bool → ℕ
@@ -31,9 +32,9 @@ page_code_byte control page = control % 4 * 64 + page % 64
 -- the lines of each command; a form that a command does not have is written as that of 16 bytes
 abbrev pub lines_of : Command → List Line
 lines_of commands.TestUnitReady = byte 0 0x00 ∷ []
-lines_of (commands.RequestSense descriptor alloc) = byte 0 0x03 ∷ byte 1 (bit_value 0 descriptor) ∷ byte 4 alloc ∷ []
-lines_of (commands.Inquiry None alloc) = byte 0 0x12 ∷ number 3 4 alloc ∷ []
-lines_of (commands.Inquiry (Some page) alloc) = byte 0 0x12 ∷ byte 1 0x01 ∷ byte 2 page ∷ number 3 4 alloc ∷ []
+lines_of (commands.RequestSense descriptor alloc) = byte 0 request_sense_code ∷ byte 1 (bit_value 0 descriptor) ∷ byte 4 alloc ∷ []
+lines_of (commands.Inquiry None alloc) = byte 0 inquiry_code ∷ number 3 4 alloc ∷ []
+lines_of (commands.Inquiry (Some page) alloc) = byte 0 inquiry_code ∷ byte 1 0x01 ∷ byte 2 page ∷ number 3 4 alloc ∷ []
 lines_of (commands.ModeSense false long_lba no_descriptor control page alloc) =
     byte 0 0x1A ∷ byte 1 (bit_value 3 no_descriptor) ∷ byte 2 (page_code_byte control page) ∷ byte 4 (alloc % 256) ∷ []
 lines_of (commands.ModeSense true long_lba no_descriptor control page alloc) =
@@ -44,7 +45,7 @@ lines_of (commands.ModeSelect true length) = byte 0 0x55 ∷ byte 1 0x10 ∷ num
 lines_of (commands.StartStop start no_flush) = byte 0 0x1B ∷ byte 4 (bit_value 2 no_flush + bit_value 0 start) ∷ []
 lines_of commands.ReadCapacity10 = byte 0 0x25 ∷ []
 lines_of (commands.ReadCapacity16 alloc) = byte 0 0x9E ∷ byte 1 0x10 ∷ number 10 13 alloc ∷ []
-lines_of (commands.ReportLuns select alloc) = byte 0 0xA0 ∷ byte 2 select ∷ number 6 9 alloc ∷ []
+lines_of (commands.ReportLuns select alloc) = byte 0 report_luns_code ∷ byte 2 select ∷ number 6 9 alloc ∷ []
 lines_of (commands.Read Six lba count fua) = lines_6 0x08 lba count
 lines_of (commands.Read Ten lba count fua) = lines_10 0x28 (bit_value 3 fua) lba count
 lines_of (commands.Read Twelve lba count fua) = lines_12 0xA8 (bit_value 3 fua) lba count

@@ -6,7 +6,7 @@ use Rattle.satl_cdb.specs.declared.command.Command.{Command}
 use Rattle.satl_cdb.specs.declared.command.Command.TheVariants as commands
 use Rattle.satl_cdb.specs.declared.command.Illegal.{Illegal}
 use Rattle.satl_cdb.specs.Rows.{Format, Row, row, format_of, found_says}
-use Rattle.satl_cdb.specs.PrimaryCommands.{test_unit_ready, request_sense, inquiry, mode_select, mode_sense, report_luns}
+use Rattle.satl_cdb.specs.PrimaryCommands.{test_unit_ready, request_sense, request_sense_code, inquiry, inquiry_code, mode_select, mode_sense, report_luns, report_luns_code}
 use Rattle.satl_cdb.specs.BlockCommands.{ten, twelve, sixteen, read_6, write_6, read, write, verify, synchronize_cache, write_same, unmap, start_stop, read_capacity_10, read_capacity_16}
 
 -- SAT-3, ATA PASS-THROUGH (12) command: its bytes without bit 0 of byte 1, which is reserved, and without the control byte
@@ -27,10 +27,10 @@ pass_through_16 = record {
 abbrev pub table : Bool → List Row
 table trim =
     row 0x00 test_unit_ready
-    ∷ row 0x03 request_sense
+    ∷ row request_sense_code request_sense
     ∷ row 0x08 read_6
     ∷ row 0x0A write_6
-    ∷ row 0x12 inquiry
+    ∷ row inquiry_code inquiry
     ∷ row 0x15 (mode_select false)
     ∷ row 0x1A (mode_sense false)
     ∷ row 0x1B start_stop
@@ -50,7 +50,7 @@ table trim =
     ∷ row 0x91 (synchronize_cache sixteen)
     ∷ row 0x93 (write_same trim sixteen)
     ∷ row 0x9E read_capacity_16
-    ∷ row 0xA0 report_luns
+    ∷ row report_luns_code report_luns
     ∷ row 0xA1 pass_through_12
     ∷ row 0xA8 (read twelve)
     ∷ row 0xAA (write twelve)

@@ -4,7 +4,7 @@ ghost use Rattle.std.specs.Prelude.{◌≡◌, ◌+◌, ◌≤◌, ◌<◌};
 ghost use Rattle.byteorder.specs.Endian.{big_from};
 ghost use Rattle.satl_base.specs.Fields.{bit};
 ghost use Rattle.satl_cdb.specs.BlockCommands.{layout_of, six};
-ghost use Rattle.satl_cdb.specs.PrimaryCommands.{mode_length};
+ghost use Rattle.satl_cdb.specs.PrimaryCommands.{desc, evpd, mode_length};
 
 use crate::command::Form;
 use byteorder::{BigEndian, ByteOrder};
@@ -37,6 +37,20 @@ pub fn flag(cdb: &[u8; 16], place: usize, low: u8) -> bool
     ensures { result ≡ bit place low cdb.now }
 {
     cdb[place] >> low & 1 == 1
+}
+
+/// EVPD of an INQUIRY: a page of vital product data is asked for (SPC-4 6.6).
+pub fn evpd(cdb: &[u8; 16]) -> bool
+    ensures { result ≡ evpd cdb.now }
+{
+    flag(cdb, 1, 0)
+}
+
+/// DESC of a REQUEST SENSE: sense data are asked for in the descriptor form (SPC-4 6.39).
+pub fn desc(cdb: &[u8; 16]) -> bool
+    ensures { result ≡ desc cdb.now }
+{
+    flag(cdb, 1, 0)
 }
 
 pub fn lba_of(cdb: &[u8; 16], form: Form) -> u64

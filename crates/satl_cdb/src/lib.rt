@@ -3,6 +3,7 @@
 #![tactic(auto)]
 
 mod block;
+mod codes;
 mod command;
 mod fields;
 pub mod laws;
@@ -12,8 +13,9 @@ mod reading;
 mod unmap;
 mod writing;
 
+pub use codes::{INQUIRY, REPORT_LUNS, REQUEST_SENSE};
 pub use command::{Command, Form, Illegal};
-pub use fields::flag;
+pub use fields::{desc, evpd, flag};
 pub use reading::read_cdb;
 pub use unmap::read_unmap_list;
 pub use writing::write_cdb;

@@ -5,13 +5,13 @@ ghost use Rattle.satl_cdb.specs.Rows.{format_says};
 ghost use Rattle.satl_cdb.specs.PrimaryCommands.{request_sense, inquiry, mode_select, mode_sense, report_luns};
 
 use crate::command::{Command, Illegal};
-use crate::fields::{flag, mode_length_of, u16_at, u32_at};
+use crate::fields::{desc, evpd, flag, mode_length_of, u16_at, u32_at};
 
 pub fn request_sense_of(cdb: &[u8; 16]) -> Command
     ensures { format_says request_sense cdb.now ≡ Ok result }
 {
     Command::RequestSense {
-        descriptor: flag(cdb, 1, 0),
+        descriptor: desc(cdb),
         alloc: cdb[4],
     }
 }
@@ -20,7 +20,7 @@ pub fn inquiry_of(cdb: &[u8; 16]) -> Result<Command, Illegal>
     ensures { result ≡ format_says inquiry cdb.now }
 {
     let alloc = u16_at(cdb, 3);
-    if !flag(cdb, 1, 0) {
+    if !evpd(cdb) {
         return match cdb[2] {
             0x00 => Ok(Command::Inquiry { page: None, alloc }),
             _ => Err(Illegal::invalid_field(2)),

@@ -8,6 +8,7 @@ use crate::block::{
     read_6_of, read_capacity_16_of, read_of, start_stop_of, synchronize_cache_of, unmap_of,
     verify_of, write_6_of, write_of, write_same_of,
 };
+use crate::codes::{INQUIRY, REPORT_LUNS, REQUEST_SENSE};
 use crate::command::{Command, Form, Illegal};
 use crate::primary::{inquiry_of, mode_select_of, mode_sense_of, report_luns_of, request_sense_of};
 
@@ -39,10 +40,10 @@ pub fn read_cdb(cdb: &[u8; 16], trim: bool) -> Result<Command, Illegal>
 {
     match cdb[0] {
         0x00 => Ok(Command::TestUnitReady),
-        0x03 => Ok(request_sense_of(cdb)),
+        REQUEST_SENSE => Ok(request_sense_of(cdb)),
         0x08 => Ok(read_6_of(cdb)),
         0x0A => Ok(write_6_of(cdb)),
-        0x12 => inquiry_of(cdb),
+        INQUIRY => inquiry_of(cdb),
         0x15 => mode_select_of(cdb, false),
         0x1A => mode_sense_of(cdb, false),
         0x1B => start_stop_of(cdb),
@@ -62,7 +63,7 @@ pub fn read_cdb(cdb: &[u8; 16], trim: bool) -> Result<Command, Illegal>
         0x91 => Ok(synchronize_cache_of(cdb, Form::Sixteen)),
         0x93 => write_same_of(cdb, trim, Form::Sixteen),
         0x9E => read_capacity_16_of(cdb),
-        0xA0 => report_luns_of(cdb),
+        REPORT_LUNS => report_luns_of(cdb),
         0xA1 => Ok(pass_through_12_of(cdb)),
         0xA8 => read_of(cdb, Form::Twelve),
         0xAA => write_of(cdb, Form::Twelve),

@@ -6,6 +6,7 @@ ghost use Rattle.satl_base.specs.Places.{laid, text};
 ghost use Rattle.satl_cdb.specs.Table.{says};
 ghost use Rattle.satl_cdb.specs.Spelling.{bit_value, cdb_bytes, lines_10, lines_12, lines_16, lines_6, page_code_byte};
 
+use crate::codes::{INQUIRY, REPORT_LUNS, REQUEST_SENSE};
 use crate::command::{Command, Form};
 use byteorder::{BigEndian, ByteOrder};
 
@@ -69,8 +70,8 @@ fn inquiry_bytes(page: Option<u8>, alloc: u16) -> [u8; 16]
 {
     let [high, low] = alloc.to_be_bytes();
     match page {
-        None => six_bytes(0x12, 0, 0, high, low),
-        Some(page) => six_bytes(0x12, 1, page, high, low),
+        None => six_bytes(INQUIRY, 0, 0, high, low),
+        Some(page) => six_bytes(INQUIRY, 1, page, high, low),
     }
 }
 
@@ -118,7 +119,7 @@ fn mode_select_bytes(ten: bool, length: u16) -> [u8; 16]
 fn report_luns_bytes(select: u8, alloc: u32) -> [u8; 16]
     ensures { result ≡ cdb_bytes (Command.ReportLuns select alloc) }
 {
-    let mut cdb = twelve_bytes(0xA0, 0, 0, alloc);
+    let mut cdb = twelve_bytes(REPORT_LUNS, 0, 0, alloc);
     cdb[2] = select;
     cdb
 }
@@ -195,7 +196,7 @@ fn bytes_of(command: &Command) -> [u8; 16]
     match *command {
         Command::TestUnitReady => [0; 16],
         Command::RequestSense { descriptor, alloc } => {
-            six_bytes(0x03, flag_byte(0, descriptor), 0, 0, alloc)
+            six_bytes(REQUEST_SENSE, flag_byte(0, descriptor), 0, 0, alloc)
         }
         Command::Inquiry { page, alloc } => inquiry_bytes(page, alloc),
         Command::ModeSense {

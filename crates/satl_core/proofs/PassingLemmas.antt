@@ -21,11 +21,11 @@ use Rattle.satl_regs.specs.declared.values.AtaCommand.TheVariants as ata
 use Rattle.satl_regs.specs.declared.values.Taskfile.{Taskfile}
 use Rattle.satl_regs.specs.Commands.{command_in}
 use Rattle.satl_regs.specs.Effects as effects
-use Rattle.satl_regs.specs.Effects.{Carries, HasEffect, EndsBad, Medium, Setting, Traffic, Transfer, abrt, has_setting, own_blocks, pairs_of, reading, setting_of, settable, trimming, verifying, writing}
-use Rattle.satl_regs.specs.Effects.Setting.{sets_cache, sets_look}
+use Rattle.satl_regs.specs.declared.setting.Setting.{Setting}
+use Rattle.satl_regs.specs.Effects.{Carries, HasEffect, EndsBad, Medium, Traffic, Transfer, abrt, has_setting, is_bad, own_blocks, pairs_of, reading, setting_of, settable, trimming, verifying, writing}
+use Rattle.satl_regs.specs.declared.setting.Setting.TheVariants.{WriteCache, LookAhead}
 use Rattle.satl_pass.specs.declared.pass.Pass.{Pass}
 use Rattle.satl_pass.specs.Reading.{CanGoToDrive}
-use Rattle.satl_pass.specs.Status.{is_bad}
 use Rattle.satl_pass.specs.Transfers.{is_other}
 use Rattle.satl_frame.specs.DataPages.{page_count, pages_from, pages_of}
 use Rattle.satl_frame.proofs.Paging.{length-pages_of, pages_of-bytes_of}
@@ -114,10 +114,10 @@ module _ (x : Traffic) (modes : Modes) (old new : Medium) (set : AreSet modes ol
       (subst (λ (m : Modes). AreSet m new) (sym is) (keeps modes old new true set (same_so old new _ does.medium refl refl)))
 
   made : (s : Setting) → effects.IsSet s x old new → AreSet (modes_with_setting (Some s) modes) new
-  made (sets_cache true) does = record { cache = ap (λ (m : Medium). m.cache) does.medium; look = ap (λ (m : Medium). m.look) does.medium ∙ set.look }
-  made (sets_cache false) does = record { cache = ap (λ (m : Medium). m.cache) does.medium; look = ap (λ (m : Medium). m.look) does.medium ∙ set.look }
-  made (sets_look true) does = record { cache = ap (λ (m : Medium). m.cache) does.medium ∙ set.cache; look = ap (λ (m : Medium). m.look) does.medium }
-  made (sets_look false) does = record { cache = ap (λ (m : Medium). m.cache) does.medium ∙ set.cache; look = ap (λ (m : Medium). m.look) does.medium }
+  made (WriteCache true) does = record { cache = ap (λ (m : Medium). m.cache) does.medium; look = ap (λ (m : Medium). m.look) does.medium ∙ set.look }
+  made (WriteCache false) does = record { cache = ap (λ (m : Medium). m.cache) does.medium; look = ap (λ (m : Medium). m.look) does.medium ∙ set.look }
+  made (LookAhead true) does = record { cache = ap (λ (m : Medium). m.cache) does.medium ∙ set.cache; look = ap (λ (m : Medium). m.look) does.medium }
+  made (LookAhead false) does = record { cache = ap (λ (m : Medium). m.cache) does.medium ∙ set.cache; look = ap (λ (m : Medium). m.look) does.medium }
 
   -- SET FEATURES: a setting that the drive has, or it is refused
   features : (o : Option Setting) → MatchOption (settable old.identify o) (EndsBad abrt 0 x old new) (λ s. effects.IsSet s x old new)
@@ -154,8 +154,8 @@ same_form (ata.SetFeatures what) false modes = by (setting_of what)
   where
     by : (o : Option Setting) → (modes_with_setting o modes).d_sense ≡ modes.d_sense
     by None = refl
-    by (Some (sets_cache on)) = refl
-    by (Some (sets_look on)) = refl
+    by (Some (WriteCache on)) = refl
+    by (Some (LookAhead on)) = refl
 same_form c false modes = refl
 
 -- mode values by the settings of a medium

@@ -16,7 +16,7 @@ use Rattle.satl_base.proofs.ListsLemmas.{get-map, remove-map}
 use Rattle.satl_cdb.specs.declared.command.Command.{Command}
 use Rattle.satl_cdb.specs.declared.command.Command.TheVariants as commands
 use Rattle.satl_errlog.specs.declared.entry.NcqError.{NcqError}
-use Rattle.satl_regs.specs.Effects.{icrc, unc}
+use Rattle.satl_regs.specs.Effects.{icrc_abrt, unc}
 use Rattle.satl_pass.specs.Status.{error_sense_at}
 use Rattle.satl_line.specs.declared.entry.Entry.{Entry}
 use Rattle.satl_line.specs.declared.entry.Kind.{Kind}
@@ -93,7 +93,7 @@ pub write_flaw : (at : ℕ) → error_sense_at true unc at ≡ write_error at
 unfolding error_sense_at
 write_flaw at = refl
 
-pub crc_sense : (writes : Bool) (at : ℕ) → error_sense_at writes icrc at ≡ crc_error
+pub crc_sense : (writes : Bool) (at : ℕ) → error_sense_at writes icrc_abrt at ≡ crc_error
 unfolding error_sense_at
 crc_sense writes at = refl
 

@@ -12,10 +12,10 @@ use Rattle.satl_sense.specs.declared.sense.Sense.{Sense}
 use Rattle.satl_frame.specs.DataPages.{page_count}
 use Rattle.satl_pass.specs.declared.pass.Pass.{Pass}
 use Rattle.satl_pass.specs.Reading.{CanGoToDrive}
-use Rattle.satl_pass.specs.Status.{is_bad, status_sense}
+use Rattle.satl_pass.specs.Status.{status_sense}
 use Rattle.satl_regs.specs.declared.values.Taskfile.{Taskfile}
 use Rattle.satl_regs.specs.Commands.{command_in}
-use Rattle.satl_regs.specs.Effects.{Transfer, pairs_of}
+use Rattle.satl_regs.specs.Effects.{Transfer, pairs_of, is_bad}
 use Rattle.satl_regs.specs.Trim.{IsTrimList}
 use Rattle.satl_drive.specs.Rules.{IsCarriedOut}
 use Rattle.satl_drive.specs.State.{DriveState, medium_of}

@@ -5,7 +5,7 @@ use Rattle.satl_base.specs.declared.block.Block.{Block}
 use Rattle.satl_base.specs.declared.request.Request.{Request}
 use Rattle.satl_base.specs.declared.reply.Reply.{Reply}
 use Rattle.satl_base.specs.declared.reply.Scsi.TheVariants as statuses
-use Rattle.satl_base.specs.Fields.{bit, bytes}
+use Rattle.satl_base.specs.Fields.{bytes}
 use Rattle.satl_base.specs.Lists.{is_in}
 use Rattle.satl_base.specs.declared.modes.Modes.{Modes}
 use Rattle.satl_cdb.specs.declared.command.Command.{Command}
@@ -13,6 +13,7 @@ use Rattle.satl_cdb.specs.declared.command.Command.TheVariants as commands
 use Rattle.satl_cdb.specs.declared.command.Illegal.{Illegal}
 use Rattle.satl_cdb.specs.Table.{says}
 use Rattle.satl_cdb.specs.Unmap as unmap
+use Rattle.satl_cdb.specs.PrimaryCommands.{desc, evpd, inquiry_code, inquiry_length, request_sense_code, sense_length}
 use Rattle.satl_identify.specs.declared.identity.Identity.{Identity}
 use Rattle.satl_sense.specs.declared.sense.Sense.{Sense}
 use Rattle.satl_regs.specs.Trim.{trim_block}
@@ -155,17 +156,17 @@ arrival_calls tasks r = if is_overlapping tasks r then off_calls else 1
 -- the unit attention condition that a request is answered with; REQUEST SENSE tells it as data (SAM-5 5.14, SPC-4 6.39)
 abbrev pub attention_of : List (List Attention) → Request → Option Attention
 attention_of attentions r =
-    if is_in (operation_code r) untold_codes && not (operation_code r == 0x03) then None
+    if is_in (operation_code r) untold_codes && not (asks_for request_sense_code r) then None
     else slice_get (slice_index_or attentions r.nexus []) 0
 
 -- the answer to a REQUEST SENSE with this sense data (SPC-4 6.39)
 abbrev pub sense_data : List ℕ → Sense → AtOnce
-sense_data cdb sense = at_once.Tell (datas.Sense (bit 1 0 cdb) sense) (bytes 4 4 cdb)
+sense_data cdb sense = at_once.Tell (datas.Sense (desc cdb) sense) (sense_length cdb)
 
 -- a condition is told: as data to REQUEST SENSE, and else by CHECK CONDITION (SAM-5 5.14, SPC-4 6.39)
 abbrev pub tell_attention : Attention → List ℕ → AtOnce
 tell_attention what cdb =
-    if slice_index cdb 0 == 0x03 then sense_data cdb (attention_sense what) else at_once.Check (attention_sense what)
+    if slice_index cdb 0 == request_sense_code then sense_data cdb (attention_sense what) else at_once.Check (attention_sense what)
 
 -- a unit attention, and without one what follows (profile)
 abbrev pub attention_answer : Option Attention → List ℕ → Result Command AtOnce → Result Command AtOnce
@@ -176,8 +177,8 @@ attention_answer None cdb next = next
 -- profile)
 abbrev pub other_answer : Request → AtOnce
 other_answer r =
-    if asks_for 0x12 r && not (bit 1 0 r.cdb) then at_once.Tell datas.NoUnit (bytes 3 4 r.cdb)
-    else if asks_for 0x03 r then sense_data r.cdb unknown_unit
+    if asks_for inquiry_code r && not (evpd r.cdb) then at_once.Tell datas.NoUnit (inquiry_length r.cdb)
+    else if asks_for request_sense_code r then sense_data r.cdb unknown_unit
     else at_once.Check unknown_unit
 
 -- the command of a request that may become a task, or why it is answered at once (profile)

@@ -15,8 +15,9 @@ use Rattle.satl_sense.specs.declared.sense.Sense.{Sense}
 use Rattle.satl_regs.specs.declared.values.AtaCommand.{AtaCommand}
 use Rattle.satl_regs.specs.declared.values.AtaCommand.TheVariants as ata
 use Rattle.satl_regs.specs.Commands.{command_in}
-use Rattle.satl_regs.specs.Effects.{Setting, setting_of}
-use Rattle.satl_regs.specs.Effects.Setting.{sets_cache, sets_look}
+use Rattle.satl_regs.specs.declared.setting.Setting.{Setting}
+use Rattle.satl_regs.specs.Effects.{setting_of}
+use Rattle.satl_regs.specs.declared.setting.Setting.TheVariants.{WriteCache, LookAhead}
 use Rattle.satl_errlog.specs.declared.entry.NcqError.{NcqError}
 use Rattle.satl_line.specs.declared.entry.Entry.{Entry}
 use Rattle.satl_line.specs.Tasks.{Held}
@@ -178,8 +179,8 @@ started_after _ ending started = started
 -- the mode values with what a SET FEATURES sets (ACS-3, SET FEATURES; SAT-3)
 abbrev pub modes_with_setting : Option Setting → Modes → Modes
 modes_with_setting None modes = modes
-modes_with_setting (Some (sets_cache on)) modes = record modes { wce = on }
-modes_with_setting (Some (sets_look on)) modes = record modes { dra = not on }
+modes_with_setting (Some (WriteCache on)) modes = record modes { wce = on }
+modes_with_setting (Some (LookAhead on)) modes = record modes { dra = not on }
 
 -- the mode values that an ATA command of a host sets: a SET FEATURES that is done sets the drive (SAT-3 12.2)
 abbrev pub set_by : AtaCommand → Modes → Modes

@@ -16,16 +16,11 @@ use satl_base::{Pages, Range, Steps};
 use satl_drive::{Drive, LinkDown};
 use satl_pages::Pool;
 use satl_pass::error_sense_at;
+use satl_regs::{ICRC_ABRT, UNC};
 use std::sync::ledger::Ledger;
 
 /// The pages that are taken from the pool for the pieces of a command, and given back when it ends.
 const SCRATCH_PAGES: u32 = 64;
-
-/// ERROR at a flawed sector: UNC (ACS-3).
-const UNC: u8 = 0x40;
-
-/// ERROR at a CRC error: ICRC and ABRT (ACS-3).
-const ICRC: u8 = 0x84;
 
 /// A VERIFY without comparison of a range of 1 to 65,536 blocks (SBC-3, VERIFY commands).
 pub fn verify_range<D: Drive, L: Ledger>(
@@ -177,5 +172,5 @@ fn flawed(writes: bool, lba: u64) -> Ending
 fn garbled() -> Ending
     ensures { result ≡ Ending.Check Senses.crc_error }
 {
-    Ending::Check(error_sense_at(false, ICRC, 0))
+    Ending::Check(error_sense_at(false, ICRC_ABRT, 0))
 }

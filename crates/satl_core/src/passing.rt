@@ -19,9 +19,6 @@ use satl_pass::{Pass, pass_of, status_return};
 use satl_regs::Taskfile;
 use std::sync::ledger::Ledger;
 
-/// STATUS(0): ERR (ACS-3).
-const ERR: u8 = 0x01;
-
 /// Carries the command of an ATA PASS-THROUGH out, with its data in these pages. `LinkDown`: the link was lost meanwhile (SAT-3
 /// 12.2).
 pub fn run_through<D: Drive, L: Ledger>(
@@ -53,7 +50,7 @@ fn passed(pass: &Pass, ended: &Taskfile) -> Ending
 {
     match status_return(pass, ended) {
         None => Ending::Good,
-        Some(sense) if ended.status & ERR != 0 => Ending::Check(sense),
+        Some(sense) if ended.is_bad() => Ending::Check(sense),
         Some(sense) => Ending::Informed(sense),
     }
 }

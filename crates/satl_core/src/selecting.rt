@@ -11,7 +11,7 @@ use satl_base::{ModeChange, Modes, Nexus};
 use satl_cdb::Command;
 use satl_mode::apply;
 use satl_pass::{pass_of, plan};
-use satl_regs::AtaCommand;
+use satl_regs::{AtaCommand, Setting};
 
 /// The mode values that a task wants: those that there are, with what it changes.
 pub fn wanted_by(modes: &Modes, change: &Option<ModeChange>) -> Modes
@@ -40,24 +40,13 @@ pub fn modes_after(command: &Command, ending: Ending, modes: &Modes, wanted: &Mo
 fn set_by(command: &AtaCommand, modes: &Modes) -> Modes
     ensures { result ≡ set_by command.now modes.now }
 {
-    match *command {
-        AtaCommand::SetFeatures { what: 0x02 } => Modes {
-            wce: true,
-            ..*modes
-        },
-        AtaCommand::SetFeatures { what: 0x82 } => Modes {
-            wce: false,
-            ..*modes
-        },
-        AtaCommand::SetFeatures { what: 0xAA } => Modes {
-            dra: false,
-            ..*modes
-        },
-        AtaCommand::SetFeatures { what: 0x55 } => Modes {
-            dra: true,
-            ..*modes
-        },
-        _ => *modes,
+    let AtaCommand::SetFeatures { what } = *command else {
+        return *modes;
+    };
+    match Setting::of(what) {
+        Some(Setting::WriteCache { on }) => Modes { wce: on, ..*modes },
+        Some(Setting::LookAhead { on }) => Modes { dra: !on, ..*modes },
+        None => *modes,
     }
 }
 

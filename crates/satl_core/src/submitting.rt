@@ -21,7 +21,7 @@ use satl_asks::{
     length_fault, listed_ranges, needed, plain, put_ranges, range_of, refusal,
 };
 use satl_base::{Block, Modes, Pages, Replies, Reply, Request, Scsi, SenseBytes};
-use satl_cdb::{Command, Illegal, read_cdb, read_unmap_list};
+use satl_cdb::{Command, INQUIRY, Illegal, REQUEST_SENSE, desc, evpd, read_cdb, read_unmap_list};
 use satl_identify::Identity;
 use satl_line::{Entry, Kind};
 use satl_mode::{ModeSense, read_select};
@@ -49,14 +49,14 @@ pub fn other_answer(request: &Request) -> AtOnce
 {
     let no_unit = plain(0x5, 0x25, 0x00);
     match request.cdb[0] {
-        0x12 if request.cdb[1] & 0x01 == 0 => {
+        INQUIRY if !evpd(&request.cdb) => {
             let alloc = u16::from_be_bytes([request.cdb[3], request.cdb[4]]);
             AtOnce::Tell {
                 what: Data::NoUnit,
                 alloc: u32::from(alloc),
             }
         }
-        0x03 => sense_data(request, no_unit),
+        REQUEST_SENSE => sense_data(request, no_unit),
         _ => AtOnce::Check(no_unit),
     }
 }
@@ -67,7 +67,7 @@ fn sense_data(request: &Request, sense: Sense) -> AtOnce
 {
     AtOnce::Tell {
         what: Data::Sense {
-            descriptor: request.cdb[1] & 0x01 != 0,
+            descriptor: desc(&request.cdb),
             sense,
         },
         alloc: u32::from(request.cdb[4]),
@@ -79,7 +79,7 @@ pub fn tell_attention(what: Attention, request: &Request) -> AtOnce
     ensures { result ≡ tell_attention what request.now.cdb }
 {
     let sense = attention_sense(what);
-    if request.cdb[0] == 0x03 {
+    if request.cdb[0] == REQUEST_SENSE {
         return sense_data(request, sense);
     }
     AtOnce::Check(sense)
@@ -90,7 +90,7 @@ pub fn next_attention(attentions: &mut [Attentions; 4], request: &Request) -> Op
     ensures next { result ≡ attention_of attentions.old request.now }
     ensures left { attentions.new ≡ untold result request.now.nexus attentions.old }
 {
-    if is_untold(request.cdb[0]) && request.cdb[0] != 0x03 {
+    if is_untold(request.cdb[0]) && request.cdb[0] != REQUEST_SENSE {
         return None;
     }
     attentions[request.nexus.number() as usize].next()

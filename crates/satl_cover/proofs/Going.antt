@@ -2,6 +2,7 @@
 use Rattle.std.proofs.Common.{◌≡◌, ◌∙◌, ap, sym, subst, ℕ, ◌-◌, Bool, List, [], ◌∷◌, ◌++◌, length, Option, Some, None}
 use Rattle.std.specs.Prelude.{max}
 use Rattle.std.specs.BTreeSet.{BTreeSet}
+use Rattle.satl_base.specs.Limits.{input_limit}
 use Rattle.satl_frame.specs.declared.frames.Frame.{Frame}
 use Rattle.satl_frame.specs.declared.frames.Frame.TheVariants as frames
 use Rattle.satl_frame.specs.declared.frames.Version.TheVariants.{Two}
@@ -10,7 +11,7 @@ use Rattle.satl_frame.specs.Progress.{HasRead}
 use Rattle.satl_frame.specs.Pulls.{cut_to}
 use Rattle.satl_frame.specs.Reading.{Gave, Reading}
 use Rattle.satl_frame.proofs.ProgressLemmas.{has_read_more}
-use Rattle.satl_cover.specs.Covered.{Knows, limit, place_behind}
+use Rattle.satl_cover.specs.Covered.{Knows, place_behind}
 use Rattle.satl_cover.specs.Reading.{ReadWhole}
 use Rattle.satl_cover.proofs.ReadingLemmas.{end_whole, next_place, none_ends, read_whole}
 
@@ -18,7 +19,7 @@ use Rattle.satl_cover.proofs.ReadingLemmas.{end_whole, next_place, none_ends, re
 pub record Going (trim : Bool) (r : Reading) (input left : List ℕ) (names : BTreeSet (ℕ × ℕ)) (o : Option ℕ) : Type 0 where
   pub fresh : r.refused ≡ None
   pub newest : r.newest ≡ Two
-  pub limit_is : r.limit ≡ limit
+  pub limit_is : r.limit ≡ input_limit
   pub given : List Frame
   pub read : HasRead r (Some input) (Some left) given
   pub none : NoneEnds given

@@ -4,6 +4,7 @@ use Rattle.std.specs.Prelude.{Ok, Err}
 use Rattle.std.proofs.lemmas.List.{append-nil}
 use Rattle.std.proofs.lemmas.Bool.{both_ways}
 use Rattle.std.proofs.lemmas.Option.{same_Some}
+use Rattle.satl_base.specs.Limits.{input_limit}
 use Rattle.satl_frame.specs.declared.frames.Frame.{Frame}
 use Rattle.satl_frame.specs.declared.frames.Frame.TheVariants as frames
 use Rattle.satl_frame.specs.declared.frames.Reason.{Reason}
@@ -12,7 +13,7 @@ use Rattle.satl_frame.specs.declared.frames.Version.TheVariants.{One, Two}
 use Rattle.satl_frame.specs.Faults.{frame_fault}
 use Rattle.satl_frame.specs.Inputs.{NoneEnds}
 use Rattle.satl_cover.specs.declared.fault.AuditFault.TheVariants as faults
-use Rattle.satl_cover.specs.Covered.{AreCovered, FirstUncovered, IsBadInput, IsWholeInput, is_covered, limit, place_behind}
+use Rattle.satl_cover.specs.Covered.{AreCovered, FirstUncovered, IsBadInput, IsWholeInput, is_covered, place_behind}
 use Rattle.satl_cover.specs.Covered.IsBadInput.{bad_magic, bad_frame, bad_rest}
 use Rattle.satl_cover.specs.Reading.{IsNotCovered, OneAnswer}
 use Rattle.satl_cover.proofs.Stopping.{SameStop, Stopped, good_magic, stopped_once, stops_end, stops_refused}
@@ -53,9 +54,9 @@ one_fault (bad_magic e o) (bad_rest fs reads some r p) = absurd (good_magic read
 one_fault (bad_frame fs reads none refused o) (bad_magic f p) = absurd (good_magic reads f)
 one_fault (bad_frame {version} fs {rest} reads none refused o) (bad_frame {version = v} gs {rest = behind} reads' none' refused' p) =
     let same = stopped_once (record { reads = reads; stops = stops_refused version 8 fs rest (_, refused) }) (record { reads = reads'; stops = stops_refused v 8 gs behind (_, refused') }) in
-    let moved = subst (λ (w : Version). frame_fault w limit (place_behind gs) behind ≡ frame_fault v limit (place_behind gs) behind) (sym same.version_is) refl in
+    let moved = subst (λ (w : Version). frame_fault w input_limit (place_behind gs) behind ≡ frame_fault v input_limit (place_behind gs) behind) (sym same.version_is) refl in
     record {
-      reason_is = same_Some _ _ (sym refused ∙ ap (λ (l : List ℕ). frame_fault version limit (place_behind fs) l) same.rest_is ∙ ap (λ (l : List Frame). frame_fault version limit (place_behind l) behind) same.frames_are ∙ moved ∙ refused');
+      reason_is = same_Some _ _ (sym refused ∙ ap (λ (l : List ℕ). frame_fault version input_limit (place_behind fs) l) same.rest_is ∙ ap (λ (l : List Frame). frame_fault version input_limit (place_behind l) behind) same.frames_are ∙ moved ∙ refused');
       offset_is = o ∙ ap place_behind same.frames_are ∙ sym p;
     }
 one_fault (bad_frame {version} fs {rest} reads none refused o) (bad_rest {version = v} gs {rest = behind} reads' some r p) =

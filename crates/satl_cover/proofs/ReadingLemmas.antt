@@ -15,11 +15,12 @@ use Rattle.satl_frame.specs.Pulls.{cut_to}
 use Rattle.satl_frame.specs.Reading.{Reading}
 use Rattle.satl_frame.proofs.ProgressLemmas.{has_read_all}
 use Rattle.satl_frame.proofs.Refusals.{length-magic}
-use Rattle.satl_cover.specs.Covered.{IsBadInput, Knows, limit, place_behind}
+use Rattle.satl_cover.specs.Covered.{IsBadInput, Knows, place_behind}
 use Rattle.satl_cover.specs.Covered.IsBadInput.{bad_rest}
 use Rattle.satl_cover.specs.Reading.{ReadWhole}
 use Rattle.std.proofs.lemmas.Option.{same_Some}
 use Rattle.satl_base.proofs.ListsLemmas.{push_not_empty}
+use Rattle.satl_base.specs.Limits.{input_limit}
 
 -- the place of the next frame
 pub next_place : (r : Reading) (input left : List ℕ) (given : List Frame) → HasRead r (Some input) (Some left) given → max (length input - length left) 8 ≡ place_behind given
@@ -31,11 +32,11 @@ next_place r input left given read = by_place r.limit r.newest r.place read
         omega (arith, ap length read.took.known, length-append (magic p.version ++ all_spelled given) left, length-append (magic p.version) (all_spelled given), length-magic p.version)
 
 -- a whole input was read
-pub read_whole : (trim : Bool) (r : Reading) (input left : List ℕ) (given : List Frame) (names : BTreeSet (ℕ × ℕ)) (o : Option ℕ) → r.limit ≡ limit → HasRead r (Some input) (Some left) (given ++ frames.End ∷ []) →
+pub read_whole : (trim : Bool) (r : Reading) (input left : List ℕ) (given : List Frame) (names : BTreeSet (ℕ × ℕ)) (o : Option ℕ) → r.limit ≡ input_limit → HasRead r (Some input) (Some left) (given ++ frames.End ∷ []) →
     Knows trim (given ++ frames.End ∷ []) names o → ReadWhole trim input left names o
 read_whole trim r input left given names o is_limit read knows = by_place r.limit r.newest r.place is_limit read
   where
-    by_place : (l : ℕ) (newest : Version) (at : Option Place) → l ≡ limit → ReadUpTo l newest at (Some input) (Some left) (given ++ frames.End ∷ []) → ReadWhole trim input left names o
+    by_place : (l : ℕ) (newest : Version) (at : Option Place) → l ≡ input_limit → ReadUpTo l newest at (Some input) (Some left) (given ++ frames.End ∷ []) → ReadWhole trim input left names o
     by_place l newest None is_limit (nothing, same) = absurd (push_not_empty given frames.End nothing)
     by_place l newest (Some p) is_limit read = record {
       version = p.version;

@@ -8,6 +8,7 @@ use Rattle.std.proofs.lemmas.Option.{same_Some}
 use Rattle.std.proofs.Math.Bool.{or-false}
 use Rattle.std.proofs.lemmas.Bool.Decides.{Decides-eqb}
 use Rattle.std.proofs.lemmas.Slice.Eq.{starts_is}
+use Rattle.satl_base.specs.Limits.{input_limit}
 use Rattle.satl_frame.specs.declared.frames.Frame.{Frame}
 use Rattle.satl_frame.specs.declared.frames.FrameFault.TheVariants.{Bad}
 use Rattle.satl_frame.specs.declared.frames.Place.{Place}
@@ -21,7 +22,7 @@ use Rattle.satl_frame.specs.Magic.{magic, magic_fault, magic_name, names_version
 use Rattle.satl_frame.specs.Progress.{HasRead, ReadUpTo}
 use Rattle.satl_frame.specs.Reading.{Blames, Reading, at_offset, where_refused}
 use Rattle.satl_frame.proofs.ProgressLemmas.{has_read_all}
-use Rattle.satl_cover.specs.Covered.{IsBadInput, limit}
+use Rattle.satl_cover.specs.Covered.{IsBadInput}
 use Rattle.satl_cover.specs.Covered.IsBadInput.{bad_magic, bad_frame}
 
 -- a test that refuses was passed
@@ -59,7 +60,7 @@ begins input e =
         ap (λ (l : List ℕ). l ++ k ∷ input) name ∙ ap (λ (m : ℕ). magic_name ++ m ∷ input) (code_is k v)
 
 -- what a reader refuses is a bad input
-pub refused_is_bad : (r : Reading) (input left : List ℕ) (left' : Option (List ℕ)) (given : List Frame) (reason : Reason) (offset : ℕ) → r.limit ≡ limit → r.newest ≡ Two →
+pub refused_is_bad : (r : Reading) (input left : List ℕ) (left' : Option (List ℕ)) (given : List Frame) (reason : Reason) (offset : ℕ) → r.limit ≡ input_limit → r.newest ≡ Two →
     HasRead r (Some input) (Some left) given → NoneEnds given → Blames r (Some left) left' (Bad reason offset) → IsBadInput input reason offset
 refused_is_bad r input left left' given reason offset is_limit is_newest read none blames = by_place r.limit r.newest r.place is_limit is_newest read blames.0
   where
@@ -69,18 +70,18 @@ refused_is_bad r input left left' given reason offset is_limit is_newest read no
         let both : ◌≡◌ {A = Reason × ℕ} (x, m) (reason, offset) = same_Some (x, m) (reason, offset) e in
         (ap (λ (p : Reason × ℕ). Some p.0) both, ap (λ (p : Reason × ℕ). p.1) (sym both))
 
-    by_magic : (o : Option Reason) → magic_fault Two (take 8 input) ≡ o → option_or (at_offset 0 o) (at_offset 8 (frame_fault (version_of input) limit 8 (drop 8 input))) ≡ Some (reason, offset) → IsBadInput input reason offset
+    by_magic : (o : Option Reason) → magic_fault Two (take 8 input) ≡ o → option_or (at_offset 0 o) (at_offset 8 (frame_fault (version_of input) input_limit 8 (drop 8 input))) ≡ Some (reason, offset) → IsBadInput input reason offset
     by_magic None e refused =
-        let x = at_offset_is (frame_fault (version_of input) limit 8 (drop 8 input)) 8 refused in
+        let x = at_offset_is (frame_fault (version_of input) input_limit 8 (drop 8 input)) 8 refused in
         bad_frame [] (record { split = begins input e; each = tt }) tt x.0 x.1
     by_magic (Some w) e refused = let x = at_offset_is (Some w) 0 refused in bad_magic (e ∙ x.0) x.1
 
-    by_place : (l : ℕ) (newest : Version) (at : Option Place) → l ≡ limit → newest ≡ Two → ReadUpTo l newest at (Some input) (Some left) given → where_refused l newest at left ≡ Some (reason, offset) → IsBadInput input reason offset
+    by_place : (l : ℕ) (newest : Version) (at : Option Place) → l ≡ input_limit → newest ≡ Two → ReadUpTo l newest at (Some input) (Some left) given → where_refused l newest at left ≡ Some (reason, offset) → IsBadInput input reason offset
     by_place l newest None is_limit is_newest (nothing, same) refused =
         by_magic (magic_fault Two (take 8 input)) refl
-        (subst (λ (i : List ℕ). where_refused limit Two None i ≡ Some (reason, offset)) (same_Some left input same)
-        (subst (λ (v : Version). where_refused limit v None left ≡ Some (reason, offset)) is_newest (subst (λ (n : ℕ). where_refused n newest None left ≡ Some (reason, offset)) is_limit refused)))
+        (subst (λ (i : List ℕ). where_refused input_limit Two None i ≡ Some (reason, offset)) (same_Some left input same)
+        (subst (λ (v : Version). where_refused input_limit v None left ≡ Some (reason, offset)) is_newest (subst (λ (n : ℕ). where_refused n newest None left ≡ Some (reason, offset)) is_limit refused)))
     by_place l newest (Some p) is_limit is_newest read refused =
         let x = at_offset_is (frame_fault p.version l p.offset left) p.offset refused in
-        let reads : Reads limit input p.version given left = subst (λ (n : ℕ). Reads n input p.version given left) is_limit (has_read_all l newest p input left given read) in
-        bad_frame given reads none (subst (λ (o : ℕ). frame_fault p.version limit o left ≡ Some reason) read.offset_is (subst (λ (n : ℕ). frame_fault p.version n p.offset left ≡ Some reason) is_limit x.0)) (x.1 ∙ read.offset_is)
+        let reads : Reads input_limit input p.version given left = subst (λ (n : ℕ). Reads n input p.version given left) is_limit (has_read_all l newest p input left given read) in
+        bad_frame given reads none (subst (λ (o : ℕ). frame_fault p.version input_limit o left ≡ Some reason) read.offset_is (subst (λ (n : ℕ). frame_fault p.version n p.offset left ≡ Some reason) is_limit x.0)) (x.1 ∙ read.offset_is)

@@ -1,6 +1,7 @@
 -- What reading an input to its END shows.
 use Rattle.std.specs.Prelude.{◌≡◌, ◌≢◌, ◌⊎◌, ℕ, Bool, List, [], ◌∷◌, ◌++◌, Option, Some, None, Result, Ok, Err}
 use Rattle.std.specs.BTreeSet.{BTreeSet}
+use Rattle.satl_base.specs.Limits.{input_limit}
 use Rattle.satl_frame.specs.declared.frames.Frame.{Frame}
 use Rattle.satl_frame.specs.declared.frames.Frame.TheVariants as frames
 use Rattle.satl_frame.specs.declared.frames.Version.{Version}
@@ -8,13 +9,13 @@ use Rattle.satl_frame.specs.declared.frames.Version.TheVariants.{One, Two}
 use Rattle.satl_frame.specs.Inputs.{Reads}
 use Rattle.satl_cover.specs.declared.fault.AuditFault.{AuditFault}
 use Rattle.satl_cover.specs.declared.fault.AuditFault.TheVariants as faults
-use Rattle.satl_cover.specs.Covered.{AreCovered, FirstUncovered, IsBadInput, IsWholeInput, Knows, limit}
+use Rattle.satl_cover.specs.Covered.{AreCovered, FirstUncovered, IsBadInput, IsWholeInput, Knows}
 
 -- frames up to END were read from an input, and this is left of it (profile)
 pub record ReadWhole (trim : Bool) (input left : List ℕ) (names : BTreeSet (ℕ × ℕ)) (uncovered : Option ℕ) : Type 0 where
   pub version : Version
   pub before : List Frame
-  pub reads : Reads limit input version (before ++ frames.End ∷ []) left
+  pub reads : Reads input_limit input version (before ++ frames.End ∷ []) left
   pub knows : Knows trim (before ++ frames.End ∷ []) names uncovered
 
 -- an input is refused; of want of memory nothing is said (profile)

@@ -9,15 +9,12 @@ use crate::slice::Slice;
 use satl_frame::{Frame, FrameFault, FrameReader, LONGEST_EVENT};
 use std::alloc::Global;
 
-/// The number of bytes within which each frame of an input ends: 2^40 (profile).
-pub const LIMIT: u64 = 1 << 40;
-
 /// Reads frames up to END, and takes note of each.
 pub fn read_to_end(alloc: Global, trim: bool, source: &mut Slice<'_>) -> Result<Noted, AuditFault>
     ensures whole { IfOk result (λ noted. ReadWhole trim source.old source.new noted.names noted.uncovered) }
     ensures refuses { IfErr result (Refuses source.old) }
 {
-    let mut reader = FrameReader::new(alloc, LIMIT);
+    let mut reader = FrameReader::new(alloc, INPUT_LIMIT);
     let mut lender = NoPages;
     let mut noted = Noted::new(alloc, trim);
     let mut room = [0; LONGEST_EVENT];

@@ -14,6 +14,5 @@ mod tests;
 
 pub use covering::cover;
 pub use fault::AuditFault;
-pub use frames::LIMIT;
 pub use nothing::NoPages;
 pub use slice::Slice;

@@ -5,7 +5,6 @@ use Rattle.satl_base.specs.declared.request.Request.{Request}
 use Rattle.satl_base.specs.declared.reply.Reply.{Reply}
 use Rattle.satl_base.specs.declared.reply.Scsi.{Scsi}
 use Rattle.satl_base.specs.declared.reply.Scsi.TheVariants.{Good, CheckCondition, TaskSetFull}
-use Rattle.satl_base.specs.Fields.{bit, bytes}
 use Rattle.satl_base.specs.Lists.{is_in}
 use Rattle.satl_base.specs.Blocks.{is_zeros}
 use Rattle.satl_cdb.specs.declared.command.Command.{Command}
@@ -13,6 +12,7 @@ use Rattle.satl_cdb.specs.declared.command.Command.TheVariants as commands
 use Rattle.satl_cdb.specs.declared.command.Illegal.{Illegal}
 use Rattle.satl_cdb.specs.Table.{says}
 use Rattle.satl_cdb.specs.Unmap.{ranges_of}
+use Rattle.satl_cdb.specs.PrimaryCommands.{desc, evpd, inquiry_code, inquiry_length, report_luns_code, request_sense_code, sense_length}
 use Rattle.satl_sense.specs.declared.sense.Sense.{Sense}
 use Rattle.satl_vpd.specs.Capacity.{capacity_10, capacity_16}
 use Rattle.satl_vpd.specs.Luns.{lun_list}
@@ -164,7 +164,7 @@ cdb_arrival s r (Ok command) = unless_refused (asks command).fields_fault s r (c
 -- the codes of commands that are carried out though a unit attention condition is posted: INQUIRY, REPORT LUNS and REQUEST
 -- SENSE (SAM-5 5.14)
 abbrev pub untold_codes : List ℕ
-untold_codes = 0x12 ∷ 0xA0 ∷ 0x03 ∷ []
+untold_codes = inquiry_code ∷ report_luns_code ∷ request_sense_code ∷ []
 
 -- the unit attention condition of those posted, by nexus, that a request is answered with, if any (SAM-5 5.14)
 abbrev pub attention_told : List (List Attention) → Request → Option Attention
@@ -195,15 +195,16 @@ unit_arrival s r =
 -- (SPC-4 6.6, 6.39; SAM-5, incorrect logical unit numbers; profile)
 abbrev pub other_arrival : Device → Request → Arrival
 other_arrival s r =
-    if asks_for 0x12 r && not (bit 1 0 r.cdb)
-    then answered (good_with_data r (bytes 3 4 r.cdb) (standard_data s.identity false))
-    else if asks_for 0x03 r then answered (good_with_data r (bytes 4 4 r.cdb) (sense_spelled (bit 1 0 r.cdb) unknown_unit))
+    if asks_for inquiry_code r && not (evpd r.cdb)
+    then answered (good_with_data r (inquiry_length r.cdb) (standard_data s.identity false))
+    else if asks_for request_sense_code r
+    then answered (good_with_data r (sense_length r.cdb) (sense_spelled (desc r.cdb) unknown_unit))
     else answered (check s r unknown_unit)
 
 -- the first that holds: another logical unit, unless it is REPORT LUNS; a task of that nexus and tag; a unit attention; an
 -- operation code that is not served; a bad field; a range that is outside; bad data-out; and then the command itself (profile)
 abbrev pub arrival : Device → Request → Arrival
-arrival s r = if is_unit_0 r.lun || asks_for 0xA0 r then unit_arrival s r else other_arrival s r
+arrival s r = if is_unit_0 r.lun || asks_for report_luns_code r then unit_arrival s r else other_arrival s r
 
 -- what an arrival does: its answers, and the device after it (SAM-5 5)
 abbrev pub ArrivesAs : Arrival → Request → Device → List Reply → Device → Type 0

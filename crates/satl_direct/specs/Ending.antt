@@ -15,10 +15,10 @@ use Rattle.satl_cdb.specs.declared.command.Command.TheVariants as commands
 use Rattle.satl_sense.specs.declared.sense.Sense.{Sense}
 use Rattle.satl_identify.specs.Data.{identity_data}
 use Rattle.satl_regs.specs.declared.values.Taskfile.{Taskfile}
-use Rattle.satl_regs.specs.Effects.{Medium, Ata}
+use Rattle.satl_regs.specs.Effects.{Medium, Ata, is_bad}
 use Rattle.satl_mode.specs.Changes.{wanted_by}
 use Rattle.satl_pass.specs.declared.pass.Pass.{Pass}
-use Rattle.satl_pass.specs.Status.{is_bad, status_sense}
+use Rattle.satl_pass.specs.Status.{status_sense}
 use Rattle.satl_frame.specs.DataPages.{page_count, pages_of}
 use Rattle.satl_line.specs.declared.entry.Entry.{Entry}
 use Rattle.satl_line.specs.Ranged.{RangedTask}

@@ -4,21 +4,7 @@ ghost use Rattle.satl_regs.specs.Effects.{bad_end, flawed_end, good_end, is_dma}
 ghost use Rattle.satl_disk.specs.Running.{stopped_end};
 
 use satl_drive::{Registers, Taskfile};
-use satl_regs::How;
-
-// STATUS of ended commands (ACS-3 6).
-const GOOD_STATUS: u8 = 0x40;
-
-const BAD_STATUS: u8 = 0x41;
-
-// ERROR of ended commands (ACS-3 6).
-const ICRC: u8 = 0x84;
-
-const UNC: u8 = 0x40;
-
-pub const IDNF: u8 = 0x10;
-
-pub const ABRT: u8 = 0x04;
+use satl_regs::{BAD_STATUS, GOOD_STATUS, How, ICRC_ABRT, UNC};
 
 /// What stops a command whose range lies within the capacity (ACS-3, error outputs).
 #[derive(Clone, Copy, Debug, PartialEq, Eq)]
@@ -92,6 +78,6 @@ pub fn stopped_end(stop: Stop, regs: &Registers, ext: bool) -> Taskfile
 {
     match stop {
         Stop::Flaw(at) => flawed_end(regs, ext, at),
-        Stop::Garbled => bad_end(regs, ICRC, 0),
+        Stop::Garbled => bad_end(regs, ICRC_ABRT, 0),
     }
 }

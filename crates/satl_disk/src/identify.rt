@@ -4,7 +4,7 @@ ghost use Rattle.satl_base.specs.Identify.{has_cache, has_look, trim_blocks};
 ghost use Rattle.satl_identify.specs.Data.{with_settings};
 ghost use Rattle.satl_disk.specs.Data.{fixed_words, drive_data, integrity_kept, retold, set_word, set_words};
 
-use satl_identify::{balance, bit_at, settings_of, word_at};
+use satl_identify::{INTEGRITY, SETTINGS, balance, bit_at, settings_of, word_at};
 
 /// A word of IDENTIFY DEVICE data: its place from 0 to 255, and its value.
 type Word = (u8, u16);
@@ -66,12 +66,6 @@ const FIXED_WORDS: [Word; 54] = [
     (217, 0x0001),
     (255, 0x00A5),
 ];
-
-// The place of the low byte of word 85, which has the settings.
-const SETTINGS: usize = 2 * 85;
-
-// The place of the high byte of word 255.
-const INTEGRITY: usize = 2 * 255 + 1;
 
 /// Writes a word.
 pub fn write_word(data_bytes: &mut [u8; 512], word: Word)

@@ -2,6 +2,7 @@
 use Rattle.std.proofs.Common.{◌≡◌, inl, inr, refl, sym, ap, subst, arith, ◌∙◌, ℕ, List, []}
 use Rattle.std.specs.Prelude.{Option}
 use Rattle.std.specs.List.{AllByRecursion}
+use Rattle.satl_base.specs.Limits.{input_limit}
 use Rattle.satl_io.specs.Known.{Wrote, WrotePart}
 use Rattle.satl_io.proofs.Joined.{Wrote-more, Wrote-none}
 use Rattle.satl_frame.specs.declared.frames.FrameFault.{FrameFault}
@@ -12,7 +13,7 @@ use Rattle.satl_frame.specs.Output.{fault_bytes, out_magic}
 use Rattle.satl_frame.specs.Progress.{ReadTo}
 use Rattle.satl_serve.specs.Forms.{told_of}
 use Rattle.satl_serve.specs.Moments.{SinkState}
-use Rattle.satl_serve.specs.Runs.{ReadBefore, input_limit}
+use Rattle.satl_serve.specs.Runs.{ReadBefore}
 use Rattle.satl_serve.specs.Stopping.{Tells, TellsStop}
 use Rattle.satl_serve.specs.declared.telling.Form.TheVariants.{Frames}
 use Rattle.satl_serve.proofs.RunLemmas.{read_to}

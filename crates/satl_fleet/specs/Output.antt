@@ -2,6 +2,7 @@
 use Rattle.std.specs.Prelude.{ℕ, suc, ◌==◌, ◌&&◌, ◌||◌, not, Bool, true, false, if◌then◌else◌}
 use Rattle.std.specs.Prelude.{List, [], ◌∷◌, ◌++◌, map, slice_index_or}
 use Rattle.std.specs.List.{flat_map}
+use Rattle.satl_unit.specs.Functions.{nexus_reset_code}
 use Rattle.satl_frame.specs.declared.frames.Frame.{Frame}
 use Rattle.satl_frame.specs.declared.frames.Frame.TheVariants as frames
 use Rattle.satl_frame.specs.Output.{Answer, all_answered, answer_bytes, end_bytes, out_magic}
@@ -16,7 +17,7 @@ unit_bytes k = framed 0x84 1 (k ∷ [])
 
 -- whether a unit's response to a function is left out: that to I_T NEXUS RESET of all units but unit 0 (profile)
 abbrev pub is_silent : ℕ → ℕ → Bool
-is_silent k function = not (k == 0) && (function == 0x10)
+is_silent k function = not (k == 0) && (function == nexus_reset_code)
 
 -- whether an answer of a unit is left out: such a response, and the end, which is told once for all units (profile)
 abbrev pub is_left_out : ℕ → Answer → Bool

@@ -4,6 +4,8 @@ use Rattle.std.specs.List.{flat_map}
 use Rattle.satl_base.specs.declared.request.Request.{Request}
 use Rattle.satl_base.specs.declared.request.Manage.{Manage}
 use Rattle.satl_base.specs.Blocks.{is_zeros}
+use Rattle.satl_cdb.specs.PrimaryCommands.{report_luns_code}
+use Rattle.satl_unit.specs.Functions.{nexus_reset_code}
 use Rattle.satl_frame.specs.declared.frames.Frame.{Frame}
 use Rattle.satl_frame.specs.declared.frames.Frame.TheVariants as frames
 use Rattle.satl_fleet.specs.declared.routing.Route.{Route}
@@ -26,11 +28,11 @@ route_to units lun =
 
 -- whether it is REPORT LUNS, which the target itself answers (SPC-4 6.33; profile)
 abbrev pub is_report : Request → Bool
-is_report r = asks_for 0xA0 r
+is_report r = asks_for report_luns_code r
 
 -- whether it is I_T NEXUS RESET, which goes to every unit (SAM-5 7.7)
 abbrev pub is_for_all : Manage → Bool
-is_for_all m = m.function == 0x10
+is_for_all m = m.function == nexus_reset_code
 
 -- what a frame is to a unit: one frame, or none (profile)
 abbrev pub seen : ℕ → ℕ → Frame → List Frame

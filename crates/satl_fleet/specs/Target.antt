@@ -1,11 +1,11 @@
 -- What a target answers itself: REPORT LUNS (SPC-4 6.33; that no unit sees it: profile).
 use Rattle.std.specs.Prelude.{ℕ, zero, suc, ◌*◌, ◌==◌, nat_lt, min, if◌then◌else◌}
 use Rattle.std.specs.Prelude.{List, [], ◌∷◌, ◌++◌, length, replicate, slice_index}
-use Rattle.satl_base.specs.Fields.{bytes}
 use Rattle.satl_base.specs.declared.reply.Reply.{Reply}
 use Rattle.satl_base.specs.declared.reply.Scsi.TheVariants.{CheckCondition, Good}
 use Rattle.satl_base.specs.declared.request.Request.{Request}
 use Rattle.satl_cdb.specs.Refusals.{invalid_field}
+use Rattle.satl_cdb.specs.PrimaryCommands.{luns_length}
 use Rattle.satl_sense.specs.Fixed.{fixed_form}
 use Rattle.satl_direct.specs.Arrival.{reply_to}
 use Rattle.satl_direct.specs.Senses.{refusal}
@@ -36,7 +36,7 @@ luns_told units r =
       status = Good;
       sense = record { items = [] };
       body = padded_block luns ∷ [];
-      data_len = min (bytes 6 9 r.cdb) (length luns);
+      data_len = min (luns_length r.cdb) (length luns);
       expected = r.expected;
     }
 

@@ -4,6 +4,8 @@ ghost use Rattle.satl_fleet.specs.Routing.{is_for_all, is_report, names_unit, ro
 ghost use Rattle.satl_base.specs.Blocks.{is_zeros};
 
 use satl_base::{Manage, Request};
+use satl_cdb::REPORT_LUNS;
+use satl_unit::NEXUS_RESET;
 
 /// LUN 0: eight bytes of zero (SAM-5 4.7.2).
 pub const LUN_0: [u8; 8] = [0; 8];
@@ -53,12 +55,12 @@ pub fn route_to(units: u8, lun: &[u8; 8]) -> Route
 pub fn is_report(request: &Request) -> bool
     ensures { result ≡ is_report request.now }
 {
-    request.cdb[0] == 0xA0
+    request.cdb[0] == REPORT_LUNS
 }
 
 /// Whether it is I_T NEXUS RESET, which goes to every unit (SAM-5 7.7).
 pub fn is_for_all(manage: &Manage) -> bool
     ensures { result ≡ is_for_all manage.now }
 {
-    manage.function == 0x10
+    manage.function == NEXUS_RESET
 }

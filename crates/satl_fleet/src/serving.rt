@@ -1,9 +1,9 @@
 // An input is served by the units of a target.
 ghost use Rattle.std.specs.Prelude.{◌≡◌, ◌≤◌, IfErr, OnOk, map, vec_len};
 ghost use Rattle.std.specs.List.{AllByRecursion};
+ghost use Rattle.satl_base.specs.Limits.{input_limit};
 ghost use Rattle.satl_pages.specs.Counts.{number_of};
 ghost use Rattle.satl_serve.specs.Moments.{sink_state, source_state};
-ghost use Rattle.satl_serve.specs.Runs.{input_limit};
 ghost use Rattle.satl_serve.specs.Stopping.{HasStreamCause};
 ghost use Rattle.satl_fleet.specs.Headline.{IsFleetStopped, IsFleetWhole};
 ghost use Rattle.satl_fleet.specs.Moments.{fleet_moment};
@@ -14,7 +14,7 @@ ghost use Rattle.satl_fleet.specs.Stopping.{HasFleetCause, RanTo, RanWhole, spot
 
 use crate::frames_loop::serve_frames;
 use crate::opening::open_units;
-use satl_base::Steps;
+use satl_base::{INPUT_LIMIT, Steps};
 use satl_core::{OpenFault, Satl};
 use satl_drive::Bench;
 use satl_frame::{FrameReader, OutFrame, write_frame};
@@ -23,9 +23,6 @@ use satl_pages::Pool;
 use satl_serve::{Form, ServeFault, tell_stop};
 use std::alloc::Global;
 use std::sync::ledger::Ledger;
-
-// The number of bytes within which each frame of an input ends: 2^40 (profile).
-const LIMIT: u64 = 1 << 40;
 
 // The pages of the longest data-out of a request.
 const POOL_PAGES: u32 = 4096;
@@ -105,7 +102,7 @@ fn serve_opened<S: Source, K: Sink, D: Bench, L: Ledger>(
         (sink_state (K.written sink.old) (K.faults sink.old)) (sink_state (K.written sink.new) (K.faults sink.new))) }
 {
     write_frame(OutFrame::Magic, sink)?;
-    let mut reader = FrameReader::first_only(alloc, LIMIT);
+    let mut reader = FrameReader::first_only(alloc, INPUT_LIMIT);
     match serve_frames(alloc, &mut reader, units, drives, pool, source, sink, steps) {
         Ok(()) => Ok(()),
         Err(stop) => Err(tell_stop(Form::Frames, stop, sink)),

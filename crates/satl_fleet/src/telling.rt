@@ -8,6 +8,7 @@ use satl_base::{Manage, Reply, Response};
 use satl_frame::{OutFrame, WriteFault, push, write_frame};
 use satl_io::Sink;
 use satl_step::Teller;
+use satl_unit::NEXUS_RESET;
 
 /// Tells the answers of a unit to one frame: the unit is named before the first (profile).
 #[derive(Clone, Copy, Debug, PartialEq, Eq)]
@@ -35,7 +36,7 @@ impl UnitTeller {
     fn is_silent(&self, function: u8) -> bool
         ensures { result ≡ is_silent self.now.unit function }
     {
-        self.unit != 0 && function == 0x10
+        self.unit != 0 && function == NEXUS_RESET
     }
 
     /// Names the unit, unless that was done.

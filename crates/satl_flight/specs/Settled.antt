@@ -9,7 +9,7 @@ use Rattle.satl_io.specs.Causes.{Rose}
 use Rattle.satl_regs.specs.declared.values.Registers.{Registers}
 use Rattle.satl_regs.specs.declared.values.AtaCommand.TheVariants.{ReadLog}
 use Rattle.satl_regs.specs.Commands.{command_in}
-use Rattle.satl_regs.specs.Effects.{Traffic, icrc, unc}
+use Rattle.satl_regs.specs.Effects.{Traffic, icrc_abrt, unc}
 use Rattle.satl_errlog.specs.declared.entry.NcqError.{NcqError}
 use Rattle.satl_line.specs.Eligible.{IsEligibleBy, eligible_by}
 use Rattle.satl_line.specs.Ending.{EndsAs, Outcome, active_after, surface}
@@ -100,7 +100,7 @@ outcome_of (Some e) ranged body = if e.error == unc then ends_flawed e.lba else 
 -- an error of a queued command is a flaw or a CRC error (ACS-3, UNC and ICRC; profile)
 abbrev pub IsFlawOrCrc : Option NcqError → Type 0
 IsFlawOrCrc None = Unit {0}
-IsFlawOrCrc (Some e) = (e.error ≡ unc) ⊎ (e.error ≡ icrc)
+IsFlawOrCrc (Some e) = (e.error ≡ unc) ⊎ (e.error ≡ icrc_abrt)
 
 -- the task at this place has ended: what the others put before it, its own end, and what they put after it; whether it has left
 -- the queue is not said (profile)

@@ -1,7 +1,8 @@
 -- Frames of the input and their bytes (profile). A frame is its kind, the length of its payload in four bytes, and its
 -- payload. Of a number the highest byte stands first.
 use Rattle.std.specs.Prelude.{ℕ, ◌+◌, ◌≤◌, ◌<◌, ◌^◌, ◌≡◌, Bool, true, false, ◌&&◌, if◌then◌else◌, nat_le, ◌==◌, List, [], ◌∷◌, ◌++◌, length, Option, Some, None}
-use Rattle.std.specs.List.{list_any}
+use Rattle.std.specs.List.{find, list_any}
+use Rattle.std.specs.Option.{option_map_or}
 use Rattle.byteorder.specs.Endian.{big_bytes}
 use Rattle.satl_base.specs.Blocks.{first_bytes}
 use Rattle.satl_base.specs.Limits.{longest_data}
@@ -53,8 +54,8 @@ has_code rows code = list_any (λ row. code == row.code) rows
 
 -- whether a table allows a length for a code
 abbrev pub allows : List FrameRow → ℕ → ℕ → Bool
-allows [] code len = false
-allows (r ∷ rows) code len = if code == r.code then nat_le r.shortest len && nat_le len r.longest else allows rows code len
+allows rows code len =
+    option_map_or (λ row. nat_le row.shortest len && nat_le len row.longest) (find (λ row. code == row.code) rows) false
 
 abbrev pub attr_code : Attr → ℕ
 attr_code Simple = 0

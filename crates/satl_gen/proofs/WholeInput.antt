@@ -2,6 +2,7 @@
 use Rattle.std.proofs.Common.{◌≡◌, ◌≤◌, ◌<◌, ◌^◌, ℕ, zero, suc, ◌+◌, ◌*◌, ◌%◌, ◌==◌, Bool, true, false, List, [], ◌∷◌, ◌++◌, length, refl, sym, arith, append_assoc, subst, lit<, lit≤}
 use Rattle.std.specs.Prelude.{if◌then◌else◌}
 use Rattle.std.proofs.lemmas.List.{append-nil}
+use Rattle.satl_base.specs.Limits.{input_limit}
 use Rattle.rand_pcg.specs.Lcg.{Lcg}
 use Rattle.satl_frame.specs.Frames.{spelled}
 use Rattle.satl_frame.specs.Inputs.{all_spelled, AreFrames}
@@ -56,7 +57,7 @@ are_frames (suc n) i limit offset g small within =
     (request_before limit offset i (draw g) (i % 16 == 15) rest (omega arith) (omega arith)
     (λ size few. are_frames n (i + 1) limit (offset + size) (after_draw g) (omega arith) (omega arith)))
 
-pub reads_whole : (newest : Version) (seed requests : ℕ) → requests ≤ 100000 → ReadsToEnd (2 ^ 40) newest (generated seed requests) (generated_frames seed requests) []
+pub reads_whole : (newest : Version) (seed requests : ℕ) → requests ≤ 100000 → ReadsToEnd input_limit newest (generated seed requests) (generated_frames seed requests) []
 reads_whole newest seed requests few =
     let all = all_spelled (generated_frames seed requests ++ frames.End ∷ []) in
     record {
@@ -65,7 +66,7 @@ reads_whole newest seed requests few =
         named = named newest;
         took = record { known = sym (append-nil (magic One ++ all)) };
         offset_is = refl;
-        each = are_frames requests 0 (2 ^ 40) 8 (seeded seed) (omega arith) (omega arith);
+        each = are_frames requests 0 input_limit 8 (seeded seed) (omega arith) (omega arith);
       };
     }
   where

@@ -1,5 +1,6 @@
 -- What holds of generated inputs (profile).
 use Rattle.std.specs.Prelude.{ℕ, ◌≤◌, ◌^◌, []}
+use Rattle.satl_base.specs.Limits.{input_limit}
 use Rattle.satl_frame.specs.Progress.{ReadsToEnd}
 use Rattle.satl_frame.specs.declared.frames.Version.{Version}
 use Rattle.satl_gen.specs.Generated.{generated, generated_frames}
@@ -9,4 +10,4 @@ use Rattle.satl_gen.specs.Generated.{generated, generated_frames}
 abbrev pub ReadsWhole : Type 0
 ReadsWhole =
     (newest : Version) (seed requests : ℕ) → requests ≤ 100000
-    → ReadsToEnd (2 ^ 40) newest (generated seed requests) (generated_frames seed requests) []
+    → ReadsToEnd input_limit newest (generated seed requests) (generated_frames seed requests) []

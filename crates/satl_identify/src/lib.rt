@@ -11,4 +11,4 @@ mod writing;
 pub use identity::{Identity, IdentityFault};
 pub use reading::{has_trim, read_identity};
 pub use words::{bit_at, word_at};
-pub use writing::{balance, identity_bytes, settings_of};
+pub use writing::{INTEGRITY, SETTINGS, balance, identity_bytes, settings_of};

@@ -7,11 +7,11 @@ ghost use Rattle.satl_identify.specs.Refusals.{IsIdentity, identity_of};
 use crate::identity::Identity;
 use satl_base::checksum_of;
 
-// The place of the low byte of word 85, which has the settings.
-const SETTINGS: usize = 2 * 85;
+/// The place of the low byte of word 85, which has the settings (ACS-3, IDENTIFY DEVICE).
+pub const SETTINGS: usize = 2 * 85;
 
-// The place of the high byte of word 255.
-const INTEGRITY: usize = 2 * 255 + 1;
+/// The place of the high byte of word 255, the checksum (ACS-3, IDENTIFY DEVICE).
+pub const INTEGRITY: usize = 2 * 255 + 1;
 
 /// The low byte of word 85 with its settings, bits 5 and 6, as given, and all else as it was (ACS-3, word 85).
 pub fn settings_of(byte: u8, cache_on: bool, look_on: bool) -> u8

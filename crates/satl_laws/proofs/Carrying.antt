@@ -5,8 +5,9 @@ use Rattle.satl_base.specs.declared.block.Block.{Block}
 use Rattle.satl_base.specs.Cells.{Pair, first_flaw}
 use Rattle.satl_regs.specs.declared.values.AtaCommand.{AtaCommand}
 use Rattle.satl_regs.specs.declared.values.AtaCommand.TheVariants as ata
-use Rattle.satl_regs.specs.Effects.{Carries, HasEffect, IsSet, Medium, Setting, Traffic, Transfer, is_error_log, is_no_trim, pairs_of, reading, setting_of, settable, trimming, verifying, writing}
-use Rattle.satl_regs.specs.Effects.Setting.{sets_cache, sets_look}
+use Rattle.satl_regs.specs.declared.setting.Setting.{Setting}
+use Rattle.satl_regs.specs.Effects.{Carries, HasEffect, IsSet, Medium, Traffic, Transfer, is_error_log, is_no_trim, pairs_of, reading, setting_of, settable, trimming, verifying, writing}
+use Rattle.satl_regs.specs.declared.setting.Setting.TheVariants.{WriteCache, LookAhead}
 use Rattle.satl_laws.specs.Untouched.{Spares}
 use Rattle.satl_laws.proofs.Cases.{by_bool, by_option}
 use Rattle.satl_laws.proofs.Steps.{Steps, all_of, stays}
@@ -43,9 +44,9 @@ module _ (x : Traffic) (old new : Medium) where
 
   -- a setting
   set_carried : (a : AtaCommand) (setting : Setting) → IsSet setting x old new → Carried a x.given old new
-  set_carried a (sets_cache true) h = as_before a (ap (λ m. m.cells) h.medium)
-  set_carried a (sets_cache false) h = record { pairs = []; spared = λ y k. refl; cells = settles (ap (λ m. m.cells) h.medium) }
-  set_carried a (sets_look on) h = as_before a (ap (λ m. m.cells) h.medium)
+  set_carried a (WriteCache true) h = as_before a (ap (λ m. m.cells) h.medium)
+  set_carried a (WriteCache false) h = record { pairs = []; spared = λ y k. refl; cells = settles (ap (λ m. m.cells) h.medium) }
+  set_carried a (LookAhead on) h = as_before a (ap (λ m. m.cells) h.medium)
 
   -- each command
   pub carried_out : (a : AtaCommand) → HasEffect a x old new → Carried a x.given old new

@@ -1,8 +1,11 @@
 -- How an ATA command's end is told to a host (SAT-3 11 and 12.2).
-use Rattle.std.specs.Prelude.{ℕ, ◌==◌, Bool, true, false, List, [], ◌∷◌, Option, Some, None, if◌then◌else◌}
-use Rattle.satl_base.specs.Fields.{bits_of}
+use Rattle.std.specs.Prelude.{ℕ, Bool, true, false, List, [], ◌∷◌, Option, Some, None, if◌then◌else◌}
+use Rattle.std.specs.List.{find}
+use Rattle.std.specs.Option.{unwrap_or}
+use Rattle.satl_base.specs.Fields.{bit_of}
 use Rattle.satl_regs.specs.declared.values.Taskfile.{Taskfile}
 use Rattle.satl_regs.specs.Commands.{command_in}
+use Rattle.satl_regs.specs.Effects.{is_bad}
 use Rattle.satl_sense.specs.declared.sense.AtaReturn.{AtaReturn}
 use Rattle.satl_sense.specs.declared.sense.Extra.{Extra}
 use Rattle.satl_sense.specs.declared.sense.Extra.TheVariants as extras
@@ -33,8 +36,7 @@ error_table writes =
 
 -- the first row whose bit of ERROR is 1; where none is, the command was aborted and no more is known (profile)
 abbrev pub first_error : List ErrorRow → ℕ → ErrorRow
-first_error [] error = aborted
-first_error (row ∷ rows) error = if bits_of row.bit row.bit error == 1 then row else first_error rows error
+first_error rows error = unwrap_or (find (λ row. bit_of row.bit error) rows) aborted
 
 -- the row for an error of a command that writes or does not
 abbrev pub error_row : Bool → ℕ → ErrorRow
@@ -53,10 +55,6 @@ error_sense writes error extra = sense_by (error_row writes error) extra
 unfoldable pub error_sense_at : Bool → ℕ → ℕ → Sense
 error_sense_at writes error lba =
     sense_by (error_row writes error) (if (error_row writes error).has_lba then extras.Information lba else extras.None)
-
--- ERR of STATUS (ACS-3 6.3): the command ended with an error
-abbrev pub is_bad : Taskfile → Bool
-is_bad end = bits_of 0 0 end.status == 1
 
 -- ATA Status Return: the registers at the end, with the EXTEND of the command (SAT-3 12.2.2.6)
 abbrev pub ata_return : Pass → Taskfile → AtaReturn

@@ -1,7 +1,8 @@
 // How the end of an ATA command is told.
 
 ghost use Rattle.std.specs.Prelude.{◌≡◌, ◌↔◌, IsNone, IsFalse, false};
-ghost use Rattle.satl_pass.specs.Status.{ata_return, error_row, error_sense, error_sense_at, is_bad, status_sense};
+ghost use Rattle.satl_pass.specs.Status.{ata_return, error_row, error_sense, error_sense_at, status_sense};
+ghost use Rattle.satl_regs.specs.Effects.{is_bad};
 
 use crate::pass::Pass;
 use crate::reading::plan;
@@ -102,12 +103,6 @@ fn ata_return(pass: &Pass, end: &Taskfile) -> AtaReturn
     }
 }
 
-fn is_bad(end: &Taskfile) -> bool
-    ensures { result ≡ is_bad end.now }
-{
-    end.status & 1 == 1
-}
-
 /// The sense data of a command's end, with the registers as ATA Status Return: at a bad end (ERR of STATUS is 1) the error's,
 /// at a good one with CK_COND that information is available (SAT-3 11, 12.2.2.6).
 ///
@@ -117,7 +112,7 @@ pub fn status_return(pass: &Pass, end: &Taskfile) -> Option<Sense>
     ensures none { IsNone result ↔ (IsFalse (is_bad end.now) × IsFalse pass.now.ck_cond) }
 {
     let extra = Extra::Ata(ata_return(pass, end));
-    if is_bad(end) {
+    if end.is_bad() {
         return Some(error_sense(is_writing(&plan(pass)), end.error, extra));
     }
     if pass.ck_cond {

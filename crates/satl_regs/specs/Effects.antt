@@ -6,6 +6,7 @@ use Rattle.satl_base.specs.declared.bench.Which.{Which}
 use Rattle.satl_base.specs.declared.bench.Which.TheVariants as flaws
 use Rattle.satl_base.specs.declared.block.Range.{Range}
 use Rattle.satl_base.specs.Blocks.{zero_block}
+use Rattle.satl_base.specs.Fields.{bit_of}
 use Rattle.satl_base.specs.Cells.{Cell, Pair, whole, settle, Part, pairs_from, nows, first_flaw}
 use Rattle.satl_base.specs.Identify.{cache_is_on, checksum, has_cache, has_look, has_trim, look_is_on, trim_blocks, word_bits}
 use Rattle.satl_regs.specs.declared.values.Registers.{Registers}
@@ -14,6 +15,8 @@ use Rattle.satl_regs.specs.declared.values.How.{How}
 use Rattle.satl_regs.specs.declared.values.How.TheVariants.{Pio, PioExt, Dma, DmaExt}
 use Rattle.satl_regs.specs.declared.values.AtaCommand.{AtaCommand}
 use Rattle.satl_regs.specs.declared.values.AtaCommand.TheVariants as commands
+use Rattle.satl_regs.specs.declared.setting.Setting.{Setting}
+use Rattle.satl_regs.specs.declared.setting.Setting.TheVariants.{WriteCache, LookAhead}
 use Rattle.satl_regs.specs.Commands.{command_in, is_ext}
 use Rattle.satl_regs.specs.Trim.{addresses, trimmed}
 
@@ -44,9 +47,13 @@ good_status = 0x40
 abbrev pub bad_status : ℕ
 bad_status = 0x41
 
+-- ERR of STATUS: the command ended with an error (ACS-3 6.3)
+abbrev pub is_bad : Taskfile → Bool
+is_bad end = bit_of 0 end.status
+
 -- ERROR at a CRC error: ICRC and ABRT (ACS-3, ERROR field)
-abbrev pub icrc : ℕ
-icrc = 0x84
+abbrev pub icrc_abrt : ℕ
+icrc_abrt = 0x84
 
 -- ERROR at a flaw: UNC (ACS-3, ERROR field)
 abbrev pub unc : ℕ
@@ -141,7 +148,7 @@ pub record EndsInFull (t : Transfer) (x : Traffic) (old new : Medium) : Type 0 w
 pub record IsGarbled (t : Transfer) (x : Traffic) (old new : Medium) : Type 0 where
   pub by_dma : t.dma ≡ true
   pub some : 0 < old.glitches
-  pub ends : x.ended ≡ bad_end x.registers icrc 0
+  pub ends : x.ended ≡ bad_end x.registers icrc_abrt 0
   pub data_in : x.taken ≡ x.given
   pub part : Part old.cells t.writes new.cells
   pub medium : new ≡ record old { cells = new.cells; glitches = old.glitches - 1 }
@@ -184,24 +191,19 @@ verifying ext lba sectors =
 abbrev pub all_settled : Medium → Medium
 all_settled m = record m { cells = map settle m.cells }
 
--- what SET FEATURES sets: the write cache, or read look-ahead, on or off (ACS-3, SET FEATURES)
-pub data Setting : Type 0 where
-  sets_cache : Bool → Setting
-  sets_look : Bool → Setting
-
 -- the setting of a subcommand (ACS-3, SET FEATURES)
 abbrev pub setting_of : ℕ → Option Setting
 setting_of what =
-    if what == 0x02 then Some (sets_cache true)
-    else if what == 0x82 then Some (sets_cache false)
-    else if what == 0xAA then Some (sets_look true)
-    else if what == 0x55 then Some (sets_look false)
+    if what == 0x02 then Some (WriteCache true)
+    else if what == 0x82 then Some (WriteCache false)
+    else if what == 0xAA then Some (LookAhead true)
+    else if what == 0x55 then Some (LookAhead false)
     else None
 
 -- whether a drive has what is set (ACS-3, IDENTIFY DEVICE, word 82)
 abbrev pub has_setting : List ℕ → Setting → Bool
-has_setting identify (sets_cache on) = has_cache identify
-has_setting identify (sets_look on) = has_look identify
+has_setting identify (WriteCache on) = has_cache identify
+has_setting identify (LookAhead on) = has_look identify
 
 -- a setting that there is, on a drive that has it (ACS-3, SET FEATURES)
 abbrev pub settable : List ℕ → Option Setting → Option Setting
@@ -210,9 +212,9 @@ settable identify (Some setting) = if has_setting identify setting then Some set
 
 -- the medium with a setting: all sectors are written back where the write cache is turned off (ACS-3, SET FEATURES)
 abbrev pub with_setting : Setting → Medium → Medium
-with_setting (sets_cache true) m = record m { cache = true }
-with_setting (sets_cache false) m = record (all_settled m) { cache = false }
-with_setting (sets_look on) m = record m { look = on }
+with_setting (WriteCache true) m = record m { cache = true }
+with_setting (WriteCache false) m = record (all_settled m) { cache = false }
+with_setting (LookAhead on) m = record m { look = on }
 
 -- IDENTIFY DEVICE data with other settings: bits 5 and 6 of word 85 tell them; where word 255 has an integrity byte, that
 -- byte keeps the sum of all bytes; all else is as before (ACS-3 7.12.7, words 85 and 255)

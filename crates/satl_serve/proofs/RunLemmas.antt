@@ -3,6 +3,7 @@ use Rattle.std.proofs.Common.{◌≡◌, inl, inr, refl, sym, ap, subst, arith, 
 use Rattle.std.proofs.lemmas.List.{length-append}
 use Rattle.std.specs.Prelude.{Option, None, Some}
 use Rattle.satl_base.proofs.ListsLemmas.{how_many-push}
+use Rattle.satl_base.specs.Limits.{input_limit}
 use Rattle.satl_io.specs.Known.{Wrote, WrotePart}
 use Rattle.satl_io.proofs.Joined.{Wrote-more, Wrote-none}
 use Rattle.satl_frame.specs.declared.frames.Frame.{Frame}
@@ -29,7 +30,7 @@ use Rattle.satl_step.specs.Telling.{IsTold, Telling}
 use Rattle.satl_step.proofs.RunLemmas.{run_start}
 use Rattle.satl_serve.specs.Forms.{begun, fault_told, output, told_of}
 use Rattle.satl_serve.specs.Moments.{SinkState, SourceState, Spot}
-use Rattle.satl_serve.specs.Runs.{BrokeInAnswers, BrokeInFault, BrokeInMagic, RanBefore, RanWhole, ReadBefore, input_limit}
+use Rattle.satl_serve.specs.Runs.{BrokeInAnswers, BrokeInFault, BrokeInMagic, RanBefore, RanWhole, ReadBefore}
 use Rattle.satl_serve.specs.Stopping.{HasStreamCause, RanTo, Tells, TellsSo, TellsStop}
 use Rattle.satl_serve.specs.declared.serving.ServeFault.{ServeFault}
 use Rattle.satl_serve.specs.declared.serving.ServeFault.TheVariants as faults

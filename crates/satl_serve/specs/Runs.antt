@@ -25,10 +25,6 @@ use Rattle.satl_serve.specs.Forms.{answers_told, begun, fault_told, output, told
 use Rattle.satl_serve.specs.Moments.{Moment, Spot, spot_at}
 use Rattle.satl_serve.specs.declared.telling.Form.{Form}
 
--- each frame of an input ends within 2^40 bytes (profile)
-abbrev pub input_limit : ℕ
-input_limit = 2 ^ 40
-
 -- the device that a drive is when the layer has just been opened on it: a valid one with its sectors, some of which it may have
 -- written back by itself; no task and no unit attention; the modes by its settings; started and up (profile)
 pub record IsFirstDevice (d : DriveState) (s : Device) : Type 0 where

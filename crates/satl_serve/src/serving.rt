@@ -1,18 +1,18 @@
 // An input is served.
 ghost use Rattle.std.specs.Prelude.{◌≡◌, ◌≤◌, [], None, IfErr, IfOk};
+ghost use Rattle.satl_base.specs.Limits.{input_limit};
 ghost use Rattle.satl_io.specs.Causes.{Rose};
 ghost use Rattle.satl_barrier.specs.Leaving.{IsFree};
 ghost use Rattle.satl_core.specs.Layer.{Tied};
 ghost use Rattle.satl_step.specs.Runs.{IsDeep, stand_of, tally_of};
 ghost use Rattle.satl_serve.specs.Headline.{IsServedToEnd, IsServedWhole, ResultSays};
 ghost use Rattle.satl_serve.specs.Moments.{moment, sink_state, source_state, spot};
-ghost use Rattle.satl_serve.specs.Runs.{input_limit};
 ghost use Rattle.satl_serve.specs.Stopping.{HasStreamCause, RanTo, Tells, TellsStop};
 ghost use Rattle.satl_serve.specs.Tellers.{IsServedBy, RanBy, TellsIn};
 
 use crate::printer::{Counter, Printer};
 use crate::telling::{Form, tell_beginning, tell_fault};
-use satl_base::Steps;
+use satl_base::{INPUT_LIMIT, Steps};
 use satl_core::{OpenFault, Satl};
 use satl_drive::Bench;
 use satl_frame::{FrameFault, FrameReader, Reason, WriteFault};
@@ -57,9 +57,6 @@ impl From<OpenFault> for ServeFault {
         ServeFault::Open(fault)
     }
 }
-
-// The number of bytes within which each frame of an input ends: 2^40 (profile).
-const LIMIT: u64 = 1 << 40;
 
 /// Serves an input of frames: opens the layer on the drive, and carries out one frame after the other up to END, which ends it.
 /// Answers are written in the form, each before the next frame is read; before frames stands the magic of the output.
@@ -186,7 +183,7 @@ fn serve_opened<T: Teller, S: Source, K: Sink, D: Bench, L: Ledger>(
         (sink_state (K.written sink.new) (K.faults sink.new))) }
 {
     tell_beginning(form, sink)?;
-    let mut reader = FrameReader::new(alloc, LIMIT);
+    let mut reader = FrameReader::new(alloc, INPUT_LIMIT);
     match serve_frames(alloc, &mut reader, satl, source, teller, sink, drive, steps) {
         Ok(requests) => Ok(requests),
         Err(stop) => Err(tell_stop(form, stop, sink)),

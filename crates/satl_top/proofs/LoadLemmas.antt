@@ -1,6 +1,7 @@
 -- How a load ends.
 use Rattle.std.proofs.Common.{◌≡◌, ◌≤◌, ◌⊎◌, inl, inr, ℕ, List, [], refl, sym, subst, ap, ◌∙◌, arith}
 use Rattle.std.specs.Prelude.{Option, Some, Ok, Err, Result, IfErr, IfOk, MatchResult}
+use Rattle.satl_base.specs.Limits.{input_limit}
 use Rattle.satl_io.specs.Causes.{Rose}
 use Rattle.satl_frame.specs.declared.frames.Frame.{Frame}
 use Rattle.satl_frame.specs.declared.frames.Version.TheVariants.{Two}
@@ -13,7 +14,6 @@ use Rattle.satl_gen.proofs.WholeInput.{reads_whole}
 use Rattle.satl_serve.specs.Completeness.{GoesWell, IsGoodInput, MayStop}
 use Rattle.satl_serve.specs.Headline.{IsServedWhole, IsStopped}
 use Rattle.satl_serve.specs.Moments.{Moment, SinkState, SourceState, moment, source_state}
-use Rattle.satl_serve.specs.Runs.{input_limit}
 use Rattle.satl_serve.specs.Stopping.{HasServeCause, TellsRefusal}
 use Rattle.satl_serve.specs.declared.serving.ServeFault.{ServeFault}
 use Rattle.satl_serve.specs.declared.serving.ServeFault.TheVariants as faults

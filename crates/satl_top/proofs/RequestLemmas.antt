@@ -1,6 +1,7 @@
 -- How many requests a generated input has, and its totals.
 use Rattle.std.proofs.Common.{◌≡◌, ◌≤◌, ℕ, zero, suc, ◌+◌, ◌%◌, Bool, true, false, List, [], ◌∷◌, ◌++◌, refl, ap, ◌∙◌, arith, Option, Some, None}
 use Rattle.std.specs.Prelude.{◌==◌, if◌then◌else◌}
+use Rattle.satl_base.specs.Limits.{input_limit}
 use Rattle.rand_pcg.specs.Lcg.{Lcg}
 use Rattle.satl_frame.specs.declared.frames.Frame.{Frame}
 use Rattle.satl_frame.specs.declared.frames.Frame.TheVariants as frames
@@ -13,7 +14,6 @@ use Rattle.satl_gen.specs.Generated.{after_draw, burst, draw, frames_from, gener
 use Rattle.satl_gen.specs.declared.draw.Draw.{Draw}
 use Rattle.satl_gen.proofs.WholeInput.{reads_whole}
 use Rattle.satl_step.specs.Runs.{requests_in}
-use Rattle.satl_serve.specs.Runs.{input_limit}
 
 -- a request, with a burst behind it or with none
 one_more : (i : ℕ) (d : Draw) (there : Bool) (rest : List Frame) → requests_in ((frames.Request (request_drawn i d) ∷ (if there then burst d.c else [])) ++ rest) ≡ suc (requests_in rest)

@@ -1,8 +1,8 @@
 // A USB disk bridge.
 ghost use Rattle.std.specs.Prelude.{◌≡◌, [], None};
+ghost use Rattle.satl_base.specs.Limits.{input_limit};
 ghost use Rattle.satl_barrier.specs.Leaving.{IsFree};
 ghost use Rattle.satl_serve.specs.Moments.{moment, sink_state, source_state};
-ghost use Rattle.satl_serve.specs.Runs.{input_limit};
 ghost use Rattle.satl_top.specs.Top.{HasBridged};
 
 use crate::status::Status;

@@ -1,10 +1,10 @@
 // A load: a generated input is served, and its totals are written.
 ghost use Rattle.std.specs.Prelude.{◌≡◌, ◌≤◌, [], IfErr, IfOk, None};
 ghost use Rattle.std.specs.Result.{IsErrAnd};
+ghost use Rattle.satl_base.specs.Limits.{input_limit};
 ghost use Rattle.satl_identify.specs.declared.identity.IdentityFault.{IdentityFault};
 ghost use Rattle.satl_barrier.specs.Leaving.{IsFree};
 ghost use Rattle.satl_serve.specs.Moments.{SinkState, SourceState, moment, sink_state};
-ghost use Rattle.satl_serve.specs.Runs.{input_limit};
 ghost use Rattle.satl_serve.specs.Stopping.{IsDriveRefused, TellsRefusal};
 ghost use Rattle.satl_top.specs.Load.{IsLoaded, LoadStops, load_of};
 ghost use Rattle.satl_top.specs.Top.{HasLoaded};

@@ -2,10 +2,10 @@
 ghost use Rattle.std.specs.Prelude.{◌≡◌, ◌≤◌, ◌<◌, ◌↔◌, ℕ, map, true, vec_len};
 ghost use Rattle.std.specs.List.{AllByRecursion};
 ghost use Rattle.std.specs.Rc.{rc_str_bytes};
+ghost use Rattle.satl_base.specs.Limits.{input_limit};
 ghost use Rattle.satl_fleet.specs.Moments.{fleet_moment};
 ghost use Rattle.satl_barrier.specs.Leaving.{IsFree};
 ghost use Rattle.satl_serve.specs.Moments.{sink_state, source_state};
-ghost use Rattle.satl_serve.specs.Runs.{input_limit};
 ghost use Rattle.satl_top.specs.Fleet.{AskForFleet, HasDone, HasServedFleet};
 
 use crate::status::Status;

@@ -1,10 +1,10 @@
 // The top call.
 ghost use Rattle.std.specs.Prelude.{◌≡◌, ◌⊎◌, [], None, map, true};
 ghost use Rattle.std.specs.Rc.{rc_str_bytes};
+ghost use Rattle.satl_base.specs.Limits.{input_limit};
 ghost use Rattle.clap.specs.Words.{takes};
 ghost use Rattle.satl_barrier.specs.Leaving.{IsFree};
 ghost use Rattle.satl_serve.specs.Moments.{moment, sink_state, source_state};
-ghost use Rattle.satl_serve.specs.Runs.{input_limit};
 ghost use Rattle.satl_top.specs.Top.{HasCarriedOut, HasServed, OutcomeByWords};
 ghost use Rattle.satl_words.specs.Asked.{AreRefused};
 ghost use Rattle.satl_words.specs.CommandLine.{command_line};

@@ -13,11 +13,15 @@ pub record FunctionRow : Type 0 where
 abbrev function_row : ℕ → Function → FunctionRow
 function_row code function = record { code = code; function = function }
 
+-- the code of I_T NEXUS RESET (profile)
+abbrev pub nexus_reset_code : ℕ
+nexus_reset_code = 0x10
+
 -- the functions that are listed (profile)
 abbrev pub function_table : List FunctionRow
 function_table =
     function_row 0x01 AbortTask ∷ function_row 0x02 AbortTaskSet ∷ function_row 0x04 ClearTaskSet
-    ∷ function_row 0x08 UnitReset ∷ function_row 0x10 NexusReset ∷ function_row 0x80 QueryTask
+    ∷ function_row 0x08 UnitReset ∷ function_row nexus_reset_code NexusReset ∷ function_row 0x80 QueryTask
     ∷ function_row 0x81 QueryTaskSet ∷ []
 
 -- the codes that are listed

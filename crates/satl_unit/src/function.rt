@@ -3,6 +3,9 @@ ghost use Rattle.std.specs.Prelude.{◌≡◌, ◌↔◌, Some, IsSome, IsTrue};
 ghost use Rattle.satl_base.specs.Lists.{is_in};
 ghost use Rattle.satl_unit.specs.Functions.{function_codes, function_of};
 
+/// The code of I_T NEXUS RESET (profile).
+pub const NEXUS_RESET: u8 = 0x10;
+
 /// A task management function (SAM-5 7).
 #[derive(Clone, Copy, Debug, PartialEq, Eq)]
 pub enum Function {
@@ -34,7 +37,7 @@ impl Function {
             0x02 => Some(Function::AbortTaskSet),
             0x04 => Some(Function::ClearTaskSet),
             0x08 => Some(Function::UnitReset),
-            0x10 => Some(Function::NexusReset),
+            NEXUS_RESET => Some(Function::NexusReset),
             0x80 => Some(Function::QueryTask),
             0x81 => Some(Function::QueryTaskSet),
             _ => None,
@@ -51,7 +54,7 @@ impl Function {
             Function::AbortTaskSet => 0x02,
             Function::ClearTaskSet => 0x04,
             Function::UnitReset => 0x08,
-            Function::NexusReset => 0x10,
+            Function::NexusReset => NEXUS_RESET,
             Function::QueryTask => 0x80,
             Function::QueryTaskSet => 0x81,
         }

@@ -8,7 +8,7 @@ pub mod laws;
 
 pub use attention::{AdditionalSense, Attention};
 pub use attentions::Attentions;
-pub use function::Function;
+pub use function::{Function, NEXUS_RESET};
 
 #[cfg(test)]
 mod tests;

@@ -4,6 +4,7 @@ use Rattle.arrayvec.specs.ArrayVec.{ArrayVec}
 use Rattle.satl_base.specs.declared.reply.Reply.{Reply}
 use Rattle.satl_base.specs.declared.request.Request.{Request}
 use Rattle.satl_base.specs.declared.request.Attr.TheVariants.{Simple}
+use Rattle.satl_cdb.specs.PrimaryCommands.{request_sense_code}
 use Rattle.satl_frame.specs.DataPages.{pages_of}
 use Rattle.satl_frame.specs.declared.frames.Frame.{Frame}
 use Rattle.satl_frame.specs.declared.frames.Frame.TheVariants as frames
@@ -16,7 +17,7 @@ use Rattle.satl_usb.specs.declared.telling.ItemTeller.{ItemTeller}
 
 -- whether a command is answered with the sense data that is kept: REQUEST SENSE is, to whatever unit (SPC-4 6.39; profile)
 abbrev pub is_told_kept : Option (ArrayVec ℕ) → Cbw → Bool
-is_told_kept kept c = is_some kept && (slice_index c.cdb 0 == 0x03)
+is_told_kept kept c = is_some kept && (slice_index c.cdb 0 == request_sense_code)
 
 -- the request of an item: of nexus 0, SIMPLE, with tag 0, to the unit that its wrapper names (profile)
 abbrev pub request_of : Item → Request

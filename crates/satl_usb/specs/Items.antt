@@ -6,10 +6,6 @@ use Rattle.satl_io.specs.Known.{Took}
 use Rattle.satl_bot.specs.declared.command.Cbw.{Cbw}
 use Rattle.satl_bot.specs.Wrappers.{cbw_of}
 
--- each item of an input ends within 2^40 bytes (profile)
-abbrev pub item_limit : ℕ
-item_limit = 2 ^ 40
-
 -- an item: the 31 bytes of a wrapper, what they say, and the data behind them
 pub record Item : Type 0 where
   pub head : List ℕ

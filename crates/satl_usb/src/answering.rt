@@ -1,5 +1,6 @@
 // One item is answered.
 ghost use Rattle.std.specs.Prelude.{◌≡◌, ◌==◌, [], OnErr, OnOk, slice_index};
+ghost use Rattle.satl_cdb.specs.PrimaryCommands.{request_sense_code};
 ghost use Rattle.satl_io.specs.Causes.{HasCause};
 ghost use Rattle.satl_io.specs.Known.{Wrote, WrotePart};
 ghost use Rattle.satl_frame.specs.declared.frames.Frame.{Frame};
@@ -15,6 +16,7 @@ use crate::telling::ItemTeller;
 use crate::wire::tell_kept;
 use satl_base::{Attr, Nexus, Replies, Request, SenseBytes, Steps, Tag};
 use satl_bot::Cbw;
+use satl_cdb::REQUEST_SENSE;
 use satl_core::Satl;
 use satl_drive::Bench;
 use satl_frame::WriteFault;
@@ -23,9 +25,9 @@ use std::sync::ledger::Ledger;
 
 /// Whether a command is REQUEST SENSE (SPC-4 6.39).
 fn asks_sense(command: &Cbw) -> bool
-    ensures { result ≡ (slice_index command.now.cdb 0 == 0x03) }
+    ensures { result ≡ (slice_index command.now.cdb 0 == request_sense_code) }
 {
-    command.cdb[0] == 0x03
+    command.cdb[0] == REQUEST_SENSE
 }
 
 /// The request of an item.

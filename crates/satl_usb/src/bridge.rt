@@ -2,6 +2,7 @@
 ghost use Rattle.std.specs.Prelude.{◌≡◌, ◌≤◌, List, [], None, Some, IfErr, OnErr, OnOk, MatchResult};
 ghost use Rattle.std.specs.Io.KnownBytes.{IsAtEnd};
 ghost use Rattle.std.specs.Result.{IsErrAnd};
+ghost use Rattle.satl_base.specs.Limits.{input_limit};
 ghost use Rattle.satl_identify.specs.declared.identity.IdentityFault.{IdentityFault};
 ghost use Rattle.satl_barrier.specs.Leaving.{IsFree};
 ghost use Rattle.satl_core.specs.Layer.{Tied};
@@ -10,7 +11,7 @@ ghost use Rattle.satl_serve.specs.Completeness.{GoesWell};
 ghost use Rattle.satl_serve.specs.Moments.{moment, sink_state, source_state, spot};
 ghost use Rattle.satl_serve.specs.Stopping.{IsDriveRefused};
 ghost use Rattle.satl_usb.specs.Headline.{Bridges, HasStreamCause, HasUsbCause, IsBridgedWhole, IsItemInput, IsStopped, MayStop, TellsRefusal, stop_at};
-ghost use Rattle.satl_usb.specs.Items.{Item, item_limit};
+ghost use Rattle.satl_usb.specs.Items.{Item};
 
 use crate::answering::answer_item;
 use crate::fault::UsbFault;
@@ -41,12 +42,12 @@ pub fn serve_usb<S: Source, K: Sink, D: Bench, L: Ledger>(
     steps: &mut Steps<L>,
 ) -> Result<(), UsbFault>
     requires { IsFree (D.state drive.old) }
-    ensures bridged { OnOk result (IsBridgedWhole item_limit
+    ensures bridged { OnOk result (IsBridgedWhole input_limit
         (moment (source_state (S.left source.old) (S.faults source.old)) (sink_state (K.written sink.old) (K.faults sink.old))
         steps.old (D.state drive.old))
         (moment (source_state (S.left source.new) (S.faults source.new)) (sink_state (K.written sink.new) (K.faults sink.new))
         steps.new (D.state drive.new))) }
-    ensures stopped { IfErr result (IsStopped item_limit
+    ensures stopped { IfErr result (IsStopped input_limit
         (moment (source_state (S.left source.old) (S.faults source.old)) (sink_state (K.written sink.old) (K.faults sink.old))
         steps.old (D.state drive.old))
         (moment (source_state (S.left source.new) (S.faults source.new)) (sink_state (K.written sink.new) (K.faults sink.new))
@@ -59,7 +60,7 @@ pub fn serve_usb<S: Source, K: Sink, D: Bench, L: Ledger>(
     ensures unplugs { (D.state drive.new).unplugs ≡ (D.state drive.old).unplugs }
     ensures refused { (fault : IdentityFault) → IsDriveRefused fault (D.state drive.old) (D.state drive.new)
         → IsErrAnd result (TellsRefusal fault) }
-    ensures complete { (items : List Item) → IsItemInput item_limit (S.left source.old) items
+    ensures complete { (items : List Item) → IsItemInput input_limit (S.left source.old) items
         → GoesWell
         (moment (source_state (S.left source.old) (S.faults source.old)) (sink_state (K.written sink.old) (K.faults sink.old))
         steps.old (D.state drive.old))
@@ -87,7 +88,7 @@ fn serve_items<S: Source, K: Sink, D: Bench, L: Ledger>(
     requires idle { satl.old.tasks ≡ [] }
     requires deep { IsDeep (tally_of (D.state drive.old) steps.old) }
     ensures tied { Tied satl.new (D.state drive.new) }
-    ensures bridges { Bridges item_limit
+    ensures bridges { Bridges input_limit
         (spot (S.left source.old) (K.written sink.old) (stand_of satl.old (D.state drive.old) steps.old))
         (spot (S.left source.new) (K.written sink.new) (stand_of satl.new (D.state drive.new) steps.new)) result }
     ensures causes { IfErr result (HasStreamCause (source_state (S.left source.old) (S.faults source.old))

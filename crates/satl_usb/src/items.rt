@@ -1,11 +1,12 @@
 // Items are read, however the reads are cut.
 ghost use Rattle.std.specs.Prelude.{◌≡◌, ◌≤◌, IfErr, IfOk};
 ghost use Rattle.satl_base.specs.Stocks.{HasLent};
+ghost use Rattle.satl_base.specs.Limits.{input_limit};
 ghost use Rattle.satl_frame.specs.Pulls.{given_pages};
-ghost use Rattle.satl_usb.specs.Items.{item_limit, sent_length};
+ghost use Rattle.satl_usb.specs.Items.{sent_length};
 ghost use Rattle.satl_usb.specs.Reading.{HeadMissed, HeadRead, ItemCauses, ItemMissed, ItemRead, pages_read};
 
-use satl_base::{Lender, Pages};
+use satl_base::{INPUT_LIMIT, Lender, Pages};
 use satl_bot::{Cbw, read_cbw};
 use satl_frame::{PullError, fill, pull_data};
 use satl_io::{Failed, Source};
@@ -38,9 +39,6 @@ impl From<Failed> for ItemFault {
         ItemFault::Failed
     }
 }
-
-// The number of bytes within which each item ends: 2^40 (profile).
-const LIMIT: u64 = 1 << 40;
 
 /// The number of bytes that the host sends behind a wrapper (USB Mass Storage Class, Bulk-Only Transport 1.0, 5.3).
 pub fn sent_length(command: &Cbw) -> u32
@@ -75,9 +73,9 @@ pub fn next_item<S: Source, P: Lender>(
     lender: &mut P,
     offset: u64,
 ) -> Result<Option<Taken>, ItemFault>
-    requires near { offset ≤ item_limit }
-    ensures read { IfOk result (ItemRead item_limit offset (P.stock lender.old).free (S.left source.old) (S.left source.new)) }
-    ensures missed { IfErr result (ItemMissed item_limit offset (S.left source.old) (S.left source.new)) }
+    requires near { offset ≤ input_limit }
+    ensures read { IfOk result (ItemRead input_limit offset (P.stock lender.old).free (S.left source.old) (S.left source.new)) }
+    ensures missed { IfErr result (ItemMissed input_limit offset (S.left source.old) (S.left source.new)) }
     ensures causes { ItemCauses (S.faults source.old) (S.faults source.new) result }
     ensures lent { HasLent (given_pages pages_read result) (P.stock lender.old) (P.stock lender.new) }
 {
@@ -85,7 +83,7 @@ pub fn next_item<S: Source, P: Lender>(
         return Ok(None);
     };
     let length = sent_length(&command);
-    if LIMIT - offset < 31 + u64::from(length) {
+    if INPUT_LIMIT - offset < 31 + u64::from(length) {
         return Err(ItemFault::Bad);
     }
     match pull_data(source, lender, length) {

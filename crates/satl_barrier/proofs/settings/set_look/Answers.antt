@@ -7,4 +7,4 @@ pub returns-then-is_on-on-clause-tuned : goal.returns-then-is_on-on-clause-tuned
 returns-then-is_on-on-clause-tuned g c = tuned_already _ _ _ c.requires.up c.requires.sound refl (c.requires.is ∙ both_so _ _ c.if-is_on-on.true)
 
 pub returns-clause-tuned : goal.returns-clause-tuned
-returns-clause-tuned g c = on_ok_weaker c.turn_feature.result (look_tuned _ _ _) c.turn_feature.ensures.set
+returns-clause-tuned g c = on_ok_weaker c.make_setting.result (look_tuned _ _ _) c.make_setting.ensures.set

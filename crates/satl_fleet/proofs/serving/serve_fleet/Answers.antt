@@ -1,8 +1,8 @@
 use Rattle.std.proofs.Common.{arith, map, vec_len, sym, ◌∙◌}
 use Rattle.std.proofs.lemmas.List.{length-map}
 use Rattle.std.proofs.lemmas.Result.{IfErr-weaker, on_ok_weaker}
+use Rattle.satl_base.specs.Limits.{input_limit}
 use Rattle.satl_serve.specs.Moments.{sink_state, source_state}
-use Rattle.satl_serve.specs.Runs.{input_limit}
 use Rattle.satl_fleet.specs.Moments.{fleet_moment}
 use Rattle.satl_fleet.proofs.FinalLemmas.{fleet_stops, fleet_whole, lacks_memory, no_memory, stream_cause}
 use Rattle.satl_fleet.proofs.OpeningLemmas.{all_idle, all_ready}

@@ -1,7 +1,7 @@
 use Rattle.std.proofs.Common.{refl}
 use Rattle.std.proofs.lemmas.Result.{IfOk-weaker}
+use Rattle.satl_base.specs.Limits.{input_limit}
 use Rattle.satl_serve.specs.Moments.{moment, sink_state, source_state}
-use Rattle.satl_serve.specs.Runs.{input_limit}
 use Rattle.satl_serve.proofs.CompletenessLemmas.{says_closed, says_opened}
 use Rattle.satl_serve.proofs.ServingLemmas.{serves_by}
 use Rattle.satl_serve.proofs.serving.serve_by.Goals as goal

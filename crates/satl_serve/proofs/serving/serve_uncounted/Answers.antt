@@ -1,4 +1,4 @@
-use Rattle.satl_serve.specs.Runs.{input_limit}
+use Rattle.satl_base.specs.Limits.{input_limit}
 use Rattle.satl_serve.proofs.CompletenessLemmas.{says_err, says_ok}
 use Rattle.satl_serve.proofs.PrintingLemmas.{printer_tells}
 use Rattle.satl_serve.proofs.serving.serve_uncounted.Goals as goal

@@ -1,5 +1,5 @@
+use Rattle.satl_base.specs.Limits.{input_limit}
 use Rattle.satl_serve.specs.Moments.{Moment, moment, sink_state, source_state}
-use Rattle.satl_serve.specs.Runs.{input_limit}
 use Rattle.satl_top.proofs.BridgingLemmas.{bridge_causes, bridge_completes, bridge_ends, bridge_refuses}
 use Rattle.satl_top.proofs.bridging.bridge.Goals as goal
 

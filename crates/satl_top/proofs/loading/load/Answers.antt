@@ -1,5 +1,5 @@
+use Rattle.satl_base.specs.Limits.{input_limit}
 use Rattle.satl_serve.specs.Moments.{sink_state}
-use Rattle.satl_serve.specs.Runs.{input_limit}
 use Rattle.satl_top.specs.Load.{load_of}
 use Rattle.satl_top.proofs.LoadLemmas.{refusal_ends, stop_causes, stop_ends}
 use Rattle.satl_top.proofs.loading.load.Goals as goal

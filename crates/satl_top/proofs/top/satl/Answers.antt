@@ -1,6 +1,6 @@
 use Rattle.std.proofs.Common.{◌≡◌, Ok, subst, ⊎_elim}
+use Rattle.satl_base.specs.Limits.{input_limit}
 use Rattle.satl_serve.specs.Moments.{moment, sink_state, source_state}
-use Rattle.satl_serve.specs.Runs.{input_limit}
 use Rattle.satl_top.specs.Top.{HasCarriedOut}
 use Rattle.satl_top.proofs.top.satl.Goals as goal
 

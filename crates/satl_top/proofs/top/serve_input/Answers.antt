@@ -1,5 +1,5 @@
+use Rattle.satl_base.specs.Limits.{input_limit}
 use Rattle.satl_serve.specs.Moments.{Moment, moment, sink_state, source_state}
-use Rattle.satl_serve.specs.Runs.{input_limit}
 use Rattle.satl_serve.proofs.ServingLemmas.{with_totals}
 use Rattle.satl_top.proofs.LoadLemmas.{refusal_ends}
 use Rattle.satl_top.proofs.StatusLemmas.{fault_causes, fault_completes, fault_ends}
